@@ -1,0 +1,100 @@
+-- An open day is near: 400 single days close no more than 400 of 401 weeks' days of an open weekday.
+use Rattle.std.proofs.Common.{◌≡◌, ℕ, zero, suc, ◌+◌, ◌-◌, ◌*◌, ◌%◌, ◌<◌, ◌≤◌, List, [], ◌∷◌, length, Bool, true, false, not, ◌||◌, sym, ◌∙◌, refl, arith, subst, inl, inr, nat_eq}
+use Rattle.std.specs.Prelude.{◌==◌, slice_index_or}
+use Rattle.std.specs.List.{list_any, IsDistinct, AllByRecursion}
+use Rattle.std.specs.Cmp.{nat_eq_equiv}
+use Rattle.std.proofs.lemmas.Bool.{cases_order}
+use Rattle.std.proofs.lemmas.Bool.Decides.{nat_tests, Decides-eqb}
+use Rattle.std.proofs.lemmas.Map.Made.{length-le_from_is_member}
+use Rattle.calendar.specs.Days.{IsDayNumber}
+use Rattle.calendar.specs.Openings.{Closings, AreClosings, IsLeastOpen, has_day, has_open_weekday, is_open, is_single, is_weekly, weekday}
+use Rattle.calendar.proofs.OpeningLemmas.{is_open-inside}
+
+-- n days, each a week after the one before
+abbrev weeks_from : ℕ → ℕ → List ℕ
+weeks_from x zero = []
+weeks_from x (suc n) = x ∷ weeks_from (x + 7) n
+
+length-weeks_from : (x n : ℕ) → length (weeks_from x n) ≡ n
+length-weeks_from x zero = refl
+length-weeks_from x (suc n) = rw (length-weeks_from (x + 7) n) refl
+
+later : (x y n : ℕ) → x < y → AllByRecursion (λ z. nat_eq x z ≡ false) (weeks_from y n)
+later x y zero h = tt
+later x y (suc n) h = (grind (arith, nat_tests), later x (y + 7) n (omega arith))
+
+distinct : (x n : ℕ) → IsDistinct nat_eq (weeks_from x n)
+unfolding IsDistinct
+distinct x zero = tt
+distinct x (suc n) = (later x (x + 7) n (omega arith), distinct (x + 7) n)
+
+-- a day among them
+record IsWeekFrom (x n q : ℕ) : Type 0 where
+  pub from : x ≤ q
+  pub below : q < x + 7 * n
+  pub same : weekday q ≡ weekday x
+
+member : (x n q : ℕ) → list_any (nat_eq q) (weeks_from x n) ≡ true → IsWeekFrom x n q
+member x zero q h = absurd cc
+member x (suc n) q h = one x n q _ refl h (member (x + 7) n q)
+  where
+    one : (x n q : ℕ) (b : Bool) → nat_eq q x ≡ b → (b || list_any (nat_eq q) (weeks_from (x + 7) n)) ≡ true
+        → (list_any (nat_eq q) (weeks_from (x + 7) n) ≡ true → IsWeekFrom (x + 7) n q) → IsWeekFrom x (suc n) q
+    one x n q true e h rest = let same : q ≡ x = (Decides-eqb q x).0 e in record { from = omega arith; below = omega arith; same = rw same refl }
+    one x n q false e h rest = let r = rest h in record { from = omega (arith, r.from); below = omega (arith, r.below); same = omega (arith, r.same) }
+
+turned : (days : List ℕ) (q : ℕ) → has_day days q ≡ true → list_any (nat_eq q) days ≡ true
+turned [] q h = absurd cc
+turned (x ∷ days) q h = one (x == q) (nat_eq q x) (grind (arith, nat_tests)) h (turned days q)
+  where
+    one : {a b : Bool} (s t : Bool) → s ≡ t → (s || a) ≡ true → (a ≡ true → b ≡ true) → (t || b) ≡ true
+    one s true e h f = refl
+    one true false e h f = absurd cc
+    one false false e h f = f h
+
+-- a weekday that is open
+open_weekday : (weekly : List Bool) → has_open_weekday weekly ≡ true → (j : ℕ) × (j < length weekly) × (slice_index_or weekly j false ≡ false)
+open_weekday [] h = absurd cc
+open_weekday (false ∷ weekly) h = (0, omega arith, refl)
+open_weekday (true ∷ weekly) h = let r = open_weekday weekly h in (suc r.0, omega (arith, r.1), r.2)
+
+-- the first day from d on that has it
+first_of_weekday : (d j : ℕ) → j < 7 → (x : ℕ) × (d ≤ x) × (x < d + 7) × (weekday x ≡ j)
+first_of_weekday d j h = elim (cases_order ((d + 3) % 7) j) [
+  | inl same ↦ (d, omega arith, omega arith, same)
+  | inr apart ↦ elim apart [
+    | inl below ↦ (d + (j - (d + 3) % 7), omega arith, omega arith, omega arith)
+    | inr above ↦ (d + (j + 7 - (d + 3) % 7), omega arith, omega arith, omega arith)
+  ]
+]
+
+single_then : (c : Closings) (d : ℕ) → IsDayNumber d → is_weekly c d ≡ false → is_open c d ≡ false → is_single c d ≡ true
+single_then c d h w e = turn (is_single c d) (sym (is_open-inside c d h w) ∙ e)
+  where
+    turn : (b : Bool) → not b ≡ false → b ≡ true
+    turn true p = refl
+    turn false p = absurd cc
+
+-- not all of one day more than there are single days, each a week apart, are closed
+never_all : (c : Closings) (d : ℕ) → AreClosings c → 10957 ≤ d → d + 2806 ≤ 84005 → ((k : ℕ) → d ≤ k → k ≤ d + 2806 → is_open c k ≡ false) → ⊥
+never_all c d h low high closed =
+    let w = open_weekday c.weekly h.weekdays.some_open in
+    let f = first_of_weekday d w.0 (omega (arith, w.1, h.weekdays.seven)) in
+    let x = f.0 in
+    let n = suc (length c.single) in
+    let too_many : length (weeks_from x n) ≤ length c.single = length-le_from_is_member nat_eq_equiv (weeks_from x n) c.single (distinct x n) (λ q m.
+    let r = member x n q m in
+    turned c.single q (single_then c q (omega (arith, r.from, f.1), omega (arith, r.below, f.2, h.few)) (subst (λ (i : ℕ). slice_index_or c.weekly i false ≡ false) (sym (r.same ∙ f.3)) w.2)
+    (closed q (omega (arith, r.from, f.1)) (omega (arith, r.below, f.2, h.few))))) in
+    omega (arith, too_many, length-weeks_from x n)
+
+-- the least open day from d on is at most 2806 days later
+pub IsLeastOpen-near : (c : Closings) (d e : ℕ) → AreClosings c → 10957 ≤ d → e ≤ 84005 → IsLeastOpen c d e → e ≤ d + 2806
+IsLeastOpen-near c d e h low high l = elim (cases_order e (d + 2806)) [
+  | inl same ↦ omega arith
+  | inr apart ↦ elim apart [ inl below ↦ omega arith | inr above ↦ absurd (never_all c d h low (omega arith) (λ k from until. l.2 k from (omega arith))) ]
+]
+
+-- and it is there while so many days are left
+pub none_open-near : (c : Closings) (d : ℕ) → AreClosings c → 10957 ≤ d → ((k : ℕ) → d ≤ k → is_open c k ≡ false) → d + 2806 ≤ 84005 → ⊥
+none_open-near c d h low closed high = never_all c d h low high (λ k from until. closed k from)

@@ -1,0 +1,18 @@
+-- The statuses that programs end with.
+use Rattle.std.specs.Prelude.{ℕ}
+use Rattle.terms.specs.declared.reply.Reply.{Reply}
+use Rattle.terms.specs.declared.reply.Reply.TheVariants.{Refused as Denied}
+use Rattle.circ.specs.declared.lines.Exit.{Exit}
+use Rattle.circ.specs.declared.lines.Exit.TheVariants.{Done, Refused, Faulted, NotUnderstood}
+
+-- 0 for done, 2 for refused, 3 for a fault, 4 for words that were not understood.
+abbrev pub status_of : Exit → ℕ
+status_of Done = 0
+status_of Refused = 2
+status_of Faulted = 3
+status_of NotUnderstood = 4
+
+-- A refusal ends as refused, every other reply as done.
+abbrev pub exit_of : Reply → Exit
+exit_of (Denied refusal) = Refused
+exit_of _ = Done

@@ -1,0 +1,13 @@
+//! What the programs run: words in, lines out.
+#![tactic(auto)]
+
+mod arguments;
+mod lines;
+mod requests;
+
+#[cfg(test)]
+mod tests;
+
+pub use arguments::{Run, read_run};
+pub use lines::{Exit, WriteFault, not_understood, out_of_memory, tell_fault};
+pub use requests::one;

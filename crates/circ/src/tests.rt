@@ -1,0 +1,411 @@
+//! The desk by its words, over memory. Expected lines are those of the rules, worked out by hand.
+
+use crate::{Exit, Run, one, read_run};
+use desk::Desk;
+use sqlite::{Alter, Connection, MemStore};
+use std::alloc::Global;
+use std::process::Abort;
+use std::test::Fail;
+use store::Store;
+use terms::{
+    BranchId, Caller, CardKey, Command, CopyId, Fault, Key, PatronId, Refusal, Reply, Request,
+};
+
+/// A key, words with a bar before a last word that has spaces, and the status and line that answer them.
+type Said = (&'static str, &'static str, &'static str);
+
+/// Fifteen requests that make a small library: three patrons, two branches, four copies of three titles.
+const GROUND: [Said; 15] = [
+    ("g1", "begin-day 2026-03-02", "0 ok"),
+    ("g2", "branch 1 5|Main", "0 ok"),
+    ("g3", "branch 2 3|Harbour", "0 ok"),
+    ("g4", "week 1 ooooooc", "0 ok"),
+    ("g5", "week 2 coooooc", "0 ok"),
+    ("g6", "kind 1 5 5 500", "0 ok"),
+    ("g7", "rule 1 1 6 1 20 100", "0 ok"),
+    ("g8", "rule 1 2 12 1 20 100", "0 ok"),
+    ("g9", "patron 1 1 cardkey00001|Ann Bell", "0 ok"),
+    ("g10", "patron 2 1 cardkey00002|Bo Carr", "0 ok"),
+    ("g11", "patron 3 1 cardkey00003|Cy Dunn", "0 ok"),
+    ("g12", "acquire 10 100 1 1 2500|Rivers of the North", "0 ok"),
+    ("g13", "acquire 11 100 1 1 2500|Rivers of the North", "0 ok"),
+    ("g14", "acquire 20 200 1 2 1200|Salt Roads", "0 ok"),
+    ("g15", "acquire 30 300 2 1 800|Night Ferries", "0 ok"),
+];
+
+/// The words of a text, parted by single spaces, and the one after the bar whole.
+fn words_of(alloc: Global, text: &str) -> Result<Vec<String>, Fail> {
+    let mut words = Vec::new(alloc);
+    let (front, last) = match text.split_once('|') {
+        Some((front, last)) => (front, Some(last)),
+        None => (text, None),
+    };
+    for word in front.split(' ') {
+        words.push(String::from_str(alloc, word)?)?;
+    }
+    if let Some(word) = last {
+        words.push(String::from_str(alloc, word)?)?;
+    }
+    Ok(words)
+}
+
+fn key(alloc: Global, text: &str) -> Result<Key, Fail> {
+    Ok(Key::new(alloc, text)?.ok_or("a key")?)
+}
+
+/// The status and the line that answer the words.
+fn say<S: Alter>(desk: &mut Desk<S>, alloc: Global, name: &str, text: &str) -> Result<String, Fail> {
+    let words = words_of(alloc, text)?;
+    let mut line: Vec<u8> = Vec::new(alloc);
+    let exit = one(desk, alloc, key(alloc, name)?, &words, &mut line)?;
+    let line = std::str::from_utf8(&line)?;
+    let status = exit.status();
+    Ok(format!(in alloc; "{status} {line}")?)
+}
+
+/// Each answer is the expected one, with a newline.
+fn check<S: Alter>(
+    rt: &impl Abort,
+    alloc: Global,
+    desk: &mut Desk<S>,
+    rows: &[Said],
+) -> Result<(), Fail> {
+    for (name, text, answer) in rows {
+        let line = say(desk, alloc, name, text)?;
+        assert_eq!(rt; line.strip_suffix('\n'), Some(*answer), "at {text}");
+    }
+    Ok(())
+}
+
+fn new_desk(alloc: Global) -> Result<Desk<MemStore>, Fail> {
+    let conn = Connection::open_in_memory(alloc)?;
+    Ok(Desk::new(Store::create(conn)?)?)
+}
+
+fn ground(rt: &impl Abort, alloc: Global) -> Result<Desk<MemStore>, Fail> {
+    let mut desk = new_desk(alloc)?;
+    check(rt, alloc, &mut desk, &GROUND)?;
+    Ok(desk)
+}
+
+/// How many rows a text shows.
+fn count(desk: Desk<MemStore>, sql: &str) -> Result<u32, Fail> {
+    let mut conn = desk.into_store().into_connection();
+    Ok(conn.query_row(sql, &[])?.get(0)?)
+}
+
+/// The desk over the same tables, with rows that were written past it.
+fn written(desk: Desk<MemStore>, texts: &[&str]) -> Result<Desk<MemStore>, Fail> {
+    let mut conn = desk.into_store().into_connection();
+    for text in texts {
+        conn.execute(text, &[])?;
+    }
+    if !conn.is_autocommit() {
+        return Err("a transaction is open".into());
+    }
+    Ok(Desk::new(Store::open(conn)?)?)
+}
+
+#[test]
+fn lends_once_for_a_repeated_key(rt: HostRuntime) -> Result<(), Fail> {
+    let alloc = rt.alloc();
+    let mut desk = ground(&rt, alloc)?;
+    check(
+        &rt,
+        alloc,
+        &mut desk,
+        &[
+            ("k1", "check-out 1 10 1", "0 loan 1 due 2026-03-09"),
+            ("k1", "check-out 1 10 1", "0 loan 1 due 2026-03-09"),
+            ("k1", "check-out 1 11 1", "2 refused 80"),
+            ("k2", "check-out 1 99 1", "2 refused 13"),
+            ("k2", "check-out 1 11 1", "0 loan 2 due 2026-03-09"),
+        ],
+    )?;
+    assert_eq!(rt; count(desk, "SELECT COUNT(*) FROM loans")?, 2);
+    Ok(())
+}
+
+#[test]
+fn keeps_each_accepted_request_and_no_other(rt: HostRuntime) -> Result<(), Fail> {
+    let alloc = rt.alloc();
+    let mut desk = ground(&rt, alloc)?;
+    check(
+        &rt,
+        alloc,
+        &mut desk,
+        &[
+            ("r1", "week 1 ccccccc", "2 refused 22"),
+            ("r2", "kind 1 201 5 500", "2 refused 21"),
+            ("r3", "begin-day 2026-03-02", "2 refused 23"),
+            ("r4", "check-out 1 10 2", "2 refused 30"),
+            ("r5", "check-out 1 99 1", "2 refused 13"),
+            ("r6", "check-out 01 10 1", "4 words not understood"),
+        ],
+    )?;
+    assert_eq!(rt; count(desk, "SELECT COUNT(*) FROM kept")?, 15);
+    Ok(())
+}
+
+#[test]
+fn counts_the_due_day_to_the_end_of_the_calendar(rt: HostRuntime) -> Result<(), Fail> {
+    let alloc = rt.alloc();
+    let mut desk = ground(&rt, alloc)?;
+    check(
+        &rt,
+        alloc,
+        &mut desk,
+        &[
+            ("a1", "branch 3 5|Hill", "0 ok"),
+            ("a2", "rule 1 3 365 99 20 100", "0 ok"),
+            ("a3", "acquire 41 401 3 3 900|Last Light", "0 ok"),
+            ("a4", "begin-day 2191-01-01", "2 refused 23"),
+            ("a5", "begin-day 2190-12-31", "0 ok"),
+            ("a6", "check-out 1 41 3", "0 loan 1 due 2191-12-31"),
+        ],
+    )
+}
+
+#[test]
+fn gives_each_refusal_of_the_commands_that_set_rows(rt: HostRuntime) -> Result<(), Fail> {
+    let alloc = rt.alloc();
+    let mut desk = ground(&rt, alloc)?;
+    check(
+        &rt,
+        alloc,
+        &mut desk,
+        &[
+            ("b1", "branch 0 5|Main", "2 refused 21"),
+            ("b2", "branch 100 5|Main", "2 refused 21"),
+            ("b3", "branch 1 61|Main", "2 refused 21"),
+            ("b4", "branch 1 6|Main", "2 refused 20"),
+            ("b5", "branch 1 5|Mane", "2 refused 20"),
+            ("b6", "branch 1 5|Main", "0 ok"),
+            ("w1", "week 9 ooooooo", "2 refused 10"),
+            ("k1", "kind 100 5 5 500", "2 refused 21"),
+            ("k2", "kind 1 5 5 1000001", "2 refused 21"),
+            ("u1", "rule 1 1 0 1 20 100", "2 refused 21"),
+            ("u2", "rule 1 1 366 1 20 100", "2 refused 21"),
+            ("u3", "rule 9 1 6 1 20 100", "2 refused 17"),
+            ("p1", "patron 10000000 1 cardkey00009|Di", "2 refused 21"),
+            ("p2", "patron 9 9 cardkey00009|Di", "2 refused 17"),
+            ("p3", "patron 1 1 cardkey00009|Ann Bell", "2 refused 20"),
+            ("p4", "patron 1 1 cardkey00001|Ann Bell", "0 ok"),
+            ("c1", "acquire 0 100 1 1 2500|Rivers of the North", "2 refused 21"),
+            ("c2", "acquire 12 100 1 9 2500|Rivers of the North", "2 refused 10"),
+            ("c3", "acquire 12 100 1 1 2500|Rivers", "2 refused 20"),
+            ("c4", "acquire 10 100 1 2 2500|Rivers of the North", "2 refused 20"),
+            ("c5", "acquire 10 100 1 1 2500|Rivers of the North", "0 ok"),
+        ],
+    )
+}
+
+#[test]
+fn gives_the_refusals_of_a_check_out_by_their_order(rt: HostRuntime) -> Result<(), Fail> {
+    let alloc = rt.alloc();
+    let mut desk = ground(&rt, alloc)?;
+    check(
+        &rt,
+        alloc,
+        &mut desk,
+        &[
+            ("c1", "check-out 9 99 9", "2 refused 10"),
+            ("c2", "check-out 9 99 1", "2 refused 11"),
+            ("c3", "check-out 1 99 1", "2 refused 13"),
+            ("c4", "check-out 1 20 1", "2 refused 30"),
+            ("c5", "acquire 50 500 3 1 100|Old Maps", "0 ok"),
+            ("c6", "check-out 1 50 1", "2 refused 16"),
+            ("c7", "kind 1 1 5 500", "0 ok"),
+            ("c8", "check-out 1 10 1", "0 loan 1 due 2026-03-09"),
+            ("c9", "check-out 2 10 1", "2 refused 31"),
+            ("c10", "check-out 1 11 1", "2 refused 37"),
+        ],
+    )?;
+    let mut desk = written(
+        desk,
+        &[
+            "UPDATE copies SET condition = 2 WHERE copy = 20",
+            "UPDATE copies SET condition = 1 WHERE copy = 30",
+            "INSERT INTO transits VALUES (11, 2, NULL)",
+            "UPDATE patrons SET owed = 501 WHERE patron = 2",
+            "UPDATE meta SET next_loan = 2147483648",
+        ],
+    )?;
+    check(
+        &rt,
+        alloc,
+        &mut desk,
+        &[
+            ("d1", "check-out 2 20 2", "2 refused 35"),
+            ("d2", "check-out 2 30 1", "2 refused 34"),
+            ("d3", "check-out 2 11 1", "2 refused 32"),
+            ("d4", "acquire 12 101 1 1 2500|Deep Water", "0 ok"),
+            ("d5", "check-out 2 12 1", "2 refused 38"),
+            ("d6", "check-out 3 12 1", "2 refused 70"),
+        ],
+    )
+}
+
+#[test]
+fn fills_the_hold_of_the_shelf_and_the_first_in_line(rt: HostRuntime) -> Result<(), Fail> {
+    let alloc = rt.alloc();
+    let desk = ground(&rt, alloc)?;
+    let mut desk = written(
+        desk,
+        &[
+            "INSERT INTO holds VALUES (1, 2, 100, 1, 1, 10, 20519)",
+            "INSERT INTO holds VALUES (2, 3, 100, 1, 0, NULL, NULL)",
+            "INSERT INTO holds VALUES (3, 2, 200, 2, 0, NULL, NULL)",
+            "UPDATE meta SET next_hold = 4",
+        ],
+    )?;
+    check(
+        &rt,
+        alloc,
+        &mut desk,
+        &[
+            ("h1", "check-out 1 10 1", "2 refused 33"),
+            ("h2", "check-out 2 11 1", "2 refused 36"),
+            ("h3", "check-out 3 11 1", "0 loan 1 due 2026-03-09"),
+            ("h4", "check-out 2 10 1", "0 loan 2 due 2026-03-09"),
+            ("h5", "check-out 2 20 2", "0 loan 3 due 2026-03-10"),
+        ],
+    )?;
+    let filled = "SELECT COUNT(*) FROM holds WHERE state = 2 AND copy IS NULL AND limit_day IS NULL";
+    assert_eq!(rt; count(desk, filled)?, 3);
+    Ok(())
+}
+
+#[test]
+fn refuses_a_second_active_hold_of_the_title(rt: HostRuntime) -> Result<(), Fail> {
+    let alloc = rt.alloc();
+    let desk = ground(&rt, alloc)?;
+    let mut desk = written(
+        desk,
+        &[
+            "INSERT INTO holds VALUES (1, 2, 100, 1, 0, NULL, NULL)",
+            "INSERT INTO holds VALUES (2, 2, 100, 1, 0, NULL, NULL)",
+        ],
+    )?;
+    check(
+        &rt,
+        alloc,
+        &mut desk,
+        &[("h1", "check-out 2 10 1", "2 refused 50")],
+    )
+}
+
+fn by_patron(
+    alloc: Global,
+    patron: u32,
+    card_key: &str,
+    name: &str,
+) -> Result<Request, Fail> {
+    let card_key = CardKey::new(alloc, card_key)?.ok_or("a card key")?;
+    Ok(Request {
+        caller: Caller::Patron(PatronId::new(patron), card_key),
+        key: key(alloc, name)?,
+        command: Command::CheckOut {
+            patron: PatronId::new(1),
+            copy: CopyId::new(20),
+            branch: BranchId::new(2),
+        },
+    })
+}
+
+#[test]
+fn lets_no_patron_lend(rt: HostRuntime) -> Result<(), Fail> {
+    let alloc = rt.alloc();
+    let mut desk = ground(&rt, alloc)?;
+    let callers = [
+        (1, "cardkey00001"),
+        (1, "cardkey00002"),
+        (8, "cardkey00001"),
+    ];
+    for (patron, card_key) in callers {
+        let reply = desk.handle(alloc, &by_patron(alloc, patron, card_key, "m1")?)?;
+        assert!(rt; matches!(reply, Reply::Refused(Refusal::NotAllowed)));
+    }
+    assert_eq!(rt; count(desk, "SELECT COUNT(*) FROM loans")?, 0);
+    Ok(())
+}
+
+#[test]
+fn runs_a_list(rt: HostRuntime) -> Result<(), Fail> {
+    let alloc = rt.alloc();
+    let mut desk = ground(&rt, alloc)?;
+    let Ok(replies) = desk.run(alloc, &[]) else {
+        return Err("a fault".into());
+    };
+    assert!(rt; replies.is_empty());
+    Ok(())
+}
+
+#[test]
+fn understands_no_other_words(rt: HostRuntime) -> Result<(), Fail> {
+    let alloc = rt.alloc();
+    let mut desk = new_desk(alloc)?;
+    let texts = [
+        "", "help", "-h", "--help", "begin-day", "begin-day 2026-3-2", "begin-day 2026-02-30",
+        "begin-day 2026-03-02 x", "check-out 1 10", "check-out 1 10 1 1", "check-out 1 10 +1",
+        "check-out 1 10 4294967296", "check-out 1 10 ", "week 1 oooooo", "week 1 ooooooO",
+        "branch 1 5|-Main", "branch 1 5| Main", "branch 1 5|", "patron 1 1 short|Ann",
+        "patron 1 1 cardkey-0001|Ann", "renew 1", "page 1", "pay 01 5",
+    ];
+    for text in texts {
+        let line = say(&mut desk, alloc, "k", text)?;
+        assert_eq!(rt; line.as_str(), "4 words not understood\n", "at {text}");
+    }
+    assert_eq!(rt; count(desk, "SELECT COUNT(*) FROM kept")?, 0);
+    Ok(())
+}
+
+#[test]
+fn reads_the_first_words(rt: HostRuntime) -> Result<(), Fail> {
+    let alloc = rt.alloc();
+    let longest = "0123456789012345678901234567890123456-aZ";
+    let words = words_of(alloc, "file|town.db")?;
+    assert!(rt; read_run(alloc, &words)?.is_none());
+    for (text, is_read) in [
+        ("file town.db k1 begin-day", true),
+        ("file town.db k1", false),
+        ("file town.db k_1 begin-day", false),
+        ("files town.db k1 begin-day", false),
+    ] {
+        let words = words_of(alloc, text)?;
+        assert_eq!(rt; read_run(alloc, &words)?.is_some(), is_read, "at {text}");
+    }
+    let mut words = words_of(alloc, "file town.db")?;
+    words.push(String::from_str(alloc, longest)?)?;
+    words.push(String::from_str(alloc, "week")?)?;
+    let Some(Run::File { path, key, words }) = read_run(alloc, &words)? else {
+        return Err("a run".into());
+    };
+    assert_eq!(rt; (path, key.as_str(), words.len()), ("town.db", longest, 1));
+    Ok(())
+}
+
+#[test]
+fn tells_the_faults_of_tables(rt: HostRuntime) -> Result<(), Fail> {
+    let alloc = rt.alloc();
+    let empty = Connection::open_in_memory(alloc)?;
+    assert_eq!(rt; Store::open(empty).err(), Some(Fault::Stored));
+    for text in ["UPDATE meta SET schema = 2", "DELETE FROM meta"] {
+        let mut conn = new_desk(alloc)?.into_store().into_connection();
+        conn.execute(text, &[])?;
+        if conn.is_autocommit() {
+            assert_eq!(rt; Store::open(conn).err(), Some(Fault::Stored), "at {text}");
+        }
+    }
+    let conn = new_desk(alloc)?.into_store().into_connection();
+    assert_eq!(rt; Store::create(conn).err(), Some(Fault::Database));
+    let mut desk = written(ground(&rt, alloc)?, &["UPDATE patrons SET kind = 100"])?;
+    check(
+        &rt,
+        alloc,
+        &mut desk,
+        &[("k1", "check-out 1 10 1", "3 fault 93")],
+    )?;
+    assert_eq!(rt; Exit::Faulted.status(), 3);
+    Ok(())
+}

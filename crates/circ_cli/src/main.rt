@@ -1,0 +1,100 @@
+//! The program `circ`: the circulation desk of a town library, by words.
+#![tactic(auto)]
+
+use circ::{Exit, Run, WriteFault, not_understood, one, out_of_memory, read_run, tell_fault};
+use desk::Desk;
+use sqlite::{FileFrom, FileStore, Start, Wary};
+use std::alloc::Global;
+use std::env;
+use std::fs;
+use std::io;
+use std::io::{BufWriter, ErrorKind, Write};
+use std::process::ExitCode;
+use store::Store;
+use terms::{Fault, Key};
+
+/// Whether there is no file yet, or one with no bytes.
+fn is_new(rt: &HostRuntime, path: &str) -> bool {
+    match fs::metadata(rt, path) {
+        Ok(file) => file.len() == 0,
+        Err(error) => error.kind() == ErrorKind::NotFound,
+    }
+}
+
+/// The library in the file; a new one where there is no file, or one with no bytes.
+fn open<S: Start>(
+    rt: &HostRuntime,
+    path: &str,
+    start: S,
+) -> Result<Desk<FileStore<FileFrom<S>>>, Fault> {
+    let store = if is_new(rt, path) {
+        Store::create_from(rt, path, start)?
+    } else {
+        Store::open_from(rt, path, start)?
+    };
+    Desk::new(store)
+}
+
+/// One request on the library in the file.
+fn file<W: Write>(
+    rt: &HostRuntime,
+    path: &str,
+    key: Key,
+    words: &[String],
+    writer: &mut W,
+) -> Result<Exit, WriteFault> {
+    match open(rt, path, Wary) {
+        Ok(mut desk) => one(&mut desk, rt.alloc(), key, words, writer),
+        Err(fault) => tell_fault(writer, fault),
+    }
+}
+
+/// The words after the program's name. An argument that is not UTF-8 gives no words, which are not understood.
+fn words_of(rt: &HostRuntime) -> Result<Vec<String>, Fault> {
+    let mut words = Vec::new(rt.alloc());
+    match env::args(rt) {
+        Ok(arguments) => {
+            for word in arguments.skip(1) {
+                words.push(word)?;
+            }
+            Ok(words)
+        }
+        Err(error) if error.kind() == ErrorKind::OutOfMemory => Err(Fault::Memory),
+        Err(_) => Ok(words),
+    }
+}
+
+/// Does what the words ask for, and writes its lines.
+fn answer<W: Write>(
+    rt: &HostRuntime,
+    alloc: Global,
+    words: &[String],
+    writer: &mut W,
+) -> Result<Exit, WriteFault> {
+    match read_run(alloc, words) {
+        Ok(Some(Run::File { path, key, words })) => file(rt, path, key, words, writer),
+        Ok(None) => not_understood(writer),
+        Err(_) => out_of_memory(writer),
+    }
+}
+
+/// The whole run: the lines go out together at its end.
+fn run(rt: &HostRuntime) -> Result<Exit, WriteFault> {
+    let mut writer = match BufWriter::new(rt.alloc(), io::writer(rt)) {
+        Ok(writer) => writer,
+        Err(_) => return out_of_memory(&mut io::writer(rt)),
+    };
+    let exit = match words_of(rt) {
+        Ok(words) => answer(rt, rt.alloc(), &words, &mut writer)?,
+        Err(fault) => tell_fault(&mut writer, fault)?,
+    };
+    match writer.flush() {
+        Ok(()) => Ok(exit),
+        Err(_) => Err(WriteFault),
+    }
+}
+
+fn main(rt: HostRuntime) -> ExitCode {
+    let exit = run(&rt).unwrap_or(Exit::Faulted);
+    ExitCode::from(exit.status())
+}

@@ -1,0 +1,28 @@
+-- What is decided on a command, on the rows of its view.
+use Rattle.std.specs.Prelude.{◌≡◌, Result, Err}
+use Rattle.terms.specs.declared.refusal.Refusal.{Refusal}
+use Rattle.terms.specs.declared.refusal.Refusal.TheVariants.{OutOfLimits}
+use Rattle.terms.specs.declared.reply.Reply.TheVariants.{Done}
+use Rattle.terms.specs.declared.command.Command.{Command}
+use Rattle.terms.specs.declared.command.Command.TheVariants.{BeginDay, Branch, Week, Kind, Rule, Patron, Acquire, CheckOut}
+use Rattle.circ_core.specs.declared.changes.Decision.{Decision}
+use Rattle.circ_core.specs.declared.views.View.{View}
+use Rattle.circ_core.specs.declared.views.View.TheVariants as view
+use Rattle.circ_core.specs.Decided.{Decided}
+use Rattle.circ_core.specs.Setting.{begin_day_checks, begin_day_rows, branch_checks, branch_rows, week_checks, week_rows, kind_checks, kind_rows, rule_checks, rule_rows, patron_checks, patron_rows, acquire_checks, acquire_rows}
+use Rattle.circ_core.specs.Lending.{LendsOrRefuses}
+
+-- The decision is that of the command's checks, reply and row changes; a view of another command's rows is refused.
+abbrev pub DecidesOn : View → Command → Result Decision Refusal → Type 0
+DecidesOn (view.BeginDay meta) (BeginDay day) decided = Decided (begin_day_checks meta day) Done (begin_day_rows meta day) decided
+DecidesOn (view.Branch row) (Branch branch pickup name) decided = Decided (branch_checks row branch pickup name) Done (branch_rows row branch pickup name) decided
+DecidesOn (view.Week row) (Week branch week) decided = Decided (week_checks row week) Done (week_rows row week) decided
+DecidesOn view.Kind (Kind kind loans holds debt) decided = Decided (kind_checks kind loans holds debt) Done (kind_rows kind loans holds debt) decided
+DecidesOn (view.Rule row) (Rule kind copy_kind period renewals rate cap) decided =
+    Decided (rule_checks row kind copy_kind period renewals rate cap) Done (rule_rows kind copy_kind period renewals rate cap) decided
+DecidesOn (view.Patron rows) (Patron patron kind card_key name) decided =
+    Decided (patron_checks rows patron kind card_key name) Done (patron_rows rows patron kind card_key name) decided
+DecidesOn (view.Acquire rows) (Acquire copy title kind home price text) decided =
+    Decided (acquire_checks rows copy title kind home price text) Done (acquire_rows rows copy title kind home price text) decided
+DecidesOn (view.CheckOut rows) (CheckOut patron copy branch) decided = LendsOrRefuses rows patron copy branch decided
+DecidesOn _ _ decided = decided ≡ Err OutOfLimits

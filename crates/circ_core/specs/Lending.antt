@@ -1,0 +1,169 @@
+-- The checks and row changes of check-out, on the rows of a view.
+use Rattle.std.specs.Prelude.{◌≡◌, ◌⊎◌, ℕ, ◌+◌, ◌≤◌, ◌==◌, nat_le, nat_lt, not, Bool, true, false, List, [], ◌∷◌, Option, Some, None, is_none, is_some, Result, Ok, Err}
+use Rattle.calendar.specs.Openings.{Closings, is_open, IsLeastOpen}
+use Rattle.terms.specs.declared.refusal.Refusal.{Refusal}
+use Rattle.terms.specs.declared.refusal.Refusal.TheVariants as refusal
+use Rattle.terms.specs.declared.reply.Reply.TheVariants.{Lent}
+use Rattle.terms.specs.declared.row.MetaRow.{MetaRow}
+use Rattle.terms.specs.declared.row.PatronRow.{PatronRow}
+use Rattle.terms.specs.declared.row.KindRow.{KindRow}
+use Rattle.terms.specs.declared.row.RuleRow.{RuleRow}
+use Rattle.terms.specs.declared.row.CopyRow.{CopyRow}
+use Rattle.terms.specs.declared.row.LoanRow.{LoanRow}
+use Rattle.terms.specs.declared.row.HoldRow.{HoldRow}
+use Rattle.terms.specs.declared.row.HoldState.{HoldState}
+use Rattle.terms.specs.declared.row.HoldState.TheVariants.{Filled}
+use Rattle.terms.specs.declared.row.Condition.{Condition}
+use Rattle.terms.specs.declared.row.Condition.TheVariants as condition
+use Rattle.circ_core.specs.declared.changes.Decision.{Decision}
+use Rattle.circ_core.specs.declared.changes.RowChange.{RowChange}
+use Rattle.circ_core.specs.declared.changes.RowChange.TheVariants.{PutMeta, PutLoan, PutHold}
+use Rattle.circ_core.specs.declared.views.CheckOutView.{CheckOutView}
+use Rattle.model.specs.Checks.{Check, first_failing, last_number}
+
+-- ---- tests on rows
+
+-- The copy is missing.
+abbrev pub is_missing : Option CopyRow → Bool
+is_missing (Some row) = elim row.condition [ condition.Missing ↦ true | _ ↦ false ]
+is_missing None = false
+
+-- The copy is withdrawn.
+abbrev pub is_withdrawn : Option CopyRow → Bool
+is_withdrawn (Some row) = elim row.condition [ condition.Withdrawn ↦ true | _ ↦ false ]
+is_withdrawn None = false
+
+-- The branch at which a copy stands that is neither lent nor in transit: that of the hold which it waits for, else its home.
+abbrev pub stands_at : Option HoldRow → Option CopyRow → ℕ
+stands_at (Some hold) copy = hold.branch
+stands_at None (Some row) = row.home
+stands_at None None = 0
+
+-- The hold is another patron's.
+abbrev pub is_of_other : Option HoldRow → ℕ → Bool
+is_of_other (Some hold) patron = not (hold.patron == patron)
+is_of_other None patron = false
+
+-- The hold that a check-out fills: that of the hold shelf, else the first in line.
+abbrev pub filled_hold : Option HoldRow → Option HoldRow → Option HoldRow
+filled_hold (Some hold) first = Some hold
+filled_hold None first = first
+
+-- The copy stands on the shelf while the first hold in line is another patron's.
+abbrev pub is_wanted : Option HoldRow → Option HoldRow → ℕ → Bool
+is_wanted (Some hold) first patron = false
+is_wanted None first patron = is_of_other first patron
+
+-- The patron has more active holds on the title than the one that is filled.
+abbrev pub has_more : Option HoldRow → ℕ → Bool
+has_more (Some hold) own_holds = nat_lt 1 own_holds
+has_more None own_holds = nat_lt 0 own_holds
+
+-- How many open loans the kind may have, and how much its patrons may owe at check-out.
+abbrev pub loans_allowed : Option KindRow → ℕ
+loans_allowed (Some kind) = kind.loans
+loans_allowed None = 0
+
+abbrev pub debt_allowed : Option KindRow → ℕ
+debt_allowed (Some kind) = kind.debt
+debt_allowed None = 0
+
+abbrev pub owed_by : Option PatronRow → ℕ
+owed_by (Some patron) = patron.owed
+owed_by None = 0
+
+-- ---- the checks, in their order
+
+abbrev pub check_out_checks : CheckOutView → ℕ → ℕ → List Check
+check_out_checks view patron branch =
+    (refusal.UnknownBranch, is_none view.calendar)
+    ∷ (refusal.UnknownPatron, is_none view.patron)
+    ∷ (refusal.UnknownCopy, is_none view.at.copy)
+    ∷ (refusal.CopyWithdrawn, is_withdrawn view.at.copy)
+    ∷ (refusal.CopyMissing, is_missing view.at.copy)
+    ∷ (refusal.OnLoan, is_some view.at.loan)
+    ∷ (refusal.InTransit, is_some view.at.transit)
+    ∷ (refusal.Elsewhere, not (stands_at view.at.hold view.at.copy == branch))
+    ∷ (refusal.OnHoldShelf, is_of_other view.at.hold patron)
+    ∷ (refusal.HoldWaits, is_wanted view.at.hold view.first patron)
+    ∷ (refusal.AlreadyHolds, has_more (filled_hold view.at.hold view.first) view.own_holds)
+    ∷ (refusal.NoRule, is_none view.rule)
+    ∷ (refusal.TooManyLoans, nat_le (loans_allowed view.kind) view.open_loans)
+    ∷ (refusal.OwesTooMuch, nat_lt (debt_allowed view.kind) (owed_by view.patron))
+    ∷ (refusal.NumbersUsedUp, nat_lt last_number view.meta.next_loan)
+    ∷ []
+
+-- ---- the due day
+
+abbrev pub period_of : Option RuleRow → ℕ
+period_of (Some rule) = rule.period
+period_of None = 0
+
+abbrev pub renewals_of : Option RuleRow → ℕ
+renewals_of (Some rule) = rule.renewals
+renewals_of None = 0
+
+abbrev pub rate_of : Option RuleRow → ℕ
+rate_of (Some rule) = rule.rate
+rate_of None = 0
+
+abbrev pub cap_of : Option RuleRow → ℕ
+cap_of (Some rule) = rule.cap
+cap_of None = 0
+
+-- The first day that the loan may be due: the end of its period.
+abbrev pub period_end : CheckOutView → ℕ
+period_end view = view.meta.today + period_of view.rule
+
+-- The day is the least open one of the lending branch from that day on.
+abbrev pub IsDueFrom : Option Closings → ℕ → ℕ → Type 0
+IsDueFrom (Some closings) from due = IsLeastOpen closings from due
+IsDueFrom None from due = ⊥
+
+-- From that day on the lending branch has no open day left in the calendar.
+abbrev pub IsShutFrom : Option Closings → ℕ → Type 0
+IsShutFrom (Some closings) from = (k : ℕ) → from ≤ k → k ≤ 84005 → is_open closings k ≡ false
+IsShutFrom None from = Unit {0}
+
+-- ---- the rows that change
+
+-- The loan that is made, under the rule as it is now.
+abbrev pub new_loan : CheckOutView → ℕ → ℕ → ℕ → ℕ → LoanRow
+new_loan view patron copy branch due = record {
+  loan = view.meta.next_loan;
+  copy = copy;
+  patron = patron;
+  branch = branch;
+  made = view.meta.today;
+  due = due;
+  period = period_of view.rule;
+  renewals_left = renewals_of view.rule;
+  rate = rate_of view.rule;
+  cap = cap_of view.rule;
+  ended = None;
+}
+
+-- The row of a hold in a final state: it names no copy and no shelf limit any more.
+abbrev pub finished : HoldRow → HoldState → HoldRow
+finished hold state = record hold { state = state; copy = None; limit_day = None }
+
+abbrev pub fill_rows : Option HoldRow → List RowChange
+fill_rows (Some hold) = PutHold (finished hold Filled) ∷ []
+fill_rows None = []
+
+-- The next number is given, the loan is made, and the hold that the check-out serves is filled.
+abbrev pub check_out_rows : CheckOutView → ℕ → ℕ → ℕ → ℕ → List RowChange
+check_out_rows view patron copy branch due =
+    PutMeta (record view.meta { next_loan = view.meta.next_loan + 1 }) ∷ PutLoan (new_loan view patron copy branch due)
+    ∷ fill_rows (filled_hold view.at.hold view.first)
+
+-- A check-out is refused by its first failing check, or where no day is left on which the loan could be due;
+-- else the loan is due on the least open day from the end of its period, and the rows change accordingly.
+abbrev pub LendsOrRefuses : CheckOutView → ℕ → ℕ → ℕ → Result Decision Refusal → Type 0
+LendsOrRefuses view patron copy branch (Ok decision) =
+    (first_failing (check_out_checks view patron branch) ≡ None)
+    × ((due : ℕ) × IsDueFrom view.calendar (period_end view) due
+      × (decision.reply ≡ Lent view.meta.next_loan due) × (decision.changes ≡ check_out_rows view patron copy branch due))
+LendsOrRefuses view patron copy branch (Err refused) =
+    (first_failing (check_out_checks view patron branch) ≡ Some refused)
+    ⊎ ((first_failing (check_out_checks view patron branch) ≡ None) × (refused ≡ refusal.PastCalendar) × IsShutFrom view.calendar (period_end view))

@@ -1,0 +1,8 @@
+-- The filled slots of a row of slots, in order.
+use Rattle.std.specs.Prelude.{List, [], ◌∷◌, Option, Some, None}
+
+-- The values of the slots that are filled.
+abbrev pub filled : {A : Type 0} → List (Option A) → List A
+filled [] = []
+filled (Some x ∷ xs) = x ∷ filled xs
+filled (None ∷ xs) = filled xs

@@ -1,0 +1,188 @@
+//! Rows that are found by other columns than their key.
+
+ghost use Rattle.std.specs.Prelude.{◌≡◌, false};
+
+use crate::cell::day_at;
+use crate::entry::{hold_row, loan_row, transit_row};
+use crate::fault::{database, stored};
+use crate::get::first_row;
+use calendar::Day;
+use sqlite::{Alter, Connection, Row, params};
+use sqlite_value::value::ValueRef;
+use std::alloc::Global;
+use terms::{
+    BranchId, CopyId, Count, Fault, HoldId, HoldRow, LoanRow, PatronId, TitleId, TransitRow,
+};
+
+/// The open loan of a copy, if it is on loan. 91, 93.
+pub fn open_loan_of<S: Alter>(
+    conn: &mut Connection<S>,
+    copy: CopyId,
+) -> Result<Option<LoanRow>, Fault>
+    ensures mode { conn.old.in_transaction ≡ false → conn.new.in_transaction ≡ false }
+{
+    let row = first_row(
+        conn,
+        "SELECT * FROM loans WHERE copy = ?1 AND ended IS NULL ORDER BY loan LIMIT 1",
+        params![copy.number()],
+    )?;
+    match &row {
+        Some(row) => Ok(Some(loan_row(row)?)),
+        None => Ok(None),
+    }
+}
+
+/// The hold that names the copy, if one does. 91, 93.
+pub fn ready_hold_of<S: Alter>(
+    conn: &mut Connection<S>,
+    copy: CopyId,
+) -> Result<Option<HoldRow>, Fault>
+    ensures mode { conn.old.in_transaction ≡ false → conn.new.in_transaction ≡ false }
+{
+    let row = first_row(
+        conn,
+        "SELECT * FROM holds WHERE copy = ?1 ORDER BY hold LIMIT 1",
+        params![copy.number()],
+    )?;
+    match &row {
+        Some(row) => Ok(Some(hold_row(row)?)),
+        None => Ok(None),
+    }
+}
+
+/// The travel of a copy for the hold, if one travels for it. 91, 93.
+pub fn transit_for<S: Alter>(
+    conn: &mut Connection<S>,
+    hold: HoldId,
+) -> Result<Option<TransitRow>, Fault>
+    ensures mode { conn.old.in_transaction ≡ false → conn.new.in_transaction ≡ false }
+{
+    let row = first_row(
+        conn,
+        "SELECT * FROM transits WHERE hold = ?1 ORDER BY copy LIMIT 1",
+        params![hold.number()],
+    )?;
+    match &row {
+        Some(row) => Ok(Some(transit_row(row)?)),
+        None => Ok(None),
+    }
+}
+
+/// The first in line for a title: the waiting hold of the least number that no copy travels for. 91, 93.
+pub fn first_in_line<S: Alter>(
+    conn: &mut Connection<S>,
+    title: TitleId,
+) -> Result<Option<HoldRow>, Fault>
+    ensures mode { conn.old.in_transaction ≡ false → conn.new.in_transaction ≡ false }
+{
+    let row = first_row(
+        conn,
+        "SELECT * FROM holds WHERE title = ?1 AND state = 0 AND NOT EXISTS (SELECT * FROM transits WHERE transits.hold = holds.hold) ORDER BY hold LIMIT 1",
+        params![title.number()],
+    )?;
+    match &row {
+        Some(row) => Ok(Some(hold_row(row)?)),
+        None => Ok(None),
+    }
+}
+
+/// The open loan of a patron of some copy of the title, the least number first, if there is one. 91, 93.
+pub fn open_loan_of_title<S: Alter>(
+    conn: &mut Connection<S>,
+    patron: PatronId,
+    title: TitleId,
+) -> Result<Option<LoanRow>, Fault>
+    ensures mode { conn.old.in_transaction ≡ false → conn.new.in_transaction ≡ false }
+{
+    let row = first_row(
+        conn,
+        "SELECT * FROM loans WHERE patron = ?1 AND ended IS NULL AND EXISTS (SELECT * FROM copies WHERE copies.copy = loans.copy AND copies.title = ?2) ORDER BY loan LIMIT 1",
+        params![patron.number(), title.number()],
+    )?;
+    match &row {
+        Some(row) => Ok(Some(loan_row(row)?)),
+        None => Ok(None),
+    }
+}
+
+/// The number that a text counts. 91; 93 from 2^32 on.
+fn counted<S: Alter>(
+    conn: &mut Connection<S>,
+    sql: &str,
+    params: &[ValueRef<'_>],
+) -> Result<Count, Fault>
+    ensures mode { conn.old.in_transaction ≡ false → conn.new.in_transaction ≡ false }
+{
+    let row = conn.query_row(sql, params).map_err(database)?;
+    let number: u32 = row.get(0).map_err(stored)?;
+    Ok(Count::new(number))
+}
+
+/// How many open loans the patron has. 91; 93 from 2^32 on.
+pub fn count_open_loans<S: Alter>(
+    conn: &mut Connection<S>,
+    patron: PatronId,
+) -> Result<Count, Fault>
+    ensures mode { conn.old.in_transaction ≡ false → conn.new.in_transaction ≡ false }
+{
+    counted(
+        conn,
+        "SELECT COUNT(*) FROM loans WHERE patron = ?1 AND ended IS NULL",
+        params![patron.number()],
+    )
+}
+
+/// How many waiting and ready holds the patron has. 91; 93 from 2^32 on.
+pub fn count_active_holds<S: Alter>(
+    conn: &mut Connection<S>,
+    patron: PatronId,
+) -> Result<Count, Fault>
+    ensures mode { conn.old.in_transaction ≡ false → conn.new.in_transaction ≡ false }
+{
+    counted(
+        conn,
+        "SELECT COUNT(*) FROM holds WHERE patron = ?1 AND state <= 1",
+        params![patron.number()],
+    )
+}
+
+/// How many waiting and ready holds the patron has on the title. 91; 93 from 2^32 on.
+pub fn count_active_holds_on<S: Alter>(
+    conn: &mut Connection<S>,
+    patron: PatronId,
+    title: TitleId,
+) -> Result<Count, Fault>
+    ensures mode { conn.old.in_transaction ≡ false → conn.new.in_transaction ≡ false }
+{
+    counted(
+        conn,
+        "SELECT COUNT(*) FROM holds WHERE patron = ?1 AND title = ?2 AND state <= 1",
+        params![patron.number(), title.number()],
+    )
+}
+
+/// The days of the rows. 90, 91, 93.
+fn days_of(alloc: Global, rows: &[Row]) -> Result<Vec<Day>, Fault> {
+    let mut days = Vec::new(alloc);
+    for row in rows {
+        days.push(day_at(row, 1)?)?;
+    }
+    Ok(days)
+}
+
+/// The days on which a branch is closed singly, the first one first. 90, 91, 93.
+pub fn closed_days_of<S: Alter>(
+    conn: &mut Connection<S>,
+    alloc: Global,
+    branch: BranchId,
+) -> Result<Vec<Day>, Fault>
+    ensures mode { conn.old.in_transaction ≡ false → conn.new.in_transaction ≡ false }
+{
+    let rows = conn
+        .query_all(
+            "SELECT * FROM closed_days WHERE branch = ?1 ORDER BY day",
+            params![branch.number()],
+        )
+        .map_err(database)?;
+    days_of(alloc, rows.as_slice())
+}

@@ -1,0 +1,6 @@
+//! From words to commands.
+#![tactic(auto)]
+
+mod words;
+
+pub use words::{WordFault, read_words};

@@ -1,0 +1,5 @@
+pub mod Forms
+pub mod Texts
+pub mod Money
+pub mod Built
+pub mod Callers

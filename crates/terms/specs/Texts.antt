@@ -1,0 +1,125 @@
+-- Request texts and reply texts: one spelling each.
+use Rattle.std.specs.Prelude.{ℕ, Bool, false, if◌then◌else◌, List, [], ◌∷◌, slice_index_or, codes, Some, None}
+use Rattle.std.specs.Fmt.{decimal}
+use Rattle.std.specs.List.{join_with_byte}
+use Rattle.calendar.specs.Days.{day_text}
+use Rattle.terms.specs.declared.command.Command.{Command}
+use Rattle.terms.specs.declared.command.Command.TheVariants.{BeginDay, Branch, Week, CloseDay, OpenDay, Kind, Rule, Patron, Acquire, CheckOut, CheckIn, Renew, PlaceHold, CancelHold, Unshelve, UnshelveCancelled, Missing, Withdraw, Pay, Waive, Page}
+use Rattle.terms.specs.declared.refusal.Refusal.{Refusal}
+use Rattle.terms.specs.declared.refusal.Refusal.TheVariants as refusal
+use Rattle.terms.specs.declared.fault.Fault.{Fault}
+use Rattle.terms.specs.declared.fault.Fault.TheVariants as fault
+use Rattle.terms.specs.declared.reply.Routed.{Routed}
+use Rattle.terms.specs.declared.reply.Routed.TheVariants.{Shelf, HoldShelf, Transit}
+use Rattle.terms.specs.declared.reply.Reply.{Reply}
+use Rattle.terms.specs.declared.reply.Reply.TheVariants.{Done, Lent, CheckedIn, Held, Moved, Lost, Owed, Shown, Refused}
+
+-- the letter of a weekday: `c` where it is closed and `o` where it is open
+abbrev pub weekday_letter : List Bool → ℕ → ℕ
+weekday_letter closed weekday = if slice_index_or closed weekday false then 99 else 111
+
+-- a week's mask: a letter for each of the seven weekdays, Monday first
+abbrev pub mask_text : List Bool → List ℕ
+mask_text closed =
+    weekday_letter closed 0 ∷ weekday_letter closed 1 ∷ weekday_letter closed 2 ∷ weekday_letter closed 3
+    ∷ weekday_letter closed 4 ∷ weekday_letter closed 5 ∷ weekday_letter closed 6 ∷ []
+
+-- the words of a command
+unfoldable pub command_words : Command → List (List ℕ)
+command_words (BeginDay day) = codes "begin-day" ∷ day_text day ∷ []
+command_words (Branch branch pickup name) = codes "branch" ∷ decimal branch ∷ decimal pickup ∷ name ∷ []
+command_words (Week branch week) = codes "week" ∷ decimal branch ∷ mask_text week ∷ []
+command_words (CloseDay branch day) = codes "close-day" ∷ decimal branch ∷ day_text day ∷ []
+command_words (OpenDay branch day) = codes "open-day" ∷ decimal branch ∷ day_text day ∷ []
+command_words (Kind kind loans holds debt) = codes "kind" ∷ decimal kind ∷ decimal loans ∷ decimal holds ∷ decimal debt ∷ []
+command_words (Rule kind copy_kind period renewals rate cap) =
+    codes "rule" ∷ decimal kind ∷ decimal copy_kind ∷ decimal period ∷ decimal renewals ∷ decimal rate ∷ decimal cap ∷ []
+command_words (Patron patron kind card_key name) = codes "patron" ∷ decimal patron ∷ decimal kind ∷ card_key ∷ name ∷ []
+command_words (Acquire copy title kind home price text) =
+    codes "acquire" ∷ decimal copy ∷ decimal title ∷ decimal kind ∷ decimal home ∷ decimal price ∷ text ∷ []
+command_words (CheckOut patron copy branch) = codes "check-out" ∷ decimal patron ∷ decimal copy ∷ decimal branch ∷ []
+command_words (CheckIn copy branch) = codes "check-in" ∷ decimal copy ∷ decimal branch ∷ []
+command_words (Renew loan) = codes "renew" ∷ decimal loan ∷ []
+command_words (PlaceHold patron title branch) = codes "place-hold" ∷ decimal patron ∷ decimal title ∷ decimal branch ∷ []
+command_words (CancelHold hold) = codes "cancel-hold" ∷ decimal hold ∷ []
+command_words (Unshelve hold) = codes "unshelve" ∷ decimal hold ∷ []
+command_words (UnshelveCancelled hold) = codes "unshelve-cancelled" ∷ decimal hold ∷ []
+command_words (Missing copy) = codes "missing" ∷ decimal copy ∷ []
+command_words (Withdraw copy) = codes "withdraw" ∷ decimal copy ∷ []
+command_words (Pay patron amount) = codes "pay" ∷ decimal patron ∷ decimal amount ∷ []
+command_words (Waive patron amount) = codes "waive" ∷ decimal patron ∷ decimal amount ∷ []
+command_words (Page patron) = codes "page" ∷ decimal patron ∷ []
+
+-- the request text of a command: its words, joined by single spaces
+unfoldable pub request_text : Command → List ℕ
+request_text command = join_with_byte 32 (command_words command)
+
+-- the words that tell where a copy goes
+unfoldable pub routed_words : Routed → List (List ℕ)
+routed_words (Shelf branch) = codes "shelf" ∷ decimal branch ∷ []
+routed_words (HoldShelf hold branch until) =
+    codes "ready" ∷ decimal hold ∷ codes "at" ∷ decimal branch ∷ codes "until" ∷ day_text until ∷ []
+routed_words (Transit goal (Some hold)) = codes "transit" ∷ decimal goal ∷ codes "for" ∷ decimal hold ∷ []
+routed_words (Transit goal None) = codes "transit" ∷ decimal goal ∷ []
+
+-- the number of a refusal
+abbrev pub refusal_number : Refusal → ℕ
+refusal_number refusal.UnknownBranch = 10
+refusal_number refusal.UnknownPatron = 11
+refusal_number refusal.UnknownTitle = 12
+refusal_number refusal.UnknownCopy = 13
+refusal_number refusal.UnknownLoan = 14
+refusal_number refusal.UnknownHold = 15
+refusal_number refusal.NoRule = 16
+refusal_number refusal.UnknownKind = 17
+refusal_number refusal.OtherContent = 20
+refusal_number refusal.OutOfLimits = 21
+refusal_number refusal.AllWeekdaysClosed = 22
+refusal_number refusal.BadDay = 23
+refusal_number refusal.AlreadyClosed = 24
+refusal_number refusal.NotClosed = 25
+refusal_number refusal.Elsewhere = 30
+refusal_number refusal.OnLoan = 31
+refusal_number refusal.InTransit = 32
+refusal_number refusal.OnHoldShelf = 33
+refusal_number refusal.CopyMissing = 34
+refusal_number refusal.CopyWithdrawn = 35
+refusal_number refusal.HoldWaits = 36
+refusal_number refusal.TooManyLoans = 37
+refusal_number refusal.OwesTooMuch = 38
+refusal_number refusal.PastCalendar = 39
+refusal_number refusal.LoanEnded = 40
+refusal_number refusal.Overdue = 41
+refusal_number refusal.NoRenewalsLeft = 42
+refusal_number refusal.AlreadyHolds = 50
+refusal_number refusal.TooManyHolds = 51
+refusal_number refusal.HasOnLoan = 52
+refusal_number refusal.WrongHoldState = 53
+refusal_number refusal.LimitNotPassed = 54
+refusal_number refusal.BadAmount = 60
+refusal_number refusal.NumbersUsedUp = 70
+refusal_number refusal.KeyUsed = 80
+refusal_number refusal.NotAllowed = 81
+
+-- the number of a fault
+abbrev pub fault_number : Fault → ℕ
+fault_number fault.Memory = 90
+fault_number fault.Database = 91
+fault_number fault.Closed = 92
+fault_number fault.Stored = 93
+
+-- the words of a reply that isn't a page
+unfoldable pub reply_words : Reply → List (List ℕ)
+reply_words Done = codes "ok" ∷ []
+reply_words (Lent loan due) = codes "loan" ∷ decimal loan ∷ codes "due" ∷ day_text due ∷ []
+reply_words (CheckedIn fine routed) = codes "fine" ∷ decimal fine ∷ routed_words routed
+reply_words (Held hold) = codes "hold" ∷ decimal hold ∷ []
+reply_words (Moved routed) = routed_words routed
+reply_words (Lost fine price) = codes "fine" ∷ decimal fine ∷ codes "price" ∷ decimal price ∷ []
+reply_words (Owed owed) = codes "owed" ∷ decimal owed ∷ []
+reply_words (Shown page) = page ∷ []
+reply_words (Refused refused) = codes "refused" ∷ decimal (refusal_number refused) ∷ []
+
+-- the reply text of a reply: its words, joined by single spaces
+unfoldable pub reply_text : Reply → List ℕ
+reply_text reply = join_with_byte 32 (reply_words reply)

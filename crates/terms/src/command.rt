@@ -1,0 +1,168 @@
+//! What can be asked of the desk.
+
+ghost use Rattle.std.specs.Prelude.{◌≡◌, IfOk, string_bytes};
+ghost use Rattle.terms.specs.Callers.{owner_of};
+ghost use Rattle.terms.specs.Texts.{request_text};
+
+use crate::number::{
+    BranchId, Cents, CopyId, CopyKind, Count, Days, HoldId, LoanId, PatronId, PatronKind, TitleId,
+};
+use crate::text::{CardKey, Key, Name, Text};
+use crate::week::Mask;
+use calendar::{Day, Memory};
+use std::alloc::Global;
+
+/// A command of the desk. A patron may send `PlaceHold`, `CancelHold`, `Renew` and `Page`.
+#[derive(Drop)]
+pub enum Command {
+    /// Today becomes this day, which is after it.
+    BeginDay { day: Day },
+    /// A branch, with the days that a copy waits on its hold shelf.
+    Branch {
+        branch: BranchId,
+        pickup: Days,
+        name: Name,
+    },
+    /// The weekdays on which a branch is closed.
+    Week { branch: BranchId, week: Mask },
+    /// A later day on which a branch is closed.
+    CloseDay { branch: BranchId, day: Day },
+    /// A later day that a branch no longer closes singly.
+    OpenDay { branch: BranchId, day: Day },
+    /// What a kind of patron may have: open loans, active holds, and debt at check-out.
+    Kind {
+        kind: PatronKind,
+        loans: Count,
+        holds: Count,
+        debt: Cents,
+    },
+    /// The circulation rule for a kind of patron and a kind of copy.
+    Rule {
+        kind: PatronKind,
+        copy_kind: CopyKind,
+        period: Days,
+        renewals: Count,
+        rate: Cents,
+        cap: Cents,
+    },
+    /// A patron is enrolled.
+    Patron {
+        patron: PatronId,
+        kind: PatronKind,
+        card_key: CardKey,
+        name: Name,
+    },
+    /// A copy is acquired, and its title with it.
+    Acquire {
+        copy: CopyId,
+        title: TitleId,
+        kind: CopyKind,
+        home: BranchId,
+        price: Cents,
+        text: Name,
+    },
+    /// A patron borrows a copy at a branch.
+    CheckOut {
+        patron: PatronId,
+        copy: CopyId,
+        branch: BranchId,
+    },
+    /// A copy is handed in at a branch.
+    CheckIn { copy: CopyId, branch: BranchId },
+    /// A loan is made longer.
+    Renew { loan: LoanId },
+    /// A patron wants a title, to be picked up at a branch.
+    PlaceHold {
+        patron: PatronId,
+        title: TitleId,
+        branch: BranchId,
+    },
+    /// A waiting hold is cancelled.
+    CancelHold { hold: HoldId },
+    /// A ready hold whose shelf limit has passed expires.
+    Unshelve { hold: HoldId },
+    /// A ready hold is cancelled.
+    UnshelveCancelled { hold: HoldId },
+    /// A copy is declared missing.
+    Missing { copy: CopyId },
+    /// A copy leaves the library for good.
+    Withdraw { copy: CopyId },
+    /// A patron pays.
+    Pay { patron: PatronId, amount: Cents },
+    /// A patron is let off an amount.
+    Waive { patron: PatronId, amount: Cents },
+    /// What a patron owes, has on loan and holds. It changes nothing.
+    Page { patron: PatronId },
+}
+
+/// Who sends a request: the desk, or a patron who shows a card key.
+#[derive(Drop)]
+pub enum Caller {
+    Desk,
+    Patron(PatronId, CardKey),
+}
+
+/// Whose key a kept request has: all desks share one set of keys, and each patron has an own one.
+#[derive(Clone, Copy, Debug, PartialEq, Eq)]
+pub enum Owner {
+    Desk,
+    Patron(PatronId),
+}
+
+impl Caller {
+    /// Whose keys the caller's requests have.
+    pub fn owner(&self) -> Owner
+        ensures { result ≡ owner_of self.now }
+    {
+        match self {
+            Caller::Desk => Owner::Desk,
+            Caller::Patron(patron, _) => Owner::Patron(*patron),
+        }
+    }
+}
+
+/// One request.
+#[derive(Drop)]
+pub struct Request {
+    pub caller: Caller,
+    pub key: Key,
+    pub command: Command,
+}
+
+/// The words of a command, joined by single spaces.
+#[tactic(auto, unfolding(crate::specs::Texts::request_text, crate::specs::Texts::command_words))]
+fn joined_words(alloc: Global, command: &Command) -> Result<String, Memory>
+    ensures { IfOk result (λ text. string_bytes text ≡ request_text command.now) }
+{
+    match command {
+        Command::BeginDay { day } => format!(in alloc; "begin-day {day}"),
+        Command::Branch { branch, pickup, name } => format!(in alloc; "branch {branch} {pickup} {name}"),
+        Command::Week { branch, week } => format!(in alloc; "week {branch} {week}"),
+        Command::CloseDay { branch, day } => format!(in alloc; "close-day {branch} {day}"),
+        Command::OpenDay { branch, day } => format!(in alloc; "open-day {branch} {day}"),
+        Command::Kind { kind, loans, holds, debt } => format!(in alloc; "kind {kind} {loans} {holds} {debt}"),
+        Command::Rule { kind, copy_kind, period, renewals, rate, cap } => format!(in alloc; "rule {kind} {copy_kind} {period} {renewals} {rate} {cap}"),
+        Command::Patron { patron, kind, card_key, name } => format!(in alloc; "patron {patron} {kind} {card_key} {name}"),
+        Command::Acquire { copy, title, kind, home, price, text } => format!(in alloc; "acquire {copy} {title} {kind} {home} {price} {text}"),
+        Command::CheckOut { patron, copy, branch } => format!(in alloc; "check-out {patron} {copy} {branch}"),
+        Command::CheckIn { copy, branch } => format!(in alloc; "check-in {copy} {branch}"),
+        Command::Renew { loan } => format!(in alloc; "renew {loan}"),
+        Command::PlaceHold { patron, title, branch } => format!(in alloc; "place-hold {patron} {title} {branch}"),
+        Command::CancelHold { hold } => format!(in alloc; "cancel-hold {hold}"),
+        Command::Unshelve { hold } => format!(in alloc; "unshelve {hold}"),
+        Command::UnshelveCancelled { hold } => format!(in alloc; "unshelve-cancelled {hold}"),
+        Command::Missing { copy } => format!(in alloc; "missing {copy}"),
+        Command::Withdraw { copy } => format!(in alloc; "withdraw {copy}"),
+        Command::Pay { patron, amount } => format!(in alloc; "pay {patron} {amount}"),
+        Command::Waive { patron, amount } => format!(in alloc; "waive {patron} {amount}"),
+        Command::Page { patron } => format!(in alloc; "page {patron}"),
+    }
+}
+
+/// The request text of a command: its words, joined by single spaces. Each command has one spelling.
+pub fn request_text(alloc: Global, command: &Command) -> Result<Text, Memory>
+    ensures { IfOk result (λ text. text ≡ request_text command.now) }
+{
+    let text = joined_words(alloc, command)?;
+    Ok(Text::new(text))
+}

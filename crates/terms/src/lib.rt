@@ -1,0 +1,33 @@
+//! The words of the desk: numbers, texts, rows, commands and replies, each with its form.
+#![tactic(auto)]
+
+mod command;
+mod fault;
+mod money;
+mod number;
+mod put;
+mod reading;
+mod refusal;
+mod reply;
+mod row;
+mod text;
+mod week;
+
+pub use calendar::{Day, Memory, Weekdays};
+pub use command::{Caller, Command, Owner, Request, request_text};
+pub use fault::Fault;
+pub use money::fine;
+pub use number::{
+    BranchId, Cents, CopyId, CopyKind, Count, Days, HoldId, LineId, LoanId, PatronId, PatronKind,
+    TitleId,
+};
+pub use put::{BranchPut, KeptPut, PatronPut, TitlePut};
+pub use reading::{read_number, read_reply};
+pub use refusal::Refusal;
+pub use reply::{Reply, Routed, reply_text};
+pub use row::{
+    BranchRow, Condition, CopyRow, HoldRow, HoldState, KeptRow, KindRow, LineRow, LoanRow, MetaRow,
+    PatronRow, RuleRow, Sort, TitleRow, TransitRow,
+};
+pub use text::{CardKey, Key, Name, Text};
+pub use week::Mask;

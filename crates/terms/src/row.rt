@@ -1,0 +1,159 @@
+//! The rows of the tables, as they are read.
+
+use crate::command::Owner;
+use crate::number::{
+    BranchId, Cents, CopyId, CopyKind, Count, Days, HoldId, LineId, LoanId, PatronId, PatronKind,
+    TitleId,
+};
+use crate::text::{CardKey, Key, Name, Text};
+use calendar::{Day, Weekdays};
+
+/// The one row of `meta`: the schema, today, and the next numbers to be given.
+#[derive(Clone, Copy, Debug, PartialEq, Eq)]
+pub struct MetaRow {
+    pub schema: u32,
+    pub today: Day,
+    pub next_loan: LoanId,
+    pub next_hold: HoldId,
+    pub next_line: LineId,
+}
+
+/// A row of `branches`.
+#[derive(Drop)]
+pub struct BranchRow {
+    pub branch: BranchId,
+    pub pickup: Days,
+    pub week: Weekdays,
+    pub name: Name,
+}
+
+/// A row of `kinds`.
+#[derive(Clone, Copy, Debug, PartialEq, Eq)]
+pub struct KindRow {
+    pub kind: PatronKind,
+    pub loans: Count,
+    pub holds: Count,
+    pub debt: Cents,
+}
+
+/// A row of `rules`.
+#[derive(Clone, Copy, Debug, PartialEq, Eq)]
+pub struct RuleRow {
+    pub kind: PatronKind,
+    pub copy_kind: CopyKind,
+    pub period: Days,
+    pub renewals: Count,
+    pub rate: Cents,
+    pub cap: Cents,
+}
+
+/// A row of `patrons`.
+#[derive(Drop)]
+pub struct PatronRow {
+    pub patron: PatronId,
+    pub kind: PatronKind,
+    pub card_key: CardKey,
+    pub name: Name,
+    pub owed: Cents,
+}
+
+/// A row of `titles`.
+#[derive(Drop)]
+pub struct TitleRow {
+    pub title: TitleId,
+    pub text: Name,
+}
+
+/// Whether a copy is in the library's keeping: 0 present, 1 missing, 2 withdrawn.
+#[derive(Clone, Copy, Debug, PartialEq, Eq)]
+pub enum Condition {
+    Present,
+    Missing,
+    Withdrawn,
+}
+
+/// A row of `copies`.
+#[derive(Clone, Copy, Debug, PartialEq, Eq)]
+pub struct CopyRow {
+    pub copy: CopyId,
+    pub title: TitleId,
+    pub kind: CopyKind,
+    pub home: BranchId,
+    pub price: Cents,
+    pub condition: Condition,
+}
+
+/// A row of `loans`. A loan is open while it has no day on which it ended.
+#[derive(Clone, Copy, Debug, PartialEq, Eq)]
+pub struct LoanRow {
+    pub loan: LoanId,
+    pub copy: CopyId,
+    pub patron: PatronId,
+    pub branch: BranchId,
+    pub made: Day,
+    pub due: Day,
+    pub period: Days,
+    pub renewals_left: Count,
+    pub rate: Cents,
+    pub cap: Cents,
+    pub ended: Option<Day>,
+}
+
+/// The state of a hold: 0 waiting, 1 ready, 2 filled, 3 cancelled, 4 expired. The last three are final.
+#[derive(Clone, Copy, Debug, PartialEq, Eq)]
+pub enum HoldState {
+    Waiting,
+    Ready,
+    Filled,
+    Cancelled,
+    Expired,
+}
+
+/// A row of `holds`. It names a copy and a shelf limit exactly while the hold is ready.
+#[derive(Clone, Copy, Debug, PartialEq, Eq)]
+pub struct HoldRow {
+    pub hold: HoldId,
+    pub patron: PatronId,
+    pub title: TitleId,
+    pub branch: BranchId,
+    pub state: HoldState,
+    pub copy: Option<CopyId>,
+    pub limit_day: Option<Day>,
+}
+
+/// A row of `transits`: a copy on its way to a branch, for a hold or for none.
+#[derive(Clone, Copy, Debug, PartialEq, Eq)]
+pub struct TransitRow {
+    pub copy: CopyId,
+    pub goal: BranchId,
+    pub hold: Option<HoldId>,
+}
+
+/// The sort of a line: 0 fine, 1 price, 2 payment, 3 waiver.
+#[derive(Clone, Copy, Debug, PartialEq, Eq)]
+pub enum Sort {
+    Fine,
+    Price,
+    Payment,
+    Waiver,
+}
+
+/// A row of `lines`: one line of a patron's account. A fine and a price name their loan.
+#[derive(Clone, Copy, Debug, PartialEq, Eq)]
+pub struct LineRow {
+    pub line: LineId,
+    pub patron: PatronId,
+    pub day: Day,
+    pub sort: Sort,
+    pub amount: Cents,
+    pub loan: Option<LoanId>,
+}
+
+/// A row of `kept`: an accepted request, with its reply.
+#[derive(Drop)]
+pub struct KeptRow {
+    pub caller: Owner,
+    pub key: Key,
+    pub text: Text,
+    pub reply: Text,
+}

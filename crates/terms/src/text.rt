@@ -1,0 +1,286 @@
+//! Texts with a form of their own.
+
+ghost use Rattle.std.specs.Prelude.{◌≡◌, ◌+◌, ◌<◌, ◌≤◌, ◌==◌, IfOk, IfSome, IfNone, OnOk, true, false, length, string_bytes, Some, None, MatchOption, bytes_eq, IsUtf8};
+ghost use Rattle.std.specs.List.{list_all};
+ghost use Rattle.terms.specs.Forms.{is_name, is_plain_byte, is_card_key, is_alphanumeric, is_outside_key, is_key_byte};
+
+use calendar::Memory;
+use std::alloc::Global;
+use std::fmt;
+use std::marker::Model;
+
+/// A name, or the text of a title: 1 to 120 bytes of UTF-8 with no control character and no space at either end.
+#[derive(Drop)]
+pub struct Name {
+    text: String,
+}
+
+impl Model for Name {
+    ghost use Rattle.std.specs.Prelude.{◌≡◌, ℕ, List, true, string_bytes};
+    ghost use Rattle.terms.specs.Forms.{is_name};
+
+    ghost Value = { List ℕ };
+
+    ghost view = { λ a. string_bytes a.text };
+
+    ghost invariant = { λ a. is_name (string_bytes a.text) ≡ true };
+}
+
+fn all_plain(bytes: &[u8]) -> bool
+    ensures { result ≡ list_all is_plain_byte bytes.now }
+{
+    bytes.iter().all(|b| 32 <= *b && *b != 127)
+}
+
+#[tactic(auto, unfolding(crate::specs::Forms::is_name))]
+fn has_name_form(text: &str) -> bool
+    ensures { result ≡ is_name text.now }
+{
+    let bytes = text.as_bytes();
+    let len = bytes.len();
+    if len < 1 {
+        return false;
+    }
+    if len > 120 {
+        return false;
+    }
+    if !all_plain(bytes) {
+        return false;
+    }
+    if bytes[0] == b' ' {
+        return false;
+    }
+    bytes[len - 1] != b' '
+}
+
+impl Name {
+    /// The text as a name, if it has the form of one.
+    pub fn new(alloc: Global, text: &str) -> Result<Option<Name>, Memory>
+        ensures { IfOk result (λ o. MatchOption o (is_name text.now ≡ false) (λ n. (is_name text.now ≡ true) × (n ≡ text.now))) }
+    {
+        if has_name_form(text) {
+            let text = String::from_str(alloc, text)?;
+            Ok(Some(Name { text }))
+        } else {
+            Ok(None)
+        }
+    }
+
+    /// The text.
+    pub fn as_str(&self) -> &str
+        ensures value { result.now ≡ self.now }
+        ensures form { is_name result.now ≡ true }
+    {
+        self.text.as_str()
+    }
+
+    /// Whether the other name is the same.
+    pub fn is_same(&self, other: &Name) -> bool
+        ensures { result ≡ bytes_eq self.now other.now }
+    {
+        self.text == other.text
+    }
+}
+
+impl fmt::Display for Name {
+    ghost use Rattle.std.specs.Prelude.{Some};
+
+    ghost output = { λ x. Some x };
+
+    fn fmt<W: fmt::Write>(&self, f: &mut fmt::Formatter<W>) -> fmt::Result {
+        f.write_str(self.text.as_str())
+    }
+}
+
+/// A patron's card key or the desk's key: 8 to 32 ASCII letters and digits.
+#[derive(Drop)]
+pub struct CardKey {
+    text: String,
+}
+
+impl Model for CardKey {
+    ghost use Rattle.std.specs.Prelude.{◌≡◌, ℕ, List, true, string_bytes};
+    ghost use Rattle.terms.specs.Forms.{is_card_key};
+
+    ghost Value = { List ℕ };
+
+    ghost view = { λ a. string_bytes a.text };
+
+    ghost invariant = { λ a. is_card_key (string_bytes a.text) ≡ true };
+}
+
+fn is_letter_or_digit(byte: u8) -> bool
+    ensures { result ≡ is_alphanumeric byte }
+{
+    (48 <= byte && byte <= 57) || (65 <= byte && byte <= 90) || (97 <= byte && byte <= 122)
+}
+
+fn all_alphanumeric(bytes: &[u8]) -> bool
+    ensures { result ≡ list_all is_alphanumeric bytes.now }
+{
+    bytes.iter().all(|b| is_letter_or_digit(*b))
+}
+
+#[tactic(auto, unfolding(crate::specs::Forms::is_card_key))]
+fn has_card_key_form(text: &str) -> bool
+    ensures { result ≡ is_card_key text.now }
+{
+    let bytes = text.as_bytes();
+    let len = bytes.len();
+    if len < 8 {
+        return false;
+    }
+    if len > 32 {
+        return false;
+    }
+    all_alphanumeric(bytes)
+}
+
+impl CardKey {
+    /// The text as a card key, if it has the form of one.
+    pub fn new(alloc: Global, text: &str) -> Result<Option<CardKey>, Memory>
+        ensures { IfOk result (λ o. MatchOption o (is_card_key text.now ≡ false) (λ k. (is_card_key text.now ≡ true) × (k ≡ text.now))) }
+    {
+        if has_card_key_form(text) {
+            let text = String::from_str(alloc, text)?;
+            Ok(Some(CardKey { text }))
+        } else {
+            Ok(None)
+        }
+    }
+
+    /// The text.
+    pub fn as_str(&self) -> &str
+        ensures value { result.now ≡ self.now }
+        ensures form { is_card_key result.now ≡ true }
+    {
+        self.text.as_str()
+    }
+
+    /// Whether the other key is the same.
+    pub fn is_same(&self, other: &CardKey) -> bool
+        ensures { result ≡ bytes_eq self.now other.now }
+    {
+        self.text == other.text
+    }
+}
+
+impl fmt::Display for CardKey {
+    ghost use Rattle.std.specs.Prelude.{Some};
+
+    ghost output = { λ x. Some x };
+
+    fn fmt<W: fmt::Write>(&self, f: &mut fmt::Formatter<W>) -> fmt::Result {
+        f.write_str(self.text.as_str())
+    }
+}
+
+/// The key of a request. One that is given from outside has 1 to 40 ASCII letters, digits and hyphens;
+/// a row of a copies file has its own request text as key, which has spaces and so is never one from outside.
+#[derive(Drop)]
+pub struct Key {
+    text: String,
+}
+
+impl Model for Key {
+    ghost use Rattle.std.specs.Prelude.{ℕ, List, string_bytes};
+
+    ghost Value = { List ℕ };
+
+    ghost view = { λ a. string_bytes a.text };
+}
+
+fn is_key_letter(byte: u8) -> bool
+    ensures { result ≡ is_key_byte byte }
+{
+    is_letter_or_digit(byte) || byte == b'-'
+}
+
+fn all_key_letters(bytes: &[u8]) -> bool
+    ensures { result ≡ list_all is_key_byte bytes.now }
+{
+    bytes.iter().all(|b| is_key_letter(*b))
+}
+
+#[tactic(auto, unfolding(crate::specs::Forms::is_outside_key))]
+fn has_key_form(text: &str) -> bool
+    ensures { result ≡ is_outside_key text.now }
+{
+    let bytes = text.as_bytes();
+    let len = bytes.len();
+    if len < 1 {
+        return false;
+    }
+    if len > 40 {
+        return false;
+    }
+    all_key_letters(bytes)
+}
+
+impl Key {
+    /// The text as a key from outside, if it has the form of one.
+    pub fn new(alloc: Global, text: &str) -> Result<Option<Key>, Memory>
+        ensures { IfOk result (λ o. MatchOption o (is_outside_key text.now ≡ false) (λ k. (is_outside_key text.now ≡ true) × (k ≡ text.now))) }
+    {
+        if has_key_form(text) {
+            let text = String::from_str(alloc, text)?;
+            Ok(Some(Key { text }))
+        } else {
+            Ok(None)
+        }
+    }
+
+    /// The text.
+    pub fn as_str(&self) -> &str
+        ensures { result.now ≡ self.now }
+    {
+        self.text.as_str()
+    }
+}
+
+/// A request text, a reply text or a page, as it is kept or shown.
+#[derive(Drop)]
+pub struct Text {
+    text: String,
+}
+
+impl Model for Text {
+    ghost use Rattle.std.specs.Prelude.{ℕ, List, string_bytes};
+
+    ghost Value = { List ℕ };
+
+    ghost view = { λ a. string_bytes a.text };
+}
+
+impl Text {
+    /// The text that a string holds.
+    pub fn new(text: String) -> Text
+        ensures { result ≡ string_bytes text }
+    {
+        Text { text }
+    }
+
+    /// The text.
+    pub fn as_str(&self) -> &str
+        ensures { result.now ≡ self.now }
+    {
+        self.text.as_str()
+    }
+
+    /// Whether the other text is the same.
+    pub fn is_same(&self, other: &Text) -> bool
+        ensures { result ≡ bytes_eq self.now other.now }
+    {
+        self.text == other.text
+    }
+}
+
+impl fmt::Display for Text {
+    ghost use Rattle.std.specs.Prelude.{Some};
+
+    ghost output = { λ x. Some x };
+
+    fn fmt<W: fmt::Write>(&self, f: &mut fmt::Formatter<W>) -> fmt::Result {
+        f.write_str(self.text.as_str())
+    }
+}

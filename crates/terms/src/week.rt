@@ -1,0 +1,104 @@
+//! Which weekdays a branch is closed on, as the desk writes it.
+
+ghost use Rattle.std.specs.Prelude.{◌≡◌, ◌≢◌, Bool, List, length, not, true, false, Some, None, IfSome, IfNone, if◌then◌else◌, ◌∷◌, []};
+ghost use Rattle.std.specs.List.{list_any, list_all};
+ghost use Rattle.std.specs.Option.{SomeIff};
+ghost use Rattle.terms.specs.Texts.{mask_text};
+
+use calendar::Weekdays;
+use std::fmt;
+use std::marker::Model;
+
+/// A mask of closed weekdays, Monday first, all seven included: what the word `week` may ask for.
+#[derive(Clone, Copy, PartialEq, Eq)]
+pub struct Mask {
+    closed: [bool; 7],
+}
+
+impl Model for Mask {
+    ghost use Rattle.std.specs.Prelude.{List, Bool};
+
+    ghost Value = { List Bool };
+
+    ghost view = { λ a. a.closed };
+
+    ghost inverse = { λ days. record { closed = days } };
+}
+
+impl Mask {
+    /// The mask with these weekdays closed, Monday first.
+    pub fn new(closed: [bool; 7]) -> Mask
+        ensures { result ≡ closed }
+    {
+        Mask { closed }
+    }
+
+    /// The mask that seven letters write, `o` for open and `c` for closed.
+    pub fn read(text: &str) -> Option<Mask> {
+        let [a, b, c, d, e, f, g] = text.as_bytes() else {
+            return None;
+        };
+        let closed = [
+            is_closed(*a)?,
+            is_closed(*b)?,
+            is_closed(*c)?,
+            is_closed(*d)?,
+            is_closed(*e)?,
+            is_closed(*f)?,
+            is_closed(*g)?,
+        ];
+        Some(Mask { closed })
+    }
+
+    /// The closed weekdays, unless they are all seven.
+    pub fn weekdays(self) -> Option<Weekdays>
+        ensures { SomeIff result (list_any (λ b. not b) self ≡ true) self }
+    {
+        let closed = self.closed;
+        Weekdays::new(closed)
+    }
+}
+
+/// Whether a letter stands for a closed weekday.
+fn is_closed(letter: u8) -> Option<bool> {
+    match letter {
+        b'c' => Some(true),
+        b'o' => Some(false),
+        _ => None,
+    }
+}
+
+/// The letter of a weekday.
+fn letter(closed: bool) -> &'static str
+    ensures { result.now ≡ (if closed then 99 else 111) ∷ [] }
+{
+    if closed { "c" } else { "o" }
+}
+
+impl From<Weekdays> for Mask {
+    ghost from_gives = { λ days mask. mask ≡ days };
+
+    fn from(days: Weekdays) -> Mask {
+        let closed = days.closed();
+        Mask { closed }
+    }
+}
+
+impl fmt::Display for Mask {
+    ghost use Rattle.std.specs.Prelude.{Some};
+    ghost use Rattle.terms.specs.Texts.{mask_text};
+
+    ghost output = { λ mask. Some (mask_text mask) };
+
+    fn fmt<W: fmt::Write>(&self, f: &mut fmt::Formatter<W>) -> fmt::Result {
+        let closed = self.closed;
+        let (monday, tuesday) = (letter(closed[0]), letter(closed[1]));
+        let (wednesday, thursday) = (letter(closed[2]), letter(closed[3]));
+        let (friday, saturday) = (letter(closed[4]), letter(closed[5]));
+        let sunday = letter(closed[6]);
+        write!(
+            f,
+            "{monday}{tuesday}{wednesday}{thursday}{friday}{saturday}{sunday}"
+        )
+    }
+}

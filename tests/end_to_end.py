@@ -1,0 +1,292 @@
+#!/usr/bin/env python3
+"""Runs ./circ on real files, and reads the tables back with stock SQLite.
+
+Expected lines and rows are those of the desk's rules, worked out by hand.
+"""
+
+import hashlib
+import os
+import shutil
+import sqlite3
+import subprocess
+import sys
+import tempfile
+
+TOP = os.path.dirname(os.path.dirname(os.path.abspath(__file__)))
+CIRC = os.path.join(TOP, "circ")
+PROGRAM = os.path.join(TOP, "crates", "circ_cli", "out", "circ_cli")
+
+# A key, the words, and the line that answers them.
+GROUND = [
+    ("g1", ["begin-day", "2026-03-02"], "ok"),
+    ("g2", ["branch", "1", "5", "Main"], "ok"),
+    ("g3", ["branch", "2", "3", "Harbour"], "ok"),
+    ("g4", ["week", "1", "ooooooc"], "ok"),
+    ("g5", ["week", "2", "coooooc"], "ok"),
+    ("g6", ["kind", "1", "5", "5", "500"], "ok"),
+    ("g7", ["rule", "1", "1", "6", "1", "20", "100"], "ok"),
+    ("g8", ["rule", "1", "2", "12", "1", "20", "100"], "ok"),
+    ("g9", ["patron", "1", "1", "cardkey00001", "Ann Bell"], "ok"),
+    ("g10", ["patron", "2", "1", "cardkey00002", "Bo Carr"], "ok"),
+    ("g11", ["patron", "3", "1", "cardkey00003", "Cy Dunn"], "ok"),
+    ("g12", ["acquire", "10", "100", "1", "1", "2500", "Rivers of the North"], "ok"),
+    ("g13", ["acquire", "11", "100", "1", "1", "2500", "Rivers of the North"], "ok"),
+    ("g14", ["acquire", "20", "200", "1", "2", "1200", "Salt Roads"], "ok"),
+    ("g15", ["acquire", "30", "300", "2", "1", "800", "Night Ferries"], "ok"),
+]
+
+LENDING = [
+    ("k1", ["check-out", "1", "10", "1"], "loan 1 due 2026-03-09"),
+    ("k1", ["check-out", "1", "10", "1"], "loan 1 due 2026-03-09"),
+    ("k1", ["check-out", "1", "11", "1"], "refused 80"),
+    ("k2", ["check-out", "1", "99", "1"], "refused 13"),
+    ("k2", ["check-out", "1", "11", "1"], "loan 2 due 2026-03-09"),
+]
+
+# Each refusal that the eight commands can give on a library that they made, in the order of their words.
+REFUSALS = [
+    (["begin-day", "2026-03-02"], 23),
+    (["begin-day", "2191-01-01"], 23),
+    (["branch", "100", "5", "Hill"], 21),
+    (["branch", "1", "61", "Main"], 21),
+    (["branch", "1", "6", "Main"], 20),
+    (["week", "9", "ooooooo"], 10),
+    (["week", "1", "ccccccc"], 22),
+    (["kind", "1", "201", "5", "500"], 21),
+    (["rule", "1", "1", "0", "1", "20", "100"], 21),
+    (["rule", "9", "1", "6", "1", "20", "100"], 17),
+    (["patron", "0", "1", "cardkey00009", "Di"], 21),
+    (["patron", "9", "9", "cardkey00009", "Di"], 17),
+    (["patron", "1", "1", "cardkey00009", "Ann Bell"], 20),
+    (["acquire", "12", "100", "1", "1", "1000001", "Rivers of the North"], 21),
+    (["acquire", "12", "100", "1", "9", "2500", "Rivers of the North"], 10),
+    (["acquire", "12", "100", "1", "1", "2500", "Rivers of the South"], 20),
+    (["check-out", "1", "20", "9"], 10),
+    (["check-out", "9", "20", "2"], 11),
+    (["check-out", "1", "99", "2"], 13),
+    (["check-out", "2", "10", "1"], 31),
+    (["check-out", "1", "20", "1"], 30),
+]
+
+BAD_WORDS = [
+    [],
+    ["file"],
+    ["file", "FILE"],
+    ["file", "FILE", "k1"],
+    ["report", "FILE", "till", "2026-03-02"],
+    ["", "", "", ""],
+    ["file", "FILE", "", "begin-day", "2026-03-03"],
+    ["file", "FILE", "k" * 41, "begin-day", "2026-03-03"],
+    ["file", "FILE", "k 1", "begin-day", "2026-03-03"],
+    ["--help"],
+    [b"file", b"FILE", b"k1", b"begin-day", b"2026-03-0\xff"],
+]
+
+# These are read once the file is open, and change nothing in it.
+BAD_REQUESTS = [
+    [""],
+    ["help"],
+    ["begin-day"],
+    ["begin-day", "2026-3-3"],
+    ["begin-day", "2026-03-03", "again"],
+    ["check-out", "01", "10", "1"],
+    ["branch", "4", "5", "-Hill"],
+    ["branch", "4", "5", "\x07"],
+    ["branch", "4", "5", "x" * 121],
+    ["pay", "1", "5"],
+]
+
+passed = 0
+
+
+def check(what, found, wanted):
+    """Counts a passed test, or ends the script."""
+    global passed
+    if found != wanted:
+        print(f"end to end: {what}\n  found  {found!r}\n  wanted {wanted!r}", file=sys.stderr)
+        sys.exit(1)
+    passed += 1
+
+
+def circ(words, **how):
+    """The line and the status of one run; nothing may stand on standard error."""
+    run = subprocess.run([CIRC, *words], capture_output=True, timeout=120, **how)
+    check(f"standard error of {words}", run.stderr, b"")
+    line = run.stdout.decode()
+    check(f"one line of {words}", (line.count("\n"), line.endswith("\n")), (1, True))
+    return line[:-1], run.returncode
+
+
+def status_of(line):
+    """The status that goes with a line."""
+    if line.startswith("refused "):
+        return 2
+    if line.startswith("fault "):
+        return 3
+    return 4 if line == "words not understood" else 0
+
+
+def say(path, rows):
+    """Each request gets its line, and the status of that line."""
+    for key, words, line in rows:
+        check(f"{key} {words}", circ(["file", path, key, *words]), (line, status_of(line)))
+
+
+def rows(path, text):
+    """What stock SQLite reads."""
+    with sqlite3.connect(path) as conn:
+        return conn.execute(text).fetchall()
+
+
+def digest(path):
+    """What a file holds, in short; None where there is no file."""
+    if not os.path.isfile(path):
+        return None
+    with open(path, "rb") as file:
+        return hashlib.sha256(file.read()).hexdigest()
+
+
+def a_new_library(folder):
+    """A new file has the thirteen tables, their keys and indexes, and the first row of meta."""
+    path = os.path.join(folder, "new.db")
+    check("a new file", circ(["file", path, "g1", "week", "1", "ooooooo"]), ("refused 10", 2))
+    check("meta", rows(path, "SELECT * FROM meta"), [(1, 1, 10957, 1, 1, 1)])
+    tables = "SELECT name FROM sqlite_schema WHERE type = 'table' AND name NOT LIKE 'sqlite%' ORDER BY rowid"
+    names = "meta branches closed_days kinds rules patrons titles copies loans holds transits lines kept"
+    check("tables", [name for (name,) in rows(path, tables)], names.split())
+    for name in names.split()[1:]:
+        check(f"no row of {name}", rows(path, f"SELECT COUNT(*) FROM {name}"), [(0,)])
+        check(f"no foreign key of {name}", rows(path, f"PRAGMA foreign_key_list({name})"), [])
+    keys = {"closed_days": "branch day", "rules": "kind copy_kind", "kept": "caller key"}
+    for name in names.split():
+        columns = rows(path, f"PRAGMA table_info({name})")
+        first = " ".join(column[1] for column in columns if column[5])
+        check(f"key of {name}", first, keys.get(name, columns[0][1]))
+    unique = "SELECT name FROM pragma_index_list('transits') WHERE \"unique\" = 1 AND origin = 'u'"
+    check("one UNIQUE", len(rows(path, unique)), 1)
+    indexes = "SELECT name FROM sqlite_schema WHERE type = 'index' AND sql IS NOT NULL ORDER BY rowid"
+    wanted = "loans_copy loans_patron holds_copy holds_patron holds_title holds_branch lines_day"
+    check("indexes", [name for (name,) in rows(path, indexes)], wanted.split())
+    empty = os.path.join(folder, "empty.db")
+    open(empty, "w").close()
+    say(empty, [("g1", ["begin-day", "2026-03-02"], "ok")])
+    check("today", rows(empty, "SELECT today FROM meta"), [(20514,)])
+
+
+def a_small_library(folder):
+    """The fifteen requests of the ground, and lending with a repeated key."""
+    path = os.path.join(folder, "town.db")
+    say(path, GROUND)
+    check("branches", rows(path, "SELECT * FROM branches"),
+          [(1, 5, "ooooooc", "Main"), (2, 3, "coooooc", "Harbour")])
+    check("kinds", rows(path, "SELECT * FROM kinds"), [(1, 5, 5, 500)])
+    check("rules", rows(path, "SELECT * FROM rules"), [(1, 1, 6, 1, 20, 100), (1, 2, 12, 1, 20, 100)])
+    check("patrons", rows(path, "SELECT * FROM patrons"),
+          [(1, 1, "cardkey00001", "Ann Bell", 0), (2, 1, "cardkey00002", "Bo Carr", 0),
+           (3, 1, "cardkey00003", "Cy Dunn", 0)])
+    check("titles", rows(path, "SELECT * FROM titles"),
+          [(100, "Rivers of the North"), (200, "Salt Roads"), (300, "Night Ferries")])
+    check("copies", rows(path, "SELECT * FROM copies"),
+          [(10, 100, 1, 1, 2500, 0), (11, 100, 1, 1, 2500, 0), (20, 200, 1, 2, 1200, 0),
+           (30, 300, 2, 1, 800, 0)])
+    say(path, LENDING)
+    check("loans", rows(path, "SELECT * FROM loans"),
+          [(1, 10, 1, 1, 20514, 20521, 6, 1, 20, 100, None),
+           (2, 11, 1, 1, 20514, 20521, 6, 1, 20, 100, None)])
+    check("meta", rows(path, "SELECT * FROM meta"), [(1, 1, 20514, 3, 1, 1)])
+    check("kept", rows(path, "SELECT * FROM kept WHERE key IN ('g1', 'k1', 'k2') ORDER BY key"),
+          [(0, "g1", "begin-day 2026-03-02", "ok"),
+           (0, "k1", "check-out 1 10 1", "loan 1 due 2026-03-09"),
+           (0, "k2", "check-out 1 11 1", "loan 2 due 2026-03-09")])
+    check("kept in all", rows(path, "SELECT COUNT(*) FROM kept"), [(17,)])
+    return path
+
+
+def whole(path):
+    """All rows of all tables."""
+    names = [name for (name,) in rows(path, "SELECT name FROM sqlite_schema WHERE type = 'table' ORDER BY name")]
+    return {name: rows(path, f'SELECT * FROM "{name}" ORDER BY 1, 2') for name in names}
+
+
+def refusals_and_bad_words(path):
+    """Each refusal, and each list of words that is not understood, changes no row."""
+    before = whole(path)
+    for at, (words, number) in enumerate(REFUSALS):
+        check(f"{words}", circ(["file", path, f"r{at}", *words]), (f"refused {number}", 2))
+    for words in BAD_REQUESTS:
+        check(f"{words}", circ(["file", path, "b1", *words]), ("words not understood", 4))
+    check("no row is changed", whole(path), before)
+
+
+def bad_words(folder):
+    """Words out of form are told before the file is opened: none is made."""
+    path = os.path.join(folder, "never.db")
+    for words in BAD_WORDS:
+        named = [path.encode() if word == b"FILE" else path if word == "FILE" else word for word in words]
+        check(f"{words}", circ(named), ("words not understood", 4))
+        check(f"no file after {words}", os.path.exists(path), False)
+
+
+def bad_files(folder, path):
+    """A file that is no library of this schema is told as a fault, and stays as it is."""
+    words = ["k9", "begin-day", "2026-03-03"]
+    garbage = os.path.join(folder, "garbage.db")
+    with open(garbage, "wb") as file:
+        file.write(b"this is no database " * 500)
+    before = digest(garbage)
+    check("garbage", circ(["file", garbage, *words]), ("fault 91", 3))
+    check("garbage stays", digest(garbage), before)
+    other = os.path.join(folder, "other.db")
+    with sqlite3.connect(other) as conn:
+        conn.execute("CREATE TABLE note (id INTEGER PRIMARY KEY, title TEXT)")
+        conn.execute("INSERT INTO note VALUES (1, 'mine')")
+    check("another program's", circ(["file", other, *words]), ("fault 93", 3))
+    check("it stays", whole(other), {"note": [(1, "mine")]})
+    namesake = os.path.join(folder, "namesake.db")
+    with sqlite3.connect(namesake) as conn:
+        conn.execute("CREATE TABLE meta (name TEXT)")
+    check("another meta", circ(["file", namesake, *words]), ("fault 93", 3))
+    later = os.path.join(folder, "later.db")
+    shutil.copy(path, later)
+    with sqlite3.connect(later) as conn:
+        conn.execute("UPDATE meta SET schema = 2")
+    before = whole(later)
+    check("a later schema", circ(["file", later, *words]), ("fault 93", 3))
+    check("it stays", whole(later), before)
+    check("a directory", circ(["file", folder, *words]), ("fault 91", 3))
+    absent = os.path.join(folder, "no", "where.db")
+    check("no such folder", circ(["file", absent, *words]), ("fault 91", 3))
+
+
+def an_unreadable_file(folder, path):
+    """A file that may not be read is told as a fault. The superuser may read all, so another user asks."""
+    if os.getuid() != 0:
+        os.chmod(path, 0)
+        check("unreadable", circ(["file", path, "k9", "begin-day", "2026-03-03"]), ("fault 91", 3))
+        return
+    closed = os.path.join(folder, "closed.db")
+    shutil.copy(path, closed)
+    os.chmod(closed, 0)
+    os.chmod(folder, 0o755)
+    program = os.path.join(folder, "program")
+    shutil.copy(PROGRAM, program)
+    os.chmod(program, 0o755)
+    run = subprocess.run([program, "file", closed, "k9", "begin-day", "2026-03-03"],
+                         capture_output=True, timeout=120, user=65534, cwd="/")
+    check("unreadable", (run.stdout, run.returncode), (b"fault 91\n", 3))
+
+
+def main():
+    subprocess.run([CIRC], stdout=subprocess.DEVNULL, check=False)  # builds the program where it isn't there
+    with tempfile.TemporaryDirectory() as folder:
+        a_new_library(folder)
+        path = a_small_library(folder)
+        refusals_and_bad_words(path)
+        bad_words(folder)
+        bad_files(folder, path)
+        an_unreadable_file(folder, path)
+    print(f"end to end: {passed} passed, 0 failed")
+
+
+if __name__ == "__main__":
+    main()
