@@ -11,6 +11,7 @@ import sqlite3
 import subprocess
 import sys
 import tempfile
+from contextlib import closing
 
 TOP = os.path.dirname(os.path.dirname(os.path.abspath(__file__)))
 CIRC = os.path.join(TOP, "circ")
@@ -134,8 +135,16 @@ def say(path, rows):
 
 def rows(path, text):
     """What stock SQLite reads."""
-    with sqlite3.connect(path) as conn:
+    with closing(sqlite3.connect(path)) as conn:
         return conn.execute(text).fetchall()
+
+
+def write(path, *texts):
+    """What stock SQLite writes."""
+    with closing(sqlite3.connect(path)) as conn:
+        for text in texts:
+            conn.execute(text)
+        conn.commit()
 
 
 def digest(path):
@@ -237,19 +246,15 @@ def bad_files(folder, path):
     check("garbage", circ(["file", garbage, *words]), ("fault 91", 3))
     check("garbage stays", digest(garbage), before)
     other = os.path.join(folder, "other.db")
-    with sqlite3.connect(other) as conn:
-        conn.execute("CREATE TABLE note (id INTEGER PRIMARY KEY, title TEXT)")
-        conn.execute("INSERT INTO note VALUES (1, 'mine')")
+    write(other, "CREATE TABLE note (id INTEGER PRIMARY KEY, title TEXT)", "INSERT INTO note VALUES (1, 'mine')")
     check("another program's", circ(["file", other, *words]), ("fault 93", 3))
     check("it stays", whole(other), {"note": [(1, "mine")]})
     namesake = os.path.join(folder, "namesake.db")
-    with sqlite3.connect(namesake) as conn:
-        conn.execute("CREATE TABLE meta (name TEXT)")
+    write(namesake, "CREATE TABLE meta (name TEXT)")
     check("another meta", circ(["file", namesake, *words]), ("fault 93", 3))
     later = os.path.join(folder, "later.db")
     shutil.copy(path, later)
-    with sqlite3.connect(later) as conn:
-        conn.execute("UPDATE meta SET schema = 2")
+    write(later, "UPDATE meta SET schema = 2")
     before = whole(later)
     check("a later schema", circ(["file", later, *words]), ("fault 93", 3))
     check("it stays", whole(later), before)

@@ -4,7 +4,6 @@
 mod arguments;
 mod lines;
 mod requests;
-
 #[cfg(test)]
 mod tests;
 

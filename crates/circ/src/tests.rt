@@ -54,7 +54,12 @@ fn key(alloc: Global, text: &str) -> Result<Key, Fail> {
 }
 
 /// The status and the line that answer the words.
-fn say<S: Alter>(desk: &mut Desk<S>, alloc: Global, name: &str, text: &str) -> Result<String, Fail> {
+fn say<S: Alter>(
+    desk: &mut Desk<S>,
+    alloc: Global,
+    name: &str,
+    text: &str,
+) -> Result<String, Fail> {
     let words = words_of(alloc, text)?;
     let mut line: Vec<u8> = Vec::new(alloc);
     let exit = one(desk, alloc, key(alloc, name)?, &words, &mut line)?;
@@ -191,10 +196,22 @@ fn gives_each_refusal_of_the_commands_that_set_rows(rt: HostRuntime) -> Result<(
             ("p2", "patron 9 9 cardkey00009|Di", "2 refused 17"),
             ("p3", "patron 1 1 cardkey00009|Ann Bell", "2 refused 20"),
             ("p4", "patron 1 1 cardkey00001|Ann Bell", "0 ok"),
-            ("c1", "acquire 0 100 1 1 2500|Rivers of the North", "2 refused 21"),
-            ("c2", "acquire 12 100 1 9 2500|Rivers of the North", "2 refused 10"),
+            (
+                "c1",
+                "acquire 0 100 1 1 2500|Rivers of the North",
+                "2 refused 21",
+            ),
+            (
+                "c2",
+                "acquire 12 100 1 9 2500|Rivers of the North",
+                "2 refused 10",
+            ),
             ("c3", "acquire 12 100 1 1 2500|Rivers", "2 refused 20"),
-            ("c4", "acquire 10 100 1 2 2500|Rivers of the North", "2 refused 20"),
+            (
+                "c4",
+                "acquire 10 100 1 2 2500|Rivers of the North",
+                "2 refused 20",
+            ),
             ("c5", "acquire 10 100 1 1 2500|Rivers of the North", "0 ok"),
         ],
     )
@@ -271,7 +288,8 @@ fn fills_the_hold_of_the_shelf_and_the_first_in_line(rt: HostRuntime) -> Result<
             ("h5", "check-out 2 20 2", "0 loan 3 due 2026-03-10"),
         ],
     )?;
-    let filled = "SELECT COUNT(*) FROM holds WHERE state = 2 AND copy IS NULL AND limit_day IS NULL";
+    let filled =
+        "SELECT COUNT(*) FROM holds WHERE state = 2 AND copy IS NULL AND limit_day IS NULL";
     assert_eq!(rt; count(desk, filled)?, 3);
     Ok(())
 }
@@ -295,12 +313,7 @@ fn refuses_a_second_active_hold_of_the_title(rt: HostRuntime) -> Result<(), Fail
     )
 }
 
-fn by_patron(
-    alloc: Global,
-    patron: u32,
-    card_key: &str,
-    name: &str,
-) -> Result<Request, Fail> {
+fn by_patron(alloc: Global, patron: u32, card_key: &str, name: &str) -> Result<Request, Fail> {
     let card_key = CardKey::new(alloc, card_key)?.ok_or("a card key")?;
     Ok(Request {
         caller: Caller::Patron(PatronId::new(patron), card_key),
@@ -346,11 +359,29 @@ fn understands_no_other_words(rt: HostRuntime) -> Result<(), Fail> {
     let alloc = rt.alloc();
     let mut desk = new_desk(alloc)?;
     let texts = [
-        "", "help", "-h", "--help", "begin-day", "begin-day 2026-3-2", "begin-day 2026-02-30",
-        "begin-day 2026-03-02 x", "check-out 1 10", "check-out 1 10 1 1", "check-out 1 10 +1",
-        "check-out 1 10 4294967296", "check-out 1 10 ", "week 1 oooooo", "week 1 ooooooO",
-        "branch 1 5|-Main", "branch 1 5| Main", "branch 1 5|", "patron 1 1 short|Ann",
-        "patron 1 1 cardkey-0001|Ann", "renew 1", "page 1", "pay 01 5",
+        "",
+        "help",
+        "-h",
+        "--help",
+        "begin-day",
+        "begin-day 2026-3-2",
+        "begin-day 2026-02-30",
+        "begin-day 2026-03-02 x",
+        "check-out 1 10",
+        "check-out 1 10 1 1",
+        "check-out 1 10 +1",
+        "check-out 1 10 4294967296",
+        "check-out 1 10 ",
+        "week 1 oooooo",
+        "week 1 ooooooO",
+        "branch 1 5|-Main",
+        "branch 1 5| Main",
+        "branch 1 5|",
+        "patron 1 1 short|Ann",
+        "patron 1 1 cardkey-0001|Ann",
+        "renew 1",
+        "page 1",
+        "pay 01 5",
     ];
     for text in texts {
         let line = say(&mut desk, alloc, "k", text)?;

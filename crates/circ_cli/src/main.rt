@@ -5,11 +5,9 @@ use circ::{Exit, Run, WriteFault, not_understood, one, out_of_memory, read_run, 
 use desk::Desk;
 use sqlite::{FileFrom, FileStore, Start, Wary};
 use std::alloc::Global;
-use std::env;
-use std::fs;
-use std::io;
 use std::io::{BufWriter, ErrorKind, Write};
 use std::process::ExitCode;
+use std::{env, fs, io};
 use store::Store;
 use terms::{Fault, Key};
 
@@ -35,7 +33,8 @@ fn open<S: Start>(
     Desk::new(store)
 }
 
-/// One request on the library in the file.
+/// One request on the library in the file. At the end the database's log is copied into the file, so that the file
+/// alone is the library; where that fails, the log stays beside it and nothing is lost.
 fn file<W: Write>(
     rt: &HostRuntime,
     path: &str,
@@ -44,7 +43,11 @@ fn file<W: Write>(
     writer: &mut W,
 ) -> Result<Exit, WriteFault> {
     match open(rt, path, Wary) {
-        Ok(mut desk) => one(&mut desk, rt.alloc(), key, words, writer),
+        Ok(mut desk) => {
+            let told = one(&mut desk, rt.alloc(), key, words, writer);
+            let _ = desk.into_store().into_connection().close();
+            told
+        }
         Err(fault) => tell_fault(writer, fault),
     }
 }

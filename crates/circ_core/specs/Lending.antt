@@ -163,7 +163,7 @@ abbrev pub LendsOrRefuses : CheckOutView → ℕ → ℕ → ℕ → Result Deci
 LendsOrRefuses view patron copy branch (Ok decision) =
     (first_failing (check_out_checks view patron branch) ≡ None)
     × ((due : ℕ) × IsDueFrom view.calendar (period_end view) due
-      × (decision.reply ≡ Lent view.meta.next_loan due) × (decision.changes ≡ check_out_rows view patron copy branch due))
+    × (decision.reply ≡ Lent view.meta.next_loan due) × (decision.changes ≡ check_out_rows view patron copy branch due))
 LendsOrRefuses view patron copy branch (Err refused) =
     (first_failing (check_out_checks view patron branch) ≡ Some refused)
     ⊎ ((first_failing (check_out_checks view patron branch) ≡ None) × (refused ≡ refusal.PastCalendar) × IsShutFrom view.calendar (period_end view))

@@ -10,8 +10,8 @@ use crate::checks::first_refusal;
 use crate::views::CheckOutView;
 use calendar::Calendar;
 use terms::{
-    BranchId, Cents, Condition, CopyId, CopyKind, CopyRow, Count, Day, Days, HoldRow, HoldState, KindRow,
-    LoanId, LoanRow, PatronId, PatronKind, PatronRow, Refusal, Reply, RuleRow,
+    BranchId, Cents, Condition, CopyId, CopyKind, CopyRow, Count, Day, Days, HoldRow, HoldState,
+    KindRow, LoanId, LoanRow, PatronId, PatronKind, PatronRow, Refusal, Reply, RuleRow,
 };
 
 /// Loan numbers end here.
@@ -133,11 +133,20 @@ fn check_out_refusal(view: &CheckOutView, patron: PatronId, branch: BranchId) ->
         (Refusal::InTransit, at.transit.is_some()),
         (Refusal::Elsewhere, !is_at(&at.hold, &at.copy, branch)),
         (Refusal::OnHoldShelf, is_anothers(&at.hold, patron)),
-        (Refusal::HoldWaits, is_for_another(&at.hold, &view.first, patron)),
+        (
+            Refusal::HoldWaits,
+            is_for_another(&at.hold, &view.first, patron),
+        ),
         (Refusal::AlreadyHolds, holds_more(&filled, view.own_holds)),
         (Refusal::NoRule, view.rule.is_none()),
-        (Refusal::TooManyLoans, has_all_loans(&view.kind, view.open_loans)),
-        (Refusal::OwesTooMuch, owes_too_much(&view.kind, &view.patron)),
+        (
+            Refusal::TooManyLoans,
+            has_all_loans(&view.kind, view.open_loans),
+        ),
+        (
+            Refusal::OwesTooMuch,
+            owes_too_much(&view.kind, &view.patron),
+        ),
         (Refusal::NumbersUsedUp, is_used_up(view.meta.next_loan)),
     ])
 }

@@ -99,10 +99,7 @@ pub(crate) fn add_branch<'a>(
 }
 
 /// `week`: refusals 10, 22.
-pub(crate) fn set_week<'a>(
-    row: &'a Option<BranchRow>,
-    week: Mask,
-) -> Result<Decision<'a>, Refusal>
+pub(crate) fn set_week<'a>(row: &'a Option<BranchRow>, week: Mask) -> Result<Decision<'a>, Refusal>
     ensures { Decided (week_checks row.now week) Done (week_rows row.now week) result }
 {
     let Some(old) = row else {
@@ -146,10 +143,7 @@ pub(crate) fn set_kind<'a>(
 }
 
 /// `rule`: refusals 21, 17.
-pub(crate) fn set_rule<'a>(
-    kind: &Option<KindRow>,
-    rule: &RuleRow,
-) -> Result<Decision<'a>, Refusal>
+pub(crate) fn set_rule<'a>(kind: &Option<KindRow>, rule: &RuleRow) -> Result<Decision<'a>, Refusal>
     ensures { Decided (rule_checks kind.now rule.now.kind rule.now.copy_kind rule.now.period rule.now.renewals rule.now.rate rule.now.cap) Done (rule_rows rule.now.kind rule.now.copy_kind rule.now.period rule.now.renewals rule.now.rate rule.now.cap) result }
 {
     let kinds_fit = is_small(rule.kind.number()) && is_small(rule.copy_kind.number());

@@ -164,10 +164,7 @@ pub fn get_title<S: Alter>(
 }
 
 /// The row of a copy, if there is one. 91, 93.
-pub fn get_copy<S: Alter>(
-    conn: &mut Connection<S>,
-    copy: CopyId,
-) -> Result<Option<CopyRow>, Fault>
+pub fn get_copy<S: Alter>(conn: &mut Connection<S>, copy: CopyId) -> Result<Option<CopyRow>, Fault>
     ensures mode { conn.old.in_transaction ≡ false → conn.new.in_transaction ≡ false }
 {
     let row = first_row(
@@ -182,10 +179,7 @@ pub fn get_copy<S: Alter>(
 }
 
 /// The row of a loan, if there is one. 91, 93.
-pub fn get_loan<S: Alter>(
-    conn: &mut Connection<S>,
-    loan: LoanId,
-) -> Result<Option<LoanRow>, Fault>
+pub fn get_loan<S: Alter>(conn: &mut Connection<S>, loan: LoanId) -> Result<Option<LoanRow>, Fault>
     ensures mode { conn.old.in_transaction ≡ false → conn.new.in_transaction ≡ false }
 {
     let row = first_row(
@@ -200,10 +194,7 @@ pub fn get_loan<S: Alter>(
 }
 
 /// The row of a hold, if there is one. 91, 93.
-pub fn get_hold<S: Alter>(
-    conn: &mut Connection<S>,
-    hold: HoldId,
-) -> Result<Option<HoldRow>, Fault>
+pub fn get_hold<S: Alter>(conn: &mut Connection<S>, hold: HoldId) -> Result<Option<HoldRow>, Fault>
     ensures mode { conn.old.in_transaction ≡ false → conn.new.in_transaction ≡ false }
 {
     let row = first_row(
@@ -236,10 +227,7 @@ pub fn get_transit<S: Alter>(
 }
 
 /// The row of a line, if there is one. 91, 93.
-pub fn get_line<S: Alter>(
-    conn: &mut Connection<S>,
-    line: LineId,
-) -> Result<Option<LineRow>, Fault>
+pub fn get_line<S: Alter>(conn: &mut Connection<S>, line: LineId) -> Result<Option<LineRow>, Fault>
     ensures mode { conn.old.in_transaction ≡ false → conn.new.in_transaction ≡ false }
 {
     let row = first_row(

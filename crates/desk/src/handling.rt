@@ -98,13 +98,6 @@ pub(crate) fn handle<S: Alter>(
     let text = request_text(alloc, &request.command)?;
     match store.kept(owner, &request.key)? {
         Some(kept) => repeat(&kept, &text),
-        None => answer(
-            store,
-            alloc,
-            owner,
-            &request.key,
-            &text,
-            &request.command,
-        ),
+        None => answer(store, alloc, owner, &request.key, &text, &request.command),
     }
 }

@@ -1,0 +1,29 @@
+mod DayTexts
+mod Rows
+mod RowsLending
+mod RowsHolds
+mod RowsReports
+pub mod Passing
+pub mod Least
+pub mod Runs
+pub mod Balance
+pub mod Moves
+pub mod Bindings
+pub mod Legal
+pub mod LoanLaws
+pub mod ClaimsLaw
+pub mod Repeats
+pub mod Members
+pub mod Final
+pub mod Line
+pub mod AccountLaws
+pub mod PlaceLaws
+pub mod Invariants
+mod RowsClosedDays
+pub mod OpenDays
+pub mod SettingLaws
+pub mod DueDayLaws
+pub mod LimitLaws
+pub mod OwnRows
+pub mod MoneyLaws
+pub mod HoldRows

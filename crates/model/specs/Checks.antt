@@ -21,6 +21,10 @@ last_today = 80718
 abbrev pub last_number : ℕ
 last_number = 2147483647
 
+-- A branch has at most so many single closed days.
+abbrev pub max_singles : ℕ
+max_singles = 400
+
 -- The number is at least the one and at most the other.
 abbrev pub is_within : ℕ → ℕ → ℕ → Bool
 is_within low high n = nat_le low n && nat_le n high

@@ -1,7 +1,10 @@
--- The list of accepted events, the newest first.
-use Rattle.std.specs.Prelude.{ℕ, List}
+-- The list of accepted events, the newest first, and what its commands have set.
+use Rattle.std.specs.Prelude.{ℕ, zero, suc, ◌+◌, ◌==◌, Bool, false, ◌&&◌, not, if◌then◌else◌, List, [], ◌∷◌, ◌++◌, filter, Option, Some, None, is_none, replicate}
+use Rattle.std.specs.Option.{option_or}
 use Rattle.terms.specs.declared.command.Owner.{Owner}
 use Rattle.terms.specs.declared.command.Command.{Command}
+use Rattle.terms.specs.declared.command.Command.TheVariants.{BeginDay, Branch, Week, CloseDay, OpenDay, Kind, Rule, Patron, Acquire, CheckOut, PlaceHold}
+use Rattle.model.specs.Calendar.{first_day, opens}
 
 -- An accepted changing command, with its key and whose key it is.
 pub record Event : Type 0 where
@@ -12,3 +15,199 @@ pub record Event : Type 0 where
 -- Events, the newest first.
 abbrev pub History : Type 0
 History = List Event
+
+-- The numbers from 1 to n, rising.
+abbrev pub numbers_to : ℕ → List ℕ
+numbers_to zero = []
+numbers_to (suc n) = numbers_to n ++ (suc n) ∷ []
+
+-- ---- the calendar
+
+-- A begin-day makes its day today.
+abbrev pub today_after : Command → ℕ → ℕ
+today_after (BeginDay d) before = d
+today_after _ before = before
+
+-- Today is the day of the last begin-day, and the calendar's first day in a new library.
+abbrev pub today : History → ℕ
+today [] = first_day
+today (e ∷ H) = today_after e.command (today H)
+
+-- A week sets the closed weekdays of its branch.
+abbrev pub week_after : Command → ℕ → List Bool → List Bool
+week_after (Week n closed) b before = if n == b then closed else before
+week_after _ b before = before
+
+-- The closed weekdays of a branch, Monday first, are those of its last week, and none in a new branch.
+abbrev pub week_of : History → ℕ → List Bool
+week_of [] b = replicate 7 false
+week_of (e ∷ H) b = week_after e.command b (week_of H b)
+
+-- A close-day adds a single day to those of its branch, and an open-day takes it away.
+abbrev pub singles_after : Command → ℕ → List ℕ → List ℕ
+singles_after (CloseDay n d) b before = if n == b then d ∷ before else before
+singles_after (OpenDay n d) b before = if n == b then filter (λ e. not (d == e)) before else before
+singles_after _ b before = before
+
+-- The days that the branch has closed singly and not opened again.
+abbrev pub singles_of : History → ℕ → List ℕ
+singles_of [] b = []
+singles_of (e ∷ H) b = singles_after e.command b (singles_of H b)
+
+-- Whether the branch is open on a day.
+abbrev pub is_open : History → ℕ → ℕ → Bool
+is_open H b = opens (week_of H b) (singles_of H b)
+
+-- ---- what commands make or set
+
+-- A branch: how many days a copy waits on its hold shelf, and its name.
+pub record BranchFacts : Type 0 where
+  pub pickup : ℕ
+  pub name : List ℕ
+
+-- A patron kind: the most open loans, the most active holds, and the most debt at check-out.
+pub record KindFacts : Type 0 where
+  pub loans : ℕ
+  pub holds : ℕ
+  pub debt : ℕ
+
+-- A rule's terms: the loan period in days, the renewals, and the cents for each day late, up to a cap.
+-- A rule's grace would stand here.
+pub record Terms : Type 0 where
+  pub period : ℕ
+  pub renewals : ℕ
+  pub rate : ℕ
+  pub cap : ℕ
+
+-- A patron: the kind, the card key and the name.
+pub record PatronFacts : Type 0 where
+  pub kind : ℕ
+  pub card_key : List ℕ
+  pub name : List ℕ
+
+-- A copy: its title, its kind, its home branch and its price in cents.
+pub record CopyFacts : Type 0 where
+  pub title : ℕ
+  pub kind : ℕ
+  pub home : ℕ
+  pub price : ℕ
+
+-- A branch command makes its branch if there is none yet.
+abbrev pub branch_after : Command → ℕ → Option BranchFacts → Option BranchFacts
+branch_after (Branch n pickup name) b before = option_or before (if n == b then Some (record { pickup = pickup; name = name }) else None)
+branch_after _ b before = before
+
+-- A branch is what its first command made.
+abbrev pub branch_of : History → ℕ → Option BranchFacts
+branch_of [] b = None
+branch_of (e ∷ H) b = branch_after e.command b (branch_of H b)
+
+-- A kind command sets its patron kind.
+abbrev pub kind_after : Command → ℕ → Option KindFacts → Option KindFacts
+kind_after (Kind n loans holds debt) k before = if n == k then Some (record { loans = loans; holds = holds; debt = debt }) else before
+kind_after _ k before = before
+
+-- A patron kind is what its last command set.
+abbrev pub kind_of : History → ℕ → Option KindFacts
+kind_of [] k = None
+kind_of (e ∷ H) k = kind_after e.command k (kind_of H k)
+
+-- A rule command sets the terms of its two kinds.
+abbrev pub rule_after : Command → ℕ → ℕ → Option Terms → Option Terms
+rule_after (Rule n m period renewals rate cap) k c before =
+    if (n == k) && (m == c) then Some (record { period = period; renewals = renewals; rate = rate; cap = cap }) else before
+rule_after _ k c before = before
+
+-- The rule of a patron kind and a copy kind is what its last command set.
+abbrev pub rule_of : History → ℕ → ℕ → Option Terms
+rule_of [] k c = None
+rule_of (e ∷ H) k c = rule_after e.command k c (rule_of H k c)
+
+-- A patron command enrols its patron if that isn't done yet.
+abbrev pub patron_after : Command → ℕ → Option PatronFacts → Option PatronFacts
+patron_after (Patron n kind card_key name) p before =
+    option_or before (if n == p then Some (record { kind = kind; card_key = card_key; name = name }) else None)
+patron_after _ p before = before
+
+-- A patron is what the first command made.
+abbrev pub patron_of : History → ℕ → Option PatronFacts
+patron_of [] p = None
+patron_of (e ∷ H) p = patron_after e.command p (patron_of H p)
+
+-- An acquire makes its title if there is none yet.
+abbrev pub title_after : Command → ℕ → Option (List ℕ) → Option (List ℕ)
+title_after (Acquire copy n kind home price text) t before = option_or before (if n == t then Some text else None)
+title_after _ t before = before
+
+-- A title's text is that of the first acquire that names it.
+abbrev pub title_of : History → ℕ → Option (List ℕ)
+title_of [] t = None
+title_of (e ∷ H) t = title_after e.command t (title_of H t)
+
+-- An acquire makes its copy if there is none yet.
+abbrev pub copy_after : Command → ℕ → Option CopyFacts → Option CopyFacts
+copy_after (Acquire n title kind home price text) c before =
+    option_or before (if n == c then Some (record { title = title; kind = kind; home = home; price = price }) else None)
+copy_after _ c before = before
+
+-- A copy is what its first acquire made.
+abbrev pub copy_of : History → ℕ → Option CopyFacts
+copy_of [] c = None
+copy_of (e ∷ H) c = copy_after e.command c (copy_of H c)
+
+-- The first acquire of a copy adds its number to the list.
+abbrev pub copies_after : History → Command → List ℕ → List ℕ
+copies_after H (Acquire n title kind home price text) before = if is_none (copy_of H n) then n ∷ before else before
+copies_after H _ before = before
+
+-- The numbers of all copies ever acquired.
+abbrev pub copies : History → List ℕ
+copies [] = []
+copies (e ∷ H) = copies_after H e.command (copies H)
+
+-- ---- numbers given in order
+
+-- A check-out makes one loan more.
+abbrev pub loans_after : Command → ℕ → ℕ
+loans_after (CheckOut patron copy branch) before = before + 1
+loans_after _ before = before
+
+-- How many loans were made.
+abbrev pub loans : History → ℕ
+loans [] = 0
+loans (e ∷ H) = loans_after e.command (loans H)
+
+-- The number of the next loan.
+abbrev pub next_loan : History → ℕ
+next_loan H = loans H + 1
+
+-- A place-hold makes one hold more.
+abbrev pub holds_after : Command → ℕ → ℕ
+holds_after (PlaceHold patron title branch) before = before + 1
+holds_after _ before = before
+
+-- How many holds were placed.
+abbrev pub holds : History → ℕ
+holds [] = 0
+holds (e ∷ H) = holds_after e.command (holds H)
+
+-- The number of the next hold.
+abbrev pub next_hold : History → ℕ
+next_hold H = holds H + 1
+
+-- A hold: who placed it, on which title, and where it is to be picked up.
+-- A hold's first day would stand here.
+pub record HoldFacts : Type 0 where
+  pub patron : ℕ
+  pub title : ℕ
+  pub branch : ℕ
+
+-- A place-hold makes the hold of the next number.
+abbrev pub hold_after : History → Command → ℕ → Option HoldFacts → Option HoldFacts
+hold_after H (PlaceHold p t b) h before = if next_hold H == h then Some (record { patron = p; title = t; branch = b }) else before
+hold_after H _ h before = before
+
+-- The n-th place-hold makes hold n.
+abbrev pub hold_of : History → ℕ → Option HoldFacts
+hold_of [] h = None
+hold_of (e ∷ H) h = hold_after H e.command h (hold_of H h)

@@ -1,2 +1,16 @@
+pub mod Calendar
 pub mod History
 pub mod Checks
+pub mod Places
+pub mod Loans
+pub mod Accounts
+pub mod Refusals
+pub mod Pages
+pub mod Answers
+pub mod Requests
+pub mod Reports
+pub mod Picture
+pub mod Claims
+pub mod Invariant
+pub mod DueDays
+pub mod Laws

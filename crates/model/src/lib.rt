@@ -1,2 +1,82 @@
-//! What each word of the desk means: definitions over lists of accepted events.
+//! What each word of the desk means: definitions over lists of accepted events, and laws of all legal lists.
+//!
+//! A law is the contract of a function that does nothing: to call it is to have the law at hand.
 #![tactic(auto)]
+
+ghost use Rattle.model.specs.Laws.{StaysLegal, Places, Bindings, Balance, HoldRows, FinalStates, FirstInLineIsServed, RepeatsActOnce, OwnRows, Invariants};
+ghost use Rattle.model.specs.DueDays.{DueDays, DueDaysExist, ShelfLimits, LimitsExist};
+
+/// Handling requests of any callers keeps a history legal.
+pub fn legal_law()
+    ensures { StaysLegal }
+{}
+
+/// The tables make at most one claim on a copy, and it is that of the place where the last movement left it.
+pub fn places_law()
+    ensures { Places }
+{}
+
+/// A hold is ready exactly if one copy stands on its hold shelf. A copy that travels for a hold goes to its pick-up
+/// branch, the hold waits, and no other copy travels for it.
+pub fn bindings_law()
+    ensures { Bindings }
+{}
+
+/// Fines and prices are payments and waivers plus what is owed, for every patron.
+pub fn balance_law()
+    ensures { Balance }
+{}
+
+/// The holds that have a row, and with it one state, are those of the numbers given: 1 up to how many were placed.
+pub fn hold_rows_law()
+    ensures { HoldRows }
+{}
+
+/// A hold that is filled, cancelled or expired stays so, whatever is asked of the desk.
+pub fn final_states_law()
+    ensures { FinalStates }
+{}
+
+/// A hold that an accepted command takes out of its line, otherwise than by cancelling it, was the first of that line.
+pub fn line_law()
+    ensures { FirstInLineIsServed }
+{}
+
+/// A request that repeats an accepted one, with the same key of the same owner and the same text, adds nothing and gets
+/// the first one's reply, whatever came between.
+pub fn repeats_law()
+    ensures { RepeatsActOnce }
+{}
+
+/// The due day of every loan was the least open day of the lending branch from the end of the loan's period when it was
+/// last set. Each week command of the history is to tell of seven weekdays, as those that can be sent do.
+pub fn due_days_law()
+    ensures { DueDays }
+{}
+
+/// A check-out that isn't refused has a due day within the calendar, on the same condition.
+pub fn due_days_exist_law()
+    ensures { DueDaysExist }
+{}
+
+/// Every ready hold has a shelf limit. It was the least open day of the pick-up branch from the end of the pick-up
+/// period when the hold became ready, on the same condition.
+pub fn shelf_limits_law()
+    ensures { ShelfLimits }
+{}
+
+/// A hold that becomes ready has a shelf limit within the calendar, on the same condition.
+pub fn shelf_limits_exist_law()
+    ensures { LimitsExist }
+{}
+
+/// A patron's page is the same after any two histories that agree on the patron's own row, open loans and active holds,
+/// and on the copies and titles of these.
+pub fn own_rows_law()
+    ensures { OwnRows }
+{}
+
+/// What holds of every legal history, in one record.
+pub fn invariant_law()
+    ensures { Invariants }
+{}

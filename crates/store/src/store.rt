@@ -3,8 +3,7 @@
 ghost use Rattle.std.specs.Prelude.{◌≡◌, false, IfOk};
 ghost use Rattle.store.specs.Views.{IsMadeFor};
 
-use crate::changing;
-use crate::viewing;
+use crate::{changing, viewing};
 use circ_core::{Changes, View};
 use circ_tables::{KeptReply, get_hold, get_kept, get_loan, get_patron, schema_of};
 use sqlite::{Alter, Connection};

@@ -183,17 +183,16 @@ pub(crate) fn view_for<S: Alter>(
             Ok(View::Patron(patron_view(conn, alloc, *patron, *kind)?))
         }
         Command::Acquire {
-            copy, title, home, ..
-        } => Ok(View::Acquire(acquire_view(
-            conn, alloc, *copy, *title, *home,
-        )?)),
+            copy,
+            title,
+            home,
+            ..
+        } => Ok(View::Acquire(acquire_view(conn, alloc, *copy, *title, *home)?)),
         Command::CheckOut {
             patron,
             copy,
             branch,
-        } => Ok(View::CheckOut(check_out_view(
-            conn, alloc, *patron, *copy, *branch,
-        )?)),
+        } => Ok(View::CheckOut(check_out_view(conn, alloc, *patron, *copy, *branch)?)),
         _ => Ok(View::Kind),
     }
 }

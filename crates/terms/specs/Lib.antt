@@ -3,3 +3,4 @@ pub mod Texts
 pub mod Money
 pub mod Built
 pub mod Callers
+pub mod Laws

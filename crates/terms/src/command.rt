@@ -16,7 +16,9 @@ use std::alloc::Global;
 #[derive(Drop)]
 pub enum Command {
     /// Today becomes this day, which is after it.
-    BeginDay { day: Day },
+    BeginDay {
+        day: Day,
+    },
     /// A branch, with the days that a copy waits on its hold shelf.
     Branch {
         branch: BranchId,
@@ -24,11 +26,20 @@ pub enum Command {
         name: Name,
     },
     /// The weekdays on which a branch is closed.
-    Week { branch: BranchId, week: Mask },
+    Week {
+        branch: BranchId,
+        week: Mask,
+    },
     /// A later day on which a branch is closed.
-    CloseDay { branch: BranchId, day: Day },
+    CloseDay {
+        branch: BranchId,
+        day: Day,
+    },
     /// A later day that a branch no longer closes singly.
-    OpenDay { branch: BranchId, day: Day },
+    OpenDay {
+        branch: BranchId,
+        day: Day,
+    },
     /// What a kind of patron may have: open loans, active holds, and debt at check-out.
     Kind {
         kind: PatronKind,
@@ -68,9 +79,14 @@ pub enum Command {
         branch: BranchId,
     },
     /// A copy is handed in at a branch.
-    CheckIn { copy: CopyId, branch: BranchId },
+    CheckIn {
+        copy: CopyId,
+        branch: BranchId,
+    },
     /// A loan is made longer.
-    Renew { loan: LoanId },
+    Renew {
+        loan: LoanId,
+    },
     /// A patron wants a title, to be picked up at a branch.
     PlaceHold {
         patron: PatronId,
@@ -78,21 +94,39 @@ pub enum Command {
         branch: BranchId,
     },
     /// A waiting hold is cancelled.
-    CancelHold { hold: HoldId },
+    CancelHold {
+        hold: HoldId,
+    },
     /// A ready hold whose shelf limit has passed expires.
-    Unshelve { hold: HoldId },
+    Unshelve {
+        hold: HoldId,
+    },
     /// A ready hold is cancelled.
-    UnshelveCancelled { hold: HoldId },
+    UnshelveCancelled {
+        hold: HoldId,
+    },
     /// A copy is declared missing.
-    Missing { copy: CopyId },
+    Missing {
+        copy: CopyId,
+    },
     /// A copy leaves the library for good.
-    Withdraw { copy: CopyId },
+    Withdraw {
+        copy: CopyId,
+    },
     /// A patron pays.
-    Pay { patron: PatronId, amount: Cents },
+    Pay {
+        patron: PatronId,
+        amount: Cents,
+    },
     /// A patron is let off an amount.
-    Waive { patron: PatronId, amount: Cents },
+    Waive {
+        patron: PatronId,
+        amount: Cents,
+    },
     /// What a patron owes, has on loan and holds. It changes nothing.
-    Page { patron: PatronId },
+    Page {
+        patron: PatronId,
+    },
 }
 
 /// Who sends a request: the desk, or a patron who shows a card key.
@@ -136,18 +170,54 @@ fn joined_words(alloc: Global, command: &Command) -> Result<String, Memory>
 {
     match command {
         Command::BeginDay { day } => format!(in alloc; "begin-day {day}"),
-        Command::Branch { branch, pickup, name } => format!(in alloc; "branch {branch} {pickup} {name}"),
+        Command::Branch {
+            branch,
+            pickup,
+            name,
+        } => format!(in alloc; "branch {branch} {pickup} {name}"),
         Command::Week { branch, week } => format!(in alloc; "week {branch} {week}"),
         Command::CloseDay { branch, day } => format!(in alloc; "close-day {branch} {day}"),
         Command::OpenDay { branch, day } => format!(in alloc; "open-day {branch} {day}"),
-        Command::Kind { kind, loans, holds, debt } => format!(in alloc; "kind {kind} {loans} {holds} {debt}"),
-        Command::Rule { kind, copy_kind, period, renewals, rate, cap } => format!(in alloc; "rule {kind} {copy_kind} {period} {renewals} {rate} {cap}"),
-        Command::Patron { patron, kind, card_key, name } => format!(in alloc; "patron {patron} {kind} {card_key} {name}"),
-        Command::Acquire { copy, title, kind, home, price, text } => format!(in alloc; "acquire {copy} {title} {kind} {home} {price} {text}"),
-        Command::CheckOut { patron, copy, branch } => format!(in alloc; "check-out {patron} {copy} {branch}"),
+        Command::Kind {
+            kind,
+            loans,
+            holds,
+            debt,
+        } => format!(in alloc; "kind {kind} {loans} {holds} {debt}"),
+        Command::Rule {
+            kind,
+            copy_kind,
+            period,
+            renewals,
+            rate,
+            cap,
+        } => format!(in alloc; "rule {kind} {copy_kind} {period} {renewals} {rate} {cap}"),
+        Command::Patron {
+            patron,
+            kind,
+            card_key,
+            name,
+        } => format!(in alloc; "patron {patron} {kind} {card_key} {name}"),
+        Command::Acquire {
+            copy,
+            title,
+            kind,
+            home,
+            price,
+            text,
+        } => format!(in alloc; "acquire {copy} {title} {kind} {home} {price} {text}"),
+        Command::CheckOut {
+            patron,
+            copy,
+            branch,
+        } => format!(in alloc; "check-out {patron} {copy} {branch}"),
         Command::CheckIn { copy, branch } => format!(in alloc; "check-in {copy} {branch}"),
         Command::Renew { loan } => format!(in alloc; "renew {loan}"),
-        Command::PlaceHold { patron, title, branch } => format!(in alloc; "place-hold {patron} {title} {branch}"),
+        Command::PlaceHold {
+            patron,
+            title,
+            branch,
+        } => format!(in alloc; "place-hold {patron} {title} {branch}"),
         Command::CancelHold { hold } => format!(in alloc; "cancel-hold {hold}"),
         Command::Unshelve { hold } => format!(in alloc; "unshelve {hold}"),
         Command::UnshelveCancelled { hold } => format!(in alloc; "unshelve-cancelled {hold}"),

@@ -14,7 +14,9 @@ use std::fmt;
 #[derive(Clone, Copy, Debug, PartialEq, Eq)]
 pub enum Routed {
     /// To the shelf of its home branch.
-    Shelf { branch: BranchId },
+    Shelf {
+        branch: BranchId,
+    },
     /// To the hold shelf for a hold that is now ready, until its shelf limit.
     HoldShelf {
         hold: HoldId,

@@ -50,6 +50,14 @@ impl Mask {
         Some(Mask { closed })
     }
 
+    /// Whether each weekday is closed, Monday first.
+    pub fn closed(self) -> [bool; 7]
+        ensures value { result ≡ self }
+        ensures seven { length self ≡ 7 }
+    {
+        self.closed
+    }
+
     /// The closed weekdays, unless they are all seven.
     pub fn weekdays(self) -> Option<Weekdays>
         ensures { SomeIff result (list_any (λ b. not b) self ≡ true) self }

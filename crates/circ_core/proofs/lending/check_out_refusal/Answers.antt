@@ -7,11 +7,11 @@ use Rattle.circ_core.proofs.lending.check_out_refusal.Goals as goal
 
 -- the same tests fail in the same order
 same_table : (b0 b1 b2 b3 b4 b5 b6 b7 b8 b9 b10 b11 b12 b13 b14 d0 d1 d2 d3 d4 d5 d6 d7 d8 d9 d10 d11 d12 d13 d14 : Bool) → b0 ≡ d0 → b1 ≡ d1 → b2 ≡ d2 → b3 ≡ d3 → b4 ≡ d4 → b5 ≡ d5 → b6 ≡ d6 → b7 ≡ d7 → b8 ≡ d8 → b9 ≡ d9 → b10 ≡ d10 → b11 ≡ d11 → b12 ≡ d12 → b13 ≡ d13 → b14 ≡ d14
-    → first_failing ((UnknownBranch , b0) ∷ (UnknownPatron , b1) ∷ (UnknownCopy , b2) ∷ (CopyWithdrawn , b3) ∷ (CopyMissing , b4) ∷ (OnLoan , b5) ∷ (InTransit , b6) ∷ (Elsewhere , b7) ∷ (OnHoldShelf , b8) ∷ (HoldWaits , b9) ∷ (AlreadyHolds , b10) ∷ (NoRule , b11) ∷ (TooManyLoans , b12) ∷ (OwesTooMuch , b13) ∷ (NumbersUsedUp , b14) ∷ [])
-    ≡ first_failing ((UnknownBranch , d0) ∷ (UnknownPatron , d1) ∷ (UnknownCopy , d2) ∷ (CopyWithdrawn , d3) ∷ (CopyMissing , d4) ∷ (OnLoan , d5) ∷ (InTransit , d6) ∷ (Elsewhere , d7) ∷ (OnHoldShelf , d8) ∷ (HoldWaits , d9) ∷ (AlreadyHolds , d10) ∷ (NoRule , d11) ∷ (TooManyLoans , d12) ∷ (OwesTooMuch , d13) ∷ (NumbersUsedUp , d14) ∷ [])
+    → first_failing ((UnknownBranch, b0) ∷ (UnknownPatron, b1) ∷ (UnknownCopy, b2) ∷ (CopyWithdrawn, b3) ∷ (CopyMissing, b4) ∷ (OnLoan, b5) ∷ (InTransit, b6) ∷ (Elsewhere, b7) ∷ (OnHoldShelf, b8) ∷ (HoldWaits, b9) ∷ (AlreadyHolds, b10) ∷ (NoRule, b11) ∷ (TooManyLoans, b12) ∷ (OwesTooMuch, b13) ∷ (NumbersUsedUp, b14) ∷ [])
+    ≡ first_failing ((UnknownBranch, d0) ∷ (UnknownPatron, d1) ∷ (UnknownCopy, d2) ∷ (CopyWithdrawn, d3) ∷ (CopyMissing, d4) ∷ (OnLoan, d5) ∷ (InTransit, d6) ∷ (Elsewhere, d7) ∷ (OnHoldShelf, d8) ∷ (HoldWaits, d9) ∷ (AlreadyHolds, d10) ∷ (NoRule, d11) ∷ (TooManyLoans, d12) ∷ (OwesTooMuch, d13) ∷ (NumbersUsedUp, d14) ∷ [])
 same_table b0 b1 b2 b3 b4 b5 b6 b7 b8 b9 b10 b11 b12 b13 b14 d0 d1 d2 d3 d4 d5 d6 d7 d8 d9 d10 d11 d12 d13 d14 e0 e1 e2 e3 e4 e5 e6 e7 e8 e9 e10 e11 e12 e13 e14 =
-    let left : List Check = (UnknownBranch , b0) ∷ (UnknownPatron , b1) ∷ (UnknownCopy , b2) ∷ (CopyWithdrawn , b3) ∷ (CopyMissing , b4) ∷ (OnLoan , b5) ∷ (InTransit , b6) ∷ (Elsewhere , b7) ∷ (OnHoldShelf , b8) ∷ (HoldWaits , b9) ∷ (AlreadyHolds , b10) ∷ (NoRule , b11) ∷ (TooManyLoans , b12) ∷ (OwesTooMuch , b13) ∷ (NumbersUsedUp , b14) ∷ [] in
-    let right : List Check = (UnknownBranch , d0) ∷ (UnknownPatron , d1) ∷ (UnknownCopy , d2) ∷ (CopyWithdrawn , d3) ∷ (CopyMissing , d4) ∷ (OnLoan , d5) ∷ (InTransit , d6) ∷ (Elsewhere , d7) ∷ (OnHoldShelf , d8) ∷ (HoldWaits , d9) ∷ (AlreadyHolds , d10) ∷ (NoRule , d11) ∷ (TooManyLoans , d12) ∷ (OwesTooMuch , d13) ∷ (NumbersUsedUp , d14) ∷ [] in
+    let left : List Check = (UnknownBranch, b0) ∷ (UnknownPatron, b1) ∷ (UnknownCopy, b2) ∷ (CopyWithdrawn, b3) ∷ (CopyMissing, b4) ∷ (OnLoan, b5) ∷ (InTransit, b6) ∷ (Elsewhere, b7) ∷ (OnHoldShelf, b8) ∷ (HoldWaits, b9) ∷ (AlreadyHolds, b10) ∷ (NoRule, b11) ∷ (TooManyLoans, b12) ∷ (OwesTooMuch, b13) ∷ (NumbersUsedUp, b14) ∷ [] in
+    let right : List Check = (UnknownBranch, d0) ∷ (UnknownPatron, d1) ∷ (UnknownCopy, d2) ∷ (CopyWithdrawn, d3) ∷ (CopyMissing, d4) ∷ (OnLoan, d5) ∷ (InTransit, d6) ∷ (Elsewhere, d7) ∷ (OnHoldShelf, d8) ∷ (HoldWaits, d9) ∷ (AlreadyHolds, d10) ∷ (NoRule, d11) ∷ (TooManyLoans, d12) ∷ (OwesTooMuch, d13) ∷ (NumbersUsedUp, d14) ∷ [] in
     let same : left ≡ right = cc in
     ap first_failing same
 

@@ -58,12 +58,12 @@ pub returns-in-Ok-clause-some : goal.returns-in-Ok-clause-some
 returns-in-Ok-clause-some c =
     let same : c.as_bytes-bytes.result.now ≡ c.args.text.now = c.as_bytes-bytes.ensures.value in
     written c.args.text.now c.parse.result c.in-Ok.number c.parse.ensures.value.0 c.in-Ok.is (λ e. c.if-first-eq43.false (ap (λ (x : List ℕ). get_or x 0 0) same ∙ e)) (λ e.
-        let z : get_or c.as_bytes-bytes.result.now 0 0 ≡ 48 = ap (λ (x : List ℕ). get_or x 0 0) same ∙ e in
-        let some : 0 < length c.as_bytes-bytes.result.now = search (rules, tests) in
-        elim c.else-first-eq48.branch [
-          | else-first-eq48-via-then-first-eq48+else-bytes-gt1 w ↦ sym (ap length same) ∙ omega (arith, w.if-bytes-gt1.false, some)
-          | else-first-eq48-via-else-first-eq48 w ↦ absurd (w.if-first-eq48.false z)
-        ])
+    let z : get_or c.as_bytes-bytes.result.now 0 0 ≡ 48 = ap (λ (x : List ℕ). get_or x 0 0) same ∙ e in
+    let some : 0 < length c.as_bytes-bytes.result.now = search (rules, tests) in
+    elim c.else-first-eq48.branch [
+      | else-first-eq48-via-then-first-eq48+else-bytes-gt1 w ↦ sym (ap length same) ∙ omega (arith, w.if-bytes-gt1.false, some)
+      | else-first-eq48-via-else-first-eq48 w ↦ absurd (w.if-first-eq48.false z)
+    ])
 
 pub returns-in-Err-clause-none : goal.returns-in-Err-clause-none
 returns-in-Err-clause-none c = λ n h e. refused c.args.text.now c.parse.result c.in-Err.field-0 n c.parse.ensures.value.0 c.in-Err.is h e

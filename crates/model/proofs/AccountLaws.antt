@@ -1,0 +1,101 @@
+-- In every legal history: borrowers are enrolled, and nobody has lines who isn't.
+use Rattle.std.proofs.Common.{◌≡◌, ℕ, zero, suc, ◌==◌, Bool, true, false, cond, not, List, [], ◌∷◌, ◌++◌, refl, sym, ◌∙◌, ap}
+use Rattle.std.specs.Prelude.{Option, Some, None, option_map, unwrap_or, is_some, filter}
+use Rattle.std.specs.Option.{option_or}
+use Rattle.std.proofs.lemmas.Bool.{eqb-true}
+use Rattle.std.proofs.lemmas.List.Elements.{filter-append}
+use Rattle.terms.specs.declared.command.Owner.{Owner}
+use Rattle.terms.specs.declared.row.Sort.{Sort}
+use Rattle.terms.specs.declared.row.Sort.TheVariants.{Fine, Price, Payment, Waiver}
+use Rattle.terms.specs.declared.command.Command.{Command}
+use Rattle.terms.specs.declared.command.Command.TheVariants.{Patron, CheckOut, CheckIn, Missing, Pay, Waive}
+use Rattle.model.specs.History.{History, today, patron_of, patron_after, next_loan}
+use Rattle.model.specs.Places.{Place, Loan, place}
+use Rattle.model.specs.Loans.{LoanFacts, loan_of, loan_after, ended, terms_for, no_terms}
+use Rattle.model.specs.Accounts.{Line, line_of, lines, lines_after, fine_line, price_line, fine_now, price_of, borrower, account}
+use Rattle.model.specs.Refusals.{checks, refusal, has_patron}
+use Rattle.model.specs.Requests.{IsLegal}
+use Rattle.model.proofs.Passing.{passed}
+use Rattle.model.proofs.LoanLaws.{LoanLaws, legal-LoanLaws}
+
+pub record AccountLaws (H : History) : Type 0 where
+  pub borrowers : (l : ℕ) (r : LoanFacts) → loan_of H l ≡ Some r → patron_of H r.patron ≡ None → ⊥
+  pub strangers : (p : ℕ) → patron_of H p ≡ None → account H p ≡ []
+
+some-not : {A : Type 0} (o : Option A) → not (is_some o) ≡ false → o ≡ None → ⊥
+some-not (Some x) e f = let never : ⊥ = cc in never
+some-not None e f = let never : ⊥ = cc in never
+
+none-or : {A : Type 0} (a b : Option A) → option_or a b ≡ None → a ≡ None
+none-or (Some x) b e = let never : ⊥ = cc in absurd never
+none-or None b e = refl
+
+module _ (H : History) (inv : AccountLaws H) (loans_ok : LoanLaws H) (o : Owner) where
+  -- Who is enrolled stays so.
+  enrolled : (x : Command) (p : ℕ) → patron_after x p (patron_of H p) ≡ None → patron_of H p ≡ None
+  enrolled (Patron n k card_key name) p e = none-or (patron_of H p) _ e
+  enrolled _ p e = e
+
+  borrowers-step : (x : Command) → refusal H o x ≡ None → (l : ℕ) (r : LoanFacts) → loan_after H x l (loan_of H l) ≡ Some r → patron_after x r.patron (patron_of H r.patron) ≡ None → ⊥
+  borrowers-step (CheckOut p n b) ok l r e none = go (next_loan H == l) e
+    where
+      k : not (has_patron H p) ≡ false
+      k = (passed (checks H o (CheckOut p n b)) ok).1.0
+
+      go : (x : Bool) → cond x (Some (record { copy = n; patron = p; branch = b; made = today H; terms = unwrap_or (terms_for H p n) no_terms })) (loan_of H l) ≡ Some r → ⊥
+      go true f =
+          let same : ◌≡◌ {A = LoanFacts} (record { copy = n; patron = p; branch = b; made = today H; terms = unwrap_or (terms_for H p n) no_terms }) r = cc in
+          some-not (patron_of H p) k (ap (λ m. patron_of H m) (ap (λ y. y.patron) same) ∙ none)
+      go false f = inv.borrowers l r f none
+  borrowers-step (Patron n k card_key name) ok l r e none = inv.borrowers l r e (enrolled (Patron n k card_key name) r.patron none)
+  borrowers-step _ ok l r e none = inv.borrowers l r e none
+
+  -- Lines of others.
+  line-other : (q p : ℕ) (s : Sort) (l : Option ℕ) (n : ℕ) → (q ≡ p → ⊥) → filter (λ x. x.patron == p) (line_of H q s l n) ≡ []
+  line-other q p s l zero ne = refl
+  line-other q p s l (suc n) ne = go (q == p) refl
+    where
+      go : (x : Bool) → (q == p) ≡ x → cond {A = List Line} x (record { patron = q; day = today H; sort = s; amount = suc n; loan = l } ∷ []) [] ≡ []
+      go true e = absurd (ne (eqb-true q p e))
+      go false e = refl
+
+  borrower-other : (c l p : ℕ) → place H c ≡ Loan l → patron_of H p ≡ None → borrower H l ≡ p → ⊥
+  borrower-other c l p at none same =
+      let r : (r : LoanFacts) × (loan_of H l ≡ Some r) × (r.copy ≡ c) × (ended H l ≡ None) = loans_ok.on_loan c l at in
+      let who : borrower H l ≡ r.0.patron = ap (λ y. unwrap_or (option_map (λ z. z.patron) y) 0) r.1 in
+      inv.borrowers l r.0 r.1 (ap (λ m. patron_of H m) (sym who ∙ same) ∙ none)
+
+  fine-other : (c p : ℕ) (at : Place) → place H c ≡ at → patron_of H p ≡ None → filter (λ x. x.patron == p) (fine_line H at) ≡ []
+  fine-other c p (Loan l) at none = line-other (borrower H l) p Fine (Some l) (fine_now H l) (borrower-other c l p at none)
+  fine-other c p _ at none = refl
+
+  price-other : (c p : ℕ) (at : Place) → place H c ≡ at → patron_of H p ≡ None → filter (λ x. x.patron == p) (price_line H c at) ≡ []
+  price-other c p (Loan l) at none = line-other (borrower H l) p Price (Some l) (price_of H c) (borrower-other c l p at none)
+  price-other c p _ at none = refl
+
+  grown : (p : ℕ) (more : List Line) → patron_of H p ≡ None → filter (λ x. x.patron == p) more ≡ [] → filter (λ x. x.patron == p) (lines H ++ more) ≡ []
+  grown p more none e = filter-append (λ x. x.patron == p) (lines H) more ∙ ap (λ xs. xs ++ filter (λ x. x.patron == p) more) (inv.strangers p none) ∙ e
+
+  paid-other : (q p : ℕ) → not (has_patron H q) ≡ false → patron_of H p ≡ None → q ≡ p → ⊥
+  paid-other q p has none same = some-not (patron_of H q) has (ap (λ m. patron_of H m) same ∙ none)
+
+  strangers-step : (x : Command) → refusal H o x ≡ None → (p : ℕ) → patron_after x p (patron_of H p) ≡ None → filter (λ y. y.patron == p) (lines_after H x (lines H)) ≡ []
+  strangers-step (CheckIn c b) ok p none = grown p (fine_line H (place H c)) none (fine-other c p (place H c) refl none)
+  strangers-step (Missing c) ok p none =
+      grown p (fine_line H (place H c) ++ price_line H c (place H c)) none
+      (filter-append (λ x. x.patron == p) (fine_line H (place H c)) (price_line H c (place H c))
+      ∙ ap (λ xs. xs ++ filter (λ x. x.patron == p) (price_line H c (place H c))) (fine-other c p (place H c) refl none) ∙ price-other c p (place H c) refl none)
+  strangers-step (Pay q n) ok p none = grown p (line_of H q Payment None n) none (line-other q p Payment None n (paid-other q p (passed (checks H o (Pay q n)) ok).0 none))
+  strangers-step (Waive q n) ok p none = grown p (line_of H q Waiver None n) none (line-other q p Waiver None n (paid-other q p (passed (checks H o (Waive q n)) ok).0 none))
+  strangers-step (Patron n k card_key name) ok p none = inv.strangers p (enrolled (Patron n k card_key name) p none)
+  strangers-step _ ok p none = inv.strangers p none
+
+pub legal-AccountLaws : (H : History) → IsLegal H → AccountLaws H
+legal-AccountLaws [] legal = record { borrowers = λ l r e. let never : ⊥ = cc in absurd never; strangers = λ p e. refl }
+legal-AccountLaws (e ∷ H) legal =
+    let inv : AccountLaws H = legal-AccountLaws H legal.1 in
+    let laws : LoanLaws H = legal-LoanLaws H legal.1 in
+    record {
+      borrowers = borrowers-step H inv laws e.owner e.command legal.0.unrefused;
+      strangers = strangers-step H inv laws e.owner e.command legal.0.unrefused;
+    }

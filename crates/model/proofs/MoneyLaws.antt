@@ -1,0 +1,155 @@
+-- In every legal history: fines, prices and debts are bounded, and numbers aren't past their end.
+use Rattle.std.proofs.Common.{◌≡◌, ℕ, zero, suc, ◌+◌, ◌*◌, ◌≤◌, ◌<◌, ◌==◌, Bool, true, false, cond, List, [], ◌∷◌, ◌++◌, length, length-append, refl, sym, ap, ◌∙◌, subst, arith}
+use Rattle.std.specs.Prelude.{Option, Some, None, option_map, option_and_then, unwrap_or, filter, nat_lt, nat_le, sum_by, min}
+use Rattle.std.proofs.lemmas.List.Sums.{sum_by-append, sum_by-cons}
+use Rattle.std.proofs.lemmas.Bool.{ltb-false, leb-false}
+use Rattle.terms.specs.Money.{fine_for}
+use Rattle.terms.specs.declared.command.Owner.{Owner}
+use Rattle.terms.specs.declared.command.Command.{Command}
+use Rattle.terms.specs.declared.command.Command.TheVariants.{CheckOut, CheckIn, PlaceHold, Missing, Pay, Waive}
+use Rattle.terms.specs.declared.row.Sort.{Sort}
+use Rattle.terms.specs.declared.row.Sort.TheVariants.{Fine, Price, Payment, Waiver}
+use Rattle.model.specs.Calendar.{late}
+use Rattle.model.specs.Checks.{last_number}
+use Rattle.model.specs.History.{Event, History, today, is_open, loans, loans_after, next_loan, holds, holds_after, CopyFacts, copy_of}
+use Rattle.model.specs.Places.{Place, Loan, place}
+use Rattle.model.specs.Loans.{LoanFacts, loan_of, loan_after, due, terms_for, no_terms}
+use Rattle.model.specs.Accounts.{Line, fine_now, price_of, borrower, line_of, fine_line, price_line, lines_by, lines_after, lines, account, charge, charges, owed}
+use Rattle.model.specs.Refusals.{refusal, checks}
+use Rattle.model.specs.Requests.{IsLegal}
+use Rattle.model.proofs.Passing.{passed}
+use Rattle.model.proofs.Balance.{lines-event}
+use Rattle.model.proofs.SettingLaws.{SettingLaws, legal-SettingLaws}
+use Rattle.model.proofs.DueDayLaws.{checked_out-terms, rule-of_terms}
+
+pub record MoneyLaws (H : History) : Type 0 where
+  pub caps : (l : ℕ) (r : LoanFacts) → loan_of H l ≡ Some r → r.terms.cap ≤ 100000
+  pub charged : charges (lines H) ≤ 1000000 * length (lines H)
+  pub lines_left : length (lines H) ≤ last_number
+  pub loans_left : loans H ≤ last_number
+  pub holds_left : holds H ≤ last_number
+
+min-le : (a b : ℕ) → min a b ≤ b
+min-le a b = omega arith
+
+module _ (H : History) (inv : MoneyLaws H) (settings : SettingLaws H) where
+  fine-small : (l : ℕ) → fine_now H l ≤ 100000
+  fine-small l = go (loan_of H l) refl
+    where
+      go : (y : Option LoanFacts) → loan_of H l ≡ y → unwrap_or (option_map (λ r. fine_for (late (is_open H r.branch) (due H l) (today H)) r.terms.rate r.terms.cap) y) 0 ≤ 100000
+      go (Some r) e = omega (arith, inv.caps l r e, min-le (late (is_open H r.branch) (due H l) (today H) * r.terms.rate) r.terms.cap)
+      go None e = omega arith
+
+  price-small : (c : ℕ) → price_of H c ≤ 1000000
+  price-small c = go (copy_of H c) refl
+    where
+      go : (y : Option CopyFacts) → copy_of H c ≡ y → unwrap_or (option_map (λ r. r.price) y) 0 ≤ 1000000
+      go (Some r) e = settings.prices c r e
+      go None e = omega arith
+
+  -- New lines of at most 1,000,000 cents each.
+  abbrev AreSmall : List Line → Type 0
+  AreSmall xs = charges xs ≤ 1000000 * length xs
+
+  line-small : (p : ℕ) (s : Sort) (loan : Option ℕ) (n : ℕ) → charge s n ≤ 1000000 → AreSmall (line_of H p s loan n)
+  line-small p s loan zero le = omega arith
+  line-small p s loan (suc n) le = omega (arith, le)
+
+  fine_line-small : (at : Place) → AreSmall (fine_line H at)
+  fine_line-small (Loan l) = line-small (borrower H l) Fine (Some l) (fine_now H l) (omega (arith, fine-small l))
+  fine_line-small _ = omega arith
+
+  price_line-small : (c : ℕ) (at : Place) → AreSmall (price_line H c at)
+  price_line-small c (Loan l) = line-small (borrower H l) Price (Some l) (price_of H c) (price-small c)
+  price_line-small c _ = omega arith
+
+  append-small : (xs ys : List Line) → AreSmall xs → AreSmall ys → AreSmall (xs ++ ys)
+  append-small xs ys a b = rw (sum_by-append (λ x. charge x.sort x.amount) xs ys, length-append xs ys) (omega (arith, a, b))
+
+  new-small : (x : Command) → AreSmall (lines_by H x)
+  new-small (CheckIn c b) = fine_line-small (place H c)
+  new-small (Missing c) = append-small (fine_line H (place H c)) (price_line H c (place H c)) (fine_line-small (place H c)) (price_line-small c (place H c))
+  new-small (Pay p n) = line-small p Payment None n (omega arith)
+  new-small (Waive p n) = line-small p Waiver None n (omega arith)
+  new-small _ = omega arith
+
+  charged-step : (x : Command) → AreSmall (lines_after H x (lines H))
+  charged-step x = rw (lines-event H x) (append-small (lines H) (lines_by H x) inv.charged (new-small x))
+
+  one-line : (p : ℕ) (s : Sort) (n : ℕ) → length (line_of H p s None n) ≤ 1
+  one-line p s zero = omega arith
+  one-line p s (suc n) = omega arith
+
+  left-step : (o : Owner) (x : Command) → refusal H o x ≡ None → length (lines_after H x (lines H)) ≤ last_number
+  left-step o (CheckIn c b) ok =
+      let room : length (lines H) + length (lines_by H (CheckIn c b)) ≤ last_number = ltb-false _ _ (passed (checks H o (CheckIn c b)) ok).1.1.1.1.0 in
+      rw (length-append (lines H) (lines_by H (CheckIn c b))) room
+  left-step o (Missing c) ok =
+      let room : length (lines H) + length (lines_by H (Missing c)) ≤ last_number = ltb-false _ _ (passed (checks H o (Missing c)) ok).1.1.1.0 in
+      rw (length-append (lines H) (lines_by H (Missing c))) room
+  left-step o (Pay p n) ok =
+      let room : length (lines H) + 1 ≤ last_number = ltb-false _ _ (passed (checks H o (Pay p n)) ok).1.1.0 in
+      rw (length-append (lines H) (line_of H p Payment None n)) (omega (arith, room, one-line p Payment n))
+  left-step o (Waive p n) ok =
+      let room : length (lines H) + 1 ≤ last_number = ltb-false _ _ (passed (checks H o (Waive p n)) ok).1.1.0 in
+      rw (length-append (lines H) (line_of H p Waiver None n)) (omega (arith, room, one-line p Waiver n))
+  left-step o _ ok = inv.lines_left
+
+  loans-step : (o : Owner) (x : Command) → refusal H o x ≡ None → loans_after x (loans H) ≤ last_number
+  loans-step o (CheckOut p c b) ok =
+      let room : loans H < last_number = leb-false _ _ (passed (checks H o (CheckOut p c b)) ok).1.1.1.1.1.1.1.1.1.1.1.1.1.1.0 in omega (arith, room)
+  loans-step o _ ok = inv.loans_left
+
+  holds-step : (o : Owner) (x : Command) → refusal H o x ≡ None → holds_after x (holds H) ≤ last_number
+  holds-step o (PlaceHold p t b) ok =
+      let room : holds H < last_number = leb-false _ _ (passed (checks H o (PlaceHold p t b)) ok).1.1.1.1.1.1.0 in omega (arith, room)
+  holds-step o _ ok = inv.holds_left
+
+  caps-step : (o : Owner) (x : Command) → refusal H o x ≡ None → (l : ℕ) (r : LoanFacts) → loan_after H x l (loan_of H l) ≡ Some r → r.terms.cap ≤ 100000
+  caps-step o (CheckOut p c b) ok l r e = go (next_loan H == l) e
+    where
+      small : (unwrap_or (terms_for H p c) no_terms).cap ≤ 100000
+      small =
+          let t = checked_out-terms H o p c b ok in
+          rw t.1 (rule-of_terms H settings p c t.0 t.1).1
+
+      go : (x : Bool) → cond x (Some (record { copy = c; patron = p; branch = b; made = today H; terms = unwrap_or (terms_for H p c) no_terms })) (loan_of H l) ≡ Some r → r.terms.cap ≤ 100000
+      go true f =
+          let same : ◌≡◌ {A = LoanFacts} (record { copy = c; patron = p; branch = b; made = today H; terms = unwrap_or (terms_for H p c) no_terms }) r = cc in
+          subst (λ q. q ≤ 100000) (ap (λ q. q.terms.cap) same) small
+      go false f = inv.caps l r f
+  caps-step o _ ok l r e = inv.caps l r e
+
+pub legal-MoneyLaws : (H : History) → IsLegal H → MoneyLaws H
+legal-MoneyLaws [] legal = record {
+  caps = λ l r e. let never : ⊥ = cc in absurd never;
+  charged = omega arith;
+  lines_left = omega arith;
+  loans_left = omega arith;
+  holds_left = omega arith;
+}
+legal-MoneyLaws (e ∷ H) legal =
+    let inv : MoneyLaws H = legal-MoneyLaws H legal.1 in
+    let settings : SettingLaws H = legal-SettingLaws H legal.1 in
+    let ok = legal.0.unrefused in
+    record {
+      caps = caps-step H inv settings e.owner e.command ok;
+      charged = charged-step H inv settings e.command;
+      lines_left = left-step H inv settings e.owner e.command ok;
+      loans_left = loans-step H inv settings e.owner e.command ok;
+      holds_left = holds-step H inv settings e.owner e.command ok;
+    }
+
+-- ---- what is owed
+
+some-charged : (p : ℕ) (xs : List Line) → charges (filter (λ x. x.patron == p) xs) ≤ charges xs
+some-charged p [] = omega arith
+some-charged p (x ∷ xs) = go (x.patron == p) (some-charged p xs)
+  where
+    go : (b : Bool) → charges (filter (λ y. y.patron == p) xs) ≤ charges xs → charges (cond b (x ∷ filter (λ y. y.patron == p) xs) (filter (λ y. y.patron == p) xs)) ≤ charges (x ∷ xs)
+    go true le = omega (arith, le, sum_by-cons (λ y. charge y.sort y.amount) x xs, sum_by-cons (λ y. charge y.sort y.amount) x (filter (λ y. y.patron == p) xs))
+    go false le = omega (arith, le, sum_by-cons (λ y. charge y.sort y.amount) x xs)
+
+-- Nobody owes more than 1,000,000 cents for each line that there is.
+pub owed-bound : (H : History) (p : ℕ) → MoneyLaws H → owed H p ≤ 1000000 * length (lines H)
+owed-bound H p inv = omega (arith, inv.charged, some-charged p (lines H))

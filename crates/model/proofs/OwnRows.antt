@@ -1,0 +1,37 @@
+-- A page tells of nothing but the patron's own rows.
+use Rattle.std.proofs.Common.{◌≡◌, ℕ, ◌==◌, Bool, true, false, ◌||◌, List, [], ◌∷◌, ◌++◌, map, refl, ap, ◌∙◌}
+use Rattle.std.specs.List.{list_any, join_with_byte}
+use Rattle.std.proofs.lemmas.Bool.{eq-eqb}
+use Rattle.model.specs.History.{History}
+use Rattle.model.specs.Loans.{open_loans}
+use Rattle.model.specs.Refusals.{active_holds}
+use Rattle.model.specs.Pages.{patron_line, loan_line, hold_line, page}
+use Rattle.model.specs.Laws.{AgreesOn}
+use Rattle.model.proofs.Members.{or-right}
+
+self : (x : ℕ) (b : Bool) → ((x == x) || b) ≡ true
+self x b = ap (λ y. y || b) (eq-eqb x x refl)
+
+-- Two functions that agree on the members of a list make one list of it.
+map-same : {A : Type 0} (f g : ℕ → A) (xs : List ℕ) → ((x : ℕ) → list_any (λ k. k == x) xs ≡ true → f x ≡ g x) → map f xs ≡ map g xs
+map-same f g [] same = refl
+map-same f g (x ∷ xs) same =
+    ap (λ y. y ∷ map f xs) (same x (self x (list_any (λ k. k == x) xs)))
+    ∙ ap (λ ys. g x ∷ ys) (map-same f g xs (λ y has. same y (or-right (x == y) _ has)))
+
+module _ (H K : History) (p : ℕ) (agree : AgreesOn H K p) where
+  loan-same : (l : ℕ) → list_any (λ k. k == l) (open_loans H p) ≡ true → loan_line H l ≡ loan_line K l
+  loan-same l has = rw (agree.dues l has, agree.renewals l has, agree.lent_texts l has, agree.lent_titles l has) refl
+
+  hold-same : (h : ℕ) → list_any (λ k. k == h) (active_holds H p) ≡ true → hold_line H h ≡ hold_line K h
+  hold-same h has = rw (agree.held_texts h has, agree.held h has, agree.states h has) refl
+
+  -- The page is the same.
+  pub page-same : page H p ≡ page K p
+  page-same =
+      let patron : patron_line H p ≡ patron_line K p = rw (agree.patron, agree.debt) refl in
+      let loans : map (loan_line H) (open_loans H p) ≡ map (loan_line K) (open_loans K p) = map-same (loan_line H) (loan_line K) (open_loans H p) loan-same ∙ ap (map (loan_line K)) agree.loans in
+      let holds : map (hold_line H) (active_holds H p) ≡ map (hold_line K) (active_holds K p) = map-same (hold_line H) (hold_line K) (active_holds H p) hold-same ∙ ap (map (hold_line K)) agree.holds in
+      ap (λ x. join_with_byte 10 (x ∷ map (loan_line H) (open_loans H p) ++ map (hold_line H) (active_holds H p))) patron
+      ∙ ap (λ xs. join_with_byte 10 (patron_line K p ∷ xs ++ map (hold_line H) (active_holds H p))) loans
+      ∙ ap (λ xs. join_with_byte 10 (patron_line K p ∷ map (loan_line K) (open_loans K p) ++ xs)) holds

@@ -1,0 +1,108 @@
+-- Accounts: fines, prices, payments and waivers, and what is owed. Money is in cents.
+use Rattle.std.specs.Prelude.{ℕ, zero, suc, ◌+◌, ◌-◌, ◌==◌, List, [], ◌∷◌, ◌++◌, filter, sum_by, length, Option, Some, None, option_map, unwrap_or}
+use Rattle.terms.specs.declared.command.Command.{Command}
+use Rattle.terms.specs.declared.command.Command.TheVariants.{CheckIn, Missing, Pay, Waive}
+use Rattle.terms.specs.declared.row.Sort.{Sort}
+use Rattle.terms.specs.declared.row.Sort.TheVariants.{Fine, Price, Payment, Waiver}
+use Rattle.terms.specs.Money.{fine_for}
+use Rattle.model.specs.Calendar.{late}
+use Rattle.model.specs.History.{History, today, is_open, copy_of}
+use Rattle.model.specs.Places.{Place, place}
+use Rattle.model.specs.Places.Place.{Loan}
+use Rattle.model.specs.Loans.{loan_of, due}
+
+-- One line of an account. Its number is its place among the lines of all patrons.
+pub record Line : Type 0 where
+  pub patron : ℕ
+  pub day : ℕ
+  pub sort : Sort
+  pub amount : ℕ
+  pub loan : Option ℕ
+
+-- The fine of a loan that ends now: for the open days of the lending branch after the due day, by the loan's own terms.
+-- Their grace would stand here.
+abbrev pub fine_now : History → ℕ → ℕ
+fine_now H l = unwrap_or (option_map (λ r. fine_for (late (is_open H r.branch) (due H l) (today H)) r.terms.rate r.terms.cap) (loan_of H l)) 0
+
+-- The fine of a copy that leaves this place: that of its loan, if it was on one.
+abbrev pub fine_at : History → Place → ℕ
+fine_at H (Loan l) = fine_now H l
+fine_at H _ = 0
+
+-- The price of a copy.
+abbrev pub price_of : History → ℕ → ℕ
+price_of H c = unwrap_or (option_map (λ r. r.price) (copy_of H c)) 0
+
+-- One line of today, or none for an amount of zero.
+abbrev pub line_of : History → ℕ → Sort → Option ℕ → ℕ → List Line
+line_of H p sort loan zero = []
+line_of H p sort loan (suc n) = record { patron = p; day = today H; sort = sort; amount = suc n; loan = loan } ∷ []
+
+-- The patron of a loan.
+abbrev pub borrower : History → ℕ → ℕ
+borrower H l = unwrap_or (option_map (λ r. r.patron) (loan_of H l)) 0
+
+-- The fine line of a copy that leaves this place.
+abbrev pub fine_line : History → Place → List Line
+fine_line H (Loan l) = line_of H (borrower H l) Fine (Some l) (fine_now H l)
+fine_line H _ = []
+
+-- The price line of a copy that is lost from this place.
+abbrev pub price_line : History → ℕ → Place → List Line
+price_line H c (Loan l) = line_of H (borrower H l) Price (Some l) (price_of H c)
+price_line H c _ = []
+
+-- The lines that a command makes.
+abbrev pub lines_by : History → Command → List Line
+lines_by H (CheckIn c b) = fine_line H (place H c)
+lines_by H (Missing c) = fine_line H (place H c) ++ price_line H c (place H c)
+lines_by H (Pay p n) = line_of H p Payment None n
+lines_by H (Waive p n) = line_of H p Waiver None n
+lines_by H _ = []
+
+-- A command adds its lines at the end.
+abbrev pub lines_after : History → Command → List Line → List Line
+lines_after H (CheckIn c b) before = before ++ lines_by H (CheckIn c b)
+lines_after H (Missing c) before = before ++ lines_by H (Missing c)
+lines_after H (Pay p n) before = before ++ lines_by H (Pay p n)
+lines_after H (Waive p n) before = before ++ lines_by H (Waive p n)
+lines_after H _ before = before
+
+-- All lines of all patrons, the oldest first.
+abbrev pub lines : History → List Line
+lines [] = []
+lines (e ∷ H) = lines_after H e.command (lines H)
+
+-- The number of the next line.
+abbrev pub next_line : History → ℕ
+next_line H = length (lines H) + 1
+
+-- The account of a patron: the patron's lines, in order.
+abbrev pub account : History → ℕ → List Line
+account H p = filter (λ x. x.patron == p) (lines H)
+
+-- What a line adds to the charges.
+abbrev pub charge : Sort → ℕ → ℕ
+charge Fine n = n
+charge Price n = n
+charge Payment n = 0
+charge Waiver n = 0
+
+-- What a line takes off the charges.
+abbrev pub credit : Sort → ℕ → ℕ
+credit Fine n = 0
+credit Price n = 0
+credit Payment n = n
+credit Waiver n = n
+
+-- Fines and prices.
+abbrev pub charges : List Line → ℕ
+charges xs = sum_by (λ x. charge x.sort x.amount) xs
+
+-- Payments and waivers.
+abbrev pub credits : List Line → ℕ
+credits xs = sum_by (λ x. credit x.sort x.amount) xs
+
+-- What a patron owes.
+abbrev pub owed : History → ℕ → ℕ
+owed H p = charges (account H p) - credits (account H p)

@@ -1,0 +1,69 @@
+-- What the due days and shelf limits of a legal history are.
+use Rattle.std.specs.Prelude.{◌≡◌, ℕ, ◌+◌, ◌==◌, Bool, true, false, [], ◌∷◌, length, Some, None, is_some, option_map, unwrap_or}
+use Rattle.terms.specs.declared.command.Command.{Command}
+use Rattle.terms.specs.declared.command.Command.TheVariants.{Week, CheckOut, CheckIn, Renew, Unshelve, UnshelveCancelled}
+use Rattle.terms.specs.declared.command.Owner.{Owner}
+use Rattle.terms.specs.declared.row.HoldState.TheVariants.{Ready}
+use Rattle.model.specs.Calendar.{IsLeast}
+use Rattle.model.specs.History.{History, today, is_open, next_loan, branch_of}
+use Rattle.model.specs.Places.{state, route, kept_for, is_kept_for, unshelved_to, goal_of, limit, limit_now}
+use Rattle.model.specs.Loans.{LoanFacts, loan_of, due, first_due}
+use Rattle.model.specs.Refusals.{refusal}
+use Rattle.model.specs.Requests.{IsLegal}
+
+-- A week command tells of each of the seven weekdays.
+abbrev pub IsWholeWeek : Command → Type 0
+IsWholeWeek (Week branch closed) = length closed ≡ 7
+IsWholeWeek _ = Unit {0}
+
+-- Each week command of the history tells of each of the seven weekdays, as those that can be sent do.
+abbrev pub HasWholeWeeks : History → Type 0
+HasWholeWeeks [] = Unit {0}
+HasWholeWeeks (e ∷ H) = IsWholeWeek e.command × HasWholeWeeks H
+
+-- A check-out sets the due day of the loan that it makes, and a renewal that of its loan.
+abbrev pub sets_due : History → Command → ℕ → Bool
+sets_due H (CheckOut p c b) l = next_loan H == l
+sets_due H (Renew n) l = n == l
+sets_due H _ l = false
+
+-- The end of the period that a command gives a loan: counted from today at check-out, and from the old due day at a renewal.
+abbrev pub period_end : History → Command → ℕ → LoanFacts → ℕ
+period_end H (Renew n) l r = due H l + r.terms.period
+period_end H _ l r = today H + r.terms.period
+
+-- The day was the least open day of the lending branch from the end of the period, by the calendar when the due day was last set.
+abbrev pub IsDue : History → ℕ → LoanFacts → ℕ → Type 0
+IsDue [] l r d = ⊥
+IsDue (e ∷ H) l r d = elim (sets_due H e.command l) [ true ↦ IsLeast (is_open H r.branch) (period_end H e.command l r) d | false ↦ IsDue H l r d ]
+
+-- The due day of every loan is the least open day from the end of its period, by the calendar when it was last set.
+abbrev pub DueDays : Type 0
+DueDays = (H : History) (l : ℕ) (r : LoanFacts) → IsLegal H → HasWholeWeeks H → loan_of H l ≡ Some r → IsDue H l r (due H l)
+
+-- Whether a command brings a copy to the hold shelf for h.
+abbrev pub comes_to_shelf : History → Command → ℕ → Bool
+comes_to_shelf H (CheckIn c b) h = is_kept_for (route H c b) h
+comes_to_shelf H (Unshelve g) h = is_kept_for (unshelved_to H g (kept_for H g)) h
+comes_to_shelf H (UnshelveCancelled g) h = is_kept_for (unshelved_to H g (kept_for H g)) h
+comes_to_shelf H _ h = false
+
+-- The day was the least open day of the pick-up branch from the end of the pick-up period, by the calendar when a copy last came to the hold shelf for h.
+abbrev pub IsLimit : History → ℕ → ℕ → Type 0
+IsLimit [] h d = ⊥
+IsLimit (e ∷ H) h d = elim (comes_to_shelf H e.command h) [
+  | true ↦ IsLeast (is_open H (goal_of H h)) (today H + unwrap_or (option_map (λ r. r.pickup) (branch_of H (goal_of H h))) 0) d
+  | false ↦ IsLimit H h d
+]
+
+-- Every ready hold has a shelf limit, the least open day from the end of the pick-up period, by the calendar when the hold became ready.
+abbrev pub ShelfLimits : Type 0
+ShelfLimits = (H : History) (h : ℕ) → IsLegal H → HasWholeWeeks H → state H h ≡ Some Ready → (d : ℕ) × (limit H h ≡ Some d) × IsLimit H h d
+
+-- A check-out that isn't refused has a due day.
+abbrev pub DueDaysExist : Type 0
+DueDaysExist = (H : History) (o : Owner) (p c b : ℕ) → IsLegal H → HasWholeWeeks H → refusal H o (CheckOut p c b) ≡ None → is_some (first_due H p c b) ≡ true
+
+-- A hold that becomes ready has a shelf limit.
+abbrev pub LimitsExist : Type 0
+LimitsExist = (H : History) (h : ℕ) → IsLegal H → HasWholeWeeks H → is_some (limit_now H h) ≡ true

@@ -1,0 +1,73 @@
+-- What holds of every legal history.
+use Rattle.std.specs.Prelude.{◌≡◌, ℕ, ◌*◌, ◌≤◌, ◌<◌, ◌==◌, Bool, true, false, List, [], ◌∷◌, length, replicate, Option, Some, None}
+use Rattle.std.specs.List.{list_any, IsDistinct}
+use Rattle.terms.specs.declared.row.HoldState.{HoldState}
+use Rattle.model.specs.Calendar.{first_day}
+use Rattle.model.specs.Checks.{last_today, last_number, max_singles}
+use Rattle.model.specs.History.{History, today, week_of, singles_of, BranchFacts, branch_of, Terms, rule_of, patron_of, HoldFacts, hold_of, holds, CopyFacts, copy_of, copies, loans}
+use Rattle.model.specs.Places.{Place, Nowhere, Shelf, HoldShelf, Transit, Loan, place, state, goal_of, home_of, title_of_hold, title_of_copy}
+use Rattle.model.specs.Loans.{LoanFacts, loan_of, ended, renewals}
+use Rattle.model.specs.Accounts.{lines, account, charges, credits, owed}
+use Rattle.terms.specs.declared.row.HoldState.TheVariants.{Waiting, Ready}
+
+-- A copy in this place stands on the hold shelf for h or travels for it.
+abbrev pub Serves : Place → ℕ → Type 0
+Serves (HoldShelf g) h = g ≡ h
+Serves (Transit b (Some g)) h = g ≡ h
+Serves _ h = ⊥
+
+-- A hold that a copy in this place serves is ready, or it waits and the copy goes to its branch.
+abbrev pub Fits : (ℕ → ℕ) → Place → ℕ → Option HoldState → Type 0
+Fits goal (HoldShelf g) h s = s ≡ Some Ready
+Fits goal (Transit b (Some g)) h s = (s ≡ Some Waiting) × (goal h ≡ b)
+Fits goal _ h s = Unit {0}
+
+-- The bindings of copies and holds: one copy at most serves a hold, the hold is as that needs, and each ready hold has its copy.
+pub record Bound (goal : ℕ → ℕ) (places : ℕ → Place) (states : ℕ → Option HoldState) : Type 0 where
+  pub once : (c d h : ℕ) → Serves (places c) h → Serves (places d) h → c ≡ d
+  pub fits : (c h : ℕ) → Serves (places c) h → Fits goal (places c) h (states h)
+  pub kept : (h : ℕ) → states h ≡ Some Ready → (c : ℕ) × (places c ≡ HoldShelf h)
+
+-- What every legal history keeps.
+pub record Invariant (H : History) : Type 0 where
+  -- Today lies in the calendar, and not at its very end.
+  pub today_from : first_day ≤ today H
+  pub today_to : today H ≤ last_today
+  -- A branch that isn't there has no closed days; no branch has a single day twice, or too many.
+  pub unset : (b : ℕ) → branch_of H b ≡ None → (week_of H b ≡ replicate 7 false) × (singles_of H b ≡ [])
+  pub singles_once : (b : ℕ) → IsDistinct ◌==◌ (singles_of H b)
+  pub few_singles : (b : ℕ) → length (singles_of H b) ≤ max_singles
+  -- Periods, caps and prices are within their limits.
+  pub pickups : (b : ℕ) (r : BranchFacts) → branch_of H b ≡ Some r → r.pickup ≤ 60
+  pub terms : (k c : ℕ) (t : Terms) → rule_of H k c ≡ Some t → (t.period ≤ 365) × (t.cap ≤ 100000)
+  pub loan_caps : (l : ℕ) (r : LoanFacts) → loan_of H l ≡ Some r → r.terms.cap ≤ 100000
+  pub prices : (c : ℕ) (r : CopyFacts) → copy_of H c ≡ Some r → r.price ≤ 1000000
+  -- Borrowers are enrolled, and nobody has lines who isn't.
+  pub borrowers : (l : ℕ) (r : LoanFacts) → loan_of H l ≡ Some r → patron_of H r.patron ≡ None → ⊥
+  pub strangers : (p : ℕ) → patron_of H p ≡ None → account H p ≡ []
+  -- A debt is what the charges leave, and no more than 1,000,000 cents for each line.
+  pub covered : (p : ℕ) → credits (account H p) ≤ charges (account H p)
+  pub debts : (p : ℕ) → owed H p ≤ 1000000 * length (lines H)
+  -- A copy on loan is that of an open loan, and the copy of an open loan is on it.
+  pub on_loan : (c l : ℕ) → place H c ≡ Loan l → (r : LoanFacts) × (loan_of H l ≡ Some r) × (r.copy ≡ c) × (ended H l ≡ None)
+  pub open_loan : (l : ℕ) (r : LoanFacts) → loan_of H l ≡ Some r → ended H l ≡ None → place H r.copy ≡ Loan l
+  -- Numbers are given in order, and not past their end.
+  pub made_loan : (l : ℕ) (r : LoanFacts) → loan_of H l ≡ Some r → (1 ≤ l) × (l ≤ loans H)
+  pub loan_numbered : (l : ℕ) → 1 ≤ l → l ≤ loans H → (r : LoanFacts) × (loan_of H l ≡ Some r)
+  pub fresh_loan : (l : ℕ) → loans H < l → (renewals H l ≡ 0) × (ended H l ≡ None)
+  pub made_hold : (h : ℕ) (r : HoldFacts) → hold_of H h ≡ Some r → (1 ≤ h) × (h ≤ holds H)
+  pub hold_numbered : (h : ℕ) → 1 ≤ h → h ≤ holds H → (r : HoldFacts) × (hold_of H h ≡ Some r)
+  pub loans_left : loans H ≤ last_number
+  pub holds_left : holds H ≤ last_number
+  pub lines_left : length (lines H) ≤ last_number
+  -- A hold has a state exactly if it was placed.
+  pub placed : (h : ℕ) (s : HoldState) → state H h ≡ Some s → (r : HoldFacts) × (hold_of H h ≡ Some r)
+  pub stated : (h : ℕ) (r : HoldFacts) → hold_of H h ≡ Some r → (s : HoldState) × (state H h ≡ Some s)
+  -- A copy has a place exactly if it was acquired.
+  pub acquired : (c : ℕ) (r : CopyFacts) → copy_of H c ≡ Some r → (place H c ≡ Nowhere → ⊥) × (list_any (λ x. c == x) (copies H) ≡ true)
+  pub unknown : (c : ℕ) → copy_of H c ≡ None → place H c ≡ Nowhere
+  -- A copy on the shelf is at home.
+  pub at_home : (c b : ℕ) → place H c ≡ Shelf b → home_of H c ≡ b
+  -- The bindings of copies and holds, and that they are of one title.
+  pub bound : Bound (goal_of H) (place H) (state H)
+  pub of_title : (c h : ℕ) → Serves (place H c) h → title_of_hold H h ≡ title_of_copy H c

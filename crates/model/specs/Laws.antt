@@ -1,0 +1,105 @@
+-- Laws of all legal histories.
+use Rattle.std.specs.Prelude.{◌≡◌, ◌≢◌, ℕ, ◌+◌, ◌==◌, ◌↔◌, Bool, true, false, List, ◌∷◌, Option, Some, is_some}
+use Rattle.std.specs.List.{list_any}
+use Rattle.terms.specs.declared.command.Command.TheVariants.{CancelHold}
+use Rattle.terms.specs.declared.command.Request.{Request}
+use Rattle.terms.specs.declared.row.HoldState.{HoldState}
+use Rattle.terms.specs.declared.row.HoldState.TheVariants.{Waiting, Ready, Filled, Cancelled, Expired}
+use Rattle.model.specs.Checks.{is_within}
+use Rattle.model.specs.History.{Event, History, patron_of, title_of, holds, hold_of}
+use Rattle.model.specs.Places.{Place, HoldShelf, Transit, Loan, MissingCopy, WithdrawnCopy, place, state, line, goal_of, title_of_hold}
+use Rattle.model.specs.Picture.{picture}
+use Rattle.model.specs.Claims.{Claims, AtMostOne}
+use Rattle.model.specs.Loans.{due, renewals_left, open_loans, title_of_loan}
+use Rattle.model.specs.Accounts.{account, charges, credits, owed}
+use Rattle.model.specs.Refusals.{active_holds}
+use Rattle.model.specs.Pages.{page}
+use Rattle.model.specs.Invariant.{Invariant}
+use Rattle.terms.specs.Texts.{request_text}
+use Rattle.model.specs.Requests.{IsLegal, owner_of, is_allowed, is_page, adds, after_one, reply_to, after}
+
+-- The history after any requests is legal.
+abbrev pub StaysLegal : Type 0
+StaysLegal = (H : History) (rs : List Request) → IsLegal H → IsLegal (after H rs)
+
+-- Charges are payments and waivers plus what is owed, for every patron.
+abbrev pub Balance : Type 0
+Balance = (H : History) (p : ℕ) → IsLegal H → charges (account H p) ≡ credits (account H p) + owed H p
+
+-- A hold is ready exactly if a copy stands on its hold shelf, and then only one does; one copy at most travels for it, to its branch.
+pub record IsBinding (H : History) (h : ℕ) : Type 0 where
+  pub ready : (state H h ≡ Some Ready) ↔ ((c : ℕ) × (place H c ≡ HoldShelf h))
+  pub one_copy : (c d : ℕ) → place H c ≡ HoldShelf h → place H d ≡ HoldShelf h → c ≡ d
+  pub travels : (c b : ℕ) → place H c ≡ Transit b (Some h) → (goal_of H h ≡ b) × (state H h ≡ Some Waiting)
+  pub one_travels : (c d a b : ℕ) → place H c ≡ Transit a (Some h) → place H d ≡ Transit b (Some h) → c ≡ d
+
+-- Every hold is bound to its copy.
+abbrev pub Bindings : Type 0
+Bindings = (H : History) (h : ℕ) → IsLegal H → IsBinding H h
+
+-- The tables make at most one claim on a copy: that of its place. On the shelf there is none, and in every other place there is one.
+pub record IsPlaced (H : History) (c : ℕ) : Type 0 where
+  pub one : AtMostOne (picture H) c
+  pub named : (q : Place) → Claims (picture H) c q → place H c ≡ q
+  pub on_loan : (l : ℕ) → place H c ≡ Loan l → Claims (picture H) c (Loan l)
+  pub on_hold_shelf : (h : ℕ) → place H c ≡ HoldShelf h → Claims (picture H) c (HoldShelf h)
+  pub in_transit : (g : ℕ) (h : Option ℕ) → place H c ≡ Transit g h → Claims (picture H) c (Transit g h)
+  pub missing : place H c ≡ MissingCopy → Claims (picture H) c MissingCopy
+  pub withdrawn : place H c ≡ WithdrawnCopy → Claims (picture H) c WithdrawnCopy
+
+-- The tables show every copy in its one place.
+abbrev pub Places : Type 0
+Places = (H : History) (c : ℕ) → IsLegal H → IsPlaced H c
+
+-- The holds that have a row, and so one state, are those of the numbers given.
+abbrev pub HoldRows : Type 0
+HoldRows = (H : History) (h : ℕ) → IsLegal H → is_some ((picture H).holds h) ≡ is_within 1 (holds H) h
+
+-- A filled, cancelled or expired hold is in a final state.
+abbrev pub is_final : HoldState → Bool
+is_final Filled = true
+is_final Cancelled = true
+is_final Expired = true
+is_final _ = false
+
+-- A hold in a final state stays in it, whatever is asked of the desk.
+abbrev pub FinalStates : Type 0
+FinalStates = (H : History) (rs : List Request) (h : ℕ) (s : HoldState) → IsLegal H → is_final s ≡ true → state H h ≡ Some s → state (after H rs) h ≡ Some s
+
+-- The hold stands in the line of the title.
+abbrev pub stands_in_line : History → ℕ → ℕ → Bool
+stands_in_line H t h = list_any (λ g. g == h) (line H t)
+
+-- A hold that an accepted command takes out of a line, otherwise than by cancelling it, was the first of that line before.
+abbrev pub FirstInLineIsServed : Type 0
+FirstInLineIsServed = (e : Event) (H : History) (t h : ℕ) → IsLegal (e ∷ H) → e.command ≢ CancelHold h
+    → stands_in_line H t h ≡ true → stands_in_line (e ∷ H) t h ≡ false → (hs : List ℕ) × (line H t ≡ h ∷ hs)
+
+-- A request that repeats an accepted one, with the same key of the same owner and the same text, adds nothing and gets the first one's reply.
+abbrev pub RepeatsActOnce : Type 0
+RepeatsActOnce = (H : History) (first again : Request) (between : List Request) → adds H first ≡ true
+    → owner_of again.caller ≡ owner_of first.caller → again.key ≡ first.key → request_text again.command ≡ request_text first.command
+    → is_page again.command ≡ false → is_allowed (after H (first ∷ between)) again.caller again.command ≡ true
+    → (after_one (after H (first ∷ between)) again ≡ after H (first ∷ between)) × (reply_to (after H (first ∷ between)) again ≡ reply_to H first)
+
+-- Two histories agree on a patron: on the patron's own row, the open loans, the active holds, and the copies and titles of these.
+pub record AgreesOn (H K : History) (p : ℕ) : Type 0 where
+  pub patron : patron_of H p ≡ patron_of K p
+  pub debt : owed H p ≡ owed K p
+  pub loans : open_loans H p ≡ open_loans K p
+  pub dues : (l : ℕ) → list_any (λ k. k == l) (open_loans H p) ≡ true → due H l ≡ due K l
+  pub renewals : (l : ℕ) → list_any (λ k. k == l) (open_loans H p) ≡ true → renewals_left H l ≡ renewals_left K l
+  pub lent_titles : (l : ℕ) → list_any (λ k. k == l) (open_loans H p) ≡ true → title_of_loan H l ≡ title_of_loan K l
+  pub lent_texts : (l : ℕ) → list_any (λ k. k == l) (open_loans H p) ≡ true → title_of H (title_of_loan H l) ≡ title_of K (title_of_loan K l)
+  pub holds : active_holds H p ≡ active_holds K p
+  pub held : (h : ℕ) → list_any (λ k. k == h) (active_holds H p) ≡ true → hold_of H h ≡ hold_of K h
+  pub states : (h : ℕ) → list_any (λ k. k == h) (active_holds H p) ≡ true → state H h ≡ state K h
+  pub held_texts : (h : ℕ) → list_any (λ k. k == h) (active_holds H p) ≡ true → title_of H (title_of_hold H h) ≡ title_of K (title_of_hold K h)
+
+-- Two histories that agree on a patron give the patron the same page.
+abbrev pub OwnRows : Type 0
+OwnRows = (H K : History) (p : ℕ) → AgreesOn H K p → page H p ≡ page K p
+
+-- Every legal history has the invariant.
+abbrev pub Invariants : Type 0
+Invariants = (H : History) → IsLegal H → Invariant H

@@ -1,0 +1,43 @@
+-- The page of a patron.
+use Rattle.std.specs.Prelude.{ℕ, if◌then◌else◌, List, [], ◌∷◌, ◌++◌, map, codes, decimal, option_map, unwrap_or}
+use Rattle.std.specs.List.{join_with_byte}
+use Rattle.calendar.specs.Days.{day_text}
+use Rattle.model.specs.History.{History, patron_of, title_of}
+use Rattle.model.specs.Places.{state, is_ready, goal_of, title_of_hold}
+use Rattle.model.specs.Loans.{due, renewals_left, open_loans, title_of_loan}
+use Rattle.model.specs.Accounts.{owed}
+use Rattle.model.specs.Refusals.{active_holds}
+
+-- Words joined by single spaces.
+abbrev pub spaced : List (List ℕ) → List ℕ
+spaced words = join_with_byte 32 words
+
+-- The name of a patron.
+abbrev pub name_of : History → ℕ → List ℕ
+name_of H p = unwrap_or (option_map (λ r. r.name) (patron_of H p)) []
+
+-- The text of a title.
+abbrev pub title_text : History → ℕ → List ℕ
+title_text H t = unwrap_or (title_of H t) []
+
+-- The number and text of a title, as they end a line of the page.
+abbrev pub title_words : History → ℕ → List (List ℕ)
+title_words H t = codes "title" ∷ decimal t ∷ title_text H t ∷ []
+
+-- The first line of the page: what the patron owes, and the name.
+abbrev pub patron_line : History → ℕ → List ℕ
+patron_line H p = spaced (codes "patron" ∷ decimal p ∷ codes "owed" ∷ decimal (owed H p) ∷ codes "name" ∷ name_of H p ∷ [])
+
+-- The line of an open loan.
+abbrev pub loan_line : History → ℕ → List ℕ
+loan_line H l =
+    spaced (codes "loan" ∷ decimal l ∷ codes "due" ∷ day_text (due H l) ∷ codes "renewals" ∷ decimal (renewals_left H l) ∷ title_words H (title_of_loan H l))
+
+-- The line of an active hold. A hold that is coming is shown as waiting.
+abbrev pub hold_line : History → ℕ → List ℕ
+hold_line H h =
+    spaced (codes "hold" ∷ decimal h ∷ codes "at" ∷ decimal (goal_of H h) ∷ (if is_ready (state H h) then codes "ready" else codes "waiting") ∷ title_words H (title_of_hold H h))
+
+-- The page: the patron's own line, then the open loans, then the active holds, parted by newlines.
+abbrev pub page : History → ℕ → List ℕ
+page H p = join_with_byte 10 (patron_line H p ∷ map (loan_line H) (open_loans H p) ++ map (hold_line H) (active_holds H p))

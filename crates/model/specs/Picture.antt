@@ -1,0 +1,196 @@
+-- The rows that the tables hold after a history.
+use Rattle.std.specs.Prelude.{ℕ, zero, suc, Bool, true, false, List, [], ◌∷◌, Option, Some, None, option_map, option_and_then}
+use Rattle.terms.specs.declared.command.Owner.{Owner}
+use Rattle.terms.specs.declared.row.MetaRow.{MetaRow}
+use Rattle.terms.specs.declared.row.BranchRow.{BranchRow}
+use Rattle.terms.specs.declared.row.KindRow.{KindRow}
+use Rattle.terms.specs.declared.row.RuleRow.{RuleRow}
+use Rattle.terms.specs.declared.row.PatronRow.{PatronRow}
+use Rattle.terms.specs.declared.row.TitleRow.{TitleRow}
+use Rattle.terms.specs.declared.row.CopyRow.{CopyRow}
+use Rattle.terms.specs.declared.row.Condition.{Condition}
+use Rattle.terms.specs.declared.row.Condition.TheVariants.{Present, Missing, Withdrawn}
+use Rattle.terms.specs.declared.row.LoanRow.{LoanRow}
+use Rattle.terms.specs.declared.row.HoldRow.{HoldRow}
+use Rattle.terms.specs.declared.row.HoldState.{HoldState}
+use Rattle.terms.specs.declared.row.TransitRow.{TransitRow}
+use Rattle.terms.specs.declared.row.LineRow.{LineRow}
+use Rattle.terms.specs.declared.row.KeptRow.{KeptRow}
+use Rattle.terms.specs.Texts.{reply_text}
+use Rattle.model.specs.Calendar.{is_single}
+use Rattle.model.specs.History.{History, today, week_of, singles_of, BranchFacts, branch_of, KindFacts, kind_of, Terms, rule_of, PatronFacts, patron_of, title_of, CopyFacts, copy_of, next_loan, next_hold, HoldFacts, hold_of}
+use Rattle.model.specs.Places.{Place, Transit, MissingCopy, WithdrawnCopy, place, state, is_ready, kept_for, limit}
+use Rattle.model.specs.Loans.{LoanFacts, loan_of, due, ended, renewals_left}
+use Rattle.model.specs.Accounts.{Line, lines, next_line, owed}
+use Rattle.model.specs.Requests.{Kept, kept_of}
+
+-- The tables: for each key, the row or none. A single closed day is there or not.
+pub record Picture : Type 0 where
+  pub meta : MetaRow
+  pub branches : ℕ → Option BranchRow
+  pub closed_days : ℕ → ℕ → Bool
+  pub kinds : ℕ → Option KindRow
+  pub rules : ℕ → ℕ → Option RuleRow
+  pub patrons : ℕ → Option PatronRow
+  pub titles : ℕ → Option TitleRow
+  pub copies : ℕ → Option CopyRow
+  pub loans : ℕ → Option LoanRow
+  pub holds : ℕ → Option HoldRow
+  pub transits : ℕ → Option TransitRow
+  pub lines : ℕ → Option LineRow
+  pub kept : Owner → List ℕ → Option KeptRow
+
+-- The newest schema.
+abbrev pub newest_schema : ℕ
+newest_schema = 1
+
+-- The condition of a copy in this place.
+abbrev pub condition_at : Place → Condition
+condition_at MissingCopy = Missing
+condition_at WithdrawnCopy = Withdrawn
+condition_at _ = Present
+
+-- The transit row of a copy in this place.
+abbrev pub transit_at : ℕ → Place → Option TransitRow
+transit_at c (Transit g h) = Some (record { copy = c; goal = g; hold = h })
+transit_at c _ = None
+
+-- The n-th of all lines, counted from 1.
+abbrev pub nth_line : List Line → ℕ → Option Line
+nth_line [] n = None
+nth_line (x ∷ xs) zero = None
+nth_line (x ∷ xs) (suc zero) = Some x
+nth_line (x ∷ xs) (suc (suc n)) = nth_line xs (suc n)
+
+-- A copy and a limit day stand in a ready hold's row alone.
+abbrev pub if_ready : {A : Type 0} → Option HoldState → Option A → Option A
+if_ready s x = elim (is_ready s) [ true ↦ x | false ↦ None ]
+
+module _ (H : History) where
+  -- The one row of `meta`: the schema, today and the next numbers.
+  abbrev pub meta_row : MetaRow
+  meta_row = record { schema = newest_schema; today = today H; next_loan = next_loan H; next_hold = next_hold H; next_line = next_line H }
+
+  -- The columns of a branch.
+  abbrev pub branch_columns : ℕ → BranchFacts → BranchRow
+  branch_columns b r = record { branch = b; pickup = r.pickup; week = week_of H b; name = r.name }
+
+  -- The row of a branch.
+  abbrev pub branch_row : ℕ → Option BranchRow
+  branch_row b = option_map (branch_columns b) (branch_of H b)
+
+  -- Whether a branch has a day closed singly.
+  abbrev pub closed_day : ℕ → ℕ → Bool
+  closed_day b d = is_single (singles_of H b) d
+
+  -- The columns of a patron kind.
+  abbrev pub kind_columns : ℕ → KindFacts → KindRow
+  kind_columns k r = record { kind = k; loans = r.loans; holds = r.holds; debt = r.debt }
+
+  -- The row of a patron kind.
+  abbrev pub kind_row : ℕ → Option KindRow
+  kind_row k = option_map (kind_columns k) (kind_of H k)
+
+  -- The columns of a rule. Its grace would stand here.
+  abbrev pub rule_columns : ℕ → ℕ → Terms → RuleRow
+  rule_columns k c r = record { kind = k; copy_kind = c; period = r.period; renewals = r.renewals; rate = r.rate; cap = r.cap }
+
+  -- The row of a rule.
+  abbrev pub rule_row : ℕ → ℕ → Option RuleRow
+  rule_row k c = option_map (rule_columns k c) (rule_of H k c)
+
+  -- The columns of a patron, with what is owed.
+  abbrev pub patron_columns : ℕ → PatronFacts → PatronRow
+  patron_columns p r = record { patron = p; kind = r.kind; card_key = r.card_key; name = r.name; owed = owed H p }
+
+  -- The row of a patron.
+  abbrev pub patron_row : ℕ → Option PatronRow
+  patron_row p = option_map (patron_columns p) (patron_of H p)
+
+  -- The row of a title.
+  abbrev pub title_row : ℕ → Option TitleRow
+  title_row t = option_map (λ x. record { title = t; text = x }) (title_of H t)
+
+  -- The columns of a copy.
+  abbrev pub copy_columns : ℕ → CopyFacts → CopyRow
+  copy_columns c r = record { copy = c; title = r.title; kind = r.kind; home = r.home; price = r.price; condition = condition_at (place H c) }
+
+  -- The row of a copy.
+  abbrev pub copy_row : ℕ → Option CopyRow
+  copy_row c = option_map (copy_columns c) (copy_of H c)
+
+  -- The columns of a loan. The grace of its terms would stand here.
+  abbrev pub loan_columns : ℕ → LoanFacts → LoanRow
+  loan_columns l r =
+      record {
+        loan = l;
+        copy = r.copy;
+        patron = r.patron;
+        branch = r.branch;
+        made = r.made;
+        due = due H l;
+        period = r.terms.period;
+        renewals_left = renewals_left H l;
+        rate = r.terms.rate;
+        cap = r.terms.cap;
+        ended = ended H l;
+      }
+
+  -- The row of a loan.
+  abbrev pub loan_row : ℕ → Option LoanRow
+  loan_row l = option_map (loan_columns l) (loan_of H l)
+
+  -- The columns of a hold. Its first day would stand here.
+  abbrev pub hold_columns : ℕ → HoldState → HoldFacts → HoldRow
+  hold_columns h s r =
+      record {
+        hold = h;
+        patron = r.patron;
+        title = r.title;
+        branch = r.branch;
+        state = s;
+        copy = if_ready (Some s) (kept_for H h);
+        limit_day = if_ready (Some s) (limit H h);
+      }
+
+  -- The row of a hold.
+  abbrev pub hold_row : ℕ → Option HoldRow
+  hold_row h = option_and_then (λ s. option_map (hold_columns h s) (hold_of H h)) (state H h)
+
+  -- The transit row of a copy.
+  abbrev pub transit_row : ℕ → Option TransitRow
+  transit_row c = transit_at c (place H c)
+
+  -- The columns of a line.
+  abbrev pub line_columns : ℕ → Line → LineRow
+  line_columns n x = record { line = n; patron = x.patron; day = x.day; sort = x.sort; amount = x.amount; loan = x.loan }
+
+  -- The row of a line.
+  abbrev pub line_row : ℕ → Option LineRow
+  line_row n = option_map (line_columns n) (nth_line (lines H) n)
+
+  -- The columns of a kept request.
+  abbrev pub kept_columns : Owner → List ℕ → Kept → KeptRow
+  kept_columns o k x = record { caller = o; key = k; text = x.text; reply = reply_text x.reply }
+
+  -- The row of a kept request.
+  abbrev pub kept_row : Owner → List ℕ → Option KeptRow
+  kept_row o k = option_map (kept_columns o k) (kept_of H o k)
+
+  -- What the tables hold.
+  abbrev pub picture : Picture
+  picture = record {
+    meta = meta_row;
+    branches = branch_row;
+    closed_days = closed_day;
+    kinds = kind_row;
+    rules = rule_row;
+    patrons = patron_row;
+    titles = title_row;
+    copies = copy_row;
+    loans = loan_row;
+    holds = hold_row;
+    transits = transit_row;
+    lines = line_row;
+    kept = kept_row;
+  }

@@ -1,0 +1,208 @@
+-- Which check of a command fails first.
+use Rattle.std.specs.Prelude.{ℕ, ◌+◌, ◌==◌, nat_le, nat_lt, Bool, true, false, ◌&&◌, ◌||◌, not, List, [], ◌∷◌, filter, length, Option, is_some, is_none, option_map, unwrap_or, bytes_eq}
+use Rattle.std.specs.List.{list_any, list_all}
+use Rattle.terms.specs.declared.command.Owner.{Owner}
+use Rattle.terms.specs.declared.command.Owner.TheVariants.{Desk, Patron as Reader}
+use Rattle.terms.specs.declared.command.Command.{Command}
+use Rattle.terms.specs.declared.command.Command.TheVariants.{BeginDay, Branch, Week, CloseDay, OpenDay, Kind, Rule, Patron, Acquire, CheckOut, CheckIn, Renew, PlaceHold, CancelHold, Unshelve, UnshelveCancelled, Missing, Withdraw, Pay, Waive, Page}
+use Rattle.terms.specs.declared.refusal.Refusal.{Refusal}
+use Rattle.terms.specs.declared.refusal.Refusal.TheVariants.{UnknownBranch, UnknownPatron, UnknownTitle, UnknownCopy, UnknownLoan, UnknownHold, NoRule, UnknownKind, OtherContent, OutOfLimits, AllWeekdaysClosed, BadDay, AlreadyClosed, NotClosed, Elsewhere, OnLoan, InTransit, OnHoldShelf, CopyMissing, CopyWithdrawn, HoldWaits, TooManyLoans, OwesTooMuch, PastCalendar, LoanEnded, Overdue, NoRenewalsLeft, AlreadyHolds, TooManyHolds, HasOnLoan, WrongHoldState, LimitNotPassed, BadAmount, NumbersUsedUp}
+use Rattle.model.specs.Calendar.{is_single}
+use Rattle.model.specs.Checks.{Check, first_failing, last_today, last_number, max_singles, is_within_limits}
+use Rattle.model.specs.History.{History, numbers_to, today, singles_of, branch_of, KindFacts, kind_of, patron_of, title_of, copy_of, loans, holds, hold_of}
+use Rattle.model.specs.Places.{Place, Shelf, HoldShelf, Transit, Loan, MissingCopy, WithdrawnCopy, place, state, line, fills, limit, title_of_copy, title_of_hold, patron_of_hold, goal_of, is_waiting, is_ready}
+use Rattle.model.specs.Loans.{loan_of, due, ended, terms_for, renewed_due, renewals_left, open_loans, has_on_loan, title_of_loan}
+use Rattle.model.specs.Accounts.{owed, lines, lines_by, borrower}
+
+-- ---- tests on a history
+
+module _ (H : History) where
+  -- There is such a branch.
+  abbrev pub has_branch : ℕ → Bool
+  has_branch b = is_some (branch_of H b)
+
+  -- There is such a patron.
+  abbrev pub has_patron : ℕ → Bool
+  has_patron p = is_some (patron_of H p)
+
+  -- There is such a copy.
+  abbrev pub has_copy : ℕ → Bool
+  has_copy c = is_some (copy_of H c)
+
+  -- The kind of a patron as it is now.
+  abbrev pub kind_now : ℕ → KindFacts
+  kind_now p = unwrap_or (kind_of H (unwrap_or (option_map (λ r. r.kind) (patron_of H p)) 0)) (record { loans = 0; holds = 0; debt = 0 })
+
+  -- The patron owes more than the kind may at check-out.
+  abbrev pub owes_too_much : ℕ → Bool
+  owes_too_much p = nat_lt (kind_now p).debt (owed H p)
+
+  -- The patron has as many open loans as the kind may.
+  abbrev pub has_all_loans : ℕ → Bool
+  has_all_loans p = nat_le (kind_now p).loans (length (open_loans H p))
+
+  -- A waiting or ready hold is active.
+  abbrev pub is_active : ℕ → Bool
+  is_active h = is_waiting (state H h) || is_ready (state H h)
+
+  -- The active holds of a patron, by number.
+  abbrev pub active_holds : ℕ → List ℕ
+  active_holds p = filter (λ h. (patron_of_hold H h == p) && is_active h) (numbers_to (holds H))
+
+  -- The patron has as many active holds as the kind may.
+  abbrev pub has_all_holds : ℕ → Bool
+  has_all_holds p = nat_le (kind_now p).holds (length (active_holds p))
+
+  -- The patron has an active hold of the title.
+  abbrev pub has_hold_on : ℕ → ℕ → Bool
+  has_hold_on p t = list_any (λ h. title_of_hold H h == t) (active_holds p)
+
+  -- The patron has an active hold of the copy's title that this check-out doesn't fill.
+  abbrev pub has_other_hold : ℕ → ℕ → Bool
+  has_other_hold p c = list_any (λ h. (title_of_hold H h == title_of_copy H c) && not (fills H p c h)) (active_holds p)
+
+  -- Fewer than n line numbers are left.
+  abbrev pub lacks_lines : ℕ → Bool
+  lacks_lines n = nat_lt last_number (length (lines H) + n)
+
+  -- The branch is there with another pick-up period or name.
+  abbrev pub differs_branch : ℕ → ℕ → List ℕ → Bool
+  differs_branch b pickup name = unwrap_or (option_map (λ r. not ((r.pickup == pickup) && bytes_eq r.name name)) (branch_of H b)) false
+
+  -- The patron is there with another kind, card key or name.
+  abbrev pub differs_patron : ℕ → ℕ → List ℕ → List ℕ → Bool
+  differs_patron p k card_key name =
+      unwrap_or (option_map (λ r. not ((r.kind == k) && (bytes_eq r.card_key card_key && bytes_eq r.name name))) (patron_of H p)) false
+
+  -- The title is there with another text.
+  abbrev pub differs_title : ℕ → List ℕ → Bool
+  differs_title t text = unwrap_or (option_map (λ x. not (bytes_eq x text)) (title_of H t)) false
+
+  -- The copy is there with another title, kind, home or price.
+  abbrev pub differs_copy : ℕ → ℕ → ℕ → ℕ → ℕ → Bool
+  differs_copy c t k home price =
+      unwrap_or (option_map (λ r. not ((r.title == t) && ((r.kind == k) && ((r.home == home) && (r.price == price))))) (copy_of H c)) false
+
+  -- To a patron another's loan or hold is as if it didn't exist.
+  abbrev pub is_own : Owner → ℕ → Bool
+  is_own Desk p = true
+  is_own (Reader q) p = q == p
+
+  -- There is such a loan, and the owner may know of it.
+  abbrev pub has_loan : Owner → ℕ → Bool
+  has_loan o l = is_some (loan_of H l) && is_own o (borrower H l)
+
+  -- There is such a hold, and the owner may know of it.
+  abbrev pub has_hold : Owner → ℕ → Bool
+  has_hold o h = is_some (hold_of H h) && is_own o (patron_of_hold H h)
+
+  -- The amount is zero, or above what the patron owes.
+  abbrev pub is_bad_amount : ℕ → ℕ → Bool
+  is_bad_amount p n = (n == 0) || nat_lt (owed H p) n
+
+-- ---- tests on a place
+
+-- The copy is withdrawn.
+abbrev pub is_withdrawn : Place → Bool
+is_withdrawn WithdrawnCopy = true
+is_withdrawn _ = false
+
+-- The copy is missing.
+abbrev pub is_missing : Place → Bool
+is_missing MissingCopy = true
+is_missing _ = false
+
+-- The copy is on loan.
+abbrev pub is_on_loan : Place → Bool
+is_on_loan (Loan l) = true
+is_on_loan _ = false
+
+-- The copy is in transit.
+abbrev pub is_in_transit : Place → Bool
+is_in_transit (Transit b h) = true
+is_in_transit _ = false
+
+-- The copy is on a hold shelf.
+abbrev pub is_on_hold_shelf : Place → Bool
+is_on_hold_shelf (HoldShelf h) = true
+is_on_hold_shelf _ = false
+
+-- The copy is on a shelf or hold shelf of a branch other than b.
+abbrev pub is_elsewhere : History → ℕ → Place → Bool
+is_elsewhere H b (Shelf n) = not (n == b)
+is_elsewhere H b (HoldShelf h) = not (goal_of H h == b)
+is_elsewhere H b _ = false
+
+-- The copy is on the hold shelf for another patron's hold.
+abbrev pub is_kept_for_other : History → ℕ → Place → Bool
+is_kept_for_other H p (HoldShelf h) = not (patron_of_hold H h == p)
+is_kept_for_other H p _ = false
+
+-- The first hold in line is another patron's.
+abbrev pub is_first_other : History → ℕ → List ℕ → Bool
+is_first_other H p [] = false
+is_first_other H p (h ∷ hs) = not (patron_of_hold H h == p)
+
+-- The copy is on the shelf while the first hold in line is another patron's.
+abbrev pub is_wanted_by_other : History → ℕ → ℕ → Place → Bool
+is_wanted_by_other H p c (Shelf b) = is_first_other H p (line H (title_of_copy H c))
+is_wanted_by_other H p c _ = false
+
+-- Nobody stands in line.
+abbrev pub is_empty : List ℕ → Bool
+is_empty [] = true
+is_empty (h ∷ hs) = false
+
+-- ---- the table of checks
+
+-- The checks of a command, in order: each with its refusal, and whether it fails.
+abbrev pub checks : History → Owner → Command → List Check
+checks H o (BeginDay d) = (BadDay, not (nat_lt (today H) d && nat_le d last_today)) ∷ []
+checks H o (Branch b pickup name) = (OutOfLimits, not (is_within_limits (Branch b pickup name))) ∷ (OtherContent, differs_branch H b pickup name) ∷ []
+checks H o (Week b closed) = (UnknownBranch, not (has_branch H b)) ∷ (AllWeekdaysClosed, list_all (λ x. x) closed) ∷ []
+checks H o (CloseDay b d) =
+    (UnknownBranch, not (has_branch H b)) ∷ (BadDay, nat_le d (today H)) ∷ (AlreadyClosed, is_single (singles_of H b) d)
+    ∷ (OutOfLimits, nat_le max_singles (length (singles_of H b))) ∷ []
+checks H o (OpenDay b d) =
+    (UnknownBranch, not (has_branch H b)) ∷ (BadDay, nat_le d (today H)) ∷ (NotClosed, not (is_single (singles_of H b) d)) ∷ []
+checks H o (Kind k loans holds debt) = (OutOfLimits, not (is_within_limits (Kind k loans holds debt))) ∷ []
+checks H o (Rule k c period renewals rate cap) =
+    (OutOfLimits, not (is_within_limits (Rule k c period renewals rate cap))) ∷ (UnknownKind, is_none (kind_of H k)) ∷ []
+checks H o (Patron p k card_key name) =
+    (OutOfLimits, not (is_within_limits (Patron p k card_key name))) ∷ (UnknownKind, is_none (kind_of H k)) ∷ (OtherContent, differs_patron H p k card_key name) ∷ []
+checks H o (Acquire c t k home price text) =
+    (OutOfLimits, not (is_within_limits (Acquire c t k home price text))) ∷ (UnknownBranch, not (has_branch H home))
+    ∷ (OtherContent, differs_title H t text || differs_copy H c t k home price) ∷ []
+checks H o (CheckOut p c b) =
+    (UnknownBranch, not (has_branch H b)) ∷ (UnknownPatron, not (has_patron H p)) ∷ (UnknownCopy, not (has_copy H c))
+    ∷ (CopyWithdrawn, is_withdrawn (place H c)) ∷ (CopyMissing, is_missing (place H c)) ∷ (OnLoan, is_on_loan (place H c)) ∷ (InTransit, is_in_transit (place H c))
+    ∷ (Elsewhere, is_elsewhere H b (place H c)) ∷ (OnHoldShelf, is_kept_for_other H p (place H c)) ∷ (HoldWaits, is_wanted_by_other H p c (place H c))
+    ∷ (AlreadyHolds, has_other_hold H p c) ∷ (NoRule, is_none (terms_for H p c)) ∷ (TooManyLoans, has_all_loans H p)
+    ∷ (OwesTooMuch, owes_too_much H p) ∷ (NumbersUsedUp, nat_le last_number (loans H)) ∷ []
+checks H o (CheckIn c b) =
+    (UnknownBranch, not (has_branch H b)) ∷ (UnknownCopy, not (has_copy H c)) ∷ (CopyWithdrawn, is_withdrawn (place H c)) ∷ (OnHoldShelf, is_on_hold_shelf (place H c))
+    ∷ (NumbersUsedUp, lacks_lines H (length (lines_by H (CheckIn c b)))) ∷ []
+checks H o (Renew l) =
+    (UnknownLoan, not (has_loan H o l)) ∷ (LoanEnded, is_some (ended H l)) ∷ (Overdue, nat_lt (due H l) (today H))
+    ∷ (HoldWaits, not (is_empty (line H (title_of_loan H l))))
+    ∷ (NoRenewalsLeft, renewals_left H l == 0) ∷ (OwesTooMuch, owes_too_much H (borrower H l)) ∷ (PastCalendar, is_none (renewed_due H l (due H l))) ∷ []
+checks H o (PlaceHold p t b) =
+    (UnknownPatron, not (has_patron H p)) ∷ (UnknownTitle, is_none (title_of H t)) ∷ (UnknownBranch, not (has_branch H b)) ∷ (AlreadyHolds, has_hold_on H p t)
+    ∷ (HasOnLoan, has_on_loan H p t) ∷ (TooManyHolds, has_all_holds H p) ∷ (NumbersUsedUp, nat_le last_number (holds H)) ∷ []
+checks H o (CancelHold h) = (UnknownHold, not (has_hold H o h)) ∷ (WrongHoldState, not (is_waiting (state H h))) ∷ []
+checks H o (Unshelve h) =
+    (UnknownHold, not (has_hold H o h)) ∷ (WrongHoldState, not (is_ready (state H h))) ∷ (LimitNotPassed, nat_le (today H) (unwrap_or (limit H h) 0)) ∷ []
+checks H o (UnshelveCancelled h) = (UnknownHold, not (has_hold H o h)) ∷ (WrongHoldState, not (is_ready (state H h))) ∷ []
+checks H o (Missing c) =
+    (UnknownCopy, not (has_copy H c)) ∷ (CopyWithdrawn, is_withdrawn (place H c)) ∷ (CopyMissing, is_missing (place H c))
+    ∷ (NumbersUsedUp, lacks_lines H (length (lines_by H (Missing c)))) ∷ []
+checks H o (Withdraw c) =
+    (UnknownCopy, not (has_copy H c)) ∷ (CopyWithdrawn, is_withdrawn (place H c)) ∷ (OnLoan, is_on_loan (place H c)) ∷ (InTransit, is_in_transit (place H c))
+    ∷ (OnHoldShelf, is_on_hold_shelf (place H c)) ∷ []
+checks H o (Pay p n) = (UnknownPatron, not (has_patron H p)) ∷ (BadAmount, is_bad_amount H p n) ∷ (NumbersUsedUp, lacks_lines H 1) ∷ []
+checks H o (Waive p n) = (UnknownPatron, not (has_patron H p)) ∷ (BadAmount, is_bad_amount H p n) ∷ (NumbersUsedUp, lacks_lines H 1) ∷ []
+checks H o (Page p) = (UnknownPatron, not (has_patron H p)) ∷ []
+
+-- The refusal of a command, if there is one: that of the first check that fails.
+abbrev pub refusal : History → Owner → Command → Option Refusal
+refusal H o c = first_failing (checks H o c)

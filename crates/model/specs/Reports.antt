@@ -1,0 +1,97 @@
+-- The three reports, as bytes.
+use Rattle.std.specs.Prelude.{ℕ, ◌-◌, ◌==◌, nat_lt, Bool, true, false, ◌&&◌, List, [], ◌∷◌, ◌++◌, map, filter, flat_map, length, replicate, codes, decimal, sum_by, option_map, unwrap_or}
+use Rattle.calendar.specs.Days.{day_text}
+use Rattle.terms.specs.declared.row.Sort.{Sort}
+use Rattle.terms.specs.declared.row.Sort.TheVariants.{Fine, Price, Payment, Waiver}
+use Rattle.model.specs.Calendar.{late}
+use Rattle.model.specs.History.{History, numbers_to, today, is_open, loans, holds}
+use Rattle.model.specs.Places.{state, is_ready, goal_of, kept_for, limit, title_of_hold, patron_of_hold}
+use Rattle.model.specs.Loans.{loan_of, due, is_open_loan, title_of_loan}
+use Rattle.model.specs.Accounts.{lines, borrower}
+use Rattle.model.specs.Pages.{spaced, title_text}
+
+-- The text at the right end of n places.
+abbrev pub right_in : ℕ → List ℕ → List ℕ
+right_in n text = replicate (n - length text) 32 ++ text
+
+-- The text at the left end of n places.
+abbrev pub left_in : ℕ → List ℕ → List ℕ
+left_in n text = text ++ replicate (n - length text) 32
+
+-- Each line ends with a newline.
+abbrev pub report_lines : List (List ℕ) → List ℕ
+report_lines rows = flat_map (λ row. row ++ 10 ∷ []) rows
+
+-- ---- overdue
+
+-- The branch that lent.
+abbrev pub lending_branch : History → ℕ → ℕ
+lending_branch H l = unwrap_or (option_map (λ r. r.branch) (loan_of H l)) 0
+
+-- The copy of a loan.
+abbrev pub lent_copy : History → ℕ → ℕ
+lent_copy H l = unwrap_or (option_map (λ r. r.copy) (loan_of H l)) 0
+
+-- The open loans lent at the branch that are due before today, by number.
+abbrev pub overdue_loans : History → ℕ → List ℕ
+overdue_loans H b = filter (λ l. is_open_loan H l && ((lending_branch H l == b) && nat_lt (due H l) (today H))) (numbers_to (loans H))
+
+-- The columns of the overdue report.
+abbrev pub overdue_row : List ℕ → List ℕ → List ℕ → List ℕ → List ℕ → List ℕ → List ℕ
+overdue_row loan patron copy due late title = spaced (right_in 10 loan ∷ right_in 7 patron ∷ right_in 7 copy ∷ left_in 10 due ∷ right_in 5 late ∷ title ∷ [])
+
+-- The row of a loan, with the open days that it is late by now.
+abbrev pub overdue_line : History → ℕ → ℕ → List ℕ
+overdue_line H b l = overdue_row (decimal l) (decimal (borrower H l)) (decimal (lent_copy H l)) (day_text (due H l))
+    (decimal (late (is_open H b) (due H l) (today H))) (title_text H (title_of_loan H l))
+
+-- The overdue report of a branch: its header, a row for each overdue loan, and how many there are.
+abbrev pub overdue : History → ℕ → List ℕ
+overdue H b = report_lines
+    (overdue_row (codes "loan") (codes "patron") (codes "copy") (codes "due") (codes "late") (codes "title")
+    ∷ map (overdue_line H b) (overdue_loans H b) ++ spaced (codes "overdue" ∷ decimal (length (overdue_loans H b)) ∷ []) ∷ [])
+
+-- ---- till
+
+-- The two sorts are one.
+abbrev pub is_sort : Sort → Sort → Bool
+is_sort Fine Fine = true
+is_sort Price Price = true
+is_sort Payment Payment = true
+is_sort Waiver Waiver = true
+is_sort _ _ = false
+
+-- The sum of a day's lines of one sort.
+abbrev pub till_sum : History → ℕ → Sort → ℕ
+till_sum H d s = sum_by (λ x. x.amount) (filter (λ x. (x.day == d) && is_sort x.sort s) (lines H))
+
+-- The name of a sort, and its sum.
+abbrev pub till_line : List ℕ → ℕ → List ℕ
+till_line name n = left_in 9 name ++ right_in 15 (decimal n)
+
+-- The till report of a day: the day, and the sums of its fines, prices, payments and waivers.
+abbrev pub till : History → ℕ → List ℕ
+till H d = report_lines
+    (spaced (codes "till" ∷ day_text d ∷ []) ∷ till_line (codes "fines") (till_sum H d Fine) ∷ till_line (codes "prices") (till_sum H d Price)
+    ∷ till_line (codes "payments") (till_sum H d Payment) ∷ till_line (codes "waivers") (till_sum H d Waiver) ∷ [])
+
+-- ---- shelf
+
+-- The ready holds that are to be picked up at the branch, by number.
+abbrev pub ready_holds : History → ℕ → List ℕ
+ready_holds H b = filter (λ h. is_ready (state H h) && (goal_of H h == b)) (numbers_to (holds H))
+
+-- The columns of the shelf report.
+abbrev pub shelf_row : List ℕ → List ℕ → List ℕ → List ℕ → List ℕ → List ℕ
+shelf_row hold copy patron until title = spaced (right_in 10 hold ∷ right_in 7 copy ∷ right_in 7 patron ∷ left_in 10 until ∷ title ∷ [])
+
+-- The row of a hold, with the copy that stands there for it and the shelf limit.
+abbrev pub shelf_line : History → ℕ → List ℕ
+shelf_line H h = shelf_row (decimal h) (decimal (unwrap_or (kept_for H h) 0)) (decimal (patron_of_hold H h))
+    (day_text (unwrap_or (limit H h) 0)) (title_text H (title_of_hold H h))
+
+-- The shelf report of a branch: its header, a row for each ready hold, and how many there are.
+abbrev pub shelf : History → ℕ → List ℕ
+shelf H b = report_lines
+    (shelf_row (codes "hold") (codes "copy") (codes "patron") (codes "until") (codes "title")
+    ∷ map (shelf_line H) (ready_holds H b) ++ spaced (codes "ready" ∷ decimal (length (ready_holds H b)) ∷ []) ∷ [])

@@ -1,0 +1,128 @@
+-- Requests one after another: callers, keys, and what each adds to the history.
+use Rattle.std.specs.Prelude.{◌≡◌, ℕ, ◌==◌, Bool, true, false, ◌&&◌, not, IsTrue, IsFalse, List, [], ◌∷◌, Option, Some, None, is_some, is_none, option_map, unwrap_or, bytes_eq}
+use Rattle.terms.specs.declared.command.Owner.{Owner}
+use Rattle.terms.specs.declared.command.Owner.TheVariants.{Desk, Patron as Reader}
+use Rattle.terms.specs.declared.command.Caller.{Caller}
+use Rattle.terms.specs.declared.command.Caller.TheVariants.{Desk as FromDesk, Patron as FromPatron}
+use Rattle.terms.specs.declared.command.Request.{Request}
+use Rattle.terms.specs.declared.command.Command.{Command}
+use Rattle.terms.specs.declared.command.Command.TheVariants.{Renew, PlaceHold, CancelHold, Page}
+use Rattle.terms.specs.declared.refusal.Refusal.TheVariants.{KeyUsed, NotAllowed}
+use Rattle.terms.specs.declared.reply.Reply.{Reply}
+use Rattle.terms.specs.declared.reply.Reply.TheVariants.{Refused}
+use Rattle.terms.specs.Texts.{request_text}
+use Rattle.model.specs.History.{Event, History, patron_of}
+use Rattle.model.specs.Refusals.{refusal}
+use Rattle.model.specs.Answers.{accepted, answer}
+
+-- ---- callers
+
+-- Whose keys a caller's requests have.
+abbrev pub owner_of : Caller → Owner
+owner_of FromDesk = Desk
+owner_of (FromPatron p card_key) = Reader p
+
+-- The desk is known, and so is a patron who shows the card key of an enrolled patron's number.
+abbrev pub is_known : History → Caller → Bool
+is_known H FromDesk = true
+is_known H (FromPatron p card_key) = unwrap_or (option_map (λ r. bytes_eq r.card_key card_key) (patron_of H p)) false
+
+-- A patron may send place-hold and page for the own number, and renew and cancel-hold.
+abbrev pub patron_may : ℕ → Command → Bool
+patron_may p (PlaceHold q title branch) = q == p
+patron_may p (Page q) = q == p
+patron_may p (Renew loan) = true
+patron_may p (CancelHold hold) = true
+patron_may p _ = false
+
+-- The desk may send every command.
+abbrev pub may_send : Owner → Command → Bool
+may_send Desk c = true
+may_send (Reader p) c = patron_may p c
+
+-- The caller is known and may send the command.
+abbrev pub is_allowed : History → Caller → Command → Bool
+is_allowed H caller c = is_known H caller && may_send (owner_of caller) c
+
+-- ---- keys
+
+-- A page changes nothing.
+abbrev pub is_page : Command → Bool
+is_page (Page p) = true
+is_page _ = false
+
+-- The two owners are one.
+abbrev pub same_owner : Owner → Owner → Bool
+same_owner Desk Desk = true
+same_owner (Reader p) (Reader q) = p == q
+same_owner _ _ = false
+
+-- What is kept of an accepted request.
+pub record Kept : Type 0 where
+  pub text : List ℕ
+  pub reply : Reply
+
+-- The text and the reply that are kept for the owner's key.
+abbrev pub kept_of : History → Owner → List ℕ → Option Kept
+kept_of [] o k = None
+kept_of (e ∷ H) o k =
+    elim (same_owner e.owner o && bytes_eq e.key k) [ true ↦ Some (record { text = request_text e.command; reply = accepted H e.command }) | false ↦ kept_of H o k ]
+
+-- ---- one request
+
+-- A kept key gives the kept reply to the same text and refuses another text; a new key leads to the answer.
+abbrev pub reply_by_key : History → Request → Option Kept → Reply
+reply_by_key H r (Some kept) = elim (bytes_eq kept.text (request_text r.command)) [ true ↦ kept.reply | false ↦ Refused KeyUsed ]
+reply_by_key H r None = answer H (owner_of r.caller) r.command
+
+-- The reply to a request: the caller is checked, then the key, then the command. A page looks at no key.
+abbrev pub reply_to : History → Request → Reply
+reply_to H r = elim (is_allowed H r.caller r.command) [
+  | false ↦ Refused NotAllowed
+  | true ↦ elim (is_page r.command) [ true ↦ answer H (owner_of r.caller) r.command | false ↦ reply_by_key H r (kept_of H (owner_of r.caller) r.key) ]
+]
+
+-- A request adds an event if its caller is allowed it, it changes something, its key is new and it isn't refused.
+abbrev pub adds : History → Request → Bool
+adds H r = elim (is_allowed H r.caller r.command && (not (is_page r.command) && is_none (kept_of H (owner_of r.caller) r.key)))
+    [ true ↦ is_none (refusal H (owner_of r.caller) r.command) | false ↦ false ]
+
+-- The event that an accepted request adds.
+abbrev pub event_of : Request → Event
+event_of r = record { owner = owner_of r.caller; key = r.key; command = r.command }
+
+-- The history after one request.
+abbrev pub after_one : History → Request → History
+after_one H r = elim (adds H r) [ true ↦ event_of r ∷ H | false ↦ H ]
+
+-- ---- many requests
+
+-- The history after the requests, one at a time.
+abbrev pub after : History → List Request → History
+after H [] = H
+after H (r ∷ rs) = after (after_one H r) rs
+
+-- The replies to the requests, one at a time.
+abbrev pub replies : History → List Request → List Reply
+replies H [] = []
+replies H (r ∷ rs) = reply_to H r ∷ replies (after_one H r) rs
+
+-- ---- legal histories
+
+-- The owner is the desk or a patron of the history.
+abbrev pub is_enrolled : History → Owner → Bool
+is_enrolled H Desk = true
+is_enrolled H (Reader p) = is_some (patron_of H p)
+
+-- The event was accepted after the list before it.
+pub record IsAccepted (e : Event) (H : History) : Type 0 where
+  pub changes : IsFalse (is_page e.command)
+  pub enrolled : IsTrue (is_enrolled H e.owner)
+  pub allowed : IsTrue (may_send e.owner e.command)
+  pub unrefused : refusal H e.owner e.command ≡ None
+  pub fresh : kept_of H e.owner e.key ≡ None
+
+-- Each event of a legal history was accepted after the list before it.
+abbrev pub IsLegal : History → Type 0
+IsLegal [] = Unit {0}
+IsLegal (e ∷ H) = IsAccepted e H × IsLegal H

@@ -1,0 +1,145 @@
+//! Laws of texts: a law is the contract of a function that does nothing.
+
+ghost use Rattle.terms.specs.Laws.{IsCommand, RequestTextsDiffer};
+
+use crate::command::Command;
+
+/// Two commands with one request text are one command.
+pub fn request_texts_differ()
+    ensures { RequestTextsDiffer }
+{}
+
+/// Each number, day, mask and text of a command has its form.
+pub fn command_has_forms(command: &Command)
+    ensures { IsCommand command.now }
+{
+    match command {
+        Command::BeginDay { day } => {
+            let _day = day.number();
+        }
+        Command::Branch {
+            branch,
+            pickup,
+            name,
+        } => {
+            let _branch = branch.number();
+            let _pickup = pickup.number();
+            let _name = name.as_str();
+        }
+        Command::Week { branch, week } => {
+            let _branch = branch.number();
+            let _week = week.closed();
+        }
+        Command::CloseDay { branch, day } => {
+            let _branch = branch.number();
+            let _day = day.number();
+        }
+        Command::OpenDay { branch, day } => {
+            let _branch = branch.number();
+            let _day = day.number();
+        }
+        Command::Kind {
+            kind,
+            loans,
+            holds,
+            debt,
+        } => {
+            let _kind = kind.number();
+            let _loans = loans.number();
+            let _holds = holds.number();
+            let _debt = debt.number();
+        }
+        Command::Rule {
+            kind,
+            copy_kind,
+            period,
+            renewals,
+            rate,
+            cap,
+        } => {
+            let _kind = kind.number();
+            let _copy_kind = copy_kind.number();
+            let _period = period.number();
+            let _renewals = renewals.number();
+            let _rate = rate.number();
+            let _cap = cap.number();
+        }
+        Command::Patron {
+            patron,
+            kind,
+            card_key,
+            name,
+        } => {
+            let _patron = patron.number();
+            let _kind = kind.number();
+            let _card_key = card_key.as_str();
+            let _name = name.as_str();
+        }
+        Command::Acquire {
+            copy,
+            title,
+            kind,
+            home,
+            price,
+            text,
+        } => {
+            let _copy = copy.number();
+            let _title = title.number();
+            let _kind = kind.number();
+            let _home = home.number();
+            let _price = price.number();
+            let _text = text.as_str();
+        }
+        Command::CheckOut {
+            patron,
+            copy,
+            branch,
+        } => {
+            let _patron = patron.number();
+            let _copy = copy.number();
+            let _branch = branch.number();
+        }
+        Command::CheckIn { copy, branch } => {
+            let _copy = copy.number();
+            let _branch = branch.number();
+        }
+        Command::Renew { loan } => {
+            let _loan = loan.number();
+        }
+        Command::PlaceHold {
+            patron,
+            title,
+            branch,
+        } => {
+            let _patron = patron.number();
+            let _title = title.number();
+            let _branch = branch.number();
+        }
+        Command::CancelHold { hold } => {
+            let _hold = hold.number();
+        }
+        Command::Unshelve { hold } => {
+            let _hold = hold.number();
+        }
+        Command::UnshelveCancelled { hold } => {
+            let _hold = hold.number();
+        }
+        Command::Missing { copy } => {
+            let _copy = copy.number();
+        }
+        Command::Withdraw { copy } => {
+            let _copy = copy.number();
+        }
+        Command::Pay { patron, amount } => {
+            let _patron = patron.number();
+            let _amount = amount.number();
+        }
+        Command::Waive { patron, amount } => {
+            let _patron = patron.number();
+            let _amount = amount.number();
+        }
+        Command::Page { patron } => {
+            let _patron = patron.number();
+        }
+    }
+}
