@@ -1,19 +1,19 @@
 -- Each number that was given has its loan or hold, and each hold that was placed has one state.
-use Rattle.std.proofs.Common.{◌≡◌, ℕ, ◌+◌, ◌≤◌, ◌<◌, ◌==◌, Bool, true, false, cond, ◌&&◌, List, [], ◌∷◌, refl, sym, ap, ◌∙◌, arith, le-leb}
+use Rattle.std.proofs.Common.{◌≡◌, ℕ, ◌≤◌, ◌==◌, Bool, true, false, cond, ◌&&◌, [], ◌∷◌, refl, sym, ap, ◌∙◌, arith, le-leb}
 use Rattle.std.specs.Prelude.{Option, Some, None, option_map, option_and_then, unwrap_or, is_some, nat_le}
-use Rattle.std.proofs.lemmas.Bool.{eqb-true, leb-true, and_parts}
+use Rattle.std.proofs.lemmas.Bool.{leb-true, and_parts}
 use Rattle.terms.specs.declared.command.Command.{Command}
 use Rattle.terms.specs.declared.command.Command.TheVariants.{CheckOut, CheckIn, PlaceHold, CancelHold, Unshelve, UnshelveCancelled, Missing}
 use Rattle.terms.specs.declared.row.HoldState.{HoldState}
 use Rattle.terms.specs.declared.row.HoldState.TheVariants.{Waiting, Ready, Filled, Cancelled, Expired}
 use Rattle.model.specs.Checks.{is_within}
 use Rattle.model.specs.History.{History, today, loans, loans_after, next_loan, HoldFacts, hold_of, hold_after, holds, holds_after, next_hold}
-use Rattle.model.specs.Places.{Place, place, state, state_after, state_at, state_unshelved, route, route_by, kept_for_by, is_kept_for, goal_of, fills_by}
+use Rattle.model.specs.Places.{place, state, state_after, state_at, state_unshelved, route, route_by, kept_for_by, is_kept_for, goal_of, fills_by}
 use Rattle.model.specs.Loans.{LoanFacts, loan_of, loan_after, terms_for, no_terms}
 use Rattle.model.specs.Picture.{hold_row, hold_columns}
 use Rattle.model.specs.Requests.{IsLegal}
 use Rattle.model.proofs.Moves.{false-ne}
-use Rattle.model.proofs.Bindings.{IsBound, left, not-false}
+use Rattle.model.proofs.Bindings.{left}
 use Rattle.model.proofs.Legal.{legal-bound}
 use Rattle.model.proofs.LoanLaws.{legal-LoanLaws}
 

@@ -27,3 +27,4 @@ pub mod LimitLaws
 pub mod OwnRows
 pub mod MoneyLaws
 pub mod HoldRows
+pub mod CalendarsMeet

@@ -1,6 +1,6 @@
 -- In every legal history: fines, prices and debts are bounded, and numbers aren't past their end.
-use Rattle.std.proofs.Common.{◌≡◌, ℕ, zero, suc, ◌+◌, ◌*◌, ◌≤◌, ◌<◌, ◌==◌, Bool, true, false, cond, List, [], ◌∷◌, ◌++◌, length, length-append, refl, sym, ap, ◌∙◌, subst, arith}
-use Rattle.std.specs.Prelude.{Option, Some, None, option_map, option_and_then, unwrap_or, filter, nat_lt, nat_le, sum_by, min}
+use Rattle.std.proofs.Common.{◌≡◌, ℕ, zero, suc, ◌+◌, ◌*◌, ◌≤◌, ◌<◌, ◌==◌, Bool, true, false, cond, List, [], ◌∷◌, ◌++◌, length, length-append, refl, ap, subst, arith}
+use Rattle.std.specs.Prelude.{Option, Some, None, option_map, unwrap_or, filter, min}
 use Rattle.std.proofs.lemmas.List.Sums.{sum_by-append, sum_by-cons}
 use Rattle.std.proofs.lemmas.Bool.{ltb-false, leb-false}
 use Rattle.terms.specs.Money.{fine_for}
@@ -11,10 +11,10 @@ use Rattle.terms.specs.declared.row.Sort.{Sort}
 use Rattle.terms.specs.declared.row.Sort.TheVariants.{Fine, Price, Payment, Waiver}
 use Rattle.model.specs.Calendar.{late}
 use Rattle.model.specs.Checks.{last_number}
-use Rattle.model.specs.History.{Event, History, today, is_open, loans, loans_after, next_loan, holds, holds_after, CopyFacts, copy_of}
+use Rattle.model.specs.History.{History, today, is_open, loans, loans_after, next_loan, holds, holds_after, CopyFacts, copy_of}
 use Rattle.model.specs.Places.{Place, Loan, place}
 use Rattle.model.specs.Loans.{LoanFacts, loan_of, loan_after, due, terms_for, no_terms}
-use Rattle.model.specs.Accounts.{Line, fine_now, price_of, borrower, line_of, fine_line, price_line, lines_by, lines_after, lines, account, charge, charges, owed}
+use Rattle.model.specs.Accounts.{Line, fine_now, price_of, borrower, line_of, fine_line, price_line, lines_by, lines_after, lines, charge, charges, owed}
 use Rattle.model.specs.Refusals.{refusal, checks}
 use Rattle.model.specs.Requests.{IsLegal}
 use Rattle.model.proofs.Passing.{passed}

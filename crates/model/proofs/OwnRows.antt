@@ -1,5 +1,5 @@
 -- A page tells of nothing but the patron's own rows.
-use Rattle.std.proofs.Common.{◌≡◌, ℕ, ◌==◌, Bool, true, false, ◌||◌, List, [], ◌∷◌, ◌++◌, map, refl, ap, ◌∙◌}
+use Rattle.std.proofs.Common.{◌≡◌, ℕ, ◌==◌, Bool, true, ◌||◌, List, [], ◌∷◌, ◌++◌, map, refl, ap, ◌∙◌}
 use Rattle.std.specs.List.{list_any, join_with_byte}
 use Rattle.std.proofs.lemmas.Bool.{eq-eqb}
 use Rattle.model.specs.History.{History}

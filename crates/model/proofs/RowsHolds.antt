@@ -1,5 +1,5 @@
 -- Worked examples of holds: lines, transits, hold shelves and what becomes of their copies.
-use Rattle.std.specs.Prelude.{◌≡◌, List, [], ◌∷◌, map, refl, Some}
+use Rattle.std.specs.Prelude.{◌≡◌, [], ◌∷◌, map, refl, Some}
 use Rattle.std.specs.Fmt.{digits}
 use Rattle.terms.specs.declared.command.Command.TheVariants.{BeginDay, CheckOut, CheckIn, PlaceHold, CancelHold, Unshelve, UnshelveCancelled, Missing, Withdraw}
 use Rattle.terms.specs.Texts.{reply_text, reply_words, routed_words}

@@ -8,6 +8,7 @@ use Rattle.terms.specs.declared.command.Request.{Request}
 use Rattle.model.specs.History.{History, patron_of, PatronFacts}
 use Rattle.model.specs.Refusals.{refusal}
 use Rattle.model.proofs.Bindings.{both, not-true}
+use Rattle.model.specs.DueDays.{IsWholeWeek, HasWholeWeeks, AskWholeWeeks}
 use Rattle.model.specs.Requests.{IsLegal, IsAccepted, after, after_one, adds, event_of, owner_of, is_known, is_enrolled, is_allowed, is_page, kept_of, may_send}
 
 is_none-none : {A : Type 0} (o : Option A) → is_none o ≡ true → o ≡ None
@@ -52,3 +53,15 @@ after_one-legal H r legal = go (adds H r) refl
 pub after-legal : (rs : List Request) (H : History) → IsLegal H → IsLegal (after H rs)
 after-legal [] H legal = legal
 after-legal (r ∷ rs) H legal = after-legal rs (after_one H r) (after_one-legal H r legal)
+
+whole-one : (H : History) (r : Request) → HasWholeWeeks H → IsWholeWeek r.command → HasWholeWeeks (after_one H r)
+whole-one H r whole asks = go (adds H r)
+  where
+    go : (b : Bool) → HasWholeWeeks (elim b as (λ _. History) [ true ↦ event_of r ∷ H | false ↦ H ])
+    go true = (asks, whole)
+    go false = whole
+
+-- Requests whose weeks are whole keep those of the history so.
+pub after-whole : (rs : List Request) (H : History) → HasWholeWeeks H → AskWholeWeeks rs → HasWholeWeeks (after H rs)
+after-whole [] H whole asks = whole
+after-whole (r ∷ rs) H whole asks = after-whole rs (after_one H r) (whole-one H r whole asks.0) asks.1

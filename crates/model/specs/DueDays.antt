@@ -1,15 +1,16 @@
 -- What the due days and shelf limits of a legal history are.
-use Rattle.std.specs.Prelude.{◌≡◌, ℕ, ◌+◌, ◌==◌, Bool, true, false, [], ◌∷◌, length, Some, None, is_some, option_map, unwrap_or}
+use Rattle.std.specs.Prelude.{◌≡◌, List, ℕ, ◌+◌, ◌==◌, Bool, true, false, [], ◌∷◌, length, Some, None, is_some, option_map, unwrap_or}
 use Rattle.terms.specs.declared.command.Command.{Command}
 use Rattle.terms.specs.declared.command.Command.TheVariants.{Week, CheckOut, CheckIn, Renew, Unshelve, UnshelveCancelled}
 use Rattle.terms.specs.declared.command.Owner.{Owner}
+use Rattle.terms.specs.declared.command.Request.{Request}
 use Rattle.terms.specs.declared.row.HoldState.TheVariants.{Ready}
 use Rattle.model.specs.Calendar.{IsLeast}
 use Rattle.model.specs.History.{History, today, is_open, next_loan, branch_of}
 use Rattle.model.specs.Places.{state, route, kept_for, is_kept_for, unshelved_to, goal_of, limit, limit_now}
 use Rattle.model.specs.Loans.{LoanFacts, loan_of, due, first_due}
 use Rattle.model.specs.Refusals.{refusal}
-use Rattle.model.specs.Requests.{IsLegal}
+use Rattle.model.specs.Requests.{IsLegal, after}
 
 -- A week command tells of each of the seven weekdays.
 abbrev pub IsWholeWeek : Command → Type 0
@@ -20,6 +21,15 @@ IsWholeWeek _ = Unit {0}
 abbrev pub HasWholeWeeks : History → Type 0
 HasWholeWeeks [] = Unit {0}
 HasWholeWeeks (e ∷ H) = IsWholeWeek e.command × HasWholeWeeks H
+
+-- Each week command among the requests tells of each of the seven weekdays.
+abbrev pub AskWholeWeeks : List Request → Type 0
+AskWholeWeeks [] = Unit {0}
+AskWholeWeeks (r ∷ rs) = IsWholeWeek r.command × AskWholeWeeks rs
+
+-- Requests whose weeks are whole keep those of the history so.
+abbrev pub WholeWeeksStay : Type 0
+WholeWeeksStay = (H : History) (rs : List Request) → HasWholeWeeks H → AskWholeWeeks rs → HasWholeWeeks (after H rs)
 
 -- A check-out sets the due day of the loan that it makes, and a renewal that of its loan.
 abbrev pub sets_due : History → Command → ℕ → Bool

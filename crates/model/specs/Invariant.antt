@@ -1,5 +1,5 @@
 -- What holds of every legal history.
-use Rattle.std.specs.Prelude.{◌≡◌, ℕ, ◌*◌, ◌≤◌, ◌<◌, ◌==◌, Bool, true, false, List, [], ◌∷◌, length, replicate, Option, Some, None}
+use Rattle.std.specs.Prelude.{◌≡◌, ℕ, ◌*◌, ◌≤◌, ◌<◌, ◌==◌, true, false, [], length, replicate, Option, Some, None}
 use Rattle.std.specs.List.{list_any, IsDistinct}
 use Rattle.terms.specs.declared.row.HoldState.{HoldState}
 use Rattle.model.specs.Calendar.{first_day}

@@ -14,3 +14,4 @@ pub mod Claims
 pub mod Invariant
 pub mod DueDays
 pub mod Laws
+pub mod Calendars

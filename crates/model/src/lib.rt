@@ -4,7 +4,8 @@
 #![tactic(auto)]
 
 ghost use Rattle.model.specs.Laws.{StaysLegal, Places, Bindings, Balance, HoldRows, FinalStates, FirstInLineIsServed, RepeatsActOnce, OwnRows, Invariants};
-ghost use Rattle.model.specs.DueDays.{DueDays, DueDaysExist, ShelfLimits, LimitsExist};
+ghost use Rattle.model.specs.Calendars.{CalendarsAgree};
+ghost use Rattle.model.specs.DueDays.{WholeWeeksStay, DueDays, DueDaysExist, ShelfLimits, LimitsExist};
 
 /// Handling requests of any callers keeps a history legal.
 pub fn legal_law()
@@ -48,6 +49,11 @@ pub fn repeats_law()
     ensures { RepeatsActOnce }
 {}
 
+/// Requests whose week commands tell of seven weekdays leave a history whose week commands do.
+pub fn whole_weeks_law()
+    ensures { WholeWeeksStay }
+{}
+
 /// The due day of every loan was the least open day of the lending branch from the end of the loan's period when it was
 /// last set. Each week command of the history is to tell of seven weekdays, as those that can be sent do.
 pub fn due_days_law()
@@ -74,6 +80,11 @@ pub fn shelf_limits_exist_law()
 /// and on the copies and titles of these.
 pub fn own_rows_law()
     ensures { OwnRows }
+{}
+
+/// The open days, the least open day and the days late of these definitions are those of the crate of calendars.
+pub fn calendars_law()
+    ensures { CalendarsAgree }
 {}
 
 /// What holds of every legal history, in one record.
