@@ -227,6 +227,46 @@ def refusals_and_bad_words(path):
     check("no row is changed", whole(path), before)
 
 
+def refusals_of_other_rows(folder, path):
+    """Check-out heeds rows that no command makes yet: they are written past the desk."""
+    other = os.path.join(folder, "rows.db")
+    shutil.copy(path, other)
+    say(other, [
+        ("o1", ["acquire", "50", "500", "3", "1", "100", "Old Maps"], "ok"),
+        ("o2", ["check-out", "2", "50", "1"], "refused 16"),
+        ("o3", ["kind", "1", "2", "5", "500"], "ok"),
+        ("o4", ["acquire", "12", "101", "1", "1", "100", "Deep Water"], "ok"),
+        ("o5", ["check-out", "1", "12", "1"], "refused 37"),
+        ("o6", ["acquire", "13", "102", "1", "1", "100", "High Pastures"], "ok"),
+        ("o7", ["acquire", "14", "103", "1", "1", "100", "Last Light"], "ok"),
+        ("o8", ["acquire", "15", "103", "1", "1", "100", "Last Light"], "ok"),
+    ])
+    write(other,
+          "UPDATE copies SET condition = 2 WHERE copy = 20",
+          "UPDATE copies SET condition = 1 WHERE copy = 30",
+          "INSERT INTO transits VALUES (12, 2, NULL)",
+          "INSERT INTO holds VALUES (1, 3, 103, 1, 1, 14, 20519)",
+          "INSERT INTO holds VALUES (2, 3, 102, 1, 0, NULL, NULL)",
+          "INSERT INTO holds VALUES (3, 2, 103, 1, 0, NULL, NULL)",
+          "INSERT INTO holds VALUES (4, 2, 103, 1, 0, NULL, NULL)")
+    say(other, [
+        ("p1", ["check-out", "2", "20", "2"], "refused 35"),
+        ("p2", ["check-out", "2", "30", "1"], "refused 34"),
+        ("p3", ["check-out", "2", "12", "1"], "refused 32"),
+        ("p4", ["check-out", "2", "14", "1"], "refused 33"),
+        ("p5", ["check-out", "2", "13", "1"], "refused 36"),
+        ("p6", ["check-out", "2", "15", "1"], "refused 50"),
+        ("p7", ["check-out", "3", "14", "1"], "loan 3 due 2026-03-09"),
+        ("p8", ["check-out", "3", "13", "1"], "loan 4 due 2026-03-09"),
+    ])
+    check("filled holds", rows(other, "SELECT hold, state, copy, limit_day FROM holds WHERE patron = 3"),
+          [(1, 2, None, None), (2, 2, None, None)])
+    write(other, "DELETE FROM transits", "UPDATE patrons SET owed = 501", "UPDATE kinds SET loans = 5")
+    say(other, [("q1", ["check-out", "1", "12", "1"], "refused 38")])
+    write(other, "UPDATE patrons SET owed = 500", "UPDATE meta SET next_loan = 2147483648")
+    say(other, [("q2", ["check-out", "1", "12", "1"], "refused 70")])
+
+
 def bad_words(folder):
     """Words out of form are told before the file is opened: none is made."""
     path = os.path.join(folder, "never.db")
@@ -287,6 +327,7 @@ def main():
         a_new_library(folder)
         path = a_small_library(folder)
         refusals_and_bad_words(path)
+        refusals_of_other_rows(folder, path)
         bad_words(folder)
         bad_files(folder, path)
         an_unreadable_file(folder, path)

@@ -1,7 +1,7 @@
 //! Who may send what.
 
 ghost use Rattle.std.specs.Prelude.{◌≡◌};
-ghost use Rattle.desk.specs.Callers.{may_send as may_send_command};
+ghost use Rattle.model.specs.Requests.{may_send as may_send_command};
 
 use sqlite::Alter;
 use std::alloc::Global;
@@ -38,8 +38,8 @@ pub(crate) fn may_send(owner: Owner, command: &Command) -> bool
     match owner {
         Owner::Desk => true,
         Owner::Patron(own) => match command {
-            Command::PlaceHold { patron, .. } => own.number() == patron.number(),
-            Command::Page { patron } => own.number() == patron.number(),
+            Command::PlaceHold { patron, .. } => patron.number() == own.number(),
+            Command::Page { patron } => patron.number() == own.number(),
             Command::Renew { .. } => true,
             Command::CancelHold { .. } => true,
             _ => false,

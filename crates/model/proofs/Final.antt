@@ -15,7 +15,8 @@ use Rattle.model.specs.Invariant.{Fits}
 use Rattle.model.proofs.Bindings.{IsBound, event, line-head, kept-is, route-goes, arrived, left, waiting-is, ready-is, not-false, unheld}
 use Rattle.terms.specs.declared.command.Request.{Request}
 use Rattle.model.specs.Laws.{is_final}
-use Rattle.model.specs.Requests.{IsLegal, after, after_one, adds, event_of, owner_of}
+use Rattle.terms.specs.Callers.{owner_of}
+use Rattle.model.specs.Requests.{IsLegal, after, after_one, adds, event_of}
 use Rattle.model.proofs.Legal.{some-none, legal-bound}
 use Rattle.model.proofs.Runs.{added, after_one-legal}
 

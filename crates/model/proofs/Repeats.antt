@@ -13,7 +13,8 @@ use Rattle.terms.specs.Texts.{request_text}
 use Rattle.model.specs.History.{History}
 use Rattle.model.specs.Refusals.{refusal}
 use Rattle.model.specs.Answers.{accepted, answer}
-use Rattle.model.specs.Requests.{IsAccepted, owner_of, is_allowed, is_page, same_owner, Kept, kept_of, reply_by_key, reply_to, adds, event_of, after_one, after}
+use Rattle.terms.specs.Callers.{owner_of}
+use Rattle.model.specs.Requests.{IsAccepted, is_allowed, is_page, same_owner, Kept, kept_of, reply_by_key, reply_to, adds, event_of, after_one, after}
 use Rattle.model.proofs.Bindings.{both}
 use Rattle.model.proofs.Legal.{some-none}
 use Rattle.model.proofs.Runs.{added}

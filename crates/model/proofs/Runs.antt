@@ -9,7 +9,8 @@ use Rattle.model.specs.History.{History, patron_of, PatronFacts}
 use Rattle.model.specs.Refusals.{refusal}
 use Rattle.model.proofs.Bindings.{both, not-true}
 use Rattle.model.specs.DueDays.{IsWholeWeek, HasWholeWeeks, AskWholeWeeks}
-use Rattle.model.specs.Requests.{IsLegal, IsAccepted, after, after_one, adds, event_of, owner_of, is_known, is_enrolled, is_allowed, is_page, kept_of, may_send}
+use Rattle.terms.specs.Callers.{owner_of}
+use Rattle.model.specs.Requests.{IsLegal, IsAccepted, after, after_one, adds, event_of, is_known, is_enrolled, is_allowed, is_page, kept_of, may_send}
 
 is_none-none : {A : Type 0} (o : Option A) → is_none o ≡ true → o ≡ None
 is_none-none None e = refl

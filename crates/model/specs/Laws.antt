@@ -16,7 +16,8 @@ use Rattle.model.specs.Refusals.{active_holds}
 use Rattle.model.specs.Pages.{page}
 use Rattle.model.specs.Invariant.{Invariant}
 use Rattle.terms.specs.Texts.{request_text}
-use Rattle.model.specs.Requests.{IsLegal, owner_of, is_allowed, is_page, adds, after_one, reply_to, after}
+use Rattle.terms.specs.Callers.{owner_of}
+use Rattle.model.specs.Requests.{IsLegal, is_allowed, is_page, adds, after_one, reply_to, after}
 
 -- The history after any requests is legal.
 abbrev pub StaysLegal : Type 0

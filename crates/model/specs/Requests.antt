@@ -10,17 +10,13 @@ use Rattle.terms.specs.declared.command.Command.TheVariants.{Renew, PlaceHold, C
 use Rattle.terms.specs.declared.refusal.Refusal.TheVariants.{KeyUsed, NotAllowed}
 use Rattle.terms.specs.declared.reply.Reply.{Reply}
 use Rattle.terms.specs.declared.reply.Reply.TheVariants.{Refused}
+use Rattle.terms.specs.Callers.{owner_of}
 use Rattle.terms.specs.Texts.{request_text}
 use Rattle.model.specs.History.{Event, History, patron_of}
 use Rattle.model.specs.Refusals.{refusal}
 use Rattle.model.specs.Answers.{accepted, answer}
 
 -- ---- callers
-
--- Whose keys a caller's requests have.
-abbrev pub owner_of : Caller → Owner
-owner_of FromDesk = Desk
-owner_of (FromPatron p card_key) = Reader p
 
 -- The desk is known, and so is a patron who shows the card key of an enrolled patron's number.
 abbrev pub is_known : History → Caller → Bool
