@@ -1,5 +1,5 @@
 -- What a command's function answers, by a table of checks, a reply and row changes.
-use Rattle.std.specs.Prelude.{◌≡◌, List, Option, Some, None, Result, Ok, Err}
+use Rattle.std.specs.Prelude.{◌≡◌, List, Some, None, Result, Ok, Err}
 use Rattle.terms.specs.declared.refusal.Refusal.{Refusal}
 use Rattle.terms.specs.declared.reply.Reply.{Reply}
 use Rattle.circ_core.specs.declared.changes.Decision.{Decision}

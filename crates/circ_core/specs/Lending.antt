@@ -4,7 +4,6 @@ use Rattle.calendar.specs.Openings.{Closings, is_open, IsLeastOpen}
 use Rattle.terms.specs.declared.refusal.Refusal.{Refusal}
 use Rattle.terms.specs.declared.refusal.Refusal.TheVariants as refusal
 use Rattle.terms.specs.declared.reply.Reply.TheVariants.{Lent}
-use Rattle.terms.specs.declared.row.MetaRow.{MetaRow}
 use Rattle.terms.specs.declared.row.PatronRow.{PatronRow}
 use Rattle.terms.specs.declared.row.KindRow.{KindRow}
 use Rattle.terms.specs.declared.row.RuleRow.{RuleRow}
@@ -13,7 +12,6 @@ use Rattle.terms.specs.declared.row.LoanRow.{LoanRow}
 use Rattle.terms.specs.declared.row.HoldRow.{HoldRow}
 use Rattle.terms.specs.declared.row.HoldState.{HoldState}
 use Rattle.terms.specs.declared.row.HoldState.TheVariants.{Filled}
-use Rattle.terms.specs.declared.row.Condition.{Condition}
 use Rattle.terms.specs.declared.row.Condition.TheVariants as condition
 use Rattle.circ_core.specs.declared.changes.Decision.{Decision}
 use Rattle.circ_core.specs.declared.changes.RowChange.{RowChange}

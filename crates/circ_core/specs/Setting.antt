@@ -1,5 +1,5 @@
 -- The checks and row changes of the commands that set or make rows, on the rows of a view.
-use Rattle.std.specs.Prelude.{◌≡◌, ℕ, ◌==◌, nat_le, nat_lt, ◌&&◌, ◌||◌, not, Bool, List, [], ◌∷◌, ◌++◌, Option, Some, None, is_none, false, bytes_eq}
+use Rattle.std.specs.Prelude.{ℕ, ◌==◌, nat_le, nat_lt, ◌&&◌, ◌||◌, not, Bool, List, [], ◌∷◌, ◌++◌, Option, Some, None, is_none, false, bytes_eq}
 use Rattle.std.specs.List.{list_any}
 use Rattle.terms.specs.declared.refusal.Refusal.TheVariants.{UnknownBranch, UnknownKind, OtherContent, OutOfLimits, AllWeekdaysClosed, BadDay}
 use Rattle.terms.specs.declared.row.MetaRow.{MetaRow}

@@ -1,0 +1,9 @@
+pub mod Statements
+pub mod MakeLemmas
+pub mod RowLemmas
+pub mod KeyedLemmas
+pub mod NumberLemmas
+pub mod ColumnLemmas
+pub mod FoundLemmas
+pub mod LineLemmas
+pub mod TitleLemmas

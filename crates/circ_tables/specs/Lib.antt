@@ -1,0 +1,6 @@
+pub mod Shape
+pub mod Texts
+pub mod Cells
+pub mod Faults
+pub mod Limits
+pub mod Selections

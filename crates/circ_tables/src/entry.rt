@@ -1,5 +1,17 @@
 //! Rows, as they are read: each column within its limits, else 93.
 
+ghost use Rattle.std.specs.Prelude.{◌≡◌, ◌≢◌, Err, IfOk};
+ghost use Rattle.terms.specs.declared.row.KindRow.{KindRow as KindRecord};
+ghost use Rattle.terms.specs.declared.row.RuleRow.{RuleRow as RuleRecord};
+ghost use Rattle.terms.specs.declared.row.CopyRow.{CopyRow as CopyRecord};
+ghost use Rattle.terms.specs.declared.row.LoanRow.{LoanRow as LoanRecord};
+ghost use Rattle.terms.specs.declared.row.HoldRow.{HoldRow as HoldRecord};
+ghost use Rattle.terms.specs.declared.row.TransitRow.{TransitRow as TransitRecord};
+ghost use Rattle.terms.specs.declared.row.LineRow.{LineRow as LineRecord};
+ghost use Rattle.terms.specs.declared.row.MetaRow.{MetaRow as MetaRecord};
+ghost use Rattle.circ_tables.specs.Cells.{meta_cells, branch_cells, kind_cells, rule_cells, patron_cells, title_cells, copy_cells, loan_cells, hold_cells, transit_cells, line_cells};
+ghost use Rattle.circ_tables.specs.Limits.{IsMeta, IsBranch, IsKind, IsRule, IsPatron, IsTitle, IsCopy, IsLoan, IsHold, IsTransit, IsLine};
+
 use crate::cell::{
     branch_at, card_key_at, cents_at, condition_at, copy_at, copy_kind_at, copy_or_none_at,
     count_at, day_at, day_or_none_at, days_at, has_width, hold_at, hold_or_none_at, line_at,
@@ -23,7 +35,11 @@ const USED_UP: u32 = 2_147_483_648;
 const MOST_CENTS: u64 = 4_503_599_627_370_495;
 
 /// The row of `meta`: id 1, the schema from 1, and the next numbers up to 2,147,483,648. 91, 93.
-pub fn meta_row(row: &Row) -> Result<MetaRow, Fault> {
+pub fn meta_row(row: &Row) -> Result<MetaRow, Fault>
+    ensures cells { IfOk result (λ r. row.now ≡ meta_cells r) }
+    ensures limits { IfOk result IsMeta }
+    ensures stored { result ≡ Err Fault.Stored → (r : MetaRecord) → IsMeta r → row.now ≢ meta_cells r }
+{
     has_width(row, 6)?;
     number_at(row, 0, 1, 1)?;
     Ok(MetaRow {
@@ -36,7 +52,10 @@ pub fn meta_row(row: &Row) -> Result<MetaRow, Fault> {
 }
 
 /// A row of `branches`: a pick-up period of 0 to 60 days. 90, 91, 93.
-pub fn branch_row(row: &Row, alloc: Global) -> Result<BranchRow, Fault> {
+pub fn branch_row(row: &Row, alloc: Global) -> Result<BranchRow, Fault>
+    ensures cells { IfOk result (λ r. row.now ≡ branch_cells r) }
+    ensures limits { IfOk result IsBranch }
+{
     has_width(row, 4)?;
     Ok(BranchRow {
         branch: branch_at(row, 0)?,
@@ -47,7 +66,11 @@ pub fn branch_row(row: &Row, alloc: Global) -> Result<BranchRow, Fault> {
 }
 
 /// A row of `kinds`: up to 200 loans and 200 holds, and a debt limit up to 1,000,000 cents. 91, 93.
-pub fn kind_row(row: &Row) -> Result<KindRow, Fault> {
+pub fn kind_row(row: &Row) -> Result<KindRow, Fault>
+    ensures cells { IfOk result (λ r. row.now ≡ kind_cells r) }
+    ensures limits { IfOk result IsKind }
+    ensures stored { result ≡ Err Fault.Stored → (r : KindRecord) → IsKind r → row.now ≢ kind_cells r }
+{
     has_width(row, 4)?;
     Ok(KindRow {
         kind: patron_kind_at(row, 0)?,
@@ -59,7 +82,11 @@ pub fn kind_row(row: &Row) -> Result<KindRow, Fault> {
 
 /// A row of `rules`: a period of 1 to 365 days, up to 99 renewals, a rate up to 10,000 and a cap up to
 /// 100,000 cents. 91, 93.
-pub fn rule_row(row: &Row) -> Result<RuleRow, Fault> {
+pub fn rule_row(row: &Row) -> Result<RuleRow, Fault>
+    ensures cells { IfOk result (λ r. row.now ≡ rule_cells r) }
+    ensures limits { IfOk result IsRule }
+    ensures stored { result ≡ Err Fault.Stored → (r : RuleRecord) → IsRule r → row.now ≢ rule_cells r }
+{
     has_width(row, 6)?;
     Ok(RuleRow {
         kind: patron_kind_at(row, 0)?,
@@ -72,7 +99,10 @@ pub fn rule_row(row: &Row) -> Result<RuleRow, Fault> {
 }
 
 /// A row of `patrons`: less than 2^52 cents are owed. 90, 91, 93.
-pub fn patron_row(row: &Row, alloc: Global) -> Result<PatronRow, Fault> {
+pub fn patron_row(row: &Row, alloc: Global) -> Result<PatronRow, Fault>
+    ensures cells { IfOk result (λ r. row.now ≡ patron_cells r) }
+    ensures limits { IfOk result IsPatron }
+{
     has_width(row, 5)?;
     Ok(PatronRow {
         patron: patron_at(row, 0)?,
@@ -84,7 +114,10 @@ pub fn patron_row(row: &Row, alloc: Global) -> Result<PatronRow, Fault> {
 }
 
 /// A row of `titles`. 90, 91, 93.
-pub fn title_row(row: &Row, alloc: Global) -> Result<TitleRow, Fault> {
+pub fn title_row(row: &Row, alloc: Global) -> Result<TitleRow, Fault>
+    ensures cells { IfOk result (λ r. row.now ≡ title_cells r) }
+    ensures limits { IfOk result IsTitle }
+{
     has_width(row, 2)?;
     Ok(TitleRow {
         title: title_at(row, 0)?,
@@ -93,7 +126,11 @@ pub fn title_row(row: &Row, alloc: Global) -> Result<TitleRow, Fault> {
 }
 
 /// A row of `copies`: a price up to 1,000,000 cents. 91, 93.
-pub fn copy_row(row: &Row) -> Result<CopyRow, Fault> {
+pub fn copy_row(row: &Row) -> Result<CopyRow, Fault>
+    ensures cells { IfOk result (λ r. row.now ≡ copy_cells r) }
+    ensures limits { IfOk result IsCopy }
+    ensures stored { result ≡ Err Fault.Stored → (r : CopyRecord) → IsCopy r → row.now ≢ copy_cells r }
+{
     has_width(row, 6)?;
     Ok(CopyRow {
         copy: copy_at(row, 0)?,
@@ -106,7 +143,11 @@ pub fn copy_row(row: &Row) -> Result<CopyRow, Fault> {
 }
 
 /// A row of `loans`, with the limits of the rule that it was made by. 91, 93.
-pub fn loan_row(row: &Row) -> Result<LoanRow, Fault> {
+pub fn loan_row(row: &Row) -> Result<LoanRow, Fault>
+    ensures cells { IfOk result (λ r. row.now ≡ loan_cells r) }
+    ensures limits { IfOk result IsLoan }
+    ensures stored { result ≡ Err Fault.Stored → (r : LoanRecord) → IsLoan r → row.now ≢ loan_cells r }
+{
     has_width(row, 11)?;
     Ok(LoanRow {
         loan: loan_at(row, 0, LAST)?,
@@ -124,7 +165,11 @@ pub fn loan_row(row: &Row) -> Result<LoanRow, Fault> {
 }
 
 /// A row of `holds`. 91, 93.
-pub fn hold_row(row: &Row) -> Result<HoldRow, Fault> {
+pub fn hold_row(row: &Row) -> Result<HoldRow, Fault>
+    ensures cells { IfOk result (λ r. row.now ≡ hold_cells r) }
+    ensures limits { IfOk result IsHold }
+    ensures stored { result ≡ Err Fault.Stored → (r : HoldRecord) → IsHold r → row.now ≢ hold_cells r }
+{
     has_width(row, 7)?;
     Ok(HoldRow {
         hold: hold_at(row, 0, LAST)?,
@@ -138,7 +183,11 @@ pub fn hold_row(row: &Row) -> Result<HoldRow, Fault> {
 }
 
 /// A row of `transits`. 91, 93.
-pub fn transit_row(row: &Row) -> Result<TransitRow, Fault> {
+pub fn transit_row(row: &Row) -> Result<TransitRow, Fault>
+    ensures cells { IfOk result (λ r. row.now ≡ transit_cells r) }
+    ensures limits { IfOk result IsTransit }
+    ensures stored { result ≡ Err Fault.Stored → (r : TransitRecord) → IsTransit r → row.now ≢ transit_cells r }
+{
     has_width(row, 3)?;
     Ok(TransitRow {
         copy: copy_at(row, 0)?,
@@ -148,7 +197,11 @@ pub fn transit_row(row: &Row) -> Result<TransitRow, Fault> {
 }
 
 /// A row of `lines`: an amount below 2^52 cents. 91, 93.
-pub fn line_row(row: &Row) -> Result<LineRow, Fault> {
+pub fn line_row(row: &Row) -> Result<LineRow, Fault>
+    ensures cells { IfOk result (λ r. row.now ≡ line_cells r) }
+    ensures limits { IfOk result IsLine }
+    ensures stored { result ≡ Err Fault.Stored → (r : LineRecord) → IsLine r → row.now ≢ line_cells r }
+{
     has_width(row, 6)?;
     Ok(LineRow {
         line: line_at(row, 0, LAST)?,

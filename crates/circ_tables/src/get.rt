@@ -1,16 +1,30 @@
 //! The row of a key.
 
-ghost use Rattle.std.specs.Prelude.{◌≡◌, false};
+ghost use Rattle.std.specs.Prelude.{◌≡◌, ◌≢◌, false, Some, Err, length, IfOk, IfSome, is_some, option_map};
+ghost use Rattle.sqlite.specs.Held.{state};
+ghost use Rattle.sqlite.specs.Order.{column, Row as SqlRow};
+ghost use Rattle.sqlite.specs.declared.types.Value.TheVariants.{Text as SqlText};
+ghost use Rattle.sqlite.specs.State.{HasCleanDisk, IsUnchanged, Survives};
+ghost use Rattle.terms.specs.declared.row.KindRow.{KindRow as KindRecord};
+ghost use Rattle.terms.specs.declared.row.RuleRow.{RuleRow as RuleRecord};
+ghost use Rattle.terms.specs.declared.row.CopyRow.{CopyRow as CopyRecord};
+ghost use Rattle.terms.specs.declared.row.LoanRow.{LoanRow as LoanRecord};
+ghost use Rattle.terms.specs.declared.row.HoldRow.{HoldRow as HoldRecord};
+ghost use Rattle.terms.specs.declared.row.TransitRow.{TransitRow as TransitRecord};
+ghost use Rattle.terms.specs.declared.row.LineRow.{LineRow as LineRecord};
+ghost use Rattle.sql_maps.specs.Maps.{Maps, Holds};
+ghost use Rattle.circ_tables.specs.Shape.{schema, meta_place, branches_place, closed_days_place, kinds_place, rules_place, patrons_place, titles_place, copies_place, loans_place, holds_place, transits_place, lines_place, kept_place};
+ghost use Rattle.circ_tables.specs.Cells.{number_key, pair_key, kept_key, kept_cells, meta_cells, branch_cells, kind_cells, rule_cells, patron_cells, title_cells, copy_cells, loan_cells, hold_cells, transit_cells, line_cells};
+ghost use Rattle.circ_tables.specs.Limits.{IsMeta, IsBranch, IsKind, IsRule, IsPatron, IsTitle, IsCopy, IsLoan, IsHold, IsTransit, IsLine};
 
+use crate::call::{all_rows, first_row};
 use crate::cell::{has_width, owner_number, text_at};
 use crate::entry::{
     branch_row, copy_row, hold_row, kind_row, line_row, loan_row, meta_row, patron_row, rule_row,
     title_row, transit_row,
 };
-use crate::fault::database;
 use calendar::Day;
-use sqlite::{Alter, Connection, Error, Row, params};
-use sqlite_value::value::ValueRef;
+use sqlite::{Alter, Connection, Row, params};
 use std::alloc::Global;
 use terms::{
     BranchId, BranchRow, CopyId, CopyKind, CopyRow, Fault, HoldId, HoldRow, Key, KindRow, LineId,
@@ -25,28 +39,17 @@ pub struct KeptReply {
     pub reply: Text,
 }
 
-/// The first row that a text shows, if it shows any. 91.
-pub fn first_row<S: Alter>(
-    conn: &mut Connection<S>,
-    sql: &str,
-    params: &[ValueRef<'_>],
-) -> Result<Option<Row>, Fault>
-    ensures mode { conn.old.in_transaction ≡ false → conn.new.in_transaction ≡ false }
-{
-    match conn.query_row(sql, params) {
-        Ok(row) => Ok(Some(row)),
-        Err(Error::QueryReturnedNoRows) => Ok(None),
-        Err(error) => Err(database(error)),
-    }
-}
-
 /// The one row of `meta`. 91; 93 where it is not one row of id 1, or is outside its limits.
 pub fn get_meta<S: Alter>(conn: &mut Connection<S>) -> Result<MetaRow, Fault>
+    ensures gets { HasCleanDisk (state S.Store conn.new) → IfOk result (λ row. (maps : Maps) → Holds schema (state S.Store conn.old).now maps
+        → (maps meta_place (number_key 1) ≡ Some (meta_cells row)) × IsUnchanged (state S.Store conn.old) (state S.Store conn.new)) }
+    ensures alone { HasCleanDisk (state S.Store conn.new) → IfOk result (λ row. (maps : Maps) → Holds schema (state S.Store conn.old).now maps
+        → (k v : SqlRow) → maps meta_place k ≡ Some v → v ≡ meta_cells row) }
+    ensures limits { IfOk result IsMeta }
     ensures mode { conn.old.in_transaction ≡ false → conn.new.in_transaction ≡ false }
+    ensures survives { (state S.Store conn.old).now.schema ≡ schema → Survives (state S.Store conn.old) (state S.Store conn.new) (λ _. ⊥) }
 {
-    let rows = conn
-        .query_all("SELECT * FROM meta ORDER BY id", &[])
-        .map_err(database)?;
+    let rows = all_rows(conn, "SELECT * FROM meta ORDER BY id", &[])?;
     let [row] = rows.as_slice() else {
         return Err(Fault::Stored);
     };
@@ -59,7 +62,11 @@ pub fn get_branch<S: Alter>(
     alloc: Global,
     branch: BranchId,
 ) -> Result<Option<BranchRow>, Fault>
+    ensures gets { HasCleanDisk (state S.Store conn.new) → IfOk result (λ row. (maps : Maps) → Holds schema (state S.Store conn.old).now maps
+        → (maps branches_place (number_key branch) ≡ option_map branch_cells row) × IsUnchanged (state S.Store conn.old) (state S.Store conn.new)) }
+    ensures limits { IfOk result (λ row. IfSome row IsBranch) }
     ensures mode { conn.old.in_transaction ≡ false → conn.new.in_transaction ≡ false }
+    ensures survives { (state S.Store conn.old).now.schema ≡ schema → Survives (state S.Store conn.old) (state S.Store conn.new) (λ _. ⊥) }
 {
     let row = first_row(
         conn,
@@ -78,7 +85,10 @@ pub fn has_closed_day<S: Alter>(
     branch: BranchId,
     day: Day,
 ) -> Result<bool, Fault>
+    ensures gets { HasCleanDisk (state S.Store conn.new) → IfOk result (λ is_there. (maps : Maps) → Holds schema (state S.Store conn.old).now maps
+        → (is_some (maps closed_days_place (pair_key branch day)) ≡ is_there) × IsUnchanged (state S.Store conn.old) (state S.Store conn.new)) }
     ensures mode { conn.old.in_transaction ≡ false → conn.new.in_transaction ≡ false }
+    ensures survives { (state S.Store conn.old).now.schema ≡ schema → Survives (state S.Store conn.old) (state S.Store conn.new) (λ _. ⊥) }
 {
     let row = first_row(
         conn,
@@ -93,7 +103,13 @@ pub fn get_kind<S: Alter>(
     conn: &mut Connection<S>,
     kind: PatronKind,
 ) -> Result<Option<KindRow>, Fault>
+    ensures gets { HasCleanDisk (state S.Store conn.new) → IfOk result (λ row. (maps : Maps) → Holds schema (state S.Store conn.old).now maps
+        → (maps kinds_place (number_key kind) ≡ option_map kind_cells row) × IsUnchanged (state S.Store conn.old) (state S.Store conn.new)) }
+    ensures limits { IfOk result (λ row. IfSome row IsKind) }
+    ensures stored { HasCleanDisk (state S.Store conn.new) → result ≡ Err Fault.Stored → (maps : Maps) → Holds schema (state S.Store conn.old).now maps
+        → (r : KindRecord) → IsKind r → maps kinds_place (number_key kind) ≢ Some (kind_cells r) }
     ensures mode { conn.old.in_transaction ≡ false → conn.new.in_transaction ≡ false }
+    ensures survives { (state S.Store conn.old).now.schema ≡ schema → Survives (state S.Store conn.old) (state S.Store conn.new) (λ _. ⊥) }
 {
     let row = first_row(
         conn,
@@ -112,7 +128,13 @@ pub fn get_rule<S: Alter>(
     kind: PatronKind,
     copy_kind: CopyKind,
 ) -> Result<Option<RuleRow>, Fault>
+    ensures gets { HasCleanDisk (state S.Store conn.new) → IfOk result (λ row. (maps : Maps) → Holds schema (state S.Store conn.old).now maps
+        → (maps rules_place (pair_key kind copy_kind) ≡ option_map rule_cells row) × IsUnchanged (state S.Store conn.old) (state S.Store conn.new)) }
+    ensures limits { IfOk result (λ row. IfSome row IsRule) }
+    ensures stored { HasCleanDisk (state S.Store conn.new) → result ≡ Err Fault.Stored → (maps : Maps) → Holds schema (state S.Store conn.old).now maps
+        → (r : RuleRecord) → IsRule r → maps rules_place (pair_key kind copy_kind) ≢ Some (rule_cells r) }
     ensures mode { conn.old.in_transaction ≡ false → conn.new.in_transaction ≡ false }
+    ensures survives { (state S.Store conn.old).now.schema ≡ schema → Survives (state S.Store conn.old) (state S.Store conn.new) (λ _. ⊥) }
 {
     let row = first_row(
         conn,
@@ -131,7 +153,11 @@ pub fn get_patron<S: Alter>(
     alloc: Global,
     patron: PatronId,
 ) -> Result<Option<PatronRow>, Fault>
+    ensures gets { HasCleanDisk (state S.Store conn.new) → IfOk result (λ row. (maps : Maps) → Holds schema (state S.Store conn.old).now maps
+        → (maps patrons_place (number_key patron) ≡ option_map patron_cells row) × IsUnchanged (state S.Store conn.old) (state S.Store conn.new)) }
+    ensures limits { IfOk result (λ row. IfSome row IsPatron) }
     ensures mode { conn.old.in_transaction ≡ false → conn.new.in_transaction ≡ false }
+    ensures survives { (state S.Store conn.old).now.schema ≡ schema → Survives (state S.Store conn.old) (state S.Store conn.new) (λ _. ⊥) }
 {
     let row = first_row(
         conn,
@@ -150,7 +176,11 @@ pub fn get_title<S: Alter>(
     alloc: Global,
     title: TitleId,
 ) -> Result<Option<TitleRow>, Fault>
+    ensures gets { HasCleanDisk (state S.Store conn.new) → IfOk result (λ row. (maps : Maps) → Holds schema (state S.Store conn.old).now maps
+        → (maps titles_place (number_key title) ≡ option_map title_cells row) × IsUnchanged (state S.Store conn.old) (state S.Store conn.new)) }
+    ensures limits { IfOk result (λ row. IfSome row IsTitle) }
     ensures mode { conn.old.in_transaction ≡ false → conn.new.in_transaction ≡ false }
+    ensures survives { (state S.Store conn.old).now.schema ≡ schema → Survives (state S.Store conn.old) (state S.Store conn.new) (λ _. ⊥) }
 {
     let row = first_row(
         conn,
@@ -165,7 +195,13 @@ pub fn get_title<S: Alter>(
 
 /// The row of a copy, if there is one. 91, 93.
 pub fn get_copy<S: Alter>(conn: &mut Connection<S>, copy: CopyId) -> Result<Option<CopyRow>, Fault>
+    ensures gets { HasCleanDisk (state S.Store conn.new) → IfOk result (λ row. (maps : Maps) → Holds schema (state S.Store conn.old).now maps
+        → (maps copies_place (number_key copy) ≡ option_map copy_cells row) × IsUnchanged (state S.Store conn.old) (state S.Store conn.new)) }
+    ensures limits { IfOk result (λ row. IfSome row IsCopy) }
+    ensures stored { HasCleanDisk (state S.Store conn.new) → result ≡ Err Fault.Stored → (maps : Maps) → Holds schema (state S.Store conn.old).now maps
+        → (r : CopyRecord) → IsCopy r → maps copies_place (number_key copy) ≢ Some (copy_cells r) }
     ensures mode { conn.old.in_transaction ≡ false → conn.new.in_transaction ≡ false }
+    ensures survives { (state S.Store conn.old).now.schema ≡ schema → Survives (state S.Store conn.old) (state S.Store conn.new) (λ _. ⊥) }
 {
     let row = first_row(
         conn,
@@ -180,7 +216,13 @@ pub fn get_copy<S: Alter>(conn: &mut Connection<S>, copy: CopyId) -> Result<Opti
 
 /// The row of a loan, if there is one. 91, 93.
 pub fn get_loan<S: Alter>(conn: &mut Connection<S>, loan: LoanId) -> Result<Option<LoanRow>, Fault>
+    ensures gets { HasCleanDisk (state S.Store conn.new) → IfOk result (λ row. (maps : Maps) → Holds schema (state S.Store conn.old).now maps
+        → (maps loans_place (number_key loan) ≡ option_map loan_cells row) × IsUnchanged (state S.Store conn.old) (state S.Store conn.new)) }
+    ensures limits { IfOk result (λ row. IfSome row IsLoan) }
+    ensures stored { HasCleanDisk (state S.Store conn.new) → result ≡ Err Fault.Stored → (maps : Maps) → Holds schema (state S.Store conn.old).now maps
+        → (r : LoanRecord) → IsLoan r → maps loans_place (number_key loan) ≢ Some (loan_cells r) }
     ensures mode { conn.old.in_transaction ≡ false → conn.new.in_transaction ≡ false }
+    ensures survives { (state S.Store conn.old).now.schema ≡ schema → Survives (state S.Store conn.old) (state S.Store conn.new) (λ _. ⊥) }
 {
     let row = first_row(
         conn,
@@ -195,7 +237,13 @@ pub fn get_loan<S: Alter>(conn: &mut Connection<S>, loan: LoanId) -> Result<Opti
 
 /// The row of a hold, if there is one. 91, 93.
 pub fn get_hold<S: Alter>(conn: &mut Connection<S>, hold: HoldId) -> Result<Option<HoldRow>, Fault>
+    ensures gets { HasCleanDisk (state S.Store conn.new) → IfOk result (λ row. (maps : Maps) → Holds schema (state S.Store conn.old).now maps
+        → (maps holds_place (number_key hold) ≡ option_map hold_cells row) × IsUnchanged (state S.Store conn.old) (state S.Store conn.new)) }
+    ensures limits { IfOk result (λ row. IfSome row IsHold) }
+    ensures stored { HasCleanDisk (state S.Store conn.new) → result ≡ Err Fault.Stored → (maps : Maps) → Holds schema (state S.Store conn.old).now maps
+        → (r : HoldRecord) → IsHold r → maps holds_place (number_key hold) ≢ Some (hold_cells r) }
     ensures mode { conn.old.in_transaction ≡ false → conn.new.in_transaction ≡ false }
+    ensures survives { (state S.Store conn.old).now.schema ≡ schema → Survives (state S.Store conn.old) (state S.Store conn.new) (λ _. ⊥) }
 {
     let row = first_row(
         conn,
@@ -213,7 +261,13 @@ pub fn get_transit<S: Alter>(
     conn: &mut Connection<S>,
     copy: CopyId,
 ) -> Result<Option<TransitRow>, Fault>
+    ensures gets { HasCleanDisk (state S.Store conn.new) → IfOk result (λ row. (maps : Maps) → Holds schema (state S.Store conn.old).now maps
+        → (maps transits_place (number_key copy) ≡ option_map transit_cells row) × IsUnchanged (state S.Store conn.old) (state S.Store conn.new)) }
+    ensures limits { IfOk result (λ row. IfSome row IsTransit) }
+    ensures stored { HasCleanDisk (state S.Store conn.new) → result ≡ Err Fault.Stored → (maps : Maps) → Holds schema (state S.Store conn.old).now maps
+        → (r : TransitRecord) → IsTransit r → maps transits_place (number_key copy) ≢ Some (transit_cells r) }
     ensures mode { conn.old.in_transaction ≡ false → conn.new.in_transaction ≡ false }
+    ensures survives { (state S.Store conn.old).now.schema ≡ schema → Survives (state S.Store conn.old) (state S.Store conn.new) (λ _. ⊥) }
 {
     let row = first_row(
         conn,
@@ -228,7 +282,13 @@ pub fn get_transit<S: Alter>(
 
 /// The row of a line, if there is one. 91, 93.
 pub fn get_line<S: Alter>(conn: &mut Connection<S>, line: LineId) -> Result<Option<LineRow>, Fault>
+    ensures gets { HasCleanDisk (state S.Store conn.new) → IfOk result (λ row. (maps : Maps) → Holds schema (state S.Store conn.old).now maps
+        → (maps lines_place (number_key line) ≡ option_map line_cells row) × IsUnchanged (state S.Store conn.old) (state S.Store conn.new)) }
+    ensures limits { IfOk result (λ row. IfSome row IsLine) }
+    ensures stored { HasCleanDisk (state S.Store conn.new) → result ≡ Err Fault.Stored → (maps : Maps) → Holds schema (state S.Store conn.old).now maps
+        → (r : LineRecord) → IsLine r → maps lines_place (number_key line) ≢ Some (line_cells r) }
     ensures mode { conn.old.in_transaction ≡ false → conn.new.in_transaction ≡ false }
+    ensures survives { (state S.Store conn.old).now.schema ≡ schema → Survives (state S.Store conn.old) (state S.Store conn.new) (λ _. ⊥) }
 {
     let row = first_row(
         conn,
@@ -241,7 +301,9 @@ pub fn get_line<S: Alter>(conn: &mut Connection<S>, line: LineId) -> Result<Opti
     }
 }
 
-fn kept_reply(row: &Row) -> Result<KeptReply, Fault> {
+fn kept_reply(row: &Row) -> Result<KeptReply, Fault>
+    ensures { IfOk result (λ kept. (length row.now ≡ 4) × (column row.now 2 ≡ SqlText kept.text) × (column row.now 3 ≡ SqlText kept.reply)) }
+{
     has_width(row, 4)?;
     Ok(KeptReply {
         text: text_at(row, 2)?,
@@ -255,7 +317,10 @@ pub fn get_kept<S: Alter>(
     owner: Owner,
     key: &Key,
 ) -> Result<Option<KeptReply>, Fault>
+    ensures gets { HasCleanDisk (state S.Store conn.new) → IfOk result (λ kept. (maps : Maps) → Holds schema (state S.Store conn.old).now maps
+        → (maps kept_place (kept_key owner key.now) ≡ option_map (λ k. kept_cells (record { caller = owner; key = key.now; text = k.text; reply = k.reply })) kept) × IsUnchanged (state S.Store conn.old) (state S.Store conn.new)) }
     ensures mode { conn.old.in_transaction ≡ false → conn.new.in_transaction ≡ false }
+    ensures survives { (state S.Store conn.old).now.schema ≡ schema → Survives (state S.Store conn.old) (state S.Store conn.new) (λ _. ⊥) }
 {
     let row = first_row(
         conn,

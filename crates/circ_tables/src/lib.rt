@@ -1,6 +1,7 @@
 //! The tables of the desk: each is made, written and read by its own texts of SQL.
 #![tactic(auto)]
 
+mod call;
 mod cell;
 mod entry;
 mod fault;
@@ -26,3 +27,6 @@ pub use select::{
     open_loan_of, open_loan_of_title, ready_hold_of, transit_for,
 };
 pub use take::{take_closed_day, take_transit};
+
+#[cfg(test)]
+mod tests;

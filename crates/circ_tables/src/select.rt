@@ -1,11 +1,21 @@
 //! Rows that are found by other columns than their key.
 
-ghost use Rattle.std.specs.Prelude.{◌≡◌, false};
+ghost use Rattle.std.specs.Prelude.{◌≡◌, ◌≤◌, false, Some, map, IfOk, IfSome};
+ghost use Rattle.std.specs.Option.{option_to_list};
+ghost use Rattle.sqlite.specs.Held.{state};
+ghost use Rattle.sqlite.specs.Order.{column, Row as SqlRow};
+ghost use Rattle.sqlite.specs.State.{HasCleanDisk, IsUnchanged, Survives, CommitsShowing};
+ghost use Rattle.sqlite.specs.Values.{bound};
+ghost use Rattle.sql_maps.specs.Calls.{FindsRow};
+ghost use Rattle.sql_maps.specs.Maps.{Maps, Holds, First, FirstOf, Count as IsCount};
+ghost use Rattle.circ_tables.specs.Shape.{schema, copies_place, loans_place, holds_place, transits_place};
+ghost use Rattle.circ_tables.specs.Cells.{number, loan_cells, hold_cells, transit_cells};
+ghost use Rattle.circ_tables.specs.Limits.{IsLoan, IsHold, IsTransit};
+ghost use Rattle.circ_tables.specs.Selections.{is_open_of, is_open_by, names_copy, is_active_by, is_active_on, travels_for, Waits, LendsTitle};
 
-use crate::cell::day_at;
+use crate::call::{all_rows, first_row};
+use crate::cell::{day_at, number_at};
 use crate::entry::{hold_row, loan_row, transit_row};
-use crate::fault::{database, stored};
-use crate::get::first_row;
 use calendar::Day;
 use sqlite::{Alter, Connection, Row, params};
 use sqlite_value::value::ValueRef;
@@ -19,7 +29,11 @@ pub fn open_loan_of<S: Alter>(
     conn: &mut Connection<S>,
     copy: CopyId,
 ) -> Result<Option<LoanRow>, Fault>
+    ensures first { HasCleanDisk (state S.Store conn.new) → IfOk result (λ row. (maps : Maps) → Holds schema (state S.Store conn.old).now maps
+        → First (maps loans_place) (is_open_of copy) (map loan_cells (option_to_list row)) × IsUnchanged (state S.Store conn.old) (state S.Store conn.new)) }
+    ensures limits { IfOk result (λ row. IfSome row IsLoan) }
     ensures mode { conn.old.in_transaction ≡ false → conn.new.in_transaction ≡ false }
+    ensures survives { (state S.Store conn.old).now.schema ≡ schema → Survives (state S.Store conn.old) (state S.Store conn.new) (λ _. ⊥) }
 {
     let row = first_row(
         conn,
@@ -37,7 +51,11 @@ pub fn ready_hold_of<S: Alter>(
     conn: &mut Connection<S>,
     copy: CopyId,
 ) -> Result<Option<HoldRow>, Fault>
+    ensures first { HasCleanDisk (state S.Store conn.new) → IfOk result (λ row. (maps : Maps) → Holds schema (state S.Store conn.old).now maps
+        → First (maps holds_place) (names_copy copy) (map hold_cells (option_to_list row)) × IsUnchanged (state S.Store conn.old) (state S.Store conn.new)) }
+    ensures limits { IfOk result (λ row. IfSome row IsHold) }
     ensures mode { conn.old.in_transaction ≡ false → conn.new.in_transaction ≡ false }
+    ensures survives { (state S.Store conn.old).now.schema ≡ schema → Survives (state S.Store conn.old) (state S.Store conn.new) (λ _. ⊥) }
 {
     let row = first_row(
         conn,
@@ -55,7 +73,11 @@ pub fn transit_for<S: Alter>(
     conn: &mut Connection<S>,
     hold: HoldId,
 ) -> Result<Option<TransitRow>, Fault>
+    ensures first { HasCleanDisk (state S.Store conn.new) → IfOk result (λ row. (maps : Maps) → Holds schema (state S.Store conn.old).now maps
+        → First (maps transits_place) (travels_for hold) (map transit_cells (option_to_list row)) × IsUnchanged (state S.Store conn.old) (state S.Store conn.new)) }
+    ensures limits { IfOk result (λ row. IfSome row IsTransit) }
     ensures mode { conn.old.in_transaction ≡ false → conn.new.in_transaction ≡ false }
+    ensures survives { (state S.Store conn.old).now.schema ≡ schema → Survives (state S.Store conn.old) (state S.Store conn.new) (λ _. ⊥) }
 {
     let row = first_row(
         conn,
@@ -73,7 +95,11 @@ pub fn first_in_line<S: Alter>(
     conn: &mut Connection<S>,
     title: TitleId,
 ) -> Result<Option<HoldRow>, Fault>
+    ensures first { HasCleanDisk (state S.Store conn.new) → IfOk result (λ row. (maps : Maps) → Holds schema (state S.Store conn.old).now maps
+        → FirstOf (maps holds_place) (Waits (maps transits_place) title) (map hold_cells (option_to_list row)) × IsUnchanged (state S.Store conn.old) (state S.Store conn.new)) }
+    ensures limits { IfOk result (λ row. IfSome row IsHold) }
     ensures mode { conn.old.in_transaction ≡ false → conn.new.in_transaction ≡ false }
+    ensures survives { (state S.Store conn.old).now.schema ≡ schema → Survives (state S.Store conn.old) (state S.Store conn.new) (λ _. ⊥) }
 {
     let row = first_row(
         conn,
@@ -92,7 +118,11 @@ pub fn open_loan_of_title<S: Alter>(
     patron: PatronId,
     title: TitleId,
 ) -> Result<Option<LoanRow>, Fault>
+    ensures first { HasCleanDisk (state S.Store conn.new) → IfOk result (λ row. (maps : Maps) → Holds schema (state S.Store conn.old).now maps
+        → FirstOf (maps loans_place) (LendsTitle (maps copies_place) patron title) (map loan_cells (option_to_list row)) × IsUnchanged (state S.Store conn.old) (state S.Store conn.new)) }
+    ensures limits { IfOk result (λ row. IfSome row IsLoan) }
     ensures mode { conn.old.in_transaction ≡ false → conn.new.in_transaction ≡ false }
+    ensures survives { (state S.Store conn.old).now.schema ≡ schema → Survives (state S.Store conn.old) (state S.Store conn.new) (λ _. ⊥) }
 {
     let row = first_row(
         conn,
@@ -111,11 +141,14 @@ fn counted<S: Alter>(
     sql: &str,
     params: &[ValueRef<'_>],
 ) -> Result<Count, Fault>
+    ensures counts { HasCleanDisk (state S.Store conn.new) → IfOk result (λ n. (row : SqlRow) × FindsRow sql.now (bound params.now) (state S.Store conn.old) (state S.Store conn.new) (Some row) × (column row 0 ≡ number n) × (n ≤ 4294967295)) }
     ensures mode { conn.old.in_transaction ≡ false → conn.new.in_transaction ≡ false }
+    ensures survives { Survives (state S.Store conn.old) (state S.Store conn.new) (CommitsShowing sql.now (bound params.now) (state S.Store conn.old)) }
 {
-    let row = conn.query_row(sql, params).map_err(database)?;
-    let number: u32 = row.get(0).map_err(stored)?;
-    Ok(Count::new(number))
+    match &first_row(conn, sql, params)? {
+        Some(row) => Ok(Count::new(number_at(row, 0, 0, u32::MAX)?)),
+        None => Err(Fault::Database),
+    }
 }
 
 /// How many open loans the patron has. 91; 93 from 2^32 on.
@@ -123,7 +156,10 @@ pub fn count_open_loans<S: Alter>(
     conn: &mut Connection<S>,
     patron: PatronId,
 ) -> Result<Count, Fault>
+    ensures counts { HasCleanDisk (state S.Store conn.new) → IfOk result (λ n. (maps : Maps) → Holds schema (state S.Store conn.old).now maps
+        → IsCount (maps loans_place) (is_open_by patron) n × IsUnchanged (state S.Store conn.old) (state S.Store conn.new)) }
     ensures mode { conn.old.in_transaction ≡ false → conn.new.in_transaction ≡ false }
+    ensures survives { (state S.Store conn.old).now.schema ≡ schema → Survives (state S.Store conn.old) (state S.Store conn.new) (λ _. ⊥) }
 {
     counted(
         conn,
@@ -137,7 +173,10 @@ pub fn count_active_holds<S: Alter>(
     conn: &mut Connection<S>,
     patron: PatronId,
 ) -> Result<Count, Fault>
+    ensures counts { HasCleanDisk (state S.Store conn.new) → IfOk result (λ n. (maps : Maps) → Holds schema (state S.Store conn.old).now maps
+        → IsCount (maps holds_place) (is_active_by patron) n × IsUnchanged (state S.Store conn.old) (state S.Store conn.new)) }
     ensures mode { conn.old.in_transaction ≡ false → conn.new.in_transaction ≡ false }
+    ensures survives { (state S.Store conn.old).now.schema ≡ schema → Survives (state S.Store conn.old) (state S.Store conn.new) (λ _. ⊥) }
 {
     counted(
         conn,
@@ -152,7 +191,10 @@ pub fn count_active_holds_on<S: Alter>(
     patron: PatronId,
     title: TitleId,
 ) -> Result<Count, Fault>
+    ensures counts { HasCleanDisk (state S.Store conn.new) → IfOk result (λ n. (maps : Maps) → Holds schema (state S.Store conn.old).now maps
+        → IsCount (maps holds_place) (is_active_on patron title) n × IsUnchanged (state S.Store conn.old) (state S.Store conn.new)) }
     ensures mode { conn.old.in_transaction ≡ false → conn.new.in_transaction ≡ false }
+    ensures survives { (state S.Store conn.old).now.schema ≡ schema → Survives (state S.Store conn.old) (state S.Store conn.new) (λ _. ⊥) }
 {
     counted(
         conn,
@@ -177,12 +219,12 @@ pub fn closed_days_of<S: Alter>(
     branch: BranchId,
 ) -> Result<Vec<Day>, Fault>
     ensures mode { conn.old.in_transaction ≡ false → conn.new.in_transaction ≡ false }
+    ensures survives { (state S.Store conn.old).now.schema ≡ schema → Survives (state S.Store conn.old) (state S.Store conn.new) (λ _. ⊥) }
 {
-    let rows = conn
-        .query_all(
-            "SELECT * FROM closed_days WHERE branch = ?1 ORDER BY day",
-            params![branch.number()],
-        )
-        .map_err(database)?;
+    let rows = all_rows(
+        conn,
+        "SELECT * FROM closed_days WHERE branch = ?1 ORDER BY day",
+        params![branch.number()],
+    )?;
     days_of(alloc, rows.as_slice())
 }

@@ -34,13 +34,13 @@ in_calendar c e on =
 
 least_same : SameLeastDay
 least_same c d e = (
-    λ is.
-    let r = least-IsLeast (is_open c) d e (subst (λ (test : ℕ → Bool). least test d ≡ Some e) (one_test c) is) in
-    (r.from, r.opens, r.first),
-    λ h.
-    let r : IsLeast (is_open c) d e = record { from = h.0; within = in_calendar c e h.1; opens = h.1; first = h.2 } in
-    subst (λ (test : ℕ → Bool). least test d ≡ Some e) (sym (one_test c)) (IsLeast-least (is_open c) d e r),
-  )
+  λ is.
+      let r = least-IsLeast (is_open c) d e (subst (λ (test : ℕ → Bool). least test d ≡ Some e) (one_test c) is) in
+      (r.from, r.opens, r.first),
+  λ h.
+      let r : IsLeast (is_open c) d e = record { from = h.0; within = in_calendar c e h.1; opens = h.1; first = h.2 } in
+      subst (λ (test : ℕ → Bool). least test d ≡ Some e) (sym (one_test c)) (IsLeast-least (is_open c) d e r),
+)
 
 late_from : (c : Closings) (due n : ℕ) → open_days (is_open c) due n ≡ open_among c due n
 unfolding open_among

@@ -1,4 +1,4 @@
-use Rattle.std.proofs.Common.{◌≡◌, Bool, List, [], ◌∷◌, refl, ap, ◌∙◌, rules}
+use Rattle.std.proofs.Common.{◌≡◌, Bool, List, [], ◌∷◌, ap, ◌∙◌, rules}
 use Rattle.std.specs.Prelude.{◌==◌, not, nat_le, nat_lt, is_none, is_some}
 use Rattle.terms.specs.declared.refusal.Refusal.TheVariants.{UnknownBranch, UnknownPatron, UnknownCopy, CopyWithdrawn, CopyMissing, OnLoan, InTransit, Elsewhere, OnHoldShelf, HoldWaits, AlreadyHolds, NoRule, TooManyLoans, OwesTooMuch, NumbersUsedUp}
 use Rattle.model.specs.Checks.{Check, first_failing, last_number}

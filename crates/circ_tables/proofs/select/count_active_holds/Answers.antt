@@ -1,0 +1,12 @@
+use Rattle.sqlite.specs.Held.{state}
+use Rattle.sql_maps.proofs.LookLemmas.{ok_then}
+use Rattle.sql_maps.proofs.ReadLemmas.{commits_nothing}
+use Rattle.circ_tables.proofs.FoundLemmas.{active_holds_found, active_holds_plain}
+use Rattle.circ_tables.proofs.select.count_active_holds.Goals as goal
+
+pub returns-clause-survives : goal.returns-clause-survives
+returns-clause-survives g c has = commits_nothing _ _ (state g.S.Store c.args.conn.now) (state g.S.Store c.counted.new.conn) (active_holds_plain c.args.conn.now.schema has) c.counted.ensures.survives
+
+pub returns-clause-counts : goal.returns-clause-counts
+returns-clause-counts g c clean =
+    ok_then c.counted.result (active_holds_found c.args.patron (state g.S.Store c.args.conn.now) (state g.S.Store c.counted.new.conn)) (rw (c.params-to_sql.ensures, c.number.ensures.value) at (c.counted.ensures.counts clean))

@@ -1,0 +1,32 @@
+use Rattle.std.proofs.Common.{◌∷◌, [], Some, None, subst}
+use Rattle.sqlite.specs.Held.{state}
+use Rattle.sqlite.specs.Order.{Row}
+use Rattle.sql_maps.specs.Maps.{FirstOf}
+use Rattle.sql_maps.proofs.ReadLemmas.{commits_nothing}
+use Rattle.circ_tables.specs.Shape.{loans_place, copies_place}
+use Rattle.circ_tables.specs.Selections.{LendsTitle}
+use Rattle.circ_tables.proofs.TitleLemmas.{title_found, title_plain}
+use Rattle.circ_tables.proofs.select.open_loan_of_title.Goals as goal
+
+pub returns-in_err-row-clause-survives : goal.returns-in_err-row-clause-survives
+returns-in_err-row-clause-survives g c has = commits_nothing _ _ (state g.S.Store c.args.conn.now) (state g.S.Store c.first_row.new.conn) (title_plain c.args.conn.now.schema has) c.first_row.ensures.survives
+
+pub returns-in_err-loan_row-in-Some-clause-survives : goal.returns-in_err-loan_row-in-Some-clause-survives
+returns-in_err-loan_row-in-Some-clause-survives g c has = commits_nothing _ _ (state g.S.Store c.args.conn.now) (state g.S.Store c.first_row.new.conn) (title_plain c.args.conn.now.schema has) c.first_row.ensures.survives
+
+pub returns-in-Some-clause-survives : goal.returns-in-Some-clause-survives
+returns-in-Some-clause-survives g c has = commits_nothing _ _ (state g.S.Store c.args.conn.now) (state g.S.Store c.first_row.new.conn) (title_plain c.args.conn.now.schema has) c.first_row.ensures.survives
+
+pub returns-clause-survives : goal.returns-clause-survives
+returns-clause-survives g c has = commits_nothing _ _ (state g.S.Store c.args.conn.now) (state g.S.Store c.first_row.new.conn) (title_plain c.args.conn.now.schema has) c.first_row.ensures.survives
+
+pub returns-in-Some-clause-first : goal.returns-in-Some-clause-first
+returns-in-Some-clause-first g c clean maps holds =
+    let found = rw (c.in-Some.is, c.params-to_sql.ensures, c.number.ensures.value, c.params-to_sql-2.ensures, c.number-2.ensures.value) at (c.in_ok-row.ensures.finds clean) in
+    let got = title_found c.args.patron c.args.title (state g.S.Store c.args.conn.now) (state g.S.Store c.first_row.new.conn) (Some c.in-Some.row) found maps holds in
+    (subst (λ (v : Row). FirstOf (maps loans_place) (LendsTitle (maps copies_place) c.args.patron c.args.title) (v ∷ [])) c.in_ok-loan_row-in-Some.ensures.cells got.0, got.1)
+
+pub returns-clause-first : goal.returns-clause-first
+returns-clause-first g c clean maps holds =
+    let found = rw (c.in-None.is, c.params-to_sql.ensures, c.number.ensures.value, c.params-to_sql-2.ensures, c.number-2.ensures.value) at (c.in_ok-row.ensures.finds clean) in
+    title_found c.args.patron c.args.title (state g.S.Store c.args.conn.now) (state g.S.Store c.first_row.new.conn) None found maps holds

@@ -1,0 +1,32 @@
+use Rattle.std.proofs.Common.{◌∷◌, [], Some, None, subst}
+use Rattle.sqlite.specs.Held.{state}
+use Rattle.sqlite.specs.Order.{Row}
+use Rattle.sql_maps.specs.Maps.{First}
+use Rattle.sql_maps.proofs.ReadLemmas.{commits_nothing}
+use Rattle.circ_tables.specs.Shape.{holds_place}
+use Rattle.circ_tables.specs.Selections.{names_copy}
+use Rattle.circ_tables.proofs.FoundLemmas.{ready_hold_found, ready_hold_plain}
+use Rattle.circ_tables.proofs.select.ready_hold_of.Goals as goal
+
+pub returns-in_err-row-clause-survives : goal.returns-in_err-row-clause-survives
+returns-in_err-row-clause-survives g c has = commits_nothing _ _ (state g.S.Store c.args.conn.now) (state g.S.Store c.first_row.new.conn) (ready_hold_plain c.args.conn.now.schema has) c.first_row.ensures.survives
+
+pub returns-in_err-hold_row-in-Some-clause-survives : goal.returns-in_err-hold_row-in-Some-clause-survives
+returns-in_err-hold_row-in-Some-clause-survives g c has = commits_nothing _ _ (state g.S.Store c.args.conn.now) (state g.S.Store c.first_row.new.conn) (ready_hold_plain c.args.conn.now.schema has) c.first_row.ensures.survives
+
+pub returns-in-Some-clause-survives : goal.returns-in-Some-clause-survives
+returns-in-Some-clause-survives g c has = commits_nothing _ _ (state g.S.Store c.args.conn.now) (state g.S.Store c.first_row.new.conn) (ready_hold_plain c.args.conn.now.schema has) c.first_row.ensures.survives
+
+pub returns-clause-survives : goal.returns-clause-survives
+returns-clause-survives g c has = commits_nothing _ _ (state g.S.Store c.args.conn.now) (state g.S.Store c.first_row.new.conn) (ready_hold_plain c.args.conn.now.schema has) c.first_row.ensures.survives
+
+pub returns-in-Some-clause-first : goal.returns-in-Some-clause-first
+returns-in-Some-clause-first g c clean maps holds =
+    let found = rw (c.in-Some.is, c.params-to_sql.ensures, c.number.ensures.value) at (c.in_ok-row.ensures.finds clean) in
+    let got = ready_hold_found c.args.copy (state g.S.Store c.args.conn.now) (state g.S.Store c.first_row.new.conn) (Some c.in-Some.row) found maps holds in
+    (subst (λ (v : Row). First (maps holds_place) (names_copy c.args.copy) (v ∷ [])) c.in_ok-hold_row-in-Some.ensures.cells got.0, got.1)
+
+pub returns-clause-first : goal.returns-clause-first
+returns-clause-first g c clean maps holds =
+    let found = rw (c.in-None.is, c.params-to_sql.ensures, c.number.ensures.value) at (c.in_ok-row.ensures.finds clean) in
+    ready_hold_found c.args.copy (state g.S.Store c.args.conn.now) (state g.S.Store c.first_row.new.conn) None found maps holds

@@ -1,0 +1,15 @@
+pub mod Words
+pub mod AnswerLemmas
+pub mod KeyLemmas
+pub mod RowsLemmas
+pub mod WriteLemmas
+pub mod UniqueLemmas
+pub mod FillLemmas
+pub mod MapLemmas
+pub mod CallLemmas
+pub mod FindLemmas
+pub mod ReadLemmas
+pub mod SelectLemmas
+pub mod LookLemmas
+pub mod FromLemmas
+pub mod CreateLemmas

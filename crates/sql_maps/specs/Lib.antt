@@ -1,0 +1,3 @@
+pub mod Maps
+pub mod Shapes
+pub mod Calls

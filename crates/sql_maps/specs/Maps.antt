@@ -1,0 +1,134 @@
+-- A table of a database as a map from its key to its row.
+use Rattle.std.specs.Prelude.{◌≡◌, ◌≢◌, ◌⊎◌, ℕ, ℤ, List, [], ◌∷◌, length, map, Bool, true, false, None, Some, Option, bytes_eq, ◌&&◌, ◌==◌, if◌then◌else◌, slice_get, IsTrue}
+use Rattle.std.specs.List.{list_all, range_with_len}
+use Rattle.std.specs.Ordering.{int_eq}
+use Rattle.std.specs.declared.cmp.Ordering.TheVariants.{Less}
+use Rattle.sqlite.specs.State.{State}
+use Rattle.sqlite.specs.Schema.{Schema}
+use Rattle.sqlite.specs.Effect.{Database}
+use Rattle.sqlite.specs.Order.{Row, column}
+use Rattle.sqlite.specs.Table.{Table}
+use Rattle.sqlite.specs.declared.types.Value.TheVariants.{Null, Int, Text}
+use Rattle.sqlite_value.specs.declared.value.Value.{Value}
+use Rattle.sqlite_value.specs.declared.keys.Collation.TheVariants.{Binary}
+use Rattle.sqlite_value.specs.Order.{value_cmp}
+use Rattle.sqlite_trees.specs.declared.store.Shape.TheVariants as shape
+use Rattle.sqlite_trees.specs.View.{IsShaped}
+use Rattle.sqlite_trees.specs.Tree.{IsAscending}
+use Rattle.sqlite_schema.specs.Names.{place_of}
+use Rattle.sqlite_schema.specs.Rules.{equal}
+use Rattle.sqlite_rules.specs.Lists.{Has}
+use Rattle.sqlite_sql.specs.Ops.{binary, is_true}
+use Rattle.sqlite_sql.specs.declared.ops.BinaryOp.TheVariants.{Is, Compare}
+use Rattle.sqlite_sql.specs.declared.ops.CompareOp.TheVariants.{Le, Lt}
+
+-- the values of the key of a stored row, and of all its columns as they are declared
+abbrev pub key_at : Table → Row → Row
+key_at table row = map (column row) table.primary
+
+abbrev pub cells : Table → Row → Row
+cells table row = map (λ at. column row (place_of table at)) (range_with_len 0 (length table.columns))
+
+-- a whole number or a text
+abbrev pub is_plain : Value → Bool
+is_plain (Int n) = true
+is_plain (Text t) = true
+is_plain _ = false
+
+-- the same whole number or the same text
+abbrev pub same_value : Value → Value → Bool
+same_value (Int m) (Int n) = int_eq m n
+same_value (Text s) (Text t) = bytes_eq s t
+same_value _ _ = false
+
+abbrev pub same_key : Row → Row → Bool
+same_key [] [] = true
+same_key (a ∷ more) (b ∷ others) = same_value a b && same_key more others
+same_key _ _ = false
+
+-- a map from keys to rows
+abbrev pub Map : Type 0
+Map = Row → Option Row
+
+abbrev pub put : Map → Row → Row → Map
+put m k v j = if same_key j k then Some v else m j
+
+abbrev pub take_out : Map → Row → Map
+take_out m k j = if same_key j k then None else m j
+
+-- the rows of the table are those of the map
+pub record IsMap (table : Table) (rows : List Row) (m : Map) : Type 0 where
+  pub shaped : IsShaped shape.Table rows
+  pub plain : (r : Row) → Has rows r → list_all is_plain (key_at table r) ≡ true
+  pub sound : (r : Row) → Has rows r → m (key_at table r) ≡ Some (cells table r)
+  pub whole : (k v : Row) → m k ≡ Some v → (r : Row) × Has rows r × (key_at table r ≡ k) × (cells table r ≡ v)
+
+-- the maps of all tables of a schema, by their places
+abbrev pub Maps : Type 0
+Maps = ℕ → Map
+
+abbrev pub put_at : Maps → ℕ → Row → Row → Maps
+put_at maps at k v i j = if i == at then put (maps at) k v j else maps i j
+
+abbrev pub take_at : Maps → ℕ → Row → Maps
+take_at maps at k i j = if i == at then take_out (maps at) k j else maps i j
+
+-- no table has a row
+abbrev pub no_maps : Maps
+no_maps i j = None
+
+-- the database has this schema, and its tables hold the maps
+pub record Holds (schema : Schema) (db : Database) (maps : Maps) : Type 0 where
+  pub schema_is : db.schema ≡ schema
+  pub tables : (at : ℕ) (table : Table) → slice_get schema.tables at ≡ Some table → IsMap table (db.trees table.tree) (maps at)
+
+-- what one write inside a transaction does: the maps change, nothing is committed, and the transaction goes on
+pub record Steps (schema : Schema) (old new : State) (change : Maps → Maps) : Type 0 where
+  pub maps : (maps : Maps) → Holds schema old.now maps → Holds schema new.now (change maps)
+  pub is_inside : IsTrue new.in_transaction
+  pub committed : new.committed ≡ old.committed
+
+-- the same where the schema changes and no table has a row
+pub record Moves (before after : Schema) (old new : State) : Type 0 where
+  pub maps : Holds before old.now no_maps → Holds after new.now no_maps
+  pub is_inside : IsTrue new.in_transaction
+  pub committed : new.committed ≡ old.committed
+
+-- the row with the least key among those of the map that pass
+abbrev pub First : Map → (Row → Bool) → List Row → Type 0
+First m good [] = (k v : Row) → m k ≡ Some v → good v ≡ false
+First m good (v ∷ more) =
+    ((k : Row) × (m k ≡ Some v)) × (good v ≡ true) × ((k w : Row) → m k ≡ Some w → good w ≡ true → (w ≡ v) ⊎ (value_cmp (column v 0) (column w 0) ≡ Less)) × (more ≡ [])
+
+-- the same where the condition is a fact
+abbrev pub FirstOf : Map → (Row → Type 0) → List Row → Type 0
+FirstOf m Good [] = (k v : Row) → m k ≡ Some v → ¬ Good v
+FirstOf m Good (v ∷ more) =
+    ((k : Row) × (m k ≡ Some v)) × Good v × ((k w : Row) → m k ≡ Some w → Good w → (w ≡ v) ⊎ (value_cmp (column v 0) (column w 0) ≡ Less)) × (more ≡ [])
+
+-- the rows of the map that pass, each once, by their keys
+pub record Listed (m : Map) (good : Row → Bool) (out : List Row) : Type 0 where
+  pub sound : (v : Row) → Has out v → (k : Row) × (m k ≡ Some v) × (good v ≡ true)
+  pub whole : (k v : Row) → m k ≡ Some v → good v ≡ true → Has out v
+  pub rises : IsAscending (λ v w. value_cmp (column v 0) (column w 0) ≡ Less) out
+
+-- how many rows of the map pass: the number of their keys
+pub record Count (m : Map) (good : Row → Bool) (n : ℕ) : Type 0 where
+  pub keys : List Row
+  pub sound : (k : Row) → Has keys k → (v : Row) × (m k ≡ Some v) × (good v ≡ true)
+  pub whole : (k v : Row) → m k ≡ Some v → good v ≡ true → Has keys k
+  pub distinct : IsAscending (λ a b. a ≢ b) keys
+  pub many : n ≡ length keys
+
+-- what WHERE reads of a row, column by column
+abbrev pub equals_at : ℕ → ℤ → Row → Bool
+equals_at at n v = equal Binary (column v at) (Int n)
+
+abbrev pub null_at : ℕ → Row → Bool
+null_at at v = is_true (binary (Is Binary) (column v at) Null)
+
+abbrev pub most_at : ℕ → ℤ → Row → Bool
+most_at at n v = is_true (binary (Compare Le Binary) (column v at) (Int n))
+
+abbrev pub below_at : ℕ → ℤ → Row → Bool
+below_at at n v = is_true (binary (Compare Lt Binary) (column v at) (Int n))
