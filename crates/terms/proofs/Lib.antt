@@ -1,1 +1,4 @@
-mod RequestTextLemmas
+pub mod WordLemmas
+pub mod RequestTextLemmas
+pub mod ReplyTextLemmas
+pub mod ReadingLemmas

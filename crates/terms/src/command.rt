@@ -165,7 +165,7 @@ pub struct Request {
 
 /// The words of a command, joined by single spaces.
 #[tactic(auto, unfolding(crate::specs::Texts::request_text, crate::specs::Texts::command_words))]
-fn joined_words(alloc: Global, command: &Command) -> Result<String, Memory>
+pub(crate) fn joined_words(alloc: Global, command: &Command) -> Result<String, Memory>
     ensures { IfOk result (λ text. string_bytes text ≡ request_text command.now) }
 {
     match command {

@@ -1,12 +1,17 @@
 //! Laws of texts: a law is the contract of a function that does nothing.
 
-ghost use Rattle.terms.specs.Laws.{IsCommand, RequestTextsDiffer};
+ghost use Rattle.terms.specs.Laws.{IsCommand, RequestTextsDiffer, ReplyTextsDiffer};
 
 use crate::command::Command;
 
 /// Two commands with one request text are one command.
 pub fn request_texts_differ()
     ensures { RequestTextsDiffer }
+{}
+
+/// Two kept replies with one reply text are one reply.
+pub fn reply_texts_differ()
+    ensures { ReplyTextsDiffer }
 {}
 
 /// Each number, day, mask and text of a command has its form.

@@ -17,7 +17,7 @@ mod week;
 pub use calendar::{Day, Memory, Weekdays};
 pub use command::{Caller, Command, Owner, Request, request_text};
 pub use fault::Fault;
-pub use laws::{command_has_forms, request_texts_differ};
+pub use laws::{command_has_forms, reply_texts_differ, request_texts_differ};
 pub use money::fine;
 pub use number::{
     BranchId, Cents, CopyId, CopyKind, Count, Days, HoldId, LineId, LoanId, PatronId, PatronKind,

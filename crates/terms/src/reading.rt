@@ -1,7 +1,14 @@
 //! Numbers and replies, read back from their texts.
 
-ghost use Rattle.std.specs.Prelude.{◌≡◌, ◌≢◌, ◌<◌, ◌^◌, IfSome, IfNone, ℕ};
+ghost use Rattle.std.specs.Prelude.{◌≡◌, ◌≢◌, ◌<◌, ◌^◌, ◌++◌, ◌∷◌, IfSome, IfNone, IsSome, IsSomeAnd, Some, None, List, ℕ};
 ghost use Rattle.std.specs.Fmt.{decimal};
+ghost use Rattle.calendar.specs.Days.{IsDayNumber, day_text};
+ghost use Rattle.terms.specs.Texts.{reply_text};
+ghost use Rattle.terms.specs.Laws.{IsNumber, IsAmount, IsRouted, IsKept};
+ghost use Rattle.terms.specs.declared.reply.Routed.{Routed};
+ghost use Rattle.terms.specs.declared.reply.Routed.TheVariants as routed;
+ghost use Rattle.terms.specs.declared.reply.Reply.{Reply};
+ghost use Rattle.terms.specs.declared.reply.Reply.TheVariants as reply;
 
 use crate::number::{BranchId, Cents, HoldId, LoanId};
 use crate::reply::{Reply, Routed};
@@ -33,6 +40,7 @@ fn read_large(text: &str) -> Option<u64>
 pub fn read_number(text: &str) -> Option<u32>
     ensures some { IfSome result (λ n. text.now ≡ decimal n) }
     ensures none { IfNone result ((n : ℕ) → n < 2 ^ 32 → text.now ≢ decimal n) }
+    ensures whole { (n : ℕ) → n < 2 ^ 32 → text.now ≡ decimal n → result ≡ Some n }
 {
     let number = read_large(text)?;
     if number <= 4_294_967_295 {
@@ -42,92 +50,258 @@ pub fn read_number(text: &str) -> Option<u32>
     }
 }
 
-/// The amount that a text writes.
-fn read_cents(text: &str) -> Option<Cents> {
+/// The amount of cents that a text writes.
+fn read_amount(text: &str) -> Option<u64>
+    ensures sound { IfSome result (λ n. IsAmount n × (text.now ≡ decimal n)) }
+    ensures whole { (n : ℕ) → IsAmount n → text.now ≡ decimal n → result ≡ Some n }
+{
     let number = read_large(text)?;
-    Some(Cents::new(number))
+    Some(number)
 }
 
-/// `shelf B`, `ready H at B until DAY`, `transit B for H` or `transit B`.
-fn read_routed(text: &str) -> Option<Routed> {
-    let (first, rest) = text.split_once(' ')?;
-    match first {
-        "shelf" => Some(Routed::Shelf {
-            branch: BranchId::new(read_number(rest)?),
-        }),
-        "ready" => read_hold_shelf(rest),
-        "transit" => read_transit(rest),
-        _ => None,
-    }
+/// What follows a word and a space.
+fn after_word<'a>(text: &'a str, word: &str) -> Option<&'a str>
+    ensures sound { IfSome result (λ rest. text.now ≡ word.now ++ (32 ∷ rest.now)) }
+    ensures whole { (rest : List ℕ) → text.now ≡ word.now ++ (32 ∷ rest) → IsSomeAnd result (λ r. r.now ≡ rest) }
+{
+    let rest = text.strip_prefix(word)?;
+    rest.strip_prefix(' ')
 }
 
-/// `H at B until DAY`.
-fn read_hold_shelf(text: &str) -> Option<Routed> {
-    let (hold, rest) = text.split_once(" at ")?;
-    let (branch, until) = rest.split_once(" until ")?;
+/// `N REST`.
+fn number_and_rest(text: &str) -> Option<(u32, &str)>
+    ensures sound { IfSome result (λ p. IsNumber p.0 × (text.now ≡ decimal p.0 ++ (32 ∷ p.1.now))) }
+    ensures whole { (n : ℕ) (rest : List ℕ) → IsNumber n → text.now ≡ decimal n ++ (32 ∷ rest) → IsSomeAnd result (λ p. (p.0 ≡ n) × (p.1.now ≡ rest)) }
+{
+    let (number, rest) = text.split_once(' ')?;
+    let number = read_number(number)?;
+    Some((number, rest))
+}
+
+/// `AMOUNT REST`.
+fn amount_and_rest(text: &str) -> Option<(u64, &str)>
+    ensures sound { IfSome result (λ p. IsAmount p.0 × (text.now ≡ decimal p.0 ++ (32 ∷ p.1.now))) }
+    ensures whole { (n : ℕ) (rest : List ℕ) → IsAmount n → text.now ≡ decimal n ++ (32 ∷ rest) → IsSomeAnd result (λ p. (p.0 ≡ n) × (p.1.now ≡ rest)) }
+{
+    let (amount, rest) = text.split_once(' ')?;
+    let amount = read_amount(amount)?;
+    Some((amount, rest))
+}
+
+/// `WORD N`.
+fn number_after(text: &str, word: &str) -> Option<u32>
+    ensures sound { IfSome result (λ n. IsNumber n × (text.now ≡ word.now ++ (32 ∷ decimal n))) }
+    ensures whole { (n : ℕ) → IsNumber n → text.now ≡ word.now ++ (32 ∷ decimal n) → result ≡ Some n }
+{
+    let rest = after_word(text, word)?;
+    read_number(rest)
+}
+
+/// `WORD AMOUNT`.
+fn amount_after(text: &str, word: &str) -> Option<u64>
+    ensures sound { IfSome result (λ n. IsAmount n × (text.now ≡ word.now ++ (32 ∷ decimal n))) }
+    ensures whole { (n : ℕ) → IsAmount n → text.now ≡ word.now ++ (32 ∷ decimal n) → result ≡ Some n }
+{
+    let rest = after_word(text, word)?;
+    read_amount(rest)
+}
+
+/// `WORD DAY`.
+fn day_after(text: &str, word: &str) -> Option<Day>
+    ensures sound { IfSome result (λ n. IsDayNumber n × (text.now ≡ word.now ++ (32 ∷ day_text n))) }
+    ensures whole { (n : ℕ) → IsDayNumber n → text.now ≡ word.now ++ (32 ∷ day_text n) → result ≡ Some n }
+{
+    let rest = after_word(text, word)?;
+    Day::read(rest)
+}
+
+/// `WORD N REST`.
+fn number_after_and_rest<'a>(text: &'a str, word: &str) -> Option<(u32, &'a str)>
+    ensures sound { IfSome result (λ p. IsNumber p.0 × (text.now ≡ word.now ++ (32 ∷ (decimal p.0 ++ (32 ∷ p.1.now))))) }
+    ensures whole { (n : ℕ) (rest : List ℕ) → IsNumber n → text.now ≡ word.now ++ (32 ∷ (decimal n ++ (32 ∷ rest))) → IsSomeAnd result (λ p. (p.0 ≡ n) × (p.1.now ≡ rest)) }
+{
+    let after = after_word(text, word)?;
+    number_and_rest(after)
+}
+
+/// `WORD AMOUNT REST`.
+fn amount_after_and_rest<'a>(text: &'a str, word: &str) -> Option<(u64, &'a str)>
+    ensures sound { IfSome result (λ p. IsAmount p.0 × (text.now ≡ word.now ++ (32 ∷ (decimal p.0 ++ (32 ∷ p.1.now))))) }
+    ensures whole { (n : ℕ) (rest : List ℕ) → IsAmount n → text.now ≡ word.now ++ (32 ∷ (decimal n ++ (32 ∷ rest))) → IsSomeAnd result (λ p. (p.0 ≡ n) × (p.1.now ≡ rest)) }
+{
+    let after = after_word(text, word)?;
+    amount_and_rest(after)
+}
+
+/// `shelf B`.
+fn read_shelf(text: &str) -> Option<Routed>
+    ensures sound { IfSome result (λ r. IsRouted r × (text.now ≡ reply_text (reply.Moved r))) }
+    ensures whole { (branch : ℕ) → IsNumber branch → text.now ≡ reply_text (reply.Moved (routed.Shelf branch)) → IsSome result }
+{
+    let branch = number_after(text, "shelf")?;
+    Some(Routed::Shelf {
+        branch: BranchId::new(branch),
+    })
+}
+
+/// `ready H at B until DAY`.
+fn read_hold_shelf(text: &str) -> Option<Routed>
+    ensures sound { IfSome result (λ r. IsRouted r × (text.now ≡ reply_text (reply.Moved r))) }
+    ensures whole { (hold branch until : ℕ) → IsNumber hold → IsNumber branch → IsDayNumber until → text.now ≡ reply_text (reply.Moved (routed.HoldShelf hold branch until)) → IsSome result }
+{
+    let (hold, rest) = number_after_and_rest(text, "ready")?;
+    let (branch, last) = number_after_and_rest(rest, "at")?;
+    let until = day_after(last, "until")?;
     Some(Routed::HoldShelf {
-        hold: HoldId::new(read_number(hold)?),
-        branch: BranchId::new(read_number(branch)?),
-        until: Day::read(until)?,
+        hold: HoldId::new(hold),
+        branch: BranchId::new(branch),
+        until,
     })
 }
 
-/// `B for H` or `B`.
-fn read_transit(text: &str) -> Option<Routed> {
-    match text.split_once(" for ") {
-        Some((goal, hold)) => Some(Routed::Transit {
-            goal: BranchId::new(read_number(goal)?),
-            hold: Some(HoldId::new(read_number(hold)?)),
-        }),
-        None => Some(Routed::Transit {
-            goal: BranchId::new(read_number(text)?),
-            hold: None,
-        }),
-    }
+/// `transit B for H`.
+fn read_transit_for(text: &str) -> Option<Routed>
+    ensures sound { IfSome result (λ r. IsRouted r × (text.now ≡ reply_text (reply.Moved r))) }
+    ensures whole { (goal hold : ℕ) → IsNumber goal → IsNumber hold → text.now ≡ reply_text (reply.Moved (routed.Transit goal (Some hold))) → IsSome result }
+{
+    let (goal, rest) = number_after_and_rest(text, "transit")?;
+    let hold = number_after(rest, "for")?;
+    Some(Routed::Transit {
+        goal: BranchId::new(goal),
+        hold: Some(HoldId::new(hold)),
+    })
 }
 
-/// `L due DAY`.
-fn read_lent(text: &str) -> Option<Reply> {
-    let (loan, due) = text.split_once(" due ")?;
+/// `transit B`.
+fn read_transit(text: &str) -> Option<Routed>
+    ensures sound { IfSome result (λ r. IsRouted r × (text.now ≡ reply_text (reply.Moved r))) }
+    ensures whole { (goal : ℕ) → IsNumber goal → text.now ≡ reply_text (reply.Moved (routed.Transit goal None)) → IsSome result }
+{
+    let goal = number_after(text, "transit")?;
+    Some(Routed::Transit {
+        goal: BranchId::new(goal),
+        hold: None,
+    })
+}
+
+/// Where a copy goes.
+fn read_routed(text: &str) -> Option<Routed>
+    ensures sound { IfSome result (λ r. IsRouted r × (text.now ≡ reply_text (reply.Moved r))) }
+    ensures whole { (r : Routed) → IsRouted r → text.now ≡ reply_text (reply.Moved r) → IsSome result }
+{
+    if let Some(routed) = read_shelf(text) {
+        return Some(routed);
+    }
+    if let Some(routed) = read_hold_shelf(text) {
+        return Some(routed);
+    }
+    if let Some(routed) = read_transit_for(text) {
+        return Some(routed);
+    }
+    read_transit(text)
+}
+
+/// `loan L due DAY`.
+fn read_lent(text: &str) -> Option<Reply>
+    ensures sound { IfSome result (λ r. IsKept r × (text.now ≡ reply_text r)) }
+    ensures whole { (loan due : ℕ) → IsNumber loan → IsDayNumber due → text.now ≡ reply_text (reply.Lent loan due) → IsSome result }
+{
+    let (loan, rest) = number_after_and_rest(text, "loan")?;
+    let due = day_after(rest, "due")?;
     Some(Reply::Lent {
-        loan: LoanId::new(read_number(loan)?),
-        due: Day::read(due)?,
+        loan: LoanId::new(loan),
+        due,
     })
 }
 
-/// `F price Q`, or `F` and where the copy goes.
-fn read_fine(text: &str) -> Option<Reply> {
-    let (fine, rest) = text.split_once(' ')?;
-    let fine = read_cents(fine)?;
-    match rest.strip_prefix("price ") {
-        Some(price) => Some(Reply::Lost {
-            fine,
-            price: read_cents(price)?,
-        }),
-        None => Some(Reply::CheckedIn {
-            fine,
-            routed: read_routed(rest)?,
-        }),
-    }
+/// `fine F price Q`.
+fn read_lost(text: &str) -> Option<Reply>
+    ensures sound { IfSome result (λ r. IsKept r × (text.now ≡ reply_text r)) }
+    ensures whole { (fine price : ℕ) → IsAmount fine → IsAmount price → text.now ≡ reply_text (reply.Lost fine price) → IsSome result }
+{
+    let (fine, rest) = amount_after_and_rest(text, "fine")?;
+    let price = amount_after(rest, "price")?;
+    Some(Reply::Lost {
+        fine: Cents::new(fine),
+        price: Cents::new(price),
+    })
 }
 
-/// The reply with this text, where it is one that is kept: neither a page nor a refusal.
-pub fn read_reply(text: &str) -> Option<Reply> {
+/// `fine F`, and where the copy goes.
+fn read_checked_in(text: &str) -> Option<Reply>
+    ensures sound { IfSome result (λ r. IsKept r × (text.now ≡ reply_text r)) }
+    ensures whole { (fine : ℕ) (r : Routed) → IsAmount fine → IsRouted r → text.now ≡ reply_text (reply.CheckedIn fine r) → IsSome result }
+{
+    let (fine, rest) = amount_after_and_rest(text, "fine")?;
+    let routed = read_routed(rest)?;
+    Some(Reply::CheckedIn {
+        fine: Cents::new(fine),
+        routed,
+    })
+}
+
+/// `hold H`.
+fn read_held(text: &str) -> Option<Reply>
+    ensures sound { IfSome result (λ r. IsKept r × (text.now ≡ reply_text r)) }
+    ensures whole { (hold : ℕ) → IsNumber hold → text.now ≡ reply_text (reply.Held hold) → IsSome result }
+{
+    let hold = number_after(text, "hold")?;
+    Some(Reply::Held {
+        hold: HoldId::new(hold),
+    })
+}
+
+/// `owed AMOUNT`.
+fn read_owed(text: &str) -> Option<Reply>
+    ensures sound { IfSome result (λ r. IsKept r × (text.now ≡ reply_text r)) }
+    ensures whole { (owed : ℕ) → IsAmount owed → text.now ≡ reply_text (reply.Owed owed) → IsSome result }
+{
+    let owed = amount_after(text, "owed")?;
+    Some(Reply::Owed {
+        owed: Cents::new(owed),
+    })
+}
+
+/// Where a copy goes that left the hold shelf.
+fn read_moved(text: &str) -> Option<Reply>
+    ensures sound { IfSome result (λ r. IsKept r × (text.now ≡ reply_text r)) }
+    ensures whole { (r : Routed) → IsRouted r → text.now ≡ reply_text (reply.Moved r) → IsSome result }
+{
+    let routed = read_routed(text)?;
+    Some(Reply::Moved { routed })
+}
+
+/// The reply with this text, in one of its forms.
+fn find_reply(text: &str) -> Option<Reply>
+    ensures sound { IfSome result (λ r. IsKept r × (text.now ≡ reply_text r)) }
+    ensures whole { (r : Reply) → IsKept r → text.now ≡ reply_text r → IsSome result }
+{
     if text == "ok" {
         return Some(Reply::Done);
     }
-    let (first, rest) = text.split_once(' ')?;
-    match first {
-        "loan" => read_lent(rest),
-        "fine" => read_fine(rest),
-        "hold" => Some(Reply::Held {
-            hold: HoldId::new(read_number(rest)?),
-        }),
-        "owed" => Some(Reply::Owed {
-            owed: read_cents(rest)?,
-        }),
-        _ => Some(Reply::Moved {
-            routed: read_routed(text)?,
-        }),
+    if let Some(lent) = read_lent(text) {
+        return Some(lent);
     }
+    if let Some(lost) = read_lost(text) {
+        return Some(lost);
+    }
+    if let Some(checked_in) = read_checked_in(text) {
+        return Some(checked_in);
+    }
+    if let Some(held) = read_held(text) {
+        return Some(held);
+    }
+    if let Some(owed) = read_owed(text) {
+        return Some(owed);
+    }
+    read_moved(text)
+}
+
+/// The reply with this text, where it is one that is kept: neither a page nor a refusal.
+pub fn read_reply(text: &str) -> Option<Reply>
+    ensures sound { IfSome result (λ r. IsKept r × (reply_text r ≡ text.now)) }
+    ensures whole { (r : Reply) → IsKept r → text.now ≡ reply_text r → result ≡ Some r }
+    ensures none { IfNone result ((r : Reply) → IsKept r → reply_text r ≢ text.now) }
+{
+    find_reply(text)
 }

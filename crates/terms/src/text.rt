@@ -3,7 +3,9 @@
 ghost use Rattle.std.specs.Prelude.{◌≡◌, ◌+◌, ◌<◌, ◌≤◌, ◌==◌, IfOk, IfSome, IfNone, OnOk, true, false, length, string_bytes, Some, None, MatchOption, bytes_eq, IsUtf8};
 ghost use Rattle.std.specs.List.{list_all};
 ghost use Rattle.terms.specs.Forms.{is_name, is_plain_byte, is_card_key, is_alphanumeric, is_outside_key, is_key_byte};
+ghost use Rattle.terms.specs.Texts.{request_text};
 
+use crate::command::{Command, joined_words};
 use calendar::Memory;
 use std::alloc::Global;
 use std::fmt;
@@ -228,6 +230,14 @@ impl Key {
         } else {
             Ok(None)
         }
+    }
+
+    /// The key of a row of a copies file: the request text of its command.
+    pub fn of_row(alloc: Global, command: &Command) -> Result<Key, Memory>
+        ensures { IfOk result (λ key. key ≡ request_text command.now) }
+    {
+        let text = joined_words(alloc, command)?;
+        Ok(Key { text })
     }
 
     /// The text.

@@ -34,7 +34,10 @@ impl Mask {
     }
 
     /// The mask that seven letters write, `o` for open and `c` for closed.
-    pub fn read(text: &str) -> Option<Mask> {
+    pub fn read(text: &str) -> Option<Mask>
+        ensures some { IfSome result (λ m. text.now ≡ mask_text m) }
+        ensures none { IfNone result ((closed : List Bool) → length closed ≡ 7 → text.now ≢ mask_text closed) }
+    {
         let [a, b, c, d, e, f, g] = text.as_bytes() else {
             return None;
         };
@@ -68,7 +71,10 @@ impl Mask {
 }
 
 /// Whether a letter stands for a closed weekday.
-fn is_closed(letter: u8) -> Option<bool> {
+fn is_closed(letter: u8) -> Option<bool>
+    ensures some { IfSome result (λ closed. letter ≡ (if closed then 99 else 111)) }
+    ensures none { IfNone result ((closed : Bool) → letter ≢ (if closed then 99 else 111)) }
+{
     match letter {
         b'c' => Some(true),
         b'o' => Some(false),
