@@ -1,5 +1,8 @@
 //! The desk by its words, over memory. Expected lines are those of the rules, worked out by hand.
 
+ghost use Rattle.std.specs.Prelude.{IfOk};
+ghost use Rattle.terms.specs.Built.{IsBuilt};
+
 use crate::{Exit, Run, one, read_run};
 use desk::Desk;
 use sqlite::{Alter, Connection, MemStore};
@@ -313,7 +316,9 @@ fn refuses_a_second_active_hold_of_the_title(rt: HostRuntime) -> Result<(), Fail
     )
 }
 
-fn by_patron(alloc: Global, patron: u32, card_key: &str, name: &str) -> Result<Request, Fail> {
+fn by_patron(alloc: Global, patron: u32, card_key: &str, name: &str) -> Result<Request, Fail>
+    ensures { IfOk result (λ request. IsBuilt request.command) }
+{
     let card_key = CardKey::new(alloc, card_key)?.ok_or("a card key")?;
     Ok(Request {
         caller: Caller::Patron(PatronId::new(patron), card_key),
@@ -336,7 +341,8 @@ fn lets_no_patron_lend(rt: HostRuntime) -> Result<(), Fail> {
         (8, "cardkey00001"),
     ];
     for (patron, card_key) in callers {
-        let reply = desk.handle(alloc, &by_patron(alloc, patron, card_key, "m1")?)?;
+        let request = by_patron(alloc, patron, card_key, "m1")?;
+        let reply = desk.handle(alloc, &request)?;
         assert!(rt; matches!(reply, Reply::Refused(Refusal::NotAllowed)));
     }
     assert_eq!(rt; count(desk, "SELECT COUNT(*) FROM loans")?, 0);

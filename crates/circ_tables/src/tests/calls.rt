@@ -159,11 +159,10 @@ pub fn get_line(conn: &mut Connection<MemStore>, line: LineId) -> Result<Option<
 
 pub fn get_kept(
     conn: &mut Connection<MemStore>,
-    alloc: Global,
     owner: Owner,
     key: &Key,
 ) -> Result<Option<KeptReply>, Fault> {
-    tables::get_kept(conn, alloc, owner, key)
+    tables::get_kept(conn, owner, key)
 }
 
 pub fn open_loan_of(
