@@ -353,10 +353,15 @@ fn lets_no_patron_lend(rt: HostRuntime) -> Result<(), Fail> {
 fn runs_a_list(rt: HostRuntime) -> Result<(), Fail> {
     let alloc = rt.alloc();
     let mut desk = ground(&rt, alloc)?;
-    let Ok(replies) = desk.run(alloc, &[]) else {
+    let first = by_patron(alloc, 1, "cardkey00001", "m1")?;
+    let second = by_patron(alloc, 8, "cardkey00001", "m2")?;
+    let Ok(replies) = desk.run(alloc, &[first, second]) else {
         return Err("a fault".into());
     };
-    assert!(rt; replies.is_empty());
+    assert_eq!(rt; replies.len(), 2);
+    for reply in &replies {
+        assert!(rt; matches!(reply, Reply::Refused(Refusal::NotAllowed)));
+    }
     Ok(())
 }
 
