@@ -44,7 +44,7 @@ LENDING = [
     ("k2", ["check-out", "1", "11", "1"], "loan 2 due 2026-03-09"),
 ]
 
-# Each refusal that the eight commands can give on a library that they made, in the order of their words.
+# Each refusal that the commands can give on a library that they made, in the order of their words.
 REFUSALS = [
     (["begin-day", "2026-03-02"], 23),
     (["begin-day", "2191-01-01"], 23),
@@ -53,6 +53,11 @@ REFUSALS = [
     (["branch", "1", "6", "Main"], 20),
     (["week", "9", "ooooooo"], 10),
     (["week", "1", "ccccccc"], 22),
+    (["close-day", "9", "2026-03-09"], 10),
+    (["close-day", "1", "2026-03-02"], 23),
+    (["open-day", "9", "2026-03-09"], 10),
+    (["open-day", "1", "2026-03-02"], 23),
+    (["open-day", "1", "2026-03-09"], 25),
     (["kind", "1", "201", "5", "500"], 21),
     (["rule", "1", "1", "0", "1", "20", "100"], 21),
     (["rule", "9", "1", "6", "1", "20", "100"], 17),
@@ -67,6 +72,11 @@ REFUSALS = [
     (["check-out", "1", "99", "2"], 13),
     (["check-out", "2", "10", "1"], 31),
     (["check-out", "1", "20", "1"], 30),
+    (["pay", "9", "1"], 11),
+    (["pay", "1", "0"], 60),
+    (["pay", "1", "1"], 60),
+    (["waive", "9", "1"], 11),
+    (["waive", "1", "1"], 60),
 ]
 
 BAD_WORDS = [
@@ -94,7 +104,9 @@ BAD_REQUESTS = [
     ["branch", "4", "5", "-Hill"],
     ["branch", "4", "5", "\x07"],
     ["branch", "4", "5", "x" * 121],
-    ["pay", "1", "5"],
+    ["check-in", "10", "1"],
+    ["pay", "1", "05"],
+    ["close-day", "1", "2026-3-9"],
 ]
 
 passed = 0
@@ -227,6 +239,46 @@ def refusals_and_bad_words(path):
     check("no row is changed", whole(path), before)
 
 
+def single_closed_days(folder):
+    """A day is closed and opened again, and a due day that was set stays."""
+    path = os.path.join(folder, "days.db")
+    say(path, GROUND)
+    say(path, [
+        ("c1", ["close-day", "1", "2026-03-09"], "ok"),
+        ("c1", ["close-day", "1", "2026-03-09"], "ok"),
+        ("c2", ["close-day", "1", "2026-03-09"], "refused 24"),
+        ("c3", ["close-day", "2", "2026-03-10"], "ok"),
+        ("k1", ["check-out", "1", "10", "1"], "loan 1 due 2026-03-10"),
+    ])
+    check("closed days", rows(path, "SELECT * FROM closed_days"), [(1, 20521), (2, 20522)])
+    say(path, [
+        ("o1", ["open-day", "1", "2026-03-09"], "ok"),
+        ("o2", ["open-day", "1", "2026-03-09"], "refused 25"),
+        ("k2", ["check-out", "2", "11", "1"], "loan 2 due 2026-03-09"),
+    ])
+    check("one is left", rows(path, "SELECT * FROM closed_days"), [(2, 20522)])
+    check("due days", rows(path, "SELECT loan, due FROM loans"), [(1, 20522), (2, 20521)])
+
+
+def payments(folder):
+    """What is owed is paid and waived in parts, each once. The fine is written past the desk, since no command makes it yet."""
+    path = os.path.join(folder, "money.db")
+    say(path, GROUND)
+    write(path, "UPDATE patrons SET owed = 100 WHERE patron = 1",
+          "INSERT INTO lines VALUES (1, 1, 20514, 0, 100, 1)", "UPDATE meta SET next_line = 2")
+    say(path, [
+        ("p1", ["pay", "1", "30"], "owed 70"),
+        ("p1", ["pay", "1", "30"], "owed 70"),
+        ("p2", ["waive", "1", "20"], "owed 50"),
+        ("p3", ["pay", "1", "51"], "refused 60"),
+        ("p4", ["pay", "1", "50"], "owed 0"),
+    ])
+    check("owed", rows(path, "SELECT owed FROM patrons WHERE patron = 1"), [(0,)])
+    check("lines", rows(path, "SELECT * FROM lines"),
+          [(1, 1, 20514, 0, 100, 1), (2, 1, 20514, 2, 30, None),
+           (3, 1, 20514, 3, 20, None), (4, 1, 20514, 2, 50, None)])
+
+
 def refusals_of_other_rows(folder, path):
     """Check-out heeds rows that no command makes yet: they are written past the desk."""
     other = os.path.join(folder, "rows.db")
@@ -328,6 +380,8 @@ def main():
         path = a_small_library(folder)
         refusals_and_bad_words(path)
         refusals_of_other_rows(folder, path)
+        single_closed_days(folder)
+        payments(folder)
         bad_words(folder)
         bad_files(folder, path)
         an_unreadable_file(folder, path)

@@ -139,3 +139,10 @@ civil_of_parts date n small e =
 pub day_text-is : (n : ℕ) → date_text (civil_of n).year (civil_of n).month (civil_of n).day ≡ day_text n
 unfolding day_text
 day_text-is n = refl
+
+-- the text of a day has its year in four digits, its month and its day
+pub day_text-written : (n : ℕ) → n ≤ 2_932_896 → (y : ℕ) × (m : ℕ) × (d : ℕ) × (y ≤ 9999) × (m ≤ 12) × (d ≤ 31) × (day_text n ≡ date_text y m d)
+day_text-written n small =
+    let date = IsDateOf-day_text n small in
+    let days = days_in_month_bounds (pos date.year) date.month in
+    (date.year, date.month, date.day, date.four_digits, omega (arith, date.exists), omega (arith, date.exists, days), date.written)

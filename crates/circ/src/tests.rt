@@ -11,7 +11,7 @@ use std::process::Abort;
 use std::test::Fail;
 use store::Store;
 use terms::{
-    BranchId, Caller, CardKey, Command, CopyId, Fault, Key, PatronId, Refusal, Reply, Request,
+    BranchId, Caller, CardKey, Command, CopyId, Day, Fault, Key, PatronId, Refusal, Reply, Request,
 };
 
 /// A key, words with a bar before a last word that has spaces, and the status and line that answer them.
@@ -316,6 +316,142 @@ fn refuses_a_second_active_hold_of_the_title(rt: HostRuntime) -> Result<(), Fail
     )
 }
 
+#[test]
+fn closes_and_opens_single_days(rt: HostRuntime) -> Result<(), Fail> {
+    let alloc = rt.alloc();
+    let mut desk = ground(&rt, alloc)?;
+    check(
+        &rt,
+        alloc,
+        &mut desk,
+        &[
+            ("c1", "close-day 1 2026-03-09", "0 ok"),
+            ("k1", "check-out 1 10 1", "0 loan 1 due 2026-03-10"),
+            ("c2", "open-day 1 2026-03-09", "0 ok"),
+            ("k2", "check-out 2 11 1", "0 loan 2 due 2026-03-09"),
+            ("r1", "close-day 9 2026-03-09", "2 refused 10"),
+            ("r2", "close-day 1 2026-03-02", "2 refused 23"),
+            ("c3", "close-day 1 2026-03-09", "0 ok"),
+            ("r3", "close-day 1 2026-03-09", "2 refused 24"),
+            ("r4", "open-day 9 2026-03-09", "2 refused 10"),
+            ("r5", "open-day 1 2026-03-02", "2 refused 23"),
+            ("r6", "open-day 1 2026-03-10", "2 refused 25"),
+            ("r7", "open-day 2 2026-03-09", "2 refused 25"),
+            ("c1", "close-day 1 2026-03-09", "0 ok"),
+            ("c1", "close-day 1 2026-03-10", "2 refused 80"),
+        ],
+    )?;
+    assert_eq!(rt;
+        count(
+            desk,
+            "SELECT COUNT(*) FROM loans WHERE loan = 1 AND due = 20522"
+        )?,
+        1
+    );
+    Ok(())
+}
+
+/// The request to close a Monday of branch 3, counted from 2026-03-09.
+fn closing(alloc: Global, monday: u32) -> Result<Request, Fail>
+    ensures { IfOk result (λ request. IsBuilt request.command) }
+{
+    let name = format!(in alloc; "m{monday}")?;
+    Ok(Request {
+        caller: Caller::Desk,
+        key: key(alloc, &name)?,
+        command: Command::CloseDay {
+            branch: BranchId::new(3),
+            day: Day::new(20521 + 7 * monday).ok_or("a day")?,
+        },
+    })
+}
+
+#[test]
+fn closes_four_hundred_single_days(rt: HostRuntime) -> Result<(), Fail> {
+    let alloc = rt.alloc();
+    let mut desk = ground(&rt, alloc)?;
+    check(
+        &rt,
+        alloc,
+        &mut desk,
+        &[
+            ("a1", "branch 3 5|Hill", "0 ok"),
+            ("a2", "week 3 occcccc", "0 ok"),
+            ("a3", "acquire 40 400 1 3 900|High Pastures", "0 ok"),
+        ],
+    )?;
+    for monday in 0..400 {
+        let request = closing(alloc, monday)?;
+        let reply = desk.handle(alloc, &request)?;
+        assert!(rt; matches!(reply, Reply::Done), "at {monday}");
+    }
+    check(
+        &rt,
+        alloc,
+        &mut desk,
+        &[
+            ("b1", "close-day 3 2033-11-07", "2 refused 21"),
+            ("b2", "check-out 1 40 3", "0 loan 1 due 2033-11-07"),
+        ],
+    )
+}
+
+#[test]
+fn takes_payments_and_waives(rt: HostRuntime) -> Result<(), Fail> {
+    let alloc = rt.alloc();
+    let desk = ground(&rt, alloc)?;
+    let mut desk = written(
+        desk,
+        &[
+            "UPDATE patrons SET owed = 100 WHERE patron = 1",
+            "INSERT INTO lines VALUES (1, 1, 20514, 0, 100, 1)",
+            "UPDATE meta SET next_line = 2",
+        ],
+    )?;
+    check(
+        &rt,
+        alloc,
+        &mut desk,
+        &[
+            ("p1", "pay 1 30", "0 owed 70"),
+            ("p1", "pay 1 30", "0 owed 70"),
+            ("p1", "pay 1 31", "2 refused 80"),
+            ("p2", "waive 1 20", "0 owed 50"),
+            ("p3", "pay 1 51", "2 refused 60"),
+            ("p4", "waive 1 0", "2 refused 60"),
+            ("p5", "pay 2 1", "2 refused 60"),
+            ("p6", "pay 9 1", "2 refused 11"),
+            ("p7", "waive 9 1", "2 refused 11"),
+            ("p8", "pay 1 50", "0 owed 0"),
+        ],
+    )?;
+    let lines = "SELECT SUM(line * sort * amount) FROM lines WHERE patron = 1 AND day = 20514";
+    assert_eq!(rt; count(desk, lines)?, 2 * 2 * 30 + 3 * 3 * 20 + 4 * 2 * 50);
+    Ok(())
+}
+
+#[test]
+fn refuses_a_line_past_the_last_number(rt: HostRuntime) -> Result<(), Fail> {
+    let alloc = rt.alloc();
+    let desk = ground(&rt, alloc)?;
+    let mut desk = written(
+        desk,
+        &[
+            "UPDATE patrons SET owed = 100 WHERE patron = 1",
+            "UPDATE meta SET next_line = 2147483648",
+        ],
+    )?;
+    check(
+        &rt,
+        alloc,
+        &mut desk,
+        &[
+            ("p1", "pay 1 30", "2 refused 70"),
+            ("p2", "waive 1 30", "2 refused 70"),
+        ],
+    )
+}
+
 fn by_patron(alloc: Global, patron: u32, card_key: &str, name: &str) -> Result<Request, Fail>
     ensures { IfOk result (λ request. IsBuilt request.command) }
 {
@@ -393,6 +529,10 @@ fn understands_no_other_words(rt: HostRuntime) -> Result<(), Fail> {
         "renew 1",
         "page 1",
         "pay 01 5",
+        "pay 1 5 5",
+        "waive 1 -5",
+        "close-day 1 2026-3-9",
+        "open-day 1",
     ];
     for text in texts {
         let line = say(&mut desk, alloc, "k", text)?;

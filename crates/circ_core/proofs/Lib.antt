@@ -1,0 +1,16 @@
+pub mod Meets
+pub mod Rows
+pub mod Rising
+pub mod Counts
+pub mod Claims
+pub mod FirstInLine
+pub mod PatronCounts
+pub mod Standing
+pub mod OpenMeet
+pub mod SettingMeet
+pub mod AcquireMeet
+pub mod LendingMeet
+pub mod ClosingMeet
+pub mod AccountsMeet
+pub mod OwnersApart
+pub mod Decisions

@@ -1,16 +1,19 @@
 -- What is decided on a command, on the rows of its view.
-use Rattle.std.specs.Prelude.{◌≡◌, Result, Err}
+use Rattle.std.specs.Prelude.{◌≡◌, ◌-◌, [], Result, Err}
 use Rattle.terms.specs.declared.refusal.Refusal.{Refusal}
 use Rattle.terms.specs.declared.refusal.Refusal.TheVariants.{OutOfLimits}
-use Rattle.terms.specs.declared.reply.Reply.TheVariants.{Done}
+use Rattle.terms.specs.declared.reply.Reply.TheVariants.{Done, Owed}
+use Rattle.terms.specs.declared.row.Sort.TheVariants.{Payment, Waiver}
 use Rattle.terms.specs.declared.command.Command.{Command}
-use Rattle.terms.specs.declared.command.Command.TheVariants.{BeginDay, Branch, Week, Kind, Rule, Patron, Acquire, CheckOut}
+use Rattle.terms.specs.declared.command.Command.TheVariants.{BeginDay, Branch, Week, Kind, Rule, Patron, Acquire, CheckOut, CloseDay, OpenDay, Pay, Waive, Page}
 use Rattle.circ_core.specs.declared.changes.Decision.{Decision}
 use Rattle.circ_core.specs.declared.views.View.{View}
 use Rattle.circ_core.specs.declared.views.View.TheVariants as view
 use Rattle.circ_core.specs.Decided.{Decided}
 use Rattle.circ_core.specs.Setting.{begin_day_checks, begin_day_rows, branch_checks, branch_rows, week_checks, week_rows, kind_checks, kind_rows, rule_checks, rule_rows, patron_checks, patron_rows, acquire_checks, acquire_rows}
-use Rattle.circ_core.specs.Lending.{LendsOrRefuses}
+use Rattle.circ_core.specs.Lending.{owed_by, LendsOrRefuses}
+use Rattle.circ_core.specs.Closing.{close_day_checks, close_day_rows, open_day_checks, open_day_rows}
+use Rattle.circ_core.specs.Accounts.{settle_checks, settle_rows, page_checks}
 
 -- The decision is that of the command's checks, reply and row changes; a view of another command's rows is refused.
 abbrev pub DecidesOn : View → Command → Result Decision Refusal → Type 0
@@ -25,4 +28,11 @@ DecidesOn (view.Patron rows) (Patron patron kind card_key name) decided =
 DecidesOn (view.Acquire rows) (Acquire copy title kind home price text) decided =
     Decided (acquire_checks rows copy title kind home price text) Done (acquire_rows rows copy title kind home price text) decided
 DecidesOn (view.CheckOut rows) (CheckOut patron copy branch) decided = LendsOrRefuses rows patron copy branch decided
+DecidesOn (view.CloseDay rows) (CloseDay branch day) decided = Decided (close_day_checks rows day) Done (close_day_rows branch day) decided
+DecidesOn (view.OpenDay rows) (OpenDay branch day) decided = Decided (open_day_checks rows day) Done (open_day_rows branch day) decided
+DecidesOn (view.Pay rows) (Pay patron amount) decided =
+    Decided (settle_checks rows amount) (Owed (owed_by rows.patron - amount)) (settle_rows rows patron Payment amount) decided
+DecidesOn (view.Waive rows) (Waive patron amount) decided =
+    Decided (settle_checks rows amount) (Owed (owed_by rows.patron - amount)) (settle_rows rows patron Waiver amount) decided
+DecidesOn (view.Page row) (Page patron) decided = Decided (page_checks row) Done [] decided
 DecidesOn _ _ decided = decided ≡ Err OutOfLimits

@@ -1,5 +1,11 @@
 pub mod Slots
+pub mod Tables
+pub mod Views
 pub mod Decided
+pub mod Decides
 pub mod Setting
 pub mod Lending
+pub mod Closing
+pub mod Accounts
+pub mod Owners
 pub mod Deciding

@@ -1,8 +1,8 @@
 //! What a decision changes: a few rows.
 
-ghost use Rattle.std.specs.Prelude.{◌≡◌, ℕ, List, [], ◌∷◌, ◌<◌, length, slice_get, option_map, Option};
+ghost use Rattle.std.specs.Prelude.{◌≡◌, ℕ, List, [], ◌∷◌, ◌≤◌, length, slice_get, option_map, Option};
 ghost use Rattle.std.specs.Option.{option_copied};
-ghost use Rattle.circ_core.specs.Slots.{filled};
+ghost use Rattle.circ_core.specs.Slots.{filled, IsPacked};
 ghost use Rattle.circ_core.specs.declared.changes.RowChange.{RowChange};
 
 use std::marker::Model;
@@ -45,6 +45,8 @@ impl<'a> Model for Changes<'a> {
     ghost Value = { List RowChange };
 
     ghost view = { λ c. filled (c.first ∷ c.second ∷ c.third ∷ c.fourth ∷ c.fifth ∷ c.sixth ∷ []) };
+
+    ghost invariant = { λ c. IsPacked (c.first ∷ c.second ∷ c.third ∷ c.fourth ∷ c.fifth ∷ c.sixth ∷ []) };
 }
 
 impl<'a> Changes<'a> {
@@ -108,7 +110,10 @@ impl<'a> Changes<'a> {
     }
 
     /// The change at a place below `PLACES`, if that place is filled.
-    pub fn get(&self, place: usize) -> Option<&RowChange<'a>> {
+    pub fn get(&self, place: usize) -> Option<&RowChange<'a>>
+        ensures value { option_copied result ≡ slice_get self.now place }
+        ensures few { length self.now ≤ 6 }
+    {
         match place {
             0 => self.first.as_ref(),
             1 => self.second.as_ref(),

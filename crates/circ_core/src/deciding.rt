@@ -1,20 +1,40 @@
 //! The decision on a command.
 
 ghost use Rattle.terms.specs.Built.{IsBuilt};
+ghost use Rattle.model.specs.History.{History};
+ghost use Rattle.model.specs.Requests.{IsLegal};
+ghost use Rattle.model.specs.Picture.{picture};
 ghost use Rattle.circ_core.specs.Deciding.{DecidesOn};
+ghost use Rattle.circ_core.specs.Views.{IsViewOf};
+ghost use Rattle.circ_core.specs.Decides.{Decides};
 
+use crate::accounts::{page, settle};
 use crate::changes::Decision;
+use crate::closing::{close_day, open_day};
 use crate::lending::check_out;
 use crate::setting::{acquire, add_branch, begin_day, enrol, set_kind, set_rule, set_week};
 use crate::views::View;
-use terms::{Command, Refusal, RuleRow};
+use terms::{Command, Refusal, RuleRow, Sort};
 
 /// The rows are not those that the command needs: nothing can be told of them, and nothing is changed.
 const OTHER_VIEW: Refusal = Refusal::OutOfLimits;
 
 /// The refusal of the desk's command, or its reply with the rows that change. The view has the rows that the
 /// command needs; a view that was made for another kind of command is refused with 21. It takes no memory.
+///
+/// On the view of the tables that a legal list of accepted events leaves, it is the refusal or the reply which that
+/// list gives the command, and the rows change so that the tables are those of the list with the command added.
+#[tactic(auto, using(crate::proofs::Decisions::decides))]
 pub fn decide<'a>(view: &'a View, command: &'a Command) -> Result<Decision<'a>, Refusal>
+    requires { IsBuilt command.now }
+    ensures on_rows { DecidesOn view.now command.now result }
+    ensures meets { (H : History) → IsLegal H → IsViewOf (picture H) command.now view.now → Decides H command.now result }
+{
+    decide_on_rows(view, command)
+}
+
+/// The decision of the command's own function, on the rows of the view.
+fn decide_on_rows<'a>(view: &'a View, command: &'a Command) -> Result<Decision<'a>, Refusal>
     requires { IsBuilt command.now }
     ensures { DecidesOn view.now command.now result }
 {
@@ -91,6 +111,26 @@ pub fn decide<'a>(view: &'a View, command: &'a Command) -> Result<Decision<'a>, 
             branch,
         } => match view {
             View::CheckOut(rows) => check_out(rows, *patron, *copy, *branch),
+            _ => Err(OTHER_VIEW),
+        },
+        Command::CloseDay { branch, day } => match view {
+            View::CloseDay(rows) => close_day(rows, *branch, *day),
+            _ => Err(OTHER_VIEW),
+        },
+        Command::OpenDay { branch, day } => match view {
+            View::OpenDay(rows) => open_day(rows, *branch, *day),
+            _ => Err(OTHER_VIEW),
+        },
+        Command::Pay { patron, amount } => match view {
+            View::Pay(rows) => settle(rows, *patron, Sort::Payment, *amount),
+            _ => Err(OTHER_VIEW),
+        },
+        Command::Waive { patron, amount } => match view {
+            View::Waive(rows) => settle(rows, *patron, Sort::Waiver, *amount),
+            _ => Err(OTHER_VIEW),
+        },
+        Command::Page { .. } => match view {
+            View::Page(row) => page(row),
             _ => Err(OTHER_VIEW),
         },
         _ => unreachable!(),

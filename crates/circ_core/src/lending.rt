@@ -6,16 +6,13 @@ ghost use Rattle.terms.specs.declared.row.HoldState.TheVariants.{Filled};
 ghost use Rattle.circ_core.specs.Lending.{is_missing, is_withdrawn, stands_at, is_of_other, filled_hold, is_wanted, has_more, loans_allowed, debt_allowed, owed_by, check_out_checks, period_of, renewals_of, rate_of, cap_of, period_end, IsDueFrom, IsShutFrom, check_out_rows, new_loan, finished, LendsOrRefuses};
 
 use crate::changes::{Changes, Decision, RowChange};
-use crate::checks::first_refusal;
+use crate::checks::{LAST_NUMBER, first_refusal};
 use crate::views::CheckOutView;
 use calendar::Calendar;
 use terms::{
     BranchId, Cents, Condition, CopyId, CopyKind, CopyRow, Count, Day, Days, HoldRow, HoldState,
     KindRow, LoanId, LoanRow, PatronId, PatronKind, PatronRow, Refusal, Reply, RuleRow,
 };
-
-/// Loan numbers end here.
-const LAST_NUMBER: u32 = 2_147_483_647;
 
 fn is_gone(copy: &Option<CopyRow>) -> bool
     ensures { result ≡ is_withdrawn copy.now }

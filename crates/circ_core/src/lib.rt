@@ -1,13 +1,19 @@
 //! Decisions: from the rows that a command needs to its refusal, or its reply and the rows that change.
 #![tactic(auto)]
 
+mod accounts;
 mod changes;
 mod checks;
+mod closing;
 mod deciding;
 mod lending;
+mod owners;
 mod setting;
 mod views;
 
 pub use changes::{Changes, Decision, RowChange};
 pub use deciding::decide;
-pub use views::{AcquireView, CheckOutView, CopyView, PatronView, View};
+pub use owners::owners_law;
+pub use views::{
+    AccountView, AcquireView, CheckOutView, ClosedDayView, CopyView, PatronView, View,
+};

@@ -34,7 +34,7 @@ fn is_large(number: u32) -> bool
 }
 
 /// The changes go with the reply that it is done.
-fn done<'a>(changes: Changes<'a>) -> Decision<'a>
+pub(crate) fn done<'a>(changes: Changes<'a>) -> Decision<'a>
     ensures reply { result.reply ≡ Done }
     ensures changes { result.changes ≡ changes.entry }
 {

@@ -21,6 +21,21 @@ pub struct AcquireView {
     pub copy: Option<CopyRow>,
 }
 
+/// For `close-day` and `open-day`.
+#[derive(Drop)]
+pub struct ClosedDayView {
+    pub meta: MetaRow,
+    /// The calendar of the branch, if there is the branch.
+    pub calendar: Option<Calendar>,
+}
+
+/// For `pay` and `waive`.
+#[derive(Drop)]
+pub struct AccountView {
+    pub meta: MetaRow,
+    pub patron: Option<PatronRow>,
+}
+
 /// A copy, and the rows that claim it: its open loan, its transit, and the ready hold that names it.
 #[derive(Clone, Copy, Debug, PartialEq, Eq)]
 pub struct CopyView {
@@ -61,4 +76,9 @@ pub enum View {
     Patron(PatronView),
     Acquire(AcquireView),
     CheckOut(CheckOutView),
+    CloseDay(ClosedDayView),
+    OpenDay(ClosedDayView),
+    Pay(AccountView),
+    Waive(AccountView),
+    Page(Option<PatronRow>),
 }

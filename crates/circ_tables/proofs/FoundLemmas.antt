@@ -1,7 +1,12 @@
 -- What the selections by other columns than a key find.
 use Rattle.sqlite_rules.specs.Lists.{Has}
-use Rattle.std.proofs.Common.{inl, inr, ◌≡◌, ◌≤◌, ℕ, pos, negsuc, Bool, true, false, List, [], ◌∷◌, Option, Some, codes, refl, sym, ap, subst, ◌∙◌}
+use Rattle.std.proofs.Common.{inl, inr, arith, ◌≡◌, ◌≢◌, ◌≤◌, ◌<◌, length, min, slice_get, Ok, ℕ, pos, negsuc, Bool, true, false, List, [], ◌∷◌, Option, Some, codes, refl, sym, ap, subst, ◌∙◌}
 use Rattle.std.specs.Option.{option_to_list}
+use Rattle.std.specs.declared.cmp.Ordering.TheVariants.{Less}
+use Rattle.std.proofs.lemmas.Cmp.{tied_itself}
+use Rattle.sqlite_trees.specs.Tree.{IsAscending, rowid}
+use Rattle.sqlite_value.specs.Order.{value_cmp}
+use Rattle.sqlite_value.proofs.OrderLemmas.{value_cmp_total}
 use Rattle.sqlite.specs.declared.types.Value.TheVariants.{Null, Int}
 use Rattle.sqlite_value.specs.declared.keys.Collation.TheVariants.{Binary}
 use Rattle.sqlite.specs.Order.{Row, column}
@@ -16,10 +21,12 @@ use Rattle.sqlite.specs.Given.{IsPlain}
 use Rattle.sqlite.specs.State.{State, Shown, IsUnchanged}
 use Rattle.sqlite.proofs.Callers.{command_of}
 use Rattle.sqlite_tied.specs.Compute.{everything}
-use Rattle.sql_maps.specs.Maps.{Maps, Holds, First, Count, Listed}
+use Rattle.sql_maps.specs.Maps.{Maps, Holds, First, Count, Listed, cells, key_at}
 use Rattle.sql_maps.specs.Calls.{FindsRow}
 use Rattle.sql_maps.proofs.Words.{counting}
-use Rattle.sql_maps.proofs.LookLemmas.{Looks, first_found, list_found, count_found}
+use Rattle.sql_maps.proofs.LookLemmas.{Looks, first_found, list_found, count_found, count_gives}
+use Rattle.sql_maps.proofs.AnswerLemmas.{passes}
+use Rattle.sqlite.specs.Table.{Table}
 use Rattle.circ_tables.specs.Shape.{schema, meta, loans, holds, transits}
 use Rattle.circ_tables.specs.Selections.{is_open_of, is_open_by, names_copy, is_active_by, is_active_on, travels_for}
 
@@ -83,6 +90,21 @@ transit_for_plain s e = subst (λ z. IsPlain (understood z transit_for_text)) (s
 pub transit_for_found : (a : ℕ) → (old new : State) (o : Option Row) → FindsRow transit_for_text (Int (pos a) ∷ []) old new o → (maps : Maps) → Holds schema old.now maps → First (maps 10) (travels_for a) (option_to_list o) × IsUnchanged old new
 transit_for_found a = first_found schema 10 transits transit_for_tests transits_names transit_for_text (Int (pos a) ∷ []) (travels_for a) (λ r. refl) transit_for_looks
 
+-- a count that is no number of 32 bits is greater
+module _ (at : ℕ) (table : Table) (tests : List Term) (text : List ℕ) (given : Row) (good : Row → Bool) (reads : (r : Row) → passes tests given r ≡ good (cells table r)) (listed : slice_get schema.tables at ≡ Some table)
+    (command : command_of (understood schema text) ≡ Select (record { lets = []; body = counting table.tree tests }) (codes "COUNT(*)" ∷ [])) (bare : IsPlain (understood schema text)) (unlisted : reads_listing schema text ≡ false)
+    (single : (r : Row) → key_at table r ≡ rowid r ∷ []) (key_cell : (r : Row) → column (cells table r) 0 ≡ rowid r) where
+  count_many : (old new : State) → (row : Row) × FindsRow text given old new (Some row) × (0 < length row → (n : ℕ) → n ≤ 4294967295 → column row 0 ≢ Int (pos n)) → (maps : Maps) → Holds schema old.now maps
+      → (n : ℕ) × Count (maps at) good n × (4294967295 < n)
+  count_many old new found maps held =
+      let all = count_gives schema at table tests [] text given good reads listed command bare unlisted single key_cell old new (Ok found.0) found.1 maps held in
+      let many : all.0 ≤ 4294967295 → ⊥ = λ few.
+      let same : min all.0 9223372036854775807 ≡ all.0 = omega arith in
+      let is : column found.0 0 ≡ Int (pos all.0) = ap (λ r. column r 0) all.2 ∙ ap (λ n. Int (pos n)) same in
+      let wide : length found.0 ≡ 1 = ap length all.2 in
+      found.2 (omega arith) all.0 few is in
+      (all.0, all.1, omega arith)
+
 abbrev open_loans_text : List ℕ
 open_loans_text = codes "SELECT COUNT(*) FROM loans WHERE patron = ?1 AND ended IS NULL"
 
@@ -98,6 +120,9 @@ open_loans_plain s e = subst (λ z. IsPlain (understood z open_loans_text)) (sym
 
 pub open_loans_found : (a : ℕ) → (old new : State) (n : ℕ) → (row : Row) × FindsRow open_loans_text (Int (pos a) ∷ []) old new (Some row) × (column row 0 ≡ Int (pos n)) × (n ≤ 4294967295) → (maps : Maps) → Holds schema old.now maps → Count (maps 8) (is_open_by a) n × IsUnchanged old new
 open_loans_found a = count_found schema 8 loans open_loans_tests [] open_loans_text (Int (pos a) ∷ []) (is_open_by a) (λ r. refl) refl open_loans_is.0 open_loans_is.1 open_loans_is.2 (λ r. refl) (λ r. refl)
+
+pub open_loans_many : (a : ℕ) → (old new : State) → (row : Row) × FindsRow open_loans_text (Int (pos a) ∷ []) old new (Some row) × (0 < length row → (n : ℕ) → n ≤ 4294967295 → column row 0 ≢ Int (pos n)) → (maps : Maps) → Holds schema old.now maps → (n : ℕ) × Count (maps 8) (is_open_by a) n × (4294967295 < n)
+open_loans_many a = count_many 8 loans open_loans_tests open_loans_text (Int (pos a) ∷ []) (is_open_by a) (λ r. refl) refl open_loans_is.0 open_loans_is.1 open_loans_is.2 (λ r. refl) (λ r. refl)
 
 abbrev active_holds_text : List ℕ
 active_holds_text = codes "SELECT COUNT(*) FROM holds WHERE patron = ?1 AND state <= 1"
@@ -115,6 +140,9 @@ active_holds_plain s e = subst (λ z. IsPlain (understood z active_holds_text)) 
 pub active_holds_found : (a : ℕ) → (old new : State) (n : ℕ) → (row : Row) × FindsRow active_holds_text (Int (pos a) ∷ []) old new (Some row) × (column row 0 ≡ Int (pos n)) × (n ≤ 4294967295) → (maps : Maps) → Holds schema old.now maps → Count (maps 9) (is_active_by a) n × IsUnchanged old new
 active_holds_found a = count_found schema 9 holds active_holds_tests [] active_holds_text (Int (pos a) ∷ []) (is_active_by a) (λ r. refl) refl active_holds_is.0 active_holds_is.1 active_holds_is.2 (λ r. refl) (λ r. refl)
 
+pub active_holds_many : (a : ℕ) → (old new : State) → (row : Row) × FindsRow active_holds_text (Int (pos a) ∷ []) old new (Some row) × (0 < length row → (n : ℕ) → n ≤ 4294967295 → column row 0 ≢ Int (pos n)) → (maps : Maps) → Holds schema old.now maps → (n : ℕ) × Count (maps 9) (is_active_by a) n × (4294967295 < n)
+active_holds_many a = count_many 9 holds active_holds_tests active_holds_text (Int (pos a) ∷ []) (is_active_by a) (λ r. refl) refl active_holds_is.0 active_holds_is.1 active_holds_is.2 (λ r. refl) (λ r. refl)
+
 abbrev active_holds_on_text : List ℕ
 active_holds_on_text = codes "SELECT COUNT(*) FROM holds WHERE patron = ?1 AND title = ?2 AND state <= 1"
 
@@ -130,6 +158,9 @@ active_holds_on_plain s e = subst (λ z. IsPlain (understood z active_holds_on_t
 
 pub active_holds_on_found : (a : ℕ) (b : ℕ) → (old new : State) (n : ℕ) → (row : Row) × FindsRow active_holds_on_text (Int (pos a) ∷ Int (pos b) ∷ []) old new (Some row) × (column row 0 ≡ Int (pos n)) × (n ≤ 4294967295) → (maps : Maps) → Holds schema old.now maps → Count (maps 9) (is_active_on a b) n × IsUnchanged old new
 active_holds_on_found a b = count_found schema 9 holds active_holds_on_tests [] active_holds_on_text (Int (pos a) ∷ Int (pos b) ∷ []) (is_active_on a b) (λ r. refl) refl active_holds_on_is.0 active_holds_on_is.1 active_holds_on_is.2 (λ r. refl) (λ r. refl)
+
+pub active_holds_on_many : (a : ℕ) (b : ℕ) → (old new : State) → (row : Row) × FindsRow active_holds_on_text (Int (pos a) ∷ Int (pos b) ∷ []) old new (Some row) × (0 < length row → (n : ℕ) → n ≤ 4294967295 → column row 0 ≢ Int (pos n)) → (maps : Maps) → Holds schema old.now maps → (n : ℕ) × Count (maps 9) (is_active_on a b) n × (4294967295 < n)
+active_holds_on_many a b = count_many 9 holds active_holds_on_tests active_holds_on_text (Int (pos a) ∷ Int (pos b) ∷ []) (is_active_on a b) (λ r. refl) refl active_holds_on_is.0 active_holds_on_is.1 active_holds_on_is.2 (λ r. refl) (λ r. refl)
 
 abbrev all_meta_text : List ℕ
 all_meta_text = codes "SELECT * FROM meta ORDER BY id"
@@ -162,13 +193,20 @@ lone_meta old new rows row is h maps holds =
       λ k v e. elim (subst (λ l. Has l v) is (all.0.whole k v e refl)) [ inl same ↦ same | inr none ↦ absurd none ],
     )
 
--- the closed days of a branch, which no lemma lists yet
-abbrev branch_days_text : List ℕ
-branch_days_text = codes "SELECT * FROM closed_days WHERE branch = ?1 ORDER BY day"
+-- rows that are all the same, and of which each has a lesser key than the next, are one
+all_same : (rows : List Row) (row : Row) → ((v : Row) → Has rows v → v ≡ row) → Has rows row → IsAscending (λ v w. value_cmp (column v 0) (column w 0) ≡ Less) rows → rows ≡ row ∷ []
+all_same [] row same there rises = absurd there
+all_same (v ∷ []) row same there rises = ap (λ w. w ∷ []) (same v (inl refl))
+all_same (v ∷ w ∷ more) row same there rises =
+    let one : v ≡ row = same v (inl refl) in
+    let two : w ≡ row = same w (inr (inl refl)) in
+    let less : value_cmp (column row 0) (column row 0) ≡ Less = subst (λ x. value_cmp (column row 0) (column x 0) ≡ Less) two (subst (λ x. value_cmp (column x 0) (column w 0) ≡ Less) one rises.0.0) in
+    let tied = tied_itself value_cmp_total (column row 0) in
+    cc
 
-branch_days_bare : IsPlain (understood schema branch_days_text)
-unfolding understood everything
-branch_days_bare = (refl, refl)
-
-pub branch_days_plain : (s : Schema) → s ≡ schema → IsPlain (understood s branch_days_text)
-branch_days_plain s e = subst (λ z. IsPlain (understood z branch_days_text)) (sym e) branch_days_bare
+-- where the table has no row but this one, it alone is shown
+pub only_meta : (old new : State) (rows : List Row) → Shown all_meta_text [] old new rows → (maps : Maps) → Holds schema old.now maps → (k row : Row) → maps 0 k ≡ Some row
+    → ((j v : Row) → maps 0 j ≡ Some v → v ≡ row) → rows ≡ row ∷ []
+only_meta old new rows h maps holds k row there alone =
+    let all = (all_meta_found old new rows h maps holds).0 in
+    all_same rows row (λ v has. let found = all.sound v has in alone found.0 v found.1) (all.whole k row there refl) all.rises

@@ -7,3 +7,9 @@ pub mod ColumnLemmas
 pub mod FoundLemmas
 pub mod LineLemmas
 pub mod TitleLemmas
+pub mod TextLemmas
+pub mod EncodingLemmas
+pub mod PictureLemmas
+pub mod InverseLemmas
+pub mod ListLemmas
+pub mod DayLemmas

@@ -2,5 +2,5 @@ pub mod Shape
 pub mod Texts
 pub mod Cells
 pub mod Faults
-pub mod Limits
 pub mod Selections
+pub mod Encoding

@@ -30,15 +30,19 @@ impl From<AllocError> for WordFault {
 }
 
 /// The commands that are understood.
-const NAMES: [&str; 8] = [
+const NAMES: [&str; 12] = [
     "begin-day",
     "branch",
     "week",
+    "close-day",
+    "open-day",
     "kind",
     "rule",
     "patron",
     "acquire",
     "check-out",
+    "pay",
+    "waive",
 ];
 
 /// The arguments of a command, in their order.
@@ -47,11 +51,15 @@ fn arguments_of(name: &str) -> Option<&'static [&'static str]> {
         "begin-day" => Some(&["day"]),
         "branch" => Some(&["branch", "pickup", "name"]),
         "week" => Some(&["branch", "mask"]),
+        "close-day" => Some(&["branch", "day"]),
+        "open-day" => Some(&["branch", "day"]),
         "kind" => Some(&["kind", "loans", "holds", "debt"]),
         "rule" => Some(&["kind", "copy-kind", "period", "renewals", "rate", "cap"]),
         "patron" => Some(&["patron", "kind", "card-key", "name"]),
         "acquire" => Some(&["copy", "title", "kind", "home", "price", "text"]),
         "check-out" => Some(&["patron", "copy", "branch"]),
+        "pay" => Some(&["patron", "amount"]),
+        "waive" => Some(&["patron", "amount"]),
         _ => None,
     }
 }
@@ -171,6 +179,22 @@ fn week(given: &Given<'_, '_>) -> Result<Command, WordFault>
     Ok(Command::Week { branch, week })
 }
 
+fn close_day(given: &Given<'_, '_>) -> Result<Command, WordFault>
+    ensures { IfOk result IsBuilt }
+{
+    let branch = BranchId::new(given.number("branch")?);
+    let day = given.day("day")?;
+    Ok(Command::CloseDay { branch, day })
+}
+
+fn open_day(given: &Given<'_, '_>) -> Result<Command, WordFault>
+    ensures { IfOk result IsBuilt }
+{
+    let branch = BranchId::new(given.number("branch")?);
+    let day = given.day("day")?;
+    Ok(Command::OpenDay { branch, day })
+}
+
 fn kind(given: &Given<'_, '_>) -> Result<Command, WordFault>
     ensures { IfOk result IsBuilt }
 {
@@ -252,6 +276,22 @@ fn check_out(given: &Given<'_, '_>) -> Result<Command, WordFault>
     })
 }
 
+fn pay(given: &Given<'_, '_>) -> Result<Command, WordFault>
+    ensures { IfOk result IsBuilt }
+{
+    let patron = PatronId::new(given.number("patron")?);
+    let amount = given.cents("amount")?;
+    Ok(Command::Pay { patron, amount })
+}
+
+fn waive(given: &Given<'_, '_>) -> Result<Command, WordFault>
+    ensures { IfOk result IsBuilt }
+{
+    let patron = PatronId::new(given.number("patron")?);
+    let amount = given.cents("amount")?;
+    Ok(Command::Waive { patron, amount })
+}
+
 /// The command of this name with its arguments, each of which has to have its form.
 fn command(name: &str, given: &Given<'_, '_>) -> Result<Command, WordFault>
     ensures { IfOk result IsBuilt }
@@ -260,11 +300,15 @@ fn command(name: &str, given: &Given<'_, '_>) -> Result<Command, WordFault>
         "begin-day" => begin_day(given),
         "branch" => branch(given),
         "week" => week(given),
+        "close-day" => close_day(given),
+        "open-day" => open_day(given),
         "kind" => kind(given),
         "rule" => rule(given),
         "patron" => patron(given),
         "acquire" => acquire(given),
         "check-out" => check_out(given),
+        "pay" => pay(given),
+        "waive" => waive(given),
         _ => Err(WordFault::NotUnderstood),
     }
 }

@@ -1,12 +1,11 @@
 -- The calendar of the definitions is that of the crate of days and calendars.
-use Rattle.std.proofs.Common.{◌≡◌, ℕ, zero, suc, ◌+◌, ◌-◌, ◌≤◌, ◌<◌, Bool, true, false, not, ◌&&◌, refl, ap, sym, subst, ◌∙◌, arith}
-use Rattle.std.specs.Prelude.{◌↔◌, Option, Some, nat_le, if◌then◌else◌}
+use Rattle.std.proofs.Common.{◌≡◌, ℕ, zero, suc, ◌+◌, ◌-◌, ◌≤◌, Bool, true, false, not, ◌&&◌, refl, ap, sym, subst, ◌∙◌, arith}
+use Rattle.std.specs.Prelude.{Some, nat_le, if◌then◌else◌}
 use Rattle.calendar.specs.Openings.{Closings, is_open, is_weekly, IsLeastOpen, open_among, open_days_after}
 use Rattle.calendar.specs.Openings as openings
-use Rattle.calendar.proofs.OpeningLemmas.{is_open-past}
 use Rattle.std.proofs.lemmas.Bool.{and_parts}
 use Rattle.std.proofs.lemmas.Bool.Decides.{nat_tests}
-use Rattle.model.specs.Calendar.{first_day, last_day, opens, least, late, open_days, IsLeast}
+use Rattle.model.specs.Calendar.{first_day, last_day, opens, least, open_days, IsLeast}
 use Rattle.model.specs.Calendars.{SameOpenDays, SameLeastDay, SameLateDays, CalendarsAgree}
 use Rattle.model.proofs.Least.{least-IsLeast, IsLeast-least}
 

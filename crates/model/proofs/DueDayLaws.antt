@@ -39,7 +39,7 @@ rule-of_terms H settings p c t e = go (patron_of H p) (copy_of H c) e
 pub checked_out-terms : (H : History) (o : Owner) (p c b : ℕ) → refusal H o (CheckOut p c b) ≡ None → (t : Terms) × (terms_for H p c ≡ Some t)
 checked_out-terms H o p c b ok = none-not _ (passed (checks H o (CheckOut p c b)) ok).1.1.1.1.1.1.1.1.1.1.1.0
 
-first_due-is : (H : History) (o : Owner) (p c b : ℕ) → CalendarLaws H → refusal H o (CheckOut p c b) ≡ None → (e : ℕ) × (first_due H p c b ≡ Some e)
+pub first_due-is : (H : History) (o : Owner) (p c b : ℕ) → CalendarLaws H → refusal H o (CheckOut p c b) ≡ None → (e : ℕ) × (first_due H p c b ≡ Some e)
 first_due-is H o p c b inv ok =
     let t : (t : Terms) × (terms_for H p c ≡ Some t) = checked_out-terms H o p c b ok in
     let short : (unwrap_or (terms_for H p c) no_terms).period ≤ 365 = rw t.1 (rule-of_terms H inv.settings p c t.0 t.1).0 in

@@ -28,3 +28,8 @@ pub mod OwnRows
 pub mod MoneyLaws
 pub mod HoldRows
 pub mod CalendarsMeet
+pub mod SettingRanges
+pub mod LendingRanges
+pub mod KeptRanges
+pub mod RowRanges
+pub mod RepeatedLists

@@ -33,14 +33,14 @@ min-le : (a b : ℕ) → min a b ≤ b
 min-le a b = omega arith
 
 module _ (H : History) (inv : MoneyLaws H) (settings : SettingLaws H) where
-  fine-small : (l : ℕ) → fine_now H l ≤ 100000
+  pub fine-small : (l : ℕ) → fine_now H l ≤ 100000
   fine-small l = go (loan_of H l) refl
     where
       go : (y : Option LoanFacts) → loan_of H l ≡ y → unwrap_or (option_map (λ r. fine_for (late (is_open H r.branch) (due H l) (today H)) r.terms.rate r.terms.cap) y) 0 ≤ 100000
       go (Some r) e = omega (arith, inv.caps l r e, min-le (late (is_open H r.branch) (due H l) (today H) * r.terms.rate) r.terms.cap)
       go None e = omega arith
 
-  price-small : (c : ℕ) → price_of H c ≤ 1000000
+  pub price-small : (c : ℕ) → price_of H c ≤ 1000000
   price-small c = go (copy_of H c) refl
     where
       go : (y : Option CopyFacts) → copy_of H c ≡ y → unwrap_or (option_map (λ r. r.price) y) 0 ≤ 1000000

@@ -19,7 +19,7 @@ use Rattle.model.proofs.Bindings.{both}
 use Rattle.model.proofs.Legal.{some-none}
 use Rattle.model.proofs.Runs.{added}
 
-same_owner-is : (a b : Owner) → same_owner a b ≡ true → a ≡ b
+pub same_owner-is : (a b : Owner) → same_owner a b ≡ true → a ≡ b
 same_owner-is Desk Desk e = refl
 same_owner-is (Reader p) (Reader q) e = ap Reader (eqb-true p q e)
 same_owner-is Desk (Reader q) e = let never : ⊥ = cc in absurd never
@@ -43,7 +43,7 @@ kept-event H r o k x fresh kept = go (same_owner (owner_of r.caller) o && bytes_
         absurd (some-none _ x kept none)
     go false e = kept
 
-kept-one : (H : History) (r : Request) (o : Owner) (k : List ℕ) (x : Kept) → kept_of H o k ≡ Some x → kept_of (after_one H r) o k ≡ Some x
+pub kept-one : (H : History) (r : Request) (o : Owner) (k : List ℕ) (x : Kept) → kept_of H o k ≡ Some x → kept_of (after_one H r) o k ≡ Some x
 kept-one H r o k x kept = go (adds H r) refl
   where
     go : (b : Bool) → adds H r ≡ b → kept_of (elim b as (λ _. History) [ true ↦ event_of r ∷ H | false ↦ H ]) o k ≡ Some x
@@ -55,7 +55,7 @@ kept-after [] H o k x kept = kept
 kept-after (r ∷ rs) H o k x kept = kept-after rs (after_one H r) o k x (kept-one H r o k x kept)
 
 -- What an accepted request keeps.
-abbrev kept_by : History → Request → Kept
+abbrev pub kept_by : History → Request → Kept
 kept_by H r = record { text = request_text r.command; reply = accepted H r.command }
 
 kept-new : (H : History) (r : Request) → kept_of (event_of r ∷ H) (owner_of r.caller) r.key ≡ Some (kept_by H r)
@@ -66,7 +66,7 @@ kept-new H r = go (same_owner (owner_of r.caller) (owner_of r.caller)) (bytes_eq
     go false y e f = let never : ⊥ = cc in absurd never
     go true false e f = let never : ⊥ = cc in absurd never
 
-kept-first : (H : History) (r : Request) → adds H r ≡ true → kept_of (after_one H r) (owner_of r.caller) r.key ≡ Some (kept_by H r)
+pub kept-first : (H : History) (r : Request) → adds H r ≡ true → kept_of (after_one H r) (owner_of r.caller) r.key ≡ Some (kept_by H r)
 kept-first H r e = ap (λ b. kept_of (elim b as (λ _. History) [ true ↦ event_of r ∷ H | false ↦ H ]) (owner_of r.caller) r.key) e ∙ kept-new H r
 
 -- ---- the reply of an accepted request
@@ -94,13 +94,13 @@ reply-first H r e =
 
 -- ---- the reply of its repetition
 
-repeat-reply : (H : History) (r : Request) (x : Kept) → is_allowed H r.caller r.command ≡ true → is_page r.command ≡ false → kept_of H (owner_of r.caller) r.key ≡ Some x
+pub repeat-reply : (H : History) (r : Request) (x : Kept) → is_allowed H r.caller r.command ≡ true → is_page r.command ≡ false → kept_of H (owner_of r.caller) r.key ≡ Some x
     → x.text ≡ request_text r.command → reply_to H r ≡ x.reply
 repeat-reply H r x allowed changes kept text =
     reply-by_key H r allowed changes ∙ ap (reply_by_key H r) kept
     ∙ ap (λ b. elim b as (λ _. Reply) [ true ↦ x.reply | false ↦ Refused KeyUsed ]) ((bytes_eq-Decides x.text (request_text r.command)).1 text)
 
-repeat-adds_not : (H : History) (r : Request) (x : Kept) → kept_of H (owner_of r.caller) r.key ≡ Some x → (b : Bool) → adds H r ≡ b → b ≡ false
+pub repeat-adds_not : (H : History) (r : Request) (x : Kept) → kept_of H (owner_of r.caller) r.key ≡ Some x → (b : Bool) → adds H r ≡ b → b ≡ false
 repeat-adds_not H r x kept true e = absurd (some-none _ x kept (added H r e).fresh)
 repeat-adds_not H r x kept false e = refl
 

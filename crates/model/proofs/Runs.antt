@@ -1,6 +1,6 @@
 -- Handling requests keeps a history legal.
 use Rattle.std.proofs.Common.{◌≡◌, Bool, true, false, List, [], ◌∷◌, refl}
-use Rattle.std.specs.Prelude.{Option, Some, None, is_none, is_some, ◌&&◌, not, IsTrue, unwrap_or, option_map, bytes_eq}
+use Rattle.std.specs.Prelude.{Option, Some, None, is_none, is_some, ◌&&◌, not, IsTrue, IsUtf8, unwrap_or, option_map, bytes_eq}
 use Rattle.std.proofs.lemmas.Bool.{and_parts}
 use Rattle.terms.specs.declared.command.Caller.{Caller}
 use Rattle.terms.specs.declared.command.Caller.TheVariants.{Desk as FromDesk, Patron as FromPatron}
@@ -9,6 +9,10 @@ use Rattle.model.specs.History.{History, patron_of, PatronFacts}
 use Rattle.model.specs.Refusals.{refusal}
 use Rattle.model.proofs.Bindings.{both, not-true}
 use Rattle.model.specs.DueDays.{IsWholeWeek, HasWholeWeeks, AskWholeWeeks}
+use Rattle.model.specs.Forms.{HasForms, AskForms}
+use Rattle.terms.specs.Laws.{IsCommand}
+use Rattle.terms.specs.declared.command.Command.{Command}
+use Rattle.terms.specs.declared.command.Command.TheVariants.{Week}
 use Rattle.terms.specs.Callers.{owner_of}
 use Rattle.model.specs.Requests.{IsLegal, IsAccepted, after, after_one, adds, event_of, is_known, is_enrolled, is_allowed, is_page, kept_of, may_send}
 
@@ -66,3 +70,24 @@ whole-one H r whole asks = go (adds H r)
 pub after-whole : (rs : List Request) (H : History) → HasWholeWeeks H → AskWholeWeeks rs → HasWholeWeeks (after H rs)
 after-whole [] H whole asks = whole
 after-whole (r ∷ rs) H whole asks = after-whole rs (after_one H r) (whole-one H r whole asks.0) asks.1
+
+forms-one : (H : History) (r : Request) → HasForms H → IsCommand r.command → IsUtf8 r.key → HasForms (after_one H r)
+forms-one H r forms command key = go (adds H r)
+  where
+    go : (b : Bool) → HasForms (elim b as (λ _. History) [ true ↦ event_of r ∷ H | false ↦ H ])
+    go true = (command, key, forms)
+    go false = forms
+
+-- Requests that have their forms keep those of the history.
+pub after-forms : (rs : List Request) (H : History) → HasForms H → AskForms rs → HasForms (after H rs)
+after-forms [] H forms asks = forms
+after-forms (r ∷ rs) H forms asks = after-forms rs (after_one H r) (forms-one H r forms asks.0 asks.1) asks.2
+
+whole-week : (c : Command) → IsCommand c → IsWholeWeek c
+whole-week (Week branch closed) form = form.1
+whole-week _ form = tt
+
+-- Where commands have their forms, weeks are whole.
+pub forms-whole : (H : History) → HasForms H → HasWholeWeeks H
+forms-whole [] forms = tt
+forms-whole (e ∷ H) forms = (whole-week e.command forms.0, forms-whole H forms.2)

@@ -13,5 +13,7 @@ pub mod Picture
 pub mod Claims
 pub mod Invariant
 pub mod DueDays
+pub mod Forms
 pub mod Laws
 pub mod Calendars
+pub mod Repeats

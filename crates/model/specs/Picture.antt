@@ -17,28 +17,13 @@ use Rattle.terms.specs.declared.row.TransitRow.{TransitRow}
 use Rattle.terms.specs.declared.row.LineRow.{LineRow}
 use Rattle.terms.specs.declared.row.KeptRow.{KeptRow}
 use Rattle.terms.specs.Texts.{reply_text}
+pub use Rattle.terms.specs.Pictures.{Picture}
 use Rattle.model.specs.Calendar.{is_single}
 use Rattle.model.specs.History.{History, today, week_of, singles_of, BranchFacts, branch_of, KindFacts, kind_of, Terms, rule_of, PatronFacts, patron_of, title_of, CopyFacts, copy_of, next_loan, next_hold, HoldFacts, hold_of}
 use Rattle.model.specs.Places.{Place, Transit, MissingCopy, WithdrawnCopy, place, state, is_ready, kept_for, limit}
 use Rattle.model.specs.Loans.{LoanFacts, loan_of, due, ended, renewals_left}
 use Rattle.model.specs.Accounts.{Line, lines, next_line, owed}
 use Rattle.model.specs.Requests.{Kept, kept_of}
-
--- The tables: for each key, the row or none. A single closed day is there or not.
-pub record Picture : Type 0 where
-  pub meta : MetaRow
-  pub branches : ℕ → Option BranchRow
-  pub closed_days : ℕ → ℕ → Bool
-  pub kinds : ℕ → Option KindRow
-  pub rules : ℕ → ℕ → Option RuleRow
-  pub patrons : ℕ → Option PatronRow
-  pub titles : ℕ → Option TitleRow
-  pub copies : ℕ → Option CopyRow
-  pub loans : ℕ → Option LoanRow
-  pub holds : ℕ → Option HoldRow
-  pub transits : ℕ → Option TransitRow
-  pub lines : ℕ → Option LineRow
-  pub kept : Owner → List ℕ → Option KeptRow
 
 -- The newest schema.
 abbrev pub newest_schema : ℕ

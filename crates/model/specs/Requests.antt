@@ -11,6 +11,7 @@ use Rattle.terms.specs.declared.refusal.Refusal.TheVariants.{KeyUsed, NotAllowed
 use Rattle.terms.specs.declared.reply.Reply.{Reply}
 use Rattle.terms.specs.declared.reply.Reply.TheVariants.{Refused}
 use Rattle.terms.specs.Callers.{owner_of}
+pub use Rattle.terms.specs.Pictures.{same_owner}
 use Rattle.terms.specs.Texts.{request_text}
 use Rattle.model.specs.History.{Event, History, patron_of}
 use Rattle.model.specs.Refusals.{refusal}
@@ -46,12 +47,6 @@ is_allowed H caller c = is_known H caller && may_send (owner_of caller) c
 abbrev pub is_page : Command → Bool
 is_page (Page p) = true
 is_page _ = false
-
--- The two owners are one.
-abbrev pub same_owner : Owner → Owner → Bool
-same_owner Desk Desk = true
-same_owner (Reader p) (Reader q) = p == q
-same_owner _ _ = false
 
 -- What is kept of an accepted request.
 pub record Kept : Type 0 where

@@ -5,6 +5,8 @@
 
 ghost use Rattle.model.specs.Laws.{StaysLegal, Places, Bindings, Balance, HoldRows, FinalStates, FirstInLineIsServed, RepeatsActOnce, OwnRows, Invariants};
 ghost use Rattle.model.specs.Calendars.{CalendarsAgree};
+ghost use Rattle.model.specs.Forms.{FormsStay, FormsAreWhole, RowsInLimits};
+ghost use Rattle.model.specs.Repeats.{RepeatsLeaveNothing, RepeatsGetTheKeptReply, RowsActOnce};
 ghost use Rattle.model.specs.DueDays.{WholeWeeksStay, DueDays, DueDaysExist, ShelfLimits, LimitsExist};
 
 /// Handling requests of any callers keeps a history legal.
@@ -49,6 +51,21 @@ pub fn repeats_law()
     ensures { RepeatsActOnce }
 {}
 
+/// Leaving out of a list the requests that repeat one accepted before them leaves the same history.
+pub fn repeats_leave_nothing_law()
+    ensures { RepeatsLeaveNothing }
+{}
+
+/// A request that repeats an accepted one, and whose caller is allowed it, gets the kept reply and changes nothing.
+pub fn kept_reply_law()
+    ensures { RepeatsGetTheKeptReply }
+{}
+
+/// The beginning of a copies file, followed by all of its rows, leaves the same history as all of its rows once.
+pub fn copies_file_law()
+    ensures { RowsActOnce }
+{}
+
 /// Requests whose week commands tell of seven weekdays leave a history whose week commands do.
 pub fn whole_weeks_law()
     ensures { WholeWeeksStay }
@@ -90,4 +107,21 @@ pub fn calendars_law()
 /// What holds of every legal history, in one record.
 pub fn invariant_law()
     ensures { Invariants }
+{}
+
+/// Requests whose commands and keys have their forms leave a history whose commands and keys do. Every command and every
+/// key that the program makes has its form.
+pub fn forms_law()
+    ensures { FormsStay }
+{}
+
+/// Where commands have their forms, each week command tells of seven weekdays.
+pub fn forms_are_whole_law()
+    ensures { FormsAreWhole }
+{}
+
+/// Every column of every row that a legal history leaves lies in its limits, days and texts and sums too, and what is kept
+/// of a request can be read back: where commands and keys have their forms.
+pub fn rows_in_limits_law()
+    ensures { RowsInLimits }
 {}

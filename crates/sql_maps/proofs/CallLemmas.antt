@@ -1,21 +1,19 @@
 -- What a call of the connection does to the maps.
-use Rattle.std.proofs.Common.{◌≡◌, ◌⊎◌, inl, inr, ℕ, ℤ, pos, true, false, List, [], ◌∷◌, Option, Some, None, Ok, Err, Result, refl, sym, subst, ◌∙◌}
+use Rattle.std.proofs.Common.{◌≡◌, ◌⊎◌, inl, inr, ℕ, true, false, List, Ok, Err, Result, refl, sym, subst, ◌∙◌}
 use Rattle.std.specs.Prelude.{if◌then◌else◌, OnOk, OnErr, IsTrue}
 use Rattle.std.proofs.lemmas.Bool.{cases_Bool}
-use Rattle.sqlite.specs.declared.types.Value.TheVariants.{Int, Text}
 use Rattle.sqlite.specs.Order.{Row}
 use Rattle.sqlite.specs.Term.{Term}
 use Rattle.sqlite.specs.Table.{Table}
 use Rattle.sqlite.specs.Schema.{Schema}
 use Rattle.sqlite.specs.declared.error.Error.{Error}
 use Rattle.sqlite.specs.Clock.{timed}
-use Rattle.sqlite.specs.Values.{bound_value}
-use Rattle.sqlite.specs.Values as bound
 use Rattle.sqlite.specs.Listing.{understood}
 use Rattle.sqlite.specs.State.{ExecutesInside, KeepsCommit, State, Executes, ExecutesIn, IsNotRun, RunsCommand, Shows, IsUnchanged, IsRolledBack, shows_rows}
 use Rattle.sqlite.proofs.Callers.{command_of, IsPlain}
 use Rattle.sql_maps.specs.Maps.{Maps, Holds, put_at, take_at, Steps}
-use Rattle.sql_maps.proofs.Words.{Gives}
+use Rattle.sql_maps.specs.Calls.{Keeps, IsKeptOrUndone}
+use Rattle.sql_maps.proofs.ReadLemmas.{unchanged_keeps}
 use Rattle.sql_maps.proofs.WriteLemmas.{Fixed, Fills, put_command, put_done}
 use Rattle.sql_maps.proofs.FindLemmas.{Finds, take_command, take_holds}
 use Rattle.sql_maps.proofs.MapLemmas.{are_apart, puts_map, holds_after}
@@ -43,7 +41,7 @@ module _ (schema : Schema) (apart : are_apart schema.tables ≡ true) (at : ℕ)
       let is_map = holds.tables at table fixed.listed in
       let did = put_done schema at table fixed params terms shows width place k v fills text old new count holds.schema_is is bare is_map.shaped is_map.plain h in
       let after = puts_map table (old.now.trees table.tree) (new.now.trees table.tree) (maps at) k v is_map fills.plain_key did.1 (did.2.shaped is_map.shaped) in (
-        holds_after schema at table old.now new.now maps _ apart fixed.listed holds did.0 did.2 after,
+        holds_after schema at table old.now new.now maps _ apart fixed.listed holds did.4 did.0 did.2 after,
         did.3,
         did.5,
       )
@@ -94,3 +92,15 @@ on_ok (Err e) f h = tt
 -- what a text that was run kept of the commit, also where the transaction had ended
 pub run_keeps : (sql : List ℕ) (params : Row) (old new : State) (r : Result ℕ Error) → (old.in_transaction ≡ false → KeepsCommit old new) → (IsTrue old.in_transaction → ExecutesInside 0 sql params old new r) → KeepsCommit old new
 run_keeps sql params old new r ended ran = elim (cases_Bool old.in_transaction) [ inl begun ↦ inside_keeps sql params old new r (ran begun) | inr over ↦ ended over ]
+
+-- an error inside a transaction leaves all as it was, or the transaction is undone
+pub run_left : (sql : List ℕ) (params : Row) (old new : State) (e : Error) → (old.in_transaction ≡ false → Keeps old new) → (IsTrue old.in_transaction → ExecutesInside 0 sql params old new (Err e)) → IsKeptOrUndone old new
+run_left sql params old new e ended ran = elim (cases_Bool old.in_transaction) [ inl begun ↦ left (ran begun) | inr over ↦ inl (ended over) ]
+  where
+    left : ExecutesInside 0 sql params old new (Err e) → IsKeptOrUndone old new
+    left (inl (did, inl same)) = inl (unchanged_keeps old new same)
+    left (inl (did, inr back)) = inr back
+    left (inr (ends, is, same)) = inl (unchanged_keeps old new same)
+
+pub same_left : (s : State) → IsKeptOrUndone s s
+same_left s = inl (record { now = refl; committed = refl; mode = refl })

@@ -1,5 +1,5 @@
 -- What CREATE TABLE and CREATE INDEX do to a database.
-use Rattle.std.proofs.Common.{◌≡◌, ◌⊎◌, inl, inr, ℕ, zero, suc, false, List, [], ◌∷◌, ◌++◌, slice_get, Some, None, Ok, Err, Result, refl, sym, ap, subst, ◌∙◌}
+use Rattle.std.proofs.Common.{◌≡◌, ◌⊎◌, inl, inr, ℕ, zero, suc, false, List, [], ◌∷◌, ◌++◌, slice_get, Some, None, Ok, Err, Result, sym, ap, subst, ◌∙◌}
 use Rattle.std.specs.Prelude.{OnOk}
 use Rattle.sqlite.specs.Table.{Table}
 use Rattle.sqlite.specs.Schema.{Schema}
@@ -8,7 +8,7 @@ use Rattle.sqlite.specs.Compile.{table_defined_by}
 use Rattle.sqlite_resolve.specs.Compile.{index_defined_by}
 use Rattle.sqlite_schema.specs.declared.schema.Index.{Index}
 use Rattle.sqlite.specs.Command.TheVariants.{CreateTable, CreateIndex}
-use Rattle.sqlite.specs.Effect.{Database}
+use Rattle.sqlite.specs.Effect.{Database, IsDatabase}
 use Rattle.sqlite.specs.Does.{Tally, Does, lacks_sequence}
 use Rattle.sqlite.specs.Listing.{understood}
 use Rattle.sqlite.specs.State.{State, mode_of, Writes, Executes, ExecutesInside, KeepsCommit}
@@ -19,7 +19,7 @@ use Rattle.sql_maps.specs.Maps.{Maps, IsMap, Holds, no_maps, Moves}
 use Rattle.sql_maps.proofs.WriteLemmas.{went, same_value}
 
 no_rows : (table : Table) → IsMap table [] (λ j. None)
-no_rows table = record { shaped = (tt, tt); plain = λ r h. absurd h; sound = λ r h. absurd h; whole = λ k v e. absurd (let h = e in cc) }
+no_rows table = record { shaped = (tt, tt); plain = λ r h. absurd h; sound = λ r h. absurd h; whole = λ k v e. absurd (let h = e in cc); alone = λ r s h k same. absurd h }
 
 got_pushed : {X : Type 0} (xs : List X) (x y : X) (i : ℕ) → slice_get (xs ++ x ∷ []) i ≡ Some y → (slice_get xs i ≡ Some y) ⊎ (y ≡ x)
 got_pushed [] x y zero h = inr (let e = h in cc)
@@ -50,6 +50,7 @@ made before text defined makes old new count holds h =
     let empty : first.0.trees (next_tree before) ≡ [] = subst (λ s. first.0.trees (next_tree s) ≡ []) holds.schema_is it.empty in
     let kept : KeepsRows before.tables old.now.trees first.0.trees = subst (λ (s : Schema). KeepsRows s.tables old.now.trees first.0.trees) holds.schema_is it.others in
     subst (λ d. Holds (created before defined) d no_maps) (sym now) (record {
+      sound = subst IsDatabase now w.sound;
       schema_is = schema_is;
       tables = λ i t there. elim (got_pushed before.tables (record defined { tree = next_tree before }) t i there) [
         | inl was ↦ subst (λ rows. IsMap t rows (λ j. None)) (sym (all_has _ before.tables t kept (has_got before.tables i t was))) (holds.tables i t was)
@@ -78,6 +79,7 @@ index_made before at table text defined makes old new count maps holds h =
     let schema_is : all.0.schema ≡ indexed before table defined = it.is ∙ ap (indexed before table) same in
     let now : new.now ≡ all.0 = ap (λ (p : Tally × Database). p.1) (same_value all.2) in
     subst (λ d. Holds (indexed before table defined) d maps) (sym now) (record {
+      sound = subst IsDatabase now w.sound;
       schema_is = schema_is;
       tables = λ i t there. subst (λ rows. IsMap t rows (maps i)) (sym (all_has _ before.tables t it.rows (has_got before.tables i t there))) (holds.tables i t there);
     })

@@ -1,10 +1,10 @@
 -- The upsert of one row, at each shape of table.
-use Rattle.std.proofs.Common.{◌≡◌, ℕ, ℤ, Bool, true, false, cond, List, [], ◌∷◌, map, Option, Some, None, refl, sym, ap, ◌∙◌, true≢false, drop, length, ◌/◌, ◌&&◌, ◌++◌}
+use Rattle.std.proofs.Common.{◌≡◌, ℕ, ℤ, Bool, true, false, cond, List, [], ◌∷◌, map, refl, sym, ap, ◌∙◌, true≢false, drop, length, ◌/◌, ◌&&◌, ◌++◌}
 use Rattle.sqlite.specs.declared.types.Value.TheVariants.{Null, Int, Text}
 use Rattle.sqlite_value.specs.declared.value.Value.{Value}
 use Rattle.sqlite.specs.Order.{Row, column}
 use Rattle.sqlite_sql.specs.Ops.{unary}
-use Rattle.sqlite.specs.Term.{Term, lit, col}
+use Rattle.sqlite.specs.Term.{Term}
 use Rattle.sqlite.specs.Kind.{Kind}
 use Rattle.sqlite.specs.Kind.TheVariants.{Integer, Text as TextKind}
 use Rattle.sqlite_schema.specs.declared.schema.Column.{Column}

@@ -27,7 +27,7 @@ use Rattle.sqlite_rules.proofs.ProbeLemmas.{has_mapped, mapped_has}
 use Rattle.sqlite.specs.Command.{Command}
 use Rattle.sqlite.specs.Command.TheVariants.{Delete}
 use Rattle.sqlite.specs.Program.{IsProgramAnswer}
-use Rattle.sqlite.specs.Effect.{Database}
+use Rattle.sqlite.specs.Effect.{Database, IsDatabase}
 use Rattle.sqlite.specs.Rows.{Edited, Written}
 use Rattle.sqlite.specs.Does.{Does, Tally}
 use Rattle.sqlite.specs.Listing.{understood}
@@ -88,7 +88,7 @@ module _ (schema : Schema) (at : ℕ) (table : Table) (fixed : Fixed schema at t
       → IsShaped shape.Table (old.now.trees table.tree) → ((r : Row) → Has (old.now.trees table.tree) r → list_all is_plain (key_at table r) ≡ true)
       → Executes text params old new (Ok count)
       → (new.now.schema ≡ schema) × Takes table (old.now.trees table.tree) (new.now.trees table.tree) k × Leaves schema table old.now.trees new.now.trees
-      × Shows old new new.now (if old.in_transaction then old.committed else new.now) old.in_transaction × (new.marks ≡ old.marks)
+      × Shows old new new.now (if old.in_transaction then old.committed else new.now) old.in_transaction × IsDatabase new.now × (new.marks ≡ old.marks)
   take_done text old new count has is bare shaped whole h =
       let w = runs_as text params old new schema has take_command is bare count h in
       let sql = statement_of text (understood schema text) in
@@ -104,6 +104,7 @@ module _ (schema : Schema) (at : ℕ) (table : Table) (fixed : Fixed schema at t
         subst (λ (t : Trees). Takes table (old.now.trees table.tree) (t table.tree) k) (sym all) it.0,
         subst (λ (t : Trees). Leaves schema table old.now.trees t) (sym all) it.1,
         w.shown,
+        w.sound,
         w.marks,
       )
 
@@ -113,7 +114,7 @@ module _ (schema : Schema) (at : ℕ) (table : Table) (fixed : Fixed schema at t
       let is_map = holds.tables at table fixed.listed in
       let did = take_done text old new count holds.schema_is is bare is_map.shaped is_map.plain h in
       let after = takes_map table (old.now.trees table.tree) (new.now.trees table.tree) (maps at) k is_map finds.plain_key did.1 (did.2.shaped is_map.shaped) in
-      holds_after schema at table old.now new.now maps _ apart fixed.listed holds did.0 did.2 after
+      holds_after schema at table old.now new.now maps _ apart fixed.listed holds did.4 did.0 did.2 after
 
 -- WHERE a = ?1
 pub finds_one : (table : Table) (a : Value) → table.primary ≡ 0 ∷ [] → is_plain a ≡ true → Finds table (op2 (Compare Eq Binary) (col 1 0) (col 0 0) ∷ []) (a ∷ []) (a ∷ [])

@@ -1,35 +1,25 @@
 -- A query whose FROM has an EXISTS, in the order of its table's rowids.
-use Rattle.std.proofs.Common.{◌≡◌, ◌&&◌, not, ℕ, pos, Bool, true, false, List, [], ◌∷◌, map, take, filter, length, min, IsPermutation, None, codes, refl, sym, ap, subst, ◌∙◌, Less}
-use Rattle.std.specs.List.{list_all, list_any}
-use Rattle.std.proofs.lemmas.List.{length-map}
+use Rattle.std.proofs.Common.{◌≡◌, not, ℕ, pos, Bool, false, List, [], ◌∷◌, map, filter, min, IsPermutation, None, refl, sym, ap, subst, ◌∙◌, Less}
 use Rattle.std.proofs.lemmas.Bool.{false_from_ne_true}
 use Rattle.std.proofs.lemmas.Bool.Decides.{Decides-eqb}
 use Rattle.std.proofs.Common.{arith}
-use Rattle.sqlite_schema.specs.Rules.{equal}
 use Rattle.sqlite.specs.declared.types.Value.TheVariants.{Null, Int}
 use Rattle.sqlite_value.specs.Keys.{ascending}
 use Rattle.sqlite_value.specs.Order.{value_cmp}
 use Rattle.sqlite_value.specs.declared.keys.Collation.TheVariants.{Binary}
-use Rattle.sqlite.specs.Order.{Row, column}
-use Rattle.sqlite.specs.Term.{Term, lit, col, op1, op2, eval, eval_all, holds}
-use Rattle.sqlite_sql.specs.declared.ops.BinaryOp.TheVariants.{Compare, Is}
-use Rattle.sqlite_sql.specs.declared.ops.CompareOp.TheVariants.{Eq}
+use Rattle.sqlite.specs.Order.{Row}
+use Rattle.sqlite.specs.Term.{Term, lit, col, eval, eval_all}
 use Rattle.sqlite_sql.specs.declared.ops.UnaryOp.TheVariants.{Not}
-use Rattle.sqlite.specs.Listing.{understood}
 use Rattle.sqlite_sql.specs.Ops.{unary, is_true}
 use Rattle.std.specs.Prelude.{◌==◌, zero, suc}
-use Rattle.sqlite.specs.Query.{Query, Join, inner, counted, end, matches, IsAnswer, Output, output, output_cmp, page}
+use Rattle.sqlite.specs.Query.{Query, Join, matches, IsAnswer, Output, output, output_cmp, page}
 use Rattle.sqlite.specs.Program.{overlay, IsProgramAnswer}
 use Rattle.sqlite.specs.Tree.{Trees}
 use Rattle.sqlite_trees.specs.Tree.{IsAscending, IsTable, rowid}
-use Rattle.sqlite.specs.Command.TheVariants.{Select}
 use Rattle.sqlite_sql.proofs.QueryLemmas.{output_cmp_total}
 use Rattle.sqlite_keyed.proofs.SortLemmas.{sorted_unique}
-use Rattle.sqlite_keyed.proofs.ListLemmas.{ascending-map, ascending-filter, ascending_weaker, none_counted}
-use Rattle.sqlite.proofs.Callers.{command_of}
-use Rattle.sqlite_tied.specs.Compute.{everything}
-use Rattle.sqlite_tied.specs.Listing.{each_column}
-use Rattle.sql_maps.proofs.AnswerLemmas.{plain_overlay, matched, twice}
+use Rattle.sqlite_keyed.proofs.ListLemmas.{ascending-map, ascending-filter, ascending_weaker}
+use Rattle.sql_maps.proofs.AnswerLemmas.{plain_overlay, twice}
 
 -- a query over FROM, in the order of the first table's rowids
 abbrev pub from_in_order : Join → List Term → List Term → Term → Query

@@ -13,3 +13,4 @@ pub mod SelectLemmas
 pub mod LookLemmas
 pub mod FromLemmas
 pub mod CreateLemmas
+pub mod OrderLemmas

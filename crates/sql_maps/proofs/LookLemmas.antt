@@ -1,15 +1,12 @@
 -- Look-ups by columns that are no key.
-use Rattle.std.proofs.Common.{arith, ◌≤◌, None, ◌≡◌, ℕ, ℤ, pos, negsuc, Bool, false, List, [], ◌∷◌, map, filter, length, min, slice_get, Option, Some, Ok, Err, Result, codes, refl, sym, ap, subst, ◌∙◌}
+use Rattle.std.proofs.Common.{arith, ◌≤◌, None, ◌≡◌, ℕ, pos, negsuc, Bool, false, List, [], ◌∷◌, map, filter, length, min, slice_get, Option, Some, Ok, Err, Result, codes, refl, sym, ap, subst, ◌∙◌}
 use Rattle.std.specs.Prelude.{take, IfOk}
-use Rattle.sqlite.specs.declared.types.Value.TheVariants.{Null, Int}
-use Rattle.sqlite_value.specs.declared.keys.Collation.TheVariants.{Binary}
+use Rattle.sqlite.specs.declared.types.Value.TheVariants.{Int}
 use Rattle.sqlite.specs.Order.{Row, column}
 use Rattle.sqlite.specs.Table.{Table}
 use Rattle.sqlite.specs.Schema.{Schema}
-use Rattle.sqlite.specs.Term.{Term, lit, col, op2}
+use Rattle.sqlite.specs.Term.{Term, lit}
 use Rattle.sqlite_trees.specs.Tree.{rowid}
-use Rattle.sqlite_sql.specs.declared.ops.BinaryOp.TheVariants.{Compare, Is}
-use Rattle.sqlite_sql.specs.declared.ops.CompareOp.TheVariants.{Eq, Le, Lt}
 use Rattle.sqlite.specs.Listing.{understood, reads_listing}
 use Rattle.sqlite.specs.Command.{Command}
 use Rattle.sqlite.specs.Command.TheVariants.{Select}
@@ -20,7 +17,6 @@ use Rattle.sqlite.specs.declared.error.Error.TheVariants.{QueryReturnedNoRows}
 use Rattle.sql_maps.specs.Calls.{FindsRow}
 use Rattle.sqlite.specs.declared.error.Error.{Error}
 use Rattle.sqlite.proofs.Callers.{command_of, reads_as, first_as}
-use Rattle.sqlite_tied.specs.Compute.{everything}
 use Rattle.sqlite_tied.specs.Listing.{each_column}
 use Rattle.sql_maps.specs.Maps.{cells, key_at, Maps, Holds, First, Listed, Count}
 use Rattle.sql_maps.proofs.Words.{in_order, counting, GivesFirst, GivesCount}

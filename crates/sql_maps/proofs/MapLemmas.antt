@@ -10,7 +10,7 @@ use Rattle.sqlite_value.specs.declared.value.Value.{Value}
 use Rattle.sqlite.specs.Order.{Row}
 use Rattle.sqlite.specs.Table.{Table}
 use Rattle.sqlite.specs.Schema.{Schema}
-use Rattle.sqlite.specs.Effect.{Database}
+use Rattle.sqlite.specs.Effect.{Database, IsDatabase}
 use Rattle.sqlite_trees.specs.declared.store.Shape.TheVariants as shape
 use Rattle.sqlite_trees.specs.View.{IsShaped}
 use Rattle.sqlite_rules.proofs.ListLemmas.{all_has, has_got, test_has}
@@ -65,6 +65,16 @@ puts_map table old new m k v is plain p shaped = record {
         let r = is.whole j w some in
         (r.0, p.kept r.0 r.1 (λ e. true≢false (sym (ap (λ i. same_key i k) (sym r.2 ∙ e ∙ p.keyed) ∙ same_keys k plain) ∙ miss)), r.2, r.3)
   ];
+  alone = λ r s hr hs same. elim (p.rest r hr) [
+    | inl new_r ↦ elim (p.rest s hs) [
+      | inl new_s ↦ new_r ∙ sym new_s
+      | inr old_s ↦ absurd (old_s.1 (sym same ∙ ap (key_at table) new_r))
+    ]
+    | inr old_r ↦ elim (p.rest s hs) [
+      | inl new_s ↦ absurd (old_r.1 (same ∙ ap (key_at table) new_s))
+      | inr old_s ↦ is.alone r s old_r.0 old_s.0 same
+    ]
+  ];
 }
 
 pub takes_map : (table : Table) (old new : List Row) (m : Map) (k : Row) → IsMap table old m → list_all is_plain k ≡ true → Takes table old new k
@@ -82,6 +92,7 @@ takes_map table old new m k is plain p shaped = record {
         let r = is.whole j w some in
         (r.0, p.kept r.0 r.1 (λ e. true≢false (sym (ap (λ i. same_key i k) (sym r.2 ∙ e) ∙ same_keys k plain) ∙ miss)), r.2, r.3)
   ];
+  alone = λ r s hr hs same. is.alone r s (p.rest r hr).0 (p.rest s hs).0 same;
 }
 
 -- every table has a tree of its own
@@ -105,9 +116,10 @@ apart_at (u ∷ ts) h (suc i) (suc at) t table p q other = apart_at ts (and_part
 
 -- a write of one table, seen in all maps
 pub holds_after : (schema : Schema) (at : ℕ) (table : Table) (db next : Database) (maps : Maps) (m : Map) → are_apart schema.tables ≡ true → slice_get schema.tables at ≡ Some table → Holds schema db maps
-    → next.schema ≡ schema → Leaves schema table db.trees next.trees → IsMap table (next.trees table.tree) m
+    → IsDatabase next → next.schema ≡ schema → Leaves schema table db.trees next.trees → IsMap table (next.trees table.tree) m
     → Holds schema next (λ i j. if i == at then m j else maps i j)
-holds_after schema at table db next maps m apart listed holds has left is = record {
+holds_after schema at table db next maps m apart listed holds sound has left is = record {
+  sound = sound;
   schema_is = has;
   tables = λ i t there. elim (cases_Bool (i == at)) [
     | inl here ↦

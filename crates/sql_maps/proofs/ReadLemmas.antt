@@ -14,16 +14,23 @@ use Rattle.sqlite.specs.Program.{IsProgramAnswer}
 use Rattle.sqlite.specs.Effect.{Database, RefusesToRead}
 use Rattle.sqlite.specs.Given.{IsPlain}
 use Rattle.sqlite.specs.Listing.{understood, reads_listing}
+use Rattle.sqlite.specs.declared.error.Error.{Error}
 use Rattle.sqlite.specs.declared.error.Error.TheVariants.{QueryReturnedNoRows}
+use Rattle.sqlite.specs.declared.rows.Row.{Row as TheRow}
+use Rattle.std.specs.Prelude.{IfOk, IfErr}
+use Rattle.std.proofs.Common.{Result, Vec, Global}
 use Rattle.sqlite.specs.State.{State, Shown, ShowsRows, QueriesRow, FailsToQuery, FailsToShow, IsNotRun, IsUnchanged, store_error, Survives, CommitsShowing}
 use Rattle.sqlite.specs.Clock.{timed}
 use Rattle.sqlite.proofs.Callers.{command_of, reads_as, first_as, never_commits}
 use Rattle.sqlite.proofs.StateLemmas.{survives_weaker}
-use Rattle.sql_maps.specs.Calls.{FindsRow}
+use Rattle.sql_maps.specs.Calls.{FindsRow, Keeps, IsKeptOrUndone}
 use Rattle.sql_maps.specs.Maps.{cells, IsMap, Map, Maps, Holds}
 use Rattle.sql_maps.proofs.Words.{over}
 use Rattle.sql_maps.proofs.AnswerLemmas.{shown_of, answer_has, has_answer}
 use Rattle.sql_maps.proofs.FindLemmas.{Finds}
+
+pub unchanged_keeps : (old new : State) → IsUnchanged old new → Keeps old new
+unchanged_keeps old new same = record { now = same.0.now_is; committed = same.0.committed_is; mode = same.0.mode }
 
 module _ (sql : List ℕ) (params : Row) (old new : State) (schema : Schema) (has : old.now.schema ≡ schema) (bare : IsPlain (understood schema sql)) where
   -- a query leaves the connection as it was
@@ -72,6 +79,27 @@ module _ (sql : List ℕ) (params : Row) (old new : State) (schema : Schema) (ha
   unfolding QueriesRow
   none_shown (inl h) = absurd (never_refused h)
   none_shown (inr h) = h.1
+
+  -- a text that only reads leaves all as it was, or the store failed and the transaction is undone
+  query_left : (e : Error) → FailsToQuery sql params old new e → IsKeptOrUndone old new
+  unfolding FailsToQuery IsNotRun
+  query_left e (inl (inl refused)) = inl (unchanged_keeps old new refused.1)
+  query_left e (inl (inr fails)) = inr fails.3
+  query_left e (inr (c, it, shows)) =
+      let known = sym it.is ∙ ap (λ s. understood s sql) has in
+      let none = (subst IsPlain (sym known) bare).0 in
+      let h = subst (FailsToShow old new sql c (timed params c.formats it.now) e) none shows in
+      inl (unchanged_keeps old new h.3)
+
+  pub row_left : (r : Result Row Error) → QueriesRow sql params old new r → IsKeptOrUndone old new
+  unfolding QueriesRow
+  row_left (Ok row) h = inl (unchanged_keeps old new (row_unchanged row h))
+  row_left (Err e) (inl h) = query_left e h
+  row_left (Err e) (inr h) = inl (unchanged_keeps old new (shown_unchanged [] h.1))
+
+  pub all_left : (r : Result (Vec TheRow Global) Error) → IfOk r (λ rows. Shown sql params old new rows.items) → IfErr r (FailsToQuery sql params old new) → IsKeptOrUndone old new
+  all_left (Ok rows) h f = inl (unchanged_keeps old new (shown_unchanged rows.items h))
+  all_left (Err e) h f = query_left e f
 
 module _ (schema : Schema) (at : ℕ) (table : Table) (listed : slice_get schema.tables at ≡ Some table) (tests shows : List Term) (params k : Row) (finds : Finds table tests params k)
     (shows_cells : (r : Row) → shown_of shows params r ≡ cells table r) (names : List (List ℕ)) where

@@ -8,6 +8,7 @@ use Rattle.sqlite.specs.Table.{Table}
 use Rattle.sqlite.specs.Term.{Term, lit, col}
 use Rattle.sqlite.specs.Query.{Query, inner, end}
 use Rattle.sqlite_value.specs.Keys.{ascending}
+use Rattle.sqlite_value.specs.declared.keys.Key.{Key}
 use Rattle.sqlite_value.specs.declared.keys.Collation.TheVariants.{Binary}
 use Rattle.sqlite_sql.specs.declared.aggregate.AggregateOp.TheVariants.{CountRows}
 use Rattle.sqlite_rules.specs.Lists.{Has}
@@ -30,6 +31,10 @@ over tree tests shows = record {
 -- the same query, in the order of the rowids, and no more rows than this
 abbrev pub in_order : ℕ → List Term → List Term → Term → Query
 in_order tree tests shows most = record (over tree tests shows) { order = (col 1 0, ascending Binary) ∷ []; limit = most }
+
+-- the same query, in the order of these columns
+abbrev pub in_order_of : ℕ → List Term → List Term → List (Term × Key) → Query
+in_order_of tree tests shows order = record (over tree tests shows) { order = order }
 
 -- how many rows pass
 abbrev pub counting : ℕ → List Term → Query

@@ -1,11 +1,11 @@
 -- A table of a database as a map from its key to its row.
 use Rattle.std.specs.Prelude.{◌≡◌, ◌≢◌, ◌⊎◌, ℕ, ℤ, List, [], ◌∷◌, length, map, Bool, true, false, None, Some, Option, bytes_eq, ◌&&◌, ◌==◌, if◌then◌else◌, slice_get, IsTrue}
 use Rattle.std.specs.List.{list_all, range_with_len}
-use Rattle.std.specs.Ordering.{int_eq}
+use Rattle.std.specs.Ordering.{int_eq, ordering_then}
 use Rattle.std.specs.declared.cmp.Ordering.TheVariants.{Less}
 use Rattle.sqlite.specs.State.{State}
 use Rattle.sqlite.specs.Schema.{Schema}
-use Rattle.sqlite.specs.Effect.{Database}
+use Rattle.sqlite.specs.Effect.{Database, IsDatabase}
 use Rattle.sqlite.specs.Order.{Row, column}
 use Rattle.sqlite.specs.Table.{Table}
 use Rattle.sqlite.specs.declared.types.Value.TheVariants.{Null, Int, Text}
@@ -62,6 +62,7 @@ pub record IsMap (table : Table) (rows : List Row) (m : Map) : Type 0 where
   pub plain : (r : Row) → Has rows r → list_all is_plain (key_at table r) ≡ true
   pub sound : (r : Row) → Has rows r → m (key_at table r) ≡ Some (cells table r)
   pub whole : (k v : Row) → m k ≡ Some v → (r : Row) × Has rows r × (key_at table r ≡ k) × (cells table r ≡ v)
+  pub alone : (r s : Row) → Has rows r → Has rows s → key_at table r ≡ key_at table s → r ≡ s
 
 -- the maps of all tables of a schema, by their places
 abbrev pub Maps : Type 0
@@ -77,8 +78,9 @@ take_at maps at k i j = if i == at then take_out (maps at) k j else maps i j
 abbrev pub no_maps : Maps
 no_maps i j = None
 
--- the database has this schema, and its tables hold the maps
+-- the database is sound and has this schema, and its tables hold the maps
 pub record Holds (schema : Schema) (db : Database) (maps : Maps) : Type 0 where
+  pub sound : IsDatabase db
   pub schema_is : db.schema ≡ schema
   pub tables : (at : ℕ) (table : Table) → slice_get schema.tables at ≡ Some table → IsMap table (db.trees table.tree) (maps at)
 
@@ -106,11 +108,25 @@ FirstOf m Good [] = (k v : Row) → m k ≡ Some v → ¬ Good v
 FirstOf m Good (v ∷ more) =
     ((k : Row) × (m k ≡ Some v)) × Good v × ((k w : Row) → m k ≡ Some w → Good w → (w ≡ v) ⊎ (value_cmp (column v 0) (column w 0) ≡ Less)) × (more ≡ [])
 
--- the rows of the map that pass, each once, by their keys
-pub record Listed (m : Map) (good : Row → Bool) (out : List Row) : Type 0 where
+-- the rows of the map that pass, each once, each before the next
+pub record ListedBy (Before : Row → Row → Type 0) (m : Map) (good : Row → Bool) (out : List Row) : Type 0 where
   pub sound : (v : Row) → Has out v → (k : Row) × (m k ≡ Some v) × (good v ≡ true)
   pub whole : (k v : Row) → m k ≡ Some v → good v ≡ true → Has out v
-  pub rises : IsAscending (λ v w. value_cmp (column v 0) (column w 0) ≡ Less) out
+  pub rises : IsAscending Before out
+
+-- the first column of the one is below that of the other; so the second; so the two together
+abbrev pub FirstBelow : Row → Row → Type 0
+FirstBelow v w = value_cmp (column v 0) (column w 0) ≡ Less
+
+abbrev pub SecondBelow : Row → Row → Type 0
+SecondBelow v w = value_cmp (column v 1) (column w 1) ≡ Less
+
+abbrev pub PairBelow : Row → Row → Type 0
+PairBelow v w = ordering_then (value_cmp (column v 0) (column w 0)) (value_cmp (column v 1) (column w 1)) ≡ Less
+
+-- by their keys, where the key is the first column
+abbrev pub Listed : Map → (Row → Bool) → List Row → Type 0
+Listed = ListedBy FirstBelow
 
 -- how many rows of the map pass: the number of their keys
 pub record Count (m : Map) (good : Row → Bool) (n : ℕ) : Type 0 where

@@ -1,0 +1,4 @@
+pub mod Steps
+pub mod StopLemmas
+pub mod QueryLemmas
+pub mod KnownLemmas

@@ -1,1 +1,5 @@
 pub mod Views
+pub mod Commit
+pub mod Stops
+pub mod Known
+pub mod Limits

@@ -3,6 +3,7 @@
 
 mod changing;
 mod files;
+mod known;
 mod store;
 mod viewing;
 

@@ -1,11 +1,24 @@
 //! The tables, with no transaction under way between two calls.
 
-ghost use Rattle.std.specs.Prelude.{◌≡◌, false, IfOk};
+ghost use Rattle.std.specs.Prelude.{◌≡◌, ◌⊎◌, false, IsTrue, OnOk, OnErr, IfOk, IfSome, option_map};
+ghost use Rattle.sqlite.specs.Held.{state};
+ghost use Rattle.sqlite.specs.State.{HasCleanDisk, Survives};
+ghost use Rattle.sql_maps.specs.Maps.{Maps, Holds, no_maps};
+ghost use Rattle.sql_maps.specs.Shapes.{no_schema};
+ghost use Rattle.circ_tables.specs.Cells.{number_key, kept_key, kept_cells, patron_cells, loan_cells, hold_cells};
+ghost use Rattle.circ_tables.specs.Shape.{schema, patrons_place, loans_place, holds_place, kept_place};
+ghost use Rattle.terms.specs.Limits.{IsOwner, IsPatron, IsLoan, IsHold};
+ghost use Rattle.terms.specs.Pictures.{Picture};
+ghost use Rattle.circ_tables.specs.Encoding.{HasPicture, reply_of};
+ghost use Rattle.store.specs.Commit.{after_commit, command_made, new_library};
+ghost use Rattle.store.specs.Known.{IsKnown};
+ghost use Rattle.store.specs.Limits.{limit_of};
+ghost use Rattle.store.specs.Stops.{Leaves, Keeps, KeepsPicture};
 ghost use Rattle.store.specs.Views.{IsMadeFor};
 
-use crate::{changing, viewing};
+use crate::{changing, known, viewing};
 use circ_core::{Changes, View};
-use circ_tables::{KeptReply, get_hold, get_kept, get_loan, get_patron, schema_of};
+use circ_tables::{KeptReply, get_hold, get_kept, get_loan, get_patron};
 use sqlite::{Alter, Connection};
 use std::alloc::Global;
 use std::marker::Model;
@@ -42,6 +55,7 @@ impl<S: Alter + Drop> Store<S> {
     /// `meta`. 91, also where a name is taken.
     pub fn create(mut conn: Connection<S>) -> Result<Store<S>, Fault>
         requires { conn.in_transaction ≡ false }
+        ensures made { IfOk result (λ it. HasCleanDisk (state S.Store it) → Holds no_schema (state S.Store conn).now no_maps → Keeps (state S.Store it) new_library) }
     {
         changing::create(&mut conn)?;
         Ok(Store { conn })
@@ -50,11 +64,15 @@ impl<S: Alter + Drop> Store<S> {
     /// Takes tables that were made. 91; 93 where there is no table `meta` of one row, or its schema is not known.
     pub fn open(mut conn: Connection<S>) -> Result<Store<S>, Fault>
         requires { conn.in_transaction ≡ false }
+        ensures same { IfOk result (λ it. HasCleanDisk (state S.Store it) → IsTrue (state S.Store it).is_open
+            → ((state S.Store it).now ≡ (state S.Store conn).committed) × ((state S.Store it).committed ≡ (state S.Store conn).committed)) }
+        ensures found { IfOk result (λ it. HasCleanDisk (state S.Store it) → IsTrue (state S.Store it).is_open → (maps : Maps) → Holds schema (state S.Store conn).committed maps
+            → Keeps (state S.Store it) maps × IsKnown maps) }
+        ensures survives { IfOk result (λ it. Survives (state S.Store conn) (state S.Store it) (λ _. ⊥)) }
     {
-        let schema = schema_of(&mut conn)?;
-        if schema != changing::SCHEMA {
-            return Err(Fault::Stored);
-        }
+        let is_idle = conn.is_autocommit();
+        prove!(is_idle);
+        known::know(&mut conn)?;
         Ok(Store { conn })
     }
 }
@@ -68,28 +86,74 @@ impl<S: Alter> Store<S> {
     }
 
     /// Makes the changes of a decision and keeps the row of its request, in one transaction: all of it or nothing. 91.
-    pub fn commit(&mut self, changes: &Changes<'_>, kept: &KeptPut<'_>) -> Result<(), Fault> {
+    pub fn commit(&mut self, changes: &Changes<'_>, kept: &KeptPut<'_>) -> Result<(), Fault>
+        ensures done { HasCleanDisk (state S.Store self.new) → OnOk result ((maps : Maps) → Holds schema (state S.Store self.old).now maps
+            → Keeps (state S.Store self.new) (after_commit changes.now kept.now maps)) }
+        ensures shown { HasCleanDisk (state S.Store self.new) → IsOwner kept.now.caller → OnOk result ((P : Picture) → HasPicture (state S.Store self.old).now P
+            → KeepsPicture (state S.Store self.new) (command_made changes.now kept.now P)) }
+        ensures undone { HasCleanDisk (state S.Store self.new) → IsTrue (state S.Store self.new).is_open
+            → OnErr result (((state S.Store self.new).now ≡ (state S.Store self.old).now) × Leaves (state S.Store self.new) (λ db. db ≡ (state S.Store self.old).now)) }
+        ensures stop { HasCleanDisk (state S.Store self.new) → (maps : Maps) → Keeps (state S.Store self.old) maps
+            → Leaves (state S.Store self.new) (λ db. Holds schema db maps ⊎ Holds schema db (after_commit changes.now kept.now maps)) }
+        ensures stop_shown { HasCleanDisk (state S.Store self.new) → IsOwner kept.now.caller → (P : Picture) → KeepsPicture (state S.Store self.old) P
+            → Leaves (state S.Store self.new) (λ db. HasPicture db P ⊎ HasPicture db (command_made changes.now kept.now P)) }
+    {
         changing::commit(&mut self.conn, changes, kept)
     }
 
     /// What is kept under a caller's key. 91, 93.
-    pub fn kept(&mut self, owner: Owner, key: &Key) -> Result<Option<KeptReply>, Fault> {
+    pub fn kept(&mut self, owner: Owner, key: &Key) -> Result<Option<KeptReply>, Fault>
+        ensures gets { HasCleanDisk (state S.Store self.new) → IfOk result (λ row. (maps : Maps) → Holds schema (state S.Store self.old).now maps
+            → (maps kept_place (kept_key owner key.now) ≡ option_map (λ k. kept_cells (record { caller = owner; key = key.now; text = k.text; reply = k.reply })) row) × ((state S.Store self.new).now ≡ (state S.Store self.old).now)) }
+        ensures shown { HasCleanDisk (state S.Store self.new) → IfOk result (λ row. (P : Picture) → HasPicture (state S.Store self.old).now P → IsOwner owner
+            → (row ≡ option_map reply_of (P.kept owner key.now)) × ((state S.Store self.new).now ≡ (state S.Store self.old).now)) }
+        ensures left { HasCleanDisk (state S.Store self.new) → (maps : Maps) → Keeps (state S.Store self.old) maps → Leaves (state S.Store self.new) (λ db. Holds schema db maps) }
+    {
         get_kept(&mut self.conn, owner, key)
     }
 
     /// The row of a patron. 90, 91, 93.
-    pub fn patron(&mut self, alloc: Global, patron: PatronId) -> Result<Option<PatronRow>, Fault> {
+    pub fn patron(&mut self, alloc: Global, patron: PatronId) -> Result<Option<PatronRow>, Fault>
+        ensures gets { HasCleanDisk (state S.Store self.new) → IfOk result (λ row. (maps : Maps) → Holds schema (state S.Store self.old).now maps
+            → (maps patrons_place (number_key patron) ≡ option_map patron_cells row) × ((state S.Store self.new).now ≡ (state S.Store self.old).now)) }
+        ensures shown { HasCleanDisk (state S.Store self.new) → IfOk result (λ row. (P : Picture) → HasPicture (state S.Store self.old).now P → IfSome (P.patrons patron) IsPatron
+            → (row ≡ P.patrons patron) × ((state S.Store self.new).now ≡ (state S.Store self.old).now)) }
+        ensures left { HasCleanDisk (state S.Store self.new) → (maps : Maps) → Keeps (state S.Store self.old) maps → Leaves (state S.Store self.new) (λ db. Holds schema db maps) }
+    {
         get_patron(&mut self.conn, alloc, patron)
     }
 
     /// The row of a loan. 91, 93.
-    pub fn loan(&mut self, loan: LoanId) -> Result<Option<LoanRow>, Fault> {
+    pub fn loan(&mut self, loan: LoanId) -> Result<Option<LoanRow>, Fault>
+        ensures gets { HasCleanDisk (state S.Store self.new) → IfOk result (λ row. (maps : Maps) → Holds schema (state S.Store self.old).now maps
+            → (maps loans_place (number_key loan) ≡ option_map loan_cells row) × ((state S.Store self.new).now ≡ (state S.Store self.old).now)) }
+        ensures shown { HasCleanDisk (state S.Store self.new) → IfOk result (λ row. (P : Picture) → HasPicture (state S.Store self.old).now P → IfSome (P.loans loan) IsLoan
+            → (row ≡ P.loans loan) × ((state S.Store self.new).now ≡ (state S.Store self.old).now)) }
+        ensures left { HasCleanDisk (state S.Store self.new) → (maps : Maps) → Keeps (state S.Store self.old) maps → Leaves (state S.Store self.new) (λ db. Holds schema db maps) }
+    {
         get_loan(&mut self.conn, loan)
     }
 
     /// The row of a hold. 91, 93.
-    pub fn hold(&mut self, hold: HoldId) -> Result<Option<HoldRow>, Fault> {
+    pub fn hold(&mut self, hold: HoldId) -> Result<Option<HoldRow>, Fault>
+        ensures gets { HasCleanDisk (state S.Store self.new) → IfOk result (λ row. (maps : Maps) → Holds schema (state S.Store self.old).now maps
+            → (maps holds_place (number_key hold) ≡ option_map hold_cells row) × ((state S.Store self.new).now ≡ (state S.Store self.old).now)) }
+        ensures shown { HasCleanDisk (state S.Store self.new) → IfOk result (λ row. (P : Picture) → HasPicture (state S.Store self.old).now P → IfSome (P.holds hold) IsHold
+            → (row ≡ P.holds hold) × ((state S.Store self.new).now ≡ (state S.Store self.old).now)) }
+        ensures left { HasCleanDisk (state S.Store self.new) → (maps : Maps) → Keeps (state S.Store self.old) maps → Leaves (state S.Store self.new) (λ db. Holds schema db maps) }
+    {
         get_hold(&mut self.conn, hold)
+    }
+
+    /// Sets how many steps each later call of the database may take; with none there is no limit, and 0 stands for 1.
+    pub fn limit_steps(&mut self, limit: Option<u64>)
+        ensures { self.new ≡ record self.old { step_limit = limit_of limit } }
+    {
+        let steps = match limit {
+            Some(0) => Some(1),
+            _ => limit,
+        };
+        self.conn.set_step_limit(steps);
     }
 
     /// Gives the connection back.

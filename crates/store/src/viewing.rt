@@ -4,7 +4,9 @@ ghost use Rattle.std.specs.Prelude.{◌≡◌, false, IfOk};
 ghost use Rattle.store.specs.Views.{IsMadeFor};
 
 use calendar::{Calendar, CloseError};
-use circ_core::{AcquireView, CheckOutView, CopyView, PatronView, View};
+use circ_core::{
+    AccountView, AcquireView, CheckOutView, ClosedDayView, CopyView, PatronView, View,
+};
 use circ_tables::{
     closed_days_of, count_active_holds_on, count_open_loans, first_in_line, get_branch, get_copy,
     get_kind, get_meta, get_patron, get_rule, get_title, get_transit, open_loan_of, ready_hold_of,
@@ -165,6 +167,32 @@ fn acquire_view<S: Alter>(
     })
 }
 
+fn closed_day_view<S: Alter>(
+    conn: &mut Connection<S>,
+    alloc: Global,
+    branch: BranchId,
+) -> Result<ClosedDayView, Fault>
+    ensures mode { conn.old.in_transaction ≡ false → conn.new.in_transaction ≡ false }
+{
+    Ok(ClosedDayView {
+        meta: get_meta(conn)?,
+        calendar: calendar_of(conn, alloc, branch)?,
+    })
+}
+
+fn account_view<S: Alter>(
+    conn: &mut Connection<S>,
+    alloc: Global,
+    patron: PatronId,
+) -> Result<AccountView, Fault>
+    ensures mode { conn.old.in_transaction ≡ false → conn.new.in_transaction ≡ false }
+{
+    Ok(AccountView {
+        meta: get_meta(conn)?,
+        patron: get_patron(conn, alloc, patron)?,
+    })
+}
+
 /// The rows that the command needs, and no others.
 pub(crate) fn view_for<S: Alter>(
     conn: &mut Connection<S>,
@@ -178,6 +206,12 @@ pub(crate) fn view_for<S: Alter>(
         Command::BeginDay { .. } => Ok(View::BeginDay(get_meta(conn)?)),
         Command::Branch { branch, .. } => Ok(View::Branch(get_branch(conn, alloc, *branch)?)),
         Command::Week { branch, .. } => Ok(View::Week(get_branch(conn, alloc, *branch)?)),
+        Command::CloseDay { branch, .. } => {
+            Ok(View::CloseDay(closed_day_view(conn, alloc, *branch)?))
+        }
+        Command::OpenDay { branch, .. } => {
+            Ok(View::OpenDay(closed_day_view(conn, alloc, *branch)?))
+        }
         Command::Rule { kind, .. } => Ok(View::Rule(get_kind(conn, *kind)?)),
         Command::Patron { patron, kind, .. } => {
             Ok(View::Patron(patron_view(conn, alloc, *patron, *kind)?))
@@ -193,6 +227,8 @@ pub(crate) fn view_for<S: Alter>(
             copy,
             branch,
         } => Ok(View::CheckOut(check_out_view(conn, alloc, *patron, *copy, *branch)?)),
+        Command::Pay { patron, .. } => Ok(View::Pay(account_view(conn, alloc, *patron)?)),
+        Command::Waive { patron, .. } => Ok(View::Waive(account_view(conn, alloc, *patron)?)),
         _ => Ok(View::Kind),
     }
 }

@@ -2,3 +2,4 @@ pub mod WordLemmas
 pub mod RequestTextLemmas
 pub mod ReplyTextLemmas
 pub mod ReadingLemmas
+pub mod Utf8Lemmas

@@ -1,5 +1,5 @@
 -- What a reader takes off the front of a text, and the texts of the forms of replies.
-use Rattle.std.proofs.Common.{◌≡◌, ◌≢◌, ℕ, ◌<◌, ◌^◌, List, [], ◌∷◌, ◌++◌, Option, Some, None, IfSome, IfNone, IsSome, IsSomeAnd, Bor, length, get_or, drop, ap, sym, ◌∙◌, refl, arith}
+use Rattle.std.proofs.Common.{◌≡◌, ◌≢◌, ℕ, ◌<◌, ◌^◌, List, ◌∷◌, ◌++◌, Option, Some, None, IfSome, IfNone, IsSome, IsSomeAnd, Bor, length, get_or, drop, ap, sym, ◌∙◌, refl, arith}
 use Rattle.std.specs.Prelude.{codes}
 use Rattle.std.specs.Option.{MatchOption}
 use Rattle.std.specs.Fmt.{decimal}

@@ -1,9 +1,9 @@
 -- A reply text is read back word by word.
-use Rattle.std.proofs.Common.{◌≡◌, ℕ, List, ap, sym, ◌∙◌, refl, arith, cond, Some, None}
+use Rattle.std.proofs.Common.{◌≡◌, ℕ, List, ap, sym, ◌∙◌, refl, arith, Some, None}
 use Rattle.std.specs.Prelude.{if◌then◌else◌, codes}
 use Rattle.std.specs.Str.{bytes_eq}
 use Rattle.terms.specs.Texts.{routed_words, reply_words, reply_text}
-use Rattle.terms.specs.Laws.{IsRouted, IsKept, ReplyTextsDiffer}
+use Rattle.terms.specs.Laws.{IsKept, ReplyTextsDiffer}
 use Rattle.terms.specs.declared.reply.Routed.{Routed}
 use Rattle.terms.specs.declared.reply.Routed.TheVariants.{Shelf, HoldShelf, Transit}
 use Rattle.terms.specs.declared.reply.Reply.{Reply}

@@ -1,5 +1,5 @@
 -- The forms of texts that are given from outside.
-use Rattle.std.specs.Prelude.{ℕ, ◌-◌, List, length, slice_index, Bool, ◌&&◌, ◌||◌, nat_le, not, ◌==◌}
+use Rattle.std.specs.Prelude.{◌≡◌, ℕ, ◌-◌, List, length, slice_index, Bool, true, ◌&&◌, ◌||◌, nat_le, not, ◌==◌, IsUtf8}
 use Rattle.std.specs.List.{list_all}
 
 -- a byte that a name may have: none below 32, and not 127
@@ -11,6 +11,10 @@ unfoldable pub is_name : List ℕ → Bool
 is_name t =
     nat_le 1 (length t) && (nat_le (length t) 120 && (list_all is_plain_byte t
     && (not (slice_index t 0 == 32) && not (slice_index t (length t - 1) == 32))))
+
+-- a name in UTF-8
+abbrev pub IsName : List ℕ → Type 0
+IsName t = (is_name t ≡ true) × IsUtf8 t
 
 -- an ASCII letter or digit
 abbrev pub is_alphanumeric : ℕ → Bool

@@ -1,7 +1,7 @@
 -- The laws of request texts and reply texts.
-use Rattle.std.specs.Prelude.{◌≡◌, ◌<◌, ◌^◌, ℕ, true, Some, None, length, List, Bool}
+use Rattle.std.specs.Prelude.{◌≡◌, ◌<◌, ◌^◌, ℕ, true, Some, None, length, IsUtf8}
 use Rattle.calendar.specs.Days.{IsDayNumber}
-use Rattle.terms.specs.Forms.{is_name, is_card_key}
+use Rattle.terms.specs.Forms.{IsName, is_card_key}
 use Rattle.terms.specs.Texts.{request_text, reply_text}
 use Rattle.terms.specs.declared.command.Command.{Command}
 use Rattle.terms.specs.declared.command.Command.TheVariants.{BeginDay, Branch, Week, CloseDay, OpenDay, Kind, Rule, Patron, Acquire, CheckOut, CheckIn, Renew, PlaceHold, CancelHold, Unshelve, UnshelveCancelled, Missing, Withdraw, Pay, Waive, Page}
@@ -20,16 +20,16 @@ IsAmount n = n < 2 ^ 64
 -- Each number, day, mask and text of the command has its form.
 abbrev pub IsCommand : Command → Type 0
 IsCommand (BeginDay day) = IsDayNumber day
-IsCommand (Branch branch pickup name) = IsNumber branch × IsNumber pickup × (is_name name ≡ true)
+IsCommand (Branch branch pickup name) = IsNumber branch × IsNumber pickup × IsName name
 IsCommand (Week branch week) = IsNumber branch × (length week ≡ 7)
 IsCommand (CloseDay branch day) = IsNumber branch × IsDayNumber day
 IsCommand (OpenDay branch day) = IsNumber branch × IsDayNumber day
 IsCommand (Kind kind loans holds debt) = IsNumber kind × IsNumber loans × IsNumber holds × IsAmount debt
 IsCommand (Rule kind copy_kind period renewals rate cap) =
     IsNumber kind × IsNumber copy_kind × IsNumber period × IsNumber renewals × IsAmount rate × IsAmount cap
-IsCommand (Patron patron kind card_key name) = IsNumber patron × IsNumber kind × (is_card_key card_key ≡ true) × (is_name name ≡ true)
+IsCommand (Patron patron kind card_key name) = IsNumber patron × IsNumber kind × (is_card_key card_key ≡ true) × IsName name
 IsCommand (Acquire copy title kind home price text) =
-    IsNumber copy × IsNumber title × IsNumber kind × IsNumber home × IsAmount price × (is_name text ≡ true)
+    IsNumber copy × IsNumber title × IsNumber kind × IsNumber home × IsAmount price × IsName text
 IsCommand (CheckOut patron copy branch) = IsNumber patron × IsNumber copy × IsNumber branch
 IsCommand (CheckIn copy branch) = IsNumber copy × IsNumber branch
 IsCommand (Renew loan) = IsNumber loan
@@ -69,3 +69,11 @@ IsKept (Refused _) = ⊥
 -- Two kept replies with one reply text are one reply.
 abbrev pub ReplyTextsDiffer : Type 0
 ReplyTextsDiffer = (a b : Reply) → IsKept a → IsKept b → reply_text a ≡ reply_text b → a ≡ b
+
+-- The request text of every command is UTF-8.
+abbrev pub RequestTextsUtf8 : Type 0
+RequestTextsUtf8 = (c : Command) → IsCommand c → IsUtf8 (request_text c)
+
+-- The reply text of every reply that can be kept is UTF-8.
+abbrev pub ReplyTextsUtf8 : Type 0
+ReplyTextsUtf8 = (r : Reply) → IsKept r → IsUtf8 (reply_text r)

@@ -4,3 +4,5 @@ pub mod Money
 pub mod Built
 pub mod Callers
 pub mod Laws
+pub mod Pictures
+pub mod Limits

@@ -1,8 +1,10 @@
 //! Laws of texts: a law is the contract of a function that does nothing.
 
-ghost use Rattle.terms.specs.Laws.{IsCommand, RequestTextsDiffer, ReplyTextsDiffer};
+ghost use Rattle.std.specs.Prelude.{◌≡◌, true, false};
+ghost use Rattle.terms.specs.Laws.{IsCommand, IsRouted, IsKept, RequestTextsDiffer, ReplyTextsDiffer, RequestTextsUtf8, ReplyTextsUtf8};
 
 use crate::command::Command;
+use crate::reply::{Reply, Routed};
 
 /// Two commands with one request text are one command.
 pub fn request_texts_differ()
@@ -12,6 +14,16 @@ pub fn request_texts_differ()
 /// Two kept replies with one reply text are one reply.
 pub fn reply_texts_differ()
     ensures { ReplyTextsDiffer }
+{}
+
+/// The request text of every command is UTF-8.
+pub fn request_texts_are_utf8()
+    ensures { RequestTextsUtf8 }
+{}
+
+/// The reply text of every reply that can be kept is UTF-8.
+pub fn reply_texts_are_utf8()
+    ensures { ReplyTextsUtf8 }
 {}
 
 /// Each number, day, mask and text of a command has its form.
@@ -146,5 +158,75 @@ pub fn command_has_forms(command: &Command)
         Command::Page { patron } => {
             let _patron = patron.number();
         }
+    }
+}
+
+/// Where a copy goes: its numbers and its day are in their ranges.
+fn routed_has_forms(routed: &Routed)
+    ensures { IsRouted routed.now }
+{
+    match routed {
+        Routed::Shelf { branch } => {
+            let _branch = branch.number();
+        }
+        Routed::HoldShelf {
+            hold,
+            branch,
+            until,
+        } => {
+            let _hold = hold.number();
+            let _branch = branch.number();
+            let _until = until.number();
+        }
+        Routed::Transit {
+            goal,
+            hold: Some(hold),
+        } => {
+            let _goal = goal.number();
+            let _hold = hold.number();
+        }
+        Routed::Transit { goal, hold: None } => {
+            let _goal = goal.number();
+        }
+    }
+}
+
+/// Whether a reply is one that can be kept: neither a page nor a refusal. Its numbers, amounts and days are in their
+/// ranges then, as they are in every reply.
+pub fn can_be_kept(reply: &Reply) -> bool
+    ensures kept { result ≡ true → IsKept reply.now }
+    ensures other { result ≡ false → IsKept reply.now → ⊥ }
+{
+    match reply {
+        Reply::Done => true,
+        Reply::Lent { loan, due } => {
+            let _loan = loan.number();
+            let _due = due.number();
+            true
+        }
+        Reply::CheckedIn { fine, routed } => {
+            let _fine = fine.number();
+            routed_has_forms(routed);
+            true
+        }
+        Reply::Held { hold } => {
+            let _hold = hold.number();
+            true
+        }
+        Reply::Moved { routed } => {
+            routed_has_forms(routed);
+            true
+        }
+        Reply::Lost { fine, price } => {
+            let _fine = fine.number();
+            let _price = price.number();
+            true
+        }
+        Reply::Owed { owed } => {
+            let _owed = owed.number();
+            true
+        }
+        Reply::Shown { .. } => false,
+        Reply::Refused(_) => false,
     }
 }

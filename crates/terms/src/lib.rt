@@ -11,13 +11,17 @@ mod reading;
 mod refusal;
 mod reply;
 mod row;
+mod tables;
 mod text;
 mod week;
 
 pub use calendar::{Day, Memory, Weekdays};
 pub use command::{Caller, Command, Owner, Request, request_text};
 pub use fault::Fault;
-pub use laws::{command_has_forms, reply_texts_differ, request_texts_differ};
+pub use laws::{
+    can_be_kept, command_has_forms, reply_texts_are_utf8, reply_texts_differ,
+    request_texts_are_utf8, request_texts_differ,
+};
 pub use money::fine;
 pub use number::{
     BranchId, Cents, CopyId, CopyKind, Count, Days, HoldId, LineId, LoanId, PatronId, PatronKind,
@@ -28,8 +32,9 @@ pub use reading::{read_number, read_reply};
 pub use refusal::Refusal;
 pub use reply::{Reply, Routed, reply_text};
 pub use row::{
-    BranchRow, Condition, CopyRow, HoldRow, HoldState, KeptRow, KindRow, LineRow, LoanRow, MetaRow,
-    PatronRow, RuleRow, Sort, TitleRow, TransitRow,
+    BranchRow, ClosedDayRow, Condition, CopyRow, HoldRow, HoldState, KeptRow, KindRow, LineRow,
+    LoanRow, MetaRow, PatronRow, RuleRow, Sort, TitleRow, TransitRow,
 };
+pub use tables::{Rows, Tables};
 pub use text::{CardKey, Key, Name, Text};
 pub use week::Mask;

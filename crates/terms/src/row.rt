@@ -27,6 +27,13 @@ pub struct BranchRow {
     pub name: Name,
 }
 
+/// A row of `closed_days`: a branch is closed on that single day.
+#[derive(Clone, Copy, Debug, PartialEq, Eq)]
+pub struct ClosedDayRow {
+    pub branch: BranchId,
+    pub day: Day,
+}
+
 /// A row of `kinds`.
 #[derive(Clone, Copy, Debug, PartialEq, Eq)]
 pub struct KindRow {

@@ -2,7 +2,7 @@
 
 ghost use Rattle.std.specs.Prelude.{◌≡◌, ◌+◌, ◌<◌, ◌≤◌, ◌==◌, IfOk, IfSome, IfNone, OnOk, true, false, length, string_bytes, Some, None, MatchOption, bytes_eq, IsUtf8};
 ghost use Rattle.std.specs.List.{list_all};
-ghost use Rattle.terms.specs.Forms.{is_name, is_plain_byte, is_card_key, is_alphanumeric, is_outside_key, is_key_byte};
+ghost use Rattle.terms.specs.Forms.{is_name, IsName, is_plain_byte, is_card_key, is_alphanumeric, is_outside_key, is_key_byte};
 ghost use Rattle.terms.specs.Texts.{request_text};
 
 use crate::command::{Command, joined_words};
@@ -71,7 +71,7 @@ impl Name {
     /// The text.
     pub fn as_str(&self) -> &str
         ensures value { result.now ≡ self.now }
-        ensures form { is_name result.now ≡ true }
+        ensures form { IsName result.now }
     {
         self.text.as_str()
     }
@@ -242,7 +242,8 @@ impl Key {
 
     /// The text.
     pub fn as_str(&self) -> &str
-        ensures { result.now ≡ self.now }
+        ensures value { result.now ≡ self.now }
+        ensures form { IsUtf8 result.now }
     {
         self.text.as_str()
     }
@@ -272,7 +273,8 @@ impl Text {
 
     /// The text.
     pub fn as_str(&self) -> &str
-        ensures { result.now ≡ self.now }
+        ensures value { result.now ≡ self.now }
+        ensures form { IsUtf8 result.now }
     {
         self.text.as_str()
     }

@@ -1,4 +1,4 @@
-use Rattle.std.proofs.Common.{◌∷◌, [], Some, None, subst}
+use Rattle.std.proofs.Common.{◌∷◌, [], Some, None, subst, rules}
 use Rattle.sqlite.specs.Held.{state}
 use Rattle.sqlite.specs.Order.{Row}
 use Rattle.sql_maps.specs.Maps.{First}
@@ -30,3 +30,22 @@ pub returns-clause-first : goal.returns-clause-first
 returns-clause-first g c clean maps holds =
     let found = rw (c.in-None.is, c.params-to_sql.ensures, c.number.ensures.value) at (c.in_ok-row.ensures.finds clean) in
     ready_hold_found c.args.copy (state g.S.Store c.args.conn.now) (state g.S.Store c.first_row.new.conn) None found maps holds
+
+pub returns-in_err-hold_row-in-Some-clause-stored : goal.returns-in_err-hold_row-in-Some-clause-stored
+returns-in_err-hold_row-in-Some-clause-stored g c clean is maps holds all =
+    let found = rw (c.in-Some.is, c.params-to_sql.ensures, c.number.ensures.value) at (c.in_ok-row.ensures.finds clean) in
+    let got = ready_hold_found c.args.copy (state g.S.Store c.args.conn.now) (state g.S.Store c.first_row.new.conn) (Some c.in-Some.row) found maps holds in
+    let row = all got.0.0.0 c.in-Some.row got.0.0.1 in
+    c.in_err-hold_row-in-Some.ensures.stored (search rules) row.0 row.1 row.2
+
+pub returns-in_err-row-clause-leaves : goal.returns-in_err-row-clause-leaves
+returns-in_err-row-clause-leaves g c clean has = c.first_row.ensures.leaves clean (ready_hold_plain c.args.conn.now.schema has)
+
+pub returns-in_err-hold_row-in-Some-clause-leaves : goal.returns-in_err-hold_row-in-Some-clause-leaves
+returns-in_err-hold_row-in-Some-clause-leaves g c clean has = c.first_row.ensures.leaves clean (ready_hold_plain c.args.conn.now.schema has)
+
+pub returns-in-Some-clause-leaves : goal.returns-in-Some-clause-leaves
+returns-in-Some-clause-leaves g c clean has = c.first_row.ensures.leaves clean (ready_hold_plain c.args.conn.now.schema has)
+
+pub returns-clause-leaves : goal.returns-clause-leaves
+returns-clause-leaves g c clean has = c.first_row.ensures.leaves clean (ready_hold_plain c.args.conn.now.schema has)

@@ -1,4 +1,4 @@
-use Rattle.std.proofs.Common.{◌≡◌, ℕ, List, ◌∷◌, ◌++◌, Some, None, ap, sym, ◌∙◌, refl, arith, rules}
+use Rattle.std.proofs.Common.{Some, None, arith}
 use Rattle.std.specs.Fmt.{decimal}
 use Rattle.std.proofs.lemmas.Str.Pattern.{split_after}
 use Rattle.terms.proofs.ReadingLemmas as lemmas

@@ -1,4 +1,4 @@
-use Rattle.std.proofs.Common.{◌≡◌, ℕ, List, ◌∷◌, ◌++◌, Some, None, ap, sym, ◌∙◌, refl, arith, rules}
+use Rattle.std.proofs.Common.{sym, ◌∙◌}
 use Rattle.terms.proofs.ReadingLemmas as lemmas
 use Rattle.terms.proofs.reading.read_held.Goals as goal
 

@@ -1,7 +1,5 @@
-use Rattle.std.proofs.Common.{◌≡◌, ℕ, List, ◌∷◌, ◌++◌, Some, None, ap, sym, ◌∙◌, refl, arith, rules}
+use Rattle.std.proofs.Common.{ℕ, List, ap, sym, ◌∙◌}
 use Rattle.std.specs.Prelude.{codes}
-use Rattle.std.specs.Fmt.{decimal}
-use Rattle.calendar.specs.Days.{day_text}
 use Rattle.terms.proofs.ReadingLemmas as lemmas
 use Rattle.terms.proofs.reading.read_hold_shelf.Goals as goal
 

@@ -1,7 +1,14 @@
 -- What a stored row keeps to, beside its columns.
-use Rattle.std.specs.Prelude.{◌≡◌, ◌≤◌, ℕ, true, IfSome}
+use Rattle.std.specs.Prelude.{◌≡◌, ◌≤◌, ℕ, true, List, Some, IfSome, IsUtf8}
 use Rattle.calendar.specs.Days.{IsDayNumber}
-use Rattle.terms.specs.Forms.{is_name, is_card_key}
+use Rattle.calendar.specs.Openings.{AreWeekdays}
+use Rattle.terms.specs.Forms.{IsName, is_card_key}
+use Rattle.terms.specs.Texts.{reply_text}
+use Rattle.terms.specs.Laws.{IsKept}
+use Rattle.terms.specs.Pictures.{Picture}
+use Rattle.terms.specs.declared.reply.Reply.{Reply}
+use Rattle.terms.specs.declared.command.Owner.{Owner}
+use Rattle.terms.specs.declared.command.Owner.TheVariants.{Desk, Patron}
 use Rattle.terms.specs.declared.row.MetaRow.{MetaRow}
 use Rattle.terms.specs.declared.row.BranchRow.{BranchRow}
 use Rattle.terms.specs.declared.row.KindRow.{KindRow}
@@ -13,6 +20,7 @@ use Rattle.terms.specs.declared.row.LoanRow.{LoanRow}
 use Rattle.terms.specs.declared.row.HoldRow.{HoldRow}
 use Rattle.terms.specs.declared.row.TransitRow.{TransitRow}
 use Rattle.terms.specs.declared.row.LineRow.{LineRow}
+use Rattle.terms.specs.declared.row.KeptRow.{KeptRow}
 
 -- a branch or a kind; a patron, a title or a copy; a loan, a hold or a line
 abbrev pub IsSmall : ℕ → Type 0
@@ -35,11 +43,16 @@ IsPeriod n = (1 ≤ n) × (n ≤ 365)
 abbrev pub IsSum : ℕ → Type 0
 IsSum n = n ≤ 4503599627370495
 
+-- the desk, or a patron
+abbrev pub IsOwner : Owner → Type 0
+IsOwner Desk = Unit {0}
+IsOwner (Patron patron) = IsLarge patron
+
 abbrev pub IsMeta : MetaRow → Type 0
 IsMeta r = (r.schema ≤ 4294967295) × IsDayNumber r.today × IsNext r.next_loan × IsNext r.next_hold × IsNext r.next_line
 
 abbrev pub IsBranch : BranchRow → Type 0
-IsBranch r = IsSmall r.branch × (r.pickup ≤ 60) × (is_name r.name ≡ true)
+IsBranch r = IsSmall r.branch × (r.pickup ≤ 60) × AreWeekdays r.week × IsName r.name
 
 abbrev pub IsKind : KindRow → Type 0
 IsKind r = IsSmall r.kind × (r.loans ≤ 200) × (r.holds ≤ 200) × (r.debt ≤ 1000000)
@@ -48,10 +61,10 @@ abbrev pub IsRule : RuleRow → Type 0
 IsRule r = IsSmall r.kind × IsSmall r.copy_kind × IsPeriod r.period × (r.renewals ≤ 99) × (r.rate ≤ 10000) × (r.cap ≤ 100000)
 
 abbrev pub IsPatron : PatronRow → Type 0
-IsPatron r = IsLarge r.patron × IsSmall r.kind × (is_card_key r.card_key ≡ true) × (is_name r.name ≡ true) × IsSum r.owed
+IsPatron r = IsLarge r.patron × IsSmall r.kind × (is_card_key r.card_key ≡ true) × IsName r.name × IsSum r.owed
 
 abbrev pub IsTitle : TitleRow → Type 0
-IsTitle r = IsLarge r.title × (is_name r.text ≡ true)
+IsTitle r = IsLarge r.title × IsName r.text
 
 abbrev pub IsCopy : CopyRow → Type 0
 IsCopy r = IsLarge r.copy × IsLarge r.title × IsSmall r.kind × IsSmall r.home × (r.price ≤ 1000000)
@@ -69,3 +82,23 @@ IsTransit r = IsLarge r.copy × IsSmall r.goal × IfSome r.hold IsGiven
 
 abbrev pub IsLine : LineRow → Type 0
 IsLine r = IsGiven r.line × IsLarge r.patron × IsDayNumber r.day × IsSum r.amount × IfSome r.loan IsGiven
+
+-- the text of a request, and that of a reply that can be kept
+abbrev pub IsKeptRow : KeptRow → Type 0
+IsKeptRow r = IsOwner r.caller × IsUtf8 r.key × IsUtf8 r.text × ((reply : Reply) × IsKept reply × (r.reply ≡ reply_text reply))
+
+-- Each row of the tables stands under its own key and lies in its limits.
+pub record InLimits (P : Picture) : Type 0 where
+  pub meta : IsMeta P.meta
+  pub branches : (b : ℕ) (r : BranchRow) → P.branches b ≡ Some r → (r.branch ≡ b) × IsBranch r
+  pub closed_days : (b d : ℕ) → P.closed_days b d ≡ true → IsSmall b × IsDayNumber d
+  pub kinds : (k : ℕ) (r : KindRow) → P.kinds k ≡ Some r → (r.kind ≡ k) × IsKind r
+  pub rules : (k c : ℕ) (r : RuleRow) → P.rules k c ≡ Some r → (r.kind ≡ k) × (r.copy_kind ≡ c) × IsRule r
+  pub patrons : (p : ℕ) (r : PatronRow) → P.patrons p ≡ Some r → (r.patron ≡ p) × IsPatron r
+  pub titles : (t : ℕ) (r : TitleRow) → P.titles t ≡ Some r → (r.title ≡ t) × IsTitle r
+  pub copies : (c : ℕ) (r : CopyRow) → P.copies c ≡ Some r → (r.copy ≡ c) × IsCopy r
+  pub loans : (l : ℕ) (r : LoanRow) → P.loans l ≡ Some r → (r.loan ≡ l) × IsLoan r
+  pub holds : (h : ℕ) (r : HoldRow) → P.holds h ≡ Some r → (r.hold ≡ h) × IsHold r
+  pub transits : (c : ℕ) (r : TransitRow) → P.transits c ≡ Some r → (r.copy ≡ c) × IsTransit r
+  pub lines : (n : ℕ) (r : LineRow) → P.lines n ≡ Some r → (r.line ≡ n) × IsLine r
+  pub kept : (o : Owner) (k : List ℕ) (r : KeptRow) → P.kept o k ≡ Some r → (r.caller ≡ o) × (r.key ≡ k) × IsKeptRow r

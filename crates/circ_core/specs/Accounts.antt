@@ -1,0 +1,34 @@
+-- The checks and row changes of payments, waivers and the page, on the rows of a view.
+use Rattle.std.specs.Prelude.{ℕ, ◌+◌, ◌-◌, ◌==◌, nat_lt, ◌||◌, List, [], ◌∷◌, Option, Some, None, is_none}
+use Rattle.terms.specs.declared.refusal.Refusal.TheVariants.{UnknownPatron, BadAmount, NumbersUsedUp}
+use Rattle.terms.specs.declared.row.MetaRow.{MetaRow}
+use Rattle.terms.specs.declared.row.PatronRow.{PatronRow}
+use Rattle.terms.specs.declared.row.LineRow.{LineRow}
+use Rattle.terms.specs.declared.row.Sort.{Sort}
+use Rattle.model.specs.Checks.{Check, last_number}
+use Rattle.circ_core.specs.declared.changes.RowChange.{RowChange}
+use Rattle.circ_core.specs.declared.changes.RowChange.TheVariants.{PutMeta, PutPatron, PutLine}
+use Rattle.circ_core.specs.declared.views.AccountView.{AccountView}
+use Rattle.circ_core.specs.Lending.{owed_by}
+
+-- The amount is zero or above what the patron owes; no line number is left.
+abbrev pub settle_checks : AccountView → ℕ → List Check
+settle_checks view amount =
+    (UnknownPatron, is_none view.patron) ∷ (BadAmount, (amount == 0) || nat_lt (owed_by view.patron) amount)
+    ∷ (NumbersUsedUp, nat_lt last_number view.meta.next_line) ∷ []
+
+-- The line that is made.
+abbrev pub new_line : MetaRow → ℕ → Sort → ℕ → LineRow
+new_line meta patron sort amount = record { line = meta.next_line; patron = patron; day = meta.today; sort = sort; amount = amount; loan = None }
+
+-- The next number is given, the patron owes so much less, and the line is made.
+abbrev pub settled : MetaRow → Option PatronRow → ℕ → Sort → ℕ → List RowChange
+settled meta (Some row) patron sort amount =
+    PutMeta (record meta { next_line = meta.next_line + 1 }) ∷ PutPatron (record row { owed = row.owed - amount }) ∷ PutLine (new_line meta patron sort amount) ∷ []
+settled meta None patron sort amount = []
+
+abbrev pub settle_rows : AccountView → ℕ → Sort → ℕ → List RowChange
+settle_rows view patron sort amount = settled view.meta view.patron patron sort amount
+
+abbrev pub page_checks : Option PatronRow → List Check
+page_checks row = (UnknownPatron, is_none row) ∷ []

@@ -1,0 +1,42 @@
+-- The tables as row changes leave them.
+use Rattle.std.specs.Prelude.{◌≡◌, ℕ, true, false, List, [], ◌∷◌, Some, None}
+use Rattle.terms.specs.Pictures.{Picture, put, put_pair}
+use Rattle.circ_core.specs.declared.changes.RowChange.{RowChange}
+use Rattle.circ_core.specs.declared.changes.RowChange.TheVariants.{PutMeta, PutBranch, PutClosedDay, TakeClosedDay, PutKind, PutRule, PutPatron, PutTitle, PutCopy, PutLoan, PutHold, PutTransit, TakeTransit, PutLine}
+
+-- The tables after one change: one row of one table is put whole, or taken away, by its key.
+abbrev pub change : RowChange → Picture → Picture
+change (PutMeta r) P = record P { meta = r }
+change (PutBranch r) P = record P { branches = put P.branches r.branch (Some r) }
+change (PutClosedDay branch day) P = record P { closed_days = put_pair P.closed_days branch day true }
+change (TakeClosedDay branch day) P = record P { closed_days = put_pair P.closed_days branch day false }
+change (PutKind r) P = record P { kinds = put P.kinds r.kind (Some r) }
+change (PutRule r) P = record P { rules = put_pair P.rules r.kind r.copy_kind (Some r) }
+change (PutPatron r) P = record P { patrons = put P.patrons r.patron (Some r) }
+change (PutTitle r) P = record P { titles = put P.titles r.title (Some r) }
+change (PutCopy r) P = record P { copies = put P.copies r.copy (Some r) }
+change (PutLoan r) P = record P { loans = put P.loans r.loan (Some r) }
+change (PutHold r) P = record P { holds = put P.holds r.hold (Some r) }
+change (PutTransit r) P = record P { transits = put P.transits r.copy (Some r) }
+change (TakeTransit copy) P = record P { transits = put P.transits copy None }
+change (PutLine r) P = record P { lines = put P.lines r.line (Some r) }
+
+-- The tables after the changes, one after another.
+abbrev pub changed : List RowChange → Picture → Picture
+changed [] P = P
+changed (x ∷ xs) P = changed xs (change x P)
+
+-- The tables hold the same rows, those of the kept requests aside.
+pub record SameRows (P Q : Picture) : Type 0 where
+  pub meta : P.meta ≡ Q.meta
+  pub branches : (b : ℕ) → P.branches b ≡ Q.branches b
+  pub closed_days : (b d : ℕ) → P.closed_days b d ≡ Q.closed_days b d
+  pub kinds : (k : ℕ) → P.kinds k ≡ Q.kinds k
+  pub rules : (k c : ℕ) → P.rules k c ≡ Q.rules k c
+  pub patrons : (p : ℕ) → P.patrons p ≡ Q.patrons p
+  pub titles : (t : ℕ) → P.titles t ≡ Q.titles t
+  pub copies : (c : ℕ) → P.copies c ≡ Q.copies c
+  pub loans : (l : ℕ) → P.loans l ≡ Q.loans l
+  pub holds : (h : ℕ) → P.holds h ≡ Q.holds h
+  pub transits : (c : ℕ) → P.transits c ≡ Q.transits c
+  pub lines : (n : ℕ) → P.lines n ≡ Q.lines n

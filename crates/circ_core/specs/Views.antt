@@ -1,0 +1,156 @@
+-- Which rows of the tables a view holds for a command.
+use Rattle.std.specs.Prelude.{◌≡◌, ◌⊎◌, ℕ, ◌≤◌, ◌==◌, true, List, length, Option, Some, None, option_and_then, false, IfSome}
+use Rattle.std.specs.List.{list_any, IsDistinct}
+use Rattle.calendar.specs.Openings.{Closings, AreWeekdays, has_day, has_repeat}
+use Rattle.terms.specs.declared.row.BranchRow.{BranchRow}
+use Rattle.terms.specs.declared.row.PatronRow.{PatronRow}
+use Rattle.terms.specs.declared.row.RuleRow.{RuleRow}
+use Rattle.terms.specs.declared.row.CopyRow.{CopyRow}
+use Rattle.terms.specs.declared.row.LoanRow.{LoanRow}
+use Rattle.terms.specs.declared.row.HoldRow.{HoldRow}
+use Rattle.terms.specs.declared.row.HoldState.TheVariants.{Waiting, Ready}
+use Rattle.terms.specs.declared.row.TransitRow.{TransitRow}
+use Rattle.terms.specs.declared.command.Command.{Command}
+use Rattle.terms.specs.declared.command.Command.TheVariants.{BeginDay, Branch, Week, Kind, Rule, Patron, Acquire, CheckOut, CloseDay, OpenDay, Pay, Waive, Page}
+use Rattle.terms.specs.Pictures.{Picture}
+use Rattle.circ_core.specs.declared.views.PatronView.{PatronView}
+use Rattle.circ_core.specs.declared.views.ClosedDayView.{ClosedDayView}
+use Rattle.circ_core.specs.declared.views.AccountView.{AccountView}
+use Rattle.circ_core.specs.declared.views.AcquireView.{AcquireView}
+use Rattle.circ_core.specs.declared.views.CopyView.{CopyView}
+use Rattle.circ_core.specs.declared.views.CheckOutView.{CheckOutView}
+use Rattle.circ_core.specs.declared.views.View.{View}
+use Rattle.circ_core.specs.declared.views.View.TheVariants as view
+
+-- ---- rows that are searched
+
+-- These are the closed days of the branch, which is there.
+pub record AreClosedDays (P : Picture) (branch : ℕ) (closings : Closings) : Type 0 where
+  pub row : BranchRow
+  pub there : P.branches branch ≡ Some row
+  pub weekly : closings.weekly ≡ row.week
+  pub weekdays : AreWeekdays closings.weekly
+  pub single : (day : ℕ) → has_day closings.single day ≡ P.closed_days branch day
+
+-- The calendar of the branch, or none where there is no such branch.
+abbrev pub IsCalendarOf : Picture → ℕ → Option Closings → Type 0
+IsCalendarOf P branch (Some closings) = AreClosedDays P branch closings
+IsCalendarOf P branch None = P.branches branch ≡ None
+
+-- An open loan of the copy, or none where it has none.
+abbrev pub IsLoanOf : Picture → ℕ → Option LoanRow → Type 0
+IsLoanOf P copy (Some row) = (P.loans row.loan ≡ Some row) × (row.copy ≡ copy) × (row.ended ≡ None)
+IsLoanOf P copy None = (l : ℕ) (r : LoanRow) → P.loans l ≡ Some r → r.copy ≡ copy → r.ended ≡ None → ⊥
+
+-- A hold that names the copy, or none where none does.
+abbrev pub IsHoldOf : Picture → ℕ → Option HoldRow → Type 0
+IsHoldOf P copy (Some row) = (P.holds row.hold ≡ Some row) × (row.copy ≡ Some copy)
+IsHoldOf P copy None = (h : ℕ) (r : HoldRow) → P.holds h ≡ Some r → r.copy ≡ Some copy → ⊥
+
+-- The hold waits for the title, and no transit names it.
+pub record InLine (P : Picture) (title hold : ℕ) (row : HoldRow) : Type 0 where
+  pub there : P.holds hold ≡ Some row
+  pub on_title : row.title ≡ title
+  pub waits : row.state ≡ Waiting
+  pub alone : (c : ℕ) (x : TransitRow) → P.transits c ≡ Some x → x.hold ≡ Some hold → ⊥
+
+-- The hold of the least number among those in line for the title, or none where nobody stands in line.
+abbrev pub IsFirstOf : Picture → ℕ → Option HoldRow → Type 0
+IsFirstOf P title (Some row) = InLine P title row.hold row × ((h : ℕ) (r : HoldRow) → InLine P title h r → row.hold ≤ h)
+IsFirstOf P title None = (h : ℕ) (r : HoldRow) → InLine P title h r → ⊥
+
+-- ---- rows that are counted
+
+-- How many keys pass: the length of a list that has each of them once.
+pub record IsCount (passes : ℕ → Type 0) (n : ℕ) : Type 0 where
+  pub keys : List ℕ
+  pub once : IsDistinct ◌==◌ keys
+  pub sound : (k : ℕ) → list_any (◌==◌ k) keys ≡ true → passes k
+  pub whole : (k : ℕ) → passes k → list_any (◌==◌ k) keys ≡ true
+  pub count : length keys ≡ n
+
+-- An open loan of the patron.
+abbrev pub IsOpenBy : Picture → ℕ → ℕ → Type 0
+IsOpenBy P patron loan = (r : LoanRow) × (P.loans loan ≡ Some r) × (r.patron ≡ patron) × (r.ended ≡ None)
+
+-- A waiting or ready hold of the patron on the title.
+abbrev pub IsActiveOn : Picture → ℕ → ℕ → ℕ → Type 0
+IsActiveOn P patron title hold =
+    (r : HoldRow) × (P.holds hold ≡ Some r) × (r.patron ≡ patron) × (r.title ≡ title) × ((r.state ≡ Waiting) ⊎ (r.state ≡ Ready))
+
+-- ---- rows that are found by another row
+
+-- The rule for the kinds of a patron and a copy.
+abbrev pub rule_in : Picture → Option PatronRow → Option CopyRow → Option RuleRow
+rule_in P (Some patron) (Some copy) = P.rules patron.kind copy.kind
+rule_in P _ _ = None
+
+-- The first in line for the title of the copy; without a copy nobody is looked for.
+abbrev pub IsFirstFor : Picture → Option CopyRow → Option HoldRow → Type 0
+IsFirstFor P (Some copy) first = IsFirstOf P copy.title first
+IsFirstFor P None first = first ≡ None
+
+-- How many active holds the patron has on the title of the copy; without a copy none is looked for.
+abbrev pub AreHoldsFor : Picture → ℕ → Option CopyRow → ℕ → Type 0
+AreHoldsFor P patron (Some copy) n = IsCount (IsActiveOn P patron copy.title) n
+AreHoldsFor P patron None n = n ≡ 0
+
+-- ---- the views
+
+-- The kind that is named, and the patron.
+pub record IsPatronView (P : Picture) (p k : ℕ) (rows : PatronView) : Type 0 where
+  pub kind : rows.kind ≡ P.kinds k
+  pub patron : rows.patron ≡ P.patrons p
+
+-- The home branch, the title and the copy.
+pub record IsAcquireView (P : Picture) (c t b : ℕ) (rows : AcquireView) : Type 0 where
+  pub home : rows.home ≡ P.branches b
+  pub title : rows.title ≡ P.titles t
+  pub copy : rows.copy ≡ P.copies c
+
+-- The copy, and the rows that claim it.
+pub record IsCopyView (P : Picture) (c : ℕ) (rows : CopyView) : Type 0 where
+  pub copy : rows.copy ≡ P.copies c
+  pub loan : IsLoanOf P c rows.loan
+  pub transit : rows.transit ≡ P.transits c
+  pub hold : IsHoldOf P c rows.hold
+
+-- The rows that a check-out needs.
+pub record IsCheckOutView (P : Picture) (p c b : ℕ) (rows : CheckOutView) : Type 0 where
+  pub meta : rows.meta ≡ P.meta
+  pub calendar : IsCalendarOf P b rows.calendar
+  pub patron : rows.patron ≡ P.patrons p
+  pub kind : rows.kind ≡ option_and_then (λ r. P.kinds r.kind) rows.patron
+  pub rule : rows.rule ≡ rule_in P rows.patron rows.at.copy
+  pub at : IsCopyView P c rows.at
+  pub first : IsFirstFor P rows.at.copy rows.first
+  pub open_loans : IsCount (IsOpenBy P p) rows.open_loans
+  pub own_holds : AreHoldsFor P p rows.at.copy rows.own_holds
+
+-- The calendar of the branch, each single day of it once.
+pub record IsClosedDayView (P : Picture) (b : ℕ) (rows : ClosedDayView) : Type 0 where
+  pub meta : rows.meta ≡ P.meta
+  pub calendar : IsCalendarOf P b rows.calendar
+  pub once : IfSome rows.calendar (λ closings. has_repeat closings.single ≡ false)
+
+-- The patron, and the next numbers.
+pub record IsAccountView (P : Picture) (p : ℕ) (rows : AccountView) : Type 0 where
+  pub meta : rows.meta ≡ P.meta
+  pub patron : rows.patron ≡ P.patrons p
+
+-- The view holds the rows of the tables that the command needs; a view of another command's rows doesn't.
+abbrev pub IsViewOf : Picture → Command → View → Type 0
+IsViewOf P (BeginDay day) (view.BeginDay meta) = meta ≡ P.meta
+IsViewOf P (Branch branch pickup name) (view.Branch row) = row ≡ P.branches branch
+IsViewOf P (Week branch week) (view.Week row) = row ≡ P.branches branch
+IsViewOf P (Kind kind loans holds debt) view.Kind = Unit {0}
+IsViewOf P (Rule kind copy_kind period renewals rate cap) (view.Rule row) = row ≡ P.kinds kind
+IsViewOf P (Patron patron kind card_key name) (view.Patron rows) = IsPatronView P patron kind rows
+IsViewOf P (Acquire copy title kind home price text) (view.Acquire rows) = IsAcquireView P copy title home rows
+IsViewOf P (CheckOut patron copy branch) (view.CheckOut rows) = IsCheckOutView P patron copy branch rows
+IsViewOf P (CloseDay branch day) (view.CloseDay rows) = IsClosedDayView P branch rows
+IsViewOf P (OpenDay branch day) (view.OpenDay rows) = IsClosedDayView P branch rows
+IsViewOf P (Pay patron amount) (view.Pay rows) = IsAccountView P patron rows
+IsViewOf P (Waive patron amount) (view.Waive rows) = IsAccountView P patron rows
+IsViewOf P (Page patron) (view.Page row) = row ≡ P.patrons patron
+IsViewOf P _ _ = ⊥

@@ -1,0 +1,167 @@
+//! Lists of rows, as they are read.
+
+ghost use Rattle.std.specs.Prelude.{◌≡◌, ◌≢◌, List, map, Err, IfOk};
+ghost use Rattle.std.specs.List.{All};
+ghost use Rattle.sqlite.specs.Order.{Row as SqlRow};
+ghost use Rattle.sqlite_rules.specs.Lists.{Has};
+ghost use Rattle.circ_tables.specs.Cells.{branch_cells, kind_cells, rule_cells, patron_cells, title_cells, copy_cells, loan_cells, hold_cells, transit_cells, line_cells};
+ghost use Rattle.circ_tables.specs.Encoding.{day_cells, IsClosedDay, entry_cells, IsKeptEntry};
+ghost use Rattle.terms.specs.Limits.{IsBranch, IsKind, IsRule, IsPatron, IsTitle, IsCopy, IsLoan, IsHold, IsTransit, IsLine};
+
+use crate::entry::{
+    ClosedDay, KeptEntry, branch_row, closed_day_row, copy_row, hold_row, kept_row, kind_row,
+    line_row, loan_row, patron_row, rule_row, title_row, transit_row,
+};
+use sqlite::Row;
+use std::alloc::Global;
+use terms::{
+    BranchRow, CopyRow, Fault, HoldRow, KindRow, LineRow, LoanRow, PatronRow, RuleRow, TitleRow,
+    TransitRow,
+};
+
+/// A row of one table, which is read column by column.
+pub trait Entry: Drop {
+    ghost cells: { Self → SqlRow };
+
+    ghost is_legal: { Self → Type 0 };
+
+    /// The row, within its limits. 90, 91, 93.
+    fn read(row: &Row, alloc: Global) -> Result<Self, Fault>
+        ensures cells { IfOk result (λ r. row.now ≡ cells r) }
+        ensures limits { IfOk result (λ r. is_legal r) }
+        ensures stored { result ≡ Err Fault.Stored → (r : Self) → is_legal r → row.now ≢ cells r };
+}
+
+impl Entry for BranchRow {
+    ghost cells = { branch_cells };
+
+    ghost is_legal = { IsBranch };
+
+    fn read(row: &Row, alloc: Global) -> Result<BranchRow, Fault> {
+        branch_row(row, alloc)
+    }
+}
+
+impl Entry for ClosedDay {
+    ghost cells = { day_cells };
+
+    ghost is_legal = { IsClosedDay };
+
+    fn read(row: &Row, _alloc: Global) -> Result<ClosedDay, Fault> {
+        closed_day_row(row)
+    }
+}
+
+impl Entry for KindRow {
+    ghost cells = { kind_cells };
+
+    ghost is_legal = { IsKind };
+
+    fn read(row: &Row, _alloc: Global) -> Result<KindRow, Fault> {
+        kind_row(row)
+    }
+}
+
+impl Entry for RuleRow {
+    ghost cells = { rule_cells };
+
+    ghost is_legal = { IsRule };
+
+    fn read(row: &Row, _alloc: Global) -> Result<RuleRow, Fault> {
+        rule_row(row)
+    }
+}
+
+impl Entry for PatronRow {
+    ghost cells = { patron_cells };
+
+    ghost is_legal = { IsPatron };
+
+    fn read(row: &Row, alloc: Global) -> Result<PatronRow, Fault> {
+        patron_row(row, alloc)
+    }
+}
+
+impl Entry for TitleRow {
+    ghost cells = { title_cells };
+
+    ghost is_legal = { IsTitle };
+
+    fn read(row: &Row, alloc: Global) -> Result<TitleRow, Fault> {
+        title_row(row, alloc)
+    }
+}
+
+impl Entry for CopyRow {
+    ghost cells = { copy_cells };
+
+    ghost is_legal = { IsCopy };
+
+    fn read(row: &Row, _alloc: Global) -> Result<CopyRow, Fault> {
+        copy_row(row)
+    }
+}
+
+impl Entry for LoanRow {
+    ghost cells = { loan_cells };
+
+    ghost is_legal = { IsLoan };
+
+    fn read(row: &Row, _alloc: Global) -> Result<LoanRow, Fault> {
+        loan_row(row)
+    }
+}
+
+impl Entry for HoldRow {
+    ghost cells = { hold_cells };
+
+    ghost is_legal = { IsHold };
+
+    fn read(row: &Row, _alloc: Global) -> Result<HoldRow, Fault> {
+        hold_row(row)
+    }
+}
+
+impl Entry for TransitRow {
+    ghost cells = { transit_cells };
+
+    ghost is_legal = { IsTransit };
+
+    fn read(row: &Row, _alloc: Global) -> Result<TransitRow, Fault> {
+        transit_row(row)
+    }
+}
+
+impl Entry for LineRow {
+    ghost cells = { line_cells };
+
+    ghost is_legal = { IsLine };
+
+    fn read(row: &Row, _alloc: Global) -> Result<LineRow, Fault> {
+        line_row(row)
+    }
+}
+
+impl Entry for KeptEntry {
+    ghost cells = { entry_cells };
+
+    ghost is_legal = { IsKeptEntry };
+
+    fn read(row: &Row, _alloc: Global) -> Result<KeptEntry, Fault> {
+        kept_row(row)
+    }
+}
+
+/// The rows, each within its limits. 90, 91, 93.
+pub fn entries<T: Entry>(alloc: Global, rows: &[Row]) -> Result<Vec<T>, Fault>
+    ensures cells { IfOk result (λ list. map T.cells list.items ≡ rows.now) }
+    ensures limits { IfOk result (λ list. All T.is_legal list.items) }
+    ensures stored { result ≡ Err Fault.Stored → ¬ ((v : SqlRow) → Has rows.now v → (r : T) × T.is_legal r × (v ≡ T.cells r)) }
+{
+    let mut list = Vec::new(alloc);
+    'rows: for row in rows {
+        let entry = T::read(row, alloc)?;
+        list.push(entry)?;
+    }
+    Ok(list)
+}

@@ -1,0 +1,219 @@
+-- In every legal history whose commands have their forms: loans, holds and the places lie in their limits.
+use Rattle.std.proofs.Common.{◌≡◌, ℕ, ◌<◌, ◌==◌, Bool, true, false, cond, not, List, [], ◌∷◌, refl, sym, ap, ◌∙◌, subst, arith}
+use Rattle.std.specs.Prelude.{Option, Some, None, is_none, option_map, option_and_then, unwrap_or}
+use Rattle.std.specs.Option.{option_or}
+use Rattle.std.proofs.lemmas.Bool.{and_parts, eqb-true, leb-false}
+use Rattle.calendar.specs.Days.{IsDayNumber}
+use Rattle.terms.specs.Limits.{IsSmall, IsLarge, IsGiven}
+use Rattle.terms.specs.declared.command.Owner.{Owner}
+use Rattle.terms.specs.declared.command.Command.{Command}
+use Rattle.terms.specs.declared.command.Command.TheVariants.{Acquire, CheckOut, CheckIn, PlaceHold, CancelHold, Unshelve, UnshelveCancelled, Missing, Withdraw}
+use Rattle.terms.specs.declared.row.HoldState.TheVariants.{Waiting}
+use Rattle.model.specs.Checks.{last_number}
+use Rattle.model.specs.History.{History, numbers_to, today, BranchFacts, branch_of, Terms, rule_of, PatronFacts, patron_of, title_of, CopyFacts, copy_of, loans, next_loan, HoldFacts, hold_of, hold_after, holds, next_hold}
+use Rattle.model.specs.Places.{Place, Nowhere, Shelf, HoldShelf, Transit, Loan, MissingCopy, WithdrawnCopy, place, state, place_after, place_let_go, place_unshelved, is_kept_for, is_waiting, is_coming_by, line_by, route_by, route_from, route_to, goal_of, home_of, title_of_copy}
+use Rattle.model.specs.Loans.{LoanFacts, loan_of, loan_after, ended, ended_after, is_loan_of_copy, terms_for, no_terms}
+use Rattle.model.specs.Invariant.{Invariant}
+use Rattle.model.specs.Refusals.{refusal, checks}
+use Rattle.model.specs.Requests.{IsLegal}
+use Rattle.model.specs.Forms.{HasForms}
+use Rattle.model.proofs.Passing.{passed}
+use Rattle.model.proofs.Bindings.{filter-head, waiting-is, both, not-false}
+use Rattle.model.proofs.DueDayLaws.{checked_out-terms}
+use Rattle.model.proofs.Invariants.{legal-Invariant}
+use Rattle.model.proofs.SettingRanges.{SettingRanges, TermsIn, legal-SettingRanges, set-if, there, none-some}
+
+abbrev LoanIn : LoanFacts → Type 0
+LoanIn r = IsLarge r.copy × IsLarge r.patron × IsSmall r.branch × IsDayNumber r.made × TermsIn r.terms
+
+abbrev HoldIn : HoldFacts → Type 0
+HoldIn r = IsLarge r.patron × IsLarge r.title × IsSmall r.branch
+
+-- The branch, the hold or the loan of a place lies in its limits.
+abbrev pub PlaceIn : Place → Type 0
+PlaceIn (Shelf b) = IsSmall b
+PlaceIn (HoldShelf h) = IsGiven h
+PlaceIn (Transit g None) = IsSmall g
+PlaceIn (Transit g (Some h)) = IsSmall g × IsGiven h
+PlaceIn (Loan l) = IsGiven l
+PlaceIn _ = Unit {0}
+
+-- Loans, holds and places lie in their limits.
+pub record LendingRanges (H : History) : Type 0 where
+  pub loans : (l : ℕ) (r : LoanFacts) → loan_of H l ≡ Some r → LoanIn r
+  pub ends : (l d : ℕ) → ended H l ≡ Some d → IsDayNumber d
+  pub holds : (h : ℕ) (r : HoldFacts) → hold_of H h ≡ Some r → HoldIn r
+  pub places : (c : ℕ) → PlaceIn (place H c)
+
+module _ (H : History) (inv : Invariant H) (settings : SettingRanges H) where
+  pub today-in : IsDayNumber (today H)
+  today-in = (inv.today_from, omega (arith, inv.today_to))
+
+  pub copy-known : (c : ℕ) → (place H c ≡ Nowhere → ⊥) → (f : CopyFacts) × (copy_of H c ≡ Some f)
+  copy-known c at = go (copy_of H c) refl
+    where
+      go : (y : Option CopyFacts) → copy_of H c ≡ y → (f : CopyFacts) × (copy_of H c ≡ Some f)
+      go (Some f) e = (f, e)
+      go None e = absurd (at (inv.unknown c e))
+
+  pub home-in : (c : ℕ) (f : CopyFacts) → copy_of H c ≡ Some f → IsSmall (home_of H c)
+  home-in c f e = subst IsSmall (sym (ap (λ y. unwrap_or (option_map (λ r. r.home) y) 0) e)) (settings.copies c f e).3
+
+  terms-in : (p c : ℕ) (t : Terms) → terms_for H p c ≡ Some t → TermsIn t
+  terms-in p c t e = go (patron_of H p) (copy_of H c) e
+    where
+      go : (x : Option PatronFacts) (y : Option CopyFacts) → option_and_then (λ q. option_and_then (λ r. rule_of H q.kind r.kind) y) x ≡ Some t → TermsIn t
+      go (Some q) (Some r) f = (settings.rules q.kind r.kind t f).2
+      go (Some q) None f = absurd (none-some t f)
+      go None y f = absurd (none-some t f)
+
+module _ (H : History) (inv : Invariant H) (settings : SettingRanges H) (before : LendingRanges H) (o : Owner) where
+  goal-in : (h : ℕ) (r : HoldFacts) → hold_of H h ≡ Some r → IsSmall (goal_of H h)
+  goal-in h r e = subst IsSmall (sym (ap (λ y. unwrap_or (option_map (λ q. q.branch) y) 0) e)) (before.holds h r e).2
+
+  loans-step : (x : Command) → refusal H o x ≡ None → (l : ℕ) (r : LoanFacts) → loan_after H x l (loan_of H l) ≡ Some r → LoanIn r
+  loans-step (CheckOut p c b) ok l r e =
+      let pass = passed (checks H o (CheckOut p c b)) ok in
+      let patron = there (patron_of H p) (not-false _ pass.1.0) in
+      let copy = there (copy_of H c) (not-false _ pass.1.1.0) in
+      let branch = there _ (not-false _ pass.0) in
+      let t = checked_out-terms H o p c b ok in
+      let terms : TermsIn (unwrap_or (terms_for H p c) no_terms) = subst (λ y. TermsIn (unwrap_or y no_terms)) (sym t.1) (terms-in H inv settings p c t.0 t.1) in
+      let made : LoanFacts = record { copy = c; patron = p; branch = b; made = today H; terms = unwrap_or (terms_for H p c) no_terms } in
+      set-if LoanIn (next_loan H == l) made (loan_of H l)
+      (λ _. ((settings.copies c copy.0 copy.1).0, (settings.patrons p patron.0 patron.1).0, (settings.branches b branch.0 branch.1).0, today-in H inv settings, terms)) (before.loans l) r e
+  loans-step _ ok l r e = before.loans l r e
+
+  ended-now : (l c d : ℕ) → option_or (ended H l) (cond (is_loan_of_copy H l c) (Some (today H)) None) ≡ Some d → IsDayNumber d
+  ended-now l c d e = go (ended H l) (is_loan_of_copy H l c) refl e
+    where
+      go : (y : Option ℕ) (x : Bool) → ended H l ≡ y → option_or y (cond x (Some (today H)) None) ≡ Some d → IsDayNumber d
+      go (Some z) x q f = before.ends l d (q ∙ f)
+      go None x q f = set-if IsDayNumber x (today H) None (λ _. today-in H inv settings) (λ z g. absurd (none-some z g)) d f
+
+  ends-step : (x : Command) (l d : ℕ) → ended_after H x l (ended H l) ≡ Some d → IsDayNumber d
+  ends-step (CheckIn c b) l d e = ended-now l c d e
+  ends-step (Missing c) l d e = ended-now l c d e
+  ends-step _ l d e = before.ends l d e
+
+  holds-step : (x : Command) → refusal H o x ≡ None → (h : ℕ) (r : HoldFacts) → hold_after H x h (hold_of H h) ≡ Some r → HoldIn r
+  holds-step (PlaceHold p t b) ok h r e =
+      let pass = passed (checks H o (PlaceHold p t b)) ok in
+      let patron = there (patron_of H p) (not-false _ pass.0) in
+      let title = there-not (title_of H t) pass.1.0 in
+      let branch = there _ (not-false _ pass.1.1.0) in
+      set-if HoldIn (next_hold H == h) (record { patron = p; title = t; branch = b }) (hold_of H h)
+      (λ _. ((settings.patrons p patron.0 patron.1).0, (settings.titles t title.0 title.1).0, (settings.branches b branch.0 branch.1).0)) (before.holds h) r e
+    where
+      there-not : {A : Type 0} (y : Option A) → is_none y ≡ false → (x : A) × (y ≡ Some x)
+      there-not (Some x) f = (x, refl)
+      there-not None f = let never : ⊥ = cc in absurd never
+  holds-step _ ok h r e = before.holds h r e
+
+  -- ---- where copies go
+
+  -- The first in line was placed, and it is picked up at a branch.
+  first-in : (t h : ℕ) (hs : List ℕ) → line_by H (place H) (state H) t ≡ h ∷ hs → IsSmall (goal_of H h) × IsGiven h
+  first-in t h hs e =
+      let test = both _ _ (filter-head _ (numbers_to (holds H)) h hs e) in
+      let waits = (and_parts (is_waiting (state H h)) (not (is_coming_by H (place H) (state H) h)) test.1).0 in
+      let hold = inv.placed h Waiting (waiting-is (state H h) waits) in
+      let made = inv.made_hold h hold.0 hold.1 in
+      (goal-in h hold.0 hold.1, (made.0, omega (arith, made.1, inv.holds_left)))
+
+  route_to-in : (c b : ℕ) (f : CopyFacts) → copy_of H c ≡ Some f → (hs : List ℕ) → line_by H (place H) (state H) (title_of_copy H c) ≡ hs → PlaceIn (route_to H (place H) (state H) c b hs)
+  route_to-in c b f known (h ∷ hs) e = go (goal_of H h == b)
+    where
+      first : IsSmall (goal_of H h) × IsGiven h
+      first = first-in (title_of_copy H c) h hs e
+
+      go : (x : Bool) → PlaceIn (elim x as (λ _. Place) [ true ↦ HoldShelf h | false ↦ Transit (goal_of H h) (Some h) ])
+      go true = first.1
+      go false = first
+  route_to-in c b f known [] e = go (home_of H c == b) refl
+    where
+      home : IsSmall (home_of H c)
+      home = home-in H inv settings c f known
+
+      go : (x : Bool) → (home_of H c == b) ≡ x → PlaceIn (elim x as (λ _. Place) [ true ↦ Shelf b | false ↦ Transit (home_of H c) None ])
+      go true d = subst IsSmall (eqb-true _ _ d) home
+      go false d = home
+
+  route-in : (c b : ℕ) (f : CopyFacts) → copy_of H c ≡ Some f → (p : Place) → PlaceIn p → PlaceIn (route_from H (place H) (state H) c b p)
+  route-in c b f known (Transit g (Some h)) was = go (g == b)
+    where
+      go : (x : Bool) → PlaceIn (elim x as (λ _. Place) [ true ↦ HoldShelf h | false ↦ Transit g (Some h) ])
+      go true = was.1
+      go false = was
+  route-in c b f known _ was = route_to-in c b f known (line_by H (place H) (state H) (title_of_copy H c)) refl
+
+  pub routed-in : (c b : ℕ) (f : CopyFacts) → copy_of H c ≡ Some f → PlaceIn (route_by H (place H) (state H) c b)
+  routed-in c b f known = route-in c b f known (place H c) (before.places c)
+
+  moved-in : (n c : ℕ) (q : Place) → PlaceIn q → PlaceIn (elim (n == c) as (λ _. Place) [ true ↦ q | false ↦ place H c ])
+  moved-in n c q new = go (n == c)
+    where
+      go : (x : Bool) → PlaceIn (elim x as (λ _. Place) [ true ↦ q | false ↦ place H c ])
+      go true = new
+      go false = before.places c
+
+  let_go-in : (h : ℕ) (p : Place) → PlaceIn p → PlaceIn (place_let_go H (place H) (state H) h p)
+  let_go-in h (Transit b (Some g)) was = go (h == g)
+    where
+      go : (x : Bool) → PlaceIn (elim x as (λ _. Place) [ true ↦ Transit b None | false ↦ Transit b (Some g) ])
+      go true = was.0
+      go false = was
+  let_go-in h (Transit b None) was = was
+  let_go-in h _ was = was
+
+  kept-somewhere : (p : Place) (g : ℕ) → is_kept_for p g ≡ true → p ≡ Nowhere → ⊥
+  kept-somewhere Nowhere g e = let never : ⊥ = cc in absurd never
+  kept-somewhere _ g e = λ f. let never : ⊥ = cc in never
+
+  unshelved-in : (g c : ℕ) → PlaceIn (place_unshelved H (place H) (state H) g c)
+  unshelved-in g c = go (is_kept_for (place H c) g) refl
+    where
+      go : (x : Bool) → is_kept_for (place H c) g ≡ x → PlaceIn (elim x as (λ _. Place) [ true ↦ route_by H (place H) (state H) c (goal_of H g) | false ↦ place H c ])
+      go true e = let known = copy-known H inv settings c (kept-somewhere (place H c) g e) in routed-in c (goal_of H g) known.0 known.1
+      go false e = before.places c
+
+  places-step : (x : Command) → refusal H o x ≡ None → (c : ℕ) → PlaceIn (place_after H (place H) (state H) x c)
+  places-step (Acquire n t k home price text) ok c = go (is_none (copy_of H n))
+    where
+      branch : (r : BranchFacts) × (branch_of H home ≡ Some r)
+      branch = there (branch_of H home) (not-false _ (passed (checks H o (Acquire n t k home price text)) ok).1.0)
+
+      go : (x : Bool) → PlaceIn (elim x as (λ _. Place) [ true ↦ (elim (n == c) as (λ _. Place) [ true ↦ Shelf home | false ↦ place H c ]) | false ↦ place H c ])
+      go true = moved-in n c (Shelf home) (settings.branches home branch.0 branch.1).0
+      go false = before.places c
+  places-step (CheckOut p n b) ok c =
+      let room : loans H < last_number = leb-false _ _ (passed (checks H o (CheckOut p n b)) ok).1.1.1.1.1.1.1.1.1.1.1.1.1.1.0 in
+      moved-in n c (Loan (next_loan H)) (omega arith, omega (arith, room))
+  places-step (CheckIn n b) ok c =
+      let copy = there (copy_of H n) (not-false _ (passed (checks H o (CheckIn n b)) ok).1.0) in
+      moved-in n c (route_by H (place H) (state H) n b) (routed-in n b copy.0 copy.1)
+  places-step (CancelHold g) ok c = let_go-in g (place H c) (before.places c)
+  places-step (Unshelve g) ok c = unshelved-in g c
+  places-step (UnshelveCancelled g) ok c = unshelved-in g c
+  places-step (Missing n) ok c = moved-in n c MissingCopy tt
+  places-step (Withdraw n) ok c = moved-in n c WithdrawnCopy tt
+  places-step _ ok c = before.places c
+
+pub legal-LendingRanges : (H : History) → IsLegal H → HasForms H → LendingRanges H
+legal-LendingRanges [] legal forms = record {
+  loans = λ l r e. absurd (none-some r e);
+  ends = λ l d e. absurd (none-some d e);
+  holds = λ h r e. absurd (none-some r e);
+  places = λ c. tt;
+}
+legal-LendingRanges (e ∷ H) legal forms =
+    let before : LendingRanges H = legal-LendingRanges H legal.1 forms.2 in
+    let inv : Invariant H = legal-Invariant H legal.1 in
+    let settings : SettingRanges H = legal-SettingRanges H legal.1 forms.2 in
+    let ok = legal.0.unrefused in
+    record {
+      loans = loans-step H inv settings before e.owner e.command ok;
+      ends = ends-step H inv settings before e.owner e.command;
+      holds = holds-step H inv settings before e.owner e.command ok;
+      places = places-step H inv settings before e.owner e.command ok;
+    }

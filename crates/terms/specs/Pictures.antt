@@ -1,0 +1,52 @@
+-- The rows of the thirteen tables, as maps from their keys.
+use Rattle.std.specs.Prelude.{ℕ, ◌==◌, Bool, true, false, ◌&&◌, List, Option, bytes_eq}
+use Rattle.terms.specs.declared.command.Owner.{Owner}
+use Rattle.terms.specs.declared.command.Owner.TheVariants.{Desk, Patron as Reader}
+use Rattle.terms.specs.declared.row.MetaRow.{MetaRow}
+use Rattle.terms.specs.declared.row.BranchRow.{BranchRow}
+use Rattle.terms.specs.declared.row.KindRow.{KindRow}
+use Rattle.terms.specs.declared.row.RuleRow.{RuleRow}
+use Rattle.terms.specs.declared.row.PatronRow.{PatronRow}
+use Rattle.terms.specs.declared.row.TitleRow.{TitleRow}
+use Rattle.terms.specs.declared.row.CopyRow.{CopyRow}
+use Rattle.terms.specs.declared.row.LoanRow.{LoanRow}
+use Rattle.terms.specs.declared.row.HoldRow.{HoldRow}
+use Rattle.terms.specs.declared.row.TransitRow.{TransitRow}
+use Rattle.terms.specs.declared.row.LineRow.{LineRow}
+use Rattle.terms.specs.declared.row.KeptRow.{KeptRow}
+
+-- The tables: for each key, the row or none. A single closed day is there or not.
+pub record Picture : Type 0 where
+  pub meta : MetaRow
+  pub branches : ℕ → Option BranchRow
+  pub closed_days : ℕ → ℕ → Bool
+  pub kinds : ℕ → Option KindRow
+  pub rules : ℕ → ℕ → Option RuleRow
+  pub patrons : ℕ → Option PatronRow
+  pub titles : ℕ → Option TitleRow
+  pub copies : ℕ → Option CopyRow
+  pub loans : ℕ → Option LoanRow
+  pub holds : ℕ → Option HoldRow
+  pub transits : ℕ → Option TransitRow
+  pub lines : ℕ → Option LineRow
+  pub kept : Owner → List ℕ → Option KeptRow
+
+-- ---- one entry set
+
+-- The map with the entry of the key set, or taken away.
+abbrev pub put : {A : Type 0} → (ℕ → A) → ℕ → A → ℕ → A
+put t k x n = elim (k == n) [ true ↦ x | false ↦ t n ]
+
+-- The same for a key of two numbers.
+abbrev pub put_pair : {A : Type 0} → (ℕ → ℕ → A) → ℕ → ℕ → A → ℕ → ℕ → A
+put_pair t j k x m n = elim ((j == m) && (k == n)) [ true ↦ x | false ↦ t m n ]
+
+-- The two owners are one.
+abbrev pub same_owner : Owner → Owner → Bool
+same_owner Desk Desk = true
+same_owner (Reader p) (Reader q) = p == q
+same_owner _ _ = false
+
+-- The same for the key of a kept request: whose it is, and its text.
+abbrev pub put_kept : {A : Type 0} → (Owner → List ℕ → A) → Owner → List ℕ → A → Owner → List ℕ → A
+put_kept t o k x p l = elim (same_owner o p && bytes_eq k l) [ true ↦ x | false ↦ t p l ]
