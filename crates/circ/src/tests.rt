@@ -361,7 +361,7 @@ fn closing(alloc: Global, monday: u32) -> Result<Request, Fail>
         key: key(alloc, &name)?,
         command: Command::CloseDay {
             branch: BranchId::new(3),
-            day: Day::new(20521 + 7 * monday).ok_or("a day")?,
+            day: Day::new(20521 + 7 * (monday % 400)).ok_or("a day")?,
         },
     })
 }
