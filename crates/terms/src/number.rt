@@ -30,7 +30,8 @@ impl BranchId {
         ensures value { result ≡ self }
         ensures fits { self < 2 ^ 32 }
     {
-        self.0
+        let BranchId(number) = self;
+        number
     }
 }
 
@@ -71,7 +72,8 @@ impl PatronId {
         ensures value { result ≡ self }
         ensures fits { self < 2 ^ 32 }
     {
-        self.0
+        let PatronId(number) = self;
+        number
     }
 }
 
@@ -112,7 +114,8 @@ impl TitleId {
         ensures value { result ≡ self }
         ensures fits { self < 2 ^ 32 }
     {
-        self.0
+        let TitleId(number) = self;
+        number
     }
 }
 
@@ -153,7 +156,8 @@ impl CopyId {
         ensures value { result ≡ self }
         ensures fits { self < 2 ^ 32 }
     {
-        self.0
+        let CopyId(number) = self;
+        number
     }
 }
 
@@ -194,7 +198,8 @@ impl LoanId {
         ensures value { result ≡ self }
         ensures fits { self < 2 ^ 32 }
     {
-        self.0
+        let LoanId(number) = self;
+        number
     }
 }
 
@@ -235,7 +240,8 @@ impl HoldId {
         ensures value { result ≡ self }
         ensures fits { self < 2 ^ 32 }
     {
-        self.0
+        let HoldId(number) = self;
+        number
     }
 }
 
@@ -276,7 +282,8 @@ impl LineId {
         ensures value { result ≡ self }
         ensures fits { self < 2 ^ 32 }
     {
-        self.0
+        let LineId(number) = self;
+        number
     }
 }
 
@@ -317,7 +324,8 @@ impl PatronKind {
         ensures value { result ≡ self }
         ensures fits { self < 2 ^ 32 }
     {
-        self.0
+        let PatronKind(number) = self;
+        number
     }
 }
 
@@ -358,7 +366,8 @@ impl CopyKind {
         ensures value { result ≡ self }
         ensures fits { self < 2 ^ 32 }
     {
-        self.0
+        let CopyKind(number) = self;
+        number
     }
 }
 
@@ -399,7 +408,8 @@ impl Days {
         ensures value { result ≡ self }
         ensures fits { self < 2 ^ 32 }
     {
-        self.0
+        let Days(number) = self;
+        number
     }
 }
 
@@ -440,7 +450,8 @@ impl Count {
         ensures value { result ≡ self }
         ensures fits { self < 2 ^ 32 }
     {
-        self.0
+        let Count(number) = self;
+        number
     }
 }
 
@@ -481,7 +492,8 @@ impl Cents {
         ensures value { result ≡ self }
         ensures fits { self < 2 ^ 64 }
     {
-        self.0
+        let Cents(number) = self;
+        number
     }
 }
 

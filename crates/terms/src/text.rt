@@ -73,14 +73,16 @@ impl Name {
         ensures value { result.now ≡ self.now }
         ensures form { IsName result.now }
     {
-        self.text.as_str()
+        let Name { text } = self;
+        text.as_str()
     }
 
     /// Whether the other name is the same.
     pub fn is_same(&self, other: &Name) -> bool
         ensures { result ≡ bytes_eq self.now other.now }
     {
-        self.text == other.text
+        let Name { text } = other;
+        self.text == *text
     }
 }
 
@@ -156,14 +158,16 @@ impl CardKey {
         ensures value { result.now ≡ self.now }
         ensures form { is_card_key result.now ≡ true }
     {
-        self.text.as_str()
+        let CardKey { text } = self;
+        text.as_str()
     }
 
     /// Whether the other key is the same.
     pub fn is_same(&self, other: &CardKey) -> bool
         ensures { result ≡ bytes_eq self.now other.now }
     {
-        self.text == other.text
+        let CardKey { text } = other;
+        self.text == *text
     }
 }
 
@@ -245,7 +249,8 @@ impl Key {
         ensures value { result.now ≡ self.now }
         ensures form { IsUtf8 result.now }
     {
-        self.text.as_str()
+        let Key { text } = self;
+        text.as_str()
     }
 }
 
@@ -276,14 +281,16 @@ impl Text {
         ensures value { result.now ≡ self.now }
         ensures form { IsUtf8 result.now }
     {
-        self.text.as_str()
+        let Text { text } = self;
+        text.as_str()
     }
 
     /// Whether the other text is the same.
     pub fn is_same(&self, other: &Text) -> bool
         ensures { result ≡ bytes_eq self.now other.now }
     {
-        self.text == other.text
+        let Text { text } = other;
+        self.text == *text
     }
 }
 

@@ -94,7 +94,7 @@ impl From<Weekdays> for Mask {
 
     fn from(days: Weekdays) -> Mask {
         let closed = days.closed();
-        Mask { closed }
+        Mask::new(closed)
     }
 }
 
