@@ -72,6 +72,19 @@ REFUSALS = [
     (["check-out", "1", "99", "2"], 13),
     (["check-out", "2", "10", "1"], 31),
     (["check-out", "1", "20", "1"], 30),
+    (["check-in", "10", "9"], 10),
+    (["check-in", "99", "1"], 13),
+    (["renew", "9"], 14),
+    (["place-hold", "9", "100", "1"], 11),
+    (["place-hold", "1", "999", "1"], 12),
+    (["place-hold", "1", "300", "9"], 10),
+    (["place-hold", "1", "100", "1"], 52),
+    (["cancel-hold", "9"], 15),
+    (["unshelve", "9"], 15),
+    (["unshelve-cancelled", "9"], 15),
+    (["missing", "99"], 13),
+    (["withdraw", "99"], 13),
+    (["withdraw", "10"], 31),
     (["pay", "9", "1"], 11),
     (["pay", "1", "0"], 60),
     (["pay", "1", "1"], 60),
@@ -104,7 +117,9 @@ BAD_REQUESTS = [
     ["branch", "4", "5", "-Hill"],
     ["branch", "4", "5", "\x07"],
     ["branch", "4", "5", "x" * 121],
-    ["check-in", "10", "1"],
+    ["check-in", "10"],
+    ["renew", "1", "2"],
+    ["page", "01"],
     ["pay", "1", "05"],
     ["close-day", "1", "2026-3-9"],
 ]
@@ -261,26 +276,80 @@ def single_closed_days(folder):
 
 
 def payments(folder):
-    """What is owed is paid and waived in parts, each once. The fine is written past the desk, since no command makes it yet."""
+    """A copy that is lost is charged for, and what is owed is paid and waived in parts, each once."""
     path = os.path.join(folder, "money.db")
     say(path, GROUND)
-    write(path, "UPDATE patrons SET owed = 100 WHERE patron = 1",
-          "INSERT INTO lines VALUES (1, 1, 20514, 0, 100, 1)", "UPDATE meta SET next_line = 2")
     say(path, [
-        ("p1", ["pay", "1", "30"], "owed 70"),
-        ("p1", ["pay", "1", "30"], "owed 70"),
-        ("p2", ["waive", "1", "20"], "owed 50"),
-        ("p3", ["pay", "1", "51"], "refused 60"),
-        ("p4", ["pay", "1", "50"], "owed 0"),
+        ("a1", ["check-out", "1", "10", "1"], "loan 1 due 2026-03-09"),
+        ("a2", ["begin-day", "2026-03-17"], "ok"),
+        ("a3", ["missing", "10"], "fine 100 price 2500"),
+        ("a4", ["check-in", "10", "1"], "fine 0 shelf 1"),
+        ("a5", ["check-out", "1", "11", "1"], "refused 38"),
+        ("p1", ["pay", "1", "30"], "owed 2570"),
+        ("p1", ["pay", "1", "30"], "owed 2570"),
+        ("p2", ["waive", "1", "20"], "owed 2550"),
+        ("p3", ["pay", "1", "2551"], "refused 60"),
+        ("p4", ["pay", "1", "2550"], "owed 0"),
+        ("a6", ["check-out", "2", "11", "1"], "loan 2 due 2026-03-23"),
+        ("a7", ["renew", "2"], "loan 2 due 2026-03-30"),
+        ("a8", ["renew", "2"], "refused 42"),
     ])
+    page = subprocess.run([CIRC, "file", path, "p1", "page", "2"], capture_output=True, timeout=120)
+    check("a page", (page.stdout, page.returncode),
+          (b"patron 2 owed 0 name Bo Carr\nloan 2 due 2026-03-30 renewals 0 title 100 Rivers of the North\n", 0))
+    say(path, [("p1", ["page", "1"], "patron 1 owed 0 name Ann Bell"), ("p1", ["page", "9"], "refused 11")])
     check("owed", rows(path, "SELECT owed FROM patrons WHERE patron = 1"), [(0,)])
     check("lines", rows(path, "SELECT * FROM lines"),
-          [(1, 1, 20514, 0, 100, 1), (2, 1, 20514, 2, 30, None),
-           (3, 1, 20514, 3, 20, None), (4, 1, 20514, 2, 50, None)])
+          [(1, 1, 20529, 0, 100, 1), (2, 1, 20529, 1, 2500, 1), (3, 1, 20529, 2, 30, None),
+           (4, 1, 20529, 3, 20, None), (5, 1, 20529, 2, 2550, None)])
+    check("loans", rows(path, "SELECT * FROM loans"),
+          [(1, 10, 1, 1, 20514, 20521, 6, 1, 20, 100, 20529),
+           (2, 11, 2, 1, 20529, 20542, 6, 0, 20, 100, None)])
+
+
+def movements(folder):
+    """Copies travel, stand on hold shelves, come back, are lost and withdrawn."""
+    path = os.path.join(folder, "moves.db")
+    say(path, GROUND)
+    say(path, [
+        ("a1", ["place-hold", "2", "100", "1"], "hold 1"),
+        ("a2", ["place-hold", "3", "100", "2"], "hold 2"),
+        ("a3", ["check-in", "10", "2"], "fine 0 transit 1 for 1"),
+        ("a4", ["check-in", "11", "2"], "fine 0 ready 2 at 2 until 2026-03-05"),
+    ])
+    check("holds", rows(path, "SELECT * FROM holds"),
+          [(1, 2, 100, 1, 0, None, None), (2, 3, 100, 2, 1, 11, 20517)])
+    check("transits", rows(path, "SELECT * FROM transits"), [(10, 1, 1)])
+    say(path, [
+        ("b1", ["cancel-hold", "1"], "ok"),
+        ("b2", ["cancel-hold", "2"], "refused 53"),
+    ])
+    check("the copy goes on", rows(path, "SELECT * FROM transits"), [(10, 1, None)])
+    say(path, [
+        ("b3", ["check-in", "10", "1"], "fine 0 shelf 1"),
+        ("b4", ["begin-day", "2026-03-05"], "ok"),
+        ("b5", ["unshelve", "2"], "refused 54"),
+        ("b6", ["begin-day", "2026-03-06"], "ok"),
+        ("b7", ["unshelve", "2"], "transit 1"),
+    ])
+    check("states", rows(path, "SELECT hold, state, copy, limit_day FROM holds"), [(1, 3, None, None), (2, 4, None, None)])
+    check("home", rows(path, "SELECT * FROM transits"), [(11, 1, None)])
+    say(path, [
+        ("c1", ["missing", "11"], "ok"),
+        ("c2", ["missing", "11"], "refused 34"),
+        ("c3", ["withdraw", "11"], "ok"),
+        ("c4", ["check-in", "11", "1"], "refused 35"),
+        ("c5", ["place-hold", "1", "300", "2"], "hold 3"),
+        ("c6", ["check-in", "30", "2"], "fine 0 ready 3 at 2 until 2026-03-10"),
+        ("c7", ["unshelve-cancelled", "3"], "transit 1"),
+    ])
+    check("transits", rows(path, "SELECT * FROM transits"), [(30, 1, None)])
+    check("conditions", rows(path, "SELECT copy, condition FROM copies"), [(10, 0), (11, 2), (20, 0), (30, 0)])
+    check("meta", rows(path, "SELECT * FROM meta"), [(1, 1, 20518, 1, 4, 1)])
 
 
 def refusals_of_other_rows(folder, path):
-    """Check-out heeds rows that no command makes yet: they are written past the desk."""
+    """Check-out heeds rows that are written past the desk."""
     other = os.path.join(folder, "rows.db")
     shutil.copy(path, other)
     say(other, [
@@ -382,6 +451,7 @@ def main():
         refusals_of_other_rows(folder, path)
         single_closed_days(folder)
         payments(folder)
+        movements(folder)
         bad_words(folder)
         bad_files(folder, path)
         an_unreadable_file(folder, path)

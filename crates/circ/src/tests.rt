@@ -1,7 +1,6 @@
 //! The desk by its words, over memory. Expected lines are those of the rules, worked out by hand.
 
-ghost use Rattle.std.specs.Prelude.{IfOk};
-ghost use Rattle.terms.specs.Built.{IsBuilt};
+mod movements;
 
 use crate::{Exit, Run, one, read_run};
 use desk::Desk;
@@ -352,9 +351,7 @@ fn closes_and_opens_single_days(rt: HostRuntime) -> Result<(), Fail> {
 }
 
 /// The request to close a Monday of branch 3, counted from 2026-03-09.
-fn closing(alloc: Global, monday: u32) -> Result<Request, Fail>
-    ensures { IfOk result (λ request. IsBuilt request.command) }
-{
+fn closing(alloc: Global, monday: u32) -> Result<Request, Fail> {
     let name = format!(in alloc; "m{monday}")?;
     Ok(Request {
         caller: Caller::Desk,
@@ -452,9 +449,7 @@ fn refuses_a_line_past_the_last_number(rt: HostRuntime) -> Result<(), Fail> {
     )
 }
 
-fn by_patron(alloc: Global, patron: u32, card_key: &str, name: &str) -> Result<Request, Fail>
-    ensures { IfOk result (λ request. IsBuilt request.command) }
-{
+fn by_patron(alloc: Global, patron: u32, card_key: &str, name: &str) -> Result<Request, Fail> {
     let card_key = CardKey::new(alloc, card_key)?.ok_or("a card key")?;
     Ok(Request {
         caller: Caller::Patron(PatronId::new(patron), card_key),
@@ -526,8 +521,8 @@ fn understands_no_other_words(rt: HostRuntime) -> Result<(), Fail> {
         "branch 1 5|",
         "patron 1 1 short|Ann",
         "patron 1 1 cardkey-0001|Ann",
-        "renew 1",
-        "page 1",
+        "renew 01",
+        "page 01",
         "pay 01 5",
         "pay 1 5 5",
         "waive 1 -5",

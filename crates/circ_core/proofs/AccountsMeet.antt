@@ -29,7 +29,7 @@ use Rattle.circ_core.proofs.Rows.{none-map, some-is}
 -- ---- one line more
 
 -- The line that is added has the next number.
-nth-added : (xs : List Line) (x : Line) (k : ℕ) → length xs + 1 ≡ k → nth_line (xs ++ x ∷ []) k ≡ Some x
+pub nth-added : (xs : List Line) (x : Line) (k : ℕ) → length xs + 1 ≡ k → nth_line (xs ++ x ∷ []) k ≡ Some x
 nth-added [] x zero e = let never : ⊥ = omega (arith, e) in absurd never
 nth-added [] x (suc zero) e = refl
 nth-added [] x (suc (suc k)) e = let never : ⊥ = omega (arith, e) in absurd never
@@ -38,7 +38,7 @@ nth-added (y ∷ xs) x (suc zero) e = let never : ⊥ = omega (arith, e) in absu
 nth-added (y ∷ xs) x (suc (suc k)) e = nth-added xs x (suc k) (omega (arith, e))
 
 -- Under every other number is what was there.
-nth-kept : (xs : List Line) (x : Line) (k : ℕ) → (length xs + 1 ≡ k → ⊥) → nth_line (xs ++ x ∷ []) k ≡ nth_line xs k
+pub nth-kept : (xs : List Line) (x : Line) (k : ℕ) → (length xs + 1 ≡ k → ⊥) → nth_line (xs ++ x ∷ []) k ≡ nth_line xs k
 nth-kept [] x zero ne = refl
 nth-kept [] x (suc zero) ne = absurd (ne refl)
 nth-kept [] x (suc (suc k)) ne = refl
@@ -46,7 +46,7 @@ nth-kept (y ∷ xs) x zero ne = refl
 nth-kept (y ∷ xs) x (suc zero) ne = refl
 nth-kept (y ∷ xs) x (suc (suc k)) ne = nth-kept xs x (suc k) (λ e. ne (omega (arith, e)))
 
-length-added : (xs : List Line) (x : Line) → length (xs ++ x ∷ []) ≡ length xs + 1
+pub length-added : (xs : List Line) (x : Line) → length (xs ++ x ∷ []) ≡ length xs + 1
 length-added [] x = refl
 length-added (y ∷ xs) x = omega (arith, length-added xs x)
 

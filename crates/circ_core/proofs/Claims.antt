@@ -103,7 +103,7 @@ pub record IsKept (H : History) (c h : ℕ) (q : HoldRow) : Type 0 where
 
 module _ (H : History) (inv : Invariant H) (c : ℕ) (r : CopyFacts) (there : copy_of H c ≡ Some r) where
   -- The row that names a copy is that of the hold on whose shelf it stands.
-  named-is : (q : HoldRow) → hold_row H q.hold ≡ Some q → q.copy ≡ Some c → place H c ≡ HoldShelf q.hold
+  pub named-is : (q : HoldRow) → hold_row H q.hold ≡ Some q → q.copy ≡ Some c → place H c ≡ HoldShelf q.hold
   named-is q row names =
       let is : (s : HoldState) × (f : HoldFacts) × (state H q.hold ≡ Some s) × (hold_of H q.hold ≡ Some f) × (hold_columns H q.hold s f ≡ q) = hold_row-is H q.hold q row in
       let kept : kept_for H q.hold ≡ Some c = if_ready-is is.0 (kept_for H q.hold) c (ap (λ x. x.copy) is.4 ∙ names) in
@@ -118,7 +118,7 @@ module _ (H : History) (inv : Invariant H) (c : ℕ) (r : CopyFacts) (there : co
       serves x e = rw e refl
 
   -- The row of the hold on whose shelf the copy stands names it.
-  shelf_row : (h : ℕ) → place H c ≡ HoldShelf h → (f : HoldFacts) × (hold_of H h ≡ Some f) × (hold_row H h ≡ Some (hold_columns H h Ready f)) × (kept_for H h ≡ Some c)
+  pub shelf_row : (h : ℕ) → place H c ≡ HoldShelf h → (f : HoldFacts) × (hold_of H h ≡ Some f) × (hold_row H h ≡ Some (hold_columns H h Ready f)) × (kept_for H h ≡ Some c)
   shelf_row h at =
       let serves : Serves (place H c) h = rw at refl in
       let ready : state H h ≡ Some Ready = rw at at (inv.bound.fits c h serves) in

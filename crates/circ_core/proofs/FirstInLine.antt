@@ -39,7 +39,7 @@ list_any-some f (x ∷ xs) e = go (λ q. list_any-some f xs q) (f x) refl e
 
 -- ---- one hold
 
-waiting-is : (s : Option HoldState) → is_waiting s ≡ true → s ≡ Some Waiting
+pub waiting-is : (s : Option HoldState) → is_waiting s ≡ true → s ≡ Some Waiting
 waiting-is (Some Waiting) e = refl
 waiting-is (Some Ready) e = let never : ⊥ = cc in absurd never
 waiting-is (Some Filled) e = let never : ⊥ = cc in absurd never
@@ -47,7 +47,7 @@ waiting-is (Some Cancelled) e = let never : ⊥ = cc in absurd never
 waiting-is (Some Expired) e = let never : ⊥ = cc in absurd never
 waiting-is None e = let never : ⊥ = cc in absurd never
 
-bound-is : (p : Place) (h : ℕ) → is_bound_for p h ≡ true → (b : ℕ) × (p ≡ Transit b (Some h))
+pub bound-is : (p : Place) (h : ℕ) → is_bound_for p h ≡ true → (b : ℕ) × (p ≡ Transit b (Some h))
 bound-is (Transit b (Some g)) h e = (b, ap (λ k. Transit b (Some k)) (eqb-true g h e))
 bound-is (Transit b None) h e = let never : ⊥ = cc in absurd never
 bound-is Nowhere h e = let never : ⊥ = cc in absurd never
@@ -57,7 +57,7 @@ bound-is (Loan l) h e = let never : ⊥ = cc in absurd never
 bound-is MissingCopy h e = let never : ⊥ = cc in absurd never
 bound-is Withdrawn h e = let never : ⊥ = cc in absurd never
 
-transit-is : (c : ℕ) (p : Place) (x : TransitRow) (h : ℕ) → transit_at c p ≡ Some x → x.hold ≡ Some h → is_bound_for p h ≡ true
+pub transit-is : (c : ℕ) (p : Place) (x : TransitRow) (h : ℕ) → transit_at c p ≡ Some x → x.hold ≡ Some h → is_bound_for p h ≡ true
 transit-is c (Transit g (Some k)) x h e f =
     let same : Some (record { copy = c; goal = g; hold = Some k }) ≡ Some x = e in
     let row : ◌≡◌ {A = TransitRow} (record { copy = c; goal = g; hold = Some k }) x = cc in

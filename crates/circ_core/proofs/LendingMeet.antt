@@ -28,22 +28,23 @@ use Rattle.terms.specs.declared.refusal.Refusal.{Refusal}
 use Rattle.model.specs.Invariant.{Invariant}
 use Rattle.circ_core.proofs.Rows.{is_none-map, none-map, some-is}
 use Rattle.circ_core.proofs.Claims.{loan_claims, transit_claims, hold_row-is}
+use Rattle.circ_core.proofs.KindNow.{loans_same, debt_same, owed_same}
 use Rattle.circ_core.proofs.PatronCounts.{open_loans-count, others_none, others_one}
 use Rattle.circ_core.proofs.Standing.{FillsAs, Standing, standing_shelf, standing_hold}
 use Rattle.circ_core.proofs.Rising.{find-same}
 use Rattle.model.specs.Calendar.{least}
-use Rattle.model.specs.History.{History, today, is_open, KindFacts, kind_of, Terms, rule_of, PatronFacts, patron_of, CopyFacts, copy_of, copies, loans, next_loan, HoldFacts, hold_of}
+use Rattle.model.specs.History.{History, today, is_open, Terms, rule_of, PatronFacts, patron_of, CopyFacts, copy_of, copies, loans, next_loan, HoldFacts, hold_of}
 use Rattle.model.specs.Places.{Place, Nowhere, Shelf, HoldShelf, Transit, Loan, MissingCopy, WithdrawnCopy, place, state, fills, fills_from, is_kept_for, kept_for, limit, title_of_copy}
 use Rattle.model.specs.Loans.{LoanFacts, loan_of, terms_for, no_terms, first_due, due, renewals, ended}
 use Rattle.model.specs.Accounts.{owed}
 use Rattle.model.specs.Checks.{Check, last_number}
 use Rattle.model.specs.Refusals.{checks, refusal, has_branch, is_withdrawn, is_missing, is_on_loan, is_in_transit, has_other_hold, kind_now}
-use Rattle.model.specs.Picture.{picture, meta_row, kind_row, rule_row, loan_row, hold_row, transit_at, condition_at, if_ready, kind_columns, rule_columns, patron_columns, copy_columns, hold_columns}
+use Rattle.model.specs.Picture.{picture, meta_row, rule_row, loan_row, hold_row, transit_at, condition_at, if_ready, rule_columns, patron_columns, copy_columns, hold_columns}
 use Rattle.model.proofs.Passing.{passed}
 
 -- ---- small facts
 
-lt-le : (a b : ℕ) → nat_lt a (b + 1) ≡ nat_le a b
+pub lt-le : (a b : ℕ) → nat_lt a (b + 1) ≡ nat_le a b
 lt-le a b = go (cases_lt b a)
   where
     go : (b < a) ⊎ (a ≤ b) → nat_lt a (b + 1) ≡ nat_le a b
@@ -55,7 +56,7 @@ withdrawn_at H c r MissingCopy = refl
 withdrawn_at H c r WithdrawnCopy = refl
 withdrawn_at H c r _ = refl
 
-lost_at : (H : History) (c : ℕ) (r : CopyFacts) (x : Place) → is_missing_row (Some (record (copy_columns H c r) { condition = condition_at x })) ≡ is_missing x
+pub lost_at : (H : History) (c : ℕ) (r : CopyFacts) (x : Place) → is_missing_row (Some (record (copy_columns H c r) { condition = condition_at x })) ≡ is_missing x
 lost_at H c r MissingCopy = refl
 lost_at H c r WithdrawnCopy = refl
 lost_at H c r _ = refl
@@ -102,28 +103,14 @@ module _ (H : History) (inv : Invariant H) (p c b : ℕ) (v : CheckOutView) (w :
     patron_is : v.patron ≡ Some (patron_columns H p q)
     patron_is = w.patron ∙ ap (λ o. option_map (patron_columns H p) o) enrolled
 
-    kind_is : v.kind ≡ kind_row H q.kind
-    kind_is = w.kind ∙ ap (λ o. option_and_then (λ x. kind_row H x.kind) o) patron_is
+    loans_now : loans_allowed v.kind ≡ (kind_now H p).loans
+    loans_now = loans_same H p q enrolled v.patron w.patron v.kind w.kind
 
-    kind_now-is : kind_now H p ≡ unwrap_or (kind_of H q.kind) (record { loans = 0; holds = 0; debt = 0 })
-    kind_now-is = ap (λ o. unwrap_or (kind_of H (unwrap_or (option_map (λ x. x.kind) o) 0)) (record { loans = 0; holds = 0; debt = 0 })) enrolled
+    debt_now : debt_allowed v.kind ≡ (kind_now H p).debt
+    debt_now = debt_same H p q enrolled v.patron w.patron v.kind w.kind
 
-    loans_same : loans_allowed v.kind ≡ (kind_now H p).loans
-    loans_same = ap loans_allowed kind_is ∙ go (kind_of H q.kind) ∙ ap (λ k. k.loans) (sym kind_now-is)
-      where
-        go : (o : Option KindFacts) → loans_allowed (option_map (kind_columns H q.kind) o) ≡ (unwrap_or o (record { loans = 0; holds = 0; debt = 0 })).loans
-        go (Some k) = refl
-        go None = refl
-
-    debt_same : debt_allowed v.kind ≡ (kind_now H p).debt
-    debt_same = ap debt_allowed kind_is ∙ go (kind_of H q.kind) ∙ ap (λ k. k.debt) (sym kind_now-is)
-      where
-        go : (o : Option KindFacts) → debt_allowed (option_map (kind_columns H q.kind) o) ≡ (unwrap_or o (record { loans = 0; holds = 0; debt = 0 })).debt
-        go (Some k) = refl
-        go None = refl
-
-    owed_same : owed_by v.patron ≡ owed H p
-    owed_same = ap owed_by patron_is
+    owed_now : owed_by v.patron ≡ owed H p
+    owed_now = owed_same H p q enrolled v.patron w.patron v.kind w.kind
 
     rule_is : v.rule ≡ rule_row H q.kind r.kind
     rule_is = w.rule ∙ ap (λ o. rule_in (picture H) o v.at.copy) patron_is ∙ ap (λ o. rule_in (picture H) (Some (patron_columns H p q)) o) (copy_is r there)
@@ -163,10 +150,10 @@ module _ (H : History) (inv : Invariant H) (p c b : ℕ) (v : CheckOutView) (w :
                           (ap is_none rule_is ∙ is_none-map (rule_columns H q.kind r.kind) (rule_of H q.kind r.kind) ∙ ap is_none (sym terms_is)),
                           λ p16. (
                             refl,
-                            (ap (λ n. nat_le n v.open_loans) loans_same ∙ ap (λ n. nat_le (kind_now H p).loans n) (open_loans-count H inv p v.open_loans w.open_loans)),
+                            (ap (λ n. nat_le n v.open_loans) loans_now ∙ ap (λ n. nat_le (kind_now H p).loans n) (open_loans-count H inv p v.open_loans w.open_loans)),
                             λ p37. (
                               refl,
-                              (ap (λ n. nat_lt n (owed_by v.patron)) debt_same ∙ ap (λ n. nat_lt (kind_now H p).debt n) owed_same),
+                              (ap (λ n. nat_lt n (owed_by v.patron)) debt_now ∙ ap (λ n. nat_lt (kind_now H p).debt n) owed_now),
                               λ p38.
                                   (refl, (ap (λ m. nat_lt last_number m.next_loan) w.meta ∙ lt-le last_number (loans H)), λ p70. tt),
                             ),

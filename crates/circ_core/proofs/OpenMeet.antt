@@ -2,9 +2,9 @@
 use Rattle.std.proofs.Common.{◌≡◌, ℕ, suc, ◌+◌, ◌≤◌, ◌<◌, Bool, true, false, not, List, [], ◌∷◌, length, refl, sym, ◌∙◌, ap, subst, arith}
 use Rattle.std.specs.Prelude.{Option, Some, None, is_none, nat_le, ◌&&◌, slice_index_or}
 use Rattle.std.specs.List.{list_any}
-use Rattle.calendar.specs.Openings.{Closings, IsLeastOpen, weekday}
+use Rattle.calendar.specs.Openings.{Closings, IsLeastOpen, weekday, open_days_after}
 use Rattle.calendar.specs.Openings as openings
-use Rattle.model.specs.Calendar.{first_day, last_day, is_single, opens, least, IsLeast}
+use Rattle.model.specs.Calendar.{first_day, last_day, is_single, opens, least, IsLeast, late}
 use Rattle.model.specs.History.{History, week_of, singles_of, is_open, BranchFacts, branch_of}
 use Rattle.model.specs.Invariant.{Invariant}
 use Rattle.model.specs.Refusals.{has_branch}
@@ -44,6 +44,22 @@ module _ (H : History) (b : ℕ) (closings : Closings) (w : AreClosedDays (pictu
   -- The least open day of the calendar is that of the history.
   pub least_same : (from due : ℕ) → IsLeastOpen closings from due → least (is_open H b) from ≡ Some due
   least_same from due is = subst (λ (test : ℕ → Bool). least test from ≡ Some due) one_test ((calendars_agree.least_day closings from due).1 is)
+
+  -- Where the calendar has no open day left, the history has none.
+  pub shut_same : (from : ℕ) → IsShutFrom (Some closings) from → least (is_open H b) from ≡ None
+  shut_same from shut = go (least (is_open H b) from) refl
+    where
+      go : (o : Option ℕ) → least (is_open H b) from ≡ o → least (is_open H b) from ≡ None
+      go (Some e) found =
+          let is : IsLeast (is_open H b) from e = least-IsLeast (is_open H b) from e found in
+          let on : openings.is_open closings e ≡ true = sym (calendars_agree.open_days closings e) ∙ open_same e ∙ is.opens in
+          let off : openings.is_open closings e ≡ false = shut e is.from is.within in
+          let never : ⊥ = cc in absurd never
+      go None found = found
+
+  -- As many days are late.
+  pub late_same : (due now : ℕ) → open_days_after closings due now ≡ late (is_open H b) due now
+  late_same due now = sym (calendars_agree.late_days closings due now) ∙ ap (λ (test : ℕ → Bool). late test due now) one_test
 
   -- From a day that leaves room enough the calendar has an open day.
   pub never_shut : Invariant H → (from : ℕ) → first_day ≤ from → from + 2806 ≤ last_day → IsShutFrom (Some closings) from → ⊥

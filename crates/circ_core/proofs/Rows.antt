@@ -1,8 +1,8 @@
 -- Rows that are put, seen from what the history sets and makes.
-use Rattle.std.proofs.Common.{◌≡◌, ℕ, ◌==◌, Bool, true, false, cond, ◌&&◌, refl, sym, ap}
+use Rattle.std.proofs.Common.{◌≡◌, ℕ, suc, ◌==◌, Bool, true, false, cond, ◌&&◌, refl, sym, ap, arith}
 use Rattle.std.specs.Prelude.{Option, Some, None, option_map, not, is_none, is_some}
 use Rattle.std.specs.Option.{option_or}
-use Rattle.std.proofs.lemmas.Bool.{eqb-true, eq-eqb, and_parts}
+use Rattle.std.proofs.lemmas.Bool.{eqb-true, eq-eqb, and_parts, false_from_ne_true}
 use Rattle.terms.specs.Pictures.{put, put_pair}
 
 -- ---- numbers and Options
@@ -35,6 +35,13 @@ some-is None e = let never : ⊥ = cc in absurd never
 pub option_map-is : {A B : Type 0} (f : A → B) (o : Option A) (y : B) → option_map f o ≡ Some y → (x : A) × (o ≡ Some x) × (f x ≡ y)
 option_map-is f (Some x) y e = (x, refl, cc)
 option_map-is f None y e = let never : ⊥ = cc in absurd never
+
+pub and-true : (b : Bool) → (b && true) ≡ b
+and-true true = refl
+and-true false = refl
+
+pub is_suc : (n : ℕ) → (suc n == 0) ≡ false
+is_suc n = false_from_ne_true (suc n == 0) (λ e. let same : suc n ≡ 0 = eqb-true _ _ e in omega (arith, same))
 
 -- ---- one table
 

@@ -7,5 +7,12 @@ pub mod Setting
 pub mod Lending
 pub mod Closing
 pub mod Accounts
+pub mod Ending
+pub mod Routing
+pub mod Unshelving
+pub mod Returning
+pub mod Leaving
+pub mod Holding
+pub mod Renewing
 pub mod Owners
 pub mod Deciding

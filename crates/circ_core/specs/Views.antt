@@ -4,6 +4,7 @@ use Rattle.std.specs.List.{list_any, IsDistinct}
 use Rattle.calendar.specs.Openings.{Closings, AreWeekdays, has_day, has_repeat}
 use Rattle.terms.specs.declared.row.BranchRow.{BranchRow}
 use Rattle.terms.specs.declared.row.PatronRow.{PatronRow}
+use Rattle.terms.specs.declared.row.KindRow.{KindRow}
 use Rattle.terms.specs.declared.row.RuleRow.{RuleRow}
 use Rattle.terms.specs.declared.row.CopyRow.{CopyRow}
 use Rattle.terms.specs.declared.row.LoanRow.{LoanRow}
@@ -11,7 +12,7 @@ use Rattle.terms.specs.declared.row.HoldRow.{HoldRow}
 use Rattle.terms.specs.declared.row.HoldState.TheVariants.{Waiting, Ready}
 use Rattle.terms.specs.declared.row.TransitRow.{TransitRow}
 use Rattle.terms.specs.declared.command.Command.{Command}
-use Rattle.terms.specs.declared.command.Command.TheVariants.{BeginDay, Branch, Week, Kind, Rule, Patron, Acquire, CheckOut, CloseDay, OpenDay, Pay, Waive, Page}
+use Rattle.terms.specs.declared.command.Command.TheVariants.{BeginDay, Branch, Week, Kind, Rule, Patron, Acquire, CheckOut, CheckIn, Renew, PlaceHold, CancelHold, Unshelve, UnshelveCancelled, Missing, Withdraw, CloseDay, OpenDay, Pay, Waive, Page}
 use Rattle.terms.specs.Pictures.{Picture}
 use Rattle.circ_core.specs.declared.views.PatronView.{PatronView}
 use Rattle.circ_core.specs.declared.views.ClosedDayView.{ClosedDayView}
@@ -19,6 +20,14 @@ use Rattle.circ_core.specs.declared.views.AccountView.{AccountView}
 use Rattle.circ_core.specs.declared.views.AcquireView.{AcquireView}
 use Rattle.circ_core.specs.declared.views.CopyView.{CopyView}
 use Rattle.circ_core.specs.declared.views.CheckOutView.{CheckOutView}
+use Rattle.circ_core.specs.declared.views.RenewView.{RenewView}
+use Rattle.circ_core.specs.declared.views.PlaceHoldView.{PlaceHoldView}
+use Rattle.circ_core.specs.declared.views.CancelHoldView.{CancelHoldView}
+use Rattle.circ_core.specs.declared.views.BranchView.{BranchView}
+use Rattle.circ_core.specs.declared.views.LenderView.{LenderView}
+use Rattle.circ_core.specs.declared.views.CheckInView.{CheckInView}
+use Rattle.circ_core.specs.declared.views.UnshelveView.{UnshelveView}
+use Rattle.circ_core.specs.declared.views.MissingView.{MissingView}
 use Rattle.circ_core.specs.declared.views.View.{View}
 use Rattle.circ_core.specs.declared.views.View.TheVariants as view
 
@@ -47,6 +56,24 @@ abbrev pub IsHoldOf : Picture → ℕ → Option HoldRow → Type 0
 IsHoldOf P copy (Some row) = (P.holds row.hold ≡ Some row) × (row.copy ≡ Some copy)
 IsHoldOf P copy None = (h : ℕ) (r : HoldRow) → P.holds h ≡ Some r → r.copy ≡ Some copy → ⊥
 
+-- A travel of a copy for the hold, or none where no copy travels for it.
+abbrev pub IsTravelFor : Picture → ℕ → Option TransitRow → Type 0
+IsTravelFor P hold (Some row) = (P.transits row.copy ≡ Some row) × (row.hold ≡ Some hold)
+IsTravelFor P hold None = (c : ℕ) (x : TransitRow) → P.transits c ≡ Some x → x.hold ≡ Some hold → ⊥
+
+-- The loan is an open one of the patron, of a copy of the title.
+pub record LendsTitle (P : Picture) (patron title : ℕ) (loan : LoanRow) : Type 0 where
+  pub by : loan.patron ≡ patron
+  pub unended : loan.ended ≡ None
+  pub copy : CopyRow
+  pub lent : P.copies loan.copy ≡ Some copy
+  pub of_title : copy.title ≡ title
+
+-- An open loan of the patron of a copy of the title, or none where the patron has none.
+abbrev pub IsLoanOfTitle : Picture → ℕ → ℕ → Option LoanRow → Type 0
+IsLoanOfTitle P patron title (Some row) = (P.loans row.loan ≡ Some row) × LendsTitle P patron title row
+IsLoanOfTitle P patron title None = (l : ℕ) (r : LoanRow) → P.loans l ≡ Some r → LendsTitle P patron title r → ⊥
+
 -- The hold waits for the title, and no transit names it.
 pub record InLine (P : Picture) (title hold : ℕ) (row : HoldRow) : Type 0 where
   pub there : P.holds hold ≡ Some row
@@ -73,6 +100,10 @@ pub record IsCount (passes : ℕ → Type 0) (n : ℕ) : Type 0 where
 abbrev pub IsOpenBy : Picture → ℕ → ℕ → Type 0
 IsOpenBy P patron loan = (r : LoanRow) × (P.loans loan ≡ Some r) × (r.patron ≡ patron) × (r.ended ≡ None)
 
+-- A waiting or ready hold of the patron.
+abbrev pub IsActiveBy : Picture → ℕ → ℕ → Type 0
+IsActiveBy P patron hold = (r : HoldRow) × (P.holds hold ≡ Some r) × (r.patron ≡ patron) × ((r.state ≡ Waiting) ⊎ (r.state ≡ Ready))
+
 -- A waiting or ready hold of the patron on the title.
 abbrev pub IsActiveOn : Picture → ℕ → ℕ → ℕ → Type 0
 IsActiveOn P patron title hold =
@@ -94,6 +125,31 @@ IsFirstFor P None first = first ≡ None
 abbrev pub AreHoldsFor : Picture → ℕ → Option CopyRow → ℕ → Type 0
 AreHoldsFor P patron (Some copy) n = IsCount (IsActiveOn P patron copy.title) n
 AreHoldsFor P patron None n = n ≡ 0
+
+-- The kind of the patron as it is now.
+abbrev pub kind_in : Picture → Option PatronRow → Option KindRow
+kind_in P patron = option_and_then (λ r. P.kinds r.kind) patron
+
+-- The copy that is lent.
+abbrev pub copy_in : Picture → Option LoanRow → Option CopyRow
+copy_in P loan = option_and_then (λ r. P.copies r.copy) loan
+
+-- The borrower.
+abbrev pub borrower_in : Picture → Option LoanRow → Option PatronRow
+borrower_in P loan = option_and_then (λ r. P.patrons r.patron) loan
+
+-- The copy that the hold names.
+abbrev pub named_copy_in : Picture → Option HoldRow → Option CopyRow
+named_copy_in P hold = option_and_then (λ r. option_and_then P.copies r.copy) hold
+
+-- The hold that the copy travels for.
+abbrev pub coming_in : Picture → Option TransitRow → Option HoldRow
+coming_in P transit = option_and_then (λ r. option_and_then P.holds r.hold) transit
+
+-- The calendar of the branch that made the loan; without a loan none is looked for.
+abbrev pub IsLenderOf : Picture → Option LoanRow → Option Closings → Type 0
+IsLenderOf P (Some loan) calendar = IsCalendarOf P loan.branch calendar
+IsLenderOf P None calendar = calendar ≡ None
 
 -- ---- the views
 
@@ -120,7 +176,7 @@ pub record IsCheckOutView (P : Picture) (p c b : ℕ) (rows : CheckOutView) : Ty
   pub meta : rows.meta ≡ P.meta
   pub calendar : IsCalendarOf P b rows.calendar
   pub patron : rows.patron ≡ P.patrons p
-  pub kind : rows.kind ≡ option_and_then (λ r. P.kinds r.kind) rows.patron
+  pub kind : rows.kind ≡ kind_in P rows.patron
   pub rule : rows.rule ≡ rule_in P rows.patron rows.at.copy
   pub at : IsCopyView P c rows.at
   pub first : IsFirstFor P rows.at.copy rows.first
@@ -138,6 +194,70 @@ pub record IsAccountView (P : Picture) (p : ℕ) (rows : AccountView) : Type 0 w
   pub meta : rows.meta ≡ P.meta
   pub patron : rows.patron ≡ P.patrons p
 
+-- The rows that a renewal needs.
+pub record IsRenewView (P : Picture) (l : ℕ) (rows : RenewView) : Type 0 where
+  pub meta : rows.meta ≡ P.meta
+  pub loan : rows.loan ≡ P.loans l
+  pub copy : rows.copy ≡ copy_in P rows.loan
+  pub first : IsFirstFor P rows.copy rows.first
+  pub patron : rows.patron ≡ borrower_in P rows.loan
+  pub kind : rows.kind ≡ kind_in P rows.patron
+  pub calendar : IsLenderOf P rows.loan rows.calendar
+
+-- The rows that a new hold needs.
+pub record IsPlaceHoldView (P : Picture) (p t b : ℕ) (rows : PlaceHoldView) : Type 0 where
+  pub meta : rows.meta ≡ P.meta
+  pub patron : rows.patron ≡ P.patrons p
+  pub kind : rows.kind ≡ kind_in P rows.patron
+  pub title : rows.title ≡ P.titles t
+  pub branch : rows.branch ≡ P.branches b
+  pub own_holds : IsCount (IsActiveOn P p t) rows.own_holds
+  pub loan : IsLoanOfTitle P p t rows.loan
+  pub active_holds : IsCount (IsActiveBy P p) rows.active_holds
+
+-- The hold, and the travel for it.
+pub record IsCancelHoldView (P : Picture) (h : ℕ) (rows : CancelHoldView) : Type 0 where
+  pub hold : rows.hold ≡ P.holds h
+  pub transit : IsTravelFor P h rows.transit
+
+-- The branch and its calendar.
+pub record IsBranchView (P : Picture) (b : ℕ) (rows : BranchView) : Type 0 where
+  pub branch : rows.branch ≡ P.branches b
+  pub calendar : IsCalendarOf P b rows.calendar
+
+-- The pick-up branch of the hold; without a hold none is looked for.
+abbrev pub IsPickupView : Picture → Option HoldRow → BranchView → Type 0
+IsPickupView P (Some hold) rows = IsBranchView P hold.branch rows
+IsPickupView P None rows = (rows.branch ≡ None) × (rows.calendar ≡ None)
+
+-- The lending branch's calendar and the borrower of the loan, if there is one.
+pub record IsLenderView (P : Picture) (loan : Option LoanRow) (rows : LenderView) : Type 0 where
+  pub calendar : IsLenderOf P loan rows.calendar
+  pub patron : rows.patron ≡ borrower_in P loan
+
+-- The rows that a check-in needs.
+pub record IsCheckInView (P : Picture) (c b : ℕ) (rows : CheckInView) : Type 0 where
+  pub meta : rows.meta ≡ P.meta
+  pub here : IsBranchView P b rows.here
+  pub at : IsCopyView P c rows.at
+  pub lender : IsLenderView P rows.at.loan rows.lender
+  pub coming : rows.coming ≡ coming_in P rows.at.transit
+  pub first : IsFirstFor P rows.at.copy rows.first
+
+-- The rows that unshelving needs.
+pub record IsUnshelveView (P : Picture) (h : ℕ) (rows : UnshelveView) : Type 0 where
+  pub meta : rows.meta ≡ P.meta
+  pub hold : rows.hold ≡ P.holds h
+  pub copy : rows.copy ≡ named_copy_in P rows.hold
+  pub here : IsPickupView P rows.hold rows.here
+  pub first : IsFirstFor P rows.copy rows.first
+
+-- The rows that declaring a copy missing needs.
+pub record IsMissingView (P : Picture) (c : ℕ) (rows : MissingView) : Type 0 where
+  pub meta : rows.meta ≡ P.meta
+  pub at : IsCopyView P c rows.at
+  pub lender : IsLenderView P rows.at.loan rows.lender
+
 -- The view holds the rows of the tables that the command needs; a view of another command's rows doesn't.
 abbrev pub IsViewOf : Picture → Command → View → Type 0
 IsViewOf P (BeginDay day) (view.BeginDay meta) = meta ≡ P.meta
@@ -152,5 +272,13 @@ IsViewOf P (CloseDay branch day) (view.CloseDay rows) = IsClosedDayView P branch
 IsViewOf P (OpenDay branch day) (view.OpenDay rows) = IsClosedDayView P branch rows
 IsViewOf P (Pay patron amount) (view.Pay rows) = IsAccountView P patron rows
 IsViewOf P (Waive patron amount) (view.Waive rows) = IsAccountView P patron rows
+IsViewOf P (CheckIn copy branch) (view.CheckIn rows) = IsCheckInView P copy branch rows
+IsViewOf P (Renew loan) (view.Renew rows) = IsRenewView P loan rows
+IsViewOf P (PlaceHold patron title branch) (view.PlaceHold rows) = IsPlaceHoldView P patron title branch rows
+IsViewOf P (CancelHold hold) (view.CancelHold rows) = IsCancelHoldView P hold rows
+IsViewOf P (Unshelve hold) (view.Unshelve rows) = IsUnshelveView P hold rows
+IsViewOf P (UnshelveCancelled hold) (view.UnshelveCancelled rows) = IsUnshelveView P hold rows
+IsViewOf P (Missing copy) (view.Missing rows) = IsMissingView P copy rows
+IsViewOf P (Withdraw copy) (view.Withdraw rows) = IsCopyView P copy rows
 IsViewOf P (Page patron) (view.Page row) = row ≡ P.patrons patron
 IsViewOf P _ _ = ⊥

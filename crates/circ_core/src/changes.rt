@@ -1,6 +1,6 @@
 //! What a decision changes: a few rows.
 
-ghost use Rattle.std.specs.Prelude.{◌≡◌, ℕ, List, [], ◌∷◌, ◌≤◌, length, slice_get, option_map, Option};
+ghost use Rattle.std.specs.Prelude.{◌≡◌, ℕ, List, [], ◌∷◌, ◌++◌, ◌≤◌, length, slice_get, option_map, Option};
 ghost use Rattle.std.specs.Option.{option_copied};
 ghost use Rattle.circ_core.specs.Slots.{filled, IsPacked};
 ghost use Rattle.circ_core.specs.declared.changes.RowChange.{RowChange};
@@ -107,6 +107,28 @@ impl<'a> Changes<'a> {
             fifth: None,
             sixth: None,
         }
+    }
+
+    /// The changes with one more at the end, of at most six.
+    pub fn with(self, change: RowChange<'a>) -> Self
+        requires { length self ≤ 5 }
+        ensures { result ≡ self.entry ++ change.entry ∷ [] }
+    {
+        let mut changes = self;
+        if changes.first.is_none() {
+            changes.first = Some(change);
+        } else if changes.second.is_none() {
+            changes.second = Some(change);
+        } else if changes.third.is_none() {
+            changes.third = Some(change);
+        } else if changes.fourth.is_none() {
+            changes.fourth = Some(change);
+        } else if changes.fifth.is_none() {
+            changes.fifth = Some(change);
+        } else {
+            changes.sixth = Some(change);
+        }
+        changes
     }
 
     /// The change at a place below `PLACES`, if that place is filled.

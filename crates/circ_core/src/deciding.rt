@@ -1,6 +1,5 @@
 //! The decision on a command.
 
-ghost use Rattle.terms.specs.Built.{IsBuilt};
 ghost use Rattle.model.specs.History.{History};
 ghost use Rattle.model.specs.Requests.{IsLegal};
 ghost use Rattle.model.specs.Picture.{picture};
@@ -11,8 +10,13 @@ ghost use Rattle.circ_core.specs.Decides.{Decides};
 use crate::accounts::{page, settle};
 use crate::changes::Decision;
 use crate::closing::{close_day, open_day};
+use crate::holding::{cancel_hold, place_hold};
+use crate::leaving::{declare_missing, withdraw};
 use crate::lending::check_out;
+use crate::renewing::renew;
+use crate::returning::check_in;
 use crate::setting::{acquire, add_branch, begin_day, enrol, set_kind, set_rule, set_week};
+use crate::unshelving::{unshelve, unshelve_cancelled};
 use crate::views::View;
 use terms::{Command, Refusal, RuleRow, Sort};
 
@@ -26,7 +30,6 @@ const OTHER_VIEW: Refusal = Refusal::OutOfLimits;
 /// list gives the command, and the rows change so that the tables are those of the list with the command added.
 #[tactic(auto, using(crate::proofs::Decisions::decides))]
 pub fn decide<'a>(view: &'a View, command: &'a Command) -> Result<Decision<'a>, Refusal>
-    requires { IsBuilt command.now }
     ensures on_rows { DecidesOn view.now command.now result }
     ensures meets { (H : History) → IsLegal H → IsViewOf (picture H) command.now view.now → Decides H command.now result }
 {
@@ -35,7 +38,6 @@ pub fn decide<'a>(view: &'a View, command: &'a Command) -> Result<Decision<'a>, 
 
 /// The decision of the command's own function, on the rows of the view.
 fn decide_on_rows<'a>(view: &'a View, command: &'a Command) -> Result<Decision<'a>, Refusal>
-    requires { IsBuilt command.now }
     ensures { DecidesOn view.now command.now result }
 {
     match command {
@@ -133,6 +135,41 @@ fn decide_on_rows<'a>(view: &'a View, command: &'a Command) -> Result<Decision<'
             View::Page(row) => page(row),
             _ => Err(OTHER_VIEW),
         },
-        _ => unreachable!(),
+        Command::CheckIn { copy, branch } => match view {
+            View::CheckIn(rows) => check_in(rows, *copy, *branch),
+            _ => Err(OTHER_VIEW),
+        },
+        Command::Renew { loan } => match view {
+            View::Renew(rows) => renew(rows, *loan),
+            _ => Err(OTHER_VIEW),
+        },
+        Command::PlaceHold {
+            patron,
+            title,
+            branch,
+        } => match view {
+            View::PlaceHold(rows) => place_hold(rows, *patron, *title, *branch),
+            _ => Err(OTHER_VIEW),
+        },
+        Command::CancelHold { .. } => match view {
+            View::CancelHold(rows) => cancel_hold(rows),
+            _ => Err(OTHER_VIEW),
+        },
+        Command::Unshelve { .. } => match view {
+            View::Unshelve(rows) => unshelve(rows),
+            _ => Err(OTHER_VIEW),
+        },
+        Command::UnshelveCancelled { .. } => match view {
+            View::UnshelveCancelled(rows) => unshelve_cancelled(rows),
+            _ => Err(OTHER_VIEW),
+        },
+        Command::Missing { .. } => match view {
+            View::Missing(rows) => declare_missing(rows),
+            _ => Err(OTHER_VIEW),
+        },
+        Command::Withdraw { .. } => match view {
+            View::Withdraw(rows) => withdraw(rows),
+            _ => Err(OTHER_VIEW),
+        },
     }
 }

@@ -14,7 +14,7 @@ use terms::{
     KindRow, LoanId, LoanRow, PatronId, PatronKind, PatronRow, Refusal, Reply, RuleRow,
 };
 
-fn is_gone(copy: &Option<CopyRow>) -> bool
+pub(crate) fn is_gone(copy: &Option<CopyRow>) -> bool
     ensures { result ≡ is_withdrawn copy.now }
 {
     match copy {
@@ -23,7 +23,7 @@ fn is_gone(copy: &Option<CopyRow>) -> bool
     }
 }
 
-fn is_lost(copy: &Option<CopyRow>) -> bool
+pub(crate) fn is_lost(copy: &Option<CopyRow>) -> bool
     ensures { result ≡ is_missing copy.now }
 {
     match copy {
@@ -94,7 +94,7 @@ fn has_all_loans(kind: &Option<KindRow>, open_loans: Count) -> bool
 }
 
 /// Whether the patron owes more than the kind is allowed at check-out.
-fn owes_too_much(kind: &Option<KindRow>, patron: &Option<PatronRow>) -> bool
+pub(crate) fn owes_too_much(kind: &Option<KindRow>, patron: &Option<PatronRow>) -> bool
     ensures { result ≡ nat_lt (debt_allowed kind.now) (owed_by patron.now) }
 {
     let owed = match patron {
@@ -149,7 +149,7 @@ fn check_out_refusal(view: &CheckOutView, patron: PatronId, branch: BranchId) ->
 }
 
 /// The least open day from so many days after a day, if the calendar has one.
-fn due_day(calendar: &Option<Calendar>, today: Day, period: Days) -> Option<Day>
+pub(crate) fn due_day(calendar: &Option<Calendar>, today: Day, period: Days) -> Option<Day>
     ensures some { IfSome result (IsDueFrom calendar.now (today + period)) }
     ensures none { IfNone result (IsShutFrom calendar.now (today + period)) }
 {
@@ -212,7 +212,7 @@ fn loan_for(
 }
 
 /// The row of a hold in a final state.
-fn finish(hold: HoldRow, state: HoldState) -> HoldRow
+pub(crate) fn finish(hold: HoldRow, state: HoldState) -> HoldRow
     ensures { result ≡ finished hold state }
 {
     let mut row = hold;

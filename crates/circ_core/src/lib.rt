@@ -6,14 +6,22 @@ mod changes;
 mod checks;
 mod closing;
 mod deciding;
+mod ending;
+mod holding;
+mod leaving;
 mod lending;
 mod owners;
+mod renewing;
+mod returning;
+mod routing;
 mod setting;
+mod unshelving;
 mod views;
 
 pub use changes::{Changes, Decision, RowChange};
 pub use deciding::decide;
 pub use owners::owners_law;
 pub use views::{
-    AccountView, AcquireView, CheckOutView, ClosedDayView, CopyView, PatronView, View,
+    AccountView, AcquireView, BranchView, CancelHoldView, CheckInView, CheckOutView, ClosedDayView,
+    CopyView, LenderView, MissingView, PatronView, PlaceHoldView, RenewView, UnshelveView, View,
 };

@@ -13,3 +13,5 @@ pub mod PictureLemmas
 pub mod InverseLemmas
 pub mod ListLemmas
 pub mod DayLemmas
+pub mod CellLemmas
+pub mod ShownLemmas

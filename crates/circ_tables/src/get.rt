@@ -72,6 +72,7 @@ pub fn get_meta<S: Alter>(conn: &mut Connection<S>) -> Result<MetaRow, Fault>
         → (row ≡ P.meta) × IsUnchanged (state S.Store conn.old) (state S.Store conn.new)) }
     ensures sound { HasCleanDisk (state S.Store conn.new) → (P : Picture) → HasPicture (state S.Store conn.old).now P → IsMeta P.meta → result ≢ Err Fault.Stored }
     ensures leaves { HasCleanDisk (state S.Store conn.new) → (state S.Store conn.old).now.schema ≡ schema → IsKeptOrUndone (state S.Store conn.old) (state S.Store conn.new) }
+    ensures clean { HasCleanDisk (state S.Store conn.new) → HasCleanDisk (state S.Store conn.old) }
     ensures mode { conn.old.in_transaction ≡ false → conn.new.in_transaction ≡ false }
     ensures survives { (state S.Store conn.old).now.schema ≡ schema → Survives (state S.Store conn.old) (state S.Store conn.new) (λ _. ⊥) }
 {
@@ -94,6 +95,7 @@ pub fn get_branch<S: Alter>(
         → (row ≡ P.branches branch) × IsUnchanged (state S.Store conn.old) (state S.Store conn.new)) }
     ensures sound { HasCleanDisk (state S.Store conn.new) → (P : Picture) → HasPicture (state S.Store conn.old).now P → IfSome (P.branches branch) IsBranch → result ≢ Err Fault.Stored }
     ensures leaves { HasCleanDisk (state S.Store conn.new) → (state S.Store conn.old).now.schema ≡ schema → IsKeptOrUndone (state S.Store conn.old) (state S.Store conn.new) }
+    ensures clean { HasCleanDisk (state S.Store conn.new) → HasCleanDisk (state S.Store conn.old) }
     ensures mode { conn.old.in_transaction ≡ false → conn.new.in_transaction ≡ false }
     ensures survives { (state S.Store conn.old).now.schema ≡ schema → Survives (state S.Store conn.old) (state S.Store conn.new) (λ _. ⊥) }
 {
@@ -120,6 +122,7 @@ pub fn has_closed_day<S: Alter>(
         → (is_there ≡ P.closed_days branch day) × IsUnchanged (state S.Store conn.old) (state S.Store conn.new)) }
     ensures sound { result ≢ Err Fault.Stored }
     ensures leaves { HasCleanDisk (state S.Store conn.new) → (state S.Store conn.old).now.schema ≡ schema → IsKeptOrUndone (state S.Store conn.old) (state S.Store conn.new) }
+    ensures clean { HasCleanDisk (state S.Store conn.new) → HasCleanDisk (state S.Store conn.old) }
     ensures mode { conn.old.in_transaction ≡ false → conn.new.in_transaction ≡ false }
     ensures survives { (state S.Store conn.old).now.schema ≡ schema → Survives (state S.Store conn.old) (state S.Store conn.new) (λ _. ⊥) }
 {
@@ -145,6 +148,7 @@ pub fn get_kind<S: Alter>(
         → (row ≡ P.kinds kind) × IsUnchanged (state S.Store conn.old) (state S.Store conn.new)) }
     ensures sound { HasCleanDisk (state S.Store conn.new) → (P : Picture) → HasPicture (state S.Store conn.old).now P → IfSome (P.kinds kind) IsKind → result ≢ Err Fault.Stored }
     ensures leaves { HasCleanDisk (state S.Store conn.new) → (state S.Store conn.old).now.schema ≡ schema → IsKeptOrUndone (state S.Store conn.old) (state S.Store conn.new) }
+    ensures clean { HasCleanDisk (state S.Store conn.new) → HasCleanDisk (state S.Store conn.old) }
     ensures mode { conn.old.in_transaction ≡ false → conn.new.in_transaction ≡ false }
     ensures survives { (state S.Store conn.old).now.schema ≡ schema → Survives (state S.Store conn.old) (state S.Store conn.new) (λ _. ⊥) }
 {
@@ -174,6 +178,7 @@ pub fn get_rule<S: Alter>(
         → (row ≡ P.rules kind copy_kind) × IsUnchanged (state S.Store conn.old) (state S.Store conn.new)) }
     ensures sound { HasCleanDisk (state S.Store conn.new) → (P : Picture) → HasPicture (state S.Store conn.old).now P → IfSome (P.rules kind copy_kind) IsRule → result ≢ Err Fault.Stored }
     ensures leaves { HasCleanDisk (state S.Store conn.new) → (state S.Store conn.old).now.schema ≡ schema → IsKeptOrUndone (state S.Store conn.old) (state S.Store conn.new) }
+    ensures clean { HasCleanDisk (state S.Store conn.new) → HasCleanDisk (state S.Store conn.old) }
     ensures mode { conn.old.in_transaction ≡ false → conn.new.in_transaction ≡ false }
     ensures survives { (state S.Store conn.old).now.schema ≡ schema → Survives (state S.Store conn.old) (state S.Store conn.new) (λ _. ⊥) }
 {
@@ -203,6 +208,7 @@ pub fn get_patron<S: Alter>(
         → (row ≡ P.patrons patron) × IsUnchanged (state S.Store conn.old) (state S.Store conn.new)) }
     ensures sound { HasCleanDisk (state S.Store conn.new) → (P : Picture) → HasPicture (state S.Store conn.old).now P → IfSome (P.patrons patron) IsPatron → result ≢ Err Fault.Stored }
     ensures leaves { HasCleanDisk (state S.Store conn.new) → (state S.Store conn.old).now.schema ≡ schema → IsKeptOrUndone (state S.Store conn.old) (state S.Store conn.new) }
+    ensures clean { HasCleanDisk (state S.Store conn.new) → HasCleanDisk (state S.Store conn.old) }
     ensures mode { conn.old.in_transaction ≡ false → conn.new.in_transaction ≡ false }
     ensures survives { (state S.Store conn.old).now.schema ≡ schema → Survives (state S.Store conn.old) (state S.Store conn.new) (λ _. ⊥) }
 {
@@ -232,6 +238,7 @@ pub fn get_title<S: Alter>(
         → (row ≡ P.titles title) × IsUnchanged (state S.Store conn.old) (state S.Store conn.new)) }
     ensures sound { HasCleanDisk (state S.Store conn.new) → (P : Picture) → HasPicture (state S.Store conn.old).now P → IfSome (P.titles title) IsTitle → result ≢ Err Fault.Stored }
     ensures leaves { HasCleanDisk (state S.Store conn.new) → (state S.Store conn.old).now.schema ≡ schema → IsKeptOrUndone (state S.Store conn.old) (state S.Store conn.new) }
+    ensures clean { HasCleanDisk (state S.Store conn.new) → HasCleanDisk (state S.Store conn.old) }
     ensures mode { conn.old.in_transaction ≡ false → conn.new.in_transaction ≡ false }
     ensures survives { (state S.Store conn.old).now.schema ≡ schema → Survives (state S.Store conn.old) (state S.Store conn.new) (λ _. ⊥) }
 {
@@ -257,6 +264,7 @@ pub fn get_copy<S: Alter>(conn: &mut Connection<S>, copy: CopyId) -> Result<Opti
         → (row ≡ P.copies copy) × IsUnchanged (state S.Store conn.old) (state S.Store conn.new)) }
     ensures sound { HasCleanDisk (state S.Store conn.new) → (P : Picture) → HasPicture (state S.Store conn.old).now P → IfSome (P.copies copy) IsCopy → result ≢ Err Fault.Stored }
     ensures leaves { HasCleanDisk (state S.Store conn.new) → (state S.Store conn.old).now.schema ≡ schema → IsKeptOrUndone (state S.Store conn.old) (state S.Store conn.new) }
+    ensures clean { HasCleanDisk (state S.Store conn.new) → HasCleanDisk (state S.Store conn.old) }
     ensures mode { conn.old.in_transaction ≡ false → conn.new.in_transaction ≡ false }
     ensures survives { (state S.Store conn.old).now.schema ≡ schema → Survives (state S.Store conn.old) (state S.Store conn.new) (λ _. ⊥) }
 {
@@ -282,6 +290,7 @@ pub fn get_loan<S: Alter>(conn: &mut Connection<S>, loan: LoanId) -> Result<Opti
         → (row ≡ P.loans loan) × IsUnchanged (state S.Store conn.old) (state S.Store conn.new)) }
     ensures sound { HasCleanDisk (state S.Store conn.new) → (P : Picture) → HasPicture (state S.Store conn.old).now P → IfSome (P.loans loan) IsLoan → result ≢ Err Fault.Stored }
     ensures leaves { HasCleanDisk (state S.Store conn.new) → (state S.Store conn.old).now.schema ≡ schema → IsKeptOrUndone (state S.Store conn.old) (state S.Store conn.new) }
+    ensures clean { HasCleanDisk (state S.Store conn.new) → HasCleanDisk (state S.Store conn.old) }
     ensures mode { conn.old.in_transaction ≡ false → conn.new.in_transaction ≡ false }
     ensures survives { (state S.Store conn.old).now.schema ≡ schema → Survives (state S.Store conn.old) (state S.Store conn.new) (λ _. ⊥) }
 {
@@ -307,6 +316,7 @@ pub fn get_hold<S: Alter>(conn: &mut Connection<S>, hold: HoldId) -> Result<Opti
         → (row ≡ P.holds hold) × IsUnchanged (state S.Store conn.old) (state S.Store conn.new)) }
     ensures sound { HasCleanDisk (state S.Store conn.new) → (P : Picture) → HasPicture (state S.Store conn.old).now P → IfSome (P.holds hold) IsHold → result ≢ Err Fault.Stored }
     ensures leaves { HasCleanDisk (state S.Store conn.new) → (state S.Store conn.old).now.schema ≡ schema → IsKeptOrUndone (state S.Store conn.old) (state S.Store conn.new) }
+    ensures clean { HasCleanDisk (state S.Store conn.new) → HasCleanDisk (state S.Store conn.old) }
     ensures mode { conn.old.in_transaction ≡ false → conn.new.in_transaction ≡ false }
     ensures survives { (state S.Store conn.old).now.schema ≡ schema → Survives (state S.Store conn.old) (state S.Store conn.new) (λ _. ⊥) }
 {
@@ -335,6 +345,7 @@ pub fn get_transit<S: Alter>(
         → (row ≡ P.transits copy) × IsUnchanged (state S.Store conn.old) (state S.Store conn.new)) }
     ensures sound { HasCleanDisk (state S.Store conn.new) → (P : Picture) → HasPicture (state S.Store conn.old).now P → IfSome (P.transits copy) IsTransit → result ≢ Err Fault.Stored }
     ensures leaves { HasCleanDisk (state S.Store conn.new) → (state S.Store conn.old).now.schema ≡ schema → IsKeptOrUndone (state S.Store conn.old) (state S.Store conn.new) }
+    ensures clean { HasCleanDisk (state S.Store conn.new) → HasCleanDisk (state S.Store conn.old) }
     ensures mode { conn.old.in_transaction ≡ false → conn.new.in_transaction ≡ false }
     ensures survives { (state S.Store conn.old).now.schema ≡ schema → Survives (state S.Store conn.old) (state S.Store conn.new) (λ _. ⊥) }
 {
@@ -360,6 +371,7 @@ pub fn get_line<S: Alter>(conn: &mut Connection<S>, line: LineId) -> Result<Opti
         → (row ≡ P.lines line) × IsUnchanged (state S.Store conn.old) (state S.Store conn.new)) }
     ensures sound { HasCleanDisk (state S.Store conn.new) → (P : Picture) → HasPicture (state S.Store conn.old).now P → IfSome (P.lines line) IsLine → result ≢ Err Fault.Stored }
     ensures leaves { HasCleanDisk (state S.Store conn.new) → (state S.Store conn.old).now.schema ≡ schema → IsKeptOrUndone (state S.Store conn.old) (state S.Store conn.new) }
+    ensures clean { HasCleanDisk (state S.Store conn.new) → HasCleanDisk (state S.Store conn.old) }
     ensures mode { conn.old.in_transaction ≡ false → conn.new.in_transaction ≡ false }
     ensures survives { (state S.Store conn.old).now.schema ≡ schema → Survives (state S.Store conn.old) (state S.Store conn.new) (λ _. ⊥) }
 {
@@ -400,6 +412,7 @@ pub fn get_kept<S: Alter>(
     ensures sound { HasCleanDisk (state S.Store conn.new) → (P : Picture) → HasPicture (state S.Store conn.old).now P → IsOwner owner
         → IfSome (P.kept owner key.now) HasTexts → result ≢ Err Fault.Stored }
     ensures leaves { HasCleanDisk (state S.Store conn.new) → (state S.Store conn.old).now.schema ≡ schema → IsKeptOrUndone (state S.Store conn.old) (state S.Store conn.new) }
+    ensures clean { HasCleanDisk (state S.Store conn.new) → HasCleanDisk (state S.Store conn.old) }
     ensures mode { conn.old.in_transaction ≡ false → conn.new.in_transaction ≡ false }
     ensures survives { (state S.Store conn.old).now.schema ≡ schema → Survives (state S.Store conn.old) (state S.Store conn.new) (λ _. ⊥) }
 {

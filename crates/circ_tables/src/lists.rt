@@ -35,6 +35,7 @@ pub fn open_loans_by<S: Alter>(
     ensures stored { HasCleanDisk (state S.Store conn.new) → result ≡ Err Fault.Stored → (maps : Maps) → Holds schema (state S.Store conn.old).now maps
         → ¬ AreEncoded loan_cells IsLoan (maps loans_place) }
     ensures leaves { HasCleanDisk (state S.Store conn.new) → (state S.Store conn.old).now.schema ≡ schema → IsKeptOrUndone (state S.Store conn.old) (state S.Store conn.new) }
+    ensures clean { HasCleanDisk (state S.Store conn.new) → HasCleanDisk (state S.Store conn.old) }
     ensures mode { conn.old.in_transaction ≡ false → conn.new.in_transaction ≡ false }
     ensures survives { (state S.Store conn.old).now.schema ≡ schema → Survives (state S.Store conn.old) (state S.Store conn.new) (λ _. ⊥) }
 {
@@ -58,6 +59,7 @@ pub fn active_holds_by<S: Alter>(
     ensures stored { HasCleanDisk (state S.Store conn.new) → result ≡ Err Fault.Stored → (maps : Maps) → Holds schema (state S.Store conn.old).now maps
         → ¬ AreEncoded hold_cells IsHold (maps holds_place) }
     ensures leaves { HasCleanDisk (state S.Store conn.new) → (state S.Store conn.old).now.schema ≡ schema → IsKeptOrUndone (state S.Store conn.old) (state S.Store conn.new) }
+    ensures clean { HasCleanDisk (state S.Store conn.new) → HasCleanDisk (state S.Store conn.old) }
     ensures mode { conn.old.in_transaction ≡ false → conn.new.in_transaction ≡ false }
     ensures survives { (state S.Store conn.old).now.schema ≡ schema → Survives (state S.Store conn.old) (state S.Store conn.new) (λ _. ⊥) }
 {
@@ -81,6 +83,7 @@ pub fn ready_holds_at<S: Alter>(
     ensures stored { HasCleanDisk (state S.Store conn.new) → result ≡ Err Fault.Stored → (maps : Maps) → Holds schema (state S.Store conn.old).now maps
         → ¬ AreEncoded hold_cells IsHold (maps holds_place) }
     ensures leaves { HasCleanDisk (state S.Store conn.new) → (state S.Store conn.old).now.schema ≡ schema → IsKeptOrUndone (state S.Store conn.old) (state S.Store conn.new) }
+    ensures clean { HasCleanDisk (state S.Store conn.new) → HasCleanDisk (state S.Store conn.old) }
     ensures mode { conn.old.in_transaction ≡ false → conn.new.in_transaction ≡ false }
     ensures survives { (state S.Store conn.old).now.schema ≡ schema → Survives (state S.Store conn.old) (state S.Store conn.new) (λ _. ⊥) }
 {
@@ -105,6 +108,7 @@ pub fn overdue_loans_at<S: Alter>(
     ensures stored { HasCleanDisk (state S.Store conn.new) → result ≡ Err Fault.Stored → (maps : Maps) → Holds schema (state S.Store conn.old).now maps
         → ¬ AreEncoded loan_cells IsLoan (maps loans_place) }
     ensures leaves { HasCleanDisk (state S.Store conn.new) → (state S.Store conn.old).now.schema ≡ schema → IsKeptOrUndone (state S.Store conn.old) (state S.Store conn.new) }
+    ensures clean { HasCleanDisk (state S.Store conn.new) → HasCleanDisk (state S.Store conn.old) }
     ensures mode { conn.old.in_transaction ≡ false → conn.new.in_transaction ≡ false }
     ensures survives { (state S.Store conn.old).now.schema ≡ schema → Survives (state S.Store conn.old) (state S.Store conn.new) (λ _. ⊥) }
 {
@@ -128,6 +132,7 @@ pub fn lines_of<S: Alter>(
     ensures stored { HasCleanDisk (state S.Store conn.new) → result ≡ Err Fault.Stored → (maps : Maps) → Holds schema (state S.Store conn.old).now maps
         → ¬ AreEncoded line_cells IsLine (maps lines_place) }
     ensures leaves { HasCleanDisk (state S.Store conn.new) → (state S.Store conn.old).now.schema ≡ schema → IsKeptOrUndone (state S.Store conn.old) (state S.Store conn.new) }
+    ensures clean { HasCleanDisk (state S.Store conn.new) → HasCleanDisk (state S.Store conn.old) }
     ensures mode { conn.old.in_transaction ≡ false → conn.new.in_transaction ≡ false }
     ensures survives { (state S.Store conn.old).now.schema ≡ schema → Survives (state S.Store conn.old) (state S.Store conn.new) (λ _. ⊥) }
 {
@@ -150,6 +155,7 @@ pub fn all_branches<S: Alter>(
     ensures stored { HasCleanDisk (state S.Store conn.new) → result ≡ Err Fault.Stored → (maps : Maps) → Holds schema (state S.Store conn.old).now maps
         → ¬ AreEncoded branch_cells IsBranch (maps branches_place) }
     ensures leaves { HasCleanDisk (state S.Store conn.new) → (state S.Store conn.old).now.schema ≡ schema → IsKeptOrUndone (state S.Store conn.old) (state S.Store conn.new) }
+    ensures clean { HasCleanDisk (state S.Store conn.new) → HasCleanDisk (state S.Store conn.old) }
     ensures mode { conn.old.in_transaction ≡ false → conn.new.in_transaction ≡ false }
     ensures survives { (state S.Store conn.old).now.schema ≡ schema → Survives (state S.Store conn.old) (state S.Store conn.new) (λ _. ⊥) }
 {
@@ -168,6 +174,7 @@ pub fn all_closed_days<S: Alter>(
     ensures stored { HasCleanDisk (state S.Store conn.new) → result ≡ Err Fault.Stored → (maps : Maps) → Holds schema (state S.Store conn.old).now maps
         → ¬ AreEncoded day_cells IsClosedDay (maps closed_days_place) }
     ensures leaves { HasCleanDisk (state S.Store conn.new) → (state S.Store conn.old).now.schema ≡ schema → IsKeptOrUndone (state S.Store conn.old) (state S.Store conn.new) }
+    ensures clean { HasCleanDisk (state S.Store conn.new) → HasCleanDisk (state S.Store conn.old) }
     ensures mode { conn.old.in_transaction ≡ false → conn.new.in_transaction ≡ false }
     ensures survives { (state S.Store conn.old).now.schema ≡ schema → Survives (state S.Store conn.old) (state S.Store conn.new) (λ _. ⊥) }
 {
@@ -183,6 +190,7 @@ pub fn all_kinds<S: Alter>(conn: &mut Connection<S>, alloc: Global) -> Result<Ve
     ensures stored { HasCleanDisk (state S.Store conn.new) → result ≡ Err Fault.Stored → (maps : Maps) → Holds schema (state S.Store conn.old).now maps
         → ¬ AreEncoded kind_cells IsKind (maps kinds_place) }
     ensures leaves { HasCleanDisk (state S.Store conn.new) → (state S.Store conn.old).now.schema ≡ schema → IsKeptOrUndone (state S.Store conn.old) (state S.Store conn.new) }
+    ensures clean { HasCleanDisk (state S.Store conn.new) → HasCleanDisk (state S.Store conn.old) }
     ensures mode { conn.old.in_transaction ≡ false → conn.new.in_transaction ≡ false }
     ensures survives { (state S.Store conn.old).now.schema ≡ schema → Survives (state S.Store conn.old) (state S.Store conn.new) (λ _. ⊥) }
 {
@@ -198,6 +206,7 @@ pub fn all_rules<S: Alter>(conn: &mut Connection<S>, alloc: Global) -> Result<Ve
     ensures stored { HasCleanDisk (state S.Store conn.new) → result ≡ Err Fault.Stored → (maps : Maps) → Holds schema (state S.Store conn.old).now maps
         → ¬ AreEncoded rule_cells IsRule (maps rules_place) }
     ensures leaves { HasCleanDisk (state S.Store conn.new) → (state S.Store conn.old).now.schema ≡ schema → IsKeptOrUndone (state S.Store conn.old) (state S.Store conn.new) }
+    ensures clean { HasCleanDisk (state S.Store conn.new) → HasCleanDisk (state S.Store conn.old) }
     ensures mode { conn.old.in_transaction ≡ false → conn.new.in_transaction ≡ false }
     ensures survives { (state S.Store conn.old).now.schema ≡ schema → Survives (state S.Store conn.old) (state S.Store conn.new) (λ _. ⊥) }
 {
@@ -216,6 +225,7 @@ pub fn all_patrons<S: Alter>(
     ensures stored { HasCleanDisk (state S.Store conn.new) → result ≡ Err Fault.Stored → (maps : Maps) → Holds schema (state S.Store conn.old).now maps
         → ¬ AreEncoded patron_cells IsPatron (maps patrons_place) }
     ensures leaves { HasCleanDisk (state S.Store conn.new) → (state S.Store conn.old).now.schema ≡ schema → IsKeptOrUndone (state S.Store conn.old) (state S.Store conn.new) }
+    ensures clean { HasCleanDisk (state S.Store conn.new) → HasCleanDisk (state S.Store conn.old) }
     ensures mode { conn.old.in_transaction ≡ false → conn.new.in_transaction ≡ false }
     ensures survives { (state S.Store conn.old).now.schema ≡ schema → Survives (state S.Store conn.old) (state S.Store conn.new) (λ _. ⊥) }
 {
@@ -231,6 +241,7 @@ pub fn all_titles<S: Alter>(conn: &mut Connection<S>, alloc: Global) -> Result<V
     ensures stored { HasCleanDisk (state S.Store conn.new) → result ≡ Err Fault.Stored → (maps : Maps) → Holds schema (state S.Store conn.old).now maps
         → ¬ AreEncoded title_cells IsTitle (maps titles_place) }
     ensures leaves { HasCleanDisk (state S.Store conn.new) → (state S.Store conn.old).now.schema ≡ schema → IsKeptOrUndone (state S.Store conn.old) (state S.Store conn.new) }
+    ensures clean { HasCleanDisk (state S.Store conn.new) → HasCleanDisk (state S.Store conn.old) }
     ensures mode { conn.old.in_transaction ≡ false → conn.new.in_transaction ≡ false }
     ensures survives { (state S.Store conn.old).now.schema ≡ schema → Survives (state S.Store conn.old) (state S.Store conn.new) (λ _. ⊥) }
 {
@@ -246,6 +257,7 @@ pub fn all_copies<S: Alter>(conn: &mut Connection<S>, alloc: Global) -> Result<V
     ensures stored { HasCleanDisk (state S.Store conn.new) → result ≡ Err Fault.Stored → (maps : Maps) → Holds schema (state S.Store conn.old).now maps
         → ¬ AreEncoded copy_cells IsCopy (maps copies_place) }
     ensures leaves { HasCleanDisk (state S.Store conn.new) → (state S.Store conn.old).now.schema ≡ schema → IsKeptOrUndone (state S.Store conn.old) (state S.Store conn.new) }
+    ensures clean { HasCleanDisk (state S.Store conn.new) → HasCleanDisk (state S.Store conn.old) }
     ensures mode { conn.old.in_transaction ≡ false → conn.new.in_transaction ≡ false }
     ensures survives { (state S.Store conn.old).now.schema ≡ schema → Survives (state S.Store conn.old) (state S.Store conn.new) (λ _. ⊥) }
 {
@@ -261,6 +273,7 @@ pub fn all_loans<S: Alter>(conn: &mut Connection<S>, alloc: Global) -> Result<Ve
     ensures stored { HasCleanDisk (state S.Store conn.new) → result ≡ Err Fault.Stored → (maps : Maps) → Holds schema (state S.Store conn.old).now maps
         → ¬ AreEncoded loan_cells IsLoan (maps loans_place) }
     ensures leaves { HasCleanDisk (state S.Store conn.new) → (state S.Store conn.old).now.schema ≡ schema → IsKeptOrUndone (state S.Store conn.old) (state S.Store conn.new) }
+    ensures clean { HasCleanDisk (state S.Store conn.new) → HasCleanDisk (state S.Store conn.old) }
     ensures mode { conn.old.in_transaction ≡ false → conn.new.in_transaction ≡ false }
     ensures survives { (state S.Store conn.old).now.schema ≡ schema → Survives (state S.Store conn.old) (state S.Store conn.new) (λ _. ⊥) }
 {
@@ -276,6 +289,7 @@ pub fn all_holds<S: Alter>(conn: &mut Connection<S>, alloc: Global) -> Result<Ve
     ensures stored { HasCleanDisk (state S.Store conn.new) → result ≡ Err Fault.Stored → (maps : Maps) → Holds schema (state S.Store conn.old).now maps
         → ¬ AreEncoded hold_cells IsHold (maps holds_place) }
     ensures leaves { HasCleanDisk (state S.Store conn.new) → (state S.Store conn.old).now.schema ≡ schema → IsKeptOrUndone (state S.Store conn.old) (state S.Store conn.new) }
+    ensures clean { HasCleanDisk (state S.Store conn.new) → HasCleanDisk (state S.Store conn.old) }
     ensures mode { conn.old.in_transaction ≡ false → conn.new.in_transaction ≡ false }
     ensures survives { (state S.Store conn.old).now.schema ≡ schema → Survives (state S.Store conn.old) (state S.Store conn.new) (λ _. ⊥) }
 {
@@ -294,6 +308,7 @@ pub fn all_transits<S: Alter>(
     ensures stored { HasCleanDisk (state S.Store conn.new) → result ≡ Err Fault.Stored → (maps : Maps) → Holds schema (state S.Store conn.old).now maps
         → ¬ AreEncoded transit_cells IsTransit (maps transits_place) }
     ensures leaves { HasCleanDisk (state S.Store conn.new) → (state S.Store conn.old).now.schema ≡ schema → IsKeptOrUndone (state S.Store conn.old) (state S.Store conn.new) }
+    ensures clean { HasCleanDisk (state S.Store conn.new) → HasCleanDisk (state S.Store conn.old) }
     ensures mode { conn.old.in_transaction ≡ false → conn.new.in_transaction ≡ false }
     ensures survives { (state S.Store conn.old).now.schema ≡ schema → Survives (state S.Store conn.old) (state S.Store conn.new) (λ _. ⊥) }
 {
@@ -309,6 +324,7 @@ pub fn all_lines<S: Alter>(conn: &mut Connection<S>, alloc: Global) -> Result<Ve
     ensures stored { HasCleanDisk (state S.Store conn.new) → result ≡ Err Fault.Stored → (maps : Maps) → Holds schema (state S.Store conn.old).now maps
         → ¬ AreEncoded line_cells IsLine (maps lines_place) }
     ensures leaves { HasCleanDisk (state S.Store conn.new) → (state S.Store conn.old).now.schema ≡ schema → IsKeptOrUndone (state S.Store conn.old) (state S.Store conn.new) }
+    ensures clean { HasCleanDisk (state S.Store conn.new) → HasCleanDisk (state S.Store conn.old) }
     ensures mode { conn.old.in_transaction ≡ false → conn.new.in_transaction ≡ false }
     ensures survives { (state S.Store conn.old).now.schema ≡ schema → Survives (state S.Store conn.old) (state S.Store conn.new) (λ _. ⊥) }
 {
@@ -324,6 +340,7 @@ pub fn all_kept<S: Alter>(conn: &mut Connection<S>, alloc: Global) -> Result<Vec
     ensures stored { HasCleanDisk (state S.Store conn.new) → result ≡ Err Fault.Stored → (maps : Maps) → Holds schema (state S.Store conn.old).now maps
         → ¬ AreEncoded entry_cells IsKeptEntry (maps kept_place) }
     ensures leaves { HasCleanDisk (state S.Store conn.new) → (state S.Store conn.old).now.schema ≡ schema → IsKeptOrUndone (state S.Store conn.old) (state S.Store conn.new) }
+    ensures clean { HasCleanDisk (state S.Store conn.new) → HasCleanDisk (state S.Store conn.old) }
     ensures mode { conn.old.in_transaction ≡ false → conn.new.in_transaction ≡ false }
     ensures survives { (state S.Store conn.old).now.schema ≡ schema → Survives (state S.Store conn.old) (state S.Store conn.new) (λ _. ⊥) }
 {

@@ -43,6 +43,7 @@ pub fn open_loan_of<S: Alter>(
     ensures stored { HasCleanDisk (state S.Store conn.new) → result ≡ Err Fault.Stored → (maps : Maps) → Holds schema (state S.Store conn.old).now maps
         → ¬ AreEncoded loan_cells IsLoan (maps loans_place) }
     ensures leaves { HasCleanDisk (state S.Store conn.new) → (state S.Store conn.old).now.schema ≡ schema → IsKeptOrUndone (state S.Store conn.old) (state S.Store conn.new) }
+    ensures clean { HasCleanDisk (state S.Store conn.new) → HasCleanDisk (state S.Store conn.old) }
     ensures mode { conn.old.in_transaction ≡ false → conn.new.in_transaction ≡ false }
     ensures survives { (state S.Store conn.old).now.schema ≡ schema → Survives (state S.Store conn.old) (state S.Store conn.new) (λ _. ⊥) }
 {
@@ -68,6 +69,7 @@ pub fn ready_hold_of<S: Alter>(
     ensures stored { HasCleanDisk (state S.Store conn.new) → result ≡ Err Fault.Stored → (maps : Maps) → Holds schema (state S.Store conn.old).now maps
         → ¬ AreEncoded hold_cells IsHold (maps holds_place) }
     ensures leaves { HasCleanDisk (state S.Store conn.new) → (state S.Store conn.old).now.schema ≡ schema → IsKeptOrUndone (state S.Store conn.old) (state S.Store conn.new) }
+    ensures clean { HasCleanDisk (state S.Store conn.new) → HasCleanDisk (state S.Store conn.old) }
     ensures mode { conn.old.in_transaction ≡ false → conn.new.in_transaction ≡ false }
     ensures survives { (state S.Store conn.old).now.schema ≡ schema → Survives (state S.Store conn.old) (state S.Store conn.new) (λ _. ⊥) }
 {
@@ -93,6 +95,7 @@ pub fn transit_for<S: Alter>(
     ensures stored { HasCleanDisk (state S.Store conn.new) → result ≡ Err Fault.Stored → (maps : Maps) → Holds schema (state S.Store conn.old).now maps
         → ¬ AreEncoded transit_cells IsTransit (maps transits_place) }
     ensures leaves { HasCleanDisk (state S.Store conn.new) → (state S.Store conn.old).now.schema ≡ schema → IsKeptOrUndone (state S.Store conn.old) (state S.Store conn.new) }
+    ensures clean { HasCleanDisk (state S.Store conn.new) → HasCleanDisk (state S.Store conn.old) }
     ensures mode { conn.old.in_transaction ≡ false → conn.new.in_transaction ≡ false }
     ensures survives { (state S.Store conn.old).now.schema ≡ schema → Survives (state S.Store conn.old) (state S.Store conn.new) (λ _. ⊥) }
 {
@@ -118,6 +121,7 @@ pub fn first_in_line<S: Alter>(
     ensures stored { HasCleanDisk (state S.Store conn.new) → result ≡ Err Fault.Stored → (maps : Maps) → Holds schema (state S.Store conn.old).now maps
         → ¬ AreEncoded hold_cells IsHold (maps holds_place) }
     ensures leaves { HasCleanDisk (state S.Store conn.new) → (state S.Store conn.old).now.schema ≡ schema → IsKeptOrUndone (state S.Store conn.old) (state S.Store conn.new) }
+    ensures clean { HasCleanDisk (state S.Store conn.new) → HasCleanDisk (state S.Store conn.old) }
     ensures mode { conn.old.in_transaction ≡ false → conn.new.in_transaction ≡ false }
     ensures survives { (state S.Store conn.old).now.schema ≡ schema → Survives (state S.Store conn.old) (state S.Store conn.new) (λ _. ⊥) }
 {
@@ -144,6 +148,7 @@ pub fn open_loan_of_title<S: Alter>(
     ensures stored { HasCleanDisk (state S.Store conn.new) → result ≡ Err Fault.Stored → (maps : Maps) → Holds schema (state S.Store conn.old).now maps
         → ¬ AreEncoded loan_cells IsLoan (maps loans_place) }
     ensures leaves { HasCleanDisk (state S.Store conn.new) → (state S.Store conn.old).now.schema ≡ schema → IsKeptOrUndone (state S.Store conn.old) (state S.Store conn.new) }
+    ensures clean { HasCleanDisk (state S.Store conn.new) → HasCleanDisk (state S.Store conn.old) }
     ensures mode { conn.old.in_transaction ≡ false → conn.new.in_transaction ≡ false }
     ensures survives { (state S.Store conn.old).now.schema ≡ schema → Survives (state S.Store conn.old) (state S.Store conn.new) (λ _. ⊥) }
 {
@@ -168,6 +173,7 @@ fn counted<S: Alter>(
     ensures stored { HasCleanDisk (state S.Store conn.new) → result ≡ Err Fault.Stored → (row : SqlRow) × FindsRow sql.now (bound params.now) (state S.Store conn.old) (state S.Store conn.new) (Some row)
         × (0 < length row → (n : ℕ) → n ≤ 4294967295 → column row 0 ≢ number n) }
     ensures leaves { HasCleanDisk (state S.Store conn.new) → IsPlain (understood (state S.Store conn.old).now.schema sql.now) → IsKeptOrUndone (state S.Store conn.old) (state S.Store conn.new) }
+    ensures clean { HasCleanDisk (state S.Store conn.new) → HasCleanDisk (state S.Store conn.old) }
     ensures mode { conn.old.in_transaction ≡ false → conn.new.in_transaction ≡ false }
     ensures survives { Survives (state S.Store conn.old) (state S.Store conn.new) (CommitsShowing sql.now (bound params.now) (state S.Store conn.old)) }
 {
@@ -187,6 +193,7 @@ pub fn count_open_loans<S: Alter>(
     ensures stored { HasCleanDisk (state S.Store conn.new) → result ≡ Err Fault.Stored → (maps : Maps) → Holds schema (state S.Store conn.old).now maps
         → (n : ℕ) × IsCount (maps loans_place) (is_open_by patron) n × (4294967295 < n) }
     ensures leaves { HasCleanDisk (state S.Store conn.new) → (state S.Store conn.old).now.schema ≡ schema → IsKeptOrUndone (state S.Store conn.old) (state S.Store conn.new) }
+    ensures clean { HasCleanDisk (state S.Store conn.new) → HasCleanDisk (state S.Store conn.old) }
     ensures mode { conn.old.in_transaction ≡ false → conn.new.in_transaction ≡ false }
     ensures survives { (state S.Store conn.old).now.schema ≡ schema → Survives (state S.Store conn.old) (state S.Store conn.new) (λ _. ⊥) }
 {
@@ -207,6 +214,7 @@ pub fn count_active_holds<S: Alter>(
     ensures stored { HasCleanDisk (state S.Store conn.new) → result ≡ Err Fault.Stored → (maps : Maps) → Holds schema (state S.Store conn.old).now maps
         → (n : ℕ) × IsCount (maps holds_place) (is_active_by patron) n × (4294967295 < n) }
     ensures leaves { HasCleanDisk (state S.Store conn.new) → (state S.Store conn.old).now.schema ≡ schema → IsKeptOrUndone (state S.Store conn.old) (state S.Store conn.new) }
+    ensures clean { HasCleanDisk (state S.Store conn.new) → HasCleanDisk (state S.Store conn.old) }
     ensures mode { conn.old.in_transaction ≡ false → conn.new.in_transaction ≡ false }
     ensures survives { (state S.Store conn.old).now.schema ≡ schema → Survives (state S.Store conn.old) (state S.Store conn.new) (λ _. ⊥) }
 {
@@ -228,6 +236,7 @@ pub fn count_active_holds_on<S: Alter>(
     ensures stored { HasCleanDisk (state S.Store conn.new) → result ≡ Err Fault.Stored → (maps : Maps) → Holds schema (state S.Store conn.old).now maps
         → (n : ℕ) × IsCount (maps holds_place) (is_active_on patron title) n × (4294967295 < n) }
     ensures leaves { HasCleanDisk (state S.Store conn.new) → (state S.Store conn.old).now.schema ≡ schema → IsKeptOrUndone (state S.Store conn.old) (state S.Store conn.new) }
+    ensures clean { HasCleanDisk (state S.Store conn.new) → HasCleanDisk (state S.Store conn.old) }
     ensures mode { conn.old.in_transaction ≡ false → conn.new.in_transaction ≡ false }
     ensures survives { (state S.Store conn.old).now.schema ≡ schema → Survives (state S.Store conn.old) (state S.Store conn.new) (λ _. ⊥) }
 {
@@ -260,6 +269,7 @@ pub fn closed_days_of<S: Alter>(
     ensures shows { HasCleanDisk (state S.Store conn.new) → IfOk result (λ days. (P : Picture) → HasPicture (state S.Store conn.old).now P
         → ((d : ℕ) → has_day days.items d ≡ P.closed_days branch d) × (has_repeat days.items ≡ false) × IsUnchanged (state S.Store conn.old) (state S.Store conn.new)) }
     ensures leaves { HasCleanDisk (state S.Store conn.new) → (state S.Store conn.old).now.schema ≡ schema → IsKeptOrUndone (state S.Store conn.old) (state S.Store conn.new) }
+    ensures clean { HasCleanDisk (state S.Store conn.new) → HasCleanDisk (state S.Store conn.old) }
     ensures mode { conn.old.in_transaction ≡ false → conn.new.in_transaction ≡ false }
     ensures survives { (state S.Store conn.old).now.schema ≡ schema → Survives (state S.Store conn.old) (state S.Store conn.new) (λ _. ⊥) }
 {

@@ -1,0 +1,10 @@
+pub mod Looking
+pub mod Settling
+pub mod Owning
+pub mod Leads
+pub mod Handled
+pub mod Afterwards
+pub mod Shown
+pub mod PageLists
+pub mod PageRows
+pub mod PageWhole

@@ -1,1 +1,4 @@
 pub mod Callers
+pub mod Answering
+pub mod Headline
+pub mod Paging

@@ -3,6 +3,7 @@
 
 mod callers;
 mod handling;
+mod paging;
 mod running;
 
 pub use running::Desk;

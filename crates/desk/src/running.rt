@@ -1,18 +1,40 @@
 //! Many requests, one after another.
 
-ghost use Rattle.std.specs.Prelude.{◌≡◌, ◌≤◌, length, vec_len, All, IfOk, IfErr};
-ghost use Rattle.terms.specs.Built.{IsBuilt};
+ghost use Rattle.std.specs.Prelude.{◌≡◌, ◌≤◌, ◌+◌, ℕ, [], length, take, vec_len, IfOk, IfErr, OnErr, IsTrue};
+ghost use Rattle.sqlite.specs.Held.{state};
+ghost use Rattle.sqlite.specs.State.{HasCleanDisk};
+ghost use Rattle.terms.specs.Pictures.{Picture};
+ghost use Rattle.circ_tables.specs.Encoding.{HasPicture};
+ghost use Rattle.store.specs.Commit.{empty_library};
+ghost use Rattle.store.specs.Limits.{limit_of};
+ghost use Rattle.store.specs.Stops.{KeepsPicture};
+ghost use Rattle.model.specs.History.{History};
+ghost use Rattle.model.specs.Requests.{reply_to, after_one, after, replies as replies_to};
+ghost use Rattle.desk.specs.Answering.{Shows, Stays, Looks, LeavesOneOf, page_for};
 ghost use Rattle.desk.specs.Callers.{RefusesForeign};
+ghost use Rattle.desk.specs.Headline.{Headline};
 
 use crate::handling::handle;
+use crate::paging::show_own;
 use sqlite::Alter;
 use std::alloc::Global;
+use std::marker::Model;
 use store::Store;
-use terms::{Fault, Reply, Request};
+use terms::{CardKey, Fault, PatronId, Reply, Request};
 
 /// The desk over the tables of a store.
 pub struct Desk<S: Alter> {
     store: Store<S>,
+}
+
+impl<S: Alter> Model for Desk<S> {
+    ghost use Rattle.sqlite.specs.Held.{Held, held_code};
+
+    ghost Value = { Held S };
+
+    ghost coded = { held_code S.code };
+
+    ghost view = { λ d. d.store };
 }
 
 impl<S: Alter + Drop> Drop for Desk<S> {
@@ -22,35 +44,82 @@ impl<S: Alter + Drop> Drop for Desk<S> {
 }
 
 impl<S: Alter> Desk<S> {
-    /// The desk over these tables. It has no fault to tell as long as there is one schema.
-    pub fn new(store: Store<S>) -> Result<Desk<S>, Fault> {
+    /// The desk over these tables. It has no fault to tell as long as there is one schema. Tables as `Store::create`
+    /// makes them show the empty list of accepted requests.
+    pub fn new(store: Store<S>) -> Result<Desk<S>, Fault>
+        ensures same { IfOk result (λ desk. desk ≡ store) }
+        ensures begins { IfOk result (λ desk. KeepsPicture (state S.Store store) empty_library → Shows (state S.Store desk) []) }
+    {
         Ok(Desk { store })
     }
 
     /// The reply to a request. 90, 91 or 93 in its place; over a file a desk that gave 90 or 91 is to be dropped and
     /// opened again.
+    ///
+    /// Where the tables show a list of accepted requests, the reply is the one that this list gives, and the tables
+    /// show the list with the request, if it was accepted. After a fault they show what they showed, as long as the
+    /// database is open. Whatever may leave of them when the program is stopped is the one or the other.
     pub fn handle(&mut self, alloc: Global, request: &Request) -> Result<Reply, Fault>
-        requires { IsBuilt request.now.command }
-        ensures { IfOk result (RefusesForeign request.now) }
+        ensures foreign { IfOk result (RefusesForeign request.now) }
+        ensures clean { HasCleanDisk (state S.Store self.new) → HasCleanDisk (state S.Store self.old) }
+        ensures replied { HasCleanDisk (state S.Store self.new) → IfOk result (λ reply. (H : History) → Shows (state S.Store self.old) H
+            → (reply ≡ reply_to H request.now) × Shows (state S.Store self.new) (after_one H request.now)) }
+        ensures undone { HasCleanDisk (state S.Store self.new) → IsTrue (state S.Store self.new).is_open
+            → OnErr result (Stays (state S.Store self.old) (state S.Store self.new)) }
+        ensures left { HasCleanDisk (state S.Store self.new) → (H : History) → Shows (state S.Store self.old) H
+            → LeavesOneOf (state S.Store self.new) H (after_one H request.now) }
     {
         handle(&mut self.store, alloc, request)
     }
 
     /// The replies to the requests, handled one after another; at a fault the replies before it, and the fault.
+    ///
+    /// After any list of requests by any callers, accepted, refused or repeated, the tables show the headline: see
+    /// `specs/Headline`.
     pub fn run(
         &mut self,
         alloc: Global,
         requests: &[Request],
     ) -> Result<Vec<Reply>, (Vec<Reply>, Fault)>
-        requires { All (λ request. IsBuilt request.command) requests.now }
         ensures all { IfOk result (λ replies. vec_len replies ≡ length requests.now) }
         ensures before { IfErr result (λ end. vec_len end.0 ≤ length requests.now) }
+        ensures clean { HasCleanDisk (state S.Store self.new) → HasCleanDisk (state S.Store self.old) }
+        ensures ran { HasCleanDisk (state S.Store self.new) → IfOk result (λ replies. (H : History) → Shows (state S.Store self.old) H
+            → (replies.items ≡ replies_to H requests.now) × Shows (state S.Store self.new) (after H requests.now)) }
+        ensures headline { HasCleanDisk (state S.Store self.new) → IfOk result (λ _. (H : History) → Shows (state S.Store self.old) H
+            → (T : Picture) × HasPicture (state S.Store self.new).now T × Headline (after H requests.now) T) }
+        ensures stopped { HasCleanDisk (state S.Store self.new) → IfErr result (λ end. (H : History) → Shows (state S.Store self.old) H
+            → (n : ℕ) × (n ≤ length requests.now) × (end.0.items ≡ replies_to H (take n requests.now))
+            × (IsTrue (state S.Store self.new).is_open → Shows (state S.Store self.new) (after H (take n requests.now)))
+            × LeavesOneOf (state S.Store self.new) (after H (take n requests.now)) (after H (take (n + 1) requests.now))) }
     {
         run(&mut self.store, alloc, requests)
     }
 
+    /// The page of a patron who shows the own card key; 81 for a wrong key or an unknown patron. 90, 91, 93 in its place.
+    pub fn page(
+        &mut self,
+        alloc: Global,
+        patron: PatronId,
+        card_key: &CardKey,
+    ) -> Result<Reply, Fault>
+        ensures shown { HasCleanDisk (state S.Store self.new) → IfOk result (λ reply. (H : History) → Shows (state S.Store self.old) H → reply ≡ page_for H patron card_key.now) }
+        ensures looks { Looks (state S.Store self.old) (state S.Store self.new) result }
+    {
+        show_own(&mut self.store, alloc, patron, card_key)
+    }
+
+    /// Sets how many steps each later call of the database may take; with none there is no limit, and 0 stands for 1.
+    pub fn limit_steps(&mut self, limit: Option<u64>)
+        ensures { self.new ≡ record self.old { step_limit = limit_of limit } }
+    {
+        self.store.limit_steps(limit);
+    }
+
     /// Gives the store back.
-    pub fn into_store(self) -> Store<S> {
+    pub fn into_store(self) -> Store<S>
+        ensures { result ≡ self }
+    {
         let Desk { store } = self;
         store
     }
@@ -61,9 +130,15 @@ fn run<S: Alter>(
     alloc: Global,
     requests: &[Request],
 ) -> Result<Vec<Reply>, (Vec<Reply>, Fault)>
-    requires { All (λ request. IsBuilt request.command) requests.now }
     ensures all { IfOk result (λ replies. vec_len replies ≡ length requests.now) }
     ensures before { IfErr result (λ end. vec_len end.0 ≤ length requests.now) }
+    ensures clean { HasCleanDisk (state S.Store store.new) → HasCleanDisk (state S.Store store.old) }
+    ensures ran { HasCleanDisk (state S.Store store.new) → IfOk result (λ replies. (H : History) → Shows (state S.Store store.old) H
+        → (replies.items ≡ replies_to H requests.now) × Shows (state S.Store store.new) (after H requests.now)) }
+    ensures stopped { HasCleanDisk (state S.Store store.new) → IfErr result (λ end. (H : History) → Shows (state S.Store store.old) H
+        → (n : ℕ) × (n ≤ length requests.now) × (end.0.items ≡ replies_to H (take n requests.now))
+        × (IsTrue (state S.Store store.new).is_open → Shows (state S.Store store.new) (after H (take n requests.now)))
+        × LeavesOneOf (state S.Store store.new) (after H (take n requests.now)) (after H (take (n + 1) requests.now))) }
 {
     let Ok(mut replies) = Vec::with_capacity(alloc, requests.len()) else {
         return Err((Vec::new(alloc), Fault::Memory));

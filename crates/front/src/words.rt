@@ -1,15 +1,15 @@
 //! The desk's words.
 
-ghost use Rattle.std.specs.Prelude.{◌≡◌, IfOk, IsTrue, length, ◌<◌};
-ghost use Rattle.terms.specs.Built.{IsBuilt};
+ghost use Rattle.std.specs.Prelude.{◌≡◌, codes, IfOk, IsTrue, length, ◌<◌};
+ghost use Rattle.front.specs.Names.{name_of, IsNamed};
 ghost use Rattle.front.specs.declared.words.WordFault.TheVariants.{Memory as NoMemory};
 
 use clap::error::ErrorKind;
 use clap::{Arg, ArgMatches, Command as Line, Error};
 use std::alloc::{AllocError, Global};
 use terms::{
-    BranchId, CardKey, Cents, Command, CopyId, CopyKind, Count, Day, Days, Mask, Memory, Name,
-    PatronId, PatronKind, TitleId, read_number,
+    BranchId, CardKey, Cents, Command, CopyId, CopyKind, Count, Day, Days, HoldId, LoanId, Mask,
+    Memory, Name, PatronId, PatronKind, TitleId, read_number,
 };
 
 /// Why words were not read.
@@ -30,7 +30,7 @@ impl From<AllocError> for WordFault {
 }
 
 /// The commands that are understood.
-const NAMES: [&str; 12] = [
+const NAMES: [&str; 21] = [
     "begin-day",
     "branch",
     "week",
@@ -41,8 +41,17 @@ const NAMES: [&str; 12] = [
     "patron",
     "acquire",
     "check-out",
+    "check-in",
+    "renew",
+    "place-hold",
+    "cancel-hold",
+    "unshelve",
+    "unshelve-cancelled",
+    "missing",
+    "withdraw",
     "pay",
     "waive",
+    "page",
 ];
 
 /// The arguments of a command, in their order.
@@ -58,8 +67,17 @@ fn arguments_of(name: &str) -> Option<&'static [&'static str]> {
         "patron" => Some(&["patron", "kind", "card-key", "name"]),
         "acquire" => Some(&["copy", "title", "kind", "home", "price", "text"]),
         "check-out" => Some(&["patron", "copy", "branch"]),
+        "check-in" => Some(&["copy", "branch"]),
+        "renew" => Some(&["loan"]),
+        "place-hold" => Some(&["patron", "title", "branch"]),
+        "cancel-hold" => Some(&["hold"]),
+        "unshelve" => Some(&["hold"]),
+        "unshelve-cancelled" => Some(&["hold"]),
+        "missing" => Some(&["copy"]),
+        "withdraw" => Some(&["copy"]),
         "pay" => Some(&["patron", "amount"]),
         "waive" => Some(&["patron", "amount"]),
+        "page" => Some(&["patron"]),
         _ => None,
     }
 }
@@ -152,14 +170,14 @@ impl<'m, 'a> Given<'m, 'a> {
 }
 
 fn begin_day(given: &Given<'_, '_>) -> Result<Command, WordFault>
-    ensures { IfOk result IsBuilt }
+    ensures { IfOk result (λ command. name_of command ≡ codes "begin-day") }
 {
     let day = given.day("day")?;
     Ok(Command::BeginDay { day })
 }
 
 fn branch(given: &Given<'_, '_>) -> Result<Command, WordFault>
-    ensures { IfOk result IsBuilt }
+    ensures { IfOk result (λ command. name_of command ≡ codes "branch") }
 {
     let branch = BranchId::new(given.number("branch")?);
     let pickup = Days::new(given.number("pickup")?);
@@ -172,7 +190,7 @@ fn branch(given: &Given<'_, '_>) -> Result<Command, WordFault>
 }
 
 fn week(given: &Given<'_, '_>) -> Result<Command, WordFault>
-    ensures { IfOk result IsBuilt }
+    ensures { IfOk result (λ command. name_of command ≡ codes "week") }
 {
     let branch = BranchId::new(given.number("branch")?);
     let week = given.mask("mask")?;
@@ -180,7 +198,7 @@ fn week(given: &Given<'_, '_>) -> Result<Command, WordFault>
 }
 
 fn close_day(given: &Given<'_, '_>) -> Result<Command, WordFault>
-    ensures { IfOk result IsBuilt }
+    ensures { IfOk result (λ command. name_of command ≡ codes "close-day") }
 {
     let branch = BranchId::new(given.number("branch")?);
     let day = given.day("day")?;
@@ -188,7 +206,7 @@ fn close_day(given: &Given<'_, '_>) -> Result<Command, WordFault>
 }
 
 fn open_day(given: &Given<'_, '_>) -> Result<Command, WordFault>
-    ensures { IfOk result IsBuilt }
+    ensures { IfOk result (λ command. name_of command ≡ codes "open-day") }
 {
     let branch = BranchId::new(given.number("branch")?);
     let day = given.day("day")?;
@@ -196,7 +214,7 @@ fn open_day(given: &Given<'_, '_>) -> Result<Command, WordFault>
 }
 
 fn kind(given: &Given<'_, '_>) -> Result<Command, WordFault>
-    ensures { IfOk result IsBuilt }
+    ensures { IfOk result (λ command. name_of command ≡ codes "kind") }
 {
     let kind = PatronKind::new(given.number("kind")?);
     let loans = Count::new(given.number("loans")?);
@@ -211,7 +229,7 @@ fn kind(given: &Given<'_, '_>) -> Result<Command, WordFault>
 }
 
 fn rule(given: &Given<'_, '_>) -> Result<Command, WordFault>
-    ensures { IfOk result IsBuilt }
+    ensures { IfOk result (λ command. name_of command ≡ codes "rule") }
 {
     let kind = PatronKind::new(given.number("kind")?);
     let copy_kind = CopyKind::new(given.number("copy-kind")?);
@@ -230,7 +248,7 @@ fn rule(given: &Given<'_, '_>) -> Result<Command, WordFault>
 }
 
 fn patron(given: &Given<'_, '_>) -> Result<Command, WordFault>
-    ensures { IfOk result IsBuilt }
+    ensures { IfOk result (λ command. name_of command ≡ codes "patron") }
 {
     let patron = PatronId::new(given.number("patron")?);
     let kind = PatronKind::new(given.number("kind")?);
@@ -245,7 +263,7 @@ fn patron(given: &Given<'_, '_>) -> Result<Command, WordFault>
 }
 
 fn acquire(given: &Given<'_, '_>) -> Result<Command, WordFault>
-    ensures { IfOk result IsBuilt }
+    ensures { IfOk result (λ command. name_of command ≡ codes "acquire") }
 {
     let copy = CopyId::new(given.number("copy")?);
     let title = TitleId::new(given.number("title")?);
@@ -264,7 +282,7 @@ fn acquire(given: &Given<'_, '_>) -> Result<Command, WordFault>
 }
 
 fn check_out(given: &Given<'_, '_>) -> Result<Command, WordFault>
-    ensures { IfOk result IsBuilt }
+    ensures { IfOk result (λ command. name_of command ≡ codes "check-out") }
 {
     let patron = PatronId::new(given.number("patron")?);
     let copy = CopyId::new(given.number("copy")?);
@@ -276,8 +294,71 @@ fn check_out(given: &Given<'_, '_>) -> Result<Command, WordFault>
     })
 }
 
+fn check_in(given: &Given<'_, '_>) -> Result<Command, WordFault>
+    ensures { IfOk result (λ command. name_of command ≡ codes "check-in") }
+{
+    let copy = CopyId::new(given.number("copy")?);
+    let branch = BranchId::new(given.number("branch")?);
+    Ok(Command::CheckIn { copy, branch })
+}
+
+fn renew(given: &Given<'_, '_>) -> Result<Command, WordFault>
+    ensures { IfOk result (λ command. name_of command ≡ codes "renew") }
+{
+    let loan = LoanId::new(given.number("loan")?);
+    Ok(Command::Renew { loan })
+}
+
+fn place_hold(given: &Given<'_, '_>) -> Result<Command, WordFault>
+    ensures { IfOk result (λ command. name_of command ≡ codes "place-hold") }
+{
+    let patron = PatronId::new(given.number("patron")?);
+    let title = TitleId::new(given.number("title")?);
+    let branch = BranchId::new(given.number("branch")?);
+    Ok(Command::PlaceHold {
+        patron,
+        title,
+        branch,
+    })
+}
+
+fn cancel_hold(given: &Given<'_, '_>) -> Result<Command, WordFault>
+    ensures { IfOk result (λ command. name_of command ≡ codes "cancel-hold") }
+{
+    let hold = HoldId::new(given.number("hold")?);
+    Ok(Command::CancelHold { hold })
+}
+
+fn unshelve(given: &Given<'_, '_>) -> Result<Command, WordFault>
+    ensures { IfOk result (λ command. name_of command ≡ codes "unshelve") }
+{
+    let hold = HoldId::new(given.number("hold")?);
+    Ok(Command::Unshelve { hold })
+}
+
+fn unshelve_cancelled(given: &Given<'_, '_>) -> Result<Command, WordFault>
+    ensures { IfOk result (λ command. name_of command ≡ codes "unshelve-cancelled") }
+{
+    let hold = HoldId::new(given.number("hold")?);
+    Ok(Command::UnshelveCancelled { hold })
+}
+
+fn missing(given: &Given<'_, '_>) -> Result<Command, WordFault>
+    ensures { IfOk result (λ command. name_of command ≡ codes "missing") }
+{
+    let copy = CopyId::new(given.number("copy")?);
+    Ok(Command::Missing { copy })
+}
+
+fn withdraw(given: &Given<'_, '_>) -> Result<Command, WordFault>
+    ensures { IfOk result (λ command. name_of command ≡ codes "withdraw") }
+{
+    let copy = CopyId::new(given.number("copy")?);
+    Ok(Command::Withdraw { copy })
+}
+
 fn pay(given: &Given<'_, '_>) -> Result<Command, WordFault>
-    ensures { IfOk result IsBuilt }
+    ensures { IfOk result (λ command. name_of command ≡ codes "pay") }
 {
     let patron = PatronId::new(given.number("patron")?);
     let amount = given.cents("amount")?;
@@ -285,16 +366,23 @@ fn pay(given: &Given<'_, '_>) -> Result<Command, WordFault>
 }
 
 fn waive(given: &Given<'_, '_>) -> Result<Command, WordFault>
-    ensures { IfOk result IsBuilt }
+    ensures { IfOk result (λ command. name_of command ≡ codes "waive") }
 {
     let patron = PatronId::new(given.number("patron")?);
     let amount = given.cents("amount")?;
     Ok(Command::Waive { patron, amount })
 }
 
+fn page(given: &Given<'_, '_>) -> Result<Command, WordFault>
+    ensures { IfOk result (λ command. name_of command ≡ codes "page") }
+{
+    let patron = PatronId::new(given.number("patron")?);
+    Ok(Command::Page { patron })
+}
+
 /// The command of this name with its arguments, each of which has to have its form.
 fn command(name: &str, given: &Given<'_, '_>) -> Result<Command, WordFault>
-    ensures { IfOk result IsBuilt }
+    ensures { IfOk result (λ command. name_of command ≡ name.now) }
 {
     match name {
         "begin-day" => begin_day(given),
@@ -307,8 +395,17 @@ fn command(name: &str, given: &Given<'_, '_>) -> Result<Command, WordFault>
         "patron" => patron(given),
         "acquire" => acquire(given),
         "check-out" => check_out(given),
+        "check-in" => check_in(given),
+        "renew" => renew(given),
+        "place-hold" => place_hold(given),
+        "cancel-hold" => cancel_hold(given),
+        "unshelve" => unshelve(given),
+        "unshelve-cancelled" => unshelve_cancelled(given),
+        "missing" => missing(given),
+        "withdraw" => withdraw(given),
         "pay" => pay(given),
         "waive" => waive(given),
+        "page" => page(given),
         _ => Err(WordFault::NotUnderstood),
     }
 }
@@ -316,18 +413,21 @@ fn command(name: &str, given: &Given<'_, '_>) -> Result<Command, WordFault>
 /// The command that the words are: its name, and then its arguments, each in its form and none of them
 /// beginning with a hyphen.
 pub fn read_words(alloc: Global, words: &[String]) -> Result<Command, WordFault>
-    ensures { IfOk result IsBuilt }
+    ensures { IfOk result (λ command. IsNamed (name_of command) words.now) }
 {
     if !has_shape(words) {
         return Err(WordFault::NotUnderstood);
     }
+    let [first, ..] = words else {
+        return Err(WordFault::NotUnderstood);
+    };
     let line = desk_line(alloc)?;
     let matches = match line.try_get_matches_from(words) {
         Ok(matches) => matches,
         Err(error) => return Err(fault_of(&error)),
     };
     match matches.subcommand() {
-        Some((name, matches)) => command(name, &Given { alloc, matches }),
+        Some((_, matches)) => command(first.as_str(), &Given { alloc, matches }),
         None => Err(WordFault::NotUnderstood),
     }
 }

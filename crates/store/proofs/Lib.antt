@@ -1,4 +1,8 @@
+pub mod CountLemmas
+pub mod KnownLemmas
+pub mod QueryLemmas
+pub mod ReadLemmas
+pub mod RowLemmas
 pub mod Steps
 pub mod StopLemmas
-pub mod QueryLemmas
-pub mod KnownLemmas
+pub mod ListLemmas

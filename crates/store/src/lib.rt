@@ -4,6 +4,9 @@
 mod changing;
 mod files;
 mod known;
+mod listing;
+mod reading;
+mod reporting;
 mod store;
 mod viewing;
 

@@ -1,7 +1,6 @@
 pub mod Forms
 pub mod Texts
 pub mod Money
-pub mod Built
 pub mod Callers
 pub mod Laws
 pub mod Pictures

@@ -1,10 +1,52 @@
-use Rattle.std.proofs.Common.{subst, sym}
-use Rattle.std.proofs.lemmas.List.Elements.{All-get_or}
-use Rattle.terms.specs.Built.{IsBuilt}
+use Rattle.std.proofs.Common.{◌≡◌, ℕ, ◌≤◌, ◌<◌, ◌+◌, List, [], ◌∷◌, ◌++◌, length, take, refl, sym, ◌∙◌, ap, subst, arith}
+use Rattle.std.proofs.lemmas.List.{take_more}
+use Rattle.std.specs.Prelude.{is_ok, true}
+use Rattle.sqlite.specs.Held.{state}
 use Rattle.terms.specs.declared.command.Request.{Request}
+use Rattle.terms.specs.declared.reply.Reply.{Reply}
+use Rattle.model.specs.History.{History}
+use Rattle.model.specs.Requests.{after, replies, reply_to, after_one}
+use Rattle.desk.specs.Answering.{Shows, LeavesOneOf}
+use Rattle.desk.proofs.Afterwards.{after-last, replies-last}
 use Rattle.desk.proofs.running.run.Goals as goal
 
-pub handle-requires : goal.handle-requires
-handle-requires g c =
-    subst (λ (request : Request). IsBuilt request.command) (sym c.request-item.is)
-    (All-get_or (λ request. IsBuilt request.command) c.args.requests.now c.requests.request-index c.request-item.result c.requests-test.true c.requires)
+pub returns-in-Err-clause-stopped : goal.returns-in-Err-clause-stopped
+returns-in-Err-clause-stopped g c = λ disk H shows.
+    let xs : List Request = c.args.requests.now in
+    let i : ℕ = c.requests.request-index in
+    let r : Request = c.request-item.result in
+    let within : i < length xs = omega (arith, c.requests-test.true) in
+    let more : take (i + 1) xs ≡ take i xs ++ r ∷ [] = take_more xs i r within ∙ ap (λ x. take i xs ++ x ∷ []) (sym c.request-item.is) in
+    let next : after H (take (i + 1) xs) ≡ after_one (after H (take i xs)) r = ap (after H) more ∙ after-last (take i xs) H r in
+    let before = c.requests.invariant.so_far (c.handle.ensures.clean disk) H shows in (
+      i,
+      omega (arith, within),
+      before.0,
+      λ is_open. c.in-Err.ensures.undone disk is_open (after H (take i xs)) before.1,
+      subst (λ (K : History). LeavesOneOf (state g.S.Store c.handle.new.store) (after H (take i xs)) K) (sym next) (c.handle.ensures.left disk (after H (take i xs)) before.1),
+    )
+
+pub requests-preserved : goal.requests-preserved
+requests-preserved g c = record {
+  room = omega (arith, c.push.ensures.capacity, c.requests.invariant.room);
+  count =
+      let pushed : is_ok c.push.result ≡ true = sym c.is_ok-pushed.ensures.value ∙ c.if-prove.false in
+      let len = rw pushed at c.push.ensures.len in
+      len ∙ ap (λ n. n + 1) c.requests.invariant.count;
+  clean = λ disk. c.requests.invariant.clean (c.handle.ensures.clean disk);
+  so_far = λ disk H shows.
+      let xs : List Request = c.args.requests.now in
+      let i : ℕ = c.requests.request-index in
+      let r : Request = c.request-item.result in
+      let within : i < length xs = omega (arith, c.requests-test.true) in
+      let more : take (i + 1) xs ≡ take i xs ++ r ∷ [] = take_more xs i r within ∙ ap (λ x. take i xs ++ x ∷ []) (sym c.request-item.is) in
+      let next : after H (take (i + 1) xs) ≡ after_one (after H (take i xs)) r = ap (after H) more ∙ after-last (take i xs) H r in
+      let before = c.requests.invariant.so_far (c.handle.ensures.clean disk) H shows in
+      let done = c.in-Ok-handle.ensures.replied disk (after H (take i xs)) before.1 in
+      let pushed : is_ok c.push.result ≡ true = sym c.is_ok-pushed.ensures.value ∙ c.if-prove.false in
+      let items = rw pushed at c.push.ensures.items in (
+        items ∙ ap (λ (t : List Reply). t ++ c.in-Ok-handle.reply ∷ []) before.0 ∙ ap (λ (y : Reply). replies H (take i xs) ++ y ∷ []) done.0
+            ∙ sym (replies-last (take i xs) H r) ∙ ap (replies H) (sym more),
+        subst (λ (K : History). Shows (state g.S.Store c.handle.new.store) K) (sym next) done.1,
+      );
+}

@@ -1,12 +1,19 @@
 use Rattle.sqlite.specs.Held.{state}
-use Rattle.store.proofs.StopLemmas.{if_ok, leaves_kept}
+use Rattle.terms.specs.Limits.{IsLoan}
+use Rattle.store.proofs.ReadLemmas.{reads_call, legal_if}
+use Rattle.store.proofs.StopLemmas.{if_ok}
 use Rattle.store.proofs.store.Store.loan.Goals as goal
 
-pub returns-clause-gets : goal.returns-clause-gets
-returns-clause-gets g c clean = if_ok c.get_loan.result (λ row got maps holds. let both = got maps holds in (both.0, both.1.0.now_is)) (rw c.self.view_is at (c.get_loan.ensures.gets clean))
+pub returns-clause-reads : goal.returns-clause-reads
+returns-clause-reads g c =
+    let old = state g.S.Store c.args.self.now in
+    let new = state g.S.Store c.get_loan.new.conn in
+    let is = rw c.self.view_is at c.get_loan.ensures in
+    reads_call old new (rw c.self.view_is at (c.is_autocommit-is_idle.ensures.settled (search))) is.clean is.leaves is.survives
 
 pub returns-clause-shown : goal.returns-clause-shown
 returns-clause-shown g c clean = if_ok c.get_loan.result (λ row got P shows legal. let both = got P shows legal in (both.0, both.1.0.now_is)) (rw c.self.view_is at (c.get_loan.ensures.shows clean))
 
-pub returns-clause-left : goal.returns-clause-left
-returns-clause-left g c clean maps keeps = leaves_kept (state g.S.Store c.args.self.now) (state g.S.Store c.get_loan.new.conn) maps (rw c.self.view_is at c.get_loan.ensures.survives) clean keeps
+pub returns-clause-sound : goal.returns-clause-sound
+returns-clause-sound g c clean is P shown legal =
+    (rw c.self.view_is at (c.get_loan.ensures.sound clean)) P shown (legal_if IsLoan (P.loans c.args.loan) (λ r e. (legal.loans c.args.loan r e).1)) is

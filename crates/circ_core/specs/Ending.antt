@@ -1,0 +1,66 @@
+-- The end of a copy's loan: its fine, and what is charged for it, on the rows of a view.
+use Rattle.std.specs.Prelude.{ℕ, ◌+◌, ◌==◌, nat_lt, ◌&&◌, min, Bool, true, false, List, [], ◌∷◌, ◌++◌, Option, Some, None}
+use Rattle.calendar.specs.Openings.{Closings, open_days_after}
+use Rattle.terms.specs.Money.{fine_for}
+use Rattle.terms.specs.declared.row.MetaRow.{MetaRow}
+use Rattle.terms.specs.declared.row.PatronRow.{PatronRow}
+use Rattle.terms.specs.declared.row.LoanRow.{LoanRow}
+use Rattle.terms.specs.declared.row.Sort.{Sort}
+use Rattle.terms.specs.declared.row.Sort.TheVariants.{Fine, Price}
+use Rattle.model.specs.Checks.{last_number}
+use Rattle.circ_core.specs.declared.changes.RowChange.{RowChange}
+use Rattle.circ_core.specs.declared.changes.RowChange.TheVariants.{PutMeta, PutPatron, PutLoan, PutLine}
+
+-- ---- the amounts
+
+-- The fine of a loan that ends today, for the open days of the lending branch after the due day; nothing without a loan.
+abbrev pub fine_due : Option LoanRow → Option Closings → ℕ → ℕ
+fine_due (Some loan) (Some closings) today = fine_for (open_days_after closings loan.due today) loan.rate loan.cap
+fine_due _ _ today = 0
+
+-- How many lines a charge makes: one, and none for a charge of zero.
+abbrev pub lines_for : ℕ → ℕ
+lines_for amount = elim (amount == 0) [ true ↦ 0 | false ↦ 1 ]
+
+-- Fewer line numbers are left than the fine and the price need.
+abbrev pub lacks_numbers : MetaRow → ℕ → ℕ → Bool
+lacks_numbers meta fine price = nat_lt (last_number + 1) (meta.next_line + lines_for fine + lines_for price)
+
+-- ---- the rows that change
+
+-- The loan ends today.
+abbrev pub ended_loan : LoanRow → ℕ → LoanRow
+ended_loan loan today = record loan { ended = Some today }
+
+abbrev pub end_rows : Option LoanRow → ℕ → List RowChange
+end_rows (Some loan) today = PutLoan (ended_loan loan today) ∷ []
+end_rows None today = []
+
+-- The most cents that an amount of money can be.
+abbrev pub most_cents : ℕ
+most_cents = 18446744073709551615
+
+-- The patron owes so much more, up to that most.
+abbrev pub charged : PatronRow → ℕ → ℕ → PatronRow
+charged patron fine price = record patron { owed = min (min (patron.owed + fine) most_cents + price) most_cents }
+
+-- The line of a charge for the loan; none for a charge of zero.
+abbrev pub line_rows : MetaRow → ℕ → LoanRow → Sort → ℕ → List RowChange
+line_rows meta line loan sort amount = elim (amount == 0) [
+  | true ↦ []
+  | false ↦ PutLine (record { line = line; patron = loan.patron; day = meta.today; sort = sort; amount = amount; loan = Some loan.loan }) ∷ []
+]
+
+-- The fine and the price go onto the borrower's account: the next number is given, the patron owes so much more,
+-- and the lines are made, that of the fine first. Where neither is to be paid, nothing changes.
+abbrev pub account_rows : MetaRow → PatronRow → LoanRow → ℕ → ℕ → List RowChange
+account_rows meta patron loan fine price = elim ((fine == 0) && (price == 0)) [
+  | true ↦ []
+  | false ↦
+      PutMeta (record meta { next_line = meta.next_line + lines_for fine + lines_for price }) ∷ PutPatron (charged patron fine price)
+      ∷ (line_rows meta meta.next_line loan Fine fine ++ line_rows meta (meta.next_line + lines_for fine) loan Price price)
+]
+
+abbrev pub charge_rows : MetaRow → Option PatronRow → Option LoanRow → ℕ → ℕ → List RowChange
+charge_rows meta (Some patron) (Some loan) fine price = account_rows meta patron loan fine price
+charge_rows meta _ _ fine price = []

@@ -1,0 +1,70 @@
+-- The checks and row changes of placing and cancelling a hold, on the rows of a view.
+use Rattle.std.specs.Prelude.{ℕ, ◌+◌, nat_le, nat_lt, not, Bool, true, false, List, [], ◌∷◌, ◌++◌, Option, Some, None, is_none, is_some}
+use Rattle.terms.specs.declared.refusal.Refusal.TheVariants as refusal
+use Rattle.terms.specs.declared.row.KindRow.{KindRow}
+use Rattle.terms.specs.declared.row.HoldRow.{HoldRow}
+use Rattle.terms.specs.declared.row.HoldState.TheVariants.{Waiting, Cancelled}
+use Rattle.terms.specs.declared.row.TransitRow.{TransitRow}
+use Rattle.model.specs.Checks.{Check, last_number}
+use Rattle.circ_core.specs.declared.changes.RowChange.{RowChange}
+use Rattle.circ_core.specs.declared.changes.RowChange.TheVariants.{PutMeta, PutHold, PutTransit}
+use Rattle.circ_core.specs.declared.views.CancelHoldView.{CancelHoldView}
+use Rattle.circ_core.specs.declared.views.PlaceHoldView.{PlaceHoldView}
+use Rattle.circ_core.specs.Lending.{finished}
+
+-- ---- place-hold
+
+-- How many active holds the kind may have.
+abbrev pub holds_allowed : Option KindRow → ℕ
+holds_allowed (Some kind) = kind.holds
+holds_allowed None = 0
+
+abbrev pub place_hold_checks : PlaceHoldView → List Check
+place_hold_checks view =
+    (refusal.UnknownPatron, is_none view.patron)
+    ∷ (refusal.UnknownTitle, is_none view.title)
+    ∷ (refusal.UnknownBranch, is_none view.branch)
+    ∷ (refusal.AlreadyHolds, nat_lt 0 view.own_holds)
+    ∷ (refusal.HasOnLoan, is_some view.loan)
+    ∷ (refusal.TooManyHolds, nat_le (holds_allowed view.kind) view.active_holds)
+    ∷ (refusal.NumbersUsedUp, nat_lt last_number view.meta.next_hold)
+    ∷ []
+
+-- The hold that is made: it waits, and no copy is for it yet.
+abbrev pub new_hold : ℕ → ℕ → ℕ → ℕ → HoldRow
+new_hold number patron title branch = record {
+  hold = number;
+  patron = patron;
+  title = title;
+  branch = branch;
+  state = Waiting;
+  copy = None;
+  limit_day = None;
+}
+
+-- The next number is given, and the hold is made.
+abbrev pub place_hold_rows : PlaceHoldView → ℕ → ℕ → ℕ → List RowChange
+place_hold_rows view patron title branch =
+    PutMeta (record view.meta { next_hold = view.meta.next_hold + 1 }) ∷ PutHold (new_hold view.meta.next_hold patron title branch) ∷ []
+
+-- ---- cancel-hold
+
+-- The hold waits.
+abbrev pub waits : Option HoldRow → Bool
+waits (Some row) = elim row.state [ Waiting ↦ true | _ ↦ false ]
+waits None = false
+
+abbrev pub cancel_hold_checks : CancelHoldView → List Check
+cancel_hold_checks view = (refusal.UnknownHold, is_none view.hold) ∷ (refusal.WrongHoldState, not (waits view.hold)) ∷ []
+
+abbrev pub cancelled_rows : Option HoldRow → List RowChange
+cancelled_rows (Some row) = PutHold (finished row Cancelled) ∷ []
+cancelled_rows None = []
+
+-- A copy that travels for the hold goes on to the same branch for no hold.
+abbrev pub let_go_rows : Option TransitRow → List RowChange
+let_go_rows (Some row) = PutTransit (record row { hold = None }) ∷ []
+let_go_rows None = []
+
+abbrev pub cancel_hold_rows : CancelHoldView → List RowChange
+cancel_hold_rows view = cancelled_rows view.hold ++ let_go_rows view.transit

@@ -1,0 +1,77 @@
+-- The checks, replies and row changes of the commands by which a copy leaves the library's keeping, on the rows of a view.
+use Rattle.std.specs.Prelude.{ℕ, List, [], ◌∷◌, ◌++◌, Option, Some, None, is_none, is_some}
+use Rattle.terms.specs.declared.refusal.Refusal.TheVariants as refusal
+use Rattle.terms.specs.declared.reply.Reply.{Reply}
+use Rattle.terms.specs.declared.reply.Reply.TheVariants.{Done, Lost}
+use Rattle.terms.specs.declared.row.CopyRow.{CopyRow}
+use Rattle.terms.specs.declared.row.LoanRow.{LoanRow}
+use Rattle.terms.specs.declared.row.HoldRow.{HoldRow}
+use Rattle.terms.specs.declared.row.HoldState.TheVariants.{Waiting}
+use Rattle.terms.specs.declared.row.TransitRow.{TransitRow}
+use Rattle.terms.specs.declared.row.Condition.{Condition}
+use Rattle.terms.specs.declared.row.Condition.TheVariants.{Missing, Withdrawn}
+use Rattle.model.specs.Checks.{Check}
+use Rattle.circ_core.specs.declared.changes.RowChange.{RowChange}
+use Rattle.circ_core.specs.declared.changes.RowChange.TheVariants.{PutCopy, PutLoan, PutHold, TakeTransit}
+use Rattle.circ_core.specs.declared.views.CopyView.{CopyView}
+use Rattle.circ_core.specs.declared.views.MissingView.{MissingView}
+use Rattle.circ_core.specs.Lending.{is_missing, is_withdrawn}
+use Rattle.circ_core.specs.Ending.{fine_due, lacks_numbers, ended_loan, charge_rows}
+
+-- The copy is missing or withdrawn from now on.
+abbrev pub condition_rows : Option CopyRow → Condition → List RowChange
+condition_rows (Some row) condition = PutCopy (record row { condition = condition }) ∷ []
+condition_rows None condition = []
+
+-- ---- missing
+
+-- The price that is charged: that of a copy on loan.
+abbrev pub price_due : Option LoanRow → Option CopyRow → ℕ
+price_due (Some loan) (Some copy) = copy.price
+price_due _ _ = 0
+
+abbrev pub fine_in : MissingView → ℕ
+fine_in view = fine_due view.at.loan view.lender.calendar view.meta.today
+
+abbrev pub price_in : MissingView → ℕ
+price_in view = price_due view.at.loan view.at.copy
+
+abbrev pub missing_checks : MissingView → List Check
+missing_checks view =
+    (refusal.UnknownCopy, is_none view.at.copy) ∷ (refusal.CopyWithdrawn, is_withdrawn view.at.copy) ∷ (refusal.CopyMissing, is_missing view.at.copy)
+    ∷ (refusal.NumbersUsedUp, lacks_numbers view.meta (fine_in view) (price_in view)) ∷ []
+
+-- What is charged is told where the copy was on loan.
+abbrev pub lost_reply : Option LoanRow → ℕ → ℕ → Reply
+lost_reply (Some loan) fine price = Lost fine price
+lost_reply None fine price = Done
+
+abbrev pub missing_reply : MissingView → Reply
+missing_reply view = lost_reply view.at.loan (fine_in view) (price_in view)
+
+-- The hold waits again under its old number, with no copy and no shelf limit.
+abbrev pub waiting_again : HoldRow → HoldRow
+waiting_again hold = record hold { state = Waiting; copy = None; limit_day = None }
+
+-- What the copy was bound to: its loan ends, or the hold on whose shelf it stood waits again, or its transit is over.
+abbrev pub release_rows : Option LoanRow → Option HoldRow → Option TransitRow → ℕ → List RowChange
+release_rows (Some loan) hold transit today = PutLoan (ended_loan loan today) ∷ []
+release_rows None (Some hold) transit today = PutHold (waiting_again hold) ∷ []
+release_rows None None (Some transit) today = TakeTransit transit.copy ∷ []
+release_rows None None None today = []
+
+-- The copy is missing, what it was bound to is free, and the borrower is charged the fine and the price.
+abbrev pub missing_rows : MissingView → List RowChange
+missing_rows view =
+    (condition_rows view.at.copy Missing ++ release_rows view.at.loan view.at.hold view.at.transit view.meta.today)
+    ++ charge_rows view.meta view.lender.patron view.at.loan (fine_in view) (price_in view)
+
+-- ---- withdraw
+
+abbrev pub withdraw_checks : CopyView → List Check
+withdraw_checks view =
+    (refusal.UnknownCopy, is_none view.copy) ∷ (refusal.CopyWithdrawn, is_withdrawn view.copy) ∷ (refusal.OnLoan, is_some view.loan)
+    ∷ (refusal.InTransit, is_some view.transit) ∷ (refusal.OnHoldShelf, is_some view.hold) ∷ []
+
+abbrev pub withdraw_rows : CopyView → List RowChange
+withdraw_rows view = condition_rows view.copy Withdrawn

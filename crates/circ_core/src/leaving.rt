@@ -1,0 +1,134 @@
+//! Copies that leave the library's keeping: missing and withdrawn ones.
+
+ghost use Rattle.std.specs.Prelude.{◌≡◌, ◌≤◌, ◌++◌, length, Option, List};
+ghost use Rattle.terms.specs.declared.reply.Reply.TheVariants.{Done};
+ghost use Rattle.terms.specs.declared.row.Condition.TheVariants.{Missing, Withdrawn};
+ghost use Rattle.model.specs.Checks.{first_failing};
+ghost use Rattle.circ_core.specs.Decided.{Decided};
+ghost use Rattle.circ_core.specs.Ending.{fine_due, lacks_numbers, ended_loan, charge_rows};
+ghost use Rattle.circ_core.specs.Leaving.{condition_rows, price_due, fine_in, price_in, missing_checks, lost_reply, missing_reply, waiting_again, release_rows, missing_rows, withdraw_checks, withdraw_rows};
+
+use crate::changes::{Changes, Decision, RowChange};
+use crate::checks::first_refusal;
+use crate::ending::{fine_of, needs_more_numbers, with_charges, with_end};
+use crate::lending::{is_gone, is_lost};
+use crate::setting::done;
+use crate::views::{CopyView, MissingView};
+use calendar::Day;
+use terms::{Cents, Condition, CopyRow, HoldRow, HoldState, LoanRow, Refusal, Reply};
+
+/// The copy in its new condition.
+fn copy_changes<'a>(copy: &Option<CopyRow>, condition: Condition) -> Changes<'a>
+    ensures rows { result ≡ condition_rows copy.now condition }
+    ensures few { length result ≤ 1 }
+{
+    match copy {
+        Some(row) => {
+            let mut changed = *row;
+            changed.condition = condition;
+            Changes::one(RowChange::PutCopy(changed))
+        }
+        None => Changes::none(),
+    }
+}
+
+/// The price that is charged for a copy, in cents: nothing where it is not on loan.
+fn price_of(loan: &Option<LoanRow>, copy: &Option<CopyRow>) -> Cents
+    ensures { result ≡ price_due loan.now copy.now }
+{
+    match loan {
+        Some(_) => match copy {
+            Some(row) => row.price,
+            None => Cents::new(0),
+        },
+        None => Cents::new(0),
+    }
+}
+
+/// The hold, waiting again.
+fn wait_again(hold: &HoldRow) -> HoldRow
+    ensures { result ≡ waiting_again hold.now }
+{
+    let mut row = *hold;
+    row.state = HoldState::Waiting;
+    row.copy = None;
+    row.limit_day = None;
+    row
+}
+
+/// The changes, and what becomes of that to which the copy was bound.
+fn with_release<'a>(changes: Changes<'a>, at: &CopyView, today: Day) -> Changes<'a>
+    requires { length changes ≤ 1 }
+    ensures rows { result ≡ changes.entry ++ release_rows at.now.loan at.now.hold at.now.transit today }
+    ensures few { length result ≤ 2 }
+{
+    match &at.loan {
+        Some(_) => with_end(changes, &at.loan, today),
+        None => match &at.hold {
+            Some(hold) => changes.with(RowChange::PutHold(wait_again(hold))),
+            None => match &at.transit {
+                Some(transit) => changes.with(RowChange::TakeTransit(transit.copy)),
+                None => changes,
+            },
+        },
+    }
+}
+
+fn reply_of(loan: &Option<LoanRow>, fine: Cents, price: Cents) -> Reply
+    ensures { result ≡ lost_reply loan.now fine price }
+{
+    match loan {
+        Some(_) => Reply::Lost { fine, price },
+        None => Reply::Done,
+    }
+}
+
+/// `missing`: refusals 13, 35, 34, 70, in this order.
+pub(crate) fn declare_missing<'a>(view: &'a MissingView) -> Result<Decision<'a>, Refusal>
+    ensures { Decided (missing_checks view.now) (missing_reply view.now) (missing_rows view.now) result }
+{
+    let at = &view.at;
+    let today = view.meta.today;
+    let fine = fine_of(&at.loan, &view.lender.calendar, today);
+    let price = price_of(&at.loan, &at.copy);
+    let refusal = first_refusal(&[
+        (Refusal::UnknownCopy, at.copy.is_none()),
+        (Refusal::CopyWithdrawn, is_gone(&at.copy)),
+        (Refusal::CopyMissing, is_lost(&at.copy)),
+    ]);
+    if let Some(first) = refusal {
+        return Err(first);
+    }
+    if needs_more_numbers(&view.meta, fine, price) {
+        return Err(Refusal::NumbersUsedUp);
+    }
+    let freed = with_release(copy_changes(&at.copy, Condition::Missing), at, today);
+    Ok(Decision {
+        reply: reply_of(&at.loan, fine, price),
+        changes: with_charges(
+            freed,
+            &view.meta,
+            &view.lender.patron,
+            &at.loan,
+            fine,
+            price,
+        ),
+    })
+}
+
+/// `withdraw`: refusals 13, 35, 31, 32, 33, in this order.
+pub(crate) fn withdraw<'a>(at: &CopyView) -> Result<Decision<'a>, Refusal>
+    ensures { Decided (withdraw_checks at.now) Done (withdraw_rows at.now) result }
+{
+    let refusal = first_refusal(&[
+        (Refusal::UnknownCopy, at.copy.is_none()),
+        (Refusal::CopyWithdrawn, is_gone(&at.copy)),
+        (Refusal::OnLoan, at.loan.is_some()),
+        (Refusal::InTransit, at.transit.is_some()),
+        (Refusal::OnHoldShelf, at.hold.is_some()),
+    ]);
+    if let Some(first) = refusal {
+        return Err(first);
+    }
+    Ok(done(copy_changes(&at.copy, Condition::Withdrawn)))
+}

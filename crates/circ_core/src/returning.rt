@@ -1,0 +1,115 @@
+//! Check-in.
+
+ghost use Rattle.std.specs.Prelude.{◌≡◌, ◌≤◌, length, Option};
+ghost use Rattle.circ_core.specs.Returning.{check_in_course, over_rows, found_rows, left_rows, ChecksIn};
+
+use crate::changes::{Changes, Decision, RowChange};
+use crate::checks::first_refusal;
+use crate::ending::{fine_of, needs_more_numbers, with_charges, with_end};
+use crate::lending::is_gone;
+use crate::routing::{Course, home_branch, limit_day, route, told, with_arrival};
+use crate::views::{CheckInView, CopyView};
+use terms::{BranchId, Cents, Condition, CopyId, CopyRow, Day, Refusal, Reply};
+
+/// A travel that is over leaves the table; one that goes on is put there anew.
+fn end_travel<'a>(course: &Course, copy: CopyId) -> Changes<'a>
+    ensures rows { result ≡ over_rows course.now copy }
+    ensures few { length result ≤ 1 }
+{
+    match course {
+        Course::Transit(_, _) => Changes::none(),
+        Course::HoldShelf(_) => Changes::one(RowChange::TakeTransit(copy)),
+        Course::Shelf => Changes::one(RowChange::TakeTransit(copy)),
+    }
+}
+
+/// A copy that was missing is present again.
+fn find_again<'a>(copy: &Option<CopyRow>) -> Changes<'a>
+    ensures rows { result ≡ found_rows copy.now }
+    ensures few { length result ≤ 1 }
+{
+    match copy {
+        Some(row) => match row.condition {
+            Condition::Missing => {
+                let mut found = *row;
+                found.condition = Condition::Present;
+                Changes::one(RowChange::PutCopy(found))
+            }
+            Condition::Present => Changes::none(),
+            Condition::Withdrawn => Changes::none(),
+        },
+        None => Changes::none(),
+    }
+}
+
+/// The row that changes where the copy was: a loan, a travel, or among the missing.
+fn leave<'a>(at: &CopyView, course: &Course, copy: CopyId, today: Day) -> Changes<'a>
+    ensures rows { result ≡ left_rows at.now.loan at.now.transit at.now.copy course.now copy today }
+    ensures few { length result ≤ 1 }
+{
+    match &at.loan {
+        Some(_) => with_end(Changes::none(), &at.loan, today),
+        None => match &at.transit {
+            Some(_) => end_travel(course, copy),
+            None => find_again(&at.copy),
+        },
+    }
+}
+
+/// Where the copy goes.
+fn next_place(view: &CheckInView, branch: BranchId) -> Course
+    ensures { result ≡ check_in_course view.now branch }
+{
+    route(
+        home_branch(&view.at.copy),
+        &view.coming,
+        &view.first,
+        branch,
+    )
+}
+
+/// `check-in`: refusals 10, 13, 35, 33, 70, in this order; 39 where the calendar has no open day left for the limit
+/// of the hold that becomes ready, which rows that the desk made itself never bring about.
+pub(crate) fn check_in<'a>(
+    view: &'a CheckInView,
+    copy: CopyId,
+    branch: BranchId,
+) -> Result<Decision<'a>, Refusal>
+    ensures { ChecksIn view.now copy branch result }
+{
+    let at = &view.at;
+    let today = view.meta.today;
+    let fine = fine_of(&at.loan, &view.lender.calendar, today);
+    let nothing = Cents::new(0);
+    let refusal = first_refusal(&[
+        (Refusal::UnknownBranch, view.here.branch.is_none()),
+        (Refusal::UnknownCopy, at.copy.is_none()),
+        (Refusal::CopyWithdrawn, is_gone(&at.copy)),
+        (Refusal::OnHoldShelf, at.hold.is_some()),
+    ]);
+    if let Some(first) = refusal {
+        return Err(first);
+    }
+    if needs_more_numbers(&view.meta, fine, nothing) {
+        return Err(Refusal::NumbersUsedUp);
+    }
+    let course = next_place(view, branch);
+    let Some(until) = limit_day(&course, &view.here, today) else {
+        return Err(Refusal::PastCalendar);
+    };
+    let moved = with_arrival(leave(at, &course, copy, today), &course, copy, until);
+    Ok(Decision {
+        reply: Reply::CheckedIn {
+            fine,
+            routed: told(&course, branch, until),
+        },
+        changes: with_charges(
+            moved,
+            &view.meta,
+            &view.lender.patron,
+            &at.loan,
+            fine,
+            nothing,
+        ),
+    })
+}

@@ -1,0 +1,155 @@
+//! Where a copy goes that is handed in.
+
+ghost use Rattle.std.specs.Prelude.{◌≡◌, ◌≤◌, ◌++◌, length, Option, IfSome, IfNone};
+ghost use Rattle.circ_core.specs.Routing.{served, course_of, pickup_of, home_in, number_in, IsLimitOf, HasNoLimit, routed_by, readied, arrival_rows};
+
+use crate::changes::{Changes, RowChange};
+use crate::lending::due_day;
+use crate::views::BranchView;
+use terms::{
+    BranchId, BranchRow, CopyId, CopyRow, Day, Days, HoldId, HoldRow, HoldState, Routed, TransitRow,
+};
+
+/// Where a copy goes from the branch where it is handed in.
+#[derive(Clone, Copy)]
+pub enum Course {
+    /// To the hold shelf for a hold, which becomes ready.
+    HoldShelf(HoldRow),
+    /// To the shelf of the branch, its home.
+    Shelf,
+    /// On its way to a branch, for a hold or for none.
+    Transit(BranchId, Option<HoldId>),
+}
+
+/// The hold that the copy serves, if there is one.
+fn hold_to_serve(coming: &Option<HoldRow>, first: &Option<HoldRow>) -> Option<HoldRow>
+    ensures { result ≡ served coming.now first.now }
+{
+    match coming {
+        Some(hold) => Some(*hold),
+        None => *first,
+    }
+}
+
+/// The copy goes to the hold that it travels for, else to the first in line, and without both home.
+pub(crate) fn route(
+    home: BranchId,
+    coming: &Option<HoldRow>,
+    first: &Option<HoldRow>,
+    branch: BranchId,
+) -> Course
+    ensures { result ≡ course_of home coming.now first.now branch }
+{
+    match hold_to_serve(coming, first) {
+        Some(hold) => {
+            if hold.branch.number() == branch.number() {
+                Course::HoldShelf(hold)
+            } else {
+                Course::Transit(hold.branch, Some(hold.hold))
+            }
+        }
+        None => {
+            if home.number() == branch.number() {
+                Course::Shelf
+            } else {
+                Course::Transit(home, None)
+            }
+        }
+    }
+}
+
+/// The pick-up period of the branch.
+fn pickup_days(branch: &Option<BranchRow>) -> Days
+    ensures { result ≡ pickup_of branch.now }
+{
+    match branch {
+        Some(row) => row.pickup,
+        None => Days::new(0),
+    }
+}
+
+/// The home branch of a copy, 0 where there is no copy.
+pub(crate) fn home_branch(copy: &Option<CopyRow>) -> BranchId
+    ensures { result ≡ home_in copy.now }
+{
+    match copy {
+        Some(row) => row.home,
+        None => BranchId::new(0),
+    }
+}
+
+/// The number of a copy, 0 where there is no copy.
+pub(crate) fn copy_number(copy: &Option<CopyRow>) -> CopyId
+    ensures { result ≡ number_in copy.now }
+{
+    match copy {
+        Some(row) => row.copy,
+        None => CopyId::new(0),
+    }
+}
+
+/// The shelf limit of a hold that becomes ready: the least open day from the end of the pick-up period, if the
+/// calendar has one. A copy that goes elsewhere needs none.
+pub(crate) fn limit_day(course: &Course, here: &BranchView, today: Day) -> Option<Day>
+    ensures some { IfSome result (IsLimitOf course.now here.now today) }
+    ensures none { IfNone result (HasNoLimit course.now here.now today) }
+{
+    match course {
+        Course::HoldShelf(_) => due_day(&here.calendar, today, pickup_days(&here.branch)),
+        Course::Shelf => Some(today),
+        Course::Transit(_, _) => Some(today),
+    }
+}
+
+/// The place that the reply tells.
+pub(crate) fn told(course: &Course, branch: BranchId, until: Day) -> Routed
+    ensures { result ≡ routed_by course.now branch until }
+{
+    match course {
+        Course::HoldShelf(hold) => Routed::HoldShelf {
+            hold: hold.hold,
+            branch,
+            until,
+        },
+        Course::Shelf => Routed::Shelf { branch },
+        Course::Transit(goal, hold) => Routed::Transit {
+            goal: *goal,
+            hold: *hold,
+        },
+    }
+}
+
+/// The row of a hold that becomes ready.
+fn make_ready(hold: &HoldRow, copy: CopyId, until: Day) -> HoldRow
+    ensures { result ≡ readied hold.now copy until }
+{
+    let mut row = *hold;
+    row.state = HoldState::Ready;
+    row.copy = Some(copy);
+    row.limit_day = Some(until);
+    row
+}
+
+/// The changes, and the row that changes where the copy arrives.
+pub(crate) fn with_arrival<'a>(
+    changes: Changes<'a>,
+    course: &Course,
+    copy: CopyId,
+    until: Day,
+) -> Changes<'a>
+    requires { length changes ≤ 1 }
+    ensures rows { result ≡ changes.entry ++ arrival_rows course.now copy until }
+    ensures few { length result ≤ 2 }
+{
+    match course {
+        Course::HoldShelf(hold) => {
+            changes.with(RowChange::PutHold(make_ready(hold, copy, until)))
+        }
+        Course::Shelf => changes,
+        Course::Transit(goal, hold) => changes.with(RowChange::PutTransit(TransitRow {
+            copy,
+            goal: *goal,
+            hold: *hold,
+        })),
+    }
+}

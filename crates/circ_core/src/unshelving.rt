@@ -1,0 +1,117 @@
+//! Unshelving: a ready hold ends, and its copy is routed.
+
+ghost use Rattle.std.specs.Prelude.{◌≡◌, ◌≤◌, [], length, Option};
+ghost use Rattle.terms.specs.declared.row.HoldState.TheVariants.{Cancelled, Expired};
+ghost use Rattle.circ_core.specs.Unshelving.{is_ready_row, limit_in, pickup_branch, unshelve_checks, unshelve_cancelled_checks, course_unshelved, ended_hold, Unshelves};
+
+use crate::changes::{Changes, Decision, RowChange};
+use crate::checks::first_refusal;
+use crate::lending::finish;
+use crate::routing::{Course, copy_number, home_branch, limit_day, route, told, with_arrival};
+use crate::views::UnshelveView;
+use terms::{BranchId, HoldRow, HoldState, Refusal, Reply};
+
+fn is_on_shelf(hold: &Option<HoldRow>) -> bool
+    ensures { result ≡ is_ready_row hold.now }
+{
+    match hold {
+        Some(row) => row.state == HoldState::Ready,
+        None => false,
+    }
+}
+
+/// The shelf limit of the hold, as a day number, 0 where it has none.
+fn shelf_limit(hold: &Option<HoldRow>) -> u32
+    ensures { result ≡ limit_in hold.now }
+{
+    match hold {
+        Some(row) => match row.limit_day {
+            Some(day) => day.number(),
+            None => 0,
+        },
+        None => 0,
+    }
+}
+
+/// The branch where the hold was to be picked up.
+fn picked_up_at(hold: &Option<HoldRow>) -> BranchId
+    ensures { result ≡ pickup_branch hold.now }
+{
+    match hold {
+        Some(row) => row.branch,
+        None => BranchId::new(0),
+    }
+}
+
+/// Where the copy goes that leaves the hold shelf.
+fn next_course(view: &UnshelveView) -> Course
+    ensures { result ≡ course_unshelved view.now }
+{
+    route(
+        home_branch(&view.copy),
+        &None,
+        &view.first,
+        picked_up_at(&view.hold),
+    )
+}
+
+/// The row of the hold that ends.
+fn end_hold<'a>(hold: &Option<HoldRow>, ends: HoldState) -> Changes<'a>
+    ensures rows { result ≡ ended_hold hold.now ends }
+    ensures few { length result ≤ 1 }
+{
+    match hold {
+        Some(row) => Changes::one(RowChange::PutHold(finish(*row, ends))),
+        None => Changes::none(),
+    }
+}
+
+/// A ready hold ends in the given state, and its copy is routed at the pick-up branch.
+fn take_off<'a>(view: &UnshelveView, ends: HoldState) -> Result<Decision<'a>, Refusal>
+    ensures { Unshelves [] view.now ends result }
+{
+    let course = next_course(view);
+    let Some(until) = limit_day(&course, &view.here, view.meta.today) else {
+        return Err(Refusal::PastCalendar);
+    };
+    Ok(Decision {
+        reply: Reply::Moved {
+            routed: told(&course, picked_up_at(&view.hold), until),
+        },
+        changes: with_arrival(
+            end_hold(&view.hold, ends),
+            &course,
+            copy_number(&view.copy),
+            until,
+        ),
+    })
+}
+
+/// `unshelve`: refusals 15, 53, 54, in this order; 39 where the calendar has no open day left for the limit of the
+/// next hold, which rows that the desk made itself never bring about.
+pub(crate) fn unshelve<'a>(view: &UnshelveView) -> Result<Decision<'a>, Refusal>
+    ensures { Unshelves (unshelve_checks view.now) view.now Expired result }
+{
+    let may_be_taken = view.meta.today.number() <= shelf_limit(&view.hold);
+    if let Some(refusal) = first_refusal(&[
+        (Refusal::UnknownHold, view.hold.is_none()),
+        (Refusal::WrongHoldState, !is_on_shelf(&view.hold)),
+        (Refusal::LimitNotPassed, may_be_taken),
+    ]) {
+        return Err(refusal);
+    }
+    take_off(view, HoldState::Expired)
+}
+
+/// `unshelve-cancelled`: refusals 15, 53; 39 as for `unshelve`.
+pub(crate) fn unshelve_cancelled<'a>(view: &UnshelveView) -> Result<Decision<'a>, Refusal>
+    ensures { Unshelves (unshelve_cancelled_checks view.now) view.now Cancelled result }
+{
+    if let Some(refusal) = first_refusal(&[
+        (Refusal::UnknownHold, view.hold.is_none()),
+        (Refusal::WrongHoldState, !is_on_shelf(&view.hold)),
+    ]) {
+        return Err(refusal);
+    }
+    take_off(view, HoldState::Cancelled)
+}

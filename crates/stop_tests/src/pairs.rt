@@ -1,0 +1,193 @@
+//! Every ordered pair of twenty requests, one of each command, in one library; then what the rows show is looked at.
+
+use crate::library::{Said, add, check, ground, request, run, taken};
+use desk::Desk;
+use sqlite::{Connection, MemStore, params};
+use std::alloc::Global;
+use std::process::Abort;
+use std::test::Fail;
+use terms::Request;
+
+/// Loans, holds that wait and holds that are ready.
+const BEGUN: [Said; 8] = [
+    ("s1", "acquire 12 101 1 1 900|Slow Water", "ok"),
+    ("s2", "check-out 2 10 1", "loan 1 due 2026-03-09"),
+    ("s3", "check-out 3 12 1", "loan 2 due 2026-03-09"),
+    ("s4", "place-hold 3 100 2", "hold 1"),
+    ("s5", "place-hold 1 300 1", "hold 2"),
+    (
+        "s6",
+        "check-in 30 1",
+        "fine 0 ready 2 at 1 until 2026-03-07",
+    ),
+    ("s7", "place-hold 3 200 2", "hold 3"),
+    (
+        "s8",
+        "check-in 20 2",
+        "fine 0 ready 3 at 2 until 2026-03-05",
+    ),
+];
+
+/// One request text of each command.
+const TEXTS: [&str; 20] = [
+    "check-out 2 10 1",
+    "renew 2",
+    "begin-day 2026-03-20",
+    "check-in 10 1",
+    "place-hold 2 100 1",
+    "missing 10",
+    "cancel-hold 1",
+    "unshelve 2",
+    "unshelve-cancelled 3",
+    "withdraw 30",
+    "pay 2 5",
+    "waive 2 7",
+    "branch 3 5|Hill",
+    "week 2 cooooco",
+    "close-day 1 2026-04-06",
+    "open-day 1 2026-04-06",
+    "kind 1 50 50 1000000",
+    "rule 1 2 3 9 20 100",
+    "patron 4 1 cardkey00004|Di Eads",
+    "acquire 11 100 1 1 2500|Rivers of the North",
+];
+
+/// The claims on copies: open loans, ready holds, transits, and copies that are missing or withdrawn.
+const CLAIMS: [&str; 4] = [
+    "SELECT copy FROM loans WHERE ended IS NULL",
+    "SELECT copy FROM holds WHERE state = 1",
+    "SELECT copy FROM transits",
+    "SELECT copy FROM copies WHERE condition > 0",
+];
+
+/// The twenty pairs that begin with the text at a place, as forty requests with keys of their own.
+fn pairs_of(alloc: Global, first: &str, place: u32) -> Result<Vec<Request>, Fail> {
+    let mut requests = Vec::new(alloc);
+    'rows: for (at, second) in TEXTS.iter().enumerate() {
+        let name = format!(in alloc; "a-{place}-{at}")?;
+        add(&mut requests, request(alloc, &name, first)?)?;
+        let name = format!(in alloc; "b-{place}-{at}")?;
+        add(&mut requests, request(alloc, &name, second)?)?;
+    }
+    Ok(requests)
+}
+
+/// Adds the numbers of the one column that a text of SQL shows.
+fn add_numbers(
+    list: &mut Vec<i64>,
+    conn: &mut Connection<MemStore>,
+    sql: &str,
+) -> Result<(), Fail> {
+    for row in &conn.query_all(sql, &[])? {
+        list.push(row.get(0)?)?;
+    }
+    Ok(())
+}
+
+/// How often a number stands in a list.
+fn times(list: &[i64], wanted: i64) -> usize {
+    list.iter().filter(|number| **number == wanted).count()
+}
+
+/// Each claim names one copy, and no copy has two claims.
+fn claims_are_apart(
+    rt: &impl Abort,
+    alloc: Global,
+    conn: &mut Connection<MemStore>,
+) -> Result<(), Fail> {
+    let mut copies = Vec::new(alloc);
+    add_numbers(&mut copies, conn, "SELECT copy FROM copies")?;
+    let mut claims = Vec::new(alloc);
+    for sql in CLAIMS {
+        add_numbers(&mut claims, conn, sql)?;
+    }
+    for claim in &claims {
+        assert_eq!(rt; times(&claims, *claim), 1, "copy {claim}");
+        assert_eq!(rt; times(&copies, *claim), 1, "copy {claim}");
+    }
+    Ok(())
+}
+
+/// Each ready hold names a present copy that no other ready hold names, and no other hold names any.
+fn ready_holds_have_copies(
+    rt: &impl Abort,
+    alloc: Global,
+    conn: &mut Connection<MemStore>,
+) -> Result<(), Fail> {
+    let mut present = Vec::new(alloc);
+    add_numbers(
+        &mut present,
+        conn,
+        "SELECT copy FROM copies WHERE condition = 0",
+    )?;
+    let mut named = Vec::new(alloc);
+    add_numbers(&mut named, conn, "SELECT copy FROM holds WHERE state = 1")?;
+    for copy in &named {
+        assert_eq!(rt; times(&present, *copy), 1, "copy {copy}");
+        assert_eq!(rt; times(&named, *copy), 1, "copy {copy}");
+    }
+    let mut others = Vec::new(alloc);
+    let sql =
+        "SELECT hold FROM holds WHERE state <> 1 AND (copy IS NOT NULL OR limit_day IS NOT NULL)";
+    add_numbers(&mut others, conn, sql)?;
+    assert!(rt; others.is_empty());
+    Ok(())
+}
+
+/// The fines and prices of a patron, less payments and waivers.
+fn balance(conn: &mut Connection<MemStore>, patron: i64) -> Result<i64, Fail> {
+    let mut sum = 0i64;
+    for row in &conn.query_all("SELECT patron, sort, amount FROM lines", &[])? {
+        let (owner, sort, amount): (i64, i64, i64) = (row.get(0)?, row.get(1)?, row.get(2)?);
+        if owner == patron {
+            sum = match sort {
+                0 | 1 => sum.checked_add(amount),
+                _ => sum.checked_sub(amount),
+            }
+            .ok_or("a sum")?;
+        }
+    }
+    Ok(sum)
+}
+
+/// Each patron owes what the lines say.
+fn patrons_owe_their_lines(rt: &impl Abort, conn: &mut Connection<MemStore>) -> Result<(), Fail> {
+    for row in &conn.query_all("SELECT patron, owed FROM patrons", &[])? {
+        let patron: i64 = row.get(0)?;
+        let owed: i64 = row.get(1)?;
+        assert_eq!(rt; balance(conn, patron)?, owed, "patron {patron}");
+    }
+    Ok(())
+}
+
+/// The desk over the same rows, which keep the laws of copies, holds and accounts.
+fn looked_at(rt: &impl Abort, alloc: Global, desk: Desk<MemStore>) -> Result<Desk<MemStore>, Fail> {
+    let mut conn = desk.into_store().into_connection();
+    claims_are_apart(rt, alloc, &mut conn)?;
+    ready_holds_have_copies(rt, alloc, &mut conn)?;
+    patrons_owe_their_lines(rt, &mut conn)?;
+    Ok(Desk::new(taken(conn)?)?)
+}
+
+#[test]
+fn every_pair_of_requests_keeps_the_laws(rt: HostRuntime) -> Result<(), Fail> {
+    let alloc = rt.alloc();
+    let mut desk = ground(&rt, alloc)?;
+    check(&rt, alloc, &mut desk, &BEGUN)?;
+    let mut place = 0u32;
+    for first in TEXTS {
+        let requests = pairs_of(alloc, first, place)?;
+        let replies = run(&mut desk, alloc, &requests)?;
+        assert_eq!(rt; replies.len(), 40, "at {first}");
+        desk = looked_at(&rt, alloc, desk)?;
+        place = place.saturating_add(1);
+    }
+    let mut conn = desk.into_store().into_connection();
+    let sql = "SELECT COUNT(*) FROM kept WHERE text = ?1";
+    for text in TEXTS {
+        let words = text.replace(alloc, '|', " ")?;
+        let kept: i64 = conn.query_row(sql, params![&words])?.get(0)?;
+        assert!(rt; kept > 0, "at {text}");
+    }
+    Ok(())
+}

@@ -1,0 +1,17 @@
+use Rattle.sqlite.specs.Held.{state}
+use Rattle.store.proofs.ReadLemmas.{read_of}
+use Rattle.store.proofs.RowLemmas.{first_of_shown, holds_encoded}
+use Rattle.store.proofs.StopLemmas.{if_ok}
+use Rattle.store.proofs.reading.first_of.Goals as goal
+
+pub returns-clause-read : goal.returns-clause-read
+returns-clause-read g c =
+    let old = state g.S.Store c.args.conn.now in
+    let new = state g.S.Store c.first_in_line.new.conn in
+    let is = c.first_in_line.ensures in
+    read_of c.first_in_line.result old new is.clean is.mode is.leaves is.survives (λ h. if_ok c.first_in_line.result (λ row got maps holds. (got maps holds).1) (is.first h))
+    (λ h P shown legal stored. is.stored h stored shown.maps shown.holds (holds_encoded shown.maps P shown.encodes legal))
+
+pub returns-clause-shown : goal.returns-clause-shown
+returns-clause-shown g c clean =
+    first_of_shown c.args.title (state g.S.Store c.args.conn.now) (state g.S.Store c.first_in_line.new.conn) c.first_in_line.result (c.first_in_line.ensures.first clean) c.first_in_line.ensures.limits

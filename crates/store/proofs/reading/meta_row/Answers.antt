@@ -1,0 +1,15 @@
+use Rattle.sqlite.specs.Held.{state}
+use Rattle.store.proofs.ReadLemmas.{read_of}
+use Rattle.store.proofs.StopLemmas.{if_ok}
+use Rattle.store.proofs.reading.meta_row.Goals as goal
+
+pub returns-clause-read : goal.returns-clause-read
+returns-clause-read g c =
+    let old = state g.S.Store c.args.conn.now in
+    let new = state g.S.Store c.get_meta.new.conn in
+    let is = c.get_meta.ensures in
+    read_of c.get_meta.result old new is.clean is.mode is.leaves is.survives (λ h. if_ok c.get_meta.result (λ row got maps holds. (got maps holds).1) (is.gets h))
+    (λ h P shown legal. is.sound h P shown legal.meta)
+
+pub returns-clause-shown : goal.returns-clause-shown
+returns-clause-shown g c clean = if_ok c.get_meta.result (λ row got P shown legal. (got P shown).0) (c.get_meta.ensures.shows clean)

@@ -1,0 +1,16 @@
+use Rattle.sqlite.specs.Held.{state}
+use Rattle.terms.specs.Limits.{IsPatron}
+use Rattle.store.proofs.ReadLemmas.{read_of, legal_if}
+use Rattle.store.proofs.StopLemmas.{if_ok}
+use Rattle.store.proofs.reading.patron_row.Goals as goal
+
+pub returns-clause-read : goal.returns-clause-read
+returns-clause-read g c =
+    let old = state g.S.Store c.args.conn.now in
+    let new = state g.S.Store c.get_patron.new.conn in
+    let is = c.get_patron.ensures in
+    read_of c.get_patron.result old new is.clean is.mode is.leaves is.survives (λ h. if_ok c.get_patron.result (λ row got maps holds. (got maps holds).1) (is.gets h))
+    (λ h P shown legal. is.sound h P shown (legal_if IsPatron (P.patrons c.args.patron) (λ r e. (legal.patrons c.args.patron r e).1)))
+
+pub returns-clause-shown : goal.returns-clause-shown
+returns-clause-shown g c clean = if_ok c.get_patron.result (λ row got P shown legal. (got P shown (legal_if IsPatron (P.patrons c.args.patron) (λ r e. (legal.patrons c.args.patron r e).1))).0) (c.get_patron.ensures.shows clean)

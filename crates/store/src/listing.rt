@@ -1,0 +1,371 @@
+//! All rows of each table.
+
+ghost use Rattle.std.specs.Prelude.{◌≡◌, IfOk, IfSome};
+ghost use Rattle.sqlite.specs.Held.{state};
+ghost use Rattle.sqlite.specs.State.{HasCleanDisk};
+ghost use Rattle.terms.specs.Limits.{InLimits};
+ghost use Rattle.terms.specs.Pictures.{Picture};
+ghost use Rattle.circ_tables.specs.Encoding.{HasPicture};
+ghost use Rattle.store.specs.Lists.{AreRows, AllPass, AreRules, AreRegisters, AreHoldings, AreDealings, AreTables};
+ghost use Rattle.store.specs.Reads.{Reads, Reading, ended};
+
+use crate::store::Store;
+use circ_tables::{
+    ClosedDay, KeptEntry, all_branches, all_closed_days, all_copies, all_holds, all_kept,
+    all_kinds, all_lines, all_loans, all_patrons, all_rules, all_titles, all_transits, get_meta,
+};
+use sqlite::{Alter, Connection};
+use std::alloc::Global;
+use terms::{
+    BranchId, BranchRow, Cents, ClosedDayRow, Command, CopyId, CopyKind, CopyRow, Fault, HoldRow,
+    KeptRow, Key, KindRow, LineRow, LoanRow, MetaRow, Name, PatronRow, Rows, RuleRow, Tables,
+    TitleId, TitleRow, TransitRow, read_number,
+};
+
+/// The tables that the desk sets.
+#[derive(Drop)]
+struct Registers {
+    meta: MetaRow,
+    branches: Rows<BranchRow>,
+    closed_days: Rows<ClosedDayRow>,
+    kinds: Rows<KindRow>,
+    rules: Rows<RuleRow>,
+}
+
+/// Patrons, titles and copies.
+#[derive(Drop)]
+struct Holdings {
+    patrons: Rows<PatronRow>,
+    titles: Rows<TitleRow>,
+    copies: Rows<CopyRow>,
+}
+
+/// What was done with them.
+#[derive(Drop)]
+struct Dealings {
+    loans: Rows<LoanRow>,
+    holds: Rows<HoldRow>,
+    transits: Rows<TransitRow>,
+    lines: Rows<LineRow>,
+    kept: Rows<KeptRow>,
+}
+
+/// The command of a copies row that the text writes, if it writes one.
+fn acquire_of(alloc: Global, text: &str) -> Result<Option<Command>, Fault> {
+    let mut words = text.splitn(7, ' ');
+    let Some("acquire") = words.next() else {
+        return Ok(None);
+    };
+    let Some(copy) = words.next().and_then(|word| read_number(word)) else {
+        return Ok(None);
+    };
+    let Some(title) = words.next().and_then(|word| read_number(word)) else {
+        return Ok(None);
+    };
+    let Some(kind) = words.next().and_then(|word| read_number(word)) else {
+        return Ok(None);
+    };
+    let Some(home) = words.next().and_then(|word| read_number(word)) else {
+        return Ok(None);
+    };
+    let Some(price) = words.next().and_then(|word| read_number(word)) else {
+        return Ok(None);
+    };
+    let Some(rest) = words.next() else {
+        return Ok(None);
+    };
+    let Some(text) = Name::new(alloc, rest)? else {
+        return Ok(None);
+    };
+    Ok(Some(Command::Acquire {
+        copy: CopyId::new(copy),
+        title: TitleId::new(title),
+        kind: CopyKind::new(kind),
+        home: BranchId::new(home),
+        price: Cents::new(u64::from(price)),
+        text,
+    }))
+}
+
+/// The key with this text: one from outside, or that of a row of a copies file.
+fn key_of(alloc: Global, text: &str) -> Result<Option<Key>, Fault>
+    ensures { IfOk result (λ o. IfSome o (λ key. key ≡ text.now)) }
+{
+    if let Some(key) = Key::new(alloc, text)? {
+        return Ok(Some(key));
+    }
+    let Some(command) = acquire_of(alloc, text)? else {
+        return Ok(None);
+    };
+    let key = Key::of_row(alloc, &command)?;
+    if key.as_str() == text {
+        Ok(Some(key))
+    } else {
+        Ok(None)
+    }
+}
+
+/// A row of `kept` with its key. 90; 93 where the key is no key.
+fn kept_row(alloc: Global, entry: KeptEntry) -> Result<KeptRow, Fault> {
+    let KeptEntry {
+        caller,
+        key,
+        text,
+        reply,
+    } = entry;
+    match key_of(alloc, key.as_str())? {
+        Some(key) => Ok(KeptRow {
+            caller,
+            key,
+            text,
+            reply,
+        }),
+        None => Err(Fault::Stored),
+    }
+}
+
+/// The rows of `kept` with their keys. 90, 93.
+fn kept_rows(alloc: Global, entries: Vec<KeptEntry>) -> Result<Vec<KeptRow>, Fault> {
+    let mut rows = Vec::new(alloc);
+    for entry in entries {
+        rows.push(kept_row(alloc, entry)?)?;
+    }
+    Ok(rows)
+}
+
+/// The rows of `closed_days`. 90.
+fn day_rows(alloc: Global, days: &[ClosedDay]) -> Result<Vec<ClosedDayRow>, Fault> {
+    let mut rows = Vec::new(alloc);
+    for day in days {
+        rows.push(ClosedDayRow {
+            branch: day.branch,
+            day: day.day,
+        })?;
+    }
+    Ok(rows)
+}
+
+/// All rows of `branches`. 90, 91, 93.
+fn branches<S: Alter>(conn: &mut Connection<S>, alloc: Global) -> Result<Rows<BranchRow>, Fault>
+    ensures read { Reading (ended result) (state S.Store conn.old) (state S.Store conn.new) }
+    ensures shown { HasCleanDisk (state S.Store conn.new) → IfOk result (λ rows. (P : Picture) → HasPicture (state S.Store conn.old).now P → InLimits P
+        → AreRows P.branches (λ r. r.branch) AllPass rows) }
+{
+    let found = all_branches(conn, alloc)?;
+    Ok(Rows::new(found))
+}
+
+/// All rows of `kinds`. 90, 91, 93.
+fn kinds<S: Alter>(conn: &mut Connection<S>, alloc: Global) -> Result<Rows<KindRow>, Fault>
+    ensures read { Reading (ended result) (state S.Store conn.old) (state S.Store conn.new) }
+    ensures shown { HasCleanDisk (state S.Store conn.new) → IfOk result (λ rows. (P : Picture) → HasPicture (state S.Store conn.old).now P → InLimits P
+        → AreRows P.kinds (λ r. r.kind) AllPass rows) }
+{
+    let found = all_kinds(conn, alloc)?;
+    Ok(Rows::new(found))
+}
+
+/// All rows of `patrons`. 90, 91, 93.
+fn patrons<S: Alter>(conn: &mut Connection<S>, alloc: Global) -> Result<Rows<PatronRow>, Fault>
+    ensures read { Reading (ended result) (state S.Store conn.old) (state S.Store conn.new) }
+    ensures shown { HasCleanDisk (state S.Store conn.new) → IfOk result (λ rows. (P : Picture) → HasPicture (state S.Store conn.old).now P → InLimits P
+        → AreRows P.patrons (λ r. r.patron) AllPass rows) }
+{
+    let found = all_patrons(conn, alloc)?;
+    Ok(Rows::new(found))
+}
+
+/// All rows of `titles`. 90, 91, 93.
+fn titles<S: Alter>(conn: &mut Connection<S>, alloc: Global) -> Result<Rows<TitleRow>, Fault>
+    ensures read { Reading (ended result) (state S.Store conn.old) (state S.Store conn.new) }
+    ensures shown { HasCleanDisk (state S.Store conn.new) → IfOk result (λ rows. (P : Picture) → HasPicture (state S.Store conn.old).now P → InLimits P
+        → AreRows P.titles (λ r. r.title) AllPass rows) }
+{
+    let found = all_titles(conn, alloc)?;
+    Ok(Rows::new(found))
+}
+
+/// All rows of `copies`. 90, 91, 93.
+fn copies<S: Alter>(conn: &mut Connection<S>, alloc: Global) -> Result<Rows<CopyRow>, Fault>
+    ensures read { Reading (ended result) (state S.Store conn.old) (state S.Store conn.new) }
+    ensures shown { HasCleanDisk (state S.Store conn.new) → IfOk result (λ rows. (P : Picture) → HasPicture (state S.Store conn.old).now P → InLimits P
+        → AreRows P.copies (λ r. r.copy) AllPass rows) }
+{
+    let found = all_copies(conn, alloc)?;
+    Ok(Rows::new(found))
+}
+
+/// All rows of `loans`. 90, 91, 93.
+fn loans<S: Alter>(conn: &mut Connection<S>, alloc: Global) -> Result<Rows<LoanRow>, Fault>
+    ensures read { Reading (ended result) (state S.Store conn.old) (state S.Store conn.new) }
+    ensures shown { HasCleanDisk (state S.Store conn.new) → IfOk result (λ rows. (P : Picture) → HasPicture (state S.Store conn.old).now P → InLimits P
+        → AreRows P.loans (λ r. r.loan) AllPass rows) }
+{
+    let found = all_loans(conn, alloc)?;
+    Ok(Rows::new(found))
+}
+
+/// All rows of `holds`. 90, 91, 93.
+fn holds<S: Alter>(conn: &mut Connection<S>, alloc: Global) -> Result<Rows<HoldRow>, Fault>
+    ensures read { Reading (ended result) (state S.Store conn.old) (state S.Store conn.new) }
+    ensures shown { HasCleanDisk (state S.Store conn.new) → IfOk result (λ rows. (P : Picture) → HasPicture (state S.Store conn.old).now P → InLimits P
+        → AreRows P.holds (λ r. r.hold) AllPass rows) }
+{
+    let found = all_holds(conn, alloc)?;
+    Ok(Rows::new(found))
+}
+
+/// All rows of `transits`. 90, 91, 93.
+fn transits<S: Alter>(conn: &mut Connection<S>, alloc: Global) -> Result<Rows<TransitRow>, Fault>
+    ensures read { Reading (ended result) (state S.Store conn.old) (state S.Store conn.new) }
+    ensures shown { HasCleanDisk (state S.Store conn.new) → IfOk result (λ rows. (P : Picture) → HasPicture (state S.Store conn.old).now P → InLimits P
+        → AreRows P.transits (λ r. r.copy) AllPass rows) }
+{
+    let found = all_transits(conn, alloc)?;
+    Ok(Rows::new(found))
+}
+
+/// All rows of `lines`. 90, 91, 93.
+fn lines<S: Alter>(conn: &mut Connection<S>, alloc: Global) -> Result<Rows<LineRow>, Fault>
+    ensures read { Reading (ended result) (state S.Store conn.old) (state S.Store conn.new) }
+    ensures shown { HasCleanDisk (state S.Store conn.new) → IfOk result (λ rows. (P : Picture) → HasPicture (state S.Store conn.old).now P → InLimits P
+        → AreRows P.lines (λ r. r.line) AllPass rows) }
+{
+    let found = all_lines(conn, alloc)?;
+    Ok(Rows::new(found))
+}
+
+/// All rows of `rules`. 90, 91, 93.
+fn rules<S: Alter>(conn: &mut Connection<S>, alloc: Global) -> Result<Rows<RuleRow>, Fault>
+    ensures read { Reading (ended result) (state S.Store conn.old) (state S.Store conn.new) }
+    ensures shown { HasCleanDisk (state S.Store conn.new) → IfOk result (λ rows. (P : Picture) → HasPicture (state S.Store conn.old).now P → InLimits P
+        → AreRules P rows) }
+{
+    let found = all_rules(conn, alloc)?;
+    Ok(Rows::new(found))
+}
+
+/// All rows of `closed_days`. 90, 91, 93.
+fn closed_days<S: Alter>(
+    conn: &mut Connection<S>,
+    alloc: Global,
+) -> Result<Rows<ClosedDayRow>, Fault>
+    ensures read { Reading (ended result) (state S.Store conn.old) (state S.Store conn.new) }
+{
+    let found = all_closed_days(conn, alloc)?;
+    let rows = day_rows(alloc, &found)?;
+    Ok(Rows::new(rows))
+}
+
+/// All rows of `kept`. 90, 91, 93.
+fn kept<S: Alter>(conn: &mut Connection<S>, alloc: Global) -> Result<Rows<KeptRow>, Fault>
+    ensures read { Reading (ended result) (state S.Store conn.old) (state S.Store conn.new) }
+{
+    let found = all_kept(conn, alloc)?;
+    let rows = kept_rows(alloc, found)?;
+    Ok(Rows::new(rows))
+}
+
+/// The one row of `meta`. 91, 93.
+fn meta<S: Alter>(conn: &mut Connection<S>) -> Result<MetaRow, Fault>
+    ensures read { Reading (ended result) (state S.Store conn.old) (state S.Store conn.new) }
+    ensures shown { HasCleanDisk (state S.Store conn.new) → IfOk result (λ rows. (P : Picture) → HasPicture (state S.Store conn.old).now P → InLimits P
+        → rows ≡ P.meta) }
+{
+    let found = get_meta(conn)?;
+    Ok(found)
+}
+
+/// The tables that the desk sets. 90, 91, 93.
+fn read_registers<S: Alter>(conn: &mut Connection<S>, alloc: Global) -> Result<Registers, Fault>
+    ensures read { Reading (ended result) (state S.Store conn.old) (state S.Store conn.new) }
+    ensures shown { HasCleanDisk (state S.Store conn.new) → IfOk result (λ rows. (P : Picture) → HasPicture (state S.Store conn.old).now P → InLimits P
+        → AreRegisters P rows) }
+{
+    let meta = meta(conn)?;
+    let branches = branches(conn, alloc)?;
+    let closed_days = closed_days(conn, alloc)?;
+    let kinds = kinds(conn, alloc)?;
+    let rules = rules(conn, alloc)?;
+    Ok(Registers {
+        meta,
+        branches,
+        closed_days,
+        kinds,
+        rules,
+    })
+}
+
+/// Patrons, titles and copies. 90, 91, 93.
+fn read_holdings<S: Alter>(conn: &mut Connection<S>, alloc: Global) -> Result<Holdings, Fault>
+    ensures read { Reading (ended result) (state S.Store conn.old) (state S.Store conn.new) }
+    ensures shown { HasCleanDisk (state S.Store conn.new) → IfOk result (λ rows. (P : Picture) → HasPicture (state S.Store conn.old).now P → InLimits P
+        → AreHoldings P rows) }
+{
+    let patrons = patrons(conn, alloc)?;
+    let titles = titles(conn, alloc)?;
+    let copies = copies(conn, alloc)?;
+    Ok(Holdings {
+        patrons,
+        titles,
+        copies,
+    })
+}
+
+/// Loans, holds, transits, lines, and what is kept. 90, 91, 93.
+fn read_dealings<S: Alter>(conn: &mut Connection<S>, alloc: Global) -> Result<Dealings, Fault>
+    ensures read { Reading (ended result) (state S.Store conn.old) (state S.Store conn.new) }
+    ensures shown { HasCleanDisk (state S.Store conn.new) → IfOk result (λ rows. (P : Picture) → HasPicture (state S.Store conn.old).now P → InLimits P
+        → AreDealings P rows) }
+{
+    let loans = loans(conn, alloc)?;
+    let holds = holds(conn, alloc)?;
+    let transits = transits(conn, alloc)?;
+    let lines = lines(conn, alloc)?;
+    let kept = kept(conn, alloc)?;
+    Ok(Dealings {
+        loans,
+        holds,
+        transits,
+        lines,
+        kept,
+    })
+}
+
+/// All rows of each table. 90, 91, 93.
+fn all_tables<S: Alter>(conn: &mut Connection<S>, alloc: Global) -> Result<Tables, Fault>
+    ensures read { Reading (ended result) (state S.Store conn.old) (state S.Store conn.new) }
+    ensures shown { HasCleanDisk (state S.Store conn.new) → IfOk result (λ rows. (P : Picture) → HasPicture (state S.Store conn.old).now P → InLimits P
+        → AreTables P rows) }
+{
+    let set = read_registers(conn, alloc)?;
+    let owned = read_holdings(conn, alloc)?;
+    let done = read_dealings(conn, alloc)?;
+    Ok(Tables {
+        meta: set.meta,
+        branches: set.branches,
+        closed_days: set.closed_days,
+        kinds: set.kinds,
+        rules: set.rules,
+        patrons: owned.patrons,
+        titles: owned.titles,
+        copies: owned.copies,
+        loans: done.loans,
+        holds: done.holds,
+        transits: done.transits,
+        lines: done.lines,
+        kept: done.kept,
+    })
+}
+
+impl<S: Alter> Store<S> {
+    /// All rows of each table, in rising order of their keys. 90, 91, 93.
+    pub fn tables(&mut self, alloc: Global) -> Result<Tables, Fault>
+        ensures reads { Reads (state S.Store self.old) (state S.Store self.new) }
+        ensures shown { HasCleanDisk (state S.Store self.new) → IfOk result (λ rows. (P : Picture) → HasPicture (state S.Store self.old).now P → InLimits P → AreTables P rows) }
+    {
+        let is_idle = self.conn.is_autocommit();
+        prove!(is_idle);
+        all_tables(&mut self.conn, alloc)
+    }
+}

@@ -1,0 +1,140 @@
+//! The rows that pages and reports show.
+
+ghost use Rattle.std.specs.Prelude.{◌≡◌, Err, IfOk};
+ghost use Rattle.sqlite.specs.Held.{state};
+ghost use Rattle.sqlite.specs.State.{HasCleanDisk};
+ghost use Rattle.terms.specs.Limits.{InLimits};
+ghost use Rattle.terms.specs.Pictures.{Picture};
+ghost use Rattle.circ_core.specs.Views.{IsCalendarOf};
+ghost use Rattle.circ_tables.specs.Encoding.{HasPicture};
+ghost use Rattle.store.specs.Lists.{AreLoansBy, AreHoldsBy, AreReadyAt, AreOverdueAt, AreLinesOf};
+ghost use Rattle.store.specs.Reads.{Reads, ClosesFewDays};
+
+use crate::store::Store;
+use crate::viewing::calendar_of;
+use calendar::{Calendar, Day};
+use circ_tables::{
+    active_holds_by, get_branch, get_copy, get_title, lines_of, open_loans_by, overdue_loans_at,
+    ready_holds_at,
+};
+use sqlite::Alter;
+use std::alloc::Global;
+use terms::{
+    BranchId, BranchRow, CopyId, CopyRow, Fault, HoldRow, LineRow, LoanRow, PatronId, TitleId,
+    TitleRow,
+};
+
+impl<S: Alter> Store<S> {
+    /// The open loans of a patron, the least number first. 90, 91, 93.
+    pub fn open_loans(&mut self, alloc: Global, patron: PatronId) -> Result<Vec<LoanRow>, Fault>
+        ensures reads { Reads (state S.Store self.old) (state S.Store self.new) }
+        ensures shown { HasCleanDisk (state S.Store self.new) → IfOk result (λ rows. (P : Picture) → HasPicture (state S.Store self.old).now P → InLimits P
+            → AreLoansBy P patron rows.items × ((state S.Store self.new).now ≡ (state S.Store self.old).now)) }
+        ensures sound { HasCleanDisk (state S.Store self.new) → result ≡ Err Fault.Stored → (P : Picture) → HasPicture (state S.Store self.old).now P → InLimits P → ⊥ }
+    {
+        let is_idle = self.conn.is_autocommit();
+        prove!(is_idle);
+        open_loans_by(&mut self.conn, alloc, patron)
+    }
+
+    /// The waiting and the ready holds of a patron, the least number first. 90, 91, 93.
+    pub fn active_holds(&mut self, alloc: Global, patron: PatronId) -> Result<Vec<HoldRow>, Fault>
+        ensures reads { Reads (state S.Store self.old) (state S.Store self.new) }
+        ensures shown { HasCleanDisk (state S.Store self.new) → IfOk result (λ rows. (P : Picture) → HasPicture (state S.Store self.old).now P → InLimits P
+            → AreHoldsBy P patron rows.items × ((state S.Store self.new).now ≡ (state S.Store self.old).now)) }
+        ensures sound { HasCleanDisk (state S.Store self.new) → result ≡ Err Fault.Stored → (P : Picture) → HasPicture (state S.Store self.old).now P → InLimits P → ⊥ }
+    {
+        let is_idle = self.conn.is_autocommit();
+        prove!(is_idle);
+        active_holds_by(&mut self.conn, alloc, patron)
+    }
+
+    /// The ready holds with this pick-up branch, the least number first. 90, 91, 93.
+    pub fn ready_holds(&mut self, alloc: Global, branch: BranchId) -> Result<Vec<HoldRow>, Fault>
+        ensures reads { Reads (state S.Store self.old) (state S.Store self.new) }
+        ensures shown { HasCleanDisk (state S.Store self.new) → IfOk result (λ rows. (P : Picture) → HasPicture (state S.Store self.old).now P → InLimits P
+            → AreReadyAt P branch rows.items × ((state S.Store self.new).now ≡ (state S.Store self.old).now)) }
+        ensures sound { HasCleanDisk (state S.Store self.new) → result ≡ Err Fault.Stored → (P : Picture) → HasPicture (state S.Store self.old).now P → InLimits P → ⊥ }
+    {
+        let is_idle = self.conn.is_autocommit();
+        prove!(is_idle);
+        ready_holds_at(&mut self.conn, alloc, branch)
+    }
+
+    /// The open loans that the branch made and that were due before the day, the least number first. 90, 91, 93.
+    pub fn overdue_loans(
+        &mut self,
+        alloc: Global,
+        branch: BranchId,
+        day: Day,
+    ) -> Result<Vec<LoanRow>, Fault>
+        ensures reads { Reads (state S.Store self.old) (state S.Store self.new) }
+        ensures shown { HasCleanDisk (state S.Store self.new) → IfOk result (λ rows. (P : Picture) → HasPicture (state S.Store self.old).now P → InLimits P
+            → AreOverdueAt P branch day rows.items × ((state S.Store self.new).now ≡ (state S.Store self.old).now)) }
+        ensures sound { HasCleanDisk (state S.Store self.new) → result ≡ Err Fault.Stored → (P : Picture) → HasPicture (state S.Store self.old).now P → InLimits P → ⊥ }
+    {
+        let is_idle = self.conn.is_autocommit();
+        prove!(is_idle);
+        overdue_loans_at(&mut self.conn, alloc, branch, day)
+    }
+
+    /// The lines of a day, of all sorts, the least number first. 90, 91, 93.
+    pub fn lines(&mut self, alloc: Global, day: Day) -> Result<Vec<LineRow>, Fault>
+        ensures reads { Reads (state S.Store self.old) (state S.Store self.new) }
+        ensures shown { HasCleanDisk (state S.Store self.new) → IfOk result (λ rows. (P : Picture) → HasPicture (state S.Store self.old).now P → InLimits P
+            → AreLinesOf P day rows.items × ((state S.Store self.new).now ≡ (state S.Store self.old).now)) }
+        ensures sound { HasCleanDisk (state S.Store self.new) → result ≡ Err Fault.Stored → (P : Picture) → HasPicture (state S.Store self.old).now P → InLimits P → ⊥ }
+    {
+        let is_idle = self.conn.is_autocommit();
+        prove!(is_idle);
+        lines_of(&mut self.conn, alloc, day)
+    }
+
+    /// The row of a branch. 90, 91, 93.
+    pub fn branch(&mut self, alloc: Global, branch: BranchId) -> Result<Option<BranchRow>, Fault>
+        ensures reads { Reads (state S.Store self.old) (state S.Store self.new) }
+        ensures shown { HasCleanDisk (state S.Store self.new) → IfOk result (λ row. (P : Picture) → HasPicture (state S.Store self.old).now P → InLimits P
+            → (row ≡ P.branches branch) × ((state S.Store self.new).now ≡ (state S.Store self.old).now)) }
+        ensures sound { HasCleanDisk (state S.Store self.new) → result ≡ Err Fault.Stored → (P : Picture) → HasPicture (state S.Store self.old).now P → InLimits P → ⊥ }
+    {
+        let is_idle = self.conn.is_autocommit();
+        prove!(is_idle);
+        get_branch(&mut self.conn, alloc, branch)
+    }
+
+    /// The row of a title. 90, 91, 93.
+    pub fn title(&mut self, alloc: Global, title: TitleId) -> Result<Option<TitleRow>, Fault>
+        ensures reads { Reads (state S.Store self.old) (state S.Store self.new) }
+        ensures shown { HasCleanDisk (state S.Store self.new) → IfOk result (λ row. (P : Picture) → HasPicture (state S.Store self.old).now P → InLimits P
+            → (row ≡ P.titles title) × ((state S.Store self.new).now ≡ (state S.Store self.old).now)) }
+        ensures sound { HasCleanDisk (state S.Store self.new) → result ≡ Err Fault.Stored → (P : Picture) → HasPicture (state S.Store self.old).now P → InLimits P → ⊥ }
+    {
+        let is_idle = self.conn.is_autocommit();
+        prove!(is_idle);
+        get_title(&mut self.conn, alloc, title)
+    }
+
+    /// The row of a copy. 91, 93.
+    pub fn copy(&mut self, copy: CopyId) -> Result<Option<CopyRow>, Fault>
+        ensures reads { Reads (state S.Store self.old) (state S.Store self.new) }
+        ensures shown { HasCleanDisk (state S.Store self.new) → IfOk result (λ row. (P : Picture) → HasPicture (state S.Store self.old).now P → InLimits P
+            → (row ≡ P.copies copy) × ((state S.Store self.new).now ≡ (state S.Store self.old).now)) }
+        ensures sound { HasCleanDisk (state S.Store self.new) → result ≡ Err Fault.Stored → (P : Picture) → HasPicture (state S.Store self.old).now P → InLimits P → ⊥ }
+    {
+        let is_idle = self.conn.is_autocommit();
+        prove!(is_idle);
+        get_copy(&mut self.conn, copy)
+    }
+
+    /// The calendar of a branch, if there is the branch. 90, 91, 93.
+    pub fn calendar(&mut self, alloc: Global, branch: BranchId) -> Result<Option<Calendar>, Fault>
+        ensures reads { Reads (state S.Store self.old) (state S.Store self.new) }
+        ensures shown { HasCleanDisk (state S.Store self.new) → IfOk result (λ row. (P : Picture) → HasPicture (state S.Store self.old).now P → InLimits P
+            → IsCalendarOf P branch row × ((state S.Store self.new).now ≡ (state S.Store self.old).now)) }
+        ensures sound { HasCleanDisk (state S.Store self.new) → result ≡ Err Fault.Stored → (P : Picture) → HasPicture (state S.Store self.old).now P → InLimits P → ClosesFewDays P → ⊥ }
+    {
+        let is_idle = self.conn.is_autocommit();
+        prove!(is_idle);
+        calendar_of(&mut self.conn, alloc, branch)
+    }
+}
