@@ -5,3 +5,4 @@ pub mod Callers
 pub mod Laws
 pub mod Pictures
 pub mod Limits
+pub mod Writing

@@ -14,6 +14,7 @@ mod row;
 mod tables;
 mod text;
 mod week;
+mod writing;
 
 pub use calendar::{Day, Memory, Weekdays};
 pub use command::{Caller, Command, Owner, Request, request_text};
@@ -38,3 +39,4 @@ pub use row::{
 pub use tables::{Rows, Tables};
 pub use text::{CardKey, Key, Name, Text};
 pub use week::Mask;
+pub use writing::{WriteFault, write_bytes};
