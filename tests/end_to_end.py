@@ -1,17 +1,23 @@
 #!/usr/bin/env python3
 """Runs ./circ on real files, and reads the tables back with stock SQLite.
 
-Expected lines and rows are those of the desk's rules, worked out by hand.
+Expected lines and rows are those of the desk's rules, worked out by hand; those of the month's commands come from
+`desk_rules`, which has the rules once more in plain Python.
 """
 
 import hashlib
 import os
+import random
+import shlex
 import shutil
 import sqlite3
 import subprocess
 import sys
 import tempfile
+import time
 from contextlib import closing
+
+from desk_rules import Library
 
 TOP = os.path.dirname(os.path.dirname(os.path.abspath(__file__)))
 CIRC = os.path.join(TOP, "circ")
@@ -388,6 +394,48 @@ def refusals_of_other_rows(folder, path):
     say(other, [("q2", ["check-out", "1", "12", "1"], "refused 70")])
 
 
+def answers(path, key, words):
+    """What one run prints, of any number of lines, and its status."""
+    run = subprocess.run([CIRC, "file", path, key, *words], capture_output=True, timeout=120)
+    check(f"standard error of {key} {words}", run.stderr, b"")
+    return run.stdout.decode(), run.returncode
+
+
+def kill_at_work(path, key, words, seconds):
+    """Starts a run and kills it after a while; it may have ended by then."""
+    with subprocess.Popen([PROGRAM, "file", path, key, *words], stdout=subprocess.DEVNULL) as run:
+        time.sleep(seconds)
+        run.kill()
+
+
+def the_rows_are(path, library):
+    """The file holds exactly the rows that the rules give."""
+    found = {name: sorted(rows, key=lambda row: row[:2] if name != "transits" else row[:1])
+             for name, rows in whole(path).items()}
+    for name, rows_of in library.tables().items():
+        check(f"rows of {name}", found[name], rows_of)
+
+
+def a_month(folder):
+    """Three branches in one month: each line is that of the rules, and so is each row; and with a run that is killed at
+    a random moment before many of the commands, which are then sent again under the same key, the rows are the same."""
+    with open(os.path.join(TOP, "tests", "month.txt"), encoding="utf-8") as file:
+        requests = [shlex.split(line) for line in file]
+    calm, killed = os.path.join(folder, "calm.db"), os.path.join(folder, "killed.db")
+    library, seed = Library(), random.randrange(10**9)
+    print(f"end to end: {len(requests)} requests of a month, moments of kills by the seed {seed}")
+    moments = random.Random(seed)
+    for at, (key, *words) in enumerate(requests):
+        line = library.handle(key, words)
+        check(f"{key} {words}", answers(calm, key, words), (line + "\n", status_of(line)))
+        # a kill while the file is made may leave no library, so the first request is let be
+        while at and moments.random() < 0.5:
+            kill_at_work(killed, key, words, moments.uniform(0, 0.02))
+        check(f"{key} {words} after kills, seed {seed}", answers(killed, key, words), (line + "\n", status_of(line)))
+    the_rows_are(calm, library)
+    check(f"the rows after kills, seed {seed}", whole(killed), whole(calm))
+
+
 def bad_words(folder):
     """Words out of form are told before the file is opened: none is made."""
     path = os.path.join(folder, "never.db")
@@ -452,6 +500,7 @@ def main():
         single_closed_days(folder)
         payments(folder)
         movements(folder)
+        a_month(folder)
         bad_words(folder)
         bad_files(folder, path)
         an_unreadable_file(folder, path)

@@ -1,0 +1,390 @@
+"""The rules of docs/RULES.md once more, in plain Python: what each request of the desk is answered, and the rows after it.
+
+It was written from the rules and shares nothing with the program, so that the two can be compared.
+"""
+
+import datetime
+
+FIRST = datetime.date(2000, 1, 1)
+LAST = datetime.date(2199, 12, 31)
+LAST_TODAY = datetime.date(2190, 12, 31)
+EPOCH = datetime.date(1970, 1, 1)
+
+
+def number(day):
+    """A day as it is stored: days since 1970-01-01."""
+    return (day - EPOCH).days
+
+
+class Refused(Exception):
+    """A check of the command fails; the argument is the refusal's number."""
+
+
+def refuse(number_, fails):
+    if fails:
+        raise Refused(number_)
+
+
+class Library:
+    """All that the desk knows."""
+
+    def __init__(self):
+        self.today = FIRST
+        self.branches, self.closed, self.kinds, self.rules = {}, {}, {}, {}
+        self.patrons, self.titles, self.copies = {}, {}, {}
+        self.loans, self.holds, self.transits, self.lines = {}, {}, {}, []
+        self.kept = {}
+
+    # ---- days
+
+    def is_open(self, branch, day):
+        return self.branches[branch]["week"][day.weekday()] == "o" and day not in self.closed[branch]
+
+    def least_open(self, branch, day):
+        while not self.is_open(branch, day):
+            refuse(39, day >= LAST)
+            day += datetime.timedelta(1)
+        return day
+
+    def late(self, branch, due):
+        days = (due + datetime.timedelta(n) for n in range(1, (self.today - due).days + 1))
+        return sum(self.is_open(branch, day) for day in days)
+
+    # ---- what a copy or a hold is
+
+    def loan_of(self, copy):
+        return next((n for n, loan in self.loans.items() if loan["copy"] == copy and loan["ended"] is None), None)
+
+    def ready_for(self, copy):
+        return next((n for n, hold in self.holds.items() if hold["state"] == "ready" and hold["copy"] == copy), None)
+
+    def line(self, title):
+        coming = {hold for _, hold in self.transits.values()}
+        return [n for n, hold in sorted(self.holds.items())
+                if hold["title"] == title and hold["state"] == "waiting" and n not in coming]
+
+    def active(self, patron, title=None):
+        return [n for n, hold in sorted(self.holds.items()) if hold["patron"] == patron
+                and hold["state"] in ("waiting", "ready") and title in (None, hold["title"])]
+
+    def open_loans(self, patron):
+        return [n for n, loan in sorted(self.loans.items()) if loan["patron"] == patron and loan["ended"] is None]
+
+    def owed(self, patron):
+        sign = {"fine": 1, "price": 1, "payment": -1, "waiver": -1}
+        return sum(sign[line["sort"]] * line["amount"] for line in self.lines if line["patron"] == patron)
+
+    def add_line(self, patron, sort, amount, loan=None):
+        if amount:
+            self.lines.append({"patron": patron, "day": self.today, "sort": sort, "amount": amount, "loan": loan})
+
+    # ---- movements
+
+    def make_ready(self, hold, copy):
+        row = self.holds[hold]
+        limit = self.least_open(row["branch"], self.today + datetime.timedelta(self.branches[row["branch"]]["pickup"]))
+        row.update(state="ready", copy=copy, limit=limit)
+        return f"ready {hold} at {row['branch']} until {limit}"
+
+    def route(self, copy, branch):
+        goal, hold = self.transits.get(copy, (None, None))
+        if hold is not None and goal != branch:
+            return f"transit {goal} for {hold}"
+        self.transits.pop(copy, None)
+        if hold is not None:
+            return self.make_ready(hold, copy)
+        line = self.line(self.copies[copy]["title"])
+        if line:
+            pickup = self.holds[line[0]]["branch"]
+            if pickup == branch:
+                return self.make_ready(line[0], copy)
+            self.transits[copy] = (pickup, line[0])
+            return f"transit {pickup} for {line[0]}"
+        home = self.copies[copy]["home"]
+        if home == branch:
+            return f"shelf {home}"
+        self.transits[copy] = (home, None)
+        return f"transit {home}"
+
+    def end_loan(self, copy):
+        """Ends the open loan of a copy, and gives the loan and its fine."""
+        loan = self.loan_of(copy)
+        if loan is None:
+            return None, 0
+        row = self.loans[loan]
+        fine = min(self.late(row["branch"], row["due"]) * row["rate"], row["cap"])
+        row["ended"] = self.today
+        self.add_line(row["patron"], "fine", fine, loan)
+        return loan, fine
+
+    # ---- commands
+
+    def do_begin_day(self, day):
+        day = datetime.date.fromisoformat(day)
+        refuse(23, not self.today < day <= LAST_TODAY)
+        self.today = day
+        return "ok"
+
+    def do_branch(self, branch, pickup, name):
+        refuse(21, not (1 <= branch <= 99 and pickup <= 60))
+        there = self.branches.get(branch)
+        refuse(20, there and (there["pickup"], there["name"]) != (pickup, name))
+        if not there:
+            self.branches[branch] = {"pickup": pickup, "week": "ooooooo", "name": name}
+            self.closed[branch] = set()
+        return "ok"
+
+    def do_week(self, branch, mask):
+        refuse(10, branch not in self.branches)
+        refuse(22, mask == "ccccccc")
+        self.branches[branch]["week"] = mask
+        return "ok"
+
+    def do_close_day(self, branch, day):
+        day = datetime.date.fromisoformat(day)
+        refuse(10, branch not in self.branches)
+        refuse(23, not self.today < day)
+        refuse(24, day in self.closed[branch])
+        refuse(21, len(self.closed[branch]) >= 400)
+        self.closed[branch].add(day)
+        return "ok"
+
+    def do_open_day(self, branch, day):
+        day = datetime.date.fromisoformat(day)
+        refuse(10, branch not in self.branches)
+        refuse(23, not self.today < day)
+        refuse(25, day not in self.closed[branch])
+        self.closed[branch].remove(day)
+        return "ok"
+
+    def do_kind(self, kind, loans, holds, debt):
+        refuse(21, not (1 <= kind <= 99 and loans <= 200 and holds <= 200 and debt <= 1_000_000))
+        self.kinds[kind] = {"loans": loans, "holds": holds, "debt": debt}
+        return "ok"
+
+    def do_rule(self, kind, copy_kind, period, renewals, rate, cap):
+        refuse(21, not (1 <= kind <= 99 and 1 <= copy_kind <= 99 and 1 <= period <= 365 and renewals <= 99
+                        and rate <= 10_000 and cap <= 100_000))
+        refuse(17, kind not in self.kinds)
+        self.rules[kind, copy_kind] = {"period": period, "renewals": renewals, "rate": rate, "cap": cap}
+        return "ok"
+
+    def do_patron(self, patron, kind, card_key, name):
+        refuse(21, not (1 <= patron <= 9_999_999 and 1 <= kind <= 99))
+        refuse(17, kind not in self.kinds)
+        row = {"kind": kind, "card_key": card_key, "name": name}
+        refuse(20, self.patrons.get(patron, row) != row)
+        self.patrons[patron] = row
+        return "ok"
+
+    def do_acquire(self, copy, title, kind, home, price, text):
+        refuse(21, not (1 <= copy <= 9_999_999 and 1 <= title <= 9_999_999 and 1 <= kind <= 99 and price <= 1_000_000))
+        refuse(10, home not in self.branches)
+        row = {"title": title, "kind": kind, "home": home, "price": price}
+        there = {name: self.copies[copy][name] for name in row} if copy in self.copies else row
+        refuse(20, self.titles.get(title, text) != text or there != row)
+        self.titles[title] = text
+        self.copies.setdefault(copy, {**row, "condition": "present"})
+        return "ok"
+
+    def do_check_out(self, patron, copy, branch):
+        refuse(10, branch not in self.branches)
+        refuse(11, patron not in self.patrons)
+        refuse(13, copy not in self.copies)
+        row = self.copies[copy]
+        refuse(35, row["condition"] == "withdrawn")
+        refuse(34, row["condition"] == "missing")
+        refuse(31, self.loan_of(copy) is not None)
+        refuse(32, copy in self.transits)
+        ready = self.ready_for(copy)
+        refuse(30, branch != (row["home"] if ready is None else self.holds[ready]["branch"]))
+        refuse(33, ready is not None and self.holds[ready]["patron"] != patron)
+        line = self.line(row["title"])
+        first = line[0] if ready is None and line else None
+        refuse(36, first is not None and self.holds[first]["patron"] != patron)
+        filled = ready if ready is not None else first
+        refuse(50, any(hold != filled for hold in self.active(patron, row["title"])))
+        kind = self.patrons[patron]["kind"]
+        rule = self.rules.get((kind, row["kind"]))
+        refuse(16, rule is None)
+        refuse(37, len(self.open_loans(patron)) >= self.kinds[kind]["loans"])
+        refuse(38, self.owed(patron) > self.kinds[kind]["debt"])
+        due = self.least_open(branch, self.today + datetime.timedelta(rule["period"]))
+        loan = len(self.loans) + 1
+        self.loans[loan] = {"copy": copy, "patron": patron, "branch": branch, "made": self.today, "due": due, **rule,
+                            "ended": None}
+        if filled is not None:
+            self.holds[filled].update(state="filled", copy=None, limit=None)
+        return f"loan {loan} due {due}"
+
+    def do_check_in(self, copy, branch):
+        refuse(10, branch not in self.branches)
+        refuse(13, copy not in self.copies)
+        refuse(35, self.copies[copy]["condition"] == "withdrawn")
+        refuse(33, self.ready_for(copy) is not None)
+        _, fine = self.end_loan(copy)
+        self.copies[copy]["condition"] = "present"
+        return f"fine {fine} {self.route(copy, branch)}"
+
+    def do_renew(self, loan):
+        refuse(14, loan not in self.loans)
+        row = self.loans[loan]
+        refuse(40, row["ended"] is not None)
+        refuse(41, self.today > row["due"])
+        refuse(36, bool(self.line(self.copies[row["copy"]]["title"])))
+        refuse(42, row["renewals"] == 0)
+        kind = self.patrons[row["patron"]]["kind"]
+        refuse(38, self.owed(row["patron"]) > self.kinds[kind]["debt"])
+        row["due"] = self.least_open(row["branch"], row["due"] + datetime.timedelta(row["period"]))
+        row["renewals"] -= 1
+        return f"loan {loan} due {row['due']}"
+
+    def do_place_hold(self, patron, title, branch):
+        refuse(11, patron not in self.patrons)
+        refuse(12, title not in self.titles)
+        refuse(10, branch not in self.branches)
+        refuse(50, bool(self.active(patron, title)))
+        refuse(52, any(self.copies[self.loans[n]["copy"]]["title"] == title for n in self.open_loans(patron)))
+        refuse(51, len(self.active(patron)) >= self.kinds[self.patrons[patron]["kind"]]["holds"])
+        hold = len(self.holds) + 1
+        self.holds[hold] = {"patron": patron, "title": title, "branch": branch, "state": "waiting", "copy": None,
+                            "limit": None}
+        return f"hold {hold}"
+
+    def do_cancel_hold(self, hold):
+        refuse(15, hold not in self.holds)
+        refuse(53, self.holds[hold]["state"] != "waiting")
+        self.holds[hold]["state"] = "cancelled"
+        for copy, (goal, for_hold) in self.transits.items():
+            if for_hold == hold:
+                self.transits[copy] = (goal, None)
+        return "ok"
+
+    def end_ready(self, hold, state):
+        row = self.holds[hold]
+        copy = row["copy"]
+        row.update(state=state, copy=None, limit=None)
+        return self.route(copy, row["branch"])
+
+    def do_unshelve(self, hold):
+        refuse(15, hold not in self.holds)
+        refuse(53, self.holds[hold]["state"] != "ready")
+        refuse(54, self.today <= self.holds[hold]["limit"])
+        return self.end_ready(hold, "expired")
+
+    def do_unshelve_cancelled(self, hold):
+        refuse(15, hold not in self.holds)
+        refuse(53, self.holds[hold]["state"] != "ready")
+        return self.end_ready(hold, "cancelled")
+
+    def do_missing(self, copy):
+        refuse(13, copy not in self.copies)
+        row = self.copies[copy]
+        refuse(35, row["condition"] == "withdrawn")
+        refuse(34, row["condition"] == "missing")
+        ready = self.ready_for(copy)
+        if ready is not None:
+            self.holds[ready].update(state="waiting", copy=None, limit=None)
+        self.transits.pop(copy, None)
+        row["condition"] = "missing"
+        loan, fine = self.end_loan(copy)
+        if loan is None:
+            return "ok"
+        self.add_line(self.loans[loan]["patron"], "price", row["price"], loan)
+        return f"fine {fine} price {row['price']}"
+
+    def do_withdraw(self, copy):
+        refuse(13, copy not in self.copies)
+        row = self.copies[copy]
+        refuse(35, row["condition"] == "withdrawn")
+        refuse(31, self.loan_of(copy) is not None)
+        refuse(32, copy in self.transits)
+        refuse(33, self.ready_for(copy) is not None)
+        row["condition"] = "withdrawn"
+        return "ok"
+
+    def settle(self, patron, amount, sort):
+        refuse(11, patron not in self.patrons)
+        refuse(60, not 0 < amount <= self.owed(patron))
+        self.add_line(patron, sort, amount)
+        return f"owed {self.owed(patron)}"
+
+    def do_pay(self, patron, amount):
+        return self.settle(patron, amount, "payment")
+
+    def do_waive(self, patron, amount):
+        return self.settle(patron, amount, "waiver")
+
+    def do_page(self, patron):
+        refuse(11, patron not in self.patrons)
+        lines = [f"patron {patron} owed {self.owed(patron)} name {self.patrons[patron]['name']}"]
+        for n in self.open_loans(patron):
+            row = self.loans[n]
+            title = self.copies[row["copy"]]["title"]
+            lines.append(f"loan {n} due {row['due']} renewals {row['renewals']} title {title} {self.titles[title]}")
+        for n in self.active(patron):
+            row = self.holds[n]
+            lines.append(f"hold {n} at {row['branch']} {row['state']} title {row['title']} {self.titles[row['title']]}")
+        return "\n".join(lines)
+
+    # ---- requests
+
+    def handle(self, key, words):
+        """The lines that answer a request of the desk."""
+        name, arguments = words[0], [int(word) if word.isdecimal() else word for word in words[1:]]
+        # names and texts are words, also where they are digits
+        if name in ("branch", "patron", "acquire"):
+            arguments[-1] = words[-1]
+        if name == "patron":
+            arguments[2] = words[3]
+        text = " ".join(words)
+        if name != "page" and key in self.kept:
+            kept, reply = self.kept[key]
+            return reply if kept == text else "refused 80"
+        try:
+            reply = getattr(self, "do_" + name.replace("-", "_"))(*arguments)
+        except Refused as refusal:
+            return f"refused {refusal}"
+        if name != "page":
+            self.kept[key] = (text, reply)
+        return reply
+
+    # ---- reports and rows
+
+    def till(self, day):
+        sums = {sort: sum(line["amount"] for line in self.lines if line["day"] == day and line["sort"] == sort)
+                for sort in ("fine", "price", "payment", "waiver")}
+        return f"till {day}\n" + "".join(f"{sort + 's':<9}{amount:>15}\n" for sort, amount in sums.items())
+
+    def shelf(self, branch):
+        rows = [(n, hold) for n, hold in sorted(self.holds.items()) if hold["state"] == "ready" and hold["branch"] == branch]
+        lines = [("hold", "copy", "patron", "until", "title")]
+        lines += [(n, hold["copy"], hold["patron"], str(hold["limit"]), self.titles[hold["title"]]) for n, hold in rows]
+        text = "".join(f"{a:>10} {b:>7} {c:>7} {d:<10} {e}\n" for a, b, c, d, e in lines)
+        return f"{text}ready {len(rows)}\n"
+
+    def tables(self):
+        """The rows as the file has to hold them, each table in the order of its key."""
+        states = ["waiting", "ready", "filled", "cancelled", "expired"]
+        conditions = ["present", "missing", "withdrawn"]
+        sorts = ["fine", "price", "payment", "waiver"]
+        day = lambda d: None if d is None else number(d)
+        return {
+            "meta": [(1, 1, number(self.today), len(self.loans) + 1, len(self.holds) + 1, len(self.lines) + 1)],
+            "branches": [(n, r["pickup"], r["week"], r["name"]) for n, r in sorted(self.branches.items())],
+            "closed_days": [(n, number(d)) for n, days in sorted(self.closed.items()) for d in sorted(days)],
+            "kinds": [(n, r["loans"], r["holds"], r["debt"]) for n, r in sorted(self.kinds.items())],
+            "rules": [(*n, r["period"], r["renewals"], r["rate"], r["cap"]) for n, r in sorted(self.rules.items())],
+            "patrons": [(n, r["kind"], r["card_key"], r["name"], self.owed(n)) for n, r in sorted(self.patrons.items())],
+            "titles": sorted(self.titles.items()),
+            "copies": [(n, r["title"], r["kind"], r["home"], r["price"], conditions.index(r["condition"]))
+                       for n, r in sorted(self.copies.items())],
+            "loans": [(n, r["copy"], r["patron"], r["branch"], number(r["made"]), number(r["due"]), r["period"],
+                       r["renewals"], r["rate"], r["cap"], day(r["ended"])) for n, r in sorted(self.loans.items())],
+            "holds": [(n, r["patron"], r["title"], r["branch"], states.index(r["state"]), r["copy"], day(r["limit"]))
+                      for n, r in sorted(self.holds.items())],
+            "transits": [(n, goal, hold) for n, (goal, hold) in sorted(self.transits.items())],
+            "lines": [(n, r["patron"], number(r["day"]), sorts.index(r["sort"]), r["amount"], r["loan"])
+                      for n, r in enumerate(self.lines, 1)],
+            "kept": [(0, key, text, reply) for key, (text, reply) in sorted(self.kept.items())],
+        }
