@@ -401,6 +401,27 @@ def answers(path, key, words):
     return run.stdout.decode(), run.returncode
 
 
+def examples(page):
+    """The lines that a page of docs/ shows as typed, each with the lines that answer it."""
+    with open(os.path.join(TOP, "docs", page), encoding="utf-8") as file:
+        blocks = file.read().split("```\n")[1::2]
+    for block in blocks:
+        for typed in block.split("$ ./circ")[1:]:
+            line, _, answer = typed.partition("\n")
+            yield shlex.split(line), answer
+
+
+def a_day_at_the_desk(folder):
+    """The page of a day's work is what the program really answers."""
+    room = os.path.join(folder, "day")
+    os.mkdir(room)
+    shown = list(examples("DAY-AT-THE-DESK.md"))
+    check("the page shows a day's work", len(shown) > 30, True)
+    for words, answer in shown:
+        run = subprocess.run([CIRC, *words], capture_output=True, timeout=120, cwd=room)
+        check(f"{words}", (run.stdout.decode(), run.returncode), (answer, status_of(answer.partition("\n")[0])))
+
+
 def kill_at_work(path, key, words, seconds):
     """Starts a run and kills it after a while; it may have ended by then."""
     with subprocess.Popen([PROGRAM, "file", path, key, *words], stdout=subprocess.DEVNULL) as run:
@@ -500,6 +521,7 @@ def main():
         single_closed_days(folder)
         payments(folder)
         movements(folder)
+        a_day_at_the_desk(folder)
         a_month(folder)
         bad_words(folder)
         bad_files(folder, path)
