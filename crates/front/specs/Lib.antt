@@ -1,1 +1,4 @@
-pub mod Names
+pub mod Commands
+pub mod Forms
+pub mod Line
+pub mod Understood

@@ -1,0 +1,418 @@
+//! The commands, each read from the words of its arguments.
+
+ghost use Rattle.std.specs.Prelude.{◌≡◌, ◌<◌, ◌^◌, codes, length, true, IfOk};
+ghost use Rattle.std.specs.Fmt.{decimal};
+ghost use Rattle.calendar.specs.Days.{IsDayNumber, day_text};
+ghost use Rattle.terms.specs.Forms.{IsName, is_card_key};
+ghost use Rattle.terms.specs.Texts.{mask_text};
+ghost use Rattle.front.specs.Commands.{IsReadAs, IsNoCommand, IsNoNumber, IsNoDay, IsNoMask, IsNoName, IsNoCardKey};
+ghost use Rattle.front.specs.Forms.{texts};
+ghost use Rattle.front.specs.declared.words.WordFault.TheVariants.{NotUnderstood as Refused};
+
+use crate::words::WordFault;
+use std::alloc::Global;
+use terms::{
+    BranchId, CardKey, Cents, Command, CopyId, CopyKind, Count, Day, Days, HoldId, LoanId, Mask,
+    Name, PatronId, PatronKind, TitleId, read_number,
+};
+
+/// The number that a word writes.
+fn number(word: &str) -> Result<u32, WordFault>
+    ensures read { IfOk result (λ n. (n < 2 ^ 32) × (word.now ≡ decimal n)) }
+    ensures refused { result ≡ Err Refused → IsNoNumber word.now }
+{
+    read_number(word).ok_or(WordFault::NotUnderstood)
+}
+
+/// The day that a word writes.
+fn read_day(word: &str) -> Result<Day, WordFault>
+    ensures read { IfOk result (λ n. IsDayNumber n × (word.now ≡ day_text n)) }
+    ensures refused { result ≡ Err Refused → IsNoDay word.now }
+{
+    Day::read(word).ok_or(WordFault::NotUnderstood)
+}
+
+/// The closed weekdays that a word writes.
+fn read_mask(word: &str) -> Result<Mask, WordFault>
+    ensures read { IfOk result (λ closed. (length closed ≡ 7) × (word.now ≡ mask_text closed)) }
+    ensures refused { result ≡ Err Refused → IsNoMask word.now }
+{
+    let mask = Mask::read(word).ok_or(WordFault::NotUnderstood)?;
+    // The look at the weekdays shows the proof that they are seven.
+    let _ = mask.closed();
+    Ok(mask)
+}
+
+/// The name that a word is.
+fn read_name(alloc: Global, word: &str) -> Result<Name, WordFault>
+    ensures read { IfOk result (λ name. IsName name × (word.now ≡ name)) }
+    ensures refused { result ≡ Err Refused → IsNoName word.now }
+{
+    let name = Name::new(alloc, word)?;
+    name.ok_or(WordFault::NotUnderstood)
+}
+
+/// The card key that a word is.
+fn read_card_key(alloc: Global, word: &str) -> Result<CardKey, WordFault>
+    ensures read { IfOk result (λ key. (is_card_key key ≡ true) × (word.now ≡ key)) }
+    ensures refused { result ≡ Err Refused → IsNoCardKey word.now }
+{
+    let key = CardKey::new(alloc, word)?;
+    key.ok_or(WordFault::NotUnderstood)
+}
+
+/// The amount that a word writes, which is below 2^32 cents as every number is.
+fn read_amount(word: &str) -> Result<Cents, WordFault>
+    ensures read { IfOk result (λ n. (n < 2 ^ 32) × (word.now ≡ decimal n)) }
+    ensures refused { result ≡ Err Refused → IsNoNumber word.now }
+{
+    Ok(Cents::new(u64::from(number(word)?)))
+}
+
+#[tactic(auto, unfolding(terms::specs::Texts::command_words))]
+fn begin_day(values: &[&str]) -> Result<Command, WordFault>
+    ensures read { IfOk result (IsReadAs (codes "begin-day") (texts values.now)) }
+    ensures refused { result ≡ Err Refused → IsNoCommand (codes "begin-day") (texts values.now) }
+{
+    let [day] = values else {
+        return Err(WordFault::NotUnderstood);
+    };
+    let day = read_day(day)?;
+    Ok(Command::BeginDay { day })
+}
+
+#[tactic(auto, unfolding(terms::specs::Texts::command_words))]
+fn branch(alloc: Global, values: &[&str]) -> Result<Command, WordFault>
+    ensures read { IfOk result (IsReadAs (codes "branch") (texts values.now)) }
+    ensures refused { result ≡ Err Refused → IsNoCommand (codes "branch") (texts values.now) }
+{
+    let [branch, pickup, name] = values else {
+        return Err(WordFault::NotUnderstood);
+    };
+    let branch = BranchId::new(number(branch)?);
+    let pickup = Days::new(number(pickup)?);
+    let name = read_name(alloc, name)?;
+    Ok(Command::Branch {
+        branch,
+        pickup,
+        name,
+    })
+}
+
+#[tactic(auto, unfolding(terms::specs::Texts::command_words))]
+fn week(values: &[&str]) -> Result<Command, WordFault>
+    ensures read { IfOk result (IsReadAs (codes "week") (texts values.now)) }
+    ensures refused { result ≡ Err Refused → IsNoCommand (codes "week") (texts values.now) }
+{
+    let [branch, mask] = values else {
+        return Err(WordFault::NotUnderstood);
+    };
+    let branch = BranchId::new(number(branch)?);
+    let week = read_mask(mask)?;
+    Ok(Command::Week { branch, week })
+}
+
+#[tactic(auto, unfolding(terms::specs::Texts::command_words))]
+fn close_day(values: &[&str]) -> Result<Command, WordFault>
+    ensures read { IfOk result (IsReadAs (codes "close-day") (texts values.now)) }
+    ensures refused { result ≡ Err Refused → IsNoCommand (codes "close-day") (texts values.now) }
+{
+    let [branch, day] = values else {
+        return Err(WordFault::NotUnderstood);
+    };
+    let branch = BranchId::new(number(branch)?);
+    let day = read_day(day)?;
+    Ok(Command::CloseDay { branch, day })
+}
+
+#[tactic(auto, unfolding(terms::specs::Texts::command_words))]
+fn open_day(values: &[&str]) -> Result<Command, WordFault>
+    ensures read { IfOk result (IsReadAs (codes "open-day") (texts values.now)) }
+    ensures refused { result ≡ Err Refused → IsNoCommand (codes "open-day") (texts values.now) }
+{
+    let [branch, day] = values else {
+        return Err(WordFault::NotUnderstood);
+    };
+    let branch = BranchId::new(number(branch)?);
+    let day = read_day(day)?;
+    Ok(Command::OpenDay { branch, day })
+}
+
+#[tactic(auto, unfolding(terms::specs::Texts::command_words))]
+fn kind(values: &[&str]) -> Result<Command, WordFault>
+    ensures read { IfOk result (IsReadAs (codes "kind") (texts values.now)) }
+    ensures refused { result ≡ Err Refused → IsNoCommand (codes "kind") (texts values.now) }
+{
+    let [kind, loans, holds, debt] = values else {
+        return Err(WordFault::NotUnderstood);
+    };
+    let kind = PatronKind::new(number(kind)?);
+    let loans = Count::new(number(loans)?);
+    let holds = Count::new(number(holds)?);
+    let debt = read_amount(debt)?;
+    Ok(Command::Kind {
+        kind,
+        loans,
+        holds,
+        debt,
+    })
+}
+
+#[tactic(auto, unfolding(terms::specs::Texts::command_words))]
+fn rule(values: &[&str]) -> Result<Command, WordFault>
+    ensures read { IfOk result (IsReadAs (codes "rule") (texts values.now)) }
+    ensures refused { result ≡ Err Refused → IsNoCommand (codes "rule") (texts values.now) }
+{
+    let [kind, copy_kind, period, renewals, rate, cap] = values else {
+        return Err(WordFault::NotUnderstood);
+    };
+    let kind = PatronKind::new(number(kind)?);
+    let copy_kind = CopyKind::new(number(copy_kind)?);
+    let period = Days::new(number(period)?);
+    let renewals = Count::new(number(renewals)?);
+    let rate = read_amount(rate)?;
+    let cap = read_amount(cap)?;
+    Ok(Command::Rule {
+        kind,
+        copy_kind,
+        period,
+        renewals,
+        rate,
+        cap,
+    })
+}
+
+#[tactic(auto, unfolding(terms::specs::Texts::command_words))]
+fn patron(alloc: Global, values: &[&str]) -> Result<Command, WordFault>
+    ensures read { IfOk result (IsReadAs (codes "patron") (texts values.now)) }
+    ensures refused { result ≡ Err Refused → IsNoCommand (codes "patron") (texts values.now) }
+{
+    let [patron, kind, card_key, name] = values else {
+        return Err(WordFault::NotUnderstood);
+    };
+    let patron = PatronId::new(number(patron)?);
+    let kind = PatronKind::new(number(kind)?);
+    let card_key = read_card_key(alloc, card_key)?;
+    let name = read_name(alloc, name)?;
+    Ok(Command::Patron {
+        patron,
+        kind,
+        card_key,
+        name,
+    })
+}
+
+#[tactic(auto, unfolding(terms::specs::Texts::command_words))]
+fn acquire(alloc: Global, values: &[&str]) -> Result<Command, WordFault>
+    ensures read { IfOk result (IsReadAs (codes "acquire") (texts values.now)) }
+    ensures refused { result ≡ Err Refused → IsNoCommand (codes "acquire") (texts values.now) }
+{
+    let [copy, title, kind, home, price, text] = values else {
+        return Err(WordFault::NotUnderstood);
+    };
+    let copy = CopyId::new(number(copy)?);
+    let title = TitleId::new(number(title)?);
+    let kind = CopyKind::new(number(kind)?);
+    let home = BranchId::new(number(home)?);
+    let price = read_amount(price)?;
+    let text = read_name(alloc, text)?;
+    Ok(Command::Acquire {
+        copy,
+        title,
+        kind,
+        home,
+        price,
+        text,
+    })
+}
+
+#[tactic(auto, unfolding(terms::specs::Texts::command_words))]
+fn check_out(values: &[&str]) -> Result<Command, WordFault>
+    ensures read { IfOk result (IsReadAs (codes "check-out") (texts values.now)) }
+    ensures refused { result ≡ Err Refused → IsNoCommand (codes "check-out") (texts values.now) }
+{
+    let [patron, copy, branch] = values else {
+        return Err(WordFault::NotUnderstood);
+    };
+    let patron = PatronId::new(number(patron)?);
+    let copy = CopyId::new(number(copy)?);
+    let branch = BranchId::new(number(branch)?);
+    Ok(Command::CheckOut {
+        patron,
+        copy,
+        branch,
+    })
+}
+
+#[tactic(auto, unfolding(terms::specs::Texts::command_words))]
+fn check_in(values: &[&str]) -> Result<Command, WordFault>
+    ensures read { IfOk result (IsReadAs (codes "check-in") (texts values.now)) }
+    ensures refused { result ≡ Err Refused → IsNoCommand (codes "check-in") (texts values.now) }
+{
+    let [copy, branch] = values else {
+        return Err(WordFault::NotUnderstood);
+    };
+    let copy = CopyId::new(number(copy)?);
+    let branch = BranchId::new(number(branch)?);
+    Ok(Command::CheckIn { copy, branch })
+}
+
+#[tactic(auto, unfolding(terms::specs::Texts::command_words))]
+fn renew(values: &[&str]) -> Result<Command, WordFault>
+    ensures read { IfOk result (IsReadAs (codes "renew") (texts values.now)) }
+    ensures refused { result ≡ Err Refused → IsNoCommand (codes "renew") (texts values.now) }
+{
+    let [loan] = values else {
+        return Err(WordFault::NotUnderstood);
+    };
+    let loan = LoanId::new(number(loan)?);
+    Ok(Command::Renew { loan })
+}
+
+#[tactic(auto, unfolding(terms::specs::Texts::command_words))]
+fn place_hold(values: &[&str]) -> Result<Command, WordFault>
+    ensures read { IfOk result (IsReadAs (codes "place-hold") (texts values.now)) }
+    ensures refused { result ≡ Err Refused → IsNoCommand (codes "place-hold") (texts values.now) }
+{
+    let [patron, title, branch] = values else {
+        return Err(WordFault::NotUnderstood);
+    };
+    let patron = PatronId::new(number(patron)?);
+    let title = TitleId::new(number(title)?);
+    let branch = BranchId::new(number(branch)?);
+    Ok(Command::PlaceHold {
+        patron,
+        title,
+        branch,
+    })
+}
+
+#[tactic(auto, unfolding(terms::specs::Texts::command_words))]
+fn cancel_hold(values: &[&str]) -> Result<Command, WordFault>
+    ensures read { IfOk result (IsReadAs (codes "cancel-hold") (texts values.now)) }
+    ensures refused { result ≡ Err Refused → IsNoCommand (codes "cancel-hold") (texts values.now) }
+{
+    let [hold] = values else {
+        return Err(WordFault::NotUnderstood);
+    };
+    let hold = HoldId::new(number(hold)?);
+    Ok(Command::CancelHold { hold })
+}
+
+#[tactic(auto, unfolding(terms::specs::Texts::command_words))]
+fn unshelve(values: &[&str]) -> Result<Command, WordFault>
+    ensures read { IfOk result (IsReadAs (codes "unshelve") (texts values.now)) }
+    ensures refused { result ≡ Err Refused → IsNoCommand (codes "unshelve") (texts values.now) }
+{
+    let [hold] = values else {
+        return Err(WordFault::NotUnderstood);
+    };
+    let hold = HoldId::new(number(hold)?);
+    Ok(Command::Unshelve { hold })
+}
+
+#[tactic(auto, unfolding(terms::specs::Texts::command_words))]
+fn unshelve_cancelled(values: &[&str]) -> Result<Command, WordFault>
+    ensures read { IfOk result (IsReadAs (codes "unshelve-cancelled") (texts values.now)) }
+    ensures refused { result ≡ Err Refused → IsNoCommand (codes "unshelve-cancelled") (texts values.now) }
+{
+    let [hold] = values else {
+        return Err(WordFault::NotUnderstood);
+    };
+    let hold = HoldId::new(number(hold)?);
+    Ok(Command::UnshelveCancelled { hold })
+}
+
+#[tactic(auto, unfolding(terms::specs::Texts::command_words))]
+fn missing(values: &[&str]) -> Result<Command, WordFault>
+    ensures read { IfOk result (IsReadAs (codes "missing") (texts values.now)) }
+    ensures refused { result ≡ Err Refused → IsNoCommand (codes "missing") (texts values.now) }
+{
+    let [copy] = values else {
+        return Err(WordFault::NotUnderstood);
+    };
+    let copy = CopyId::new(number(copy)?);
+    Ok(Command::Missing { copy })
+}
+
+#[tactic(auto, unfolding(terms::specs::Texts::command_words))]
+fn withdraw(values: &[&str]) -> Result<Command, WordFault>
+    ensures read { IfOk result (IsReadAs (codes "withdraw") (texts values.now)) }
+    ensures refused { result ≡ Err Refused → IsNoCommand (codes "withdraw") (texts values.now) }
+{
+    let [copy] = values else {
+        return Err(WordFault::NotUnderstood);
+    };
+    let copy = CopyId::new(number(copy)?);
+    Ok(Command::Withdraw { copy })
+}
+
+#[tactic(auto, unfolding(terms::specs::Texts::command_words))]
+fn pay(values: &[&str]) -> Result<Command, WordFault>
+    ensures read { IfOk result (IsReadAs (codes "pay") (texts values.now)) }
+    ensures refused { result ≡ Err Refused → IsNoCommand (codes "pay") (texts values.now) }
+{
+    let [patron, amount] = values else {
+        return Err(WordFault::NotUnderstood);
+    };
+    let patron = PatronId::new(number(patron)?);
+    let amount = read_amount(amount)?;
+    Ok(Command::Pay { patron, amount })
+}
+
+#[tactic(auto, unfolding(terms::specs::Texts::command_words))]
+fn waive(values: &[&str]) -> Result<Command, WordFault>
+    ensures read { IfOk result (IsReadAs (codes "waive") (texts values.now)) }
+    ensures refused { result ≡ Err Refused → IsNoCommand (codes "waive") (texts values.now) }
+{
+    let [patron, amount] = values else {
+        return Err(WordFault::NotUnderstood);
+    };
+    let patron = PatronId::new(number(patron)?);
+    let amount = read_amount(amount)?;
+    Ok(Command::Waive { patron, amount })
+}
+
+#[tactic(auto, unfolding(terms::specs::Texts::command_words))]
+fn page(values: &[&str]) -> Result<Command, WordFault>
+    ensures read { IfOk result (IsReadAs (codes "page") (texts values.now)) }
+    ensures refused { result ≡ Err Refused → IsNoCommand (codes "page") (texts values.now) }
+{
+    let [patron] = values else {
+        return Err(WordFault::NotUnderstood);
+    };
+    let patron = PatronId::new(number(patron)?);
+    Ok(Command::Page { patron })
+}
+
+/// The command of this name with these arguments, each of which has to have its form.
+#[tactic(auto, unfolding(terms::specs::Texts::command_words))]
+pub fn command(alloc: Global, name: &str, values: &[&str]) -> Result<Command, WordFault>
+    ensures read { IfOk result (IsReadAs name.now (texts values.now)) }
+    ensures refused { result ≡ Err Refused → IsNoCommand name.now (texts values.now) }
+{
+    match name {
+        "begin-day" => begin_day(values),
+        "branch" => branch(alloc, values),
+        "week" => week(values),
+        "close-day" => close_day(values),
+        "open-day" => open_day(values),
+        "kind" => kind(values),
+        "rule" => rule(values),
+        "patron" => patron(alloc, values),
+        "acquire" => acquire(alloc, values),
+        "check-out" => check_out(values),
+        "check-in" => check_in(values),
+        "renew" => renew(values),
+        "place-hold" => place_hold(values),
+        "cancel-hold" => cancel_hold(values),
+        "unshelve" => unshelve(values),
+        "unshelve-cancelled" => unshelve_cancelled(values),
+        "missing" => missing(values),
+        "withdraw" => withdraw(values),
+        "pay" => pay(values),
+        "waive" => waive(values),
+        "page" => page(values),
+        _ => Err(WordFault::NotUnderstood),
+    }
+}
