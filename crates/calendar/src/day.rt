@@ -84,6 +84,27 @@ impl Day {
         let _ = &self.number;
         format!(in alloc; "{self}")
     }
+
+    /// The date `YYYY-MM-DD` of a day, in ASCII. It takes no memory.
+    pub fn ascii(self) -> [u8; 10]
+        ensures { result ≡ day_text self }
+    {
+        let (year, month, day) = parts(self.number);
+        let century = (year / 100) as u8;
+        let rest = (year % 100) as u8;
+        [
+            b'0' + century / 10,
+            b'0' + century % 10,
+            b'0' + rest / 10,
+            b'0' + rest % 10,
+            b'-',
+            b'0' + month / 10,
+            b'0' + month % 10,
+            b'-',
+            b'0' + day / 10,
+            b'0' + day % 10,
+        ]
+    }
 }
 
 impl fmt::Display for Day {

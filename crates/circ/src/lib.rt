@@ -6,6 +6,7 @@ mod lines;
 mod requests;
 #[cfg(test)]
 mod tests;
+mod writing;
 
 pub use arguments::{Run, read_run};
 pub use lines::{Exit, WriteFault, not_understood, out_of_memory, tell_fault};

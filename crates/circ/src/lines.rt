@@ -1,10 +1,17 @@
 //! The lines that the programs write, and the statuses that they end with.
 
-ghost use Rattle.std.specs.Prelude.{◌≡◌, IfOk};
+ghost use Rattle.std.specs.Prelude.{◌≡◌, IfOk, OnOk, OnErr};
+ghost use Rattle.std.specs.Io.KnownBytes.{Appends};
+ghost use Rattle.terms.specs.Writing.{AppendsFront};
+ghost use Rattle.terms.specs.declared.fault.Fault.TheVariants.{Memory};
 ghost use Rattle.circ.specs.Exits.{status_of, exit_of};
+ghost use Rattle.circ.specs.Lines.{reply_line, fault_line, not_understood_line};
 
+use crate::writing::{write_pieces, write_reply};
+use itoa::Buffer;
 use std::io::Write;
-use terms::{Fault, Reply};
+pub use terms::WriteFault;
+use terms::{Fault, Reply, write_bytes};
 
 /// How a program ends.
 #[derive(Clone, Copy, Debug, PartialEq, Eq)]
@@ -33,44 +40,50 @@ impl Exit {
     }
 }
 
-/// A line could not be written; a beginning of it may have gone out.
-#[derive(Clone, Copy, Debug, PartialEq, Eq)]
-pub struct WriteFault;
-
-/// Says that the words were not understood.
+/// Says that the words were not understood. It takes no memory.
 pub fn not_understood<W: Write>(writer: &mut W) -> Result<Exit, WriteFault>
-    ensures { IfOk result (λ exit. exit ≡ Exit.NotUnderstood) }
+    ensures exit { IfOk result (λ exit. exit ≡ Exit.NotUnderstood) }
+    ensures all { OnOk result (Appends (W.contents writer.old) (W.contents writer.new) not_understood_line) }
+    ensures front { OnErr result (AppendsFront (W.contents writer.old) (W.contents writer.new) not_understood_line) }
 {
-    match writeln!(writer, "words not understood") {
-        Ok(()) => Ok(Exit::NotUnderstood),
-        Err(_) => Err(WriteFault),
-    }
+    write_bytes(writer, b"words not understood\n")?;
+    Ok(Exit::NotUnderstood)
 }
 
-/// Tells a fault by its number.
+/// Tells a fault by its number. It takes no memory.
 pub fn tell_fault<W: Write>(writer: &mut W, fault: Fault) -> Result<Exit, WriteFault>
-    ensures { IfOk result (λ exit. exit ≡ Exit.Faulted) }
+    ensures exit { IfOk result (λ exit. exit ≡ Exit.Faulted) }
+    ensures all { OnOk result (Appends (W.contents writer.old) (W.contents writer.new) (fault_line fault)) }
+    ensures front { OnErr result (AppendsFront (W.contents writer.old) (W.contents writer.new) (fault_line fault)) }
 {
-    match writeln!(writer, "fault {fault}") {
-        Ok(()) => Ok(Exit::Faulted),
-        Err(_) => Err(WriteFault),
-    }
+    write_pieces(
+        writer,
+        &[
+            b"fault ",
+            Buffer::new().format(fault.number()).as_bytes(),
+            b"\n",
+        ],
+    )?;
+    Ok(Exit::Faulted)
 }
 
-/// Says that no memory was left: fault 90.
+/// Says that no memory was left: fault 90. It takes none.
 pub fn out_of_memory<W: Write>(writer: &mut W) -> Result<Exit, WriteFault>
-    ensures { IfOk result (λ exit. exit ≡ Exit.Faulted) }
+    ensures exit { IfOk result (λ exit. exit ≡ Exit.Faulted) }
+    ensures all { OnOk result (Appends (W.contents writer.old) (W.contents writer.new) (fault_line Memory)) }
+    ensures front { OnErr result (AppendsFront (W.contents writer.old) (W.contents writer.new) (fault_line Memory)) }
 {
     tell_fault(writer, Fault::Memory)
 }
 
 /// Tells a reply by its text. It takes no memory.
 pub(crate) fn tell_reply<W: Write>(writer: &mut W, reply: &Reply) -> Result<Exit, WriteFault>
-    ensures { IfOk result (λ exit. exit ≡ exit_of reply.now) }
+    ensures exit { IfOk result (λ exit. exit ≡ exit_of reply.now) }
+    ensures all { OnOk result (Appends (W.contents writer.old) (W.contents writer.new) (reply_line reply.now)) }
+    ensures front { OnErr result (AppendsFront (W.contents writer.old) (W.contents writer.new) (reply_line reply.now)) }
 {
-    if writeln!(writer, "{reply}").is_err() {
-        return Err(WriteFault);
-    }
+    write_reply(writer, reply)?;
+    write_bytes(writer, b"\n")?;
     match reply {
         Reply::Refused(_) => Ok(Exit::Refused),
         _ => Ok(Exit::Done),

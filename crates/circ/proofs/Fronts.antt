@@ -1,0 +1,60 @@
+-- Bytes that go out one after another.
+use Rattle.std.proofs.Common.{◌≡◌, ℕ, suc, ◌<◌, List, ◌++◌, Bor, Option, append_assoc, sym, ◌∙◌, ap, subst, length, take, drop, get_or, take-append-drop}
+use Rattle.std.proofs.Math.Seq.{drop-cons}
+use Rattle.std.proofs.lemmas.Grind.{flat_map-append}
+use Rattle.std.proofs.KnownBytes.{Appends-trans}
+use Rattle.std.specs.Prelude.{Result, Ok, Err, OnOk, OnErr}
+use Rattle.std.specs.Io.KnownBytes.{Appends}
+use Rattle.terms.specs.Writing.{AppendsFront}
+use Rattle.circ.specs.Pieces.{joined}
+
+-- a beginning of what follows, after all that came before, is a beginning of both
+pub front-after : (a b c : Option (List ℕ)) (xs ys : List ℕ) → Appends a b xs → AppendsFront b c ys → AppendsFront a c (xs ++ ys)
+front-after a b c xs ys p q = record {
+  sent = xs ++ q.sent;
+  rest = q.rest;
+  whole = ap (λ (zs : List ℕ). xs ++ zs) q.whole ∙ sym (append_assoc xs q.sent q.rest);
+  wrote = Appends-trans a b c xs q.sent p q.wrote;
+}
+
+-- a beginning is one of whatever may follow too
+pub front-before : (a b : Option (List ℕ)) (xs ys : List ℕ) → AppendsFront a b xs → AppendsFront a b (xs ++ ys)
+front-before a b xs ys p = record {
+  sent = p.sent;
+  rest = p.rest ++ ys;
+  whole = ap (λ (zs : List ℕ). zs ++ ys) p.whole ∙ append_assoc p.sent p.rest ys;
+  wrote = p.wrote;
+}
+
+-- the pieces before one, that piece, and the others are all of them
+joined-at : (pieces : List (Bor (List ℕ))) (i : ℕ) (d : Bor (List ℕ)) → i < length pieces
+    → joined pieces ≡ joined (take i pieces) ++ ((get_or pieces i d).now ++ joined (drop (suc i) pieces))
+joined-at pieces i d h =
+    ap joined (sym (take-append-drop i pieces)) ∙ flat_map-append (λ (p : Bor (List ℕ)). p.now) (take i pieces) (drop i pieces)
+    ∙ ap (λ (rest : List (Bor (List ℕ))). joined (take i pieces) ++ joined rest) (drop-cons pieces i d h)
+
+-- a beginning of a piece after all the pieces before it is a beginning of the pieces
+pub front-of-pieces : (a b c : Option (List ℕ)) (pieces : List (Bor (List ℕ))) (i : ℕ) (d : Bor (List ℕ)) → i < length pieces
+    → Appends a b (joined (take i pieces)) → AppendsFront b c (get_or pieces i d).now → AppendsFront a c (joined pieces)
+front-of-pieces a b c pieces i d h p q =
+    subst (AppendsFront a c) (sym (joined-at pieces i d h))
+    (front-after a b c (joined (take i pieces)) _ p (front-before b c (get_or pieces i d).now (joined (drop (suc i) pieces)) q))
+
+-- a write that failed at its first part
+pub failed-first : {T E : Type 0} (r : Result T E) (a b : Option (List ℕ)) (xs ys : List ℕ) → AppendsFront a b xs → OnErr r (AppendsFront a b (xs ++ ys))
+failed-first (Ok x) a b xs ys p = tt
+failed-first (Err e) a b xs ys p = front-before a b xs ys p
+
+-- a write whose first part went out, by what became of the other part
+pub second-out : {T E : Type 0} (r : Result T E) (a b c : Option (List ℕ)) (xs ys : List ℕ) → Appends a b xs → OnOk r (Appends b c ys) → OnOk r (Appends a c (xs ++ ys))
+second-out (Ok x) a b c xs ys p q = Appends-trans a b c xs ys p q
+second-out (Err e) a b c xs ys p q = tt
+
+pub second-failed : {T E : Type 0} (r : Result T E) (a b c : Option (List ℕ)) (xs ys : List ℕ) → Appends a b xs → OnErr r (AppendsFront b c ys) → OnErr r (AppendsFront a c (xs ++ ys))
+second-failed (Ok x) a b c xs ys p q = tt
+second-failed (Err e) a b c xs ys p q = front-after a b c xs ys p q
+
+-- what holds anyway holds after a write that failed
+pub on-err-any : {T E P : Type 0} (r : Result T E) → P → OnErr r P
+on-err-any (Ok x) p = tt
+on-err-any (Err e) p = p

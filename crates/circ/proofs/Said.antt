@@ -1,0 +1,84 @@
+-- What is said, by what the words were and what the desk answered.
+use Rattle.std.proofs.Common.{◌≡◌, ℕ, List, Option, inl, inr, refl, sym, ◌∙◌, ap, subst}
+use Rattle.std.specs.Prelude.{Result, Ok, Err, OnOk, OnErr, IfOk, IsTrue}
+use Rattle.std.specs.List.{join_with_byte}
+use Rattle.std.specs.Io.KnownBytes.{Appends}
+use Rattle.sqlite_trees.specs.declared.store.Store.{Ghosts}
+use Rattle.sqlite.specs.Held.{Held, state}
+use Rattle.sqlite.specs.State.{State, HasCleanDisk}
+use Rattle.terms.specs.Laws.{RequestTextsDiffer}
+use Rattle.terms.specs.Texts.{request_text}
+use Rattle.terms.specs.Writing.{AppendsFront}
+use Rattle.terms.specs.declared.command.Command.{Command}
+use Rattle.terms.specs.declared.fault.Fault.{Fault}
+use Rattle.terms.specs.declared.fault.Fault.TheVariants.{Memory}
+use Rattle.terms.specs.declared.reply.Reply.{Reply}
+use Rattle.model.specs.History.{History}
+use Rattle.model.specs.Requests.{reply_to, after_one}
+use Rattle.desk.specs.Answering.{Shows, Stays, LeavesOneOf}
+use Rattle.front.specs.Understood.{IsUnderstoodAs}
+use Rattle.circ.specs.declared.lines.Exit.{Exit}
+use Rattle.circ.specs.declared.lines.Exit.TheVariants.{Faulted, NotUnderstood}
+use Rattle.circ.specs.Exits.{exit_of}
+use Rattle.circ.specs.Lines.{reply_line, fault_line, not_understood_line}
+use Rattle.circ.specs.Saying.{desk_request, Says}
+
+-- words are the words of one command at most
+understood-once : RequestTextsDiffer → (words : List (List ℕ)) (a b : Command) → IsUnderstoodAs words a → IsUnderstoodAs words b → a ≡ b
+unfolding request_text
+understood-once differ words a b p q = differ a b p.formed.0 q.formed.0 (ap (join_with_byte 32) (sym p.written ∙ q.written))
+
+pub understood-alone : {E : Type 0} → RequestTextsDiffer → (words : List (List ℕ)) (r : Result Command E) → IfOk r (λ command. IsUnderstoodAs words command)
+    → IfOk r (λ command. (other : Command) → IsUnderstoodAs words other → other ≡ command)
+understood-alone differ words (Ok command) p = λ other q. understood-once differ words other command q p
+understood-alone differ words (Err e) p = tt
+
+-- what is kept is left
+still-left : (s : State) (H K : History) → Shows s H → LeavesOneOf s H K
+still-left s H K shows = λ trees may. let one = shows.tables.left trees may in (one.0, inl one.1, one.2)
+
+module _ {S : Type 0} (g : Ghosts S) (old new : Held S) (key : List ℕ) (words : List (List ℕ)) where
+  pub says-reply : (command : Command) (reply : Reply) → IsUnderstoodAs words command
+      → (HasCleanDisk (state g new) → (H : History) → Shows (state g old) H
+      → (reply ≡ reply_to H (desk_request key command)) × Shows (state g new) (after_one H (desk_request key command)))
+      → Says g old new key words (reply_line reply) (exit_of reply)
+  says-reply command reply understood answered =
+      inl (record { command = command; reply = reply; understood = understood; line_is = refl; exit_is = refl; answered = answered })
+
+  pub says-fault : (command : Command) (fault : Fault) → ((other : Command) → IsUnderstoodAs words other → other ≡ command)
+      → (HasCleanDisk (state g new) → IsTrue (state g new).is_open → Stays (state g old) (state g new))
+      → (HasCleanDisk (state g new) → (H : History) → Shows (state g old) H → LeavesOneOf (state g new) H (after_one H (desk_request key command)))
+      → Says g old new key words (fault_line fault) Faulted
+  says-fault command fault only undone left = inr (inl (record {
+    fault = fault;
+    line_is = refl;
+    exit_is = refl;
+    undone = undone;
+    left = λ disk other understood H shows.
+        subst (λ (c : Command). LeavesOneOf (state g new) H (after_one H (desk_request key c))) (sym (only other understood)) (left disk H shows);
+  }))
+
+-- nothing was touched
+module _ {S : Type 0} (g : Ghosts S) (held : Held S) (key : List ℕ) (words : List (List ℕ)) where
+  pub says-no-memory : Says g held held key words (fault_line Memory) Faulted
+  says-no-memory = inr (inl (record {
+    fault = Memory;
+    line_is = refl;
+    exit_is = refl;
+    undone = λ disk is_open H shows. shows;
+    left = λ disk command understood H shows. still-left (state g held) H (after_one H (desk_request key command)) shows;
+  }))
+
+  pub says-not-understood : ((command : Command) → IsUnderstoodAs words command → ⊥) → Says g held held key words not_understood_line NotUnderstood
+  says-not-understood none = inr (inr (record { none = none; line_is = refl; exit_is = refl; same = refl }))
+
+-- the line went out whole, or a beginning of it
+pub said-whole : {E : Type 0} (P : List ℕ → Exit → Type 0) (r : Result Exit E) (a b : Option (List ℕ)) (line : List ℕ) (exit : Exit)
+    → P line exit → IfOk r (λ e. e ≡ exit) → OnOk r (Appends a b line) → IfOk r (λ e. (l : List ℕ) × P l e × Appends a b l)
+said-whole P (Ok e) a b line exit says is wrote = (line, subst (P line) (sym is) says, wrote)
+said-whole P (Err e) a b line exit says is wrote = tt
+
+pub said-cut : {E : Type 0} (P : List ℕ → Exit → Type 0) (r : Result Exit E) (a b : Option (List ℕ)) (line : List ℕ) (exit : Exit)
+    → P line exit → OnErr r (AppendsFront a b line) → OnErr r ((l : List ℕ) × (e : Exit) × P l e × AppendsFront a b l)
+said-cut P (Ok e) a b line exit says front = tt
+said-cut P (Err e) a b line exit says front = (line, exit, says, front)
