@@ -1,5 +1,6 @@
 //! The desk by its words, over memory. Expected lines are those of the rules, worked out by hand.
 
+mod cut_lines;
 mod movements;
 
 use crate::{Exit, Run, one, read_run};

@@ -22,6 +22,7 @@ pub struct Given {
     pub branch: u32,
     pub title: u32,
     pub loan: u32,
+    pub hold: u32,
 }
 
 /// Asks for one row, which may be missing.
@@ -47,6 +48,15 @@ fn put<S: Alter>(tx: &mut Transaction<'_, S>, sql: &str, params: &[ValueRef<'_>]
 /// Asks for the row of a number.
 fn ask_by<S: Alter>(conn: &mut Connection<S>, sql: &str, number: u32) -> Result<()> {
     ask(conn, sql, params![number])
+}
+
+/// Asks for the number that the first column of the row of a number has; 0 where there is none.
+fn find<S: Alter>(conn: &mut Connection<S>, sql: &str, number: u32) -> Result<u32> {
+    match conn.query_row(sql, params![number]) {
+        Ok(row) => Ok(row.get::<u32>(0)?),
+        Err(Error::QueryReturnedNoRows) => Ok(0),
+        Err(error) => Err(error.into()),
+    }
 }
 
 /// Asks for the row of two numbers.
@@ -94,23 +104,84 @@ fn ask_for_patron<S: Alter>(conn: &mut Connection<S>, given: &Given) -> Result<(
     ask_by(conn, texts::PATRON, given.patron)
 }
 
+/// Asks what the desk asks of a copy.
+fn ask_for_copy<S: Alter>(conn: &mut Connection<S>, given: &Given) -> Result<u32> {
+    ask_by(conn, texts::COPY, given.copy)?;
+    let loan = find(conn, texts::OPEN_LOAN, given.copy)?;
+    ask_by(conn, texts::TRANSIT, given.copy)?;
+    ask_by(conn, texts::READY_HOLD, given.copy)?;
+    Ok(loan)
+}
+
+/// Asks what the desk asks before a check-in, and gives the open loan and the first hold in line.
+fn ask_for_return<S: Alter>(conn: &mut Connection<S>, given: &Given) -> Result<(u32, u32)> {
+    ask_by_key(conn, texts::KEPT, given.key.as_str())?;
+    ask_all(conn, texts::META, &[])?;
+    ask_by(conn, texts::BRANCH, given.branch)?;
+    ask_all_by(conn, texts::CLOSED_DAYS, given.branch)?;
+    let loan = ask_for_copy(conn, given)?;
+    if loan != 0 {
+        ask_by(conn, texts::BRANCH, given.branch)?;
+        ask_all_by(conn, texts::CLOSED_DAYS, given.branch)?;
+        ask_by(conn, texts::PATRON, given.patron)?;
+    }
+    let hold = find(conn, texts::FIRST_IN_LINE, given.title)?;
+    Ok((loan, hold))
+}
+
+/// Asks what the desk asks before a hold.
+fn ask_for_hold<S: Alter>(conn: &mut Connection<S>, given: &Given) -> Result<()> {
+    ask_by_key(conn, texts::KEPT, given.key.as_str())?;
+    ask_all(conn, texts::META, &[])?;
+    ask_by(conn, texts::PATRON, given.patron)?;
+    ask_by(conn, texts::KIND, given.kind)?;
+    ask_by(conn, texts::TITLE, given.title)?;
+    ask_by(conn, texts::BRANCH, given.branch)?;
+    ask_by_two(conn, texts::OWN_HOLDS, given.patron, given.title)?;
+    ask_by_two(conn, texts::LOAN_OF_TITLE, given.patron, given.title)?;
+    ask_by(conn, texts::ACTIVE_HOLDS, given.patron)
+}
+
+/// Asks for what a page shows, title by title.
+pub fn ask_for_page<S: Alter>(
+    conn: &mut Connection<S>,
+    patron: u32,
+    lent: &[(u32, u32)],
+) -> Result<()> {
+    ask_by(conn, texts::PATRON, patron)?;
+    ask_all_by(conn, texts::LOANS_OF_PATRON, patron)?;
+    for (copy, title) in lent {
+        ask_by(conn, texts::COPY, *copy)?;
+        ask_by(conn, texts::TITLE, *title)?;
+    }
+    ask_all_by(conn, texts::HOLDS_OF_PATRON, patron)
+}
+
 /// Puts the next numbers.
-fn put_numbers<S: Alter>(tx: &mut Transaction<'_, S>, given: &Given) -> Result<()> {
-    let next = given.loan.saturating_add(1);
+fn put_numbers<S: Alter>(
+    tx: &mut Transaction<'_, S>,
+    next_loan: u32,
+    next_hold: u32,
+) -> Result<()> {
     put(
         tx,
         texts::PUT_META,
-        params![1u32, 1u32, TODAY, next, 1u32, 1u32],
+        params![1u32, 1u32, TODAY, next_loan, next_hold, 1u32],
     )
 }
 
-/// Puts a loan.
-fn put_loan<S: Alter>(tx: &mut Transaction<'_, S>, given: &Given) -> Result<()> {
+/// Puts a loan, open or ended.
+fn put_loan<S: Alter>(
+    tx: &mut Transaction<'_, S>,
+    given: &Given,
+    loan: u32,
+    ended: Option<u32>,
+) -> Result<()> {
     put(
         tx,
         texts::PUT_LOAN,
         params![
-            given.loan,
+            loan,
             given.copy,
             given.patron,
             given.branch,
@@ -120,7 +191,33 @@ fn put_loan<S: Alter>(tx: &mut Transaction<'_, S>, given: &Given) -> Result<()> 
             2u32,
             20i64,
             1_000i64,
-            None::<u32>,
+            ended,
+        ],
+    )
+}
+
+/// Puts a hold, waiting or ready with its copy and limit day.
+fn put_hold<S: Alter>(
+    tx: &mut Transaction<'_, S>,
+    given: &Given,
+    hold: u32,
+    copy: Option<u32>,
+) -> Result<()> {
+    let (state, limit) = match copy {
+        Some(_) => (1u32, Some(TODAY + 5)),
+        None => (0u32, None),
+    };
+    put(
+        tx,
+        texts::PUT_HOLD,
+        params![
+            hold,
+            given.patron,
+            given.title,
+            given.branch,
+            state,
+            copy,
+            limit
         ],
     )
 }
@@ -143,28 +240,58 @@ fn put_kept<S: Alter>(tx: &mut Transaction<'_, S>, given: &Given) -> Result<()> 
     )
 }
 
-/// Puts what the call changes.
-fn put_changes<S: Alter>(tx: &mut Transaction<'_, S>, call: Call, given: &Given) -> Result<()> {
-    match call {
-        Call::CheckOut => {
-            put_numbers(tx, given)?;
-            put_loan(tx, given)?;
+/// Rows that a call puts.
+#[derive(Clone, Copy)]
+enum Puts {
+    /// A new loan, and the numbers.
+    Loan,
+    /// A patron.
+    Patron,
+    /// The loan that ends.
+    End(u32),
+    /// A new hold, and the numbers.
+    Hold,
+    /// The hold that becomes ready.
+    Ready(u32),
+}
+
+/// Puts the rows, and the row that is kept.
+fn put_rows<S: Alter>(tx: &mut Transaction<'_, S>, puts: Puts, given: &Given) -> Result<()> {
+    match puts {
+        Puts::Loan => {
+            put_numbers(tx, given.loan.saturating_add(1), given.hold)?;
+            put_loan(tx, given, given.loan, None)?;
         }
-        Call::Patron => put_patron(tx, given)?,
-        Call::Refused => return Ok(()),
+        Puts::Patron => put_patron(tx, given)?,
+        Puts::End(loan) => put_loan(tx, given, loan, Some(TODAY))?,
+        Puts::Hold => {
+            put_numbers(tx, given.loan, given.hold.saturating_add(1))?;
+            put_hold(tx, given, given.hold, None)?;
+        }
+        Puts::Ready(hold) => put_hold(tx, given, hold, Some(given.copy))?,
     }
     put_kept(tx, given)
 }
 
-/// Puts what the call changes, in one transaction.
-fn change<S: Alter>(conn: &mut Connection<S>, call: Call, given: &Given) -> Result<()> {
+/// Puts the rows in one transaction.
+fn change<S: Alter>(conn: &mut Connection<S>, puts: Puts, given: &Given) -> Result<()> {
     if !conn.is_autocommit() {
         bail!("a transaction is open");
     }
     let mut tx = conn.transaction();
-    put_changes(&mut tx, call, given)?;
+    put_rows(&mut tx, puts, given)?;
     tx.commit()?;
     Ok(())
+}
+
+/// Runs the statements of a check-in.
+fn run_return<S: Alter>(conn: &mut Connection<S>, given: &Given) -> Result<()> {
+    let (loan, hold) = ask_for_return(conn, given)?;
+    if loan != 0 {
+        change(conn, Puts::End(loan), given)
+    } else {
+        change(conn, Puts::Ready(hold), given)
+    }
 }
 
 /// Runs the statements of a call.
@@ -172,12 +299,17 @@ pub fn run_one<S: Alter>(conn: &mut Connection<S>, call: Call, given: &Given) ->
     match call {
         Call::CheckOut => {
             ask_for_loan(conn, given)?;
-            change(conn, call, given)
+            change(conn, Puts::Loan, given)
         }
         Call::Refused => ask_for_loan(conn, given),
         Call::Patron => {
             ask_for_patron(conn, given)?;
-            change(conn, call, given)
+            change(conn, Puts::Patron, given)
+        }
+        Call::CheckIn | Call::Ready => run_return(conn, given),
+        Call::PlaceHold | Call::LongLine => {
+            ask_for_hold(conn, given)?;
+            change(conn, Puts::Hold, given)
         }
     }
 }

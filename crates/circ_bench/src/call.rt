@@ -3,7 +3,7 @@
 use crate::filling::{card_key, patron_name};
 use crate::size::Size;
 use std::alloc::Global;
-use terms::{Caller, Command, Fault, Key, PatronKind, Refusal, Reply, Request};
+use terms::{Caller, Command, Fault, Key, PatronKind, Refusal, Reply, Request, Routed};
 
 /// What is measured.
 #[derive(Clone, Copy)]
@@ -14,6 +14,14 @@ pub enum Call {
     Refused,
     /// A new patron.
     Patron,
+    /// A check-in at home of a copy on loan that nobody waits for.
+    CheckIn,
+    /// A hold at a title that nobody waits for, or one other patron.
+    PlaceHold,
+    /// A hold at a title with a long line.
+    LongLine,
+    /// A check-in of a copy that becomes ready for the first in line.
+    Ready,
 }
 
 impl Call {
@@ -23,7 +31,21 @@ impl Call {
             Call::CheckOut => "check-out",
             Call::Refused => "refused check-out",
             Call::Patron => "patron",
+            Call::CheckIn => "check-in",
+            Call::PlaceHold => "place-hold",
+            Call::LongLine => "place-hold, long line",
+            Call::Ready => "check-in, hold ready",
         }
+    }
+
+    /// Whether the call makes a loan.
+    pub fn makes_loan(self) -> bool {
+        matches!(self, Call::CheckOut)
+    }
+
+    /// Whether the call makes a hold.
+    pub fn makes_hold(self) -> bool {
+        matches!(self, Call::PlaceHold | Call::LongLine)
     }
 
     /// Whether the reply is the one that the call is to have.
@@ -32,7 +54,27 @@ impl Call {
             Call::CheckOut => matches!(reply, Reply::Lent { .. }),
             Call::Refused => matches!(reply, Reply::Refused(Refusal::OnLoan)),
             Call::Patron => matches!(reply, Reply::Done),
+            Call::CheckIn => goes_to_shelf(reply),
+            Call::PlaceHold => matches!(reply, Reply::Held { .. }),
+            Call::LongLine => matches!(reply, Reply::Held { .. }),
+            Call::Ready => becomes_ready(reply),
         }
+    }
+}
+
+/// Whether the copy that was handed in goes to the shelf.
+fn goes_to_shelf(reply: &Reply) -> bool {
+    match reply {
+        Reply::CheckedIn { routed, .. } => matches!(routed, Routed::Shelf { .. }),
+        _ => false,
+    }
+}
+
+/// Whether the copy that was handed in goes to the hold shelf.
+fn becomes_ready(reply: &Reply) -> bool {
+    match reply {
+        Reply::CheckedIn { routed, .. } => matches!(routed, Routed::HoldShelf { .. }),
+        _ => false,
     }
 }
 
@@ -42,6 +84,10 @@ fn key(alloc: Global, call: Call, slot: u32) -> Result<Key, Fault> {
         Call::CheckOut => format!(in alloc; "desk-7-out-{:06}", slot)?,
         Call::Refused => format!(in alloc; "desk-7-not-{:06}", slot)?,
         Call::Patron => format!(in alloc; "desk-7-new-{:06}", slot)?,
+        Call::CheckIn => format!(in alloc; "desk-7-in-{:06}", slot)?,
+        Call::PlaceHold => format!(in alloc; "desk-7-hold-{:06}", slot)?,
+        Call::LongLine => format!(in alloc; "desk-7-long-{:06}", slot)?,
+        Call::Ready => format!(in alloc; "desk-7-ready-{:06}", slot)?,
     };
     Key::new(alloc, text.as_str())?.ok_or(Fault::Stored)
 }
@@ -49,8 +95,8 @@ fn key(alloc: Global, call: Call, slot: u32) -> Result<Key, Fault> {
 /// The command of the call in a slot.
 fn command(alloc: Global, size: Size, call: Call, slot: u32) -> Result<Command, Fault> {
     let copy = match call {
-        Call::CheckOut => size.free_copy(slot),
-        _ => size.lent_copy(slot),
+        Call::Refused => size.lent_copy(slot),
+        _ => size.free_copy(slot),
     };
     match call {
         Call::CheckOut | Call::Refused => Ok(Command::CheckOut {
@@ -63,6 +109,20 @@ fn command(alloc: Global, size: Size, call: Call, slot: u32) -> Result<Command, 
             kind: PatronKind::new(1),
             card_key: card_key(alloc, size.new_patron(slot))?,
             name: patron_name(alloc, size.new_patron(slot))?,
+        }),
+        Call::CheckIn | Call::Ready => Ok(Command::CheckIn {
+            copy,
+            branch: size.home_of(copy),
+        }),
+        Call::PlaceHold => Ok(Command::PlaceHold {
+            patron: size.new_patron(slot),
+            title: size.title_of(copy),
+            branch: size.home_of(copy),
+        }),
+        Call::LongLine => Ok(Command::PlaceHold {
+            patron: size.new_patron(slot),
+            title: size.wanted_title(),
+            branch: size.home_of(copy),
         }),
     }
 }

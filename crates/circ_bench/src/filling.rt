@@ -1,17 +1,17 @@
 //! A library, filled in one transaction.
 
-use crate::size::Size;
+use crate::size::{LONG_LINE, MANY_LOANS, Size};
 use anyhow::{Error, Result, anyhow, bail};
 use circ_tables::{
-    put_branch, put_copy, put_kind, put_loan, put_meta, put_patron, put_rule, put_title,
+    put_branch, put_copy, put_hold, put_kind, put_loan, put_meta, put_patron, put_rule, put_title,
 };
 use sqlite::{Alter, Connection, Transaction};
 use std::alloc::Global;
 use store::Store;
 use terms::{
     BranchId, BranchPut, CardKey, Cents, Condition, CopyId, CopyKind, CopyRow, Count, Day, Days,
-    Fault, HoldId, KindRow, LineId, LoanId, LoanRow, MetaRow, Name, PatronId, PatronKind,
-    PatronPut, RuleRow, TitleId, TitlePut, Weekdays,
+    Fault, HoldId, HoldRow, HoldState, KindRow, LineId, LoanId, LoanRow, MetaRow, Name, PatronId,
+    PatronKind, PatronPut, RuleRow, TitleId, TitlePut, Weekdays,
 };
 
 /// Today, as a number of days: 2026-03-02.
@@ -47,14 +47,18 @@ pub fn patron_name(alloc: Global, patron: PatronId) -> Result<Name, Fault> {
     name(alloc, text.as_str())
 }
 
+/// The first loan of the patron with many.
+fn first_read(size: Size) -> u32 {
+    size.copies().saturating_mul(TURNS).saturating_add(1)
+}
+
 /// Puts the row of `meta`.
 fn put_numbers<S: Alter>(tx: &mut Transaction<'_, S>, size: Size) -> Result<(), Fault> {
-    let loans = size.copies().saturating_mul(TURNS);
     let row = MetaRow {
         schema: 1,
         today: day(TODAY)?,
-        next_loan: LoanId::new(loans.saturating_add(1)),
-        next_hold: HoldId::new(1),
+        next_loan: LoanId::new(first_read(size).saturating_add(MANY_LOANS)),
+        next_hold: HoldId::new(LONG_LINE + 1),
         next_line: LineId::new(1),
     };
     put_meta(tx, &row)
@@ -211,6 +215,61 @@ fn put_copies<S: Alter>(tx: &mut Transaction<'_, S>, size: Size) -> Result<(), F
     Ok(())
 }
 
+/// Puts a hold that waits at the title with a long line.
+fn put_one_hold<S: Alter>(
+    tx: &mut Transaction<'_, S>,
+    size: Size,
+    hold: HoldId,
+) -> Result<(), Fault> {
+    let row = HoldRow {
+        hold,
+        patron: size.patron_in(hold.number()),
+        title: size.wanted_title(),
+        branch: BranchId::new(1),
+        state: HoldState::Waiting,
+        copy: None,
+        limit_day: None,
+    };
+    put_hold(tx, &row)
+}
+
+/// Puts an open loan of the patron with many, and its copy.
+fn put_one_read<S: Alter>(tx: &mut Transaction<'_, S>, size: Size, at: u32) -> Result<(), Fault> {
+    let copy = size.read_copy(at);
+    put_one_copy(tx, size, copy)?;
+    let row = LoanRow {
+        loan: LoanId::new(first_read(size).saturating_add(at)),
+        copy,
+        patron: size.reader(),
+        branch: size.home_of(copy),
+        made: day(TODAY)?,
+        due: day(TODAY + 28)?,
+        period: Days::new(28),
+        renewals_left: Count::new(2),
+        rate: Cents::new(20),
+        cap: Cents::new(1_000),
+        ended: None,
+    };
+    put_loan(tx, &row)
+}
+
+/// Puts the long line, and the patron with many loans.
+fn put_crowds<S: Alter>(
+    tx: &mut Transaction<'_, S>,
+    alloc: Global,
+    size: Size,
+) -> Result<(), Fault> {
+    put_one_title(tx, alloc, size.wanted_title().number())?;
+    for hold in 1..=LONG_LINE {
+        put_one_hold(tx, size, HoldId::new(hold))?;
+    }
+    put_one_patron(tx, alloc, size.reader())?;
+    for at in 0..MANY_LOANS {
+        put_one_read(tx, size, at)?;
+    }
+    Ok(())
+}
+
 /// Puts all rows.
 fn put_all<S: Alter>(tx: &mut Transaction<'_, S>, alloc: Global, size: Size) -> Result<(), Fault> {
     put_numbers(tx, size)?;
@@ -218,7 +277,8 @@ fn put_all<S: Alter>(tx: &mut Transaction<'_, S>, alloc: Global, size: Size) -> 
     put_one_branch(tx, alloc, 2)?;
     put_terms(tx)?;
     put_names(tx, alloc, size)?;
-    put_copies(tx, size)
+    put_copies(tx, size)?;
+    put_crowds(tx, alloc, size)
 }
 
 /// Puts all rows in one transaction.

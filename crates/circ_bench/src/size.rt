@@ -5,6 +5,12 @@ use terms::{BranchId, CopyId, PatronId, TitleId};
 /// How many different patrons and copies the measured calls may use.
 pub const SLOTS: u32 = 480;
 
+/// How many holds wait at the title with a long line.
+pub const LONG_LINE: u32 = 1_000;
+
+/// How many open loans the patron has whose page is measured.
+pub const MANY_LOANS: u32 = 200;
+
 /// How large the library is: 1,000 to 100,000 copies.
 #[derive(Clone, Copy)]
 pub struct Size {
@@ -67,6 +73,21 @@ impl Size {
     /// A patron who isn't there yet.
     pub fn new_patron(self, slot: u32) -> PatronId {
         PatronId::new(self.patrons().saturating_add(1).saturating_add(slot))
+    }
+
+    /// The title with a long line. It has no copy.
+    pub fn wanted_title(self) -> TitleId {
+        TitleId::new(self.titles().saturating_add(1))
+    }
+
+    /// The patron with many open loans.
+    pub fn reader(self) -> PatronId {
+        PatronId::new(9_999_999)
+    }
+
+    /// A copy that the patron with many open loans has.
+    pub fn read_copy(self, at: u32) -> CopyId {
+        CopyId::new(self.copies.saturating_add(1).saturating_add(at))
     }
 
     /// The copy in a slot that is not on loan; each slot has another one.

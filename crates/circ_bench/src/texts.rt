@@ -42,3 +42,19 @@ pub const PUT_PATRON: &str =
 
 pub const PUT_KEPT: &str =
     "INSERT INTO kept VALUES (?1, ?2, ?3, ?4) ON CONFLICT (caller, key) DO UPDATE SET text = ?3, reply = ?4";
+
+pub const TITLE: &str = "SELECT * FROM titles WHERE title = ?1";
+
+pub const LOAN_OF_TITLE: &str =
+    "SELECT * FROM loans WHERE patron = ?1 AND ended IS NULL AND EXISTS (SELECT * FROM copies WHERE copies.copy = loans.copy AND copies.title = ?2) ORDER BY loan LIMIT 1";
+
+pub const ACTIVE_HOLDS: &str = "SELECT COUNT(*) FROM holds WHERE patron = ?1 AND state <= 1";
+
+pub const LOANS_OF_PATRON: &str =
+    "SELECT * FROM loans WHERE patron = ?1 AND ended IS NULL ORDER BY loan";
+
+pub const HOLDS_OF_PATRON: &str =
+    "SELECT * FROM holds WHERE patron = ?1 AND state <= 1 ORDER BY hold";
+
+pub const PUT_HOLD: &str =
+    "INSERT INTO holds VALUES (?1, ?2, ?3, ?4, ?5, ?6, ?7) ON CONFLICT (hold) DO UPDATE SET patron = ?2, title = ?3, branch = ?4, state = ?5, copy = ?6, limit_day = ?7";
