@@ -8,3 +8,7 @@ pub mod Shown
 pub mod PageLists
 pub mod PageRows
 pub mod PageWhole
+pub mod ReportRows
+pub mod TillSums
+pub mod TillLines
+pub mod TillBound

@@ -1,19 +1,19 @@
 -- Calls that only look, one after another.
-use Rattle.std.proofs.Common.{◌≡◌, inl, refl, sym, ◌∙◌, ap, subst}
-use Rattle.std.specs.Prelude.{Result, Ok, Err, OnOk, OnErr, IfOk, IsTrue}
-use Rattle.std.specs.Result.{IsErr}
+use Rattle.std.proofs.Common.{◌≡◌, inl, refl, sym, ◌∙◌, subst}
+use Rattle.std.specs.Prelude.{Result, Ok, Err, OnOk, OnErr, IfOk}
+use Rattle.std.specs.Result.{IsErr, IsErrAnd}
 use Rattle.sqlite.specs.State.{State, HasCleanDisk}
 use Rattle.circ_tables.specs.Encoding.{HasPicture}
-use Rattle.store.specs.Stops.{KeepsPicture, LeavesPicture, LeavesEither}
+use Rattle.store.specs.Stops.{LeavesPicture, LeavesEither}
 use Rattle.store.specs.Reads.{Reads}
 use Rattle.terms.specs.declared.fault.Fault.{Fault}
 use Rattle.terms.specs.Pictures.{Picture}
 use Rattle.model.specs.History.{History}
 use Rattle.model.specs.Picture.{picture}
-use Rattle.desk.specs.Answering.{Shows, Stays, Looks, LeavesOneOf}
+use Rattle.desk.specs.Answering.{Shows, Looks}
 
 -- Nothing was asked.
-pub looks-still : {T : Type 0} (s : State) (x : T) → Looks {T = T} s s (Ok x)
+pub looks-still : {T : Type 0} (s : State) (x : T) → Looks {T = T} {E = Fault} s s (Ok x)
 looks-still s x = record { clean = λ d. d; stays = λ _ H shows. shows; undone = λ _ _. tt; left = λ _ H shows. shows.tables.left }
 
 -- The tables show a history after a read that changed nothing of them.
@@ -25,7 +25,7 @@ shows-same old new reads disk H shows same = record {
 }
 
 -- A read that was answered.
-pub looks-read : {T : Type 0} (old new : State) (x : T) → Reads old new → (HasCleanDisk new → (H : History) → Shows old H → new.now ≡ old.now) → Looks {T = T} old new (Ok x)
+pub looks-read : {T : Type 0} (old new : State) (x : T) → Reads old new → (HasCleanDisk new → (H : History) → Shows old H → new.now ≡ old.now) → Looks {T = T} {E = Fault} old new (Ok x)
 looks-read old new x reads same = record {
   clean = reads.clean;
   stays = λ disk H shows. shows-same old new reads disk H shows (same disk H shows);
@@ -34,7 +34,7 @@ looks-read old new x reads same = record {
 }
 
 -- A read that met a fault.
-pub looks-fault : {T : Type 0} (old new : State) (fault : Fault) → Reads old new → Looks {T = T} old new (Err fault)
+pub looks-fault : {T : Type 0} (old new : State) (fault : Fault) → Reads old new → Looks {T = T} {E = Fault} old new (Err fault)
 looks-fault old new fault reads = record {
   clean = reads.clean;
   stays = λ _. tt;
@@ -89,7 +89,7 @@ on-ok (Ok x) f p = f p
 on-ok (Err e) f p = tt
 
 -- One call after another that was answered.
-pub looks-then : {T U : Type 0} (old mid new : State) (x : T) (r : Result U Fault) → Looks {T = T} old mid (Ok x) → Looks {T = U} mid new r → Looks {T = U} old new r
+pub looks-then : {T U E : Type 0} (old mid new : State) (x : T) (r : Result U E) → Looks {T = T} {E = Fault} old mid (Ok x) → Looks {T = U} {E = E} mid new r → Looks {T = U} {E = E} old new r
 looks-then old mid new x r first next = record {
   clean = λ disk. first.clean (next.clean disk);
   stays = λ disk. on-ok r (λ stays H shows. stays H (first.stays (next.clean disk) H shows)) (next.stays disk);
@@ -98,7 +98,7 @@ looks-then old mid new x r first next = record {
 }
 
 -- Whatever is made of an answer.
-pub looks-as : {T U : Type 0} (old new : State) (x : T) (r : Result U Fault) → Looks {T = T} old new (Ok x) → Looks {T = U} old new r
+pub looks-as : {T U E : Type 0} (old new : State) (x : T) (r : Result U E) → Looks {T = T} {E = Fault} old new (Ok x) → Looks {T = U} {E = E} old new r
 looks-as old new x r looks = record {
   clean = looks.clean;
   stays = λ disk. on-ok-any r (looks.stays disk);
@@ -106,11 +106,15 @@ looks-as old new x r looks = record {
   left = looks.left;
 }
 
--- A fault is a fault of whatever was asked.
-pub looks-err-as : {T U : Type 0} (old new : State) (fault : Fault) (r : Result U Fault) → IsErr r → Looks {T = T} old new (Err fault) → Looks {T = U} old new r
+-- A fault is an error of whatever was asked.
+pub looks-err-as : {T U E : Type 0} (old new : State) (fault : Fault) (r : Result U E) → IsErr r → Looks {T = T} {E = Fault} old new (Err fault) → Looks {T = U} {E = E} old new r
 looks-err-as old new fault (Ok x) is looks = let never : ⊥ = cc in absurd never
 looks-err-as old new fault (Err e) is looks = record { clean = looks.clean; stays = λ disk. tt; undone = looks.undone; left = looks.left }
 
 -- What holds of an answer holds where the result is one.
 pub on-ok-is : {A E P : Type 0} (r : Result A E) (x : A) → r ≡ Ok x → OnOk r P → P
 on-ok-is {A} {E} {P} r x e p = subst (λ (q : Result A E). OnOk q P) e p
+
+-- The one error that a result may have is the one that it has.
+pub err-is : {A E : Type 0} (r : Result A E) (e f : E) → IsErrAnd r (λ x. x ≡ e) → r ≡ Err f → e ≡ f
+err-is {A} {E} r e f only is = sym (subst (λ (q : Result A E). IsErrAnd q (λ x. x ≡ e)) is only)

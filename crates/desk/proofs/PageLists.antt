@@ -5,9 +5,9 @@ use Rattle.std.specs.List.{list_any, Contains, AllByRecursion}
 use Rattle.std.proofs.lemmas.Bool.{eqb-true, eq-eqb, or_cases}
 use Rattle.std.proofs.lemmas.List.Elements.{filter-append}
 use Rattle.std.proofs.lemmas.List.Folds.{list_any-append}
-use Rattle.store.specs.Lists.{Rise, AreRows, AreLoansBy, AreHoldsBy}
+use Rattle.store.specs.Lists.{Rise, AreLoansBy, AreHoldsBy}
 use Rattle.circ_core.specs.Views.{IsOpenBy, IsActiveBy}
-use Rattle.circ_core.proofs.Counts.{any_filter-some, any_filter-from, numbers_to-has, numbers_to-below}
+use Rattle.circ_core.proofs.Counts.{any_filter-from, numbers_to-has}
 use Rattle.circ_core.proofs.PatronCounts.{loan-to, loan-from, active-to, active-from}
 use Rattle.terms.specs.declared.row.LoanRow.{LoanRow}
 use Rattle.terms.specs.declared.row.HoldRow.{HoldRow}
@@ -22,11 +22,11 @@ use Rattle.model.specs.Picture.{picture, loan_columns, hold_columns}
 -- ---- rising lists of numbers
 
 -- The number is in the list.
-abbrev has : ℕ → List ℕ → Bool
+abbrev pub has : ℕ → List ℕ → Bool
 has k xs = list_any (λ y. k == y) xs
 
 -- Each number is below all later ones.
-abbrev Rises : List ℕ → Type 0
+abbrev pub Rises : List ℕ → Type 0
 Rises [] = Unit {0}
 Rises (x ∷ xs) = ((k : ℕ) → has k xs ≡ true → x < k) × Rises xs
 
@@ -48,7 +48,7 @@ has-cases k x xs e = go (or_cases (k == x) (has k xs) e)
     go (inr q) = inr q
 
 -- Two rising lists with the same numbers are one.
-one-list : (xs ys : List ℕ) → Rises xs → Rises ys → ((k : ℕ) → has k xs ≡ true → has k ys ≡ true) → ((k : ℕ) → has k ys ≡ true → has k xs ≡ true) → xs ≡ ys
+pub one-list : (xs ys : List ℕ) → Rises xs → Rises ys → ((k : ℕ) → has k xs ≡ true → has k ys ≡ true) → ((k : ℕ) → has k ys ≡ true → has k xs ≡ true) → xs ≡ ys
 one-list [] [] r s to from = refl
 one-list [] (y ∷ ys) r s to from = let none : has y [] ≡ true = from y (has-first y ys) in let never : ⊥ = cc in absurd never
 one-list (x ∷ xs) [] r s to from = let none : has x [] ≡ true = to x (has-first x xs) in let never : ⊥ = cc in absurd never
@@ -75,7 +75,7 @@ one-list (x ∷ xs) (y ∷ ys) r s to from = go (λ there back. one-list xs ys r
 
 -- ---- the numbers that pass
 
-passing-below : (f : ℕ → Bool) (n k : ℕ) → has k (filter f (numbers_to n)) ≡ true → (f k ≡ true) × (k ≤ n)
+pub passing-below : (f : ℕ → Bool) (n k : ℕ) → has k (filter f (numbers_to n)) ≡ true → (f k ≡ true) × (k ≤ n)
 passing-below f zero k e = let never : ⊥ = cc in absurd never
 passing-below f (suc n) k e = go (λ q. passing-below f n k q) (or_cases (has k (filter f (numbers_to n))) (has k (filter f (suc n ∷ []))) split)
   where
@@ -106,7 +106,7 @@ rises-more (x ∷ xs) z r below = (λ k e. go k (or_cases (has k xs) (has k (z �
         at (inl same) = let lt : x < z = below x (has-first x xs) in omega (arith, lt, same)
         at (inr q) = let never : ⊥ = cc in absurd never
 
-passing-rises : (f : ℕ → Bool) (n : ℕ) → Rises (filter f (numbers_to n))
+pub passing-rises : (f : ℕ → Bool) (n : ℕ) → Rises (filter f (numbers_to n))
 passing-rises f zero = tt
 passing-rises f (suc n) = subst Rises (sym (filter-append f (numbers_to n) (suc n ∷ []))) (go (passing-rises f n) (f (suc n)))
   where
@@ -125,12 +125,12 @@ passing-rises f (suc n) = subst Rises (sym (filter-append f (numbers_to n) (suc 
 -- ---- rows and their numbers
 
 module _ {R : Type 0} (number_of : R → ℕ) where
-  contains-has : (rows : List R) (r : R) (k : ℕ) → k < length rows → slice_index_or rows k r ≡ r → has (number_of r) (map number_of rows) ≡ true
+  pub contains-has : (rows : List R) (r : R) (k : ℕ) → k < length rows → slice_index_or rows k r ≡ r → has (number_of r) (map number_of rows) ≡ true
   contains-has [] r k lt e = let never : ⊥ = omega (arith, lt) in absurd never
   contains-has (x ∷ rows) r zero lt e = let same : x ≡ r = e in subst (λ (z : R). has (number_of r) (number_of z ∷ map number_of rows) ≡ true) (sym same) (has-first (number_of r) (map number_of rows))
   contains-has (x ∷ rows) r (suc k) lt e = has-later (number_of r) (number_of x) (map number_of rows) (contains-has rows r k (omega (arith, lt)) e)
 
-  has-contains : (rows : List R) (n : ℕ) → has n (map number_of rows) ≡ true → (r : R) × Contains rows r × (number_of r ≡ n)
+  pub has-contains : (rows : List R) (n : ℕ) → has n (map number_of rows) ≡ true → (r : R) × Contains rows r × (number_of r ≡ n)
   has-contains [] n e = let never : ⊥ = cc in absurd never
   has-contains (x ∷ rows) n e = go (λ q. has-contains rows n q) (has-cases n (number_of x) (map number_of rows) e)
     where
@@ -150,7 +150,7 @@ module _ {R : Type 0} (number_of : R → ℕ) where
       go ih (inl same) = let lt : x < number_of r = all.0 in omega (arith, lt, same)
       go ih (inr q) = ih q
 
-  rise-rises : (rows : List R) → Rise number_of rows → Rises (map number_of rows)
+  pub rise-rises : (rows : List R) → Rise number_of rows → Rises (map number_of rows)
   rise-rises [] r = tt
   rise-rises (x ∷ rows) r = (all-above (number_of x) rows r.0, rise-rises rows r.1)
 
@@ -163,7 +163,7 @@ loan-number H n r there = go (loan_of H n) there
     go (Some f) e = let same : loan_columns H n f ≡ r = cc in sym (ap (λ (x : LoanRow). x.loan) same)
     go None e = let never : ⊥ = cc in absurd never
 
-hold-number : (H : History) (n : ℕ) (r : HoldRow) → (picture H).holds n ≡ Some r → r.hold ≡ n
+pub hold-number : (H : History) (n : ℕ) (r : HoldRow) → (picture H).holds n ≡ Some r → r.hold ≡ n
 hold-number H n r there = go (state H n) (hold_of H n) there
   where
     go : (s : Option HoldState) (o : Option HoldFacts) → option_and_then (λ t. option_map (hold_columns H n t) o) s ≡ Some r → r.hold ≡ n

@@ -8,7 +8,6 @@ use Rattle.terms.specs.declared.command.Caller.TheVariants.{Patron as FromPatron
 use Rattle.terms.specs.declared.command.Command.TheVariants.{Page}
 use Rattle.terms.specs.declared.command.Command.{Command}
 use Rattle.terms.specs.declared.command.Request.{Request}
-use Rattle.terms.specs.declared.fault.Fault.{Fault}
 use Rattle.terms.specs.declared.refusal.Refusal.{Refusal}
 use Rattle.terms.specs.declared.refusal.Refusal.TheVariants.{KeyUsed, NotAllowed}
 use Rattle.terms.specs.declared.reply.Reply.{Reply}
@@ -37,8 +36,8 @@ Stays old new = (H : History) → Shows old H → Shows new H
 abbrev pub LeavesOneOf : State → History → History → Type 0
 LeavesOneOf s H K = LeavesEither s (picture H) (picture K)
 
--- A call that only looks: the tables show what they showed, after a fault too where the database is still open.
-pub record Looks {T : Type 0} (old new : State) (result : Result T Fault) : Type 0 where
+-- A call that only looks: the tables show what they showed, after an error too where the database is still open.
+pub record Looks {T E : Type 0} (old new : State) (result : Result T E) : Type 0 where
   pub clean : HasCleanDisk new → HasCleanDisk old
   pub stays : HasCleanDisk new → OnOk result (Stays old new)
   pub undone : HasCleanDisk new → IsTrue new.is_open → OnErr result (Stays old new)

@@ -2,3 +2,4 @@ pub mod Callers
 pub mod Answering
 pub mod Headline
 pub mod Paging
+pub mod Reporting

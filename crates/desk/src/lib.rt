@@ -4,6 +4,8 @@
 mod callers;
 mod handling;
 mod paging;
+mod reporting;
 mod running;
 
+pub use reporting::ReportFault;
 pub use running::Desk;

@@ -76,7 +76,7 @@ fn add_line(text: &mut String, line: &str) -> Result<(), Memory>
 }
 
 /// The row of a title that another row names. 90, 91; 93, also where it isn't there.
-fn title_row<S: Alter>(
+pub(crate) fn title_row<S: Alter>(
     store: &mut Store<S>,
     alloc: Global,
     title: TitleId,

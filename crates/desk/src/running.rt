@@ -1,26 +1,33 @@
 //! Many requests, one after another.
 
-ghost use Rattle.std.specs.Prelude.{◌≡◌, ◌≤◌, ◌+◌, ℕ, [], length, take, vec_len, IfOk, IfErr, OnErr, IsTrue};
+ghost use Rattle.std.specs.Prelude.{◌≡◌, ◌≤◌, ◌+◌, ℕ, [], length, take, vec_len, Err, IfOk, IfErr, OnOk, OnErr, IsTrue};
+ghost use Rattle.std.specs.Io.KnownBytes.{Appends, Keeps};
 ghost use Rattle.sqlite.specs.Held.{state};
 ghost use Rattle.sqlite.specs.State.{HasCleanDisk};
 ghost use Rattle.terms.specs.Pictures.{Picture};
+ghost use Rattle.terms.specs.Writing.{AppendsFront};
+ghost use Rattle.terms.specs.declared.fault.Fault.{Fault as AnyFault};
+ghost use Rattle.terms.specs.declared.refusal.Refusal.{Refusal};
 ghost use Rattle.circ_tables.specs.Encoding.{HasPicture};
 ghost use Rattle.store.specs.Commit.{empty_library};
 ghost use Rattle.store.specs.Limits.{limit_of};
 ghost use Rattle.store.specs.Stops.{KeepsPicture};
 ghost use Rattle.model.specs.History.{History};
 ghost use Rattle.model.specs.Requests.{reply_to, after_one, after, replies as replies_to};
+ghost use Rattle.model.specs.Reports.{till as till_of};
 ghost use Rattle.desk.specs.Answering.{Shows, Stays, Looks, LeavesOneOf, page_for};
 ghost use Rattle.desk.specs.Callers.{RefusesForeign};
 ghost use Rattle.desk.specs.Headline.{Headline};
 
 use crate::handling::handle;
 use crate::paging::show_own;
+use crate::reporting::{ReportFault, till};
 use sqlite::Alter;
 use std::alloc::Global;
+use std::io::Write;
 use std::marker::Model;
 use store::Store;
-use terms::{CardKey, Fault, PatronId, Reply, Request};
+use terms::{CardKey, Day, Fault, PatronId, Reply, Request};
 
 /// The desk over the tables of a store.
 pub struct Desk<S: Alter> {
@@ -107,6 +114,25 @@ impl<S: Alter> Desk<S> {
         ensures looks { Looks (state S.Store self.old) (state S.Store self.new) result }
     {
         show_own(&mut self.store, alloc, patron, card_key)
+    }
+
+    /// Writes the till report of a day: the sums of its fines, prices, payments and waivers, in cents. 90, 91 before
+    /// anything is written; 93 doesn't come where the tables show a list of accepted requests. It is never refused.
+    pub fn till<W: Write>(
+        &mut self,
+        alloc: Global,
+        day: Day,
+        writer: &mut W,
+    ) -> Result<(), ReportFault>
+        ensures written { HasCleanDisk (state S.Store self.new) → OnOk result ((H : History) → Shows (state S.Store self.old) H → Appends (W.contents writer.old) (W.contents writer.new) (till_of H day)) }
+        ensures refused { (refusal : Refusal) → result ≡ Err (ReportFault.Refused refusal) → ⊥ }
+        ensures silent { (fault : AnyFault) → result ≡ Err (ReportFault.Faulted fault) → Keeps (W.contents writer.old) (W.contents writer.new) }
+        ensures sound { HasCleanDisk (state S.Store self.new) → result ≡ Err (ReportFault.Faulted Fault.Stored) → (H : History) → Shows (state S.Store self.old) H → ⊥ }
+        ensures cut { HasCleanDisk (state S.Store self.new) → result ≡ Err ReportFault.NotWritten → (H : History) → Shows (state S.Store self.old) H
+            → AppendsFront (W.contents writer.old) (W.contents writer.new) (till_of H day) × Shows (state S.Store self.new) H }
+        ensures looks { Looks (state S.Store self.old) (state S.Store self.new) result }
+    {
+        till(&mut self.store, alloc, day, writer)
     }
 
     /// Sets how many steps each later call of the database may take; with none there is no limit, and 0 stands for 1.

@@ -1,11 +1,11 @@
-use Rattle.std.proofs.Common.{◌≡◌, ℕ, ◌≤◌, ◌<◌, ◌+◌, List, [], ◌∷◌, ◌++◌, length, take, refl, sym, ◌∙◌, ap, subst, arith}
+use Rattle.std.proofs.Common.{◌≡◌, ℕ, ◌<◌, ◌+◌, List, [], ◌∷◌, ◌++◌, length, take, sym, ◌∙◌, ap, subst, arith}
 use Rattle.std.proofs.lemmas.List.{take_more}
 use Rattle.std.specs.Prelude.{is_ok, true}
 use Rattle.sqlite.specs.Held.{state}
 use Rattle.terms.specs.declared.command.Request.{Request}
 use Rattle.terms.specs.declared.reply.Reply.{Reply}
 use Rattle.model.specs.History.{History}
-use Rattle.model.specs.Requests.{after, replies, reply_to, after_one}
+use Rattle.model.specs.Requests.{after, replies, after_one}
 use Rattle.desk.specs.Answering.{Shows, LeavesOneOf}
 use Rattle.desk.proofs.Afterwards.{after-last, replies-last}
 use Rattle.desk.proofs.running.run.Goals as goal
