@@ -103,7 +103,14 @@ BAD_WORDS = [
     ["file"],
     ["file", "FILE"],
     ["file", "FILE", "k1"],
-    ["report", "FILE", "till", "2026-03-02"],
+    ["report"],
+    ["report", "FILE"],
+    ["report", "FILE", "till"],
+    ["report", "FILE", "till", "2026-3-2"],
+    ["report", "FILE", "till", "2026-03-02", "again"],
+    ["report", "FILE", "shelf", "01"],
+    ["report", "FILE", "shelf", ""],
+    ["report", "FILE", "sums", "1"],
     ["", "", "", ""],
     ["file", "FILE", "", "begin-day", "2026-03-03"],
     ["file", "FILE", "k" * 41, "begin-day", "2026-03-03"],
@@ -422,6 +429,54 @@ def a_day_at_the_desk(folder):
         check(f"{words}", (run.stdout.decode(), run.returncode), (answer, status_of(answer.partition("\n")[0])))
 
 
+def report(path, *words):
+    """What a report prints, and its status."""
+    run = subprocess.run([CIRC, "report", path, *words], capture_output=True, timeout=120)
+    check(f"standard error of {words}", run.stderr, b"")
+    return run.stdout.decode(), run.returncode
+
+
+def reports(folder):
+    """The sums of a day and the ready holds of a branch; no library is made for a report."""
+    path = os.path.join(folder, "reports.db")
+    say(path, GROUND)
+    say(path, [
+        ("a1", ["place-hold", "2", "100", "1"], "hold 1"),
+        ("a2", ["place-hold", "3", "100", "1"], "hold 2"),
+        ("a3", ["check-in", "10", "1"], "fine 0 ready 1 at 1 until 2026-03-07"),
+        ("a4", ["check-out", "1", "30", "1"], "loan 1 due 2026-03-14"),
+    ])
+    shelf = ("      hold    copy  patron until      title\n"
+             "         1      10       2 2026-03-07 Rivers of the North\n"
+             "ready 1\n")
+    check("the hold shelf", report(path, "shelf", "1"), (shelf, 0))
+    check("an empty hold shelf", report(path, "shelf", "2"),
+          ("      hold    copy  patron until      title\nready 0\n", 0))
+    check("an unknown branch", report(path, "shelf", "9"), ("refused 10\n", 2))
+    check("a branch that can't be", report(path, "shelf", "4294967295"), ("refused 10\n", 2))
+    say(path, [
+        ("b1", ["begin-day", "2026-03-23"], "ok"),
+        ("b2", ["check-in", "30", "1"], "fine 100 shelf 1"),
+        ("b3", ["pay", "1", "30"], "owed 70"),
+        ("b4", ["waive", "1", "20"], "owed 50"),
+    ])
+    before = whole(path)
+    till = ("till 2026-03-23\nfines                100\nprices                 0\npayments              30\n"
+            "waivers               20\n")
+    check("the till", report(path, "till", "2026-03-23"), (till, 0))
+    check("a day of no lines", report(path, "till", "2199-12-31"),
+          ("till 2199-12-31\nfines                  0\nprices                 0\npayments               0\n"
+           "waivers                0\n", 0))
+    check("no row is changed", whole(path), before)
+    absent, empty = os.path.join(folder, "absent.db"), os.path.join(folder, "nothing.db")
+    open(empty, "w").close()
+    for words in (["till", "2026-03-23"], ["shelf", "1"]):
+        check("no file", report(absent, *words), ("fault 93\n", 3))
+        check("none is made", os.path.exists(absent), False)
+        check("a file of no bytes", report(empty, *words), ("fault 93\n", 3))
+        check("it stays", os.path.getsize(empty), 0)
+
+
 def kill_at_work(path, key, words, seconds):
     """Starts a run and kills it after a while; it may have ended by then."""
     with subprocess.Popen([PROGRAM, "file", path, key, *words], stdout=subprocess.DEVNULL) as run:
@@ -454,6 +509,10 @@ def a_month(folder):
             kill_at_work(killed, key, words, moments.uniform(0, 0.02))
         check(f"{key} {words} after kills, seed {seed}", answers(killed, key, words), (line + "\n", status_of(line)))
     the_rows_are(calm, library)
+    for branch in sorted(library.branches):
+        check(f"the hold shelf of {branch}", report(calm, "shelf", str(branch)), (library.shelf(branch), 0))
+    for day in sorted({line["day"] for line in library.lines}):
+        check(f"the till of {day}", report(calm, "till", str(day)), (library.till(day), 0))
     check(f"the rows after kills, seed {seed}", whole(killed), whole(calm))
 
 
@@ -521,6 +580,7 @@ def main():
         single_closed_days(folder)
         payments(folder)
         movements(folder)
+        reports(folder)
         a_day_at_the_desk(folder)
         a_month(folder)
         bad_words(folder)

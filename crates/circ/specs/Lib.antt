@@ -2,3 +2,4 @@ pub mod Exits
 pub mod Lines
 pub mod Pieces
 pub mod Saying
+pub mod Reporting

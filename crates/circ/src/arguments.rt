@@ -1,7 +1,7 @@
 //! What a program is asked to do, by its first words.
 
 use std::alloc::Global;
-use terms::{Key, Memory};
+use terms::{BranchId, Day, Key, Memory, read_number};
 
 /// What a program is asked to do.
 #[derive(Drop)]
@@ -12,14 +12,25 @@ pub enum Run<'a> {
         key: Key,
         words: &'a [String],
     },
+    /// `report FILE till DAY`, `report FILE shelf B`: a report on the library in a file.
+    Report { path: &'a str, report: Report },
 }
 
-/// What the words ask for; None where they are not understood. The words of a request themselves are read later.
-pub fn read_run<'a>(alloc: Global, words: &'a [String]) -> Result<Option<Run<'a>>, Memory> {
-    let [first, path, key, words @ ..] = words else {
+/// A report that the desk writes.
+#[derive(Clone, Copy, Debug, PartialEq, Eq)]
+pub enum Report {
+    /// The sums of a day's lines of accounts.
+    Till(Day),
+    /// The ready holds of a branch.
+    Shelf(BranchId),
+}
+
+/// A request on a file: there has to be a word at least, and a key in its form.
+fn read_file<'a>(alloc: Global, words: &'a [String]) -> Result<Option<Run<'a>>, Memory> {
+    let [path, key, words @ ..] = words else {
         return Ok(None);
     };
-    if first.as_str() != "file" || words.is_empty() {
+    if words.is_empty() {
         return Ok(None);
     }
     match Key::new(alloc, key.as_str())? {
@@ -29,5 +40,38 @@ pub fn read_run<'a>(alloc: Global, words: &'a [String]) -> Result<Option<Run<'a>
             words,
         })),
         None => Ok(None),
+    }
+}
+
+/// A report by its name, with its day or its branch in their forms.
+fn read_report(name: &str, argument: &str) -> Option<Report> {
+    match name {
+        "till" => Some(Report::Till(Day::read(argument)?)),
+        "shelf" => Some(Report::Shelf(BranchId::new(read_number(argument)?))),
+        _ => None,
+    }
+}
+
+/// A report on a file: exactly its name and one argument follow.
+fn read_report_run<'a>(words: &'a [String]) -> Option<Run<'a>> {
+    let [path, name, argument] = words else {
+        return None;
+    };
+    let report = read_report(name.as_str(), argument.as_str())?;
+    Some(Run::Report {
+        path: path.as_str(),
+        report,
+    })
+}
+
+/// What the words ask for; None where they are not understood. The words of a request themselves are read later.
+pub fn read_run<'a>(alloc: Global, words: &'a [String]) -> Result<Option<Run<'a>>, Memory> {
+    let [first, words @ ..] = words else {
+        return Ok(None);
+    };
+    match first.as_str() {
+        "file" => read_file(alloc, words),
+        "report" => Ok(read_report_run(words)),
+        _ => Ok(None),
     }
 }

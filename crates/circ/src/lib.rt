@@ -3,11 +3,13 @@
 
 mod arguments;
 mod lines;
+mod reports;
 mod requests;
 #[cfg(test)]
 mod tests;
 mod writing;
 
-pub use arguments::{Run, read_run};
+pub use arguments::{Report, Run, read_run};
 pub use lines::{Exit, WriteFault, not_understood, out_of_memory, tell_fault};
+pub use reports::report;
 pub use requests::one;

@@ -2,6 +2,7 @@
 
 mod cut_lines;
 mod movements;
+mod reports;
 
 use crate::{Exit, Run, one, read_run};
 use desk::Desk;
@@ -549,6 +550,13 @@ fn reads_the_first_words(rt: HostRuntime) -> Result<(), Fail> {
         ("file town.db k1", false),
         ("file town.db k_1 begin-day", false),
         ("files town.db k1 begin-day", false),
+        ("report town.db till 2026-03-02", true),
+        ("report town.db shelf 1", true),
+        ("report town.db shelf 01", false),
+        ("report town.db till 2026-3-2", false),
+        ("report town.db till 2026-03-02 again", false),
+        ("report town.db sums 1", false),
+        ("report town.db till", false),
     ] {
         let words = words_of(alloc, text)?;
         assert_eq!(rt; read_run(alloc, &words)?.is_some(), is_read, "at {text}");

@@ -1,7 +1,9 @@
 //! The program `circ`: the circulation desk of a town library, by words.
 #![tactic(auto)]
 
-use circ::{Exit, Run, WriteFault, not_understood, one, out_of_memory, read_run, tell_fault};
+use circ::{
+    Exit, Report, Run, WriteFault, not_understood, one, out_of_memory, read_run, report, tell_fault,
+};
 use desk::Desk;
 use sqlite::{FileFrom, FileStore, Start, Wary};
 use std::alloc::Global;
@@ -25,12 +27,23 @@ fn open<S: Start>(
     path: &str,
     start: S,
 ) -> Result<Desk<FileStore<FileFrom<S>>>, Fault> {
-    let store = if is_new(rt, path) {
-        Store::create_from(rt, path, start)?
+    if is_new(rt, path) {
+        Desk::new(Store::create_from(rt, path, start)?)
     } else {
-        Store::open_from(rt, path, start)?
-    };
-    Desk::new(store)
+        Desk::new(Store::open_from(rt, path, start)?)
+    }
+}
+
+/// The library in the file. Where there is no file, or one with no bytes, there is no library: 93, and no file is made.
+fn find<S: Start>(
+    rt: &HostRuntime,
+    path: &str,
+    start: S,
+) -> Result<Desk<FileStore<FileFrom<S>>>, Fault> {
+    if is_new(rt, path) {
+        return Err(Fault::Stored);
+    }
+    Desk::new(Store::open_from(rt, path, start)?)
 }
 
 /// One request on the library in the file. At the end the database's log is copied into the file, so that the file
@@ -45,6 +58,23 @@ fn file<W: Write>(
     match open(rt, path, Wary) {
         Ok(mut desk) => {
             let told = one(&mut desk, rt.alloc(), key, words, writer);
+            let _ = desk.into_store().into_connection().close();
+            told
+        }
+        Err(fault) => tell_fault(writer, fault),
+    }
+}
+
+/// A report on the library in the file.
+fn report_on<W: Write>(
+    rt: &HostRuntime,
+    path: &str,
+    wanted: &Report,
+    writer: &mut W,
+) -> Result<Exit, WriteFault> {
+    match find(rt, path, Wary) {
+        Ok(mut desk) => {
+            let told = report(&mut desk, rt.alloc(), wanted, writer);
             let _ = desk.into_store().into_connection().close();
             told
         }
@@ -76,6 +106,7 @@ fn answer<W: Write>(
 ) -> Result<Exit, WriteFault> {
     match read_run(alloc, words) {
         Ok(Some(Run::File { path, key, words })) => file(rt, path, key, words, writer),
+        Ok(Some(Run::Report { path, report })) => report_on(rt, path, &report, writer),
         Ok(None) => not_understood(writer),
         Err(_) => out_of_memory(writer),
     }

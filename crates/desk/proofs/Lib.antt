@@ -12,3 +12,5 @@ pub mod ReportRows
 pub mod TillSums
 pub mod TillLines
 pub mod TillBound
+pub mod ShelfLists
+pub mod ShelfRows

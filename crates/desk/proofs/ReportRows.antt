@@ -1,14 +1,15 @@
 -- The columns of reports.
-use Rattle.std.proofs.Common.{◌≡◌, ℕ, zero, suc, ◌-◌, ◌^◌, false, List, [], ◌∷◌, ◌++◌, length, append-nil, refl, sym, ◌∙◌, ap, arith}
+use Rattle.std.proofs.Common.{◌≡◌, ℕ, zero, suc, ◌-◌, ◌^◌, false, List, [], ◌∷◌, ◌++◌, length, append-nil, refl, sym, ◌∙◌, ap, subst, arith}
 use Rattle.std.specs.Prelude.{replicate, decimal, codes}
 use Rattle.std.specs.List.{repeat}
 use Rattle.std.specs.Char.{encode_utf8}
 use Rattle.std.specs.Fmt.{padded_integral, format_spec, char_count, styled_decimal}
 use Rattle.std.proofs.lemmas.List.{append_assoc}
 use Rattle.calendar.specs.Days.{day_text}
-use Rattle.model.specs.Reports.{right_in, report_lines}
+use Rattle.terms.specs.declared.row.HoldRow.{HoldRow}
+use Rattle.model.specs.Reports.{right_in, left_in, report_lines}
 use Rattle.desk.specs.declared.reporting.Sums.{Sums}
-use Rattle.desk.specs.Reporting.{till_words}
+use Rattle.desk.specs.Reporting.{till_words, ready_words}
 
 encode-space : encode_utf8 32 ≡ 32 ∷ []
 unfolding encode_utf8
@@ -33,8 +34,19 @@ padded-right width text =
 abbrev pub column : ℕ → ℕ → List ℕ
 column width n = styled_decimal (format_spec 32 3 0 width (2 ^ 64 - 1)) n
 
+in-seven : (n : ℕ) → column 7 n ≡ right_in 7 (decimal n)
+in-seven n = padded-right 7 (decimal n)
+
+in-ten : (n : ℕ) → column 10 n ≡ right_in 10 (decimal n)
+in-ten n = padded-right 10 (decimal n)
+
 in-fifteen : (n : ℕ) → column 15 n ≡ right_in 15 (decimal n)
 in-fifteen n = padded-right 15 (decimal n)
+
+-- The text of a day fills its column.
+left-day : (d : ℕ) → left_in 10 (day_text d) ≡ day_text d
+unfolding day_text
+left-day d = refl
 
 -- ---- till
 
@@ -58,3 +70,16 @@ till-text d sums f p q w text fs ps qs ws is =
     is ∙ parted (day_text d) f p q w
     ∙ (λ i. report_lines ((codes "till " ++ day_text d) ∷ (codes "fines    " ++ (fs ∙ in-fifteen sums.fines) i) ∷ (codes "prices   " ++ (ps ∙ in-fifteen sums.prices) i)
     ∷ (codes "payments " ++ (qs ∙ in-fifteen sums.payments) i) ∷ (codes "waivers  " ++ (ws ∙ in-fifteen sums.waivers) i) ∷ []))
+
+-- ---- shelf
+
+spread : (a b c d e : List ℕ) → a ++ (codes " " ++ (b ++ (codes " " ++ (c ++ (codes " " ++ (d ++ (codes " " ++ (e ++ (10 ∷ [])))))))))
+    ≡ (a ++ (32 ∷ (b ++ (32 ∷ (c ++ (32 ∷ (d ++ (32 ∷ e)))))))) ++ (10 ∷ [])
+spread a b c d e = simp append_assoc
+
+pub shelf-text : (row : HoldRow) (copy day : ℕ) (f p q title text : List ℕ) → f ≡ column 10 row.hold → p ≡ column 7 copy → q ≡ column 7 row.patron
+    → text ≡ f ++ (codes " " ++ (p ++ (codes " " ++ (q ++ (codes " " ++ (day_text day ++ (codes " " ++ (title ++ (10 ∷ [])))))))))
+    → text ≡ ready_words row copy day title ++ 10 ∷ []
+shelf-text row copy day f p q title text fs ps qs is =
+    is ∙ spread f p q (day_text day) title
+    ∙ (λ i. ((fs ∙ in-ten row.hold) i ++ (32 ∷ ((ps ∙ in-seven copy) i ++ (32 ∷ ((qs ∙ in-seven row.patron) i ++ (32 ∷ (sym (left-day day) i ++ (32 ∷ title)))))))) ++ (10 ∷ []))

@@ -1,23 +1,32 @@
 //! Reports: the till of a day, and the ready holds of a branch.
 
-ghost use Rattle.std.specs.Prelude.{◌≡◌, ◌≤◌, ◌++◌, ◌∷◌, [], ◌^◌, cond, Some, None, Err, IfOk, IfSome, OnOk, OnErr, string_bytes};
+ghost use Rattle.std.specs.Prelude.{◌≡◌, ◌≤◌, ℕ, ◌++◌, ◌∷◌, [], ◌^◌, cond, map, Some, None, Ok, Err, IfOk, IfSome, OnOk, OnErr, string_bytes};
+ghost use Rattle.std.specs.List.{Contains};
 ghost use Rattle.std.specs.Io.KnownBytes.{Appends, Keeps};
 ghost use Rattle.sqlite.specs.Held.{state};
 ghost use Rattle.sqlite.specs.State.{HasCleanDisk};
 ghost use Rattle.terms.specs.Writing.{AppendsFront};
 ghost use Rattle.terms.specs.declared.fault.Fault.{Fault as AnyFault};
 ghost use Rattle.terms.specs.declared.refusal.Refusal.{Refusal as AnyRefusal};
+ghost use Rattle.terms.specs.declared.row.BranchRow.{BranchRow as Branch};
+ghost use Rattle.terms.specs.declared.row.HoldRow.{HoldRow as Hold};
 ghost use Rattle.terms.specs.declared.row.Sort.{Sort as AnySort};
+ghost use Rattle.store.specs.Lists.{AreReadyAt};
 ghost use Rattle.model.specs.History.{History};
-ghost use Rattle.model.specs.Reports.{is_sort, till as till_of};
+ghost use Rattle.model.specs.Picture.{picture};
+ghost use Rattle.model.specs.Reports.{is_sort, report_lines, shelf_line, shelf as shelf_of, till as till_of};
 ghost use Rattle.desk.specs.Answering.{Shows, Looks};
-ghost use Rattle.desk.specs.Reporting.{rows_sum, rows_sums, till_words};
+ghost use Rattle.desk.specs.Reporting.{rows_sum, rows_sums, till_words, shelf_header, ready_words, ready_count};
 
+use crate::paging::title_row;
 use sqlite::Alter;
 use std::alloc::Global;
 use std::io::Write;
 use store::Store;
-use terms::{Day, Fault, LineRow, Memory, Refusal, Sort, WriteFault, write_bytes};
+use terms::{
+    BranchId, CopyId, Day, Fault, HoldRow, LineRow, Memory, Refusal, Sort, TitleRow, WriteFault,
+    write_bytes,
+};
 
 /// Why a report was not written.
 #[derive(Clone, Copy, Debug, PartialEq, Eq)]
@@ -143,5 +152,146 @@ pub(crate) fn till<S: Alter, W: Write>(
 {
     let text = till_text(store, alloc, day)?;
     write_bytes(writer, text.as_bytes())?;
+    Ok(())
+}
+
+/// The header of the shelf report.
+fn shelf_start(alloc: Global) -> Result<String, Memory>
+    ensures { IfOk result (λ text. string_bytes text ≡ shelf_header ++ (10 ∷ [])) }
+{
+    format!(in alloc; "      hold    copy  patron until      title\n")
+}
+
+/// The row of a ready hold, with the copy that stands there for it, the shelf limit and the title.
+fn shelf_row(
+    alloc: Global,
+    row: &HoldRow,
+    copy: CopyId,
+    limit_day: Day,
+    title: &TitleRow,
+) -> Result<String, Memory>
+    ensures { IfOk result (λ text. string_bytes text ≡ ready_words row.now copy limit_day title.now.text ++ (10 ∷ [])) }
+{
+    let hold = row.hold.number();
+    let copy = copy.number();
+    let patron = row.patron.number();
+    let text = &title.text;
+    format!(in alloc; "{hold:>10} {copy:>7} {patron:>7} {limit_day} {text}\n")
+}
+
+/// The last line of the shelf report.
+fn shelf_end(alloc: Global, count: usize) -> Result<String, Memory>
+    ensures { IfOk result (λ text. string_bytes text ≡ ready_count count ++ (10 ∷ [])) }
+{
+    format!(in alloc; "ready {count}\n")
+}
+
+/// The row of a ready hold, with its title. 90, 91; 93, also where the hold names no copy or no limit.
+fn ready_line<S: Alter>(store: &mut Store<S>, alloc: Global, row: &HoldRow) -> Result<String, Fault>
+    ensures line { HasCleanDisk (state S.Store store.new) → IfOk result (λ text. (H : History) → Shows (state S.Store store.old) H
+        → (picture H).holds row.now.hold ≡ Some row.now → string_bytes text ≡ shelf_line H row.now.hold ++ (10 ∷ [])) }
+    ensures looks { Looks (state S.Store store.old) (state S.Store store.new) result }
+{
+    let Some(copy) = row.copy else {
+        return Err(Fault::Stored);
+    };
+    let Some(limit_day) = row.limit_day else {
+        return Err(Fault::Stored);
+    };
+    let title = title_row(store, alloc, row.title)?;
+    Ok(shelf_row(alloc, row, copy, limit_day, &title)?)
+}
+
+/// The rows of ready holds, one after another. 90, 91, 93.
+fn add_ready<S: Alter>(
+    store: &mut Store<S>,
+    alloc: Global,
+    rows: &[HoldRow],
+    text: &mut String,
+) -> Result<(), Fault>
+    ensures lines { HasCleanDisk (state S.Store store.new) → OnOk result ((H : History) → Shows (state S.Store store.old) H
+        → ((r : Hold) → Contains rows.now r → (picture H).holds r.hold ≡ Some r)
+        → string_bytes text.new ≡ string_bytes text.old ++ report_lines (map (λ r. shelf_line H r.hold) rows.now)) }
+    ensures looks { Looks (state S.Store store.old) (state S.Store store.new) result }
+{
+    'rows: for row in rows {
+        let line = ready_line(store, alloc, row)?;
+        text.push_str(&line)?;
+    }
+    Ok(())
+}
+
+/// The shelf report over these rows: the header, a row for each, and how many there are. 90, 91, 93.
+fn shelf_lines<S: Alter>(
+    store: &mut Store<S>,
+    alloc: Global,
+    rows: &[HoldRow],
+) -> Result<String, Fault>
+    ensures lines { HasCleanDisk (state S.Store store.new) → IfOk result (λ text. (H : History) → Shows (state S.Store store.old) H
+        → (branch : ℕ) → AreReadyAt (picture H) branch rows.now → string_bytes text ≡ shelf_of H branch) }
+    ensures looks { Looks (state S.Store store.old) (state S.Store store.new) result }
+{
+    let mut text = shelf_start(alloc)?;
+    add_ready(store, alloc, rows, &mut text)?;
+    let last = shelf_end(alloc, rows.len())?;
+    text.push_str(&last)?;
+    Ok(text)
+}
+
+/// The shelf report of a branch that there is. 90, 91, 93.
+fn ready_text<S: Alter>(
+    store: &mut Store<S>,
+    alloc: Global,
+    branch: BranchId,
+) -> Result<String, Fault>
+    ensures text { HasCleanDisk (state S.Store store.new) → IfOk result (λ text. (H : History) → Shows (state S.Store store.old) H → string_bytes text ≡ shelf_of H branch) }
+    ensures looks { Looks (state S.Store store.old) (state S.Store store.new) result }
+{
+    let rows = store.ready_holds(alloc, branch)?;
+    shelf_lines(store, alloc, &rows)
+}
+
+/// The shelf report of a branch, if there is the branch. 90, 91, 93.
+fn shelf_text<S: Alter>(
+    store: &mut Store<S>,
+    alloc: Global,
+    branch: BranchId,
+) -> Result<Option<String>, Fault>
+    ensures text { HasCleanDisk (state S.Store store.new) → IfOk result (λ report. (H : History) → Shows (state S.Store store.old) H
+        → IfSome report (λ text. ((row : Branch) × ((picture H).branches branch ≡ Some row)) × (string_bytes text ≡ shelf_of H branch))) }
+    ensures none { HasCleanDisk (state S.Store store.new) → result ≡ Ok None → (H : History) → Shows (state S.Store store.old) H → (picture H).branches branch ≡ None }
+    ensures looks { Looks (state S.Store store.old) (state S.Store store.new) result }
+{
+    match store.branch(alloc, branch)? {
+        Some(_row) => {
+            let text = ready_text(store, alloc, branch)?;
+            Ok(Some(text))
+        }
+        None => Ok(None),
+    }
+}
+
+/// Writes the shelf report of a branch; 10 where there is no such branch. 90, 91, 93, before anything is written; or
+/// a write failed.
+pub(crate) fn shelf<S: Alter, W: Write>(
+    store: &mut Store<S>,
+    alloc: Global,
+    branch: BranchId,
+    writer: &mut W,
+) -> Result<(), ReportFault>
+    ensures written { HasCleanDisk (state S.Store store.new) → OnOk result ((H : History) → Shows (state S.Store store.old) H → Appends (W.contents writer.old) (W.contents writer.new) (shelf_of H branch)) }
+    ensures known { HasCleanDisk (state S.Store store.new) → OnOk result ((H : History) → Shows (state S.Store store.old) H → (row : Branch) × ((picture H).branches branch ≡ Some row)) }
+    ensures refused { HasCleanDisk (state S.Store store.new) → (refusal : AnyRefusal) → result ≡ Err (ReportFault.Refused refusal) → (H : History) → Shows (state S.Store store.old) H
+        → (refusal ≡ Refusal.UnknownBranch) × ((picture H).branches branch ≡ None) }
+    ensures unwritten { (refusal : AnyRefusal) → result ≡ Err (ReportFault.Refused refusal) → Keeps (W.contents writer.old) (W.contents writer.new) }
+    ensures silent { (fault : AnyFault) → result ≡ Err (ReportFault.Faulted fault) → Keeps (W.contents writer.old) (W.contents writer.new) }
+    ensures cut { HasCleanDisk (state S.Store store.new) → result ≡ Err ReportFault.NotWritten → (H : History) → Shows (state S.Store store.old) H
+        → AppendsFront (W.contents writer.old) (W.contents writer.new) (shelf_of H branch) × Shows (state S.Store store.new) H }
+    ensures looks { Looks (state S.Store store.old) (state S.Store store.new) result }
+{
+    let Some(report) = shelf_text(store, alloc, branch)? else {
+        return Err(ReportFault::Refused(Refusal::UnknownBranch));
+    };
+    write_bytes(writer, report.as_bytes())?;
     Ok(())
 }

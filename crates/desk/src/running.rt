@@ -1,6 +1,6 @@
 //! Many requests, one after another.
 
-ghost use Rattle.std.specs.Prelude.{◌≡◌, ◌≤◌, ◌+◌, ℕ, [], length, take, vec_len, Err, IfOk, IfErr, OnOk, OnErr, IsTrue};
+ghost use Rattle.std.specs.Prelude.{◌≡◌, ◌≤◌, ◌+◌, ℕ, [], length, take, vec_len, Some, None, Err, IfOk, IfErr, OnOk, OnErr, IsTrue};
 ghost use Rattle.std.specs.Io.KnownBytes.{Appends, Keeps};
 ghost use Rattle.sqlite.specs.Held.{state};
 ghost use Rattle.sqlite.specs.State.{HasCleanDisk};
@@ -8,26 +8,29 @@ ghost use Rattle.terms.specs.Pictures.{Picture};
 ghost use Rattle.terms.specs.Writing.{AppendsFront};
 ghost use Rattle.terms.specs.declared.fault.Fault.{Fault as AnyFault};
 ghost use Rattle.terms.specs.declared.refusal.Refusal.{Refusal};
+ghost use Rattle.terms.specs.declared.refusal.Refusal.TheVariants.{UnknownBranch};
+ghost use Rattle.terms.specs.declared.row.BranchRow.{BranchRow as Branch};
 ghost use Rattle.circ_tables.specs.Encoding.{HasPicture};
 ghost use Rattle.store.specs.Commit.{empty_library};
 ghost use Rattle.store.specs.Limits.{limit_of};
 ghost use Rattle.store.specs.Stops.{KeepsPicture};
 ghost use Rattle.model.specs.History.{History};
 ghost use Rattle.model.specs.Requests.{reply_to, after_one, after, replies as replies_to};
-ghost use Rattle.model.specs.Reports.{till as till_of};
+ghost use Rattle.model.specs.Picture.{picture};
+ghost use Rattle.model.specs.Reports.{shelf as shelf_of, till as till_of};
 ghost use Rattle.desk.specs.Answering.{Shows, Stays, Looks, LeavesOneOf, page_for};
 ghost use Rattle.desk.specs.Callers.{RefusesForeign};
 ghost use Rattle.desk.specs.Headline.{Headline};
 
 use crate::handling::handle;
 use crate::paging::show_own;
-use crate::reporting::{ReportFault, till};
+use crate::reporting::{ReportFault, shelf, till};
 use sqlite::Alter;
 use std::alloc::Global;
 use std::io::Write;
 use std::marker::Model;
 use store::Store;
-use terms::{CardKey, Day, Fault, PatronId, Reply, Request};
+use terms::{BranchId, CardKey, Day, Fault, PatronId, Reply, Request};
 
 /// The desk over the tables of a store.
 pub struct Desk<S: Alter> {
@@ -133,6 +136,27 @@ impl<S: Alter> Desk<S> {
         ensures looks { Looks (state S.Store self.old) (state S.Store self.new) result }
     {
         till(&mut self.store, alloc, day, writer)
+    }
+
+    /// Writes the shelf report of a branch: its ready holds, by number; 10 where there is no such branch, and then
+    /// nothing is written. 90, 91, 93 before anything is written.
+    pub fn shelf<W: Write>(
+        &mut self,
+        alloc: Global,
+        branch: BranchId,
+        writer: &mut W,
+    ) -> Result<(), ReportFault>
+        ensures written { HasCleanDisk (state S.Store self.new) → OnOk result ((H : History) → Shows (state S.Store self.old) H → Appends (W.contents writer.old) (W.contents writer.new) (shelf_of H branch)) }
+        ensures known { HasCleanDisk (state S.Store self.new) → OnOk result ((H : History) → Shows (state S.Store self.old) H → (row : Branch) × ((picture H).branches branch ≡ Some row)) }
+        ensures refused { HasCleanDisk (state S.Store self.new) → (refusal : Refusal) → result ≡ Err (ReportFault.Refused refusal) → (H : History) → Shows (state S.Store self.old) H
+            → (refusal ≡ UnknownBranch) × ((picture H).branches branch ≡ None) }
+        ensures unwritten { (refusal : Refusal) → result ≡ Err (ReportFault.Refused refusal) → Keeps (W.contents writer.old) (W.contents writer.new) }
+        ensures silent { (fault : AnyFault) → result ≡ Err (ReportFault.Faulted fault) → Keeps (W.contents writer.old) (W.contents writer.new) }
+        ensures cut { HasCleanDisk (state S.Store self.new) → result ≡ Err ReportFault.NotWritten → (H : History) → Shows (state S.Store self.old) H
+            → AppendsFront (W.contents writer.old) (W.contents writer.new) (shelf_of H branch) × Shows (state S.Store self.new) H }
+        ensures looks { Looks (state S.Store self.old) (state S.Store self.new) result }
+    {
+        shelf(&mut self.store, alloc, branch, writer)
     }
 
     /// Sets how many steps each later call of the database may take; with none there is no limit, and 0 stands for 1.

@@ -1,0 +1,101 @@
+//! Reports over memory. The expected bytes are those of the rules, written out by hand.
+
+use super::{check, ground};
+use crate::{Exit, Report, report};
+use desk::Desk;
+use sqlite::MemStore;
+use std::alloc::Global;
+use std::process::Abort;
+use std::test::Fail;
+use terms::{BranchId, Day};
+
+/// The report is these bytes, and the end is this one.
+fn shows(
+    rt: &impl Abort,
+    alloc: Global,
+    desk: &mut Desk<MemStore>,
+    wanted: Report,
+    exit: Exit,
+    text: &str,
+) -> Result<(), Fail> {
+    let mut bytes: Vec<u8> = Vec::new(alloc);
+    let ended = report(desk, alloc, &wanted, &mut bytes)?;
+    assert_eq!(rt; ended, exit);
+    assert_eq!(rt; std::str::from_utf8(&bytes)?, text);
+    Ok(())
+}
+
+fn till(date: &str) -> Result<Report, Fail> {
+    Ok(Report::Till(Day::read(date).ok_or("a day")?))
+}
+
+#[test]
+fn shows_the_hold_shelf(rt: HostRuntime) -> Result<(), Fail> {
+    let alloc = rt.alloc();
+    let mut desk = ground(&rt, alloc)?;
+    check(
+        &rt,
+        alloc,
+        &mut desk,
+        &[
+            ("a1", "place-hold 2 100 1", "0 hold 1"),
+            ("a2", "place-hold 3 100 1", "0 hold 2"),
+            (
+                "a3",
+                "check-in 10 1",
+                "0 fine 0 ready 1 at 1 until 2026-03-07",
+            ),
+        ],
+    )?;
+    let shelf = "      hold    copy  patron until      title\n         1      10       2 2026-03-07 Rivers of the North\nready 1\n";
+    let empty = "      hold    copy  patron until      title\nready 0\n";
+    let at = |branch: u32| Report::Shelf(BranchId::new(branch));
+    shows(&rt, alloc, &mut desk, at(1), Exit::Done, shelf)?;
+    shows(&rt, alloc, &mut desk, at(2), Exit::Done, empty)?;
+    shows(
+        &rt,
+        alloc,
+        &mut desk,
+        at(9),
+        Exit::Refused,
+        "refused 10\n",
+    )
+}
+
+#[test]
+fn shows_the_sums_of_a_day(rt: HostRuntime) -> Result<(), Fail> {
+    let alloc = rt.alloc();
+    let mut desk = ground(&rt, alloc)?;
+    check(
+        &rt,
+        alloc,
+        &mut desk,
+        &[
+            ("a1", "check-out 1 10 1", "0 loan 1 due 2026-03-09"),
+            ("a2", "begin-day 2026-03-17", "0 ok"),
+            ("a3", "check-in 10 1", "0 fine 100 shelf 1"),
+        ],
+    )?;
+    let fine = "till 2026-03-17\nfines                100\nprices                 0\npayments               0\nwaivers                0\n";
+    shows(
+        &rt,
+        alloc,
+        &mut desk,
+        till("2026-03-17")?,
+        Exit::Done,
+        fine,
+    )?;
+    check(
+        &rt,
+        alloc,
+        &mut desk,
+        &[
+            ("b1", "pay 1 30", "0 owed 70"),
+            ("b2", "waive 1 20", "0 owed 50"),
+        ],
+    )?;
+    let all = "till 2026-03-17\nfines                100\nprices                 0\npayments              30\nwaivers               20\n";
+    let none = "till 2026-03-16\nfines                  0\nprices                 0\npayments               0\nwaivers                0\n";
+    shows(&rt, alloc, &mut desk, till("2026-03-17")?, Exit::Done, all)?;
+    shows(&rt, alloc, &mut desk, till("2026-03-16")?, Exit::Done, none)
+}
