@@ -13,7 +13,10 @@ pub enum Run<'a> {
         words: &'a [String],
     },
     /// `report FILE till DAY`, `report FILE shelf B`: a report on the library in a file.
-    Report { path: &'a str, report: Report },
+    Report {
+        path: &'a str,
+        report: Report,
+    },
 }
 
 /// A report that the desk writes.

@@ -10,6 +10,7 @@ use std::test::Fail;
 use store::Store;
 
 /// A writer that takes so many bytes, and then fails.
+#[derive(Drop)]
 struct Narrow {
     taken: Vec<u8>,
     room: usize,

@@ -47,19 +47,13 @@ fn shows_the_hold_shelf(rt: HostRuntime) -> Result<(), Fail> {
             ),
         ],
     )?;
-    let shelf = "      hold    copy  patron until      title\n         1      10       2 2026-03-07 Rivers of the North\nready 1\n";
+    let shelf =
+        "      hold    copy  patron until      title\n         1      10       2 2026-03-07 Rivers of the North\nready 1\n";
     let empty = "      hold    copy  patron until      title\nready 0\n";
     let at = |branch: u32| Report::Shelf(BranchId::new(branch));
     shows(&rt, alloc, &mut desk, at(1), Exit::Done, shelf)?;
     shows(&rt, alloc, &mut desk, at(2), Exit::Done, empty)?;
-    shows(
-        &rt,
-        alloc,
-        &mut desk,
-        at(9),
-        Exit::Refused,
-        "refused 10\n",
-    )
+    shows(&rt, alloc, &mut desk, at(9), Exit::Refused, "refused 10\n")
 }
 
 #[test]
@@ -76,15 +70,9 @@ fn shows_the_sums_of_a_day(rt: HostRuntime) -> Result<(), Fail> {
             ("a3", "check-in 10 1", "0 fine 100 shelf 1"),
         ],
     )?;
-    let fine = "till 2026-03-17\nfines                100\nprices                 0\npayments               0\nwaivers                0\n";
-    shows(
-        &rt,
-        alloc,
-        &mut desk,
-        till("2026-03-17")?,
-        Exit::Done,
-        fine,
-    )?;
+    let fine =
+        "till 2026-03-17\nfines                100\nprices                 0\npayments               0\nwaivers                0\n";
+    shows(&rt, alloc, &mut desk, till("2026-03-17")?, Exit::Done, fine)?;
     check(
         &rt,
         alloc,
@@ -94,8 +82,10 @@ fn shows_the_sums_of_a_day(rt: HostRuntime) -> Result<(), Fail> {
             ("b2", "waive 1 20", "0 owed 50"),
         ],
     )?;
-    let all = "till 2026-03-17\nfines                100\nprices                 0\npayments              30\nwaivers               20\n";
-    let none = "till 2026-03-16\nfines                  0\nprices                 0\npayments               0\nwaivers                0\n";
+    let all =
+        "till 2026-03-17\nfines                100\nprices                 0\npayments              30\nwaivers               20\n";
+    let none =
+        "till 2026-03-16\nfines                  0\nprices                 0\npayments               0\nwaivers                0\n";
     shows(&rt, alloc, &mut desk, till("2026-03-17")?, Exit::Done, all)?;
     shows(&rt, alloc, &mut desk, till("2026-03-16")?, Exit::Done, none)
 }
