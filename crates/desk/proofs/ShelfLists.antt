@@ -1,5 +1,5 @@
 -- The rows of a branch's ready holds are those of the history's numbers, in their order.
-use Rattle.std.proofs.Common.{◌≡◌, ℕ, ◌≤◌, ◌==◌, Bool, true, false, ◌&&◌, List, map, refl, sym, ◌∙◌, ap, subst}
+use Rattle.std.proofs.Common.{◌≡◌, ℕ, ◌≤◌, ◌==◌, Bool, true, ◌&&◌, List, map, refl, sym, ◌∙◌, ap, subst}
 use Rattle.std.specs.Prelude.{Option, Some, None, option_map, unwrap_or}
 use Rattle.std.specs.List.{Contains}
 use Rattle.std.proofs.lemmas.Bool.{eqb-true, eq-eqb, and_parts, and_from}

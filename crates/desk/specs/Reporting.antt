@@ -1,5 +1,5 @@
 -- The lines of reports, by the rows of the tables.
-use Rattle.std.specs.Prelude.{ℕ, List, [], ◌∷◌, ◌++◌, filter, codes, decimal, sum_by}
+use Rattle.std.specs.Prelude.{ℕ, List, [], ◌∷◌, filter, codes, decimal, sum_by}
 use Rattle.calendar.specs.Days.{day_text}
 use Rattle.terms.specs.declared.row.LineRow.{LineRow}
 use Rattle.terms.specs.declared.row.HoldRow.{HoldRow}

@@ -281,12 +281,11 @@ pub(crate) fn shelf<S: Alter, W: Write>(
 ) -> Result<(), ReportFault>
     ensures written { HasCleanDisk (state S.Store store.new) → OnOk result ((H : History) → Shows (state S.Store store.old) H → Appends (W.contents writer.old) (W.contents writer.new) (shelf_of H branch)) }
     ensures known { HasCleanDisk (state S.Store store.new) → OnOk result ((H : History) → Shows (state S.Store store.old) H → (row : Branch) × ((picture H).branches branch ≡ Some row)) }
-    ensures refused { HasCleanDisk (state S.Store store.new) → (refusal : AnyRefusal) → result ≡ Err (ReportFault.Refused refusal) → (H : History) → Shows (state S.Store store.old) H
-        → (refusal ≡ Refusal.UnknownBranch) × ((picture H).branches branch ≡ None) }
-    ensures unwritten { (refusal : AnyRefusal) → result ≡ Err (ReportFault.Refused refusal) → Keeps (W.contents writer.old) (W.contents writer.new) }
+    ensures refused { (refusal : AnyRefusal) → result ≡ Err (ReportFault.Refused refusal) → (refusal ≡ Refusal.UnknownBranch) × Keeps (W.contents writer.old) (W.contents writer.new) }
+    ensures unknown { HasCleanDisk (state S.Store store.new) → (refusal : AnyRefusal) → result ≡ Err (ReportFault.Refused refusal) → (H : History) → Shows (state S.Store store.old) H → (picture H).branches branch ≡ None }
     ensures silent { (fault : AnyFault) → result ≡ Err (ReportFault.Faulted fault) → Keeps (W.contents writer.old) (W.contents writer.new) }
     ensures cut { HasCleanDisk (state S.Store store.new) → result ≡ Err ReportFault.NotWritten → (H : History) → Shows (state S.Store store.old) H
-        → AppendsFront (W.contents writer.old) (W.contents writer.new) (shelf_of H branch) × Shows (state S.Store store.new) H }
+        → ((row : Branch) × ((picture H).branches branch ≡ Some row)) × AppendsFront (W.contents writer.old) (W.contents writer.new) (shelf_of H branch) × Shows (state S.Store store.new) H }
     ensures looks { Looks (state S.Store store.old) (state S.Store store.new) result }
 {
     let Some(report) = shelf_text(store, alloc, branch)? else {

@@ -148,12 +148,11 @@ impl<S: Alter> Desk<S> {
     ) -> Result<(), ReportFault>
         ensures written { HasCleanDisk (state S.Store self.new) → OnOk result ((H : History) → Shows (state S.Store self.old) H → Appends (W.contents writer.old) (W.contents writer.new) (shelf_of H branch)) }
         ensures known { HasCleanDisk (state S.Store self.new) → OnOk result ((H : History) → Shows (state S.Store self.old) H → (row : Branch) × ((picture H).branches branch ≡ Some row)) }
-        ensures refused { HasCleanDisk (state S.Store self.new) → (refusal : Refusal) → result ≡ Err (ReportFault.Refused refusal) → (H : History) → Shows (state S.Store self.old) H
-            → (refusal ≡ UnknownBranch) × ((picture H).branches branch ≡ None) }
-        ensures unwritten { (refusal : Refusal) → result ≡ Err (ReportFault.Refused refusal) → Keeps (W.contents writer.old) (W.contents writer.new) }
+        ensures refused { (refusal : Refusal) → result ≡ Err (ReportFault.Refused refusal) → (refusal ≡ UnknownBranch) × Keeps (W.contents writer.old) (W.contents writer.new) }
+        ensures unknown { HasCleanDisk (state S.Store self.new) → (refusal : Refusal) → result ≡ Err (ReportFault.Refused refusal) → (H : History) → Shows (state S.Store self.old) H → (picture H).branches branch ≡ None }
         ensures silent { (fault : AnyFault) → result ≡ Err (ReportFault.Faulted fault) → Keeps (W.contents writer.old) (W.contents writer.new) }
         ensures cut { HasCleanDisk (state S.Store self.new) → result ≡ Err ReportFault.NotWritten → (H : History) → Shows (state S.Store self.old) H
-            → AppendsFront (W.contents writer.old) (W.contents writer.new) (shelf_of H branch) × Shows (state S.Store self.new) H }
+            → ((row : Branch) × ((picture H).branches branch ≡ Some row)) × AppendsFront (W.contents writer.old) (W.contents writer.new) (shelf_of H branch) × Shows (state S.Store self.new) H }
         ensures looks { Looks (state S.Store self.old) (state S.Store self.new) result }
     {
         shelf(&mut self.store, alloc, branch, writer)

@@ -1,4 +1,5 @@
-//! Every ordered pair of twenty requests, one of each command, in one library; then what the rows show is looked at.
+//! Every ordered pair of twenty requests in one library: of twenty that follow each other on a day, and of one of each
+//! command. Then what the rows show is looked at.
 
 use crate::library::{Said, add, check, ground, request, run, taken};
 use desk::Desk;
@@ -28,6 +29,30 @@ const BEGUN: [Said; 8] = [
     ),
 ];
 
+/// Twenty request texts about a few copies, loans and holds, which get in each other's way.
+const CROWDED: [&str; 20] = [
+    "check-out 1 10 1",
+    "check-out 2 11 2",
+    "check-out 3 20 2",
+    "check-in 10 1",
+    "check-in 10 2",
+    "check-in 11 1",
+    "check-in 20 1",
+    "renew 1",
+    "place-hold 2 100 1",
+    "place-hold 3 100 2",
+    "cancel-hold 1",
+    "unshelve 1",
+    "unshelve-cancelled 1",
+    "missing 10",
+    "withdraw 11",
+    "pay 1 30",
+    "waive 1 20",
+    "page 1",
+    "close-day 1 2026-03-09",
+    "open-day 1 2026-03-09",
+];
+
 /// One request text of each command.
 const TEXTS: [&str; 20] = [
     "check-out 2 10 1",
@@ -52,6 +77,15 @@ const TEXTS: [&str; 20] = [
     "acquire 11 100 1 1 2500|Rivers of the North",
 ];
 
+/// How many rows there are after all pairs of the crowded requests. That many are accepted by the rules in plain Python
+/// of `tests/desk_rules.py`, and fifteen were before.
+const COUNTS: [(&str, i64); 4] = [
+    ("SELECT COUNT(*) FROM kept", 174),
+    ("SELECT COUNT(*) FROM loans", 3),
+    ("SELECT COUNT(*) FROM holds", 3),
+    ("SELECT COUNT(*) FROM lines", 0),
+];
+
 /// The claims on copies: open loans, ready holds, transits, and copies that are missing or withdrawn.
 const CLAIMS: [&str; 4] = [
     "SELECT copy FROM loans WHERE ended IS NULL",
@@ -60,16 +94,21 @@ const CLAIMS: [&str; 4] = [
     "SELECT copy FROM copies WHERE condition > 0",
 ];
 
-/// The twenty pairs that begin with the text at a place, as forty requests with keys of their own.
-fn pairs_of(alloc: Global, first: &str, place: u32) -> Result<Vec<Request>, Fail> {
-    let mut requests = Vec::new(alloc);
-    'rows: for (at, second) in TEXTS.iter().enumerate() {
+/// Adds the pairs of a text at a place with each of the texts, as requests with keys of their own.
+fn add_pairs(
+    alloc: Global,
+    requests: &mut Vec<Request>,
+    texts: &[&str],
+    first: &str,
+    place: u32,
+) -> Result<(), Fail> {
+    'rows: for (at, second) in texts.iter().enumerate() {
         let name = format!(in alloc; "a-{place}-{at}")?;
-        add(&mut requests, request(alloc, &name, first)?)?;
+        add(requests, request(alloc, &name, first)?)?;
         let name = format!(in alloc; "b-{place}-{at}")?;
-        add(&mut requests, request(alloc, &name, second)?)?;
+        add(requests, request(alloc, &name, second)?)?;
     }
-    Ok(requests)
+    Ok(())
 }
 
 /// Adds the numbers of the one column that a text of SQL shows.
@@ -170,13 +209,35 @@ fn looked_at(rt: &impl Abort, alloc: Global, desk: Desk<MemStore>) -> Result<Des
 }
 
 #[test]
-fn every_pair_of_requests_keeps_the_laws(rt: HostRuntime) -> Result<(), Fail> {
+fn one_list_of_all_pairs_keeps_the_laws(rt: HostRuntime) -> Result<(), Fail> {
+    let alloc = rt.alloc();
+    let mut desk = ground(&rt, alloc)?;
+    let mut requests = Vec::new(alloc);
+    let mut place = 0u32;
+    for first in CROWDED {
+        add_pairs(alloc, &mut requests, &CROWDED, first, place)?;
+        place = place.saturating_add(1);
+    }
+    let replies = run(&mut desk, alloc, &requests)?;
+    assert_eq!(rt; replies.len(), 800);
+    let desk = looked_at(&rt, alloc, desk)?;
+    let mut conn = desk.into_store().into_connection();
+    for (sql, wanted) in COUNTS {
+        let count: i64 = conn.query_row(sql, &[])?.get(0)?;
+        assert_eq!(rt; count, wanted, "at {sql}");
+    }
+    Ok(())
+}
+
+#[test]
+fn every_pair_of_commands_keeps_the_laws(rt: HostRuntime) -> Result<(), Fail> {
     let alloc = rt.alloc();
     let mut desk = ground(&rt, alloc)?;
     check(&rt, alloc, &mut desk, &BEGUN)?;
     let mut place = 0u32;
     for first in TEXTS {
-        let requests = pairs_of(alloc, first, place)?;
+        let mut requests = Vec::new(alloc);
+        add_pairs(alloc, &mut requests, &TEXTS, first, place)?;
         let replies = run(&mut desk, alloc, &requests)?;
         assert_eq!(rt; replies.len(), 40, "at {first}");
         desk = looked_at(&rt, alloc, desk)?;

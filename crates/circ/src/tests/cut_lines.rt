@@ -1,13 +1,14 @@
 //! Lines that are cut: the writer takes some bytes, and then fails.
 
 use super::{ground, key, say, words_of};
-use crate::{WriteFault, one};
+use crate::{Report, WriteFault, one, report};
 use desk::Desk;
 use sqlite::MemStore;
 use std::alloc::Global;
 use std::io;
 use std::test::Fail;
 use store::Store;
+use terms::{BranchId, Day};
 
 /// A writer that takes so many bytes, and then fails.
 #[derive(Drop)]
@@ -90,6 +91,31 @@ fn cuts_each_kind_of_line(rt: HostRuntime) -> Result<(), Fail> {
         for room in 0..line.len() {
             let taken = cut(&mut desk, alloc, "k1", text, room)?;
             assert_eq!(rt; taken.as_slice(), &line.as_bytes()[..room], "at {text}");
+        }
+    }
+    Ok(())
+}
+
+#[test]
+fn cuts_reports(rt: HostRuntime) -> Result<(), Fail> {
+    let alloc = rt.alloc();
+    let mut desk = ground(&rt, alloc)?;
+    let till =
+        "till 2026-03-02\nfines                  0\nprices                 0\npayments               0\nwaivers                0\n";
+    let shelf = "      hold    copy  patron until      title\nready 0\n";
+    for (wanted, text) in [
+        (Report::Till(Day::read("2026-03-02").ok_or("a day")?), till),
+        (Report::Shelf(BranchId::new(1)), shelf),
+        (Report::Shelf(BranchId::new(9)), "refused 10\n"),
+    ] {
+        for room in 0..text.len() {
+            let mut writer = Narrow {
+                taken: Vec::new(alloc),
+                room,
+            };
+            let told = report(&mut desk, alloc, &wanted, &mut writer);
+            assert_eq!(rt; told, Err(WriteFault));
+            assert_eq!(rt; writer.taken.as_slice(), &text.as_bytes()[..room]);
         }
     }
     Ok(())

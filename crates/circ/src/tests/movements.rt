@@ -36,6 +36,61 @@ fn counts_the_open_days_late(rt: HostRuntime) -> Result<(), Fail> {
 }
 
 #[test]
+fn charges_no_more_than_the_cap(rt: HostRuntime) -> Result<(), Fail> {
+    answers(
+        &rt,
+        rt.alloc(),
+        &[
+            ("a1", "check-out 1 10 1", "0 loan 1 due 2026-03-09"),
+            ("a2", "begin-day 2026-03-17", "0 ok"),
+            ("a3", "check-in 10 1", "0 fine 100 shelf 1"),
+            ("p1", "pay 1 30", "0 owed 70"),
+            ("p2", "waive 1 20", "0 owed 50"),
+            ("p3", "pay 1 51", "2 refused 60"),
+            ("p4", "waive 1 0", "2 refused 60"),
+        ],
+    )
+}
+
+#[test]
+fn fines_by_the_calendar_of_the_day(rt: HostRuntime) -> Result<(), Fail> {
+    answers(
+        &rt,
+        rt.alloc(),
+        &[
+            ("a1", "check-out 1 10 1", "0 loan 1 due 2026-03-09"),
+            ("a2", "close-day 1 2026-03-09", "0 ok"),
+            ("a3", "begin-day 2026-03-10", "0 ok"),
+            ("a4", "check-in 10 1", "0 fine 20 shelf 1"),
+        ],
+    )
+}
+
+#[test]
+fn renews_no_loan_that_is_overdue_or_over(rt: HostRuntime) -> Result<(), Fail> {
+    answers(
+        &rt,
+        rt.alloc(),
+        &[
+            ("a1", "check-out 1 10 1", "0 loan 1 due 2026-03-09"),
+            ("a2", "begin-day 2026-03-10", "0 ok"),
+            ("a3", "place-hold 2 100 1", "0 hold 1"),
+            ("a4", "renew 1", "2 refused 41"),
+        ],
+    )?;
+    answers(
+        &rt,
+        rt.alloc(),
+        &[
+            ("a1", "check-out 1 10 1", "0 loan 1 due 2026-03-09"),
+            ("a2", "check-in 10 1", "0 fine 0 shelf 1"),
+            ("a3", "renew 1", "2 refused 40"),
+            ("a4", "renew 9", "2 refused 14"),
+        ],
+    )
+}
+
+#[test]
 fn fines_nothing_where_no_open_day_passed(rt: HostRuntime) -> Result<(), Fail> {
     let alloc = rt.alloc();
     let mut desk = ground(&rt, alloc)?;
@@ -47,8 +102,9 @@ fn fines_nothing_where_no_open_day_passed(rt: HostRuntime) -> Result<(), Fail> {
             ("a1", "check-out 1 30 1", "0 loan 1 due 2026-03-14"),
             ("a2", "begin-day 2026-03-15", "0 ok"),
             ("a3", "check-in 30 1", "0 fine 0 shelf 1"),
-            ("a4", "renew 1", "2 refused 40"),
-            ("a5", "renew 9", "2 refused 14"),
+            ("a4", "page 1", "0 patron 1 owed 0 name Ann Bell"),
+            ("a5", "renew 1", "2 refused 40"),
+            ("a6", "renew 9", "2 refused 14"),
         ],
     )?;
     assert_eq!(rt; count(desk, "SELECT COUNT(*) FROM lines")?, 0);
@@ -323,7 +379,8 @@ fn charges_for_a_lost_copy(rt: HostRuntime) -> Result<(), Fail> {
             ("a3", "begin-day 2026-03-17", "0 ok"),
             ("a4", "missing 10", "0 fine 100 price 2500"),
             ("a5", "check-in 10 1", "0 fine 0 shelf 1"),
-            ("a6", "check-out 1 11 1", "2 refused 38"),
+            ("a6", "page 1", "0 patron 1 owed 2600 name Ann Bell"),
+            ("a7", "check-out 1 11 1", "2 refused 38"),
             ("p1", "pay 1 2600", "0 owed 0"),
             ("p1", "pay 1 2600", "0 owed 0"),
             ("p1", "pay 1 2500", "2 refused 80"),
@@ -483,6 +540,15 @@ fn serves_patrons_their_own(rt: HostRuntime) -> Result<(), Fail> {
         (8, "cardkey00002", "m1", Wish::Hold(8), "refused 81"),
         (2, "cardkey00002", "m1", Wish::Hold(2), "hold 1"),
         (2, "cardkey00002", "m1", Wish::Hold(2), "hold 1"),
+        (
+            2,
+            "cardkey00002",
+            "m1",
+            Wish::Page(2),
+            "patron 2 owed 0 name Bo Carr\nhold 1 at 1 waiting title 100 Rivers of the North",
+        ),
+        (2, "cardkey00002", "m1", Wish::Page(3), "refused 81"),
+        (8, "cardkey00002", "m1", Wish::Page(8), "refused 81"),
         (2, "cardkey00002", "m1", Wish::Cancel(1), "refused 80"),
         (3, "cardkey00003", "m1", Wish::Cancel(1), "refused 15"),
         (3, "cardkey00003", "m2", Wish::Cancel(9), "refused 15"),

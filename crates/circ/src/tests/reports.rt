@@ -1,6 +1,6 @@
 //! Reports over memory. The expected bytes are those of the rules, written out by hand.
 
-use super::{check, ground};
+use super::{check, ground, written};
 use crate::{Exit, Report, report};
 use desk::Desk;
 use sqlite::MemStore;
@@ -65,9 +65,10 @@ fn shows_the_sums_of_a_day(rt: HostRuntime) -> Result<(), Fail> {
         alloc,
         &mut desk,
         &[
-            ("a1", "check-out 1 10 1", "0 loan 1 due 2026-03-09"),
-            ("a2", "begin-day 2026-03-17", "0 ok"),
-            ("a3", "check-in 10 1", "0 fine 100 shelf 1"),
+            ("a1", "close-day 1 2026-03-09", "0 ok"),
+            ("a2", "check-out 1 10 1", "0 loan 1 due 2026-03-10"),
+            ("a3", "begin-day 2026-03-17", "0 ok"),
+            ("a4", "check-in 10 1", "0 fine 100 shelf 1"),
         ],
     )?;
     let fine =
@@ -88,4 +89,20 @@ fn shows_the_sums_of_a_day(rt: HostRuntime) -> Result<(), Fail> {
         "till 2026-03-16\nfines                  0\nprices                 0\npayments               0\nwaivers                0\n";
     shows(&rt, alloc, &mut desk, till("2026-03-17")?, Exit::Done, all)?;
     shows(&rt, alloc, &mut desk, till("2026-03-16")?, Exit::Done, none)
+}
+
+#[test]
+fn tells_the_faults_of_rows(rt: HostRuntime) -> Result<(), Fail> {
+    let alloc = rt.alloc();
+    let mut desk = written(
+        ground(&rt, alloc)?,
+        &[
+            "INSERT INTO holds VALUES (1, 2, 100, 1, 1, 10, NULL)",
+            "INSERT INTO lines VALUES (1, 1, 20514, 4, 100, NULL)",
+        ],
+    )?;
+    let shelf = Report::Shelf(BranchId::new(1));
+    shows(&rt, alloc, &mut desk, shelf, Exit::Faulted, "fault 93\n")?;
+    let till = till("2026-03-02")?;
+    shows(&rt, alloc, &mut desk, till, Exit::Faulted, "fault 93\n")
 }

@@ -1,5 +1,5 @@
-use Rattle.std.proofs.Common.{◌≡◌, ℕ, ◌<◌, ◌+◌, ◌++◌, ◌∷◌, [], List, length, take, map, string_bytes, refl, sym, ◌∙◌, ap, arith}
-use Rattle.std.specs.Prelude.{Ok, Err}
+use Rattle.std.proofs.Common.{ℕ, ◌<◌, List, length, string_bytes, ◌∙◌, arith}
+use Rattle.std.specs.Prelude.{Ok}
 use Rattle.sqlite.specs.Held.{state}
 use Rattle.terms.specs.declared.row.HoldRow.{HoldRow}
 use Rattle.model.specs.Reports.{shelf_line}
