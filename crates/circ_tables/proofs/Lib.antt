@@ -5,6 +5,7 @@ pub mod KeyedLemmas
 pub mod NumberLemmas
 pub mod ColumnLemmas
 pub mod FoundLemmas
+pub mod QueryLemmas
 pub mod LineLemmas
 pub mod TitleLemmas
 pub mod TextLemmas

@@ -4,3 +4,4 @@ pub mod Cells
 pub mod Faults
 pub mod Selections
 pub mod Encoding
+pub mod SchemaNumber

@@ -47,8 +47,11 @@ pub struct KeptReply {
     pub reply: Text,
 }
 
+/// All rows of `meta`.
+pub const ALL_META: &str = "SELECT * FROM meta ORDER BY id";
+
 /// The one row of these. 93 where they are none, or more than one.
-fn one_of(rows: &[Row]) -> Result<&Row, Fault>
+pub fn one_of(rows: &[Row]) -> Result<&Row, Fault>
     ensures ok { IfOk result (λ row. rows.now ≡ row.now ∷ []) }
     ensures err { OnErr result (length rows.now ≢ 1) }
 {
@@ -76,7 +79,7 @@ pub fn get_meta<S: Alter>(conn: &mut Connection<S>) -> Result<MetaRow, Fault>
     ensures mode { conn.old.in_transaction ≡ false → conn.new.in_transaction ≡ false }
     ensures survives { (state S.Store conn.old).now.schema ≡ schema → Survives (state S.Store conn.old) (state S.Store conn.new) (λ _. ⊥) }
 {
-    let rows = all_rows(conn, "SELECT * FROM meta ORDER BY id", &[])?;
+    let rows = all_rows(conn, ALL_META, &[])?;
     meta_row(one_of(rows.as_slice())?)
 }
 

@@ -1,6 +1,4 @@
 pub mod CountLemmas
-pub mod KnownLemmas
-pub mod QueryLemmas
 pub mod ReadLemmas
 pub mod RowLemmas
 pub mod Steps

@@ -14,9 +14,10 @@ ghost use Rattle.store.specs.Limits.{limit_of};
 ghost use Rattle.store.specs.Reads.{Reads, ClosesFewDays};
 ghost use Rattle.store.specs.Stops.{Leaves, KeepsPicture};
 
-use crate::{changing, known, viewing};
+use crate::changing::{self, SCHEMA};
+use crate::viewing;
 use circ_core::{Changes, View};
-use circ_tables::{KeptReply, get_hold, get_kept, get_loan, get_patron};
+use circ_tables::{KeptReply, get_hold, get_kept, get_loan, get_patron, schema_of};
 use sqlite::{Alter, Connection};
 use std::alloc::Global;
 use std::marker::Model;
@@ -70,7 +71,9 @@ impl<S: Alter + Drop> Store<S> {
     {
         let is_idle = conn.is_autocommit();
         prove!(is_idle);
-        known::know(&mut conn)?;
+        if schema_of(&mut conn)? != SCHEMA {
+            return Err(Fault::Stored);
+        }
         Ok(Store { conn })
     }
 }
