@@ -1,11 +1,14 @@
-//! What is measured, and the requests for it.
+//! The calls that are measured, and the requests for them.
 
-use crate::filling::{card_key, patron_name};
+use crate::rows::{card_key, patron_name};
 use crate::size::Size;
 use std::alloc::Global;
 use terms::{Caller, Command, Fault, Key, PatronKind, Refusal, Reply, Request, Routed};
 
-/// What is measured.
+/// How many calls each side makes in a round.
+pub const CALLS: u32 = 40;
+
+/// A kind of call that is measured.
 #[derive(Clone, Copy)]
 pub enum Call {
     /// A check-out that is accepted.
@@ -134,4 +137,24 @@ pub fn request(alloc: Global, size: Size, call: Call, slot: u32) -> Result<Reque
         key: key(alloc, call, slot)?,
         command: command(alloc, size, call, slot)?,
     })
+}
+
+/// The slot of a call: those of the desk are even, and the others odd.
+pub fn slot(round: u32, at: u32, is_bare: bool) -> u32 {
+    let call = round.saturating_mul(CALLS).saturating_add(at);
+    let first = call.saturating_mul(2);
+    if is_bare {
+        first.saturating_add(1)
+    } else {
+        first
+    }
+}
+
+/// The requests of a round.
+pub fn requests(alloc: Global, size: Size, call: Call, round: u32) -> Result<Vec<Request>, Fault> {
+    let mut all = Vec::new(alloc);
+    for at in 0..CALLS {
+        all.push(request(alloc, size, call, slot(round, at, false))?)?;
+    }
+    Ok(all)
 }

@@ -1,12 +1,17 @@
 //! The program `circ_bench`: how long the desk takes for a request, beside the statements of SQL alone that it runs.
 #![tactic(auto)]
 
+mod asking;
 mod bare;
 mod call;
 mod filling;
+mod given;
 mod measuring;
+mod rows;
+mod showing;
 mod size;
 mod texts;
+mod times;
 
 use crate::filling::fill;
 use crate::measuring::measure_all;

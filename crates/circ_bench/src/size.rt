@@ -1,6 +1,6 @@
 //! How large the library is, and which rows it has.
 
-use terms::{BranchId, CopyId, PatronId, TitleId};
+use terms::{BranchId, CopyId, HoldId, LineId, LoanId, PatronId, TitleId};
 
 /// How many different patrons and copies the measured calls may use.
 pub const SLOTS: u32 = 480;
@@ -10,6 +10,18 @@ pub const LONG_LINE: u32 = 1_000;
 
 /// How many open loans the patron has whose page is measured.
 pub const MANY_LOANS: u32 = 200;
+
+/// How many lines today has, the day whose till is measured.
+pub const DAY_LINES: u32 = 200;
+
+/// How many ready holds the branch has whose shelf is measured.
+pub const READY_HOLDS: u32 = 200;
+
+/// The branch whose shelf is measured.
+pub const SHELF: u32 = 3;
+
+/// How many loans a copy has had.
+pub const TURNS: u32 = 3;
 
 /// How large the library is: 1,000 to 100,000 copies.
 #[derive(Clone, Copy)]
@@ -88,6 +100,68 @@ impl Size {
     /// A copy that the patron with many open loans has.
     pub fn read_copy(self, at: u32) -> CopyId {
         CopyId::new(self.copies.saturating_add(1).saturating_add(at))
+    }
+
+    /// The loan of a copy in a turn.
+    pub fn loan_of(self, copy: CopyId, turn: u32) -> LoanId {
+        let before = copy.number().saturating_sub(1).saturating_mul(TURNS);
+        LoanId::new(before.saturating_add(turn).saturating_add(1))
+    }
+
+    /// A loan of the patron with many open loans.
+    pub fn read_loan(self, at: u32) -> LoanId {
+        let before = self.copies.saturating_mul(TURNS);
+        LoanId::new(before.saturating_add(at).saturating_add(1))
+    }
+
+    /// How many holds are filled.
+    pub fn filled_holds(self) -> u32 {
+        self.copies / 10
+    }
+
+    /// A hold that is filled.
+    pub fn filled_hold(self, at: u32) -> HoldId {
+        HoldId::new(LONG_LINE.saturating_add(at).saturating_add(1))
+    }
+
+    /// The patron of a filled hold.
+    pub fn filled_patron(self, at: u32) -> PatronId {
+        let patrons = self.patrons().clamp(1, 100_000);
+        PatronId::new(1 + at.saturating_mul(2) % patrons)
+    }
+
+    /// The title of a filled hold.
+    pub fn filled_title(self, at: u32) -> TitleId {
+        TitleId::new(1 + at.saturating_mul(3) % self.titles().clamp(1, 100_000))
+    }
+
+    /// The pick-up branch of a filled hold: branch 1 of the first half, and branch 2 of the others.
+    pub fn filled_branch(self, at: u32) -> BranchId {
+        if at < self.filled_holds() / 2 {
+            BranchId::new(1)
+        } else {
+            BranchId::new(2)
+        }
+    }
+
+    /// A hold that is ready.
+    pub fn ready_hold(self, at: u32) -> HoldId {
+        self.filled_hold(self.filled_holds().saturating_add(at))
+    }
+
+    /// The patron of a ready hold, whom no measured call names.
+    pub fn ready_patron(self, at: u32) -> PatronId {
+        PatronId::new(at.saturating_add(9_000_000))
+    }
+
+    /// The copy that stands there for a ready hold, which no measured call names.
+    pub fn ready_copy(self, at: u32) -> CopyId {
+        self.read_copy(MANY_LOANS.saturating_add(at))
+    }
+
+    /// A line of today.
+    pub fn line_of_today(self, at: u32) -> LineId {
+        LineId::new(self.copies.saturating_add(at).saturating_add(1))
     }
 
     /// The copy in a slot that is not on loan; each slot has another one.

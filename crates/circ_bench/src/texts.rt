@@ -1,4 +1,4 @@
-//! The texts of SQL that the desk runs for the measured calls.
+//! The texts of SQL that the desk runs for what is measured.
 
 pub const KEPT: &str = "SELECT * FROM kept WHERE caller = ?1 AND key = ?2";
 
@@ -58,3 +58,7 @@ pub const HOLDS_OF_PATRON: &str =
 
 pub const PUT_HOLD: &str =
     "INSERT INTO holds VALUES (?1, ?2, ?3, ?4, ?5, ?6, ?7) ON CONFLICT (hold) DO UPDATE SET patron = ?2, title = ?3, branch = ?4, state = ?5, copy = ?6, limit_day = ?7";
+
+pub const LINES_OF_DAY: &str = "SELECT * FROM lines WHERE day = ?1 ORDER BY line";
+
+pub const READY_HOLDS: &str = "SELECT * FROM holds WHERE branch = ?1 AND state = 1 ORDER BY hold";
