@@ -306,6 +306,39 @@ fn gives_a_cancelled_copy_to_the_next(rt: HostRuntime) -> Result<(), Fail> {
 }
 
 #[test]
+fn routes_a_copy_off_the_hold_shelf(rt: HostRuntime) -> Result<(), Fail> {
+    answers(
+        &rt,
+        rt.alloc(),
+        &[
+            ("a1", "place-hold 2 100 1", "0 hold 1"),
+            (
+                "a2",
+                "check-in 10 1",
+                "0 fine 0 ready 1 at 1 until 2026-03-07",
+            ),
+            ("a3", "begin-day 2026-03-08", "0 ok"),
+            ("a4", "unshelve 1", "0 shelf 1"),
+            ("b1", "place-hold 1 200 1", "0 hold 2"),
+            (
+                "b2",
+                "check-in 20 1",
+                "0 fine 0 ready 2 at 1 until 2026-03-13",
+            ),
+            ("b3", "unshelve-cancelled 2", "0 transit 2"),
+            ("c1", "place-hold 2 100 1", "0 hold 3"),
+            ("c2", "place-hold 3 100 2", "0 hold 4"),
+            (
+                "c3",
+                "check-in 10 1",
+                "0 fine 0 ready 3 at 1 until 2026-03-13",
+            ),
+            ("c4", "unshelve-cancelled 3", "0 transit 2 for 4"),
+        ],
+    )
+}
+
+#[test]
 fn loses_and_finds_copies(rt: HostRuntime) -> Result<(), Fail> {
     answers(
         &rt,
