@@ -43,7 +43,7 @@ pub record TellsReport {S : Type 0} (g : Ghosts S) (old new : Held S) (report : 
   pub exit_is : exit ≡ Done
   pub told : HasCleanDisk (state g new) → (H : History) → Shows (state g old) H → IsThere H report × WentOut (report_text H report) × Shows (state g new) H
 
--- The refusal of an unknown branch went out, and the tables show what they showed.
+-- The refusal of an unknown branch went out. Of the tables after it nothing is said here.
 pub record TellsUnknown {S : Type 0} (g : Ghosts S) (old new : Held S) (report : Report) (WentOut : List ℕ → Type 0) (exit : Exit) : Type 0 where
   pub exit_is : exit ≡ Refused
   pub line : WentOut (reply_line (Denied UnknownBranch))
