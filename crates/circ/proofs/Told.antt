@@ -24,9 +24,9 @@ module _ {S : Type 0} (g : Ghosts S) (old new : Held S) (report : Report) (WentO
   tells-report told = inl (record { exit_is = refl; told = told })
 
   pub tells-unknown : (refusal : Refusal) → refusal ≡ UnknownBranch → (HasCleanDisk (state g new) → (H : History) → Shows (state g old) H → IsUnknown H report)
-      → WentOut (reply_line (Denied refusal)) → TellsOf g old new report WentOut Refused
-  tells-unknown refusal is unknown line =
-      inr (inl (record { exit_is = refl; line = subst (λ (x : Refusal). WentOut (reply_line (Denied x))) is line; unknown = unknown }))
+      → (HasCleanDisk (state g new) → IsTrue (state g new).is_open → Stays (state g old) (state g new)) → WentOut (reply_line (Denied refusal)) → TellsOf g old new report WentOut Refused
+  tells-unknown refusal is unknown undone line =
+      inr (inl (record { exit_is = refl; line = subst (λ (x : Refusal). WentOut (reply_line (Denied x))) is line; unknown = unknown; undone = undone }))
 
   pub tells-fault : (fault : Fault) → (HasCleanDisk (state g new) → (H : History) → Shows (state g old) H → IsSound report fault)
       → (HasCleanDisk (state g new) → IsTrue (state g new).is_open → Stays (state g old) (state g new)) → WentOut (fault_line fault) → TellsOf g old new report WentOut Faulted

@@ -12,7 +12,7 @@ pub enum Run<'a> {
         key: Key,
         words: &'a [String],
     },
-    /// `report FILE till DAY`, `report FILE shelf B`: a report on the library in a file.
+    /// `report FILE overdue B`, `report FILE till DAY`, `report FILE shelf B`: a report on the library in a file.
     Report {
         path: &'a str,
         report: Report,
@@ -22,6 +22,8 @@ pub enum Run<'a> {
 /// A report that the desk writes.
 #[derive(Clone, Copy, Debug, PartialEq, Eq)]
 pub enum Report {
+    /// The overdue loans that a branch made.
+    Overdue(BranchId),
     /// The sums of a day's lines of accounts.
     Till(Day),
     /// The ready holds of a branch.
@@ -49,6 +51,7 @@ fn read_file<'a>(alloc: Global, words: &'a [String]) -> Result<Option<Run<'a>>, 
 /// A report by its name, with its day or its branch in their forms.
 fn read_report(name: &str, argument: &str) -> Option<Report> {
     match name {
+        "overdue" => Some(Report::Overdue(BranchId::new(read_number(argument)?))),
         "till" => Some(Report::Till(Day::read(argument)?)),
         "shelf" => Some(Report::Shelf(BranchId::new(read_number(argument)?))),
         _ => None,

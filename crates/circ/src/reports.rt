@@ -8,7 +8,9 @@ ghost use Rattle.terms.specs.Writing.{AppendsFront};
 ghost use Rattle.terms.specs.declared.fault.Fault.{Fault};
 ghost use Rattle.terms.specs.declared.refusal.Refusal.{Refusal};
 ghost use Rattle.terms.specs.declared.refusal.Refusal.TheVariants.{UnknownBranch};
+ghost use Rattle.store.specs.Stops.{LeavesPicture};
 ghost use Rattle.model.specs.History.{History};
+ghost use Rattle.model.specs.Picture.{picture};
 ghost use Rattle.desk.specs.Answering.{Shows, Looks};
 ghost use Rattle.circ.specs.Reporting.{report_text, IsThere, IsUnknown, IsSound, TellsOf};
 ghost use Rattle.circ.specs.declared.lines.Exit.{Exit as ExitOf};
@@ -39,6 +41,7 @@ fn write_report<S: Alter, W: Write>(
     ensures looks { Looks (state S.Store desk.old) (state S.Store desk.new) result }
 {
     match report {
+        Report::Overdue(branch) => desk.overdue(alloc, *branch, writer),
         Report::Till(day) => desk.till(alloc, *day, writer),
         Report::Shelf(branch) => desk.shelf(alloc, *branch, writer),
     }
@@ -48,7 +51,7 @@ fn write_report<S: Alter, W: Write>(
 /// may be any.
 ///
 /// What goes out, the end and what the tables show are said in `specs/Reporting`. Where a write fails, a beginning of
-/// that went out.
+/// that went out. Whatever may leave of the tables when the program is stopped is what they showed.
 pub fn report<S: Alter, W: Write>(
     desk: &mut Desk<S>,
     alloc: Global,
@@ -57,6 +60,7 @@ pub fn report<S: Alter, W: Write>(
 ) -> Result<Exit, WriteFault>
     ensures clean { HasCleanDisk (state S.Store desk.new) → HasCleanDisk (state S.Store desk.old) }
     ensures wrote { IfOk result (λ exit. TellsOf S.Store desk.old desk.new report.now (Appends (W.contents writer.old) (W.contents writer.new)) exit) }
+    ensures left { HasCleanDisk (state S.Store desk.new) → (H : History) → Shows (state S.Store desk.old) H → LeavesPicture (state S.Store desk.new) (picture H) }
     ensures cut { OnErr result ((exit : ExitOf) × TellsOf S.Store desk.old desk.new report.now (AppendsFront (W.contents writer.old) (W.contents writer.new)) exit) }
 {
     match write_report(desk, alloc, report, writer) {

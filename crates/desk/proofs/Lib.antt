@@ -5,6 +5,7 @@ pub mod Leads
 pub mod Handled
 pub mod Afterwards
 pub mod Shown
+pub mod RowLists
 pub mod PageLists
 pub mod PageRows
 pub mod PageWhole
@@ -12,5 +13,8 @@ pub mod ReportRows
 pub mod TillSums
 pub mod TillLines
 pub mod TillBound
+pub mod ReportLines
 pub mod ShelfLists
 pub mod ShelfRows
+pub mod OverdueLists
+pub mod OverdueRows

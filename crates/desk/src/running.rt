@@ -17,12 +17,13 @@ ghost use Rattle.store.specs.Stops.{KeepsPicture};
 ghost use Rattle.model.specs.History.{History};
 ghost use Rattle.model.specs.Requests.{reply_to, after_one, after, replies as replies_to};
 ghost use Rattle.model.specs.Picture.{picture};
-ghost use Rattle.model.specs.Reports.{shelf as shelf_of, till as till_of};
+ghost use Rattle.model.specs.Reports.{overdue as overdue_of, shelf as shelf_of, till as till_of};
 ghost use Rattle.desk.specs.Answering.{Shows, Stays, Looks, LeavesOneOf, page_for};
 ghost use Rattle.desk.specs.Callers.{RefusesForeign};
 ghost use Rattle.desk.specs.Headline.{Headline};
 
 use crate::handling::handle;
+use crate::overdue::overdue;
 use crate::paging::show_own;
 use crate::reporting::{ReportFault, shelf, till};
 use sqlite::Alter;
@@ -156,6 +157,27 @@ impl<S: Alter> Desk<S> {
         ensures looks { Looks (state S.Store self.old) (state S.Store self.new) result }
     {
         shelf(&mut self.store, alloc, branch, writer)
+    }
+
+    /// Writes the overdue report of a branch: its open loans that are due before today, by number, each with the open
+    /// days that it is late by; 10 where there is no such branch, and then nothing is written. 90, 91, 93 before
+    /// anything is written.
+    pub fn overdue<W: Write>(
+        &mut self,
+        alloc: Global,
+        branch: BranchId,
+        writer: &mut W,
+    ) -> Result<(), ReportFault>
+        ensures written { HasCleanDisk (state S.Store self.new) → OnOk result ((H : History) → Shows (state S.Store self.old) H → Appends (W.contents writer.old) (W.contents writer.new) (overdue_of H branch)) }
+        ensures known { HasCleanDisk (state S.Store self.new) → OnOk result ((H : History) → Shows (state S.Store self.old) H → (row : Branch) × ((picture H).branches branch ≡ Some row)) }
+        ensures refused { (refusal : Refusal) → result ≡ Err (ReportFault.Refused refusal) → (refusal ≡ UnknownBranch) × Keeps (W.contents writer.old) (W.contents writer.new) }
+        ensures unknown { HasCleanDisk (state S.Store self.new) → (refusal : Refusal) → result ≡ Err (ReportFault.Refused refusal) → (H : History) → Shows (state S.Store self.old) H → (picture H).branches branch ≡ None }
+        ensures silent { (fault : AnyFault) → result ≡ Err (ReportFault.Faulted fault) → Keeps (W.contents writer.old) (W.contents writer.new) }
+        ensures cut { HasCleanDisk (state S.Store self.new) → result ≡ Err ReportFault.NotWritten → (H : History) → Shows (state S.Store self.old) H
+            → ((row : Branch) × ((picture H).branches branch ≡ Some row)) × AppendsFront (W.contents writer.old) (W.contents writer.new) (overdue_of H branch) × Shows (state S.Store self.new) H }
+        ensures looks { Looks (state S.Store self.old) (state S.Store self.new) result }
+    {
+        overdue(&mut self.store, alloc, branch, writer)
     }
 
     /// Sets how many steps each later call of the database may take; with none there is no limit, and 0 stands for 1.

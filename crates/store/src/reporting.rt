@@ -14,14 +14,14 @@ use crate::store::Store;
 use crate::viewing::calendar_of;
 use calendar::{Calendar, Day};
 use circ_tables::{
-    active_holds_by, get_branch, get_copy, get_title, lines_of, open_loans_by, overdue_loans_at,
+    active_holds_by, get_branch, get_copy, get_meta, get_title, lines_of, open_loans_by, overdue_loans_at,
     ready_holds_at,
 };
 use sqlite::Alter;
 use std::alloc::Global;
 use terms::{
-    BranchId, BranchRow, CopyId, CopyRow, Fault, HoldRow, LineRow, LoanRow, PatronId, TitleId,
-    TitleRow,
+    BranchId, BranchRow, CopyId, CopyRow, Fault, HoldRow, LineRow, LoanRow, MetaRow, PatronId,
+    TitleId, TitleRow,
 };
 
 impl<S: Alter> Store<S> {
@@ -88,6 +88,18 @@ impl<S: Alter> Store<S> {
         let is_idle = self.conn.is_autocommit();
         prove!(is_idle);
         lines_of(&mut self.conn, alloc, day)
+    }
+
+    /// The one row of `meta`: today, and the next numbers. 91, 93.
+    pub fn meta(&mut self) -> Result<MetaRow, Fault>
+        ensures reads { Reads (state S.Store self.old) (state S.Store self.new) }
+        ensures shown { HasCleanDisk (state S.Store self.new) → IfOk result (λ row. (P : Picture) → HasPicture (state S.Store self.old).now P → InLimits P
+            → (row ≡ P.meta) × ((state S.Store self.new).now ≡ (state S.Store self.old).now)) }
+        ensures sound { HasCleanDisk (state S.Store self.new) → result ≡ Err Fault.Stored → (P : Picture) → HasPicture (state S.Store self.old).now P → InLimits P → ⊥ }
+    {
+        let is_idle = self.conn.is_autocommit();
+        prove!(is_idle);
+        get_meta(&mut self.conn)
     }
 
     /// The row of a branch. 90, 91, 93.

@@ -103,7 +103,9 @@ fn cuts_reports(rt: HostRuntime) -> Result<(), Fail> {
     let till =
         "till 2026-03-02\nfines                  0\nprices                 0\npayments               0\nwaivers                0\n";
     let shelf = "      hold    copy  patron until      title\nready 0\n";
+    let overdue = "      loan  patron    copy due         late title\noverdue 0\n";
     for (wanted, text) in [
+        (Report::Overdue(BranchId::new(1)), overdue),
         (Report::Till(Day::read("2026-03-02").ok_or("a day")?), till),
         (Report::Shelf(BranchId::new(1)), shelf),
         (Report::Shelf(BranchId::new(9)), "refused 10\n"),

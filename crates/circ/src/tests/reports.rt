@@ -29,6 +29,62 @@ fn till(date: &str) -> Result<Report, Fail> {
     Ok(Report::Till(Day::read(date).ok_or("a day")?))
 }
 
+/// The overdue report of a branch.
+fn overdue_at(branch: u32) -> Report {
+    Report::Overdue(BranchId::new(branch))
+}
+
+#[test]
+fn shows_an_overdue_loan(rt: HostRuntime) -> Result<(), Fail> {
+    let alloc = rt.alloc();
+    let mut desk = ground(&rt, alloc)?;
+    check(
+        &rt,
+        alloc,
+        &mut desk,
+        &[
+            ("a1", "check-out 1 10 1", "0 loan 1 due 2026-03-09"),
+            ("a2", "begin-day 2026-03-09", "0 ok"),
+        ],
+    )?;
+    let empty = "      loan  patron    copy due         late title\noverdue 0\n";
+    shows(&rt, alloc, &mut desk, overdue_at(1), Exit::Done, empty)?;
+    let later = [("a3", "begin-day 2026-03-17", "0 ok")];
+    check(&rt, alloc, &mut desk, &later)?;
+    let overdue =
+        "      loan  patron    copy due         late title\n         1       1      10 2026-03-09     7 Rivers of the North\noverdue 1\n";
+    shows(&rt, alloc, &mut desk, overdue_at(1), Exit::Done, overdue)?;
+    shows(&rt, alloc, &mut desk, overdue_at(2), Exit::Done, empty)?;
+    let unknown = "refused 10\n";
+    shows(&rt, alloc, &mut desk, overdue_at(9), Exit::Refused, unknown)
+}
+
+#[test]
+fn counts_the_open_days_of_the_branch_that_lent(rt: HostRuntime) -> Result<(), Fail> {
+    let alloc = rt.alloc();
+    let mut desk = ground(&rt, alloc)?;
+    check(
+        &rt,
+        alloc,
+        &mut desk,
+        &[
+            ("a1", "check-out 1 10 1", "0 loan 1 due 2026-03-09"),
+            ("a2", "check-out 2 30 1", "0 loan 2 due 2026-03-14"),
+            ("a3", "check-out 3 20 2", "0 loan 3 due 2026-03-10"),
+            ("a4", "check-out 1 11 1", "0 loan 4 due 2026-03-09"),
+            ("a5", "close-day 1 2026-03-11", "0 ok"),
+            ("a6", "check-in 11 1", "0 fine 0 shelf 1"),
+            ("a7", "begin-day 2026-03-15", "0 ok"),
+        ],
+    )?;
+    let main =
+        "      loan  patron    copy due         late title\n         1       1      10 2026-03-09     4 Rivers of the North\n         2       2      30 2026-03-14     0 Night Ferries\noverdue 2\n";
+    let harbour =
+        "      loan  patron    copy due         late title\n         3       3      20 2026-03-10     4 Salt Roads\noverdue 1\n";
+    shows(&rt, alloc, &mut desk, overdue_at(1), Exit::Done, main)?;
+    shows(&rt, alloc, &mut desk, overdue_at(2), Exit::Done, harbour)
+}
+
 #[test]
 fn shows_the_hold_shelf(rt: HostRuntime) -> Result<(), Fail> {
     let alloc = rt.alloc();
@@ -99,8 +155,11 @@ fn tells_the_faults_of_rows(rt: HostRuntime) -> Result<(), Fail> {
         &[
             "INSERT INTO holds VALUES (1, 2, 100, 1, 1, 10, NULL)",
             "INSERT INTO lines VALUES (1, 1, 20514, 4, 100, NULL)",
+            "INSERT INTO loans VALUES (1, 99, 1, 1, 20500, 20510, 6, 1, 20, 100, NULL)",
         ],
     )?;
+    let overdue = overdue_at(1);
+    shows(&rt, alloc, &mut desk, overdue, Exit::Faulted, "fault 93\n")?;
     let shelf = Report::Shelf(BranchId::new(1));
     shows(&rt, alloc, &mut desk, shelf, Exit::Faulted, "fault 93\n")?;
     let till = till("2026-03-02")?;

@@ -15,7 +15,7 @@ returns-in-Err-Refused-clause-wrote g c =
     let refused = c.in-Err-Refused.ensures.refused c.in-Err-Refused.refusal is in
     told-whole (TellsOf g.S.Store c.args.desk.now c.write_report.new.desk c.args.report.now) c.tell_reply.result _ _ _ _ Refused
     (λ WentOut line. tells-unknown g.S.Store c.args.desk.now c.write_report.new.desk c.args.report.now WentOut c.in-Err-Refused.refusal refused.0
-    (λ disk H shows. c.in-Err-Refused.ensures.unknown disk c.in-Err-Refused.refusal is H shows) line)
+    (λ disk H shows. c.in-Err-Refused.ensures.unknown disk c.in-Err-Refused.refusal is H shows) c.in-Err-Refused.ensures.looks.undone line)
     refused.1 c.tell_reply.ensures.exit c.tell_reply.ensures.all
 
 pub returns-in-Err-Refused-clause-cut : goal.returns-in-Err-Refused-clause-cut
@@ -24,7 +24,7 @@ returns-in-Err-Refused-clause-cut g c =
     let refused = c.in-Err-Refused.ensures.refused c.in-Err-Refused.refusal is in
     told-cut (TellsOf g.S.Store c.args.desk.now c.write_report.new.desk c.args.report.now) c.tell_reply.result _ _ _ _ Refused
     (λ WentOut line. tells-unknown g.S.Store c.args.desk.now c.write_report.new.desk c.args.report.now WentOut c.in-Err-Refused.refusal refused.0
-    (λ disk H shows. c.in-Err-Refused.ensures.unknown disk c.in-Err-Refused.refusal is H shows) line)
+    (λ disk H shows. c.in-Err-Refused.ensures.unknown disk c.in-Err-Refused.refusal is H shows) c.in-Err-Refused.ensures.looks.undone line)
     refused.1 c.tell_reply.ensures.front
 
 pub returns-in-Err-Faulted-clause-cut : goal.returns-in-Err-Faulted-clause-cut
