@@ -4,3 +4,5 @@ pub mod Tables
 pub mod Parts
 pub mod Faults
 pub mod Shapes
+pub mod CopyRows
+pub mod CopyFiles

@@ -1,8 +1,10 @@
-//! From words to commands.
+//! From words and files to commands.
 #![tactic(auto)]
 
 mod commands;
+mod copies;
 mod line;
 mod words;
 
+pub use copies::{CopyEnd, CopyRow, files_read_once, read_copies};
 pub use words::{WordFault, read_words};
