@@ -349,12 +349,31 @@ class Library:
             self.kept[key] = (text, reply)
         return reply
 
+    def take_in(self, rows):
+        """The lines that answer good rows of a copies file, each of six words."""
+        lines, refused = "", 0
+        for at, (copy, title, text, kind, home, price) in enumerate(rows, 1):
+            words = ["acquire", str(copy), str(title), str(kind), str(home), str(price), text]
+            reply = self.handle(" ".join(words), words)
+            refused += reply != "ok"
+            lines += f"row {at} {reply}\n"
+        return f"{lines}accepted {len(rows) - refused} refused {refused}\n"
+
     # ---- reports and rows
 
     def till(self, day):
         sums = {sort: sum(line["amount"] for line in self.lines if line["day"] == day and line["sort"] == sort)
                 for sort in ("fine", "price", "payment", "waiver")}
         return f"till {day}\n" + "".join(f"{sort + 's':<9}{amount:>15}\n" for sort, amount in sums.items())
+
+    def overdue(self, branch):
+        rows = [(n, loan) for n, loan in sorted(self.loans.items())
+                if loan["branch"] == branch and loan["ended"] is None and loan["due"] < self.today]
+        lines = [("loan", "patron", "copy", "due", "late", "title")]
+        lines += [(n, loan["patron"], loan["copy"], str(loan["due"]), self.late(branch, loan["due"]),
+                   self.titles[self.copies[loan["copy"]]["title"]]) for n, loan in rows]
+        text = "".join(f"{a:>10} {b:>7} {c:>7} {d:<10} {e:>5} {f}\n" for a, b, c, d, e, f in lines)
+        return f"{text}overdue {len(rows)}\n"
 
     def shelf(self, branch):
         rows = [(n, hold) for n, hold in sorted(self.holds.items()) if hold["state"] == "ready" and hold["branch"] == branch]

@@ -5,9 +5,11 @@ Expected lines and rows are those of the desk's rules, worked out by hand; those
 `desk_rules`, which has the rules once more in plain Python.
 """
 
+import csv
 import hashlib
 import os
 import random
+import re
 import shlex
 import shutil
 import sqlite3
@@ -110,6 +112,12 @@ BAD_WORDS = [
     ["report", "FILE", "till", "2026-03-02", "again"],
     ["report", "FILE", "shelf", "01"],
     ["report", "FILE", "shelf", ""],
+    ["report", "FILE", "overdue"],
+    ["report", "FILE", "overdue", "one"],
+    ["report", "FILE", "overdue", "1", "2"],
+    ["import"],
+    ["import", "FILE"],
+    ["import", "FILE", "copies.csv", "again"],
     ["report", "FILE", "sums", "1"],
     ["", "", "", ""],
     ["file", "FILE", "", "begin-day", "2026-03-03"],
@@ -409,11 +417,11 @@ def answers(path, key, words):
 
 
 def examples(page):
-    """The lines that a page of docs/ shows as typed, each with the lines that answer it."""
+    """The lines that a page of docs/ shows as typed, each with the lines that answer it, or that the file has."""
     with open(os.path.join(TOP, "docs", page), encoding="utf-8") as file:
         blocks = file.read().split("```\n")[1::2]
     for block in blocks:
-        for typed in block.split("$ ./circ")[1:]:
+        for typed in re.split(r"^\$ ", block, flags=re.MULTILINE)[1:]:
             line, _, answer = typed.partition("\n")
             yield shlex.split(line), answer
 
@@ -424,7 +432,12 @@ def a_day_at_the_desk(folder):
     os.mkdir(room)
     shown = list(examples("DAY-AT-THE-DESK.md"))
     check("the page shows a day's work", len(shown) > 30, True)
-    for words, answer in shown:
+    for (command, *words), answer in shown:
+        if command == "cat":
+            with open(os.path.join(room, words[0]), "w", encoding="utf-8", newline="") as file:
+                file.write(answer)
+            continue
+        check(f"the command of {words}", command, "./circ")
         run = subprocess.run([CIRC, *words], capture_output=True, timeout=120, cwd=room)
         check(f"{words}", (run.stdout.decode(), run.returncode), (answer, status_of(answer.partition("\n")[0])))
 
@@ -437,7 +450,7 @@ def report(path, *words):
 
 
 def reports(folder):
-    """The sums of a day and the ready holds of a branch; no library is made for a report."""
+    """The overdue loans and the ready holds of a branch and the sums of a day; no library is made for a report."""
     path = os.path.join(folder, "reports.db")
     say(path, GROUND)
     say(path, [
@@ -454,8 +467,16 @@ def reports(folder):
           ("      hold    copy  patron until      title\nready 0\n", 0))
     check("an unknown branch", report(path, "shelf", "9"), ("refused 10\n", 2))
     check("a branch that can't be", report(path, "shelf", "4294967295"), ("refused 10\n", 2))
+    nothing = "      loan  patron    copy due         late title\noverdue 0\n"
+    check("nothing is overdue", report(path, "overdue", "1"), (nothing, 0))
+    check("nor at an unknown branch", report(path, "overdue", "9"), ("refused 10\n", 2))
+    say(path, [("b1", ["begin-day", "2026-03-23"], "ok")])
+    overdue = ("      loan  patron    copy due         late title\n"
+               "         1       1      30 2026-03-14     7 Night Ferries\n"
+               "overdue 1\n")
+    check("the overdue loans", report(path, "overdue", "1"), (overdue, 0))
+    check("they are the lender's", report(path, "overdue", "2"), (nothing, 0))
     say(path, [
-        ("b1", ["begin-day", "2026-03-23"], "ok"),
         ("b2", ["check-in", "30", "1"], "fine 100 shelf 1"),
         ("b3", ["pay", "1", "30"], "owed 70"),
         ("b4", ["waive", "1", "20"], "owed 50"),
@@ -470,7 +491,7 @@ def reports(folder):
     check("no row is changed", whole(path), before)
     absent, empty = os.path.join(folder, "absent.db"), os.path.join(folder, "nothing.db")
     open(empty, "w").close()
-    for words in (["till", "2026-03-23"], ["shelf", "1"]):
+    for words in (["overdue", "1"], ["till", "2026-03-23"], ["shelf", "1"]):
         check("no file", report(absent, *words), ("fault 93\n", 3))
         check("none is made", os.path.exists(absent), False)
         check("a file of no bytes", report(empty, *words), ("fault 93\n", 3))
@@ -511,8 +532,94 @@ def a_month(folder):
     the_rows_are(calm, library)
     for branch in sorted(library.branches):
         check(f"the hold shelf of {branch}", report(calm, "shelf", str(branch)), (library.shelf(branch), 0))
+        check(f"the overdue loans of {branch}", report(calm, "overdue", str(branch)), (library.overdue(branch), 0))
     for day in sorted({line["day"] for line in library.lines}):
         check(f"the till of {day}", report(calm, "till", str(day)), (library.till(day), 0))
+    check(f"the rows after kills, seed {seed}", whole(killed), whole(calm))
+
+
+HEADER = "copy,title,text,kind,home,price,end\n"
+BEES = HEADER + """\
+50,500,"Maps, Old and New",1,1,1500,end
+51,500,"Maps, Old and New",1,2,1500,end
+52,501,Winter Bees,2,1,700,end
+"""
+
+
+def take_in(path, copies):
+    """What taking in a copies file prints, and its status."""
+    run = subprocess.run([CIRC, "import", path, copies], capture_output=True, timeout=120)
+    check("standard error of a copies file", run.stderr, b"")
+    return run.stdout.decode(), run.returncode
+
+
+def copies_files(folder):
+    """Rows of copies files, good, refused and bad; files that can't be read."""
+    path, copies = os.path.join(folder, "taken.db"), os.path.join(folder, "copies.csv")
+    say(path, GROUND)
+
+    def taken(text, lines, status):
+        with open(copies, "wb") as file:
+            file.write(text if isinstance(text, bytes) else text.encode())
+        check(f"{text!r}", take_in(path, copies), (lines, status))
+
+    taken(BEES[:BEES.index("ter Bees")], "row 1 ok\nrow 2 ok\nrow 3 bad\naccepted 2 refused 0\n", 4)
+    taken(BEES, "row 1 ok\nrow 2 ok\nrow 3 ok\naccepted 3 refused 0\n", 0)
+    check("a row each", rows(path, "SELECT copy, title, home FROM copies WHERE copy IN (50, 51) ORDER BY copy"),
+          [(50, 500, 1), (51, 500, 2)])
+    before = whole(path)
+    taken(BEES.replace("Bees", "Birds"), "row 1 ok\nrow 2 ok\nrow 3 refused 20\naccepted 2 refused 1\n", 2)
+    taken("\ufeff" + BEES, "row 1 ok\nrow 2 ok\nrow 3 ok\naccepted 3 refused 0\n", 0)
+    taken("", "row 0 bad\naccepted 0 refused 0\n", 4)
+    taken(HEADER, "accepted 0 refused 0\n", 0)
+    taken(HEADER.replace("end", "END"), "row 0 bad\naccepted 0 refused 0\n", 4)
+    taken(HEADER.encode() + b"53,502,M\xe4rz,1,1,1500,end\n", "row 1 bad\naccepted 0 refused 0\n", 4)
+    check("no row is changed", whole(path), before)
+    taken(HEADER + """60,600,Tall Ships,1,1,900,end
+60,600,Tall Ships,1,1,900,end
+61,600,Tall Ships,1,9,900,end
+61,600,Tall Ships,1,2,1000001,end
+61,600,Tall Ships,1,2,900,end
+""", "row 1 ok\nrow 2 ok\nrow 3 refused 10\nrow 4 refused 21\nrow 5 ok\naccepted 3 refused 2\n", 2)
+    before, unread = whole(path), ("fault reading\naccepted 0 refused 0\n", 3)
+    check("no copies file", take_in(path, os.path.join(folder, "absent.csv")), unread)
+    check("a directory of copies", take_in(path, folder), unread)
+    check("no row is changed", whole(path), before)
+    new = os.path.join(folder, "first.db")
+    check("a new library", take_in(new, copies),
+          ("".join(f"row {n} refused {m}\n" for n, m in ((1, 10), (2, 10), (3, 10), (4, 21), (5, 10)))
+           + "accepted 0 refused 5\n", 2))
+    check("it is made", [name for name, found in whole(new).items() if found], ["meta"])
+    garbage = os.path.join(folder, "no_library.db")
+    with open(garbage, "wb") as file:
+        file.write(b"this is no database " * 500)
+    check("no library", take_in(garbage, copies), ("fault 91\n", 3))
+
+
+def a_delivery(folder):
+    """A copies file of three hundred rows, some of them refused: its lines and rows are those of the rules; and with runs that
+    are killed at random moments before it is taken in again, the rows are the same."""
+    calm, killed = os.path.join(folder, "delivered.db"), os.path.join(folder, "interrupted.db")
+    copies, library, seed = os.path.join(folder, "delivery.csv"), Library(), random.randrange(10**9)
+    for key, words, _ in GROUND:
+        library.handle(key, words)
+    for path in (calm, killed):
+        say(path, GROUND)
+    moments = random.Random(seed)
+    print(f"end to end: a copies file, moments of kills by the seed {seed}")
+    books = [(1000 + n, 700 + n // 3, f'Volume {n // 3}, "the {n // 3 % 7}th"', 1 + n % 2, 1 + n % 5 // 2, 50 * n) for n in range(300)]
+    with open(copies, "w", encoding="utf-8", newline="") as file:
+        file.write(HEADER)
+        csv.writer(file).writerows([*book, "end"] for book in books)
+    for _ in range(6):
+        with subprocess.Popen([PROGRAM, "import", killed, copies], stdout=subprocess.DEVNULL) as run:
+            time.sleep(moments.uniform(0, 0.25))
+            run.kill()
+    lines = library.take_in(books)
+    check("some rows are refused", 0 < lines.count("refused 10") < 300, True)
+    check("the lines of the delivery", take_in(calm, copies), (lines, 2))
+    the_rows_are(calm, library)
+    check(f"the lines after kills, seed {seed}", take_in(killed, copies), (lines, 2))
     check(f"the rows after kills, seed {seed}", whole(killed), whole(calm))
 
 
@@ -583,6 +690,8 @@ def main():
         reports(folder)
         a_day_at_the_desk(folder)
         a_month(folder)
+        copies_files(folder)
+        a_delivery(folder)
         bad_words(folder)
         bad_files(folder, path)
         an_unreadable_file(folder, path)

@@ -1,10 +1,10 @@
 -- Bytes that go out one after another.
-use Rattle.std.proofs.Common.{◌≡◌, ℕ, suc, ◌<◌, List, ◌++◌, Bor, Option, append_assoc, sym, ◌∙◌, ap, subst, length, take, drop, get_or, take-append-drop}
+use Rattle.std.proofs.Common.{◌≡◌, ℕ, suc, ◌<◌, List, [], ◌++◌, Bor, Option, None, Some, append_assoc, append-nil, sym, ◌∙◌, ap, subst, length, take, drop, get_or, take-append-drop}
 use Rattle.std.proofs.Math.Seq.{drop-cons}
 use Rattle.std.proofs.lemmas.Grind.{flat_map-append}
 use Rattle.std.proofs.KnownBytes.{Appends-trans}
-use Rattle.std.specs.Prelude.{Result, Ok, Err, OnOk, OnErr}
-use Rattle.std.specs.Io.KnownBytes.{Appends}
+use Rattle.std.specs.Prelude.{Result, Ok, Err, OnOk, OnErr, IfOk}
+use Rattle.std.specs.Io.KnownBytes.{Appends, Keeps}
 use Rattle.terms.specs.Writing.{AppendsFront}
 use Rattle.circ.specs.Pieces.{joined}
 
@@ -25,6 +25,21 @@ front-before a b xs ys p = record {
   whole = ap (λ (zs : List ℕ). zs ++ ys) p.whole ∙ append_assoc p.sent p.rest ys;
   wrote = p.wrote;
 }
+
+-- what goes out after nothing
+pub after-nothing : (a b c : Option (List ℕ)) (xs : List ℕ) → Keeps a b → Appends b c xs → Appends a c xs
+after-nothing None b c xs p q = tt
+after-nothing (Some x) None c xs p q = absurd p
+after-nothing (Some x) (Some y) None xs p q = absurd q
+after-nothing (Some x) (Some y) (Some z) xs p q = q ∙ ap (λ (l : List ℕ). l ++ xs) p
+
+pub front-after-nothing : (a b c : Option (List ℕ)) (xs : List ℕ) → Keeps a b → AppendsFront b c xs → AppendsFront a c xs
+front-after-nothing a b c xs p q = record { sent = q.sent; rest = q.rest; whole = q.whole; wrote = after-nothing a b c q.sent p q.wrote }
+
+-- nothing goes out
+pub appends-nothing : (a : Option (List ℕ)) → Appends a a []
+appends-nothing None = tt
+appends-nothing (Some x) = sym (append-nil x)
 
 -- the pieces before one, that piece, and the others are all of them
 joined-at : (pieces : List (Bor (List ℕ))) (i : ℕ) (d : Bor (List ℕ)) → i < length pieces
@@ -58,3 +73,13 @@ second-failed (Err e) a b c xs ys p q = front-after a b c xs ys p q
 pub on-err-any : {T E P : Type 0} (r : Result T E) → P → OnErr r P
 on-err-any (Ok x) p = tt
 on-err-any (Err e) p = p
+
+-- what follows from what went out, where it is known how the program ends
+pub ends-as : {E X Q : Type 0} (P : X → Type 0) (r : Result X E) (exit : X) → IfOk r (λ e. e ≡ exit) → OnOk r Q → (Q → P exit) → IfOk r P
+ends-as P (Ok e) exit is q f = subst P (sym is) (f q)
+ends-as P (Err e) exit is q f = tt
+
+-- what follows from a write that failed
+pub fails-as : {T E P Q : Type 0} (r : Result T E) → OnErr r P → (P → Q) → OnErr r Q
+fails-as (Ok x) p f = tt
+fails-as (Err e) p f = f p

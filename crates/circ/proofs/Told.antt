@@ -1,6 +1,6 @@
 -- What is told of a report, by what the desk answered.
-use Rattle.std.proofs.Common.{◌≡◌, ℕ, List, Option, None, Some, inl, inr, refl, sym, ◌∙◌, ap, subst}
-use Rattle.std.specs.Prelude.{◌++◌, Result, Ok, Err, OnOk, OnErr, IfOk, IsTrue}
+use Rattle.std.proofs.Common.{◌≡◌, ℕ, List, Option, inl, inr, refl, sym, subst}
+use Rattle.std.specs.Prelude.{Result, Ok, Err, OnOk, OnErr, IfOk, IsTrue}
 use Rattle.std.specs.Io.KnownBytes.{Appends, Keeps}
 use Rattle.sqlite_trees.specs.declared.store.Store.{Ghosts}
 use Rattle.sqlite.specs.Held.{Held, state}
@@ -16,6 +16,7 @@ use Rattle.circ.specs.declared.arguments.Report.{Report}
 use Rattle.circ.specs.declared.lines.Exit.{Exit}
 use Rattle.circ.specs.declared.lines.Exit.TheVariants.{Done, Refused, Faulted}
 use Rattle.circ.specs.Lines.{reply_line, fault_line}
+use Rattle.circ.proofs.Fronts.{after-nothing, front-after-nothing}
 use Rattle.circ.specs.Reporting.{report_text, IsThere, IsUnknown, IsSound, TellsOf}
 
 module _ {S : Type 0} (g : Ghosts S) (old new : Held S) (report : Report) (WentOut : List ℕ → Type 0) where
@@ -32,13 +33,6 @@ module _ {S : Type 0} (g : Ghosts S) (old new : Held S) (report : Report) (WentO
       → (HasCleanDisk (state g new) → IsTrue (state g new).is_open → Stays (state g old) (state g new)) → WentOut (fault_line fault) → TellsOf g old new report WentOut Faulted
   tells-fault fault sound undone line = inr (inr (record { fault = fault; exit_is = refl; line = line; sound = sound; undone = undone }))
 
--- what goes out after nothing
-after-nothing : (a b c : Option (List ℕ)) (xs : List ℕ) → Keeps a b → Appends b c xs → Appends a c xs
-after-nothing None b c xs p q = tt
-after-nothing (Some x) None c xs p q = absurd p
-after-nothing (Some x) (Some y) None xs p q = absurd q
-after-nothing (Some x) (Some y) (Some z) xs p q = q ∙ ap (λ (l : List ℕ). l ++ xs) p
-
 -- the line went out whole, or a beginning of it, after nothing
 module _ {E : Type 0} (Tells : (List ℕ → Type 0) → Exit → Type 0) (r : Result Exit E) (a b c : Option (List ℕ)) (line : List ℕ) (exit : Exit)
     (tells : (WentOut : List ℕ → Type 0) → WentOut line → Tells WentOut exit) (kept : Keeps a b) where
@@ -54,4 +48,4 @@ module _ {E : Type 0} (Tells : (List ℕ → Type 0) → Exit → Type 0) (r : R
     where
       go : (r : Result Exit E) → OnErr r (AppendsFront b c line) → OnErr r ((e : Exit) × Tells (AppendsFront a c) e)
       go (Ok e) front = tt
-      go (Err e) front = (exit, tells (AppendsFront a c) (record { sent = front.sent; rest = front.rest; whole = front.whole; wrote = after-nothing a b c front.sent kept front.wrote }))
+      go (Err e) front = (exit, tells (AppendsFront a c) (front-after-nothing a b c line kept front))

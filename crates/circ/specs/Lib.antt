@@ -3,3 +3,4 @@ pub mod Lines
 pub mod Pieces
 pub mod Saying
 pub mod Reporting
+pub mod Importing

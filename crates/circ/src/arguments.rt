@@ -12,6 +12,11 @@ pub enum Run<'a> {
         key: Key,
         words: &'a [String],
     },
+    /// `import FILE COPIES`: a copies file that is taken into the library in a file.
+    Import {
+        path: &'a str,
+        copies: &'a str,
+    },
     /// `report FILE overdue B`, `report FILE till DAY`, `report FILE shelf B`: a report on the library in a file.
     Report {
         path: &'a str,
@@ -48,6 +53,17 @@ fn read_file<'a>(alloc: Global, words: &'a [String]) -> Result<Option<Run<'a>>, 
     }
 }
 
+/// A copies file and the library that takes it in: exactly two paths follow.
+fn read_import_run<'a>(words: &'a [String]) -> Option<Run<'a>> {
+    let [path, copies] = words else {
+        return None;
+    };
+    Some(Run::Import {
+        path: path.as_str(),
+        copies: copies.as_str(),
+    })
+}
+
 /// A report by its name, with its day or its branch in their forms.
 fn read_report(name: &str, argument: &str) -> Option<Report> {
     match name {
@@ -77,6 +93,7 @@ pub fn read_run<'a>(alloc: Global, words: &'a [String]) -> Result<Option<Run<'a>
     };
     match first.as_str() {
         "file" => read_file(alloc, words),
+        "import" => Ok(read_import_run(words)),
         "report" => Ok(read_report_run(words)),
         _ => Ok(None),
     }

@@ -2,6 +2,7 @@
 #![tactic(auto)]
 
 mod arguments;
+mod importing;
 mod lines;
 mod reports;
 mod requests;
@@ -10,6 +11,7 @@ mod tests;
 mod writing;
 
 pub use arguments::{Report, Run, read_run};
+pub use importing::{import, unreadable};
 pub use lines::{Exit, WriteFault, not_understood, out_of_memory, tell_fault};
 pub use reports::report;
 pub use requests::one;

@@ -1,5 +1,6 @@
 //! The desk by its words, over memory. Expected lines are those of the rules, worked out by hand.
 
+mod copies_files;
 mod cut_lines;
 mod movements;
 mod reports;
@@ -559,6 +560,9 @@ fn reads_the_first_words(rt: HostRuntime) -> Result<(), Fail> {
         ("report town.db till 2026-3-2", false),
         ("report town.db till 2026-03-02 again", false),
         ("report town.db sums 1", false),
+        ("import town.db new.csv", true),
+        ("import town.db", false),
+        ("import town.db new.csv again", false),
         ("report town.db till", false),
     ] {
         let words = words_of(alloc, text)?;

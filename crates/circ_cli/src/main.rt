@@ -2,11 +2,13 @@
 #![tactic(auto)]
 
 use circ::{
-    Exit, Report, Run, WriteFault, not_understood, one, out_of_memory, read_run, report, tell_fault,
+    Exit, Report, Run, WriteFault, import, not_understood, one, out_of_memory, read_run, report,
+    tell_fault, unreadable,
 };
 use desk::Desk;
 use sqlite::{FileFrom, FileStore, Start, Wary};
 use std::alloc::Global;
+use std::fs::File;
 use std::io::{BufWriter, ErrorKind, Write};
 use std::process::ExitCode;
 use std::{env, fs, io};
@@ -65,6 +67,26 @@ fn file<W: Write>(
     }
 }
 
+/// Takes a copies file into the library in the file.
+fn import_into<W: Write>(
+    rt: &HostRuntime,
+    path: &str,
+    copies: &str,
+    writer: &mut W,
+) -> Result<Exit, WriteFault> {
+    match open(rt, path, Wary) {
+        Ok(mut desk) => {
+            let told = match File::open(rt, copies) {
+                Ok(file) => import(&mut desk, rt.alloc(), file, writer),
+                Err(_) => unreadable(writer),
+            };
+            let _ = desk.into_store().into_connection().close();
+            told
+        }
+        Err(fault) => tell_fault(writer, fault),
+    }
+}
+
 /// A report on the library in the file.
 fn report_on<W: Write>(
     rt: &HostRuntime,
@@ -97,7 +119,7 @@ fn words_of(rt: &HostRuntime) -> Result<Vec<String>, Fault> {
     }
 }
 
-/// Does what the words ask for, and writes its lines.
+/// Does what the words ask for, and writes its lines: those of a copies file at once, so that what was told was done.
 fn answer<W: Write>(
     rt: &HostRuntime,
     alloc: Global,
@@ -106,13 +128,16 @@ fn answer<W: Write>(
 ) -> Result<Exit, WriteFault> {
     match read_run(alloc, words) {
         Ok(Some(Run::File { path, key, words })) => file(rt, path, key, words, writer),
+        Ok(Some(Run::Import { path, copies })) => {
+            import_into(rt, path, copies, &mut io::writer(rt))
+        }
         Ok(Some(Run::Report { path, report })) => report_on(rt, path, &report, writer),
         Ok(None) => not_understood(writer),
         Err(_) => out_of_memory(writer),
     }
 }
 
-/// The whole run: the lines go out together at its end.
+/// The whole run: the lines of a request or a report go out together at its end.
 fn run(rt: &HostRuntime) -> Result<Exit, WriteFault> {
     let mut writer = match BufWriter::new(rt.alloc(), io::writer(rt)) {
         Ok(writer) => writer,

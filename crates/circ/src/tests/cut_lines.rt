@@ -1,7 +1,8 @@
 //! Lines that are cut: the writer takes some bytes, and then fails.
 
-use super::{ground, key, say, words_of};
-use crate::{Report, WriteFault, one, report};
+use super::copies_files::BEES;
+use super::{count, ground, key, say, words_of};
+use crate::{Report, WriteFault, import, one, report};
 use desk::Desk;
 use sqlite::MemStore;
 use std::alloc::Global;
@@ -119,6 +120,25 @@ fn cuts_reports(rt: HostRuntime) -> Result<(), Fail> {
             assert_eq!(rt; told, Err(WriteFault));
             assert_eq!(rt; writer.taken.as_slice(), &text.as_bytes()[..room]);
         }
+    }
+    Ok(())
+}
+
+#[test]
+fn cuts_the_lines_of_rows(rt: HostRuntime) -> Result<(), Fail> {
+    let alloc = rt.alloc();
+    let lines = "row 1 ok\nrow 2 ok\nrow 3 ok\naccepted 3 refused 0\n";
+    for (room, copies) in [(0, 1), (8, 1), (9, 2), (17, 2), (18, 3), (27, 3), (47, 3)] {
+        let mut desk = ground(&rt, alloc)?;
+        let mut writer = Narrow {
+            taken: Vec::new(alloc),
+            room,
+        };
+        let told = import(&mut desk, alloc, BEES.as_bytes(), &mut writer);
+        assert_eq!(rt; told, Err(WriteFault));
+        assert_eq!(rt; writer.taken.as_slice(), &lines.as_bytes()[..room]);
+        let found = count(desk, "SELECT COUNT(*) FROM copies WHERE copy >= 50")?;
+        assert_eq!(rt; found, copies, "at {room}");
     }
     Ok(())
 }

@@ -1,0 +1,136 @@
+-- What is said to a copies file that is taken in: a line for each row, how the reading ended, and how many rows were
+-- accepted and refused.
+use Rattle.std.specs.Prelude.{◌≡◌, ◌⊎◌, ◌≤◌, ◌<◌, ◌+◌, ◌==◌, ℕ, Bool, true, false, not, if◌then◌else◌, List, [], ◌∷◌, ◌++◌, length, filter, map, take, codes, decimal, IsTrue}
+use Rattle.sqlite_trees.specs.declared.store.Store.{Ghosts}
+use Rattle.sqlite.specs.Held.{Held, state}
+use Rattle.sqlite.specs.State.{HasCleanDisk}
+use Rattle.terms.specs.Texts.{refusal_number}
+use Rattle.terms.specs.declared.command.Request.{Request}
+use Rattle.terms.specs.declared.fault.Fault.{Fault}
+use Rattle.terms.specs.declared.fault.Fault.TheVariants as fault
+use Rattle.terms.specs.declared.reply.Reply.{Reply}
+use Rattle.terms.specs.declared.reply.Reply.TheVariants.{Refused as Denied}
+use Rattle.model.specs.History.{History}
+use Rattle.model.specs.Repeats.{row_request}
+use Rattle.model.specs.Requests.{reply_to, after_one, after, replies as replies_to}
+use Rattle.desk.specs.Answering.{Shows, LeavesOneOf}
+use Rattle.front.specs.declared.copies.CopyRow.{CopyRow}
+use Rattle.front.specs.declared.copies.CopyEnd.{CopyEnd}
+use Rattle.front.specs.declared.copies.CopyEnd.TheVariants.{Whole, Bad, Read, Memory}
+use Rattle.circ.specs.declared.importing.Counts.{Counts}
+use Rattle.circ.specs.declared.lines.Exit.{Exit}
+use Rattle.circ.specs.declared.lines.Exit.TheVariants.{Done, Refused, Faulted, NotUnderstood}
+use Rattle.circ.specs.Lines.{fault_line}
+
+-- ---- rows and their requests
+
+-- The request of a row: the desk acquires its copy, under the request's own text as key.
+abbrev pub request_of : CopyRow → Request
+request_of row = row_request (record { copy = row.copy; title = row.title; text = row.text; kind = row.kind; home = row.home; price = row.price })
+
+-- The requests of rows, in their order.
+abbrev pub requests_of : List CopyRow → List Request
+requests_of rows = map request_of rows
+
+-- ---- lines
+
+-- The words for a reply: that the row is refused, and why, or that it is accepted.
+abbrev pub row_words : Reply → List ℕ
+row_words (Denied refusal) = codes " refused " ++ decimal (refusal_number refusal)
+row_words _ = codes " ok"
+
+-- The line of a row, by its number.
+abbrev pub row_line : ℕ → Reply → List ℕ
+row_line n reply = codes "row " ++ decimal n ++ row_words reply ++ 10 ∷ []
+
+-- The lines of the rows from this number on.
+abbrev pub row_lines : ℕ → List Reply → List ℕ
+row_lines n [] = []
+row_lines n (reply ∷ replies) = row_line n reply ++ row_lines (n + 1) replies
+
+-- The line of a reading that didn't end with the last row.
+abbrev pub end_line : CopyEnd → List ℕ
+end_line Whole = []
+end_line (Bad n) = codes "row " ++ decimal n ++ codes " bad" ++ 10 ∷ []
+end_line Read = codes "fault reading" ++ 10 ∷ []
+end_line Memory = fault_line fault.Memory
+
+-- The reply is a refusal.
+abbrev pub is_refusal : Reply → Bool
+is_refusal (Denied refusal) = true
+is_refusal _ = false
+
+-- How many rows were accepted.
+abbrev pub accepted_in : List Reply → ℕ
+accepted_in replies = length (filter (λ reply. not (is_refusal reply)) replies)
+
+-- How many rows were refused.
+abbrev pub refused_in : List Reply → ℕ
+refused_in replies = length (filter is_refusal replies)
+
+-- The counts with the row of this reply.
+abbrev pub with_row : Counts → Reply → Counts
+with_row counts (Denied refusal) = record { accepted = counts.accepted; refused = counts.refused + 1 }
+with_row counts _ = record { accepted = counts.accepted + 1; refused = counts.refused }
+
+-- The last line, by how many rows were accepted and refused.
+abbrev pub counts_line : ℕ → ℕ → List ℕ
+counts_line accepted refused = codes "accepted " ++ decimal accepted ++ codes " refused " ++ decimal refused ++ 10 ∷ []
+
+-- All lines: those of the rows, the one of the end, if it has one, and the last.
+abbrev pub import_lines : List Reply → List ℕ → List ℕ
+import_lines replies end = row_lines 1 replies ++ (end ++ counts_line (accepted_in replies) (refused_in replies))
+
+-- How the program ends after all rows, of which so many were refused.
+abbrev pub end_exit : CopyEnd → ℕ → Exit
+end_exit Whole refused = if refused == 0 then Done else Refused
+end_exit (Bad n) refused = NotUnderstood
+end_exit Read refused = Faulted
+end_exit Memory refused = Faulted
+
+-- ---- what is told
+
+-- A row was handled. Where the tables showed a list of accepted requests, the reply is the one that this list gives to the
+-- row's request, and the tables show the list after it.
+pub record HandlesOne {S : Type 0} (g : Ghosts S) (old new : Held S) (row : CopyRow) (reply : Reply) : Type 0 where
+  pub clean : HasCleanDisk (state g new) → HasCleanDisk (state g old)
+  pub handled : HasCleanDisk (state g new) → (H : History) → Shows (state g old) H → (reply ≡ reply_to H (request_of row)) × Shows (state g new) (after_one H (request_of row))
+
+-- The rows were handled one after another. Where the tables showed a list of accepted requests, the replies are those
+-- that this list gives to the rows' requests, and the tables show the list after these requests.
+pub record Handles {S : Type 0} (g : Ghosts S) (old new : Held S) (rows : List CopyRow) (replies : List Reply) : Type 0 where
+  pub many : length replies ≡ length rows
+  pub clean : HasCleanDisk (state g new) → HasCleanDisk (state g old)
+  pub handled : HasCleanDisk (state g new) → (H : History) → Shows (state g old) H → (replies ≡ replies_to H (requests_of rows)) × Shows (state g new) (after H (requests_of rows))
+
+-- The lines of all rows, of the end and of the counts went out.
+pub record ImportsAll {S : Type 0} (g : Ghosts S) (old new : Held S) (rows : List CopyRow) (end : CopyEnd) (WentOut : List ℕ → Type 0) (exit : Exit) : Type 0 where
+  pub replies : List Reply
+  pub handled : Handles g old new rows replies
+  pub lines : WentOut (import_lines replies (end_line end))
+  pub exit_is : exit ≡ end_exit end (refused_in replies)
+
+-- A fault came at a row: the lines of the rows before it, of the fault and of the counts went out. The tables show what they
+-- showed after the rows before it, as long as the database is open; whatever may leave of them when the program is stopped
+-- is that, or what they would show after that row too.
+pub record ImportsSome {S : Type 0} (g : Ghosts S) (old new : Held S) (rows : List CopyRow) (WentOut : List ℕ → Type 0) (exit : Exit) : Type 0 where
+  pub replies : List Reply
+  pub fault : Fault
+  pub few : length replies < length rows
+  pub lines : WentOut (import_lines replies (fault_line fault))
+  pub exit_is : exit ≡ Faulted
+  pub handled : HasCleanDisk (state g new) → (H : History) → Shows (state g old) H → replies ≡ replies_to H (requests_of (take (length replies) rows))
+  pub undone : HasCleanDisk (state g new) → IsTrue (state g new).is_open → (H : History) → Shows (state g old) H → Shows (state g new) (after H (requests_of (take (length replies) rows)))
+  pub left : HasCleanDisk (state g new) → (H : History) → Shows (state g old) H
+      → LeavesOneOf (state g new) (after H (requests_of (take (length replies) rows))) (after H (requests_of (take (length replies + 1) rows)))
+
+-- All rows are told, or those before a fault.
+abbrev pub ImportsOf : {S : Type 0} → Ghosts S → Held S → Held S → List CopyRow → CopyEnd → (List ℕ → Type 0) → Exit → Type 0
+ImportsOf g old new rows end WentOut exit = ImportsAll g old new rows end WentOut exit ⊎ ImportsSome g old new rows WentOut exit
+
+-- A row's line could not be written. It is the last row that was handled.
+pub record ImportsCut {S : Type 0} (g : Ghosts S) (old new : Held S) (rows : List CopyRow) (WentOut : List ℕ → Type 0) : Type 0 where
+  pub replies : List Reply
+  pub few : length replies ≤ length rows
+  pub handled : Handles g old new (take (length replies) rows) replies
+  pub lines : WentOut (row_lines 1 replies)
