@@ -6,3 +6,4 @@ pub mod Faults
 pub mod Shapes
 pub mod CopyRows
 pub mod CopyFiles
+pub mod CopyExamples
