@@ -6,8 +6,6 @@ mod importing;
 mod lines;
 mod reports;
 mod requests;
-#[cfg(test)]
-mod tests;
 mod writing;
 
 pub use arguments::{Report, Run, read_run};

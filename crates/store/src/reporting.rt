@@ -14,8 +14,8 @@ use crate::store::Store;
 use crate::viewing::calendar_of;
 use calendar::{Calendar, Day};
 use circ_tables::{
-    active_holds_by, get_branch, get_copy, get_meta, get_title, lines_of, open_loans_by, overdue_loans_at,
-    ready_holds_at,
+    active_holds_by, get_branch, get_copy, get_meta, get_title, lines_of, open_loans_by,
+    overdue_loans_at, ready_holds_at,
 };
 use sqlite::Alter;
 use std::alloc::Global;

@@ -1,6 +1,6 @@
 //! Copies that move and holds that are served, by words. Expected lines are those of the rules, worked out by hand.
 
-use super::{Said, check, count, ground, key};
+use crate::ground::{Said, check, count, ground, key};
 use desk::Desk;
 use sqlite::MemStore;
 use std::alloc::Global;

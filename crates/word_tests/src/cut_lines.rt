@@ -1,8 +1,8 @@
 //! Lines that are cut: the writer takes some bytes, and then fails.
 
-use super::copies_files::BEES;
-use super::{count, ground, key, say, words_of};
-use crate::{Report, WriteFault, import, one, report};
+use crate::copies_files::BEES;
+use crate::ground::{count, ground, key, say, words_of};
+use circ::{Report, WriteFault, import, one, report};
 use desk::Desk;
 use sqlite::MemStore;
 use std::alloc::Global;

@@ -1,7 +1,7 @@
 //! Reports over memory. The expected bytes are those of the rules, written out by hand.
 
-use super::{check, ground, written};
-use crate::{Exit, Report, report};
+use crate::ground::{check, ground, written};
+use circ::{Exit, Report, report};
 use desk::Desk;
 use sqlite::MemStore;
 use std::alloc::Global;

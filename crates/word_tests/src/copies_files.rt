@@ -1,7 +1,7 @@
 //! Copies files over memory. The expected lines are those of the rules, written out by hand.
 
-use super::{count, ground, new_desk};
-use crate::{Exit, import, unreadable};
+use crate::ground::{count, ground, new_desk};
+use circ::{Exit, import, unreadable};
 use desk::Desk;
 use sqlite::MemStore;
 use std::alloc::Global;
@@ -10,7 +10,7 @@ use std::process::Abort;
 use std::test::Fail;
 
 /// The header and three rows.
-pub(super) const BEES: &str =
+pub const BEES: &str =
     "copy,title,text,kind,home,price,end\n50,500,\"Maps, Old and New\",1,1,1500,end\n51,500,\"Maps, Old and New\",1,2,1500,end\n52,501,Winter Bees,2,1,700,end\n";
 
 /// Two good rows of four, and one twice.
