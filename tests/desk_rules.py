@@ -1,6 +1,7 @@
 """The rules of docs/RULES.md once more, in plain Python: what each request of the desk is answered, and the rows after it.
 
-It was written from the rules and shares nothing with the program, so that the two can be compared.
+It was written from the rules and shares nothing with the program, so that the two can be compared. It leaves out what no
+test on files reaches: requests of patrons, with their keys and refusal 81, and numbers that are used up (70).
 """
 
 import datetime
@@ -41,6 +42,7 @@ class Library:
         return self.branches[branch]["week"][day.weekday()] == "o" and day not in self.closed[branch]
 
     def least_open(self, branch, day):
+        refuse(39, day > LAST)
         while not self.is_open(branch, day):
             refuse(39, day >= LAST)
             day += datetime.timedelta(1)

@@ -5,6 +5,7 @@ Expected lines and rows are those of the desk's rules, worked out by hand; those
 `desk_rules`, which has the rules once more in plain Python.
 """
 
+import copy
 import csv
 import hashlib
 import os
@@ -12,6 +13,7 @@ import random
 import re
 import shlex
 import shutil
+import signal
 import sqlite3
 import subprocess
 import sys
@@ -498,11 +500,23 @@ def reports(folder):
         check("it stays", os.path.getsize(empty), 0)
 
 
-def kill_at_work(path, key, words, seconds):
-    """Starts a run and kills it after a while; it may have ended by then."""
-    with subprocess.Popen([PROGRAM, "file", path, key, *words], stdout=subprocess.DEVNULL) as run:
+def kill_at_work(words, seconds):
+    """Starts a run and kills it after a while; it may have ended by then. What it printed, and whether the kill hit it."""
+    with subprocess.Popen([PROGRAM, *words], stdout=subprocess.PIPE) as run:
         time.sleep(seconds)
         run.kill()
+        printed = run.stdout.read().decode()
+    return printed, run.returncode == -signal.SIGKILL
+
+
+def rows_now(path, text):
+    """What stock SQLite reads in a copy of the files, so that what a kill left stays as it is."""
+    with tempfile.TemporaryDirectory() as folder:
+        copied = os.path.join(folder, "copy.db")
+        for tail in ("", "-wal"):
+            if os.path.exists(path + tail):
+                shutil.copy(path + tail, copied + tail)
+        return rows(copied, text)
 
 
 def the_rows_are(path, library):
@@ -513,6 +527,13 @@ def the_rows_are(path, library):
         check(f"rows of {name}", found[name], rows_of)
 
 
+# What the month has to have, on rows that the desk made: commands, each with its reply's first word or its refusal.
+IN_THE_MONTH = {
+    ("withdraw", "ok"), ("withdraw", "33"), ("check-in", "35"), ("check-out", "35"), ("check-out", "33"), ("check-out", "38"),
+    ("check-out", "50"), ("place-hold", "50"), ("place-hold", "51"), ("renew", "41"), ("renew", "38"), ("missing", "35"),
+}
+
+
 def a_month(folder):
     """Three branches in one month: each line is that of the rules, and so is each row; and with a run that is killed at
     a random moment before many of the commands, which are then sent again under the same key, the rows are the same."""
@@ -521,14 +542,23 @@ def a_month(folder):
     calm, killed = os.path.join(folder, "calm.db"), os.path.join(folder, "killed.db")
     library, seed = Library(), random.randrange(10**9)
     print(f"end to end: {len(requests)} requests of a month, moments of kills by the seed {seed}")
-    moments = random.Random(seed)
+    moments, seen, hits = random.Random(seed), set(), {False: 0, True: 0}
     for at, (key, *words) in enumerate(requests):
         line = library.handle(key, words)
+        seen.add((words[0], line.split()[1] if line.startswith("refused") else line.split()[0]))
         check(f"{key} {words}", answers(calm, key, words), (line + "\n", status_of(line)))
         # a kill while the file is made may leave no library, so the first request is let be
         while at and moments.random() < 0.5:
-            kill_at_work(killed, key, words, moments.uniform(0, 0.02))
+            printed, hit = kill_at_work(["file", killed, key, *words], moments.uniform(0, 0.012))
+            kept = rows_now(killed, f"SELECT COUNT(*) FROM kept WHERE caller = 0 AND key = '{key}'") == [(1,)]
+            # what was told is kept, whenever the kill came
+            check(f"{key} {words} told and kept, seed {seed}", kept or key not in library.kept or printed == "", True)
+            if hit and key in library.kept:
+                hits[kept] += 1
         check(f"{key} {words} after kills, seed {seed}", answers(killed, key, words), (line + "\n", status_of(line)))
+    check("the month has each of these", IN_THE_MONTH - seen, set())
+    print(f"end to end: {hits[False]} runs were killed before their request was kept, {hits[True]} after it")
+    check(f"kills hit before and after the request was kept, seed {seed}", (hits[False] > 0, hits[True] > 0), (True, True))
     the_rows_are(calm, library)
     for branch in sorted(library.branches):
         check(f"the hold shelf of {branch}", report(calm, "shelf", str(branch)), (library.shelf(branch), 0))
@@ -611,16 +641,151 @@ def a_delivery(folder):
     with open(copies, "w", encoding="utf-8", newline="") as file:
         file.write(HEADER)
         csv.writer(file).writerows([*book, "end"] for book in books)
-    for _ in range(6):
-        with subprocess.Popen([PROGRAM, "import", killed, copies], stdout=subprocess.DEVNULL) as run:
-            time.sleep(moments.uniform(0, 0.25))
-            run.kill()
     lines = library.take_in(books)
+    taken, hits = [row[0] for row in books if row[0] in library.copies], 0
+    for _ in range(12):
+        printed, hit = kill_at_work(["import", killed, copies], moments.uniform(0, 0.25))
+        told = printed[:printed.rfind("\n") + 1]
+        check(f"a beginning of the lines, seed {seed}", lines.startswith(told), True)
+        found = rows_now(killed, "SELECT copy FROM copies WHERE copy >= 1000 ORDER BY copy")
+        check(f"the first rows, seed {seed}", [copy for (copy,) in found], taken[:len(found)])
+        check(f"what was told is there, seed {seed}", told.count(" ok\n") <= len(found), True)
+        hits += hit and 0 < len(found) < len(taken)
+    check(f"kills hit the delivery at work, seed {seed}", hits > 0, True)
     check("some rows are refused", 0 < lines.count("refused 10") < 300, True)
     check("the lines of the delivery", take_in(calm, copies), (lines, 2))
     the_rows_are(calm, library)
     check(f"the lines after kills, seed {seed}", take_in(killed, copies), (lines, 2))
     check(f"the rows after kills, seed {seed}", whole(killed), whole(calm))
+
+
+def a_creation(folder):
+    """A run that makes a library is killed at random moments: nothing was told, or the library is whole."""
+    seed = random.randrange(10**9)
+    moments, hits = random.Random(seed), {"no file": 0, "a library": 0, "fault 93": 0}
+    print(f"end to end: libraries that are made, moments of kills by the seed {seed}")
+    for at in range(60):
+        path = os.path.join(folder, f"made{at}.db")
+        printed, _ = kill_at_work(["file", path, "g1", "begin-day", "2026-03-02"], moments.uniform(0, 0.02))
+        there = os.path.exists(path) and os.path.getsize(path) > 0
+        line, status = circ(["file", path, "g1", "begin-day", "2026-03-02"])
+        if printed:
+            check(f"the library that was told is there, seed {seed}", (printed, line, status), ("ok\n", "ok", 0))
+        hits["no file" if not there else "fault 93" if line == "fault 93" else "a library"] += 1
+        check(f"a library, or none, seed {seed}", (line, status) in (("ok", 0), ("fault 93", 3)), True)
+    print("end to end: creations killed: " + ", ".join(f"{many} left {what}" for what, many in hits.items()))
+    check(f"kills left no file and libraries, seed {seed}", (hits["no file"] > 0, hits["a library"] > 0), (True, True))
+
+
+def lost_output(folder):
+    """Where a line can't be written the status is 3, and what was handled stands."""
+    path, copies = os.path.join(folder, "silent.db"), os.path.join(folder, "many.csv")
+    say(path, GROUND)
+    with open("/dev/full", "wb") as full:
+        run = subprocess.run([CIRC, "file", path, "k1", "check-out", "1", "10", "1"], stdout=full, timeout=120)
+    check("a full disk", run.returncode, 3)
+    check("the loan stands", rows(path, "SELECT loan, copy FROM loans"), [(1, 10)])
+    say(path, [("k1", ["check-out", "1", "10", "1"], "loan 1 due 2026-03-09")])
+    for words in (["report", path, "shelf", "1"], ["file", path, "k2", "page", "1"], ["file"]):
+        with open("/dev/full", "wb") as full:
+            check(f"a full disk at {words[0]}", subprocess.run([CIRC, *words], stdout=full, timeout=120).returncode, 3)
+    with open(copies, "w", encoding="utf-8") as file:
+        file.write(HEADER + "".join(f"{1000 + n},{700 + n},Volume {n},1,1,100,end\n" for n in range(200)))
+    with open("/dev/full", "wb") as full:
+        run = subprocess.run([CIRC, "import", path, copies], stdout=full, timeout=120)
+    check("a full disk at the first row", run.returncode, 3)
+    check("one row was handled", rows(path, "SELECT copy FROM copies WHERE copy >= 1000"), [(1000,)])
+    # the reader goes after three lines; what ignores the signal sees the write fail
+    with subprocess.Popen([PROGRAM, "import", path, copies], stdout=subprocess.PIPE, restore_signals=False) as run:
+        lines = [run.stdout.readline() for _ in range(3)]
+        run.stdout.close()
+        status = run.wait(timeout=120)
+    check("lines before the reader went", lines, [b"row 1 ok\n", b"row 2 ok\n", b"row 3 ok\n"])
+    check("a pipe that is closed", status, 3)
+    found = [copy for (copy,) in rows(path, "SELECT copy FROM copies WHERE copy >= 1000 ORDER BY copy")]
+    check("a beginning of the rows", (found, 3 <= len(found) < 200), (list(range(1000, 1000 + len(found))), True))
+    check("the rest is taken in", take_in(path, copies), ("".join(f"row {n} ok\n" for n in range(1, 201)) + "accepted 200 refused 0\n", 0))
+
+
+# A library with loans, one of them overdue, a hold that waits, two that are ready, a lost copy and an account.
+BEGUN = [shlex.join(words) for _, words, _ in GROUND] + [
+    "acquire 12 101 1 1 900 'Slow Water'", "check-out 1 10 1", "check-out 1 11 1", "place-hold 2 100 1",
+    "place-hold 3 300 1", "check-in 30 1", "place-hold 1 200 1", "check-in 20 1", "begin-day 2026-03-07",
+    "check-out 3 12 1", "begin-day 2026-03-12", "missing 11", "pay 1 30",
+]
+
+# Requests about its few copies, loans and holds, which get in each other's way.
+CROWDED = [
+    "check-out 1 10 1", "check-out 2 10 1", "check-out 3 30 1", "check-out 1 20 1", "check-in 10 1", "check-in 10 2",
+    "check-in 12 2", "check-in 11 1", "renew 1", "renew 3", "place-hold 2 101 2", "place-hold 1 100 2", "cancel-hold 1",
+    "unshelve 2", "unshelve-cancelled 3", "missing 30", "withdraw 11", "pay 1 30", "waive 1 2500", "page 1",
+]
+
+
+def every_pair(folder):
+    """Every ordered pair of twenty requests, each on a library of its own that is the same before: each reply is that of
+    the rules, and so is each row."""
+    begun, pair, rules = os.path.join(folder, "begun.db"), os.path.join(folder, "pair.db"), Library()
+    for at, text in enumerate(BEGUN):
+        words = shlex.split(text)
+        line = rules.handle(f"s{at}", words)
+        check(f"{text}", answers(begun, f"s{at}", words), (line + "\n", 0))
+    check("accounts have lines", {line["sort"] for line in rules.lines}, {"fine", "price", "payment"})
+    replies = set()
+    for one in CROWDED:
+        for other in CROWDED:
+            library = copy.deepcopy(rules)
+            shutil.copy(begun, pair)
+            for key, text in (("one", one), ("other", other)):
+                line = library.handle(key, text.split())
+                check(f"{one}, {other}", answers(pair, key, text.split()), (line + "\n", status_of(line)))
+                replies.add((text.split()[0], status_of(line)))
+            the_rows_are(pair, library)
+    check("each command is accepted", {name for name, status in replies if status == 0}, {text.split()[0] for text in CROWDED})
+
+
+def the_readme(folder):
+    """The first day that the README shows, and the example of each row of its table of words."""
+    with open(os.path.join(TOP, "README.md"), encoding="utf-8") as file:
+        page = file.read()
+    room, library = os.path.join(folder, "readme"), Library()
+    os.mkdir(room)
+    typed = [shlex.split(line) for line in re.findall(r"^    \./circ (file town\.db .*)$", page, re.MULTILINE)]
+    check("the README's first day", (len(typed) > 7, typed[0][2:]), (True, ["g1", "begin-day", "2026-03-02"]))
+    for _, _, key, *words in typed:
+        line = library.handle(key, words)
+        run = subprocess.run([CIRC, "file", "town.db", key, *words], capture_output=True, timeout=120, cwd=room)
+        check(f"{key} {words}", (run.stdout.decode(), run.returncode), (line + "\n", status_of(line)))
+    check("its last line", line, "loan 1 due 2026-03-09")
+    table = re.findall(r"^\| `([a-z-]+) ?[^`]*` \|[^|]*\| `([^`]+)` \| ([^|]*) \|$", page, re.MULTILINE)
+    check("a row for each word", len(table), 21)
+    library, path = Library(), os.path.join(folder, "examples.db")
+    for at, (word, example, refusals) in enumerate(table):
+        words = shlex.split(example)
+        check(f"the example of {word}", words[0], word)
+        line = library.handle(f"e{at}", words)
+        check(f"{example}", answers(path, f"e{at}", words), (line + "\n", status_of(line)))
+        known = line.split()[1] in refusals.replace(",", "").split() if line.startswith("refused") else True
+        check(f"the refusal of {example} is in its row", known, True)
+
+
+def two_at_once(folder):
+    """While one run works on a file, another is told that it can't; nothing is lost."""
+    path, copies = os.path.join(folder, "busy.db"), os.path.join(folder, "long.csv")
+    say(path, GROUND)
+    with open(copies, "w", encoding="utf-8") as file:
+        file.write(HEADER + "".join(f"{1000 + n},{700 + n},Volume {n},1,1,100,end\n" for n in range(2000)))
+    turned_away = 0
+    with subprocess.Popen([PROGRAM, "import", path, copies], stdout=subprocess.PIPE) as run:
+        check("the first row", run.stdout.readline(), b"row 1 ok\n")
+        for at in range(5):
+            line, status = circ(["file", path, f"w{at}", "place-hold", "2", "100", "1"])
+            turned_away += (line, status) == ("fault 91", 3)
+            check("the other run", line in ("fault 91", "hold 1", "refused 50"), True)
+        rest = run.stdout.read().decode()
+        check("the run at work", (run.wait(timeout=120), rest.endswith("accepted 2000 refused 0\n")), (0, True))
+    check("another was turned away", turned_away > 0, True)
+    check("nothing is lost", rows(path, "SELECT COUNT(*) FROM copies"), [(2004,)])
 
 
 def bad_words(folder):
@@ -689,9 +854,14 @@ def main():
         movements(folder)
         reports(folder)
         a_day_at_the_desk(folder)
+        the_readme(folder)
+        every_pair(folder)
         a_month(folder)
         copies_files(folder)
         a_delivery(folder)
+        a_creation(folder)
+        lost_output(folder)
+        two_at_once(folder)
         bad_words(folder)
         bad_files(folder, path)
         an_unreadable_file(folder, path)

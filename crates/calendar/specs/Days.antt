@@ -1,14 +1,15 @@
 -- Days, their numbers and their texts.
 use Rattle.std.specs.Prelude.{◌≡◌, ℕ, zero, suc, ◌+◌, ◌/◌, ◌%◌, ◌≤◌, List, [], ◌∷◌, ◌++◌, pos, Bool, ◌&&◌, nat_le, nat_lt, if◌then◌else◌}
 use Rattle.jiff_core.specs.Calendar.{IsCivilDate, days_from_civil, days_in_month}
+use Rattle.calendar.specs.declared.limits.TheConstants.{FIRST_DAY, LAST_DAY}
 
 -- the day numbers of the calendar: 2000-01-01 to 2199-12-31, counted from 1970-01-01
 abbrev pub IsDayNumber : ℕ → Type 0
-IsDayNumber n = (10957 ≤ n) × (n ≤ 84005)
+IsDayNumber n = (FIRST_DAY ≤ n) × (n ≤ LAST_DAY)
 
 -- whether a number is one of these
 abbrev pub is_day : ℕ → Bool
-is_day n = nat_le 10957 n && nat_le n 84005
+is_day n = nat_le FIRST_DAY n && nat_le n LAST_DAY
 
 -- a number below 100, in two digits
 abbrev pub two_digits : ℕ → List ℕ

@@ -1,6 +1,7 @@
 -- When a branch is open.
 use Rattle.std.specs.Prelude.{◌≡◌, ℕ, zero, suc, ◌+◌, ◌-◌, ◌%◌, ◌<◌, ◌≤◌, Bool, true, false, not, ◌&&◌, ◌||◌, ◌==◌, if◌then◌else◌, List, [], ◌∷◌, length, slice_index_or}
 use Rattle.std.specs.List.{list_any}
+use Rattle.calendar.specs.declared.limits.TheConstants.{MOST_CLOSED_DAYS}
 use Rattle.calendar.specs.Days.{IsDayNumber, is_day}
 
 -- a branch's closed days: the weekdays, Monday first, and the single days
@@ -60,7 +61,7 @@ pub record AreClosings (c : Closings) : Type 0 where
   pub weekdays : AreWeekdays c.weekly
   pub in_range : (d : ℕ) → is_single c d ≡ true → IsDayNumber d
   pub once : has_repeat c.single ≡ false
-  pub few : length c.single ≤ 400
+  pub few : length c.single ≤ MOST_CLOSED_DAYS
 
 -- the day is closed now, and every other day is as it was
 pub record ClosesOnly (old new : Closings) (day : ℕ) : Type 0 where

@@ -1,10 +1,13 @@
 //! Days, their numbers and their texts.
-ghost use Rattle.std.specs.Prelude.{◌≡◌, ◌≢◌, ◌+◌, ◌-◌, ◌*◌, ◌/◌, ◌%◌, ◌<◌, ◌≤◌, ◌∷◌, [], pos, IfSome, IsSome, IfOk, OnOk, ℕ, length, MatchOption, OnSome, IfNone, string_bytes};
+ghost use Rattle.std.specs.Prelude.{◌≡◌, ◌≢◌, ◌-◌, ◌<◌, ◌≤◌, ◌∷◌, [], pos, IfSome, IfOk, ℕ, IfNone};
+ghost use Rattle.std.specs.Prelude.{string_bytes};
 ghost use Rattle.std.specs.Option.{SomeIff};
 ghost use Rattle.jiff_core.specs.Calendar.{IsCivilDate, days_from_civil};
-ghost use Rattle.calendar.specs.Days.{IsDayNumber, IsDateOf, two_digits, date_text, day_text, civil_of};
+ghost use Rattle.calendar.specs.Days.{IsDayNumber, IsDateOf, two_digits, date_text, day_text};
+ghost use Rattle.calendar.specs.Days.{civil_of};
 
 use crate::Memory;
+use crate::limits::{FIRST_DAY, LAST_DAY};
 use jiff::civil::Date;
 use std::alloc::Global;
 use std::fmt;
@@ -34,16 +37,16 @@ impl Model for Day {
 
 impl Day {
     /// 2000-01-01.
-    pub const FIRST: Day = Day { number: 10957 };
+    pub const FIRST: Day = Day { number: FIRST_DAY };
 
     /// 2199-12-31.
-    pub const LAST: Day = Day { number: 84005 };
+    pub const LAST: Day = Day { number: LAST_DAY };
 
     /// The day with that number, if the calendar has it.
     pub fn new(number: u32) -> Option<Day>
         ensures { SomeIff result (IsDayNumber number) number }
     {
-        if 10957 <= number && number <= 84005 {
+        if FIRST_DAY <= number && number <= LAST_DAY {
             Some(Day { number })
         } else {
             None

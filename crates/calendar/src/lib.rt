@@ -2,11 +2,13 @@
 #![tactic(auto)]
 
 mod day;
+mod limits;
 mod opening;
 #[cfg(test)]
 mod tests;
 
 pub use day::Day;
+pub use limits::{FIRST_DAY, LAST_DAY, MOST_CLOSED_DAYS};
 pub use opening::{Calendar, CloseError, ReopenError, Weekdays};
 
 /// Why a call stopped that found no memory.

@@ -1,11 +1,17 @@
 //! The days on which a branch is open.
-ghost use Rattle.std.specs.Prelude.{◌≡◌, ◌≢◌, ◌+◌, ◌<◌, ◌≤◌, ◌↔◌, [], ◌∷◌, ◌++◌, ℕ, true, false, not, ◌==◌, IsTrue, IfOk, IfSome, IfNone, IsSome, OnOk, OnErr, length, slice_index_or};
+ghost use Rattle.std.specs.Prelude.{◌≡◌, ◌+◌, ◌<◌, ◌≤◌, ◌↔◌, [], ◌∷◌, ℕ, true, false, IsTrue, IfOk};
+ghost use Rattle.std.specs.Prelude.{IfSome, IfNone, IsSome, OnOk, OnErr, length, slice_index_or};
 ghost use Rattle.std.specs.Option.{SomeIff};
 ghost use Rattle.calendar.specs.Days.{IsDayNumber};
-ghost use Rattle.calendar.specs.Openings.{Closings, AreClosings, AreWeekdays, ClosesExactly, ClosesOnly, ReopensOnly, IsLeastOpen, has_day, has_open_weekday, has_repeat, is_open, is_single, open_days_after};
+ghost use Rattle.calendar.specs.declared.limits.TheConstants.{LAST_DAY, MOST_CLOSED_DAYS};
+ghost use Rattle.calendar.specs.Openings.{Closings, AreClosings, AreWeekdays, ClosesExactly};
+ghost use Rattle.calendar.specs.Openings.{ClosesOnly, ReopensOnly, IsLeastOpen, has_day};
+ghost use Rattle.calendar.specs.Openings.{has_open_weekday, has_repeat, is_open, is_single};
+ghost use Rattle.calendar.specs.Openings.{open_days_after};
 
 use crate::Memory;
 use crate::day::Day;
+use crate::limits::MOST_CLOSED_DAYS;
 use std::alloc::Global;
 use std::marker::Model;
 
@@ -113,14 +119,14 @@ impl Calendar {
     ) -> Result<Calendar, CloseError>
         ensures already { (result ≡ Err CloseError.AlreadyClosed) ↔ (has_repeat days.now ≡ true) }
         ensures full { (result ≡ Err CloseError.Full)
-            ↔ ((has_repeat days.now ≡ false) × (400 < length days.now)) }
+            ↔ ((has_repeat days.now ≡ false) × (MOST_CLOSED_DAYS < length days.now)) }
         ensures ok { IfOk result (λ c. ClosesExactly c weekly days.now) }
         ensures closings { IfOk result AreClosings }
     {
         if has_repeat(days) {
             return Err(CloseError::AlreadyClosed);
         }
-        if days.len() > 400 {
+        if days.len() > MOST_CLOSED_DAYS {
             return Err(CloseError::Full);
         }
         let Ok(single) = copy_of(alloc, days) else {
@@ -150,10 +156,10 @@ impl Calendar {
 
     /// Whether 400 single days are closed, so that no more can be.
     pub fn is_full(&self) -> bool
-        ensures full { IsTrue result ↔ (length self.now.single ≡ 400) }
+        ensures full { IsTrue result ↔ (length self.now.single ≡ MOST_CLOSED_DAYS) }
         ensures closings { AreClosings self.now }
     {
-        self.single.len() == 400
+        self.single.len() == MOST_CLOSED_DAYS
     }
 
     /// The least open day from `day` on, where there is one in the calendar. It is at most 2806
@@ -162,7 +168,7 @@ impl Calendar {
         ensures some { IfSome result (IsLeastOpen self.now day) }
         ensures none { IfNone result ((k : ℕ) → day ≤ k → is_open self.now k ≡ false) }
         ensures near { IfSome result (λ e. e ≤ day + 2806) }
-        ensures found { day + 2806 ≤ 84005 → IsSome result }
+        ensures found { day + 2806 ≤ LAST_DAY → IsSome result }
     {
         // The look at a field shows the proof that at most 400 single days are closed.
         let _ = &self.weekly;
@@ -190,9 +196,10 @@ impl Calendar {
 
     /// Closes a single day. Nothing changes where it is refused or memory runs out.
     pub fn close(&mut self, day: Day) -> Result<(), CloseError>
-        ensures already { (result ≡ Err CloseError.AlreadyClosed) ↔ (is_single self.old day ≡ true) }
+        ensures already { (result ≡ Err CloseError.AlreadyClosed)
+            ↔ (is_single self.old day ≡ true) }
         ensures full { (result ≡ Err CloseError.Full)
-            ↔ ((is_single self.old day ≡ false) × (length self.old.single ≡ 400)) }
+            ↔ ((is_single self.old day ≡ false) × (length self.old.single ≡ MOST_CLOSED_DAYS)) }
         ensures ok { OnOk result (ClosesOnly self.old self.new day) }
         ensures err { OnErr result (self.new ≡ self.old) }
         ensures closings { AreClosings self.new }
@@ -256,7 +263,8 @@ fn copy_of(alloc: Global, days: &[Day]) -> Result<Vec<Day>, Memory>
 
 /// Where a day stands among these.
 fn place_of(days: &[Day], day: Day) -> Option<usize>
-    ensures some { IfSome result (λ i. (i < length days.now) × (slice_index_or days.now i day ≡ day)) }
+    ensures some { IfSome result (λ i. (i < length days.now)
+        × (slice_index_or days.now i day ≡ day)) }
     ensures none { IfNone result (has_day days.now day ≡ false) }
 {
     days.iter().position(|other| *other == day)

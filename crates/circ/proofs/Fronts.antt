@@ -69,17 +69,7 @@ pub second-failed : {T E : Type 0} (r : Result T E) (a b c : Option (List ℕ)) 
 second-failed (Ok x) a b c xs ys p q = tt
 second-failed (Err e) a b c xs ys p q = front-after a b c xs ys p q
 
--- what holds anyway holds after a write that failed
-pub on-err-any : {T E P : Type 0} (r : Result T E) → P → OnErr r P
-on-err-any (Ok x) p = tt
-on-err-any (Err e) p = p
-
 -- what follows from what went out, where it is known how the program ends
 pub ends-as : {E X Q : Type 0} (P : X → Type 0) (r : Result X E) (exit : X) → IfOk r (λ e. e ≡ exit) → OnOk r Q → (Q → P exit) → IfOk r P
 ends-as P (Ok e) exit is q f = subst P (sym is) (f q)
 ends-as P (Err e) exit is q f = tt
-
--- what follows from a write that failed
-pub fails-as : {T E P Q : Type 0} (r : Result T E) → OnErr r P → (P → Q) → OnErr r Q
-fails-as (Ok x) p f = tt
-fails-as (Err e) p f = f p

@@ -1,4 +1,5 @@
 -- Rows of a copies file that are handled and told, one after another.
+use Rattle.front.specs.declared.copies.TheConstants.{MOST_ROWS}
 use Rattle.std.proofs.Common.{◌≡◌, ℕ, suc, ◌+◌, ◌≤◌, ◌<◌, Bool, true, false, not, cond, List, [], ◌∷◌, ◌++◌, length, take, Option, append_assoc, append-nil, refl, sym, ◌∙◌, ap, subst, arith}
 use Rattle.std.specs.Prelude.{filter, IsTrue}
 use Rattle.std.proofs.KnownBytes.{Appends-trans}
@@ -6,9 +7,7 @@ use Rattle.std.proofs.Math.Seq.{take-append_seam}
 use Rattle.std.proofs.lemmas.List.{map-append, length-append, take_at}
 use Rattle.std.proofs.lemmas.List.Elements.{filter-append}
 use Rattle.std.specs.Io.KnownBytes.{Appends}
-use Rattle.sqlite_trees.specs.declared.store.Store.{Ghosts}
-use Rattle.sqlite.specs.Held.{Held, state}
-use Rattle.sqlite.specs.State.{HasCleanDisk}
+use Rattle.store.specs.Library.{Ghosts, Held, state, HasCleanDisk}
 use Rattle.terms.specs.Writing.{AppendsFront}
 use Rattle.terms.specs.declared.fault.Fault.{Fault}
 use Rattle.terms.specs.declared.reply.Reply.{Reply}
@@ -17,10 +16,9 @@ use Rattle.model.specs.History.{History}
 use Rattle.model.specs.Requests.{after, after_one, replies as replies_to}
 use Rattle.desk.specs.Answering.{Shows, Stays, LeavesOneOf}
 use Rattle.desk.proofs.Afterwards.{after-last, replies-last}
-use Rattle.front.specs.Copies.{most_rows}
 use Rattle.front.specs.declared.copies.CopyEnd.{CopyEnd}
 use Rattle.front.specs.declared.copies.CopyRow.{CopyRow}
-use Rattle.circ.specs.Importing.{request_of, requests_of, row_line, row_lines, end_line, counts_line, import_lines, end_exit, is_refusal, accepted_in, refused_in, with_row, HandlesOne, Handles, ImportsAll, ImportsSome, ImportsCut}
+use Rattle.circ.specs.Importing.{request_of, requests_of, row_line, row_lines, end_line, counts_line, import_lines, end_exit, is_refusal, accepted_in, refused_in, with_row, HandlesOne, HandlesRows, ImportsAll, ImportsSome, ImportsCut}
 use Rattle.circ.specs.Lines.{fault_line}
 use Rattle.circ.proofs.Fronts.{front-after, appends-nothing}
 use Rattle.circ.specs.declared.importing.Counts.{Counts}
@@ -38,13 +36,13 @@ length-more : {A : Type 0} (xs : List A) (x : A) → length (xs ++ x ∷ []) ≡
 length-more xs x = length-append xs (x ∷ [])
 
 pub handles-more : {S : Type 0} (g : Ghosts S) (old mid new : Held S) (rows : List CopyRow) (replies : List Reply) (row : CopyRow) (reply : Reply)
-    → Handles g old mid rows replies → HandlesOne g mid new row reply → Handles g old new (rows ++ row ∷ []) (replies ++ reply ∷ [])
+    → HandlesRows rows g old mid replies → HandlesOne row g mid new reply → HandlesRows (rows ++ row ∷ []) g old new (replies ++ reply ∷ [])
 handles-more g old mid new rows replies row reply all one = record {
   many = length-more replies reply ∙ ap (λ n. n + 1) all.many ∙ sym (length-more rows row);
   clean = λ disk. all.clean (one.clean disk);
-  handled = λ disk H shows.
-      let before = all.handled (one.clean disk) H shows in
-      let last = one.handled disk (after H (requests_of rows)) before.1 in (
+  replied = λ disk H shows.
+      let before = all.replied (one.clean disk) H shows in
+      let last = one.replied disk (after H (requests_of rows)) before.1 in (
         ap (λ (t : List Reply). t ++ reply ∷ []) before.0 ∙ ap (λ (y : Reply). replies_to H (requests_of rows) ++ y ∷ []) last.0
             ∙ sym (replies-last (requests_of rows) H (request_of row)) ∙ ap (replies_to H) (sym (requests-more rows row)),
         subst (λ (K : History). Shows (state g new) K) (sym (after-more H rows row)) last.1,
@@ -61,14 +59,6 @@ lines-from n (x ∷ replies) reply =
 
 pub lines-more : (replies : List Reply) (reply : Reply) → row_lines 1 (replies ++ reply ∷ []) ≡ row_lines 1 replies ++ row_line (length replies + 1) reply
 lines-more replies reply = lines-from 1 replies reply ∙ ap (λ (m : ℕ). row_lines 1 replies ++ row_line m reply) (omega arith)
-
--- One reply is accepted or refused.
-one-kind : (reply : Reply) → length (filter (λ r. not (is_refusal r)) (reply ∷ [])) + length (filter is_refusal (reply ∷ [])) ≡ 1
-one-kind reply = go (is_refusal reply)
-  where
-    go : (b : Bool) → length (cond (not b) (reply ∷ []) []) + length (cond b (reply ∷ []) []) ≡ 1
-    go true = refl
-    go false = refl
 
 accepted-more : (replies : List Reply) (reply : Reply) → accepted_in (replies ++ reply ∷ []) ≡ accepted_in replies + accepted_in (reply ∷ [])
 accepted-more replies reply = ap length (filter-append (λ r. not (is_refusal r)) replies (reply ∷ [])) ∙ length-append (filter (λ r. not (is_refusal r)) replies) (filter (λ r. not (is_refusal r)) (reply ∷ []))
@@ -115,12 +105,12 @@ counted-all counts replies counted = (λ i. counted.accepted i + counted.refused
 -- The rows were handled, told and counted.
 pub record SoFar {S : Type 0} (g : Ghosts S) (old new : Held S) (rows : List CopyRow) (counts : Counts) (a b : Option (List ℕ)) : Type 0 where
   pub replies : List Reply
-  pub handled : Handles g old new rows replies
+  pub handled : HandlesRows rows g old new replies
   pub lines : Appends a b (row_lines 1 replies)
   pub counted : Counted counts replies
 
 pub far-more : {S : Type 0} (g : Ghosts S) (old mid new : Held S) (rows : List CopyRow) (counts : Counts) (a b c : Option (List ℕ)) (row : CopyRow) (reply : Reply)
-    → SoFar g old mid rows counts a b → HandlesOne g mid new row reply → Appends b c (row_line (counts.accepted + counts.refused + 1) reply)
+    → SoFar g old mid rows counts a b → HandlesOne row g mid new reply → Appends b c (row_line (counts.accepted + counts.refused + 1) reply)
     → SoFar g old new (rows ++ row ∷ []) (with_row counts reply) a c
 far-more g old mid new rows counts a b c row reply far one wrote = record {
   replies = far.replies ++ reply ∷ [];
@@ -133,7 +123,7 @@ far-more g old mid new rows counts a b c row reply far one wrote = record {
 pub far-none : {S : Type 0} (g : Ghosts S) (held : Held S) (a : Option (List ℕ)) → SoFar g held held [] (record { accepted = 0; refused = 0 }) a a
 far-none g held a = record {
   replies = [];
-  handled = record { many = refl; clean = λ disk. disk; handled = λ disk H shows. (refl, shows) };
+  handled = record { many = refl; clean = λ disk. disk; replied = λ disk H shows. (refl, shows) };
   lines = appends-nothing a;
   counted = record { accepted = refl; refused = refl };
 }
@@ -159,7 +149,7 @@ within all before left rest row parted first =
 
 -- There is room for a row more.
 pub room-for : {S : Type 0} (g : Ghosts S) (old new : Held S) (before : List CopyRow) (counts : Counts) (a b : Option (List ℕ)) (all : List CopyRow) (row : CopyRow)
-    → SoFar g old new before counts a b → Within all before row → length all ≤ most_rows → counts.accepted + counts.refused < most_rows
+    → SoFar g old new before counts a b → Within all before row → length all ≤ MOST_ROWS → counts.accepted + counts.refused < MOST_ROWS
 room-for g old new before counts a b all row far at most = omega (arith, counted-all counts far.replies far.counted, far.handled.many, at.few, most)
 
 module _ {S : Type 0} (g : Ghosts S) (old mid new : Held S) (all before : List CopyRow) (counts : Counts) (a b : Option (List ℕ)) (row : CopyRow) (far : SoFar g old mid before counts a b) (at : Within all before row) where
@@ -176,20 +166,20 @@ module _ {S : Type 0} (g : Ghosts S) (old mid new : Held S) (all before : List C
   pub imports-some : (fault : Fault) (WentOut : List ℕ → Type 0) → (HasCleanDisk (state g new) → HasCleanDisk (state g mid))
       → (HasCleanDisk (state g new) → IsTrue (state g new).is_open → Stays (state g mid) (state g new))
       → (HasCleanDisk (state g new) → (H : History) → Shows (state g mid) H → LeavesOneOf (state g new) H (after_one H (request_of row)))
-      → WentOut (import_lines far.replies (fault_line fault)) → ImportsSome g old new all WentOut Faulted
+      → WentOut (import_lines far.replies (fault_line fault)) → ImportsSome all g old new WentOut Faulted
   imports-some fault WentOut clean undone left lines = record {
     replies = far.replies;
     fault = fault;
     few = let few : length before < length all = at.few in omega (arith, few, told);
     lines = lines;
     exit_is = refl;
-    handled = λ disk H shows. (far.handled.handled (clean disk) H shows).0 ∙ ap (λ (rows : List CopyRow). replies_to H (requests_of rows)) (sym rows-before);
+    replied = λ disk H shows. (far.handled.replied (clean disk) H shows).0 ∙ ap (λ (rows : List CopyRow). replies_to H (requests_of rows)) (sym rows-before);
     undone = λ disk is_open H shows.
         subst (λ (rows : List CopyRow). Shows (state g new) (after H (requests_of rows))) (sym rows-before)
-        (undone disk is_open (after H (requests_of before)) (far.handled.handled (clean disk) H shows).1);
+        (undone disk is_open (after H (requests_of before)) (far.handled.replied (clean disk) H shows).1);
     left = λ disk H shows.
         let now : History = after H (requests_of before) in
-        let leaves : LeavesOneOf (state g new) now (after_one now (request_of row)) = left disk now (far.handled.handled (clean disk) H shows).1 in
+        let leaves : LeavesOneOf (state g new) now (after_one now (request_of row)) = left disk now (far.handled.replied (clean disk) H shows).1 in
         let next : after_one now (request_of row) ≡ after H (requests_of (take (length far.replies + 1) all)) =
         sym (after-more H before row) ∙ ap (λ (rows : List CopyRow). after H (requests_of rows)) (sym rows-with) in
         subst (λ (K : History). LeavesOneOf (state g new) (after H (requests_of (take (length far.replies) all))) K) next
@@ -197,7 +187,7 @@ module _ {S : Type 0} (g : Ghosts S) (old mid new : Held S) (all before : List C
   }
 
   -- The line of the row could not be written.
-  pub imports-cut : (c : Option (List ℕ)) (reply : Reply) → HandlesOne g mid new row reply → AppendsFront b c (row_line (counts.accepted + counts.refused + 1) reply) → ImportsCut g old new all (AppendsFront a c)
+  pub imports-cut : (c : Option (List ℕ)) (reply : Reply) → HandlesOne row g mid new reply → AppendsFront b c (row_line (counts.accepted + counts.refused + 1) reply) → ImportsCut all g old new (AppendsFront a c)
   imports-cut c reply one front =
       let replies : List Reply = far.replies ++ reply ∷ [] in
       let many : length replies ≡ length far.replies + 1 = length-more far.replies reply in
@@ -205,7 +195,7 @@ module _ {S : Type 0} (g : Ghosts S) (old mid new : Held S) (all before : List C
       record {
         replies = replies;
         few = let few : length before < length all = at.few in omega (arith, few, told, many);
-        handled = subst (λ (taken : List CopyRow). Handles g old new taken replies) (sym rows) (handles-more g old mid new before far.replies row reply far.handled one);
+        handled = subst (λ (taken : List CopyRow). HandlesRows taken g old new replies) (sym rows) (handles-more g old mid new before far.replies row reply far.handled one);
         lines = subst (AppendsFront a c) (ap (λ (n : ℕ). row_lines 1 far.replies ++ row_line (n + 1) reply) (counted-all counts far.replies far.counted) ∙ sym (lines-more far.replies reply))
             (front-after a b c (row_lines 1 far.replies) (row_line (counts.accepted + counts.refused + 1) reply) far.lines front);
       }
@@ -223,10 +213,10 @@ module _ {S : Type 0} (g : Ghosts S) (old new : Held S) (rows : List CopyRow) (c
   lines-front c front = subst (AppendsFront a c) last-lines (front-after a b c (row_lines 1 far.replies) (end ++ counts_line counts.accepted counts.refused) far.lines front)
 
   -- All rows were handled.
-  pub imports-all : (all : List CopyRow) → rows ≡ all → (end_of : CopyEnd) (WentOut : List ℕ → Type 0) → WentOut (import_lines far.replies (end_line end_of)) → ImportsAll g old new all end_of WentOut (end_exit end_of counts.refused)
+  pub imports-all : (all : List CopyRow) → rows ≡ all → (end_of : CopyEnd) (WentOut : List ℕ → Type 0) → WentOut (import_lines far.replies (end_line end_of)) → ImportsAll all end_of g old new WentOut (end_exit end_of counts.refused)
   imports-all all is end_of WentOut lines = record {
     replies = far.replies;
-    handled = subst (λ (xs : List CopyRow). Handles g old new xs far.replies) is far.handled;
+    handled = subst (λ (xs : List CopyRow). HandlesRows xs g old new far.replies) is far.handled;
     lines = lines;
     exit_is = ap (end_exit end_of) far.counted.refused;
   }

@@ -3,9 +3,7 @@ use Rattle.std.proofs.Common.{◌≡◌, ℕ, List, Option, inl, inr, refl, sym,
 use Rattle.std.specs.Prelude.{Result, Ok, Err, OnOk, OnErr, IfOk, IsTrue}
 use Rattle.std.specs.List.{join_with_byte}
 use Rattle.std.specs.Io.KnownBytes.{Appends}
-use Rattle.sqlite_trees.specs.declared.store.Store.{Ghosts}
-use Rattle.sqlite.specs.Held.{Held, state}
-use Rattle.sqlite.specs.State.{State, HasCleanDisk}
+use Rattle.store.specs.Library.{Ghosts, Held, State, state, HasCleanDisk}
 use Rattle.terms.specs.Laws.{RequestTextsDiffer}
 use Rattle.terms.specs.Texts.{request_text}
 use Rattle.terms.specs.Writing.{AppendsFront}
@@ -41,14 +39,14 @@ module _ {S : Type 0} (g : Ghosts S) (old new : Held S) (key : List ℕ) (words 
   pub says-reply : (command : Command) (reply : Reply) → IsUnderstoodAs words command
       → (HasCleanDisk (state g new) → (H : History) → Shows (state g old) H
       → (reply ≡ reply_to H (desk_request key command)) × Shows (state g new) (after_one H (desk_request key command)))
-      → Says g old new key words (reply_line reply) (exit_of reply)
+      → Says key words g old new (reply_line reply) (exit_of reply)
   says-reply command reply understood answered =
-      inl (record { command = command; reply = reply; understood = understood; line_is = refl; exit_is = refl; answered = answered })
+      inl (record { command = command; reply = reply; understood = understood; line_is = refl; exit_is = refl; replied = answered })
 
   pub says-fault : (command : Command) (fault : Fault) → ((other : Command) → IsUnderstoodAs words other → other ≡ command)
       → (HasCleanDisk (state g new) → IsTrue (state g new).is_open → Stays (state g old) (state g new))
       → (HasCleanDisk (state g new) → (H : History) → Shows (state g old) H → LeavesOneOf (state g new) H (after_one H (desk_request key command)))
-      → Says g old new key words (fault_line fault) Faulted
+      → Says key words g old new (fault_line fault) Faulted
   says-fault command fault only undone left = inr (inl (record {
     fault = fault;
     line_is = refl;
@@ -60,7 +58,7 @@ module _ {S : Type 0} (g : Ghosts S) (old new : Held S) (key : List ℕ) (words 
 
 -- nothing was touched
 module _ {S : Type 0} (g : Ghosts S) (held : Held S) (key : List ℕ) (words : List (List ℕ)) where
-  pub says-no-memory : Says g held held key words (fault_line Memory) Faulted
+  pub says-no-memory : Says key words g held held (fault_line Memory) Faulted
   says-no-memory = inr (inl (record {
     fault = Memory;
     line_is = refl;
@@ -69,7 +67,7 @@ module _ {S : Type 0} (g : Ghosts S) (held : Held S) (key : List ℕ) (words : L
     left = λ disk command understood H shows. still-left (state g held) H (after_one H (desk_request key command)) shows;
   }))
 
-  pub says-not-understood : ((command : Command) → IsUnderstoodAs words command → ⊥) → Says g held held key words not_understood_line NotUnderstood
+  pub says-not-understood : ((command : Command) → IsUnderstoodAs words command → ⊥) → Says key words g held held not_understood_line NotUnderstood
   says-not-understood none = inr (inr (record { none = none; line_is = refl; exit_is = refl; same = refl }))
 
 -- the line went out whole, or a beginning of it

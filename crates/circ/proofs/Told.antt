@@ -2,9 +2,7 @@
 use Rattle.std.proofs.Common.{◌≡◌, ℕ, List, Option, inl, inr, refl, sym, subst}
 use Rattle.std.specs.Prelude.{Result, Ok, Err, OnOk, OnErr, IfOk, IsTrue}
 use Rattle.std.specs.Io.KnownBytes.{Appends, Keeps}
-use Rattle.sqlite_trees.specs.declared.store.Store.{Ghosts}
-use Rattle.sqlite.specs.Held.{Held, state}
-use Rattle.sqlite.specs.State.{HasCleanDisk}
+use Rattle.store.specs.Library.{Ghosts, Held, state, HasCleanDisk}
 use Rattle.terms.specs.Writing.{AppendsFront}
 use Rattle.terms.specs.declared.fault.Fault.{Fault}
 use Rattle.terms.specs.declared.refusal.Refusal.{Refusal}
@@ -17,20 +15,20 @@ use Rattle.circ.specs.declared.lines.Exit.{Exit}
 use Rattle.circ.specs.declared.lines.Exit.TheVariants.{Done, Refused, Faulted}
 use Rattle.circ.specs.Lines.{reply_line, fault_line}
 use Rattle.circ.proofs.Fronts.{after-nothing, front-after-nothing}
-use Rattle.circ.specs.Reporting.{report_text, IsThere, IsUnknown, IsSound, TellsOf}
+use Rattle.circ.specs.Reporting.{report_text, IsThere, IsUnknown, MayCome, TellsOf}
 
 module _ {S : Type 0} (g : Ghosts S) (old new : Held S) (report : Report) (WentOut : List ℕ → Type 0) where
   pub tells-report : (HasCleanDisk (state g new) → (H : History) → Shows (state g old) H → IsThere H report × WentOut (report_text H report) × Shows (state g new) H)
-      → TellsOf g old new report WentOut Done
-  tells-report told = inl (record { exit_is = refl; told = told })
+      → TellsOf report g old new WentOut Done
+  tells-report told = inl (record { exit_is = refl; shown = told })
 
   pub tells-unknown : (refusal : Refusal) → refusal ≡ UnknownBranch → (HasCleanDisk (state g new) → (H : History) → Shows (state g old) H → IsUnknown H report)
-      → (HasCleanDisk (state g new) → IsTrue (state g new).is_open → Stays (state g old) (state g new)) → WentOut (reply_line (Denied refusal)) → TellsOf g old new report WentOut Refused
+      → (HasCleanDisk (state g new) → IsTrue (state g new).is_open → Stays (state g old) (state g new)) → WentOut (reply_line (Denied refusal)) → TellsOf report g old new WentOut Refused
   tells-unknown refusal is unknown undone line =
       inr (inl (record { exit_is = refl; line = subst (λ (x : Refusal). WentOut (reply_line (Denied x))) is line; unknown = unknown; undone = undone }))
 
-  pub tells-fault : (fault : Fault) → (HasCleanDisk (state g new) → (H : History) → Shows (state g old) H → IsSound report fault)
-      → (HasCleanDisk (state g new) → IsTrue (state g new).is_open → Stays (state g old) (state g new)) → WentOut (fault_line fault) → TellsOf g old new report WentOut Faulted
+  pub tells-fault : (fault : Fault) → (HasCleanDisk (state g new) → (H : History) → Shows (state g old) H → MayCome report fault)
+      → (HasCleanDisk (state g new) → IsTrue (state g new).is_open → Stays (state g old) (state g new)) → WentOut (fault_line fault) → TellsOf report g old new WentOut Faulted
   tells-fault fault sound undone line = inr (inr (record { fault = fault; exit_is = refl; line = line; sound = sound; undone = undone }))
 
 -- the line went out whole, or a beginning of it, after nothing

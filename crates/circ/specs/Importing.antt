@@ -1,10 +1,10 @@
--- What is said to a copies file that is taken in: a line for each row, how the reading ended, and how many rows were
--- accepted and refused.
-use Rattle.std.specs.Prelude.{◌≡◌, ◌⊎◌, ◌≤◌, ◌<◌, ◌+◌, ◌==◌, ℕ, Bool, true, false, not, if◌then◌else◌, List, [], ◌∷◌, ◌++◌, length, filter, map, take, codes, decimal, IsTrue}
-use Rattle.sqlite_trees.specs.declared.store.Store.{Ghosts}
-use Rattle.sqlite.specs.Held.{Held, state}
-use Rattle.sqlite.specs.State.{HasCleanDisk}
+-- What is said to a copies file that is taken in: a line for each row, how the reading ended, and
+-- how many rows were accepted and refused.
+use Rattle.std.specs.Prelude.{◌≡◌, ◌⊎◌, ◌≤◌, ◌<◌, ◌+◌, ◌==◌, ℕ, Bool, true, false, not, if◌then◌else◌, List, [], ◌∷◌, ◌++◌, length, filter, map, take, Option, Some, None, Result, Ok, IfOk, OnErr, codes, decimal}
+use Rattle.std.specs.Io.KnownBytes.{Appends, Keeps}
+use Rattle.store.specs.Library.{Ghosts, Held, state, IsClean, IsOpen}
 use Rattle.terms.specs.Texts.{refusal_number}
+use Rattle.terms.specs.Writing.{AppendsFront}
 use Rattle.terms.specs.declared.command.Request.{Request}
 use Rattle.terms.specs.declared.fault.Fault.{Fault}
 use Rattle.terms.specs.declared.fault.Fault.TheVariants as fault
@@ -12,8 +12,9 @@ use Rattle.terms.specs.declared.reply.Reply.{Reply}
 use Rattle.terms.specs.declared.reply.Reply.TheVariants.{Refused as Denied}
 use Rattle.model.specs.History.{History}
 use Rattle.model.specs.Repeats.{row_request}
-use Rattle.model.specs.Requests.{reply_to, after_one, after, replies as replies_to}
-use Rattle.desk.specs.Answering.{Shows, LeavesOneOf}
+use Rattle.model.specs.Requests.{after_one, after, replies as replies_to}
+use Rattle.desk.specs.Answering.{Shows, Stays, LeavesOneOf, Handled}
+use Rattle.front.specs.Copies.{IsReading}
 use Rattle.front.specs.declared.copies.CopyRow.{CopyRow}
 use Rattle.front.specs.declared.copies.CopyEnd.{CopyEnd}
 use Rattle.front.specs.declared.copies.CopyEnd.TheVariants.{Whole, Bad, Read, Memory}
@@ -75,11 +76,13 @@ with_row counts _ = record { accepted = counts.accepted + 1; refused = counts.re
 
 -- The last line, by how many rows were accepted and refused.
 abbrev pub counts_line : ℕ → ℕ → List ℕ
-counts_line accepted refused = codes "accepted " ++ decimal accepted ++ codes " refused " ++ decimal refused ++ 10 ∷ []
+counts_line accepted refused =
+    codes "accepted " ++ decimal accepted ++ codes " refused " ++ decimal refused ++ 10 ∷ []
 
 -- All lines: those of the rows, the one of the end, if it has one, and the last.
 abbrev pub import_lines : List Reply → List ℕ → List ℕ
-import_lines replies end = row_lines 1 replies ++ (end ++ counts_line (accepted_in replies) (refused_in replies))
+import_lines replies end =
+    row_lines 1 replies ++ (end ++ counts_line (accepted_in replies) (refused_in replies))
 
 -- How the program ends after all rows, of which so many were refused.
 abbrev pub end_exit : CopyEnd → ℕ → Exit
@@ -90,47 +93,105 @@ end_exit Memory refused = Faulted
 
 -- ---- what is told
 
--- A row was handled. Where the tables showed a list of accepted requests, the reply is the one that this list gives to the
--- row's request, and the tables show the list after it.
-pub record HandlesOne {S : Type 0} (g : Ghosts S) (old new : Held S) (row : CopyRow) (reply : Reply) : Type 0 where
-  pub clean : HasCleanDisk (state g new) → HasCleanDisk (state g old)
-  pub handled : HasCleanDisk (state g new) → (H : History) → Shows (state g old) H → (reply ≡ reply_to H (request_of row)) × Shows (state g new) (after_one H (request_of row))
+-- A row was handled, and this is its reply: its request was handled by the desk.
+abbrev pub HandlesOne : {S : Type 0} → CopyRow → Ghosts S → Held S → Held S → Reply → Type 0
+HandlesOne row g old new reply = Handled (request_of row) g old new (Ok reply)
 
--- The rows were handled one after another. Where the tables showed a list of accepted requests, the replies are those
--- that this list gives to the rows' requests, and the tables show the list after these requests.
-pub record Handles {S : Type 0} (g : Ghosts S) (old new : Held S) (rows : List CopyRow) (replies : List Reply) : Type 0 where
+-- The rows were handled one after another. Where the tables showed a list of accepted requests, the
+-- replies are those that this list gives to the rows' requests, and the tables show the list after
+-- these requests.
+pub record HandlesRows {S : Type 0} (rows : List CopyRow)
+    (g : Ghosts S) (old new : Held S) (replies : List Reply) : Type 0 where
   pub many : length replies ≡ length rows
-  pub clean : HasCleanDisk (state g new) → HasCleanDisk (state g old)
-  pub handled : HasCleanDisk (state g new) → (H : History) → Shows (state g old) H → (replies ≡ replies_to H (requests_of rows)) × Shows (state g new) (after H (requests_of rows))
+  pub clean : IsClean g new → IsClean g old
+  pub replied : IsClean g new → (H : History) → Shows (state g old) H
+      → (replies ≡ replies_to H (requests_of rows))
+      × Shows (state g new) (after H (requests_of rows))
 
 -- The lines of all rows, of the end and of the counts went out.
-pub record ImportsAll {S : Type 0} (g : Ghosts S) (old new : Held S) (rows : List CopyRow) (end : CopyEnd) (WentOut : List ℕ → Type 0) (exit : Exit) : Type 0 where
+pub record ImportsAll {S : Type 0} (rows : List CopyRow) (end : CopyEnd)
+    (g : Ghosts S) (old new : Held S) (WentOut : List ℕ → Type 0) (exit : Exit) : Type 0 where
   pub replies : List Reply
-  pub handled : Handles g old new rows replies
+  pub handled : HandlesRows rows g old new replies
   pub lines : WentOut (import_lines replies (end_line end))
   pub exit_is : exit ≡ end_exit end (refused_in replies)
 
--- A fault came at a row: the lines of the rows before it, of the fault and of the counts went out. The tables show what they
--- showed after the rows before it, as long as the database is open; whatever may leave of them when the program is stopped
--- is that, or what they would show after that row too.
-pub record ImportsSome {S : Type 0} (g : Ghosts S) (old new : Held S) (rows : List CopyRow) (WentOut : List ℕ → Type 0) (exit : Exit) : Type 0 where
+-- A fault came at a row: the lines of the rows before it, of the fault and of the counts went out.
+-- The tables show what they showed after the rows before it, as long as the database is open;
+-- whatever may leave of them when the program is stopped is that, or what they would show after
+-- that row too.
+pub record ImportsSome {S : Type 0} (rows : List CopyRow)
+    (g : Ghosts S) (old new : Held S) (WentOut : List ℕ → Type 0) (exit : Exit) : Type 0 where
   pub replies : List Reply
   pub fault : Fault
   pub few : length replies < length rows
   pub lines : WentOut (import_lines replies (fault_line fault))
   pub exit_is : exit ≡ Faulted
-  pub handled : HasCleanDisk (state g new) → (H : History) → Shows (state g old) H → replies ≡ replies_to H (requests_of (take (length replies) rows))
-  pub undone : HasCleanDisk (state g new) → IsTrue (state g new).is_open → (H : History) → Shows (state g old) H → Shows (state g new) (after H (requests_of (take (length replies) rows)))
-  pub left : HasCleanDisk (state g new) → (H : History) → Shows (state g old) H
-      → LeavesOneOf (state g new) (after H (requests_of (take (length replies) rows))) (after H (requests_of (take (length replies + 1) rows)))
+  pub replied : IsClean g new → (H : History) → Shows (state g old) H
+      → replies ≡ replies_to H (requests_of (take (length replies) rows))
+  pub undone : IsClean g new → IsOpen g new → (H : History) → Shows (state g old) H
+      → Shows (state g new) (after H (requests_of (take (length replies) rows)))
+  pub left : IsClean g new → (H : History) → Shows (state g old) H
+      → LeavesOneOf (state g new) (after H (requests_of (take (length replies) rows)))
+      (after H (requests_of (take (length replies + 1) rows)))
 
 -- All rows are told, or those before a fault.
-abbrev pub ImportsOf : {S : Type 0} → Ghosts S → Held S → Held S → List CopyRow → CopyEnd → (List ℕ → Type 0) → Exit → Type 0
-ImportsOf g old new rows end WentOut exit = ImportsAll g old new rows end WentOut exit ⊎ ImportsSome g old new rows WentOut exit
+abbrev pub ImportsOf : {S : Type 0} → List CopyRow → CopyEnd → Ghosts S → Held S → Held S
+    → (List ℕ → Type 0) → Exit → Type 0
+ImportsOf rows end g old new WentOut exit = ImportsAll rows end g old new WentOut exit
+    ⊎ ImportsSome rows g old new WentOut exit
 
 -- A row's line could not be written. It is the last row that was handled.
-pub record ImportsCut {S : Type 0} (g : Ghosts S) (old new : Held S) (rows : List CopyRow) (WentOut : List ℕ → Type 0) : Type 0 where
+pub record ImportsCut {S : Type 0} (rows : List CopyRow)
+    (g : Ghosts S) (old new : Held S) (WentOut : List ℕ → Type 0) : Type 0 where
   pub replies : List Reply
   pub few : length replies ≤ length rows
-  pub handled : Handles g old new (take (length replies) rows) replies
+  pub handled : HandlesRows (take (length replies) rows) g old new replies
   pub lines : WentOut (row_lines 1 replies)
+
+-- ---- what is promised
+
+-- A row was handled, counted and told: `had` and `has` are the counts before and after. Or the desk
+-- met a fault.
+pub record ImportsRow {S E : Type 0} (row : CopyRow) (had has : Counts)
+    (g : Ghosts S) (old new : Held S) (before after : Option (List ℕ))
+    (result : Result (Option Fault) E) : Type 0 where
+  pub clean : IsClean g new → IsClean g old
+  -- with no fault the row has a reply, which is counted and whose line went out
+  pub done : result ≡ Ok None
+      → (reply : Reply) × HandlesOne row g old new reply × (has ≡ with_row had reply)
+      × Appends before after (row_line (had.accepted + had.refused + 1) reply)
+  -- at a fault of the desk nothing went out, and nothing was counted
+  pub silent : (fault : Fault) → result ≡ Ok (Some fault) → Keeps before after × (has ≡ had)
+  -- and the tables show what they showed, as long as the database is open
+  pub undone : (fault : Fault) → result ≡ Ok (Some fault) → IsClean g new → IsOpen g new
+      → Stays (state g old) (state g new)
+  -- a stop leaves what was there or what is there after the row
+  pub left : IsClean g new → (H : History) → Shows (state g old) H
+      → LeavesOneOf (state g new) H (after_one H (request_of row))
+  -- where a write failed, the row has a reply, and a beginning of its line went out
+  pub cut : OnErr result
+      ((reply : Reply) × HandlesOne row g old new reply
+      × AppendsFront before after (row_line (had.accepted + had.refused + 1) reply))
+
+-- The rows were handled one after another, and told, with the end and the counts.
+pub record ImportsRows {S E : Type 0} (rows : List CopyRow) (end : CopyEnd)
+    (g : Ghosts S) (old new : Held S) (before after : Option (List ℕ))
+    (result : Result Exit E) : Type 0 where
+  pub clean : IsClean g new → IsClean g old
+  -- what is to be told went out
+  pub written : IfOk result (ImportsOf rows end g old new (Appends before after))
+  -- where a write failed, a beginning of it went out, and no later row was handled
+  pub cut : OnErr result
+      (((exit : Exit) × ImportsOf rows end g old new (AppendsFront before after) exit)
+      ⊎ ImportsCut rows g old new (AppendsFront before after))
+
+-- A copies file was taken in: it was read as these rows, up to this end, and they were handled and
+-- told.
+pub record Imports {S E : Type 0} (bytes : Option (List ℕ))
+    (g : Ghosts S) (old new : Held S) (before after : Option (List ℕ))
+    (result : Result Exit E) : Type 0 where
+  pub rows : List CopyRow
+  pub end : CopyEnd
+  pub reading : IsReading bytes rows end
+  pub imports : ImportsRows rows end g old new before after result

@@ -1,8 +1,11 @@
 -- The lines that the programs write, each with its newline.
-use Rattle.std.specs.Prelude.{ℕ, List, [], ◌∷◌, ◌++◌, codes, decimal}
+use Rattle.std.specs.Prelude.{◌≡◌, ℕ, List, [], ◌∷◌, ◌++◌, Option, Result, IfOk, OnOk, OnErr, codes, decimal}
+use Rattle.std.specs.Io.KnownBytes.{Appends}
+use Rattle.terms.specs.Writing.{AppendsFront}
 use Rattle.terms.specs.declared.fault.Fault.{Fault}
 use Rattle.terms.specs.declared.reply.Reply.{Reply}
 use Rattle.terms.specs.Texts.{reply_text, fault_number}
+use Rattle.circ.specs.declared.lines.Exit.{Exit}
 
 -- A reply is told by its text.
 abbrev pub reply_line : Reply → List ℕ
@@ -15,3 +18,16 @@ fault_line fault = codes "fault " ++ decimal (fault_number fault) ++ 10 ∷ []
 -- That the words are no command.
 abbrev pub not_understood_line : List ℕ
 not_understood_line = codes "words not understood" ++ 10 ∷ []
+
+-- The bytes went out; where a write failed, a beginning of them.
+-- `before` and `after` are the bytes that the writer showed and shows.
+pub record Writes {T E : Type 0} (bytes : List ℕ) (before after : Option (List ℕ))
+    (result : Result T E) : Type 0 where
+  pub all : OnOk result (Appends before after bytes)
+  pub front : OnErr result (AppendsFront before after bytes)
+
+-- The line went out, or a beginning of it, and after the line the program ends so.
+pub record EndsWith {E : Type 0} (end : Exit) (line : List ℕ) (before after : Option (List ℕ))
+    (result : Result Exit E) : Type 0 where
+  pub exit_is : IfOk result (λ exit. exit ≡ end)
+  pub writes : Writes line before after result

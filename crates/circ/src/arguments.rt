@@ -17,7 +17,8 @@ pub enum Run<'a> {
         path: &'a str,
         copies: &'a str,
     },
-    /// `report FILE overdue B`, `report FILE till DAY`, `report FILE shelf B`: a report on the library in a file.
+    /// `report FILE overdue B`, `report FILE till DAY`, `report FILE shelf B`: a report on the
+    /// library in a file.
     Report {
         path: &'a str,
         report: Report,
@@ -86,7 +87,8 @@ fn read_report_run<'a>(words: &'a [String]) -> Option<Run<'a>> {
     })
 }
 
-/// What the words ask for; None where they are not understood. The words of a request themselves are read later.
+/// What the words ask for; None where they are not understood. The words of a request themselves
+/// are read later.
 pub fn read_run<'a>(alloc: Global, words: &'a [String]) -> Result<Option<Run<'a>>, Memory> {
     let [first, words @ ..] = words else {
         return Ok(None);

@@ -1,22 +1,12 @@
 //! Copies files: many copies that are acquired, a row each.
 
-ghost use Rattle.std.specs.Prelude.{◌≡◌, ◌⊎◌, ◌+◌, ◌<◌, ◌≤◌, ◌++◌, ℕ, List, [], ◌∷◌, length, Some, None, Ok, IfOk, OnOk, OnErr, IsTrue};
-ghost use Rattle.std.specs.Io.KnownBytes.{Appends, Keeps};
-ghost use Rattle.sqlite.specs.Held.{state};
-ghost use Rattle.sqlite.specs.State.{HasCleanDisk};
-ghost use Rattle.terms.specs.Writing.{AppendsFront};
-ghost use Rattle.terms.specs.declared.fault.Fault.{Fault as AnyFault};
-ghost use Rattle.terms.specs.declared.reply.Reply.{Reply as AnyReply};
-ghost use Rattle.model.specs.History.{History};
-ghost use Rattle.model.specs.Requests.{reply_to, after_one};
-ghost use Rattle.front.specs.Copies.{IsReading, most_rows};
-ghost use Rattle.front.specs.declared.copies.CopyRow.{CopyRow as Row};
-ghost use Rattle.front.specs.declared.copies.CopyEnd.{CopyEnd as End};
+ghost use Rattle.front.specs.declared.copies.TheConstants.{MOST_ROWS};
+ghost use Rattle.std.specs.Prelude.{◌≡◌, ◌+◌, ◌<◌, ◌≤◌, ◌++◌, [], length};
 ghost use Rattle.front.specs.declared.copies.CopyEnd.TheVariants.{Read as NotRead};
-ghost use Rattle.desk.specs.Answering.{Shows, Stays, LeavesOneOf};
-ghost use Rattle.circ.specs.Importing.{request_of, row_line, end_line, end_exit, counts_line, import_lines, with_row, HandlesOne, ImportsOf, ImportsCut};
-ghost use Rattle.circ.specs.Lines.{fault_line};
-ghost use Rattle.circ.specs.declared.lines.Exit.{Exit as ExitOf};
+ghost use Rattle.desk.specs.Answering.{Handled};
+ghost use Rattle.circ.specs.Importing.{request_of, row_line, end_line, end_exit, counts_line};
+ghost use Rattle.circ.specs.Importing.{import_lines, with_row, ImportsRow, ImportsRows, Imports};
+ghost use Rattle.circ.specs.Lines.{fault_line, Writes, EndsWith};
 
 use crate::lines::{Exit, WriteFault, tell_fault};
 use crate::writing::write_pieces;
@@ -43,7 +33,7 @@ const NO_ROWS: Counts = Counts {
 
 /// The counts with one row more.
 fn counted(counts: Counts, reply: &Reply) -> Counts
-    requires room { counts.accepted + counts.refused < most_rows }
+    requires room { counts.accepted + counts.refused < MOST_ROWS }
     ensures { result ≡ with_row counts reply.now }
 {
     match reply {
@@ -60,8 +50,8 @@ fn counted(counts: Counts, reply: &Reply) -> Counts
 
 /// Writes the line of a row. It takes no memory.
 fn write_row<W: Write>(writer: &mut W, number: u32, reply: &Reply) -> Result<(), WriteFault>
-    ensures all { OnOk result (Appends (W.contents writer.old) (W.contents writer.new) (row_line number reply.now)) }
-    ensures front { OnErr result (AppendsFront (W.contents writer.old) (W.contents writer.new) (row_line number reply.now)) }
+    ensures { Writes (row_line number reply.now)
+        (W.contents writer.old) (W.contents writer.new) result }
 {
     match reply {
         Reply::Refused(refusal) => write_pieces(
@@ -83,8 +73,7 @@ fn write_row<W: Write>(writer: &mut W, number: u32, reply: &Reply) -> Result<(),
 
 /// Writes the line of an end that isn't that of the last row. It takes no memory.
 fn write_end<W: Write>(writer: &mut W, end: CopyEnd) -> Result<(), WriteFault>
-    ensures all { OnOk result (Appends (W.contents writer.old) (W.contents writer.new) (end_line end)) }
-    ensures front { OnErr result (AppendsFront (W.contents writer.old) (W.contents writer.new) (end_line end)) }
+    ensures { Writes (end_line end) (W.contents writer.old) (W.contents writer.new) result }
 {
     match end {
         CopyEnd::Whole => write_bytes(writer, b""),
@@ -102,8 +91,8 @@ fn write_end<W: Write>(writer: &mut W, end: CopyEnd) -> Result<(), WriteFault>
 
 /// Writes the last line: how many rows were accepted, and how many refused. It takes no memory.
 fn write_counts<W: Write>(writer: &mut W, counts: Counts) -> Result<(), WriteFault>
-    ensures all { OnOk result (Appends (W.contents writer.old) (W.contents writer.new) (counts_line counts.accepted counts.refused)) }
-    ensures front { OnErr result (AppendsFront (W.contents writer.old) (W.contents writer.new) (counts_line counts.accepted counts.refused)) }
+    ensures { Writes (counts_line counts.accepted counts.refused)
+        (W.contents writer.old) (W.contents writer.new) result }
 {
     write_pieces(
         writer,
@@ -137,9 +126,9 @@ fn exit_at(end: CopyEnd, refused: u32) -> Exit
 
 /// Tells how the reading ended, and how many rows were accepted and refused. It takes no memory.
 fn tell_end<W: Write>(writer: &mut W, end: CopyEnd, counts: Counts) -> Result<Exit, WriteFault>
-    ensures exit { IfOk result (λ exit. exit ≡ end_exit end counts.refused) }
-    ensures all { OnOk result (Appends (W.contents writer.old) (W.contents writer.new) (end_line end ++ counts_line counts.accepted counts.refused)) }
-    ensures front { OnErr result (AppendsFront (W.contents writer.old) (W.contents writer.new) (end_line end ++ counts_line counts.accepted counts.refused)) }
+    ensures { EndsWith (end_exit end counts.refused)
+        (end_line end ++ counts_line counts.accepted counts.refused)
+        (W.contents writer.old) (W.contents writer.new) result }
 {
     write_end(writer, end)?;
     write_counts(writer, counts)?;
@@ -148,9 +137,8 @@ fn tell_end<W: Write>(writer: &mut W, end: CopyEnd, counts: Counts) -> Result<Ex
 
 /// Tells a fault, and how many rows were accepted and refused before it. It takes no memory.
 fn tell_stop<W: Write>(writer: &mut W, fault: Fault, counts: Counts) -> Result<Exit, WriteFault>
-    ensures exit { IfOk result (λ exit. exit ≡ Exit.Faulted) }
-    ensures all { OnOk result (Appends (W.contents writer.old) (W.contents writer.new) (fault_line fault ++ counts_line counts.accepted counts.refused)) }
-    ensures front { OnErr result (AppendsFront (W.contents writer.old) (W.contents writer.new) (fault_line fault ++ counts_line counts.accepted counts.refused)) }
+    ensures { EndsWith Exit.Faulted (fault_line fault ++ counts_line counts.accepted counts.refused)
+        (W.contents writer.old) (W.contents writer.new) result }
 {
     tell_fault(writer, fault)?;
     write_counts(writer, counts)?;
@@ -159,10 +147,7 @@ fn tell_stop<W: Write>(writer: &mut W, fault: Fault, counts: Counts) -> Result<E
 
 /// The reply to the request of a row. 90, 91 or 93 in its place.
 fn handle_row<S: Alter>(desk: &mut Desk<S>, alloc: Global, row: CopyRow) -> Result<Reply, Fault>
-    ensures clean { HasCleanDisk (state S.Store desk.new) → HasCleanDisk (state S.Store desk.old) }
-    ensures replied { IfOk result (HandlesOne S.Store desk.old desk.new row) }
-    ensures undone { HasCleanDisk (state S.Store desk.new) → IsTrue (state S.Store desk.new).is_open → OnErr result (Stays (state S.Store desk.old) (state S.Store desk.new)) }
-    ensures left { HasCleanDisk (state S.Store desk.new) → (H : History) → Shows (state S.Store desk.old) H → LeavesOneOf (state S.Store desk.new) H (after_one H (request_of row)) }
+    ensures { Handled (request_of row) S.Store desk.old desk.new result }
 {
     let command = Command::from(row);
     let key = Key::of_row(alloc, &command)?;
@@ -174,8 +159,8 @@ fn handle_row<S: Alter>(desk: &mut Desk<S>, alloc: Global, row: CopyRow) -> Resu
     desk.handle(alloc, &request)
 }
 
-/// Handles a row, counts it and writes its line. It takes no memory between the two. Where the desk met a fault, the
-/// fault is given back, and nothing is written or counted.
+/// Handles a row, counts it and writes its line. It takes no memory between the two. Where the desk
+/// met a fault, the fault is given back, and nothing is written or counted.
 fn import_row<S: Alter, W: Write>(
     desk: &mut Desk<S>,
     alloc: Global,
@@ -183,15 +168,9 @@ fn import_row<S: Alter, W: Write>(
     counts: &mut Counts,
     writer: &mut W,
 ) -> Result<Option<Fault>, WriteFault>
-    requires room { counts.old.accepted + counts.old.refused < most_rows }
-    ensures clean { HasCleanDisk (state S.Store desk.new) → HasCleanDisk (state S.Store desk.old) }
-    ensures done { result ≡ Ok None → (reply : AnyReply) × HandlesOne S.Store desk.old desk.new row reply × (counts.new ≡ with_row counts.old reply)
-        × Appends (W.contents writer.old) (W.contents writer.new) (row_line (counts.old.accepted + counts.old.refused + 1) reply) }
-    ensures fault { (fault : AnyFault) → result ≡ Ok (Some fault) → Keeps (W.contents writer.old) (W.contents writer.new) × (counts.new ≡ counts.old) }
-    ensures undone { (fault : AnyFault) → result ≡ Ok (Some fault) → HasCleanDisk (state S.Store desk.new) → IsTrue (state S.Store desk.new).is_open → Stays (state S.Store desk.old) (state S.Store desk.new) }
-    ensures left { HasCleanDisk (state S.Store desk.new) → (H : History) → Shows (state S.Store desk.old) H → LeavesOneOf (state S.Store desk.new) H (after_one H (request_of row)) }
-    ensures cut { OnErr result ((reply : AnyReply) × HandlesOne S.Store desk.old desk.new row reply
-        × AppendsFront (W.contents writer.old) (W.contents writer.new) (row_line (counts.old.accepted + counts.old.refused + 1) reply)) }
+    requires room { counts.old.accepted + counts.old.refused < MOST_ROWS }
+    ensures { ImportsRow row counts.old counts.new S.Store desk.old desk.new
+        (W.contents writer.old) (W.contents writer.new) result }
 {
     match handle_row(desk, alloc, row) {
         Ok(reply) => {
@@ -212,11 +191,9 @@ fn import_rows<S: Alter, W: Write>(
     end: CopyEnd,
     writer: &mut W,
 ) -> Result<Exit, WriteFault>
-    requires few { length rows.items ≤ most_rows }
-    ensures clean { HasCleanDisk (state S.Store desk.new) → HasCleanDisk (state S.Store desk.old) }
-    ensures wrote { IfOk result (λ exit. ImportsOf S.Store desk.old desk.new rows.items end (Appends (W.contents writer.old) (W.contents writer.new)) exit) }
-    ensures cut { OnErr result (((exit : ExitOf) × ImportsOf S.Store desk.old desk.new rows.items end (AppendsFront (W.contents writer.old) (W.contents writer.new)) exit)
-        ⊎ ImportsCut S.Store desk.old desk.new rows.items (AppendsFront (W.contents writer.old) (W.contents writer.new))) }
+    requires few { length rows.items ≤ MOST_ROWS }
+    ensures { ImportsRows rows.items end S.Store desk.old desk.new
+        (W.contents writer.old) (W.contents writer.new) result }
 {
     let mut counts = NO_ROWS;
     'rows: for row in rows {
@@ -227,35 +204,32 @@ fn import_rows<S: Alter, W: Write>(
     tell_end(writer, end, counts)
 }
 
-/// Takes in a copies file: reads it, and then handles the rows before its end, whatever that is, one after another. Each
-/// row is a request of the desk with its own text as key, so that a file that is taken in again acts once. Its line goes
-/// out once it is handled: `row N ok` or `row N refused M`; then `row N bad`, `fault reading` or `fault N` where the
-/// reading ended so, or `fault N` at once where the desk met one; last how many rows were accepted and refused.
+/// Takes in a copies file: reads it, and then handles the rows before its end, whatever that is,
+/// one after another. Each row is a request of the desk with its own text as key, so that a file
+/// that is taken in again acts once. Its line goes out once it is handled: `row N ok` or
+/// `row N refused M`; then `row N bad`, `fault reading` or `fault N` where the reading ended so, or
+/// `fault N` at once where the desk met one; last how many rows were accepted and refused.
 ///
-/// What goes out, the end and what the tables show are said in `specs/Importing`. Where a write fails, a beginning of
-/// that went out, and no later row was handled.
+/// What goes out, the end and what the tables show are said in `specs/Importing`. Where a write
+/// fails, a beginning of that went out, and no later row was handled.
 pub fn import<S: Alter, R: Read + Drop, W: Write>(
     desk: &mut Desk<S>,
     alloc: Global,
     reader: R,
     writer: &mut W,
 ) -> Result<Exit, WriteFault>
-    ensures clean { HasCleanDisk (state S.Store desk.new) → HasCleanDisk (state S.Store desk.old) }
-    ensures wrote { IfOk result (λ exit. (rows : List Row) × (end : End) × IsReading (R.remaining reader) rows end
-        × ImportsOf S.Store desk.old desk.new rows end (Appends (W.contents writer.old) (W.contents writer.new)) exit) }
-    ensures cut { OnErr result ((rows : List Row) × (end : End) × IsReading (R.remaining reader) rows end
-        × (((exit : ExitOf) × ImportsOf S.Store desk.old desk.new rows end (AppendsFront (W.contents writer.old) (W.contents writer.new)) exit)
-        ⊎ ImportsCut S.Store desk.old desk.new rows (AppendsFront (W.contents writer.old) (W.contents writer.new)))) }
+    ensures { Imports (R.remaining reader) S.Store desk.old desk.new
+        (W.contents writer.old) (W.contents writer.new) result }
 {
     let (rows, end) = read_copies(alloc, reader);
     import_rows(desk, alloc, rows, end, writer)
 }
 
-/// Tells of a copies file that can't be opened: it is one whose reading fails at once. It takes no memory.
+/// Tells of a copies file that can't be opened: it is one whose reading fails at once. It takes no
+/// memory.
 pub fn unreadable<W: Write>(writer: &mut W) -> Result<Exit, WriteFault>
-    ensures exit { IfOk result (λ exit. exit ≡ Exit.Faulted) }
-    ensures all { OnOk result (Appends (W.contents writer.old) (W.contents writer.new) (import_lines [] (end_line NotRead))) }
-    ensures front { OnErr result (AppendsFront (W.contents writer.old) (W.contents writer.new) (import_lines [] (end_line NotRead))) }
+    ensures { EndsWith Exit.Faulted (import_lines [] (end_line NotRead))
+        (W.contents writer.old) (W.contents writer.new) result }
 {
     tell_end(writer, CopyEnd::Read, NO_ROWS)
 }

@@ -1,4 +1,4 @@
-//! What the programs run: words in, lines out.
+//! What the programs run: words or copies files in, lines out.
 #![tactic(auto)]
 
 mod arguments;

@@ -1,11 +1,9 @@
 //! The lines that the programs write, and the statuses that they end with.
 
-ghost use Rattle.std.specs.Prelude.{◌≡◌, IfOk, OnOk, OnErr};
-ghost use Rattle.std.specs.Io.KnownBytes.{Appends};
-ghost use Rattle.terms.specs.Writing.{AppendsFront};
+ghost use Rattle.std.specs.Prelude.{◌≡◌};
 ghost use Rattle.terms.specs.declared.fault.Fault.TheVariants.{Memory};
 ghost use Rattle.circ.specs.Exits.{status_of, exit_of};
-ghost use Rattle.circ.specs.Lines.{reply_line, fault_line, not_understood_line};
+ghost use Rattle.circ.specs.Lines.{reply_line, fault_line, not_understood_line, EndsWith};
 
 use crate::writing::{write_pieces, write_reply};
 use itoa::Buffer;
@@ -42,9 +40,8 @@ impl Exit {
 
 /// Says that the words were not understood. It takes no memory.
 pub fn not_understood<W: Write>(writer: &mut W) -> Result<Exit, WriteFault>
-    ensures exit { IfOk result (λ exit. exit ≡ Exit.NotUnderstood) }
-    ensures all { OnOk result (Appends (W.contents writer.old) (W.contents writer.new) not_understood_line) }
-    ensures front { OnErr result (AppendsFront (W.contents writer.old) (W.contents writer.new) not_understood_line) }
+    ensures { EndsWith Exit.NotUnderstood not_understood_line
+        (W.contents writer.old) (W.contents writer.new) result }
 {
     write_bytes(writer, b"words not understood\n")?;
     Ok(Exit::NotUnderstood)
@@ -52,9 +49,8 @@ pub fn not_understood<W: Write>(writer: &mut W) -> Result<Exit, WriteFault>
 
 /// Tells a fault by its number. It takes no memory.
 pub fn tell_fault<W: Write>(writer: &mut W, fault: Fault) -> Result<Exit, WriteFault>
-    ensures exit { IfOk result (λ exit. exit ≡ Exit.Faulted) }
-    ensures all { OnOk result (Appends (W.contents writer.old) (W.contents writer.new) (fault_line fault)) }
-    ensures front { OnErr result (AppendsFront (W.contents writer.old) (W.contents writer.new) (fault_line fault)) }
+    ensures { EndsWith Exit.Faulted (fault_line fault)
+        (W.contents writer.old) (W.contents writer.new) result }
 {
     write_pieces(
         writer,
@@ -69,18 +65,16 @@ pub fn tell_fault<W: Write>(writer: &mut W, fault: Fault) -> Result<Exit, WriteF
 
 /// Says that no memory was left: fault 90. It takes none.
 pub fn out_of_memory<W: Write>(writer: &mut W) -> Result<Exit, WriteFault>
-    ensures exit { IfOk result (λ exit. exit ≡ Exit.Faulted) }
-    ensures all { OnOk result (Appends (W.contents writer.old) (W.contents writer.new) (fault_line Memory)) }
-    ensures front { OnErr result (AppendsFront (W.contents writer.old) (W.contents writer.new) (fault_line Memory)) }
+    ensures { EndsWith Exit.Faulted (fault_line Memory)
+        (W.contents writer.old) (W.contents writer.new) result }
 {
     tell_fault(writer, Fault::Memory)
 }
 
 /// Tells a reply by its text. It takes no memory.
 pub(crate) fn tell_reply<W: Write>(writer: &mut W, reply: &Reply) -> Result<Exit, WriteFault>
-    ensures exit { IfOk result (λ exit. exit ≡ exit_of reply.now) }
-    ensures all { OnOk result (Appends (W.contents writer.old) (W.contents writer.new) (reply_line reply.now)) }
-    ensures front { OnErr result (AppendsFront (W.contents writer.old) (W.contents writer.new) (reply_line reply.now)) }
+    ensures { EndsWith (exit_of reply.now) (reply_line reply.now)
+        (W.contents writer.old) (W.contents writer.new) result }
 {
     write_reply(writer, reply)?;
     write_bytes(writer, b"\n")?;

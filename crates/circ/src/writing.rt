@@ -1,12 +1,11 @@
 //! Lines on their way out, piece by piece. Nothing here takes memory.
 
-ghost use Rattle.std.specs.Prelude.{◌≡◌, ◌++◌, decimal, OnOk, OnErr};
+ghost use Rattle.std.specs.Prelude.{◌++◌, decimal};
 ghost use Rattle.std.specs.List.{join_with_byte};
-ghost use Rattle.std.specs.Io.KnownBytes.{Appends};
-ghost use Rattle.terms.specs.Texts.{routed_words, reply_text, reply_words};
-ghost use Rattle.terms.specs.Writing.{AppendsFront};
+ghost use Rattle.terms.specs.Texts.{routed_words, reply_text};
 ghost use Rattle.terms.specs.declared.reply.Reply.TheVariants.{CheckedIn};
 ghost use Rattle.circ.specs.Pieces.{joined};
+ghost use Rattle.circ.specs.Lines.{Writes};
 
 use itoa::Buffer;
 use std::io::Write;
@@ -14,8 +13,7 @@ use terms::{Cents, Reply, Routed, WriteFault, write_bytes};
 
 /// Writes the pieces one after another. Where a write fails, a beginning of them went out.
 pub(crate) fn write_pieces<W: Write>(writer: &mut W, pieces: &[&[u8]]) -> Result<(), WriteFault>
-    ensures all { OnOk result (Appends (W.contents writer.old) (W.contents writer.new) (joined pieces.now)) }
-    ensures front { OnErr result (AppendsFront (W.contents writer.old) (W.contents writer.new) (joined pieces.now)) }
+    ensures { Writes (joined pieces.now) (W.contents writer.old) (W.contents writer.new) result }
 {
     for piece in pieces {
         write_bytes(writer, piece)?;
@@ -25,8 +23,8 @@ pub(crate) fn write_pieces<W: Write>(writer: &mut W, pieces: &[&[u8]]) -> Result
 
 /// Writes the bytes and a number.
 fn write_number<W: Write>(writer: &mut W, before: &[u8], number: u64) -> Result<(), WriteFault>
-    ensures all { OnOk result (Appends (W.contents writer.old) (W.contents writer.new) (before.now ++ decimal number)) }
-    ensures front { OnErr result (AppendsFront (W.contents writer.old) (W.contents writer.new) (before.now ++ decimal number)) }
+    ensures { Writes (before.now ++ decimal number)
+        (W.contents writer.old) (W.contents writer.new) result }
 {
     write_pieces(writer, &[before, Buffer::new().format(number).as_bytes()])
 }
@@ -34,8 +32,8 @@ fn write_number<W: Write>(writer: &mut W, before: &[u8], number: u64) -> Result<
 /// Writes where a copy goes.
 #[tactic(auto, unfolding(terms::specs::Texts::routed_words))]
 fn write_routed<W: Write>(writer: &mut W, routed: &Routed) -> Result<(), WriteFault>
-    ensures all { OnOk result (Appends (W.contents writer.old) (W.contents writer.new) (join_with_byte 32 (routed_words routed.now))) }
-    ensures front { OnErr result (AppendsFront (W.contents writer.old) (W.contents writer.new) (join_with_byte 32 (routed_words routed.now))) }
+    ensures { Writes (join_with_byte 32 (routed_words routed.now))
+        (W.contents writer.old) (W.contents writer.new) result }
 {
     match routed {
         Routed::Shelf { branch } => write_number(writer, b"shelf ", u64::from(branch.number())),
@@ -78,8 +76,8 @@ fn write_checked_in<W: Write>(
     fine: Cents,
     routed: &Routed,
 ) -> Result<(), WriteFault>
-    ensures all { OnOk result (Appends (W.contents writer.old) (W.contents writer.new) (reply_text (CheckedIn fine routed.now))) }
-    ensures front { OnErr result (AppendsFront (W.contents writer.old) (W.contents writer.new) (reply_text (CheckedIn fine routed.now))) }
+    ensures { Writes (reply_text (CheckedIn fine routed.now))
+        (W.contents writer.old) (W.contents writer.new) result }
 {
     write_pieces(
         writer,
@@ -95,8 +93,7 @@ fn write_checked_in<W: Write>(
 /// Writes the text of a reply.
 #[tactic(auto, unfolding(terms::specs::Texts::reply_text, terms::specs::Texts::reply_words))]
 pub(crate) fn write_reply<W: Write>(writer: &mut W, reply: &Reply) -> Result<(), WriteFault>
-    ensures all { OnOk result (Appends (W.contents writer.old) (W.contents writer.new) (reply_text reply.now)) }
-    ensures front { OnErr result (AppendsFront (W.contents writer.old) (W.contents writer.new) (reply_text reply.now)) }
+    ensures { Writes (reply_text reply.now) (W.contents writer.old) (W.contents writer.new) result }
 {
     match reply {
         Reply::Done => write_bytes(writer, b"ok"),

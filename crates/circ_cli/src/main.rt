@@ -1,18 +1,19 @@
 //! The program `circ`: the circulation desk of a town library, by words.
 #![tactic(auto)]
 
-use circ::{
-    Exit, Report, Run, WriteFault, import, not_understood, one, out_of_memory, read_run, report,
-    tell_fault, unreadable,
+mod calls;
+
+use calls::{
+    FileDesk, close, create, import, not_understood, one, open, out_of_memory, report, tell_fault,
+    unreadable,
 };
-use desk::Desk;
-use sqlite::{FileFrom, FileStore, Start, Wary};
+use circ::{Exit, Report, Run, WriteFault, read_run};
+use sqlite::{Start, Wary};
 use std::alloc::Global;
 use std::fs::File;
 use std::io::{BufWriter, ErrorKind, Write};
 use std::process::ExitCode;
 use std::{env, fs, io};
-use store::Store;
 use terms::{Fault, Key};
 
 /// Whether there is no file yet, or one with no bytes.
@@ -24,43 +25,35 @@ fn is_new(rt: &HostRuntime, path: &str) -> bool {
 }
 
 /// The library in the file; a new one where there is no file, or one with no bytes.
-fn open<S: Start>(
-    rt: &HostRuntime,
-    path: &str,
-    start: S,
-) -> Result<Desk<FileStore<FileFrom<S>>>, Fault> {
+fn open_or_create<S: Start>(rt: &HostRuntime, path: &str, start: S) -> Result<FileDesk<S>, Fault> {
     if is_new(rt, path) {
-        Desk::new(Store::create_from(rt, path, start)?)
+        create(rt, path, start)
     } else {
-        Desk::new(Store::open_from(rt, path, start)?)
+        open(rt, path, start)
     }
 }
 
 /// The library in the file. Where there is no file, or one with no bytes, there is no library: 93, and no file is made.
-fn find<S: Start>(
-    rt: &HostRuntime,
-    path: &str,
-    start: S,
-) -> Result<Desk<FileStore<FileFrom<S>>>, Fault> {
+fn find<S: Start>(rt: &HostRuntime, path: &str, start: S) -> Result<FileDesk<S>, Fault> {
     if is_new(rt, path) {
         return Err(Fault::Stored);
     }
-    Desk::new(Store::open_from(rt, path, start)?)
+    open(rt, path, start)
 }
 
-/// One request on the library in the file. At the end the database's log is copied into the file, so that the file
-/// alone is the library; where that fails, the log stays beside it and nothing is lost.
-fn file<W: Write>(
+/// One request on the library in the file.
+fn file<S: Start, W: Write>(
     rt: &HostRuntime,
+    start: S,
     path: &str,
     key: Key,
     words: &[String],
     writer: &mut W,
 ) -> Result<Exit, WriteFault> {
-    match open(rt, path, Wary) {
+    match open_or_create(rt, path, start) {
         Ok(mut desk) => {
             let told = one(&mut desk, rt.alloc(), key, words, writer);
-            let _ = desk.into_store().into_connection().close();
+            close(desk);
             told
         }
         Err(fault) => tell_fault(writer, fault),
@@ -68,19 +61,20 @@ fn file<W: Write>(
 }
 
 /// Takes a copies file into the library in the file.
-fn import_into<W: Write>(
+fn import_into<S: Start, W: Write>(
     rt: &HostRuntime,
+    start: S,
     path: &str,
     copies: &str,
     writer: &mut W,
 ) -> Result<Exit, WriteFault> {
-    match open(rt, path, Wary) {
+    match open_or_create(rt, path, start) {
         Ok(mut desk) => {
             let told = match File::open(rt, copies) {
                 Ok(file) => import(&mut desk, rt.alloc(), file, writer),
                 Err(_) => unreadable(writer),
             };
-            let _ = desk.into_store().into_connection().close();
+            close(desk);
             told
         }
         Err(fault) => tell_fault(writer, fault),
@@ -88,16 +82,17 @@ fn import_into<W: Write>(
 }
 
 /// A report on the library in the file.
-fn report_on<W: Write>(
+fn report_on<S: Start, W: Write>(
     rt: &HostRuntime,
+    start: S,
     path: &str,
     wanted: &Report,
     writer: &mut W,
 ) -> Result<Exit, WriteFault> {
-    match find(rt, path, Wary) {
+    match find(rt, path, start) {
         Ok(mut desk) => {
             let told = report(&mut desk, rt.alloc(), wanted, writer);
-            let _ = desk.into_store().into_connection().close();
+            close(desk);
             told
         }
         Err(fault) => tell_fault(writer, fault),
@@ -120,18 +115,19 @@ fn words_of(rt: &HostRuntime) -> Result<Vec<String>, Fault> {
 }
 
 /// Does what the words ask for, and writes its lines: those of a copies file at once, so that what was told was done.
-fn answer<W: Write>(
+fn answer<S: Start, W: Write>(
     rt: &HostRuntime,
+    start: S,
     alloc: Global,
     words: &[String],
     writer: &mut W,
 ) -> Result<Exit, WriteFault> {
     match read_run(alloc, words) {
-        Ok(Some(Run::File { path, key, words })) => file(rt, path, key, words, writer),
+        Ok(Some(Run::File { path, key, words })) => file(rt, start, path, key, words, writer),
         Ok(Some(Run::Import { path, copies })) => {
-            import_into(rt, path, copies, &mut io::writer(rt))
+            import_into(rt, start, path, copies, &mut io::writer(rt))
         }
-        Ok(Some(Run::Report { path, report })) => report_on(rt, path, &report, writer),
+        Ok(Some(Run::Report { path, report })) => report_on(rt, start, path, &report, writer),
         Ok(None) => not_understood(writer),
         Err(_) => out_of_memory(writer),
     }
@@ -144,7 +140,7 @@ fn run(rt: &HostRuntime) -> Result<Exit, WriteFault> {
         Err(_) => return out_of_memory(&mut io::writer(rt)),
     };
     let exit = match words_of(rt) {
-        Ok(words) => answer(rt, rt.alloc(), &words, &mut writer)?,
+        Ok(words) => answer(rt, Wary, rt.alloc(), &words, &mut writer)?,
         Err(fault) => tell_fault(&mut writer, fault)?,
     };
     match writer.flush() {

@@ -1,4 +1,5 @@
 -- Payments, waivers and the page meet the history.
+use Rattle.terms.specs.declared.limits.TheConstants.{LAST_NUMBER}
 use Rattle.std.proofs.Common.{◌≡◌, ℕ, zero, suc, ◌+◌, ◌-◌, ◌==◌, Bool, true, false, cond, not, ◌||◌, List, [], ◌∷◌, ◌++◌, length, refl, sym, ◌∙◌, ap, subst, arith}
 use Rattle.std.specs.Prelude.{Option, Some, None, option_map, is_none, filter, nat_lt}
 use Rattle.std.proofs.lemmas.Bool.{eqb-true, eq-eqb, or_parts}
@@ -12,7 +13,6 @@ use Rattle.terms.specs.declared.command.Command.TheVariants.{Pay, Waive, Page}
 use Rattle.terms.specs.declared.command.Owner.TheVariants.{Desk}
 use Rattle.terms.specs.declared.reply.Reply.TheVariants.{Done, Owed}
 use Rattle.terms.specs.Pictures.{put}
-use Rattle.model.specs.Checks.{last_number}
 use Rattle.model.specs.History.{History, today, PatronFacts, patron_of}
 use Rattle.model.specs.Accounts.{Line, lines, next_line, account, charge, credit, charges, credits, owed}
 use Rattle.model.specs.Refusals.{checks, has_patron}
@@ -127,7 +127,7 @@ module _ (H : History) (p : ℕ) (rows : AccountView) (w : IsAccountView (pictur
       refl,
       (ap (λ x. (n == 0) || nat_lt x n) (owed_same p11)),
       λ _.
-          (refl, (ap (λ m. nat_lt last_number m.next_line) w.meta), λ _. tt),
+          (refl, (ap (λ m. nat_lt LAST_NUMBER m.next_line) w.meta), λ _. tt),
     ),
   )
 

@@ -1,4 +1,5 @@
 -- The commands on single closed days meet the history.
+use Rattle.calendar.specs.declared.limits.TheConstants.{MOST_CLOSED_DAYS}
 use Rattle.std.proofs.Common.{◌≡◌, ℕ, ◌==◌, Bool, true, false, cond, not, ◌&&◌, ◌||◌, List, [], ◌∷◌, length, refl, sym, ◌∙◌, ap}
 use Rattle.std.specs.Prelude.{Option, Some, None, filter, nat_le, IfSome}
 use Rattle.std.specs.List.{list_any, IsDistinct, AllByRecursion}
@@ -11,7 +12,6 @@ use Rattle.terms.specs.declared.reply.Reply.TheVariants.{Done}
 use Rattle.terms.specs.Pictures.{put_pair}
 use Rattle.model.specs.Invariant.{Invariant}
 use Rattle.model.specs.Calendar.{is_single}
-use Rattle.model.specs.Checks.{max_singles}
 use Rattle.model.specs.History.{History, singles_of}
 use Rattle.model.specs.Refusals.{has_branch}
 use Rattle.model.specs.Picture.{picture}
@@ -68,8 +68,8 @@ module _ (H : History) (inv : Invariant H) (b d : ℕ) (rows : ClosedDayView) (w
   closed_same None x there = let no_branch : not (has_branch H b) ≡ true = sym (calendar_there H b None x) in let never : ⊥ = cc in absurd never
 
   full_same : (o : Option Closings) → IsCalendarOf (picture H) b o → IfSome o (λ closings. has_repeat closings.single ≡ false) → not (has_branch H b) ≡ false
-      → has_all_days o ≡ nat_le max_singles (length (singles_of H b))
-  full_same (Some closings) x once there = ap (nat_le max_singles)
+      → has_all_days o ≡ nat_le MOST_CLOSED_DAYS (length (singles_of H b))
+  full_same (Some closings) x once there = ap (nat_le MOST_CLOSED_DAYS)
       (length-from_same_keys nat_eq_equiv closings.single (singles_of H b) (distinct closings.single once) (inv.singles_once b)
       (λ q. same_any q closings.single ∙ x.single q ∙ sym (same_any q (singles_of H b))))
   full_same None x once there = let no_branch : not (has_branch H b) ≡ true = sym (calendar_there H b None x) in let never : ⊥ = cc in absurd never

@@ -1,4 +1,5 @@
 -- The end of a copy's loan, with its fine, meets the history.
+use Rattle.terms.specs.declared.limits.TheConstants.{LAST_NUMBER}
 use Rattle.std.proofs.Common.{◌≡◌, ℕ, zero, suc, ◌+◌, ◌*◌, ◌≤◌, ◌<◌, ◌==◌, nat_lt, ◌⊎◌, inl, inr, Bool, true, false, cond, List, [], ◌++◌, length, refl, sym, ◌∙◌, ap, subst, arith}
 use Rattle.std.specs.Prelude.{Option, Some, None, option_map, unwrap_or, is_none, min}
 use Rattle.std.specs.Option.{option_or}
@@ -10,7 +11,6 @@ use Rattle.terms.specs.declared.row.LoanRow.{LoanRow}
 use Rattle.terms.specs.declared.row.Sort.{Sort}
 use Rattle.terms.specs.declared.row.Sort.TheVariants.{Fine, Price}
 use Rattle.terms.specs.Pictures.{Picture, put}
-use Rattle.model.specs.Checks.{last_number}
 use Rattle.model.specs.Calendar.{late}
 use Rattle.model.specs.History.{History, today, is_open, branch_of, PatronFacts, patron_of}
 use Rattle.model.specs.Places.{Place, Loan, place}
@@ -164,7 +164,7 @@ lt-suc a b c e = go (cases_lt a c)
 
 -- The numbers that are left suffice on the rows as they do in the history.
 pub lacks_same : (H : History) (fine price : ℕ) (xs : List Line) → length xs ≡ lines_for fine + lines_for price → lacks_numbers (meta_row H) fine price ≡ lacks_lines H (length xs)
-lacks_same H fine price xs e = lt-suc last_number (next_line H + lines_for fine + lines_for price) (length (lines H) + length xs) (omega (arith, e))
+lacks_same H fine price xs e = lt-suc LAST_NUMBER (next_line H + lines_for fine + lines_for price) (length (lines H) + length xs) (omega (arith, e))
 
 module _ (H : History) (legal : IsLegal H) (inv : Invariant H) (c : ℕ) (q : LoanRow) (l : IsLent H c q) where
   pub fine_line-is : fine_line H (place H c) ≡ line_of H q.patron Fine (Some q.loan) (fine_now H q.loan)

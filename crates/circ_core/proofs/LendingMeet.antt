@@ -1,4 +1,5 @@
 -- Check-out meets the history.
+use Rattle.terms.specs.declared.limits.TheConstants.{LAST_NUMBER}
 use Rattle.std.proofs.Common.{◌≡◌, ℕ, ◌+◌, ◌-◌, ◌≤◌, ◌<◌, ◌==◌, nat_lt, nat_le, Bool, true, false, cond, not, ◌⊎◌, inl, inr, List, [], ◌∷◌, refl, sym, ◌∙◌, ap, subst, arith}
 use Rattle.std.specs.Prelude.{Option, Some, None, option_map, option_and_then, unwrap_or, is_none, find, Result, Ok, Err}
 use Rattle.std.proofs.lemmas.Bool.{eqb-true, cases_lt, lt-ltb, le-ltb, le-leb, lt-leb}
@@ -37,7 +38,7 @@ use Rattle.model.specs.History.{History, today, is_open, Terms, rule_of, PatronF
 use Rattle.model.specs.Places.{Place, Nowhere, Shelf, HoldShelf, Transit, Loan, MissingCopy, WithdrawnCopy, place, state, fills, fills_from, is_kept_for, kept_for, limit, title_of_copy}
 use Rattle.model.specs.Loans.{LoanFacts, loan_of, terms_for, no_terms, first_due, due, renewals, ended}
 use Rattle.model.specs.Accounts.{owed}
-use Rattle.model.specs.Checks.{Check, last_number}
+use Rattle.model.specs.Checks.{Check}
 use Rattle.model.specs.Refusals.{checks, refusal, has_branch, is_withdrawn, is_missing, is_on_loan, is_in_transit, has_other_hold, kind_now}
 use Rattle.model.specs.Picture.{picture, meta_row, rule_row, loan_row, hold_row, transit_at, condition_at, if_ready, rule_columns, patron_columns, copy_columns, hold_columns}
 use Rattle.model.proofs.Passing.{passed}
@@ -155,7 +156,7 @@ module _ (H : History) (inv : Invariant H) (p c b : ℕ) (v : CheckOutView) (w :
                               refl,
                               (ap (λ n. nat_lt n (owed_by v.patron)) debt_now ∙ ap (λ n. nat_lt (kind_now H p).debt n) owed_now),
                               λ p38.
-                                  (refl, (ap (λ m. nat_lt last_number m.next_loan) w.meta ∙ lt-le last_number (loans H)), λ p70. tt),
+                                  (refl, (ap (λ m. nat_lt LAST_NUMBER m.next_loan) w.meta ∙ lt-le LAST_NUMBER (loans H)), λ p70. tt),
                             ),
                           ),
                         ),

@@ -1,10 +1,11 @@
 -- The calendar of a view is that of the history.
+use Rattle.calendar.specs.declared.limits.TheConstants.{FIRST_DAY, LAST_DAY}
 use Rattle.std.proofs.Common.{◌≡◌, ℕ, suc, ◌+◌, ◌≤◌, ◌<◌, Bool, true, false, not, List, [], ◌∷◌, length, refl, sym, ◌∙◌, ap, subst, arith}
 use Rattle.std.specs.Prelude.{Option, Some, None, is_none, nat_le, ◌&&◌, slice_index_or}
 use Rattle.std.specs.List.{list_any}
 use Rattle.calendar.specs.Openings.{Closings, IsLeastOpen, weekday, open_days_after}
 use Rattle.calendar.specs.Openings as openings
-use Rattle.model.specs.Calendar.{first_day, last_day, is_single, opens, least, IsLeast, late}
+use Rattle.model.specs.Calendar.{is_single, opens, least, IsLeast, late}
 use Rattle.model.specs.History.{History, week_of, singles_of, is_open, BranchFacts, branch_of}
 use Rattle.model.specs.Invariant.{Invariant}
 use Rattle.model.specs.Refusals.{has_branch}
@@ -34,8 +35,8 @@ module _ (H : History) (b : ℕ) (closings : Closings) (w : AreClosedDays (pictu
 
   open_same : (d : ℕ) → opens closings.weekly closings.single d ≡ is_open H b d
   open_same d =
-      ap (λ week. elim (nat_le first_day d && (nat_le d last_day && not (slice_index_or week (weekday d) false))) as (λ _. Bool) [ true ↦ not (is_single closings.single d) | false ↦ false ]) weekly_same
-      ∙ ap (λ x. elim (nat_le first_day d && (nat_le d last_day && not (slice_index_or (week_of H b) (weekday d) false))) as (λ _. Bool) [ true ↦ not x | false ↦ false ]) (w.single d)
+      ap (λ week. elim (nat_le FIRST_DAY d && (nat_le d LAST_DAY && not (slice_index_or week (weekday d) false))) as (λ _. Bool) [ true ↦ not (is_single closings.single d) | false ↦ false ]) weekly_same
+      ∙ ap (λ x. elim (nat_le FIRST_DAY d && (nat_le d LAST_DAY && not (slice_index_or (week_of H b) (weekday d) false))) as (λ _. Bool) [ true ↦ not x | false ↦ false ]) (w.single d)
 
   -- the two tests are one function
   one_test : opens closings.weekly closings.single ≡ is_open H b
@@ -62,7 +63,7 @@ module _ (H : History) (b : ℕ) (closings : Closings) (w : AreClosedDays (pictu
   late_same due now = sym (calendars_agree.late_days closings due now) ∙ ap (λ (test : ℕ → Bool). late test due now) one_test
 
   -- From a day that leaves room enough the calendar has an open day.
-  pub never_shut : Invariant H → (from : ℕ) → first_day ≤ from → from + 2806 ≤ last_day → IsShutFrom (Some closings) from → ⊥
+  pub never_shut : Invariant H → (from : ℕ) → FIRST_DAY ≤ from → from + 2806 ≤ LAST_DAY → IsShutFrom (Some closings) from → ⊥
   never_shut inv from low high shut =
       let seven : length closings.weekly ≡ 7 = w.weekdays.seven in
       let day : (k : ℕ) × (k < length closings.weekly) × (slice_index_or closings.weekly k false ≡ false) = open_weekday closings.weekly w.weekdays.some_open in

@@ -1,4 +1,5 @@
 -- Place-hold meets the history.
+use Rattle.terms.specs.declared.limits.TheConstants.{LAST_NUMBER}
 use Rattle.std.proofs.Common.{◌≡◌, ℕ, ◌==◌, nat_lt, nat_le, Bool, true, false, cond, refl, ◌∙◌, ap}
 use Rattle.std.specs.Prelude.{Option, Some, option_map, option_and_then, is_none}
 use Rattle.std.proofs.lemmas.Bool.{eqb-true}
@@ -9,7 +10,6 @@ use Rattle.terms.specs.declared.row.HoldRow.{HoldRow}
 use Rattle.terms.specs.declared.row.HoldState.{HoldState}
 use Rattle.terms.specs.declared.row.HoldState.TheVariants.{Waiting}
 use Rattle.terms.specs.Pictures.{put}
-use Rattle.model.specs.Checks.{last_number}
 use Rattle.model.specs.History.{History, PatronFacts, patron_of, branch_of, title_of, holds, next_hold, hold_of}
 use Rattle.model.specs.Places.{state, kept_for, limit}
 use Rattle.model.specs.Refusals.{checks, kind_now}
@@ -46,7 +46,7 @@ module _ (H : History) (inv : Invariant H) (p t b : ℕ) (v : PlaceHoldView) (w 
                   refl,
                   (ap (λ n. nat_le n v.active_holds) (holds_same H p f.0 f.1 v.patron w.patron v.kind w.kind)
                       ∙ ap (λ n. nat_le (kind_now H p).holds n) (active_holds-count H inv p v.active_holds w.active_holds)),
-                  λ p51. (refl, (ap (λ m. nat_lt last_number m.next_hold) w.meta ∙ lt-le last_number (holds H)), λ p70. tt),
+                  λ p51. (refl, (ap (λ m. nat_lt LAST_NUMBER m.next_hold) w.meta ∙ lt-le LAST_NUMBER (holds H)), λ p70. tt),
                 ),
               ),
             ),

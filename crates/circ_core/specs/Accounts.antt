@@ -1,11 +1,12 @@
 -- The checks and row changes of payments, waivers and the page, on the rows of a view.
+use Rattle.terms.specs.declared.limits.TheConstants.{LAST_NUMBER}
 use Rattle.std.specs.Prelude.{ℕ, ◌+◌, ◌-◌, ◌==◌, nat_lt, ◌||◌, List, [], ◌∷◌, Option, Some, None, is_none}
 use Rattle.terms.specs.declared.refusal.Refusal.TheVariants.{UnknownPatron, BadAmount, NumbersUsedUp}
 use Rattle.terms.specs.declared.row.MetaRow.{MetaRow}
 use Rattle.terms.specs.declared.row.PatronRow.{PatronRow}
 use Rattle.terms.specs.declared.row.LineRow.{LineRow}
 use Rattle.terms.specs.declared.row.Sort.{Sort}
-use Rattle.model.specs.Checks.{Check, last_number}
+use Rattle.model.specs.Checks.{Check}
 use Rattle.circ_core.specs.declared.changes.RowChange.{RowChange}
 use Rattle.circ_core.specs.declared.changes.RowChange.TheVariants.{PutMeta, PutPatron, PutLine}
 use Rattle.circ_core.specs.declared.views.AccountView.{AccountView}
@@ -15,7 +16,7 @@ use Rattle.circ_core.specs.Lending.{owed_by}
 abbrev pub settle_checks : AccountView → ℕ → List Check
 settle_checks view amount =
     (UnknownPatron, is_none view.patron) ∷ (BadAmount, (amount == 0) || nat_lt (owed_by view.patron) amount)
-    ∷ (NumbersUsedUp, nat_lt last_number view.meta.next_line) ∷ []
+    ∷ (NumbersUsedUp, nat_lt LAST_NUMBER view.meta.next_line) ∷ []
 
 -- The line that is made.
 abbrev pub new_line : MetaRow → ℕ → Sort → ℕ → LineRow

@@ -1,8 +1,9 @@
 -- The checks and row changes of the commands on single closed days, on the rows of a view.
+use Rattle.calendar.specs.declared.limits.TheConstants.{MOST_CLOSED_DAYS}
 use Rattle.std.specs.Prelude.{ℕ, nat_le, not, Bool, false, List, [], ◌∷◌, length, Option, Some, None, is_none}
 use Rattle.calendar.specs.Openings.{Closings, has_day}
 use Rattle.terms.specs.declared.refusal.Refusal.TheVariants.{UnknownBranch, BadDay, AlreadyClosed, NotClosed, OutOfLimits}
-use Rattle.model.specs.Checks.{Check, max_singles}
+use Rattle.model.specs.Checks.{Check}
 use Rattle.circ_core.specs.declared.changes.RowChange.{RowChange}
 use Rattle.circ_core.specs.declared.changes.RowChange.TheVariants.{PutClosedDay, TakeClosedDay}
 use Rattle.circ_core.specs.declared.views.ClosedDayView.{ClosedDayView}
@@ -14,7 +15,7 @@ is_closed_day None day = false
 
 -- As many days are closed singly as may be.
 abbrev pub has_all_days : Option Closings → Bool
-has_all_days (Some closings) = nat_le max_singles (length closings.single)
+has_all_days (Some closings) = nat_le MOST_CLOSED_DAYS (length closings.single)
 has_all_days None = false
 
 abbrev pub close_day_checks : ClosedDayView → ℕ → List Check

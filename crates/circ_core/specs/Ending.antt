@@ -1,4 +1,5 @@
 -- The end of a copy's loan: its fine, and what is charged for it, on the rows of a view.
+use Rattle.terms.specs.declared.limits.TheConstants.{LAST_NUMBER}
 use Rattle.std.specs.Prelude.{ℕ, ◌+◌, ◌==◌, nat_lt, ◌&&◌, min, Bool, true, false, List, [], ◌∷◌, ◌++◌, Option, Some, None}
 use Rattle.calendar.specs.Openings.{Closings, open_days_after}
 use Rattle.terms.specs.Money.{fine_for}
@@ -7,7 +8,6 @@ use Rattle.terms.specs.declared.row.PatronRow.{PatronRow}
 use Rattle.terms.specs.declared.row.LoanRow.{LoanRow}
 use Rattle.terms.specs.declared.row.Sort.{Sort}
 use Rattle.terms.specs.declared.row.Sort.TheVariants.{Fine, Price}
-use Rattle.model.specs.Checks.{last_number}
 use Rattle.circ_core.specs.declared.changes.RowChange.{RowChange}
 use Rattle.circ_core.specs.declared.changes.RowChange.TheVariants.{PutMeta, PutPatron, PutLoan, PutLine}
 
@@ -24,7 +24,7 @@ lines_for amount = elim (amount == 0) [ true ↦ 0 | false ↦ 1 ]
 
 -- Fewer line numbers are left than the fine and the price need.
 abbrev pub lacks_numbers : MetaRow → ℕ → ℕ → Bool
-lacks_numbers meta fine price = nat_lt (last_number + 1) (meta.next_line + lines_for fine + lines_for price)
+lacks_numbers meta fine price = nat_lt (LAST_NUMBER + 1) (meta.next_line + lines_for fine + lines_for price)
 
 -- ---- the rows that change
 

@@ -1,11 +1,12 @@
 -- The checks and row changes of placing and cancelling a hold, on the rows of a view.
+use Rattle.terms.specs.declared.limits.TheConstants.{LAST_NUMBER}
 use Rattle.std.specs.Prelude.{ℕ, ◌+◌, nat_le, nat_lt, not, Bool, true, false, List, [], ◌∷◌, ◌++◌, Option, Some, None, is_none, is_some}
 use Rattle.terms.specs.declared.refusal.Refusal.TheVariants as refusal
 use Rattle.terms.specs.declared.row.KindRow.{KindRow}
 use Rattle.terms.specs.declared.row.HoldRow.{HoldRow}
 use Rattle.terms.specs.declared.row.HoldState.TheVariants.{Waiting, Cancelled}
 use Rattle.terms.specs.declared.row.TransitRow.{TransitRow}
-use Rattle.model.specs.Checks.{Check, last_number}
+use Rattle.model.specs.Checks.{Check}
 use Rattle.circ_core.specs.declared.changes.RowChange.{RowChange}
 use Rattle.circ_core.specs.declared.changes.RowChange.TheVariants.{PutMeta, PutHold, PutTransit}
 use Rattle.circ_core.specs.declared.views.CancelHoldView.{CancelHoldView}
@@ -27,7 +28,7 @@ place_hold_checks view =
     ∷ (refusal.AlreadyHolds, nat_lt 0 view.own_holds)
     ∷ (refusal.HasOnLoan, is_some view.loan)
     ∷ (refusal.TooManyHolds, nat_le (holds_allowed view.kind) view.active_holds)
-    ∷ (refusal.NumbersUsedUp, nat_lt last_number view.meta.next_hold)
+    ∷ (refusal.NumbersUsedUp, nat_lt LAST_NUMBER view.meta.next_hold)
     ∷ []
 
 -- The hold that is made: it waits, and no copy is for it yet.

@@ -1,4 +1,6 @@
 -- The checks and row changes of check-out, on the rows of a view.
+use Rattle.calendar.specs.declared.limits.TheConstants.{LAST_DAY}
+use Rattle.terms.specs.declared.limits.TheConstants.{LAST_NUMBER}
 use Rattle.std.specs.Prelude.{◌≡◌, ◌⊎◌, ℕ, ◌+◌, ◌≤◌, ◌==◌, nat_le, nat_lt, not, Bool, true, false, List, [], ◌∷◌, Option, Some, None, is_none, is_some, Result, Ok, Err}
 use Rattle.calendar.specs.Openings.{Closings, is_open, IsLeastOpen}
 use Rattle.terms.specs.declared.refusal.Refusal.{Refusal}
@@ -17,7 +19,7 @@ use Rattle.circ_core.specs.declared.changes.Decision.{Decision}
 use Rattle.circ_core.specs.declared.changes.RowChange.{RowChange}
 use Rattle.circ_core.specs.declared.changes.RowChange.TheVariants.{PutMeta, PutLoan, PutHold}
 use Rattle.circ_core.specs.declared.views.CheckOutView.{CheckOutView}
-use Rattle.model.specs.Checks.{Check, first_failing, last_number}
+use Rattle.model.specs.Checks.{Check, first_failing}
 
 -- ---- tests on rows
 
@@ -88,7 +90,7 @@ check_out_checks view patron branch =
     ∷ (refusal.NoRule, is_none view.rule)
     ∷ (refusal.TooManyLoans, nat_le (loans_allowed view.kind) view.open_loans)
     ∷ (refusal.OwesTooMuch, nat_lt (debt_allowed view.kind) (owed_by view.patron))
-    ∷ (refusal.NumbersUsedUp, nat_lt last_number view.meta.next_loan)
+    ∷ (refusal.NumbersUsedUp, nat_lt LAST_NUMBER view.meta.next_loan)
     ∷ []
 
 -- ---- the due day
@@ -120,7 +122,7 @@ IsDueFrom None from due = ⊥
 
 -- From that day on the lending branch has no open day left in the calendar.
 abbrev pub IsShutFrom : Option Closings → ℕ → Type 0
-IsShutFrom (Some closings) from = (k : ℕ) → from ≤ k → k ≤ 84005 → is_open closings k ≡ false
+IsShutFrom (Some closings) from = (k : ℕ) → from ≤ k → k ≤ LAST_DAY → is_open closings k ≡ false
 IsShutFrom None from = Unit {0}
 
 -- ---- the rows that change

@@ -1,4 +1,5 @@
 -- The checks and row changes of the commands that set or make rows, on the rows of a view.
+use Rattle.terms.specs.declared.limits.TheConstants.{LAST_TODAY}
 use Rattle.std.specs.Prelude.{ℕ, ◌==◌, nat_le, nat_lt, ◌&&◌, ◌||◌, not, Bool, List, [], ◌∷◌, ◌++◌, Option, Some, None, is_none, false, bytes_eq}
 use Rattle.std.specs.List.{list_any}
 use Rattle.terms.specs.declared.refusal.Refusal.TheVariants.{UnknownBranch, UnknownKind, OtherContent, OutOfLimits, AllWeekdaysClosed, BadDay}
@@ -14,7 +15,7 @@ use Rattle.circ_core.specs.declared.changes.RowChange.{RowChange}
 use Rattle.circ_core.specs.declared.changes.RowChange.TheVariants.{PutMeta, PutBranch, PutKind, PutRule, PutPatron, PutTitle, PutCopy}
 use Rattle.circ_core.specs.declared.views.PatronView.{PatronView}
 use Rattle.circ_core.specs.declared.views.AcquireView.{AcquireView}
-use Rattle.model.specs.Checks.{Check, last_today, is_within_limits}
+use Rattle.model.specs.Checks.{Check, is_within_limits}
 
 -- Rows that are put unless there is one already.
 abbrev pub rows_unless : {A : Type 0} → Option A → List RowChange → List RowChange
@@ -24,7 +25,7 @@ rows_unless None rows = rows
 -- ---- begin-day
 
 abbrev pub begin_day_checks : MetaRow → ℕ → List Check
-begin_day_checks meta day = (BadDay, not (nat_lt meta.today day && nat_le day last_today)) ∷ []
+begin_day_checks meta day = (BadDay, not (nat_lt meta.today day && nat_le day LAST_TODAY)) ∷ []
 
 abbrev pub begin_day_rows : MetaRow → ℕ → List RowChange
 begin_day_rows meta day = PutMeta (record meta { today = day }) ∷ []

@@ -1,16 +1,17 @@
 //! Payments and waivers, and the page.
 
-ghost use Rattle.std.specs.Prelude.{◌≡◌, ◌-◌, [], Option};
+ghost use Rattle.std.specs.Prelude.{◌-◌, []};
 ghost use Rattle.terms.specs.declared.reply.Reply.TheVariants.{Done, Owed};
 ghost use Rattle.circ_core.specs.Decided.{Decided};
 ghost use Rattle.circ_core.specs.Lending.{owed_by};
 ghost use Rattle.circ_core.specs.Accounts.{settle_checks, settle_rows, page_checks};
 
 use crate::changes::{Changes, Decision, RowChange};
-use crate::checks::LAST_NUMBER;
 use crate::setting::done;
 use crate::views::AccountView;
-use terms::{Cents, LineId, LineRow, PatronId, PatronPut, PatronRow, Refusal, Reply, Sort};
+use terms::{
+    Cents, LAST_NUMBER, LineId, LineRow, PatronId, PatronPut, PatronRow, Refusal, Reply, Sort,
+};
 
 /// `pay` and `waive`, by the sort of the line that is made: refusals 11, 60, 70.
 pub(crate) fn settle<'a>(
@@ -19,7 +20,8 @@ pub(crate) fn settle<'a>(
     sort: Sort,
     amount: Cents,
 ) -> Result<Decision<'a>, Refusal>
-    ensures { Decided (settle_checks view.now amount) (Owed (owed_by view.now.patron - amount)) (settle_rows view.now patron sort amount) result }
+    ensures { Decided (settle_checks view.now amount) (Owed (owed_by view.now.patron - amount))
+        (settle_rows view.now patron sort amount) result }
 {
     let Some(row) = &view.patron else {
         return Err(Refusal::UnknownPatron);

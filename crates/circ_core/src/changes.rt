@@ -1,6 +1,6 @@
 //! What a decision changes: a few rows.
 
-ghost use Rattle.std.specs.Prelude.{◌≡◌, ℕ, List, [], ◌∷◌, ◌++◌, ◌≤◌, length, slice_get, option_map, Option};
+ghost use Rattle.std.specs.Prelude.{◌≡◌, List, [], ◌∷◌, ◌++◌, ◌≤◌, length, slice_get};
 ghost use Rattle.std.specs.Option.{option_copied};
 ghost use Rattle.circ_core.specs.Slots.{filled, IsPacked};
 ghost use Rattle.circ_core.specs.declared.changes.RowChange.{RowChange};
@@ -46,7 +46,8 @@ impl<'a> Model for Changes<'a> {
 
     ghost view = { λ c. filled (c.first ∷ c.second ∷ c.third ∷ c.fourth ∷ c.fifth ∷ c.sixth ∷ []) };
 
-    ghost invariant = { λ c. IsPacked (c.first ∷ c.second ∷ c.third ∷ c.fourth ∷ c.fifth ∷ c.sixth ∷ []) };
+    ghost invariant = { λ c. IsPacked
+        (c.first ∷ c.second ∷ c.third ∷ c.fourth ∷ c.fifth ∷ c.sixth ∷ []) };
 }
 
 impl<'a> Changes<'a> {

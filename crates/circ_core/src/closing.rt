@@ -1,9 +1,10 @@
 //! Single closed days.
 
-ghost use Rattle.std.specs.Prelude.{◌≡◌, Option};
+ghost use Rattle.std.specs.Prelude.{◌≡◌};
 ghost use Rattle.terms.specs.declared.reply.Reply.TheVariants.{Done};
 ghost use Rattle.circ_core.specs.Decided.{Decided};
-ghost use Rattle.circ_core.specs.Closing.{is_closed_day, has_all_days, close_day_checks, close_day_rows, open_day_checks, open_day_rows};
+ghost use Rattle.circ_core.specs.Closing.{is_closed_day, has_all_days, close_day_checks};
+ghost use Rattle.circ_core.specs.Closing.{close_day_rows, open_day_checks, open_day_rows};
 
 use crate::changes::{Changes, Decision, RowChange};
 use crate::checks::first_refusal;

@@ -20,18 +20,22 @@ use crate::unshelving::{unshelve, unshelve_cancelled};
 use crate::views::View;
 use terms::{Command, Refusal, RuleRow, Sort};
 
-/// The rows are not those that the command needs: nothing can be told of them, and nothing is changed.
+/// The rows are not those that the command needs: nothing can be told of them, and nothing is
+/// changed.
 const OTHER_VIEW: Refusal = Refusal::OutOfLimits;
 
-/// The refusal of the desk's command, or its reply with the rows that change. The view has the rows that the
-/// command needs; a view that was made for another kind of command is refused with 21. It takes no memory.
+/// The refusal of the desk's command, or its reply with the rows that change. The view has the rows
+/// that the command needs; a view that was made for another kind of command is refused with 21. It
+/// takes no memory.
 ///
-/// On the view of the tables that a legal list of accepted events leaves, it is the refusal or the reply which that
-/// list gives the command, and the rows change so that the tables are those of the list with the command added.
+/// On the view of the tables that a legal list of accepted events leaves, it is the refusal or the
+/// reply which that list gives the command, and the rows change so that the tables are those of the
+/// list with the command added.
 #[tactic(auto, using(crate::proofs::Decisions::decides))]
 pub fn decide<'a>(view: &'a View, command: &'a Command) -> Result<Decision<'a>, Refusal>
     ensures on_rows { DecidesOn view.now command.now result }
-    ensures meets { (H : History) → IsLegal H → IsViewOf (picture H) command.now view.now → Decides H command.now result }
+    ensures meets { (H : History) → IsLegal H → IsViewOf (picture H) command.now view.now
+        → Decides H command.now result }
 {
     decide_on_rows(view, command)
 }

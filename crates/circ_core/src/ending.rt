@@ -1,13 +1,12 @@
 //! The end of a copy's loan, with its fine.
 
-ghost use Rattle.std.specs.Prelude.{◌≡◌, ◌≤◌, ◌+◌, ◌++◌, ℕ, min, false, length, Option};
-ghost use Rattle.terms.specs.declared.row.Sort.TheVariants.{Fine, Price};
-ghost use Rattle.circ_core.specs.Ending.{fine_due, lines_for, lacks_numbers, ended_loan, end_rows, charged, line_rows, account_rows, charge_rows};
+ghost use Rattle.std.specs.Prelude.{◌≡◌, ◌≤◌, ◌+◌, ◌++◌, false, length};
+ghost use Rattle.circ_core.specs.Ending.{fine_due, lines_for, lacks_numbers, end_rows, charged};
+ghost use Rattle.circ_core.specs.Ending.{line_rows, account_rows, charge_rows};
 
 use crate::changes::{Changes, RowChange};
-use crate::checks::LAST_NUMBER;
 use calendar::{Calendar, Day};
-use terms::{Cents, LineId, LineRow, LoanRow, MetaRow, PatronPut, PatronRow, Sort};
+use terms::{Cents, LAST_NUMBER, LineId, LineRow, LoanRow, MetaRow, PatronPut, PatronRow, Sort};
 
 /// The fine of the loan if it ends today, in cents; nothing where the copy is not on loan.
 pub(crate) fn fine_of(loan: &Option<LoanRow>, calendar: &Option<Calendar>, today: Day) -> Cents

@@ -1,19 +1,21 @@
 //! Holds that are placed and cancelled.
 
-ghost use Rattle.std.specs.Prelude.{◌≡◌, ◌≤◌, ◌++◌, nat_le, length, Option, List};
+ghost use Rattle.std.specs.Prelude.{◌≡◌, ◌≤◌, ◌++◌, nat_le, length};
 ghost use Rattle.terms.specs.declared.reply.Reply.TheVariants.{Done, Held};
 ghost use Rattle.model.specs.Checks.{first_failing};
 ghost use Rattle.circ_core.specs.Decided.{Decided};
-ghost use Rattle.circ_core.specs.Holding.{holds_allowed, place_hold_checks, new_hold, place_hold_rows, waits, cancel_hold_checks, cancelled_rows, let_go_rows, cancel_hold_rows};
+ghost use Rattle.circ_core.specs.Holding.{holds_allowed, place_hold_checks, place_hold_rows, waits};
+ghost use Rattle.circ_core.specs.Holding.{cancel_hold_checks, cancelled_rows, let_go_rows};
+ghost use Rattle.circ_core.specs.Holding.{cancel_hold_rows};
 
 use crate::changes::{Changes, Decision, RowChange};
-use crate::checks::{LAST_NUMBER, first_refusal};
+use crate::checks::first_refusal;
 use crate::lending::finish;
 use crate::setting::done;
 use crate::views::{CancelHoldView, PlaceHoldView};
 use terms::{
-    BranchId, Count, HoldId, HoldRow, HoldState, KindRow, PatronId, Refusal, Reply, TitleId,
-    TransitRow,
+    BranchId, Count, HoldId, HoldRow, HoldState, KindRow, LAST_NUMBER, PatronId, Refusal, Reply,
+    TitleId, TransitRow,
 };
 
 /// Whether the patron has as many active holds as the kind is allowed.
@@ -54,7 +56,8 @@ pub(crate) fn place_hold<'a>(
     title: TitleId,
     branch: BranchId,
 ) -> Result<Decision<'a>, Refusal>
-    ensures { Decided (place_hold_checks view.now) (Held view.now.meta.next_hold) (place_hold_rows view.now patron title branch) result }
+    ensures { Decided (place_hold_checks view.now) (Held view.now.meta.next_hold)
+        (place_hold_rows view.now patron title branch) result }
 {
     if let Some(refusal) = place_hold_refusal(view) {
         return Err(refusal);

@@ -1,12 +1,11 @@
 //! Copies that leave the library's keeping: missing and withdrawn ones.
 
-ghost use Rattle.std.specs.Prelude.{◌≡◌, ◌≤◌, ◌++◌, length, Option, List};
+ghost use Rattle.std.specs.Prelude.{◌≡◌, ◌≤◌, ◌++◌, length};
 ghost use Rattle.terms.specs.declared.reply.Reply.TheVariants.{Done};
-ghost use Rattle.terms.specs.declared.row.Condition.TheVariants.{Missing, Withdrawn};
-ghost use Rattle.model.specs.Checks.{first_failing};
 ghost use Rattle.circ_core.specs.Decided.{Decided};
-ghost use Rattle.circ_core.specs.Ending.{fine_due, lacks_numbers, ended_loan, charge_rows};
-ghost use Rattle.circ_core.specs.Leaving.{condition_rows, price_due, fine_in, price_in, missing_checks, lost_reply, missing_reply, waiting_again, release_rows, missing_rows, withdraw_checks, withdraw_rows};
+ghost use Rattle.circ_core.specs.Leaving.{condition_rows, price_due, missing_checks, lost_reply};
+ghost use Rattle.circ_core.specs.Leaving.{missing_reply, waiting_again, release_rows, missing_rows};
+ghost use Rattle.circ_core.specs.Leaving.{withdraw_checks, withdraw_rows};
 
 use crate::changes::{Changes, Decision, RowChange};
 use crate::checks::first_refusal;
@@ -59,7 +58,8 @@ fn wait_again(hold: &HoldRow) -> HoldRow
 /// The changes, and what becomes of that to which the copy was bound.
 fn with_release<'a>(changes: Changes<'a>, at: &CopyView, today: Day) -> Changes<'a>
     requires { length changes ≤ 1 }
-    ensures rows { result ≡ changes.entry ++ release_rows at.now.loan at.now.hold at.now.transit today }
+    ensures rows { result ≡ changes.entry
+        ++ release_rows at.now.loan at.now.hold at.now.transit today }
     ensures few { length result ≤ 2 }
 {
     match &at.loan {
@@ -85,7 +85,8 @@ fn reply_of(loan: &Option<LoanRow>, fine: Cents, price: Cents) -> Reply
 
 /// `missing`: refusals 13, 35, 34, 70, in this order.
 pub(crate) fn declare_missing<'a>(view: &'a MissingView) -> Result<Decision<'a>, Refusal>
-    ensures { Decided (missing_checks view.now) (missing_reply view.now) (missing_rows view.now) result }
+    ensures { Decided (missing_checks view.now) (missing_reply view.now)
+        (missing_rows view.now) result }
 {
     let at = &view.at;
     let today = view.meta.today;

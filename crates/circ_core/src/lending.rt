@@ -1,17 +1,22 @@
 //! Check-out.
 
-ghost use Rattle.std.specs.Prelude.{◌≡◌, ℕ, ◌+◌, ◌≤◌, ◌==◌, nat_le, nat_lt, not, List, Option, IfSome, IfNone};
-ghost use Rattle.model.specs.Checks.{first_failing, last_number};
-ghost use Rattle.terms.specs.declared.row.HoldState.TheVariants.{Filled};
-ghost use Rattle.circ_core.specs.Lending.{is_missing, is_withdrawn, stands_at, is_of_other, filled_hold, is_wanted, has_more, loans_allowed, debt_allowed, owed_by, check_out_checks, period_of, renewals_of, rate_of, cap_of, period_end, IsDueFrom, IsShutFrom, check_out_rows, new_loan, finished, LendsOrRefuses};
+ghost use Rattle.terms.specs.declared.limits.TheConstants.{LAST_NUMBER};
+ghost use Rattle.std.specs.Prelude.{◌≡◌, ◌+◌, ◌≤◌, ◌==◌, nat_le, nat_lt, IfSome, IfNone};
+ghost use Rattle.model.specs.Checks.{first_failing};
+ghost use Rattle.circ_core.specs.Lending.{is_missing, is_withdrawn, stands_at, is_of_other};
+ghost use Rattle.circ_core.specs.Lending.{filled_hold, is_wanted, has_more, loans_allowed};
+ghost use Rattle.circ_core.specs.Lending.{debt_allowed, owed_by, check_out_checks, period_of};
+ghost use Rattle.circ_core.specs.Lending.{renewals_of, rate_of, cap_of, IsDueFrom, IsShutFrom};
+ghost use Rattle.circ_core.specs.Lending.{check_out_rows, new_loan, finished, LendsOrRefuses};
 
 use crate::changes::{Changes, Decision, RowChange};
-use crate::checks::{LAST_NUMBER, first_refusal};
+use crate::checks::first_refusal;
 use crate::views::CheckOutView;
 use calendar::Calendar;
 use terms::{
     BranchId, Cents, Condition, CopyId, CopyKind, CopyRow, Count, Day, Days, HoldRow, HoldState,
-    KindRow, LoanId, LoanRow, PatronId, PatronKind, PatronRow, Refusal, Reply, RuleRow,
+    KindRow, LAST_NUMBER, LoanId, LoanRow, PatronId, PatronKind, PatronRow, Refusal, Reply,
+    RuleRow,
 };
 
 pub(crate) fn is_gone(copy: &Option<CopyRow>) -> bool
@@ -109,7 +114,7 @@ pub(crate) fn owes_too_much(kind: &Option<KindRow>, patron: &Option<PatronRow>) 
 
 /// Whether no loan number is left.
 fn is_used_up(next_loan: LoanId) -> bool
-    ensures { result ≡ nat_lt last_number next_loan }
+    ensures { result ≡ nat_lt LAST_NUMBER next_loan }
 {
     LAST_NUMBER < next_loan.number()
 }
@@ -230,7 +235,7 @@ fn check_out_changes<'a>(
     branch: BranchId,
     due: Day,
 ) -> Changes<'a>
-    requires { view.now.meta.next_loan ≤ 2147483647 }
+    requires { view.now.meta.next_loan ≤ LAST_NUMBER }
     ensures { result ≡ check_out_rows view.now patron copy branch due }
 {
     let loan = loan_for(view, patron, copy, branch, due);
@@ -246,8 +251,9 @@ fn check_out_changes<'a>(
     }
 }
 
-/// `check-out`: refusals 10, 11, 13, 35, 34, 31, 32, 30, 33, 36, 50, 16, 37, 38, 70, in this order; 39 where
-/// the calendar has no open day left, which rows that the desk made itself never bring about.
+/// `check-out`: refusals 10, 11, 13, 35, 34, 31, 32, 30, 33, 36, 50, 16, 37, 38, 70, in this order;
+/// 39 where the calendar has no open day left, which rows that the desk made itself never bring
+/// about.
 pub(crate) fn check_out<'a>(
     view: &CheckOutView,
     patron: PatronId,

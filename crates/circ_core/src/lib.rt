@@ -1,4 +1,5 @@
-//! Decisions: from the rows that a command needs to its refusal, or its reply and the rows that change.
+//! Decisions: from the rows that a command needs to its refusal, or its reply and the rows that
+//! change.
 #![tactic(auto)]
 
 mod accounts;

@@ -1,8 +1,9 @@
 //! Renewal.
 
-ghost use Rattle.std.specs.Prelude.{◌≡◌, ℕ, ◌-◌, Option, Some, List};
+ghost use Rattle.std.specs.Prelude.{◌≡◌, Some};
 ghost use Rattle.model.specs.Checks.{first_failing};
-ghost use Rattle.circ_core.specs.Renewing.{is_over, is_late, is_renewed_out, renew_checks, renewed_end, renewed_rows, RenewsOrRefuses};
+ghost use Rattle.circ_core.specs.Renewing.{is_over, is_late, is_renewed_out, renew_checks};
+ghost use Rattle.circ_core.specs.Renewing.{renewed_rows, RenewsOrRefuses};
 
 use crate::changes::{Changes, Decision, RowChange};
 use crate::checks::first_refusal;
@@ -65,7 +66,8 @@ fn renewed<'a>(row: &LoanRow, due: Day) -> Changes<'a>
     Changes::one(RowChange::PutLoan(renewed))
 }
 
-/// `renew`: refusals 14, 40, 41, 36, 42, 38, 39, in this order. The new period begins at the old due day.
+/// `renew`: refusals 14, 40, 41, 36, 42, 38, 39, in this order. The new period begins at the old
+/// due day.
 pub(crate) fn renew<'a>(view: &RenewView, loan: LoanId) -> Result<Decision<'a>, Refusal>
     ensures { RenewsOrRefuses view.now loan result }
 {

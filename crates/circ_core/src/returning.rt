@@ -1,7 +1,8 @@
 //! Check-in.
 
-ghost use Rattle.std.specs.Prelude.{◌≡◌, ◌≤◌, length, Option};
-ghost use Rattle.circ_core.specs.Returning.{check_in_course, over_rows, found_rows, left_rows, ChecksIn};
+ghost use Rattle.std.specs.Prelude.{◌≡◌, ◌≤◌, length};
+ghost use Rattle.circ_core.specs.Returning.{check_in_course, over_rows, found_rows, left_rows};
+ghost use Rattle.circ_core.specs.Returning.{ChecksIn};
 
 use crate::changes::{Changes, Decision, RowChange};
 use crate::checks::first_refusal;
@@ -68,8 +69,9 @@ fn next_place(view: &CheckInView, branch: BranchId) -> Course
     )
 }
 
-/// `check-in`: refusals 10, 13, 35, 33, 70, in this order; 39 where the calendar has no open day left for the limit
-/// of the hold that becomes ready, which rows that the desk made itself never bring about.
+/// `check-in`: refusals 10, 13, 35, 33, 70, in this order; 39 where the calendar has no open day
+/// left for the limit of the hold that becomes ready, which rows that the desk made itself never
+/// bring about.
 pub(crate) fn check_in<'a>(
     view: &'a CheckInView,
     copy: CopyId,

@@ -1,7 +1,8 @@
 //! Where a copy goes that is handed in.
 
-ghost use Rattle.std.specs.Prelude.{◌≡◌, ◌≤◌, ◌++◌, length, Option, IfSome, IfNone};
-ghost use Rattle.circ_core.specs.Routing.{served, course_of, pickup_of, home_in, number_in, IsLimitOf, HasNoLimit, routed_by, readied, arrival_rows};
+ghost use Rattle.std.specs.Prelude.{◌≡◌, ◌≤◌, ◌++◌, length, IfSome, IfNone};
+ghost use Rattle.circ_core.specs.Routing.{served, course_of, pickup_of, home_in, number_in};
+ghost use Rattle.circ_core.specs.Routing.{IsLimitOf, HasNoLimit, routed_by, readied, arrival_rows};
 
 use crate::changes::{Changes, RowChange};
 use crate::lending::due_day;
@@ -88,8 +89,8 @@ pub(crate) fn copy_number(copy: &Option<CopyRow>) -> CopyId
     }
 }
 
-/// The shelf limit of a hold that becomes ready: the least open day from the end of the pick-up period, if the
-/// calendar has one. A copy that goes elsewhere needs none.
+/// The shelf limit of a hold that becomes ready: the least open day from the end of the pick-up
+/// period, if the calendar has one. A copy that goes elsewhere needs none.
 pub(crate) fn limit_day(course: &Course, here: &BranchView, today: Day) -> Option<Day>
     ensures some { IfSome result (IsLimitOf course.now here.now today) }
     ensures none { IfNone result (HasNoLimit course.now here.now today) }

@@ -1,36 +1,40 @@
 //! Commands that set or make rows.
 
-ghost use Rattle.std.specs.Prelude.{◌≡◌, ℕ, Bool, List, [], ◌∷◌, ◌++◌, Option};
+ghost use Rattle.std.specs.Prelude.{◌≡◌, [], ◌∷◌, ◌++◌};
 ghost use Rattle.terms.specs.declared.reply.Reply.TheVariants.{Done};
 ghost use Rattle.model.specs.Checks.{is_small_number, is_large_number};
 ghost use Rattle.circ_core.specs.declared.changes.RowChange.TheVariants.{PutTitle, PutCopy};
 ghost use Rattle.circ_core.specs.Decided.{Decided};
-ghost use Rattle.circ_core.specs.Setting.{begin_day_checks, begin_day_rows, branch_differs, branch_checks, branch_rows, week_checks, week_rows, kind_checks, kind_rows, rule_checks, rule_rows, patron_differs, patron_checks, patron_rows, title_differs, copy_differs, acquire_checks, acquire_rows, rows_unless, all_open};
+ghost use Rattle.circ_core.specs.Setting.{begin_day_checks, begin_day_rows, branch_differs};
+ghost use Rattle.circ_core.specs.Setting.{branch_checks, branch_rows, week_checks, week_rows};
+ghost use Rattle.circ_core.specs.Setting.{kind_checks, kind_rows, rule_checks, rule_rows};
+ghost use Rattle.circ_core.specs.Setting.{patron_differs, patron_checks, patron_rows};
+ghost use Rattle.circ_core.specs.Setting.{title_differs, copy_differs, acquire_checks};
+ghost use Rattle.circ_core.specs.Setting.{acquire_rows, rows_unless};
 
 use crate::changes::{Changes, Decision, RowChange};
 use crate::checks::first_refusal;
 use crate::views::{AcquireView, PatronView};
 use terms::{
     BranchId, BranchPut, BranchRow, CardKey, Cents, Condition, CopyId, CopyKind, CopyRow, Count,
-    Day, Days, KindRow, Mask, MetaRow, Name, PatronId, PatronKind, PatronPut, PatronRow, Refusal,
-    Reply, RuleRow, TitleId, TitlePut, TitleRow, Weekdays,
+    Day, Days, HIGHEST_CAP, HIGHEST_DEBT, HIGHEST_PRICE, HIGHEST_RATE, KindRow, LAST_LARGE_NUMBER,
+    LAST_SMALL_NUMBER, LAST_TODAY, LONGEST_PERIOD, LONGEST_PICKUP, MOST_ALLOWED, MOST_RENEWALS,
+    Mask, MetaRow, Name, PatronId, PatronKind, PatronPut, PatronRow, Refusal, Reply, RuleRow,
+    TitleId, TitlePut, TitleRow, Weekdays,
 };
-
-/// Today is at most 2190-12-31.
-const LAST_TODAY: u32 = 80718;
 
 /// Whether a number is that of a branch or of a kind.
 fn is_small(number: u32) -> bool
     ensures { result ≡ is_small_number number }
 {
-    1 <= number && number <= 99
+    1 <= number && number <= LAST_SMALL_NUMBER
 }
 
 /// Whether a number is that of a patron, a title or a copy.
 fn is_large(number: u32) -> bool
     ensures { result ≡ is_large_number number }
 {
-    1 <= number && number <= 9_999_999
+    1 <= number && number <= LAST_LARGE_NUMBER
 }
 
 /// The changes go with the reply that it is done.
@@ -73,9 +77,10 @@ pub(crate) fn add_branch<'a>(
     pickup: Days,
     name: &'a Name,
 ) -> Result<Decision<'a>, Refusal>
-    ensures { Decided (branch_checks row.now branch pickup name.now) Done (branch_rows row.now branch pickup name.now) result }
+    ensures { Decided (branch_checks row.now branch pickup name.now) Done
+        (branch_rows row.now branch pickup name.now) result }
 {
-    let fits = is_small(branch.number()) && pickup.number() <= 60;
+    let fits = is_small(branch.number()) && pickup.number() <= LONGEST_PICKUP;
     let differs = differs_branch(row, pickup, name);
     if let Some(refusal) = first_refusal(&[
         (Refusal::OutOfLimits, !fits),
@@ -124,12 +129,13 @@ pub(crate) fn set_kind<'a>(
     holds: Count,
     debt: Cents,
 ) -> Result<Decision<'a>, Refusal>
-    ensures { Decided (kind_checks kind loans holds debt) Done (kind_rows kind loans holds debt) result }
+    ensures { Decided (kind_checks kind loans holds debt) Done
+        (kind_rows kind loans holds debt) result }
 {
     let fits = is_small(kind.number())
-        && loans.number() <= 200
-        && holds.number() <= 200
-        && debt.number() <= 1_000_000;
+        && loans.number() <= MOST_ALLOWED
+        && holds.number() <= MOST_ALLOWED
+        && debt.number() <= HIGHEST_DEBT;
     if let Some(refusal) = first_refusal(&[(Refusal::OutOfLimits, !fits)]) {
         return Err(refusal);
     }
@@ -144,13 +150,17 @@ pub(crate) fn set_kind<'a>(
 
 /// `rule`: refusals 21, 17.
 pub(crate) fn set_rule<'a>(kind: &Option<KindRow>, rule: &RuleRow) -> Result<Decision<'a>, Refusal>
-    ensures { Decided (rule_checks kind.now rule.now.kind rule.now.copy_kind rule.now.period rule.now.renewals rule.now.rate rule.now.cap) Done (rule_rows rule.now.kind rule.now.copy_kind rule.now.period rule.now.renewals rule.now.rate rule.now.cap) result }
+    ensures { Decided
+        (rule_checks kind.now rule.now.kind rule.now.copy_kind rule.now.period
+        rule.now.renewals rule.now.rate rule.now.cap) Done
+        (rule_rows rule.now.kind rule.now.copy_kind rule.now.period
+        rule.now.renewals rule.now.rate rule.now.cap) result }
 {
     let kinds_fit = is_small(rule.kind.number()) && is_small(rule.copy_kind.number());
-    let period_fits = 1 <= rule.period.number() && rule.period.number() <= 365;
-    let terms_fit = rule.renewals.number() <= 99
-        && rule.rate.number() <= 10_000
-        && rule.cap.number() <= 100_000;
+    let period_fits = 1 <= rule.period.number() && rule.period.number() <= LONGEST_PERIOD;
+    let terms_fit = rule.renewals.number() <= MOST_RENEWALS
+        && rule.rate.number() <= HIGHEST_RATE
+        && rule.cap.number() <= HIGHEST_CAP;
     let fits = kinds_fit && period_fits && terms_fit;
     if let Some(refusal) = first_refusal(&[
         (Refusal::OutOfLimits, !fits),
@@ -187,7 +197,8 @@ pub(crate) fn enrol<'a>(
     card_key: &'a CardKey,
     name: &'a Name,
 ) -> Result<Decision<'a>, Refusal>
-    ensures { Decided (patron_checks view.now patron kind card_key.now name.now) Done (patron_rows view.now patron kind card_key.now name.now) result }
+    ensures { Decided (patron_checks view.now patron kind card_key.now name.now) Done
+        (patron_rows view.now patron kind card_key.now name.now) result }
 {
     let fits = is_large(patron.number()) && is_small(kind.number());
     let differs = differs_patron(&view.patron, kind, card_key, name);
@@ -238,7 +249,9 @@ fn differs_copy(row: &Option<CopyRow>, new: &CopyRow) -> bool
 
 /// The rows of a new title and a new copy, each unless it is there.
 fn acquired<'a>(view: &AcquireView, copy: CopyRow, text: &'a Name) -> Changes<'a>
-    ensures { result ≡ rows_unless view.now.title (PutTitle (record { title = copy.title; text = text.now }) ∷ []) ++ rows_unless view.now.copy (PutCopy copy ∷ []) }
+    ensures { result ≡
+        rows_unless view.now.title (PutTitle (record { title = copy.title; text = text.now }) ∷ [])
+        ++ rows_unless view.now.copy (PutCopy copy ∷ []) }
 {
     let title = copy.title;
     match &view.title {
@@ -266,12 +279,13 @@ pub(crate) fn acquire<'a>(
     price: Cents,
     text: &'a Name,
 ) -> Result<Decision<'a>, Refusal>
-    ensures { Decided (acquire_checks view.now copy title kind home price text.now) Done (acquire_rows view.now copy title kind home price text.now) result }
+    ensures { Decided (acquire_checks view.now copy title kind home price text.now) Done
+        (acquire_rows view.now copy title kind home price text.now) result }
 {
     let fits = is_large(copy.number())
         && is_large(title.number())
         && is_small(kind.number())
-        && price.number() <= 1_000_000;
+        && price.number() <= HIGHEST_PRICE;
     let row = CopyRow {
         copy,
         title,

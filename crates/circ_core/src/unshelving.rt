@@ -1,8 +1,10 @@
 //! Unshelving: a ready hold ends, and its copy is routed.
 
-ghost use Rattle.std.specs.Prelude.{◌≡◌, ◌≤◌, [], length, Option};
+ghost use Rattle.std.specs.Prelude.{◌≡◌, ◌≤◌, [], length};
 ghost use Rattle.terms.specs.declared.row.HoldState.TheVariants.{Cancelled, Expired};
-ghost use Rattle.circ_core.specs.Unshelving.{is_ready_row, limit_in, pickup_branch, unshelve_checks, unshelve_cancelled_checks, course_unshelved, ended_hold, Unshelves};
+ghost use Rattle.circ_core.specs.Unshelving.{is_ready_row, limit_in, pickup_branch};
+ghost use Rattle.circ_core.specs.Unshelving.{unshelve_checks, unshelve_cancelled_checks};
+ghost use Rattle.circ_core.specs.Unshelving.{course_unshelved, ended_hold, Unshelves};
 
 use crate::changes::{Changes, Decision, RowChange};
 use crate::checks::first_refusal;
@@ -87,8 +89,8 @@ fn take_off<'a>(view: &UnshelveView, ends: HoldState) -> Result<Decision<'a>, Re
     })
 }
 
-/// `unshelve`: refusals 15, 53, 54, in this order; 39 where the calendar has no open day left for the limit of the
-/// next hold, which rows that the desk made itself never bring about.
+/// `unshelve`: refusals 15, 53, 54, in this order; 39 where the calendar has no open day left for
+/// the limit of the next hold, which rows that the desk made itself never bring about.
 pub(crate) fn unshelve<'a>(view: &UnshelveView) -> Result<Decision<'a>, Refusal>
     ensures { Unshelves (unshelve_checks view.now) view.now Expired result }
 {

@@ -36,7 +36,8 @@ pub struct AccountView {
     pub patron: Option<PatronRow>,
 }
 
-/// A copy, and the rows that claim it: its open loan, its transit, and the ready hold that names it.
+/// A copy, and the rows that claim it: its open loan, its transit, and the ready hold that names
+/// it.
 #[derive(Clone, Copy, Debug, PartialEq, Eq)]
 pub struct CopyView {
     pub copy: Option<CopyRow>,
@@ -115,8 +116,8 @@ pub struct BranchView {
     pub calendar: Option<Calendar>,
 }
 
-/// What the end of a copy's loan needs: the calendar of the branch that lent it, and the borrower. Both are
-/// missing where the copy is not on loan.
+/// What the end of a copy's loan needs: the calendar of the branch that lent it, and the borrower.
+/// Both are missing where the copy is not on loan.
 #[derive(Drop)]
 pub struct LenderView {
     pub calendar: Option<Calendar>,

@@ -16,3 +16,7 @@ pub mod ListLemmas
 pub mod DayLemmas
 pub mod CellLemmas
 pub mod ShownLemmas
+pub mod ReadingLemmas
+pub mod PutLemmas
+pub mod TableLemmas
+pub mod SingleLemmas

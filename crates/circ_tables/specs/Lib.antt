@@ -5,3 +5,5 @@ pub mod Faults
 pub mod Selections
 pub mod Encoding
 pub mod SchemaNumber
+pub mod Puts
+pub mod Reading

@@ -1,29 +1,18 @@
 //! Rows that are found by other columns than their key.
 
-ghost use Rattle.std.specs.Prelude.{◌≡◌, ◌≢◌, ◌≤◌, ◌<◌, ℕ, false, Some, Err, map, length, IfOk, IfSome};
-ghost use Rattle.std.specs.Option.{option_to_list};
-ghost use Rattle.sqlite.specs.Held.{state};
-ghost use Rattle.sqlite.specs.Order.{column, Row as SqlRow};
-ghost use Rattle.sqlite.specs.State.{HasCleanDisk, IsUnchanged, Survives, CommitsShowing};
+ghost use Rattle.std.specs.Prelude.{◌≡◌, ◌≢◌, Err, map, IfOk};
 ghost use Rattle.sqlite.specs.Values.{bound};
-ghost use Rattle.sqlite.specs.Listing.{understood};
-ghost use Rattle.sqlite.specs.Given.{IsPlain};
-ghost use Rattle.sql_maps.specs.Calls.{FindsRow, IsKeptOrUndone};
-ghost use Rattle.sql_maps.specs.Maps.{Maps, Holds, First, FirstOf, Count as IsCount};
-ghost use Rattle.circ_tables.specs.Shape.{schema, closed_days_place, copies_place, loans_place, holds_place, transits_place};
-ghost use Rattle.circ_tables.specs.Cells.{number, loan_cells, hold_cells, transit_cells};
-ghost use Rattle.terms.specs.Limits.{IsLoan, IsHold, IsTransit};
-ghost use Rattle.std.specs.List.{All};
-ghost use Rattle.calendar.specs.Days.{IsDayNumber};
-ghost use Rattle.calendar.specs.Openings.{has_day, has_repeat};
-ghost use Rattle.terms.specs.Pictures.{Picture};
-ghost use Rattle.circ_tables.specs.Encoding.{AreEncoded, HasPicture, day_cells, IsClosedDay};
-ghost use Rattle.circ_tables.specs.Selections.{is_open_of, is_open_by, names_copy, is_active_by, is_active_on, travels_for, Waits, LendsTitle, AreClosedDays};
+ghost use Rattle.sql_maps.specs.Maps.{First, FirstOf};
+ghost use Rattle.circ_tables.specs.Shape.{copies_place, loans_place, holds_place, transits_place};
+ghost use Rattle.circ_tables.specs.Reading.{Selects, Counts, CountShown, ListsDays, loans, holds};
+ghost use Rattle.circ_tables.specs.Reading.{transits};
+ghost use Rattle.circ_tables.specs.Selections.{is_open_of, is_open_by, names_copy, is_active_by};
+ghost use Rattle.circ_tables.specs.Selections.{is_active_on, travels_for, Waits, LendsTitle};
 
-use crate::call::{all_rows, first_row};
+use crate::call::first_row;
 use crate::cell::number_at;
-use crate::entry::{ClosedDay, hold_row, loan_row, transit_row};
-use crate::list::entries;
+use crate::entry::ClosedDay;
+use crate::list::{row_of, rows_of};
 use calendar::Day;
 use sqlite::{Alter, Connection, params};
 use sqlite_value::value::ValueRef;
@@ -37,25 +26,15 @@ pub fn open_loan_of<S: Alter>(
     conn: &mut Connection<S>,
     copy: CopyId,
 ) -> Result<Option<LoanRow>, Fault>
-    ensures first { HasCleanDisk (state S.Store conn.new) → IfOk result (λ row. (maps : Maps) → Holds schema (state S.Store conn.old).now maps
-        → First (maps loans_place) (is_open_of copy) (map loan_cells (option_to_list row)) × IsUnchanged (state S.Store conn.old) (state S.Store conn.new)) }
-    ensures limits { IfOk result (λ row. IfSome row IsLoan) }
-    ensures stored { HasCleanDisk (state S.Store conn.new) → result ≡ Err Fault.Stored → (maps : Maps) → Holds schema (state S.Store conn.old).now maps
-        → ¬ AreEncoded loan_cells IsLoan (maps loans_place) }
-    ensures leaves { HasCleanDisk (state S.Store conn.new) → (state S.Store conn.old).now.schema ≡ schema → IsKeptOrUndone (state S.Store conn.old) (state S.Store conn.new) }
-    ensures clean { HasCleanDisk (state S.Store conn.new) → HasCleanDisk (state S.Store conn.old) }
-    ensures mode { conn.old.in_transaction ≡ false → conn.new.in_transaction ≡ false }
-    ensures survives { (state S.Store conn.old).now.schema ≡ schema → Survives (state S.Store conn.old) (state S.Store conn.new) (λ _. ⊥) }
+    ensures { Selects loans (λ maps. First (maps loans_place) (is_open_of copy))
+        S.Store conn.old conn.new result }
 {
-    let row = first_row(
+    row_of(
         conn,
+        (),
         "SELECT * FROM loans WHERE copy = ?1 AND ended IS NULL ORDER BY loan LIMIT 1",
         params![copy.number()],
-    )?;
-    match &row {
-        Some(row) => Ok(Some(loan_row(row)?)),
-        None => Ok(None),
-    }
+    )
 }
 
 /// The hold that names the copy, if one does. 91, 93.
@@ -63,25 +42,15 @@ pub fn ready_hold_of<S: Alter>(
     conn: &mut Connection<S>,
     copy: CopyId,
 ) -> Result<Option<HoldRow>, Fault>
-    ensures first { HasCleanDisk (state S.Store conn.new) → IfOk result (λ row. (maps : Maps) → Holds schema (state S.Store conn.old).now maps
-        → First (maps holds_place) (names_copy copy) (map hold_cells (option_to_list row)) × IsUnchanged (state S.Store conn.old) (state S.Store conn.new)) }
-    ensures limits { IfOk result (λ row. IfSome row IsHold) }
-    ensures stored { HasCleanDisk (state S.Store conn.new) → result ≡ Err Fault.Stored → (maps : Maps) → Holds schema (state S.Store conn.old).now maps
-        → ¬ AreEncoded hold_cells IsHold (maps holds_place) }
-    ensures leaves { HasCleanDisk (state S.Store conn.new) → (state S.Store conn.old).now.schema ≡ schema → IsKeptOrUndone (state S.Store conn.old) (state S.Store conn.new) }
-    ensures clean { HasCleanDisk (state S.Store conn.new) → HasCleanDisk (state S.Store conn.old) }
-    ensures mode { conn.old.in_transaction ≡ false → conn.new.in_transaction ≡ false }
-    ensures survives { (state S.Store conn.old).now.schema ≡ schema → Survives (state S.Store conn.old) (state S.Store conn.new) (λ _. ⊥) }
+    ensures { Selects holds (λ maps. First (maps holds_place) (names_copy copy))
+        S.Store conn.old conn.new result }
 {
-    let row = first_row(
+    row_of(
         conn,
+        (),
         "SELECT * FROM holds WHERE copy = ?1 ORDER BY hold LIMIT 1",
         params![copy.number()],
-    )?;
-    match &row {
-        Some(row) => Ok(Some(hold_row(row)?)),
-        None => Ok(None),
-    }
+    )
 }
 
 /// The travel of a copy for the hold, if one travels for it. 91, 93.
@@ -89,78 +58,52 @@ pub fn transit_for<S: Alter>(
     conn: &mut Connection<S>,
     hold: HoldId,
 ) -> Result<Option<TransitRow>, Fault>
-    ensures first { HasCleanDisk (state S.Store conn.new) → IfOk result (λ row. (maps : Maps) → Holds schema (state S.Store conn.old).now maps
-        → First (maps transits_place) (travels_for hold) (map transit_cells (option_to_list row)) × IsUnchanged (state S.Store conn.old) (state S.Store conn.new)) }
-    ensures limits { IfOk result (λ row. IfSome row IsTransit) }
-    ensures stored { HasCleanDisk (state S.Store conn.new) → result ≡ Err Fault.Stored → (maps : Maps) → Holds schema (state S.Store conn.old).now maps
-        → ¬ AreEncoded transit_cells IsTransit (maps transits_place) }
-    ensures leaves { HasCleanDisk (state S.Store conn.new) → (state S.Store conn.old).now.schema ≡ schema → IsKeptOrUndone (state S.Store conn.old) (state S.Store conn.new) }
-    ensures clean { HasCleanDisk (state S.Store conn.new) → HasCleanDisk (state S.Store conn.old) }
-    ensures mode { conn.old.in_transaction ≡ false → conn.new.in_transaction ≡ false }
-    ensures survives { (state S.Store conn.old).now.schema ≡ schema → Survives (state S.Store conn.old) (state S.Store conn.new) (λ _. ⊥) }
+    ensures { Selects transits (λ maps. First (maps transits_place) (travels_for hold))
+        S.Store conn.old conn.new result }
 {
-    let row = first_row(
+    row_of(
         conn,
+        (),
         "SELECT * FROM transits WHERE hold = ?1 ORDER BY copy LIMIT 1",
         params![hold.number()],
-    )?;
-    match &row {
-        Some(row) => Ok(Some(transit_row(row)?)),
-        None => Ok(None),
-    }
+    )
 }
 
-/// The first in line for a title: the waiting hold of the least number that no copy travels for. 91, 93.
+/// The first in line for a title: the waiting hold of the least number that no copy travels for.
+/// 91, 93.
 pub fn first_in_line<S: Alter>(
     conn: &mut Connection<S>,
     title: TitleId,
 ) -> Result<Option<HoldRow>, Fault>
-    ensures first { HasCleanDisk (state S.Store conn.new) → IfOk result (λ row. (maps : Maps) → Holds schema (state S.Store conn.old).now maps
-        → FirstOf (maps holds_place) (Waits (maps transits_place) title) (map hold_cells (option_to_list row)) × IsUnchanged (state S.Store conn.old) (state S.Store conn.new)) }
-    ensures limits { IfOk result (λ row. IfSome row IsHold) }
-    ensures stored { HasCleanDisk (state S.Store conn.new) → result ≡ Err Fault.Stored → (maps : Maps) → Holds schema (state S.Store conn.old).now maps
-        → ¬ AreEncoded hold_cells IsHold (maps holds_place) }
-    ensures leaves { HasCleanDisk (state S.Store conn.new) → (state S.Store conn.old).now.schema ≡ schema → IsKeptOrUndone (state S.Store conn.old) (state S.Store conn.new) }
-    ensures clean { HasCleanDisk (state S.Store conn.new) → HasCleanDisk (state S.Store conn.old) }
-    ensures mode { conn.old.in_transaction ≡ false → conn.new.in_transaction ≡ false }
-    ensures survives { (state S.Store conn.old).now.schema ≡ schema → Survives (state S.Store conn.old) (state S.Store conn.new) (λ _. ⊥) }
+    ensures { Selects holds
+        (λ maps. FirstOf (maps holds_place) (Waits (maps transits_place) title))
+        S.Store conn.old conn.new result }
 {
-    let row = first_row(
+    row_of(
         conn,
+        (),
         "SELECT * FROM holds WHERE title = ?1 AND state = 0 AND NOT EXISTS (SELECT * FROM transits WHERE transits.hold = holds.hold) ORDER BY hold LIMIT 1",
         params![title.number()],
-    )?;
-    match &row {
-        Some(row) => Ok(Some(hold_row(row)?)),
-        None => Ok(None),
-    }
+    )
 }
 
-/// The open loan of a patron of some copy of the title, the least number first, if there is one. 91, 93.
+/// The open loan of a patron of some copy of the title, the least number first, if there is one.
+/// 91, 93.
 pub fn open_loan_of_title<S: Alter>(
     conn: &mut Connection<S>,
     patron: PatronId,
     title: TitleId,
 ) -> Result<Option<LoanRow>, Fault>
-    ensures first { HasCleanDisk (state S.Store conn.new) → IfOk result (λ row. (maps : Maps) → Holds schema (state S.Store conn.old).now maps
-        → FirstOf (maps loans_place) (LendsTitle (maps copies_place) patron title) (map loan_cells (option_to_list row)) × IsUnchanged (state S.Store conn.old) (state S.Store conn.new)) }
-    ensures limits { IfOk result (λ row. IfSome row IsLoan) }
-    ensures stored { HasCleanDisk (state S.Store conn.new) → result ≡ Err Fault.Stored → (maps : Maps) → Holds schema (state S.Store conn.old).now maps
-        → ¬ AreEncoded loan_cells IsLoan (maps loans_place) }
-    ensures leaves { HasCleanDisk (state S.Store conn.new) → (state S.Store conn.old).now.schema ≡ schema → IsKeptOrUndone (state S.Store conn.old) (state S.Store conn.new) }
-    ensures clean { HasCleanDisk (state S.Store conn.new) → HasCleanDisk (state S.Store conn.old) }
-    ensures mode { conn.old.in_transaction ≡ false → conn.new.in_transaction ≡ false }
-    ensures survives { (state S.Store conn.old).now.schema ≡ schema → Survives (state S.Store conn.old) (state S.Store conn.new) (λ _. ⊥) }
+    ensures { Selects loans
+        (λ maps. FirstOf (maps loans_place) (LendsTitle (maps copies_place) patron title))
+        S.Store conn.old conn.new result }
 {
-    let row = first_row(
+    row_of(
         conn,
+        (),
         "SELECT * FROM loans WHERE patron = ?1 AND ended IS NULL AND EXISTS (SELECT * FROM copies WHERE copies.copy = loans.copy AND copies.title = ?2) ORDER BY loan LIMIT 1",
         params![patron.number(), title.number()],
-    )?;
-    match &row {
-        Some(row) => Ok(Some(loan_row(row)?)),
-        None => Ok(None),
-    }
+    )
 }
 
 /// The number that a text counts. 91; 93 from 2^32 on.
@@ -169,13 +112,7 @@ fn counted<S: Alter>(
     sql: &str,
     params: &[ValueRef<'_>],
 ) -> Result<Count, Fault>
-    ensures counts { HasCleanDisk (state S.Store conn.new) → IfOk result (λ n. (row : SqlRow) × FindsRow sql.now (bound params.now) (state S.Store conn.old) (state S.Store conn.new) (Some row) × (column row 0 ≡ number n) × (n ≤ 4294967295)) }
-    ensures stored { HasCleanDisk (state S.Store conn.new) → result ≡ Err Fault.Stored → (row : SqlRow) × FindsRow sql.now (bound params.now) (state S.Store conn.old) (state S.Store conn.new) (Some row)
-        × (0 < length row → (n : ℕ) → n ≤ 4294967295 → column row 0 ≢ number n) }
-    ensures leaves { HasCleanDisk (state S.Store conn.new) → IsPlain (understood (state S.Store conn.old).now.schema sql.now) → IsKeptOrUndone (state S.Store conn.old) (state S.Store conn.new) }
-    ensures clean { HasCleanDisk (state S.Store conn.new) → HasCleanDisk (state S.Store conn.old) }
-    ensures mode { conn.old.in_transaction ≡ false → conn.new.in_transaction ≡ false }
-    ensures survives { Survives (state S.Store conn.old) (state S.Store conn.new) (CommitsShowing sql.now (bound params.now) (state S.Store conn.old)) }
+    ensures { CountShown sql.now (bound params.now) S.Store conn.old conn.new result }
 {
     match &first_row(conn, sql, params)? {
         Some(row) => Ok(Count::new(number_at(row, 0, 0, u32::MAX)?)),
@@ -188,14 +125,7 @@ pub fn count_open_loans<S: Alter>(
     conn: &mut Connection<S>,
     patron: PatronId,
 ) -> Result<Count, Fault>
-    ensures counts { HasCleanDisk (state S.Store conn.new) → IfOk result (λ n. (maps : Maps) → Holds schema (state S.Store conn.old).now maps
-        → IsCount (maps loans_place) (is_open_by patron) n × IsUnchanged (state S.Store conn.old) (state S.Store conn.new)) }
-    ensures stored { HasCleanDisk (state S.Store conn.new) → result ≡ Err Fault.Stored → (maps : Maps) → Holds schema (state S.Store conn.old).now maps
-        → (n : ℕ) × IsCount (maps loans_place) (is_open_by patron) n × (4294967295 < n) }
-    ensures leaves { HasCleanDisk (state S.Store conn.new) → (state S.Store conn.old).now.schema ≡ schema → IsKeptOrUndone (state S.Store conn.old) (state S.Store conn.new) }
-    ensures clean { HasCleanDisk (state S.Store conn.new) → HasCleanDisk (state S.Store conn.old) }
-    ensures mode { conn.old.in_transaction ≡ false → conn.new.in_transaction ≡ false }
-    ensures survives { (state S.Store conn.old).now.schema ≡ schema → Survives (state S.Store conn.old) (state S.Store conn.new) (λ _. ⊥) }
+    ensures { Counts loans (is_open_by patron) S.Store conn.old conn.new result }
 {
     counted(
         conn,
@@ -209,14 +139,7 @@ pub fn count_active_holds<S: Alter>(
     conn: &mut Connection<S>,
     patron: PatronId,
 ) -> Result<Count, Fault>
-    ensures counts { HasCleanDisk (state S.Store conn.new) → IfOk result (λ n. (maps : Maps) → Holds schema (state S.Store conn.old).now maps
-        → IsCount (maps holds_place) (is_active_by patron) n × IsUnchanged (state S.Store conn.old) (state S.Store conn.new)) }
-    ensures stored { HasCleanDisk (state S.Store conn.new) → result ≡ Err Fault.Stored → (maps : Maps) → Holds schema (state S.Store conn.old).now maps
-        → (n : ℕ) × IsCount (maps holds_place) (is_active_by patron) n × (4294967295 < n) }
-    ensures leaves { HasCleanDisk (state S.Store conn.new) → (state S.Store conn.old).now.schema ≡ schema → IsKeptOrUndone (state S.Store conn.old) (state S.Store conn.new) }
-    ensures clean { HasCleanDisk (state S.Store conn.new) → HasCleanDisk (state S.Store conn.old) }
-    ensures mode { conn.old.in_transaction ≡ false → conn.new.in_transaction ≡ false }
-    ensures survives { (state S.Store conn.old).now.schema ≡ schema → Survives (state S.Store conn.old) (state S.Store conn.new) (λ _. ⊥) }
+    ensures { Counts holds (is_active_by patron) S.Store conn.old conn.new result }
 {
     counted(
         conn,
@@ -231,14 +154,7 @@ pub fn count_active_holds_on<S: Alter>(
     patron: PatronId,
     title: TitleId,
 ) -> Result<Count, Fault>
-    ensures counts { HasCleanDisk (state S.Store conn.new) → IfOk result (λ n. (maps : Maps) → Holds schema (state S.Store conn.old).now maps
-        → IsCount (maps holds_place) (is_active_on patron title) n × IsUnchanged (state S.Store conn.old) (state S.Store conn.new)) }
-    ensures stored { HasCleanDisk (state S.Store conn.new) → result ≡ Err Fault.Stored → (maps : Maps) → Holds schema (state S.Store conn.old).now maps
-        → (n : ℕ) × IsCount (maps holds_place) (is_active_on patron title) n × (4294967295 < n) }
-    ensures leaves { HasCleanDisk (state S.Store conn.new) → (state S.Store conn.old).now.schema ≡ schema → IsKeptOrUndone (state S.Store conn.old) (state S.Store conn.new) }
-    ensures clean { HasCleanDisk (state S.Store conn.new) → HasCleanDisk (state S.Store conn.old) }
-    ensures mode { conn.old.in_transaction ≡ false → conn.new.in_transaction ≡ false }
-    ensures survives { (state S.Store conn.old).now.schema ≡ schema → Survives (state S.Store conn.old) (state S.Store conn.new) (λ _. ⊥) }
+    ensures { Counts holds (is_active_on patron title) S.Store conn.old conn.new result }
 {
     counted(
         conn,
@@ -261,23 +177,14 @@ pub fn closed_days_of<S: Alter>(
     alloc: Global,
     branch: BranchId,
 ) -> Result<Vec<Day>, Fault>
-    ensures days { HasCleanDisk (state S.Store conn.new) → IfOk result (λ days. (maps : Maps) → Holds schema (state S.Store conn.old).now maps
-        → AreClosedDays (maps closed_days_place) branch days.items × IsUnchanged (state S.Store conn.old) (state S.Store conn.new)) }
-    ensures limits { IfOk result (λ days. All IsDayNumber days.items) }
-    ensures stored { HasCleanDisk (state S.Store conn.new) → result ≡ Err Fault.Stored → (maps : Maps) → Holds schema (state S.Store conn.old).now maps
-        → ¬ AreEncoded day_cells IsClosedDay (maps closed_days_place) }
-    ensures shows { HasCleanDisk (state S.Store conn.new) → IfOk result (λ days. (P : Picture) → HasPicture (state S.Store conn.old).now P
-        → ((d : ℕ) → has_day days.items d ≡ P.closed_days branch d) × (has_repeat days.items ≡ false) × IsUnchanged (state S.Store conn.old) (state S.Store conn.new)) }
-    ensures leaves { HasCleanDisk (state S.Store conn.new) → (state S.Store conn.old).now.schema ≡ schema → IsKeptOrUndone (state S.Store conn.old) (state S.Store conn.new) }
-    ensures clean { HasCleanDisk (state S.Store conn.new) → HasCleanDisk (state S.Store conn.old) }
-    ensures mode { conn.old.in_transaction ≡ false → conn.new.in_transaction ≡ false }
-    ensures survives { (state S.Store conn.old).now.schema ≡ schema → Survives (state S.Store conn.old) (state S.Store conn.new) (λ _. ⊥) }
+    ensures { ListsDays (λ l. l.items) branch S.Store conn.old conn.new result }
 {
-    let rows = all_rows(
+    let closed: Vec<ClosedDay> = rows_of(
         conn,
+        alloc,
+        (),
         "SELECT * FROM closed_days WHERE branch = ?1 ORDER BY day",
         params![branch.number()],
     )?;
-    let closed: Vec<ClosedDay> = entries(alloc, rows.as_slice())?;
     days_of(alloc, closed.as_slice())
 }

@@ -18,3 +18,4 @@ pub mod ShelfLists
 pub mod ShelfRows
 pub mod OverdueLists
 pub mod OverdueRows
+pub mod WrittenReports

@@ -1,13 +1,22 @@
 -- How the desk answers a request, over tables that show a history.
-use Rattle.std.specs.Prelude.{◌≡◌, Bool, true, false, List, ◌∷◌, ℕ, Option, Some, None, is_none, Result, OnOk, OnErr, IsTrue}
-use Rattle.sqlite.specs.State.{State, HasCleanDisk}
+use Rattle.std.specs.Prelude.{◌≡◌, Bool, true, false, List, ◌∷◌, ℕ, Option, Some, None, is_none, Result, Err, IfOk, OnOk, OnErr, IsTrue}
+use Rattle.store.specs.Library.{Ghosts, Held, State, state, IsClean, IsOpen, HasCleanDisk}
 use Rattle.store.specs.Stops.{KeepsPicture, LeavesPicture, LeavesEither}
+use Rattle.circ_core.specs.Decides.{event}
+use Rattle.circ_core.specs.Views.{IsViewOf}
+use Rattle.circ_core.specs.declared.views.View.{View}
+use Rattle.circ_tables.specs.Encoding.{HasPicture}
+use Rattle.terms.specs.Limits.{IsOwner}
+use Rattle.terms.specs.Pictures.{Picture}
 use Rattle.terms.specs.declared.command.Owner.{Owner}
 use Rattle.terms.specs.declared.command.Owner.TheVariants.{Desk, Patron}
+use Rattle.terms.specs.declared.command.Caller.{Caller}
 use Rattle.terms.specs.declared.command.Caller.TheVariants.{Patron as FromPatron}
 use Rattle.terms.specs.declared.command.Command.TheVariants.{Page}
 use Rattle.terms.specs.declared.command.Command.{Command}
 use Rattle.terms.specs.declared.command.Request.{Request}
+use Rattle.terms.specs.declared.fault.Fault.{Fault}
+use Rattle.terms.specs.declared.fault.Fault.TheVariants.{Stored}
 use Rattle.terms.specs.declared.refusal.Refusal.{Refusal}
 use Rattle.terms.specs.declared.refusal.Refusal.TheVariants.{KeyUsed, NotAllowed}
 use Rattle.terms.specs.declared.reply.Reply.{Reply}
@@ -18,7 +27,8 @@ use Rattle.model.specs.Refusals.{refusal}
 use Rattle.model.specs.Answers.{answer}
 use Rattle.model.specs.Picture.{picture}
 use Rattle.model.specs.Forms.{HasForms}
-use Rattle.model.specs.Requests.{IsLegal, is_known, kept_of, event_of}
+use Rattle.model.specs.Requests.{IsLegal, is_known, may_send, kept_of, event_of, reply_by_key, reply_to, after_one}
+use Rattle.desk.specs.Callers.{RefusesForeign}
 
 -- ---- tables that show a history
 
@@ -36,19 +46,49 @@ Stays old new = (H : History) → Shows old H → Shows new H
 abbrev pub LeavesOneOf : State → History → History → Type 0
 LeavesOneOf s H K = LeavesEither s (picture H) (picture K)
 
--- A call that only looks: the tables show what they showed, after an error too where the database is still open.
+-- A call that only looks at the tables. As in the records below, the promises are for a disk that
+-- gives back what was written to it, up to the end of the call.
 pub record Looks {T E : Type 0} (old new : State) (result : Result T E) : Type 0 where
+  -- a disk that is sound at the end was sound at the start
   pub clean : HasCleanDisk new → HasCleanDisk old
+  -- the tables show what they showed
   pub stays : HasCleanDisk new → OnOk result (Stays old new)
+  -- after an error too, as long as the database is open
   pub undone : HasCleanDisk new → IsTrue new.is_open → OnErr result (Stays old new)
+  -- whenever the program is stopped, that is what is left
   pub left : HasCleanDisk new → (H : History) → Shows old H → LeavesPicture new (picture H)
+
+-- A call that only looks at the tables, and what it answers.
+pub record Learns {S A : Type 0} (Is : History → A → Type 0)
+    (g : Ghosts S) (old new : Held S) (result : Result A Fault) : Type 0 where
+  -- an answer is so after each list of accepted requests that the tables show
+  pub shown : IsClean g new → IfOk result (λ x. (H : History) → Shows (state g old) H → Is H x)
+  -- whatever the outcome, the tables show what they showed
+  pub looks : Looks (state g old) (state g new) result
+
+-- The same over rows that are never damaged: fault 93 doesn't come where the tables show a list of
+-- accepted requests.
+pub record LearnsSoundly {S A : Type 0} (Is : History → A → Type 0)
+    (g : Ghosts S) (old new : Held S) (result : Result A Fault) : Type 0 where
+  pub learns : Learns Is g old new result
+  pub sound : IsClean g new → result ≡ Err Stored → (H : History) → Shows (state g old) H → ⊥
 
 -- ---- parts of an answer
 
 -- A refusal of the owner's own, or none beyond those of the desk.
-abbrev pub Settles : History → Owner → Command → Option Refusal → Type 0
-Settles H o c (Some refused) = refusal H o c ≡ Some refused
-Settles H o c None = refusal H o c ≡ refusal H Desk c
+abbrev pub Settles : Owner → Command → History → Option Refusal → Type 0
+Settles o c H (Some refused) = refusal H o c ≡ Some refused
+Settles o c H None = refusal H o c ≡ refusal H Desk c
+
+-- Whether the caller is the desk, or a patron who shows the own card key.
+abbrev pub Knows : Caller → History → Bool → Type 0
+Knows caller H known = known ≡ is_known H caller
+
+-- The view holds the rows that the command needs, and the owner has no refusal beyond those of the
+-- desk.
+abbrev pub IsViewFor : Owner → Command → View → History → Type 0
+IsViewFor owner command view H = IsViewOf (picture H) command view
+    × (refusal H owner command ≡ refusal H Desk command)
 
 -- The history with the event, unless that is refused.
 abbrev pub added : History → Event → History
@@ -65,3 +105,81 @@ after_key H r = elim (is_none (kept_of H (owner_of r.caller) r.key)) [ true ↦ 
 -- What a patron who shows a card key is shown: the own page, or that this isn't allowed.
 abbrev pub page_for : History → ℕ → List ℕ → Reply
 page_for H patron card_key = elim (is_known H (FromPatron patron card_key)) [ true ↦ answer H (Patron patron) (Page patron) | false ↦ Refused NotAllowed ]
+
+-- The reply is what such a patron is shown.
+abbrev pub IsPageFor : ℕ → List ℕ → History → Reply → Type 0
+IsPageFor patron card_key H reply = reply ≡ page_for H patron card_key
+
+-- ---- a request that is handled
+
+-- After a fault the tables show what they showed, as long as the database is open.
+abbrev pub Undoes : {S A : Type 0} → Ghosts S → Held S → Held S → Result A Fault → Type 0
+Undoes g old new result = IsClean g new → IsOpen g new
+    → OnErr result (Stays (state g old) (state g new))
+
+-- The same of any picture that the tables showed, be it of a list of accepted requests or not.
+abbrev pub UndoesPictures : {S A : Type 0} → Ghosts S → Held S → Held S → Result A Fault → Type 0
+UndoesPictures g old new result =
+    IsClean g new → IsOpen g new
+    → OnErr result ((P : Picture) → KeepsPicture (state g old) P → KeepsPicture (state g new) P)
+
+-- The changes of an accepted command were made and its reply was kept, in one step: `made` is the
+-- picture after it.
+pub record Records {S A : Type 0} (owner : Owner) (made : Picture → Picture)
+    (g : Ghosts S) (old new : Held S) (result : Result A Fault) : Type 0 where
+  pub clean : IsClean g new → IsClean g old
+  -- once it is done, the tables show the picture after it
+  pub done : IsClean g new → IsOwner owner
+      → OnOk result ((P : Picture) → HasPicture (state g old).now P
+      → KeepsPicture (state g new) (made P))
+  -- after a fault they show the picture before it, as long as the database is open
+  pub undone : UndoesPictures g old new result
+  -- a stop leaves the picture before it or the one after it
+  pub left : IsClean g new → IsOwner owner → (P : Picture) → KeepsPicture (state g old) P
+      → LeavesEither (state g new) P (made P)
+
+-- A command was answered, where the list of accepted requests is as `If` says: `reply` is the reply
+-- that the list gives, and `next` the list after the command.
+pub record Answered {S : Type 0} (owner : Owner) (If : History → Type 0) (reply : History → Reply)
+    (next : History → History)
+    (g : Ghosts S) (old new : Held S) (result : Result Reply Fault) : Type 0 where
+  pub clean : IsClean g new → IsClean g old
+  -- the answer is that reply, and the tables show what the next list leaves
+  pub replied : IsClean g new → IsOwner owner
+      → IfOk result (λ given. (H : History) → Shows (state g old) H → If H
+      → (given ≡ reply H) × KeepsPicture (state g new) (picture (next H)))
+  -- a stop leaves what the one list leaves or what the other leaves
+  pub left : IsClean g new → IsOwner owner → (H : History) → Shows (state g old) H → If H
+      → LeavesOneOf (state g new) H (next H)
+
+-- A command of the owner was answered, which is kept under the key if it is accepted.
+abbrev pub AnswersCommand : {S : Type 0} → Owner → List ℕ → Command → (History → Type 0)
+    → Ghosts S → Held S → Held S → Result Reply Fault → Type 0
+AnswersCommand owner key command If =
+    Answered owner If (λ H. answer H owner command) (λ H. added H (event owner key command))
+
+-- A request that its caller may send was answered: by what is kept under its key, and else by what
+-- becomes of its command.
+abbrev pub AnswersByKey : {S : Type 0} → Request → Ghosts S → Held S → Held S → Result Reply Fault
+    → Type 0
+AnswersByKey request =
+    Answered (owner_of request.caller)
+    (λ _. may_send (owner_of request.caller) request.command ≡ true)
+    (λ H. reply_by_key H request (kept_of H (owner_of request.caller) request.key))
+    (λ H. after_key H request)
+
+-- A request of any caller was handled, or a fault came.
+pub record Handled {S : Type 0} (request : Request)
+    (g : Ghosts S) (old new : Held S) (result : Result Reply Fault) : Type 0 where
+  -- a caller who may not send the command is refused as not allowed
+  pub foreign : IfOk result (RefusesForeign request)
+  pub clean : IsClean g new → IsClean g old
+  -- the reply is the one that the list of accepted requests gives, and the tables show the list
+  -- after the request
+  pub replied : IsClean g new → IfOk result (λ reply. (H : History) → Shows (state g old) H
+      → (reply ≡ reply_to H request) × Shows (state g new) (after_one H request))
+  -- after a fault the tables show what they showed, as long as the database is open
+  pub undone : Undoes g old new result
+  -- a stop leaves what was there or what is there after the request
+  pub left : IsClean g new → (H : History) → Shows (state g old) H
+      → LeavesOneOf (state g new) H (after_one H request)

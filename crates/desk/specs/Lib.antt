@@ -3,3 +3,5 @@ pub mod Answering
 pub mod Headline
 pub mod Paging
 pub mod Reporting
+pub mod Written
+pub mod Running

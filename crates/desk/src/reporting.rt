@@ -1,22 +1,17 @@
 //! Reports: the till of a day, and the ready holds of a branch.
 
-ghost use Rattle.std.specs.Prelude.{◌≡◌, ◌≤◌, ℕ, ◌++◌, ◌∷◌, [], ◌^◌, cond, map, Some, None, Ok, Err, IfOk, IfSome, OnOk, OnErr, string_bytes};
-ghost use Rattle.std.specs.List.{Contains};
-ghost use Rattle.std.specs.Io.KnownBytes.{Appends, Keeps};
-ghost use Rattle.sqlite.specs.Held.{state};
-ghost use Rattle.sqlite.specs.State.{HasCleanDisk};
-ghost use Rattle.terms.specs.Writing.{AppendsFront};
-ghost use Rattle.terms.specs.declared.fault.Fault.{Fault as AnyFault};
-ghost use Rattle.terms.specs.declared.refusal.Refusal.{Refusal as AnyRefusal};
-ghost use Rattle.terms.specs.declared.row.BranchRow.{BranchRow as Branch};
-ghost use Rattle.terms.specs.declared.row.HoldRow.{HoldRow as Hold};
+ghost use Rattle.std.specs.Prelude.{◌≡◌, ◌≤◌, ℕ, ◌++◌, ◌∷◌, [], ◌^◌, cond, map, Some, IfOk, OnErr};
+ghost use Rattle.std.specs.Prelude.{string_bytes};
 ghost use Rattle.terms.specs.declared.row.Sort.{Sort as AnySort};
 ghost use Rattle.store.specs.Lists.{AreReadyAt};
-ghost use Rattle.model.specs.History.{History};
 ghost use Rattle.model.specs.Picture.{picture};
-ghost use Rattle.model.specs.Reports.{is_sort, report_lines, shelf_line, shelf as shelf_of, till as till_of};
-ghost use Rattle.desk.specs.Answering.{Shows, Looks};
-ghost use Rattle.desk.specs.Reporting.{rows_sum, rows_sums, till_words, shelf_header, ready_words, ready_count};
+ghost use Rattle.model.specs.Reports.{is_sort, report_lines, shelf_line, shelf as shelf_of};
+ghost use Rattle.model.specs.Reports.{till as till_of};
+ghost use Rattle.desk.specs.Answering.{Learns, LearnsSoundly};
+ghost use Rattle.desk.specs.Written.{WritesTill, IsReport, WritesReport};
+ghost use Rattle.desk.specs.Reporting.{rows_sum, rows_sums, till_words, shelf_header, ready_words};
+ghost use Rattle.desk.specs.Reporting.{ready_count};
+ghost use Rattle.desk.specs.Paging.{AreHoldRows};
 
 use crate::paging::title_row;
 use sqlite::Alter;
@@ -120,15 +115,15 @@ fn till_lines(alloc: Global, day: Day, sums: Sums) -> Result<String, Memory>
         waivers,
     } = sums;
     format!(in alloc;
-        "till {day}\nfines    {fines:>15}\nprices   {prices:>15}\npayments {payments:>15}\nwaivers  {waivers:>15}\n"
+        "till {day}\nfines    {fines:>15}\nprices   {prices:>15}\n\
+         payments {payments:>15}\nwaivers  {waivers:>15}\n"
     )
 }
 
 /// The till report of a day. 90, 91; 93, which never comes where the tables show a history.
 fn till_text<S: Alter>(store: &mut Store<S>, alloc: Global, day: Day) -> Result<String, Fault>
-    ensures text { HasCleanDisk (state S.Store store.new) → IfOk result (λ text. (H : History) → Shows (state S.Store store.old) H → string_bytes text ≡ till_of H day) }
-    ensures sound { HasCleanDisk (state S.Store store.new) → result ≡ Err Fault.Stored → (H : History) → Shows (state S.Store store.old) H → ⊥ }
-    ensures looks { Looks (state S.Store store.old) (state S.Store store.new) result }
+    ensures { LearnsSoundly (λ H text. string_bytes text ≡ till_of H day)
+        S.Store store.old store.new result }
 {
     let rows = store.lines(alloc, day)?;
     let sums = sums_of(&rows)?;
@@ -142,13 +137,8 @@ pub(crate) fn till<S: Alter, W: Write>(
     day: Day,
     writer: &mut W,
 ) -> Result<(), ReportFault>
-    ensures written { HasCleanDisk (state S.Store store.new) → OnOk result ((H : History) → Shows (state S.Store store.old) H → Appends (W.contents writer.old) (W.contents writer.new) (till_of H day)) }
-    ensures refused { (refusal : AnyRefusal) → result ≡ Err (ReportFault.Refused refusal) → ⊥ }
-    ensures silent { (fault : AnyFault) → result ≡ Err (ReportFault.Faulted fault) → Keeps (W.contents writer.old) (W.contents writer.new) }
-    ensures sound { HasCleanDisk (state S.Store store.new) → result ≡ Err (ReportFault.Faulted Fault.Stored) → (H : History) → Shows (state S.Store store.old) H → ⊥ }
-    ensures cut { HasCleanDisk (state S.Store store.new) → result ≡ Err ReportFault.NotWritten → (H : History) → Shows (state S.Store store.old) H
-        → AppendsFront (W.contents writer.old) (W.contents writer.new) (till_of H day) × Shows (state S.Store store.new) H }
-    ensures looks { Looks (state S.Store store.old) (state S.Store store.new) result }
+    ensures { WritesTill day
+        S.Store store.old store.new (W.contents writer.old) (W.contents writer.new) result }
 {
     let text = till_text(store, alloc, day)?;
     write_bytes(writer, text.as_bytes())?;
@@ -170,7 +160,8 @@ fn shelf_row(
     limit_day: Day,
     title: &TitleRow,
 ) -> Result<String, Memory>
-    ensures { IfOk result (λ text. string_bytes text ≡ ready_words row.now copy limit_day title.now.text ++ (10 ∷ [])) }
+    ensures { IfOk result (λ text. string_bytes text
+        ≡ ready_words row.now copy limit_day title.now.text ++ (10 ∷ [])) }
 {
     let hold = row.hold.number();
     let copy = copy.number();
@@ -186,11 +177,12 @@ fn shelf_end(alloc: Global, count: usize) -> Result<String, Memory>
     format!(in alloc; "ready {count}\n")
 }
 
-/// The row of a ready hold, with its title. 90, 91; 93, also where the hold names no copy or no limit.
+/// The row of a ready hold, with its title. 90, 91; 93, also where the hold names no copy or no
+/// limit.
 fn ready_line<S: Alter>(store: &mut Store<S>, alloc: Global, row: &HoldRow) -> Result<String, Fault>
-    ensures line { HasCleanDisk (state S.Store store.new) → IfOk result (λ text. (H : History) → Shows (state S.Store store.old) H
-        → (picture H).holds row.now.hold ≡ Some row.now → string_bytes text ≡ shelf_line H row.now.hold ++ (10 ∷ [])) }
-    ensures looks { Looks (state S.Store store.old) (state S.Store store.new) result }
+    ensures { Learns (λ H text. (picture H).holds row.now.hold ≡ Some row.now
+        → string_bytes text ≡ shelf_line H row.now.hold ++ (10 ∷ []))
+        S.Store store.old store.new result }
 {
     let Some(copy) = row.copy else {
         return Err(Fault::Stored);
@@ -209,10 +201,9 @@ fn add_ready<S: Alter>(
     rows: &[HoldRow],
     text: &mut String,
 ) -> Result<(), Fault>
-    ensures lines { HasCleanDisk (state S.Store store.new) → OnOk result ((H : History) → Shows (state S.Store store.old) H
-        → ((r : Hold) → Contains rows.now r → (picture H).holds r.hold ≡ Some r)
-        → string_bytes text.new ≡ string_bytes text.old ++ report_lines (map (λ r. shelf_line H r.hold) rows.now)) }
-    ensures looks { Looks (state S.Store store.old) (state S.Store store.new) result }
+    ensures { Learns (λ H _. AreHoldRows H rows.now → string_bytes text.new
+        ≡ string_bytes text.old ++ report_lines (map (λ r. shelf_line H r.hold) rows.now))
+        S.Store store.old store.new result }
 {
     'rows: for row in rows {
         let line = ready_line(store, alloc, row)?;
@@ -221,15 +212,16 @@ fn add_ready<S: Alter>(
     Ok(())
 }
 
-/// The shelf report over these rows: the header, a row for each, and how many there are. 90, 91, 93.
+/// The shelf report over these rows: the header, a row for each, and how many there are. 90, 91,
+/// 93.
 fn shelf_lines<S: Alter>(
     store: &mut Store<S>,
     alloc: Global,
     rows: &[HoldRow],
 ) -> Result<String, Fault>
-    ensures lines { HasCleanDisk (state S.Store store.new) → IfOk result (λ text. (H : History) → Shows (state S.Store store.old) H
-        → (branch : ℕ) → AreReadyAt (picture H) branch rows.now → string_bytes text ≡ shelf_of H branch) }
-    ensures looks { Looks (state S.Store store.old) (state S.Store store.new) result }
+    ensures { Learns (λ H text. (branch : ℕ) → AreReadyAt (picture H) branch rows.now
+        → string_bytes text ≡ shelf_of H branch)
+        S.Store store.old store.new result }
 {
     let mut text = shelf_start(alloc)?;
     add_ready(store, alloc, rows, &mut text)?;
@@ -244,8 +236,8 @@ fn ready_text<S: Alter>(
     alloc: Global,
     branch: BranchId,
 ) -> Result<String, Fault>
-    ensures text { HasCleanDisk (state S.Store store.new) → IfOk result (λ text. (H : History) → Shows (state S.Store store.old) H → string_bytes text ≡ shelf_of H branch) }
-    ensures looks { Looks (state S.Store store.old) (state S.Store store.new) result }
+    ensures { Learns (λ H text. string_bytes text ≡ shelf_of H branch)
+        S.Store store.old store.new result }
 {
     let rows = store.ready_holds(alloc, branch)?;
     shelf_lines(store, alloc, &rows)
@@ -257,10 +249,7 @@ fn shelf_text<S: Alter>(
     alloc: Global,
     branch: BranchId,
 ) -> Result<Option<String>, Fault>
-    ensures text { HasCleanDisk (state S.Store store.new) → IfOk result (λ report. (H : History) → Shows (state S.Store store.old) H
-        → IfSome report (λ text. ((row : Branch) × ((picture H).branches branch ≡ Some row)) × (string_bytes text ≡ shelf_of H branch))) }
-    ensures none { HasCleanDisk (state S.Store store.new) → result ≡ Ok None → (H : History) → Shows (state S.Store store.old) H → (picture H).branches branch ≡ None }
-    ensures looks { Looks (state S.Store store.old) (state S.Store store.new) result }
+    ensures { Learns (IsReport (λ H. shelf_of H branch) branch) S.Store store.old store.new result }
 {
     match store.branch(alloc, branch)? {
         Some(_row) => {
@@ -271,22 +260,16 @@ fn shelf_text<S: Alter>(
     }
 }
 
-/// Writes the shelf report of a branch; 10 where there is no such branch. 90, 91, 93, before anything is written; or
-/// a write failed.
+/// Writes the shelf report of a branch; 10 where there is no such branch. 90, 91, 93, before
+/// anything is written; or a write failed.
 pub(crate) fn shelf<S: Alter, W: Write>(
     store: &mut Store<S>,
     alloc: Global,
     branch: BranchId,
     writer: &mut W,
 ) -> Result<(), ReportFault>
-    ensures written { HasCleanDisk (state S.Store store.new) → OnOk result ((H : History) → Shows (state S.Store store.old) H → Appends (W.contents writer.old) (W.contents writer.new) (shelf_of H branch)) }
-    ensures known { HasCleanDisk (state S.Store store.new) → OnOk result ((H : History) → Shows (state S.Store store.old) H → (row : Branch) × ((picture H).branches branch ≡ Some row)) }
-    ensures refused { (refusal : AnyRefusal) → result ≡ Err (ReportFault.Refused refusal) → (refusal ≡ Refusal.UnknownBranch) × Keeps (W.contents writer.old) (W.contents writer.new) }
-    ensures unknown { HasCleanDisk (state S.Store store.new) → (refusal : AnyRefusal) → result ≡ Err (ReportFault.Refused refusal) → (H : History) → Shows (state S.Store store.old) H → (picture H).branches branch ≡ None }
-    ensures silent { (fault : AnyFault) → result ≡ Err (ReportFault.Faulted fault) → Keeps (W.contents writer.old) (W.contents writer.new) }
-    ensures cut { HasCleanDisk (state S.Store store.new) → result ≡ Err ReportFault.NotWritten → (H : History) → Shows (state S.Store store.old) H
-        → ((row : Branch) × ((picture H).branches branch ≡ Some row)) × AppendsFront (W.contents writer.old) (W.contents writer.new) (shelf_of H branch) × Shows (state S.Store store.new) H }
-    ensures looks { Looks (state S.Store store.old) (state S.Store store.new) result }
+    ensures { WritesReport (λ H. shelf_of H branch) branch S.Store store.old store.new
+        (W.contents writer.old) (W.contents writer.new) result }
 {
     let Some(report) = shelf_text(store, alloc, branch)? else {
         return Err(ReportFault::Refused(Refusal::UnknownBranch));

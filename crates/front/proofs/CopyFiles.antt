@@ -1,4 +1,5 @@
 -- The records of a file, and the rows that they are.
+use Rattle.front.specs.declared.copies.TheConstants.{MOST_ROWS}
 use Rattle.std.proofs.Common.{if◌then◌else◌, ◌≡◌, ◌≢◌, ◌⊎◌, inl, inr, ◌∙◌, ◌<◌, ◌≤◌, ◌+◌, ◌++◌, ℕ, Bool, true, false, refl, sym, ap, subst, List, [], ◌∷◌, length, Option, Some, None, arith, zero, suc}
 use Rattle.std.proofs.lemmas.List.{append-nil, length-append}
 use Rattle.csv.specs.Machine.{Read as Found, ends_at_end, is_end, next_record, step, fields_after, field_after}
@@ -9,7 +10,7 @@ use Rattle.csv.specs.declared.parser.State.TheVariants as st
 use Rattle.csv.specs.declared.reader.Reader.{Reader}
 use Rattle.csv.proofs.ReadFacts.{rows-end, rows-more}
 use Rattle.std.specs.Prelude.{option_map}
-use Rattle.front.specs.Copies.{Fields, IsRow, IsNoRow, HaveRows, BeginWith, FileBeginsWith, Tells, IsReading, FilesReadOnce, header_fields, most_rows, records_in}
+use Rattle.front.specs.Copies.{Fields, IsRow, IsNoRow, HaveRows, BeginWith, FileBeginsWith, Tells, IsReading, FilesReadOnce, header_fields, records_in}
 use Rattle.front.specs.CopyReading.{HasRead, IsPlain, IsRestReading, Takes, TellsRows}
 use Rattle.front.specs.declared.copies.CopyRow.{CopyRow}
 use Rattle.front.specs.declared.copies.CopyEnd.{CopyEnd}
@@ -67,7 +68,7 @@ splits cfg (suc n) s xs (r ∷ rs) s2 ys long h = go rs (shorter cfg s [] [] xs 
         done (x ∷ qs) q = absurd (none_left cfg x qs h.0.1 s2 h.0.2 ys end.1 end.2 (rw q at rest))
 
 -- a record that ends the rows is no row of them
-clash : (n : ℕ) (g : Fields) (row : CopyRow) → IsNoRow g ⊎ (most_rows ≤ n) → IsRow g row → n < most_rows → ⊥
+clash : (n : ℕ) (g : Fields) (row : CopyRow) → IsNoRow g ⊎ (MOST_ROWS ≤ n) → IsRow g row → n < MOST_ROWS → ⊥
 clash n g row (inl bad) good few = bad.none row good
 clash n g row (inr many) good few = omega (arith, many, few)
 
@@ -92,14 +93,14 @@ files_read_once (header ∷ others) rows rows_too end end_too (inr h) (inl k) = 
 files_read_once (header ∷ others) rows rows_too end end_too (inr h) (inr k) = once 0 others rows rows_too end end_too h.1 k.1
 
 -- records and rows that grow at their ends
-rows_more : (before : ℕ) (others : List Fields) (rows : List CopyRow) (f : Fields) (row : CopyRow) → HaveRows before others rows Whole → IsRow f row → before + length rows < most_rows
+rows_more : (before : ℕ) (others : List Fields) (rows : List CopyRow) (f : Fields) (row : CopyRow) → HaveRows before others rows Whole → IsRow f row → before + length rows < MOST_ROWS
     → HaveRows before (others ++ f ∷ []) (rows ++ row ∷ []) Whole
 rows_more before [] [] f row h good few = (good, omega (arith, few), refl)
 rows_more before [] (r ∷ rs) f row h good few = absurd h
 rows_more before (g ∷ others) [] f row h good few = let bad = h.1 in absurd (cc)
 rows_more before (g ∷ others) (r ∷ rs) f row h good few = (h.0, h.1, rows_more (before + 1) others rs f row h.2 good (omega (arith, few)))
 
-rows_bad : (before : ℕ) (others : List Fields) (rows : List CopyRow) (f : Fields) (number : ℕ) → HaveRows before others rows Whole → IsNoRow f ⊎ (most_rows ≤ before + length rows)
+rows_bad : (before : ℕ) (others : List Fields) (rows : List CopyRow) (f : Fields) (number : ℕ) → HaveRows before others rows Whole → IsNoRow f ⊎ (MOST_ROWS ≤ before + length rows)
     → number ≡ before + length rows + 1 → HaveRows before (others ++ f ∷ []) rows (Bad number)
 rows_bad before [] [] f number h (inl bad) n = (inl bad, ap Bad (omega (arith, n)))
 rows_bad before [] [] f number h (inr many) n = (inr (omega (arith, many)), ap Bad (omega (arith, n)))
@@ -108,7 +109,7 @@ rows_bad before (g ∷ others) [] f number h bad n = let other = h.1 in absurd (
 rows_bad before (g ∷ others) (r ∷ rs) f number h (inl bad) n = (h.0, h.1, rows_bad (before + 1) others rs f number h.2 (inl bad) (omega (arith, n)))
 rows_bad before (g ∷ others) (r ∷ rs) f number h (inr many) n = (h.0, h.1, rows_bad (before + 1) others rs f number h.2 (inr (omega (arith, many))) (omega (arith, n)))
 
-from_first : (f : Fields) (n : ℕ) → IsNoRow f ⊎ (most_rows ≤ n) → IsNoRow f ⊎ (most_rows ≤ 0 + n)
+from_first : (f : Fields) (n : ℕ) → IsNoRow f ⊎ (MOST_ROWS ≤ n) → IsNoRow f ⊎ (MOST_ROWS ≤ 0 + n)
 from_first f n (inl bad) = inl bad
 from_first f n (inr many) = inr (omega (arith, many))
 
@@ -149,7 +150,7 @@ read_more rem state (Some bytes) a b rows new f config h r t =
     let all = rows_more 0 h.2 rows f t.0 h.4 t.1 (omega (arith, few)) in
     (m.0, m.1, h.2 ++ f ∷ [], m.2, subst (λ xs. HaveRows 0 (h.2 ++ f ∷ []) xs Whole) (sym t.2) all)
 
-pub few_more : (f : Fields) (rows new : List CopyRow) → Takes f rows new None → length new ≤ most_rows
+pub few_more : (f : Fields) (rows new : List CopyRow) → Takes f rows new None → length new ≤ MOST_ROWS
 few_more f rows new t =
     let size = ap (λ (xs : List CopyRow). length xs) t.2 ∙ length-append rows (t.0 ∷ []) in
     let few = t.3 in

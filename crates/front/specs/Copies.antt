@@ -1,4 +1,5 @@
 -- Copies files: the rows that one has, and how it ends.
+use Rattle.front.specs.declared.copies.TheConstants.{MOST_ROWS}
 use Rattle.std.specs.Prelude.{◌≡◌, ◌≢◌, ◌⊎◌, ◌+◌, ◌<◌, ◌≤◌, ℕ, List, [], ◌∷◌, Option, Some, None, codes}
 use Rattle.std.specs.Fmt.{decimal}
 use Rattle.csv.specs.Reading.{default_config, records, strip_bom}
@@ -39,17 +40,13 @@ IsRow fields row = IsSayable (command_of row) × (fields ≡ row_fields row)
 pub record IsNoRow (fields : Fields) : Type 0 where
   pub none : (row : CopyRow) → IsRow fields row → ⊥
 
--- The most rows that a file may have.
-abbrev pub most_rows : ℕ
-most_rows = 100000
-
 -- The records after the header and after `before` rows have these rows, and then end so: with the last of the records,
 -- or with the first that is no row or is one too many, which is told by its number.
 abbrev pub HaveRows : ℕ → List Fields → List CopyRow → CopyEnd → Type 0
 HaveRows before [] [] end = end ≡ Whole
 HaveRows before [] (row ∷ rows) end = ⊥
-HaveRows before (fields ∷ others) [] end = (IsNoRow fields ⊎ (most_rows ≤ before)) × (end ≡ Bad (before + 1))
-HaveRows before (fields ∷ others) (row ∷ rows) end = IsRow fields row × (before < most_rows) × HaveRows (before + 1) others rows end
+HaveRows before (fields ∷ others) [] end = (IsNoRow fields ⊎ (MOST_ROWS ≤ before)) × (end ≡ Bad (before + 1))
+HaveRows before (fields ∷ others) (row ∷ rows) end = IsRow fields row × (before < MOST_ROWS) × HaveRows (before + 1) others rows end
 
 -- The records of a file have these rows and this end, which is `Bad 0` where the first isn't the header.
 abbrev pub IsFileOf : List Fields → List CopyRow → CopyEnd → Type 0

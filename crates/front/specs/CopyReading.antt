@@ -1,4 +1,5 @@
 -- How the reader of a copies file goes from record to record.
+use Rattle.front.specs.declared.copies.TheConstants.{MOST_ROWS}
 use Rattle.std.specs.Prelude.{◌≡◌, ◌⊎◌, ◌+◌, ◌<◌, ◌≤◌, ◌^◌, ◌++◌, ℕ, List, [], ◌∷◌, Option, Some, None, length}
 use Rattle.std.specs.Fmt.{decimal}
 use Rattle.csv.specs.Machine.{next_record}
@@ -7,7 +8,7 @@ use Rattle.csv.specs.Records.{field_at}
 use Rattle.csv.specs.declared.parser.State.{State}
 use Rattle.csv.specs.declared.reader.Reader.{Reader}
 use Rattle.csv.specs.declared.reader.Trim.TheVariants as trim
-use Rattle.front.specs.Copies.{Fields, IsRow, IsNoRow, HaveRows, BeginWith, most_rows}
+use Rattle.front.specs.Copies.{Fields, IsRow, IsNoRow, HaveRows, BeginWith}
 use Rattle.front.specs.declared.copies.CopyRow.{CopyRow}
 use Rattle.front.specs.declared.copies.CopyEnd.{CopyEnd}
 use Rattle.front.specs.declared.copies.CopyEnd.TheVariants.{Whole, Bad, Read, Memory}
@@ -27,9 +28,9 @@ pub record HasNumbers (fields : Fields) (row : CopyRow) : Type 0 where
 -- What a record makes of the rows before it: one row more, or the same rows and an end, as it is no row or one too many,
 -- or as memory is wanting.
 abbrev pub Takes : Fields → List CopyRow → List CopyRow → Option CopyEnd → Type 0
-Takes fields old new None = (row : CopyRow) × IsRow fields row × (new ≡ old ++ row ∷ []) × (length old < most_rows)
+Takes fields old new None = (row : CopyRow) × IsRow fields row × (new ≡ old ++ row ∷ []) × (length old < MOST_ROWS)
 Takes fields old new (Some Whole) = ⊥
-Takes fields old new (Some (Bad number)) = (new ≡ old) × (IsNoRow fields ⊎ (most_rows ≤ length old)) × (number ≡ length old + 1)
+Takes fields old new (Some (Bad number)) = (new ≡ old) × (IsNoRow fields ⊎ (MOST_ROWS ≤ length old)) × (number ≡ length old + 1)
 Takes fields old new (Some Read) = ⊥
 Takes fields old new (Some Memory) = new ≡ old
 

@@ -5,7 +5,8 @@ ghost use Rattle.std.specs.Fmt.{decimal};
 ghost use Rattle.calendar.specs.Days.{IsDayNumber, day_text};
 ghost use Rattle.terms.specs.Forms.{IsName, is_card_key};
 ghost use Rattle.terms.specs.Texts.{mask_text};
-ghost use Rattle.front.specs.Commands.{IsReadAs, IsNoCommand, IsNoNumber, IsNoDay, IsNoMask, IsNoName, IsNoCardKey};
+ghost use Rattle.front.specs.Commands.{IsReadAs, IsNoCommand, IsNoNumber, IsNoDay, IsNoMask};
+ghost use Rattle.front.specs.Commands.{IsNoName, IsNoCardKey};
 ghost use Rattle.front.specs.Forms.{texts};
 ghost use Rattle.front.specs.declared.words.WordFault.TheVariants.{NotUnderstood as Refused};
 
@@ -314,7 +315,8 @@ fn unshelve(values: &[&str]) -> Result<Command, WordFault>
 #[tactic(auto, unfolding(terms::specs::Texts::command_words))]
 fn unshelve_cancelled(values: &[&str]) -> Result<Command, WordFault>
     ensures read { IfOk result (IsReadAs (codes "unshelve-cancelled") (texts values.now)) }
-    ensures refused { result ≡ Err Refused → IsNoCommand (codes "unshelve-cancelled") (texts values.now) }
+    ensures refused { result ≡ Err Refused
+        → IsNoCommand (codes "unshelve-cancelled") (texts values.now) }
 {
     let [hold] = values else {
         return Err(WordFault::NotUnderstood);

@@ -1,14 +1,16 @@
 //! Copies files: many copies to be acquired, a row each.
 
-ghost use Rattle.std.specs.Prelude.{◌≡◌, ◌≢◌, ◌<◌, ◌≤◌, ◌^◌, ◌↔◌, Some, List, ℕ, true, false, length, codes, IfOk, IfSome, IfNone, IsUtf8, option_map};
-ghost use Rattle.std.specs.Fmt.{decimal};
+ghost use Rattle.front.specs.declared.copies.TheConstants.{MOST_ROWS};
+ghost use Rattle.std.specs.Prelude.{◌≡◌, ◌≢◌, ◌≤◌, ◌↔◌, Some, List, ℕ, true, false, length, IfOk};
+ghost use Rattle.std.specs.Prelude.{IfSome, IfNone, IsUtf8, option_map};
 ghost use Rattle.csv.specs.Reading.{error_kind, is_io, reader_state, source_of, strip_bom};
 ghost use Rattle.csv.specs.declared.parser.State.TheVariants.{StartRecord};
 ghost use Rattle.csv.specs.Records.{field_at, fields_of};
-ghost use Rattle.front.specs.Copies.{IsRow, IsNoRow, IsReading, FilesReadOnce, header_fields, most_rows};
+ghost use Rattle.front.specs.Copies.{IsRow, IsNoRow, IsReading, FilesReadOnce};
 ghost use Rattle.front.specs.Forms.{texts};
 ghost use Rattle.front.specs.CopyReading.{HasNumber, HasNumbers, Takes, IsPlain, IsRestReading};
-ghost use Rattle.front.specs.declared.copies.CopyEnd.TheVariants.{Read as NotRead, Memory as NoMemory};
+ghost use Rattle.front.specs.declared.copies.CopyEnd.TheVariants.{Read as NotRead};
+ghost use Rattle.front.specs.declared.copies.CopyEnd.TheVariants.{Memory as NoMemory};
 
 use csv::{ByteRecord, Error, Reader, ReaderBuilder};
 use std::alloc::{AllocError, Global};
@@ -23,10 +25,10 @@ const HEADER: [&str; 7] = ["copy", "title", "text", "kind", "home", "price", "en
 const CLOSING: &str = "end";
 
 /// The most rows that a file may have.
-const MOST_ROWS: u32 = 100_000;
+pub const MOST_ROWS: u32 = 100_000;
 
-/// A good row of a copies file: a copy as it is to be acquired. Its numbers may be out of their limits, which the desk
-/// looks at.
+/// A good row of a copies file: a copy as it is to be acquired. Its numbers may be out of their
+/// limits, which the desk looks at.
 #[derive(Drop)]
 pub struct CopyRow {
     pub copy: CopyId,
@@ -59,7 +61,8 @@ impl From<CopyRow> for Command {
 pub enum CopyEnd {
     /// With the last row of the file.
     Whole,
-    /// With the row of this number, from 1, which isn't good or is one too many, or with the header, which has number 0.
+    /// With the row of this number, from 1, which isn't good or is one too many, or with the
+    /// header, which has number 0.
     Bad(u32),
     /// With a read that failed.
     Read,
@@ -70,7 +73,8 @@ pub enum CopyEnd {
 /// The text of the field at this place, if there is one and it is UTF-8.
 fn text_at(fields: &ByteRecord, place: usize) -> Option<&str>
     ensures some { IfSome result (λ text. field_at (fields_of fields.now) place ≡ Some text.now) }
-    ensures none { IfNone result ((text : List ℕ) → IsUtf8 text → field_at (fields_of fields.now) place ≢ Some text) }
+    ensures none { IfNone result ((text : List ℕ) → IsUtf8 text
+        → field_at (fields_of fields.now) place ≢ Some text) }
 {
     match str::from_utf8(fields.get(place)?) {
         Ok(text) => Some(text),
@@ -154,7 +158,7 @@ fn read_row(alloc: Global, fields: &ByteRecord) -> Result<Option<CopyRow>, Alloc
 
 /// Reads one record after the header: its row joins the rows, unless the reading ends there.
 fn take_row(alloc: Global, rows: &mut Vec<CopyRow>, fields: &ByteRecord) -> Option<CopyEnd>
-    requires few { length rows.old.items ≤ most_rows }
+    requires few { length rows.old.items ≤ MOST_ROWS }
     ensures { Takes (fields_of fields.now) rows.old.items rows.new.items result }
 {
     let number = rows.len() as u32 + 1;
@@ -171,7 +175,8 @@ fn take_row(alloc: Global, rows: &mut Vec<CopyRow>, fields: &ByteRecord) -> Opti
     }
 }
 
-/// How a reading ends at an error: a record of any length and of any bytes is read, so only the reader and memory fail.
+/// How a reading ends at an error: a record of any length and of any bytes is read, so only the
+/// reader and memory fail.
 fn end_at(error: &Error) -> CopyEnd
     ensures failed { is_io (error_kind error.now) ≡ true → result ≡ NotRead }
     ensures memory { is_io (error_kind error.now) ≡ false → result ≡ NoMemory }
@@ -187,7 +192,7 @@ fn end_at(error: &Error) -> CopyEnd
 fn read_rows<R: Read + Drop>(alloc: Global, file: Reader<R>) -> (Vec<CopyRow>, CopyEnd)
     requires plain { IsPlain file }
     ensures told { IsRestReading file.state (source_of R.remaining file) result.0.items result.1 }
-    ensures few { length result.0.items ≤ most_rows }
+    ensures few { length result.0.items ≤ MOST_ROWS }
 {
     let mut rows = Vec::new(alloc);
     for record in file.into_byte_records() {
@@ -216,12 +221,13 @@ fn record_reader<R: Read>(alloc: Global, reader: R) -> Reader<R>
 
 /// Reads a copies file: the rows before the first that isn't good, and how the reading ended.
 ///
-/// A file is comma-separated, with double quotes and no trimming. Its first record is the header, the fields `copy`,
-/// `title`, `text`, `kind`, `home`, `price` and `end`. A row has a field for each: the third is the text of a title,
-/// the last is the word `end`, and the others are numbers. After 100,000 rows the next record ends the reading.
+/// A file is comma-separated, with double quotes and no trimming. Its first record is the header,
+/// the fields `copy`, `title`, `text`, `kind`, `home`, `price` and `end`. A row has a field for
+/// each: the third is the text of a title, the last is the word `end`, and the others are numbers.
+/// After 100,000 rows the next record ends the reading.
 pub fn read_copies<R: Read + Drop>(alloc: Global, reader: R) -> (Vec<CopyRow>, CopyEnd)
     ensures told { IsReading (R.remaining reader) result.0.items result.1 }
-    ensures few { length result.0.items ≤ most_rows }
+    ensures few { length result.0.items ≤ MOST_ROWS }
 {
     let mut file = record_reader(alloc, reader);
     let mut header = ByteRecord::new(alloc);

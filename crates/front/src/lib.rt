@@ -6,5 +6,5 @@ mod copies;
 mod line;
 mod words;
 
-pub use copies::{CopyEnd, CopyRow, files_read_once, read_copies};
+pub use copies::{CopyEnd, CopyRow, MOST_ROWS, files_read_once, read_copies};
 pub use words::{WordFault, read_words};

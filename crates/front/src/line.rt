@@ -1,8 +1,9 @@
 //! The command line of the desk, for `clap`.
 
-ghost use Rattle.std.specs.Prelude.{◌≡◌, IfOk, option_map, map, List};
+ghost use Rattle.std.specs.Prelude.{◌≡◌, IfOk, option_map, map};
 ghost use Rattle.clap.specs.Words.{App};
-ghost use Rattle.front.specs.Line.{arguments_in, command_app, empty_app, line_app, with_required, with_form as with_one_form, IsApp};
+ghost use Rattle.front.specs.Line.{arguments_in, command_app, empty_app, line_app, with_required};
+ghost use Rattle.front.specs.Line.{with_form as with_one_form, IsApp};
 ghost use Rattle.front.specs.Forms.{form_of, texts};
 
 use clap::{Arg, Command as Line};
@@ -106,7 +107,8 @@ pub const FORMS: [Form; 21] = [
 
 /// The arguments of the command with this name, in their order.
 pub fn arguments_of(forms: &[Form], name: &str) -> Option<&'static [&'static str]>
-    ensures { option_map (λ ids. texts ids.now) result ≡ arguments_in (map form_of forms.now) name.now }
+    ensures { option_map (λ ids. texts ids.now) result ≡ arguments_in
+        (map form_of forms.now) name.now }
 {
     for form in forms {
         if form.name == name {
@@ -118,14 +120,16 @@ pub fn arguments_of(forms: &[Form], name: &str) -> Option<&'static [&'static str
 
 /// The line with one more argument, which is positional and required.
 fn with_argument<'a>(alloc: Global, line: Line<'a>, id: &'a str) -> Result<Line<'a>, Memory>
-    ensures { IfOk result (λ more. (app : App) → IsApp line.entry app → IsApp more (with_required app id.entry.now)) }
+    ensures { IfOk result (λ more. (app : App) → IsApp line.entry app
+        → IsApp more (with_required app id.entry.now)) }
 {
     line.arg(Arg::new(alloc, id).required(true))
 }
 
 /// A command of the line, with its arguments.
 fn subcommand<'a>(alloc: Global, form: Form) -> Result<Line<'a>, Memory>
-    ensures { IfOk result (λ line. IsApp line (command_app form.name.now (texts form.arguments.now))) }
+    ensures { IfOk result (λ line. IsApp line
+        (command_app form.name.now (texts form.arguments.now))) }
 {
     let mut line = Line::new(alloc, form.name);
     for argument in form.arguments {
@@ -143,7 +147,8 @@ fn empty_line<'a>(alloc: Global) -> Line<'a>
 
 /// The line with one more command.
 fn with_form<'a>(alloc: Global, line: Line<'a>, form: Form) -> Result<Line<'a>, Memory>
-    ensures { IfOk result (λ more. (app : App) → IsApp line.entry app → IsApp more (with_one_form app (form_of form))) }
+    ensures { IfOk result (λ more. (app : App) → IsApp line.entry app
+        → IsApp more (with_one_form app (form_of form))) }
 {
     line.subcommand(subcommand(alloc, form)?)
 }

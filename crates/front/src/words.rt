@@ -1,13 +1,15 @@
 //! The desk's words.
 
-ghost use Rattle.std.specs.Prelude.{◌≡◌, ◌≢◌, List, map, Some, true, IfOk, IfSome, IfNone, string_bytes};
+ghost use Rattle.std.specs.Prelude.{◌≡◌, ◌≢◌, List, map, Some, true, IfOk, IfSome, IfNone};
 ghost use Rattle.std.specs.List.{list_any};
-ghost use Rattle.clap.specs.Words.{Text, first_value, found_of, kind_of, subcommand_of, subcommand_rows_of, takes};
+ghost use Rattle.clap.specs.Words.{Text, first_value, found_of, kind_of, subcommand_of};
+ghost use Rattle.clap.specs.Words.{subcommand_rows_of, takes};
 ghost use Rattle.terms.specs.declared.command.Command.{Command as Said};
 ghost use Rattle.front.specs.Understood.{IsUnderstoodAs, begins_with_hyphen, texts_of};
 ghost use Rattle.front.specs.Line.{HasShape, IsAfterName, desk_app};
 ghost use Rattle.front.specs.Forms.{texts};
-ghost use Rattle.front.specs.declared.words.WordFault.TheVariants.{Memory as NoMemory, NotUnderstood as Refused};
+ghost use Rattle.front.specs.declared.words.WordFault.TheVariants.{Memory as NoMemory};
+ghost use Rattle.front.specs.declared.words.WordFault.TheVariants.{NotUnderstood as Refused};
 
 use crate::commands::command;
 use crate::line::{FORMS, arguments_of, desk_line};
@@ -53,8 +55,8 @@ fn any_has_hyphen(words: &[String]) -> bool
     false
 }
 
-/// The arguments of the command that the words have the shape of: a name, as many words as it takes, and no hyphen
-/// before any.
+/// The arguments of the command that the words have the shape of: a name, as many words as it
+/// takes, and no hyphen before any.
 fn arguments_for(words: &[String]) -> Option<&'static [&'static str]>
     ensures some { IfSome result (λ ids. HasShape (texts_of words.now) (texts ids.now)) }
     ensures none { IfNone result ((said : Said) → IsUnderstoodAs (texts_of words.now) said → ⊥) }
@@ -83,7 +85,8 @@ fn fault_of(error: &Error) -> WordFault
 
 /// What `clap` makes of the words.
 fn matches_of<'a>(alloc: Global, words: &'a [String]) -> Result<ArgMatches<'a>, WordFault>
-    ensures read { IfOk result (λ matches. subcommand_rows_of matches ≡ subcommand_of desk_app (texts_of words.entry.now)) }
+    ensures read { IfOk result (λ matches. subcommand_rows_of matches ≡ subcommand_of desk_app
+        (texts_of words.entry.now)) }
     ensures refused { result ≡ Err Refused → takes desk_app (texts_of words.entry.now) ≢ true }
 {
     let line = desk_line(alloc, &FORMS)?;
@@ -99,8 +102,11 @@ fn words_given<'a>(
     given: &ArgMatches<'a>,
     arguments: &[&str],
 ) -> Result<Option<Vec<&'a str>>, AllocError>
-    ensures read { IfOk result (λ some. IfSome some (λ found. map Some (texts found.items) ≡ map (first_value (found_of given.now)) (texts arguments.now))) }
-    ensures refused { IfOk result (λ some. IfNone some ((found : List Text) → map Some found ≢ map (first_value (found_of given.now)) (texts arguments.now))) }
+    ensures read { IfOk result (λ some. IfSome some
+        (λ found. map Some (texts found.items) ≡ map (first_value (found_of given.now))
+        (texts arguments.now))) }
+    ensures refused { IfOk result (λ some. IfNone some ((found : List Text)
+        → map Some found ≢ map (first_value (found_of given.now)) (texts arguments.now))) }
 {
     let mut words = Vec::new(alloc);
     for argument in arguments {
@@ -118,8 +124,10 @@ fn argument_words<'a>(
     words: &'a [String],
     arguments: &[&str],
 ) -> Result<Vec<&'a str>, WordFault>
-    ensures read { IfOk result (λ given_words. HasShape (texts_of words.entry.now) (texts arguments.now) → IsAfterName (texts_of words.entry.now) (texts given_words.items)) }
-    ensures refused { result ≡ Err Refused → HasShape (texts_of words.entry.now) (texts arguments.now) → ⊥ }
+    ensures read { IfOk result (λ given_words. HasShape (texts_of words.entry.now)
+        (texts arguments.now) → IsAfterName (texts_of words.entry.now) (texts given_words.items)) }
+    ensures refused { result ≡ Err Refused
+        → HasShape (texts_of words.entry.now) (texts arguments.now) → ⊥ }
 {
     let matches = matches_of(alloc, words)?;
     let Some((_, given)) = matches.subcommand() else {
@@ -131,11 +139,12 @@ fn argument_words<'a>(
     }
 }
 
-/// The command that the words are: its name, and then its arguments, each in its form and none of them
-/// beginning with a hyphen. Any other words are not understood.
+/// The command that the words are: its name, and then its arguments, each in its form and none of
+/// them beginning with a hyphen. Any other words are not understood.
 pub fn read_words(alloc: Global, words: &[String]) -> Result<Command, WordFault>
     ensures understood { IfOk result (λ command. IsUnderstoodAs (texts_of words.now) command) }
-    ensures refused { result ≡ Err Refused → (said : Said) → IsUnderstoodAs (texts_of words.now) said → ⊥ }
+    ensures refused { result ≡ Err Refused → (said : Said)
+        → IsUnderstoodAs (texts_of words.now) said → ⊥ }
 {
     let Some(arguments) = arguments_for(words) else {
         return Err(WordFault::NotUnderstood);

@@ -1,11 +1,12 @@
 -- The calendar of the definitions is that of the crate of days and calendars.
+use Rattle.calendar.specs.declared.limits.TheConstants.{FIRST_DAY, LAST_DAY}
 use Rattle.std.proofs.Common.{◌≡◌, ℕ, zero, suc, ◌+◌, ◌-◌, ◌≤◌, Bool, true, false, not, ◌&&◌, refl, ap, sym, subst, ◌∙◌, arith}
 use Rattle.std.specs.Prelude.{Some, nat_le, if◌then◌else◌}
 use Rattle.calendar.specs.Openings.{Closings, is_open, is_weekly, IsLeastOpen, open_among, open_days_after}
 use Rattle.calendar.specs.Openings as openings
 use Rattle.std.proofs.lemmas.Bool.{and_parts}
 use Rattle.std.proofs.lemmas.Bool.Decides.{nat_tests}
-use Rattle.model.specs.Calendar.{first_day, last_day, opens, least, open_days, IsLeast}
+use Rattle.model.specs.Calendar.{opens, least, open_days, IsLeast}
 use Rattle.model.specs.Calendars.{SameOpenDays, SameLeastDay, SameLateDays, CalendarsAgree}
 use Rattle.model.proofs.Least.{least-IsLeast, IsLeast-least}
 
@@ -18,17 +19,17 @@ both_ways false high weekly single = refl
 
 open_same : SameOpenDays
 unfolding is_open
-open_same c d = both_ways (nat_le first_day d) (nat_le d last_day) (is_weekly c d) (openings.is_single c d)
+open_same c d = both_ways (nat_le FIRST_DAY d) (nat_le d LAST_DAY) (is_weekly c d) (openings.is_single c d)
 
 -- the two tests are one function
 one_test : (c : Closings) → opens c.weekly c.single ≡ is_open c
 one_test c = λ i. λ d. open_same c d i
 
-in_calendar : (c : Closings) (e : ℕ) → is_open c e ≡ true → e ≤ last_day
+in_calendar : (c : Closings) (e : ℕ) → is_open c e ≡ true → e ≤ LAST_DAY
 unfolding is_open
 in_calendar c e on =
     let day = (and_parts _ _ on).0 in
-    let high : nat_le e last_day ≡ true = (and_parts (nat_le first_day e) (nat_le e last_day) day).1 in
+    let high : nat_le e LAST_DAY ≡ true = (and_parts (nat_le FIRST_DAY e) (nat_le e LAST_DAY) day).1 in
     grind (arith, nat_tests)
 
 least_same : SameLeastDay

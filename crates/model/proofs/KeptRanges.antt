@@ -1,4 +1,6 @@
 -- In every legal history whose commands have their forms: lines lie in their limits, and what is kept can be read back.
+use Rattle.calendar.specs.declared.limits.TheConstants.{FIRST_DAY, LAST_DAY}
+use Rattle.terms.specs.declared.limits.TheConstants.{LAST_NUMBER}
 use Rattle.std.proofs.Common.{◌≡◌, ℕ, zero, suc, ◌+◌, ◌≤◌, ◌<◌, ◌==◌, Bool, true, false, not, ◌&&◌, List, [], ◌∷◌, ◌++◌, length, refl, sym, ap, subst, arith}
 use Rattle.std.specs.Prelude.{Option, Some, None, is_some, is_none, option_map, option_and_then, unwrap_or, IsUtf8, IfSome, bytes_eq, IsTrue, nat_le, nat_lt, slice_index_or}
 use Rattle.std.proofs.lemmas.Bool.{and_parts, or_parts, leb-true, leb-false, ltb-false}
@@ -16,8 +18,7 @@ use Rattle.terms.specs.declared.command.Command.{Command}
 use Rattle.terms.specs.declared.command.Command.TheVariants.{CheckOut, CheckIn, Renew, PlaceHold, Unshelve, UnshelveCancelled, Missing, Pay, Waive, Page}
 use Rattle.terms.specs.declared.row.Sort.{Sort}
 use Rattle.terms.specs.declared.row.Sort.TheVariants.{Fine, Price, Payment, Waiver}
-use Rattle.model.specs.Calendar.{first_day, last_day, is_single, opens, least, IsLeast}
-use Rattle.model.specs.Checks.{last_number}
+use Rattle.model.specs.Calendar.{is_single, opens, least, IsLeast}
 use Rattle.model.specs.History.{History, today, is_open, week_of, singles_of, loans, holds, HoldFacts, hold_of, branch_of, patron_of, CopyFacts, copy_of}
 use Rattle.model.specs.Places.{Place, Shelf, HoldShelf, Transit, Loan, place, state, is_ready, route, kept_for, goal_of, limit_now}
 use Rattle.model.specs.Loans.{LoanFacts, loan_of, due, first_due, terms_for, no_terms}
@@ -46,9 +47,9 @@ use Rattle.model.proofs.LendingRanges.{LendingRanges, PlaceIn, legal-LendingRang
 
 -- A day on which a branch is open is one of the calendar.
 open-day : (week : List Bool) (singles : List ℕ) (d : ℕ) → opens week singles d ≡ true → IsDayNumber d
-open-day week singles d e = go (nat_le first_day d) (nat_le d last_day) (not (slice_index_or week (weekday d) false)) refl refl e
+open-day week singles d e = go (nat_le FIRST_DAY d) (nat_le d LAST_DAY) (not (slice_index_or week (weekday d) false)) refl refl e
   where
-    go : (a b c : Bool) → nat_le first_day d ≡ a → nat_le d last_day ≡ b → (elim (a && (b && c)) as (λ _. Bool) [ true ↦ not (is_single singles d) | false ↦ false ]) ≡ true → IsDayNumber d
+    go : (a b c : Bool) → nat_le FIRST_DAY d ≡ a → nat_le d LAST_DAY ≡ b → (elim (a && (b && c)) as (λ _. Bool) [ true ↦ not (is_single singles d) | false ↦ false ]) ≡ true → IsDayNumber d
     go true true c p q f = (leb-true _ _ p, leb-true _ _ q)
     go true false c p q f = let never : ⊥ = cc in absurd never
     go false b c p q f = let never : ⊥ = cc in absurd never
@@ -218,7 +219,7 @@ module _ (H : History) (legal : IsLegal H) (forms : HasForms H) where
   -- The reply to a command that changes something can be kept.
   pub accepted-kept : (o : Owner) (x : Command) → refusal H o x ≡ None → is_page x ≡ false → IsKept (accepted H x)
   accepted-kept o (CheckOut p c b) ok changes =
-      let room : loans H < last_number = leb-false _ _ (passed (checks H o (CheckOut p c b)) ok).1.1.1.1.1.1.1.1.1.1.1.1.1.1.0 in
+      let room : loans H < LAST_NUMBER = leb-false _ _ (passed (checks H o (CheckOut p c b)) ok).1.1.1.1.1.1.1.1.1.1.1.1.1.1.0 in
       (omega (arith, room), due-kept o p c b ok)
   accepted-kept o (CheckIn c b) ok changes =
       let copy = there (copy_of H c) (not-false _ (passed (checks H o (CheckIn c b)) ok).1.0) in
@@ -227,7 +228,7 @@ module _ (H : History) (legal : IsLegal H) (forms : HasForms H) where
       let pass = passed (checks H o (Renew l)) ok in
       (loan-number l (and_parts (is_some (loan_of H l)) (is_own H o (borrower H l)) (not-false _ pass.0)).0, renewed-kept l (due H l) (loan_of H l) pass.1.1.1.1.1.1.0)
   accepted-kept o (PlaceHold p t b) ok changes =
-      let room : holds H < last_number = leb-false _ _ (passed (checks H o (PlaceHold p t b)) ok).1.1.1.1.1.1.0 in
+      let room : holds H < LAST_NUMBER = leb-false _ _ (passed (checks H o (PlaceHold p t b)) ok).1.1.1.1.1.1.0 in
       omega (arith, room)
   accepted-kept o (Unshelve h) ok changes = unshelved-kept h (not-false _ (passed (checks H o (Unshelve h)) ok).1.0)
   accepted-kept o (UnshelveCancelled h) ok changes = unshelved-kept h (not-false _ (passed (checks H o (UnshelveCancelled h)) ok).1.0)

@@ -1,4 +1,5 @@
 -- In every legal history whose commands have their forms: loans, holds and the places lie in their limits.
+use Rattle.terms.specs.declared.limits.TheConstants.{LAST_NUMBER}
 use Rattle.std.proofs.Common.{◌≡◌, ℕ, ◌<◌, ◌==◌, Bool, true, false, cond, not, List, [], ◌∷◌, refl, sym, ap, ◌∙◌, subst, arith}
 use Rattle.std.specs.Prelude.{Option, Some, None, is_none, option_map, option_and_then, unwrap_or}
 use Rattle.std.specs.Option.{option_or}
@@ -9,7 +10,6 @@ use Rattle.terms.specs.declared.command.Owner.{Owner}
 use Rattle.terms.specs.declared.command.Command.{Command}
 use Rattle.terms.specs.declared.command.Command.TheVariants.{Acquire, CheckOut, CheckIn, PlaceHold, CancelHold, Unshelve, UnshelveCancelled, Missing, Withdraw}
 use Rattle.terms.specs.declared.row.HoldState.TheVariants.{Waiting}
-use Rattle.model.specs.Checks.{last_number}
 use Rattle.model.specs.History.{History, numbers_to, today, BranchFacts, branch_of, Terms, rule_of, PatronFacts, patron_of, title_of, CopyFacts, copy_of, loans, next_loan, HoldFacts, hold_of, hold_after, holds, next_hold}
 use Rattle.model.specs.Places.{Place, Nowhere, Shelf, HoldShelf, Transit, Loan, MissingCopy, WithdrawnCopy, place, state, place_after, place_let_go, place_unshelved, is_kept_for, is_waiting, is_coming_by, line_by, route_by, route_from, route_to, goal_of, home_of, title_of_copy}
 use Rattle.model.specs.Loans.{LoanFacts, loan_of, loan_after, ended, ended_after, is_loan_of_copy, terms_for, no_terms}
@@ -187,7 +187,7 @@ module _ (H : History) (inv : Invariant H) (settings : SettingRanges H) (before 
       go true = moved-in n c (Shelf home) (settings.branches home branch.0 branch.1).0
       go false = before.places c
   places-step (CheckOut p n b) ok c =
-      let room : loans H < last_number = leb-false _ _ (passed (checks H o (CheckOut p n b)) ok).1.1.1.1.1.1.1.1.1.1.1.1.1.1.0 in
+      let room : loans H < LAST_NUMBER = leb-false _ _ (passed (checks H o (CheckOut p n b)) ok).1.1.1.1.1.1.1.1.1.1.1.1.1.1.0 in
       moved-in n c (Loan (next_loan H)) (omega arith, omega (arith, room))
   places-step (CheckIn n b) ok c =
       let copy = there (copy_of H n) (not-false _ (passed (checks H o (CheckIn n b)) ok).1.0) in

@@ -1,4 +1,5 @@
 -- In every legal history: fines, prices and debts are bounded, and numbers aren't past their end.
+use Rattle.terms.specs.declared.limits.TheConstants.{LAST_NUMBER}
 use Rattle.std.proofs.Common.{◌≡◌, ℕ, zero, suc, ◌+◌, ◌*◌, ◌≤◌, ◌<◌, ◌==◌, Bool, true, false, cond, List, [], ◌∷◌, ◌++◌, length, length-append, refl, ap, subst, arith}
 use Rattle.std.specs.Prelude.{Option, Some, None, option_map, unwrap_or, filter, min}
 use Rattle.std.proofs.lemmas.List.Sums.{sum_by-append, sum_by-cons}
@@ -10,7 +11,6 @@ use Rattle.terms.specs.declared.command.Command.TheVariants.{CheckOut, CheckIn, 
 use Rattle.terms.specs.declared.row.Sort.{Sort}
 use Rattle.terms.specs.declared.row.Sort.TheVariants.{Fine, Price, Payment, Waiver}
 use Rattle.model.specs.Calendar.{late}
-use Rattle.model.specs.Checks.{last_number}
 use Rattle.model.specs.History.{History, today, is_open, loans, loans_after, next_loan, holds, holds_after, CopyFacts, copy_of}
 use Rattle.model.specs.Places.{Place, Loan, place}
 use Rattle.model.specs.Loans.{LoanFacts, loan_of, loan_after, due, terms_for, no_terms}
@@ -25,9 +25,9 @@ use Rattle.model.proofs.DueDayLaws.{checked_out-terms, rule-of_terms}
 pub record MoneyLaws (H : History) : Type 0 where
   pub caps : (l : ℕ) (r : LoanFacts) → loan_of H l ≡ Some r → r.terms.cap ≤ 100000
   pub charged : charges (lines H) ≤ 1000000 * length (lines H)
-  pub lines_left : length (lines H) ≤ last_number
-  pub loans_left : loans H ≤ last_number
-  pub holds_left : holds H ≤ last_number
+  pub lines_left : length (lines H) ≤ LAST_NUMBER
+  pub loans_left : loans H ≤ LAST_NUMBER
+  pub holds_left : holds H ≤ LAST_NUMBER
 
 min-le : (a b : ℕ) → min a b ≤ b
 min-le a b = omega arith
@@ -80,29 +80,29 @@ module _ (H : History) (inv : MoneyLaws H) (settings : SettingLaws H) where
   one-line p s zero = omega arith
   one-line p s (suc n) = omega arith
 
-  left-step : (o : Owner) (x : Command) → refusal H o x ≡ None → length (lines_after H x (lines H)) ≤ last_number
+  left-step : (o : Owner) (x : Command) → refusal H o x ≡ None → length (lines_after H x (lines H)) ≤ LAST_NUMBER
   left-step o (CheckIn c b) ok =
-      let room : length (lines H) + length (lines_by H (CheckIn c b)) ≤ last_number = ltb-false _ _ (passed (checks H o (CheckIn c b)) ok).1.1.1.1.0 in
+      let room : length (lines H) + length (lines_by H (CheckIn c b)) ≤ LAST_NUMBER = ltb-false _ _ (passed (checks H o (CheckIn c b)) ok).1.1.1.1.0 in
       rw (length-append (lines H) (lines_by H (CheckIn c b))) room
   left-step o (Missing c) ok =
-      let room : length (lines H) + length (lines_by H (Missing c)) ≤ last_number = ltb-false _ _ (passed (checks H o (Missing c)) ok).1.1.1.0 in
+      let room : length (lines H) + length (lines_by H (Missing c)) ≤ LAST_NUMBER = ltb-false _ _ (passed (checks H o (Missing c)) ok).1.1.1.0 in
       rw (length-append (lines H) (lines_by H (Missing c))) room
   left-step o (Pay p n) ok =
-      let room : length (lines H) + 1 ≤ last_number = ltb-false _ _ (passed (checks H o (Pay p n)) ok).1.1.0 in
+      let room : length (lines H) + 1 ≤ LAST_NUMBER = ltb-false _ _ (passed (checks H o (Pay p n)) ok).1.1.0 in
       rw (length-append (lines H) (line_of H p Payment None n)) (omega (arith, room, one-line p Payment n))
   left-step o (Waive p n) ok =
-      let room : length (lines H) + 1 ≤ last_number = ltb-false _ _ (passed (checks H o (Waive p n)) ok).1.1.0 in
+      let room : length (lines H) + 1 ≤ LAST_NUMBER = ltb-false _ _ (passed (checks H o (Waive p n)) ok).1.1.0 in
       rw (length-append (lines H) (line_of H p Waiver None n)) (omega (arith, room, one-line p Waiver n))
   left-step o _ ok = inv.lines_left
 
-  loans-step : (o : Owner) (x : Command) → refusal H o x ≡ None → loans_after x (loans H) ≤ last_number
+  loans-step : (o : Owner) (x : Command) → refusal H o x ≡ None → loans_after x (loans H) ≤ LAST_NUMBER
   loans-step o (CheckOut p c b) ok =
-      let room : loans H < last_number = leb-false _ _ (passed (checks H o (CheckOut p c b)) ok).1.1.1.1.1.1.1.1.1.1.1.1.1.1.0 in omega (arith, room)
+      let room : loans H < LAST_NUMBER = leb-false _ _ (passed (checks H o (CheckOut p c b)) ok).1.1.1.1.1.1.1.1.1.1.1.1.1.1.0 in omega (arith, room)
   loans-step o _ ok = inv.loans_left
 
-  holds-step : (o : Owner) (x : Command) → refusal H o x ≡ None → holds_after x (holds H) ≤ last_number
+  holds-step : (o : Owner) (x : Command) → refusal H o x ≡ None → holds_after x (holds H) ≤ LAST_NUMBER
   holds-step o (PlaceHold p t b) ok =
-      let room : holds H < last_number = leb-false _ _ (passed (checks H o (PlaceHold p t b)) ok).1.1.1.1.1.1.0 in omega (arith, room)
+      let room : holds H < LAST_NUMBER = leb-false _ _ (passed (checks H o (PlaceHold p t b)) ok).1.1.1.1.1.1.0 in omega (arith, room)
   holds-step o _ ok = inv.holds_left
 
   caps-step : (o : Owner) (x : Command) → refusal H o x ≡ None → (l : ℕ) (r : LoanFacts) → loan_after H x l (loan_of H l) ≡ Some r → r.terms.cap ≤ 100000

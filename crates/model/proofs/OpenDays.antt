@@ -1,9 +1,10 @@
 -- Where a branch is open on some weekday and has few single closed days, an open day isn't far.
+use Rattle.calendar.specs.declared.limits.TheConstants.{FIRST_DAY, LAST_DAY}
 use Rattle.std.proofs.Common.{◌≡◌, ℕ, zero, suc, ◌+◌, ◌-◌, ◌*◌, ◌%◌, ◌≤◌, ◌<◌, ◌==◌, Bool, true, false, cond, not, ◌&&◌, ◌||◌, List, [], ◌∷◌, length, refl, sym, ap, ◌∙◌, subst, arith, le-leb}
 use Rattle.std.specs.Prelude.{Option, Some, filter, nat_le, slice_index_or}
 use Rattle.std.proofs.lemmas.Bool.{eqb-true}
 use Rattle.calendar.specs.Openings.{weekday}
-use Rattle.model.specs.Calendar.{first_day, last_day, is_single, opens, least_within, least}
+use Rattle.model.specs.Calendar.{is_single, opens, least_within, least}
 use Rattle.model.proofs.Moves.{false-ne}
 use Rattle.model.proofs.Bindings.{clash}
 
@@ -24,8 +25,8 @@ within-exists test zero d e low high on = let never : ⊥ = omega (arith, low, h
 within-exists test (suc n) d e low high on = found_at test n d e (test d) refl low high on (λ le. within-exists test n (suc d) e le (omega (arith, high)) on)
 
 -- With a day that passes, there is a least one.
-pub least-exists : (test : ℕ → Bool) (d e : ℕ) → d ≤ e → e ≤ last_day → test e ≡ true → (x : ℕ) × (least test d ≡ Some x)
-least-exists test d e low high on = within-exists test (suc last_day - d) d e low (omega (arith, low, high)) on
+pub least-exists : (test : ℕ → Bool) (d e : ℕ) → d ≤ e → e ≤ LAST_DAY → test e ≡ true → (x : ℕ) × (least test d ≡ Some x)
+least-exists test d e low high on = within-exists test (suc LAST_DAY - d) d e low (omega (arith, low, high)) on
 
 -- ---- more days than single closed ones
 
@@ -82,9 +83,9 @@ module _ (f : ℕ → ℕ) (injective : (j k : ℕ) → f j ≡ f k → j ≡ k)
 
 -- ---- an open day
 
-opens-is : (week : List Bool) (s : List ℕ) (d : ℕ) → first_day ≤ d → d ≤ last_day → slice_index_or week (weekday d) false ≡ false → is_single s d ≡ false → opens week s d ≡ true
+opens-is : (week : List Bool) (s : List ℕ) (d : ℕ) → FIRST_DAY ≤ d → d ≤ LAST_DAY → slice_index_or week (weekday d) false ≡ false → is_single s d ≡ false → opens week s d ≡ true
 opens-is week s d low high open_weekday none =
-    go (nat_le first_day d) (nat_le d last_day) (slice_index_or week (weekday d) false) (is_single s d) (le-leb _ _ low) (le-leb _ _ high) open_weekday none
+    go (nat_le FIRST_DAY d) (nat_le d LAST_DAY) (slice_index_or week (weekday d) false) (is_single s d) (le-leb _ _ low) (le-leb _ _ high) open_weekday none
   where
     go : (a b c x : Bool) → a ≡ true → b ≡ true → c ≡ false → x ≡ false → (elim (a && (b && not c)) as (λ _. Bool) [ true ↦ not x | false ↦ false ]) ≡ true
     go true true false false p q r t = refl
@@ -98,7 +99,7 @@ abbrev next_weekday : ℕ → ℕ → ℕ
 next_weekday d w = d + (w + 7 - (d + 3) % 7) % 7
 
 -- With an open weekday and at most 400 single closed days, there is an open day within 2806 days.
-pub open-exists : (week : List Bool) (s : List ℕ) (w d : ℕ) → w < 7 → slice_index_or week w false ≡ false → length s ≤ 400 → first_day ≤ d → d + 2806 ≤ last_day
+pub open-exists : (week : List Bool) (s : List ℕ) (w d : ℕ) → w < 7 → slice_index_or week w false ≡ false → length s ≤ 400 → FIRST_DAY ≤ d → d + 2806 ≤ LAST_DAY
     → (e : ℕ) × (least (opens week s) d ≡ Some e)
 open-exists week s w d small open_weekday few low high =
     let hole : (k : ℕ) × (k < 401) × (is_single s (next_weekday d w + 7 * k) ≡ false) =

@@ -1,4 +1,6 @@
 -- In every legal history: what was set is within its limits, no day is closed twice, and a branch that isn't there has no closed days.
+use Rattle.calendar.specs.declared.limits.TheConstants.{MOST_CLOSED_DAYS, FIRST_DAY}
+use Rattle.terms.specs.declared.limits.TheConstants.{LAST_TODAY}
 use Rattle.std.proofs.Common.{◌≡◌, ℕ, suc, ◌≤◌, ◌<◌, ◌==◌, Bool, true, false, cond, not, ◌&&◌, List, [], ◌∷◌, length, replicate, refl, sym, ap, ◌∙◌, subst, arith}
 use Rattle.std.specs.Prelude.{Option, Some, None, is_some, filter, nat_le, nat_lt, slice_index_or}
 use Rattle.std.specs.Option.{option_or}
@@ -7,8 +9,8 @@ use Rattle.std.proofs.lemmas.Bool.{and_parts, or_parts, eqb-true, eq-eqb, leb-tr
 use Rattle.terms.specs.declared.command.Owner.{Owner}
 use Rattle.terms.specs.declared.command.Command.{Command}
 use Rattle.terms.specs.declared.command.Command.TheVariants.{BeginDay, Branch, Week, CloseDay, OpenDay, Rule, Acquire}
-use Rattle.model.specs.Calendar.{first_day, is_single}
-use Rattle.model.specs.Checks.{last_today, max_singles, is_within, is_within_limits, is_small_number, is_large_number}
+use Rattle.model.specs.Calendar.{is_single}
+use Rattle.model.specs.Checks.{is_within, is_within_limits, is_small_number, is_large_number}
 use Rattle.model.specs.History.{History, today, today_after, week_of, week_after, singles_of, singles_after, BranchFacts, branch_of, branch_after, Terms, rule_of, rule_after, CopyFacts, copy_of, copy_after}
 use Rattle.model.specs.Refusals.{refusal, checks, has_branch}
 use Rattle.model.specs.Requests.{IsLegal}
@@ -20,9 +22,9 @@ use Rattle.model.proofs.LoanLaws.{none-or}
 use Rattle.model.proofs.OpenDays.{length-filter-le}
 
 pub record SettingLaws (H : History) : Type 0 where
-  pub today_from : first_day ≤ today H
-  pub today_to : today H ≤ last_today
-  pub few_singles : (b : ℕ) → length (singles_of H b) ≤ max_singles
+  pub today_from : FIRST_DAY ≤ today H
+  pub today_to : today H ≤ LAST_TODAY
+  pub few_singles : (b : ℕ) → length (singles_of H b) ≤ MOST_CLOSED_DAYS
   pub once : (b : ℕ) → IsDistinct ◌==◌ (singles_of H b)
   pub unset : (b : ℕ) → branch_of H b ≡ None → (week_of H b ≡ replicate 7 false) × (singles_of H b ≡ [])
   pub terms : (k c : ℕ) (t : Terms) → rule_of H k c ≡ Some t → (t.period ≤ 365) × (t.cap ≤ 100000)
@@ -78,24 +80,24 @@ once-filter test (x ∷ s) once = go (test x) (once-filter test s once.1)
 -- ---- one event
 
 module _ (H : History) (inv : SettingLaws H) (o : Owner) where
-  today-step : (x : Command) → refusal H o x ≡ None → (first_day ≤ today_after x (today H)) × (today_after x (today H) ≤ last_today)
+  today-step : (x : Command) → refusal H o x ≡ None → (FIRST_DAY ≤ today_after x (today H)) × (today_after x (today H) ≤ LAST_TODAY)
   today-step (BeginDay d) ok =
-      let parts : (nat_lt (today H) d ≡ true) × (nat_le d last_today ≡ true) = and_parts _ _ (not-false _ (passed (checks H o (BeginDay d)) ok).0) in
+      let parts : (nat_lt (today H) d ≡ true) × (nat_le d LAST_TODAY ≡ true) = and_parts _ _ (not-false _ (passed (checks H o (BeginDay d)) ok).0) in
       (omega (arith, inv.today_from, ltb-true _ _ parts.0), leb-true _ _ parts.1)
   today-step _ ok = (inv.today_from, inv.today_to)
 
-  few-step : (x : Command) → refusal H o x ≡ None → (b : ℕ) → length (singles_after x b (singles_of H b)) ≤ max_singles
+  few-step : (x : Command) → refusal H o x ≡ None → (b : ℕ) → length (singles_after x b (singles_of H b)) ≤ MOST_CLOSED_DAYS
   few-step (CloseDay n d) ok b = go (n == b) refl
     where
-      room : length (singles_of H n) < max_singles
+      room : length (singles_of H n) < MOST_CLOSED_DAYS
       room = leb-false _ _ (passed (checks H o (CloseDay n d)) ok).1.1.1.0
 
-      go : (x : Bool) → (n == b) ≡ x → length (cond x (d ∷ singles_of H b) (singles_of H b)) ≤ max_singles
-      go true e = let here : length (singles_of H b) < max_singles = subst (λ m. length (singles_of H m) < max_singles) (eqb-true n b e) room in omega (arith, here)
+      go : (x : Bool) → (n == b) ≡ x → length (cond x (d ∷ singles_of H b) (singles_of H b)) ≤ MOST_CLOSED_DAYS
+      go true e = let here : length (singles_of H b) < MOST_CLOSED_DAYS = subst (λ m. length (singles_of H m) < MOST_CLOSED_DAYS) (eqb-true n b e) room in omega (arith, here)
       go false e = inv.few_singles b
   few-step (OpenDay n d) ok b = go (n == b)
     where
-      go : (x : Bool) → length (cond x (filter (λ e. not (d == e)) (singles_of H b)) (singles_of H b)) ≤ max_singles
+      go : (x : Bool) → length (cond x (filter (λ e. not (d == e)) (singles_of H b)) (singles_of H b)) ≤ MOST_CLOSED_DAYS
       go true = omega (arith, length-filter-le (λ e. not (d == e)) (singles_of H b), inv.few_singles b)
       go false = inv.few_singles b
   few-step _ ok b = inv.few_singles b
@@ -212,7 +214,7 @@ legal-SettingLaws [] legal = record {
 legal-SettingLaws (e ∷ H) legal =
     let inv : SettingLaws H = legal-SettingLaws H legal.1 in
     let ok = legal.0.unrefused in
-    let day : (first_day ≤ today_after e.command (today H)) × (today_after e.command (today H) ≤ last_today) = today-step H inv e.owner e.command ok in
+    let day : (FIRST_DAY ≤ today_after e.command (today H)) × (today_after e.command (today H) ≤ LAST_TODAY) = today-step H inv e.owner e.command ok in
     record {
       today_from = day.0;
       today_to = day.1;

@@ -1,15 +1,8 @@
 -- Days on which a branch is open. A day is the number of days since 1970-01-01.
+use Rattle.calendar.specs.declared.limits.TheConstants.{FIRST_DAY, LAST_DAY}
 use Rattle.std.specs.Prelude.{ℕ, zero, suc, ◌+◌, ◌-◌, ◌<◌, ◌≤◌, Bool, true, false, not, ◌&&◌, ◌==◌, nat_le, if◌then◌else◌, List, slice_index_or, Option, Some, None, IsTrue, IsFalse}
 use Rattle.std.specs.List.{list_any}
 use Rattle.calendar.specs.Openings.{weekday}
-
--- The calendar's first day is 2000-01-01.
-abbrev pub first_day : ℕ
-first_day = 10957
-
--- The calendar's last day is 2199-12-31.
-abbrev pub last_day : ℕ
-last_day = 84005
 
 -- The day is one of the single days.
 abbrev pub is_single : List ℕ → ℕ → Bool
@@ -18,7 +11,7 @@ is_single singles d = list_any (λ e. e == d) singles
 -- A day of the calendar is open unless its weekday is closed or it is closed singly.
 abbrev pub opens : List Bool → List ℕ → ℕ → Bool
 opens week singles d =
-    elim (nat_le first_day d && (nat_le d last_day && not (slice_index_or week (weekday d) false))) [ true ↦ not (is_single singles d) | false ↦ false ]
+    elim (nat_le FIRST_DAY d && (nat_le d LAST_DAY && not (slice_index_or week (weekday d) false))) [ true ↦ not (is_single singles d) | false ↦ false ]
 
 -- The first of the n days from d on that passes the test.
 abbrev pub least_within : (ℕ → Bool) → ℕ → ℕ → Option ℕ
@@ -27,12 +20,12 @@ least_within test (suc n) d = elim (test d) [ true ↦ Some d | false ↦ least_
 
 -- The least day from d on that passes the test, if the calendar has one.
 abbrev pub least : (ℕ → Bool) → ℕ → Option ℕ
-least test d = least_within test (suc last_day - d) d
+least test d = least_within test (suc LAST_DAY - d) d
 
 -- The day e passes the test and isn't before d, and no day from d up to e - 1 passes it.
 pub record IsLeast (test : ℕ → Bool) (d e : ℕ) : Type 0 where
   pub from : d ≤ e
-  pub within : e ≤ last_day
+  pub within : e ≤ LAST_DAY
   pub opens : IsTrue (test e)
   pub first : (k : ℕ) → d ≤ k → k < e → IsFalse (test k)
 

@@ -1,5 +1,6 @@
 -- Tables of checks, and the limits of numbers.
 use Rattle.std.specs.Prelude.{ℕ, nat_le, Bool, true, false, ◌&&◌, List, [], ◌∷◌, Option, Some, None}
+use Rattle.terms.specs.declared.limits.TheConstants.{LAST_SMALL_NUMBER, LAST_LARGE_NUMBER, LONGEST_PERIOD, LONGEST_PICKUP, MOST_RENEWALS, MOST_ALLOWED, HIGHEST_RATE, HIGHEST_CAP, HIGHEST_PRICE, HIGHEST_DEBT}
 use Rattle.terms.specs.declared.refusal.Refusal.{Refusal}
 use Rattle.terms.specs.declared.command.Command.{Command}
 use Rattle.terms.specs.declared.command.Command.TheVariants.{Branch, Kind, Rule, Patron, Acquire}
@@ -13,37 +14,25 @@ abbrev pub first_failing : List Check → Option Refusal
 first_failing [] = None
 first_failing (k ∷ ks) = elim k.1 [ true ↦ Some k.0 | false ↦ first_failing ks ]
 
--- Today is at most 2190-12-31.
-abbrev pub last_today : ℕ
-last_today = 80718
-
--- Loan, hold and line numbers end here.
-abbrev pub last_number : ℕ
-last_number = 2147483647
-
--- A branch has at most so many single closed days.
-abbrev pub max_singles : ℕ
-max_singles = 400
-
 -- The number is at least the one and at most the other.
 abbrev pub is_within : ℕ → ℕ → ℕ → Bool
 is_within low high n = nat_le low n && nat_le n high
 
 -- A branch, a patron kind or a copy kind.
 abbrev pub is_small_number : ℕ → Bool
-is_small_number n = is_within 1 99 n
+is_small_number n = is_within 1 LAST_SMALL_NUMBER n
 
 -- A patron, a title or a copy.
 abbrev pub is_large_number : ℕ → Bool
-is_large_number n = is_within 1 9999999 n
+is_large_number n = is_within 1 LAST_LARGE_NUMBER n
 
 -- The numbers of the command that have limits are within them.
 abbrev pub is_within_limits : Command → Bool
-is_within_limits (Branch branch pickup name) = is_small_number branch && is_within 0 60 pickup
-is_within_limits (Kind kind loans holds debt) = is_small_number kind && (is_within 0 200 loans && (is_within 0 200 holds && is_within 0 1000000 debt))
+is_within_limits (Branch branch pickup name) = is_small_number branch && is_within 0 LONGEST_PICKUP pickup
+is_within_limits (Kind kind loans holds debt) = is_small_number kind && (is_within 0 MOST_ALLOWED loans && (is_within 0 MOST_ALLOWED holds && is_within 0 HIGHEST_DEBT debt))
 is_within_limits (Rule kind copy_kind period renewals rate cap) =
-    is_small_number kind && (is_small_number copy_kind && (is_within 1 365 period && (is_within 0 99 renewals && (is_within 0 10000 rate && is_within 0 100000 cap))))
+    is_small_number kind && (is_small_number copy_kind && (is_within 1 LONGEST_PERIOD period && (is_within 0 MOST_RENEWALS renewals && (is_within 0 HIGHEST_RATE rate && is_within 0 HIGHEST_CAP cap))))
 is_within_limits (Patron patron kind card_key name) = is_large_number patron && is_small_number kind
 is_within_limits (Acquire copy title kind home price text) =
-    is_large_number copy && (is_large_number title && (is_small_number kind && is_within 0 1000000 price))
+    is_large_number copy && (is_large_number title && (is_small_number kind && is_within 0 HIGHEST_PRICE price))
 is_within_limits _ = true

@@ -1,10 +1,11 @@
 -- The list of accepted events, the newest first, and what its commands have set.
+use Rattle.calendar.specs.declared.limits.TheConstants.{FIRST_DAY}
 use Rattle.std.specs.Prelude.{ℕ, zero, suc, ◌+◌, ◌==◌, Bool, false, ◌&&◌, not, if◌then◌else◌, List, [], ◌∷◌, ◌++◌, filter, Option, Some, None, is_none, replicate}
 use Rattle.std.specs.Option.{option_or}
 use Rattle.terms.specs.declared.command.Owner.{Owner}
 use Rattle.terms.specs.declared.command.Command.{Command}
 use Rattle.terms.specs.declared.command.Command.TheVariants.{BeginDay, Branch, Week, CloseDay, OpenDay, Kind, Rule, Patron, Acquire, CheckOut, PlaceHold}
-use Rattle.model.specs.Calendar.{first_day, opens}
+use Rattle.model.specs.Calendar.{opens}
 
 -- An accepted changing command, with its key and whose key it is.
 pub record Event : Type 0 where
@@ -30,7 +31,7 @@ today_after _ before = before
 
 -- Today is the day of the last begin-day, and the calendar's first day in a new library.
 abbrev pub today : History → ℕ
-today [] = first_day
+today [] = FIRST_DAY
 today (e ∷ H) = today_after e.command (today H)
 
 -- A week sets the closed weekdays of its branch.

@@ -1,9 +1,9 @@
 -- What holds of every legal history.
+use Rattle.calendar.specs.declared.limits.TheConstants.{MOST_CLOSED_DAYS, FIRST_DAY}
+use Rattle.terms.specs.declared.limits.TheConstants.{LAST_TODAY, LAST_NUMBER, LONGEST_PICKUP, LONGEST_PERIOD, HIGHEST_CAP, HIGHEST_PRICE}
 use Rattle.std.specs.Prelude.{◌≡◌, ℕ, ◌*◌, ◌≤◌, ◌<◌, ◌==◌, true, false, [], length, replicate, Option, Some, None}
 use Rattle.std.specs.List.{list_any, IsDistinct}
 use Rattle.terms.specs.declared.row.HoldState.{HoldState}
-use Rattle.model.specs.Calendar.{first_day}
-use Rattle.model.specs.Checks.{last_today, last_number, max_singles}
 use Rattle.model.specs.History.{History, today, week_of, singles_of, BranchFacts, branch_of, Terms, rule_of, patron_of, HoldFacts, hold_of, holds, CopyFacts, copy_of, copies, loans}
 use Rattle.model.specs.Places.{Place, Nowhere, Shelf, HoldShelf, Transit, Loan, place, state, goal_of, home_of, title_of_hold, title_of_copy}
 use Rattle.model.specs.Loans.{LoanFacts, loan_of, ended, renewals}
@@ -31,23 +31,23 @@ pub record Bound (goal : ℕ → ℕ) (places : ℕ → Place) (states : ℕ →
 -- What every legal history keeps.
 pub record Invariant (H : History) : Type 0 where
   -- Today lies in the calendar, and not at its very end.
-  pub today_from : first_day ≤ today H
-  pub today_to : today H ≤ last_today
+  pub today_from : FIRST_DAY ≤ today H
+  pub today_to : today H ≤ LAST_TODAY
   -- A branch that isn't there has no closed days; no branch has a single day twice, or too many.
   pub unset : (b : ℕ) → branch_of H b ≡ None → (week_of H b ≡ replicate 7 false) × (singles_of H b ≡ [])
   pub singles_once : (b : ℕ) → IsDistinct ◌==◌ (singles_of H b)
-  pub few_singles : (b : ℕ) → length (singles_of H b) ≤ max_singles
+  pub few_singles : (b : ℕ) → length (singles_of H b) ≤ MOST_CLOSED_DAYS
   -- Periods, caps and prices are within their limits.
-  pub pickups : (b : ℕ) (r : BranchFacts) → branch_of H b ≡ Some r → r.pickup ≤ 60
-  pub terms : (k c : ℕ) (t : Terms) → rule_of H k c ≡ Some t → (t.period ≤ 365) × (t.cap ≤ 100000)
-  pub loan_caps : (l : ℕ) (r : LoanFacts) → loan_of H l ≡ Some r → r.terms.cap ≤ 100000
-  pub prices : (c : ℕ) (r : CopyFacts) → copy_of H c ≡ Some r → r.price ≤ 1000000
+  pub pickups : (b : ℕ) (r : BranchFacts) → branch_of H b ≡ Some r → r.pickup ≤ LONGEST_PICKUP
+  pub terms : (k c : ℕ) (t : Terms) → rule_of H k c ≡ Some t → (t.period ≤ LONGEST_PERIOD) × (t.cap ≤ HIGHEST_CAP)
+  pub loan_caps : (l : ℕ) (r : LoanFacts) → loan_of H l ≡ Some r → r.terms.cap ≤ HIGHEST_CAP
+  pub prices : (c : ℕ) (r : CopyFacts) → copy_of H c ≡ Some r → r.price ≤ HIGHEST_PRICE
   -- Borrowers are enrolled, and nobody has lines who isn't.
   pub borrowers : (l : ℕ) (r : LoanFacts) → loan_of H l ≡ Some r → patron_of H r.patron ≡ None → ⊥
   pub strangers : (p : ℕ) → patron_of H p ≡ None → account H p ≡ []
-  -- A debt is what the charges leave, and no more than 1,000,000 cents for each line.
+  -- A debt is what the charges leave, and no more than the highest price for each line.
   pub covered : (p : ℕ) → credits (account H p) ≤ charges (account H p)
-  pub debts : (p : ℕ) → owed H p ≤ 1000000 * length (lines H)
+  pub debts : (p : ℕ) → owed H p ≤ HIGHEST_PRICE * length (lines H)
   -- A copy on loan is that of an open loan, and the copy of an open loan is on it.
   pub on_loan : (c l : ℕ) → place H c ≡ Loan l → (r : LoanFacts) × (loan_of H l ≡ Some r) × (r.copy ≡ c) × (ended H l ≡ None)
   pub open_loan : (l : ℕ) (r : LoanFacts) → loan_of H l ≡ Some r → ended H l ≡ None → place H r.copy ≡ Loan l
@@ -57,9 +57,9 @@ pub record Invariant (H : History) : Type 0 where
   pub fresh_loan : (l : ℕ) → loans H < l → (renewals H l ≡ 0) × (ended H l ≡ None)
   pub made_hold : (h : ℕ) (r : HoldFacts) → hold_of H h ≡ Some r → (1 ≤ h) × (h ≤ holds H)
   pub hold_numbered : (h : ℕ) → 1 ≤ h → h ≤ holds H → (r : HoldFacts) × (hold_of H h ≡ Some r)
-  pub loans_left : loans H ≤ last_number
-  pub holds_left : holds H ≤ last_number
-  pub lines_left : length (lines H) ≤ last_number
+  pub loans_left : loans H ≤ LAST_NUMBER
+  pub holds_left : holds H ≤ LAST_NUMBER
+  pub lines_left : length (lines H) ≤ LAST_NUMBER
   -- A hold has a state exactly if it was placed.
   pub placed : (h : ℕ) (s : HoldState) → state H h ≡ Some s → (r : HoldFacts) × (hold_of H h ≡ Some r)
   pub stated : (h : ℕ) (r : HoldFacts) → hold_of H h ≡ Some r → (s : HoldState) × (state H h ≡ Some s)

@@ -1,4 +1,6 @@
 -- Which check of a command fails first.
+use Rattle.calendar.specs.declared.limits.TheConstants.{MOST_CLOSED_DAYS}
+use Rattle.terms.specs.declared.limits.TheConstants.{LAST_TODAY, LAST_NUMBER}
 use Rattle.std.specs.Prelude.{ℕ, ◌+◌, ◌==◌, nat_le, nat_lt, Bool, true, false, ◌&&◌, ◌||◌, not, List, [], ◌∷◌, filter, length, Option, is_some, is_none, option_map, unwrap_or, bytes_eq}
 use Rattle.std.specs.List.{list_any, list_all}
 use Rattle.terms.specs.declared.command.Owner.{Owner}
@@ -8,7 +10,7 @@ use Rattle.terms.specs.declared.command.Command.TheVariants.{BeginDay, Branch, W
 use Rattle.terms.specs.declared.refusal.Refusal.{Refusal}
 use Rattle.terms.specs.declared.refusal.Refusal.TheVariants.{UnknownBranch, UnknownPatron, UnknownTitle, UnknownCopy, UnknownLoan, UnknownHold, NoRule, UnknownKind, OtherContent, OutOfLimits, AllWeekdaysClosed, BadDay, AlreadyClosed, NotClosed, Elsewhere, OnLoan, InTransit, OnHoldShelf, CopyMissing, CopyWithdrawn, HoldWaits, TooManyLoans, OwesTooMuch, PastCalendar, LoanEnded, Overdue, NoRenewalsLeft, AlreadyHolds, TooManyHolds, HasOnLoan, WrongHoldState, LimitNotPassed, BadAmount, NumbersUsedUp}
 use Rattle.model.specs.Calendar.{is_single}
-use Rattle.model.specs.Checks.{Check, first_failing, last_today, last_number, max_singles, is_within_limits}
+use Rattle.model.specs.Checks.{Check, first_failing, is_within_limits}
 use Rattle.model.specs.History.{History, numbers_to, today, singles_of, branch_of, KindFacts, kind_of, patron_of, title_of, copy_of, loans, holds, hold_of}
 use Rattle.model.specs.Places.{Place, Shelf, HoldShelf, Transit, Loan, MissingCopy, WithdrawnCopy, place, state, line, fills, limit, title_of_copy, title_of_hold, patron_of_hold, goal_of, is_waiting, is_ready}
 use Rattle.model.specs.Loans.{loan_of, due, ended, terms_for, renewed_due, renewals_left, open_loans, has_on_loan, title_of_loan}
@@ -63,7 +65,7 @@ module _ (H : History) where
 
   -- Fewer than n line numbers are left.
   abbrev pub lacks_lines : ℕ → Bool
-  lacks_lines n = nat_lt last_number (length (lines H) + n)
+  lacks_lines n = nat_lt LAST_NUMBER (length (lines H) + n)
 
   -- The branch is there with another pick-up period or name.
   abbrev pub differs_branch : ℕ → ℕ → List ℕ → Bool
@@ -157,12 +159,12 @@ is_empty (h ∷ hs) = false
 
 -- The checks of a command, in order: each with its refusal, and whether it fails.
 abbrev pub checks : History → Owner → Command → List Check
-checks H o (BeginDay d) = (BadDay, not (nat_lt (today H) d && nat_le d last_today)) ∷ []
+checks H o (BeginDay d) = (BadDay, not (nat_lt (today H) d && nat_le d LAST_TODAY)) ∷ []
 checks H o (Branch b pickup name) = (OutOfLimits, not (is_within_limits (Branch b pickup name))) ∷ (OtherContent, differs_branch H b pickup name) ∷ []
 checks H o (Week b closed) = (UnknownBranch, not (has_branch H b)) ∷ (AllWeekdaysClosed, list_all (λ x. x) closed) ∷ []
 checks H o (CloseDay b d) =
     (UnknownBranch, not (has_branch H b)) ∷ (BadDay, nat_le d (today H)) ∷ (AlreadyClosed, is_single (singles_of H b) d)
-    ∷ (OutOfLimits, nat_le max_singles (length (singles_of H b))) ∷ []
+    ∷ (OutOfLimits, nat_le MOST_CLOSED_DAYS (length (singles_of H b))) ∷ []
 checks H o (OpenDay b d) =
     (UnknownBranch, not (has_branch H b)) ∷ (BadDay, nat_le d (today H)) ∷ (NotClosed, not (is_single (singles_of H b) d)) ∷ []
 checks H o (Kind k loans holds debt) = (OutOfLimits, not (is_within_limits (Kind k loans holds debt))) ∷ []
@@ -178,7 +180,7 @@ checks H o (CheckOut p c b) =
     ∷ (CopyWithdrawn, is_withdrawn (place H c)) ∷ (CopyMissing, is_missing (place H c)) ∷ (OnLoan, is_on_loan (place H c)) ∷ (InTransit, is_in_transit (place H c))
     ∷ (Elsewhere, is_elsewhere H b (place H c)) ∷ (OnHoldShelf, is_kept_for_other H p (place H c)) ∷ (HoldWaits, is_wanted_by_other H p c (place H c))
     ∷ (AlreadyHolds, has_other_hold H p c) ∷ (NoRule, is_none (terms_for H p c)) ∷ (TooManyLoans, has_all_loans H p)
-    ∷ (OwesTooMuch, owes_too_much H p) ∷ (NumbersUsedUp, nat_le last_number (loans H)) ∷ []
+    ∷ (OwesTooMuch, owes_too_much H p) ∷ (NumbersUsedUp, nat_le LAST_NUMBER (loans H)) ∷ []
 checks H o (CheckIn c b) =
     (UnknownBranch, not (has_branch H b)) ∷ (UnknownCopy, not (has_copy H c)) ∷ (CopyWithdrawn, is_withdrawn (place H c)) ∷ (OnHoldShelf, is_on_hold_shelf (place H c))
     ∷ (NumbersUsedUp, lacks_lines H (length (lines_by H (CheckIn c b)))) ∷ []
@@ -188,7 +190,7 @@ checks H o (Renew l) =
     ∷ (NoRenewalsLeft, renewals_left H l == 0) ∷ (OwesTooMuch, owes_too_much H (borrower H l)) ∷ (PastCalendar, is_none (renewed_due H l (due H l))) ∷ []
 checks H o (PlaceHold p t b) =
     (UnknownPatron, not (has_patron H p)) ∷ (UnknownTitle, is_none (title_of H t)) ∷ (UnknownBranch, not (has_branch H b)) ∷ (AlreadyHolds, has_hold_on H p t)
-    ∷ (HasOnLoan, has_on_loan H p t) ∷ (TooManyHolds, has_all_holds H p) ∷ (NumbersUsedUp, nat_le last_number (holds H)) ∷ []
+    ∷ (HasOnLoan, has_on_loan H p t) ∷ (TooManyHolds, has_all_holds H p) ∷ (NumbersUsedUp, nat_le LAST_NUMBER (holds H)) ∷ []
 checks H o (CancelHold h) = (UnknownHold, not (has_hold H o h)) ∷ (WrongHoldState, not (is_waiting (state H h))) ∷ []
 checks H o (Unshelve h) =
     (UnknownHold, not (has_hold H o h)) ∷ (WrongHoldState, not (is_ready (state H h))) ∷ (LimitNotPassed, nat_le (today H) (unwrap_or (limit H h) 0)) ∷ []

@@ -1,26 +1,30 @@
-//! What each word of the desk means: definitions over lists of accepted events, and laws of all legal lists.
+//! What each word of the desk means: definitions over lists of accepted events, and laws of all
+//! legal lists.
 //!
 //! A law is the contract of a function that does nothing: to call it is to have the law at hand.
 #![tactic(auto)]
 
-ghost use Rattle.model.specs.Laws.{StaysLegal, Places, Bindings, Balance, HoldRows, FinalStates, FirstInLineIsServed, RepeatsActOnce, OwnRows, Invariants};
+ghost use Rattle.model.specs.Laws.{StaysLegal, Places, Bindings, Balance, HoldRows, FinalStates};
+ghost use Rattle.model.specs.Laws.{FirstInLineIsServed, RepeatsActOnce, OwnRows, Invariants};
 ghost use Rattle.model.specs.Calendars.{CalendarsAgree};
 ghost use Rattle.model.specs.Forms.{FormsStay, FormsAreWhole, RowsInLimits};
 ghost use Rattle.model.specs.Repeats.{RepeatsLeaveNothing, RepeatsGetTheKeptReply, RowsActOnce};
-ghost use Rattle.model.specs.DueDays.{WholeWeeksStay, DueDays, DueDaysExist, ShelfLimits, LimitsExist};
+ghost use Rattle.model.specs.DueDays.{WholeWeeksStay, DueDays, DueDaysExist, ShelfLimits};
+ghost use Rattle.model.specs.DueDays.{LimitsExist};
 
 /// Handling requests of any callers keeps a history legal.
 pub fn legal_law()
     ensures { StaysLegal }
 {}
 
-/// The tables make at most one claim on a copy, and it is that of the place where the last movement left it.
+/// The tables make at most one claim on a copy, and it is that of the place where the last movement
+/// left it.
 pub fn places_law()
     ensures { Places }
 {}
 
-/// A hold is ready exactly if one copy stands on its hold shelf. A copy that travels for a hold goes to its pick-up
-/// branch, the hold waits, and no other copy travels for it.
+/// A hold is ready exactly if one copy stands on its hold shelf. A copy that travels for a hold
+/// goes to its pick-up branch, the hold waits, and no other copy travels for it.
 pub fn bindings_law()
     ensures { Bindings }
 {}
@@ -30,7 +34,8 @@ pub fn balance_law()
     ensures { Balance }
 {}
 
-/// The holds that have a row, and with it one state, are those of the numbers given: 1 up to how many were placed.
+/// The holds that have a row, and with it one state, are those of the numbers given: 1 up to how
+/// many were placed.
 pub fn hold_rows_law()
     ensures { HoldRows }
 {}
@@ -40,13 +45,14 @@ pub fn final_states_law()
     ensures { FinalStates }
 {}
 
-/// A hold that an accepted command takes out of its line, otherwise than by cancelling it, was the first of that line.
+/// A hold that an accepted command takes out of its line, otherwise than by cancelling it, was the
+/// first of that line.
 pub fn line_law()
     ensures { FirstInLineIsServed }
 {}
 
-/// A request that repeats an accepted one, with the same key of the same owner and the same text, adds nothing and gets
-/// the first one's reply, whatever came between.
+/// A request that repeats an accepted one, with the same key of the same owner and the same text,
+/// adds nothing and gets the first one's reply, whatever came between.
 pub fn repeats_law()
     ensures { RepeatsActOnce }
 {}
@@ -56,12 +62,14 @@ pub fn repeats_leave_nothing_law()
     ensures { RepeatsLeaveNothing }
 {}
 
-/// A request that repeats an accepted one, and whose caller is allowed it, gets the kept reply and changes nothing.
+/// A request that repeats an accepted one, and whose caller is allowed it, gets the kept reply and
+/// changes nothing.
 pub fn kept_reply_law()
     ensures { RepeatsGetTheKeptReply }
 {}
 
-/// The beginning of a copies file, followed by all of its rows, leaves the same history as all of its rows once.
+/// The beginning of a copies file, followed by all of its rows, leaves the same history as all of
+/// its rows once.
 pub fn copies_file_law()
     ensures { RowsActOnce }
 {}
@@ -71,8 +79,9 @@ pub fn whole_weeks_law()
     ensures { WholeWeeksStay }
 {}
 
-/// The due day of every loan was the least open day of the lending branch from the end of the loan's period when it was
-/// last set. Each week command of the history is to tell of seven weekdays, as those that can be sent do.
+/// The due day of every loan was the least open day of the lending branch from the end of the
+/// loan's period when it was last set. Each week command of the history is to tell of seven
+/// weekdays, as those that can be sent do.
 pub fn due_days_law()
     ensures { DueDays }
 {}
@@ -82,8 +91,8 @@ pub fn due_days_exist_law()
     ensures { DueDaysExist }
 {}
 
-/// Every ready hold has a shelf limit. It was the least open day of the pick-up branch from the end of the pick-up
-/// period when the hold became ready, on the same condition.
+/// Every ready hold has a shelf limit. It was the least open day of the pick-up branch from the end
+/// of the pick-up period when the hold became ready, on the same condition.
 pub fn shelf_limits_law()
     ensures { ShelfLimits }
 {}
@@ -93,13 +102,14 @@ pub fn shelf_limits_exist_law()
     ensures { LimitsExist }
 {}
 
-/// A patron's page is the same after any two histories that agree on the patron's own row, open loans and active holds,
-/// and on the copies and titles of these.
+/// A patron's page is the same after any two histories that agree on the patron's own row, open
+/// loans and active holds, and on the copies and titles of these.
 pub fn own_rows_law()
     ensures { OwnRows }
 {}
 
-/// The open days, the least open day and the days late of these definitions are those of the crate of calendars.
+/// The open days, the least open day and the days late of these definitions are those of the crate
+/// of calendars.
 pub fn calendars_law()
     ensures { CalendarsAgree }
 {}
@@ -109,8 +119,8 @@ pub fn invariant_law()
     ensures { Invariants }
 {}
 
-/// Requests whose commands and keys have their forms leave a history whose commands and keys do. Every command and every
-/// key that the program makes has its form.
+/// Requests whose commands and keys have their forms leave a history whose commands and keys do.
+/// Every command and every key that the program makes has its form.
 pub fn forms_law()
     ensures { FormsStay }
 {}
@@ -120,8 +130,9 @@ pub fn forms_are_whole_law()
     ensures { FormsAreWhole }
 {}
 
-/// Every column of every row that a legal history leaves lies in its limits, days and texts and sums too, and what is kept
-/// of a request can be read back: where commands and keys have their forms.
+/// Every column of every row that a legal history leaves lies in its limits, days and texts and
+/// sums too, and what is kept of a request can be read back: where commands and keys have their
+/// forms.
 pub fn rows_in_limits_law()
     ensures { RowsInLimits }
 {}

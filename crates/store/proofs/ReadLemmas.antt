@@ -1,19 +1,21 @@
 -- One read after another.
-use Rattle.std.proofs.Common.{◌≡◌, inl, inr, false, Option, None, Some, Ok, Err, Result, IfOk, IsTrue, refl, sym, subst, ap, ◌∙◌}
-use Rattle.std.specs.Prelude.{IfSome, IsUtf8}
+use Rattle.std.proofs.Common.{◌≡◌, inl, inr, List, map, Option, None, Some, Ok, Err, Result, IfOk, IsTrue, refl, sym, subst, ap, ◌∙◌}
+use Rattle.std.specs.Prelude.{IfSome}
+use Rattle.std.specs.List.{All}
 use Rattle.std.specs.Result.{result_err, IsErr, IsErrAnd}
-use Rattle.sqlite.specs.State.{State, HasCleanDisk, IsUnchanged, Survives}
-use Rattle.sql_maps.specs.Calls.{IsKeptOrUndone}
-use Rattle.sql_maps.specs.Maps.{Maps, Holds}
-use Rattle.terms.proofs.Utf8Lemmas.{reply_text-IsUtf8}
-use Rattle.terms.specs.declared.row.KeptRow.{KeptRow}
-use Rattle.terms.specs.Limits.{InLimits, IsKeptRow}
+use Rattle.sqlite.specs.Held.{Held, state}
+use Rattle.sqlite.specs.Order.{Row}
+use Rattle.sqlite.specs.Store.{Ghosts}
+use Rattle.sqlite.specs.State.{State, HasCleanDisk, IsUnchanged}
+use Rattle.sql_maps.specs.Maps.{Map, Maps, Holds}
+use Rattle.terms.specs.Limits.{InLimits}
 use Rattle.terms.specs.Pictures.{Picture}
 use Rattle.terms.specs.declared.fault.Fault.{Fault}
 use Rattle.terms.specs.declared.fault.Fault.TheVariants.{Database, Stored}
-use Rattle.circ_tables.specs.Encoding.{HasPicture, HasTexts}
+use Rattle.circ_tables.specs.Encoding.{HasPicture, Encodes}
+use Rattle.circ_tables.specs.Reading.{Table, Gets, Lists, Views, IsSame, IsSameOrUndone, Reading, ClosesFewDays}
 use Rattle.circ_tables.specs.Shape.{schema}
-use Rattle.store.specs.Reads.{ended, Reads, IsSame, IsSameOrUndone, Reading, ClosesFewDays}
+use Rattle.store.specs.Reads.{ended, Reads, Looked, Finds, Seen, IsSound}
 
 same_then : (a b c : State) → IsSame a b → IsSame b c → IsSame a c
 same_then a b c one two = record { now = two.now ∙ one.now; committed = two.committed ∙ one.committed; was_open = λ is. one.was_open (two.was_open is) }
@@ -54,27 +56,6 @@ read_none a = record {
 pub picture_then : (a b : State) → Reading None a b → HasCleanDisk b → (P : Picture) → HasPicture a.now P → HasPicture b.now P
 picture_then a b one clean P shown = shown_still a b P (one.same refl clean shown.maps shown.holds) shown
 
-is_well : {A : Type 0} (r : Result A Fault) {Q : Type 0} → result_err r ≡ None → IfOk r (λ _. Q) → Q
-is_well (Ok x) is h = h
-is_well (Err e) is h = absurd (let e = is in cc)
-
-is_stored : {A : Type 0} (r : Result A Fault) → result_err r ≡ Some Stored → r ≡ Err Stored
-is_stored (Ok x) is = absurd (let e = is in cc)
-is_stored (Err e) is = let same : e ≡ Stored = cc in ap Err same
-
--- one call of the tables
-pub read_of : {A : Type 0} (r : Result A Fault) (a b : State) → (HasCleanDisk b → HasCleanDisk a) → (a.in_transaction ≡ false → b.in_transaction ≡ false) → (HasCleanDisk b → a.now.schema ≡ schema → IsKeptOrUndone a b)
-    → (a.now.schema ≡ schema → Survives a b (λ _. ⊥)) → (HasCleanDisk b → IfOk r (λ _. (maps : Maps) → Holds schema a.now maps → IsUnchanged a b))
-    → (HasCleanDisk b → (P : Picture) → HasPicture a.now P → InLimits P → r ≡ Err Stored → ⊥) → Reading (result_err r) a b
-read_of r a b clean mode leaves survives unchanged sound = record {
-  clean = clean;
-  mode = mode;
-  leaves = λ h is maps holds. elim (leaves h holds.schema_is) [ inl kept ↦ inl kept.now | inr undone ↦ inr (undone.was_open is, (undone.undone is).0) ];
-  crash = λ h maps holds trees may. elim ((survives holds.schema_is).crash h trees may) [ inl before ↦ before | inr none ↦ absurd none ];
-  same = λ is h maps holds. let all = is_well r is (unchanged h) maps holds in record { now = all.0.now_is; committed = all.0.committed_is; was_open = λ _. all.0.was_open };
-  sound = λ is h P shown legal few. sound h P shown legal (is_stored r is);
-}
-
 -- what a store says of a read
 pub reads_of : {fault : Option Fault} (a b : State) → (IsTrue a.is_open → a.now ≡ a.committed) → Reading fault a b → Reads a b
 reads_of a b settled one = record {
@@ -96,14 +77,6 @@ pub read_err : {A : Type 0} (r : Result A Fault) (fault : Fault) (a b : State) �
 read_err (Ok x) fault a b is one = absurd (let none = is.0 in cc)
 read_err (Err e) fault a b is one = subst (λ f. Reading (Some f) a b) (sym is.1) one
 
--- the same of one call of the tables
-pub reads_call : (a b : State) → (IsTrue a.is_open → a.now ≡ a.committed) → (HasCleanDisk b → HasCleanDisk a) → (HasCleanDisk b → a.now.schema ≡ schema → IsKeptOrUndone a b) → (a.now.schema ≡ schema → Survives a b (λ _. ⊥)) → Reads a b
-reads_call a b settled clean leaves survives = record {
-  clean = clean;
-  same = λ h is P shown. elim (leaves h shown.holds.schema_is) [ inl kept ↦ kept.now | inr undone ↦ (undone.undone is).0 ∙ sym (settled (undone.was_open is)) ];
-  left = λ h P keeps trees may. elim ((survives keeps.now.holds.schema_is).crash h trees may) [ inl before ↦ keeps.left trees before | inr none ↦ absurd none ];
-}
-
 -- what is read and that the tables are as they were
 pub shown_same : {A : Type 0} (Q : A → Picture → Type 0) (r : Result A Fault) (a b : State) → HasCleanDisk b → Reading (result_err r) a b → (HasCleanDisk b → IfOk r (λ x. (P : Picture) → HasPicture a.now P → InLimits P → Q x P))
     → IfOk r (λ x. (P : Picture) → HasPicture a.now P → InLimits P → Q x P × (b.now ≡ a.now))
@@ -113,31 +86,6 @@ shown_same Q (Err e) a b clean one got = tt
 pub sound_of : {A : Type 0} (r : Result A Fault) (a b : State) → Reading (result_err r) a b → HasCleanDisk b → r ≡ Err Stored → (P : Picture) → HasPicture a.now P → InLimits P → ClosesFewDays P → ⊥
 sound_of r a b one clean is P shown legal few = one.sound (ap result_err is) clean P shown legal few
 
--- what is kept within the limits is text
-pub has_texts : (o : Option KeptRow) → ((r : KeptRow) → o ≡ Some r → IsKeptRow r) → IfSome o HasTexts
-has_texts None own = tt
-has_texts (Some r) own = let is = own r refl in (is.2, subst IsUtf8 (sym is.3.2) (reply_text-IsUtf8 is.3.0 is.3.1))
-
-is_right : {A : Type 0} (r : Result A Fault) {Q : Type 0} → ended r ≡ None → IfOk r (λ _. Q) → Q
-is_right (Ok x) is h = h
-is_right (Err e) is h = absurd (let f = is in cc)
-
-not_stored : {A : Type 0} (r : Result A Fault) → ended r ≡ Some Stored → ⊥
-not_stored (Ok x) is = let f = is in cc
-not_stored (Err e) is = let f = is in cc
-
--- one call of the tables, of which the fault is left unsaid
-pub read_ended : {A : Type 0} (r : Result A Fault) (a b : State) → (HasCleanDisk b → HasCleanDisk a) → (a.in_transaction ≡ false → b.in_transaction ≡ false) → (HasCleanDisk b → a.now.schema ≡ schema → IsKeptOrUndone a b)
-    → (a.now.schema ≡ schema → Survives a b (λ _. ⊥)) → (HasCleanDisk b → IfOk r (λ _. (maps : Maps) → Holds schema a.now maps → IsUnchanged a b)) → Reading (ended r) a b
-read_ended r a b clean mode leaves survives unchanged = record {
-  clean = clean;
-  mode = mode;
-  leaves = λ h is maps holds. elim (leaves h holds.schema_is) [ inl kept ↦ inl kept.now | inr undone ↦ inr (undone.was_open is, (undone.undone is).0) ];
-  crash = λ h maps holds trees may. elim ((survives holds.schema_is).crash h trees may) [ inl before ↦ before | inr none ↦ absurd none ];
-  same = λ is h maps holds. let all = is_right r is (unchanged h) maps holds in record { now = all.0.now_is; committed = all.0.committed_is; was_open = λ _. all.0.was_open };
-  sound = λ is h P shown legal few. not_stored r is;
-}
-
 -- a read that ended well, and then a step that failed, whatever its fault
 pub read_stops : (a b : State) → Reading None a b → Reading (Some Database) a b
 read_stops a b one = record { clean = one.clean; mode = one.mode; leaves = one.leaves; crash = one.crash; same = λ _. one.same refl; sound = λ is h P shown legal few. absurd (let f = is in cc) }
@@ -146,3 +94,74 @@ read_stops a b one = record { clean = one.clean; mode = one.mode; leaves = one.l
 pub ended_err : {A : Type 0} (r : Result A Fault) (a b : State) → IsErr r → Reading (Some Database) a b → Reading (ended r) a b
 ended_err (Ok x) a b is one = absurd (let none = is in cc)
 ended_err (Err e) a b is one = one
+
+-- what is read, whatever its fault
+pub read_unsaid : {A : Type 0} (r : Result A Fault) (a b : State) → Reading (result_err r) a b → Reading (ended r) a b
+read_unsaid (Ok x) a b one = one
+read_unsaid (Err e) a b one = record { clean = one.clean; mode = one.mode; leaves = one.leaves; crash = one.crash; same = λ is. absurd (let f = is in cc); sound = λ is h P shown legal few. absurd (let f = is in cc) }
+
+-- ---- what a store says of a read
+
+ok_then : {A : Type 0} {P Q : A → Type 0} (r : Result A Fault) → ((x : A) → P x → Q x) → IfOk r P → IfOk r Q
+ok_then (Ok x) f h = f x h
+ok_then (Err e) f h = tt
+
+-- of a row of a key
+pub looked_of : {K R S : Type 0} (t : Table K R) (key : K) (g : Ghosts S) (legal : (P : Picture) → InLimits P → (r : R) → t.rows P key ≡ Some r → t.IsLegal r) (old new : Held S) (result : Result (Option R) Fault)
+    → (IsTrue (state g old).is_open → (state g old).now ≡ (state g old).committed) → Gets t key g old new result → Finds t key g old new result
+looked_of t key g legal old new result settled is = record {
+  reads = reads_of (state g old) (state g new) settled is.view.read;
+  shown = λ clean. ok_then result (λ row got P shown within. let both = got P shown within in (both.0, both.1.0.now_is)) (is.shows clean);
+  sound = λ clean err P shown within. is.sound clean P shown (legal_if t.IsLegal (t.rows P key) (legal P within)) err;
+}
+
+-- the same where all rows lie within their limits
+pub looked_row : {K R S : Type 0} (t : Table K R) (key : K) (g : Ghosts S) (legal : (P : Picture) → InLimits P → (r : R) → t.rows P key ≡ Some r → t.IsLegal r) (old new : Held S) (result : Result (Option R) Fault)
+    → (IsTrue (state g old).is_open → (state g old).now ≡ (state g old).committed) → Gets t key g old new result → Looked InLimits (λ P row. row ≡ t.rows P key) InLimits g old new result
+looked_row t key g legal old new result settled is =
+    let found = looked_of t key g legal old new result settled is in
+    record {
+      reads = found.reads;
+      shown = λ clean. ok_then result (λ row got P shown within. got P shown (legal_if t.IsLegal (t.rows P key) (legal P within))) (found.shown clean);
+      sound = found.sound;
+    }
+
+-- of a view
+pub looked_view : {A S : Type 0} (Is : Picture → A → Type 0) (g : Ghosts S) (old new : Held S) (result : Result A Fault)
+    → (IsTrue (state g old).is_open → (state g old).now ≡ (state g old).committed) → Views Is g old new result → Looked InLimits Is IsSound g old new result
+looked_view Is g old new result settled is = record {
+  reads = reads_of (state g old) (state g new) settled is.read;
+  shown = λ clean. shown_same (λ x P. Is P x) result (state g old) (state g new) clean is.read is.shown;
+  sound = λ clean err P shown good. is.read.sound (ap result_err err) clean P shown good.0 good.1;
+}
+
+seen_same : {A : Type 0} (Q : A → Picture → Type 0) (r : Result A Fault) (a b : State) → Reading (ended r) a b → IfOk r (λ x. (P : Picture) → HasPicture a.now P → InLimits P → Q x P) → HasCleanDisk b
+    → IfOk r (λ x. (P : Picture) → HasPicture a.now P → InLimits P → Q x P × (b.now ≡ a.now))
+seen_same Q (Ok x) a b one got clean = λ P shown legal. (got P shown legal, (one.same refl clean shown.maps shown.holds).now)
+seen_same Q (Err e) a b one got clean = tt
+
+-- of a view whose fault is left unsaid
+pub looked_seen : {A S : Type 0} (Is : Picture → A → Type 0) (g : Ghosts S) (old new : Held S) (result : Result A Fault)
+    → (IsTrue (state g old).is_open → (state g old).now ≡ (state g old).committed) → Seen Is g old new result → Looked InLimits Is (λ _. ⊥) g old new result
+looked_seen Is g old new result settled is = record {
+  reads = reads_of (state g old) (state g new) settled is.read;
+  shown = λ clean. seen_same (λ x P. Is P x) result (state g old) (state g new) is.read (is.shown clean) clean;
+  sound = λ clean err P shown none. none;
+}
+
+list_same : {R L : Type 0} (items : L → List R) (Good : R → Type 0) (Found : Maps → List R → Type 0) (Are : Picture → List R → Type 0) → ((maps : Maps) (P : Picture) → Encodes maps P → InLimits P → (rows : List R) → All Good rows → Found maps rows → Are P rows)
+    → (r : Result L Fault) (a b : State) → IfOk r (λ l. (maps : Maps) → Holds schema a.now maps → Found maps (items l) × IsUnchanged a b) → IfOk r (λ l. All Good (items l))
+    → IfOk r (λ l. (P : Picture) → HasPicture a.now P → InLimits P → Are P (items l) × (b.now ≡ a.now))
+list_same items Good Found Are are (Ok l) a b got limits = λ P shown legal. let all = got shown.maps shown.holds in (are shown.maps P shown.encodes legal (items l) limits all.0, all.1.0.now_is)
+list_same items Good Found Are are (Err e) a b got limits = tt
+
+-- of a list
+pub looked_list : {K R L S : Type 0} (t : Table K R) (items : L → List R) (Found : Map → List Row → Type 0) (Are : Picture → List R → Type 0)
+    → ((maps : Maps) (P : Picture) → Encodes maps P → InLimits P → (rows : List R) → All t.IsLegal rows → Found (maps t.place) (map t.cells rows) → Are P rows)
+    → (g : Ghosts S) (old new : Held S) (result : Result L Fault)
+    → (IsTrue (state g old).is_open → (state g old).now ≡ (state g old).committed) → Lists t items Found g old new result → Looked InLimits (λ P l. Are P (items l)) InLimits g old new result
+looked_list t items Found Are are g old new result settled is = record {
+  reads = reads_of (state g old) (state g new) settled is.read;
+  shown = λ clean. list_same items t.IsLegal (λ maps rows. Found (maps t.place) (map t.cells rows)) Are are result (state g old) (state g new) (is.lists clean) is.limits;
+  sound = λ clean err P shown legal. is.sound clean P shown legal err;
+}

@@ -1,15 +1,14 @@
 -- What a call that only reads leaves.
-use Rattle.std.specs.Prelude.{◌≡◌, ◌⊎◌, ◌≤◌, ℕ, false, List, length, Option, Some, None, Ok, Err, Result, IsTrue}
-use Rattle.calendar.specs.Openings.{has_day, has_repeat}
+use Rattle.std.specs.Prelude.{◌≡◌, Option, Some, None, Ok, Err, Result, IfOk, IfSome, IsTrue}
+use Rattle.sqlite.specs.Held.{Held, state}
 use Rattle.sqlite.specs.State.{State, HasCleanDisk}
-use Rattle.sqlite.specs.Tree.{Trees}
-use Rattle.sql_maps.specs.Maps.{Maps, Holds}
+use Rattle.sqlite.specs.Store.{Ghosts}
 use Rattle.terms.specs.Limits.{InLimits}
 use Rattle.terms.specs.Pictures.{Picture}
 use Rattle.terms.specs.declared.fault.Fault.{Fault}
 use Rattle.terms.specs.declared.fault.Fault.TheVariants.{Database, Stored}
 use Rattle.circ_tables.specs.Encoding.{HasPicture}
-use Rattle.circ_tables.specs.Shape.{schema}
+use Rattle.circ_tables.specs.Reading.{Table, Reading, ClosesFewDays}
 use Rattle.store.specs.Stops.{Leaves, KeepsPicture}
 
 -- A call that only reads: whatever its outcome, the tables stay as they were.
@@ -18,30 +17,31 @@ pub record Reads (old new : State) : Type 0 where
   pub same : HasCleanDisk new → IsTrue new.is_open → (P : Picture) → HasPicture old.now P → new.now ≡ old.now
   pub left : HasCleanDisk new → (P : Picture) → KeepsPicture old P → Leaves new (λ db. HasPicture db P)
 
--- No branch is closed singly on more than 400 days.
-abbrev pub ClosesFewDays : Picture → Type 0
-ClosesFewDays P = (branch : ℕ) (days : List ℕ) → has_repeat days ≡ false → ((d : ℕ) → has_day days d ≡ P.closed_days branch d) → length days ≤ 400
+-- The rows lie within their limits, and no branch is closed singly on more days than it can be.
+abbrev pub IsSound : Picture → Type 0
+IsSound P = InLimits P × ClosesFewDays P
 
--- The tables are as they were.
-pub record IsSame (old new : State) : Type 0 where
-  pub now : new.now ≡ old.now
-  pub committed : new.committed ≡ old.committed
-  pub was_open : IsTrue new.is_open → IsTrue old.is_open
+-- What a call of a store that only reads says: where the picture of the tables is as the call needs it, what was found is so in it; no fault of a stored row comes where the picture is sound.
+pub record Looked {S A : Type 0} (Needs : Picture → Type 0) (Is : Picture → A → Type 0) (Sound : Picture → Type 0)
+    (g : Ghosts S) (old new : Held S) (result : Result A Fault) : Type 0 where
+  pub reads : Reads (state g old) (state g new)
+  pub shown : HasCleanDisk (state g new) → IfOk result (λ x. (P : Picture) → HasPicture (state g old).now P
+      → Needs P → Is P x × ((state g new).now ≡ (state g old).now))
+  pub sound : HasCleanDisk (state g new) → result ≡ Err Stored
+      → (P : Picture) → HasPicture (state g old).now P → Sound P → ⊥
 
--- The tables are as they were, or as the last commit left them.
-abbrev pub IsSameOrUndone : State → State → Type 0
-IsSameOrUndone old new = (new.now ≡ old.now) ⊎ (IsTrue old.is_open × (new.now ≡ old.committed))
-
--- One read after another: what they leave, whether they ended well or with this fault, which is not that of a stored row where the tables show a picture.
-pub record Reading (fault : Option Fault) (old new : State) : Type 0 where
-  pub clean : HasCleanDisk new → HasCleanDisk old
-  pub mode : old.in_transaction ≡ false → new.in_transaction ≡ false
-  pub leaves : HasCleanDisk new → IsTrue new.is_open → (maps : Maps) → Holds schema old.now maps → IsSameOrUndone old new
-  pub crash : HasCleanDisk new → (maps : Maps) → Holds schema old.now maps → (trees : Trees) → new.may_leave trees → old.may_leave trees
-  pub same : fault ≡ None → HasCleanDisk new → (maps : Maps) → Holds schema old.now maps → IsSame old new
-  pub sound : fault ≡ Some Stored → HasCleanDisk new → (P : Picture) → HasPicture old.now P → InLimits P → ClosesFewDays P → ⊥
+-- The row of a key was looked for.
+abbrev pub Finds : {K R S : Type 0} → Table K R → K → Ghosts S → Held S → Held S → Result (Option R) Fault → Type 0
+Finds t key = Looked (λ P. IfSome (t.rows P key) t.IsLegal) (λ P row. row ≡ t.rows P key) InLimits
 
 -- Whether a call ended well; its fault is left unsaid.
 abbrev pub ended : {A : Type 0} → Result A Fault → Option Fault
 ended (Ok x) = None
 ended (Err e) = Some Database
+
+-- What is read, as `Views` has it, where the fault is left unsaid.
+pub record Seen {S A : Type 0} (Is : Picture → A → Type 0)
+    (g : Ghosts S) (old new : Held S) (result : Result A Fault) : Type 0 where
+  pub read : Reading (ended result) (state g old) (state g new)
+  pub shown : HasCleanDisk (state g new)
+      → IfOk result (λ x. (P : Picture) → HasPicture (state g old).now P → InLimits P → Is P x)

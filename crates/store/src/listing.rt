@@ -1,13 +1,11 @@
 //! All rows of each table.
 
 ghost use Rattle.std.specs.Prelude.{◌≡◌, IfOk, IfSome};
-ghost use Rattle.sqlite.specs.Held.{state};
-ghost use Rattle.sqlite.specs.State.{HasCleanDisk};
 ghost use Rattle.terms.specs.Limits.{InLimits};
-ghost use Rattle.terms.specs.Pictures.{Picture};
-ghost use Rattle.circ_tables.specs.Encoding.{HasPicture};
-ghost use Rattle.store.specs.Lists.{AreRows, AllPass, AreRules, AreRegisters, AreHoldings, AreDealings, AreTables};
-ghost use Rattle.store.specs.Reads.{Reads, Reading, ended};
+ghost use Rattle.store.specs.Lists.{AreRows, AllPass, AreRules, AreRegisters, AreHoldings};
+ghost use Rattle.store.specs.Lists.{AreDealings, AreTables};
+ghost use Rattle.store.specs.Reads.{Looked, Seen};
+ghost use Rattle.circ_tables.specs.Reading.{Views};
 
 use crate::store::Store;
 use circ_tables::{
@@ -147,9 +145,8 @@ fn day_rows(alloc: Global, days: &[ClosedDay]) -> Result<Vec<ClosedDayRow>, Faul
 
 /// All rows of `branches`. 90, 91, 93.
 fn branches<S: Alter>(conn: &mut Connection<S>, alloc: Global) -> Result<Rows<BranchRow>, Fault>
-    ensures read { Reading (ended result) (state S.Store conn.old) (state S.Store conn.new) }
-    ensures shown { HasCleanDisk (state S.Store conn.new) → IfOk result (λ rows. (P : Picture) → HasPicture (state S.Store conn.old).now P → InLimits P
-        → AreRows P.branches (λ r. r.branch) AllPass rows) }
+    ensures { Views (λ P rows. AreRows P.branches (λ r. r.branch) AllPass rows)
+        S.Store conn.old conn.new result }
 {
     let found = all_branches(conn, alloc)?;
     Ok(Rows::new(found))
@@ -157,9 +154,8 @@ fn branches<S: Alter>(conn: &mut Connection<S>, alloc: Global) -> Result<Rows<Br
 
 /// All rows of `kinds`. 90, 91, 93.
 fn kinds<S: Alter>(conn: &mut Connection<S>, alloc: Global) -> Result<Rows<KindRow>, Fault>
-    ensures read { Reading (ended result) (state S.Store conn.old) (state S.Store conn.new) }
-    ensures shown { HasCleanDisk (state S.Store conn.new) → IfOk result (λ rows. (P : Picture) → HasPicture (state S.Store conn.old).now P → InLimits P
-        → AreRows P.kinds (λ r. r.kind) AllPass rows) }
+    ensures { Views (λ P rows. AreRows P.kinds (λ r. r.kind) AllPass rows)
+        S.Store conn.old conn.new result }
 {
     let found = all_kinds(conn, alloc)?;
     Ok(Rows::new(found))
@@ -167,9 +163,8 @@ fn kinds<S: Alter>(conn: &mut Connection<S>, alloc: Global) -> Result<Rows<KindR
 
 /// All rows of `patrons`. 90, 91, 93.
 fn patrons<S: Alter>(conn: &mut Connection<S>, alloc: Global) -> Result<Rows<PatronRow>, Fault>
-    ensures read { Reading (ended result) (state S.Store conn.old) (state S.Store conn.new) }
-    ensures shown { HasCleanDisk (state S.Store conn.new) → IfOk result (λ rows. (P : Picture) → HasPicture (state S.Store conn.old).now P → InLimits P
-        → AreRows P.patrons (λ r. r.patron) AllPass rows) }
+    ensures { Views (λ P rows. AreRows P.patrons (λ r. r.patron) AllPass rows)
+        S.Store conn.old conn.new result }
 {
     let found = all_patrons(conn, alloc)?;
     Ok(Rows::new(found))
@@ -177,9 +172,8 @@ fn patrons<S: Alter>(conn: &mut Connection<S>, alloc: Global) -> Result<Rows<Pat
 
 /// All rows of `titles`. 90, 91, 93.
 fn titles<S: Alter>(conn: &mut Connection<S>, alloc: Global) -> Result<Rows<TitleRow>, Fault>
-    ensures read { Reading (ended result) (state S.Store conn.old) (state S.Store conn.new) }
-    ensures shown { HasCleanDisk (state S.Store conn.new) → IfOk result (λ rows. (P : Picture) → HasPicture (state S.Store conn.old).now P → InLimits P
-        → AreRows P.titles (λ r. r.title) AllPass rows) }
+    ensures { Views (λ P rows. AreRows P.titles (λ r. r.title) AllPass rows)
+        S.Store conn.old conn.new result }
 {
     let found = all_titles(conn, alloc)?;
     Ok(Rows::new(found))
@@ -187,9 +181,8 @@ fn titles<S: Alter>(conn: &mut Connection<S>, alloc: Global) -> Result<Rows<Titl
 
 /// All rows of `copies`. 90, 91, 93.
 fn copies<S: Alter>(conn: &mut Connection<S>, alloc: Global) -> Result<Rows<CopyRow>, Fault>
-    ensures read { Reading (ended result) (state S.Store conn.old) (state S.Store conn.new) }
-    ensures shown { HasCleanDisk (state S.Store conn.new) → IfOk result (λ rows. (P : Picture) → HasPicture (state S.Store conn.old).now P → InLimits P
-        → AreRows P.copies (λ r. r.copy) AllPass rows) }
+    ensures { Views (λ P rows. AreRows P.copies (λ r. r.copy) AllPass rows)
+        S.Store conn.old conn.new result }
 {
     let found = all_copies(conn, alloc)?;
     Ok(Rows::new(found))
@@ -197,9 +190,8 @@ fn copies<S: Alter>(conn: &mut Connection<S>, alloc: Global) -> Result<Rows<Copy
 
 /// All rows of `loans`. 90, 91, 93.
 fn loans<S: Alter>(conn: &mut Connection<S>, alloc: Global) -> Result<Rows<LoanRow>, Fault>
-    ensures read { Reading (ended result) (state S.Store conn.old) (state S.Store conn.new) }
-    ensures shown { HasCleanDisk (state S.Store conn.new) → IfOk result (λ rows. (P : Picture) → HasPicture (state S.Store conn.old).now P → InLimits P
-        → AreRows P.loans (λ r. r.loan) AllPass rows) }
+    ensures { Views (λ P rows. AreRows P.loans (λ r. r.loan) AllPass rows)
+        S.Store conn.old conn.new result }
 {
     let found = all_loans(conn, alloc)?;
     Ok(Rows::new(found))
@@ -207,9 +199,8 @@ fn loans<S: Alter>(conn: &mut Connection<S>, alloc: Global) -> Result<Rows<LoanR
 
 /// All rows of `holds`. 90, 91, 93.
 fn holds<S: Alter>(conn: &mut Connection<S>, alloc: Global) -> Result<Rows<HoldRow>, Fault>
-    ensures read { Reading (ended result) (state S.Store conn.old) (state S.Store conn.new) }
-    ensures shown { HasCleanDisk (state S.Store conn.new) → IfOk result (λ rows. (P : Picture) → HasPicture (state S.Store conn.old).now P → InLimits P
-        → AreRows P.holds (λ r. r.hold) AllPass rows) }
+    ensures { Views (λ P rows. AreRows P.holds (λ r. r.hold) AllPass rows)
+        S.Store conn.old conn.new result }
 {
     let found = all_holds(conn, alloc)?;
     Ok(Rows::new(found))
@@ -217,9 +208,8 @@ fn holds<S: Alter>(conn: &mut Connection<S>, alloc: Global) -> Result<Rows<HoldR
 
 /// All rows of `transits`. 90, 91, 93.
 fn transits<S: Alter>(conn: &mut Connection<S>, alloc: Global) -> Result<Rows<TransitRow>, Fault>
-    ensures read { Reading (ended result) (state S.Store conn.old) (state S.Store conn.new) }
-    ensures shown { HasCleanDisk (state S.Store conn.new) → IfOk result (λ rows. (P : Picture) → HasPicture (state S.Store conn.old).now P → InLimits P
-        → AreRows P.transits (λ r. r.copy) AllPass rows) }
+    ensures { Views (λ P rows. AreRows P.transits (λ r. r.copy) AllPass rows)
+        S.Store conn.old conn.new result }
 {
     let found = all_transits(conn, alloc)?;
     Ok(Rows::new(found))
@@ -227,9 +217,8 @@ fn transits<S: Alter>(conn: &mut Connection<S>, alloc: Global) -> Result<Rows<Tr
 
 /// All rows of `lines`. 90, 91, 93.
 fn lines<S: Alter>(conn: &mut Connection<S>, alloc: Global) -> Result<Rows<LineRow>, Fault>
-    ensures read { Reading (ended result) (state S.Store conn.old) (state S.Store conn.new) }
-    ensures shown { HasCleanDisk (state S.Store conn.new) → IfOk result (λ rows. (P : Picture) → HasPicture (state S.Store conn.old).now P → InLimits P
-        → AreRows P.lines (λ r. r.line) AllPass rows) }
+    ensures { Views (λ P rows. AreRows P.lines (λ r. r.line) AllPass rows)
+        S.Store conn.old conn.new result }
 {
     let found = all_lines(conn, alloc)?;
     Ok(Rows::new(found))
@@ -237,9 +226,7 @@ fn lines<S: Alter>(conn: &mut Connection<S>, alloc: Global) -> Result<Rows<LineR
 
 /// All rows of `rules`. 90, 91, 93.
 fn rules<S: Alter>(conn: &mut Connection<S>, alloc: Global) -> Result<Rows<RuleRow>, Fault>
-    ensures read { Reading (ended result) (state S.Store conn.old) (state S.Store conn.new) }
-    ensures shown { HasCleanDisk (state S.Store conn.new) → IfOk result (λ rows. (P : Picture) → HasPicture (state S.Store conn.old).now P → InLimits P
-        → AreRules P rows) }
+    ensures { Views (λ P rows. AreRules P rows) S.Store conn.old conn.new result }
 {
     let found = all_rules(conn, alloc)?;
     Ok(Rows::new(found))
@@ -250,7 +237,7 @@ fn closed_days<S: Alter>(
     conn: &mut Connection<S>,
     alloc: Global,
 ) -> Result<Rows<ClosedDayRow>, Fault>
-    ensures read { Reading (ended result) (state S.Store conn.old) (state S.Store conn.new) }
+    ensures { Seen (λ _ _. Unit {0}) S.Store conn.old conn.new result }
 {
     let found = all_closed_days(conn, alloc)?;
     let rows = day_rows(alloc, &found)?;
@@ -259,30 +246,18 @@ fn closed_days<S: Alter>(
 
 /// All rows of `kept`. 90, 91, 93.
 fn kept<S: Alter>(conn: &mut Connection<S>, alloc: Global) -> Result<Rows<KeptRow>, Fault>
-    ensures read { Reading (ended result) (state S.Store conn.old) (state S.Store conn.new) }
+    ensures { Seen (λ _ _. Unit {0}) S.Store conn.old conn.new result }
 {
     let found = all_kept(conn, alloc)?;
     let rows = kept_rows(alloc, found)?;
     Ok(Rows::new(rows))
 }
 
-/// The one row of `meta`. 91, 93.
-fn meta<S: Alter>(conn: &mut Connection<S>) -> Result<MetaRow, Fault>
-    ensures read { Reading (ended result) (state S.Store conn.old) (state S.Store conn.new) }
-    ensures shown { HasCleanDisk (state S.Store conn.new) → IfOk result (λ rows. (P : Picture) → HasPicture (state S.Store conn.old).now P → InLimits P
-        → rows ≡ P.meta) }
-{
-    let found = get_meta(conn)?;
-    Ok(found)
-}
-
 /// The tables that the desk sets. 90, 91, 93.
 fn read_registers<S: Alter>(conn: &mut Connection<S>, alloc: Global) -> Result<Registers, Fault>
-    ensures read { Reading (ended result) (state S.Store conn.old) (state S.Store conn.new) }
-    ensures shown { HasCleanDisk (state S.Store conn.new) → IfOk result (λ rows. (P : Picture) → HasPicture (state S.Store conn.old).now P → InLimits P
-        → AreRegisters P rows) }
+    ensures { Seen AreRegisters S.Store conn.old conn.new result }
 {
-    let meta = meta(conn)?;
+    let meta = get_meta(conn)?;
     let branches = branches(conn, alloc)?;
     let closed_days = closed_days(conn, alloc)?;
     let kinds = kinds(conn, alloc)?;
@@ -298,9 +273,7 @@ fn read_registers<S: Alter>(conn: &mut Connection<S>, alloc: Global) -> Result<R
 
 /// Patrons, titles and copies. 90, 91, 93.
 fn read_holdings<S: Alter>(conn: &mut Connection<S>, alloc: Global) -> Result<Holdings, Fault>
-    ensures read { Reading (ended result) (state S.Store conn.old) (state S.Store conn.new) }
-    ensures shown { HasCleanDisk (state S.Store conn.new) → IfOk result (λ rows. (P : Picture) → HasPicture (state S.Store conn.old).now P → InLimits P
-        → AreHoldings P rows) }
+    ensures { Views AreHoldings S.Store conn.old conn.new result }
 {
     let patrons = patrons(conn, alloc)?;
     let titles = titles(conn, alloc)?;
@@ -314,9 +287,7 @@ fn read_holdings<S: Alter>(conn: &mut Connection<S>, alloc: Global) -> Result<Ho
 
 /// Loans, holds, transits, lines, and what is kept. 90, 91, 93.
 fn read_dealings<S: Alter>(conn: &mut Connection<S>, alloc: Global) -> Result<Dealings, Fault>
-    ensures read { Reading (ended result) (state S.Store conn.old) (state S.Store conn.new) }
-    ensures shown { HasCleanDisk (state S.Store conn.new) → IfOk result (λ rows. (P : Picture) → HasPicture (state S.Store conn.old).now P → InLimits P
-        → AreDealings P rows) }
+    ensures { Seen AreDealings S.Store conn.old conn.new result }
 {
     let loans = loans(conn, alloc)?;
     let holds = holds(conn, alloc)?;
@@ -334,9 +305,7 @@ fn read_dealings<S: Alter>(conn: &mut Connection<S>, alloc: Global) -> Result<De
 
 /// All rows of each table. 90, 91, 93.
 fn all_tables<S: Alter>(conn: &mut Connection<S>, alloc: Global) -> Result<Tables, Fault>
-    ensures read { Reading (ended result) (state S.Store conn.old) (state S.Store conn.new) }
-    ensures shown { HasCleanDisk (state S.Store conn.new) → IfOk result (λ rows. (P : Picture) → HasPicture (state S.Store conn.old).now P → InLimits P
-        → AreTables P rows) }
+    ensures { Seen AreTables S.Store conn.old conn.new result }
 {
     let set = read_registers(conn, alloc)?;
     let owned = read_holdings(conn, alloc)?;
@@ -361,8 +330,7 @@ fn all_tables<S: Alter>(conn: &mut Connection<S>, alloc: Global) -> Result<Table
 impl<S: Alter> Store<S> {
     /// All rows of each table, in rising order of their keys. 90, 91, 93.
     pub fn tables(&mut self, alloc: Global) -> Result<Tables, Fault>
-        ensures reads { Reads (state S.Store self.old) (state S.Store self.new) }
-        ensures shown { HasCleanDisk (state S.Store self.new) → IfOk result (λ rows. (P : Picture) → HasPicture (state S.Store self.old).now P → InLimits P → AreTables P rows) }
+        ensures { Looked InLimits AreTables (λ _. ⊥) S.Store self.old self.new result }
     {
         let is_idle = self.conn.is_autocommit();
         prove!(is_idle);

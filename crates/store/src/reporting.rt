@@ -1,14 +1,10 @@
 //! The rows that pages and reports show.
 
-ghost use Rattle.std.specs.Prelude.{◌≡◌, Err, IfOk};
-ghost use Rattle.sqlite.specs.Held.{state};
-ghost use Rattle.sqlite.specs.State.{HasCleanDisk};
+ghost use Rattle.std.specs.Prelude.{◌≡◌};
 ghost use Rattle.terms.specs.Limits.{InLimits};
-ghost use Rattle.terms.specs.Pictures.{Picture};
 ghost use Rattle.circ_core.specs.Views.{IsCalendarOf};
-ghost use Rattle.circ_tables.specs.Encoding.{HasPicture};
 ghost use Rattle.store.specs.Lists.{AreLoansBy, AreHoldsBy, AreReadyAt, AreOverdueAt, AreLinesOf};
-ghost use Rattle.store.specs.Reads.{Reads, ClosesFewDays};
+ghost use Rattle.store.specs.Reads.{Looked, IsSound};
 
 use crate::store::Store;
 use crate::viewing::calendar_of;
@@ -27,10 +23,8 @@ use terms::{
 impl<S: Alter> Store<S> {
     /// The open loans of a patron, the least number first. 90, 91, 93.
     pub fn open_loans(&mut self, alloc: Global, patron: PatronId) -> Result<Vec<LoanRow>, Fault>
-        ensures reads { Reads (state S.Store self.old) (state S.Store self.new) }
-        ensures shown { HasCleanDisk (state S.Store self.new) → IfOk result (λ rows. (P : Picture) → HasPicture (state S.Store self.old).now P → InLimits P
-            → AreLoansBy P patron rows.items × ((state S.Store self.new).now ≡ (state S.Store self.old).now)) }
-        ensures sound { HasCleanDisk (state S.Store self.new) → result ≡ Err Fault.Stored → (P : Picture) → HasPicture (state S.Store self.old).now P → InLimits P → ⊥ }
+        ensures { Looked InLimits (λ P rows. AreLoansBy P patron rows.items) InLimits
+            S.Store self.old self.new result }
     {
         let is_idle = self.conn.is_autocommit();
         prove!(is_idle);
@@ -39,10 +33,8 @@ impl<S: Alter> Store<S> {
 
     /// The waiting and the ready holds of a patron, the least number first. 90, 91, 93.
     pub fn active_holds(&mut self, alloc: Global, patron: PatronId) -> Result<Vec<HoldRow>, Fault>
-        ensures reads { Reads (state S.Store self.old) (state S.Store self.new) }
-        ensures shown { HasCleanDisk (state S.Store self.new) → IfOk result (λ rows. (P : Picture) → HasPicture (state S.Store self.old).now P → InLimits P
-            → AreHoldsBy P patron rows.items × ((state S.Store self.new).now ≡ (state S.Store self.old).now)) }
-        ensures sound { HasCleanDisk (state S.Store self.new) → result ≡ Err Fault.Stored → (P : Picture) → HasPicture (state S.Store self.old).now P → InLimits P → ⊥ }
+        ensures { Looked InLimits (λ P rows. AreHoldsBy P patron rows.items) InLimits
+            S.Store self.old self.new result }
     {
         let is_idle = self.conn.is_autocommit();
         prove!(is_idle);
@@ -51,27 +43,24 @@ impl<S: Alter> Store<S> {
 
     /// The ready holds with this pick-up branch, the least number first. 90, 91, 93.
     pub fn ready_holds(&mut self, alloc: Global, branch: BranchId) -> Result<Vec<HoldRow>, Fault>
-        ensures reads { Reads (state S.Store self.old) (state S.Store self.new) }
-        ensures shown { HasCleanDisk (state S.Store self.new) → IfOk result (λ rows. (P : Picture) → HasPicture (state S.Store self.old).now P → InLimits P
-            → AreReadyAt P branch rows.items × ((state S.Store self.new).now ≡ (state S.Store self.old).now)) }
-        ensures sound { HasCleanDisk (state S.Store self.new) → result ≡ Err Fault.Stored → (P : Picture) → HasPicture (state S.Store self.old).now P → InLimits P → ⊥ }
+        ensures { Looked InLimits (λ P rows. AreReadyAt P branch rows.items) InLimits
+            S.Store self.old self.new result }
     {
         let is_idle = self.conn.is_autocommit();
         prove!(is_idle);
         ready_holds_at(&mut self.conn, alloc, branch)
     }
 
-    /// The open loans that the branch made and that were due before the day, the least number first. 90, 91, 93.
+    /// The open loans that the branch made and that were due before the day, the least number
+    /// first. 90, 91, 93.
     pub fn overdue_loans(
         &mut self,
         alloc: Global,
         branch: BranchId,
         day: Day,
     ) -> Result<Vec<LoanRow>, Fault>
-        ensures reads { Reads (state S.Store self.old) (state S.Store self.new) }
-        ensures shown { HasCleanDisk (state S.Store self.new) → IfOk result (λ rows. (P : Picture) → HasPicture (state S.Store self.old).now P → InLimits P
-            → AreOverdueAt P branch day rows.items × ((state S.Store self.new).now ≡ (state S.Store self.old).now)) }
-        ensures sound { HasCleanDisk (state S.Store self.new) → result ≡ Err Fault.Stored → (P : Picture) → HasPicture (state S.Store self.old).now P → InLimits P → ⊥ }
+        ensures { Looked InLimits (λ P rows. AreOverdueAt P branch day rows.items) InLimits
+            S.Store self.old self.new result }
     {
         let is_idle = self.conn.is_autocommit();
         prove!(is_idle);
@@ -80,10 +69,8 @@ impl<S: Alter> Store<S> {
 
     /// The lines of a day, of all sorts, the least number first. 90, 91, 93.
     pub fn lines(&mut self, alloc: Global, day: Day) -> Result<Vec<LineRow>, Fault>
-        ensures reads { Reads (state S.Store self.old) (state S.Store self.new) }
-        ensures shown { HasCleanDisk (state S.Store self.new) → IfOk result (λ rows. (P : Picture) → HasPicture (state S.Store self.old).now P → InLimits P
-            → AreLinesOf P day rows.items × ((state S.Store self.new).now ≡ (state S.Store self.old).now)) }
-        ensures sound { HasCleanDisk (state S.Store self.new) → result ≡ Err Fault.Stored → (P : Picture) → HasPicture (state S.Store self.old).now P → InLimits P → ⊥ }
+        ensures { Looked InLimits (λ P rows. AreLinesOf P day rows.items) InLimits
+            S.Store self.old self.new result }
     {
         let is_idle = self.conn.is_autocommit();
         prove!(is_idle);
@@ -92,10 +79,8 @@ impl<S: Alter> Store<S> {
 
     /// The one row of `meta`: today, and the next numbers. 91, 93.
     pub fn meta(&mut self) -> Result<MetaRow, Fault>
-        ensures reads { Reads (state S.Store self.old) (state S.Store self.new) }
-        ensures shown { HasCleanDisk (state S.Store self.new) → IfOk result (λ row. (P : Picture) → HasPicture (state S.Store self.old).now P → InLimits P
-            → (row ≡ P.meta) × ((state S.Store self.new).now ≡ (state S.Store self.old).now)) }
-        ensures sound { HasCleanDisk (state S.Store self.new) → result ≡ Err Fault.Stored → (P : Picture) → HasPicture (state S.Store self.old).now P → InLimits P → ⊥ }
+        ensures { Looked InLimits (λ P row. row ≡ P.meta) InLimits
+            S.Store self.old self.new result }
     {
         let is_idle = self.conn.is_autocommit();
         prove!(is_idle);
@@ -104,10 +89,8 @@ impl<S: Alter> Store<S> {
 
     /// The row of a branch. 90, 91, 93.
     pub fn branch(&mut self, alloc: Global, branch: BranchId) -> Result<Option<BranchRow>, Fault>
-        ensures reads { Reads (state S.Store self.old) (state S.Store self.new) }
-        ensures shown { HasCleanDisk (state S.Store self.new) → IfOk result (λ row. (P : Picture) → HasPicture (state S.Store self.old).now P → InLimits P
-            → (row ≡ P.branches branch) × ((state S.Store self.new).now ≡ (state S.Store self.old).now)) }
-        ensures sound { HasCleanDisk (state S.Store self.new) → result ≡ Err Fault.Stored → (P : Picture) → HasPicture (state S.Store self.old).now P → InLimits P → ⊥ }
+        ensures { Looked InLimits (λ P row. row ≡ P.branches branch) InLimits
+            S.Store self.old self.new result }
     {
         let is_idle = self.conn.is_autocommit();
         prove!(is_idle);
@@ -116,10 +99,8 @@ impl<S: Alter> Store<S> {
 
     /// The row of a title. 90, 91, 93.
     pub fn title(&mut self, alloc: Global, title: TitleId) -> Result<Option<TitleRow>, Fault>
-        ensures reads { Reads (state S.Store self.old) (state S.Store self.new) }
-        ensures shown { HasCleanDisk (state S.Store self.new) → IfOk result (λ row. (P : Picture) → HasPicture (state S.Store self.old).now P → InLimits P
-            → (row ≡ P.titles title) × ((state S.Store self.new).now ≡ (state S.Store self.old).now)) }
-        ensures sound { HasCleanDisk (state S.Store self.new) → result ≡ Err Fault.Stored → (P : Picture) → HasPicture (state S.Store self.old).now P → InLimits P → ⊥ }
+        ensures { Looked InLimits (λ P row. row ≡ P.titles title) InLimits
+            S.Store self.old self.new result }
     {
         let is_idle = self.conn.is_autocommit();
         prove!(is_idle);
@@ -128,10 +109,8 @@ impl<S: Alter> Store<S> {
 
     /// The row of a copy. 91, 93.
     pub fn copy(&mut self, copy: CopyId) -> Result<Option<CopyRow>, Fault>
-        ensures reads { Reads (state S.Store self.old) (state S.Store self.new) }
-        ensures shown { HasCleanDisk (state S.Store self.new) → IfOk result (λ row. (P : Picture) → HasPicture (state S.Store self.old).now P → InLimits P
-            → (row ≡ P.copies copy) × ((state S.Store self.new).now ≡ (state S.Store self.old).now)) }
-        ensures sound { HasCleanDisk (state S.Store self.new) → result ≡ Err Fault.Stored → (P : Picture) → HasPicture (state S.Store self.old).now P → InLimits P → ⊥ }
+        ensures { Looked InLimits (λ P row. row ≡ P.copies copy) InLimits
+            S.Store self.old self.new result }
     {
         let is_idle = self.conn.is_autocommit();
         prove!(is_idle);
@@ -140,10 +119,8 @@ impl<S: Alter> Store<S> {
 
     /// The calendar of a branch, if there is the branch. 90, 91, 93.
     pub fn calendar(&mut self, alloc: Global, branch: BranchId) -> Result<Option<Calendar>, Fault>
-        ensures reads { Reads (state S.Store self.old) (state S.Store self.new) }
-        ensures shown { HasCleanDisk (state S.Store self.new) → IfOk result (λ row. (P : Picture) → HasPicture (state S.Store self.old).now P → InLimits P
-            → IsCalendarOf P branch row × ((state S.Store self.new).now ≡ (state S.Store self.old).now)) }
-        ensures sound { HasCleanDisk (state S.Store self.new) → result ≡ Err Fault.Stored → (P : Picture) → HasPicture (state S.Store self.old).now P → InLimits P → ClosesFewDays P → ⊥ }
+        ensures { Looked InLimits (λ P calendar. IsCalendarOf P branch calendar) IsSound
+            S.Store self.old self.new result }
     {
         let is_idle = self.conn.is_autocommit();
         prove!(is_idle);

@@ -1,25 +1,27 @@
 //! The rows that a command needs.
 
-ghost use Rattle.std.specs.Prelude.{◌≡◌, ◌≢◌, ◌≤◌, ℕ, false, Err, length, option_and_then, IfOk, IfSome};
-ghost use Rattle.std.specs.Result.{result_err};
-ghost use Rattle.sqlite.specs.Held.{state};
-ghost use Rattle.sqlite.specs.State.{HasCleanDisk};
+ghost use Rattle.calendar.specs.declared.limits.TheConstants.{MOST_CLOSED_DAYS};
+ghost use Rattle.std.specs.Prelude.{◌≡◌, ◌≢◌, ◌≤◌, ℕ, false, Err, length, option_and_then, IfOk};
+ghost use Rattle.std.specs.Prelude.{IfSome};
 ghost use Rattle.calendar.specs.Openings.{AreWeekdays, has_day, has_repeat};
-ghost use Rattle.terms.specs.Limits.{InLimits};
-ghost use Rattle.terms.specs.Pictures.{Picture};
-ghost use Rattle.circ_core.specs.Views.{IsCalendarOf, IsLenderOf, IsFirstFor, AreHoldsFor, IsPatronView, IsAcquireView, IsCopyView, IsCheckOutView, IsClosedDayView, IsAccountView, IsRenewView, IsPlaceHoldView, IsCancelHoldView, IsBranchView, IsPickupView, IsLenderView, IsCheckInView, IsUnshelveView, IsMissingView, IsViewOf, rule_in, kind_in, copy_in, borrower_in, named_copy_in, coming_in};
-ghost use Rattle.circ_tables.specs.Encoding.{HasPicture};
-ghost use Rattle.store.specs.Reads.{Reading};
+ghost use Rattle.circ_core.specs.Views.{IsCalendarOf, IsLenderOf, IsFirstFor, AreHoldsFor};
+ghost use Rattle.circ_core.specs.Views.{IsPatronView, IsAcquireView, IsCopyView, IsCheckOutView};
+ghost use Rattle.circ_core.specs.Views.{IsClosedDayView, IsAccountView, IsRenewView};
+ghost use Rattle.circ_core.specs.Views.{IsPlaceHoldView, IsCancelHoldView, IsBranchView};
+ghost use Rattle.circ_core.specs.Views.{IsPickupView, IsLenderView, IsCheckInView, IsUnshelveView};
+ghost use Rattle.circ_core.specs.Views.{IsMissingView, IsViewOf, rule_in, kind_in, copy_in};
+ghost use Rattle.circ_core.specs.Views.{borrower_in, named_copy_in, coming_in};
+ghost use Rattle.circ_tables.specs.Reading.{Views};
 
-use crate::reading::{
-    active_holds, active_holds_on, branch_row, closed_days, copy_row, first_of, hold_of, hold_row,
-    kind_row, loan_of, loan_of_title, loan_row, meta_row, open_loans, patron_row, rule_row,
-    title_row, transit_row, travel_for,
-};
 use calendar::{Calendar, CloseError, Day, Weekdays};
 use circ_core::{
     AccountView, AcquireView, BranchView, CancelHoldView, CheckInView, CheckOutView, ClosedDayView,
     CopyView, LenderView, MissingView, PatronView, PlaceHoldView, RenewView, UnshelveView, View,
+};
+use circ_tables::{
+    closed_days_of, count_active_holds, count_active_holds_on, count_open_loans, first_in_line,
+    get_branch, get_copy, get_hold, get_kind, get_loan, get_meta, get_patron, get_rule, get_title,
+    get_transit, open_loan_of, open_loan_of_title, ready_hold_of, transit_for,
 };
 use sqlite::{Alter, Connection};
 use std::alloc::Global;
@@ -28,11 +30,13 @@ use terms::{
     LoanRow, PatronId, PatronKind, PatronRow, RuleRow, TitleId, TransitRow,
 };
 
-/// The calendar with these closed weekdays and these single closed days. 90; 93 where a day stands twice, or they are
-/// more than 400.
+/// The calendar with these closed weekdays and these single closed days. 90; 93 where a day stands
+/// twice, or they are more than 400.
 fn calendar_with(alloc: Global, week: Weekdays, days: &[Day]) -> Result<Calendar, Fault>
-    ensures made { IfOk result (λ c. (c.weekly ≡ week) × AreWeekdays c.weekly × ((d : ℕ) → has_day c.single d ≡ has_day days.now d) × (has_repeat c.single ≡ false)) }
-    ensures sound { has_repeat days.now ≡ false → length days.now ≤ 400 → result ≢ Err Fault.Stored }
+    ensures made { IfOk result (λ c. (c.weekly ≡ week) × AreWeekdays c.weekly
+        × ((d : ℕ) → has_day c.single d ≡ has_day days.now d) × (has_repeat c.single ≡ false)) }
+    ensures sound { has_repeat days.now ≡ false → length days.now ≤ MOST_CLOSED_DAYS
+        → result ≢ Err Fault.Stored }
 {
     match Calendar::with_closed_days(alloc, week, days) {
         Ok(calendar) => Ok(calendar),
@@ -48,13 +52,12 @@ fn calendar_from<S: Alter>(
     branch: BranchId,
     row: &Option<BranchRow>,
 ) -> Result<Option<Calendar>, Fault>
-    ensures read { Reading (result_err result) (state S.Store conn.old) (state S.Store conn.new) }
-    ensures shown { HasCleanDisk (state S.Store conn.new) → IfOk result (λ calendar. (P : Picture) → HasPicture (state S.Store conn.old).now P → InLimits P
-        → row.now ≡ P.branches branch → IsCalendarOf P branch calendar × IfSome calendar (λ c. has_repeat c.single ≡ false)) }
+    ensures { Views (λ P calendar. row.now ≡ P.branches branch → IsCalendarOf P branch calendar
+        × IfSome calendar (λ c. has_repeat c.single ≡ false)) S.Store conn.old conn.new result }
 {
     match row {
         Some(row) => {
-            let days = closed_days(conn, alloc, branch)?;
+            let days = closed_days_of(conn, alloc, branch)?;
             let calendar = calendar_with(alloc, row.week, &days)?;
             Ok(Some(calendar))
         }
@@ -68,11 +71,10 @@ pub(crate) fn calendar_of<S: Alter>(
     alloc: Global,
     branch: BranchId,
 ) -> Result<Option<Calendar>, Fault>
-    ensures read { Reading (result_err result) (state S.Store conn.old) (state S.Store conn.new) }
-    ensures shown { HasCleanDisk (state S.Store conn.new) → IfOk result (λ calendar. (P : Picture) → HasPicture (state S.Store conn.old).now P → InLimits P
-        → IsCalendarOf P branch calendar × IfSome calendar (λ c. has_repeat c.single ≡ false)) }
+    ensures { Views (λ P calendar. IsCalendarOf P branch calendar
+        × IfSome calendar (λ c. has_repeat c.single ≡ false)) S.Store conn.old conn.new result }
 {
-    let row = branch_row(conn, alloc, branch)?;
+    let row = get_branch(conn, alloc, branch)?;
     let calendar = calendar_from(conn, alloc, branch, &row)?;
     Ok(calendar)
 }
@@ -83,11 +85,9 @@ fn branch_view<S: Alter>(
     alloc: Global,
     number: BranchId,
 ) -> Result<BranchView, Fault>
-    ensures read { Reading (result_err result) (state S.Store conn.old) (state S.Store conn.new) }
-    ensures shown { HasCleanDisk (state S.Store conn.new) → IfOk result (λ rows. (P : Picture) → HasPicture (state S.Store conn.old).now P → InLimits P
-        → IsBranchView P number rows) }
+    ensures { Views (λ P rows. IsBranchView P number rows) S.Store conn.old conn.new result }
 {
-    let branch = branch_row(conn, alloc, number)?;
+    let branch = get_branch(conn, alloc, number)?;
     let calendar = calendar_from(conn, alloc, number, &branch)?;
     Ok(BranchView { branch, calendar })
 }
@@ -98,9 +98,8 @@ fn lender_calendar<S: Alter>(
     alloc: Global,
     loan: &Option<LoanRow>,
 ) -> Result<Option<Calendar>, Fault>
-    ensures read { Reading (result_err result) (state S.Store conn.old) (state S.Store conn.new) }
-    ensures shown { HasCleanDisk (state S.Store conn.new) → IfOk result (λ calendar. (P : Picture) → HasPicture (state S.Store conn.old).now P → InLimits P
-        → IsLenderOf P loan.now calendar) }
+    ensures { Views (λ P calendar. IsLenderOf P loan.now calendar)
+        S.Store conn.old conn.new result }
 {
     match loan {
         Some(row) => calendar_of(conn, alloc, row.branch),
@@ -114,9 +113,7 @@ fn pickup_view<S: Alter>(
     alloc: Global,
     hold: &Option<HoldRow>,
 ) -> Result<BranchView, Fault>
-    ensures read { Reading (result_err result) (state S.Store conn.old) (state S.Store conn.new) }
-    ensures shown { HasCleanDisk (state S.Store conn.new) → IfOk result (λ rows. (P : Picture) → HasPicture (state S.Store conn.old).now P → InLimits P
-        → IsPickupView P hold.now rows) }
+    ensures { Views (λ P rows. IsPickupView P hold.now rows) S.Store conn.old conn.new result }
 {
     match hold {
         Some(row) => branch_view(conn, alloc, row.branch),
@@ -132,12 +129,10 @@ fn kind_of<S: Alter>(
     conn: &mut Connection<S>,
     patron: &Option<PatronRow>,
 ) -> Result<Option<KindRow>, Fault>
-    ensures read { Reading (result_err result) (state S.Store conn.old) (state S.Store conn.new) }
-    ensures shown { HasCleanDisk (state S.Store conn.new) → IfOk result (λ row. (P : Picture) → HasPicture (state S.Store conn.old).now P → InLimits P
-        → row ≡ kind_in P patron.now) }
+    ensures { Views (λ P row. row ≡ kind_in P patron.now) S.Store conn.old conn.new result }
 {
     match patron {
-        Some(row) => kind_row(conn, row.kind),
+        Some(row) => get_kind(conn, row.kind),
         None => Ok(None),
     }
 }
@@ -148,13 +143,12 @@ fn rule_for<S: Alter>(
     patron: &Option<PatronRow>,
     copy: &Option<CopyRow>,
 ) -> Result<Option<RuleRow>, Fault>
-    ensures read { Reading (result_err result) (state S.Store conn.old) (state S.Store conn.new) }
-    ensures shown { HasCleanDisk (state S.Store conn.new) → IfOk result (λ row. (P : Picture) → HasPicture (state S.Store conn.old).now P → InLimits P
-        → row ≡ rule_in P patron.now copy.now) }
+    ensures { Views (λ P row. row ≡ rule_in P patron.now copy.now)
+        S.Store conn.old conn.new result }
 {
     match patron {
         Some(borrower) => match copy {
-            Some(row) => rule_row(conn, borrower.kind, row.kind),
+            Some(row) => get_rule(conn, borrower.kind, row.kind),
             None => Ok(None),
         },
         None => Ok(None),
@@ -166,12 +160,10 @@ fn first_for<S: Alter>(
     conn: &mut Connection<S>,
     copy: &Option<CopyRow>,
 ) -> Result<Option<HoldRow>, Fault>
-    ensures read { Reading (result_err result) (state S.Store conn.old) (state S.Store conn.new) }
-    ensures shown { HasCleanDisk (state S.Store conn.new) → IfOk result (λ first. (P : Picture) → HasPicture (state S.Store conn.old).now P → InLimits P
-        → IsFirstFor P copy.now first) }
+    ensures { Views (λ P first. IsFirstFor P copy.now first) S.Store conn.old conn.new result }
 {
     match copy {
-        Some(row) => first_of(conn, row.title),
+        Some(row) => first_in_line(conn, row.title),
         None => Ok(None),
     }
 }
@@ -182,12 +174,10 @@ fn holds_for<S: Alter>(
     patron: PatronId,
     copy: &Option<CopyRow>,
 ) -> Result<Count, Fault>
-    ensures read { Reading (result_err result) (state S.Store conn.old) (state S.Store conn.new) }
-    ensures shown { HasCleanDisk (state S.Store conn.new) → IfOk result (λ n. (P : Picture) → HasPicture (state S.Store conn.old).now P → InLimits P
-        → AreHoldsFor P patron copy.now n) }
+    ensures { Views (λ P n. AreHoldsFor P patron copy.now n) S.Store conn.old conn.new result }
 {
     match copy {
-        Some(row) => active_holds_on(conn, patron, row.title),
+        Some(row) => count_active_holds_on(conn, patron, row.title),
         None => Ok(Count::new(0)),
     }
 }
@@ -197,12 +187,10 @@ fn lent_copy<S: Alter>(
     conn: &mut Connection<S>,
     loan: &Option<LoanRow>,
 ) -> Result<Option<CopyRow>, Fault>
-    ensures read { Reading (result_err result) (state S.Store conn.old) (state S.Store conn.new) }
-    ensures shown { HasCleanDisk (state S.Store conn.new) → IfOk result (λ row. (P : Picture) → HasPicture (state S.Store conn.old).now P → InLimits P
-        → row ≡ copy_in P loan.now) }
+    ensures { Views (λ P row. row ≡ copy_in P loan.now) S.Store conn.old conn.new result }
 {
     match loan {
-        Some(row) => copy_row(conn, row.copy),
+        Some(row) => get_copy(conn, row.copy),
         None => Ok(None),
     }
 }
@@ -213,12 +201,10 @@ fn borrower_of<S: Alter>(
     alloc: Global,
     loan: &Option<LoanRow>,
 ) -> Result<Option<PatronRow>, Fault>
-    ensures read { Reading (result_err result) (state S.Store conn.old) (state S.Store conn.new) }
-    ensures shown { HasCleanDisk (state S.Store conn.new) → IfOk result (λ row. (P : Picture) → HasPicture (state S.Store conn.old).now P → InLimits P
-        → row ≡ borrower_in P loan.now) }
+    ensures { Views (λ P row. row ≡ borrower_in P loan.now) S.Store conn.old conn.new result }
 {
     match loan {
-        Some(row) => patron_row(conn, alloc, row.patron),
+        Some(row) => get_patron(conn, alloc, row.patron),
         None => Ok(None),
     }
 }
@@ -228,12 +214,11 @@ fn copy_if<S: Alter>(
     conn: &mut Connection<S>,
     copy: Option<CopyId>,
 ) -> Result<Option<CopyRow>, Fault>
-    ensures read { Reading (result_err result) (state S.Store conn.old) (state S.Store conn.new) }
-    ensures shown { HasCleanDisk (state S.Store conn.new) → IfOk result (λ row. (P : Picture) → HasPicture (state S.Store conn.old).now P → InLimits P
-        → row ≡ option_and_then P.copies copy) }
+    ensures { Views (λ P row. row ≡ option_and_then P.copies copy)
+        S.Store conn.old conn.new result }
 {
     match copy {
-        Some(number) => copy_row(conn, number),
+        Some(number) => get_copy(conn, number),
         None => Ok(None),
     }
 }
@@ -243,12 +228,10 @@ fn hold_if<S: Alter>(
     conn: &mut Connection<S>,
     hold: Option<HoldId>,
 ) -> Result<Option<HoldRow>, Fault>
-    ensures read { Reading (result_err result) (state S.Store conn.old) (state S.Store conn.new) }
-    ensures shown { HasCleanDisk (state S.Store conn.new) → IfOk result (λ row. (P : Picture) → HasPicture (state S.Store conn.old).now P → InLimits P
-        → row ≡ option_and_then P.holds hold) }
+    ensures { Views (λ P row. row ≡ option_and_then P.holds hold) S.Store conn.old conn.new result }
 {
     match hold {
-        Some(number) => hold_row(conn, number),
+        Some(number) => get_hold(conn, number),
         None => Ok(None),
     }
 }
@@ -258,9 +241,7 @@ fn named_copy<S: Alter>(
     conn: &mut Connection<S>,
     hold: &Option<HoldRow>,
 ) -> Result<Option<CopyRow>, Fault>
-    ensures read { Reading (result_err result) (state S.Store conn.old) (state S.Store conn.new) }
-    ensures shown { HasCleanDisk (state S.Store conn.new) → IfOk result (λ row. (P : Picture) → HasPicture (state S.Store conn.old).now P → InLimits P
-        → row ≡ named_copy_in P hold.now) }
+    ensures { Views (λ P row. row ≡ named_copy_in P hold.now) S.Store conn.old conn.new result }
 {
     match hold {
         Some(row) => copy_if(conn, row.copy),
@@ -273,9 +254,7 @@ fn coming_hold<S: Alter>(
     conn: &mut Connection<S>,
     transit: &Option<TransitRow>,
 ) -> Result<Option<HoldRow>, Fault>
-    ensures read { Reading (result_err result) (state S.Store conn.old) (state S.Store conn.new) }
-    ensures shown { HasCleanDisk (state S.Store conn.new) → IfOk result (λ row. (P : Picture) → HasPicture (state S.Store conn.old).now P → InLimits P
-        → row ≡ coming_in P transit.now) }
+    ensures { Views (λ P row. row ≡ coming_in P transit.now) S.Store conn.old conn.new result }
 {
     match transit {
         Some(row) => hold_if(conn, row.hold),
@@ -285,14 +264,12 @@ fn coming_hold<S: Alter>(
 
 /// A copy, and the rows that claim it.
 fn copy_view<S: Alter>(conn: &mut Connection<S>, number: CopyId) -> Result<CopyView, Fault>
-    ensures read { Reading (result_err result) (state S.Store conn.old) (state S.Store conn.new) }
-    ensures shown { HasCleanDisk (state S.Store conn.new) → IfOk result (λ rows. (P : Picture) → HasPicture (state S.Store conn.old).now P → InLimits P
-        → IsCopyView P number rows) }
+    ensures { Views (λ P rows. IsCopyView P number rows) S.Store conn.old conn.new result }
 {
-    let copy = copy_row(conn, number)?;
-    let loan = loan_of(conn, number)?;
-    let transit = transit_row(conn, number)?;
-    let hold = hold_of(conn, number)?;
+    let copy = get_copy(conn, number)?;
+    let loan = open_loan_of(conn, number)?;
+    let transit = get_transit(conn, number)?;
+    let hold = ready_hold_of(conn, number)?;
     Ok(CopyView {
         copy,
         loan,
@@ -307,9 +284,7 @@ fn lender_view<S: Alter>(
     alloc: Global,
     loan: &Option<LoanRow>,
 ) -> Result<LenderView, Fault>
-    ensures read { Reading (result_err result) (state S.Store conn.old) (state S.Store conn.new) }
-    ensures shown { HasCleanDisk (state S.Store conn.new) → IfOk result (λ rows. (P : Picture) → HasPicture (state S.Store conn.old).now P → InLimits P
-        → IsLenderView P loan.now rows) }
+    ensures { Views (λ P rows. IsLenderView P loan.now rows) S.Store conn.old conn.new result }
 {
     let calendar = lender_calendar(conn, alloc, loan)?;
     let patron = borrower_of(conn, alloc, loan)?;
@@ -322,12 +297,10 @@ fn patron_view<S: Alter>(
     number: PatronId,
     kind: PatronKind,
 ) -> Result<PatronView, Fault>
-    ensures read { Reading (result_err result) (state S.Store conn.old) (state S.Store conn.new) }
-    ensures shown { HasCleanDisk (state S.Store conn.new) → IfOk result (λ rows. (P : Picture) → HasPicture (state S.Store conn.old).now P → InLimits P
-        → IsPatronView P number kind rows) }
+    ensures { Views (λ P rows. IsPatronView P number kind rows) S.Store conn.old conn.new result }
 {
-    let kind = kind_row(conn, kind)?;
-    let patron = patron_row(conn, alloc, number)?;
+    let kind = get_kind(conn, kind)?;
+    let patron = get_patron(conn, alloc, number)?;
     Ok(PatronView { kind, patron })
 }
 
@@ -338,13 +311,12 @@ fn acquire_view<S: Alter>(
     of: TitleId,
     branch: BranchId,
 ) -> Result<AcquireView, Fault>
-    ensures read { Reading (result_err result) (state S.Store conn.old) (state S.Store conn.new) }
-    ensures shown { HasCleanDisk (state S.Store conn.new) → IfOk result (λ rows. (P : Picture) → HasPicture (state S.Store conn.old).now P → InLimits P
-        → IsAcquireView P number of branch rows) }
+    ensures { Views (λ P rows. IsAcquireView P number of branch rows)
+        S.Store conn.old conn.new result }
 {
-    let home = branch_row(conn, alloc, branch)?;
-    let title = title_row(conn, alloc, of)?;
-    let copy = copy_row(conn, number)?;
+    let home = get_branch(conn, alloc, branch)?;
+    let title = get_title(conn, alloc, of)?;
+    let copy = get_copy(conn, number)?;
     Ok(AcquireView { home, title, copy })
 }
 
@@ -353,11 +325,9 @@ fn closed_day_view<S: Alter>(
     alloc: Global,
     branch: BranchId,
 ) -> Result<ClosedDayView, Fault>
-    ensures read { Reading (result_err result) (state S.Store conn.old) (state S.Store conn.new) }
-    ensures shown { HasCleanDisk (state S.Store conn.new) → IfOk result (λ rows. (P : Picture) → HasPicture (state S.Store conn.old).now P → InLimits P
-        → IsClosedDayView P branch rows) }
+    ensures { Views (λ P rows. IsClosedDayView P branch rows) S.Store conn.old conn.new result }
 {
-    let meta = meta_row(conn)?;
+    let meta = get_meta(conn)?;
     let calendar = calendar_of(conn, alloc, branch)?;
     Ok(ClosedDayView { meta, calendar })
 }
@@ -367,12 +337,10 @@ fn account_view<S: Alter>(
     alloc: Global,
     number: PatronId,
 ) -> Result<AccountView, Fault>
-    ensures read { Reading (result_err result) (state S.Store conn.old) (state S.Store conn.new) }
-    ensures shown { HasCleanDisk (state S.Store conn.new) → IfOk result (λ rows. (P : Picture) → HasPicture (state S.Store conn.old).now P → InLimits P
-        → IsAccountView P number rows) }
+    ensures { Views (λ P rows. IsAccountView P number rows) S.Store conn.old conn.new result }
 {
-    let meta = meta_row(conn)?;
-    let patron = patron_row(conn, alloc, number)?;
+    let meta = get_meta(conn)?;
+    let patron = get_patron(conn, alloc, number)?;
     Ok(AccountView { meta, patron })
 }
 
@@ -380,12 +348,10 @@ fn cancel_hold_view<S: Alter>(
     conn: &mut Connection<S>,
     number: HoldId,
 ) -> Result<CancelHoldView, Fault>
-    ensures read { Reading (result_err result) (state S.Store conn.old) (state S.Store conn.new) }
-    ensures shown { HasCleanDisk (state S.Store conn.new) → IfOk result (λ rows. (P : Picture) → HasPicture (state S.Store conn.old).now P → InLimits P
-        → IsCancelHoldView P number rows) }
+    ensures { Views (λ P rows. IsCancelHoldView P number rows) S.Store conn.old conn.new result }
 {
-    let hold = hold_row(conn, number)?;
-    let transit = travel_for(conn, number)?;
+    let hold = get_hold(conn, number)?;
+    let transit = transit_for(conn, number)?;
     Ok(CancelHoldView { hold, transit })
 }
 
@@ -396,18 +362,17 @@ fn check_out_view<S: Alter>(
     copy: CopyId,
     branch: BranchId,
 ) -> Result<CheckOutView, Fault>
-    ensures read { Reading (result_err result) (state S.Store conn.old) (state S.Store conn.new) }
-    ensures shown { HasCleanDisk (state S.Store conn.new) → IfOk result (λ rows. (P : Picture) → HasPicture (state S.Store conn.old).now P → InLimits P
-        → IsCheckOutView P number copy branch rows) }
+    ensures { Views (λ P rows. IsCheckOutView P number copy branch rows)
+        S.Store conn.old conn.new result }
 {
-    let meta = meta_row(conn)?;
+    let meta = get_meta(conn)?;
     let calendar = calendar_of(conn, alloc, branch)?;
-    let patron = patron_row(conn, alloc, number)?;
+    let patron = get_patron(conn, alloc, number)?;
     let kind = kind_of(conn, &patron)?;
     let at = copy_view(conn, copy)?;
     let rule = rule_for(conn, &patron, &at.copy)?;
     let first = first_for(conn, &at.copy)?;
-    let open_loans = open_loans(conn, number)?;
+    let open_loans = count_open_loans(conn, number)?;
     let own_holds = holds_for(conn, number, &at.copy)?;
     Ok(CheckOutView {
         meta,
@@ -427,12 +392,10 @@ fn renew_view<S: Alter>(
     alloc: Global,
     number: LoanId,
 ) -> Result<RenewView, Fault>
-    ensures read { Reading (result_err result) (state S.Store conn.old) (state S.Store conn.new) }
-    ensures shown { HasCleanDisk (state S.Store conn.new) → IfOk result (λ rows. (P : Picture) → HasPicture (state S.Store conn.old).now P → InLimits P
-        → IsRenewView P number rows) }
+    ensures { Views (λ P rows. IsRenewView P number rows) S.Store conn.old conn.new result }
 {
-    let meta = meta_row(conn)?;
-    let loan = loan_row(conn, number)?;
+    let meta = get_meta(conn)?;
+    let loan = get_loan(conn, number)?;
     let copy = lent_copy(conn, &loan)?;
     let first = first_for(conn, &copy)?;
     let patron = borrower_of(conn, alloc, &loan)?;
@@ -456,18 +419,17 @@ fn place_hold_view<S: Alter>(
     wanted: TitleId,
     pickup: BranchId,
 ) -> Result<PlaceHoldView, Fault>
-    ensures read { Reading (result_err result) (state S.Store conn.old) (state S.Store conn.new) }
-    ensures shown { HasCleanDisk (state S.Store conn.new) → IfOk result (λ rows. (P : Picture) → HasPicture (state S.Store conn.old).now P → InLimits P
-        → IsPlaceHoldView P number wanted pickup rows) }
+    ensures { Views (λ P rows. IsPlaceHoldView P number wanted pickup rows)
+        S.Store conn.old conn.new result }
 {
-    let meta = meta_row(conn)?;
-    let patron = patron_row(conn, alloc, number)?;
+    let meta = get_meta(conn)?;
+    let patron = get_patron(conn, alloc, number)?;
     let kind = kind_of(conn, &patron)?;
-    let title = title_row(conn, alloc, wanted)?;
-    let branch = branch_row(conn, alloc, pickup)?;
-    let own_holds = active_holds_on(conn, number, wanted)?;
-    let loan = loan_of_title(conn, number, wanted)?;
-    let active_holds = active_holds(conn, number)?;
+    let title = get_title(conn, alloc, wanted)?;
+    let branch = get_branch(conn, alloc, pickup)?;
+    let own_holds = count_active_holds_on(conn, number, wanted)?;
+    let loan = open_loan_of_title(conn, number, wanted)?;
+    let active_holds = count_active_holds(conn, number)?;
     Ok(PlaceHoldView {
         meta,
         patron,
@@ -486,11 +448,9 @@ fn check_in_view<S: Alter>(
     copy: CopyId,
     branch: BranchId,
 ) -> Result<CheckInView, Fault>
-    ensures read { Reading (result_err result) (state S.Store conn.old) (state S.Store conn.new) }
-    ensures shown { HasCleanDisk (state S.Store conn.new) → IfOk result (λ rows. (P : Picture) → HasPicture (state S.Store conn.old).now P → InLimits P
-        → IsCheckInView P copy branch rows) }
+    ensures { Views (λ P rows. IsCheckInView P copy branch rows) S.Store conn.old conn.new result }
 {
-    let meta = meta_row(conn)?;
+    let meta = get_meta(conn)?;
     let here = branch_view(conn, alloc, branch)?;
     let at = copy_view(conn, copy)?;
     let lender = lender_view(conn, alloc, &at.loan)?;
@@ -511,12 +471,10 @@ fn unshelve_view<S: Alter>(
     alloc: Global,
     number: HoldId,
 ) -> Result<UnshelveView, Fault>
-    ensures read { Reading (result_err result) (state S.Store conn.old) (state S.Store conn.new) }
-    ensures shown { HasCleanDisk (state S.Store conn.new) → IfOk result (λ rows. (P : Picture) → HasPicture (state S.Store conn.old).now P → InLimits P
-        → IsUnshelveView P number rows) }
+    ensures { Views (λ P rows. IsUnshelveView P number rows) S.Store conn.old conn.new result }
 {
-    let meta = meta_row(conn)?;
-    let hold = hold_row(conn, number)?;
+    let meta = get_meta(conn)?;
+    let hold = get_hold(conn, number)?;
     let copy = named_copy(conn, &hold)?;
     let here = pickup_view(conn, alloc, &hold)?;
     let first = first_for(conn, &copy)?;
@@ -534,11 +492,9 @@ fn missing_view<S: Alter>(
     alloc: Global,
     copy: CopyId,
 ) -> Result<MissingView, Fault>
-    ensures read { Reading (result_err result) (state S.Store conn.old) (state S.Store conn.new) }
-    ensures shown { HasCleanDisk (state S.Store conn.new) → IfOk result (λ rows. (P : Picture) → HasPicture (state S.Store conn.old).now P → InLimits P
-        → IsMissingView P copy rows) }
+    ensures { Views (λ P rows. IsMissingView P copy rows) S.Store conn.old conn.new result }
 {
-    let meta = meta_row(conn)?;
+    let meta = get_meta(conn)?;
     let at = copy_view(conn, copy)?;
     let lender = lender_view(conn, alloc, &at.loan)?;
     Ok(MissingView { meta, at, lender })
@@ -550,14 +506,12 @@ pub(crate) fn view_for<S: Alter>(
     alloc: Global,
     command: &Command,
 ) -> Result<View, Fault>
-    ensures read { Reading (result_err result) (state S.Store conn.old) (state S.Store conn.new) }
-    ensures shown { HasCleanDisk (state S.Store conn.new) → IfOk result (λ view. (P : Picture) → HasPicture (state S.Store conn.old).now P → InLimits P
-        → IsViewOf P command.now view) }
+    ensures { Views (λ P view. IsViewOf P command.now view) S.Store conn.old conn.new result }
 {
     match command {
-        Command::BeginDay { .. } => Ok(View::BeginDay(meta_row(conn)?)),
-        Command::Branch { branch, .. } => Ok(View::Branch(branch_row(conn, alloc, *branch)?)),
-        Command::Week { branch, .. } => Ok(View::Week(branch_row(conn, alloc, *branch)?)),
+        Command::BeginDay { .. } => Ok(View::BeginDay(get_meta(conn)?)),
+        Command::Branch { branch, .. } => Ok(View::Branch(get_branch(conn, alloc, *branch)?)),
+        Command::Week { branch, .. } => Ok(View::Week(get_branch(conn, alloc, *branch)?)),
         Command::CloseDay { branch, .. } => Ok(View::CloseDay(closed_day_view(
             conn, alloc, *branch,
         )?)),
@@ -565,7 +519,7 @@ pub(crate) fn view_for<S: Alter>(
             conn, alloc, *branch,
         )?)),
         Command::Kind { .. } => Ok(View::Kind),
-        Command::Rule { kind, .. } => Ok(View::Rule(kind_row(conn, *kind)?)),
+        Command::Rule { kind, .. } => Ok(View::Rule(get_kind(conn, *kind)?)),
         Command::Patron { patron, kind, .. } => Ok(View::Patron(patron_view(
             conn, alloc, *patron, *kind,
         )?)),
@@ -598,6 +552,6 @@ pub(crate) fn view_for<S: Alter>(
         Command::Withdraw { copy } => Ok(View::Withdraw(copy_view(conn, *copy)?)),
         Command::Pay { patron, .. } => Ok(View::Pay(account_view(conn, alloc, *patron)?)),
         Command::Waive { patron, .. } => Ok(View::Waive(account_view(conn, alloc, *patron)?)),
-        Command::Page { patron } => Ok(View::Page(patron_row(conn, alloc, *patron)?)),
+        Command::Page { patron } => Ok(View::Page(get_patron(conn, alloc, *patron)?)),
     }
 }

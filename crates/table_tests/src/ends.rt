@@ -2,9 +2,14 @@
 
 use crate::calls::*;
 use crate::ground::{Store, begin, database, day, name, text, with_tables};
+use crate::looks::{
+    count_kept, has_branch, has_kept, has_patron, has_title, numbers_of_branches,
+    numbers_of_patrons, numbers_of_titles, owners_of_kept,
+};
 use calendar::{Day, Weekdays};
 use sqlite::{Connection, Transaction};
 use std::alloc::Global;
+use std::process::Abort;
 use std::test::Fail;
 use terms::{
     BranchId, BranchPut, CardKey, Cents, Condition, CopyId, CopyKind, CopyRow, Count, Days, Fault,
@@ -268,34 +273,42 @@ pub fn put_ends(conn: &mut Connection<Store>, alloc: Global, high: bool) -> Resu
     tx.commit().map_err(database)
 }
 
+fn finds_first_rows(rt: &impl Abort, conn: &mut Connection<Store>, high: bool) -> Result<(), Fail> {
+    assert!(rt; get_meta(conn)? == meta(high)?);
+    let (patron_kind, copy_kind) = (PatronKind::new(small(high)), CopyKind::new(small(high)));
+    assert!(rt; get_kind(conn, patron_kind)? == Some(kind(high)));
+    assert!(rt; get_rule(conn, patron_kind, copy_kind)? == Some(rule(high)));
+    Ok(())
+}
+
+fn finds_claims(rt: &impl Abort, conn: &mut Connection<Store>, high: bool) -> Result<(), Fail> {
+    assert!(rt; get_copy(conn, CopyId::new(large(high)))? == Some(copy(high)));
+    let wanted = loan(high, last_day(high)?)?;
+    assert!(rt; get_loan(conn, LoanId::new(given(high)))? == Some(wanted));
+    let wanted = hold(high, last_copy(high), last_day(high)?)?;
+    assert!(rt; get_hold(conn, HoldId::new(given(high)))? == Some(wanted));
+    Ok(())
+}
+
+fn finds_last_rows(rt: &impl Abort, conn: &mut Connection<Store>, high: bool) -> Result<(), Fail> {
+    let wanted = transit(high, last_hold(high));
+    assert!(rt; get_transit(conn, CopyId::new(large(high)))? == Some(wanted));
+    let wanted = line(high, last_loan(high))?;
+    assert!(rt; get_line(conn, LineId::new(given(high)))? == Some(wanted));
+    let branch = BranchId::new(small(high));
+    assert!(rt; has_closed_day(conn, branch, end_day(high)?)?);
+    Ok(())
+}
+
 #[test]
 fn gives_back_numbers_at_both_ends(rt: HostRuntime) -> Result<(), Fail> {
     let alloc = rt.alloc();
     let mut conn = with_tables(alloc)?;
     for high in [false, true] {
         put_ends(&mut conn, alloc, high)?;
-        assert!(rt; get_meta(&mut conn)? == meta(high)?);
-        let found = get_kind(&mut conn, PatronKind::new(small(high)))?;
-        assert!(rt; found == Some(kind(high)));
-        let (patron_kind, copy_kind) = (PatronKind::new(small(high)), CopyKind::new(small(high)));
-        assert!(rt; get_rule(&mut conn, patron_kind, copy_kind)? == Some(rule(high)));
-        assert!(rt; get_copy(&mut conn, CopyId::new(large(high)))? == Some(copy(high)));
-        assert!(rt;
-            get_loan(&mut conn, LoanId::new(given(high)))? == Some(loan(high, last_day(high)?)?)
-        );
-        assert!(rt;
-            get_hold(&mut conn, HoldId::new(given(high)))?
-                == Some(hold(high, last_copy(high), last_day(high)?)?)
-        );
-        assert!(rt;
-            get_transit(&mut conn, CopyId::new(large(high)))?
-                == Some(transit(high, last_hold(high)))
-        );
-        assert!(rt;
-            get_line(&mut conn, LineId::new(given(high)))? == Some(line(high, last_loan(high))?)
-        );
-        let branch = BranchId::new(small(high));
-        assert!(rt; has_closed_day(&mut conn, branch, end_day(high)?)?);
+        finds_first_rows(&rt, &mut conn, high)?;
+        finds_claims(&rt, &mut conn, high)?;
+        finds_last_rows(&rt, &mut conn, high)?;
     }
     Ok(())
 }
@@ -306,17 +319,14 @@ fn gives_back_numbers_beside_texts(rt: HostRuntime) -> Result<(), Fail> {
     let mut conn = with_tables(alloc)?;
     for high in [false, true] {
         put_ends(&mut conn, alloc, high)?;
-        let branch = BranchId::new(small(high));
-        let branch = get_branch(&mut conn, alloc, branch)?.ok_or(Fault::Stored)?;
-        assert!(rt; branch.pickup == Days::new(up_to(high, 60)));
-        assert!(rt; branch.week == Weekdays::all_open());
-        let patron = PatronId::new(large(high));
-        let patron = get_patron(&mut conn, alloc, patron)?.ok_or(Fault::Stored)?;
-        assert!(rt; patron.kind == PatronKind::new(small(high)));
-        assert!(rt; patron.owed == cents(high, SUM));
-        assert!(rt; get_title(&mut conn, alloc, TitleId::new(large(high)))?.is_some());
+        let branch = (Days::new(up_to(high, 60)), Weekdays::all_open(), "Main");
+        assert!(rt; has_branch(&mut conn, alloc, BranchId::new(small(high)), branch)?);
+        let kind = PatronKind::new(small(high));
+        let patron = (kind, "cardkey1", "Ann Bell", cents(high, SUM));
+        assert!(rt; has_patron(&mut conn, alloc, PatronId::new(large(high)), patron)?);
+        assert!(rt; has_title(&mut conn, alloc, TitleId::new(large(high)), "Main")?);
         let key = Key::new(alloc, "k")?.ok_or(Fault::Stored)?;
-        assert!(rt; get_kept(&mut conn, owner(high), &key)?.is_some());
+        assert!(rt; has_kept(&mut conn, owner(high), &key, ("0 ok", "0 ok"))?);
     }
     Ok(())
 }
@@ -331,23 +341,15 @@ fn lists_each_table_in_order(rt: HostRuntime) -> Result<(), Fail> {
     assert!(rt; kinds.as_slice() == [kind(false), kind(true)].as_slice());
     let rules = all_rules(&mut conn, alloc)?;
     assert!(rt; rules.as_slice() == [rule(false), rule(true)].as_slice());
-    let branches = all_branches(&mut conn, alloc)?;
-    assert!(rt;
-        branches.len() == 2 && branches[0].branch.number() == 1 && branches[1].branch.number() == 99
-    );
-    let patrons = all_patrons(&mut conn, alloc)?;
-    assert!(rt;
-        patrons.len() == 2
-            && patrons[0].patron.number() == 1
-            && patrons[1].patron.number() == 9_999_999
-    );
-    let titles = all_titles(&mut conn, alloc)?;
-    assert!(rt;
-        titles.len() == 2 && titles[0].title.number() == 1 && titles[1].title.number() == 9_999_999
-    );
-    let kept = all_kept(&mut conn, alloc)?;
-    assert!(rt; kept.len() == 2 && kept[0].caller == owner(false) && kept[1].caller == owner(true));
-    assert!(rt; kept[0].key.as_str() == "k" && kept[1].reply.as_str() == "0 ok");
+    let branches = numbers_of_branches(&mut conn, alloc)?;
+    assert_eq!(rt; branches.as_slice(), [1, 99].as_slice());
+    let patrons = numbers_of_patrons(&mut conn, alloc)?;
+    assert_eq!(rt; patrons.as_slice(), [1, 9_999_999].as_slice());
+    let titles = numbers_of_titles(&mut conn, alloc)?;
+    assert_eq!(rt; titles.as_slice(), [1, 9_999_999].as_slice());
+    assert_eq!(rt; count_kept(&mut conn, alloc)?, 2);
+    let owners = owners_of_kept(&mut conn, alloc, ("k", "0 ok", "0 ok"))?;
+    assert!(rt; owners.as_slice() == [owner(false), owner(true)].as_slice());
     Ok(())
 }
 

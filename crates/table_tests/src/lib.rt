@@ -12,6 +12,8 @@ mod ground;
 #[cfg(test)]
 mod limits;
 #[cfg(test)]
+mod looks;
+#[cfg(test)]
 mod rows;
 #[cfg(test)]
 mod selections;

@@ -3,8 +3,14 @@
 use crate::calls::*;
 use crate::ends::put_ends;
 use crate::ground::{Store, day, with_tables};
-use sqlite::{Connection, params};
+use crate::looks::{
+    count_kept, knows_branch, knows_kept, knows_patron, knows_title, numbers_of_branches,
+    numbers_of_patrons, numbers_of_titles,
+};
+use sqlite::Connection;
+use sqlite::types::ValueRef;
 use std::alloc::Global;
+use std::process::Abort;
 use std::test::Fail;
 use terms::{
     BranchId, CopyId, CopyKind, Fault, HoldId, Key, LineId, LoanId, Owner, PatronId, PatronKind,
@@ -162,18 +168,18 @@ fn listed(conn: &mut Connection<Store>, alloc: Global, place: Place) -> Result<u
             let _ = get_meta(conn)?;
             Ok(1)
         }
-        Place::Branches => Ok(all_branches(conn, alloc)?.len()),
+        Place::Branches => Ok(numbers_of_branches(conn, alloc)?.len()),
         Place::ClosedDays => Ok(all_closed_days(conn, alloc)?.len()),
         Place::Kinds => Ok(all_kinds(conn, alloc)?.len()),
         Place::Rules => Ok(all_rules(conn, alloc)?.len()),
-        Place::Patrons => Ok(all_patrons(conn, alloc)?.len()),
-        Place::Titles => Ok(all_titles(conn, alloc)?.len()),
+        Place::Patrons => Ok(numbers_of_patrons(conn, alloc)?.len()),
+        Place::Titles => Ok(numbers_of_titles(conn, alloc)?.len()),
         Place::Copies => Ok(all_copies(conn, alloc)?.len()),
         Place::Loans => Ok(all_loans(conn, alloc)?.len()),
         Place::Holds => Ok(all_holds(conn, alloc)?.len()),
         Place::Transits => Ok(all_transits(conn, alloc)?.len()),
         Place::Lines => Ok(all_lines(conn, alloc)?.len()),
-        Place::Kept => Ok(all_kept(conn, alloc)?.len()),
+        Place::Kept => count_kept(conn, alloc),
     }
 }
 
@@ -184,12 +190,12 @@ fn has_row(conn: &mut Connection<Store>, alloc: Global, place: Place) -> Result<
             let _ = get_meta(conn)?;
             Ok(true)
         }
-        Place::Branches => Ok(get_branch(conn, alloc, BranchId::new(1))?.is_some()),
+        Place::Branches => knows_branch(conn, alloc, BranchId::new(1)),
         Place::ClosedDays => has_closed_day(conn, BranchId::new(1), day(10_957)?),
         Place::Kinds => Ok(get_kind(conn, PatronKind::new(1))?.is_some()),
         Place::Rules => Ok(get_rule(conn, PatronKind::new(1), CopyKind::new(1))?.is_some()),
-        Place::Patrons => Ok(get_patron(conn, alloc, PatronId::new(1))?.is_some()),
-        Place::Titles => Ok(get_title(conn, alloc, TitleId::new(1))?.is_some()),
+        Place::Patrons => knows_patron(conn, alloc, PatronId::new(1)),
+        Place::Titles => knows_title(conn, alloc, TitleId::new(1)),
         Place::Copies => Ok(get_copy(conn, CopyId::new(1))?.is_some()),
         Place::Loans => Ok(get_loan(conn, LoanId::new(1))?.is_some()),
         Place::Holds => Ok(get_hold(conn, HoldId::new(1))?.is_some()),
@@ -197,31 +203,86 @@ fn has_row(conn: &mut Connection<Store>, alloc: Global, place: Place) -> Result<
         Place::Lines => Ok(get_line(conn, LineId::new(1))?.is_some()),
         Place::Kept => {
             let key = Key::new(alloc, "k")?.ok_or(Fault::Stored)?;
-            Ok(get_kept(conn, Owner::Desk, &key)?.is_some())
+            knows_kept(conn, Owner::Desk, &key)
         }
     }
 }
 
-/// Writes a number into a column of the one row of a table.
+/// Writes a value into a column of the one row of a table.
 fn write(
     conn: &mut Connection<Store>,
     alloc: Global,
-    (place, column, value): (Place, &str, i64),
+    (place, column): (Place, &str),
+    value: ValueRef<'_>,
 ) -> Result<(), Fail> {
     let table = place.name();
     let sql = format!(in alloc; "UPDATE {table} SET {column} = ?1")?;
-    let _ = conn.execute(&sql, params![value])?;
+    let _ = conn.execute(&sql, &[value])?;
     Ok(())
 }
 
-fn write_text(
+/// The list of a table tells a damaged row.
+fn lists_damage(
+    rt: &impl Abort,
     conn: &mut Connection<Store>,
     alloc: Global,
-    (place, column, value): (Place, &str, &str),
+    (place, column): (Place, &str),
+) {
+    let answer = listed(conn, alloc, place);
+    assert!(rt; answer == Err(Fault::Stored), "{column}");
+}
+
+/// Reading the row of a table by its key tells a damaged row.
+fn reads_damage(
+    rt: &impl Abort,
+    conn: &mut Connection<Store>,
+    alloc: Global,
+    (place, column): (Place, &str),
+) {
+    let answer = has_row(conn, alloc, place);
+    assert!(rt; answer == Err(Fault::Stored), "{column}");
+}
+
+/// The list of a table has its one row.
+fn lists_one(
+    rt: &impl Abort,
+    conn: &mut Connection<Store>,
+    alloc: Global,
+    (place, column): (Place, &str),
+) {
+    let answer = listed(conn, alloc, place);
+    assert!(rt; answer == Ok(1), "{column}");
+}
+
+/// The row of a table is read by its key.
+fn reads_one(
+    rt: &impl Abort,
+    conn: &mut Connection<Store>,
+    alloc: Global,
+    (place, column): (Place, &str),
+) {
+    let answer = has_row(conn, alloc, place);
+    assert!(rt; answer == Ok(true), "{column}");
+}
+
+/// A number past either end of a column is refused, by the list and by its key, and one at either end is not.
+fn keeps_limits(
+    rt: &impl Abort,
+    conn: &mut Connection<Store>,
+    alloc: Global,
+    (place, column, low, high): Limits,
 ) -> Result<(), Fail> {
-    let table = place.name();
-    let sql = format!(in alloc; "UPDATE {table} SET {column} = ?1")?;
-    let _ = conn.execute(&sql, params![value])?;
+    let at = (place, column);
+    for value in [low.wrapping_sub(1), high.wrapping_add(1)] {
+        write(conn, alloc, at, ValueRef::Int(value))?;
+        lists_damage(rt, conn, alloc, at);
+        reads_damage(rt, conn, alloc, at);
+    }
+    for value in [high, low] {
+        write(conn, alloc, at, ValueRef::Int(value))?;
+        lists_one(rt, conn, alloc, at);
+        reads_one(rt, conn, alloc, at);
+    }
     Ok(())
 }
 
@@ -230,29 +291,27 @@ fn refuses_damaged_columns(rt: HostRuntime) -> Result<(), Fail> {
     let alloc = rt.alloc();
     let mut conn = with_tables(alloc)?;
     put_ends(&mut conn, alloc, false)?;
-    for (place, column, low, high) in COLUMNS {
-        for value in [low.wrapping_sub(1), high.wrapping_add(1)] {
-            write(&mut conn, alloc, (place, column, value))?;
-            assert!(rt;
-                listed(&mut conn, alloc, place) == Err(Fault::Stored),
-                "{column} {value}"
-            );
-            assert!(rt;
-                has_row(&mut conn, alloc, place) == Err(Fault::Stored),
-                "{column} {value}"
-            );
-        }
-        for value in [high, low] {
-            write(&mut conn, alloc, (place, column, value))?;
-            assert!(rt;
-                listed(&mut conn, alloc, place) == Ok(1),
-                "{column} {value}"
-            );
-            assert!(rt;
-                has_row(&mut conn, alloc, place) == Ok(true),
-                "{column} {value}"
-            );
-        }
+    for limits in COLUMNS {
+        keeps_limits(&rt, &mut conn, alloc, limits)?;
+    }
+    Ok(())
+}
+
+/// A number past either end of a key is refused by the list, and one at either end is not.
+fn keeps_limits_of_key(
+    rt: &impl Abort,
+    conn: &mut Connection<Store>,
+    alloc: Global,
+    (place, column, low, high): Limits,
+) -> Result<(), Fail> {
+    let at = (place, column);
+    for value in [low.wrapping_sub(1), high.wrapping_add(1)] {
+        write(conn, alloc, at, ValueRef::Int(value))?;
+        lists_damage(rt, conn, alloc, at);
+    }
+    for value in [high, low] {
+        write(conn, alloc, at, ValueRef::Int(value))?;
+        lists_one(rt, conn, alloc, at);
     }
     Ok(())
 }
@@ -262,21 +321,24 @@ fn refuses_damaged_keys(rt: HostRuntime) -> Result<(), Fail> {
     let alloc = rt.alloc();
     let mut conn = with_tables(alloc)?;
     put_ends(&mut conn, alloc, false)?;
-    for (place, column, low, high) in KEYS {
-        for value in [low.wrapping_sub(1), high.wrapping_add(1)] {
-            write(&mut conn, alloc, (place, column, value))?;
-            assert!(rt;
-                listed(&mut conn, alloc, place) == Err(Fault::Stored),
-                "{column} {value}"
-            );
-        }
-        for value in [high, low] {
-            write(&mut conn, alloc, (place, column, value))?;
-            assert!(rt;
-                listed(&mut conn, alloc, place) == Ok(1),
-                "{column} {value}"
-            );
-        }
+    for limits in KEYS {
+        keeps_limits_of_key(&rt, &mut conn, alloc, limits)?;
+    }
+    Ok(())
+}
+
+/// A text that a column may not hold is refused, by the list and by its key.
+fn refuses_texts(
+    rt: &impl Abort,
+    conn: &mut Connection<Store>,
+    alloc: Global,
+    (place, column, values): (Place, &str, [&str; 4]),
+) -> Result<(), Fail> {
+    let at = (place, column);
+    for value in values {
+        write(conn, alloc, at, ValueRef::Text(value.as_bytes()))?;
+        lists_damage(rt, conn, alloc, at);
+        reads_damage(rt, conn, alloc, at);
     }
     Ok(())
 }
@@ -286,21 +348,27 @@ fn refuses_damaged_texts(rt: HostRuntime) -> Result<(), Fail> {
     let alloc = rt.alloc();
     let mut conn = with_tables(alloc)?;
     put_ends(&mut conn, alloc, false)?;
-    for (place, column, values) in TEXTS {
-        for value in values {
-            write_text(&mut conn, alloc, (place, column, value))?;
-            assert!(rt;
-                listed(&mut conn, alloc, place) == Err(Fault::Stored),
-                "{column} {value}"
-            );
-            assert!(rt;
-                has_row(&mut conn, alloc, place) == Err(Fault::Stored),
-                "{column} {value}"
-            );
-        }
+    for texts in TEXTS {
+        refuses_texts(&rt, &mut conn, alloc, texts)?;
         put_ends(&mut conn, alloc, false)?;
-        assert!(rt; listed(&mut conn, alloc, place) == Ok(1), "{column}");
+        lists_one(&rt, &mut conn, alloc, (texts.0, texts.1));
     }
+    Ok(())
+}
+
+/// Bytes that are no text are refused in a column of what is kept, by the list and by its key.
+fn refuses_bytes(
+    rt: &impl Abort,
+    conn: &mut Connection<Store>,
+    alloc: Global,
+    (column, sql): (&str, &str),
+) -> Result<(), Fail> {
+    let at = (Place::Kept, column);
+    let _ = conn.execute(sql, &[])?;
+    lists_damage(rt, conn, alloc, at);
+    reads_damage(rt, conn, alloc, at);
+    put_ends(conn, alloc, false)?;
+    reads_one(rt, conn, alloc, at);
     Ok(())
 }
 
@@ -309,24 +377,13 @@ fn refuses_bytes_that_are_no_text(rt: HostRuntime) -> Result<(), Fail> {
     let alloc = rt.alloc();
     let mut conn = with_tables(alloc)?;
     put_ends(&mut conn, alloc, false)?;
-    for column in ["text", "reply"] {
-        let sql = format!(in alloc; "UPDATE kept SET {column} = CAST(x'ff' AS TEXT)")?;
-        let _ = conn.execute(&sql, &[])?;
-        assert!(rt;
-            listed(&mut conn, alloc, Place::Kept) == Err(Fault::Stored),
-            "{column}"
-        );
-        assert!(rt;
-            has_row(&mut conn, alloc, Place::Kept) == Err(Fault::Stored),
-            "{column}"
-        );
-        put_ends(&mut conn, alloc, false)?;
-        assert!(rt;
-            has_row(&mut conn, alloc, Place::Kept) == Ok(true),
-            "{column}"
-        );
+    for bytes in [
+        ("text", "UPDATE kept SET text = CAST(x'ff' AS TEXT)"),
+        ("reply", "UPDATE kept SET reply = CAST(x'ff' AS TEXT)"),
+    ] {
+        refuses_bytes(&rt, &mut conn, alloc, bytes)?;
     }
     let _ = conn.execute("UPDATE kept SET key = CAST(x'ff' AS TEXT)", &[])?;
-    assert!(rt; listed(&mut conn, alloc, Place::Kept) == Err(Fault::Stored));
+    lists_damage(&rt, &mut conn, alloc, (Place::Kept, "key"));
     Ok(())
 }

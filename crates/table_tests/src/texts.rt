@@ -2,6 +2,9 @@
 
 use crate::calls::*;
 use crate::ground::{Store, begin, database, name, text, with_tables};
+use crate::looks::{
+    count_kept, has_branch, has_kept, has_patron, has_title, knows_kept, lists_one_title,
+};
 use calendar::Weekdays;
 use sqlite::Connection;
 use std::alloc::Global;
@@ -69,17 +72,21 @@ fn gives_back_names(rt: HostRuntime) -> Result<(), Fail> {
     for at in 0..5 {
         let called = name_at(at);
         put_named(&mut conn, alloc, called)?;
-        let branch = get_branch(&mut conn, alloc, BranchId::new(1))?.ok_or(Fault::Stored)?;
-        assert!(rt; branch.name.as_str() == called, "at {at}");
-        let patron = get_patron(&mut conn, alloc, PatronId::new(1))?.ok_or(Fault::Stored)?;
-        assert!(rt; patron.name.as_str() == called, "at {at}");
-        let title = get_title(&mut conn, alloc, TitleId::new(1))?.ok_or(Fault::Stored)?;
-        assert!(rt; title.text.as_str() == called, "at {at}");
-        let titles = all_titles(&mut conn, alloc)?;
+        let branch = (Days::new(5), Weekdays::all_open(), called);
         assert!(rt;
-            titles.len() == 1 && titles[0].text.as_str() == called,
+            has_branch(&mut conn, alloc, BranchId::new(1), branch)?,
             "at {at}"
         );
+        let patron = (PatronKind::new(1), "cardkey1", called, Cents::new(0));
+        assert!(rt;
+            has_patron(&mut conn, alloc, PatronId::new(1), patron)?,
+            "at {at}"
+        );
+        assert!(rt;
+            has_title(&mut conn, alloc, TitleId::new(1), called)?,
+            "at {at}"
+        );
+        assert!(rt; lists_one_title(&mut conn, alloc, called)?, "at {at}");
     }
     Ok(())
 }
@@ -107,8 +114,11 @@ fn gives_back_card_keys(rt: HostRuntime) -> Result<(), Fail> {
     let mut conn = with_tables(alloc)?;
     for written in CARD_KEYS {
         put_key(&mut conn, alloc, written)?;
-        let patron = get_patron(&mut conn, alloc, PatronId::new(1))?.ok_or(Fault::Stored)?;
-        assert!(rt; patron.card_key.as_str() == written, "at {written}");
+        let patron = (PatronKind::new(1), written, "Ann Bell", Cents::new(0));
+        assert!(rt;
+            has_patron(&mut conn, alloc, PatronId::new(1), patron)?,
+            "at {written}"
+        );
     }
     Ok(())
 }
@@ -140,17 +150,16 @@ fn gives_back_kept_texts(rt: HostRuntime) -> Result<(), Fail> {
     let mut conn = with_tables(alloc)?;
     for written in KEYS {
         let key = Key::new(alloc, written)?.ok_or(Fault::Stored)?;
-        assert!(rt; get_kept(&mut conn, Owner::Desk, &key)?.is_none());
+        assert!(rt; !knows_kept(&mut conn, Owner::Desk, &key)?);
         for at in 0..5 {
             let said = name_at(at);
             put_said(&mut conn, alloc, &key, said)?;
-            let kept = get_kept(&mut conn, Owner::Desk, &key)?.ok_or(Fault::Stored)?;
             assert!(rt;
-                kept.text.as_str() == said && kept.reply.as_str() == "0 ok",
+                has_kept(&mut conn, Owner::Desk, &key, (said, "0 ok"))?,
                 "at {at}"
             );
         }
     }
-    assert_eq!(rt; all_kept(&mut conn, alloc)?.len(), 2);
+    assert_eq!(rt; count_kept(&mut conn, alloc)?, 2);
     Ok(())
 }

@@ -1,6 +1,7 @@
 -- The forms of texts that are given from outside.
 use Rattle.std.specs.Prelude.{◌≡◌, ℕ, ◌-◌, List, length, slice_index, Bool, true, ◌&&◌, ◌||◌, nat_le, not, ◌==◌, IsUtf8}
 use Rattle.std.specs.List.{list_all}
+use Rattle.terms.specs.declared.limits.TheConstants.{LONGEST_NAME, SHORTEST_CARD_KEY, LONGEST_CARD_KEY, LONGEST_KEY}
 
 -- a byte that a name may have: none below 32, and not 127
 abbrev pub is_plain_byte : ℕ → Bool
@@ -9,7 +10,7 @@ is_plain_byte b = nat_le 32 b && not (b == 127)
 -- a name or the text of a title: 1 to 120 bytes, no control characters, no space at either end
 unfoldable pub is_name : List ℕ → Bool
 is_name t =
-    nat_le 1 (length t) && (nat_le (length t) 120 && (list_all is_plain_byte t
+    nat_le 1 (length t) && (nat_le (length t) LONGEST_NAME && (list_all is_plain_byte t
     && (not (slice_index t 0 == 32) && not (slice_index t (length t - 1) == 32))))
 
 -- a name in UTF-8
@@ -22,7 +23,7 @@ is_alphanumeric b = (nat_le 48 b && nat_le b 57) || ((nat_le 65 b && nat_le b 90
 
 -- a card key or a desk key: 8 to 32 letters and digits
 unfoldable pub is_card_key : List ℕ → Bool
-is_card_key t = nat_le 8 (length t) && (nat_le (length t) 32 && list_all is_alphanumeric t)
+is_card_key t = nat_le SHORTEST_CARD_KEY (length t) && (nat_le (length t) LONGEST_CARD_KEY && list_all is_alphanumeric t)
 
 -- a byte that a request key may have: a letter, a digit or a hyphen
 abbrev pub is_key_byte : ℕ → Bool
@@ -30,4 +31,4 @@ is_key_byte b = is_alphanumeric b || (b == 45)
 
 -- a request key that is given from outside: 1 to 40 letters, digits and hyphens
 unfoldable pub is_outside_key : List ℕ → Bool
-is_outside_key t = nat_le 1 (length t) && (nat_le (length t) 40 && list_all is_key_byte t)
+is_outside_key t = nat_le 1 (length t) && (nat_le (length t) LONGEST_KEY && list_all is_key_byte t)

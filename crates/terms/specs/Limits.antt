@@ -6,6 +6,7 @@ use Rattle.terms.specs.Forms.{IsName, is_card_key}
 use Rattle.terms.specs.Texts.{reply_text}
 use Rattle.terms.specs.Laws.{IsKept}
 use Rattle.terms.specs.Pictures.{Picture}
+use Rattle.terms.specs.declared.limits.TheConstants.{LAST_SMALL_NUMBER, LAST_LARGE_NUMBER, LAST_NUMBER, LAST_NEXT_NUMBER, LONGEST_PERIOD, LONGEST_PICKUP, MOST_RENEWALS, MOST_ALLOWED, HIGHEST_RATE, HIGHEST_CAP, HIGHEST_PRICE, HIGHEST_DEBT, LARGEST_SUM}
 use Rattle.terms.specs.declared.reply.Reply.{Reply}
 use Rattle.terms.specs.declared.command.Owner.{Owner}
 use Rattle.terms.specs.declared.command.Owner.TheVariants.{Desk, Patron}
@@ -24,24 +25,24 @@ use Rattle.terms.specs.declared.row.KeptRow.{KeptRow}
 
 -- a branch or a kind; a patron, a title or a copy; a loan, a hold or a line
 abbrev pub IsSmall : ℕ → Type 0
-IsSmall n = (1 ≤ n) × (n ≤ 99)
+IsSmall n = (1 ≤ n) × (n ≤ LAST_SMALL_NUMBER)
 
 abbrev pub IsLarge : ℕ → Type 0
-IsLarge n = (1 ≤ n) × (n ≤ 9999999)
+IsLarge n = (1 ≤ n) × (n ≤ LAST_LARGE_NUMBER)
 
 abbrev pub IsGiven : ℕ → Type 0
-IsGiven n = (1 ≤ n) × (n ≤ 2147483647)
+IsGiven n = (1 ≤ n) × (n ≤ LAST_NUMBER)
 
 -- the next number to be given, which may be past the last
 abbrev pub IsNext : ℕ → Type 0
-IsNext n = (1 ≤ n) × (n ≤ 2147483648)
+IsNext n = (1 ≤ n) × (n ≤ LAST_NEXT_NUMBER)
 
 abbrev pub IsPeriod : ℕ → Type 0
-IsPeriod n = (1 ≤ n) × (n ≤ 365)
+IsPeriod n = (1 ≤ n) × (n ≤ LONGEST_PERIOD)
 
 -- cents below 2^52
 abbrev pub IsSum : ℕ → Type 0
-IsSum n = n ≤ 4503599627370495
+IsSum n = n ≤ LARGEST_SUM
 
 -- the desk, or a patron
 abbrev pub IsOwner : Owner → Type 0
@@ -52,13 +53,13 @@ abbrev pub IsMeta : MetaRow → Type 0
 IsMeta r = (r.schema ≤ 4294967295) × IsDayNumber r.today × IsNext r.next_loan × IsNext r.next_hold × IsNext r.next_line
 
 abbrev pub IsBranch : BranchRow → Type 0
-IsBranch r = IsSmall r.branch × (r.pickup ≤ 60) × AreWeekdays r.week × IsName r.name
+IsBranch r = IsSmall r.branch × (r.pickup ≤ LONGEST_PICKUP) × AreWeekdays r.week × IsName r.name
 
 abbrev pub IsKind : KindRow → Type 0
-IsKind r = IsSmall r.kind × (r.loans ≤ 200) × (r.holds ≤ 200) × (r.debt ≤ 1000000)
+IsKind r = IsSmall r.kind × (r.loans ≤ MOST_ALLOWED) × (r.holds ≤ MOST_ALLOWED) × (r.debt ≤ HIGHEST_DEBT)
 
 abbrev pub IsRule : RuleRow → Type 0
-IsRule r = IsSmall r.kind × IsSmall r.copy_kind × IsPeriod r.period × (r.renewals ≤ 99) × (r.rate ≤ 10000) × (r.cap ≤ 100000)
+IsRule r = IsSmall r.kind × IsSmall r.copy_kind × IsPeriod r.period × (r.renewals ≤ MOST_RENEWALS) × (r.rate ≤ HIGHEST_RATE) × (r.cap ≤ HIGHEST_CAP)
 
 abbrev pub IsPatron : PatronRow → Type 0
 IsPatron r = IsLarge r.patron × IsSmall r.kind × (is_card_key r.card_key ≡ true) × IsName r.name × IsSum r.owed
@@ -67,12 +68,12 @@ abbrev pub IsTitle : TitleRow → Type 0
 IsTitle r = IsLarge r.title × IsName r.text
 
 abbrev pub IsCopy : CopyRow → Type 0
-IsCopy r = IsLarge r.copy × IsLarge r.title × IsSmall r.kind × IsSmall r.home × (r.price ≤ 1000000)
+IsCopy r = IsLarge r.copy × IsLarge r.title × IsSmall r.kind × IsSmall r.home × (r.price ≤ HIGHEST_PRICE)
 
 abbrev pub IsLoan : LoanRow → Type 0
 IsLoan r =
     IsGiven r.loan × IsLarge r.copy × IsLarge r.patron × IsSmall r.branch × IsDayNumber r.made × IsDayNumber r.due × IsPeriod r.period
-    × (r.renewals_left ≤ 99) × (r.rate ≤ 10000) × (r.cap ≤ 100000) × IfSome r.ended IsDayNumber
+    × (r.renewals_left ≤ MOST_RENEWALS) × (r.rate ≤ HIGHEST_RATE) × (r.cap ≤ HIGHEST_CAP) × IfSome r.ended IsDayNumber
 
 abbrev pub IsHold : HoldRow → Type 0
 IsHold r = IsGiven r.hold × IsLarge r.patron × IsLarge r.title × IsSmall r.branch × IfSome r.copy IsLarge × IfSome r.limit_day IsDayNumber

@@ -229,7 +229,8 @@ pub(crate) fn joined_words(alloc: Global, command: &Command) -> Result<String, M
     }
 }
 
-/// The request text of a command: its words, joined by single spaces. Each command has one spelling.
+/// The request text of a command: its words, joined by single spaces. Each command has one
+/// spelling.
 pub fn request_text(alloc: Global, command: &Command) -> Result<Text, Memory>
     ensures { IfOk result (λ text. text ≡ request_text command.now) }
 {

@@ -1,7 +1,8 @@
 //! Laws of texts: a law is the contract of a function that does nothing.
 
 ghost use Rattle.std.specs.Prelude.{◌≡◌, true, false};
-ghost use Rattle.terms.specs.Laws.{IsCommand, IsRouted, IsKept, RequestTextsDiffer, ReplyTextsDiffer, RequestTextsUtf8, ReplyTextsUtf8};
+ghost use Rattle.terms.specs.Laws.{IsCommand, IsRouted, IsKept, RequestTextsDiffer};
+ghost use Rattle.terms.specs.Laws.{ReplyTextsDiffer, RequestTextsUtf8, ReplyTextsUtf8};
 
 use crate::command::Command;
 use crate::reply::{Reply, Routed};
@@ -191,8 +192,8 @@ fn routed_has_forms(routed: &Routed)
     }
 }
 
-/// Whether a reply is one that can be kept: neither a page nor a refusal. Its numbers, amounts and days are in their
-/// ranges then, as they are in every reply.
+/// Whether a reply is one that can be kept: neither a page nor a refusal. Its numbers, amounts and
+/// days are in their ranges then, as they are in every reply.
 pub fn can_be_kept(reply: &Reply) -> bool
     ensures kept { result ≡ true → IsKept reply.now }
     ensures other { result ≡ false → IsKept reply.now → ⊥ }

@@ -4,6 +4,7 @@
 mod command;
 mod fault;
 mod laws;
+mod limits;
 mod money;
 mod number;
 mod put;
@@ -13,6 +14,7 @@ mod reply;
 mod row;
 mod tables;
 mod text;
+mod thing;
 mod week;
 mod writing;
 
@@ -23,10 +25,15 @@ pub use laws::{
     can_be_kept, command_has_forms, reply_texts_are_utf8, reply_texts_differ,
     request_texts_are_utf8, request_texts_differ,
 };
+pub use limits::{
+    HIGHEST_CAP, HIGHEST_DEBT, HIGHEST_PRICE, HIGHEST_RATE, LARGEST_SUM, LAST_LARGE_NUMBER,
+    LAST_NEXT_NUMBER, LAST_NUMBER, LAST_SMALL_NUMBER, LAST_TODAY, LONGEST_CARD_KEY, LONGEST_KEY,
+    LONGEST_NAME, LONGEST_PERIOD, LONGEST_PICKUP, MOST_ALLOWED, MOST_RENEWALS, SHORTEST_CARD_KEY,
+};
 pub use money::fine;
 pub use number::{
-    BranchId, Cents, CopyId, CopyKind, Count, Days, HoldId, LineId, LoanId, PatronId, PatronKind,
-    TitleId,
+    BranchId, Cents, CopyId, CopyKind, Count, Days, HoldId, LineId, LoanId, Number, PatronId,
+    PatronKind, TitleId,
 };
 pub use put::{BranchPut, KeptPut, PatronPut, TitlePut};
 pub use reading::{read_number, read_reply};

@@ -5,7 +5,8 @@ ghost use Rattle.terms.specs.Money.{fine_for};
 
 use crate::number::Cents;
 
-/// The fine for so many open days late: each costs the rate in cents, and all together no more than the cap.
+/// The fine for so many open days late: each costs the rate in cents, and all together no more than
+/// the cap.
 pub fn fine(days: u32, rate: Cents, cap: Cents) -> Cents
     ensures { result ≡ fine_for days rate cap }
 {

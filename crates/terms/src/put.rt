@@ -23,7 +23,12 @@ pub struct BranchPut<'a> {
 impl<'a> Model for BranchPut<'a> {
     ghost Value = { BranchRow };
 
-    ghost view = { λ r. record { branch = r.branch; pickup = r.pickup; week = r.week; name = r.name.now } };
+    ghost view = { λ r. record {
+      branch = r.branch;
+      pickup = r.pickup;
+      week = r.week;
+      name = r.name.now;
+    } };
 }
 
 /// A row of `patrons`.
@@ -39,7 +44,13 @@ pub struct PatronPut<'a> {
 impl<'a> Model for PatronPut<'a> {
     ghost Value = { PatronRow };
 
-    ghost view = { λ r. record { patron = r.patron; kind = r.kind; card_key = r.card_key.now; name = r.name.now; owed = r.owed } };
+    ghost view = { λ r. record {
+      patron = r.patron;
+      kind = r.kind;
+      card_key = r.card_key.now;
+      name = r.name.now;
+      owed = r.owed;
+    } };
 }
 
 /// A row of `titles`.
@@ -67,5 +78,10 @@ pub struct KeptPut<'a> {
 impl<'a> Model for KeptPut<'a> {
     ghost Value = { KeptRow };
 
-    ghost view = { λ r. record { caller = r.caller; key = r.key.now; text = r.text.now; reply = r.reply.now } };
+    ghost view = { λ r. record {
+      caller = r.caller;
+      key = r.key.now;
+      text = r.text.now;
+      reply = r.reply.now;
+    } };
 }

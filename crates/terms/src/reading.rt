@@ -1,13 +1,14 @@
 //! Numbers and replies, read back from their texts.
 
-ghost use Rattle.std.specs.Prelude.{◌≡◌, ◌≢◌, ◌<◌, ◌^◌, ◌++◌, ◌∷◌, IfSome, IfNone, IsSome, IsSomeAnd, Some, None, List, ℕ};
+ghost use Rattle.std.specs.Prelude.{◌≡◌, ◌≢◌, ◌<◌, ◌^◌, ◌++◌, ◌∷◌, IfSome, IfNone, IsSome};
+ghost use Rattle.std.specs.Prelude.{IsSomeAnd, Some, None, List, ℕ};
 ghost use Rattle.std.specs.Fmt.{decimal};
 ghost use Rattle.calendar.specs.Days.{IsDayNumber, day_text};
 ghost use Rattle.terms.specs.Texts.{reply_text};
 ghost use Rattle.terms.specs.Laws.{IsNumber, IsAmount, IsRouted, IsKept};
 ghost use Rattle.terms.specs.declared.reply.Routed.{Routed};
-ghost use Rattle.terms.specs.declared.reply.Routed.TheVariants as routed;
 ghost use Rattle.terms.specs.declared.reply.Reply.{Reply};
+ghost use Rattle.terms.specs.declared.reply.Routed.TheVariants as routed;
 ghost use Rattle.terms.specs.declared.reply.Reply.TheVariants as reply;
 
 use crate::number::{BranchId, Cents, HoldId, LoanId};
@@ -62,7 +63,8 @@ fn read_amount(text: &str) -> Option<u64>
 /// What follows a word and a space.
 fn after_word<'a>(text: &'a str, word: &str) -> Option<&'a str>
     ensures sound { IfSome result (λ rest. text.now ≡ word.now ++ (32 ∷ rest.now)) }
-    ensures whole { (rest : List ℕ) → text.now ≡ word.now ++ (32 ∷ rest) → IsSomeAnd result (λ r. r.now ≡ rest) }
+    ensures whole { (rest : List ℕ) → text.now ≡ word.now ++ (32 ∷ rest)
+        → IsSomeAnd result (λ r. r.now ≡ rest) }
 {
     let rest = text.strip_prefix(word)?;
     rest.strip_prefix(' ')
@@ -71,7 +73,8 @@ fn after_word<'a>(text: &'a str, word: &str) -> Option<&'a str>
 /// `N REST`.
 fn number_and_rest(text: &str) -> Option<(u32, &str)>
     ensures sound { IfSome result (λ p. IsNumber p.0 × (text.now ≡ decimal p.0 ++ (32 ∷ p.1.now))) }
-    ensures whole { (n : ℕ) (rest : List ℕ) → IsNumber n → text.now ≡ decimal n ++ (32 ∷ rest) → IsSomeAnd result (λ p. (p.0 ≡ n) × (p.1.now ≡ rest)) }
+    ensures whole { (n : ℕ) (rest : List ℕ) → IsNumber n → text.now ≡ decimal n ++ (32 ∷ rest)
+        → IsSomeAnd result (λ p. (p.0 ≡ n) × (p.1.now ≡ rest)) }
 {
     let (number, rest) = text.split_once(' ')?;
     let number = read_number(number)?;
@@ -81,7 +84,8 @@ fn number_and_rest(text: &str) -> Option<(u32, &str)>
 /// `AMOUNT REST`.
 fn amount_and_rest(text: &str) -> Option<(u64, &str)>
     ensures sound { IfSome result (λ p. IsAmount p.0 × (text.now ≡ decimal p.0 ++ (32 ∷ p.1.now))) }
-    ensures whole { (n : ℕ) (rest : List ℕ) → IsAmount n → text.now ≡ decimal n ++ (32 ∷ rest) → IsSomeAnd result (λ p. (p.0 ≡ n) × (p.1.now ≡ rest)) }
+    ensures whole { (n : ℕ) (rest : List ℕ) → IsAmount n → text.now ≡ decimal n ++ (32 ∷ rest)
+        → IsSomeAnd result (λ p. (p.0 ≡ n) × (p.1.now ≡ rest)) }
 {
     let (amount, rest) = text.split_once(' ')?;
     let amount = read_amount(amount)?;
@@ -91,7 +95,8 @@ fn amount_and_rest(text: &str) -> Option<(u64, &str)>
 /// `WORD N`.
 fn number_after(text: &str, word: &str) -> Option<u32>
     ensures sound { IfSome result (λ n. IsNumber n × (text.now ≡ word.now ++ (32 ∷ decimal n))) }
-    ensures whole { (n : ℕ) → IsNumber n → text.now ≡ word.now ++ (32 ∷ decimal n) → result ≡ Some n }
+    ensures whole { (n : ℕ) → IsNumber n → text.now ≡ word.now ++ (32 ∷ decimal n)
+        → result ≡ Some n }
 {
     let rest = after_word(text, word)?;
     read_number(rest)
@@ -100,7 +105,8 @@ fn number_after(text: &str, word: &str) -> Option<u32>
 /// `WORD AMOUNT`.
 fn amount_after(text: &str, word: &str) -> Option<u64>
     ensures sound { IfSome result (λ n. IsAmount n × (text.now ≡ word.now ++ (32 ∷ decimal n))) }
-    ensures whole { (n : ℕ) → IsAmount n → text.now ≡ word.now ++ (32 ∷ decimal n) → result ≡ Some n }
+    ensures whole { (n : ℕ) → IsAmount n → text.now ≡ word.now ++ (32 ∷ decimal n)
+        → result ≡ Some n }
 {
     let rest = after_word(text, word)?;
     read_amount(rest)
@@ -108,8 +114,10 @@ fn amount_after(text: &str, word: &str) -> Option<u64>
 
 /// `WORD DAY`.
 fn day_after(text: &str, word: &str) -> Option<Day>
-    ensures sound { IfSome result (λ n. IsDayNumber n × (text.now ≡ word.now ++ (32 ∷ day_text n))) }
-    ensures whole { (n : ℕ) → IsDayNumber n → text.now ≡ word.now ++ (32 ∷ day_text n) → result ≡ Some n }
+    ensures sound { IfSome result (λ n. IsDayNumber n
+        × (text.now ≡ word.now ++ (32 ∷ day_text n))) }
+    ensures whole { (n : ℕ) → IsDayNumber n → text.now ≡ word.now ++ (32 ∷ day_text n)
+        → result ≡ Some n }
 {
     let rest = after_word(text, word)?;
     Day::read(rest)
@@ -117,8 +125,11 @@ fn day_after(text: &str, word: &str) -> Option<Day>
 
 /// `WORD N REST`.
 fn number_after_and_rest<'a>(text: &'a str, word: &str) -> Option<(u32, &'a str)>
-    ensures sound { IfSome result (λ p. IsNumber p.0 × (text.now ≡ word.now ++ (32 ∷ (decimal p.0 ++ (32 ∷ p.1.now))))) }
-    ensures whole { (n : ℕ) (rest : List ℕ) → IsNumber n → text.now ≡ word.now ++ (32 ∷ (decimal n ++ (32 ∷ rest))) → IsSomeAnd result (λ p. (p.0 ≡ n) × (p.1.now ≡ rest)) }
+    ensures sound { IfSome result (λ p. IsNumber p.0
+        × (text.now ≡ word.now ++ (32 ∷ (decimal p.0 ++ (32 ∷ p.1.now))))) }
+    ensures whole { (n : ℕ) (rest : List ℕ) → IsNumber n
+        → text.now ≡ word.now ++ (32 ∷ (decimal n ++ (32 ∷ rest)))
+        → IsSomeAnd result (λ p. (p.0 ≡ n) × (p.1.now ≡ rest)) }
 {
     let after = after_word(text, word)?;
     number_and_rest(after)
@@ -126,8 +137,11 @@ fn number_after_and_rest<'a>(text: &'a str, word: &str) -> Option<(u32, &'a str)
 
 /// `WORD AMOUNT REST`.
 fn amount_after_and_rest<'a>(text: &'a str, word: &str) -> Option<(u64, &'a str)>
-    ensures sound { IfSome result (λ p. IsAmount p.0 × (text.now ≡ word.now ++ (32 ∷ (decimal p.0 ++ (32 ∷ p.1.now))))) }
-    ensures whole { (n : ℕ) (rest : List ℕ) → IsAmount n → text.now ≡ word.now ++ (32 ∷ (decimal n ++ (32 ∷ rest))) → IsSomeAnd result (λ p. (p.0 ≡ n) × (p.1.now ≡ rest)) }
+    ensures sound { IfSome result (λ p. IsAmount p.0
+        × (text.now ≡ word.now ++ (32 ∷ (decimal p.0 ++ (32 ∷ p.1.now))))) }
+    ensures whole { (n : ℕ) (rest : List ℕ) → IsAmount n
+        → text.now ≡ word.now ++ (32 ∷ (decimal n ++ (32 ∷ rest)))
+        → IsSomeAnd result (λ p. (p.0 ≡ n) × (p.1.now ≡ rest)) }
 {
     let after = after_word(text, word)?;
     amount_and_rest(after)
@@ -136,7 +150,8 @@ fn amount_after_and_rest<'a>(text: &'a str, word: &str) -> Option<(u64, &'a str)
 /// `shelf B`.
 fn read_shelf(text: &str) -> Option<Routed>
     ensures sound { IfSome result (λ r. IsRouted r × (text.now ≡ reply_text (reply.Moved r))) }
-    ensures whole { (branch : ℕ) → IsNumber branch → text.now ≡ reply_text (reply.Moved (routed.Shelf branch)) → IsSome result }
+    ensures whole { (branch : ℕ) → IsNumber branch
+        → text.now ≡ reply_text (reply.Moved (routed.Shelf branch)) → IsSome result }
 {
     let branch = number_after(text, "shelf")?;
     Some(Routed::Shelf {
@@ -147,7 +162,8 @@ fn read_shelf(text: &str) -> Option<Routed>
 /// `ready H at B until DAY`.
 fn read_hold_shelf(text: &str) -> Option<Routed>
     ensures sound { IfSome result (λ r. IsRouted r × (text.now ≡ reply_text (reply.Moved r))) }
-    ensures whole { (hold branch until : ℕ) → IsNumber hold → IsNumber branch → IsDayNumber until → text.now ≡ reply_text (reply.Moved (routed.HoldShelf hold branch until)) → IsSome result }
+    ensures whole { (hold branch until : ℕ) → IsNumber hold → IsNumber branch → IsDayNumber until
+        → text.now ≡ reply_text (reply.Moved (routed.HoldShelf hold branch until)) → IsSome result }
 {
     let (hold, rest) = number_after_and_rest(text, "ready")?;
     let (branch, last) = number_after_and_rest(rest, "at")?;
@@ -162,7 +178,8 @@ fn read_hold_shelf(text: &str) -> Option<Routed>
 /// `transit B for H`.
 fn read_transit_for(text: &str) -> Option<Routed>
     ensures sound { IfSome result (λ r. IsRouted r × (text.now ≡ reply_text (reply.Moved r))) }
-    ensures whole { (goal hold : ℕ) → IsNumber goal → IsNumber hold → text.now ≡ reply_text (reply.Moved (routed.Transit goal (Some hold))) → IsSome result }
+    ensures whole { (goal hold : ℕ) → IsNumber goal → IsNumber hold
+        → text.now ≡ reply_text (reply.Moved (routed.Transit goal (Some hold))) → IsSome result }
 {
     let (goal, rest) = number_after_and_rest(text, "transit")?;
     let hold = number_after(rest, "for")?;
@@ -175,7 +192,8 @@ fn read_transit_for(text: &str) -> Option<Routed>
 /// `transit B`.
 fn read_transit(text: &str) -> Option<Routed>
     ensures sound { IfSome result (λ r. IsRouted r × (text.now ≡ reply_text (reply.Moved r))) }
-    ensures whole { (goal : ℕ) → IsNumber goal → text.now ≡ reply_text (reply.Moved (routed.Transit goal None)) → IsSome result }
+    ensures whole { (goal : ℕ) → IsNumber goal
+        → text.now ≡ reply_text (reply.Moved (routed.Transit goal None)) → IsSome result }
 {
     let goal = number_after(text, "transit")?;
     Some(Routed::Transit {
@@ -187,7 +205,8 @@ fn read_transit(text: &str) -> Option<Routed>
 /// Where a copy goes.
 fn read_routed(text: &str) -> Option<Routed>
     ensures sound { IfSome result (λ r. IsRouted r × (text.now ≡ reply_text (reply.Moved r))) }
-    ensures whole { (r : Routed) → IsRouted r → text.now ≡ reply_text (reply.Moved r) → IsSome result }
+    ensures whole { (r : Routed) → IsRouted r → text.now ≡ reply_text (reply.Moved r)
+        → IsSome result }
 {
     if let Some(routed) = read_shelf(text) {
         return Some(routed);
@@ -204,7 +223,8 @@ fn read_routed(text: &str) -> Option<Routed>
 /// `loan L due DAY`.
 fn read_lent(text: &str) -> Option<Reply>
     ensures sound { IfSome result (λ r. IsKept r × (text.now ≡ reply_text r)) }
-    ensures whole { (loan due : ℕ) → IsNumber loan → IsDayNumber due → text.now ≡ reply_text (reply.Lent loan due) → IsSome result }
+    ensures whole { (loan due : ℕ) → IsNumber loan → IsDayNumber due
+        → text.now ≡ reply_text (reply.Lent loan due) → IsSome result }
 {
     let (loan, rest) = number_after_and_rest(text, "loan")?;
     let due = day_after(rest, "due")?;
@@ -217,7 +237,8 @@ fn read_lent(text: &str) -> Option<Reply>
 /// `fine F price Q`.
 fn read_lost(text: &str) -> Option<Reply>
     ensures sound { IfSome result (λ r. IsKept r × (text.now ≡ reply_text r)) }
-    ensures whole { (fine price : ℕ) → IsAmount fine → IsAmount price → text.now ≡ reply_text (reply.Lost fine price) → IsSome result }
+    ensures whole { (fine price : ℕ) → IsAmount fine → IsAmount price
+        → text.now ≡ reply_text (reply.Lost fine price) → IsSome result }
 {
     let (fine, rest) = amount_after_and_rest(text, "fine")?;
     let price = amount_after(rest, "price")?;
@@ -230,7 +251,8 @@ fn read_lost(text: &str) -> Option<Reply>
 /// `fine F`, and where the copy goes.
 fn read_checked_in(text: &str) -> Option<Reply>
     ensures sound { IfSome result (λ r. IsKept r × (text.now ≡ reply_text r)) }
-    ensures whole { (fine : ℕ) (r : Routed) → IsAmount fine → IsRouted r → text.now ≡ reply_text (reply.CheckedIn fine r) → IsSome result }
+    ensures whole { (fine : ℕ) (r : Routed) → IsAmount fine → IsRouted r
+        → text.now ≡ reply_text (reply.CheckedIn fine r) → IsSome result }
 {
     let (fine, rest) = amount_after_and_rest(text, "fine")?;
     let routed = read_routed(rest)?;
@@ -243,7 +265,8 @@ fn read_checked_in(text: &str) -> Option<Reply>
 /// `hold H`.
 fn read_held(text: &str) -> Option<Reply>
     ensures sound { IfSome result (λ r. IsKept r × (text.now ≡ reply_text r)) }
-    ensures whole { (hold : ℕ) → IsNumber hold → text.now ≡ reply_text (reply.Held hold) → IsSome result }
+    ensures whole { (hold : ℕ) → IsNumber hold → text.now ≡ reply_text (reply.Held hold)
+        → IsSome result }
 {
     let hold = number_after(text, "hold")?;
     Some(Reply::Held {
@@ -254,7 +277,8 @@ fn read_held(text: &str) -> Option<Reply>
 /// `owed AMOUNT`.
 fn read_owed(text: &str) -> Option<Reply>
     ensures sound { IfSome result (λ r. IsKept r × (text.now ≡ reply_text r)) }
-    ensures whole { (owed : ℕ) → IsAmount owed → text.now ≡ reply_text (reply.Owed owed) → IsSome result }
+    ensures whole { (owed : ℕ) → IsAmount owed → text.now ≡ reply_text (reply.Owed owed)
+        → IsSome result }
 {
     let owed = amount_after(text, "owed")?;
     Some(Reply::Owed {
@@ -265,7 +289,8 @@ fn read_owed(text: &str) -> Option<Reply>
 /// Where a copy goes that left the hold shelf.
 fn read_moved(text: &str) -> Option<Reply>
     ensures sound { IfSome result (λ r. IsKept r × (text.now ≡ reply_text r)) }
-    ensures whole { (r : Routed) → IsRouted r → text.now ≡ reply_text (reply.Moved r) → IsSome result }
+    ensures whole { (r : Routed) → IsRouted r → text.now ≡ reply_text (reply.Moved r)
+        → IsSome result }
 {
     let routed = read_routed(text)?;
     Some(Reply::Moved { routed })

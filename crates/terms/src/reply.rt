@@ -1,6 +1,6 @@
 //! What the desk answers.
 
-ghost use Rattle.std.specs.Prelude.{◌≡◌, IfOk, string_bytes};
+ghost use Rattle.std.specs.Prelude.{◌≡◌, IfOk};
 ghost use Rattle.terms.specs.Texts.{reply_text};
 
 use crate::number::{BranchId, Cents, HoldId, LoanId};

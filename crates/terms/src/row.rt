@@ -106,7 +106,8 @@ pub struct LoanRow {
     pub ended: Option<Day>,
 }
 
-/// The state of a hold: 0 waiting, 1 ready, 2 filled, 3 cancelled, 4 expired. The last three are final.
+/// The state of a hold: 0 waiting, 1 ready, 2 filled, 3 cancelled, 4 expired. The last three are
+/// final.
 #[derive(Clone, Copy, Debug, PartialEq, Eq)]
 pub enum HoldState {
     Waiting,

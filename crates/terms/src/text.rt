@@ -1,17 +1,21 @@
 //! Texts with a form of their own.
 
-ghost use Rattle.std.specs.Prelude.{◌≡◌, ◌+◌, ◌<◌, ◌≤◌, ◌==◌, IfOk, IfSome, IfNone, OnOk, true, false, length, string_bytes, Some, None, MatchOption, bytes_eq, IsUtf8};
+ghost use Rattle.std.specs.Prelude.{◌≡◌, IfOk, true, false, string_bytes, Some, MatchOption};
+ghost use Rattle.std.specs.Prelude.{bytes_eq, IsUtf8};
 ghost use Rattle.std.specs.List.{list_all};
-ghost use Rattle.terms.specs.Forms.{is_name, IsName, is_plain_byte, is_card_key, is_alphanumeric, is_outside_key, is_key_byte};
+ghost use Rattle.terms.specs.Forms.{is_name, IsName, is_plain_byte, is_card_key, is_alphanumeric};
+ghost use Rattle.terms.specs.Forms.{is_outside_key, is_key_byte};
 ghost use Rattle.terms.specs.Texts.{request_text};
 
 use crate::command::{Command, joined_words};
+use crate::limits::{LONGEST_CARD_KEY, LONGEST_KEY, LONGEST_NAME, SHORTEST_CARD_KEY};
 use calendar::Memory;
 use std::alloc::Global;
 use std::fmt;
 use std::marker::Model;
 
-/// A name, or the text of a title: 1 to 120 bytes of UTF-8 with no control character and no space at either end.
+/// A name, or the text of a title: 1 to 120 bytes of UTF-8 with no control character and no space
+/// at either end.
 #[derive(Drop)]
 pub struct Name {
     text: String,
@@ -43,7 +47,7 @@ fn has_name_form(text: &str) -> bool
     if len < 1 {
         return false;
     }
-    if len > 120 {
+    if len > LONGEST_NAME {
         return false;
     }
     if !all_plain(bytes) {
@@ -58,7 +62,8 @@ fn has_name_form(text: &str) -> bool
 impl Name {
     /// The text as a name, if it has the form of one.
     pub fn new(alloc: Global, text: &str) -> Result<Option<Name>, Memory>
-        ensures { IfOk result (λ o. MatchOption o (is_name text.now ≡ false) (λ n. (is_name text.now ≡ true) × (n ≡ text.now))) }
+        ensures { IfOk result (λ o. MatchOption o (is_name text.now ≡ false)
+            (λ n. (is_name text.now ≡ true) × (n ≡ text.now))) }
     {
         if has_name_form(text) {
             let text = String::from_str(alloc, text)?;
@@ -131,10 +136,10 @@ fn has_card_key_form(text: &str) -> bool
 {
     let bytes = text.as_bytes();
     let len = bytes.len();
-    if len < 8 {
+    if len < SHORTEST_CARD_KEY {
         return false;
     }
-    if len > 32 {
+    if len > LONGEST_CARD_KEY {
         return false;
     }
     all_alphanumeric(bytes)
@@ -143,7 +148,8 @@ fn has_card_key_form(text: &str) -> bool
 impl CardKey {
     /// The text as a card key, if it has the form of one.
     pub fn new(alloc: Global, text: &str) -> Result<Option<CardKey>, Memory>
-        ensures { IfOk result (λ o. MatchOption o (is_card_key text.now ≡ false) (λ k. (is_card_key text.now ≡ true) × (k ≡ text.now))) }
+        ensures { IfOk result (λ o. MatchOption o (is_card_key text.now ≡ false)
+            (λ k. (is_card_key text.now ≡ true) × (k ≡ text.now))) }
     {
         if has_card_key_form(text) {
             let text = String::from_str(alloc, text)?;
@@ -181,8 +187,9 @@ impl fmt::Display for CardKey {
     }
 }
 
-/// The key of a request. One that is given from outside has 1 to 40 ASCII letters, digits and hyphens;
-/// a row of a copies file has its own request text as key, which has spaces and so is never one from outside.
+/// The key of a request. One that is given from outside has 1 to 40 ASCII letters, digits and
+/// hyphens; a row of a copies file has its own request text as key, which has spaces and so is
+/// never one from outside.
 #[derive(Drop)]
 pub struct Key {
     text: String,
@@ -217,7 +224,7 @@ fn has_key_form(text: &str) -> bool
     if len < 1 {
         return false;
     }
-    if len > 40 {
+    if len > LONGEST_KEY {
         return false;
     }
     all_key_letters(bytes)
@@ -226,7 +233,8 @@ fn has_key_form(text: &str) -> bool
 impl Key {
     /// The text as a key from outside, if it has the form of one.
     pub fn new(alloc: Global, text: &str) -> Result<Option<Key>, Memory>
-        ensures { IfOk result (λ o. MatchOption o (is_outside_key text.now ≡ false) (λ k. (is_outside_key text.now ≡ true) × (k ≡ text.now))) }
+        ensures { IfOk result (λ o. MatchOption o (is_outside_key text.now ≡ false)
+            (λ k. (is_outside_key text.now ≡ true) × (k ≡ text.now))) }
     {
         if has_key_form(text) {
             let text = String::from_str(alloc, text)?;

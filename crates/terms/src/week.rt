@@ -1,7 +1,8 @@
 //! Which weekdays a branch is closed on, as the desk writes it.
 
-ghost use Rattle.std.specs.Prelude.{◌≡◌, ◌≢◌, Bool, List, length, not, true, false, Some, None, IfSome, IfNone, if◌then◌else◌, ◌∷◌, []};
-ghost use Rattle.std.specs.List.{list_any, list_all};
+ghost use Rattle.std.specs.Prelude.{◌≡◌, ◌≢◌, Bool, List, length, not, true, Some, IfSome, IfNone};
+ghost use Rattle.std.specs.Prelude.{if◌then◌else◌, ◌∷◌, []};
+ghost use Rattle.std.specs.List.{list_any};
 ghost use Rattle.std.specs.Option.{SomeIff};
 ghost use Rattle.terms.specs.Texts.{mask_text};
 
@@ -36,7 +37,8 @@ impl Mask {
     /// The mask that seven letters write, `o` for open and `c` for closed.
     pub fn read(text: &str) -> Option<Mask>
         ensures some { IfSome result (λ m. text.now ≡ mask_text m) }
-        ensures none { IfNone result ((closed : List Bool) → length closed ≡ 7 → text.now ≢ mask_text closed) }
+        ensures none { IfNone result ((closed : List Bool) → length closed ≡ 7
+            → text.now ≢ mask_text closed) }
     {
         let [a, b, c, d, e, f, g] = text.as_bytes() else {
             return None;

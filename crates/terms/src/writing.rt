@@ -10,10 +10,12 @@ use std::io::Write;
 #[derive(Clone, Copy, Debug, PartialEq, Eq)]
 pub struct WriteFault;
 
-/// Writes the bytes. Where a write fails, or takes nothing, a beginning of them went out. It takes no memory.
+/// Writes the bytes. Where a write fails, or takes nothing, a beginning of them went out. It takes
+/// no memory.
 pub fn write_bytes<W: Write>(writer: &mut W, bytes: &[u8]) -> Result<(), WriteFault>
     ensures all { OnOk result (Appends (W.contents writer.old) (W.contents writer.new) bytes.now) }
-    ensures front { OnErr result (AppendsFront (W.contents writer.old) (W.contents writer.new) bytes.now) }
+    ensures front { OnErr result (AppendsFront (W.contents writer.old)
+        (W.contents writer.new) bytes.now) }
 {
     let mut written = 0;
     while written < bytes.len() {

@@ -4,11 +4,12 @@ use Rattle.std.specs.Vec.Iter.{into_iter_items}
 use Rattle.terms.specs.Writing.{AppendsFront}
 use Rattle.front.specs.declared.copies.CopyRow.{CopyRow}
 use Rattle.std.specs.Io.KnownBytes.{Appends}
+use Rattle.desk.proofs.Looking.{on-err, on-err-any}
 use Rattle.circ.specs.Importing.{end_line, end_exit, counts_line, ImportsOf}
 use Rattle.circ.specs.declared.importing.Counts.{Counts}
 use Rattle.circ.specs.Lines.{fault_line}
 use Rattle.circ.specs.declared.lines.Exit.TheVariants.{Faulted}
-use Rattle.circ.proofs.Fronts.{on-err-any, after-nothing, front-after-nothing, ends-as, fails-as}
+use Rattle.circ.proofs.Fronts.{after-nothing, front-after-nothing, ends-as}
 use Rattle.circ.proofs.Imports.{SoFar, far-none, far-more, within, room-for, imports-some, imports-cut, imports-all, lines-whole, lines-front}
 use Rattle.circ.proofs.importing.import_rows.Goals as goal
 
@@ -20,64 +21,65 @@ pub rows-init : goal.rows-init
 rows-init g c = record { parted = refl; many = search rules; so_far = far-none g.S.Store c.args.desk.now (g.W.Write.contents c.args.writer.now) }
 
 pub import_row-requires : goal.import_row-requires
-import_row-requires g c =
-    let far = c.rows.invariant.so_far in
+import_row-requires g c = let far = c.rows.invariant.so_far in
     let all : List CopyRow = c.args.rows.items in
     let at = within all c.rows.yielded (into_iter_items c.rows.row-iterator) (into_iter_items c.next.new.self) c.in-Some.row (c.rows.invariant.parted ∙ c.into_iter-row-iterator.ensures.into_iter_gives.0) c.in-Some.ensures.steps.0 in
     record { room = room-for g.S.Store c.args.desk.now c.rows.desk c.rows.yielded c.rows.counts (g.W.Write.contents c.args.writer.now) (g.W.Write.contents c.rows.writer) all c.in-Some.row far at c.requires.few }
 
-pub returns-in_err-fault-clause-cut : goal.returns-in_err-fault-clause-cut
-returns-in_err-fault-clause-cut g c =
-    let far = c.rows.invariant.so_far in
-    let all : List CopyRow = c.args.rows.items in
-    let at = within all c.rows.yielded (into_iter_items c.rows.row-iterator) (into_iter_items c.next.new.self) c.in-Some.row (c.rows.invariant.parted ∙ c.into_iter-row-iterator.ensures.into_iter_gives.0) c.in-Some.ensures.steps.0 in
-    let one = c.in_err-fault.ensures.cut in
-    on-err-any c.from_residual.result
-    (inr (imports-cut g.S.Store c.args.desk.now c.rows.desk c.import_row.new.desk all c.rows.yielded c.rows.counts (g.W.Write.contents c.args.writer.now) (g.W.Write.contents c.rows.writer) c.in-Some.row far at
-    (g.W.Write.contents c.import_row.new.writer) one.0 one.1 one.2))
+pub returns-in_err-fault : goal.returns-in_err-fault
+returns-in_err-fault g c = record {
+  clean = λ disk. c.rows.invariant.so_far.handled.clean (c.in_err-fault.ensures.clean disk);
+  written = search rules;
+  cut = let far = c.rows.invariant.so_far in
+      let all : List CopyRow = c.args.rows.items in
+      let at = within all c.rows.yielded (into_iter_items c.rows.row-iterator) (into_iter_items c.next.new.self) c.in-Some.row (c.rows.invariant.parted ∙ c.into_iter-row-iterator.ensures.into_iter_gives.0) c.in-Some.ensures.steps.0 in
+      let one = c.in_err-fault.ensures.cut in
+      on-err-any c.from_residual.result
+      (inr (imports-cut g.S.Store c.args.desk.now c.rows.desk c.import_row.new.desk all c.rows.yielded c.rows.counts (g.W.Write.contents c.args.writer.now) (g.W.Write.contents c.rows.writer) c.in-Some.row far at
+      (g.W.Write.contents c.import_row.new.writer) one.0 one.1 one.2));
+}
 
-pub returns-in-Some-2-clause-wrote : goal.returns-in-Some-2-clause-wrote
-returns-in-Some-2-clause-wrote g c =
-    let far = c.rows.invariant.so_far in
-    let all : List CopyRow = c.args.rows.items in
-    let at = within all c.rows.yielded (into_iter_items c.rows.row-iterator) (into_iter_items c.next.new.self) c.in-Some.row (c.rows.invariant.parted ∙ c.into_iter-row-iterator.ensures.into_iter_gives.0) c.in-Some.ensures.steps.0 in
-    let fault = c.in-Some-2.fault in
-    let is = ap Ok c.in-Some-2.is in
-    let kept = c.in_ok-fault.ensures.fault fault is in
-    let a = g.W.Write.contents c.args.writer.now in
-    let b = g.W.Write.contents c.rows.writer in
-    let d = g.W.Write.contents c.tell_stop.new.writer in
-    ends-as (λ exit. ImportsOf g.S.Store c.args.desk.now c.import_row.new.desk all c.args.end (Appends a d) exit) c.tell_stop.result Faulted c.tell_stop.ensures.exit c.tell_stop.ensures.all
-    (λ wrote. inr (imports-some g.S.Store c.args.desk.now c.rows.desk c.import_row.new.desk all c.rows.yielded c.rows.counts a b c.in-Some.row far at fault (Appends a d)
-    c.in_ok-fault.ensures.clean (c.in_ok-fault.ensures.undone fault is) c.in_ok-fault.ensures.left
-    (lines-whole g.S.Store c.args.desk.now c.rows.desk c.rows.yielded c.rows.counts a b far (fault_line fault) d
-    (after-nothing b (g.W.Write.contents c.import_row.new.writer) d (fault_line fault ++ counts_line c.rows.counts.accepted c.rows.counts.refused) kept.0
-    (subst (λ (n : Counts). Appends (g.W.Write.contents c.import_row.new.writer) d (fault_line fault ++ counts_line n.accepted n.refused)) kept.1 wrote)))))
-
-pub returns-in-Some-2-clause-cut : goal.returns-in-Some-2-clause-cut
-returns-in-Some-2-clause-cut g c =
-    let far = c.rows.invariant.so_far in
-    let all : List CopyRow = c.args.rows.items in
-    let at = within all c.rows.yielded (into_iter_items c.rows.row-iterator) (into_iter_items c.next.new.self) c.in-Some.row (c.rows.invariant.parted ∙ c.into_iter-row-iterator.ensures.into_iter_gives.0) c.in-Some.ensures.steps.0 in
-    let fault = c.in-Some-2.fault in
-    let is = ap Ok c.in-Some-2.is in
-    let kept = c.in_ok-fault.ensures.fault fault is in
-    let a = g.W.Write.contents c.args.writer.now in
-    let b = g.W.Write.contents c.rows.writer in
-    let d = g.W.Write.contents c.tell_stop.new.writer in
-    fails-as c.tell_stop.result c.tell_stop.ensures.front
-    (λ front. inl (
-      Faulted,
-      inr (imports-some g.S.Store c.args.desk.now c.rows.desk c.import_row.new.desk all c.rows.yielded c.rows.counts a b c.in-Some.row far at fault (AppendsFront a d)
-          c.in_ok-fault.ensures.clean (c.in_ok-fault.ensures.undone fault is) c.in_ok-fault.ensures.left
-          (lines-front g.S.Store c.args.desk.now c.rows.desk c.rows.yielded c.rows.counts a b far (fault_line fault) d
-          (front-after-nothing b (g.W.Write.contents c.import_row.new.writer) d (fault_line fault ++ counts_line c.rows.counts.accepted c.rows.counts.refused) kept.0
-          (subst (λ (n : Counts). AppendsFront (g.W.Write.contents c.import_row.new.writer) d (fault_line fault ++ counts_line n.accepted n.refused)) kept.1 front)))),
-    ))
+pub returns-in-Some-2 : goal.returns-in-Some-2
+returns-in-Some-2 g c = record {
+  clean = λ disk. c.rows.invariant.so_far.handled.clean (c.in_ok-fault.ensures.clean disk);
+  written = let far = c.rows.invariant.so_far in
+      let all : List CopyRow = c.args.rows.items in
+      let at = within all c.rows.yielded (into_iter_items c.rows.row-iterator) (into_iter_items c.next.new.self) c.in-Some.row (c.rows.invariant.parted ∙ c.into_iter-row-iterator.ensures.into_iter_gives.0) c.in-Some.ensures.steps.0 in
+      let fault = c.in-Some-2.fault in
+      let is = ap Ok c.in-Some-2.is in
+      let kept = c.in_ok-fault.ensures.silent fault is in
+      let a = g.W.Write.contents c.args.writer.now in
+      let b = g.W.Write.contents c.rows.writer in
+      let d = g.W.Write.contents c.tell_stop.new.writer in
+      ends-as (λ exit. ImportsOf all c.args.end g.S.Store c.args.desk.now c.import_row.new.desk (Appends a d) exit) c.tell_stop.result Faulted c.tell_stop.ensures.exit_is c.tell_stop.ensures.writes.all
+      (λ wrote. inr (imports-some g.S.Store c.args.desk.now c.rows.desk c.import_row.new.desk all c.rows.yielded c.rows.counts a b c.in-Some.row far at fault (Appends a d)
+      c.in_ok-fault.ensures.clean (c.in_ok-fault.ensures.undone fault is) c.in_ok-fault.ensures.left
+      (lines-whole g.S.Store c.args.desk.now c.rows.desk c.rows.yielded c.rows.counts a b far (fault_line fault) d
+      (after-nothing b (g.W.Write.contents c.import_row.new.writer) d (fault_line fault ++ counts_line c.rows.counts.accepted c.rows.counts.refused) kept.0
+      (subst (λ (n : Counts). Appends (g.W.Write.contents c.import_row.new.writer) d (fault_line fault ++ counts_line n.accepted n.refused)) kept.1 wrote)))));
+  cut = let far = c.rows.invariant.so_far in
+      let all : List CopyRow = c.args.rows.items in
+      let at = within all c.rows.yielded (into_iter_items c.rows.row-iterator) (into_iter_items c.next.new.self) c.in-Some.row (c.rows.invariant.parted ∙ c.into_iter-row-iterator.ensures.into_iter_gives.0) c.in-Some.ensures.steps.0 in
+      let fault = c.in-Some-2.fault in
+      let is = ap Ok c.in-Some-2.is in
+      let kept = c.in_ok-fault.ensures.silent fault is in
+      let a = g.W.Write.contents c.args.writer.now in
+      let b = g.W.Write.contents c.rows.writer in
+      let d = g.W.Write.contents c.tell_stop.new.writer in
+      on-err c.tell_stop.result
+      (λ front. inl (
+        Faulted,
+        inr (imports-some g.S.Store c.args.desk.now c.rows.desk c.import_row.new.desk all c.rows.yielded c.rows.counts a b c.in-Some.row far at fault (AppendsFront a d)
+            c.in_ok-fault.ensures.clean (c.in_ok-fault.ensures.undone fault is) c.in_ok-fault.ensures.left
+            (lines-front g.S.Store c.args.desk.now c.rows.desk c.rows.yielded c.rows.counts a b far (fault_line fault) d
+            (front-after-nothing b (g.W.Write.contents c.import_row.new.writer) d (fault_line fault ++ counts_line c.rows.counts.accepted c.rows.counts.refused) kept.0
+            (subst (λ (n : Counts). AppendsFront (g.W.Write.contents c.import_row.new.writer) d (fault_line fault ++ counts_line n.accepted n.refused)) kept.1 front)))),
+      ))
+      c.tell_stop.ensures.writes.front;
+}
 
 pub rows-preserved : goal.rows-preserved
-rows-preserved g c =
-    let far = c.rows.invariant.so_far in
+rows-preserved g c = let far = c.rows.invariant.so_far in
     let done = c.in_ok-fault.ensures.done (ap Ok c.in_default.is) in
     let steps = c.in-Some.ensures.steps in
     record {
@@ -88,40 +90,31 @@ rows-preserved g c =
           c.in-Some.row done.0 far done.1 done.3);
     }
 
-pub returns-clause-wrote : goal.returns-clause-wrote
-returns-clause-wrote g c =
-    let far = c.rows.invariant.so_far in
-    let all : List CopyRow = c.args.rows.items in
-    let none = nothing-left (into_iter_items c.rows.row-iterator) (sym c.rows.invariant.many ∙ c.in-None.ensures.steps.0) in
-    let is = sym (append-nil c.rows.yielded) ∙ ap (λ (xs : List CopyRow). c.rows.yielded ++ xs) (sym none) ∙ c.rows.invariant.parted ∙ c.into_iter-row-iterator.ensures.into_iter_gives.0 in
-    let a = g.W.Write.contents c.args.writer.now in
-    let b = g.W.Write.contents c.rows.writer in
-    let d = g.W.Write.contents c.tell_end.new.writer in
-    ends-as (λ exit. ImportsOf g.S.Store c.args.desk.now c.rows.desk all c.args.end (Appends a d) exit) c.tell_end.result (end_exit c.args.end c.rows.counts.refused) c.tell_end.ensures.exit c.tell_end.ensures.all
-    (λ wrote. inl (imports-all g.S.Store c.args.desk.now c.rows.desk c.rows.yielded c.rows.counts a b far (end_line c.args.end) all is c.args.end (Appends a d)
-    (lines-whole g.S.Store c.args.desk.now c.rows.desk c.rows.yielded c.rows.counts a b far (end_line c.args.end) d wrote)))
-
-pub returns-clause-cut : goal.returns-clause-cut
-returns-clause-cut g c =
-    let far = c.rows.invariant.so_far in
-    let all : List CopyRow = c.args.rows.items in
-    let none = nothing-left (into_iter_items c.rows.row-iterator) (sym c.rows.invariant.many ∙ c.in-None.ensures.steps.0) in
-    let is = sym (append-nil c.rows.yielded) ∙ ap (λ (xs : List CopyRow). c.rows.yielded ++ xs) (sym none) ∙ c.rows.invariant.parted ∙ c.into_iter-row-iterator.ensures.into_iter_gives.0 in
-    let a = g.W.Write.contents c.args.writer.now in
-    let b = g.W.Write.contents c.rows.writer in
-    let d = g.W.Write.contents c.tell_end.new.writer in
-    fails-as c.tell_end.result c.tell_end.ensures.front
-    (λ front. inl (
-      end_exit c.args.end c.rows.counts.refused,
-      inl (imports-all g.S.Store c.args.desk.now c.rows.desk c.rows.yielded c.rows.counts a b far (end_line c.args.end) all is c.args.end (AppendsFront a d)
-          (lines-front g.S.Store c.args.desk.now c.rows.desk c.rows.yielded c.rows.counts a b far (end_line c.args.end) d front)),
-    ))
-
-pub returns-in_err-fault-clause-clean : goal.returns-in_err-fault-clause-clean
-returns-in_err-fault-clause-clean g c = λ disk. c.rows.invariant.so_far.handled.clean (c.in_err-fault.ensures.clean disk)
-
-pub returns-in-Some-2-clause-clean : goal.returns-in-Some-2-clause-clean
-returns-in-Some-2-clause-clean g c = λ disk. c.rows.invariant.so_far.handled.clean (c.in_ok-fault.ensures.clean disk)
-
-pub returns-clause-clean : goal.returns-clause-clean
-returns-clause-clean g c = λ disk. c.rows.invariant.so_far.handled.clean disk
+pub returns : goal.returns
+returns g c = record {
+  clean = λ disk. c.rows.invariant.so_far.handled.clean disk;
+  written = let far = c.rows.invariant.so_far in
+      let all : List CopyRow = c.args.rows.items in
+      let none = nothing-left (into_iter_items c.rows.row-iterator) (sym c.rows.invariant.many ∙ c.in-None.ensures.steps.0) in
+      let is = sym (append-nil c.rows.yielded) ∙ ap (λ (xs : List CopyRow). c.rows.yielded ++ xs) (sym none) ∙ c.rows.invariant.parted ∙ c.into_iter-row-iterator.ensures.into_iter_gives.0 in
+      let a = g.W.Write.contents c.args.writer.now in
+      let b = g.W.Write.contents c.rows.writer in
+      let d = g.W.Write.contents c.tell_end.new.writer in
+      ends-as (λ exit. ImportsOf all c.args.end g.S.Store c.args.desk.now c.rows.desk (Appends a d) exit) c.tell_end.result (end_exit c.args.end c.rows.counts.refused) c.tell_end.ensures.exit_is c.tell_end.ensures.writes.all
+      (λ wrote. inl (imports-all g.S.Store c.args.desk.now c.rows.desk c.rows.yielded c.rows.counts a b far (end_line c.args.end) all is c.args.end (Appends a d)
+      (lines-whole g.S.Store c.args.desk.now c.rows.desk c.rows.yielded c.rows.counts a b far (end_line c.args.end) d wrote)));
+  cut = let far = c.rows.invariant.so_far in
+      let all : List CopyRow = c.args.rows.items in
+      let none = nothing-left (into_iter_items c.rows.row-iterator) (sym c.rows.invariant.many ∙ c.in-None.ensures.steps.0) in
+      let is = sym (append-nil c.rows.yielded) ∙ ap (λ (xs : List CopyRow). c.rows.yielded ++ xs) (sym none) ∙ c.rows.invariant.parted ∙ c.into_iter-row-iterator.ensures.into_iter_gives.0 in
+      let a = g.W.Write.contents c.args.writer.now in
+      let b = g.W.Write.contents c.rows.writer in
+      let d = g.W.Write.contents c.tell_end.new.writer in
+      on-err c.tell_end.result
+      (λ front. inl (
+        end_exit c.args.end c.rows.counts.refused,
+        inl (imports-all g.S.Store c.args.desk.now c.rows.desk c.rows.yielded c.rows.counts a b far (end_line c.args.end) all is c.args.end (AppendsFront a d)
+            (lines-front g.S.Store c.args.desk.now c.rows.desk c.rows.yielded c.rows.counts a b far (end_line c.args.end) d front)),
+      ))
+      c.tell_end.ensures.writes.front;
+}

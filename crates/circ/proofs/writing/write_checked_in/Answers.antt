@@ -1,4 +1,4 @@
-use Rattle.std.proofs.Common.{◌≡◌, ℕ, List, [], ◌∷◌, ◌++◌, ap, ◌∙◌, append_assoc, subst}
+use Rattle.std.proofs.Common.{rules, ◌≡◌, ℕ, List, [], ◌∷◌, ◌++◌, ap, ◌∙◌, append_assoc, subst}
 use Rattle.std.specs.Prelude.{codes, decimal, Some, None, OnOk, OnErr}
 use Rattle.std.specs.List.{join_with_byte}
 use Rattle.std.specs.Io.KnownBytes.{Appends}
@@ -22,20 +22,20 @@ checked-in : (digits : List ℕ) (fine : ℕ) (routed : Routed) → digits ≡ d
     → (codes "fine " ++ (digits ++ (32 ∷ []))) ++ join_with_byte 32 (routed_words routed) ≡ reply_text (CheckedIn fine routed)
 checked-in digits fine routed e = ap (λ (bs : List ℕ). (codes "fine " ++ (bs ++ (32 ∷ []))) ++ join_with_byte 32 (routed_words routed)) e ∙ parted fine routed
 
-pub returns-in_err-write_pieces-clause-front : goal.returns-in_err-write_pieces-clause-front
-returns-in_err-write_pieces-clause-front g c =
-    let text = checked-in c.as_bytes.result.now c.args.fine c.args.routed.now (c.as_bytes.ensures.value ∙ c.format.ensures.text ∙ ap decimal c.number.ensures.value) in
-    subst (λ (bs : List ℕ). OnErr c.from_residual.result (AppendsFront (g.W.Write.contents c.args.writer.now) (g.W.Write.contents c.write_pieces.new.writer) bs)) text
-    (failed-first c.from_residual.result _ _ _ _ c.in_err-write_pieces.ensures.front)
+pub returns-in_err-write_pieces : goal.returns-in_err-write_pieces
+returns-in_err-write_pieces g c = record {
+  all = search rules;
+  front = let text = checked-in c.as_bytes.result.now c.args.fine c.args.routed.now (c.as_bytes.ensures.value ∙ c.format.ensures.text ∙ ap decimal c.number.ensures.value) in
+      subst (λ (bs : List ℕ). OnErr c.from_residual.result (AppendsFront (g.W.Write.contents c.args.writer.now) (g.W.Write.contents c.write_pieces.new.writer) bs)) text
+      (failed-first c.from_residual.result _ _ _ _ c.in_err-write_pieces.ensures.front);
+}
 
-pub returns-clause-all : goal.returns-clause-all
-returns-clause-all g c =
-    let text = checked-in c.as_bytes.result.now c.args.fine c.args.routed.now (c.as_bytes.ensures.value ∙ c.format.ensures.text ∙ ap decimal c.number.ensures.value) in
-    subst (λ (bs : List ℕ). OnOk c.write_routed.result (Appends (g.W.Write.contents c.args.writer.now) (g.W.Write.contents c.write_routed.new.writer) bs)) text
-    (second-out c.write_routed.result _ _ _ _ _ c.in_ok-write_pieces.ensures.all c.write_routed.ensures.all)
-
-pub returns-clause-front : goal.returns-clause-front
-returns-clause-front g c =
-    let text = checked-in c.as_bytes.result.now c.args.fine c.args.routed.now (c.as_bytes.ensures.value ∙ c.format.ensures.text ∙ ap decimal c.number.ensures.value) in
-    subst (λ (bs : List ℕ). OnErr c.write_routed.result (AppendsFront (g.W.Write.contents c.args.writer.now) (g.W.Write.contents c.write_routed.new.writer) bs)) text
-    (second-failed c.write_routed.result _ _ _ _ _ c.in_ok-write_pieces.ensures.all c.write_routed.ensures.front)
+pub returns : goal.returns
+returns g c = record {
+  all = let text = checked-in c.as_bytes.result.now c.args.fine c.args.routed.now (c.as_bytes.ensures.value ∙ c.format.ensures.text ∙ ap decimal c.number.ensures.value) in
+      subst (λ (bs : List ℕ). OnOk c.write_routed.result (Appends (g.W.Write.contents c.args.writer.now) (g.W.Write.contents c.write_routed.new.writer) bs)) text
+      (second-out c.write_routed.result _ _ _ _ _ c.in_ok-write_pieces.ensures.all c.write_routed.ensures.all);
+  front = let text = checked-in c.as_bytes.result.now c.args.fine c.args.routed.now (c.as_bytes.ensures.value ∙ c.format.ensures.text ∙ ap decimal c.number.ensures.value) in
+      subst (λ (bs : List ℕ). OnErr c.write_routed.result (AppendsFront (g.W.Write.contents c.args.writer.now) (g.W.Write.contents c.write_routed.new.writer) bs)) text
+      (second-failed c.write_routed.result _ _ _ _ _ c.in_ok-write_pieces.ensures.all c.write_routed.ensures.front);
+}

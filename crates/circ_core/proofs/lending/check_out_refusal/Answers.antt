@@ -1,7 +1,8 @@
+use Rattle.terms.specs.declared.limits.TheConstants.{LAST_NUMBER}
 use Rattle.std.proofs.Common.{◌≡◌, Bool, List, [], ◌∷◌, ap, ◌∙◌, rules}
 use Rattle.std.specs.Prelude.{◌==◌, not, nat_le, nat_lt, is_none, is_some}
 use Rattle.terms.specs.declared.refusal.Refusal.TheVariants.{UnknownBranch, UnknownPatron, UnknownCopy, CopyWithdrawn, CopyMissing, OnLoan, InTransit, Elsewhere, OnHoldShelf, HoldWaits, AlreadyHolds, NoRule, TooManyLoans, OwesTooMuch, NumbersUsedUp}
-use Rattle.model.specs.Checks.{Check, first_failing, last_number}
+use Rattle.model.specs.Checks.{Check, first_failing}
 use Rattle.circ_core.specs.Lending.{is_missing, is_withdrawn, stands_at, is_of_other, filled_hold, is_wanted, has_more, loans_allowed, debt_allowed, owed_by}
 use Rattle.circ_core.proofs.lending.check_out_refusal.Goals as goal
 
@@ -22,5 +23,5 @@ returns c =
     let b = c.args.branch in
     c.first_refusal.ensures
     ∙ same_table c.is_none.result c.is_none-2.result c.is_none-3.result c.is_gone.result c.is_lost.result c.is_some.result c.is_some-2.result (not c.is_at.result) c.is_anothers.result c.is_for_another.result c.holds_more.result c.is_none-4.result c.has_all_loans.result c.owes_too_much.result c.is_used_up.result
-    (is_none v.calendar) (is_none v.patron) (is_none v.at.copy) (is_withdrawn v.at.copy) (is_missing v.at.copy) (is_some v.at.loan) (is_some v.at.transit) (not (stands_at v.at.hold v.at.copy == b)) (is_of_other v.at.hold p) (is_wanted v.at.hold v.first p) (has_more (filled_hold v.at.hold v.first) v.own_holds) (is_none v.rule) (nat_le (loans_allowed v.kind) v.open_loans) (nat_lt (debt_allowed v.kind) (owed_by v.patron)) (nat_lt last_number v.meta.next_loan)
+    (is_none v.calendar) (is_none v.patron) (is_none v.at.copy) (is_withdrawn v.at.copy) (is_missing v.at.copy) (is_some v.at.loan) (is_some v.at.transit) (not (stands_at v.at.hold v.at.copy == b)) (is_of_other v.at.hold p) (is_wanted v.at.hold v.first p) (has_more (filled_hold v.at.hold v.first) v.own_holds) (is_none v.rule) (nat_le (loans_allowed v.kind) v.open_loans) (nat_lt (debt_allowed v.kind) (owed_by v.patron)) (nat_lt LAST_NUMBER v.meta.next_loan)
     (search rules) (search rules) (search rules) (search rules) (search rules) (search rules) (search rules) (search rules) (search rules) (search rules) (search rules) (search rules) (search rules) (search rules) (search rules)

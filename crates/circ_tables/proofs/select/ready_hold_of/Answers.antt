@@ -1,51 +1,13 @@
-use Rattle.std.proofs.Common.{◌∷◌, [], Some, None, subst, rules}
-use Rattle.sqlite.specs.Held.{state}
-use Rattle.sqlite.specs.Order.{Row}
 use Rattle.sql_maps.specs.Maps.{First}
-use Rattle.sql_maps.proofs.ReadLemmas.{commits_nothing}
-use Rattle.circ_tables.specs.Shape.{holds_place}
+use Rattle.circ_tables.specs.Reading.{holds}
 use Rattle.circ_tables.specs.Selections.{names_copy}
+use Rattle.circ_tables.specs.Shape.{holds_place}
 use Rattle.circ_tables.proofs.FoundLemmas.{ready_hold_found, ready_hold_plain}
+use Rattle.circ_tables.proofs.ReadingLemmas.{selects_of}
+use Rattle.circ_tables.proofs.TableLemmas.{holds_within}
 use Rattle.circ_tables.proofs.select.ready_hold_of.Goals as goal
 
-pub returns-in_err-row-clause-survives : goal.returns-in_err-row-clause-survives
-returns-in_err-row-clause-survives g c has = commits_nothing _ _ (state g.S.Store c.args.conn.now) (state g.S.Store c.first_row.new.conn) (ready_hold_plain c.args.conn.now.schema has) c.first_row.ensures.survives
-
-pub returns-in_err-hold_row-in-Some-clause-survives : goal.returns-in_err-hold_row-in-Some-clause-survives
-returns-in_err-hold_row-in-Some-clause-survives g c has = commits_nothing _ _ (state g.S.Store c.args.conn.now) (state g.S.Store c.first_row.new.conn) (ready_hold_plain c.args.conn.now.schema has) c.first_row.ensures.survives
-
-pub returns-in-Some-clause-survives : goal.returns-in-Some-clause-survives
-returns-in-Some-clause-survives g c has = commits_nothing _ _ (state g.S.Store c.args.conn.now) (state g.S.Store c.first_row.new.conn) (ready_hold_plain c.args.conn.now.schema has) c.first_row.ensures.survives
-
-pub returns-clause-survives : goal.returns-clause-survives
-returns-clause-survives g c has = commits_nothing _ _ (state g.S.Store c.args.conn.now) (state g.S.Store c.first_row.new.conn) (ready_hold_plain c.args.conn.now.schema has) c.first_row.ensures.survives
-
-pub returns-in-Some-clause-first : goal.returns-in-Some-clause-first
-returns-in-Some-clause-first g c clean maps holds =
-    let found = rw (c.in-Some.is, c.params-to_sql.ensures, c.number.ensures.value) at (c.in_ok-row.ensures.finds clean) in
-    let got = ready_hold_found c.args.copy (state g.S.Store c.args.conn.now) (state g.S.Store c.first_row.new.conn) (Some c.in-Some.row) found maps holds in
-    (subst (λ (v : Row). First (maps holds_place) (names_copy c.args.copy) (v ∷ [])) c.in_ok-hold_row-in-Some.ensures.cells got.0, got.1)
-
-pub returns-clause-first : goal.returns-clause-first
-returns-clause-first g c clean maps holds =
-    let found = rw (c.in-None.is, c.params-to_sql.ensures, c.number.ensures.value) at (c.in_ok-row.ensures.finds clean) in
-    ready_hold_found c.args.copy (state g.S.Store c.args.conn.now) (state g.S.Store c.first_row.new.conn) None found maps holds
-
-pub returns-in_err-hold_row-in-Some-clause-stored : goal.returns-in_err-hold_row-in-Some-clause-stored
-returns-in_err-hold_row-in-Some-clause-stored g c clean is maps holds all =
-    let found = rw (c.in-Some.is, c.params-to_sql.ensures, c.number.ensures.value) at (c.in_ok-row.ensures.finds clean) in
-    let got = ready_hold_found c.args.copy (state g.S.Store c.args.conn.now) (state g.S.Store c.first_row.new.conn) (Some c.in-Some.row) found maps holds in
-    let row = all got.0.0.0 c.in-Some.row got.0.0.1 in
-    c.in_err-hold_row-in-Some.ensures.stored (search rules) row.0 row.1 row.2
-
-pub returns-in_err-row-clause-leaves : goal.returns-in_err-row-clause-leaves
-returns-in_err-row-clause-leaves g c clean has = c.first_row.ensures.leaves clean (ready_hold_plain c.args.conn.now.schema has)
-
-pub returns-in_err-hold_row-in-Some-clause-leaves : goal.returns-in_err-hold_row-in-Some-clause-leaves
-returns-in_err-hold_row-in-Some-clause-leaves g c clean has = c.first_row.ensures.leaves clean (ready_hold_plain c.args.conn.now.schema has)
-
-pub returns-in-Some-clause-leaves : goal.returns-in-Some-clause-leaves
-returns-in-Some-clause-leaves g c clean has = c.first_row.ensures.leaves clean (ready_hold_plain c.args.conn.now.schema has)
-
-pub returns-clause-leaves : goal.returns-clause-leaves
-returns-clause-leaves g c clean has = c.first_row.ensures.leaves clean (ready_hold_plain c.args.conn.now.schema has)
+pub returns : goal.returns
+returns g c =
+    selects_of holds _ ready_hold_plain _ (λ maps. First (maps holds_place) (names_copy c.args.copy)) (ready_hold_found c.args.copy) (λ maps v found. found.0)
+    holds_within _ _ _ _ (rw (c.params-to_sql.ensures, c.number.ensures.value) at c.row_of.ensures)

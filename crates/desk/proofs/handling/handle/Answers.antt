@@ -1,5 +1,5 @@
-use Rattle.std.proofs.Common.{◌≡◌, [], ◌∷◌, true, false, sym, ◌∙◌, ap, subst}
-use Rattle.sqlite.specs.Held.{state}
+use Rattle.std.proofs.Common.{rules, ◌≡◌, [], ◌∷◌, true, false, sym, ◌∙◌, ap, subst}
+use Rattle.store.specs.Library.{state}
 use Rattle.store.specs.Stops.{KeepsPicture}
 use Rattle.terms.specs.Callers.{owner_of}
 use Rattle.model.specs.History.{History}
@@ -13,65 +13,65 @@ use Rattle.desk.proofs.Looking.{if-ok-is, if-ok-given, on-err, on-err-given, on-
 use Rattle.desk.proofs.Owning.{known-owner}
 use Rattle.desk.proofs.handling.handle.Goals as goal
 
-pub returns-clause-replied : goal.returns-clause-replied
-returns-clause-replied g c = λ disk. if-ok-is _ c.respond.result (λ reply is H shows.
-    let r = c.args.request.now in
-    let first = c.respond.ensures.clean disk in
-    let known : is_known H r.caller ≡ true = sym (c.in_ok-is_known.ensures.known first H shows) ∙ c.if-not-branch.false in
-    let may : may_send (owner_of r.caller) r.command ≡ true = rw c.owner.ensures at (sym c.may_send.ensures ∙ c.if-not-may_send.false) in
-    let allowed : is_allowed H r.caller r.command ≡ true = allowed-both H r.caller r.command known may in
-    let page : is_page r.command ≡ false = not-page r.command c.in_default.not-Page in
-    let mid = c.in_ok-is_known.ensures.looks.stays first H shows in
-    let done = if-ok-given _ c.respond.result (c.respond.ensures.answered disk) reply is (known-owner H shows.legal shows.forms r.caller known) H mid may in (
-      done.0 ∙ sym (reply-key H r allowed page),
-      record {
-        legal = after_one-legal H r shows.legal;
-        forms = after-forms (r ∷ []) H shows.forms (c.has_forms.ensures.0, c.has_forms.ensures.1, tt);
-        tables = subst (λ (K : History). KeepsPicture (state g.S.Store c.respond.new.store) (picture K)) (sym (after-key H r allowed page)) done.1;
-      },
-    ))
-
-pub returns-clause-left : goal.returns-clause-left
-returns-clause-left g c = λ disk H shows.
-    let r = c.args.request.now in
-    let first = c.respond.ensures.clean disk in
-    let known : is_known H r.caller ≡ true = sym (c.in_ok-is_known.ensures.known first H shows) ∙ c.if-not-branch.false in
-    let may : may_send (owner_of r.caller) r.command ≡ true = rw c.owner.ensures at (sym c.may_send.ensures ∙ c.if-not-may_send.false) in
-    let allowed : is_allowed H r.caller r.command ≡ true = allowed-both H r.caller r.command known may in
-    let page : is_page r.command ≡ false = not-page r.command c.in_default.not-Page in
-    let mid = c.in_ok-is_known.ensures.looks.stays first H shows in
-    subst (λ (K : History). LeavesOneOf (state g.S.Store c.respond.new.store) H K) (sym (after-key H r allowed page))
-    (c.respond.ensures.left disk (known-owner H shows.legal shows.forms r.caller known) H mid may)
-
-pub returns-clause-undone : goal.returns-clause-undone
-returns-clause-undone g c = λ disk is_open. on-err-given {P = Stays (state g.S.Store c.is_known.new.store) (state g.S.Store c.respond.new.store)} c.respond.result
-    (c.respond.ensures.undone disk is_open)
-    (λ stays H shows.
-    let first = c.respond.ensures.clean disk in
-    let known : is_known H c.args.request.now.caller ≡ true = sym (c.in_ok-is_known.ensures.known first H shows) ∙ c.if-not-branch.false in
-    stays (known-owner H shows.legal shows.forms c.args.request.now.caller known) H (c.in_ok-is_known.ensures.looks.stays first H shows))
-
 pub respond-requires : goal.respond-requires
 respond-requires g c = not-page c.args.request.now.command c.in_default.not-Page
 
-pub returns-in-Page-clause-replied : goal.returns-in-Page-clause-replied
-returns-in-Page-clause-replied g c = λ disk. if-ok-is _ c.show.result (λ reply is H shows.
-    let r = c.args.request.now in
-    let first = c.show.ensures.looks.clean disk in
-    let known : is_known H r.caller ≡ true = sym (c.in_ok-is_known.ensures.known first H shows) ∙ c.if-not-branch.false in
-    let may : may_send (owner_of r.caller) r.command ≡ true = rw c.owner.ensures at (sym c.may_send.ensures ∙ c.if-not-may_send.false) in
-    let allowed : is_allowed H r.caller r.command ≡ true = allowed-both H r.caller r.command known may in
-    let page : is_page r.command ≡ true = ap is_page c.in-Page.is in
-    let mid = c.in_ok-is_known.ensures.looks.stays first H shows in
-    let last = on-ok-is c.show.result reply is (c.show.ensures.looks.stays disk) H mid in
-    let shown = if-ok-given {G = Unit {0}} _ c.show.result (λ _. c.show.ensures.shown disk) reply is tt H mid (owner_of r.caller) in
-    (shown ∙ sym (reply-page H r allowed page ∙ ap (answer H (owner_of r.caller)) c.in-Page.is), subst (λ (K : History). Shows (state g.S.Store c.show.new.store) K) (sym (after-page H r allowed page)) last))
+pub returns-clause-handled : goal.returns-clause-handled
+returns-clause-handled g c = record {
+  foreign = search rules;
+  clean = search rules;
+  replied = λ disk. if-ok-is _ c.respond.result (λ reply is H shows.
+      let r = c.args.request.now in
+      let first = c.respond.ensures.answered.clean disk in
+      let known : is_known H r.caller ≡ true = sym (c.in_ok-is_known.ensures.shown first H shows) ∙ c.if-not-branch.false in
+      let may : may_send (owner_of r.caller) r.command ≡ true = rw c.owner.ensures at (sym c.may_send.ensures ∙ c.if-not-may_send.false) in
+      let allowed : is_allowed H r.caller r.command ≡ true = allowed-both H r.caller r.command known may in
+      let page : is_page r.command ≡ false = not-page r.command c.in_default.not-Page in
+      let mid = c.in_ok-is_known.ensures.looks.stays first H shows in
+      let done = if-ok-given _ c.respond.result (c.respond.ensures.answered.replied disk) reply is (known-owner H shows.legal shows.forms r.caller known) H mid may in (
+        done.0 ∙ sym (reply-key H r allowed page),
+        record {
+          legal = after_one-legal H r shows.legal;
+          forms = after-forms (r ∷ []) H shows.forms (c.has_forms.ensures.0, c.has_forms.ensures.1, tt);
+          tables = subst (λ (K : History). KeepsPicture (state g.S.Store c.respond.new.store) (picture K)) (sym (after-key H r allowed page)) done.1;
+        },
+      ));
+  undone = λ disk is_open. on-err-given {P = Stays (state g.S.Store c.is_known.new.store) (state g.S.Store c.respond.new.store)} c.respond.result
+      (λ owner. c.respond.ensures.undone owner disk is_open)
+      (λ stays H shows.
+      let first = c.respond.ensures.answered.clean disk in
+      let known : is_known H c.args.request.now.caller ≡ true = sym (c.in_ok-is_known.ensures.shown first H shows) ∙ c.if-not-branch.false in
+      stays (known-owner H shows.legal shows.forms c.args.request.now.caller known) H (c.in_ok-is_known.ensures.looks.stays first H shows));
+  left = λ disk H shows.
+      let r = c.args.request.now in
+      let first = c.respond.ensures.answered.clean disk in
+      let known : is_known H r.caller ≡ true = sym (c.in_ok-is_known.ensures.shown first H shows) ∙ c.if-not-branch.false in
+      let may : may_send (owner_of r.caller) r.command ≡ true = rw c.owner.ensures at (sym c.may_send.ensures ∙ c.if-not-may_send.false) in
+      let allowed : is_allowed H r.caller r.command ≡ true = allowed-both H r.caller r.command known may in
+      let page : is_page r.command ≡ false = not-page r.command c.in_default.not-Page in
+      let mid = c.in_ok-is_known.ensures.looks.stays first H shows in
+      subst (λ (K : History). LeavesOneOf (state g.S.Store c.respond.new.store) H K) (sym (after-key H r allowed page))
+      (c.respond.ensures.answered.left disk (known-owner H shows.legal shows.forms r.caller known) H mid may);
+}
 
-pub returns-in-Page-clause-undone : goal.returns-in-Page-clause-undone
-returns-in-Page-clause-undone g c = λ disk is_open. on-err c.show.result
-    (λ stays H shows. stays H (c.in_ok-is_known.ensures.looks.stays (c.show.ensures.looks.clean disk) H shows))
-    (c.show.ensures.looks.undone disk is_open)
-
-pub returns-in-Page-clause-left : goal.returns-in-Page-clause-left
-returns-in-Page-clause-left g c = λ disk H shows.
-    leaves-first (state g.S.Store c.show.new.store) (picture H) _ (c.show.ensures.looks.left disk H (c.in_ok-is_known.ensures.looks.stays (c.show.ensures.looks.clean disk) H shows))
+pub returns-in-Page-clause-handled : goal.returns-in-Page-clause-handled
+returns-in-Page-clause-handled g c = record {
+  foreign = search rules;
+  clean = search rules;
+  replied = λ disk. if-ok-is _ c.show.result (λ reply is H shows.
+      let r = c.args.request.now in
+      let first = c.show.ensures.looks.clean disk in
+      let known : is_known H r.caller ≡ true = sym (c.in_ok-is_known.ensures.shown first H shows) ∙ c.if-not-branch.false in
+      let may : may_send (owner_of r.caller) r.command ≡ true = rw c.owner.ensures at (sym c.may_send.ensures ∙ c.if-not-may_send.false) in
+      let allowed : is_allowed H r.caller r.command ≡ true = allowed-both H r.caller r.command known may in
+      let page : is_page r.command ≡ true = ap is_page c.in-Page.is in
+      let mid = c.in_ok-is_known.ensures.looks.stays first H shows in
+      let last = on-ok-is c.show.result reply is (c.show.ensures.looks.stays disk) H mid in
+      let shown = if-ok-given {G = Unit {0}} _ c.show.result (λ _. c.show.ensures.shown disk) reply is tt H mid (owner_of r.caller) in
+      (shown ∙ sym (reply-page H r allowed page ∙ ap (answer H (owner_of r.caller)) c.in-Page.is), subst (λ (K : History). Shows (state g.S.Store c.show.new.store) K) (sym (after-page H r allowed page)) last));
+  undone = λ disk is_open. on-err c.show.result
+      (λ stays H shows. stays H (c.in_ok-is_known.ensures.looks.stays (c.show.ensures.looks.clean disk) H shows))
+      (c.show.ensures.looks.undone disk is_open);
+  left = λ disk H shows.
+      leaves-first (state g.S.Store c.show.new.store) (picture H) _ (c.show.ensures.looks.left disk H (c.in_ok-is_known.ensures.looks.stays (c.show.ensures.looks.clean disk) H shows));
+}

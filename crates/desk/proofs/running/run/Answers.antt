@@ -1,30 +1,54 @@
-use Rattle.std.proofs.Common.{◌≡◌, ℕ, ◌<◌, ◌+◌, List, [], ◌∷◌, ◌++◌, length, take, sym, ◌∙◌, ap, subst, arith}
-use Rattle.std.proofs.lemmas.List.{take_more}
+use Rattle.std.proofs.Common.{rules, ◌≡◌, ℕ, ◌<◌, ◌+◌, List, [], ◌∷◌, ◌++◌, length, take, sym, ◌∙◌, ap, subst, arith}
+use Rattle.std.proofs.lemmas.List.{take_all, take_more}
 use Rattle.std.specs.Prelude.{is_ok, true}
-use Rattle.sqlite.specs.Held.{state}
+use Rattle.store.specs.Library.{state}
 use Rattle.terms.specs.declared.command.Request.{Request}
 use Rattle.terms.specs.declared.reply.Reply.{Reply}
 use Rattle.model.specs.History.{History}
 use Rattle.model.specs.Requests.{after, replies, after_one}
+use Rattle.model.specs.Picture.{picture}
 use Rattle.desk.specs.Answering.{Shows, LeavesOneOf}
 use Rattle.desk.proofs.Afterwards.{after-last, replies-last}
+use Rattle.desk.proofs.Shown.{headline}
 use Rattle.desk.proofs.running.run.Goals as goal
 
-pub returns-in-Err-clause-stopped : goal.returns-in-Err-clause-stopped
-returns-in-Err-clause-stopped g c = λ disk H shows.
+pub returns-in-Err : goal.returns-in-Err
+returns-in-Err g c = record {
+  many = search rules;
+  few = search rules;
+  clean = search rules;
+  ran = search rules;
+  headline = search rules;
+  stopped = λ disk H shows.
+      let xs : List Request = c.args.requests.now in
+      let i : ℕ = c.requests.request-index in
+      let r : Request = c.request-item.result in
+      let within : i < length xs = omega (arith, c.requests-test.true) in
+      let more : take (i + 1) xs ≡ take i xs ++ r ∷ [] = take_more xs i r within ∙ ap (λ x. take i xs ++ x ∷ []) (sym c.request-item.is) in
+      let next : after H (take (i + 1) xs) ≡ after_one (after H (take i xs)) r = ap (after H) more ∙ after-last (take i xs) H r in
+      let before = c.requests.invariant.so_far (c.handle.ensures.handled.clean disk) H shows in (
+        i,
+        omega (arith, within),
+        before.0,
+        λ is_open. c.in-Err.ensures.handled.undone disk is_open (after H (take i xs)) before.1,
+        subst (λ (K : History). LeavesOneOf (state g.S.Store c.handle.new.store) (after H (take i xs)) K) (sym next) (c.handle.ensures.handled.left disk (after H (take i xs)) before.1),
+      );
+}
+
+pub returns : goal.returns
+returns g c =
     let xs : List Request = c.args.requests.now in
-    let i : ℕ = c.requests.request-index in
-    let r : Request = c.request-item.result in
-    let within : i < length xs = omega (arith, c.requests-test.true) in
-    let more : take (i + 1) xs ≡ take i xs ++ r ∷ [] = take_more xs i r within ∙ ap (λ x. take i xs ++ x ∷ []) (sym c.request-item.is) in
-    let next : after H (take (i + 1) xs) ≡ after_one (after H (take i xs)) r = ap (after H) more ∙ after-last (take i xs) H r in
-    let before = c.requests.invariant.so_far (c.handle.ensures.clean disk) H shows in (
-      i,
-      omega (arith, within),
-      before.0,
-      λ is_open. c.in-Err.ensures.undone disk is_open (after H (take i xs)) before.1,
-      subst (λ (K : History). LeavesOneOf (state g.S.Store c.handle.new.store) (after H (take i xs)) K) (sym next) (c.handle.ensures.left disk (after H (take i xs)) before.1),
-    )
+    let whole : take c.requests.request-index xs ≡ xs = take_all c.requests.request-index xs c.requests-test.false in
+    record {
+      many = search rules;
+      few = search rules;
+      clean = search rules;
+      ran = λ disk H shows. rw whole at (c.requests.invariant.so_far disk H shows);
+      headline = λ disk H shows.
+          let done = rw whole at (c.requests.invariant.so_far disk H shows) in
+          (picture (after H xs), done.1.tables.now, headline (after H xs) done.1.legal done.1.forms);
+      stopped = search rules;
+    }
 
 pub requests-preserved : goal.requests-preserved
 requests-preserved g c = record {
@@ -33,7 +57,7 @@ requests-preserved g c = record {
       let pushed : is_ok c.push.result ≡ true = sym c.is_ok-pushed.ensures.value ∙ c.if-prove.false in
       let len = rw pushed at c.push.ensures.len in
       len ∙ ap (λ n. n + 1) c.requests.invariant.count;
-  clean = λ disk. c.requests.invariant.clean (c.handle.ensures.clean disk);
+  clean = λ disk. c.requests.invariant.clean (c.handle.ensures.handled.clean disk);
   so_far = λ disk H shows.
       let xs : List Request = c.args.requests.now in
       let i : ℕ = c.requests.request-index in
@@ -41,8 +65,8 @@ requests-preserved g c = record {
       let within : i < length xs = omega (arith, c.requests-test.true) in
       let more : take (i + 1) xs ≡ take i xs ++ r ∷ [] = take_more xs i r within ∙ ap (λ x. take i xs ++ x ∷ []) (sym c.request-item.is) in
       let next : after H (take (i + 1) xs) ≡ after_one (after H (take i xs)) r = ap (after H) more ∙ after-last (take i xs) H r in
-      let before = c.requests.invariant.so_far (c.handle.ensures.clean disk) H shows in
-      let done = c.in-Ok-handle.ensures.replied disk (after H (take i xs)) before.1 in
+      let before = c.requests.invariant.so_far (c.handle.ensures.handled.clean disk) H shows in
+      let done = c.in-Ok-handle.ensures.handled.replied disk (after H (take i xs)) before.1 in
       let pushed : is_ok c.push.result ≡ true = sym c.is_ok-pushed.ensures.value ∙ c.if-prove.false in
       let items = rw pushed at c.push.ensures.items in (
         items ∙ ap (λ (t : List Reply). t ++ c.in-Ok-handle.reply ∷ []) before.0 ∙ ap (λ (y : Reply). replies H (take i xs) ++ y ∷ []) done.0

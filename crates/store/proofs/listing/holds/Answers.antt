@@ -1,36 +1,14 @@
-use Rattle.sqlite.specs.Held.{state}
-use Rattle.store.specs.Reads.{Reading, ended}
-use Rattle.std.proofs.Common.{subst}
-use Rattle.store.proofs.ReadLemmas.{read_ended, ended_err}
-use Rattle.store.proofs.StopLemmas.{if_ok}
-use Rattle.std.proofs.Common.{List, refl, sym}
+use Rattle.std.proofs.Common.{List, refl, sym, subst}
 use Rattle.terms.specs.declared.row.HoldRow.{HoldRow}
-use Rattle.terms.specs.Limits.{IsHold}
-use Rattle.circ_tables.specs.Cells.{hold_cells}
-use Rattle.circ_tables.specs.Shape.{holds_place}
+use Rattle.circ_tables.specs.Reading.{holds}
 use Rattle.circ_tables.proofs.InverseLemmas.{hold_told}
 use Rattle.store.specs.Lists.{AreRows, AllPass}
-use Rattle.store.proofs.ListLemmas.{all_rows}
+use Rattle.store.proofs.ListLemmas.{table_seen}
+use Rattle.store.proofs.ViewLemmas.{fails, gives}
 use Rattle.store.proofs.listing.holds.Goals as goal
 
-pub returns-in_err-found-clause-read : goal.returns-in_err-found-clause-read
-returns-in_err-found-clause-read g c =
-    let old = state g.S.Store c.args.conn.now in
-    let new = state g.S.Store c.all_holds.new.conn in
-    let is = c.all_holds.ensures in
-    let one = read_ended c.all_holds.result old new is.clean is.mode is.leaves is.survives (λ h. if_ok c.all_holds.result (λ rows got maps holds. (got maps holds).1) (is.lists h)) in
-    ended_err c.from_residual.result old new c.from_residual.ensures.0 (subst (λ r. Reading (ended r) old new) c.in_err-found.was one)
+pub returns-in_err-found : goal.returns-in_err-found
+returns-in_err-found g c = fails _ _ c.from_residual.ensures (table_seen holds (λ r. r.hold) hold_told (λ r. refl) (λ maps P is. is.holds) (λ P legal. legal.holds) c.in_err-found.ensures)
 
-pub returns-clause-read : goal.returns-clause-read
-returns-clause-read g c =
-    let old = state g.S.Store c.args.conn.now in
-    let new = state g.S.Store c.all_holds.new.conn in
-    let is = c.all_holds.ensures in
-    let one = read_ended c.all_holds.result old new is.clean is.mode is.leaves is.survives (λ h. if_ok c.all_holds.result (λ rows got maps holds. (got maps holds).1) (is.lists h)) in
-    subst (λ r. Reading (ended r) old new) c.in_ok-found.was one
-
-pub returns-clause-shown : goal.returns-clause-shown
-returns-clause-shown g c clean P shown legal =
-    let found = c.in_ok-found.ensures.lists clean shown.maps shown.holds in
-    subst (λ (l : List HoldRow). AreRows P.holds (λ r. r.hold) AllPass l) (sym c.new.ensures)
-    (all_rows hold_cells IsHold (λ r. r.hold) hold_told (λ r. refl) (shown.maps holds_place) P.holds shown.encodes.holds legal.holds c.in_ok-found.found.items c.in_ok-found.ensures.limits found.0)
+pub returns : goal.returns
+returns g c = gives (table_seen holds (λ r. r.hold) hold_told (λ r. refl) (λ maps P is. is.holds) (λ P legal. legal.holds) c.in_ok-found.ensures) (λ P rows. subst (λ (l : List HoldRow). AreRows P.holds (λ r. r.hold) AllPass l) (sym c.new.ensures) rows)

@@ -1,31 +1,12 @@
-use Rattle.sqlite.specs.Held.{state}
-use Rattle.store.specs.Reads.{Reading, ended}
-use Rattle.std.proofs.Common.{subst}
-use Rattle.store.proofs.ReadLemmas.{read_ended, ended_err}
-use Rattle.store.proofs.StopLemmas.{if_ok}
-use Rattle.std.proofs.Common.{List, sym}
+use Rattle.std.proofs.Common.{List, sym, subst}
 use Rattle.terms.specs.declared.row.RuleRow.{RuleRow}
 use Rattle.store.specs.Lists.{AreRules}
 use Rattle.store.proofs.ListLemmas.{rules_are}
+use Rattle.store.proofs.ViewLemmas.{rows_seen, fails, gives}
 use Rattle.store.proofs.listing.rules.Goals as goal
 
-pub returns-in_err-found-clause-read : goal.returns-in_err-found-clause-read
-returns-in_err-found-clause-read g c =
-    let old = state g.S.Store c.args.conn.now in
-    let new = state g.S.Store c.all_rules.new.conn in
-    let is = c.all_rules.ensures in
-    let one = read_ended c.all_rules.result old new is.clean is.mode is.leaves is.survives (λ h. if_ok c.all_rules.result (λ rows got maps holds. (got maps holds).1) (is.lists h)) in
-    ended_err c.from_residual.result old new c.from_residual.ensures.0 (subst (λ r. Reading (ended r) old new) c.in_err-found.was one)
+pub returns-in_err-found : goal.returns-in_err-found
+returns-in_err-found g c = fails _ _ c.from_residual.ensures (rows_seen (λ P rows. AreRules P rows) rules_are c.in_err-found.ensures)
 
-pub returns-clause-read : goal.returns-clause-read
-returns-clause-read g c =
-    let old = state g.S.Store c.args.conn.now in
-    let new = state g.S.Store c.all_rules.new.conn in
-    let is = c.all_rules.ensures in
-    let one = read_ended c.all_rules.result old new is.clean is.mode is.leaves is.survives (λ h. if_ok c.all_rules.result (λ rows got maps holds. (got maps holds).1) (is.lists h)) in
-    subst (λ r. Reading (ended r) old new) c.in_ok-found.was one
-
-pub returns-clause-shown : goal.returns-clause-shown
-returns-clause-shown g c clean P shown legal =
-    let found = c.in_ok-found.ensures.lists clean shown.maps shown.holds in
-    subst (λ (l : List RuleRow). AreRules P l) (sym c.new.ensures) (rules_are shown.maps P shown.encodes legal c.in_ok-found.found.items c.in_ok-found.ensures.limits found.0)
+pub returns : goal.returns
+returns g c = gives (rows_seen (λ P rows. AreRules P rows) rules_are c.in_ok-found.ensures) (λ P rows. subst (λ (l : List RuleRow). AreRules P l) (sym c.new.ensures) rows)

@@ -1,144 +1,31 @@
-use Rattle.std.proofs.Common.{Some, None}
-use Rattle.sqlite.specs.Held.{state}
-use Rattle.store.proofs.ReadLemmas.{read_err, read_then, picture_then}
+use Rattle.store.proofs.ViewLemmas.{◌⨾◌, fails, gives, open_loans_seen}
 use Rattle.store.proofs.viewing.check_out_view.Goals as goal
 
-pub returns-in_err-calendar-clause-read : goal.returns-in_err-calendar-clause-read
-returns-in_err-calendar-clause-read g c =
-    let s0 = state g.S.Store c.args.conn.now in
-    let s1 = state g.S.Store c.meta_row.new.conn in
-    let s2 = state g.S.Store c.calendar_of.new.conn in
-    read_err c.from_residual-in_err-calendar.result c.in_err-calendar.field-0.0 s0 s2 c.from_residual-in_err-calendar.ensures (read_then {fault = Some c.in_err-calendar.field-0.0} s0 s1 s2 c.in_ok-meta.ensures.read c.in_err-calendar.ensures.read)
+pub returns-in_err-calendar : goal.returns-in_err-calendar
+returns-in_err-calendar g c = fails _ _ c.from_residual-in_err-calendar.ensures (c.in_ok-meta.ensures.view ⨾ c.in_err-calendar.ensures)
 
-pub returns-in_err-patron-clause-read : goal.returns-in_err-patron-clause-read
-returns-in_err-patron-clause-read g c =
-    let s0 = state g.S.Store c.args.conn.now in
-    let s1 = state g.S.Store c.meta_row.new.conn in
-    let s2 = state g.S.Store c.calendar_of.new.conn in
-    let s3 = state g.S.Store c.patron_row.new.conn in
-    read_err c.from_residual-in_err-patron.result c.in_err-patron.field-0.0 s0 s3 c.from_residual-in_err-patron.ensures (read_then {fault = Some c.in_err-patron.field-0.0} s0 s1 s3 c.in_ok-meta.ensures.read (read_then {fault = Some c.in_err-patron.field-0.0} s1 s2 s3 c.in_ok-calendar.ensures.read c.in_err-patron.ensures.read))
+pub returns-in_err-patron : goal.returns-in_err-patron
+returns-in_err-patron g c = fails _ _ c.from_residual-in_err-patron.ensures (c.in_ok-meta.ensures.view ⨾ c.in_ok-calendar.ensures ⨾ c.in_err-patron.ensures.view)
 
-pub returns-in_err-kind-clause-read : goal.returns-in_err-kind-clause-read
-returns-in_err-kind-clause-read g c =
-    let s0 = state g.S.Store c.args.conn.now in
-    let s1 = state g.S.Store c.meta_row.new.conn in
-    let s2 = state g.S.Store c.calendar_of.new.conn in
-    let s3 = state g.S.Store c.patron_row.new.conn in
-    let s4 = state g.S.Store c.kind_of.new.conn in
-    read_err c.from_residual-in_err-kind.result c.in_err-kind.field-0.0 s0 s4 c.from_residual-in_err-kind.ensures (read_then {fault = Some c.in_err-kind.field-0.0} s0 s1 s4 c.in_ok-meta.ensures.read (read_then {fault = Some c.in_err-kind.field-0.0} s1 s2 s4 c.in_ok-calendar.ensures.read (read_then {fault = Some c.in_err-kind.field-0.0} s2 s3 s4 c.in_ok-patron.ensures.read c.in_err-kind.ensures.read)))
+pub returns-in_err-kind : goal.returns-in_err-kind
+returns-in_err-kind g c = fails _ _ c.from_residual-in_err-kind.ensures (c.in_ok-meta.ensures.view ⨾ c.in_ok-calendar.ensures ⨾ c.in_ok-patron.ensures.view ⨾ c.in_err-kind.ensures)
 
-pub returns-in_err-at-clause-read : goal.returns-in_err-at-clause-read
-returns-in_err-at-clause-read g c =
-    let s0 = state g.S.Store c.args.conn.now in
-    let s1 = state g.S.Store c.meta_row.new.conn in
-    let s2 = state g.S.Store c.calendar_of.new.conn in
-    let s3 = state g.S.Store c.patron_row.new.conn in
-    let s4 = state g.S.Store c.kind_of.new.conn in
-    let s5 = state g.S.Store c.copy_view.new.conn in
-    read_err c.from_residual-in_err-at.result c.in_err-at.field-0.0 s0 s5 c.from_residual-in_err-at.ensures (read_then {fault = Some c.in_err-at.field-0.0} s0 s1 s5 c.in_ok-meta.ensures.read (read_then {fault = Some c.in_err-at.field-0.0} s1 s2 s5 c.in_ok-calendar.ensures.read (read_then {fault = Some c.in_err-at.field-0.0} s2 s3 s5 c.in_ok-patron.ensures.read (read_then {fault = Some c.in_err-at.field-0.0} s3 s4 s5 c.in_ok-kind.ensures.read c.in_err-at.ensures.read))))
+pub returns-in_err-at : goal.returns-in_err-at
+returns-in_err-at g c = fails _ _ c.from_residual-in_err-at.ensures (c.in_ok-meta.ensures.view ⨾ c.in_ok-calendar.ensures ⨾ c.in_ok-patron.ensures.view ⨾ c.in_ok-kind.ensures ⨾ c.in_err-at.ensures)
 
-pub returns-in_err-rule-clause-read : goal.returns-in_err-rule-clause-read
-returns-in_err-rule-clause-read g c =
-    let s0 = state g.S.Store c.args.conn.now in
-    let s1 = state g.S.Store c.meta_row.new.conn in
-    let s2 = state g.S.Store c.calendar_of.new.conn in
-    let s3 = state g.S.Store c.patron_row.new.conn in
-    let s4 = state g.S.Store c.kind_of.new.conn in
-    let s5 = state g.S.Store c.copy_view.new.conn in
-    let s6 = state g.S.Store c.rule_for.new.conn in
-    read_err c.from_residual-in_err-rule.result c.in_err-rule.field-0.0 s0 s6 c.from_residual-in_err-rule.ensures (read_then {fault = Some c.in_err-rule.field-0.0} s0 s1 s6 c.in_ok-meta.ensures.read (read_then {fault = Some c.in_err-rule.field-0.0} s1 s2 s6 c.in_ok-calendar.ensures.read (read_then {fault = Some c.in_err-rule.field-0.0} s2 s3 s6 c.in_ok-patron.ensures.read (read_then {fault = Some c.in_err-rule.field-0.0} s3 s4 s6 c.in_ok-kind.ensures.read (read_then {fault = Some c.in_err-rule.field-0.0} s4 s5 s6 c.in_ok-at.ensures.read c.in_err-rule.ensures.read)))))
+pub returns-in_err-rule : goal.returns-in_err-rule
+returns-in_err-rule g c = fails _ _ c.from_residual-in_err-rule.ensures (c.in_ok-meta.ensures.view ⨾ c.in_ok-calendar.ensures ⨾ c.in_ok-patron.ensures.view ⨾ c.in_ok-kind.ensures ⨾ c.in_ok-at.ensures ⨾ c.in_err-rule.ensures)
 
-pub returns-in_err-first-clause-read : goal.returns-in_err-first-clause-read
-returns-in_err-first-clause-read g c =
-    let s0 = state g.S.Store c.args.conn.now in
-    let s1 = state g.S.Store c.meta_row.new.conn in
-    let s2 = state g.S.Store c.calendar_of.new.conn in
-    let s3 = state g.S.Store c.patron_row.new.conn in
-    let s4 = state g.S.Store c.kind_of.new.conn in
-    let s5 = state g.S.Store c.copy_view.new.conn in
-    let s6 = state g.S.Store c.rule_for.new.conn in
-    let s7 = state g.S.Store c.first_for.new.conn in
-    read_err c.from_residual-in_err-first.result c.in_err-first.field-0.0 s0 s7 c.from_residual-in_err-first.ensures (read_then {fault = Some c.in_err-first.field-0.0} s0 s1 s7 c.in_ok-meta.ensures.read (read_then {fault = Some c.in_err-first.field-0.0} s1 s2 s7 c.in_ok-calendar.ensures.read (read_then {fault = Some c.in_err-first.field-0.0} s2 s3 s7 c.in_ok-patron.ensures.read (read_then {fault = Some c.in_err-first.field-0.0} s3 s4 s7 c.in_ok-kind.ensures.read (read_then {fault = Some c.in_err-first.field-0.0} s4 s5 s7 c.in_ok-at.ensures.read (read_then {fault = Some c.in_err-first.field-0.0} s5 s6 s7 c.in_ok-rule.ensures.read c.in_err-first.ensures.read))))))
+pub returns-in_err-first : goal.returns-in_err-first
+returns-in_err-first g c = fails _ _ c.from_residual-in_err-first.ensures (c.in_ok-meta.ensures.view ⨾ c.in_ok-calendar.ensures ⨾ c.in_ok-patron.ensures.view ⨾ c.in_ok-kind.ensures ⨾ c.in_ok-at.ensures ⨾ c.in_ok-rule.ensures ⨾ c.in_err-first.ensures)
 
-pub returns-in_err-open_loans-clause-read : goal.returns-in_err-open_loans-clause-read
-returns-in_err-open_loans-clause-read g c =
-    let s0 = state g.S.Store c.args.conn.now in
-    let s1 = state g.S.Store c.meta_row.new.conn in
-    let s2 = state g.S.Store c.calendar_of.new.conn in
-    let s3 = state g.S.Store c.patron_row.new.conn in
-    let s4 = state g.S.Store c.kind_of.new.conn in
-    let s5 = state g.S.Store c.copy_view.new.conn in
-    let s6 = state g.S.Store c.rule_for.new.conn in
-    let s7 = state g.S.Store c.first_for.new.conn in
-    let s8 = state g.S.Store c.open_loans.new.conn in
-    read_err c.from_residual-in_err-open_loans.result c.in_err-open_loans.field-0.0 s0 s8 c.from_residual-in_err-open_loans.ensures (read_then {fault = Some c.in_err-open_loans.field-0.0} s0 s1 s8 c.in_ok-meta.ensures.read (read_then {fault = Some c.in_err-open_loans.field-0.0} s1 s2 s8 c.in_ok-calendar.ensures.read (read_then {fault = Some c.in_err-open_loans.field-0.0} s2 s3 s8 c.in_ok-patron.ensures.read (read_then {fault = Some c.in_err-open_loans.field-0.0} s3 s4 s8 c.in_ok-kind.ensures.read (read_then {fault = Some c.in_err-open_loans.field-0.0} s4 s5 s8 c.in_ok-at.ensures.read (read_then {fault = Some c.in_err-open_loans.field-0.0} s5 s6 s8 c.in_ok-rule.ensures.read (read_then {fault = Some c.in_err-open_loans.field-0.0} s6 s7 s8 c.in_ok-first.ensures.read c.in_err-open_loans.ensures.read)))))))
+pub returns-in_err-open_loans : goal.returns-in_err-open_loans
+returns-in_err-open_loans g c = fails _ _ c.from_residual-in_err-open_loans.ensures (c.in_ok-meta.ensures.view ⨾ c.in_ok-calendar.ensures ⨾ c.in_ok-patron.ensures.view ⨾ c.in_ok-kind.ensures ⨾ c.in_ok-at.ensures ⨾ c.in_ok-rule.ensures ⨾ c.in_ok-first.ensures ⨾ (open_loans_seen c.in_err-open_loans.ensures))
 
-pub returns-in_err-own_holds-clause-read : goal.returns-in_err-own_holds-clause-read
-returns-in_err-own_holds-clause-read g c =
-    let s0 = state g.S.Store c.args.conn.now in
-    let s1 = state g.S.Store c.meta_row.new.conn in
-    let s2 = state g.S.Store c.calendar_of.new.conn in
-    let s3 = state g.S.Store c.patron_row.new.conn in
-    let s4 = state g.S.Store c.kind_of.new.conn in
-    let s5 = state g.S.Store c.copy_view.new.conn in
-    let s6 = state g.S.Store c.rule_for.new.conn in
-    let s7 = state g.S.Store c.first_for.new.conn in
-    let s8 = state g.S.Store c.open_loans.new.conn in
-    let s9 = state g.S.Store c.holds_for.new.conn in
-    read_err c.from_residual-in_err-own_holds.result c.in_err-own_holds.field-0.0 s0 s9 c.from_residual-in_err-own_holds.ensures (read_then {fault = Some c.in_err-own_holds.field-0.0} s0 s1 s9 c.in_ok-meta.ensures.read (read_then {fault = Some c.in_err-own_holds.field-0.0} s1 s2 s9 c.in_ok-calendar.ensures.read (read_then {fault = Some c.in_err-own_holds.field-0.0} s2 s3 s9 c.in_ok-patron.ensures.read (read_then {fault = Some c.in_err-own_holds.field-0.0} s3 s4 s9 c.in_ok-kind.ensures.read (read_then {fault = Some c.in_err-own_holds.field-0.0} s4 s5 s9 c.in_ok-at.ensures.read (read_then {fault = Some c.in_err-own_holds.field-0.0} s5 s6 s9 c.in_ok-rule.ensures.read (read_then {fault = Some c.in_err-own_holds.field-0.0} s6 s7 s9 c.in_ok-first.ensures.read (read_then {fault = Some c.in_err-own_holds.field-0.0} s7 s8 s9 c.in_ok-open_loans.ensures.read c.in_err-own_holds.ensures.read))))))))
+pub returns-in_err-own_holds : goal.returns-in_err-own_holds
+returns-in_err-own_holds g c = fails _ _ c.from_residual-in_err-own_holds.ensures (c.in_ok-meta.ensures.view ⨾ c.in_ok-calendar.ensures ⨾ c.in_ok-patron.ensures.view ⨾ c.in_ok-kind.ensures ⨾ c.in_ok-at.ensures ⨾ c.in_ok-rule.ensures ⨾ c.in_ok-first.ensures ⨾ (open_loans_seen c.in_ok-open_loans.ensures) ⨾ c.in_err-own_holds.ensures)
 
-pub returns-clause-read : goal.returns-clause-read
-returns-clause-read g c =
-    let s0 = state g.S.Store c.args.conn.now in
-    let s1 = state g.S.Store c.meta_row.new.conn in
-    let s2 = state g.S.Store c.calendar_of.new.conn in
-    let s3 = state g.S.Store c.patron_row.new.conn in
-    let s4 = state g.S.Store c.kind_of.new.conn in
-    let s5 = state g.S.Store c.copy_view.new.conn in
-    let s6 = state g.S.Store c.rule_for.new.conn in
-    let s7 = state g.S.Store c.first_for.new.conn in
-    let s8 = state g.S.Store c.open_loans.new.conn in
-    let s9 = state g.S.Store c.holds_for.new.conn in
-    read_then {fault = None} s0 s1 s9 c.in_ok-meta.ensures.read (read_then {fault = None} s1 s2 s9 c.in_ok-calendar.ensures.read (read_then {fault = None} s2 s3 s9 c.in_ok-patron.ensures.read (read_then {fault = None} s3 s4 s9 c.in_ok-kind.ensures.read (read_then {fault = None} s4 s5 s9 c.in_ok-at.ensures.read (read_then {fault = None} s5 s6 s9 c.in_ok-rule.ensures.read (read_then {fault = None} s6 s7 s9 c.in_ok-first.ensures.read (read_then {fault = None} s7 s8 s9 c.in_ok-open_loans.ensures.read c.in_ok-own_holds.ensures.read)))))))
-
-pub returns-clause-shown : goal.returns-clause-shown
-returns-clause-shown g c clean P shown legal =
-    let s0 = state g.S.Store c.args.conn.now in
-    let s1 = state g.S.Store c.meta_row.new.conn in
-    let s2 = state g.S.Store c.calendar_of.new.conn in
-    let s3 = state g.S.Store c.patron_row.new.conn in
-    let s4 = state g.S.Store c.kind_of.new.conn in
-    let s5 = state g.S.Store c.copy_view.new.conn in
-    let s6 = state g.S.Store c.rule_for.new.conn in
-    let s7 = state g.S.Store c.first_for.new.conn in
-    let s8 = state g.S.Store c.open_loans.new.conn in
-    let s9 = state g.S.Store c.holds_for.new.conn in
-    let h9 = clean in
-    let h8 = c.in_ok-own_holds.ensures.read.clean h9 in
-    let h7 = c.in_ok-open_loans.ensures.read.clean h8 in
-    let h6 = c.in_ok-first.ensures.read.clean h7 in
-    let h5 = c.in_ok-rule.ensures.read.clean h6 in
-    let h4 = c.in_ok-at.ensures.read.clean h5 in
-    let h3 = c.in_ok-kind.ensures.read.clean h4 in
-    let h2 = c.in_ok-patron.ensures.read.clean h3 in
-    let h1 = c.in_ok-calendar.ensures.read.clean h2 in
-    let p0 = shown in
-    let p1 = picture_then s0 s1 c.in_ok-meta.ensures.read h1 P p0 in
-    let p2 = picture_then s1 s2 c.in_ok-calendar.ensures.read h2 P p1 in
-    let p3 = picture_then s2 s3 c.in_ok-patron.ensures.read h3 P p2 in
-    let p4 = picture_then s3 s4 c.in_ok-kind.ensures.read h4 P p3 in
-    let p5 = picture_then s4 s5 c.in_ok-at.ensures.read h5 P p4 in
-    let p6 = picture_then s5 s6 c.in_ok-rule.ensures.read h6 P p5 in
-    let p7 = picture_then s6 s7 c.in_ok-first.ensures.read h7 P p6 in
-    let p8 = picture_then s7 s8 c.in_ok-open_loans.ensures.read h8 P p7 in
-    record {
-      meta = c.in_ok-meta.ensures.shown h1 P p0 legal;
-      calendar = (c.in_ok-calendar.ensures.shown h2 P p1 legal).0;
-      patron = c.in_ok-patron.ensures.shown h3 P p2 legal;
-      kind = c.in_ok-kind.ensures.shown h4 P p3 legal;
-      at = c.in_ok-at.ensures.shown h5 P p4 legal;
-      rule = c.in_ok-rule.ensures.shown h6 P p5 legal;
-      first = c.in_ok-first.ensures.shown h7 P p6 legal;
-      open_loans = c.in_ok-open_loans.ensures.shown h8 P p7 legal;
-      own_holds = c.in_ok-own_holds.ensures.shown h9 P p8 legal;
-    }
+pub returns : goal.returns
+returns g c =
+    gives (c.in_ok-meta.ensures.view ⨾ c.in_ok-calendar.ensures ⨾ c.in_ok-patron.ensures.view ⨾ c.in_ok-kind.ensures ⨾ c.in_ok-at.ensures ⨾ c.in_ok-rule.ensures ⨾ c.in_ok-first.ensures ⨾ (open_loans_seen c.in_ok-open_loans.ensures) ⨾ c.in_ok-own_holds.ensures)
+    (λ P all. record { meta = all.0; calendar = all.1.0.0; patron = all.1.1.0; kind = all.1.1.1.0; at = all.1.1.1.1.0; rule = all.1.1.1.1.1.0; first = all.1.1.1.1.1.1.0; open_loans = all.1.1.1.1.1.1.1.0; own_holds = all.1.1.1.1.1.1.1.1 })

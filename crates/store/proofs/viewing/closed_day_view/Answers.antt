@@ -1,33 +1,10 @@
-use Rattle.std.proofs.Common.{Some, None}
-use Rattle.sqlite.specs.Held.{state}
-use Rattle.store.proofs.ReadLemmas.{read_err, read_then, picture_then}
+use Rattle.store.proofs.ViewLemmas.{◌⨾◌, fails, gives}
 use Rattle.store.proofs.viewing.closed_day_view.Goals as goal
 
-pub returns-in_err-calendar-clause-read : goal.returns-in_err-calendar-clause-read
-returns-in_err-calendar-clause-read g c =
-    let s0 = state g.S.Store c.args.conn.now in
-    let s1 = state g.S.Store c.meta_row.new.conn in
-    let s2 = state g.S.Store c.calendar_of.new.conn in
-    read_err c.from_residual-in_err-calendar.result c.in_err-calendar.field-0.0 s0 s2 c.from_residual-in_err-calendar.ensures (read_then {fault = Some c.in_err-calendar.field-0.0} s0 s1 s2 c.in_ok-meta.ensures.read c.in_err-calendar.ensures.read)
+pub returns-in_err-calendar : goal.returns-in_err-calendar
+returns-in_err-calendar g c = fails _ _ c.from_residual-in_err-calendar.ensures (c.in_ok-meta.ensures.view ⨾ c.in_err-calendar.ensures)
 
-pub returns-clause-read : goal.returns-clause-read
-returns-clause-read g c =
-    let s0 = state g.S.Store c.args.conn.now in
-    let s1 = state g.S.Store c.meta_row.new.conn in
-    let s2 = state g.S.Store c.calendar_of.new.conn in
-    read_then {fault = None} s0 s1 s2 c.in_ok-meta.ensures.read c.in_ok-calendar.ensures.read
-
-pub returns-clause-shown : goal.returns-clause-shown
-returns-clause-shown g c clean P shown legal =
-    let s0 = state g.S.Store c.args.conn.now in
-    let s1 = state g.S.Store c.meta_row.new.conn in
-    let s2 = state g.S.Store c.calendar_of.new.conn in
-    let h2 = clean in
-    let h1 = c.in_ok-calendar.ensures.read.clean h2 in
-    let p0 = shown in
-    let p1 = picture_then s0 s1 c.in_ok-meta.ensures.read h1 P p0 in
-    record {
-      meta = c.in_ok-meta.ensures.shown h1 P p0 legal;
-      calendar = (c.in_ok-calendar.ensures.shown h2 P p1 legal).0;
-      once = (c.in_ok-calendar.ensures.shown h2 P p1 legal).1;
-    }
+pub returns : goal.returns
+returns g c =
+    gives (c.in_ok-meta.ensures.view ⨾ c.in_ok-calendar.ensures)
+    (λ P all. record { meta = all.0; calendar = all.1.0; once = all.1.1 })

@@ -1,74 +1,19 @@
-use Rattle.std.proofs.Common.{Some, None}
-use Rattle.sqlite.specs.Held.{state}
-use Rattle.store.proofs.ReadLemmas.{read_err, read_then, picture_then}
+use Rattle.store.proofs.ViewLemmas.{◌⨾◌, fails, gives}
 use Rattle.store.proofs.viewing.unshelve_view.Goals as goal
 
-pub returns-in_err-hold-clause-read : goal.returns-in_err-hold-clause-read
-returns-in_err-hold-clause-read g c =
-    let s0 = state g.S.Store c.args.conn.now in
-    let s1 = state g.S.Store c.meta_row.new.conn in
-    let s2 = state g.S.Store c.hold_row.new.conn in
-    read_err c.from_residual-in_err-hold.result c.in_err-hold.field-0.0 s0 s2 c.from_residual-in_err-hold.ensures (read_then {fault = Some c.in_err-hold.field-0.0} s0 s1 s2 c.in_ok-meta.ensures.read c.in_err-hold.ensures.read)
+pub returns-in_err-hold : goal.returns-in_err-hold
+returns-in_err-hold g c = fails _ _ c.from_residual-in_err-hold.ensures (c.in_ok-meta.ensures.view ⨾ c.in_err-hold.ensures.view)
 
-pub returns-in_err-copy-clause-read : goal.returns-in_err-copy-clause-read
-returns-in_err-copy-clause-read g c =
-    let s0 = state g.S.Store c.args.conn.now in
-    let s1 = state g.S.Store c.meta_row.new.conn in
-    let s2 = state g.S.Store c.hold_row.new.conn in
-    let s3 = state g.S.Store c.named_copy.new.conn in
-    read_err c.from_residual-in_err-copy.result c.in_err-copy.field-0.0 s0 s3 c.from_residual-in_err-copy.ensures (read_then {fault = Some c.in_err-copy.field-0.0} s0 s1 s3 c.in_ok-meta.ensures.read (read_then {fault = Some c.in_err-copy.field-0.0} s1 s2 s3 c.in_ok-hold.ensures.read c.in_err-copy.ensures.read))
+pub returns-in_err-copy : goal.returns-in_err-copy
+returns-in_err-copy g c = fails _ _ c.from_residual-in_err-copy.ensures (c.in_ok-meta.ensures.view ⨾ c.in_ok-hold.ensures.view ⨾ c.in_err-copy.ensures)
 
-pub returns-in_err-here-clause-read : goal.returns-in_err-here-clause-read
-returns-in_err-here-clause-read g c =
-    let s0 = state g.S.Store c.args.conn.now in
-    let s1 = state g.S.Store c.meta_row.new.conn in
-    let s2 = state g.S.Store c.hold_row.new.conn in
-    let s3 = state g.S.Store c.named_copy.new.conn in
-    let s4 = state g.S.Store c.pickup_view.new.conn in
-    read_err c.from_residual-in_err-here.result c.in_err-here.field-0.0 s0 s4 c.from_residual-in_err-here.ensures (read_then {fault = Some c.in_err-here.field-0.0} s0 s1 s4 c.in_ok-meta.ensures.read (read_then {fault = Some c.in_err-here.field-0.0} s1 s2 s4 c.in_ok-hold.ensures.read (read_then {fault = Some c.in_err-here.field-0.0} s2 s3 s4 c.in_ok-copy.ensures.read c.in_err-here.ensures.read)))
+pub returns-in_err-here : goal.returns-in_err-here
+returns-in_err-here g c = fails _ _ c.from_residual-in_err-here.ensures (c.in_ok-meta.ensures.view ⨾ c.in_ok-hold.ensures.view ⨾ c.in_ok-copy.ensures ⨾ c.in_err-here.ensures)
 
-pub returns-in_err-first-clause-read : goal.returns-in_err-first-clause-read
-returns-in_err-first-clause-read g c =
-    let s0 = state g.S.Store c.args.conn.now in
-    let s1 = state g.S.Store c.meta_row.new.conn in
-    let s2 = state g.S.Store c.hold_row.new.conn in
-    let s3 = state g.S.Store c.named_copy.new.conn in
-    let s4 = state g.S.Store c.pickup_view.new.conn in
-    let s5 = state g.S.Store c.first_for.new.conn in
-    read_err c.from_residual-in_err-first.result c.in_err-first.field-0.0 s0 s5 c.from_residual-in_err-first.ensures (read_then {fault = Some c.in_err-first.field-0.0} s0 s1 s5 c.in_ok-meta.ensures.read (read_then {fault = Some c.in_err-first.field-0.0} s1 s2 s5 c.in_ok-hold.ensures.read (read_then {fault = Some c.in_err-first.field-0.0} s2 s3 s5 c.in_ok-copy.ensures.read (read_then {fault = Some c.in_err-first.field-0.0} s3 s4 s5 c.in_ok-here.ensures.read c.in_err-first.ensures.read))))
+pub returns-in_err-first : goal.returns-in_err-first
+returns-in_err-first g c = fails _ _ c.from_residual-in_err-first.ensures (c.in_ok-meta.ensures.view ⨾ c.in_ok-hold.ensures.view ⨾ c.in_ok-copy.ensures ⨾ c.in_ok-here.ensures ⨾ c.in_err-first.ensures)
 
-pub returns-clause-read : goal.returns-clause-read
-returns-clause-read g c =
-    let s0 = state g.S.Store c.args.conn.now in
-    let s1 = state g.S.Store c.meta_row.new.conn in
-    let s2 = state g.S.Store c.hold_row.new.conn in
-    let s3 = state g.S.Store c.named_copy.new.conn in
-    let s4 = state g.S.Store c.pickup_view.new.conn in
-    let s5 = state g.S.Store c.first_for.new.conn in
-    read_then {fault = None} s0 s1 s5 c.in_ok-meta.ensures.read (read_then {fault = None} s1 s2 s5 c.in_ok-hold.ensures.read (read_then {fault = None} s2 s3 s5 c.in_ok-copy.ensures.read (read_then {fault = None} s3 s4 s5 c.in_ok-here.ensures.read c.in_ok-first.ensures.read)))
-
-pub returns-clause-shown : goal.returns-clause-shown
-returns-clause-shown g c clean P shown legal =
-    let s0 = state g.S.Store c.args.conn.now in
-    let s1 = state g.S.Store c.meta_row.new.conn in
-    let s2 = state g.S.Store c.hold_row.new.conn in
-    let s3 = state g.S.Store c.named_copy.new.conn in
-    let s4 = state g.S.Store c.pickup_view.new.conn in
-    let s5 = state g.S.Store c.first_for.new.conn in
-    let h5 = clean in
-    let h4 = c.in_ok-first.ensures.read.clean h5 in
-    let h3 = c.in_ok-here.ensures.read.clean h4 in
-    let h2 = c.in_ok-copy.ensures.read.clean h3 in
-    let h1 = c.in_ok-hold.ensures.read.clean h2 in
-    let p0 = shown in
-    let p1 = picture_then s0 s1 c.in_ok-meta.ensures.read h1 P p0 in
-    let p2 = picture_then s1 s2 c.in_ok-hold.ensures.read h2 P p1 in
-    let p3 = picture_then s2 s3 c.in_ok-copy.ensures.read h3 P p2 in
-    let p4 = picture_then s3 s4 c.in_ok-here.ensures.read h4 P p3 in
-    record {
-      meta = c.in_ok-meta.ensures.shown h1 P p0 legal;
-      hold = c.in_ok-hold.ensures.shown h2 P p1 legal;
-      copy = c.in_ok-copy.ensures.shown h3 P p2 legal;
-      here = c.in_ok-here.ensures.shown h4 P p3 legal;
-      first = c.in_ok-first.ensures.shown h5 P p4 legal;
-    }
+pub returns : goal.returns
+returns g c =
+    gives (c.in_ok-meta.ensures.view ⨾ c.in_ok-hold.ensures.view ⨾ c.in_ok-copy.ensures ⨾ c.in_ok-here.ensures ⨾ c.in_ok-first.ensures)
+    (λ P all. record { meta = all.0; hold = all.1.0; copy = all.1.1.0; here = all.1.1.1.0; first = all.1.1.1.1 })

@@ -1,20 +1,7 @@
-use Rattle.sqlite.specs.Held.{state}
-use Rattle.terms.specs.Limits.{IsCopy}
-use Rattle.store.proofs.ReadLemmas.{reads_call, legal_if}
-use Rattle.store.proofs.StopLemmas.{if_ok}
+use Rattle.circ_tables.specs.Reading.{copies}
+use Rattle.store.proofs.ReadLemmas.{looked_row}
 use Rattle.store.proofs.store.Store.copy.Goals as goal
 
-pub returns-clause-reads : goal.returns-clause-reads
-returns-clause-reads g c =
-    let old = state g.S.Store c.args.self.now in
-    let new = state g.S.Store c.get_copy.new.conn in
-    let is = rw c.self.view_is at c.get_copy.ensures in
-    reads_call old new (rw c.self.view_is at (c.is_autocommit-is_idle.ensures.settled (search))) is.clean is.leaves is.survives
-
-pub returns-clause-shown : goal.returns-clause-shown
-returns-clause-shown g c clean =
-    if_ok c.get_copy.result (λ row got P shows legal. let both = got P shows (legal_if IsCopy (P.copies c.args.copy) (λ r e. (legal.copies c.args.copy r e).1)) in (both.0, both.1.0.now_is)) (rw c.self.view_is at (c.get_copy.ensures.shows clean))
-
-pub returns-clause-sound : goal.returns-clause-sound
-returns-clause-sound g c clean is P shown legal =
-    (rw c.self.view_is at (c.get_copy.ensures.sound clean)) P shown (legal_if IsCopy (P.copies c.args.copy) (λ r e. (legal.copies c.args.copy r e).1)) is
+pub returns : goal.returns
+returns g c =
+    looked_row copies c.args.copy g.S.Store (λ P legal r there. (legal.copies c.args.copy r there).1) _ _ _ (rw c.self.view_is at (c.is_autocommit-is_idle.ensures.settled (search))) (rw c.self.view_is at c.get_copy.ensures)

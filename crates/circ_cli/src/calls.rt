@@ -1,0 +1,82 @@
+//! The calls of the layers below, with no clauses, and generic over the store: the program promises nothing more than they
+//! do, so its proof carries nothing of theirs.
+
+use circ::{Exit, Report, WriteFault};
+use desk::Desk;
+use sqlite::{Alter, FileFrom, FileStore, Start};
+use sqlite_disk::Disk;
+use std::alloc::Global;
+use std::fs::File;
+use std::io::Write;
+use store::Store;
+use terms::{Fault, Key};
+
+/// The desk over a library in a file.
+pub type FileDesk<S> = Desk<FileStore<FileFrom<S>>>;
+
+/// The desk over a new library in the file.
+pub fn create<S: Start>(rt: &HostRuntime, path: &str, start: S) -> Result<FileDesk<S>, Fault> {
+    Desk::new(Store::create_from(rt, path, start)?)
+}
+
+/// The desk over the library in the file.
+pub fn open<S: Start>(rt: &HostRuntime, path: &str, start: S) -> Result<FileDesk<S>, Fault> {
+    Desk::new(Store::open_from(rt, path, start)?)
+}
+
+/// Copies the database's log into the file, so that the file alone is the library; where that fails, the log stays beside it and
+/// nothing is lost.
+pub fn close<D: Disk + Drop>(desk: Desk<FileStore<D>>) {
+    let _ = desk.into_store().into_connection().close();
+}
+
+/// Handles one request, and writes its line.
+pub fn one<S: Alter, W: Write>(
+    desk: &mut Desk<S>,
+    alloc: Global,
+    key: Key,
+    words: &[String],
+    writer: &mut W,
+) -> Result<Exit, WriteFault> {
+    circ::one(desk, alloc, key, words, writer)
+}
+
+/// Takes in a copies file, and writes its lines.
+pub fn import<S: Alter, W: Write>(
+    desk: &mut Desk<S>,
+    alloc: Global,
+    file: File,
+    writer: &mut W,
+) -> Result<Exit, WriteFault> {
+    circ::import(desk, alloc, file, writer)
+}
+
+/// Writes a report.
+pub fn report<S: Alter, W: Write>(
+    desk: &mut Desk<S>,
+    alloc: Global,
+    wanted: &Report,
+    writer: &mut W,
+) -> Result<Exit, WriteFault> {
+    circ::report(desk, alloc, wanted, writer)
+}
+
+/// Writes the line of a fault.
+pub fn tell_fault<W: Write>(writer: &mut W, fault: Fault) -> Result<Exit, WriteFault> {
+    circ::tell_fault(writer, fault)
+}
+
+/// Writes the lines of a copies file that can't be read.
+pub fn unreadable<W: Write>(writer: &mut W) -> Result<Exit, WriteFault> {
+    circ::unreadable(writer)
+}
+
+/// Writes that the words are not understood.
+pub fn not_understood<W: Write>(writer: &mut W) -> Result<Exit, WriteFault> {
+    circ::not_understood(writer)
+}
+
+/// Writes that no memory is left.
+pub fn out_of_memory<W: Write>(writer: &mut W) -> Result<Exit, WriteFault> {
+    circ::out_of_memory(writer)
+}

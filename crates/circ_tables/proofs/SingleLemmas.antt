@@ -1,0 +1,146 @@
+-- What is read in a form of its own: the row of `meta`, a closed day, what is kept, and the closed days of a branch.
+use Rattle.std.proofs.Common.{◌≡◌, ◌≢◌, ◌∙◌, ℕ, Bool, List, [], map, Option, Some, Ok, Err, Result, IfOk, sym, subst}
+use Rattle.std.specs.Prelude.{IfSome, IsUtf8, is_some, option_map}
+use Rattle.std.specs.List.{All}
+use Rattle.std.proofs.lemmas.List.Elements.{All-map, All-weaker}
+use Rattle.calendar.specs.Days.{IsDayNumber}
+use Rattle.sqlite.specs.Given.{IsPlain}
+use Rattle.sqlite.specs.Held.{Held, state}
+use Rattle.sqlite.specs.Listing.{understood}
+use Rattle.sqlite.specs.Order.{Row}
+use Rattle.sqlite.specs.Schema.{Schema}
+use Rattle.sqlite.specs.State.{HasCleanDisk, IsUnchanged}
+use Rattle.sqlite.specs.Store.{Ghosts}
+use Rattle.sql_maps.specs.Maps.{Maps, Holds, ListedBy, SecondBelow}
+use Rattle.terms.specs.Limits.{InLimits, IsOwner, IsMeta}
+use Rattle.terms.specs.Pictures.{Picture}
+use Rattle.terms.specs.declared.command.Owner.{Owner}
+use Rattle.terms.specs.declared.fault.Fault.{Fault}
+use Rattle.terms.specs.declared.fault.Fault.TheVariants.{Stored}
+use Rattle.terms.specs.declared.row.MetaRow.{MetaRow}
+use Rattle.terms.specs.declared.row.KeptRow.{KeptRow}
+use Rattle.circ_tables.specs.declared.entry.ClosedDay.{ClosedDay}
+use Rattle.circ_tables.specs.declared.get.KeptReply.{KeptReply}
+use Rattle.circ_tables.specs.Cells.{number_key, pair_key, kept_key, kept_cells, meta_cells}
+use Rattle.circ_tables.specs.Encoding.{HasPicture, HasTexts, IsClosedDay, reply_of}
+use Rattle.circ_tables.specs.Reading.{Asks, OfMaps, OfPicture, IsStoredIn, IsLone, GetsMeta, GetsDay, GetsKept, kept_with, Lists, ListsDays, closed_days, AreSuch}
+use Rattle.circ_tables.specs.Selections.{is_closed_at, AreClosedDays}
+use Rattle.circ_tables.specs.Shape.{schema, meta_place, closed_days_place, kept_place}
+use Rattle.circ_tables.proofs.DayLemmas.{day_of, days_are, days_shown}
+use Rattle.circ_tables.proofs.InverseLemmas.{meta_row_told, meta_alone, day_told, reply_told, row_sound}
+use Rattle.circ_tables.proofs.ReadingLemmas.{looks_of, read_of, if_ok}
+use Rattle.circ_tables.proofs.TableLemmas.{closed_days_within, kept_within}
+
+-- the one row of `meta`
+module _ {S : Type 0} (text : List ℕ) (plain : (s : Schema) → s ≡ schema → IsPlain (understood s text))
+    (g : Ghosts S) (old new : Held S) (result : Result MetaRow Fault) (asks : Asks text [] g old new)
+    (gets : OfMaps (λ maps row. maps meta_place (number_key 1) ≡ Some (meta_cells row)) g old new result)
+    (alone : HasCleanDisk (state g new) → IfOk result (λ row. (maps : Maps) → Holds schema (state g old).now maps → IsLone (maps meta_place) row))
+    (limits : IfOk result IsMeta)
+    (stored : IsStoredIn (λ maps. (r : MetaRow) → IsMeta r → maps meta_place (number_key 1) ≡ Some (meta_cells r) → ¬ IsLone (maps meta_place) r) g old new result) where
+  meta_shown : OfPicture (λ P row. row ≡ P.meta) g old new result
+  meta_shown clean = if_ok result (λ r each P shown. meta_row_told P r _ (each shown.maps shown.holds) (shown.encodes.meta.there 1 tt)) (gets clean)
+
+  meta_sound : HasCleanDisk (state g new) → (P : Picture) → HasPicture (state g old).now P → IsMeta P.meta → result ≢ Err Stored
+  meta_sound clean P shown legal err = stored clean err shown.maps shown.holds P.meta legal (shown.encodes.meta.there 1 tt) (meta_alone shown.maps P shown.encodes)
+
+  pub meta_of : GetsMeta g old new result
+  meta_of =
+      let looked = looks_of text [] g old new plain asks in
+      record {
+        looks = looked;
+        gets = gets;
+        alone = alone;
+        limits = limits;
+        stored = stored;
+        shows = meta_shown;
+        sound = meta_sound;
+        view = record {
+          read = read_of result g old new looked (λ clean. if_ok result (λ row got maps holds. (got maps holds).1) (gets clean)) (λ clean P shown legal. meta_sound clean P shown legal.meta);
+          shown = λ clean. if_ok result (λ row got P shown legal. (got P shown).0) (meta_shown clean);
+        };
+      }
+
+-- whether a branch is closed singly on a day
+module _ {S : Type 0} (branch day : ℕ) (text : List ℕ) (plain : (s : Schema) → s ≡ schema → IsPlain (understood s text)) (given : Row)
+    (g : Ghosts S) (old new : Held S) (result : Result Bool Fault) (asks : Asks text given g old new)
+    (gets : OfMaps (λ maps there. is_some (maps closed_days_place (pair_key branch day)) ≡ there) g old new result)
+    (sound : result ≢ Err Stored) where
+  day_shown : OfPicture (λ P there. there ≡ P.closed_days branch day) g old new result
+  day_shown clean = if_ok result (λ there got P shown. let all = got shown.maps shown.holds in (day_told P.closed_days branch day _ there all.0 (shown.encodes.closed_days.there (branch, day) tt), all.1)) (gets clean)
+
+  pub single_day_of : GetsDay branch day g old new result
+  single_day_of =
+      let looked = looks_of text given g old new plain asks in
+      record {
+        looks = looked;
+        gets = gets;
+        shows = day_shown;
+        sound = sound;
+        view = record {
+          read = read_of result g old new looked (λ clean. if_ok result (λ there got maps holds. (got maps holds).1) (gets clean)) (λ clean P shown legal. sound);
+          shown = λ clean. if_ok result (λ there got P shown legal. (got P shown).0) (day_shown clean);
+        };
+      }
+
+-- what is kept under a caller's key
+module _ {S : Type 0} (owner : Owner) (key : List ℕ) (text : List ℕ) (plain : (s : Schema) → s ≡ schema → IsPlain (understood s text)) (given : Row)
+    (g : Ghosts S) (old new : Held S) (result : Result (Option KeptReply) Fault) (asks : Asks text given g old new)
+    (gets : OfMaps (λ maps kept. maps kept_place (kept_key owner key) ≡ option_map (kept_with owner key) kept) g old new result)
+    (stored : HasCleanDisk (state g new) → result ≡ Err Stored → (maps : Maps) → Holds schema (state g old).now maps
+    → (v : Row) × (maps kept_place (kept_key owner key) ≡ Some v) × ((r : KeptRow) → IsUtf8 r.text → IsUtf8 r.reply → v ≢ kept_cells r)) where
+  kept_shown : HasCleanDisk (state g new) → IfOk result (λ kept. (P : Picture) → HasPicture (state g old).now P → IsOwner owner → (kept ≡ option_map reply_of (P.kept owner key)) × IsUnchanged (state g old) (state g new))
+  kept_shown clean = if_ok result (λ kept got P shown is. let all = got shown.maps shown.holds in (reply_told owner key kept (P.kept owner key) _ all.0 (shown.encodes.kept.there (owner, key) is), all.1)) (gets clean)
+
+  kept_sound : HasCleanDisk (state g new) → (P : Picture) → HasPicture (state g old).now P → IsOwner owner → IfSome (P.kept owner key) HasTexts → result ≢ Err Stored
+  kept_sound clean P shown is legal err =
+      let bad = stored clean err shown.maps shown.holds in
+      row_sound kept_cells HasTexts (P.kept owner key) legal _ bad.0 bad.1 (shown.encodes.kept.there (owner, key) is) (λ r good. bad.2 r good.0 good.1)
+
+  kept_legal : HasCleanDisk (state g new) → (P : Picture) → HasPicture (state g old).now P → InLimits P → result ≢ Err Stored
+  kept_legal clean P shown legal err =
+      let bad = stored clean err shown.maps shown.holds in
+      let row = kept_within shown.maps P shown.encodes legal (kept_key owner key) bad.0 bad.1 in
+      bad.2 (record { caller = row.0.caller; key = row.0.key; text = row.0.text; reply = row.0.reply }) row.1.2 row.1.3 row.2
+
+  pub kept_of : GetsKept owner key g old new result
+  kept_of =
+      let looked = looks_of text given g old new plain asks in
+      record {
+        looks = looked;
+        gets = gets;
+        stored = λ clean err maps holds r good fine there. let bad = stored clean err maps holds in bad.2 r good fine (let same : Some bad.0 ≡ Some (kept_cells r) = sym bad.1 ∙ there in let one : bad.0 ≡ kept_cells r = cc in one);
+        shows = kept_shown;
+        sound = kept_sound;
+        view = record {
+          read = read_of result g old new looked (λ clean. if_ok result (λ kept got maps holds. (got maps holds).1) (gets clean)) kept_legal;
+          shown = λ clean. if_ok result (λ kept got P shown legal is. (got P shown is).0) (kept_shown clean);
+        };
+      }
+
+-- the days on which a branch is closed singly, from the rows that were read, where there are any
+module _ {S L D : Type 0} (items : L → List ℕ) (rows : D → List ClosedDay) (branch : ℕ) (g : Ghosts S) (old new : Held S) (read : Result D Fault) (result : Result L Fault)
+    (is : Lists closed_days rows (λ m. ListedBy SecondBelow m (is_closed_at branch)) g old new read)
+    (made : IfOk result (λ l. (d : D) × (read ≡ Ok d) × (items l ≡ map day_of (rows d)))) (failed : result ≡ Err Stored → read ≡ Err Stored) where
+  from_rows : {P : D → Type 0} {Q : L → Type 0} → ((d : D) (l : L) → items l ≡ map day_of (rows d) → P d → Q l) → IfOk read P → IfOk result Q
+  from_rows {P} {Q} f h = if_ok result (λ l from. f from.0 l from.2 (subst (λ (r : Result D Fault). IfOk r P) from.1 h)) made
+
+  all_days : OfMaps (λ maps l. AreClosedDays (maps closed_days_place) branch (items l)) g old new result
+  all_days clean = from_rows (λ d l are listed maps holds. let all = listed maps holds in (subst (AreClosedDays (maps closed_days_place) branch) (sym are) (days_are branch maps _ holds (rows d) all.0), all.1)) (is.lists clean)
+
+  days_in : OfPicture (λ P l. AreSuch (items l) (P.closed_days branch)) g old new result
+  days_in clean = if_ok result (λ l are P shown. let all = are shown.maps shown.holds in (days_shown branch shown.maps P shown.encodes (items l) all.0, all.1)) (all_days clean)
+
+  pub days_of : ListsDays items branch g old new result
+  days_of = record {
+    looks = is.looks;
+    days = all_days;
+    limits = from_rows (λ d l are legal. subst (λ (l : List ℕ). All IsDayNumber l) (sym are) (All-map IsDayNumber day_of (rows d) (All-weaker IsClosedDay (λ c. IsDayNumber (day_of c)) (λ c good. good.1) (rows d) legal))) is.limits;
+    stored = λ clean err. is.stored clean (failed err);
+    shows = days_in;
+    view = record {
+      read = read_of result g old new is.looks (λ clean. if_ok result (λ l got maps holds. (got maps holds).1) (all_days clean))
+          (λ clean P shown legal err. is.stored clean (failed err) shown.maps shown.holds (closed_days_within shown.maps P shown.encodes legal));
+      shown = λ clean. if_ok result (λ l got P shown legal. (got P shown).0) (days_in clean);
+    };
+  }

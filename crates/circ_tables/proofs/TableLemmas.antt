@@ -1,0 +1,80 @@
+-- The maps of each table hold encodings of rows within their limits, where the rows of the picture are within theirs.
+use Rattle.std.proofs.Common.{◌≡◌, ◌∙◌, Option, None, Some, refl, sym, ap, subst}
+use Rattle.std.specs.Prelude.{option_map, IfSome, IsUtf8}
+use Rattle.sqlite.specs.Order.{Row}
+use Rattle.sql_maps.specs.Maps.{Maps}
+use Rattle.terms.specs.Limits.{InLimits, IsKeptRow}
+use Rattle.terms.specs.Pictures.{Picture}
+use Rattle.terms.specs.declared.row.BranchRow.{BranchRow}
+use Rattle.terms.specs.declared.row.KindRow.{KindRow}
+use Rattle.terms.specs.declared.row.PatronRow.{PatronRow}
+use Rattle.terms.specs.declared.row.TitleRow.{TitleRow}
+use Rattle.terms.specs.declared.row.CopyRow.{CopyRow}
+use Rattle.terms.specs.declared.row.LoanRow.{LoanRow}
+use Rattle.terms.specs.declared.row.HoldRow.{HoldRow}
+use Rattle.terms.specs.declared.row.TransitRow.{TransitRow}
+use Rattle.terms.specs.declared.row.LineRow.{LineRow}
+use Rattle.terms.specs.declared.row.KeptRow.{KeptRow}
+use Rattle.circ_tables.specs.Cells.{kept_cells}
+use Rattle.terms.proofs.Utf8Lemmas.{reply_text-IsUtf8}
+use Rattle.circ_tables.specs.Encoding.{Encodes, AreEncoded, HasTexts}
+use Rattle.circ_tables.specs.Reading.{Table, branches, closed_days, kinds, rules, patrons, titles, copies, loans, holds, transits, lines, kept}
+use Rattle.circ_tables.proofs.ShownLemmas.{are_encoded, days_encoded}
+
+-- Of a table it is so under each picture within its limits.
+abbrev IsWithin : {K R : Type 0} → Table K R → Type 0
+IsWithin t = (maps : Maps) (P : Picture) → Encodes maps P → InLimits P → AreEncoded t.cells t.IsLegal (maps t.place)
+
+pub branches_within : IsWithin branches
+branches_within maps P is legal = are_encoded branches.cells branches.IsLegal (λ (r : BranchRow). r.branch) (maps branches.place) P.branches is.branches legal.branches
+
+pub kinds_within : IsWithin kinds
+kinds_within maps P is legal = are_encoded kinds.cells kinds.IsLegal (λ (r : KindRow). r.kind) (maps kinds.place) P.kinds is.kinds legal.kinds
+
+pub patrons_within : IsWithin patrons
+patrons_within maps P is legal = are_encoded patrons.cells patrons.IsLegal (λ (r : PatronRow). r.patron) (maps patrons.place) P.patrons is.patrons legal.patrons
+
+pub titles_within : IsWithin titles
+titles_within maps P is legal = are_encoded titles.cells titles.IsLegal (λ (r : TitleRow). r.title) (maps titles.place) P.titles is.titles legal.titles
+
+pub copies_within : IsWithin copies
+copies_within maps P is legal = are_encoded copies.cells copies.IsLegal (λ (r : CopyRow). r.copy) (maps copies.place) P.copies is.copies legal.copies
+
+pub loans_within : IsWithin loans
+loans_within maps P is legal = are_encoded loans.cells loans.IsLegal (λ (r : LoanRow). r.loan) (maps loans.place) P.loans is.loans legal.loans
+
+pub holds_within : IsWithin holds
+holds_within maps P is legal = are_encoded holds.cells holds.IsLegal (λ (r : HoldRow). r.hold) (maps holds.place) P.holds is.holds legal.holds
+
+pub transits_within : IsWithin transits
+transits_within maps P is legal = are_encoded transits.cells transits.IsLegal (λ (r : TransitRow). r.copy) (maps transits.place) P.transits is.transits legal.transits
+
+pub lines_within : IsWithin lines
+lines_within maps P is legal = are_encoded lines.cells lines.IsLegal (λ (r : LineRow). r.line) (maps lines.place) P.lines is.lines legal.lines
+
+pub closed_days_within : IsWithin closed_days
+closed_days_within maps P is legal = days_encoded (maps closed_days.place) P is.closed_days legal
+
+-- a row that stands under its key
+within : {R : Type 0} (cells : R → Row) (Good : R → Type 0) (o : Option R) → ((r : R) → o ≡ Some r → Good r) → (v : Row) → Some v ≡ option_map cells o → (r : R) × Good r × (v ≡ cells r)
+within cells Good None own v is = absurd (let e : Some v ≡ None = is in cc)
+within cells Good (Some r) own v is = (r, own r refl, (let e : Some v ≡ Some (cells r) = is in let same : v ≡ cells r = cc in same))
+
+pub rules_within : IsWithin rules
+rules_within maps P is legal k v e =
+    let key = is.rules.only k v e in
+    within rules.cells rules.IsLegal (P.rules key.0.0 key.0.1) (λ r there. (legal.rules key.0.0 key.0.1 r there).2) v (sym e ∙ ap (maps rules.place) key.2 ∙ is.rules.there key.0 key.1)
+
+-- what is kept within the limits is text
+texts_of : (r : KeptRow) → IsKeptRow r → HasTexts r
+texts_of r is = (is.2, subst IsUtf8 (sym is.3.2) (reply_text-IsUtf8 is.3.0 is.3.1))
+
+pub has_texts : (o : Option KeptRow) → ((r : KeptRow) → o ≡ Some r → IsKeptRow r) → IfSome o HasTexts
+has_texts None own = tt
+has_texts (Some r) own = texts_of r (own r refl)
+
+pub kept_within : IsWithin kept
+kept_within maps P is legal k v e =
+    let key = is.kept.only k v e in
+    let it = within kept_cells IsKeptRow (P.kept key.0.0 key.0.1) (λ r there. (legal.kept key.0.0 key.0.1 r there).2) v (sym e ∙ ap (maps kept.place) key.2 ∙ is.kept.there key.0 key.1) in
+    (record { caller = it.0.caller; key = it.0.key; text = it.0.text; reply = it.0.reply }, (it.1.0, it.1.1, (texts_of it.0 it.1).0, (texts_of it.0 it.1).1), it.2)

@@ -1,0 +1,390 @@
+-- What a call that reads leaves, and what it says of a row.
+use Rattle.std.specs.Prelude.{◌≡◌, ◌≢◌, ◌⊎◌, ◌≤◌, ◌<◌, ℕ, Bool, false, List, map, length, Option, Some, None, is_some, option_map, Err, Result, IfOk, IfErr, IfSome, IsTrue, IsUtf8, if◌then◌else◌}
+use Rattle.std.specs.List.{All}
+use Rattle.std.specs.Option.{option_to_list}
+use Rattle.std.specs.Result.{result_err}
+use Rattle.calendar.specs.Days.{IsDayNumber}
+use Rattle.calendar.specs.Openings.{has_day, has_repeat}
+use Rattle.calendar.specs.declared.limits.TheConstants.{MOST_CLOSED_DAYS}
+use Rattle.sqlite.specs.Given.{IsPlain}
+use Rattle.sqlite.specs.Held.{Held, state}
+use Rattle.sqlite.specs.Listing.{understood}
+use Rattle.sqlite.specs.Order.{Row, column}
+use Rattle.sqlite.specs.State.{State, HasCleanDisk, IsUnchanged, Survives, CommitsShowing, Shown}
+use Rattle.sqlite.specs.Store.{Ghosts}
+use Rattle.sqlite.specs.Tree.{Trees}
+use Rattle.sqlite_rules.specs.Lists.{Has}
+use Rattle.sql_maps.specs.Calls.{FindsRow, IsKeptOrUndone}
+use Rattle.sql_maps.specs.Maps.{Map, Maps, Holds, Count}
+use Rattle.terms.specs.Limits.{InLimits, IsOwner, IsMeta, IsBranch, IsKind, IsRule, IsPatron, IsTitle, IsCopy, IsLoan, IsHold, IsTransit, IsLine}
+use Rattle.terms.specs.Pictures.{Picture, put, put_pair, put_kept}
+use Rattle.terms.specs.declared.command.Owner.{Owner}
+use Rattle.terms.specs.declared.fault.Fault.{Fault}
+use Rattle.terms.specs.declared.fault.Fault.TheVariants.{Database, Stored}
+use Rattle.terms.specs.declared.row.MetaRow.{MetaRow}
+use Rattle.terms.specs.declared.row.BranchRow.{BranchRow}
+use Rattle.terms.specs.declared.row.PatronRow.{PatronRow}
+use Rattle.terms.specs.declared.row.CopyRow.{CopyRow}
+use Rattle.terms.specs.declared.row.LoanRow.{LoanRow}
+use Rattle.terms.specs.declared.row.KindRow.{KindRow}
+use Rattle.terms.specs.declared.row.RuleRow.{RuleRow}
+use Rattle.terms.specs.declared.row.TitleRow.{TitleRow}
+use Rattle.terms.specs.declared.row.HoldRow.{HoldRow}
+use Rattle.terms.specs.declared.row.TransitRow.{TransitRow}
+use Rattle.terms.specs.declared.row.LineRow.{LineRow}
+use Rattle.terms.specs.declared.row.KeptRow.{KeptRow}
+use Rattle.circ_tables.specs.declared.get.KeptReply.{KeptReply}
+use Rattle.circ_tables.specs.declared.entry.ClosedDay.{ClosedDay}
+use Rattle.circ_tables.specs.declared.entry.KeptEntry.{KeptEntry}
+use Rattle.circ_tables.specs.Cells.{number, number_key, pair_key, kept_key, meta_cells, kept_cells, branch_cells, kind_cells, rule_cells, patron_cells, title_cells, copy_cells, loan_cells, hold_cells, transit_cells, line_cells}
+use Rattle.circ_tables.specs.Encoding.{HasPicture, AreEncoded, Pair, reply_of, HasTexts, day_cells, IsClosedDay, entry_cells, IsKeptEntry}
+use Rattle.circ_tables.specs.Selections.{AreClosedDays}
+use Rattle.circ_tables.specs.Shape.{schema, meta_place, branches_place, closed_days_place, kinds_place, rules_place, patrons_place, titles_place, copies_place, loans_place, holds_place, transits_place, lines_place, kept_place}
+
+-- A table of typed rows: its place, the key of a row, its columns, its limits, its rows in a picture, and the picture with another row, or none, under a key.
+pub record Table (K R : Type 0) : Type 1 where
+  pub place : ℕ
+  pub key : K → Row
+  pub cells : R → Row
+  pub IsLegal : R → Type 0
+  pub rows : Picture → K → Option R
+  pub set : Picture → K → Option R → Picture
+
+abbrev pub branches : Table ℕ BranchRow
+branches = record {
+  place = branches_place;
+  key = number_key;
+  cells = branch_cells;
+  IsLegal = IsBranch;
+  rows = λ P. P.branches;
+  set = λ P k row. record P { branches = put P.branches k row };
+}
+
+abbrev pub patrons : Table ℕ PatronRow
+patrons = record {
+  place = patrons_place;
+  key = number_key;
+  cells = patron_cells;
+  IsLegal = IsPatron;
+  rows = λ P. P.patrons;
+  set = λ P k row. record P { patrons = put P.patrons k row };
+}
+
+abbrev pub copies : Table ℕ CopyRow
+copies = record {
+  place = copies_place;
+  key = number_key;
+  cells = copy_cells;
+  IsLegal = IsCopy;
+  rows = λ P. P.copies;
+  set = λ P k row. record P { copies = put P.copies k row };
+}
+
+abbrev pub loans : Table ℕ LoanRow
+loans = record {
+  place = loans_place;
+  key = number_key;
+  cells = loan_cells;
+  IsLegal = IsLoan;
+  rows = λ P. P.loans;
+  set = λ P k row. record P { loans = put P.loans k row };
+}
+
+abbrev pub kinds : Table ℕ KindRow
+kinds = record {
+  place = kinds_place;
+  key = number_key;
+  cells = kind_cells;
+  IsLegal = IsKind;
+  rows = λ P. P.kinds;
+  set = λ P k row. record P { kinds = put P.kinds k row };
+}
+
+abbrev pub titles : Table ℕ TitleRow
+titles = record {
+  place = titles_place;
+  key = number_key;
+  cells = title_cells;
+  IsLegal = IsTitle;
+  rows = λ P. P.titles;
+  set = λ P k row. record P { titles = put P.titles k row };
+}
+
+abbrev pub holds : Table ℕ HoldRow
+holds = record {
+  place = holds_place;
+  key = number_key;
+  cells = hold_cells;
+  IsLegal = IsHold;
+  rows = λ P. P.holds;
+  set = λ P k row. record P { holds = put P.holds k row };
+}
+
+abbrev pub transits : Table ℕ TransitRow
+transits = record {
+  place = transits_place;
+  key = number_key;
+  cells = transit_cells;
+  IsLegal = IsTransit;
+  rows = λ P. P.transits;
+  set = λ P k row. record P { transits = put P.transits k row };
+}
+
+abbrev pub lines : Table ℕ LineRow
+lines = record {
+  place = lines_place;
+  key = number_key;
+  cells = line_cells;
+  IsLegal = IsLine;
+  rows = λ P. P.lines;
+  set = λ P k row. record P { lines = put P.lines k row };
+}
+
+abbrev pub rules : Table Pair RuleRow
+rules = record {
+  place = rules_place;
+  key = λ k. pair_key k.0 k.1;
+  cells = rule_cells;
+  IsLegal = IsRule;
+  rows = λ P k. P.rules k.0 k.1;
+  set = λ P k row. record P { rules = put_pair P.rules k.0 k.1 row };
+}
+
+abbrev pub closed_days : Table Pair ClosedDay
+closed_days = record {
+  place = closed_days_place;
+  key = λ k. pair_key k.0 k.1;
+  cells = day_cells;
+  IsLegal = IsClosedDay;
+  rows = λ P k. if P.closed_days k.0 k.1 then Some (record { branch = k.0; day = k.1 }) else None;
+  set = λ P k row. record P { closed_days = put_pair P.closed_days k.0 k.1 (is_some row) };
+}
+
+abbrev pub kept : Table (Owner × List ℕ) KeptEntry
+kept = record {
+  place = kept_place;
+  key = λ k. kept_key k.0 k.1;
+  cells = entry_cells;
+  IsLegal = IsKeptEntry;
+  rows = λ P k. option_map (λ (r : KeptRow). record { caller = r.caller; key = r.key; text = r.text; reply = r.reply }) (P.kept k.0 k.1);
+  set = λ P k row. record P { kept = put_kept P.kept k.0 k.1 (option_map (λ (e : KeptEntry). record { caller = e.caller; key = e.key; text = e.text; reply = e.reply }) row) };
+}
+
+-- Every row of the map is this row of `meta`.
+abbrev pub IsLone : Map → MetaRow → Type 0
+IsLone m row = (k v : Row) → m k ≡ Some v → v ≡ meta_cells row
+
+-- The columns of what is kept under a key.
+abbrev pub kept_with : Owner → List ℕ → KeptReply → Row
+kept_with owner key k = kept_cells (record { caller = owner; key = key; text = k.text; reply = k.reply })
+
+-- The days are those of which the test is true, each once.
+abbrev pub AreSuch : List ℕ → (ℕ → Bool) → Type 0
+AreSuch days test = ((d : ℕ) → has_day days d ≡ test d) × (has_repeat days ≡ false)
+
+-- No branch is closed singly on more days than it can be.
+abbrev pub ClosesFewDays : Picture → Type 0
+ClosesFewDays P = (branch : ℕ) (days : List ℕ) → has_repeat days ≡ false → ((d : ℕ) → has_day days d ≡ P.closed_days branch d) → length days ≤ MOST_CLOSED_DAYS
+
+-- The tables are as they were.
+pub record IsSame (old new : State) : Type 0 where
+  pub now : new.now ≡ old.now
+  pub committed : new.committed ≡ old.committed
+  pub was_open : IsTrue new.is_open → IsTrue old.is_open
+
+-- The tables are as they were, or as the last commit left them.
+abbrev pub IsSameOrUndone : State → State → Type 0
+IsSameOrUndone old new = (new.now ≡ old.now) ⊎ (IsTrue old.is_open × (new.now ≡ old.committed))
+
+-- One read after another: what they leave, whether they ended well or with this fault, which is not that of a stored row where the tables show a picture.
+pub record Reading (fault : Option Fault) (old new : State) : Type 0 where
+  pub clean : HasCleanDisk new → HasCleanDisk old
+  pub mode : old.in_transaction ≡ false → new.in_transaction ≡ false
+  pub leaves : HasCleanDisk new → IsTrue new.is_open → (maps : Maps) → Holds schema old.now maps → IsSameOrUndone old new
+  pub crash : HasCleanDisk new → (maps : Maps) → Holds schema old.now maps → (trees : Trees) → new.may_leave trees → old.may_leave trees
+  pub same : fault ≡ None → HasCleanDisk new → (maps : Maps) → Holds schema old.now maps → IsSame old new
+  pub sound : fault ≡ Some Stored → HasCleanDisk new → (P : Picture) → HasPicture old.now P → InLimits P → ClosesFewDays P → ⊥
+
+-- What is read, in words of the picture that the tables show, and what the reads leave.
+pub record Views {S A : Type 0} (Is : Picture → A → Type 0)
+    (g : Ghosts S) (old new : Held S) (result : Result A Fault) : Type 0 where
+  pub read : Reading (result_err result) (state g old) (state g new)
+  pub shown : HasCleanDisk (state g new)
+      → IfOk result (λ x. (P : Picture) → HasPicture (state g old).now P → InLimits P → Is P x)
+
+-- What one text that only reads leaves.
+pub record Asks {S : Type 0} (text : List ℕ) (given : Row) (g : Ghosts S) (old new : Held S) : Type 0 where
+  pub clean : HasCleanDisk (state g new) → HasCleanDisk (state g old)
+  pub mode : old.in_transaction ≡ false → new.in_transaction ≡ false
+  pub leaves : HasCleanDisk (state g new) → IsPlain (understood (state g old).now.schema text)
+      → IsKeptOrUndone (state g old) (state g new)
+  pub survives : Survives (state g old) (state g new) (CommitsShowing text given (state g old))
+
+-- A text was asked for its first row. Only the database refuses it.
+pub record AsksFirst {S : Type 0} (text : List ℕ) (given : Row)
+    (g : Ghosts S) (old new : Held S) (result : Result (Option Row) Fault) : Type 0 where
+  pub asks : Asks text given g old new
+  pub finds : HasCleanDisk (state g new)
+      → IfOk result (FindsRow text given (state g old) (state g new))
+  pub fault : IfErr result (λ fault. fault ≡ Database)
+
+-- A text was asked for all its rows, which the list has in their order. Only the database refuses it.
+pub record AsksAll {S L : Type 0} (items : L → List Row) (text : List ℕ) (given : Row)
+    (g : Ghosts S) (old new : Held S) (result : Result L Fault) : Type 0 where
+  pub asks : Asks text given g old new
+  pub shown : HasCleanDisk (state g new)
+      → IfOk result (λ rows. Shown text given (state g old) (state g new) (items rows))
+  pub fault : IfErr result (λ fault. fault ≡ Database)
+
+-- What a plain text leaves of tables with the schema, where nothing is committed.
+pub record Looks {S : Type 0} (g : Ghosts S) (old new : Held S) : Type 0 where
+  pub clean : HasCleanDisk (state g new) → HasCleanDisk (state g old)
+  pub mode : old.in_transaction ≡ false → new.in_transaction ≡ false
+  pub leaves : HasCleanDisk (state g new) → (state g old).now.schema ≡ schema
+      → IsKeptOrUndone (state g old) (state g new)
+  pub survives : (state g old).now.schema ≡ schema
+      → Survives (state g old) (state g new) (λ _. ⊥)
+
+-- The tables were asked in a transaction that was rolled back: as long as the database is open they are what was committed, whatever tables there are.
+pub record RollsBack {S : Type 0} (g : Ghosts S) (old new : Held S) : Type 0 where
+  pub idle : new.in_transaction ≡ false
+  pub same : HasCleanDisk (state g new) → IsTrue (state g new).is_open
+      → IsTrue (state g old).is_open × ((state g new).now ≡ (state g old).committed)
+      × ((state g new).committed ≡ (state g old).committed)
+  pub survives : Survives (state g old) (state g new) (λ _. ⊥)
+
+-- What was found is so in the maps of the tables, and nothing is changed.
+abbrev pub OfMaps : {S A : Type 0} → (Maps → A → Type 0) → Ghosts S → Held S → Held S → Result A Fault → Type 0
+OfMaps Is g old new result = HasCleanDisk (state g new)
+    → IfOk result (λ x. (maps : Maps) → Holds schema (state g old).now maps
+    → Is maps x × IsUnchanged (state g old) (state g new))
+
+-- The same in a picture.
+abbrev pub OfPicture : {S A : Type 0} → (Picture → A → Type 0) → Ghosts S → Held S → Held S → Result A Fault → Type 0
+OfPicture Is g old new result = HasCleanDisk (state g new)
+    → IfOk result (λ x. (P : Picture) → HasPicture (state g old).now P
+    → Is P x × IsUnchanged (state g old) (state g new))
+
+-- The fault of a stored row comes only over maps of which this is so.
+abbrev pub IsStoredIn : {S A : Type 0} → (Maps → Type 0) → Ghosts S → Held S → Held S → Result A Fault → Type 0
+IsStoredIn Bad g old new result = HasCleanDisk (state g new) → result ≡ Err Stored
+    → (maps : Maps) → Holds schema (state g old).now maps → Bad maps
+
+-- It never comes over a picture of which this is so.
+abbrev pub IsSoundIn : {S A : Type 0} → (Picture → Type 0) → Ghosts S → Held S → Held S → Result A Fault → Type 0
+IsSoundIn Good g old new result = HasCleanDisk (state g new)
+    → (P : Picture) → HasPicture (state g old).now P → Good P → result ≢ Err Stored
+
+-- The first row that a text shows, within its limits.
+pub record FirstEntry {S R : Type 0} (cells : R → Row) (IsLegal : R → Type 0) (text : List ℕ) (given : Row)
+    (g : Ghosts S) (old new : Held S) (result : Result (Option R) Fault) : Type 0 where
+  pub asks : Asks text given g old new
+  pub finds : HasCleanDisk (state g new)
+      → IfOk result (λ row. FindsRow text given (state g old) (state g new) (option_map cells row))
+  pub limits : IfOk result (λ row. IfSome row IsLegal)
+  pub stored : HasCleanDisk (state g new) → result ≡ Err Stored
+      → (v : Row) × FindsRow text given (state g old) (state g new) (Some v) × ((r : R) → IsLegal r → v ≢ cells r)
+
+-- The row of a key, if there is one: what is read of it, in words of the maps and of a picture, and when it is outside its limits.
+pub record Gets {S K R : Type 0} (t : Table K R) (key : K)
+    (g : Ghosts S) (old new : Held S) (result : Result (Option R) Fault) : Type 0 where
+  pub looks : Looks g old new
+  pub gets : OfMaps (λ maps row. maps t.place (t.key key) ≡ option_map t.cells row) g old new result
+  pub limits : IfOk result (λ row. IfSome row t.IsLegal)
+  pub stored : IsStoredIn (λ maps. (r : R) → t.IsLegal r → maps t.place (t.key key) ≢ Some (t.cells r)) g old new result
+  pub shows : HasCleanDisk (state g new) → IfOk result (λ row. (P : Picture) → HasPicture (state g old).now P
+      → IfSome (t.rows P key) t.IsLegal → (row ≡ t.rows P key) × IsUnchanged (state g old) (state g new))
+  pub sound : IsSoundIn (λ P. IfSome (t.rows P key) t.IsLegal) g old new result
+  pub view : Views (λ P row. row ≡ t.rows P key) g old new result
+
+-- The one row of `meta`. It is outside its limits, or not the only one, where the fault of a stored row comes.
+pub record GetsMeta {S : Type 0} (g : Ghosts S) (old new : Held S) (result : Result MetaRow Fault) : Type 0 where
+  pub looks : Looks g old new
+  pub gets : OfMaps (λ maps row. maps meta_place (number_key 1) ≡ Some (meta_cells row)) g old new result
+  pub alone : HasCleanDisk (state g new) → IfOk result (λ row. (maps : Maps) → Holds schema (state g old).now maps
+      → IsLone (maps meta_place) row)
+  pub limits : IfOk result IsMeta
+  pub stored : IsStoredIn (λ maps. (r : MetaRow) → IsMeta r → maps meta_place (number_key 1) ≡ Some (meta_cells r)
+      → ¬ IsLone (maps meta_place) r) g old new result
+  pub shows : OfPicture (λ P row. row ≡ P.meta) g old new result
+  pub sound : IsSoundIn (λ P. IsMeta P.meta) g old new result
+  pub view : Views (λ P row. row ≡ P.meta) g old new result
+
+-- Whether a branch is closed singly on a day. No row is read, so none is outside its limits.
+pub record GetsDay {S : Type 0} (branch day : ℕ)
+    (g : Ghosts S) (old new : Held S) (result : Result Bool Fault) : Type 0 where
+  pub looks : Looks g old new
+  pub gets : OfMaps (λ maps there. is_some (maps closed_days_place (pair_key branch day)) ≡ there) g old new result
+  pub shows : OfPicture (λ P there. there ≡ P.closed_days branch day) g old new result
+  pub sound : result ≢ Err Stored
+  pub view : Views (λ P there. there ≡ P.closed_days branch day) g old new result
+
+-- What is kept under a caller's key, if anything is.
+pub record GetsKept {S : Type 0} (owner : Owner) (key : List ℕ)
+    (g : Ghosts S) (old new : Held S) (result : Result (Option KeptReply) Fault) : Type 0 where
+  pub looks : Looks g old new
+  pub gets : OfMaps (λ maps kept. maps kept_place (kept_key owner key) ≡ option_map (kept_with owner key) kept) g old new result
+  pub stored : IsStoredIn (λ maps. (r : KeptRow) → IsUtf8 r.text → IsUtf8 r.reply
+      → maps kept_place (kept_key owner key) ≢ Some (kept_cells r)) g old new result
+  pub shows : HasCleanDisk (state g new) → IfOk result (λ kept. (P : Picture) → HasPicture (state g old).now P
+      → IsOwner owner → (kept ≡ option_map reply_of (P.kept owner key)) × IsUnchanged (state g old) (state g new))
+  pub sound : HasCleanDisk (state g new) → (P : Picture) → HasPicture (state g old).now P → IsOwner owner
+      → IfSome (P.kept owner key) HasTexts → result ≢ Err Stored
+  pub view : Views (λ P kept. IsOwner owner → kept ≡ option_map reply_of (P.kept owner key)) g old new result
+
+-- The row that a selection finds first, if there is one.
+pub record Selects {S K R : Type 0} (t : Table K R) (Found : Maps → List Row → Type 0)
+    (g : Ghosts S) (old new : Held S) (result : Result (Option R) Fault) : Type 0 where
+  pub looks : Looks g old new
+  pub first : OfMaps (λ maps row. Found maps (map t.cells (option_to_list row))) g old new result
+  pub limits : IfOk result (λ row. IfSome row t.IsLegal)
+  pub stored : IsStoredIn (λ maps. ¬ AreEncoded t.cells t.IsLegal (maps t.place)) g old new result
+  pub read : Reading (result_err result) (state g old) (state g new)
+
+-- The number that a text counts. The fault of a stored row comes where it counts no number below 2^32.
+pub record CountShown {S : Type 0} (text : List ℕ) (given : Row)
+    (g : Ghosts S) (old new : Held S) (result : Result ℕ Fault) : Type 0 where
+  pub asks : Asks text given g old new
+  pub counts : HasCleanDisk (state g new) → IfOk result (λ n. (row : Row)
+      × FindsRow text given (state g old) (state g new) (Some row) × (column row 0 ≡ number n) × (n ≤ 4294967295))
+  pub stored : HasCleanDisk (state g new) → result ≡ Err Stored → (row : Row)
+      × FindsRow text given (state g old) (state g new) (Some row)
+      × (0 < length row → (n : ℕ) → n ≤ 4294967295 → column row 0 ≢ number n)
+
+-- How many rows of a table pass a test. The fault of a stored row stands for 2^32 and more.
+pub record Counts {S K R : Type 0} (t : Table K R) (passes : Row → Bool)
+    (g : Ghosts S) (old new : Held S) (result : Result ℕ Fault) : Type 0 where
+  pub looks : Looks g old new
+  pub counts : OfMaps (λ maps n. Count (maps t.place) passes n) g old new result
+  pub stored : IsStoredIn (λ maps. (n : ℕ) × Count (maps t.place) passes n × (4294967295 < n)) g old new result
+
+-- All rows that a text shows, each within its limits.
+pub record AllEntries {S R L : Type 0} (items : L → List R) (cells : R → Row) (IsLegal : R → Type 0)
+    (text : List ℕ) (given : Row) (g : Ghosts S) (old new : Held S) (result : Result L Fault) : Type 0 where
+  pub asks : Asks text given g old new
+  pub shown : HasCleanDisk (state g new)
+      → IfOk result (λ l. Shown text given (state g old) (state g new) (map cells (items l)))
+  pub limits : IfOk result (λ l. All IsLegal (items l))
+  pub stored : HasCleanDisk (state g new) → result ≡ Err Stored
+      → (rows : List Row) × Shown text given (state g old) (state g new) rows
+      × ¬ ((v : Row) → Has rows v → (r : R) × IsLegal r × (v ≡ cells r))
+
+-- The rows of a table that a list takes, in its order.
+pub record Lists {S K R L : Type 0} (t : Table K R) (items : L → List R) (Found : Map → List Row → Type 0)
+    (g : Ghosts S) (old new : Held S) (result : Result L Fault) : Type 0 where
+  pub looks : Looks g old new
+  pub lists : OfMaps (λ maps l. Found (maps t.place) (map t.cells (items l))) g old new result
+  pub limits : IfOk result (λ l. All t.IsLegal (items l))
+  pub stored : IsStoredIn (λ maps. ¬ AreEncoded t.cells t.IsLegal (maps t.place)) g old new result
+  pub sound : IsSoundIn InLimits g old new result
+  pub read : Reading (result_err result) (state g old) (state g new)
+
+-- The days on which a branch is closed singly.
+pub record ListsDays {S L : Type 0} (items : L → List ℕ) (branch : ℕ)
+    (g : Ghosts S) (old new : Held S) (result : Result L Fault) : Type 0 where
+  pub looks : Looks g old new
+  pub days : OfMaps (λ maps l. AreClosedDays (maps closed_days_place) branch (items l)) g old new result
+  pub limits : IfOk result (λ l. All IsDayNumber (items l))
+  pub stored : IsStoredIn (λ maps. ¬ AreEncoded day_cells IsClosedDay (maps closed_days_place)) g old new result
+  pub shows : OfPicture (λ P l. AreSuch (items l) (P.closed_days branch)) g old new result
+  pub view : Views (λ P l. AreSuch (items l) (P.closed_days branch)) g old new result

@@ -1,0 +1,59 @@
+-- What a desk shows when it is made, and after many requests.
+use Rattle.std.specs.Prelude.{◌≡◌, ◌≤◌, ◌+◌, ℕ, List, [], length, take, Vec, vec_len, Result, IfOk, IfErr}
+use Rattle.store.specs.Library.{Ghosts, Held, state, IsClean, IsOpen}
+use Rattle.store.specs.Commit.{empty_library}
+use Rattle.store.specs.Stops.{KeepsPicture}
+use Rattle.circ_tables.specs.Encoding.{HasPicture}
+use Rattle.terms.specs.Pictures.{Picture}
+use Rattle.terms.specs.declared.command.Request.{Request}
+use Rattle.terms.specs.declared.fault.Fault.{Fault}
+use Rattle.terms.specs.declared.reply.Reply.{Reply}
+use Rattle.model.specs.History.{History}
+use Rattle.model.specs.Requests.{after, after_one, replies as replies_to}
+use Rattle.desk.specs.Answering.{Handled, Shows, LeavesOneOf}
+use Rattle.desk.specs.Headline.{Headline}
+
+-- A desk was made over the tables of a store.
+pub record Begins {S E : Type 0}
+    (g : Ghosts S) (store : Held S) (result : Result (Held S) E) : Type 0 where
+  -- it holds these tables
+  pub same : IfOk result (λ desk. desk ≡ store)
+  -- the tables of a new library show the empty list of accepted requests
+  pub begins : IfOk result
+      (λ desk. KeepsPicture (state g store) empty_library → Shows (state g desk) [])
+
+-- The tables show the headline of the list of accepted requests.
+abbrev pub ShowsHeadline : {S : Type 0} → Ghosts S → Held S → History → Type 0
+ShowsHeadline g held H = (T : Picture) × HasPicture (state g held).now T × Headline H T
+
+-- A request was handled.
+pub record Handles {S : Type 0} (request : Request)
+    (g : Ghosts S) (old new : Held S) (result : Result Reply Fault) : Type 0 where
+  pub handled : Handled request g old new result
+  -- of the list after it the tables show the headline
+  pub headline : IsClean g new → IfOk result (λ _. (H : History) → Shows (state g old) H
+      → ShowsHeadline g new (after_one H request))
+
+-- The requests were handled one after another: all of them, or those before a fault.
+pub record Ran {S Z : Type 0} (requests : List Request)
+    (g : Ghosts S) (old new : Held S)
+    (result : Result (Vec Reply Z) (Vec Reply Z × Fault)) : Type 0 where
+  -- each request has a reply
+  pub many : IfOk result (λ replies. vec_len replies ≡ length requests)
+  -- before a fault no more than that
+  pub few : IfErr result (λ end. vec_len end.0 ≤ length requests)
+  pub clean : IsClean g new → IsClean g old
+  -- the replies are those that the list of accepted requests gives, and the tables show the list
+  -- after the requests
+  pub ran : IsClean g new → IfOk result (λ replies. (H : History) → Shows (state g old) H
+      → (replies.items ≡ replies_to H requests) × Shows (state g new) (after H requests))
+  -- of that list the tables show the headline
+  pub headline : IsClean g new → IfOk result (λ _. (H : History) → Shows (state g old) H
+      → ShowsHeadline g new (after H requests))
+  -- a fault came at the request after the first n: the replies are theirs, the tables show the list
+  -- after them, as long as the database is open, and a stop leaves that or what that request leaves
+  -- too
+  pub stopped : IsClean g new → IfErr result (λ end. (H : History) → Shows (state g old) H
+      → (n : ℕ) × (n ≤ length requests) × (end.0.items ≡ replies_to H (take n requests))
+      × (IsOpen g new → Shows (state g new) (after H (take n requests)))
+      × LeavesOneOf (state g new) (after H (take n requests)) (after H (take (n + 1) requests)))

@@ -1,0 +1,142 @@
+//! The calls under test, with no clauses: so a test with many of them is proved fast. Each is generic over the database's
+//! store, so that what it is proved from stays small.
+
+use circ::{Exit, Report, WriteFault};
+use desk::Desk;
+use sqlite::{Alter, Connection, FileStore, Files, Options};
+use sqlite_disk::{Crash, Disk};
+use std::alloc::Global;
+use std::io::{Read, Write};
+use store::Store;
+use terms::{Fault, Key, Reply, Request};
+
+/// Has one request by words handled, and its line written.
+pub fn one<S: Alter, W: Write>(
+    desk: &mut Desk<S>,
+    alloc: Global,
+    key: Key,
+    words: &[String],
+    writer: &mut W,
+) -> Result<Exit, WriteFault> {
+    circ::one(desk, alloc, key, words, writer)
+}
+
+/// Has a report written.
+pub fn report<S: Alter, W: Write>(
+    desk: &mut Desk<S>,
+    alloc: Global,
+    wanted: &Report,
+    writer: &mut W,
+) -> Result<Exit, WriteFault> {
+    circ::report(desk, alloc, wanted, writer)
+}
+
+/// Has a copies file taken in, and its lines written.
+pub fn import<S: Alter, R: Read + Drop, W: Write>(
+    desk: &mut Desk<S>,
+    alloc: Global,
+    reader: R,
+    writer: &mut W,
+) -> Result<Exit, WriteFault> {
+    circ::import(desk, alloc, reader, writer)
+}
+
+/// Has a request handled.
+pub fn handle<S: Alter>(
+    desk: &mut Desk<S>,
+    alloc: Global,
+    request: &Request,
+) -> Result<Reply, Fault> {
+    desk.handle(alloc, request)
+}
+
+/// Has a list of requests handled; the fault that ended it comes without the replies before it.
+pub fn run<S: Alter>(
+    desk: &mut Desk<S>,
+    alloc: Global,
+    requests: &[Request],
+) -> Result<Vec<Reply>, Fault> {
+    match desk.run(alloc, requests) {
+        Ok(replies) => Ok(replies),
+        Err((_, fault)) => Err(fault),
+    }
+}
+
+/// The database under a desk.
+pub fn connection<S: Alter>(desk: Desk<S>) -> Connection<S> {
+    desk.into_store().into_connection()
+}
+
+/// The store over tables that were made.
+pub fn open<S: Alter + Drop>(conn: Connection<S>) -> Result<Store<S>, Fault> {
+    Store::open(conn)
+}
+
+/// The store over new tables.
+pub fn create<S: Alter + Drop>(conn: Connection<S>) -> Result<Store<S>, Fault> {
+    Store::create(conn)
+}
+
+/// The desk over a store.
+pub fn desk_over<S: Alter + Drop>(store: Store<S>) -> Result<Desk<S>, Fault> {
+    Desk::new(store)
+}
+
+/// The store under a desk.
+pub fn store<S: Alter>(desk: Desk<S>) -> Store<S> {
+    desk.into_store()
+}
+
+/// The database under a store.
+pub fn connection_of<S: Alter>(store: Store<S>) -> Connection<S> {
+    store.into_connection()
+}
+
+/// The database in two files.
+pub fn connect<D: Disk + Drop>(
+    alloc: Global,
+    files: Files<D>,
+    options: Options,
+) -> Result<Connection<FileStore<D>>, Fault> {
+    if !files.may_be_used() {
+        return Err(Fault::Closed);
+    }
+    match Connection::open_files(alloc, files, options) {
+        Ok(conn) => Ok(conn),
+        Err(_) => Err(Fault::Database),
+    }
+}
+
+/// The store over two files.
+pub fn open_files<D: Disk + Drop>(
+    alloc: Global,
+    files: Files<D>,
+    options: Options,
+) -> Result<Store<FileStore<D>>, Fault> {
+    Store::open_files(alloc, files, options)
+}
+
+/// The two files of a store, as they were written.
+pub fn into_files<D: Disk + Drop>(store: Store<FileStore<D>>) -> Files<D> {
+    store.into_files()
+}
+
+/// The two files of a database, with its log copied into the other; none where that fails.
+pub fn close_files<D: Disk + Drop>(conn: Connection<FileStore<D>>) -> Option<Files<D>> {
+    match conn.close_files() {
+        Ok(files) => Some(files),
+        Err((_, store)) => {
+            drop(store.close());
+            None
+        }
+    }
+}
+
+/// The store over two files that lost what was not synced.
+pub fn restart<D: Crash + Drop>(
+    store: Store<FileStore<D>>,
+    alloc: Global,
+    options: Options,
+) -> Result<Store<FileStore<D>>, Fault> {
+    store.restart(alloc, options)
+}

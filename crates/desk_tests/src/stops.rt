@@ -1,0 +1,281 @@
+//! Stops: a fuse in one of the two files of a library blows in the midst of a check-out.
+
+use crate::calls::{
+    close_files, connect, connection, connection_of, create, desk_over, into_files, open_files,
+    restart, store,
+};
+use crate::ground::{GROUND, answer, check, opened, request, rows};
+use sqlite::{Alter, Connection, FileStore, Files, Options};
+use sqlite_disk::{Crash, Disk, Fuse, Memory};
+use std::alloc::Global;
+use std::io;
+use std::process::Abort;
+use std::test::Fail;
+use store::Store;
+
+/// Little is kept in memory, so that a check-out reads and writes the files early and copies the log at its end.
+fn options() -> Options {
+    Options {
+        cache_pages: 4,
+        spill_pages: 2,
+        checkpoint_frames: 4,
+        seed: 1,
+    }
+}
+
+/// A file with these bytes, all of them synced.
+fn copy(alloc: Global, bytes: &[u8]) -> io::Result<Memory> {
+    let mut made = Memory::new(alloc);
+    made.write_at(0, bytes)?;
+    made.sync()?;
+    Ok(made)
+}
+
+/// Two empty files, as those of the small library.
+fn filled_in<D: Disk + Drop>(
+    rt: &impl Abort,
+    alloc: Global,
+    files: Files<D>,
+) -> Result<Files<D>, Fail> {
+    let mut desk = desk_over(create(connect(alloc, files, options())?)?)?;
+    check(rt, alloc, &mut desk, &GROUND)?;
+    Ok(close_files(connection(desk)).ok_or("a close")?)
+}
+
+/// The two files of the small library.
+fn filled(rt: &impl Abort, alloc: Global) -> Result<Files<Memory>, Fail> {
+    let files = Files {
+        log: Memory::new(alloc),
+        db: Memory::new(alloc),
+    };
+    filled_in(rt, alloc, files)
+}
+
+/// Copies of the files, each with a fuse that blows after so many calls.
+fn fused(
+    alloc: Global,
+    base: &Files<Memory>,
+    log_calls: u64,
+    db_calls: u64,
+) -> io::Result<Files<Fuse<Memory>>> {
+    Ok(Files {
+        log: Fuse::new(copy(alloc, base.log.bytes())?, log_calls),
+        db: Fuse::new(copy(alloc, base.db.bytes())?, db_calls),
+    })
+}
+
+/// The rows of the small library, table by table, with three that a check-out changes: a part of `meta`, `loans`
+/// and the last of `kept`.
+fn tables(alloc: Global, next: &str, loans: &str, kept: &str) -> Result<String, Fail> {
+    Ok(format!(in alloc;
+        "\n1|1|20514|{next}|1|1|;\
+        \n1|5|ooooooc|Main|;2|3|coooooc|Harbour|;\
+        \n\
+        \n1|5|5|500|;\
+        \n1|1|6|1|20|100|;1|2|12|1|20|100|;\
+        \n1|1|cardkey00001|Ann Bell|0|;2|1|cardkey00002|Bo Carr|0|;3|1|cardkey00003|Cy Dunn|0|;\
+        \n100|Rivers of the North|;200|Salt Roads|;300|Night Ferries|;\
+        \n10|100|1|1|2500|0|;11|100|1|1|2500|0|;20|200|1|2|1200|0|;30|300|2|1|800|0|;\
+        \n{loans}\
+        \n\
+        \n\
+        \n\
+        \n0|g1|begin-day 2026-03-02|ok|;0|g2|branch 1 5 Main|ok|;0|g3|branch 2 3 Harbour|ok|;\
+        0|g4|week 1 ooooooc|ok|;0|g5|week 2 coooooc|ok|;0|g6|kind 1 5 5 500|ok|;\
+        0|g7|rule 1 1 6 1 20 100|ok|;0|g8|rule 1 2 12 1 20 100|ok|;\
+        0|g9|patron 1 1 cardkey00001 Ann Bell|ok|;0|g10|patron 2 1 cardkey00002 Bo Carr|ok|;\
+        0|g11|patron 3 1 cardkey00003 Cy Dunn|ok|;0|g12|acquire 10 100 1 1 2500 Rivers of the North|ok|;\
+        0|g13|acquire 11 100 1 1 2500 Rivers of the North|ok|;0|g14|acquire 20 200 1 2 1200 Salt Roads|ok|;\
+        0|g15|acquire 30 300 2 1 800 Night Ferries|ok|;{kept}"
+    )?)
+}
+
+/// The tables before the check-out.
+fn before(alloc: Global) -> Result<String, Fail> {
+    tables(alloc, "1", "", "")
+}
+
+/// The tables after the check-out.
+fn after(alloc: Global) -> Result<String, Fail> {
+    tables(
+        alloc,
+        "2",
+        "1|10|1|1|20514|20521|6|1|20|100|none|;",
+        "0|k1|check-out 1 10 1|loan 1 due 2026-03-09|;",
+    )
+}
+
+/// The answer to the check-out, and the store as it is left.
+fn lent<D: Disk + Drop>(
+    alloc: Global,
+    files: Files<D>,
+) -> Result<(String, Store<FileStore<D>>), Fail> {
+    let mut desk = desk_over(open_files(alloc, files, options())?)?;
+    let lending = request(alloc, "k1", "check-out 1 10 1")?;
+    let told = answer(&mut desk, alloc, &lending)?;
+    Ok((told, store(desk)))
+}
+
+/// All rows of a store.
+fn shown<S: Alter + Drop>(alloc: Global, store: Store<S>) -> Result<String, Fail> {
+    rows(alloc, &mut connection_of(store))
+}
+
+/// What was told is the loan or fault 91, and the rows are those after it, or before it where it was not told.
+fn judge(rt: &impl Abort, alloc: Global, told: &str, found: &str) -> Result<bool, Fail> {
+    let is_lent = told == "loan 1 due 2026-03-09";
+    assert!(rt; is_lent || told == "fault 91", "{told}");
+    let (before, after) = (before(alloc)?, after(alloc)?);
+    assert!(rt;
+        found == after.as_str() || (!is_lent && found == before.as_str()),
+        "{told} {found}"
+    );
+    Ok(is_lent)
+}
+
+/// The answer to the check-out, and the files as they were written.
+fn lent_in<D: Disk + Drop>(alloc: Global, files: Files<D>) -> Result<(String, Files<D>), Fail> {
+    let (told, store) = lent(alloc, files)?;
+    Ok((told, into_files(store)))
+}
+
+/// All rows that two files have.
+fn shown_in<D: Disk + Drop>(alloc: Global, files: Files<D>) -> Result<String, Fail> {
+    shown(alloc, open_files(alloc, files, options())?)
+}
+
+/// The files behind the fuses, of which each may have lost what was not synced.
+fn left(
+    alloc: Global,
+    mut files: Files<Fuse<Memory>>,
+    loses: (bool, bool),
+) -> io::Result<Files<Memory>> {
+    if loses.0 {
+        files.log.crash();
+    }
+    if loses.1 {
+        files.db.crash();
+    }
+    Ok(Files {
+        log: copy(alloc, files.log.inner().bytes())?,
+        db: copy(alloc, files.db.inner().bytes())?,
+    })
+}
+
+/// The desk is dropped with its files as they were written, save that each may lose what was not synced.
+fn dropped(
+    rt: &impl Abort,
+    alloc: Global,
+    files: Files<Fuse<Memory>>,
+    loses: (bool, bool),
+) -> Result<bool, Fail> {
+    let (told, files) = lent_in(alloc, files)?;
+    let found = shown_in(alloc, left(alloc, files, loses)?)?;
+    judge(rt, alloc, &told, &found)
+}
+
+/// The answer to the check-out, and the store after the machine stopped.
+fn lent_and_restarted<D: Crash + Drop>(
+    alloc: Global,
+    files: Files<D>,
+) -> Result<(String, Store<FileStore<D>>), Fail> {
+    let (told, store) = lent(alloc, files)?;
+    Ok((told, restart(store, alloc, options())?))
+}
+
+/// The same request with the same key is answered with the loan, and is done once.
+fn repeated<S: Alter + Drop>(
+    rt: &impl Abort,
+    alloc: Global,
+    conn: Connection<S>,
+) -> Result<(), Fail> {
+    let mut desk = opened(conn)?;
+    let lending = [("k1", "check-out 1 10 1", "0 loan 1 due 2026-03-09")];
+    check(rt, alloc, &mut desk, &lending)?;
+    let (found, after) = (shown(alloc, store(desk))?, after(alloc)?);
+    assert_eq!(rt; found.as_str(), after.as_str());
+    Ok(())
+}
+
+/// The machine stops; then the same request with the same key is answered with the loan, and is done once.
+fn restarted<D: Crash + Drop>(
+    rt: &impl Abort,
+    alloc: Global,
+    files: Files<D>,
+) -> Result<bool, Fail> {
+    let (told, store) = lent_and_restarted(alloc, files)?;
+    let mut conn = connection_of(store);
+    let found = rows(alloc, &mut conn)?;
+    let is_lent = judge(rt, alloc, &told, &found)?;
+    repeated(rt, alloc, conn)?;
+    Ok(is_lent)
+}
+
+/// Every way to leave the files at one stop; whether the check-out was told.
+fn every_end(
+    rt: &impl Abort,
+    alloc: Global,
+    base: &Files<Memory>,
+    log_calls: u64,
+    db_calls: u64,
+) -> Result<bool, Fail> {
+    for loses in [(false, false), (true, false), (false, true)] {
+        dropped(rt, alloc, fused(alloc, base, log_calls, db_calls)?, loses)?;
+    }
+    restarted(rt, alloc, fused(alloc, base, log_calls, db_calls)?)
+}
+
+/// Whether the files are opened.
+fn opens<D: Disk + Drop>(alloc: Global, files: Files<D>) -> bool {
+    open_files(alloc, files, options()).is_ok()
+}
+
+/// The most calls after which an open of the library is still stopped.
+fn calls_of_open(alloc: Global, base: &Files<Memory>, is_log: bool) -> Result<u64, Fail> {
+    let mut calls = 0u64;
+    for bit in [512u64, 256, 128, 64, 32, 16, 8, 4, 2, 1] {
+        let more = calls | bit;
+        let (log_calls, db_calls) = if is_log {
+            (more, u64::MAX)
+        } else {
+            (u64::MAX, more)
+        };
+        let files = fused(alloc, base, log_calls, db_calls)?;
+        if !opens(alloc, files) {
+            calls = more;
+        }
+    }
+    Ok(calls)
+}
+
+/// The fuse blows at each call of the check-out in turn, until the loan is told; how many stops were before it.
+fn stops(rt: &impl Abort, alloc: Global, is_log: bool) -> Result<u64, Fail> {
+    let base = filled(rt, alloc)?;
+    let open = calls_of_open(alloc, &base, is_log)?;
+    for at in 1..200u64 {
+        let calls = open.saturating_add(at);
+        let (log_calls, db_calls) = if is_log {
+            (calls, u64::MAX)
+        } else {
+            (u64::MAX, calls)
+        };
+        if every_end(rt, alloc, &base, log_calls, db_calls)? {
+            return Ok(at);
+        }
+    }
+    Err("the loan was never told".into())
+}
+
+#[test]
+fn a_stop_at_each_call_of_the_log_leaves_all_or_nothing(rt: HostRuntime) -> Result<(), Fail> {
+    let stops = stops(&rt, rt.alloc(), true)?;
+    assert!(rt; stops > 1, "{stops}");
+    Ok(())
+}
+
+#[test]
+fn a_stop_at_each_call_of_the_database_leaves_all_or_nothing(rt: HostRuntime) -> Result<(), Fail> {
+    let stops = stops(&rt, rt.alloc(), false)?;
+    assert!(rt; stops > 1, "{stops}");
+    Ok(())
+}

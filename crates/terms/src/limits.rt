@@ -1,0 +1,56 @@
+//! The limits of numbers, amounts and texts, each under one name for the code and the definitions.
+
+/// The greatest number of a branch, a kind of patron or a kind of copy. The least is 1, as of every
+/// number below.
+pub const LAST_SMALL_NUMBER: u32 = 99;
+
+/// The greatest number of a patron, a title or a copy.
+pub const LAST_LARGE_NUMBER: u32 = 9_999_999;
+
+/// The greatest number of a loan, a hold or a line.
+pub const LAST_NUMBER: u32 = 2_147_483_647;
+
+/// The greatest next number of a loan, a hold or a line, which says that they are used up.
+pub const LAST_NEXT_NUMBER: u32 = 2_147_483_648;
+
+/// The last day that can be today: 2190-12-31.
+pub const LAST_TODAY: u32 = 80718;
+
+/// The longest loan period, in days. The shortest is 1.
+pub const LONGEST_PERIOD: u32 = 365;
+
+/// The longest pick-up period, in days.
+pub const LONGEST_PICKUP: u32 = 60;
+
+/// How many renewals a circulation rule can allow.
+pub const MOST_RENEWALS: u32 = 99;
+
+/// How many open loans, and how many active holds, a kind of patron can be allowed.
+pub const MOST_ALLOWED: u32 = 200;
+
+/// The highest rate of a fine, in cents for a day.
+pub const HIGHEST_RATE: u64 = 10_000;
+
+/// The highest cap of a fine, in cents.
+pub const HIGHEST_CAP: u64 = 100_000;
+
+/// The highest price of a copy, in cents.
+pub const HIGHEST_PRICE: u64 = 1_000_000;
+
+/// The most that a kind of patron can be allowed to owe at a check-out, in cents.
+pub const HIGHEST_DEBT: u64 = 1_000_000;
+
+/// The greatest sum of money, in cents: 2^52 - 1.
+pub const LARGEST_SUM: u64 = 4_503_599_627_370_495;
+
+/// The longest name or title's text, in bytes.
+pub const LONGEST_NAME: usize = 120;
+
+/// The shortest card key or desk key.
+pub const SHORTEST_CARD_KEY: usize = 8;
+
+/// The longest card key or desk key.
+pub const LONGEST_CARD_KEY: usize = 32;
+
+/// The longest key of a request that is given from outside.
+pub const LONGEST_KEY: usize = 40;
