@@ -25,7 +25,8 @@ use Rattle.circ_core.specs.Tables.{changed, SameRows}
 use Rattle.circ_core.specs.Views.{IsTravelFor, IsCancelHoldView}
 use Rattle.circ_core.specs.Decides.{event}
 use Rattle.circ_core.proofs.Meets.{Meets, SameChecks}
-use Rattle.circ_core.proofs.Rows.{eq-sym, some-is, and-true}
+use Rattle.model.proofs.ClosedDays.{eq-sym}
+use Rattle.circ_core.proofs.Rows.{some-is, and-true}
 use Rattle.circ_core.proofs.Rising.{find-same}
 use Rattle.circ_core.proofs.Claims.{hold_row-from}
 use Rattle.circ_core.proofs.FirstInLine.{bound-is, transit-is, waiting-is}

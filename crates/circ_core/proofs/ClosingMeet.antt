@@ -2,11 +2,8 @@
 use Rattle.calendar.specs.declared.limits.TheConstants.{MOST_CLOSED_DAYS}
 use Rattle.std.proofs.Common.{◌≡◌, ℕ, ◌==◌, Bool, true, false, cond, not, ◌&&◌, ◌||◌, List, [], ◌∷◌, length, refl, sym, ◌∙◌, ap}
 use Rattle.std.specs.Prelude.{Option, Some, None, filter, nat_le, IfSome}
-use Rattle.std.specs.List.{list_any, IsDistinct, AllByRecursion}
-use Rattle.std.proofs.lemmas.Bool.{eqb-true, or_parts}
-use Rattle.std.proofs.lemmas.Cmp.{nat_eq_equiv}
-use Rattle.std.proofs.lemmas.Map.Made.{length-from_same_keys}
-use Rattle.calendar.specs.Openings.{Closings, has_day, has_repeat}
+use Rattle.std.proofs.lemmas.Bool.{eqb-true}
+use Rattle.calendar.specs.Openings.{Closings, has_repeat}
 use Rattle.terms.specs.declared.command.Command.TheVariants.{CloseDay, OpenDay}
 use Rattle.terms.specs.declared.reply.Reply.TheVariants.{Done}
 use Rattle.terms.specs.Pictures.{put_pair}
@@ -15,28 +12,14 @@ use Rattle.model.specs.Calendar.{is_single}
 use Rattle.model.specs.History.{History, singles_of}
 use Rattle.model.specs.Refusals.{has_branch}
 use Rattle.model.specs.Picture.{picture}
+use Rattle.model.proofs.ClosedDays.{as-many, eq-sym}
 use Rattle.circ_core.specs.declared.views.ClosedDayView.{ClosedDayView}
 use Rattle.circ_core.specs.Closing.{is_closed_day, has_all_days, close_day_checks, close_day_rows, open_day_checks, open_day_rows}
 use Rattle.circ_core.specs.Views.{IsCalendarOf, IsClosedDayView}
 use Rattle.circ_core.proofs.Meets.{Meets}
 use Rattle.circ_core.proofs.OpenMeet.{calendar_there}
-use Rattle.circ_core.proofs.Rows.{eq-sym}
 
 -- ---- lists of days
-
-same_any : (x : ℕ) (xs : List ℕ) → list_any (λ y. x == y) xs ≡ has_day xs x
-same_any x [] = refl
-same_any x (y ∷ xs) = ap (λ b. b || list_any (λ z. x == z) xs) (eq-sym x y) ∙ ap (λ b. (y == x) || b) (same_any x xs)
-
--- Where no day stands twice, each differs from those after it.
-differs : (x : ℕ) (xs : List ℕ) → has_day xs x ≡ false → AllByRecursion (λ y. (x == y) ≡ false) xs
-differs x [] e = tt
-differs x (y ∷ xs) e = let parts : ((y == x) ≡ false) × (has_day xs x ≡ false) = or_parts _ _ e in (eq-sym x y ∙ parts.0, differs x xs parts.1)
-
-distinct : (xs : List ℕ) → has_repeat xs ≡ false → IsDistinct ◌==◌ xs
-unfolding IsDistinct
-distinct [] e = tt
-distinct (x ∷ xs) e = let parts : (has_day xs x ≡ false) × (has_repeat xs ≡ false) = or_parts _ _ e in (differs x xs parts.0, distinct xs parts.1)
 
 -- The day that is taken out isn't there any more, and every other one is as it was.
 taken : (d n : ℕ) (xs : List ℕ) → is_single (filter (λ e. not (d == e)) xs) n ≡ cond (d == n) false (is_single xs n)
@@ -69,9 +52,7 @@ module _ (H : History) (inv : Invariant H) (b d : ℕ) (rows : ClosedDayView) (w
 
   full_same : (o : Option Closings) → IsCalendarOf (picture H) b o → IfSome o (λ closings. has_repeat closings.single ≡ false) → not (has_branch H b) ≡ false
       → has_all_days o ≡ nat_le MOST_CLOSED_DAYS (length (singles_of H b))
-  full_same (Some closings) x once there = ap (nat_le MOST_CLOSED_DAYS)
-      (length-from_same_keys nat_eq_equiv closings.single (singles_of H b) (distinct closings.single once) (inv.singles_once b)
-      (λ q. same_any q closings.single ∙ x.single q ∙ sym (same_any q (singles_of H b))))
+  full_same (Some closings) x once there = ap (nat_le MOST_CLOSED_DAYS) (as-many H inv b closings.single once x.single)
   full_same None x once there = let no_branch : not (has_branch H b) ≡ true = sym (calendar_there H b None x) in let never : ⊥ = cc in absurd never
 
   -- ---- the rows

@@ -19,7 +19,7 @@ use Rattle.model.specs.Picture.{loan_columns, loan_row, hold_columns, hold_row}
 use Rattle.model.proofs.Invariants.{legal-Invariant}
 use Rattle.circ_core.specs.Owners.{names_one, LoansApart, HoldsApart, OwnersAreKeptApart}
 use Rattle.circ_core.proofs.Claims.{loan_row-is, hold_row-is, hold_row-from}
-use Rattle.circ_core.proofs.Rows.{eq-sym}
+use Rattle.model.proofs.ClosedDays.{eq-sym}
 
 and_false : (a b : Bool) → b ≡ false → (a && b) ≡ false
 and_false true b e = e

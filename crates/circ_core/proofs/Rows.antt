@@ -4,17 +4,9 @@ use Rattle.std.specs.Prelude.{Option, Some, None, option_map, not, is_none, is_s
 use Rattle.std.specs.Option.{option_or}
 use Rattle.std.proofs.lemmas.Bool.{eqb-true, eq-eqb, and_parts, false_from_ne_true}
 use Rattle.terms.specs.Pictures.{put, put_pair}
+use Rattle.model.proofs.ClosedDays.{eq-sym}
 
 -- ---- numbers and Options
-
-pub eq-sym : (x y : ℕ) → (x == y) ≡ (y == x)
-eq-sym x y = go (x == y) refl (y == x) refl
-  where
-    go : (a : Bool) → (x == y) ≡ a → (b : Bool) → (y == x) ≡ b → a ≡ b
-    go true p true q = refl
-    go false p false q = refl
-    go true p false q = let on : (y == x) ≡ true = eq-eqb y x (sym (eqb-true x y p)) in let never : ⊥ = cc in absurd never
-    go false p true q = let on : (x == y) ≡ true = eq-eqb x y (sym (eqb-true y x q)) in let never : ⊥ = cc in absurd never
 
 pub is_none-map : {A B : Type 0} (f : A → B) (o : Option A) → is_none (option_map f o) ≡ is_none o
 is_none-map f (Some x) = refl

@@ -111,7 +111,7 @@ impl<'a> Changes<'a> {
     }
 
     /// The changes with one more at the end, of at most six.
-    pub fn with(self, change: RowChange<'a>) -> Self
+    pub(crate) fn with(self, change: RowChange<'a>) -> Self
         requires { length self ≤ 5 }
         ensures { result ≡ self.entry ++ change.entry ∷ [] }
     {

@@ -20,22 +20,32 @@ use Rattle.model.proofs.Bindings.{IsBound, kept-is, kept-found, find-some}
 use Rattle.model.proofs.Legal.{legal-bound, some-none}
 use Rattle.model.proofs.LoanLaws.{legal-LoanLaws}
 
-map-some : {A B : Type 0} (f : A → B) (o : Option A) (r : B) → option_map f o ≡ Some r → (x : A) × (o ≡ Some x) × (f x ≡ r)
+pub map-some : {A B : Type 0} (f : A → B) (o : Option A) (r : B) → option_map f o ≡ Some r
+    → (x : A) × (o ≡ Some x) × (f x ≡ r)
 map-some f (Some x) r e = let same : f x ≡ r = cc in (x, refl, same)
 map-some f None r e = let never : ⊥ = cc in absurd never
 
-then-some : {A B : Type 0} (f : A → Option B) (o : Option A) (r : B) → option_and_then f o ≡ Some r → (x : A) × (o ≡ Some x) × (f x ≡ Some r)
+then-some : {A B : Type 0} (f : A → Option B) (o : Option A) (r : B)
+    → option_and_then f o ≡ Some r → (x : A) × (o ≡ Some x) × (f x ≡ Some r)
 then-some f (Some x) r e = (x, refl, e)
 then-some f None r e = let never : ⊥ = cc in absurd never
 
-where_bound : Option TransitRow → Place
-where_bound (Some r) = Transit r.goal r.hold
-where_bound None = Nowhere
+-- The place and the number of a copy that has a transit row.
+pub transit-place : (c : ℕ) (r : TransitRow) (p : Place) → transit_at c p ≡ Some r
+    → (p ≡ Transit r.goal r.hold) × (r.copy ≡ c)
+transit-place c r (Transit g h) e =
+    let same : ◌≡◌ {A = TransitRow} (record { copy = c; goal = g; hold = h }) r = cc in
+    subst (λ x. (Transit g h ≡ Transit x.goal x.hold) × (x.copy ≡ c)) same (refl, refl)
+transit-place c r _ e = let never : ⊥ = cc in absurd never
 
-transit-place : (c g : ℕ) (h : Option ℕ) (p : Place) → transit_at c p ≡ Some (record { copy = c; goal = g; hold = h }) → p ≡ Transit g h
-unfolding where_bound
-transit-place c g h (Transit a b) e = ap where_bound e
-transit-place c g h _ e = let never : ⊥ = cc in absurd never
+-- The state and the facts of a hold that has a row.
+pub hold-facts : (H : History) (h : ℕ) (r : HoldRow) → hold_row H h ≡ Some r
+    → (s : HoldState) × (f : HoldFacts) × (state H h ≡ Some s) × (hold_of H h ≡ Some f)
+    × (hold_columns H h s f ≡ r)
+hold-facts H h r row =
+    let s = then-some (λ t. option_map (hold_columns H h t) (hold_of H h)) (state H h) r row in
+    let f = map-some (hold_columns H h s.0) (hold_of H h) r s.2 in
+    (s.0, f.0, s.1, f.1, f.2)
 
 missing-place : (p : Place) → condition_at p ≡ Missing → p ≡ MissingCopy
 missing-place MissingCopy e = refl
@@ -51,11 +61,9 @@ module _ (H : History) (legal : IsLegal H) where
 
   hold-claim : (c h : ℕ) (r : HoldRow) → hold_row H h ≡ Some r → r.copy ≡ Some c → r.state ≡ Ready → place H c ≡ HoldShelf h
   hold-claim c h r row copy ready =
-      let a : (s : HoldState) × (state H h ≡ Some s) × (option_map (hold_columns H h s) (hold_of H h) ≡ Some r) =
-      then-some (λ s. option_map (hold_columns H h s) (hold_of H h)) (state H h) r row in
-      let b : (x : HoldFacts) × (hold_of H h ≡ Some x) × (hold_columns H h a.0 x ≡ r) = map-some (hold_columns H h a.0) (hold_of H h) r a.2 in
-      let is_ready' : a.0 ≡ Ready = ap (λ q. q.state) b.2 ∙ ready in
-      let held : if_ready (Some a.0) (kept_for H h) ≡ Some c = ap (λ q. q.copy) b.2 ∙ copy in
+      let a = hold-facts H h r row in
+      let is_ready' : a.0 ≡ Ready = ap (λ q. q.state) a.4 ∙ ready in
+      let held : if_ready (Some a.0) (kept_for H h) ≡ Some c = ap (λ q. q.copy) a.4 ∙ copy in
       let kept : kept_for H h ≡ Some c = subst (λ s. if_ready (Some s) (kept_for H h) ≡ Some c) is_ready' held in
       kept-is (place H c) h (find-some (λ d. is_kept_for (place H d) h) (copies H) c kept)
 
@@ -73,7 +81,8 @@ module _ (H : History) (legal : IsLegal H) where
   pub claims-place : (c : ℕ) (q : Place) → Claims (picture H) c q → place H c ≡ q
   claims-place c (Loan l) x = loan-claim c l x.0 x.1 x.2 x.3
   claims-place c (HoldShelf h) x = hold-claim c h x.0 x.1 x.2 x.3
-  claims-place c (Transit g h) x = transit-place c g h (place H c) x
+  claims-place c (Transit g h) x = (transit-place c (record { copy = c; goal = g; hold = h })
+      (place H c) x).0
   claims-place c MissingCopy x = missing-place (place H c) (condition-claim c x.0 x.1 ∙ x.2)
   claims-place c WithdrawnCopy x = withdrawn-place (place H c) (condition-claim c x.0 x.1 ∙ x.2)
   claims-place c Nowhere x = absurd x

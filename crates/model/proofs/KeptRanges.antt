@@ -41,7 +41,8 @@ use Rattle.model.proofs.DueDayLaws.{first_due-is, limit_now-is}
 use Rattle.model.proofs.Repeats.{same_owner-is}
 use Rattle.model.proofs.Runs.{forms-whole}
 use Rattle.model.proofs.SettingRanges.{SettingRanges, legal-SettingRanges, there, none-some, some-same}
-use Rattle.model.proofs.LendingRanges.{LendingRanges, PlaceIn, legal-LendingRanges, today-in, copy-known, routed-in}
+use Rattle.model.proofs.PlaceSteps.{copy-known}
+use Rattle.model.proofs.LendingRanges.{LendingRanges, PlaceIn, legal-LendingRanges, today-in, routed-in}
 
 -- ---- days
 
@@ -186,7 +187,7 @@ module _ (H : History) (legal : IsLegal H) (forms : HasForms H) where
   unshelved-kept h ready =
       let copy = inv.bound.kept h (ready-is (state H h) ready) in
       let found : kept_for H h ≡ Some copy.0 = kept-found H copy.0 h (legal-bound H legal) copy.1 in
-      let known = copy-known H inv settings copy.0 (λ e. let never : ⊥ = cc in never) in
+      let known = copy-known H inv copy.0 (λ e. let never : ⊥ = cc in never) in
       routed-kept (route H (unwrap_or (kept_for H h) 0) (goal_of H h)) (subst (λ y. PlaceIn (route H (unwrap_or y 0) (goal_of H h))) (sym found) (handed_in copy.0 (goal_of H h) known.0 known.1))
 
   missed-kept : (c : ℕ) (at : Place) → IsKept (missed H c at)

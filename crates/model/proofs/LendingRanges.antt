@@ -1,26 +1,24 @@
 -- In every legal history whose commands have their forms: loans, holds and the places lie in their limits.
-use Rattle.terms.specs.declared.limits.TheConstants.{LAST_NUMBER}
-use Rattle.std.proofs.Common.{◌≡◌, ℕ, ◌<◌, ◌==◌, Bool, true, false, cond, not, List, [], ◌∷◌, refl, sym, ap, ◌∙◌, subst, arith}
+use Rattle.std.proofs.Common.{◌≡◌, ℕ, ◌==◌, Bool, false, cond, [], ◌∷◌, refl, sym, ap, ◌∙◌, subst, arith}
 use Rattle.std.specs.Prelude.{Option, Some, None, is_none, option_map, option_and_then, unwrap_or}
 use Rattle.std.specs.Option.{option_or}
-use Rattle.std.proofs.lemmas.Bool.{and_parts, eqb-true, leb-false}
 use Rattle.calendar.specs.Days.{IsDayNumber}
 use Rattle.terms.specs.Limits.{IsSmall, IsLarge, IsGiven}
 use Rattle.terms.specs.declared.command.Owner.{Owner}
 use Rattle.terms.specs.declared.command.Command.{Command}
-use Rattle.terms.specs.declared.command.Command.TheVariants.{Acquire, CheckOut, CheckIn, PlaceHold, CancelHold, Unshelve, UnshelveCancelled, Missing, Withdraw}
-use Rattle.terms.specs.declared.row.HoldState.TheVariants.{Waiting}
-use Rattle.model.specs.History.{History, numbers_to, today, BranchFacts, branch_of, Terms, rule_of, PatronFacts, patron_of, title_of, CopyFacts, copy_of, loans, next_loan, HoldFacts, hold_of, hold_after, holds, next_hold}
-use Rattle.model.specs.Places.{Place, Nowhere, Shelf, HoldShelf, Transit, Loan, MissingCopy, WithdrawnCopy, place, state, place_after, place_let_go, place_unshelved, is_kept_for, is_waiting, is_coming_by, line_by, route_by, route_from, route_to, goal_of, home_of, title_of_copy}
+use Rattle.terms.specs.declared.command.Command.TheVariants.{CheckOut, CheckIn, PlaceHold, Missing}
+use Rattle.model.specs.History.{History, today, Terms, rule_of, PatronFacts, patron_of, title_of, CopyFacts, copy_of, next_loan, HoldFacts, hold_of, hold_after, next_hold}
+use Rattle.model.specs.Places.{Place, Shelf, HoldShelf, Transit, Loan, place, state, route_by, goal_of, home_of}
 use Rattle.model.specs.Loans.{LoanFacts, loan_of, loan_after, ended, ended_after, is_loan_of_copy, terms_for, no_terms}
 use Rattle.model.specs.Invariant.{Invariant}
 use Rattle.model.specs.Refusals.{refusal, checks}
 use Rattle.model.specs.Requests.{IsLegal}
 use Rattle.model.specs.Forms.{HasForms}
 use Rattle.model.proofs.Passing.{passed}
-use Rattle.model.proofs.Bindings.{filter-head, waiting-is, both, not-false}
+use Rattle.model.proofs.Bindings.{not-false}
 use Rattle.model.proofs.DueDayLaws.{checked_out-terms}
 use Rattle.model.proofs.Invariants.{legal-Invariant}
+use Rattle.model.proofs.PlaceSteps.{Keeps, route-keeps, place_after-keeps}
 use Rattle.model.proofs.SettingRanges.{SettingRanges, TermsIn, legal-SettingRanges, set-if, there, none-some}
 
 abbrev LoanIn : LoanFacts → Type 0
@@ -48,13 +46,6 @@ pub record LendingRanges (H : History) : Type 0 where
 module _ (H : History) (inv : Invariant H) (settings : SettingRanges H) where
   pub today-in : IsDayNumber (today H)
   today-in = (inv.today_from, omega (arith, inv.today_to))
-
-  pub copy-known : (c : ℕ) → (place H c ≡ Nowhere → ⊥) → (f : CopyFacts) × (copy_of H c ≡ Some f)
-  copy-known c at = go (copy_of H c) refl
-    where
-      go : (y : Option CopyFacts) → copy_of H c ≡ y → (f : CopyFacts) × (copy_of H c ≡ Some f)
-      go (Some f) e = (f, e)
-      go None e = absurd (at (inv.unknown c e))
 
   pub home-in : (c : ℕ) (f : CopyFacts) → copy_of H c ≡ Some f → IsSmall (home_of H c)
   home-in c f e = subst IsSmall (sym (ap (λ y. unwrap_or (option_map (λ r. r.home) y) 0) e)) (settings.copies c f e).3
@@ -112,92 +103,24 @@ module _ (H : History) (inv : Invariant H) (settings : SettingRanges H) (before 
 
   -- ---- where copies go
 
-  -- The first in line was placed, and it is picked up at a branch.
-  first-in : (t h : ℕ) (hs : List ℕ) → line_by H (place H) (state H) t ≡ h ∷ hs → IsSmall (goal_of H h) × IsGiven h
-  first-in t h hs e =
-      let test = both _ _ (filter-head _ (numbers_to (holds H)) h hs e) in
-      let waits = (and_parts (is_waiting (state H h)) (not (is_coming_by H (place H) (state H) h)) test.1).0 in
-      let hold = inv.placed h Waiting (waiting-is (state H h) waits) in
-      let made = inv.made_hold h hold.0 hold.1 in
-      (goal-in h hold.0 hold.1, (made.0, omega (arith, made.1, inv.holds_left)))
+  given-in : (h : ℕ) (r : HoldFacts) → hold_of H h ≡ Some r → IsGiven h
+  given-in h r e = let made = inv.made_hold h r e in (made.0, omega (arith, made.1, inv.holds_left))
 
-  route_to-in : (c b : ℕ) (f : CopyFacts) → copy_of H c ≡ Some f → (hs : List ℕ) → line_by H (place H) (state H) (title_of_copy H c) ≡ hs → PlaceIn (route_to H (place H) (state H) c b hs)
-  route_to-in c b f known (h ∷ hs) e = go (goal_of H h == b)
-    where
-      first : IsSmall (goal_of H h) × IsGiven h
-      first = first-in (title_of_copy H c) h hs e
-
-      go : (x : Bool) → PlaceIn (elim x as (λ _. Place) [ true ↦ HoldShelf h | false ↦ Transit (goal_of H h) (Some h) ])
-      go true = first.1
-      go false = first
-  route_to-in c b f known [] e = go (home_of H c == b) refl
-    where
-      home : IsSmall (home_of H c)
-      home = home-in H inv settings c f known
-
-      go : (x : Bool) → (home_of H c == b) ≡ x → PlaceIn (elim x as (λ _. Place) [ true ↦ Shelf b | false ↦ Transit (home_of H c) None ])
-      go true d = subst IsSmall (eqb-true _ _ d) home
-      go false d = home
-
-  route-in : (c b : ℕ) (f : CopyFacts) → copy_of H c ≡ Some f → (p : Place) → PlaceIn p → PlaceIn (route_from H (place H) (state H) c b p)
-  route-in c b f known (Transit g (Some h)) was = go (g == b)
-    where
-      go : (x : Bool) → PlaceIn (elim x as (λ _. Place) [ true ↦ HoldShelf h | false ↦ Transit g (Some h) ])
-      go true = was.1
-      go false = was
-  route-in c b f known _ was = route_to-in c b f known (line_by H (place H) (state H) (title_of_copy H c)) refl
+  places-keep : Keeps H PlaceIn
+  places-keep = record {
+    now = before.places;
+    to_hold = λ h r e. (given-in h r e, (goal-in h r e, given-in h r e));
+    to_home = λ c f e. (home-in H inv settings c f e, home-in H inv settings c f e);
+    arrives = λ g h p. p.1;
+    let_go = λ g h p. p.0;
+    acquired = λ b r e. (settings.branches b r e).0;
+    lent = λ room. (omega arith, omega (arith, room));
+    missing = tt;
+    withdrawn = tt;
+  }
 
   pub routed-in : (c b : ℕ) (f : CopyFacts) → copy_of H c ≡ Some f → PlaceIn (route_by H (place H) (state H) c b)
-  routed-in c b f known = route-in c b f known (place H c) (before.places c)
-
-  moved-in : (n c : ℕ) (q : Place) → PlaceIn q → PlaceIn (elim (n == c) as (λ _. Place) [ true ↦ q | false ↦ place H c ])
-  moved-in n c q new = go (n == c)
-    where
-      go : (x : Bool) → PlaceIn (elim x as (λ _. Place) [ true ↦ q | false ↦ place H c ])
-      go true = new
-      go false = before.places c
-
-  let_go-in : (h : ℕ) (p : Place) → PlaceIn p → PlaceIn (place_let_go H (place H) (state H) h p)
-  let_go-in h (Transit b (Some g)) was = go (h == g)
-    where
-      go : (x : Bool) → PlaceIn (elim x as (λ _. Place) [ true ↦ Transit b None | false ↦ Transit b (Some g) ])
-      go true = was.0
-      go false = was
-  let_go-in h (Transit b None) was = was
-  let_go-in h _ was = was
-
-  kept-somewhere : (p : Place) (g : ℕ) → is_kept_for p g ≡ true → p ≡ Nowhere → ⊥
-  kept-somewhere Nowhere g e = let never : ⊥ = cc in absurd never
-  kept-somewhere _ g e = λ f. let never : ⊥ = cc in never
-
-  unshelved-in : (g c : ℕ) → PlaceIn (place_unshelved H (place H) (state H) g c)
-  unshelved-in g c = go (is_kept_for (place H c) g) refl
-    where
-      go : (x : Bool) → is_kept_for (place H c) g ≡ x → PlaceIn (elim x as (λ _. Place) [ true ↦ route_by H (place H) (state H) c (goal_of H g) | false ↦ place H c ])
-      go true e = let known = copy-known H inv settings c (kept-somewhere (place H c) g e) in routed-in c (goal_of H g) known.0 known.1
-      go false e = before.places c
-
-  places-step : (x : Command) → refusal H o x ≡ None → (c : ℕ) → PlaceIn (place_after H (place H) (state H) x c)
-  places-step (Acquire n t k home price text) ok c = go (is_none (copy_of H n))
-    where
-      branch : (r : BranchFacts) × (branch_of H home ≡ Some r)
-      branch = there (branch_of H home) (not-false _ (passed (checks H o (Acquire n t k home price text)) ok).1.0)
-
-      go : (x : Bool) → PlaceIn (elim x as (λ _. Place) [ true ↦ (elim (n == c) as (λ _. Place) [ true ↦ Shelf home | false ↦ place H c ]) | false ↦ place H c ])
-      go true = moved-in n c (Shelf home) (settings.branches home branch.0 branch.1).0
-      go false = before.places c
-  places-step (CheckOut p n b) ok c =
-      let room : loans H < LAST_NUMBER = leb-false _ _ (passed (checks H o (CheckOut p n b)) ok).1.1.1.1.1.1.1.1.1.1.1.1.1.1.0 in
-      moved-in n c (Loan (next_loan H)) (omega arith, omega (arith, room))
-  places-step (CheckIn n b) ok c =
-      let copy = there (copy_of H n) (not-false _ (passed (checks H o (CheckIn n b)) ok).1.0) in
-      moved-in n c (route_by H (place H) (state H) n b) (routed-in n b copy.0 copy.1)
-  places-step (CancelHold g) ok c = let_go-in g (place H c) (before.places c)
-  places-step (Unshelve g) ok c = unshelved-in g c
-  places-step (UnshelveCancelled g) ok c = unshelved-in g c
-  places-step (Missing n) ok c = moved-in n c MissingCopy tt
-  places-step (Withdraw n) ok c = moved-in n c WithdrawnCopy tt
-  places-step _ ok c = before.places c
+  routed-in c b f known = route-keeps H inv PlaceIn places-keep o c b f known
 
 pub legal-LendingRanges : (H : History) → IsLegal H → HasForms H → LendingRanges H
 legal-LendingRanges [] legal forms = record {
@@ -215,5 +138,6 @@ legal-LendingRanges (e ∷ H) legal forms =
       loans = loans-step H inv settings before e.owner e.command ok;
       ends = ends-step H inv settings before e.owner e.command;
       holds = holds-step H inv settings before e.owner e.command ok;
-      places = places-step H inv settings before e.owner e.command ok;
+      places = place_after-keeps H inv PlaceIn
+          (places-keep H inv settings before e.owner) e.owner e.command ok;
     }

@@ -29,7 +29,10 @@ pub mod MoneyLaws
 pub mod HoldRows
 pub mod CalendarsMeet
 pub mod SettingRanges
+pub mod PlaceSteps
 pub mod LendingRanges
 pub mod KeptRanges
 pub mod RowRanges
+pub mod References
+pub mod ClosedDays
 pub mod RepeatedLists

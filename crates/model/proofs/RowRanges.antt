@@ -1,6 +1,6 @@
 -- In every legal history whose commands have their forms: every column of every row lies in its limits.
 use Rattle.std.proofs.Common.{◌≡◌, ℕ, ◌+◌, ◌-◌, ◌≤◌, Bool, true, false, List, [], ◌∷◌, refl, sym, ◌∙◌, subst, arith}
-use Rattle.std.specs.Prelude.{Option, Some, None, option_map, option_and_then, unwrap_or, IfSome}
+use Rattle.std.specs.Prelude.{Option, Some, None, option_map, unwrap_or, IfSome}
 use Rattle.calendar.specs.Days.{IsDayNumber}
 use Rattle.terms.specs.Limits.{InLimits, IsLarge, IsMeta, IsBranch, IsKind, IsRule, IsPatron, IsTitle, IsCopy, IsLoan, IsHold, IsTransit, IsLine, IsKeptRow}
 use Rattle.terms.specs.declared.command.Owner.{Owner}
@@ -25,14 +25,16 @@ use Rattle.model.specs.Invariant.{Invariant}
 use Rattle.model.specs.Requests.{IsLegal, kept_of}
 use Rattle.model.specs.DueDays.{HasWholeWeeks, IsLimit, comes_to_shelf}
 use Rattle.model.specs.Forms.{HasForms}
-use Rattle.model.specs.Picture.{picture, branch_columns, kind_columns, rule_columns, patron_columns, copy_columns, loan_columns, hold_columns, if_ready, transit_at, nth_line, line_columns, kept_columns}
+use Rattle.model.specs.Picture.{picture, branch_columns, kind_columns, rule_columns, patron_columns, copy_columns, loan_columns, if_ready, transit_at, nth_line, line_columns, kept_columns}
 use Rattle.model.proofs.Bindings.{kept-is, find-some}
+use Rattle.model.proofs.ClaimsLaw.{map-some, hold-facts}
 use Rattle.model.proofs.DueDayLaws.{due-is}
 use Rattle.model.proofs.LimitLaws.{limit-is}
 use Rattle.model.proofs.Invariants.{legal-Invariant}
 use Rattle.model.proofs.Runs.{forms-whole}
 use Rattle.model.proofs.SettingRanges.{SettingRanges, legal-SettingRanges, none-some, some-same}
-use Rattle.model.proofs.LendingRanges.{LendingRanges, PlaceIn, legal-LendingRanges, today-in, copy-known}
+use Rattle.model.proofs.PlaceSteps.{copy-known}
+use Rattle.model.proofs.LendingRanges.{LendingRanges, PlaceIn, legal-LendingRanges, today-in}
 use Rattle.model.proofs.KeptRanges.{least-in, due-in, nth-in, legal-lines, legal-kept, owed-le}
 
 -- A shelf limit is a day of the calendar.
@@ -47,11 +49,6 @@ limit-in (e ∷ H) h d is = go (comes_to_shelf H e.command h) (limit-in H h d) i
         ]) → IsDayNumber d
     go true before set = least-in H (goal_of H h) (Rattle.model.specs.History.today H + unwrap_or (option_map (λ r. r.pickup) (branch_of H (goal_of H h))) 0) d set
     go false before old = before old
-
--- The columns of what is there.
-mapped : {A B : Type 0} (f : A → B) (o : Option A) (y : B) → option_map f o ≡ Some y → (x : A) × (o ≡ Some x) × (f x ≡ y)
-mapped f (Some x) y e = (x, refl, some-same (f x) y e)
-mapped f None y e = absurd (none-some y e)
 
 module _ (H : History) (legal : IsLegal H) (forms : HasForms H) where
   inv : Invariant H
@@ -77,35 +74,35 @@ module _ (H : History) (legal : IsLegal H) (forms : HasForms H) where
 
   branch-in : (b : ℕ) (r : BranchRow) → (picture H).branches b ≡ Some r → (r.branch ≡ b) × IsBranch r
   branch-in b r e =
-      let m = mapped (branch_columns H b) (branch_of H b) r e in
+      let m = map-some (branch_columns H b) (branch_of H b) r e in
       let f = settings.branches b m.0 m.1 in
       subst (λ q. (q.branch ≡ b) × IsBranch q) m.2 (refl, (f.0, f.1, settings.weeks b, f.2))
 
   kind-in : (k : ℕ) (r : KindRow) → (picture H).kinds k ≡ Some r → (r.kind ≡ k) × IsKind r
   kind-in k r e =
-      let m = mapped (kind_columns H k) (kind_of H k) r e in
+      let m = map-some (kind_columns H k) (kind_of H k) r e in
       subst (λ q. (q.kind ≡ k) × IsKind q) m.2 (refl, settings.kinds k m.0 m.1)
 
   rule-in : (k c : ℕ) (r : RuleRow) → (picture H).rules k c ≡ Some r → (r.kind ≡ k) × (r.copy_kind ≡ c) × IsRule r
   rule-in k c r e =
-      let m = mapped (rule_columns H k c) (rule_of H k c) r e in
+      let m = map-some (rule_columns H k c) (rule_of H k c) r e in
       let f = settings.rules k c m.0 m.1 in
       subst (λ q. (q.kind ≡ k) × (q.copy_kind ≡ c) × IsRule q) m.2 (refl, refl, (f.0, f.1, f.2.0, f.2.1, f.2.2, f.2.3))
 
   patron-in : (p : ℕ) (r : PatronRow) → (picture H).patrons p ≡ Some r → (r.patron ≡ p) × IsPatron r
   patron-in p r e =
-      let m = mapped (patron_columns H p) (patron_of H p) r e in
+      let m = map-some (patron_columns H p) (patron_of H p) r e in
       let f = settings.patrons p m.0 m.1 in
       subst (λ q. (q.patron ≡ p) × IsPatron q) m.2 (refl, (f.0, f.1, f.2, f.3, omega (arith, owed-le H legal forms p)))
 
   title-in : (t : ℕ) (r : Rattle.terms.specs.declared.row.TitleRow.TitleRow) → (picture H).titles t ≡ Some r → (r.title ≡ t) × IsTitle r
   title-in t r e =
-      let m = mapped (λ x. record { title = t; text = x }) (title_of H t) r e in
+      let m = map-some (λ x. record { title = t; text = x }) (title_of H t) r e in
       subst (λ q. (q.title ≡ t) × IsTitle q) m.2 (refl, settings.titles t m.0 m.1)
 
   copy-in : (c : ℕ) (r : CopyRow) → (picture H).copies c ≡ Some r → (r.copy ≡ c) × IsCopy r
   copy-in c r e =
-      let m = mapped (copy_columns H c) (copy_of H c) r e in
+      let m = map-some (copy_columns H c) (copy_of H c) r e in
       subst (λ q. (q.copy ≡ c) × IsCopy q) m.2 (refl, settings.copies c m.0 m.1)
 
   left-le : (l : ℕ) (r : LoanFacts) → loan_of H l ≡ Some r → renewals_left H l ≤ 99
@@ -122,7 +119,7 @@ module _ (H : History) (legal : IsLegal H) (forms : HasForms H) where
 
   loan-in : (l : ℕ) (r : LoanRow) → (picture H).loans l ≡ Some r → (r.loan ≡ l) × IsLoan r
   loan-in l r e =
-      let m = mapped (loan_columns H l) (loan_of H l) r e in
+      let m = map-some (loan_columns H l) (loan_of H l) r e in
       let f = lending.loans l m.0 m.1 in
       let made = inv.made_loan l m.0 m.1 in
       let due : IsDayNumber (due H l) = due-in H l m.0 (due H l) (due-is H l m.0 legal whole m.1) in
@@ -136,7 +133,7 @@ module _ (H : History) (legal : IsLegal H) (forms : HasForms H) where
       go : (y : Option ℕ) → kept_for H h ≡ y → IfSome y IsLarge
       go (Some c) e =
           let at : place H c ≡ HoldShelf h = kept-is (place H c) h (find-some (λ d. is_kept_for (place H d) h) (Rattle.model.specs.History.copies H) c e) in
-          let known = copy-known H inv settings c (λ f. let never : ⊥ = cc in never) in
+          let known = copy-known H inv c (λ f. let never : ⊥ = cc in never) in
           (settings.copies c known.0 known.1).0
       go None e = tt
   kept-in h Waiting = tt
@@ -151,17 +148,9 @@ module _ (H : History) (legal : IsLegal H) (forms : HasForms H) where
   limit_day-in h Cancelled e = tt
   limit_day-in h Expired e = tt
 
-  stated : (h : ℕ) (r : HoldRow) → (picture H).holds h ≡ Some r → (s : HoldState) × (f : HoldFacts) × (state H h ≡ Some s) × (hold_of H h ≡ Some f) × (hold_columns H h s f ≡ r)
-  stated h r e = go (state H h) refl e
-    where
-      go : (y : Option HoldState) → state H h ≡ y → option_and_then (λ s. option_map (hold_columns H h s) (hold_of H h)) y ≡ Some r
-          → (s : HoldState) × (f : HoldFacts) × (state H h ≡ Some s) × (hold_of H h ≡ Some f) × (hold_columns H h s f ≡ r)
-      go (Some s) q g = let m = mapped (hold_columns H h s) (hold_of H h) r g in (s, m.0, q, m.1, m.2)
-      go None q g = absurd (none-some r g)
-
   hold-in : (h : ℕ) (r : HoldRow) → (picture H).holds h ≡ Some r → (r.hold ≡ h) × IsHold r
   hold-in h r e =
-      let m = stated h r e in
+      let m = hold-facts H h r e in
       let f = lending.holds h m.1 m.3 in
       let made = inv.made_hold h m.1 m.3 in
       subst (λ q. (q.hold ≡ h) × IsHold q) m.4
@@ -171,7 +160,8 @@ module _ (H : History) (legal : IsLegal H) (forms : HasForms H) where
   transit-in c r e = go (place H c) refl (lending.places c) e
     where
       large : (q : Place) → place H c ≡ q → (q ≡ Nowhere → ⊥) → IsLarge c
-      large q at ne = let known = copy-known H inv settings c (λ f. ne (sym at ∙ f)) in (settings.copies c known.0 known.1).0
+      large q at ne = let known = copy-known H inv c (λ f. ne (sym at
+          ∙ f)) in (settings.copies c known.0 known.1).0
 
       go : (q : Place) → place H c ≡ q → PlaceIn q → transit_at c q ≡ Some r → (r.copy ≡ c) × IsTransit r
       go (Transit g None) at in_it f =
@@ -187,13 +177,13 @@ module _ (H : History) (legal : IsLegal H) (forms : HasForms H) where
 
   line-in : (n : ℕ) (r : LineRow) → (picture H).lines n ≡ Some r → (r.line ≡ n) × IsLine r
   line-in n r e =
-      let m = mapped (line_columns H n) (nth_line (lines H) n) r e in
+      let m = map-some (line_columns H n) (nth_line (lines H) n) r e in
       let f = nth-in (lines H) n m.0 (legal-lines H legal forms) m.1 in
       subst (λ q. (q.line ≡ n) × IsLine q) m.2 (refl, ((f.1, omega (arith, f.2, inv.lines_left)), f.0.0, f.0.1, f.0.2, f.0.3))
 
   kept_row-in : (o : Owner) (k : List ℕ) (r : KeptRow) → (picture H).kept o k ≡ Some r → (r.caller ≡ o) × (r.key ≡ k) × IsKeptRow r
   kept_row-in o k r e =
-      let m = mapped (kept_columns H o k) (kept_of H o k) r e in
+      let m = map-some (kept_columns H o k) (kept_of H o k) r e in
       let f = legal-kept H legal forms o k m.0 m.1 in
       subst (λ q. (q.caller ≡ o) × (q.key ≡ k) × IsKeptRow q) m.2 (refl, refl, (f.0, f.1, f.2, (m.0.reply, f.3, refl)))
 

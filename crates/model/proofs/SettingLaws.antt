@@ -52,7 +52,8 @@ price-small c t k home price text e = within-le 0 1000000 price (and_parts (is_s
 turned : (x y : ℕ) → (y == x) ≡ false → (x == y) ≡ false
 turned x y e = ne-eqb x y (λ same. clash (y == x) (eq-eqb y x (sym same)) e)
 
-apart : (d : ℕ) (s : List ℕ) → is_single s d ≡ false → AllByRecursion (λ y. (d == y) ≡ false) s
+-- A day that isn't among the days differs from each.
+pub apart : (d : ℕ) (s : List ℕ) → is_single s d ≡ false → AllByRecursion (λ y. (d == y) ≡ false) s
 apart d [] e = tt
 apart d (x ∷ s) e = let parts : ((x == d) ≡ false) × (is_single s d ≡ false) = or_parts _ _ e in (turned d x parts.0, apart d s parts.1)
 

@@ -2,7 +2,7 @@
 use Rattle.std.specs.Prelude.{List, [], ◌∷◌, IsUtf8}
 use Rattle.terms.specs.declared.command.Request.{Request}
 use Rattle.terms.specs.Laws.{IsCommand}
-use Rattle.terms.specs.Limits.{InLimits}
+use Rattle.terms.specs.Limits.{InLimits, ClosesFewDays}
 use Rattle.model.specs.History.{History}
 use Rattle.model.specs.DueDays.{HasWholeWeeks}
 use Rattle.model.specs.Picture.{picture}
@@ -25,6 +25,10 @@ FormsStay = (H : History) (rs : List Request) → HasForms H → AskForms rs →
 -- Where commands have their forms, each week command tells of each of the seven weekdays.
 abbrev pub FormsAreWhole : Type 0
 FormsAreWhole = (H : History) → HasForms H → HasWholeWeeks H
+
+-- After a legal history no branch is closed singly on more days than it can be.
+abbrev pub FewClosedDays : Type 0
+FewClosedDays = (H : History) → IsLegal H → ClosesFewDays (picture H)
 
 -- Every column of every row of a legal history lies in its limits.
 abbrev pub RowsInLimits : Type 0

@@ -14,6 +14,7 @@ pub mod Claims
 pub mod Invariant
 pub mod DueDays
 pub mod Forms
+pub mod References
 pub mod Laws
 pub mod Calendars
 pub mod Repeats

@@ -7,7 +7,8 @@
 ghost use Rattle.model.specs.Laws.{StaysLegal, Places, Bindings, Balance, HoldRows, FinalStates};
 ghost use Rattle.model.specs.Laws.{FirstInLineIsServed, RepeatsActOnce, OwnRows, Invariants};
 ghost use Rattle.model.specs.Calendars.{CalendarsAgree};
-ghost use Rattle.model.specs.Forms.{FormsStay, FormsAreWhole, RowsInLimits};
+ghost use Rattle.model.specs.Forms.{FormsStay, FormsAreWhole, RowsInLimits, FewClosedDays};
+ghost use Rattle.model.specs.References.{References};
 ghost use Rattle.model.specs.Repeats.{RepeatsLeaveNothing, RepeatsGetTheKeptReply, RowsActOnce};
 ghost use Rattle.model.specs.DueDays.{WholeWeeksStay, DueDays, DueDaysExist, ShelfLimits};
 ghost use Rattle.model.specs.DueDays.{LimitsExist};
@@ -135,4 +136,15 @@ pub fn forms_are_whole_law()
 /// forms.
 pub fn rows_in_limits_law()
     ensures { RowsInLimits }
+{}
+
+/// Every row that a legal history leaves names rows that are there: the branch, the kind, the
+/// title, the copy, the patron, the loan or the hold of each column that names one.
+pub fn references_law()
+    ensures { References }
+{}
+
+/// After a legal history no branch is closed singly on more days than it can be.
+pub fn few_closed_days_law()
+    ensures { FewClosedDays }
 {}

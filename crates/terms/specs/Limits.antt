@@ -1,7 +1,8 @@
 -- What a stored row keeps to, beside its columns.
-use Rattle.std.specs.Prelude.{◌≡◌, ◌≤◌, ℕ, true, List, Some, IfSome, IsUtf8}
+use Rattle.std.specs.Prelude.{◌≡◌, ◌≤◌, ℕ, true, false, List, length, Some, IfSome, IsUtf8}
 use Rattle.calendar.specs.Days.{IsDayNumber}
-use Rattle.calendar.specs.Openings.{AreWeekdays}
+use Rattle.calendar.specs.Openings.{AreWeekdays, has_day, has_repeat}
+use Rattle.calendar.specs.declared.limits.TheConstants.{MOST_CLOSED_DAYS}
 use Rattle.terms.specs.Forms.{IsName, is_card_key}
 use Rattle.terms.specs.Texts.{reply_text}
 use Rattle.terms.specs.Laws.{IsKept}
@@ -103,3 +104,7 @@ pub record InLimits (P : Picture) : Type 0 where
   pub transits : (c : ℕ) (r : TransitRow) → P.transits c ≡ Some r → (r.copy ≡ c) × IsTransit r
   pub lines : (n : ℕ) (r : LineRow) → P.lines n ≡ Some r → (r.line ≡ n) × IsLine r
   pub kept : (o : Owner) (k : List ℕ) (r : KeptRow) → P.kept o k ≡ Some r → (r.caller ≡ o) × (r.key ≡ k) × IsKeptRow r
+
+-- No branch is closed singly on more days than it can be.
+abbrev pub ClosesFewDays : Picture → Type 0
+ClosesFewDays P = (branch : ℕ) (days : List ℕ) → has_repeat days ≡ false → ((d : ℕ) → has_day days d ≡ P.closed_days branch d) → length days ≤ MOST_CLOSED_DAYS
