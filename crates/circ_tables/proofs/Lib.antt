@@ -20,3 +20,4 @@ pub mod ReadingLemmas
 pub mod PutLemmas
 pub mod TableLemmas
 pub mod SingleLemmas
+pub mod KnownLemmas

@@ -21,6 +21,7 @@ puts_of {g = g} {old = old} {new = new} {result = result} change Needs draw step
     works = is.works;
     steps = λ clean begun. on_ok result (step (state g old.conn.now) (state g new.conn.now)) (is.runs clean begun);
     draws = λ clean begun need. on_ok result (λ one. drawn _ _ need (step (state g old.conn.now) (state g new.conn.now) one)) (is.runs clean begun);
+    fault = is.fault;
   };
   leaves = is.leaves;
 }

@@ -5,7 +5,6 @@ use Rattle.std.specs.Option.{option_to_list}
 use Rattle.std.specs.Result.{result_err}
 use Rattle.calendar.specs.Days.{IsDayNumber}
 use Rattle.calendar.specs.Openings.{has_day, has_repeat}
-use Rattle.calendar.specs.declared.limits.TheConstants.{MOST_CLOSED_DAYS}
 use Rattle.sqlite.specs.Given.{IsPlain}
 use Rattle.sqlite.specs.Held.{Held, state}
 use Rattle.sqlite.specs.Listing.{understood}
@@ -16,7 +15,7 @@ use Rattle.sqlite.specs.Tree.{Trees}
 use Rattle.sqlite_rules.specs.Lists.{Has}
 use Rattle.sql_maps.specs.Calls.{FindsRow, IsKeptOrUndone}
 use Rattle.sql_maps.specs.Maps.{Map, Maps, Holds, Count}
-use Rattle.terms.specs.Limits.{InLimits, IsOwner, IsMeta, IsBranch, IsKind, IsRule, IsPatron, IsTitle, IsCopy, IsLoan, IsHold, IsTransit, IsLine}
+use Rattle.terms.specs.Limits.{InLimits, ClosesFewDays, IsOwner, IsMeta, IsBranch, IsKind, IsRule, IsPatron, IsTitle, IsCopy, IsLoan, IsHold, IsTransit, IsLine}
 use Rattle.terms.specs.Pictures.{Picture, put, put_pair, put_kept}
 use Rattle.terms.specs.declared.command.Owner.{Owner}
 use Rattle.terms.specs.declared.fault.Fault.{Fault}
@@ -181,10 +180,6 @@ kept_with owner key k = kept_cells (record { caller = owner; key = key; text = k
 -- The days are those of which the test is true, each once.
 abbrev pub AreSuch : List ℕ → (ℕ → Bool) → Type 0
 AreSuch days test = ((d : ℕ) → has_day days d ≡ test d) × (has_repeat days ≡ false)
-
--- No branch is closed singly on more days than it can be.
-abbrev pub ClosesFewDays : Picture → Type 0
-ClosesFewDays P = (branch : ℕ) (days : List ℕ) → has_repeat days ≡ false → ((d : ℕ) → has_day days d ≡ P.closed_days branch d) → length days ≤ MOST_CLOSED_DAYS
 
 -- The tables are as they were.
 pub record IsSame (old new : State) : Type 0 where
