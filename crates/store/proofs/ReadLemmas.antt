@@ -8,12 +8,12 @@ use Rattle.sqlite.specs.Order.{Row}
 use Rattle.sqlite.specs.Store.{Ghosts}
 use Rattle.sqlite.specs.State.{State, HasCleanDisk, IsUnchanged}
 use Rattle.sql_maps.specs.Maps.{Map, Maps, Holds}
-use Rattle.terms.specs.Limits.{InLimits}
+use Rattle.terms.specs.Limits.{InLimits, ClosesFewDays}
 use Rattle.terms.specs.Pictures.{Picture}
 use Rattle.terms.specs.declared.fault.Fault.{Fault}
 use Rattle.terms.specs.declared.fault.Fault.TheVariants.{Database, Stored}
 use Rattle.circ_tables.specs.Encoding.{HasPicture, Encodes}
-use Rattle.circ_tables.specs.Reading.{Table, Gets, Lists, Views, IsSame, IsSameOrUndone, Reading, ClosesFewDays}
+use Rattle.circ_tables.specs.Reading.{Table, Gets, Lists, Views, IsSame, IsSameOrUndone, Reading}
 use Rattle.circ_tables.specs.Shape.{schema}
 use Rattle.store.specs.Reads.{ended, Reads, Looked, Finds, Seen, IsSound}
 

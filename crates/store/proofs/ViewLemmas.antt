@@ -7,7 +7,7 @@ use Rattle.sqlite.specs.Order.{Row}
 use Rattle.sqlite.specs.State.{HasCleanDisk}
 use Rattle.sqlite.specs.Store.{Ghosts}
 use Rattle.sql_maps.specs.Maps.{Map, Maps, First, FirstOf}
-use Rattle.terms.specs.Limits.{InLimits}
+use Rattle.terms.specs.Limits.{InLimits, ClosesFewDays}
 use Rattle.terms.specs.Pictures.{Picture}
 use Rattle.terms.specs.declared.fault.Fault.{Fault}
 use Rattle.terms.specs.declared.fault.Fault.TheVariants.{Stored}
@@ -16,7 +16,7 @@ use Rattle.terms.specs.declared.row.HoldRow.{HoldRow}
 use Rattle.terms.specs.declared.row.TransitRow.{TransitRow}
 use Rattle.circ_core.specs.Views.{IsLoanOf, IsHoldOf, IsTravelFor, IsFirstOf, IsLoanOfTitle, IsCount, IsOpenBy, IsActiveBy, IsActiveOn}
 use Rattle.circ_tables.specs.Encoding.{HasPicture, Encodes}
-use Rattle.circ_tables.specs.Reading.{Table, Views, Selects, Counts, Lists, ClosesFewDays, loans, holds, transits}
+use Rattle.circ_tables.specs.Reading.{Table, Views, Selects, Counts, Lists, loans, holds, transits}
 use Rattle.circ_tables.specs.Selections.{is_open_of, is_open_by, is_active_by, is_active_on, names_copy, travels_for, Waits, LendsTitle}
 use Rattle.circ_tables.specs.Shape.{copies_place, loans_place, holds_place, transits_place}
 use Rattle.circ_tables.proofs.ReadingLemmas.{read_of}

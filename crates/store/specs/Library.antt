@@ -3,6 +3,7 @@ use Rattle.std.specs.Prelude.{IsTrue}
 pub use Rattle.sqlite.specs.Held.{Held, held_code, state}
 pub use Rattle.sqlite.specs.State.{State, HasCleanDisk}
 pub use Rattle.sqlite.specs.Store.{Ghosts}
+pub use Rattle.sqlite.specs.Steps.{over_memory}
 
 -- So far the disk has given back what was written to it.
 abbrev pub IsClean : {S : Type 0} → Ghosts S → Held S → Type 0

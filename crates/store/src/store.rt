@@ -1,10 +1,11 @@
 //! The tables, with no transaction under way between two calls.
 
-ghost use Rattle.std.specs.Prelude.{◌≡◌, Err, IsTrue, false, IfOk, option_map};
+ghost use Rattle.std.specs.Prelude.{◌≡◌, Err, IsTrue, false, IfOk, IfErr};
+ghost use Rattle.std.specs.Prelude.{option_map};
 ghost use Rattle.terms.specs.Limits.{InLimits, IsOwner};
 ghost use Rattle.circ_core.specs.Views.{IsViewOf};
 ghost use Rattle.circ_tables.specs.Encoding.{reply_of};
-ghost use Rattle.store.specs.Commit.{Commits, CreatesLibrary, OpensLibrary};
+ghost use Rattle.store.specs.Commit.{Commits, CreatesLibrary, OpensLibrary, RefusesLibrary};
 ghost use Rattle.store.specs.Limits.{limit_of};
 ghost use Rattle.store.specs.Reads.{Looked, Finds, IsSound};
 ghost use Rattle.circ_tables.specs.Reading.{patrons, loans, holds};
@@ -49,6 +50,7 @@ impl<S: Alter + Drop> Store<S> {
     /// the first row of `meta`. 91, also where a name is taken or a transaction is under way.
     pub fn create(mut conn: Connection<S>) -> Result<Store<S>, Fault>
         ensures created { IfOk result (CreatesLibrary S.Store conn) }
+        ensures fault { IfErr result (λ fault. fault ≡ Fault.Database) }
         ensures begun { IsTrue conn.in_transaction → result ≡ Err Fault.Database }
     {
         if !conn.is_autocommit() {
@@ -59,9 +61,10 @@ impl<S: Alter + Drop> Store<S> {
     }
 
     /// Takes tables that were made. 91, also where a transaction is under way; 93 where there is no
-    /// table `meta` of one row, or its schema is not known.
+    /// table `meta` of one row, or its schema is not known, and never on tables of the known one.
     pub fn open(mut conn: Connection<S>) -> Result<Store<S>, Fault>
         ensures opened { IfOk result (OpensLibrary S.Store conn) }
+        ensures stored { result ≡ Err Fault.Stored → RefusesLibrary S.Store conn }
         ensures begun { IsTrue conn.in_transaction → result ≡ Err Fault.Database }
     {
         if !conn.is_autocommit() {
@@ -86,7 +89,7 @@ impl<S: Alter> Store<S> {
     }
 
     /// Makes the changes of a decision and keeps the row of its request, in one transaction: all of
-    /// it or nothing. 91.
+    /// it or nothing. 91, and no other fault.
     pub fn commit(&mut self, changes: &Changes<'_>, kept: &KeptPut<'_>) -> Result<(), Fault>
         ensures { Commits changes.now kept.now S.Store self.old self.new result }
     {

@@ -1,0 +1,71 @@
+-- What a store over two files finds in them, from what the database finds.
+use Rattle.std.proofs.Common.{◌≡◌, ◌⊎◌, ◌<◌, inl, inr, [], length, refl, sym, ap, subst, ◌∙◌, arith, IsTrue}
+use Rattle.std.proofs.Math.Logic.{∥∥₁_map}
+use Rattle.sqlite_catalog.proofs.ReadLemmas.{lists_once}
+use Rattle.sqlite.proofs.ListingLemmas.{empty_is_sound}
+use Rattle.sqlite.specs.Effect.{Database, IsDatabase}
+use Rattle.sqlite.specs.Files.{HoldsDatabase, AreFoundIn}
+use Rattle.sqlite.specs.Held.{Held, state}
+use Rattle.sqlite.specs.Recovery.{Image}
+use Rattle.sqlite.specs.State.{State, HasCleanDisk}
+use Rattle.sqlite.specs.Store.{Ghosts}
+use Rattle.sqlite.specs.Tree.{Trees}
+use Rattle.sqlite_trees.specs.Objects.{catalog_tree}
+use Rattle.sql_maps.specs.Maps.{Holds, no_maps}
+use Rattle.sql_maps.specs.Shapes.{no_schema}
+use Rattle.terms.specs.Pictures.{Picture}
+use Rattle.circ_tables.specs.Encoding.{HasPicture}
+use Rattle.store.specs.Commit.{CreatesLibrary, OpensLibrary}
+use Rattle.store.specs.Files.{HoldsEither, Connects, OpensOver, CreatesOver}
+use Rattle.store.specs.Stops.{KeepsPicture, LeavesEither, StandsFor}
+use Rattle.store.proofs.StopLemmas.{finds_same, same_database}
+
+-- a database that lists nothing has no table
+pub holds_nothing : (db : Database) → IsDatabase db → db.trees catalog_tree ≡ [] → Holds no_schema db no_maps
+holds_nothing db sound none = record {
+  sound = sound;
+  schema_is = lists_once _ db.schema no_schema sound.lists (empty_is_sound db.trees none).lists;
+  tables = λ at table is. absurd (let never = is in cc);
+}
+
+-- in a file with no bytes nothing is found
+nothing_listed : (image : Image) (db : Trees) → image.db ≡ [] → AreFoundIn image db → db catalog_tree ≡ []
+nothing_listed image db none (inl adopted) =
+    let some : 0 < length image.db = adopted.3.found.present in
+    let never : length image.db ≡ 0 = ap length none in
+    absurd (omega (arith, some, never))
+nothing_listed image db none (inr empty) = empty.1.1
+
+pub opened_over : {S : Type 0} (g : Ghosts S) (image : Image) (conn it : Held S) → Connects image (state g conn) → OpensLibrary g conn it → OpensOver image (state g it)
+opened_over g image conn it connects opens clean is =
+    let early : HasCleanDisk (state g conn) = omega (arith, opens.survives.clean) in
+    let from = connects early in
+    let same = opens.same clean is in
+    let found = finds_same image (state g conn) (state g it) same.1 from.found in
+    let sound : IsDatabase (state g it).committed = subst IsDatabase (sym same.1) (from.live from.opens.is_open).1 in
+    let known = λ (P : Picture) (h : HasPicture (state g it).committed P). opens.found clean is P (subst (λ d. HasPicture d P) same.1 h) in
+    let shown = λ (db : Database) (P : Picture) (held : HoldsDatabase image db.trees) (shows : HasPicture db P).
+    (known P (subst (λ d. HasPicture d P) (sym (same_database (state g it).committed db sound shows.holds.sound (found.holds db.trees held))) shows)).0 in
+    record {
+      found = found;
+      sound = sound;
+      settled = same.0 ∙ sym same.1;
+      known = known;
+      shown = shown;
+      either = λ P Q held. ∥∥₁_map held (λ one. elim one.1 [ inl h ↦ inl (shown one.0 P one.2 h) | inr h ↦ inr (shown one.0 Q one.2 h) ]);
+    }
+
+pub created_over : {S : Type 0} (g : Ghosts S) (image : Image) (conn it : Held S) → Connects image (state g conn) → CreatesLibrary g conn it → CreatesOver image (state g it)
+created_over g image conn it connects creates clean none =
+    let from = connects (creates.clean clean) in
+    let listed = ap (λ (d : Database). d.trees catalog_tree) from.opens.clean ∙ nothing_listed image (state g conn).committed.trees none from.found.reads in
+    creates.empty clean (holds_nothing (state g conn).now (from.live from.opens.is_open).0 listed)
+
+-- what files stand for after a stop, in pictures
+pub stands_either : (was : State) (image : Image) → StandsFor was.may_leave image → (P Q : Picture) → LeavesEither was P Q → HoldsEither image P Q
+stands_either was image stands P Q leaves =
+    ∥∥₁_map stands (λ one. let left = leaves one.0 one.1 in (left.0, left.1, subst (HoldsDatabase image) left.2 one.2))
+
+-- a database whose schema has no table
+pub schema_less : (db : Database) → IsDatabase db → db.schema ≡ no_schema → Holds no_schema db no_maps
+schema_less db sound none = record { sound = sound; schema_is = none; tables = λ at table is. absurd (let never = is in cc) }
