@@ -10,6 +10,7 @@ use Rattle.std.specs.Io.KnownBytes.{Appends}
 use Rattle.store.specs.Library.{Ghosts, Held, state, HasCleanDisk}
 use Rattle.terms.specs.Writing.{AppendsFront}
 use Rattle.terms.specs.declared.fault.Fault.{Fault}
+use Rattle.terms.specs.declared.fault.Fault.TheVariants.{Stored}
 use Rattle.terms.specs.declared.reply.Reply.{Reply}
 use Rattle.terms.specs.declared.reply.Reply.TheVariants.{Done, Lent, CheckedIn, Held as Waits, Moved, Lost, Owed, Shown, Refused}
 use Rattle.model.specs.History.{History}
@@ -164,15 +165,17 @@ module _ {S : Type 0} (g : Ghosts S) (old mid new : Held S) (all before : List C
 
   -- A fault came at the row.
   pub imports-some : (fault : Fault) (WentOut : List ℕ → Type 0) → (HasCleanDisk (state g new) → HasCleanDisk (state g mid))
+      → (HasCleanDisk (state g new) → fault ≡ Stored → (H : History) → Shows (state g mid) H → ⊥)
       → (HasCleanDisk (state g new) → IsTrue (state g new).is_open → Stays (state g mid) (state g new))
       → (HasCleanDisk (state g new) → (H : History) → Shows (state g mid) H → LeavesOneOf (state g new) H (after_one H (request_of row)))
       → WentOut (import_lines far.replies (fault_line fault)) → ImportsSome all g old new WentOut Faulted
-  imports-some fault WentOut clean undone left lines = record {
+  imports-some fault WentOut clean sound undone left lines = record {
     replies = far.replies;
     fault = fault;
     few = let few : length before < length all = at.few in omega (arith, few, told);
     lines = lines;
     exit_is = refl;
+    sound = λ disk stored H shows. sound disk stored (after H (requests_of before)) (far.handled.replied (clean disk) H shows).1;
     replied = λ disk H shows. (far.handled.replied (clean disk) H shows).0 ∙ ap (λ (rows : List CopyRow). replies_to H (requests_of rows)) (sym rows-before);
     undone = λ disk is_open H shows.
         subst (λ (rows : List CopyRow). Shows (state g new) (after H (requests_of rows))) (sym rows-before)

@@ -9,7 +9,7 @@ use Rattle.terms.specs.Texts.{request_text}
 use Rattle.terms.specs.Writing.{AppendsFront}
 use Rattle.terms.specs.declared.command.Command.{Command}
 use Rattle.terms.specs.declared.fault.Fault.{Fault}
-use Rattle.terms.specs.declared.fault.Fault.TheVariants.{Memory}
+use Rattle.terms.specs.declared.fault.Fault.TheVariants.{Memory, Stored}
 use Rattle.terms.specs.declared.reply.Reply.{Reply}
 use Rattle.model.specs.History.{History}
 use Rattle.model.specs.Requests.{reply_to, after_one}
@@ -44,13 +44,15 @@ module _ {S : Type 0} (g : Ghosts S) (old new : Held S) (key : List ℕ) (words 
       inl (record { command = command; reply = reply; understood = understood; line_is = refl; exit_is = refl; replied = answered })
 
   pub says-fault : (command : Command) (fault : Fault) → ((other : Command) → IsUnderstoodAs words other → other ≡ command)
+      → (HasCleanDisk (state g new) → fault ≡ Stored → (H : History) → Shows (state g old) H → ⊥)
       → (HasCleanDisk (state g new) → IsTrue (state g new).is_open → Stays (state g old) (state g new))
       → (HasCleanDisk (state g new) → (H : History) → Shows (state g old) H → LeavesOneOf (state g new) H (after_one H (desk_request key command)))
       → Says key words g old new (fault_line fault) Faulted
-  says-fault command fault only undone left = inr (inl (record {
+  says-fault command fault only sound undone left = inr (inl (record {
     fault = fault;
     line_is = refl;
     exit_is = refl;
+    sound = sound;
     undone = undone;
     left = λ disk other understood H shows.
         subst (λ (c : Command). LeavesOneOf (state g new) H (after_one H (desk_request key c))) (sym (only other understood)) (left disk H shows);
@@ -63,6 +65,7 @@ module _ {S : Type 0} (g : Ghosts S) (held : Held S) (key : List ℕ) (words : L
     fault = Memory;
     line_is = refl;
     exit_is = refl;
+    sound = λ disk stored. let never : ⊥ = cc in absurd never;
     undone = λ disk is_open H shows. shows;
     left = λ disk command understood H shows. still-left (state g held) H (after_one H (desk_request key command)) shows;
   }))

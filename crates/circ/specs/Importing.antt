@@ -8,6 +8,7 @@ use Rattle.terms.specs.Writing.{AppendsFront}
 use Rattle.terms.specs.declared.command.Request.{Request}
 use Rattle.terms.specs.declared.fault.Fault.{Fault}
 use Rattle.terms.specs.declared.fault.Fault.TheVariants as fault
+use Rattle.terms.specs.declared.fault.Fault.TheVariants.{Stored}
 use Rattle.terms.specs.declared.reply.Reply.{Reply}
 use Rattle.terms.specs.declared.reply.Reply.TheVariants.{Refused as Denied}
 use Rattle.model.specs.History.{History}
@@ -116,7 +117,8 @@ pub record ImportsAll {S : Type 0} (rows : List CopyRow) (end : CopyEnd)
   pub lines : WentOut (import_lines replies (end_line end))
   pub exit_is : exit ≡ end_exit end (refused_in replies)
 
--- A fault came at a row: the lines of the rows before it, of the fault and of the counts went out.
+-- A fault came at a row, which is not 93 where the tables showed a list of accepted requests: the
+-- lines of the rows before it, of the fault and of the counts went out.
 -- The tables show what they showed after the rows before it, as long as the database is open;
 -- whatever may leave of them when the program is stopped is that, or what they would show after
 -- that row too.
@@ -127,6 +129,7 @@ pub record ImportsSome {S : Type 0} (rows : List CopyRow)
   pub few : length replies < length rows
   pub lines : WentOut (import_lines replies (fault_line fault))
   pub exit_is : exit ≡ Faulted
+  pub sound : IsClean g new → fault ≡ Stored → (H : History) → Shows (state g old) H → ⊥
   pub replied : IsClean g new → (H : History) → Shows (state g old) H
       → replies ≡ replies_to H (requests_of (take (length replies) rows))
   pub undone : IsClean g new → IsOpen g new → (H : History) → Shows (state g old) H
@@ -163,6 +166,9 @@ pub record ImportsRow {S E : Type 0} (row : CopyRow) (had has : Counts)
       × Appends before after (row_line (had.accepted + had.refused + 1) reply)
   -- at a fault of the desk nothing went out, and nothing was counted
   pub silent : (fault : Fault) → result ≡ Ok (Some fault) → Keeps before after × (has ≡ had)
+  -- it is not 93 where the tables show a list of accepted requests
+  pub sound : (fault : Fault) → result ≡ Ok (Some fault) → IsClean g new → fault ≡ Stored
+      → (H : History) → Shows (state g old) H → ⊥
   -- and the tables show what they showed, as long as the database is open
   pub undone : (fault : Fault) → result ≡ Ok (Some fault) → IsClean g new → IsOpen g new
       → Stays (state g old) (state g new)

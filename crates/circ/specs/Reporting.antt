@@ -40,12 +40,6 @@ IsUnknown H (Overdue branch) = (picture H).branches branch ≡ None
 IsUnknown H (Till day) = ⊥
 IsUnknown H (Shelf branch) = (picture H).branches branch ≡ None
 
--- The fault may come of the report: that of a damaged row is never told for the till of a day.
-abbrev pub MayCome : Report → Fault → Type 0
-MayCome (Overdue branch) fault = Unit {0}
-MayCome (Till day) fault = fault ≡ Stored → ⊥
-MayCome (Shelf branch) fault = Unit {0}
-
 -- The report went out, as it is after the list of accepted requests that the tables show, and they
 -- show it still.
 pub record TellsReport {S : Type 0} (report : Report)
@@ -54,22 +48,22 @@ pub record TellsReport {S : Type 0} (report : Report)
   pub shown : IsClean g new → (H : History) → Shows (state g old) H
       → IsThere H report × WentOut (report_text H report) × Shows (state g new) H
 
--- The refusal of an unknown branch went out, and the tables show what they showed, as long as the
--- database is open.
+-- The refusal of an unknown branch went out, and the tables show what they showed.
 pub record TellsUnknown {S : Type 0} (report : Report)
     (g : Ghosts S) (old new : Held S) (WentOut : List ℕ → Type 0) (exit : Exit) : Type 0 where
   pub exit_is : exit ≡ Refused
   pub line : WentOut (reply_line (Denied UnknownBranch))
-  pub unknown : IsClean g new → (H : History) → Shows (state g old) H → IsUnknown H report
-  pub undone : IsClean g new → IsOpen g new → Stays (state g old) (state g new)
+  pub unknown : IsClean g new → (H : History) → Shows (state g old) H
+      → IsUnknown H report × Shows (state g new) H
 
--- A fault went out, and the tables show what they showed, as long as the database is open.
+-- A fault went out, which is not 93 where the tables showed a list of accepted requests; and they
+-- show what they showed, as long as the database is open.
 pub record TellsFault {S : Type 0} (report : Report)
     (g : Ghosts S) (old new : Held S) (WentOut : List ℕ → Type 0) (exit : Exit) : Type 0 where
   pub fault : Fault
   pub exit_is : exit ≡ Faulted
   pub line : WentOut (fault_line fault)
-  pub sound : IsClean g new → (H : History) → Shows (state g old) H → MayCome report fault
+  pub sound : IsClean g new → fault ≡ Stored → (H : History) → Shows (state g old) H → ⊥
   pub undone : IsClean g new → IsOpen g new → Stays (state g old) (state g new)
 
 -- A report goes out, or the refusal of an unknown branch, or a fault.
@@ -91,14 +85,14 @@ pub record WritesAnyReport {S T : Type 0} (report : Report)
   -- a refusal is that of an unknown branch, and nothing went out
   pub refused : (refusal : Refusal) → result ≡ Err (NotGiven refusal)
       → (refusal ≡ UnknownBranch) × Keeps before after
-  -- and the report is one of an unknown branch
+  -- and the report is one of an unknown branch; the tables show what they showed
   pub unknown : IsClean g new → (refusal : Refusal) → result ≡ Err (NotGiven refusal)
-      → (H : History) → Shows (state g old) H → IsUnknown H report
+      → (H : History) → Shows (state g old) H → IsUnknown H report × Shows (state g new) H
   -- at a fault nothing went out
   pub silent : (fault : Fault) → result ≡ Err (Met fault) → Keeps before after
-  -- fault 93 doesn't come for the till of a day
-  pub sound : IsClean g new → (fault : Fault) → result ≡ Err (Met fault) → (H : History)
-      → Shows (state g old) H → MayCome report fault
+  -- fault 93 doesn't come where the tables show a list of accepted requests
+  pub sound : IsClean g new → result ≡ Err (Met Stored) → (H : History) → Shows (state g old) H
+      → ⊥
   -- where a write failed, a beginning of the report went out, and the tables show what they showed
   pub cut : IsClean g new → result ≡ Err NotWritten → (H : History) → Shows (state g old) H
       → IsThere H report × AppendsFront before after (report_text H report) × Shows (state g new) H

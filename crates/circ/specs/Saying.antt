@@ -8,6 +8,7 @@ use Rattle.terms.specs.declared.command.Caller.TheVariants.{Desk}
 use Rattle.terms.specs.declared.command.Command.{Command}
 use Rattle.terms.specs.declared.command.Request.{Request}
 use Rattle.terms.specs.declared.fault.Fault.{Fault}
+use Rattle.terms.specs.declared.fault.Fault.TheVariants.{Stored}
 use Rattle.terms.specs.declared.reply.Reply.{Reply}
 use Rattle.model.specs.History.{History}
 use Rattle.model.specs.Requests.{reply_to, after_one}
@@ -38,7 +39,7 @@ pub record SaysReply {S : Type 0} (key : List ℕ) (words : List (List ℕ))
       → (reply ≡ reply_to H (desk_request key command))
       × Shows (state g new) (after_one H (desk_request key command))
 
--- The line is a fault. The tables show what they showed, as long as the database is open; whatever
+-- The line is a fault, which is not 93 where the tables showed a list of accepted requests. They show what they showed, as long as the database is open; whatever
 -- may leave of them when the program is stopped is that, or what they would show after the request
 -- of the words.
 pub record SaysFault {S : Type 0} (key : List ℕ) (words : List (List ℕ))
@@ -46,6 +47,7 @@ pub record SaysFault {S : Type 0} (key : List ℕ) (words : List (List ℕ))
   pub fault : Fault
   pub line_is : line ≡ fault_line fault
   pub exit_is : exit ≡ Faulted
+  pub sound : IsClean g new → fault ≡ Stored → (H : History) → Shows (state g old) H → ⊥
   pub undone : IsClean g new → IsOpen g new → Stays (state g old) (state g new)
   pub left : IsClean g new → (command : Command) → IsUnderstoodAs words command → (H : History)
       → Shows (state g old) H

@@ -5,6 +5,8 @@ pub mod Leads
 pub mod Handled
 pub mod Afterwards
 pub mod Shown
+pub mod Sound
+pub mod OwnPage
 pub mod RowLists
 pub mod PageLists
 pub mod PageRows

@@ -19,11 +19,12 @@ module _ {S Z : Type 0} {g : Ghosts S} {old new : Held S} {text : History → Li
 
   pub report-written : {T : Type 0} (x : T) → Appends a b bytes → WritesReport text branch g old new a b (Ok x)
   report-written x wrote = record {
-    written = λ disk H shows. subst (Appends a b) (same ∙ (known.shown disk H shows).1) wrote;
-    known = λ disk H shows. (known.shown disk H shows).0;
+    written = λ disk H shows. subst (Appends a b) (same ∙ (known.shown disk H shows tt).1) wrote;
+    known = λ disk H shows. (known.shown disk H shows tt).0;
     refused = λ refusal e. let never : ⊥ = cc in absurd never;
     unknown = λ disk refusal e. let never : ⊥ = cc in absurd never;
     silent = λ fault e. let never : ⊥ = cc in absurd never;
+    sound = λ disk e. let never : ⊥ = cc in absurd never;
     cut = λ disk e. let never : ⊥ = cc in absurd never;
     looks = looks-as (state g old) (state g new) o (Ok x) learnt.looks;
   }
@@ -36,6 +37,7 @@ module _ {S Z : Type 0} {g : Ghosts S} {old new : Held S} {text : History → Li
     refused = λ refusal e. let never : ⊥ = cc in absurd never;
     unknown = λ disk refusal e. let never : ⊥ = cc in absurd never;
     silent = λ fault e. let never : ⊥ = cc in absurd never;
-    cut = λ disk e H shows. ((known.shown disk H shows).0, subst (AppendsFront a b) (same ∙ (known.shown disk H shows).1) front, learnt.looks.stays disk H shows);
+    sound = λ disk e. let never : ⊥ = cc in absurd never;
+    cut = λ disk e H shows. ((known.shown disk H shows tt).0, subst (AppendsFront a b) (same ∙ (known.shown disk H shows tt).1) front, learnt.looks.stays disk H shows);
     looks = looks-as (state g old) (state g new) o (Err e) learnt.looks;
   }

@@ -27,6 +27,7 @@ use Rattle.model.specs.Refusals.{refusal}
 use Rattle.model.specs.Answers.{answer}
 use Rattle.model.specs.Picture.{picture}
 use Rattle.model.specs.Forms.{HasForms}
+use Rattle.model.specs.Laws.{AgreesOn}
 use Rattle.model.specs.Requests.{IsLegal, is_known, may_send, kept_of, event_of, reply_by_key, reply_to, after_one}
 use Rattle.desk.specs.Callers.{RefusesForeign}
 
@@ -58,20 +59,23 @@ pub record Looks {T E : Type 0} (old new : State) (result : Result T E) : Type 0
   -- whenever the program is stopped, that is what is left
   pub left : HasCleanDisk new → (H : History) → Shows old H → LeavesPicture new (picture H)
 
--- A call that only looks at the tables, and what it answers.
-pub record Learns {S A : Type 0} (Is : History → A → Type 0)
+-- A call that only looks at the tables, and what it answers after a list of accepted requests that
+-- is as `If` says.
+pub record LearnsIf {S A : Type 0} (If : History → Type 0) (Is : History → A → Type 0)
     (g : Ghosts S) (old new : Held S) (result : Result A Fault) : Type 0 where
-  -- an answer is so after each list of accepted requests that the tables show
-  pub shown : IsClean g new → IfOk result (λ x. (H : History) → Shows (state g old) H → Is H x)
+  -- an answer is so after each such list that the tables show
+  pub shown : IsClean g new
+      → IfOk result (λ x. (H : History) → Shows (state g old) H → If H → Is H x)
+  -- fault 93 comes after none
+  pub sound : IsClean g new → result ≡ Err Stored → (H : History) → Shows (state g old) H → If H
+      → ⊥
   -- whatever the outcome, the tables show what they showed
   pub looks : Looks (state g old) (state g new) result
 
--- The same over rows that are never damaged: fault 93 doesn't come where the tables show a list of
--- accepted requests.
-pub record LearnsSoundly {S A : Type 0} (Is : History → A → Type 0)
-    (g : Ghosts S) (old new : Held S) (result : Result A Fault) : Type 0 where
-  pub learns : Learns Is g old new result
-  pub sound : IsClean g new → result ≡ Err Stored → (H : History) → Shows (state g old) H → ⊥
+-- Of any list of accepted requests.
+abbrev pub Learns : {S A : Type 0} → (History → A → Type 0)
+    → Ghosts S → Held S → Held S → Result A Fault → Type 0
+Learns = LearnsIf (λ _. Unit {0})
 
 -- ---- parts of an answer
 
@@ -110,6 +114,11 @@ page_for H patron card_key = elim (is_known H (FromPatron patron card_key)) [ tr
 abbrev pub IsPageFor : ℕ → List ℕ → History → Reply → Type 0
 IsPageFor patron card_key H reply = reply ≡ page_for H patron card_key
 
+-- The reply is what such a patron is shown after every list of accepted requests that agrees with
+-- this one on the patron's own rows.
+abbrev pub IsOwnPageFor : ℕ → List ℕ → History → Reply → Type 0
+IsOwnPageFor patron card_key H reply = (K : History) → AgreesOn H K patron → reply ≡ page_for K patron card_key
+
 -- ---- a request that is handled
 
 -- After a fault the tables show what they showed, as long as the database is open.
@@ -128,6 +137,8 @@ UndoesPictures g old new result =
 pub record Records {S A : Type 0} (owner : Owner) (made : Picture → Picture)
     (g : Ghosts S) (old new : Held S) (result : Result A Fault) : Type 0 where
   pub clean : IsClean g new → IsClean g old
+  -- fault 93 never comes of it
+  pub sound : result ≡ Err Stored → ⊥
   -- once it is done, the tables show the picture after it
   pub done : IsClean g new → IsOwner owner
       → OnOk result ((P : Picture) → HasPicture (state g old).now P
@@ -148,6 +159,9 @@ pub record Answered {S : Type 0} (owner : Owner) (If : History → Type 0) (repl
   pub replied : IsClean g new → IsOwner owner
       → IfOk result (λ given. (H : History) → Shows (state g old) H → If H
       → (given ≡ reply H) × KeepsPicture (state g new) (picture (next H)))
+  -- fault 93 comes after no such list
+  pub sound : IsClean g new → IsOwner owner → result ≡ Err Stored
+      → (H : History) → Shows (state g old) H → If H → ⊥
   -- a stop leaves what the one list leaves or what the other leaves
   pub left : IsClean g new → IsOwner owner → (H : History) → Shows (state g old) H → If H
       → LeavesOneOf (state g new) H (next H)
@@ -178,6 +192,8 @@ pub record Handled {S : Type 0} (request : Request)
   -- after the request
   pub replied : IsClean g new → IfOk result (λ reply. (H : History) → Shows (state g old) H
       → (reply ≡ reply_to H request) × Shows (state g new) (after_one H request))
+  -- fault 93 doesn't come where the tables show a list of accepted requests
+  pub sound : IsClean g new → result ≡ Err Stored → (H : History) → Shows (state g old) H → ⊥
   -- after a fault the tables show what they showed, as long as the database is open
   pub undone : Undoes g old new result
   -- a stop leaves what was there or what is there after the request

@@ -1,5 +1,5 @@
 -- What a desk shows when it is made, and after many requests.
-use Rattle.std.specs.Prelude.{◌≡◌, ◌≤◌, ◌+◌, ℕ, List, [], length, take, Vec, vec_len, Result, IfOk, IfErr}
+use Rattle.std.specs.Prelude.{◌≡◌, ◌≤◌, ◌+◌, ℕ, List, [], length, take, Vec, vec_len, Result, IfOk, IfErr, OnErr}
 use Rattle.store.specs.Library.{Ghosts, Held, state, IsClean, IsOpen}
 use Rattle.store.specs.Commit.{empty_library}
 use Rattle.store.specs.Stops.{KeepsPicture}
@@ -7,10 +7,11 @@ use Rattle.circ_tables.specs.Encoding.{HasPicture}
 use Rattle.terms.specs.Pictures.{Picture}
 use Rattle.terms.specs.declared.command.Request.{Request}
 use Rattle.terms.specs.declared.fault.Fault.{Fault}
+use Rattle.terms.specs.declared.fault.Fault.TheVariants.{Stored}
 use Rattle.terms.specs.declared.reply.Reply.{Reply}
 use Rattle.model.specs.History.{History}
 use Rattle.model.specs.Requests.{after, after_one, replies as replies_to}
-use Rattle.desk.specs.Answering.{Handled, Shows, LeavesOneOf}
+use Rattle.desk.specs.Answering.{Handled, Shows, LeavesOneOf, Learns, IsPageFor, IsOwnPageFor}
 use Rattle.desk.specs.Headline.{Headline}
 
 -- A desk was made over the tables of a store.
@@ -21,6 +22,8 @@ pub record Begins {S E : Type 0}
   -- the tables of a new library show the empty list of accepted requests
   pub begins : IfOk result
       (λ desk. KeepsPicture (state g store) empty_library → Shows (state g desk) [])
+  -- there is a desk for tables that show a list of accepted requests
+  pub made : (H : History) → Shows (state g store) H → OnErr result ⊥
 
 -- The tables show the headline of the list of accepted requests.
 abbrev pub ShowsHeadline : {S : Type 0} → Ghosts S → Held S → History → Type 0
@@ -33,6 +36,16 @@ pub record Handles {S : Type 0} (request : Request)
   -- of the list after it the tables show the headline
   pub headline : IsClean g new → IfOk result (λ _. (H : History) → Shows (state g old) H
       → ShowsHeadline g new (after_one H request))
+
+-- A patron who shows a card key was shown the own page, or refused.
+pub record ShowsPage {S : Type 0} (patron : ℕ) (card_key : List ℕ)
+    (g : Ghosts S) (old new : Held S) (result : Result Reply Fault) : Type 0 where
+  -- the reply is the page of a patron who shows the own card key, and else the one refusal of an
+  -- unknown patron and of a wrong key
+  pub page : Learns (IsPageFor patron card_key) g old new result
+  -- and the same after every list that agrees on the patron's own rows
+  pub own : IsClean g new → IfOk result (λ reply. (H : History) → Shows (state g old) H
+      → IsOwnPageFor patron card_key H reply)
 
 -- The requests were handled one after another: all of them, or those before a fault.
 pub record Ran {S Z : Type 0} (requests : List Request)
@@ -50,6 +63,9 @@ pub record Ran {S Z : Type 0} (requests : List Request)
   -- of that list the tables show the headline
   pub headline : IsClean g new → IfOk result (λ _. (H : History) → Shows (state g old) H
       → ShowsHeadline g new (after H requests))
+  -- fault 93 doesn't come where the tables show a list of accepted requests
+  pub sound : IsClean g new → IfErr result (λ end. end.1 ≡ Stored
+      → (H : History) → Shows (state g old) H → ⊥)
   -- a fault came at the request after the first n: the replies are theirs, the tables show the list
   -- after them, as long as the database is open, and a stop leaves that or what that request leaves
   -- too

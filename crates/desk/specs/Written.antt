@@ -38,11 +38,15 @@ pub record WritesReport {S T : Type 0} (text : History → List ℕ) (branch : �
   -- a refusal is that of an unknown branch, and nothing went out
   pub refused : (refusal : Refusal) → result ≡ Err (Refused refusal)
       → (refusal ≡ UnknownBranch) × Keeps before after
-  -- and there is no such branch
+  -- and there is no such branch; the tables show what they showed
   pub unknown : IsClean g new → (refusal : Refusal) → result ≡ Err (Refused refusal)
-      → (H : History) → Shows (state g old) H → (picture H).branches branch ≡ None
+      → (H : History) → Shows (state g old) H
+      → ((picture H).branches branch ≡ None) × Shows (state g new) H
   -- at a fault nothing went out
   pub silent : (fault : Fault) → result ≡ Err (Faulted fault) → Keeps before after
+  -- fault 93 doesn't come where the tables show a list of accepted requests
+  pub sound : IsClean g new → result ≡ Err (Faulted Stored) → (H : History) → Shows (state g old) H
+      → ⊥
   -- where a write failed, there is the branch, a beginning of the report went out, and the tables
   -- show what they showed
   pub cut : IsClean g new → result ≡ Err NotWritten → (H : History) → Shows (state g old) H

@@ -7,11 +7,10 @@ ghost use Rattle.store.specs.Lists.{AreReadyAt};
 ghost use Rattle.model.specs.Picture.{picture};
 ghost use Rattle.model.specs.Reports.{is_sort, report_lines, shelf_line, shelf as shelf_of};
 ghost use Rattle.model.specs.Reports.{till as till_of};
-ghost use Rattle.desk.specs.Answering.{Learns, LearnsSoundly};
+ghost use Rattle.desk.specs.Answering.{Learns, LearnsIf};
 ghost use Rattle.desk.specs.Written.{WritesTill, IsReport, WritesReport};
 ghost use Rattle.desk.specs.Reporting.{rows_sum, rows_sums, till_words, shelf_header, ready_words};
-ghost use Rattle.desk.specs.Reporting.{ready_count};
-ghost use Rattle.desk.specs.Paging.{AreHoldRows};
+ghost use Rattle.desk.specs.Reporting.{ready_count, IsReadyRow, AreReadyRows};
 
 use crate::paging::title_row;
 use sqlite::Alter;
@@ -122,7 +121,7 @@ fn till_lines(alloc: Global, day: Day, sums: Sums) -> Result<String, Memory>
 
 /// The till report of a day. 90, 91; 93, which never comes where the tables show a history.
 fn till_text<S: Alter>(store: &mut Store<S>, alloc: Global, day: Day) -> Result<String, Fault>
-    ensures { LearnsSoundly (λ H text. string_bytes text ≡ till_of H day)
+    ensures { Learns (λ H text. string_bytes text ≡ till_of H day)
         S.Store store.old store.new result }
 {
     let rows = store.lines(alloc, day)?;
@@ -180,8 +179,8 @@ fn shelf_end(alloc: Global, count: usize) -> Result<String, Memory>
 /// The row of a ready hold, with its title. 90, 91; 93, also where the hold names no copy or no
 /// limit.
 fn ready_line<S: Alter>(store: &mut Store<S>, alloc: Global, row: &HoldRow) -> Result<String, Fault>
-    ensures { Learns (λ H text. (picture H).holds row.now.hold ≡ Some row.now
-        → string_bytes text ≡ shelf_line H row.now.hold ++ (10 ∷ []))
+    ensures { LearnsIf (IsReadyRow row.now)
+        (λ H text. string_bytes text ≡ shelf_line H row.now.hold ++ (10 ∷ []))
         S.Store store.old store.new result }
 {
     let Some(copy) = row.copy else {
@@ -201,7 +200,7 @@ fn add_ready<S: Alter>(
     rows: &[HoldRow],
     text: &mut String,
 ) -> Result<(), Fault>
-    ensures { Learns (λ H _. AreHoldRows H rows.now → string_bytes text.new
+    ensures { LearnsIf (AreReadyRows rows.now) (λ H _. string_bytes text.new
         ≡ string_bytes text.old ++ report_lines (map (λ r. shelf_line H r.hold) rows.now))
         S.Store store.old store.new result }
 {
@@ -219,7 +218,8 @@ fn shelf_lines<S: Alter>(
     alloc: Global,
     rows: &[HoldRow],
 ) -> Result<String, Fault>
-    ensures { Learns (λ H text. (branch : ℕ) → AreReadyAt (picture H) branch rows.now
+    ensures { LearnsIf (AreReadyRows rows.now)
+        (λ H text. (branch : ℕ) → AreReadyAt (picture H) branch rows.now
         → string_bytes text ≡ shelf_of H branch)
         S.Store store.old store.new result }
 {

@@ -1,17 +1,18 @@
 //! Many requests, one after another.
 
-ghost use Rattle.std.specs.Prelude.{◌≡◌};
+ghost use Rattle.std.specs.Prelude.{◌≡◌, [], IfOk};
+ghost use Rattle.store.specs.Library.{state, over_memory, IsClean, IsOpen};
 ghost use Rattle.store.specs.Limits.{limit_of};
 ghost use Rattle.model.specs.Reports.{overdue as overdue_of, shelf as shelf_of};
-ghost use Rattle.desk.specs.Answering.{Learns, IsPageFor};
+ghost use Rattle.desk.specs.Answering.{Shows};
 ghost use Rattle.desk.specs.Written.{WritesTill, WritesReport};
-ghost use Rattle.desk.specs.Running.{Begins, Handles, Ran};
+ghost use Rattle.desk.specs.Running.{Begins, Handles, Ran, ShowsPage};
 
 use crate::handling::handle;
 use crate::overdue::overdue;
 use crate::paging::show_own;
 use crate::reporting::{ReportFault, shelf, till};
-use sqlite::Alter;
+use sqlite::{Alter, MemStore};
 use std::alloc::Global;
 use std::io::Write;
 use std::marker::Model;
@@ -85,7 +86,7 @@ impl<S: Alter> Desk<S> {
         patron: PatronId,
         card_key: &CardKey,
     ) -> Result<Reply, Fault>
-        ensures { Learns (IsPageFor patron card_key.now) S.Store self.old self.new result }
+        ensures { ShowsPage patron card_key.now S.Store self.old self.new result }
     {
         show_own(&mut self.store, alloc, patron, card_key)
     }
@@ -148,6 +149,19 @@ impl<S: Alter> Desk<S> {
     {
         let Desk { store } = self;
         store
+    }
+}
+
+impl Desk<MemStore> {
+    /// The desk of a new library in memory, whose tables show the empty list of accepted requests.
+    /// 90, 91.
+    pub fn in_memory(alloc: Global) -> Result<Desk<MemStore>, Fault>
+        ensures shows { IfOk result (λ desk. Shows (state over_memory desk) []) }
+        ensures open { IfOk result (λ desk. IsClean over_memory desk × IsOpen over_memory desk) }
+    {
+        let store = Store::in_memory(alloc)?;
+        let desk = Desk::new(store)?;
+        Ok(desk)
     }
 }
 

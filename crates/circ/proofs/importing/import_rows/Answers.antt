@@ -53,7 +53,7 @@ returns-in-Some-2 g c = record {
       let d = g.W.Write.contents c.tell_stop.new.writer in
       ends-as (λ exit. ImportsOf all c.args.end g.S.Store c.args.desk.now c.import_row.new.desk (Appends a d) exit) c.tell_stop.result Faulted c.tell_stop.ensures.exit_is c.tell_stop.ensures.writes.all
       (λ wrote. inr (imports-some g.S.Store c.args.desk.now c.rows.desk c.import_row.new.desk all c.rows.yielded c.rows.counts a b c.in-Some.row far at fault (Appends a d)
-      c.in_ok-fault.ensures.clean (c.in_ok-fault.ensures.undone fault is) c.in_ok-fault.ensures.left
+      c.in_ok-fault.ensures.clean (c.in_ok-fault.ensures.sound fault is) (c.in_ok-fault.ensures.undone fault is) c.in_ok-fault.ensures.left
       (lines-whole g.S.Store c.args.desk.now c.rows.desk c.rows.yielded c.rows.counts a b far (fault_line fault) d
       (after-nothing b (g.W.Write.contents c.import_row.new.writer) d (fault_line fault ++ counts_line c.rows.counts.accepted c.rows.counts.refused) kept.0
       (subst (λ (n : Counts). Appends (g.W.Write.contents c.import_row.new.writer) d (fault_line fault ++ counts_line n.accepted n.refused)) kept.1 wrote)))));
@@ -70,7 +70,7 @@ returns-in-Some-2 g c = record {
       (λ front. inl (
         Faulted,
         inr (imports-some g.S.Store c.args.desk.now c.rows.desk c.import_row.new.desk all c.rows.yielded c.rows.counts a b c.in-Some.row far at fault (AppendsFront a d)
-            c.in_ok-fault.ensures.clean (c.in_ok-fault.ensures.undone fault is) c.in_ok-fault.ensures.left
+            c.in_ok-fault.ensures.clean (c.in_ok-fault.ensures.sound fault is) (c.in_ok-fault.ensures.undone fault is) c.in_ok-fault.ensures.left
             (lines-front g.S.Store c.args.desk.now c.rows.desk c.rows.yielded c.rows.counts a b far (fault_line fault) d
             (front-after-nothing b (g.W.Write.contents c.import_row.new.writer) d (fault_line fault ++ counts_line c.rows.counts.accepted c.rows.counts.refused) kept.0
             (subst (λ (n : Counts). AppendsFront (g.W.Write.contents c.import_row.new.writer) d (fault_line fault ++ counts_line n.accepted n.refused)) kept.1 front)))),

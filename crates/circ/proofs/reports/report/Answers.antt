@@ -1,4 +1,5 @@
-use Rattle.std.proofs.Common.{rules, ap, Err}
+use Rattle.std.proofs.Common.{rules, ap, Err, ◌∙◌}
+use Rattle.desk.specs.declared.reporting.ReportFault.TheVariants.{Faulted as Met}
 use Rattle.circ.specs.Reporting.{TellsOf}
 use Rattle.circ.specs.declared.lines.Exit.TheVariants.{Done, Refused, Faulted}
 use Rattle.circ.proofs.Told.{tells-report, tells-unknown, tells-fault, told-whole, told-cut}
@@ -20,26 +21,30 @@ returns-in-Err-Refused g c = record {
       let refused = c.in-Err-Refused.ensures.refused c.in-Err-Refused.refusal is in
       told-whole (TellsOf c.args.report.now g.S.Store c.args.desk.now c.write_report.new.desk) c.tell_reply.result _ _ _ _ Refused
       (λ WentOut line. tells-unknown g.S.Store c.args.desk.now c.write_report.new.desk c.args.report.now WentOut c.in-Err-Refused.refusal refused.0
-      (λ disk H shows. c.in-Err-Refused.ensures.unknown disk c.in-Err-Refused.refusal is H shows) c.in-Err-Refused.ensures.looks.undone line)
+      (λ disk H shows. c.in-Err-Refused.ensures.unknown disk c.in-Err-Refused.refusal is H shows) line)
       refused.1 c.tell_reply.ensures.exit_is c.tell_reply.ensures.writes.all;
   left = search rules;
   cut = let is = ap Err c.in-Err-Refused.field-0-is in
       let refused = c.in-Err-Refused.ensures.refused c.in-Err-Refused.refusal is in
       told-cut (TellsOf c.args.report.now g.S.Store c.args.desk.now c.write_report.new.desk) c.tell_reply.result _ _ _ _ Refused
       (λ WentOut line. tells-unknown g.S.Store c.args.desk.now c.write_report.new.desk c.args.report.now WentOut c.in-Err-Refused.refusal refused.0
-      (λ disk H shows. c.in-Err-Refused.ensures.unknown disk c.in-Err-Refused.refusal is H shows) c.in-Err-Refused.ensures.looks.undone line)
+      (λ disk H shows. c.in-Err-Refused.ensures.unknown disk c.in-Err-Refused.refusal is H shows) line)
       refused.1 c.tell_reply.ensures.writes.front;
 }
 
 pub returns-in-Err-Faulted : goal.returns-in-Err-Faulted
 returns-in-Err-Faulted g c = record {
   clean = search rules;
-  written = search rules;
+  written = let is = ap Err c.in-Err-Faulted.field-0-is in
+      told-whole (TellsOf c.args.report.now g.S.Store c.args.desk.now c.write_report.new.desk) c.tell_fault.result _ _ _ _ Faulted
+      (λ WentOut line. tells-fault g.S.Store c.args.desk.now c.write_report.new.desk c.args.report.now WentOut c.in-Err-Faulted.fault
+      (λ disk stored H shows. c.in-Err-Faulted.ensures.sound disk (ap Err (c.in-Err-Faulted.field-0-is ∙ ap Met stored)) H shows) c.in-Err-Faulted.ensures.looks.undone line)
+      (c.in-Err-Faulted.ensures.silent c.in-Err-Faulted.fault is) c.tell_fault.ensures.exit_is c.tell_fault.ensures.writes.all;
   left = search rules;
   cut = let is = ap Err c.in-Err-Faulted.field-0-is in
       told-cut (TellsOf c.args.report.now g.S.Store c.args.desk.now c.write_report.new.desk) c.tell_fault.result _ _ _ _ Faulted
       (λ WentOut line. tells-fault g.S.Store c.args.desk.now c.write_report.new.desk c.args.report.now WentOut c.in-Err-Faulted.fault
-      (λ disk H shows. c.in-Err-Faulted.ensures.sound disk c.in-Err-Faulted.fault is H shows) c.in-Err-Faulted.ensures.looks.undone line)
+      (λ disk stored H shows. c.in-Err-Faulted.ensures.sound disk (ap Err (c.in-Err-Faulted.field-0-is ∙ ap Met stored)) H shows) c.in-Err-Faulted.ensures.looks.undone line)
       (c.in-Err-Faulted.ensures.silent c.in-Err-Faulted.fault is) c.tell_fault.ensures.writes.front;
 }
 

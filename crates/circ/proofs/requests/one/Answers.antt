@@ -52,10 +52,12 @@ returns g c = record {
   clean = search rules;
   written = let words = texts_of c.args.words.now in
       said-whole (Says c.args.key words g.S.Store c.args.desk.now c.handle.new.self) c.tell_fault.result _ _ _ Faulted
-      (says-fault g.S.Store c.args.desk.now c.handle.new.self c.args.key words c.in-Ok.command c.in-Err.fault c.in-Ok.ensures.only c.in-Err.ensures.handled.undone c.in-Err.ensures.handled.left)
+      (says-fault g.S.Store c.args.desk.now c.handle.new.self c.args.key words c.in-Ok.command c.in-Err.fault c.in-Ok.ensures.only
+      (λ disk stored H shows. c.in-Err.ensures.handled.sound disk (ap Err stored) H shows) c.in-Err.ensures.handled.undone c.in-Err.ensures.handled.left)
       c.tell_fault.ensures.exit_is c.tell_fault.ensures.writes.all;
   cut = let words = texts_of c.args.words.now in
       said-cut (Says c.args.key words g.S.Store c.args.desk.now c.handle.new.self) c.tell_fault.result _ _ _ Faulted
-      (says-fault g.S.Store c.args.desk.now c.handle.new.self c.args.key words c.in-Ok.command c.in-Err.fault c.in-Ok.ensures.only c.in-Err.ensures.handled.undone c.in-Err.ensures.handled.left)
+      (says-fault g.S.Store c.args.desk.now c.handle.new.self c.args.key words c.in-Ok.command c.in-Err.fault c.in-Ok.ensures.only
+      (λ disk stored H shows. c.in-Err.ensures.handled.sound disk (ap Err stored) H shows) c.in-Err.ensures.handled.undone c.in-Err.ensures.handled.left)
       c.tell_fault.ensures.writes.front;
 }

@@ -23,7 +23,7 @@ returns-clause-handled g c = record {
   replied = λ disk. if-ok-is _ c.respond.result (λ reply is H shows.
       let r = c.args.request.now in
       let first = c.respond.ensures.answered.clean disk in
-      let known : is_known H r.caller ≡ true = sym (c.in_ok-is_known.ensures.shown first H shows) ∙ c.if-not-branch.false in
+      let known : is_known H r.caller ≡ true = sym (c.in_ok-is_known.ensures.shown first H shows tt) ∙ c.if-not-branch.false in
       let may : may_send (owner_of r.caller) r.command ≡ true = rw c.owner.ensures at (sym c.may_send.ensures ∙ c.if-not-may_send.false) in
       let allowed : is_allowed H r.caller r.command ≡ true = allowed-both H r.caller r.command known may in
       let page : is_page r.command ≡ false = not-page r.command c.in_default.not-Page in
@@ -36,16 +36,22 @@ returns-clause-handled g c = record {
           tables = subst (λ (K : History). KeepsPicture (state g.S.Store c.respond.new.store) (picture K)) (sym (after-key H r allowed page)) done.1;
         },
       ));
+  sound = λ disk stored H shows.
+      let r = c.args.request.now in
+      let first = c.respond.ensures.answered.clean disk in
+      let known : is_known H r.caller ≡ true = sym (c.in_ok-is_known.ensures.shown first H shows tt) ∙ c.if-not-branch.false in
+      let may : may_send (owner_of r.caller) r.command ≡ true = rw c.owner.ensures at (sym c.may_send.ensures ∙ c.if-not-may_send.false) in
+      c.respond.ensures.answered.sound disk (known-owner H shows.legal shows.forms r.caller known) stored H (c.in_ok-is_known.ensures.looks.stays first H shows) may;
   undone = λ disk is_open. on-err-given {P = Stays (state g.S.Store c.is_known.new.store) (state g.S.Store c.respond.new.store)} c.respond.result
       (λ owner. c.respond.ensures.undone owner disk is_open)
       (λ stays H shows.
       let first = c.respond.ensures.answered.clean disk in
-      let known : is_known H c.args.request.now.caller ≡ true = sym (c.in_ok-is_known.ensures.shown first H shows) ∙ c.if-not-branch.false in
+      let known : is_known H c.args.request.now.caller ≡ true = sym (c.in_ok-is_known.ensures.shown first H shows tt) ∙ c.if-not-branch.false in
       stays (known-owner H shows.legal shows.forms c.args.request.now.caller known) H (c.in_ok-is_known.ensures.looks.stays first H shows));
   left = λ disk H shows.
       let r = c.args.request.now in
       let first = c.respond.ensures.answered.clean disk in
-      let known : is_known H r.caller ≡ true = sym (c.in_ok-is_known.ensures.shown first H shows) ∙ c.if-not-branch.false in
+      let known : is_known H r.caller ≡ true = sym (c.in_ok-is_known.ensures.shown first H shows tt) ∙ c.if-not-branch.false in
       let may : may_send (owner_of r.caller) r.command ≡ true = rw c.owner.ensures at (sym c.may_send.ensures ∙ c.if-not-may_send.false) in
       let allowed : is_allowed H r.caller r.command ≡ true = allowed-both H r.caller r.command known may in
       let page : is_page r.command ≡ false = not-page r.command c.in_default.not-Page in
@@ -61,14 +67,15 @@ returns-in-Page-clause-handled g c = record {
   replied = λ disk. if-ok-is _ c.show.result (λ reply is H shows.
       let r = c.args.request.now in
       let first = c.show.ensures.looks.clean disk in
-      let known : is_known H r.caller ≡ true = sym (c.in_ok-is_known.ensures.shown first H shows) ∙ c.if-not-branch.false in
+      let known : is_known H r.caller ≡ true = sym (c.in_ok-is_known.ensures.shown first H shows tt) ∙ c.if-not-branch.false in
       let may : may_send (owner_of r.caller) r.command ≡ true = rw c.owner.ensures at (sym c.may_send.ensures ∙ c.if-not-may_send.false) in
       let allowed : is_allowed H r.caller r.command ≡ true = allowed-both H r.caller r.command known may in
       let page : is_page r.command ≡ true = ap is_page c.in-Page.is in
       let mid = c.in_ok-is_known.ensures.looks.stays first H shows in
       let last = on-ok-is c.show.result reply is (c.show.ensures.looks.stays disk) H mid in
-      let shown = if-ok-given {G = Unit {0}} _ c.show.result (λ _. c.show.ensures.shown disk) reply is tt H mid (owner_of r.caller) in
+      let shown = if-ok-given {G = Unit {0}} _ c.show.result (λ _. c.show.ensures.shown disk) reply is tt H mid tt (owner_of r.caller) in
       (shown ∙ sym (reply-page H r allowed page ∙ ap (answer H (owner_of r.caller)) c.in-Page.is), subst (λ (K : History). Shows (state g.S.Store c.show.new.store) K) (sym (after-page H r allowed page)) last));
+  sound = λ disk stored H shows. c.show.ensures.sound disk stored H (c.in_ok-is_known.ensures.looks.stays (c.show.ensures.looks.clean disk) H shows) tt;
   undone = λ disk is_open. on-err c.show.result
       (λ stays H shows. stays H (c.in_ok-is_known.ensures.looks.stays (c.show.ensures.looks.clean disk) H shows))
       (c.show.ensures.looks.undone disk is_open);

@@ -1,6 +1,6 @@
 use Rattle.std.proofs.Common.{rules, ◌≡◌, ℕ, ◌<◌, ◌+◌, List, [], ◌∷◌, ◌++◌, length, take, sym, ◌∙◌, ap, subst, arith}
 use Rattle.std.proofs.lemmas.List.{take_all, take_more}
-use Rattle.std.specs.Prelude.{is_ok, true}
+use Rattle.std.specs.Prelude.{is_ok, true, Err}
 use Rattle.store.specs.Library.{state}
 use Rattle.terms.specs.declared.command.Request.{Request}
 use Rattle.terms.specs.declared.reply.Reply.{Reply}
@@ -19,6 +19,9 @@ returns-in-Err g c = record {
   clean = search rules;
   ran = search rules;
   headline = search rules;
+  sound = λ disk stored H shows.
+      let before = c.requests.invariant.so_far (c.handle.ensures.handled.clean disk) H shows in
+      c.in-Err.ensures.handled.sound disk (ap Err stored) (after H (take c.requests.request-index c.args.requests.now)) before.1;
   stopped = λ disk H shows.
       let xs : List Request = c.args.requests.now in
       let i : ℕ = c.requests.request-index in
@@ -47,6 +50,7 @@ returns g c =
       headline = λ disk H shows.
           let done = rw whole at (c.requests.invariant.so_far disk H shows) in
           (picture (after H xs), done.1.tables.now, headline (after H xs) done.1.legal done.1.forms);
+      sound = search rules;
       stopped = search rules;
     }
 
