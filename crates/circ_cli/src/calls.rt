@@ -27,7 +27,7 @@ pub fn open<S: Start>(rt: &HostRuntime, path: &str, start: S) -> Result<FileDesk
 /// Copies the database's log into the file, so that the file alone is the library; where that fails, the log stays beside it and
 /// nothing is lost.
 pub fn close<D: Disk + Drop>(desk: Desk<FileStore<D>>) {
-    let _ = desk.into_store().into_connection().close();
+    let _ = desk.into_store().close();
 }
 
 /// Handles one request, and writes its line.

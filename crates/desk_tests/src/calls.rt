@@ -3,12 +3,12 @@
 
 use circ::{Exit, Report, WriteFault};
 use desk::Desk;
-use sqlite::{Alter, Connection, FileStore, Files, Options};
+use sqlite::{Alter, Connection, FileStore, Files, MemStore, Options};
 use sqlite_disk::{Crash, Disk};
 use std::alloc::Global;
 use std::io::{Read, Write};
 use store::Store;
-use terms::{Fault, Key, Reply, Request};
+use terms::{CardKey, Fault, Key, PatronId, Reply, Request, Tables};
 
 /// Has one request by words handled, and its line written.
 pub fn one<S: Alter, W: Write>(
@@ -62,6 +62,21 @@ pub fn run<S: Alter>(
     }
 }
 
+/// What a patron is shown who shows a card key.
+pub fn page<S: Alter>(
+    desk: &mut Desk<S>,
+    alloc: Global,
+    patron: PatronId,
+    card_key: &CardKey,
+) -> Result<Reply, Fault> {
+    desk.page(alloc, patron, card_key)
+}
+
+/// All rows of all tables.
+pub fn tables<S: Alter>(store: &mut Store<S>, alloc: Global) -> Result<Tables, Fault> {
+    store.tables(alloc)
+}
+
 /// The database under a desk.
 pub fn connection<S: Alter>(desk: Desk<S>) -> Connection<S> {
     desk.into_store().into_connection()
@@ -75,6 +90,11 @@ pub fn open<S: Alter + Drop>(conn: Connection<S>) -> Result<Store<S>, Fault> {
 /// The store over new tables.
 pub fn create<S: Alter + Drop>(conn: Connection<S>) -> Result<Store<S>, Fault> {
     Store::create(conn)
+}
+
+/// The desk of a new library in memory.
+pub fn in_memory(alloc: Global) -> Result<Desk<MemStore>, Fault> {
+    Desk::in_memory(alloc)
 }
 
 /// The desk over a store.
@@ -92,21 +112,6 @@ pub fn connection_of<S: Alter>(store: Store<S>) -> Connection<S> {
     store.into_connection()
 }
 
-/// The database in two files.
-pub fn connect<D: Disk + Drop>(
-    alloc: Global,
-    files: Files<D>,
-    options: Options,
-) -> Result<Connection<FileStore<D>>, Fault> {
-    if !files.may_be_used() {
-        return Err(Fault::Closed);
-    }
-    match Connection::open_files(alloc, files, options) {
-        Ok(conn) => Ok(conn),
-        Err(_) => Err(Fault::Database),
-    }
-}
-
 /// The store over two files.
 pub fn open_files<D: Disk + Drop>(
     alloc: Global,
@@ -116,20 +121,23 @@ pub fn open_files<D: Disk + Drop>(
     Store::open_files(alloc, files, options)
 }
 
+/// The store over new tables in two files.
+pub fn create_files<D: Disk + Drop>(
+    alloc: Global,
+    files: Files<D>,
+    options: Options,
+) -> Result<Store<FileStore<D>>, Fault> {
+    Store::create_files(alloc, files, options)
+}
+
 /// The two files of a store, as they were written.
 pub fn into_files<D: Disk + Drop>(store: Store<FileStore<D>>) -> Files<D> {
     store.into_files()
 }
 
-/// The two files of a database, with its log copied into the other; none where that fails.
-pub fn close_files<D: Disk + Drop>(conn: Connection<FileStore<D>>) -> Option<Files<D>> {
-    match conn.close_files() {
-        Ok(files) => Some(files),
-        Err((_, store)) => {
-            drop(store.close());
-            None
-        }
-    }
+/// The two files of a store, with the log of its database copied into the other; none where that fails.
+pub fn close<D: Disk + Drop>(store: Store<FileStore<D>>) -> Option<Files<D>> {
+    store.close()
 }
 
 /// The store over two files that lost what was not synced.

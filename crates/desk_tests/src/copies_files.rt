@@ -27,7 +27,7 @@ const SHIPS: &str =
     "copy,title,text,kind,home,price,end\n60,600,Tall Ships,1,1,900,end\n60,600,Tall Ships,1,1,900,end\n61,600,Tall Ships,1,9,900,end\n61,600,Tall Ships,1,2,1000001,end\n61,600,Tall Ships,1,2,900,end\n";
 
 /// The file is told by these lines, and the end is this one.
-fn takes_in(
+pub fn takes_in(
     rt: &impl Abort,
     alloc: Global,
     desk: &mut Desk<MemStore>,

@@ -1,7 +1,7 @@
 //! What each test begins with: a small library, requests by words, and looks at rows. Expected lines are those of the
 //! rules, worked out by hand.
 
-use crate::calls::{connection, create, desk_over, handle, one, open, run};
+use crate::calls::{connection, desk_over, handle, in_memory, one, open, run};
 use desk::Desk;
 use front::read_words;
 use sqlite::types::ValueRef;
@@ -102,8 +102,7 @@ pub fn check<S: Alter>(
 
 /// The desk of a new library.
 pub fn new_desk(alloc: Global) -> Result<Desk<MemStore>, Fail> {
-    let conn = Connection::open_in_memory(alloc)?;
-    Ok(desk_over(create(conn)?)?)
+    Ok(in_memory(alloc)?)
 }
 
 /// The desk of the small library.

@@ -21,6 +21,8 @@ mod pairs;
 #[cfg(test)]
 mod reports;
 #[cfg(test)]
+mod shown;
+#[cfg(test)]
 mod stops;
 #[cfg(test)]
 mod words;

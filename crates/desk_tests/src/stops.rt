@@ -1,8 +1,7 @@
 //! Stops: a fuse in one of the two files of a library blows in the midst of a check-out.
 
 use crate::calls::{
-    close_files, connect, connection, connection_of, create, desk_over, into_files, open_files,
-    restart, store,
+    close, connection_of, create_files, desk_over, into_files, open_files, restart, store,
 };
 use crate::ground::{GROUND, answer, check, opened, request, rows};
 use sqlite::{Alter, Connection, FileStore, Files, Options};
@@ -37,9 +36,9 @@ fn filled_in<D: Disk + Drop>(
     alloc: Global,
     files: Files<D>,
 ) -> Result<Files<D>, Fail> {
-    let mut desk = desk_over(create(connect(alloc, files, options())?)?)?;
+    let mut desk = desk_over(create_files(alloc, files, options())?)?;
     check(rt, alloc, &mut desk, &GROUND)?;
-    Ok(close_files(connection(desk)).ok_or("a close")?)
+    Ok(close(store(desk)).ok_or("a close")?)
 }
 
 /// The two files of the small library.
