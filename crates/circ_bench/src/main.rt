@@ -1,66 +1,79 @@
-//! The program `circ_bench`: how long the desk takes for a request, beside the statements of SQL alone that it runs.
+//! The program `circ_bench`: has one open desk do what each line of its input asks for, and tells what each took.
+//!
+//! `circ_bench FILE` reads lines of words as `circ` takes them (`file FILE KEY WORDS..`, `report FILE ..`), parted by single
+//! blanks; of each it writes the nanoseconds that it took and the first line of the answer.
 #![tactic(auto)]
 
-mod asking;
-mod bare;
-mod call;
-mod filling;
-mod given;
-mod measuring;
-mod rows;
-mod showing;
-mod size;
-mod texts;
-mod times;
-
-use crate::filling::fill;
-use crate::measuring::measure_all;
-use crate::size::Size;
-use anyhow::Result;
-use sqlite::{Alter, Connection, Wary};
+use circ::{Exit, Run, WriteFault, not_understood, one, read_run, report};
+use desk::Desk;
+use sqlite::{Alter, Wary};
+use std::alloc::Global;
 use std::env;
+use std::io::{BufRead, BufReader};
 use std::time::Instant;
+use store::Store;
+use terms::Memory;
 
-/// Fills a library over the connection, and measures on it.
-fn run<S: Alter + Drop>(rt: &HostRuntime, conn: Connection<S>, size: Size) -> Result<()> {
-    let begin = Instant::now(rt)?;
-    let store = fill(rt.alloc(), conn, size)?;
-    let took = begin.elapsed(rt)?;
-    println!(rt;
-        "{} copies filled in {} ms",
-        size.copies(),
-        took.as_millis()
-    )?;
-    measure_all(rt, store, size)
-}
-
-/// Measures in memory, or on the file that the place names.
-fn run_at(rt: &HostRuntime, place: &str, size: Size) -> Result<()> {
-    if place == "memory" {
-        return run(rt, Connection::open_in_memory(rt.alloc())?, size);
-    }
-    match Connection::open_from(rt, place, false, Wary) {
-        Ok(conn) => run(rt, conn, size),
-        Err((error, _)) => Err(error.into()),
-    }
-}
-
-/// The words after the program's name.
-fn words_of(rt: &HostRuntime) -> Result<Vec<String>> {
-    let mut words = Vec::new(rt.alloc());
-    for word in env::args(rt)?.skip(1) {
-        words.push(word)?;
+/// The words of a line.
+fn words_of(alloc: Global, line: &str) -> Result<Vec<String>, Memory> {
+    let mut words = Vec::new(alloc);
+    for word in line.split(' ') {
+        words.push(String::from_str(alloc, word)?)?;
     }
     Ok(words)
 }
 
-fn main(rt: HostRuntime) -> Result<()> {
-    let words = words_of(&rt)?;
-    if let [copies, place] = words.as_slice() {
-        if let Some(size) = Size::read(copies.as_str()) {
-            return run_at(&rt, place.as_str(), size);
+/// Does what the words ask for, on the open desk whatever file they name.
+fn answer<S: Alter>(
+    desk: &mut Desk<S>,
+    alloc: Global,
+    words: &[String],
+    answer: &mut Vec<u8>,
+) -> Result<Exit, WriteFault> {
+    match read_run(alloc, words) {
+        Ok(Some(Run::File { key, words, .. })) => one(desk, alloc, key, words, answer),
+        Ok(Some(Run::Report { report: wanted, .. })) => report(desk, alloc, &wanted, answer),
+        _ => not_understood(answer),
+    }
+}
+
+/// Does what the line asks for, and tells what it took.
+fn measure<S: Alter>(rt: &HostRuntime, desk: &mut Desk<S>, line: &str) -> anyhow::Result<()> {
+    let words = words_of(rt.alloc(), line)?;
+    let mut told = Vec::new(rt.alloc());
+    let begin = Instant::now(rt)?;
+    let done = answer(desk, rt.alloc(), words.as_slice(), &mut told);
+    let took = begin.elapsed(rt)?;
+    if done.is_err() {
+        anyhow::bail!("an answer could not be told");
+    }
+    let text = String::from_utf8(told)?;
+    println!(rt; "{} {}", took.as_nanos(), text.lines().next().unwrap_or(""))?;
+    Ok(())
+}
+
+/// Has the desk over the library in the file do what the lines of the input ask for.
+fn measure_all(rt: &HostRuntime, path: &str) -> anyhow::Result<()> {
+    let store = match Store::open_from(rt, path, Wary) {
+        Ok(store) => store,
+        Err(fault) => anyhow::bail!("fault {fault}"),
+    };
+    let Ok(mut desk) = Desk::new(store) else {
+        anyhow::bail!("no desk");
+    };
+    for line in BufReader::new(rt.alloc(), rt.reader())?.lines(rt.alloc()) {
+        measure(rt, &mut desk, line?.as_str())?;
+    }
+    Ok(())
+}
+
+fn main(rt: HostRuntime) -> anyhow::Result<()> {
+    let mut words = env::args(&rt)?.skip(1);
+    match words.next() {
+        Some(path) => measure_all(&rt, path.as_str()),
+        None => {
+            println!(&rt; "usage: circ_bench FILE")?;
+            Ok(())
         }
     }
-    println!(rt; "usage: circ_bench COPIES memory|FILE")?;
-    Ok(())
 }
