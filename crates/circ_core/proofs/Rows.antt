@@ -1,10 +1,9 @@
 -- Rows that are put, seen from what the history sets and makes.
-use Rattle.std.proofs.Common.{◌≡◌, ℕ, suc, ◌==◌, Bool, true, false, cond, ◌&&◌, refl, sym, ap, arith}
+use Rattle.std.proofs.Common.{◌≡◌, ℕ, suc, ◌==◌, Bool, true, false, cond, ◌&&◌, refl, ap, arith}
 use Rattle.std.specs.Prelude.{Option, Some, None, option_map, not, is_none, is_some}
 use Rattle.std.specs.Option.{option_or}
-use Rattle.std.proofs.lemmas.Bool.{eqb-true, eq-eqb, and_parts, false_from_ne_true}
+use Rattle.std.proofs.lemmas.Bool.{eqb-true, and_parts, false_from_ne_true}
 use Rattle.terms.specs.Pictures.{put, put_pair}
-use Rattle.model.proofs.ClosedDays.{eq-sym}
 
 -- ---- numbers and Options
 

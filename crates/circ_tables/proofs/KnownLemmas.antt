@@ -1,22 +1,19 @@
 -- The text that asks for the rows of `meta` is understood where there is that table.
-use Rattle.std.proofs.Common.{◌≡◌, ◌⊎◌, inl, inr, arith, ℕ, List, [], ◌∷◌, length, Option, None, Some, Ok, codes, refl, sym, ap, subst, ◌∙◌, ◌<◌}
+use Rattle.std.proofs.Common.{◌≡◌, ◌⊎◌, inl, inr, arith, ℕ, List, [], ◌∷◌, length, Option, codes, refl, sym, ap, subst, ◌∙◌, ◌<◌}
 use Rattle.sqlite.specs.Clock.{timed}
 use Rattle.sqlite.specs.Command.TheVariants.{Select}
 use Rattle.sqlite.specs.Effect.{Database, RefusesToRead, RefusesQuery}
 use Rattle.sqlite.specs.Given.{IsPlain}
 use Rattle.sqlite.specs.Listing.{understood}
-use Rattle.sqlite.specs.Order.{Row, column}
+use Rattle.sqlite.specs.Order.{Row}
 use Rattle.sqlite.specs.State.{State, store_error, Shown, FailsToShow, FailsToQuery, IsNotRun, IsTooLate}
-use Rattle.sqlite.specs.Table.{Table}
-use Rattle.sqlite.specs.declared.error.Error.{Error}
 use Rattle.sqlite.specs.declared.error.Error.TheVariants.{SqlInputError}
 use Rattle.sqlite.proofs.Callers.{command_of}
 use Rattle.sqlite_resolve.specs.declared.error.CompileError.{CompileError}
 use Rattle.sqlite_tied.specs.Compute.{everything}
 use Rattle.sqlite_trees.specs.declared.error.StoreError.{StoreError}
 use Rattle.sqlite_trees.specs.declared.error.StoreError.TheVariants.{OutOfMemory, Io, Corrupt, Full, Broken, Unstorable}
-use Rattle.sql_maps.specs.Maps.{Maps, Holds, cells}
-use Rattle.circ_tables.specs.Cells.{number}
+use Rattle.sql_maps.specs.Maps.{Maps, Holds}
 use Rattle.circ_tables.specs.SchemaNumber.{NamesSchema}
 use Rattle.circ_tables.specs.Shape.{schema, meta}
 use Rattle.circ_tables.proofs.FoundLemmas.{all_meta_plain, only_meta}

@@ -1,5 +1,5 @@
 -- What a store over two files finds in them, from what the database finds.
-use Rattle.std.proofs.Common.{◌≡◌, ◌⊎◌, ◌<◌, inl, inr, [], length, refl, sym, ap, subst, ◌∙◌, arith, IsTrue}
+use Rattle.std.proofs.Common.{◌≡◌, ◌<◌, inl, inr, [], length, sym, ap, subst, ◌∙◌, arith}
 use Rattle.std.proofs.Math.Logic.{∥∥₁_map}
 use Rattle.sqlite_catalog.proofs.ReadLemmas.{lists_once}
 use Rattle.sqlite.proofs.ListingLemmas.{empty_is_sound}
@@ -17,7 +17,7 @@ use Rattle.terms.specs.Pictures.{Picture}
 use Rattle.circ_tables.specs.Encoding.{HasPicture}
 use Rattle.store.specs.Commit.{CreatesLibrary, OpensLibrary}
 use Rattle.store.specs.Files.{HoldsEither, Connects, OpensOver, CreatesOver}
-use Rattle.store.specs.Stops.{KeepsPicture, LeavesEither, StandsFor}
+use Rattle.store.specs.Stops.{LeavesEither, StandsFor}
 use Rattle.store.proofs.StopLemmas.{finds_same, same_database}
 
 -- a database that lists nothing has no table

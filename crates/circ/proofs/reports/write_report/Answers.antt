@@ -1,4 +1,4 @@
-use Rattle.std.proofs.Common.{◌≡◌, refl, sym, subst}
+use Rattle.std.proofs.Common.{refl, sym, subst}
 use Rattle.model.specs.Reports.{overdue, shelf}
 use Rattle.circ.specs.Reporting.{WritesAnyReport}
 use Rattle.circ.specs.declared.arguments.Report.{Report}

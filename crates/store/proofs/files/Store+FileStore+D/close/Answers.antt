@@ -1,4 +1,4 @@
-use Rattle.std.proofs.Common.{◌≡◌, IsTrue, rules, subst}
+use Rattle.std.proofs.Common.{◌≡◌, IsTrue, subst}
 use Rattle.std.proofs.Math.Logic.{∥∥₁_map}
 use Rattle.sqlite.specs.Files.{file_state}
 use Rattle.circ_tables.specs.Encoding.{HasPicture}
