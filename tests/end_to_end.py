@@ -509,6 +509,13 @@ def kill_at_work(words, seconds):
     return printed, run.returncode == -signal.SIGKILL
 
 
+def timed(call):
+    """What a call gives, and the seconds that it took: kills are set by that, so that they hit work on a slow machine too."""
+    begin = time.perf_counter()
+    given = call()
+    return given, time.perf_counter() - begin
+
+
 def rows_now(path, text):
     """What stock SQLite reads in a copy of the files, so that what a kill left stays as it is."""
     with tempfile.TemporaryDirectory() as folder:
@@ -546,10 +553,11 @@ def a_month(folder):
     for at, (key, *words) in enumerate(requests):
         line = library.handle(key, words)
         seen.add((words[0], line.split()[1] if line.startswith("refused") else line.split()[0]))
-        check(f"{key} {words}", answers(calm, key, words), (line + "\n", status_of(line)))
+        answered, took = timed(lambda: answers(calm, key, words))
+        check(f"{key} {words}", answered, (line + "\n", status_of(line)))
         # a kill while the file is made may leave no library, so the first request is let be
         while at and moments.random() < 0.5:
-            printed, hit = kill_at_work(["file", killed, key, *words], moments.uniform(0, 0.012))
+            printed, hit = kill_at_work(["file", killed, key, *words], moments.uniform(0, 1.2 * took))
             kept = rows_now(killed, f"SELECT COUNT(*) FROM kept WHERE caller = 0 AND key = '{key}'") == [(1,)]
             # what was told is kept, whenever the kill came
             check(f"{key} {words} told and kept, seed {seed}", kept or key not in library.kept or printed == "", True)
@@ -643,8 +651,12 @@ def a_delivery(folder):
         csv.writer(file).writerows([*book, "end"] for book in books)
     lines = library.take_in(books)
     taken, hits = [row[0] for row in books if row[0] in library.copies], 0
-    for _ in range(12):
-        printed, hit = kill_at_work(["import", killed, copies], moments.uniform(0, 0.25))
+    delivered, took = timed(lambda: take_in(calm, copies))
+    check("the lines of the delivery", delivered, (lines, 2))
+    for at in range(60):
+        if at >= 12 and hits:
+            break
+        printed, hit = kill_at_work(["import", killed, copies], moments.uniform(0, took))
         told = printed[:printed.rfind("\n") + 1]
         check(f"a beginning of the lines, seed {seed}", lines.startswith(told), True)
         found = rows_now(killed, "SELECT copy FROM copies WHERE copy >= 1000 ORDER BY copy")
@@ -653,7 +665,6 @@ def a_delivery(folder):
         hits += hit and 0 < len(found) < len(taken)
     check(f"kills hit the delivery at work, seed {seed}", hits > 0, True)
     check("some rows are refused", 0 < lines.count("refused 10") < 300, True)
-    check("the lines of the delivery", take_in(calm, copies), (lines, 2))
     the_rows_are(calm, library)
     check(f"the lines after kills, seed {seed}", take_in(killed, copies), (lines, 2))
     check(f"the rows after kills, seed {seed}", whole(killed), whole(calm))
@@ -664,11 +675,13 @@ def a_creation(folder):
     seed = random.randrange(10**9)
     moments, hits = random.Random(seed), {"no file": 0, "a library": 0, "fault 93": 0}
     print(f"end to end: libraries that are made, moments of kills by the seed {seed}")
+    words = ["g1", "begin-day", "2026-03-02"]
+    took = max(timed(lambda: circ(["file", os.path.join(folder, f"calm{at}.db"), *words]))[1] for at in range(3))
     for at in range(60):
         path = os.path.join(folder, f"made{at}.db")
-        printed, _ = kill_at_work(["file", path, "g1", "begin-day", "2026-03-02"], moments.uniform(0, 0.02))
+        printed, _ = kill_at_work(["file", path, *words], moments.uniform(0, (0.2 if at % 2 else 1.2) * took))
         there = os.path.exists(path) and os.path.getsize(path) > 0
-        line, status = circ(["file", path, "g1", "begin-day", "2026-03-02"])
+        line, status = circ(["file", path, *words])
         if printed:
             check(f"the library that was told is there, seed {seed}", (printed, line, status), ("ok\n", "ok", 0))
         hits["no file" if not there else "fault 93" if line == "fault 93" else "a library"] += 1
