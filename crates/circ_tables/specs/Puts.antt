@@ -35,7 +35,7 @@ pub record Runs {S T : Type 0} (text : List ℕ) (given : Row)
       → OnErr result (IsKeptOrUndone (state g old.conn.now) (state g new.conn.now))
   pub fault : IfErr result (λ fault. fault ≡ Database)
 
--- The maps of the tables are changed so, and the picture that they show. The change of the picture may need something of the row. Only the database refuses it.
+-- The maps of the tables are changed so, and the picture that they show. The change of the picture may need something of the row. Its one fault is 91.
 pub record ChangesRows {S T : Type 0} (change : Maps → Maps) (Needs : Type 0) (draw : Picture → Picture)
     (g : Ghosts S) (old new : Transaction S) (result : Result T Fault) : Type 0 where
   pub works : Works g old new
@@ -69,7 +69,7 @@ abbrev pub PutsKept : {S T : Type 0} → KeptRow → Ghosts S → Transaction S 
 PutsKept row = Puts (λ maps. put_at maps kept_place (kept_key row.caller row.key) (kept_cells row)) (IsOwner row.caller)
     (λ P. record P { kept = put_kept P.kept row.caller row.key (Some row) })
 
--- The schema is led from one stage to another, with the maps of the tables that are there. Only the database refuses it.
+-- The schema is led from one stage to another, with the maps of the tables that are there. Its one fault is 91.
 pub record Makes {S T : Type 0} (from to : Schema) (g : Ghosts S) (old new : Transaction S) (result : Result T Fault) : Type 0 where
   pub works : Works g old new
   pub moves : HasCleanDisk (state g new.conn.now) → IsTrue (state g old.conn.now).in_transaction
