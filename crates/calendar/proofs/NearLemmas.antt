@@ -1,14 +1,17 @@
 -- An open day is near: 400 single days close no more than 400 of 401 weeks' days of an open weekday.
-use Rattle.std.proofs.Common.{◌≡◌, ℕ, zero, suc, ◌+◌, ◌-◌, ◌*◌, ◌%◌, ◌<◌, ◌≤◌, List, [], ◌∷◌, length, Bool, true, false, not, ◌||◌, sym, ◌∙◌, refl, arith, subst, inl, inr, nat_eq}
-use Rattle.std.specs.Prelude.{◌==◌, slice_index_or}
+use Rattle.std.proofs.Common.{◌≡◌, ℕ, zero, suc, ◌+◌, ◌-◌, ◌*◌, ◌%◌, ◌<◌, ◌≤◌, List, [], ◌∷◌, length, Bool, true, false, not, ◌||◌, sym, ◌∙◌, refl, arith, subst, inl, inr, nat_eq, Option, Some, None}
+use Rattle.std.specs.Prelude.{◌==◌, IfNone, IfSome, IsSome, slice_index_or}
+use Rattle.std.specs.Option.{SomeIff}
 use Rattle.std.specs.List.{list_any, IsDistinct, AllByRecursion}
 use Rattle.std.specs.Cmp.{nat_eq_equiv}
 use Rattle.std.proofs.lemmas.Bool.{cases_order}
 use Rattle.std.proofs.lemmas.Bool.Decides.{nat_tests, Decides-eqb}
 use Rattle.std.proofs.lemmas.Map.Made.{length-le_from_is_member}
 use Rattle.calendar.specs.Days.{IsDayNumber}
-use Rattle.calendar.specs.Openings.{Closings, AreClosings, IsLeastOpen, has_day, has_open_weekday, is_open, is_single, is_weekly, weekday}
+use Rattle.calendar.specs.Weeks.{IsOpenFrom, is_closed_weekday}
+use Rattle.calendar.specs.Openings.{Closings, AreClosings, AreWeekdays, IsLeastOpen, has_day, has_open_weekday, is_open, is_single, is_weekly, weekday}
 use Rattle.calendar.proofs.OpeningLemmas.{is_open-inside}
+use Rattle.calendar.proofs.SinglesLemmas.{IsLeastOpen-IsOpenFrom, none_open-IsOpenFrom}
 
 -- n days, each a week after the one before
 abbrev weeks_from : ℕ → ℕ → List ℕ
@@ -68,6 +71,33 @@ first_of_weekday d j h = elim (cases_order ((d + 3) % 7) j) [
   ]
 ]
 
+-- no seven days in a row are all on closed weekdays
+week_has_open : (w : List Bool) (d : ℕ) → AreWeekdays w → ((k : ℕ) → d ≤ k → k < d + 7 → is_closed_weekday w k ≡ true) → ⊥
+week_has_open w d h closed =
+    let o = open_weekday w h.some_open in
+    let f = first_of_weekday d o.0 (omega (arith, o.1, h.seven)) in
+    let opened : is_closed_weekday w f.0 ≡ false = subst (λ (i : ℕ). slice_index_or w i false ≡ false) (sym f.3) o.2 in
+    let shut : is_closed_weekday w f.0 ≡ true = closed f.0 f.1 f.2 in
+    cc
+
+-- one closed weekday more, after so many that an open one is left
+pub closed_further : (w : List Bool) (d n : ℕ) → AreWeekdays w → d ≤ n → n ≤ d + 6 → is_closed_weekday w n ≡ true
+    → ((k : ℕ) → d ≤ k → k < n → is_closed_weekday w k ≡ true)
+    → (n + 1 ≤ d + 6) × ((k : ℕ) → d ≤ k → k < n + 1 → is_closed_weekday w k ≡ true)
+closed_further w d n h from near here closed = (
+  elim (cases_order n (d + 6)) [
+    | inl same ↦ absurd (week_has_open w d h (λ k a b. further k a (omega arith)))
+    | inr apart ↦ elim apart [ inl below ↦ omega arith | inr above ↦ omega arith ]
+  ],
+  further,
+)
+  where
+    further : (k : ℕ) → d ≤ k → k < n + 1 → is_closed_weekday w k ≡ true
+    further k a b = elim (cases_order k n) [
+      | inl same ↦ subst (λ (i : ℕ). is_closed_weekday w i ≡ true) (sym same) here
+      | inr apart ↦ elim apart [ inl below ↦ closed k a below | inr above ↦ absurd (omega arith) ]
+    ]
+
 single_then : (c : Closings) (d : ℕ) → IsDayNumber d → is_weekly c d ≡ false → is_open c d ≡ false → is_single c d ≡ true
 single_then c d h w e = turn (is_single c d) (sym (is_open-inside c d h w) ∙ e)
   where
@@ -98,3 +128,28 @@ IsLeastOpen-near c d e h low high l = elim (cases_order e (d + 2806)) [
 -- and it is there while so many days are left
 pub none_open-near : (c : Closings) (d : ℕ) → AreClosings c → 10957 ≤ d → ((k : ℕ) → d ≤ k → is_open c k ≡ false) → d + 2806 ≤ 84005 → ⊥
 none_open-near c d h low closed high = never_all c d h low high (λ k from until. closed k from)
+
+-- ---- the first open day number, as a day
+
+pub least_some : (r : Option ℕ) (c : Closings) (day e : ℕ) → SomeIff r (IsDayNumber e) e → IsOpenFrom c day e → IfSome r (IsLeastOpen c day)
+least_some None c day e h o = tt
+least_some (Some x) c day e h o = rw h.1 (IsLeastOpen-IsOpenFrom c day e o h.0)
+
+-- a number that is no day of the calendar, and not before it
+past : (day e : ℕ) → 10957 ≤ day → day ≤ e → (IsDayNumber e → ⊥) → 84005 < e
+past day e low from h = elim (cases_order e 84005) [
+  | inl same ↦ absurd (h (omega arith, omega arith))
+  | inr apart ↦ elim apart [ inl below ↦ absurd (h (omega arith, omega arith)) | inr above ↦ above ]
+]
+
+pub least_none : (r : Option ℕ) (c : Closings) (day e : ℕ) → IsDayNumber day → SomeIff r (IsDayNumber e) e → IsOpenFrom c day e → IfNone r ((k : ℕ) → day ≤ k → is_open c k ≡ false)
+least_none None c day e low h o = none_open-IsOpenFrom c day e o (past day e low.0 o.from h)
+least_none (Some x) c day e low h o = tt
+
+pub least_near : (r : Option ℕ) (c : Closings) (day e : ℕ) → AreClosings c → IsDayNumber day → SomeIff r (IsDayNumber e) e → IsOpenFrom c day e → IfSome r (λ x. x ≤ day + 2806)
+least_near None c day e k low h o = tt
+least_near (Some x) c day e k low h o = rw h.1 (IsLeastOpen-near c day e k low.0 h.0.1 (IsLeastOpen-IsOpenFrom c day e o h.0))
+
+pub least_found : (r : Option ℕ) (c : Closings) (day e : ℕ) → AreClosings c → IsDayNumber day → SomeIff r (IsDayNumber e) e → IsOpenFrom c day e → day + 2806 ≤ 84005 → IsSome r
+least_found None c day e k low h o far = absurd (none_open-near c day k low.0 (none_open-IsOpenFrom c day e o (past day e low.0 o.from h)) far)
+least_found (Some x) c day e k low h o far = refl

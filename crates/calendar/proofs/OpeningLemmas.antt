@@ -1,5 +1,5 @@
 -- Open days, their count, and the single closed days after a change.
-use Rattle.std.proofs.Common.{◌≡◌, ◌≢◌, ℕ, zero, suc, ◌+◌, ◌<◌, ◌≤◌, List, [], ◌∷◌, ◌++◌, length, remove, get_or, Bool, true, false, not, ◌&&◌, ◌||◌, ap, sym, ◌∙◌, refl, arith, subst, inl, inr, length-append}
+use Rattle.std.proofs.Common.{◌≡◌, ℕ, zero, suc, ◌+◌, ◌<◌, ◌≤◌, List, [], ◌∷◌, ◌++◌, length, remove, get_or, Bool, true, false, not, ◌&&◌, ◌||◌, ap, sym, ◌∙◌, refl, arith, inl, inr}
 use Rattle.std.specs.Prelude.{◌==◌}
 use Rattle.std.proofs.lemmas.List.Folds.{list_any-append}
 use Rattle.std.proofs.lemmas.Bool.{cases_order}
@@ -7,18 +7,6 @@ use Rattle.std.proofs.lemmas.Bool.Decides.{nat_tests, Decides-eqb}
 use Rattle.std.proofs.lemmas.List.Edits.{length-remove}
 use Rattle.calendar.specs.Days.{IsDayNumber, is_day}
 use Rattle.calendar.specs.Openings.{Closings, AreClosings, ClosesOnly, ClosesSame, IsLeastOpen, ReopensOnly, has_day, has_repeat, is_open, is_single, is_weekly, open_among}
-
-pub open_among-none : (c : Closings) (d n : ℕ) → n ≡ 0 → open_among c d n ≡ 0
-unfolding open_among
-open_among-none c d n e = rw e refl
-
-pub open_among-open : (c : Closings) (d n k e : ℕ) → k ≡ suc n → e ≡ d + suc n → is_open c e ≡ true → open_among c d k ≡ open_among c d n + 1
-unfolding open_among
-open_among-open c d n k e p q o = rw (p, ← q, o) refl
-
-pub open_among-closed : (c : Closings) (d n k e : ℕ) → k ≡ suc n → e ≡ d + suc n → is_open c e ≡ false → open_among c d k ≡ open_among c d n
-unfolding open_among
-open_among-closed c d n k e p q o = rw (p, ← q, o) (omega arith)
 
 is_day-inside : (d : ℕ) → IsDayNumber d → is_day d ≡ true
 is_day-inside d h = grind (arith, nat_tests)
@@ -47,7 +35,7 @@ flip true false = refl
 flip false true = refl
 flip false false = refl
 
-same_day : (a b : ℕ) → (a == b) ≡ (b == a)
+pub same_day : (a b : ℕ) → (a == b) ≡ (b == a)
 same_day a b = grind (arith, nat_tests)
 
 -- one day more
@@ -57,28 +45,6 @@ has_day-push days day d = list_any-append (λ e. e == d) days (day ∷ []) ∙ (
 or_false : (a b : Bool) → (a || b) ≡ false → (a ≡ false) × (b ≡ false)
 or_false true b e = absurd cc
 or_false false b e = (refl, e)
-
-pub has_repeat-push : (days : List ℕ) (day : ℕ) → has_day days day ≡ false → has_repeat days ≡ false → has_repeat (days ++ day ∷ []) ≡ false
-has_repeat-push [] day h r = refl
-has_repeat-push (x ∷ days) day h r =
-    let apart = or_false (x == day) (has_day days day) h in
-    let once = or_false (has_day days x) (has_repeat days) r in
-    let a = same_day x day ∙ refl in
-    rw (has_day-push days day x, apart.0, once.0, has_repeat-push days day apart.1 once.1) refl
-
-in_range-push : (c : Closings) (day d : ℕ) (same : Bool) → (d == day) ≡ same → AreClosings c → IsDayNumber day → (same || is_single c d) ≡ true → IsDayNumber d
-in_range-push c day d true p h in_range e = let q : d ≡ day = (Decides-eqb d day).0 p in subst IsDayNumber (sym q) in_range
-in_range-push c day d false p h in_range e = h.in_range d e
-
--- the closed days with one more
-pub AreClosings-push : (c : Closings) (day : ℕ) → AreClosings c → IsDayNumber day → is_single c day ≡ false → length c.single ≢ 400
-    → AreClosings (record { weekly = c.weekly; single = c.single ++ day ∷ [] })
-AreClosings-push c day h in_range new room = record {
-  weekdays = h.weekdays;
-  in_range = λ d e. in_range-push c day d _ refl h in_range (sym (has_day-push c.single day d) ∙ e);
-  once = has_repeat-push c.single day new h.once;
-  few = let n = length-append c.single (day ∷ []) in omega (arith, n, h.few, room);
-}
 
 and_right : (a b : Bool) → (a && b) ≡ true → b ≡ true
 and_right true b e = e
@@ -91,12 +57,12 @@ swap_or false true c = refl
 swap_or false false c = refl
 
 -- the days without the one at a place
-has_day-place : (days : List ℕ) (i day d : ℕ) → i < length days → get_or days i day ≡ day → has_day days d ≡ ((day == d) || has_day (remove days i) d)
+has_day-place : (days : List ℕ) (i day d : ℕ) → i < length days → get_or days i 0 ≡ day → has_day days d ≡ ((day == d) || has_day (remove days i) d)
 has_day-place [] i day d lt e = absurd (omega arith)
 has_day-place (x ∷ days) zero day d lt e = rw e refl
 has_day-place (x ∷ days) (suc i) day d lt e = rw (has_day-place days i day d (omega arith) e) (swap_or (x == d) (day == d) _)
 
-once-remove : (days : List ℕ) (i day : ℕ) → i < length days → get_or days i day ≡ day → has_repeat days ≡ false
+once-remove : (days : List ℕ) (i day : ℕ) → i < length days → get_or days i 0 ≡ day → has_repeat days ≡ false
     → (has_repeat (remove days i) ≡ false) × (has_day (remove days i) day ≡ false)
 once-remove [] i day lt e r = absurd (omega arith)
 once-remove (x ∷ days) zero day lt e r =
@@ -112,11 +78,11 @@ without : (a b r : Bool) → (a ≡ true → r ≡ false) → b ≡ (a || r) →
 without true b r h e = h refl
 without false b r h e = sym e
 
-pub has_day-remove : (days : List ℕ) (i day d : ℕ) → i < length days → get_or days i day ≡ day → has_repeat days ≡ false → has_day (remove days i) d ≡ (not (d == day) && has_day days d)
+pub has_day-remove : (days : List ℕ) (i day d : ℕ) → i < length days → get_or days i 0 ≡ day → has_repeat days ≡ false → has_day (remove days i) d ≡ (not (d == day) && has_day days d)
 has_day-remove days i day d lt e r = without (d == day) (has_day days d) (has_day (remove days i) d) (λ t. let e' : d ≡ day = (Decides-eqb d day).0 t in rw e' (once-remove days i day lt e r).1) (has_day-place days i day d lt e ∙ ap (λ b. b || has_day (remove days i) d) (same_day day d))
 
 -- the closed days with the one at a place left out
-pub AreClosings-remove : (c : Closings) (i day : ℕ) → AreClosings c → i < length c.single → get_or c.single i day ≡ day
+pub AreClosings-remove : (c : Closings) (i day : ℕ) → AreClosings c → i < length c.single → get_or c.single i 0 ≡ day
     → AreClosings (record { weekly = c.weekly; single = remove c.single i })
 AreClosings-remove c i day h lt e = record {
   weekdays = h.weekdays;
@@ -125,7 +91,7 @@ AreClosings-remove c i day h lt e = record {
   few = let n = length-remove c.single i lt in omega (arith, n, h.few);
 }
 
-pub ReopensOnly-remove : (c : Closings) (i day : ℕ) → AreClosings c → i < length c.single → get_or c.single i day ≡ day
+pub ReopensOnly-remove : (c : Closings) (i day : ℕ) → AreClosings c → i < length c.single → get_or c.single i 0 ≡ day
     → ReopensOnly c (record { weekly = c.weekly; single = remove c.single i }) day
 ReopensOnly-remove c i day h lt e = record {
   weekly = refl;

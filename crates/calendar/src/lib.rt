@@ -4,12 +4,16 @@
 mod day;
 mod limits;
 mod opening;
-#[cfg(test)]
-mod tests;
+mod search;
+mod singles;
+mod steps;
+mod weekdays;
 
 pub use day::Day;
 pub use limits::{FIRST_DAY, LAST_DAY, MOST_CLOSED_DAYS};
-pub use opening::{Calendar, CloseError, ReopenError, Weekdays};
+pub use opening::{Calendar, CloseError, ReopenError};
+pub use steps::Steps;
+pub use weekdays::Weekdays;
 
 /// Why a call stopped that found no memory.
 pub type Memory = std::alloc::AllocError;

@@ -9,11 +9,15 @@ ghost use Rattle.calendar.specs.Openings.{ClosesOnly, ReopensOnly, IsLeastOpen, 
 ghost use Rattle.calendar.specs.Openings.{has_open_weekday, has_repeat, is_open, is_single};
 ghost use Rattle.calendar.specs.Openings.{open_days_after};
 
-use crate::Memory;
 use crate::day::Day;
 use crate::limits::MOST_CLOSED_DAYS;
+use crate::search::{count_between, first_open, place_of};
+use crate::singles::Singles;
+use crate::steps::Steps;
+use crate::weekdays::Weekdays;
 use std::alloc::Global;
-use std::marker::Model;
+use std::marker::{Brand, Model};
+use std::sync::ledger::{Blank, Ledger};
 
 /// Why a day was not closed, in the order of the tests.
 #[derive(Clone, Copy, Debug, PartialEq, Eq)]
@@ -33,68 +37,23 @@ pub enum ReopenError {
     NotClosed,
 }
 
-/// The weekdays that are closed, Monday first, which are never all seven.
-#[derive(Clone, Copy, Debug, PartialEq, Eq)]
-pub struct Weekdays {
-    closed: [bool; 7],
-}
-
-impl Model for Weekdays {
-    ghost use Rattle.std.specs.Prelude.{List, Bool};
-    ghost use Rattle.calendar.specs.Openings.{AreWeekdays};
-
-    ghost Value = { List Bool };
-
-    ghost view = { λ a. a.closed };
-
-    ghost invariant = { λ a. AreWeekdays a.closed };
-
-    ghost inverse = { λ ds. record { closed = ds } };
-}
-
-impl Weekdays {
-    /// These closed weekdays, Monday first, unless they are all seven.
-    pub fn new(closed: [bool; 7]) -> Option<Weekdays>
-        ensures { SomeIff result (has_open_weekday closed ≡ true) closed }
-    {
-        if closed.contains(&false) {
-            Some(Weekdays { closed })
-        } else {
-            None
-        }
-    }
-
-    /// No closed weekday.
-    pub fn all_open() -> Weekdays
-        ensures { result ≡ false ∷ false ∷ false ∷ false ∷ false ∷ false ∷ false ∷ [] }
-    {
-        Weekdays { closed: [false; 7] }
-    }
-
-    /// Whether each weekday is closed, Monday first.
-    pub fn closed(self) -> [bool; 7]
-        ensures value { result ≡ self }
-        ensures weekdays { AreWeekdays result }
-    {
-        self.closed
-    }
-}
-
 /// The closed days of a branch: weekdays, and at most 400 single days.
 #[derive(Drop)]
 pub struct Calendar {
-    weekly: [bool; 7],
-    single: Vec<Day>,
+    weekly: Weekdays,
+    single: Singles,
 }
 
 impl Model for Calendar {
     ghost use Rattle.calendar.specs.Openings.{AreClosings, Closings};
+    ghost use Rattle.calendar.specs.Weeks.{IsRising};
 
     ghost Value = { Closings };
 
-    ghost view = { λ a. record { weekly = a.weekly; single = a.single.items } };
+    ghost view = { λ a. record { weekly = a.weekly; single = a.single } };
 
-    ghost invariant = { λ a. AreClosings (record { weekly = a.weekly; single = a.single.items }) };
+    ghost invariant = { λ a. AreClosings (record { weekly = a.weekly; single = a.single })
+        × IsRising a.single };
 }
 
 impl Calendar {
@@ -103,10 +62,11 @@ impl Calendar {
         ensures value { result ≡ record { weekly = weekly; single = [] } }
         ensures closings { AreClosings result }
     {
-        let weekly = weekly.closed();
+        // The mask shows the proof that some weekday is open.
+        let _closed = weekly.closed();
         Calendar {
             weekly,
-            single: Vec::new(alloc),
+            single: Singles::new(alloc),
         }
     }
 
@@ -129,29 +89,25 @@ impl Calendar {
         if days.len() > MOST_CLOSED_DAYS {
             return Err(CloseError::Full);
         }
-        let Ok(single) = copy_of(alloc, days) else {
-            return Err(CloseError::Memory);
-        };
-        let mask = weekly.closed();
-        Ok(Calendar {
-            weekly: mask,
-            single,
-        })
+        let mut calendar = Calendar::new(alloc, weekly);
+        for day in days {
+            calendar.close(*day)?;
+        }
+        Ok(calendar)
     }
 
     /// Whether a day is open.
     pub fn is_open(&self, day: Day) -> bool
         ensures { result ≡ is_open self.now day }
     {
-        let weekday = (day.number() + 3) % 7;
-        !self.weekly[weekday as usize] && !self.is_closed_singly(day)
+        !self.weekly.is_closed_on(day.number()) && !self.is_closed_singly(day)
     }
 
     /// Whether a day is one of the single closed days.
     pub fn is_closed_singly(&self, day: Day) -> bool
         ensures { result ≡ is_single self.now day }
     {
-        self.single.contains(&day)
+        place_of::<Brand>(&self.single, day, Blank::new(1)).is_ok()
     }
 
     /// Whether 400 single days are closed, so that no more can be.
@@ -170,28 +126,69 @@ impl Calendar {
         ensures near { IfSome result (λ e. e ≤ day + 2806) }
         ensures found { day + 2806 ≤ LAST_DAY → IsSome result }
     {
-        // The look at a field shows the proof that at most 400 single days are closed.
-        let _ = &self.weekly;
-        for number in day.number()..84006 {
-            let day = Day::new(number)?;
-            if self.is_open(day) {
-                return Some(day);
-            }
-        }
-        None
+        self.least_open_in::<Brand>(day, Blank::new(1))
+    }
+
+    /// The same as `least_open`, and `steps` tells how many single closed days were looked at: at
+    /// most 409, 9 in a search and 400 one after another.
+    pub fn counted_least_open<L: Ledger>(&self, day: Day, steps: &mut Steps<L>) -> Option<Day>
+        ensures some { IfSome result (IsLeastOpen self.now day) }
+        ensures none { IfNone result ((k : ℕ) → day ≤ k → is_open self.now k ≡ false) }
+        ensures near { IfSome result (λ e. e ≤ day + 2806) }
+        ensures found { day + 2806 ≤ LAST_DAY → IsSome result }
+        ensures cost { steps.new ≤ steps.old + 409 }
+    {
+        // The number shows the proof that the day lies in the calendar.
+        let _number = day.number();
+        let open = first_open(self.weekly, &self.single, day, steps);
+        Day::new(open)
+    }
+
+    fn least_open_in<L: Ledger>(&self, day: Day, blank: Blank) -> Option<Day>
+        requires name { blank.name ≡ L.name }
+        requires parts { blank.parts ≡ L.parts }
+        requires some { 0 < blank.parts }
+        ensures some { IfSome result (IsLeastOpen self.now day) }
+        ensures none { IfNone result ((k : ℕ) → day ≤ k → is_open self.now k ≡ false) }
+        ensures near { IfSome result (λ e. e ≤ day + 2806) }
+        ensures found { day + 2806 ≤ LAST_DAY → IsSome result }
+    {
+        self.counted_least_open(day, &mut Steps::<L>::new(blank))
     }
 
     /// How many days after `due`, up to `today`, are open.
     pub fn open_days_after(&self, due: Day, today: Day) -> u32
         ensures { result ≡ open_days_after self.now due today }
     {
-        let mut count = 0;
-        for number in due.number() + 1..today.number() + 1 {
-            if self.is_open(Day::new(number).unwrap()) {
-                count += 1;
-            }
-        }
-        count
+        self.open_days_in::<Brand>(due, today, Blank::new(1))
+    }
+
+    /// The same as `open_days_after`, and `steps` tells how many single closed days were looked at:
+    /// at most 418, 9 in each of two searches and 400 one after another.
+    pub fn counted_open_days_after<L: Ledger>(
+        &self,
+        due: Day,
+        today: Day,
+        steps: &mut Steps<L>,
+    ) -> u32
+        ensures count { result ≡ open_days_after self.now due today }
+        ensures cost { steps.new ≤ steps.old + 418 }
+    {
+        let first = due.number();
+        let days = today.number().saturating_sub(first);
+        let week = self.weekly.open_among(first, 7);
+        let rest = self.weekly.open_among(first, days % 7);
+        let closed = count_between(self.weekly, &self.single, due, today, steps);
+        days / 7 * week + rest - closed
+    }
+
+    fn open_days_in<L: Ledger>(&self, due: Day, today: Day, blank: Blank) -> u32
+        requires name { blank.name ≡ L.name }
+        requires parts { blank.parts ≡ L.parts }
+        requires some { 0 < blank.parts }
+        ensures { result ≡ open_days_after self.now due today }
+    {
+        self.counted_open_days_after(due, today, &mut Steps::<L>::new(blank))
     }
 
     /// Closes a single day. Nothing changes where it is refused or memory runs out.
@@ -206,13 +203,13 @@ impl Calendar {
     {
         // The number shows the proof that the day lies in the calendar.
         let _number = day.number();
-        if self.is_closed_singly(day) {
+        let Err(place) = place_of::<Brand>(&self.single, day, Blank::new(1)) else {
             return Err(CloseError::AlreadyClosed);
-        }
+        };
         if self.is_full() {
             return Err(CloseError::Full);
         }
-        let Ok(()) = self.single.push(day) else {
+        let Ok(()) = self.single.insert(place, day) else {
             return Err(CloseError::Memory);
         };
         Ok(())
@@ -225,7 +222,7 @@ impl Calendar {
         ensures err { OnErr result (self.new ≡ self.old) }
         ensures closings { AreClosings self.new }
     {
-        let Some(place) = place_of(&self.single, day) else {
+        let Ok(place) = place_of::<Brand>(&self.single, day, Blank::new(1)) else {
             return Err(ReopenError::NotClosed);
         };
         self.single.remove(place);
@@ -245,27 +242,4 @@ fn has_repeat(days: &[Day]) -> bool
         rest = others;
     }
     false
-}
-
-/// These days once more.
-fn copy_of(alloc: Global, days: &[Day]) -> Result<Vec<Day>, Memory>
-    ensures same { IfOk result (λ v. v.items ≡ days.now) }
-    ensures in_range { IfOk result (λ v. (d : ℕ) → has_day v.items d ≡ true → IsDayNumber d) }
-{
-    let mut copy = Vec::new(alloc);
-    for day in days {
-        // The number shows the proof that the day lies in the calendar.
-        let _number = day.number();
-        copy.push(*day)?;
-    }
-    Ok(copy)
-}
-
-/// Where a day stands among these.
-fn place_of(days: &[Day], day: Day) -> Option<usize>
-    ensures some { IfSome result (λ i. (i < length days.now)
-        × (slice_index_or days.now i day ≡ day)) }
-    ensures none { IfNone result (has_day days.now day ≡ false) }
-{
-    days.iter().position(|other| *other == day)
 }

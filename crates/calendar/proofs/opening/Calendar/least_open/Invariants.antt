@@ -1,6 +1,4 @@
-use Rattle.std.proofs.Common.{◌≡◌, ℕ, ◌<◌, ◌≤◌, false}
-use Rattle.calendar.specs.Openings.{is_open}
 use Rattle.calendar.proofs.opening.Calendar.least_open.Given as goal
 
-abbrev pub invariant-loop-number : goal.invariant-loop-number
-invariant-loop-number l = (k : ℕ) → l.fn.day ≤ k → k < l.number → is_open l.self k ≡ false
+abbrev pub ghosts-least_open_in : goal.ghosts-least_open_in
+ghosts-least_open_in a = record { name = a.blank.name; parts = a.blank.parts }

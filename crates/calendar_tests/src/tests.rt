@@ -1,5 +1,7 @@
-//! What no clause says: numbers and texts from outside, and one run of each call.
-use crate::{Calendar, CloseError, Day, Memory, ReopenError, Weekdays};
+//! What no clause of `calendar` says: numbers and texts from outside, and one run of each call.
+use crate::answers::{count_open_days, find_open_day};
+use crate::day_by_day;
+use calendar::{Calendar, CloseError, Day, Memory, ReopenError, Weekdays};
 use std::alloc::Global;
 use std::process::Abort;
 use std::test::Fail;
@@ -230,5 +232,77 @@ fn days_in_any_order(rt: HostRuntime) -> Result<(), Fail> {
     days.push(Day::new(20000).expect(&rt, "a day"))?;
     let both = Calendar::with_closed_days(rt.alloc(), sundays(&rt), &days);
     assert_eq!(rt; both.err(), Some(CloseError::AlreadyClosed));
+    Ok(())
+}
+
+/// 2026-03-09 is a Monday, and of the 9,000 Sundays and more up to the end none is open.
+#[test]
+fn counts_over_a_lifetime(rt: HostRuntime) {
+    let calendar = Calendar::new(rt.alloc(), sundays(&rt));
+    let due = day(&rt, "2026-03-09");
+    let today = day(&rt, "2190-12-31");
+    assert_eq!(rt; calendar.open_days_after(due, today), 51_598);
+    assert_eq!(rt; count_open_days(&calendar, due, today), (51_598, 0));
+}
+
+/// A branch that opens on Mondays alone is closed on 400 of them.
+#[test]
+fn finds_the_day_after_400_closed_ones(rt: HostRuntime) -> Result<(), Fail> {
+    let mondays = Weekdays::new([false, true, true, true, true, true, true]).expect(
+        &rt,
+        "open weekdays",
+    );
+    let mut calendar = Calendar::new(rt.alloc(), mondays);
+    for week in 0..400 {
+        calendar.close(Day::new(20521 + 7 * week).expect(&rt, "a day"))?;
+    }
+    let sunday = day(&rt, "2026-03-08");
+    let monday = day(&rt, "2033-11-07");
+    assert_eq!(rt; calendar.least_open(sunday), Some(monday));
+    let (found, looks) = find_open_day(&calendar, sunday);
+    assert_eq!(rt; found, Some(monday));
+    assert!(rt; 400 <= looks && looks <= 409, "{looks} looks");
+    let (count, looks) = count_open_days(&calendar, sunday, monday);
+    assert_eq!(rt; count, 1);
+    assert!(rt; 400 <= looks && looks <= 418, "{looks} looks");
+    Ok(())
+}
+
+/// From 2026-03-01 on, each pair of 92 days.
+fn check_pairs(rt: &impl Abort, calendar: &Calendar) {
+    for due in 20513..20605 {
+        let due = Day::new(due).expect(rt, "a day");
+        assert_eq!(rt;
+            calendar.least_open(due),
+            day_by_day::least_open(calendar, due)
+        );
+        for today in 20513..20605 {
+            let today = Day::new(today).expect(rt, "a day");
+            let count = day_by_day::open_days_after(calendar, due, today);
+            assert_eq!(rt; calendar.open_days_after(due, today), count);
+        }
+    }
+}
+
+/// The single days are none, some with the ends and a Sunday among them, and a whole month.
+#[test]
+fn every_pair_of_days_over_three_months(rt: HostRuntime) -> Result<(), Fail> {
+    let mondays = Weekdays::new([false, true, true, true, true, true, true]).expect(
+        &rt,
+        "open weekdays",
+    );
+    for weekly in [Weekdays::all_open(), sundays(&rt), mondays] {
+        let mut calendar = Calendar::new(rt.alloc(), weekly);
+        check_pairs(&rt, &calendar);
+        for number in [20604, 20520, 20521, 20513, 20550, 20535, 20549] {
+            calendar.close(Day::new(number).expect(&rt, "a day"))?;
+        }
+        check_pairs(&rt, &calendar);
+        let month = run_of(&rt, rt.alloc(), 20544, 20574)?;
+        check_pairs(
+            &rt,
+            &Calendar::with_closed_days(rt.alloc(), weekly, &month)?,
+        );
+    }
     Ok(())
 }

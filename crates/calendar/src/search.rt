@@ -1,0 +1,103 @@
+//! Single closed days looked up, each look a step.
+ghost use Rattle.std.specs.Prelude.{◌≡◌, ◌+◌, ◌-◌, ◌<◌, ◌≤◌, true, false, length, IfOk, IfErr};
+ghost use Rattle.calendar.specs.Openings.{has_day};
+ghost use Rattle.calendar.specs.declared.limits.TheConstants.{MOST_CLOSED_DAYS};
+ghost use Rattle.calendar.specs.Weeks.{IsCountBelow, IsOpenFrom, IsPlaceFor, IsPlaceOf, IsRising};
+ghost use Rattle.calendar.specs.Weeks.{singles_among};
+
+use crate::day::Day;
+use crate::singles::Singles;
+use crate::steps::Steps;
+use crate::weekdays::Weekdays;
+use std::sync::ledger::{Blank, Ledger};
+
+/// How many of the single closed days lie before a day number.
+pub fn count_below<L: Ledger>(singles: &Singles, number: u32, steps: &mut Steps<L>) -> usize
+    requires rising { IsRising singles.now }
+    requires few { length singles.now ≤ MOST_CLOSED_DAYS }
+    ensures below { IsCountBelow singles.now number result }
+    ensures cost { steps.new ≤ steps.old + 9 }
+{
+    let mut low = 0;
+    let mut high = singles.len();
+    while low < high {
+        let middle = low + (high - low) / 2;
+        if singles.at(middle, steps).number() < number {
+            low = middle + 1;
+        } else {
+            high = middle;
+        }
+    }
+    low
+}
+
+/// Where a day stands among the single closed days, or else the place where it would stand.
+pub fn place_of<L: Ledger>(singles: &Singles, day: Day, blank: Blank) -> Result<usize, usize>
+    requires rising { IsRising singles.now }
+    requires few { length singles.now ≤ MOST_CLOSED_DAYS }
+    requires name { blank.name ≡ L.name }
+    requires parts { blank.parts ≡ L.parts }
+    requires some { 0 < blank.parts }
+    ensures ok { IfOk result (IsPlaceOf singles.now day) }
+    ensures found { IfOk result (λ _. has_day singles.now day ≡ true) }
+    ensures err { IfErr result (IsPlaceFor singles.now day) }
+    ensures missing { IfErr result (λ _. has_day singles.now day ≡ false) }
+{
+    let mut steps = Steps::<L>::new(blank);
+    let place = count_below(singles, day.number(), &mut steps);
+    if place < singles.len() && singles.at(place, &mut steps) == day {
+        Ok(place)
+    } else {
+        Err(place)
+    }
+}
+
+/// How many single closed days after `due`, up to `today`, fall on open weekdays.
+pub fn count_between<L: Ledger>(
+    weekly: Weekdays,
+    singles: &Singles,
+    due: Day,
+    today: Day,
+    steps: &mut Steps<L>,
+) -> u32
+    requires rising { IsRising singles.now }
+    requires few { length singles.now ≤ MOST_CLOSED_DAYS }
+    ensures count { result ≡ singles_among weekly singles.now due (today - due) }
+    ensures cost { steps.new ≤ steps.old + 418 }
+{
+    let from = count_below(singles, due.number() + 1, steps);
+    let to = count_below(singles, today.number() + 1, steps);
+    let mut count = 0;
+    for index in from..to {
+        if !weekly.is_closed_on(singles.at(index, steps).number()) {
+            count += 1;
+        }
+    }
+    count
+}
+
+/// The first day number from `day` on that no weekday and no single day closes.
+pub fn first_open<L: Ledger>(
+    weekly: Weekdays,
+    singles: &Singles,
+    day: Day,
+    steps: &mut Steps<L>,
+) -> u32
+    requires rising { IsRising singles.now }
+    requires few { length singles.now ≤ MOST_CLOSED_DAYS }
+    ensures first { IsOpenFrom (record { weekly = weekly; single = singles.now }) day result }
+    ensures cost { steps.new ≤ steps.old + 409 }
+{
+    let from = count_below(singles, day.number(), steps);
+    let mut open = weekly.open_from(day.number());
+    for index in from..singles.len() {
+        let single = singles.at(index, steps).number();
+        if open < single {
+            return open;
+        }
+        if single == open {
+            open = weekly.open_from(open + 1);
+        }
+    }
+    open
+}

@@ -1,0 +1,69 @@
+//! The single closed days of a branch.
+ghost use Rattle.std.specs.Prelude.{◌≡◌, ◌+◌, ◌<◌, ◌≤◌, [], length, OnOk, OnErr, slice_index, insert, remove};
+
+use crate::Memory;
+use crate::day::Day;
+use crate::steps::Steps;
+use std::alloc::Global;
+use std::marker::Model;
+use std::sync::ledger::Ledger;
+
+/// The single closed days, the earliest first. A look at one of them is a step.
+#[derive(Drop)]
+pub struct Singles {
+    days: Vec<Day>,
+}
+
+impl Model for Singles {
+    ghost use Rattle.std.specs.Prelude.{List, ℕ};
+
+    ghost Value = { List ℕ };
+
+    ghost view = { λ a. a.days.items };
+}
+
+impl Singles {
+    /// No single closed day.
+    pub fn new(alloc: Global) -> Singles
+        ensures { result ≡ [] }
+    {
+        Singles {
+            days: Vec::new(alloc),
+        }
+    }
+
+    /// How many there are.
+    pub fn len(&self) -> usize
+        ensures { result ≡ length self.now }
+    {
+        self.days.len()
+    }
+
+    /// The day at a place, in one step.
+    pub fn at<L: Ledger>(&self, index: usize, steps: &mut Steps<L>) -> Day
+        requires { index < length self.now }
+        ensures day { result ≡ slice_index self.now index }
+        ensures ticked { steps.new ≡ steps.old + 1 }
+    {
+        steps.tick();
+        self.days[index]
+    }
+
+    /// Puts a day to a place, before the days from there on. Nothing changes where memory runs out.
+    pub fn insert(&mut self, index: usize, day: Day) -> Result<(), Memory>
+        requires { index ≤ length self.old }
+        ensures ok { OnOk result (self.new ≡ insert self.old index day) }
+        ensures err { OnErr result (self.new ≡ self.old) }
+    {
+        self.days.insert(index, day)?;
+        Ok(())
+    }
+
+    /// Takes the day at a place out.
+    pub fn remove(&mut self, index: usize)
+        requires { index < length self.old }
+        ensures { self.new ≡ remove self.old index }
+    {
+        self.days.remove(index);
+    }
+}

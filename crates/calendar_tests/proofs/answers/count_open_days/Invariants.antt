@@ -1,0 +1,4 @@
+use Rattle.calendar_tests.proofs.answers.count_open_days.Given as goal
+
+abbrev pub ghosts-count_in : goal.ghosts-count_in
+ghosts-count_in a = record { name = a.blank.name; parts = a.blank.parts }
