@@ -19,7 +19,7 @@ use Rattle.terms.specs.declared.fault.Fault.{Fault}
 use Rattle.terms.specs.declared.fault.Fault.TheVariants.{Stored}
 use Rattle.terms.specs.declared.row.MetaRow.{MetaRow}
 use Rattle.terms.specs.declared.row.KeptRow.{KeptRow}
-use Rattle.circ_tables.specs.declared.entry.ClosedDay.{ClosedDay}
+use Rattle.terms.specs.declared.row.ClosedDayRow.{ClosedDayRow}
 use Rattle.circ_tables.specs.declared.get.KeptReply.{KeptReply}
 use Rattle.circ_tables.specs.Cells.{number_key, pair_key, kept_key, kept_cells, meta_cells}
 use Rattle.circ_tables.specs.Encoding.{HasPicture, HasTexts, IsClosedDay, reply_of}
@@ -101,7 +101,7 @@ module _ {S : Type 0} (owner : Owner) (key : List ℕ) (text : List ℕ) (plain 
   kept_legal clean P shown legal err =
       let bad = stored clean err shown.maps shown.holds in
       let row = kept_within shown.maps P shown.encodes legal (kept_key owner key) bad.0 bad.1 in
-      bad.2 (record { caller = row.0.caller; key = row.0.key; text = row.0.text; reply = row.0.reply }) row.1.2 row.1.3 row.2
+      bad.2 row.0 row.1.2.0 row.1.2.1 row.2
 
   pub kept_of : GetsKept owner key g old new result
   kept_of =
@@ -119,7 +119,7 @@ module _ {S : Type 0} (owner : Owner) (key : List ℕ) (text : List ℕ) (plain 
       }
 
 -- the days on which a branch is closed singly, from the rows that were read, where there are any
-module _ {S L D : Type 0} (items : L → List ℕ) (rows : D → List ClosedDay) (branch : ℕ) (g : Ghosts S) (old new : Held S) (read : Result D Fault) (result : Result L Fault)
+module _ {S L D : Type 0} (items : L → List ℕ) (rows : D → List ClosedDayRow) (branch : ℕ) (g : Ghosts S) (old new : Held S) (read : Result D Fault) (result : Result L Fault)
     (is : Lists closed_days rows (λ m. ListedBy SecondBelow m (is_closed_at branch)) g old new read)
     (made : IfOk result (λ l. (d : D) × (read ≡ Ok d) × (items l ≡ map day_of (rows d)))) (failed : result ≡ Err Stored → read ≡ Err Stored) where
   from_rows : {P : D → Type 0} {Q : L → Type 0} → ((d : D) (l : L) → items l ≡ map day_of (rows d) → P d → Q l) → IfOk read P → IfOk result Q

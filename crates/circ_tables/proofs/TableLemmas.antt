@@ -66,7 +66,7 @@ rules_within maps P is legal k v e =
     within rules.cells rules.IsLegal (P.rules key.0.0 key.0.1) (λ r there. (legal.rules key.0.0 key.0.1 r there).2) v (sym e ∙ ap (maps rules.place) key.2 ∙ is.rules.there key.0 key.1)
 
 -- what is kept within the limits is text
-texts_of : (r : KeptRow) → IsKeptRow r → HasTexts r
+pub texts_of : (r : KeptRow) → IsKeptRow r → HasTexts r
 texts_of r is = (is.2, subst IsUtf8 (sym is.3.2) (reply_text-IsUtf8 is.3.0 is.3.1))
 
 pub has_texts : (o : Option KeptRow) → ((r : KeptRow) → o ≡ Some r → IsKeptRow r) → IfSome o HasTexts
@@ -77,4 +77,4 @@ pub kept_within : IsWithin kept
 kept_within maps P is legal k v e =
     let key = is.kept.only k v e in
     let it = within kept_cells IsKeptRow (P.kept key.0.0 key.0.1) (λ r there. (legal.kept key.0.0 key.0.1 r there).2) v (sym e ∙ ap (maps kept.place) key.2 ∙ is.kept.there key.0 key.1) in
-    (record { caller = it.0.caller; key = it.0.key; text = it.0.text; reply = it.0.reply }, (it.1.0, it.1.1, (texts_of it.0 it.1).0, (texts_of it.0 it.1).1), it.2)
+    (it.0, (it.1.0, it.1.1, texts_of it.0 it.1), it.2)

@@ -33,10 +33,9 @@ use Rattle.terms.specs.declared.row.TransitRow.{TransitRow}
 use Rattle.terms.specs.declared.row.LineRow.{LineRow}
 use Rattle.terms.specs.declared.row.KeptRow.{KeptRow}
 use Rattle.circ_tables.specs.declared.get.KeptReply.{KeptReply}
-use Rattle.circ_tables.specs.declared.entry.ClosedDay.{ClosedDay}
-use Rattle.circ_tables.specs.declared.entry.KeptEntry.{KeptEntry}
+use Rattle.terms.specs.declared.row.ClosedDayRow.{ClosedDayRow}
 use Rattle.circ_tables.specs.Cells.{number, number_key, pair_key, kept_key, meta_cells, kept_cells, branch_cells, kind_cells, rule_cells, patron_cells, title_cells, copy_cells, loan_cells, hold_cells, transit_cells, line_cells}
-use Rattle.circ_tables.specs.Encoding.{HasPicture, AreEncoded, Pair, reply_of, HasTexts, day_cells, IsClosedDay, entry_cells, IsKeptEntry}
+use Rattle.circ_tables.specs.Encoding.{HasPicture, AreEncoded, Pair, reply_of, HasTexts, day_cells, IsClosedDay, IsReadableKept}
 use Rattle.circ_tables.specs.Selections.{AreClosedDays}
 use Rattle.circ_tables.specs.Shape.{schema, meta_place, branches_place, closed_days_place, kinds_place, rules_place, patrons_place, titles_place, copies_place, loans_place, holds_place, transits_place, lines_place, kept_place}
 
@@ -149,7 +148,7 @@ rules = record {
   set = λ P k row. record P { rules = put_pair P.rules k.0 k.1 row };
 }
 
-abbrev pub closed_days : Table Pair ClosedDay
+abbrev pub closed_days : Table Pair ClosedDayRow
 closed_days = record {
   place = closed_days_place;
   key = λ k. pair_key k.0 k.1;
@@ -159,14 +158,14 @@ closed_days = record {
   set = λ P k row. record P { closed_days = put_pair P.closed_days k.0 k.1 (is_some row) };
 }
 
-abbrev pub kept : Table (Owner × List ℕ) KeptEntry
+abbrev pub kept : Table (Owner × List ℕ) KeptRow
 kept = record {
   place = kept_place;
   key = λ k. kept_key k.0 k.1;
-  cells = entry_cells;
-  IsLegal = IsKeptEntry;
-  rows = λ P k. option_map (λ (r : KeptRow). record { caller = r.caller; key = r.key; text = r.text; reply = r.reply }) (P.kept k.0 k.1);
-  set = λ P k row. record P { kept = put_kept P.kept k.0 k.1 (option_map (λ (e : KeptEntry). record { caller = e.caller; key = e.key; text = e.text; reply = e.reply }) row) };
+  cells = kept_cells;
+  IsLegal = IsReadableKept;
+  rows = λ P k. P.kept k.0 k.1;
+  set = λ P k row. record P { kept = put_kept P.kept k.0 k.1 row };
 }
 
 -- Every row of the map is this row of `meta`.

@@ -8,22 +8,22 @@ ghost use Rattle.sqlite.specs.Order.{Row as SqlRow};
 ghost use Rattle.sqlite_rules.specs.Lists.{Has};
 ghost use Rattle.circ_tables.specs.Cells.{branch_cells, kind_cells, rule_cells, patron_cells};
 ghost use Rattle.circ_tables.specs.Cells.{title_cells, copy_cells, loan_cells, hold_cells};
-ghost use Rattle.circ_tables.specs.Cells.{transit_cells, line_cells};
-ghost use Rattle.circ_tables.specs.Encoding.{day_cells, IsClosedDay, entry_cells, IsKeptEntry};
+ghost use Rattle.circ_tables.specs.Cells.{transit_cells, line_cells, kept_cells};
+ghost use Rattle.circ_tables.specs.Encoding.{day_cells, IsClosedDay, IsReadableKept};
 ghost use Rattle.terms.specs.Limits.{IsBranch, IsKind, IsRule, IsPatron, IsTitle, IsCopy, IsLoan};
 ghost use Rattle.terms.specs.Limits.{IsHold, IsTransit, IsLine};
 
 use crate::call::{all_rows, first_row};
 use crate::entry::{
-    ClosedDay, KeptEntry, branch_row, closed_day_row, copy_row, hold_row, kept_row, kind_row,
-    line_row, loan_row, patron_row, rule_row, title_row, transit_row,
+    branch_row, closed_day_row, copy_row, hold_row, kept_row, kind_row, line_row, loan_row,
+    patron_row, rule_row, title_row, transit_row,
 };
 use sqlite::{Alter, Connection, Row};
 use sqlite_value::value::ValueRef;
 use std::alloc::Global;
 use terms::{
-    BranchRow, CopyRow, Fault, HoldRow, KindRow, LineRow, LoanRow, PatronRow, RuleRow, TitleRow,
-    TransitRow,
+    BranchRow, ClosedDayRow, CopyRow, Fault, HoldRow, KeptRow, KindRow, LineRow, LoanRow,
+    PatronRow, RuleRow, TitleRow, TransitRow,
 };
 
 /// A row of one table, which is read column by column.
@@ -54,14 +54,14 @@ impl Entry for BranchRow {
     }
 }
 
-impl Entry for ClosedDay {
+impl Entry for ClosedDayRow {
     type Memory = ();
 
     ghost cells = { day_cells };
 
     ghost is_legal = { IsClosedDay };
 
-    fn read(row: &Row, _memory: ()) -> Result<ClosedDay, Fault> {
+    fn read(row: &Row, _memory: ()) -> Result<ClosedDayRow, Fault> {
         closed_day_row(row)
     }
 }
@@ -174,15 +174,15 @@ impl Entry for LineRow {
     }
 }
 
-impl Entry for KeptEntry {
-    type Memory = ();
+impl Entry for KeptRow {
+    type Memory = Global;
 
-    ghost cells = { entry_cells };
+    ghost cells = { kept_cells };
 
-    ghost is_legal = { IsKeptEntry };
+    ghost is_legal = { IsReadableKept };
 
-    fn read(row: &Row, _memory: ()) -> Result<KeptEntry, Fault> {
-        kept_row(row)
+    fn read(row: &Row, alloc: Global) -> Result<KeptRow, Fault> {
+        kept_row(row, alloc)
     }
 }
 

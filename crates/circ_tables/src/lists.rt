@@ -6,14 +6,13 @@ ghost use Rattle.circ_tables.specs.Reading.{titles, copies, loans, holds, transi
 ghost use Rattle.circ_tables.specs.Selections.{is_open_by, is_active_by, is_ready_at};
 ghost use Rattle.circ_tables.specs.Selections.{is_overdue_at, is_line_of, is_any};
 
-use crate::entry::{ClosedDay, KeptEntry};
 use crate::list::rows_of;
 use calendar::Day;
 use sqlite::{Alter, Connection, params};
 use std::alloc::Global;
 use terms::{
-    BranchId, BranchRow, CopyRow, Fault, HoldRow, KindRow, LineRow, LoanRow, PatronId, PatronRow,
-    RuleRow, TitleRow, TransitRow,
+    BranchId, BranchRow, ClosedDayRow, CopyRow, Fault, HoldRow, KeptRow, KindRow, LineRow, LoanRow,
+    PatronId, PatronRow, RuleRow, TitleRow, TransitRow,
 };
 
 /// The open loans of a patron, the least number first. 90, 91, 93.
@@ -129,7 +128,7 @@ pub fn all_branches<S: Alter>(
 pub fn all_closed_days<S: Alter>(
     conn: &mut Connection<S>,
     alloc: Global,
-) -> Result<Vec<ClosedDay>, Fault>
+) -> Result<Vec<ClosedDayRow>, Fault>
     ensures { Lists closed_days (λ l. l.items) (λ m. ListedBy PairBelow m is_any)
         S.Store conn.old conn.new result }
 {
@@ -232,14 +231,14 @@ pub fn all_lines<S: Alter>(conn: &mut Connection<S>, alloc: Global) -> Result<Ve
 }
 
 /// All rows of `kept`, by whose they are and then by key. 90, 91, 93.
-pub fn all_kept<S: Alter>(conn: &mut Connection<S>, alloc: Global) -> Result<Vec<KeptEntry>, Fault>
+pub fn all_kept<S: Alter>(conn: &mut Connection<S>, alloc: Global) -> Result<Vec<KeptRow>, Fault>
     ensures { Lists kept (λ l. l.items) (λ m. ListedBy PairBelow m is_any)
         S.Store conn.old conn.new result }
 {
     rows_of(
         conn,
         alloc,
-        (),
+        alloc,
         "SELECT * FROM kept ORDER BY caller, key",
         &[],
     )

@@ -11,14 +11,14 @@ ghost use Rattle.circ_tables.specs.Selections.{is_active_on, travels_for, Waits,
 
 use crate::call::first_row;
 use crate::cell::number_at;
-use crate::entry::ClosedDay;
 use crate::list::{row_of, rows_of};
 use calendar::Day;
 use sqlite::{Alter, Connection, params};
 use sqlite_value::value::ValueRef;
 use std::alloc::Global;
 use terms::{
-    BranchId, CopyId, Count, Fault, HoldId, HoldRow, LoanRow, PatronId, TitleId, TransitRow,
+    BranchId, ClosedDayRow, CopyId, Count, Fault, HoldId, HoldRow, LoanRow, PatronId, TitleId,
+    TransitRow,
 };
 
 /// The open loan of a copy, if it is on loan. 91, 93.
@@ -164,7 +164,7 @@ pub fn count_active_holds_on<S: Alter>(
 }
 
 /// The days of the rows. 90.
-fn days_of(alloc: Global, rows: &[ClosedDay]) -> Result<Vec<Day>, Fault>
+fn days_of(alloc: Global, rows: &[ClosedDayRow]) -> Result<Vec<Day>, Fault>
     ensures days { IfOk result (λ days. days.items ≡ map (λ c. c.day) rows.now) }
     ensures fault { result ≢ Err Fault.Stored }
 {
@@ -179,7 +179,7 @@ pub fn closed_days_of<S: Alter>(
 ) -> Result<Vec<Day>, Fault>
     ensures { ListsDays (λ l. l.items) branch S.Store conn.old conn.new result }
 {
-    let closed: Vec<ClosedDay> = rows_of(
+    let closed: Vec<ClosedDayRow> = rows_of(
         conn,
         alloc,
         (),

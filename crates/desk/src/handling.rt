@@ -1,7 +1,8 @@
 //! One request: who sends it, whether its key was used, and what becomes of its command.
 
-ghost use Rattle.std.specs.Prelude.{◌≡◌, true, false, Ok, IsUtf8, bytes_eq};
+ghost use Rattle.std.specs.Prelude.{◌≡◌, true, false, Ok, bytes_eq};
 ghost use Rattle.terms.specs.Callers.{owner_of};
+ghost use Rattle.terms.specs.Forms.{IsKey};
 ghost use Rattle.terms.specs.Laws.{IsCommand, IsKept};
 ghost use Rattle.terms.specs.Limits.{IsOwner};
 ghost use Rattle.terms.specs.Texts.{request_text as request_text_of, reply_text as reply_text_of};
@@ -131,7 +132,7 @@ fn respond<S: Alter>(store: &mut Store<S>, alloc: Global, request: &Request) -> 
 
 /// The command and the key of a request have their forms.
 fn has_forms(request: &Request)
-    ensures { IsCommand request.now.command × IsUtf8 request.now.key }
+    ensures { IsCommand request.now.command × IsKey request.now.key }
 {
     command_has_forms(&request.command);
     let _key = request.key.as_str();
@@ -144,7 +145,7 @@ pub(crate) fn handle<S: Alter>(
     alloc: Global,
     request: &Request,
 ) -> Result<Reply, Fault>
-    ensures formed { IsCommand request.now.command × IsUtf8 request.now.key }
+    ensures formed { IsCommand request.now.command × IsKey request.now.key }
     ensures handled { Handled request.now S.Store store.old store.new result }
 {
     has_forms(request);

@@ -7,6 +7,7 @@ use Rattle.std.proofs.lemmas.Bool.{and_parts, or_parts, leb-true, leb-false, ltb
 use Rattle.std.proofs.lemmas.Slice.Eq.{bytes_eq-Decides}
 use Rattle.calendar.specs.Days.{IsDayNumber}
 use Rattle.calendar.specs.Openings.{weekday}
+use Rattle.terms.specs.Forms.{IsKey}
 use Rattle.terms.specs.Laws.{IsNumber, IsRouted, IsKept}
 use Rattle.terms.specs.Limits.{IsLarge, IsGiven, IsSum, IsOwner}
 use Rattle.terms.specs.Texts.{request_text}
@@ -251,7 +252,7 @@ legal-lines (e ∷ H) legal forms = lines-step H legal.1 forms.2 e.owner e.comma
 
 -- What is kept for an owner's key.
 abbrev KeptIn : Owner → List ℕ → Kept → Type 0
-KeptIn o k x = IsOwner o × IsUtf8 k × IsUtf8 x.text × IsKept x.reply
+KeptIn o k x = IsOwner o × IsKey k × IsUtf8 x.text × IsKept x.reply
 
 pub legal-kept : (H : History) → IsLegal H → HasForms H → (o : Owner) (k : List ℕ) (x : Kept) → kept_of H o k ≡ Some x → KeptIn o k x
 legal-kept [] legal forms o k x e = absurd (none-some x e)

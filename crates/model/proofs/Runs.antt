@@ -1,6 +1,6 @@
 -- Handling requests keeps a history legal.
 use Rattle.std.proofs.Common.{◌≡◌, Bool, true, false, List, [], ◌∷◌, refl}
-use Rattle.std.specs.Prelude.{Option, Some, None, is_none, is_some, ◌&&◌, not, IsTrue, IsUtf8, unwrap_or, option_map, bytes_eq}
+use Rattle.std.specs.Prelude.{Option, Some, None, is_none, is_some, ◌&&◌, not, IsTrue, unwrap_or, option_map, bytes_eq}
 use Rattle.std.proofs.lemmas.Bool.{and_parts}
 use Rattle.terms.specs.declared.command.Caller.{Caller}
 use Rattle.terms.specs.declared.command.Caller.TheVariants.{Desk as FromDesk, Patron as FromPatron}
@@ -10,6 +10,7 @@ use Rattle.model.specs.Refusals.{refusal}
 use Rattle.model.proofs.Bindings.{both, not-true}
 use Rattle.model.specs.DueDays.{IsWholeWeek, HasWholeWeeks, AskWholeWeeks}
 use Rattle.model.specs.Forms.{HasForms, AskForms}
+use Rattle.terms.specs.Forms.{IsKey}
 use Rattle.terms.specs.Laws.{IsCommand}
 use Rattle.terms.specs.declared.command.Command.{Command}
 use Rattle.terms.specs.declared.command.Command.TheVariants.{Week}
@@ -71,7 +72,7 @@ pub after-whole : (rs : List Request) (H : History) → HasWholeWeeks H → AskW
 after-whole [] H whole asks = whole
 after-whole (r ∷ rs) H whole asks = after-whole rs (after_one H r) (whole-one H r whole asks.0) asks.1
 
-forms-one : (H : History) (r : Request) → HasForms H → IsCommand r.command → IsUtf8 r.key → HasForms (after_one H r)
+forms-one : (H : History) (r : Request) → HasForms H → IsCommand r.command → IsKey r.key → HasForms (after_one H r)
 forms-one H r forms command key = go (adds H r)
   where
     go : (b : Bool) → HasForms (elim b as (λ _. History) [ true ↦ event_of r ∷ H | false ↦ H ])

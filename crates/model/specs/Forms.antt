@@ -1,6 +1,7 @@
 -- What every command that can be sent keeps to, and what the rows of a legal history keep to then.
-use Rattle.std.specs.Prelude.{List, [], ◌∷◌, IsUtf8}
+use Rattle.std.specs.Prelude.{List, [], ◌∷◌}
 use Rattle.terms.specs.declared.command.Request.{Request}
+use Rattle.terms.specs.Forms.{IsKey}
 use Rattle.terms.specs.Laws.{IsCommand}
 use Rattle.terms.specs.Limits.{InLimits, ClosesFewDays}
 use Rattle.model.specs.History.{History}
@@ -11,12 +12,12 @@ use Rattle.model.specs.Requests.{IsLegal, after}
 -- Each command of the history, and each key, has the form that every one that can be sent has.
 abbrev pub HasForms : History → Type 0
 HasForms [] = Unit {0}
-HasForms (e ∷ H) = IsCommand e.command × IsUtf8 e.key × HasForms H
+HasForms (e ∷ H) = IsCommand e.command × IsKey e.key × HasForms H
 
 -- Each command of the requests, and each key, has its form.
 abbrev pub AskForms : List Request → Type 0
 AskForms [] = Unit {0}
-AskForms (r ∷ rs) = IsCommand r.command × IsUtf8 r.key × AskForms rs
+AskForms (r ∷ rs) = IsCommand r.command × IsKey r.key × AskForms rs
 
 -- Requests that have their forms keep those of the history.
 abbrev pub FormsStay : Type 0

@@ -15,7 +15,7 @@ use Rattle.terms.specs.declared.fault.Fault.TheVariants.{Database, Stored}
 use Rattle.circ_tables.specs.Encoding.{HasPicture, Encodes}
 use Rattle.circ_tables.specs.Reading.{Table, Gets, Lists, Views, IsSame, IsSameOrUndone, Reading}
 use Rattle.circ_tables.specs.Shape.{schema}
-use Rattle.store.specs.Reads.{ended, Reads, Looked, Finds, Seen, IsSound}
+use Rattle.store.specs.Reads.{Reads, Looked, Finds, IsSound}
 
 same_then : (a b c : State) → IsSame a b → IsSame b c → IsSame a c
 same_then a b c one two = record { now = two.now ∙ one.now; committed = two.committed ∙ one.committed; was_open = λ is. one.was_open (two.was_open is) }
@@ -86,20 +86,6 @@ shown_same Q (Err e) a b clean one got = tt
 pub sound_of : {A : Type 0} (r : Result A Fault) (a b : State) → Reading (result_err r) a b → HasCleanDisk b → r ≡ Err Stored → (P : Picture) → HasPicture a.now P → InLimits P → ClosesFewDays P → ⊥
 sound_of r a b one clean is P shown legal few = one.sound (ap result_err is) clean P shown legal few
 
--- a read that ended well, and then a step that failed, whatever its fault
-pub read_stops : (a b : State) → Reading None a b → Reading (Some Database) a b
-read_stops a b one = record { clean = one.clean; mode = one.mode; leaves = one.leaves; crash = one.crash; same = λ _. one.same refl; sound = λ is h P shown legal few. absurd (let f = is in cc) }
-
--- a fault that is handed on, and left unsaid
-pub ended_err : {A : Type 0} (r : Result A Fault) (a b : State) → IsErr r → Reading (Some Database) a b → Reading (ended r) a b
-ended_err (Ok x) a b is one = absurd (let none = is in cc)
-ended_err (Err e) a b is one = one
-
--- what is read, whatever its fault
-pub read_unsaid : {A : Type 0} (r : Result A Fault) (a b : State) → Reading (result_err r) a b → Reading (ended r) a b
-read_unsaid (Ok x) a b one = one
-read_unsaid (Err e) a b one = record { clean = one.clean; mode = one.mode; leaves = one.leaves; crash = one.crash; same = λ is. absurd (let f = is in cc); sound = λ is h P shown legal few. absurd (let f = is in cc) }
-
 -- ---- what a store says of a read
 
 ok_then : {A : Type 0} {P Q : A → Type 0} (r : Result A Fault) → ((x : A) → P x → Q x) → IfOk r P → IfOk r Q
@@ -133,20 +119,6 @@ looked_view Is g old new result settled is = record {
   reads = reads_of (state g old) (state g new) settled is.read;
   shown = λ clean. shown_same (λ x P. Is P x) result (state g old) (state g new) clean is.read is.shown;
   sound = λ clean err P shown good. is.read.sound (ap result_err err) clean P shown good.0 good.1;
-}
-
-seen_same : {A : Type 0} (Q : A → Picture → Type 0) (r : Result A Fault) (a b : State) → Reading (ended r) a b → IfOk r (λ x. (P : Picture) → HasPicture a.now P → InLimits P → Q x P) → HasCleanDisk b
-    → IfOk r (λ x. (P : Picture) → HasPicture a.now P → InLimits P → Q x P × (b.now ≡ a.now))
-seen_same Q (Ok x) a b one got clean = λ P shown legal. (got P shown legal, (one.same refl clean shown.maps shown.holds).now)
-seen_same Q (Err e) a b one got clean = tt
-
--- of a view whose fault is left unsaid
-pub looked_seen : {A S : Type 0} (Is : Picture → A → Type 0) (g : Ghosts S) (old new : Held S) (result : Result A Fault)
-    → (IsTrue (state g old).is_open → (state g old).now ≡ (state g old).committed) → Seen Is g old new result → Looked InLimits Is (λ _. ⊥) g old new result
-looked_seen Is g old new result settled is = record {
-  reads = reads_of (state g old) (state g new) settled is.read;
-  shown = λ clean. seen_same (λ x P. Is P x) result (state g old) (state g new) is.read (is.shown clean) clean;
-  sound = λ clean err P shown none. none;
 }
 
 list_same : {R L : Type 0} (items : L → List R) (Good : R → Type 0) (Found : Maps → List R → Type 0) (Are : Picture → List R → Type 0) → ((maps : Maps) (P : Picture) → Encodes maps P → InLimits P → (rows : List R) → All Good rows → Found maps rows → Are P rows)

@@ -20,9 +20,8 @@ use Rattle.circ_tables.specs.Reading.{Table, Views, Selects, Counts, Lists, loan
 use Rattle.circ_tables.specs.Selections.{is_open_of, is_open_by, is_active_by, is_active_on, names_copy, travels_for, Waits, LendsTitle}
 use Rattle.circ_tables.specs.Shape.{copies_place, loans_place, holds_place, transits_place}
 use Rattle.circ_tables.proofs.ReadingLemmas.{read_of}
-use Rattle.store.specs.Reads.{Seen}
 use Rattle.store.proofs.CountLemmas.{open_loans_shown, open_loans_few, active_holds_shown, active_holds_few, active_holds_on_shown, active_holds_on_few}
-use Rattle.store.proofs.ReadLemmas.{read_then, read_err, read_fails, read_unsaid, read_stops, picture_then}
+use Rattle.store.proofs.ReadLemmas.{read_then, read_err, read_fails, picture_then}
 use Rattle.store.proofs.RowLemmas.{loan_of_shown, hold_of_shown, travel_for_shown, first_of_shown, loan_of_title_shown}
 
 if_ok_of : {A : Type 0} (r : Result A Fault) {P Q : A → Type 0} → ((x : A) → P x → Q x) → IfOk r P → IfOk r Q
@@ -59,35 +58,6 @@ fails {B = B} {g = g} (Err e) fault {a} {b} is seen = record { read = read_err {
 -- a read that ended well, and then a step of memory alone that failed
 pub stops : {S A : Type 0} {g : Ghosts S} {Is : Picture → A → Type 0} {x : A} {a b : Held S} (fault : Fault) → Views Is g a b (Ok x) → (fault ≡ Stored → HasCleanDisk (state g b) → (P : Picture) → HasPicture (state g a).now P → InLimits P → ClosesFewDays P → ⊥) → Views Is g a b (Err fault)
 stops {g = g} {a = a} {b = b} fault seen sound = record { read = read_fails (state g a) (state g b) seen.read (λ is. sound (let same : fault ≡ Stored = cc in same)); shown = λ clean. tt }
-
--- ---- reads whose fault is left unsaid
-
-pub unsaid : {S A : Type 0} {g : Ghosts S} {Is : Picture → A → Type 0} {a b : Held S} (r : Result A Fault) → Views Is g a b r → Seen Is g a b r
-unsaid {g = g} {a = a} {b = b} r seen = record { read = read_unsaid r (state g a) (state g b) seen.read; shown = seen.shown }
-
--- one after another
-pub seen_then : {S A B : Type 0} {g : Ghosts S} {Is : Picture → A → Type 0} {Then : Picture → B → Type 0} {x : A} {r : Result B Fault} {a b c : Held S} → Seen Is g a b (Ok x) → Seen Then g b c r → Seen (λ P y. Is P x × Then P y) g a c r
-seen_then {g = g} {r = r} {a = a} {b = b} {c = c} one two = record {
-  read = read_then (state g a) (state g b) (state g c) one.read two.read;
-  shown = λ clean.
-      let before = two.read.clean clean in
-      if_ok_of r (λ y got P shown legal. (one.shown before P shown legal, got P (picture_then (state g a) (state g b) one.read before P shown) legal)) (two.shown clean);
-}
-
-pub then_seen : {S A B : Type 0} {g : Ghosts S} {Is : Picture → A → Type 0} {Then : Picture → B → Type 0} {x : A} {r : Result B Fault} {a b c : Held S} → Views Is g a b (Ok x) → Seen Then g b c r → Seen (λ P y. Is P x × Then P y) g a c r
-then_seen {Is = Is} {x = x} one two = seen_then {Is = Is} {x = x} (unsaid (Ok x) one) two
-
-pub seen_gives : {S A B : Type 0} {g : Ghosts S} {Is : Picture → A → Type 0} {Wanted : Picture → B → Type 0} {x : A} {y : B} {a b : Held S} → Seen Is g a b (Ok x) → ((P : Picture) → Is P x → Wanted P y) → Seen Wanted g a b (Ok y)
-seen_gives seen f = record { read = seen.read; shown = λ clean P shown legal. f P (seen.shown clean P shown legal) }
-
-pub seen_fails : {S A B : Type 0} {g : Ghosts S} {Is : Picture → A → Type 0} {Wanted : Picture → B → Type 0} (r : Result B Fault) (fault : Fault) {a b : Held S} → IsErr r × IsErrAnd r (λ e. e ≡ fault) → Seen Is g a b (Err fault) → Seen Wanted g a b r
-seen_fails (Ok x) fault is seen = absurd (let none = is.0 in cc)
-seen_fails (Err e) fault is seen = record { read = seen.read; shown = λ clean. tt }
-
--- a read that ended well, and then a step that failed
-pub seen_stops : {S A B : Type 0} {g : Ghosts S} {Is : Picture → A → Type 0} {Wanted : Picture → B → Type 0} {x : A} (r : Result B Fault) {a b : Held S} → IsErr r → Views Is g a b (Ok x) → Seen Wanted g a b r
-seen_stops (Ok x) is seen = absurd (let none = is in cc)
-seen_stops {g = g} (Err e) {a} {b} is seen = record { read = read_stops (state g a) (state g b) seen.read; shown = λ clean. tt }
 
 -- ---- selections, counts and lists in words of the picture
 

@@ -33,15 +33,3 @@ pub record Looked {S A : Type 0} (Needs : Picture → Type 0) (Is : Picture → 
 -- The row of a key was looked for.
 abbrev pub Finds : {K R S : Type 0} → Table K R → K → Ghosts S → Held S → Held S → Result (Option R) Fault → Type 0
 Finds t key = Looked (λ P. IfSome (t.rows P key) t.IsLegal) (λ P row. row ≡ t.rows P key) InLimits
-
--- Whether a call ended well; its fault is left unsaid.
-abbrev pub ended : {A : Type 0} → Result A Fault → Option Fault
-ended (Ok x) = None
-ended (Err e) = Some Database
-
--- What is read, as `Views` has it, where the fault is left unsaid.
-pub record Seen {S A : Type 0} (Is : Picture → A → Type 0)
-    (g : Ghosts S) (old new : Held S) (result : Result A Fault) : Type 0 where
-  pub read : Reading (ended result) (state g old) (state g new)
-  pub shown : HasCleanDisk (state g new)
-      → IfOk result (λ x. (P : Picture) → HasPicture (state g old).now P → InLimits P → Is P x)

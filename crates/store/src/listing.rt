@@ -1,23 +1,21 @@
 //! All rows of each table.
 
-ghost use Rattle.std.specs.Prelude.{◌≡◌, IfOk, IfSome};
 ghost use Rattle.terms.specs.Limits.{InLimits};
-ghost use Rattle.store.specs.Lists.{AreRows, AllPass, AreRules, AreRegisters, AreHoldings};
-ghost use Rattle.store.specs.Lists.{AreDealings, AreTables};
-ghost use Rattle.store.specs.Reads.{Looked, Seen};
+ghost use Rattle.store.specs.Lists.{AreRows, AllPass, AreRuleRows, AreClosedDayRows, AreKeptRows};
+ghost use Rattle.store.specs.Lists.{AreRegisters, AreHoldings, AreDealings, AreTables};
+ghost use Rattle.store.specs.Reads.{Looked, IsSound};
 ghost use Rattle.circ_tables.specs.Reading.{Views};
 
 use crate::store::Store;
 use circ_tables::{
-    ClosedDay, KeptEntry, all_branches, all_closed_days, all_copies, all_holds, all_kept,
-    all_kinds, all_lines, all_loans, all_patrons, all_rules, all_titles, all_transits, get_meta,
+    all_branches, all_closed_days, all_copies, all_holds, all_kept, all_kinds, all_lines,
+    all_loans, all_patrons, all_rules, all_titles, all_transits, get_meta,
 };
 use sqlite::{Alter, Connection};
 use std::alloc::Global;
 use terms::{
-    BranchId, BranchRow, Cents, ClosedDayRow, Command, CopyId, CopyKind, CopyRow, Fault, HoldRow,
-    KeptRow, Key, KindRow, LineRow, LoanRow, MetaRow, Name, PatronRow, Rows, RuleRow, Tables,
-    TitleId, TitleRow, TransitRow, read_number,
+    BranchRow, ClosedDayRow, CopyRow, Fault, HoldRow, KeptRow, KindRow, LineRow, LoanRow, MetaRow,
+    PatronRow, Rows, RuleRow, Tables, TitleRow, TransitRow,
 };
 
 /// The tables that the desk sets.
@@ -46,101 +44,6 @@ struct Dealings {
     transits: Rows<TransitRow>,
     lines: Rows<LineRow>,
     kept: Rows<KeptRow>,
-}
-
-/// The command of a copies row that the text writes, if it writes one.
-fn acquire_of(alloc: Global, text: &str) -> Result<Option<Command>, Fault> {
-    let mut words = text.splitn(7, ' ');
-    let Some("acquire") = words.next() else {
-        return Ok(None);
-    };
-    let Some(copy) = words.next().and_then(|word| read_number(word)) else {
-        return Ok(None);
-    };
-    let Some(title) = words.next().and_then(|word| read_number(word)) else {
-        return Ok(None);
-    };
-    let Some(kind) = words.next().and_then(|word| read_number(word)) else {
-        return Ok(None);
-    };
-    let Some(home) = words.next().and_then(|word| read_number(word)) else {
-        return Ok(None);
-    };
-    let Some(price) = words.next().and_then(|word| read_number(word)) else {
-        return Ok(None);
-    };
-    let Some(rest) = words.next() else {
-        return Ok(None);
-    };
-    let Some(text) = Name::new(alloc, rest)? else {
-        return Ok(None);
-    };
-    Ok(Some(Command::Acquire {
-        copy: CopyId::new(copy),
-        title: TitleId::new(title),
-        kind: CopyKind::new(kind),
-        home: BranchId::new(home),
-        price: Cents::new(u64::from(price)),
-        text,
-    }))
-}
-
-/// The key with this text: one from outside, or that of a row of a copies file.
-fn key_of(alloc: Global, text: &str) -> Result<Option<Key>, Fault>
-    ensures { IfOk result (λ o. IfSome o (λ key. key ≡ text.now)) }
-{
-    if let Some(key) = Key::new(alloc, text)? {
-        return Ok(Some(key));
-    }
-    let Some(command) = acquire_of(alloc, text)? else {
-        return Ok(None);
-    };
-    let key = Key::of_row(alloc, &command)?;
-    if key.as_str() == text {
-        Ok(Some(key))
-    } else {
-        Ok(None)
-    }
-}
-
-/// A row of `kept` with its key. 90; 93 where the key is no key.
-fn kept_row(alloc: Global, entry: KeptEntry) -> Result<KeptRow, Fault> {
-    let KeptEntry {
-        caller,
-        key,
-        text,
-        reply,
-    } = entry;
-    match key_of(alloc, key.as_str())? {
-        Some(key) => Ok(KeptRow {
-            caller,
-            key,
-            text,
-            reply,
-        }),
-        None => Err(Fault::Stored),
-    }
-}
-
-/// The rows of `kept` with their keys. 90, 93.
-fn kept_rows(alloc: Global, entries: Vec<KeptEntry>) -> Result<Vec<KeptRow>, Fault> {
-    let mut rows = Vec::new(alloc);
-    for entry in entries {
-        rows.push(kept_row(alloc, entry)?)?;
-    }
-    Ok(rows)
-}
-
-/// The rows of `closed_days`. 90.
-fn day_rows(alloc: Global, days: &[ClosedDay]) -> Result<Vec<ClosedDayRow>, Fault> {
-    let mut rows = Vec::new(alloc);
-    for day in days {
-        rows.push(ClosedDayRow {
-            branch: day.branch,
-            day: day.day,
-        })?;
-    }
-    Ok(rows)
 }
 
 /// All rows of `branches`. 90, 91, 93.
@@ -226,7 +129,7 @@ fn lines<S: Alter>(conn: &mut Connection<S>, alloc: Global) -> Result<Rows<LineR
 
 /// All rows of `rules`. 90, 91, 93.
 fn rules<S: Alter>(conn: &mut Connection<S>, alloc: Global) -> Result<Rows<RuleRow>, Fault>
-    ensures { Views (λ P rows. AreRules P rows) S.Store conn.old conn.new result }
+    ensures { Views (λ P rows. AreRuleRows P rows) S.Store conn.old conn.new result }
 {
     let found = all_rules(conn, alloc)?;
     Ok(Rows::new(found))
@@ -237,25 +140,23 @@ fn closed_days<S: Alter>(
     conn: &mut Connection<S>,
     alloc: Global,
 ) -> Result<Rows<ClosedDayRow>, Fault>
-    ensures { Seen (λ _ _. Unit {0}) S.Store conn.old conn.new result }
+    ensures { Views (λ P rows. AreClosedDayRows P rows) S.Store conn.old conn.new result }
 {
     let found = all_closed_days(conn, alloc)?;
-    let rows = day_rows(alloc, &found)?;
-    Ok(Rows::new(rows))
+    Ok(Rows::new(found))
 }
 
 /// All rows of `kept`. 90, 91, 93.
 fn kept<S: Alter>(conn: &mut Connection<S>, alloc: Global) -> Result<Rows<KeptRow>, Fault>
-    ensures { Seen (λ _ _. Unit {0}) S.Store conn.old conn.new result }
+    ensures { Views (λ P rows. AreKeptRows P rows) S.Store conn.old conn.new result }
 {
     let found = all_kept(conn, alloc)?;
-    let rows = kept_rows(alloc, found)?;
-    Ok(Rows::new(rows))
+    Ok(Rows::new(found))
 }
 
 /// The tables that the desk sets. 90, 91, 93.
 fn read_registers<S: Alter>(conn: &mut Connection<S>, alloc: Global) -> Result<Registers, Fault>
-    ensures { Seen AreRegisters S.Store conn.old conn.new result }
+    ensures { Views AreRegisters S.Store conn.old conn.new result }
 {
     let meta = get_meta(conn)?;
     let branches = branches(conn, alloc)?;
@@ -287,7 +188,7 @@ fn read_holdings<S: Alter>(conn: &mut Connection<S>, alloc: Global) -> Result<Ho
 
 /// Loans, holds, transits, lines, and what is kept. 90, 91, 93.
 fn read_dealings<S: Alter>(conn: &mut Connection<S>, alloc: Global) -> Result<Dealings, Fault>
-    ensures { Seen AreDealings S.Store conn.old conn.new result }
+    ensures { Views AreDealings S.Store conn.old conn.new result }
 {
     let loans = loans(conn, alloc)?;
     let holds = holds(conn, alloc)?;
@@ -305,7 +206,7 @@ fn read_dealings<S: Alter>(conn: &mut Connection<S>, alloc: Global) -> Result<De
 
 /// All rows of each table. 90, 91, 93.
 fn all_tables<S: Alter>(conn: &mut Connection<S>, alloc: Global) -> Result<Tables, Fault>
-    ensures { Seen AreTables S.Store conn.old conn.new result }
+    ensures { Views AreTables S.Store conn.old conn.new result }
 {
     let set = read_registers(conn, alloc)?;
     let owned = read_holdings(conn, alloc)?;
@@ -330,7 +231,7 @@ fn all_tables<S: Alter>(conn: &mut Connection<S>, alloc: Global) -> Result<Table
 impl<S: Alter> Store<S> {
     /// All rows of each table, in rising order of their keys. 90, 91, 93.
     pub fn tables(&mut self, alloc: Global) -> Result<Tables, Fault>
-        ensures { Looked InLimits AreTables (λ _. ⊥) S.Store self.old self.new result }
+        ensures { Looked InLimits AreTables IsSound S.Store self.old self.new result }
     {
         let is_idle = self.conn.is_autocommit();
         prove!(is_idle);

@@ -3,3 +3,4 @@ pub mod RequestTextLemmas
 pub mod ReplyTextLemmas
 pub mod ReadingLemmas
 pub mod Utf8Lemmas
+pub mod KeyLemmas

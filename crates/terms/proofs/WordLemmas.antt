@@ -12,7 +12,7 @@ use Rattle.std.proofs.lemmas.Fmt.{decimal_is_IsNumeral}
 use Rattle.std.proofs.lemmas.Str.Parse.{digit_from_value}
 use Rattle.calendar.specs.Days.{day_text}
 use Rattle.calendar.proofs.DayLemmas.{day_text_injective}
-use Rattle.terms.specs.Forms.{is_alphanumeric, is_card_key}
+use Rattle.terms.specs.Forms.{is_alphanumeric, is_card_key, has_no_space}
 use Rattle.terms.specs.Texts.{mask_text}
 
 -- what stands before the first space, and what after it
@@ -23,9 +23,6 @@ first_word (x ∷ xs) = if x == 32 then [] else x ∷ first_word xs
 unfoldable pub other_words : List ℕ → List ℕ
 other_words [] = []
 other_words (x ∷ xs) = if x == 32 then xs else other_words xs
-
-abbrev pub has_no_space : List ℕ → Bool
-has_no_space = list_all (λ b. not (b == 32))
 
 pub both_true : (a b : Bool) → (a && b) ≡ true → (a ≡ true) × (b ≡ true)
 both_true true b h = (refl, h)

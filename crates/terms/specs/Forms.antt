@@ -32,3 +32,15 @@ is_key_byte b = is_alphanumeric b || (b == 45)
 -- a request key that is given from outside: 1 to 40 letters, digits and hyphens
 unfoldable pub is_outside_key : List ℕ → Bool
 is_outside_key t = nat_le 1 (length t) && (nat_le (length t) LONGEST_KEY && list_all is_key_byte t)
+
+-- no byte is a space
+abbrev pub has_no_space : List ℕ → Bool
+has_no_space = list_all (λ b. not (b == 32))
+
+-- what a key can be: one from outside, or a text with a space, as the key of a row of a copies file is
+abbrev pub is_key : List ℕ → Bool
+is_key t = is_outside_key t || not (has_no_space t)
+
+-- a key in UTF-8
+abbrev pub IsKey : List ℕ → Type 0
+IsKey t = (is_key t ≡ true) × IsUtf8 t

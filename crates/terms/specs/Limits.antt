@@ -3,7 +3,7 @@ use Rattle.std.specs.Prelude.{◌≡◌, ◌≤◌, ℕ, true, false, List, leng
 use Rattle.calendar.specs.Days.{IsDayNumber}
 use Rattle.calendar.specs.Openings.{AreWeekdays, has_day, has_repeat}
 use Rattle.calendar.specs.declared.limits.TheConstants.{MOST_CLOSED_DAYS}
-use Rattle.terms.specs.Forms.{IsName, is_card_key}
+use Rattle.terms.specs.Forms.{IsName, is_card_key, IsKey}
 use Rattle.terms.specs.Texts.{reply_text}
 use Rattle.terms.specs.Laws.{IsKept}
 use Rattle.terms.specs.Pictures.{Picture}
@@ -87,7 +87,7 @@ IsLine r = IsGiven r.line × IsLarge r.patron × IsDayNumber r.day × IsSum r.am
 
 -- the text of a request, and that of a reply that can be kept
 abbrev pub IsKeptRow : KeptRow → Type 0
-IsKeptRow r = IsOwner r.caller × IsUtf8 r.key × IsUtf8 r.text × ((reply : Reply) × IsKept reply × (r.reply ≡ reply_text reply))
+IsKeptRow r = IsOwner r.caller × IsKey r.key × IsUtf8 r.text × ((reply : Reply) × IsKept reply × (r.reply ≡ reply_text reply))
 
 -- Each row of the tables stands under its own key and lies in its limits.
 pub record InLimits (P : Picture) : Type 0 where

@@ -4,7 +4,7 @@ ghost use Rattle.std.specs.Prelude.{◌≡◌, IfOk, true, false, string_bytes, 
 ghost use Rattle.std.specs.Prelude.{bytes_eq, IsUtf8};
 ghost use Rattle.std.specs.List.{list_all};
 ghost use Rattle.terms.specs.Forms.{is_name, IsName, is_plain_byte, is_card_key, is_alphanumeric};
-ghost use Rattle.terms.specs.Forms.{is_outside_key, is_key_byte};
+ghost use Rattle.terms.specs.Forms.{is_outside_key, is_key_byte, has_no_space, is_key, IsKey};
 ghost use Rattle.terms.specs.Texts.{request_text};
 
 use crate::command::{Command, joined_words};
@@ -196,11 +196,14 @@ pub struct Key {
 }
 
 impl Model for Key {
-    ghost use Rattle.std.specs.Prelude.{ℕ, List, string_bytes};
+    ghost use Rattle.std.specs.Prelude.{◌≡◌, ℕ, List, true, string_bytes};
+    ghost use Rattle.terms.specs.Forms.{is_key};
 
     ghost Value = { List ℕ };
 
     ghost view = { λ a. string_bytes a.text };
+
+    ghost invariant = { λ a. is_key (string_bytes a.text) ≡ true };
 }
 
 fn is_key_letter(byte: u8) -> bool
@@ -230,6 +233,12 @@ fn has_key_form(text: &str) -> bool
     all_key_letters(bytes)
 }
 
+fn all_without_space(bytes: &[u8]) -> bool
+    ensures { result ≡ has_no_space bytes.now }
+{
+    bytes.iter().all(|b| *b != b' ')
+}
+
 impl Key {
     /// The text as a key from outside, if it has the form of one.
     pub fn new(alloc: Global, text: &str) -> Result<Option<Key>, Memory>
@@ -252,10 +261,24 @@ impl Key {
         Ok(Key { text })
     }
 
+    /// The key that was written as this text, if any can be: one from outside, or a text with a
+    /// space, as the key of a row of a copies file is.
+    pub fn read(alloc: Global, text: &str) -> Result<Option<Key>, Memory>
+        ensures { IfOk result (λ o. MatchOption o (is_key text.now ≡ false)
+            (λ k. (is_key text.now ≡ true) × (k ≡ text.now))) }
+    {
+        if has_key_form(text) || !all_without_space(text.as_bytes()) {
+            let text = String::from_str(alloc, text)?;
+            Ok(Some(Key { text }))
+        } else {
+            Ok(None)
+        }
+    }
+
     /// The text.
     pub fn as_str(&self) -> &str
         ensures value { result.now ≡ self.now }
-        ensures form { IsUtf8 result.now }
+        ensures form { IsKey result.now }
     {
         let Key { text } = self;
         text.as_str()
