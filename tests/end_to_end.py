@@ -21,6 +21,7 @@ import tempfile
 import time
 from contextlib import closing
 
+import calendar_weeks
 from desk_rules import Library
 
 TOP = os.path.dirname(os.path.dirname(os.path.abspath(__file__)))
@@ -116,6 +117,7 @@ BAD_WORDS = [
     ["report", "FILE", "shelf", ""],
     ["report", "FILE", "overdue"],
     ["report", "FILE", "overdue", "one"],
+    ["report", "FILE", "overdue", "x"],
     ["report", "FILE", "overdue", "1", "2"],
     ["import"],
     ["import", "FILE"],
@@ -125,6 +127,8 @@ BAD_WORDS = [
     ["file", "FILE", "", "begin-day", "2026-03-03"],
     ["file", "FILE", "k" * 41, "begin-day", "2026-03-03"],
     ["file", "FILE", "k 1", "begin-day", "2026-03-03"],
+    ["file", "FILE", "k_1", "begin-day"],
+    ["files", "FILE", "k1", "begin-day"],
     ["--help"],
     [b"file", b"FILE", b"k1", b"begin-day", b"2026-03-0\xff"],
 ]
@@ -224,7 +228,7 @@ def a_new_library(folder):
     unique = "SELECT name FROM pragma_index_list('transits') WHERE \"unique\" = 1 AND origin = 'u'"
     check("one UNIQUE", len(rows(path, unique)), 1)
     indexes = "SELECT name FROM sqlite_schema WHERE type = 'index' AND sql IS NOT NULL ORDER BY rowid"
-    wanted = "loans_copy loans_patron holds_copy holds_patron holds_title holds_branch lines_day"
+    wanted = "loans_copy loans_patron holds_copy holds_patron holds_title holds_branch lines_day loans_branch"
     check("indexes", [name for (name,) in rows(path, indexes)], wanted.split())
     empty = os.path.join(folder, "empty.db")
     open(empty, "w").close()
@@ -878,6 +882,7 @@ def main():
         bad_words(folder)
         bad_files(folder, path)
         an_unreadable_file(folder, path)
+    check("calendars by weeks", calendar_weeks.compare(), 10_000)
     print(f"end to end: {passed} passed, 0 failed")
 
 

@@ -8,7 +8,7 @@ use sqlite_disk::{Crash, Disk};
 use std::alloc::Global;
 use std::io::{Read, Write};
 use store::Store;
-use terms::{CardKey, Fault, Key, PatronId, Reply, Request, Tables};
+use terms::{CardKey, Fault, Key, Owner, PatronId, Reply, Request};
 
 /// Has one request by words handled, and its line written.
 pub fn one<S: Alter, W: Write>(
@@ -50,15 +50,15 @@ pub fn handle<S: Alter>(
     desk.handle(alloc, request)
 }
 
-/// Has a list of requests handled; the fault that ended it comes without the replies before it.
+/// Has a list of requests handled: the replies, and the fault that ended it.
 pub fn run<S: Alter>(
     desk: &mut Desk<S>,
     alloc: Global,
     requests: &[Request],
-) -> Result<Vec<Reply>, Fault> {
+) -> (Vec<Reply>, Option<Fault>) {
     match desk.run(alloc, requests) {
-        Ok(replies) => Ok(replies),
-        Err((_, fault)) => Err(fault),
+        Ok(replies) => (replies, None),
+        Err((replies, fault)) => (replies, Some(fault)),
     }
 }
 
@@ -72,9 +72,28 @@ pub fn page<S: Alter>(
     desk.page(alloc, patron, card_key)
 }
 
-/// All rows of all tables.
-pub fn tables<S: Alter>(store: &mut Store<S>, alloc: Global) -> Result<Tables, Fault> {
-    store.tables(alloc)
+/// The next number of a loan, how many rows each other table has, in the order of the schema, and how many of the kept ones are
+/// patrons'.
+pub fn counts<S: Alter>(store: &mut Store<S>, alloc: Global) -> Result<[usize; 14], Fault> {
+    let all = store.tables(alloc)?;
+    let kept = all.kept.as_slice();
+    let by_patrons = kept.iter().filter(|it| it.caller != Owner::Desk).count();
+    Ok([
+        all.meta.next_loan.number() as usize,
+        all.branches.as_slice().len(),
+        all.closed_days.as_slice().len(),
+        all.kinds.as_slice().len(),
+        all.rules.as_slice().len(),
+        all.patrons.as_slice().len(),
+        all.titles.as_slice().len(),
+        all.copies.as_slice().len(),
+        all.loans.as_slice().len(),
+        all.holds.as_slice().len(),
+        all.transits.as_slice().len(),
+        all.lines.as_slice().len(),
+        kept.len(),
+        by_patrons,
+    ])
 }
 
 /// The database under a desk.

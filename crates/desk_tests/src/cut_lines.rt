@@ -1,15 +1,19 @@
-//! Lines that are cut: the writer takes some bytes, and then fails.
+//! Writers that take some bytes and then fail, and a reader that fails.
 
 use crate::calls::{connection, import, one, report};
-use crate::copies_files::BEES;
-use crate::ground::{count, ground, key, opened, say, words_of};
-use circ::{Report, WriteFault};
+use crate::ground::{check, ground, key, opened, words_of};
+use circ::{Exit, Report, WriteFault, out_of_memory, unreadable};
 use desk::Desk;
-use sqlite::MemStore;
+use sqlite::{Alter, MemStore};
 use std::alloc::Global;
-use std::io;
+use std::io::{self, Read};
+use std::process::Abort;
 use std::test::Fail;
 use terms::{BranchId, Day};
+
+/// A header and three rows of copies.
+const BEES: &str =
+    "copy,title,text,kind,home,price,end\n50,500,\"Maps, Old and New\",1,1,1500,end\n51,500,\"Maps, Old and New\",1,2,1500,end\n52,501,Winter Bees,2,1,700,end\n";
 
 /// A writer that takes so many bytes, and then fails.
 #[derive(Drop)]
@@ -34,130 +38,188 @@ impl io::Write for Narrow {
     }
 }
 
-/// What was taken of the line that answers the words.
-fn cut(
-    desk: &mut Desk<MemStore>,
-    alloc: Global,
-    name: &str,
-    text: &str,
-    room: usize,
-) -> Result<Vec<u8>, Fail> {
-    let words = words_of(alloc, text)?;
-    let mut writer = Narrow {
+fn room_for(alloc: Global, room: usize) -> Narrow {
+    Narrow {
         taken: Vec::new(alloc),
         room,
-    };
-    let told = one(desk, alloc, key(alloc, name)?, &words, &mut writer);
-    if told != Err(WriteFault) {
-        return Err("the line was told".into());
     }
-    Ok(writer.taken)
 }
 
-/// The desk opened again, and how many loans there are.
-fn opened_again(desk: Desk<MemStore>) -> Result<(Desk<MemStore>, u32), Fail> {
+/// The write failed, and what was taken is the beginning of the text.
+fn was_cut(
+    rt: &impl Abort,
+    told: Result<Exit, WriteFault>,
+    writer: &Narrow,
+    text: &str,
+    room: usize,
+) {
+    assert!(rt; told == Err(WriteFault), "at {text}");
+    let is_beginning = text.as_bytes().starts_with(writer.taken.as_slice());
+    assert!(rt; is_beginning && writer.taken.len() == room, "at {text}");
+}
+
+/// The line that answers the words is cut after so many bytes.
+fn cut<S: Alter>(
+    rt: &impl Abort,
+    alloc: Global,
+    desk: &mut Desk<S>,
+    (text, line): (&str, &str),
+    room: usize,
+) -> Result<(), Fail> {
+    let words = words_of(alloc, text)?;
+    let mut writer = room_for(alloc, room);
+    let told = one(desk, alloc, key(alloc, "k1")?, &words, &mut writer);
+    was_cut(rt, told, &writer, line, room);
+    Ok(())
+}
+
+/// The desk opened again, and how many rows a text counts.
+fn counted(desk: Desk<MemStore>, text: &str) -> Result<(Desk<MemStore>, u32), Fail> {
     let mut conn = connection(desk);
-    let loans = conn.query_row("SELECT COUNT(*) FROM loans", &[])?.get(0)?;
-    Ok((opened(conn)?, loans))
+    let count = conn.query_row(text, &[])?.get(0)?;
+    Ok((opened(conn)?, count))
+}
+
+/// A check-out whose line is cut is done once, also where it is sent again.
+fn lends(rt: &impl Abort, alloc: Global, line: &str, room: usize) -> Result<(), Fail> {
+    let mut desk = ground(rt, alloc)?;
+    cut(rt, alloc, &mut desk, ("check-out 1 10 1", line), room)?;
+    let (mut desk, loans) = counted(desk, "SELECT COUNT(*) FROM loans")?;
+    assert!(rt; loans == 1, "at {room}");
+    let lending = "desk k1 check-out 1 10 1 -> loan 1 due 2026-03-09";
+    check(rt, alloc, &mut desk, lending)?;
+    let (_, loans) = counted(desk, "SELECT COUNT(*) FROM loans")?;
+    assert!(rt; loans == 1, "at {room}");
+    Ok(())
 }
 
 #[test]
 fn lends_though_the_line_is_cut(rt: HostRuntime) -> Result<(), Fail> {
-    let alloc = rt.alloc();
     let line = "loan 1 due 2026-03-09\n";
     for room in 0..line.len() {
-        let mut desk = ground(&rt, alloc)?;
-        let taken = cut(&mut desk, alloc, "k1", "check-out 1 10 1", room)?;
-        assert_eq!(rt; taken.as_slice(), &line.as_bytes()[..room]);
-        let (mut desk, loans) = opened_again(desk)?;
-        assert_eq!(rt; loans, 1, "at {room}");
-        let whole = say(&mut desk, alloc, "k1", "check-out 1 10 1")?;
-        assert_eq!(rt; whole.as_str(), "0 loan 1 due 2026-03-09\n", "at {room}");
-        let (_desk, loans) = opened_again(desk)?;
-        assert_eq!(rt; loans, 1, "at {room}");
+        lends(&rt, rt.alloc(), line, room)?;
+    }
+    Ok(())
+}
+
+/// Words, and the line that answers them.
+const LINES: &str = "check-out 1 99 1 -> refused 13
+check-out 1 99 -> words not understood
+page 1 -> patron 1 owed 0 name Ann Bell
+begin-day 2026-03-03 -> ok";
+
+/// A line is cut at each of its bytes; the last cut is before its end.
+fn cuts_line<S: Alter>(
+    rt: &impl Abort,
+    alloc: Global,
+    desk: &mut Desk<S>,
+    row: &str,
+) -> Result<(), Fail> {
+    let (text, line) = row.split_once(" -> ").ok_or("an arrow")?;
+    for room in 0..=line.len() {
+        cut(rt, alloc, desk, (text, line), room)?;
+    }
+    Ok(())
+}
+
+/// Each line is cut at each of its bytes.
+fn cuts<S: Alter>(rt: &impl Abort, alloc: Global, desk: &mut Desk<S>) -> Result<(), Fail> {
+    for row in LINES.split('\n') {
+        cuts_line(rt, alloc, desk, row)?;
     }
     Ok(())
 }
 
 #[test]
 fn cuts_each_kind_of_line(rt: HostRuntime) -> Result<(), Fail> {
-    let alloc = rt.alloc();
-    let mut desk = ground(&rt, alloc)?;
-    for (text, line) in [
-        ("check-out 1 99 1", "refused 13\n"),
-        ("check-out 1 99", "words not understood\n"),
-        ("page 1", "patron 1 owed 0 name Ann Bell\n"),
-        ("begin-day 2026-03-03", "ok\n"),
-    ] {
-        for room in 0..line.len() {
-            let taken = cut(&mut desk, alloc, "k1", text, room)?;
-            assert_eq!(rt; taken.as_slice(), &line.as_bytes()[..room], "at {text}");
-        }
-    }
-    Ok(())
+    let mut desk = ground(&rt, rt.alloc())?;
+    cuts(&rt, rt.alloc(), &mut desk)
 }
 
-/// What was taken of a report.
-fn cut_report(
-    desk: &mut Desk<MemStore>,
+/// A report is cut at each of its bytes.
+fn cuts_report<S: Alter>(
+    rt: &impl Abort,
     alloc: Global,
+    desk: &mut Desk<S>,
     wanted: &Report,
-    room: usize,
-) -> Result<Vec<u8>, Fail> {
-    let mut writer = Narrow {
-        taken: Vec::new(alloc),
-        room,
-    };
-    if report(desk, alloc, wanted, &mut writer) != Err(WriteFault) {
-        return Err("the report was written".into());
+    text: &str,
+) {
+    for room in 0..text.len() {
+        let mut writer = room_for(alloc, room);
+        let told = report(desk, alloc, wanted, &mut writer);
+        was_cut(rt, told, &writer, text, room);
     }
-    Ok(writer.taken)
 }
 
 #[test]
 fn cuts_reports(rt: HostRuntime) -> Result<(), Fail> {
     let alloc = rt.alloc();
-    let mut desk = ground(&rt, alloc)?;
+    let (main, day) = (BranchId::new(1), Day::read("2026-03-02").ok_or("a day")?);
     let till =
         "till 2026-03-02\nfines                  0\nprices                 0\npayments               0\nwaivers                0\n";
     let shelf = "      hold    copy  patron until      title\nready 0\n";
     let overdue = "      loan  patron    copy due         late title\noverdue 0\n";
-    for (wanted, text) in [
-        (Report::Overdue(BranchId::new(1)), overdue),
-        (Report::Till(Day::read("2026-03-02").ok_or("a day")?), till),
-        (Report::Shelf(BranchId::new(1)), shelf),
-        (Report::Shelf(BranchId::new(9)), "refused 10\n"),
-    ] {
-        for room in 0..text.len() {
-            let taken = cut_report(&mut desk, alloc, &wanted, room)?;
-            assert_eq!(rt; taken.as_slice(), &text.as_bytes()[..room]);
-        }
-    }
+    let mut desk = ground(&rt, alloc)?;
+    cuts_report(&rt, alloc, &mut desk, &Report::Overdue(main), overdue);
+    cuts_report(&rt, alloc, &mut desk, &Report::Till(day), till);
+    cuts_report(&rt, alloc, &mut desk, &Report::Shelf(main), shelf);
+    let unknown = Report::Shelf(BranchId::new(9));
+    cuts_report(&rt, alloc, &mut desk, &unknown, "refused 10\n");
     Ok(())
 }
 
-/// What was taken of the lines of a copies file.
-fn cut_rows(desk: &mut Desk<MemStore>, alloc: Global, room: usize) -> Result<Vec<u8>, Fail> {
-    let mut writer = Narrow {
-        taken: Vec::new(alloc),
-        room,
-    };
-    if import(desk, alloc, BEES.as_bytes(), &mut writer) != Err(WriteFault) {
-        return Err("the lines were written".into());
-    }
-    Ok(writer.taken)
+/// The lines of a copies file are cut after so many bytes; so many copies are there then.
+fn cuts_rows(rt: &impl Abort, alloc: Global, room: usize, copies: u32) -> Result<(), Fail> {
+    let lines = "row 1 ok\nrow 2 ok\nrow 3 ok\naccepted 3 refused 0\n";
+    let mut desk = ground(rt, alloc)?;
+    let mut writer = room_for(alloc, room);
+    let told = import(&mut desk, alloc, BEES.as_bytes(), &mut writer);
+    was_cut(rt, told, &writer, lines, room);
+    let (_, found) = counted(desk, "SELECT COUNT(*) FROM copies WHERE copy >= 50")?;
+    assert!(rt; found == copies, "at {room}");
+    Ok(())
 }
 
 #[test]
 fn cuts_the_lines_of_rows(rt: HostRuntime) -> Result<(), Fail> {
-    let alloc = rt.alloc();
-    let lines = "row 1 ok\nrow 2 ok\nrow 3 ok\naccepted 3 refused 0\n";
     for (room, copies) in [(0, 1), (8, 1), (9, 2), (17, 2), (18, 3), (27, 3), (47, 3)] {
-        let mut desk = ground(&rt, alloc)?;
-        let taken = cut_rows(&mut desk, alloc, room)?;
-        assert_eq!(rt; taken.as_slice(), &lines.as_bytes()[..room]);
-        let found = count(desk, "SELECT COUNT(*) FROM copies WHERE copy >= 50")?;
-        assert_eq!(rt; found, copies, "at {room}");
+        cuts_rows(&rt, rt.alloc(), room, copies)?;
     }
+    Ok(())
+}
+
+/// A reader of some bytes that fails after them.
+#[derive(Drop)]
+struct Failing {
+    bytes: &'static [u8],
+}
+
+impl Read for Failing {
+    fn read(&mut self, buf: &mut [u8]) -> io::Result<usize> {
+        if self.bytes.is_empty() {
+            return Err(io::ErrorKind::Other.into());
+        }
+        let taken = self.bytes.read(buf)?;
+        Ok(taken)
+    }
+}
+
+/// What is told of a reader that fails, of a file that can't be opened, and where there is no memory.
+fn tells<S: Alter>(desk: &mut Desk<S>, alloc: Global, bytes: &mut Vec<u8>) -> Result<bool, Fail> {
+    let reader = Failing {
+        bytes: BEES.as_bytes(),
+    };
+    let ends = (import(desk, alloc, reader, bytes)?, unreadable(bytes)?);
+    let status = out_of_memory(bytes)?.status();
+    Ok(ends == (Exit::Faulted, Exit::Faulted) && status == 3)
+}
+
+#[test]
+fn tells_what_cannot_be_read(rt: HostRuntime) -> Result<(), Fail> {
+    let mut bytes: Vec<u8> = Vec::new(rt.alloc());
+    assert!(rt; tells(&mut ground(&rt, rt.alloc())?, rt.alloc(), &mut bytes)?);
+    let lines =
+        "row 1 ok\nrow 2 ok\nrow 3 ok\nfault reading\naccepted 3 refused 0\nfault reading\naccepted 0 refused 0\nfault 90\n";
+    assert!(rt; bytes.as_slice() == lines.as_bytes());
     Ok(())
 }

@@ -1,7 +1,7 @@
-//! What each test begins with: a small library, requests by words, and looks at rows. Expected lines are those of the
+//! What each test begins with: a small library, lists of requests, and looks at rows. Expected answers are those of the
 //! rules, worked out by hand.
 
-use crate::calls::{connection, desk_over, handle, in_memory, one, open, run};
+use crate::calls::{desk_over, in_memory, open, run};
 use desk::Desk;
 use front::read_words;
 use sqlite::types::ValueRef;
@@ -9,46 +9,29 @@ use sqlite::{Alter, Connection, MemStore};
 use std::alloc::Global;
 use std::process::Abort;
 use std::test::Fail;
-use terms::{Caller, Command, Key, Reply, Request};
+use terms::{Caller, CardKey, Fault, Key, PatronId, Reply, Request, read_number};
 
-/// A key, words with a bar before a last word that has spaces, and the status and line that answer them.
-pub type Said = (&'static str, &'static str, &'static str);
-
-/// Fifteen requests that make a small library: three patrons, two branches, four copies of three titles.
-pub const GROUND: [Said; 15] = [
-    ("g1", "begin-day 2026-03-02", "0 ok"),
-    ("g2", "branch 1 5|Main", "0 ok"),
-    ("g3", "branch 2 3|Harbour", "0 ok"),
-    ("g4", "week 1 ooooooc", "0 ok"),
-    ("g5", "week 2 coooooc", "0 ok"),
-    ("g6", "kind 1 5 5 500", "0 ok"),
-    ("g7", "rule 1 1 6 1 20 100", "0 ok"),
-    ("g8", "rule 1 2 12 1 20 100", "0 ok"),
-    ("g9", "patron 1 1 cardkey00001|Ann Bell", "0 ok"),
-    ("g10", "patron 2 1 cardkey00002|Bo Carr", "0 ok"),
-    ("g11", "patron 3 1 cardkey00003|Cy Dunn", "0 ok"),
-    ("g12", "acquire 10 100 1 1 2500|Rivers of the North", "0 ok"),
-    ("g13", "acquire 11 100 1 1 2500|Rivers of the North", "0 ok"),
-    ("g14", "acquire 20 200 1 2 1200|Salt Roads", "0 ok"),
-    ("g15", "acquire 30 300 2 1 800|Night Ferries", "0 ok"),
-];
+/// Fifteen requests that make a small library: three patrons, two branches, four copies of three titles. In each line the
+/// caller, the key, the words with a bar before a last word that has blanks, and behind the arrow the answer.
+const GROUND: &str = "desk g1 begin-day 2026-03-02 -> ok
+desk g2 branch 1 5|Main -> ok
+desk g3 branch 2 3|Harbour -> ok
+desk g4 week 1 ooooooc -> ok
+desk g5 week 2 coooooc -> ok
+desk g6 kind 1 5 5 500 -> ok
+desk g7 rule 1 1 6 1 20 100 -> ok
+desk g8 rule 1 2 12 1 20 100 -> ok
+desk g9 patron 1 1 cardkey00001|Ann Bell -> ok
+desk g10 patron 2 1 cardkey00002|Bo Carr -> ok
+desk g11 patron 3 1 cardkey00003|Cy Dunn -> ok
+desk g12 acquire 10 100 1 1 2500|Rivers of the North -> ok
+desk g13 acquire 11 100 1 1 2500|Rivers of the North -> ok
+desk g14 acquire 20 200 1 2 1200|Salt Roads -> ok
+desk g15 acquire 30 300 2 1 800|Night Ferries -> ok";
 
 /// The thirteen tables.
-const TABLES: [&str; 13] = [
-    "SELECT * FROM meta",
-    "SELECT * FROM branches",
-    "SELECT * FROM closed_days",
-    "SELECT * FROM kinds",
-    "SELECT * FROM rules",
-    "SELECT * FROM patrons",
-    "SELECT * FROM titles",
-    "SELECT * FROM copies",
-    "SELECT * FROM loans",
-    "SELECT * FROM holds",
-    "SELECT * FROM transits",
-    "SELECT * FROM lines",
-    "SELECT * FROM kept",
-];
+const TABLES: &str =
+    "meta branches closed_days kinds rules patrons titles copies loans holds transits lines kept";
 
 /// The words of a text, parted by single spaces, and the one after the bar whole.
 pub fn words_of(alloc: Global, text: &str) -> Result<Vec<String>, Fail> {
@@ -71,51 +54,94 @@ pub fn key(alloc: Global, text: &str) -> Result<Key, Fail> {
     Ok(Key::new(alloc, text)?.ok_or("a key")?)
 }
 
-/// The status and the line that answer the words.
-pub fn say<S: Alter>(
-    desk: &mut Desk<S>,
-    alloc: Global,
-    name: &str,
-    text: &str,
-) -> Result<String, Fail> {
-    let words = words_of(alloc, text)?;
-    let mut line: Vec<u8> = Vec::new(alloc);
-    let exit = one(desk, alloc, key(alloc, name)?, &words, &mut line)?;
-    let line = std::str::from_utf8(&line)?;
-    let status = exit.status();
-    Ok(format!(in alloc; "{status} {line}")?)
+/// The desk, or the patron whose number and card key stand with a stroke between them.
+fn caller(alloc: Global, text: &str) -> Result<Caller, Fail> {
+    match text.split_once('/') {
+        Some((number, card_key)) => {
+            let number = read_number(number).ok_or("a number")?;
+            let card_key = CardKey::new(alloc, card_key)?.ok_or("a card key")?;
+            Ok(Caller::Patron(PatronId::new(number), card_key))
+        }
+        None => Ok(Caller::Desk),
+    }
 }
 
-/// Each answer is the expected one, with a newline.
+/// The request of a caller, a key and words.
+pub fn request(alloc: Global, text: &str) -> Result<Request, Fail> {
+    let (who, rest) = text.split_once(' ').ok_or("a caller")?;
+    let (name, text) = rest.split_once(' ').ok_or("words")?;
+    let words = words_of(alloc, text)?;
+    let Ok(command) = read_words(alloc, &words) else {
+        return Err("words that are understood".into());
+    };
+    Ok(Request {
+        caller: caller(alloc, who)?,
+        key: key(alloc, name)?,
+        command,
+    })
+}
+
+/// Adds the request of a line to a list.
+fn add(alloc: Global, list: &mut Vec<Request>, line: &str) -> Result<(), Fail> {
+    let (said, _) = line.split_once(" -> ").ok_or("an arrow")?;
+    list.push(request(alloc, said)?)?;
+    Ok(())
+}
+
+/// The requests of lines.
+fn requests(alloc: Global, lines: &str) -> Result<Vec<Request>, Fail> {
+    let mut list = Vec::new(alloc);
+    for line in lines.split('\n') {
+        add(alloc, &mut list, line)?;
+    }
+    Ok(list)
+}
+
+/// The text of a reply is the one behind the arrow, where a semicolon stands for the end of a line.
+fn tells(rt: &impl Abort, alloc: Global, reply: &Reply, line: &str) -> Result<(), Fail> {
+    let (_, wanted) = line.split_once(" -> ").ok_or("an arrow")?;
+    let told = format!(in alloc; "{reply}")?.replace(alloc, '\n', "; ")?;
+    assert!(rt; told.as_str() == wanted, "{line}: {told}");
+    Ok(())
+}
+
+/// The lines are run as one list: each answer that came is the expected one. The fault that ended the list, and how many
+/// answers there were before it.
+pub fn runs<S: Alter>(
+    rt: &impl Abort,
+    alloc: Global,
+    desk: &mut Desk<S>,
+    lines: &str,
+) -> Result<(usize, Option<Fault>), Fail> {
+    let (replies, fault) = run(desk, alloc, &requests(alloc, lines)?);
+    for (reply, line) in replies.iter().zip(lines.split('\n')) {
+        tells(rt, alloc, reply, line)?;
+    }
+    Ok((replies.len(), fault))
+}
+
+/// All lines are answered, each by the expected answer.
 pub fn check<S: Alter>(
     rt: &impl Abort,
     alloc: Global,
     desk: &mut Desk<S>,
-    rows: &[Said],
+    lines: &str,
 ) -> Result<(), Fail> {
-    for (name, text, answer) in rows {
-        let line = say(desk, alloc, name, text)?;
-        assert_eq!(rt; line.strip_suffix('\n'), Some(*answer), "at {text}");
-    }
+    let (answered, fault) = runs(rt, alloc, desk, lines)?;
+    assert!(rt; answered == lines.split('\n').count() && fault == None);
     Ok(())
 }
 
-/// The desk of a new library.
-pub fn new_desk(alloc: Global) -> Result<Desk<MemStore>, Fail> {
-    Ok(in_memory(alloc)?)
+/// Has the small library's requests answered.
+pub fn fill<S: Alter>(rt: &impl Abort, alloc: Global, desk: &mut Desk<S>) -> Result<(), Fail> {
+    check(rt, alloc, desk, GROUND)
 }
 
 /// The desk of the small library.
 pub fn ground(rt: &impl Abort, alloc: Global) -> Result<Desk<MemStore>, Fail> {
-    let mut desk = new_desk(alloc)?;
-    check(rt, alloc, &mut desk, &GROUND)?;
+    let mut desk = in_memory(alloc)?;
+    fill(rt, alloc, &mut desk)?;
     Ok(desk)
-}
-
-/// How many rows a text shows.
-pub fn count(desk: Desk<MemStore>, sql: &str) -> Result<u32, Fail> {
-    let mut conn = connection(desk);
-    Ok(conn.query_row(sql, &[])?.get(0)?)
 }
 
 /// The desk over the same tables, opened again.
@@ -123,88 +149,28 @@ pub fn opened<S: Alter + Drop>(conn: Connection<S>) -> Result<Desk<S>, Fail> {
     Ok(desk_over(open(conn)?)?)
 }
 
-/// The desk over the same tables, with rows that were written past it.
-pub fn written(desk: Desk<MemStore>, texts: &[&str]) -> Result<Desk<MemStore>, Fail> {
-    let mut conn = connection(desk);
-    for text in texts {
-        conn.execute(text, &[])?;
-    }
-    opened(conn)
-}
-
-/// The command of the words.
-fn command_of(alloc: Global, text: &str) -> Result<Command, Fail> {
-    let words = words_of(alloc, text)?;
-    match read_words(alloc, &words) {
-        Ok(command) => Ok(command),
-        Err(_) => Err("words that are understood".into()),
-    }
-}
-
-/// A request of the desk by its words.
-pub fn request(alloc: Global, name: &str, text: &str) -> Result<Request, Fail> {
-    let command = command_of(alloc, text)?;
-    Ok(Request {
-        caller: Caller::Desk,
-        key: key(alloc, name)?,
-        command,
-    })
-}
-
-/// The text that answers a request, or its fault.
-pub fn answer<S: Alter>(
-    desk: &mut Desk<S>,
-    alloc: Global,
-    request: &Request,
-) -> Result<String, Fail> {
-    match handle(desk, alloc, request) {
-        Ok(reply) => Ok(format!(in alloc; "{reply}")?),
-        Err(fault) => Ok(format!(in alloc; "fault {fault}")?),
-    }
-}
-
-/// Adds a request to a list.
-pub fn add(list: &mut Vec<Request>, request: Request) -> Result<(), Fail> {
-    list.push(request)?;
-    Ok(())
-}
-
-/// The replies to a list of requests that is run with no fault.
-pub fn replies(
-    desk: &mut Desk<MemStore>,
-    alloc: Global,
-    requests: &[Request],
-) -> Result<Vec<Reply>, Fail> {
-    match run(desk, alloc, requests) {
-        Ok(replies) => Ok(replies),
-        Err(fault) => Err(format!(in alloc; "fault {fault}")?.into()),
-    }
-}
-
 /// Adds a value and a bar to a text.
 fn add_value(alloc: Global, text: &mut String, value: ValueRef<'_>) -> Result<(), Fail> {
-    let one = match value {
-        ValueRef::Int(number) => format!(in alloc; "{number}|")?,
-        ValueRef::Text(bytes) => {
-            let words = std::str::from_utf8(bytes)?;
-            format!(in alloc; "{words}|")?
-        }
-        ValueRef::Null => format!(in alloc; "none|")?,
+    match value {
+        ValueRef::Int(number) => text.push_str(format!(in alloc; "{number}")?.as_str())?,
+        ValueRef::Text(bytes) => text.push_str(std::str::from_utf8(bytes)?)?,
+        ValueRef::Null => text.push_str("none")?,
         _ => return Err("a value of no column".into()),
-    };
-    text.push_str(one.as_str())?;
+    }
+    text.push('|')?;
     Ok(())
 }
 
-/// Adds all rows that a text of SQL shows to a text.
+/// Adds all rows of a table to a text.
 fn add_rows<S: Alter>(
     alloc: Global,
     text: &mut String,
     conn: &mut Connection<S>,
-    sql: &str,
+    table: &str,
 ) -> Result<(), Fail> {
     text.push('\n')?;
-    for row in &conn.query_all(sql, &[])? {
+    let sql = format!(in alloc; "SELECT * FROM {table}")?;
+    for row in &conn.query_all(&sql, &[])? {
         for at in 0..row.column_count() {
             add_value(alloc, text, row.get_ref(at)?)?;
         }
@@ -216,8 +182,8 @@ fn add_rows<S: Alter>(
 /// All rows of all tables, as one text.
 pub fn rows<S: Alter>(alloc: Global, conn: &mut Connection<S>) -> Result<String, Fail> {
     let mut text = String::new(alloc);
-    for sql in TABLES {
-        add_rows(alloc, &mut text, conn, sql)?;
+    for table in TABLES.split(' ') {
+        add_rows(alloc, &mut text, conn, table)?;
     }
     Ok(text)
 }

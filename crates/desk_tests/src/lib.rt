@@ -1,13 +1,9 @@
-//! Tests of the desk as a whole, in a crate of their own, so that the crates below are proved once: requests by words,
-//! reports, copies files, lines that are cut, every reply and refusal, every pair of requests, limits on steps, and stops.
+//! Tests of the desk that the program on files cannot show, in a crate of their own, so that the crates below are proved once:
+//! lists of requests, callers that are patrons, all rows, limits on steps, stops, and readers and writers that fail.
 #![tactic(auto)]
 
 #[cfg(test)]
-mod answers;
-#[cfg(test)]
 mod calls;
-#[cfg(test)]
-mod copies_files;
 #[cfg(test)]
 mod cut_lines;
 #[cfg(test)]
@@ -15,14 +11,6 @@ mod ground;
 #[cfg(test)]
 mod limits;
 #[cfg(test)]
-mod movements;
-#[cfg(test)]
-mod pairs;
-#[cfg(test)]
-mod reports;
-#[cfg(test)]
-mod shown;
+mod lists;
 #[cfg(test)]
 mod stops;
-#[cfg(test)]
-mod words;

@@ -1,9 +1,9 @@
 //! Stops: a fuse in one of the two files of a library blows in the midst of a check-out.
 
 use crate::calls::{
-    close, connection_of, create_files, desk_over, into_files, open_files, restart, store,
+    close, connection_of, create_files, desk_over, handle, into_files, open_files, restart, store,
 };
-use crate::ground::{GROUND, answer, check, opened, request, rows};
+use crate::ground::{check, fill, opened, request, rows};
 use sqlite::{Alter, Connection, FileStore, Files, Options};
 use sqlite_disk::{Crash, Disk, Fuse, Memory};
 use std::alloc::Global;
@@ -37,7 +37,7 @@ fn filled_in<D: Disk + Drop>(
     files: Files<D>,
 ) -> Result<Files<D>, Fail> {
     let mut desk = desk_over(create_files(alloc, files, options())?)?;
-    check(rt, alloc, &mut desk, &GROUND)?;
+    fill(rt, alloc, &mut desk)?;
     Ok(close(store(desk)).ok_or("a close")?)
 }
 
@@ -110,8 +110,11 @@ fn lent<D: Disk + Drop>(
     files: Files<D>,
 ) -> Result<(String, Store<FileStore<D>>), Fail> {
     let mut desk = desk_over(open_files(alloc, files, options())?)?;
-    let lending = request(alloc, "k1", "check-out 1 10 1")?;
-    let told = answer(&mut desk, alloc, &lending)?;
+    let lending = request(alloc, "desk k1 check-out 1 10 1")?;
+    let told = match handle(&mut desk, alloc, &lending) {
+        Ok(reply) => format!(in alloc; "{reply}")?,
+        Err(fault) => format!(in alloc; "fault {fault}")?,
+    };
     Ok((told, store(desk)))
 }
 
@@ -189,10 +192,10 @@ fn repeated<S: Alter + Drop>(
     conn: Connection<S>,
 ) -> Result<(), Fail> {
     let mut desk = opened(conn)?;
-    let lending = [("k1", "check-out 1 10 1", "0 loan 1 due 2026-03-09")];
-    check(rt, alloc, &mut desk, &lending)?;
+    let lending = "desk k1 check-out 1 10 1 -> loan 1 due 2026-03-09";
+    check(rt, alloc, &mut desk, lending)?;
     let (found, after) = (shown(alloc, store(desk))?, after(alloc)?);
-    assert_eq!(rt; found.as_str(), after.as_str());
+    assert!(rt; found.as_str() == after.as_str());
     Ok(())
 }
 

@@ -1,0 +1,112 @@
+//! Lists of requests, by the desk and by patrons; a patron's own page; all rows; and what is opened or made.
+
+use crate::calls::{connection, counts, create, open, page, store};
+use crate::ground::{check, ground, opened, runs};
+use desk::Desk;
+use sqlite::{Alter, Connection, MemStore};
+use std::alloc::Global;
+use std::process::Abort;
+use std::test::Fail;
+use terms::{CardKey, Fault, PatronId};
+
+/// What patrons ask for once copy 10 is lent to patron 1, and copies 20 and 30 are on the shelf.
+const ASKED: &str = "desk a1 check-out 1 10 1 -> loan 1 due 2026-03-09
+1/cardkey00001 m1 check-out 1 20 2 -> refused 81
+1/cardkey00002 m1 check-out 1 20 2 -> refused 81
+8/cardkey00001 m1 check-out 1 20 2 -> refused 81
+2/cardkey00002 m1 place-hold 3 100 1 -> refused 81
+2/cardkey00003 m1 place-hold 2 100 1 -> refused 81
+8/cardkey00002 m1 place-hold 8 100 1 -> refused 81
+2/cardkey00002 m1 pay 2 1 -> refused 81
+2/cardkey00002 m1 place-hold 2 100 1 -> hold 1
+2/cardkey00002 m1 place-hold 2 100 1 -> hold 1
+2/cardkey00002 m1 page 2 -> patron 2 owed 0 name Bo Carr; hold 1 at 1 waiting title 100 Rivers of the North
+2/cardkey00002 m1 page 3 -> refused 81
+8/cardkey00002 m1 page 8 -> refused 81
+2/cardkey00002 m1 place-hold 2 100 2 -> refused 80
+2/cardkey00002 m1 cancel-hold 1 -> refused 80
+3/cardkey00003 m1 cancel-hold 1 -> refused 15
+3/cardkey00003 m1 renew 1 -> refused 14
+3/cardkey00003 m2 cancel-hold 9 -> refused 15
+1/cardkey00001 m1 renew 1 -> refused 36
+2/cardkey00002 m2 cancel-hold 1 -> ok
+2/cardkey00002 m3 renew 1 -> refused 14
+2/cardkey00002 m3 renew 9 -> refused 14
+1/cardkey00001 m1 renew 1 -> loan 1 due 2026-03-16
+desk m1 close-day 1 2026-12-24 -> ok
+desk m2 check-out 2 20 2 -> loan 2 due 2026-03-10
+desk m3 check-in 30 2 -> fine 0 transit 1
+desk m4 begin-day 2026-03-11 -> ok
+desk m5 check-in 20 2 -> fine 20 shelf 2";
+
+/// A patron who shows this card key is shown this text.
+fn shows<S: Alter>(
+    rt: &impl Abort,
+    alloc: Global,
+    desk: &mut Desk<S>,
+    (patron, card_key, text): (u32, &str, &str),
+) -> Result<(), Fail> {
+    let shown = CardKey::new(alloc, card_key)?.ok_or("a card key")?;
+    let reply = page(desk, alloc, PatronId::new(patron), &shown)?;
+    assert!(rt; format!(in alloc; "{reply}")?.as_str() == text, "{text}");
+    Ok(())
+}
+
+/// Patrons are answered, and shown their own pages.
+fn serves<S: Alter>(rt: &impl Abort, alloc: Global, desk: &mut Desk<S>) -> Result<(), Fail> {
+    check(rt, alloc, desk, ASKED)?;
+    let own =
+        "patron 1 owed 0 name Ann Bell\nloan 1 due 2026-03-16 renewals 0 title 100 Rivers of the North";
+    shows(rt, alloc, desk, (1, "cardkey00001", own))?;
+    shows(rt, alloc, desk, (1, "cardkey00002", "refused 81"))?;
+    shows(rt, alloc, desk, (8, "cardkey00001", "refused 81"))
+}
+
+#[test]
+fn serves_patrons_their_own(rt: HostRuntime) -> Result<(), Fail> {
+    let alloc = rt.alloc();
+    let mut desk = ground(&rt, alloc)?;
+    serves(&rt, alloc, &mut desk)?;
+    let found = counts(&mut store(desk), alloc)?;
+    // next loan; branches, closed days, kinds, rules, patrons, titles, copies; loans, holds, transits, lines; kept, and by patrons
+    assert!(rt; found == [3, 2, 1, 1, 2, 3, 3, 4, 2, 1, 1, 1, 24, 3]);
+    Ok(())
+}
+
+/// Requests of which the third finds a damaged row.
+const ENDED: &str = "desk a1 check-out 1 10 1 -> loan 1 due 2026-03-09
+desk a2 check-out 9 11 1 -> refused 11
+desk a3 check-out 2 11 1 -> none
+desk a4 begin-day 2026-03-03 -> none";
+
+/// The desk over rows of which patron 2's is damaged.
+fn damaged(mut conn: Connection<MemStore>) -> Result<Desk<MemStore>, Fail> {
+    conn.execute("UPDATE patrons SET kind = 100 WHERE patron = 2", &[])?;
+    opened(conn)
+}
+
+#[test]
+fn a_list_ends_at_a_fault_after_the_replies_before_it(rt: HostRuntime) -> Result<(), Fail> {
+    let alloc = rt.alloc();
+    let mut desk = damaged(connection(ground(&rt, alloc)?))?;
+    let (answered, fault) = runs(&rt, alloc, &mut desk, ENDED)?;
+    assert!(rt; answered == 2 && fault == Some(Fault::Stored));
+    Ok(())
+}
+
+/// An empty database with a transaction under way.
+fn begun(alloc: Global) -> Result<Connection<MemStore>, Fail> {
+    let mut conn = Connection::open_in_memory(alloc)?;
+    conn.execute("BEGIN", &[])?;
+    Ok(conn)
+}
+
+#[test]
+fn makes_no_second_library_and_opens_none_that_is_not_there(rt: HostRuntime) -> Result<(), Fail> {
+    let alloc = rt.alloc();
+    assert!(rt; create(connection(ground(&rt, alloc)?)).err() == Some(Fault::Database));
+    assert!(rt; create(begun(alloc)?).err() == Some(Fault::Database));
+    assert!(rt; open(begun(alloc)?).err() == Some(Fault::Database));
+    assert!(rt; open(Connection::open_in_memory(alloc)?).err() == Some(Fault::Stored));
+    Ok(())
+}

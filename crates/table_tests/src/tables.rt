@@ -1,0 +1,165 @@
+//! Selections and lists over a small library, by answers worked out by hand, and rows that were damaged past the calls. All other calls
+//! are those that the program makes, and are tested with it. What holds the connection has few ends, since each would let it go: the
+//! work is done by functions that borrow it.
+
+use crate::calls::*;
+use calendar::Day;
+use sqlite::{Alter, Connection, Error, MemStore, Transaction};
+use std::alloc::Global;
+use std::process::Abort;
+use std::test::Fail;
+use terms::{BranchId, CopyId, Fault, HoldId, TransitRow};
+
+/// Rows of the tables that are asked, the greatest key first. Of the loans of copy 10 one is over, and two are open; of title 100's line
+/// the first hold's copy travels.
+const ROWS: &str = "\
+INSERT INTO closed_days VALUES (3, 20795), (2, 20800), (1, 20810), (1, 20801), (1, 20795);\
+INSERT INTO copies VALUES (15, 100, 4, 1, 2500, 0), (14, 101, 4, 1, 2500, 0), (13, 102, 4, 1, 2500, 0), (12, 101, 4, 1, 2500, 0), (11, 100, 4, 1, 2500, 0), (10, 100, 4, 1, 2500, 2);\
+INSERT INTO loans VALUES (9, 11, 1, 1, 20700, 20708, 21, 3, 20, 1000, NULL), (8, 13, 2, 1, 20700, 20709, 21, 3, 20, 1000, 20704), (7, 13, 2, 2, 20700, 20712, 21, 3, 20, 1000, NULL), (6, 12, 1, 1, 20700, 20711, 21, 3, 20, 1000, NULL), (5, 12, 2, 2, 20700, 20711, 21, 3, 20, 1000, 20711), (4, 11, 1, 1, 20700, 20710, 21, 3, 20, 1000, NULL), (3, 10, 1, 2, 20700, 20706, 21, 3, 20, 1000, NULL), (2, 10, 2, 1, 20700, 20705, 21, 3, 20, 1000, NULL), (1, 10, 1, 1, 20700, 20705, 21, 3, 20, 1000, 20706);\
+INSERT INTO holds VALUES (11, 3, 102, 2, 1, 13, 20760), (10, 2, 100, 2, 0, NULL, NULL), (9, 1, 102, 2, 0, NULL, NULL), (8, 1, 102, 1, 2, NULL, NULL), (7, 2, 101, 1, 0, NULL, NULL), (6, 2, 101, 1, 3, NULL, NULL), (5, 1, 101, 2, 1, 14, 20760), (4, 1, 100, 2, 0, NULL, NULL), (3, 2, 100, 2, 0, NULL, NULL), (2, 2, 100, 1, 1, 15, 20760), (1, 1, 100, 1, 4, NULL, NULL);\
+INSERT INTO transits VALUES (19, 1, NULL), (18, 2, 9), (17, 1, NULL), (16, 2, 3);\
+INSERT INTO lines VALUES (6, 1, 20704, 2, 150, NULL), (5, 1, 20706, 3, 150, NULL), (4, 1, 20705, 3, 150, NULL), (3, 1, 20706, 2, 150, NULL), (2, 1, 20704, 1, 150, 8), (1, 1, 20706, 0, 150, 1)";
+
+fn database(_error: Error) -> Fault {
+    Fault::Database
+}
+
+fn begin<S: Alter>(conn: &mut Connection<S>) -> Result<Transaction<'_, S>, Fault> {
+    if conn.is_autocommit() {
+        Ok(conn.transaction())
+    } else {
+        Err(Fault::Closed)
+    }
+}
+
+/// Runs the texts that semicolons part.
+fn write<S: Alter>(conn: &mut Connection<S>, texts: &str) -> Result<(), Fault> {
+    for text in texts.split(';') {
+        conn.execute(text, &[]).map_err(database)?;
+    }
+    Ok(())
+}
+
+fn make<S: Alter>(conn: &mut Connection<S>) -> Result<(), Fault> {
+    let mut tx = begin(conn)?;
+    make_tables(&mut tx)?;
+    tx.commit().map_err(database)
+}
+
+/// A library with the rows.
+fn filled(alloc: Global) -> Result<Connection<MemStore>, Fault> {
+    let mut conn = Connection::open_in_memory(alloc)?;
+    make(&mut conn)?;
+    write(&mut conn, ROWS)?;
+    Ok(conn)
+}
+
+fn day(number: u32) -> Result<Day, Fault> {
+    Day::new(number).ok_or(Fault::Stored)
+}
+
+/// The list has these numbers in this order.
+fn lists(rt: &impl Abort, found: Vec<u32>, wanted: &[u32]) {
+    assert!(rt; found.as_slice() == wanted);
+}
+
+fn finds_loans<S: Alter>(
+    rt: &impl Abort,
+    conn: &mut Connection<S>,
+    alloc: Global,
+) -> Result<(), Fail> {
+    assert!(rt; open_loan_of(conn, 10)? == Some(2));
+    assert!(rt; open_loan_of(conn, 15)? == None);
+    assert!(rt; open_loan_of_title(conn, 1, 100)? == Some(3));
+    assert!(rt; open_loan_of_title(conn, 2, 101)? == None);
+    assert!(rt; count_open_loans(conn, 1)? == 4);
+    lists(rt, open_loans_by(conn, alloc, 1)?, &[3, 4, 6, 9]);
+    lists(
+        rt,
+        overdue_loans_at(conn, alloc, 1, day(20_711)?)?,
+        &[2, 4, 9],
+    );
+    Ok(())
+}
+
+fn finds_holds<S: Alter>(
+    rt: &impl Abort,
+    conn: &mut Connection<S>,
+    alloc: Global,
+) -> Result<(), Fail> {
+    assert!(rt; ready_hold_of(conn, 14)? == Some(5));
+    assert!(rt; ready_hold_of(conn, 10)? == None);
+    assert!(rt; first_in_line(conn, 100)? == Some(4));
+    assert!(rt; first_in_line(conn, 101)? == Some(7));
+    assert!(rt; transit_for(conn, 3)? == Some(16));
+    assert!(rt; transit_for(conn, 4)? == None);
+    assert!(rt; count_active_holds(conn, 1)? == 3);
+    assert!(rt; count_active_holds_on(conn, 2, 100)? == 3);
+    lists(rt, active_holds_by(conn, alloc, 1)?, &[4, 5, 9]);
+    lists(rt, ready_holds_at(conn, alloc, 2)?, &[5, 11]);
+    Ok(())
+}
+
+/// A second transit for the hold of another is refused by the database.
+fn refuses_a_second<S: Alter>(conn: &mut Connection<S>) -> Result<bool, Fault> {
+    let second = TransitRow {
+        copy: CopyId::new(17),
+        goal: BranchId::new(2),
+        hold: Some(HoldId::new(9)),
+    };
+    let mut tx = begin(conn)?;
+    let is_refused = put_transit(&mut tx, &second) == Err(Fault::Database);
+    tx.commit().map_err(database)?;
+    Ok(is_refused)
+}
+
+fn finds_days<S: Alter>(
+    rt: &impl Abort,
+    conn: &mut Connection<S>,
+    alloc: Global,
+) -> Result<(), Fail> {
+    lists(rt, lines_of(conn, alloc, day(20_706)?)?, &[1, 3, 5]);
+    assert!(rt; get_line(conn, 4)? == Some(4));
+    assert!(rt; get_line(conn, 7)? == None);
+    lists(
+        rt,
+        closed_days_of(conn, alloc, 1)?,
+        &[20_795, 20_801, 20_810],
+    );
+    assert!(rt; has_closed_day(conn, BranchId::new(2), day(20_800)?)?);
+    assert!(rt; !has_closed_day(conn, BranchId::new(2), day(20_801)?)?);
+    Ok(())
+}
+
+/// Days past their limits: of a loan, of a ready hold, and a closed day.
+const DAMAGE: &str = "UPDATE loans SET due = 84006 WHERE loan = 2;\
+UPDATE holds SET limit_day = 84006 WHERE hold = 5;UPDATE closed_days SET day = 10956 WHERE branch = 2";
+
+fn tells_damage<S: Alter>(
+    rt: &impl Abort,
+    conn: &mut Connection<S>,
+    alloc: Global,
+) -> Result<(), Fail> {
+    write(conn, DAMAGE)?;
+    assert!(rt; open_loan_of(conn, 10) == Err(Fault::Stored));
+    assert!(rt; ready_hold_of(conn, 14) == Err(Fault::Stored));
+    assert!(rt; open_loans_by(conn, alloc, 2).err() == Some(Fault::Stored));
+    assert!(rt; closed_days_of(conn, alloc, 2).err() == Some(Fault::Stored));
+    assert!(rt; count_open_loans(conn, 2)? == 2);
+    Ok(())
+}
+
+/// All that is looked at, the damage last.
+fn looks<S: Alter>(rt: &impl Abort, conn: &mut Connection<S>, alloc: Global) -> Result<(), Fail> {
+    finds_loans(rt, conn, alloc)?;
+    finds_holds(rt, conn, alloc)?;
+    finds_days(rt, conn, alloc)?;
+    assert!(rt; refuses_a_second(conn)?);
+    assert!(rt; transit_for(conn, 9)? == Some(18));
+    tells_damage(rt, conn, alloc)
+}
+
+#[test]
+fn selects_rows_and_tells_damaged_ones(rt: HostRuntime) -> Result<(), Fail> {
+    looks(&rt, &mut filled(rt.alloc())?, rt.alloc())
+}
