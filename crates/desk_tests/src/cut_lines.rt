@@ -11,8 +11,8 @@ use std::process::Abort;
 use std::test::Fail;
 use terms::{BranchId, Day};
 
-/// A header and three rows of copies.
-const BEES: &str =
+/// A header and three rows of copies, of two titles.
+pub const BEES: &str =
     "copy,title,text,kind,home,price,end\n50,500,\"Maps, Old and New\",1,1,1500,end\n51,500,\"Maps, Old and New\",1,2,1500,end\n52,501,Winter Bees,2,1,700,end\n";
 
 /// A writer that takes so many bytes, and then fails.

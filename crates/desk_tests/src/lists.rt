@@ -1,6 +1,7 @@
 //! Lists of requests, by the desk and by patrons; a patron's own page; all rows; and what is opened or made.
 
-use crate::calls::{connection, counts, create, open, page, store};
+use crate::calls::{connection, counts, create, import, open, page, store};
+use crate::cut_lines::BEES;
 use crate::ground::{check, ground, opened, runs};
 use desk::Desk;
 use sqlite::{Alter, Connection, MemStore};
@@ -70,6 +71,20 @@ fn serves_patrons_their_own(rt: HostRuntime) -> Result<(), Fail> {
     let found = counts(&mut store(desk), alloc)?;
     // next loan; branches, closed days, kinds, rules, patrons, titles, copies; loans, holds, transits, lines; kept, and by patrons
     assert!(rt; found == [3, 2, 1, 1, 2, 3, 3, 4, 2, 1, 1, 1, 24, 3]);
+    Ok(())
+}
+
+/// What the small library has once a copies file was taken in.
+fn counts_with_rows(alloc: Global, mut desk: Desk<MemStore>) -> Result<[usize; 14], Fail> {
+    let mut told: Vec<u8> = Vec::new(alloc);
+    import(&mut desk, alloc, BEES.as_bytes(), &mut told)?;
+    Ok(counts(&mut store(desk), alloc)?)
+}
+
+#[test]
+fn gives_all_rows_with_the_keys_of_a_copies_file(rt: HostRuntime) -> Result<(), Fail> {
+    let found = counts_with_rows(rt.alloc(), ground(&rt, rt.alloc())?)?;
+    assert!(rt; found == [1, 2, 0, 1, 2, 3, 5, 7, 0, 0, 0, 0, 18, 0]);
     Ok(())
 }
 
