@@ -1,0 +1,212 @@
+//! The steps of the hall, one after another, and what they make.
+
+ghost use Rattle.std.specs.Prelude.{◌≡◌, ◌++◌, ◌∷◌, ◌<◌, ◌^◌, OnErr, OnOk};
+ghost use Rattle.std.specs.Prelude.{[], count_by, length, set, slice_index_or, take, true};
+ghost use Rattle.hall_schedule.specs.Schedules.{lists_of, state_of, list_at, seen_at, is_of};
+ghost use Rattle.hall_schedule.specs.Schedules.{is_worker, may_submit, submitted_by};
+ghost use Rattle.hall_schedule.specs.Schedules.{start, step, run, IsLawful};
+
+use std::alloc::{AllocError, Global};
+use std::collections::VecDeque;
+
+/// How many workers there are at most.
+const WORKERS: u64 = 8;
+
+/// How many submissions the queue holds.
+const PLACES: usize = 8;
+
+/// One step of a worker or of the desk.
+#[derive(Clone, Copy, Debug, PartialEq, Eq)]
+pub enum Event {
+    /// This worker, 1 to 8, puts this request at the end of the queue.
+    Submit(u64, u64),
+    /// The desk handles the request at the front of the queue.
+    Handle,
+    /// The board shows what was handled so far.
+    Publish,
+    /// This worker looks at the board.
+    Look(u64),
+}
+
+/// A submission.
+#[derive(Clone, Copy, Debug, PartialEq, Eq)]
+pub struct Item {
+    pub worker: u64,
+    pub request: u64,
+    /// How many handled submissions the worker had seen when it submitted this one.
+    pub seen: usize,
+}
+
+/// What a schedule has made.
+#[derive(Drop)]
+pub struct World {
+    /// How many events were taken.
+    pub taken: usize,
+    /// What each worker submitted, in order; worker 1 first.
+    pub submitted: [Vec<u64>; 8],
+    /// What waits for the desk; the next one first.
+    pub queue: VecDeque<Item>,
+    /// What was handled, in order.
+    pub handled: Vec<Item>,
+    /// How many handled submissions the board shows.
+    pub published: usize,
+    /// How many of them each worker has seen; worker 1 first.
+    pub seen: [usize; 8],
+}
+
+/// Whether there is such a worker.
+fn has_worker(worker: u64) -> bool
+    ensures { result ≡ is_worker worker }
+{
+    1 <= worker && worker <= WORKERS
+}
+
+/// Adds a request to one of the lists.
+fn put(lists: &mut [Vec<u64>], place: usize, request: u64) -> Result<(), AllocError>
+    requires { place < length lists.old }
+    ensures ok { OnOk result (lists_of lists.new
+        ≡ set (lists_of lists.old) place
+        (slice_index_or (lists_of lists.old) place [] ++ request ∷ [])) }
+    ensures err { OnErr result (lists_of lists.new ≡ lists_of lists.old) }
+{
+    let list = &mut lists[place];
+    list.reserve(1)?;
+    list.push_reserved(request);
+    Ok(())
+}
+
+impl World {
+    /// Before the first event.
+    fn new(alloc: Global) -> World
+        ensures { state_of result ≡ start }
+    {
+        World {
+            taken: 0,
+            submitted: [
+                Vec::new(alloc),
+                Vec::new(alloc),
+                Vec::new(alloc),
+                Vec::new(alloc),
+                Vec::new(alloc),
+                Vec::new(alloc),
+                Vec::new(alloc),
+                Vec::new(alloc),
+            ],
+            queue: VecDeque::new(alloc),
+            handled: Vec::new(alloc),
+            published: 0,
+            seen: [0; 8],
+        }
+    }
+
+    /// How many of its own submissions the worker has seen handled.
+    fn seen_handled(&self, worker: u64) -> usize
+        requires { is_worker worker ≡ true }
+        ensures { result ≡ count_by (is_of worker)
+            (take (seen_at (state_of self.now) worker) self.now.handled.items) }
+    {
+        let seen = self.seen[(worker - 1) as usize];
+        self.handled
+            .iter()
+            .take(seen)
+            .filter(|item| item.worker == worker)
+            .count()
+    }
+
+    /// How many requests the worker submitted.
+    fn count_submitted(&self, worker: u64) -> usize
+        requires { is_worker worker ≡ true }
+        ensures { result ≡ length (list_at (state_of self.now) worker) }
+    {
+        self.submitted[(worker - 1) as usize].len()
+    }
+
+    /// Whether there is such a worker and a free place, and the worker has seen handled all that it
+    /// submitted.
+    fn may_submit(&self, worker: u64) -> bool
+        ensures { result ≡ may_submit (state_of self.now) worker }
+    {
+        has_worker(worker)
+            && self.queue.len() < PLACES
+            && self.seen_handled(worker) == self.count_submitted(worker)
+    }
+
+    /// Puts a request of the worker at the end of the queue. At `Err` nothing is changed.
+    fn submit(&mut self, worker: u64, request: u64) -> Result<(), AllocError>
+        requires worker { is_worker worker ≡ true }
+        requires room { self.old.taken < 2 ^ 63 }
+        ensures ok { OnOk result
+            (state_of self.new ≡ submitted_by (state_of self.old) worker request) }
+        ensures err { OnErr result (state_of self.new ≡ state_of self.old) }
+    {
+        let place = (worker - 1) as usize;
+        let seen = self.seen[place];
+        self.queue.reserve(1)?;
+        put(&mut self.submitted, place, request)?;
+        self.queue.push_back_reserved(Item {
+            worker,
+            request,
+            seen,
+        });
+        self.taken += 1;
+        Ok(())
+    }
+
+    /// Moves the front of the queue to the end of the handled list. At `Err` nothing is changed.
+    fn handle(&mut self) -> Result<(), AllocError>
+        requires room { self.old.taken < 2 ^ 63 }
+        ensures ok { OnOk result (state_of self.new ≡ step (state_of self.old) Event.Handle) }
+        ensures err { OnErr result (state_of self.new ≡ state_of self.old) }
+    {
+        self.handled.reserve(1)?;
+        if let Some(item) = self.queue.pop_front() {
+            self.handled.push_reserved(item);
+        }
+        self.taken += 1;
+        Ok(())
+    }
+
+    /// Takes one event. One that cannot be changes nothing but how many were taken. At `Err`
+    /// nothing is changed.
+    fn take(&mut self, event: Event) -> Result<(), AllocError>
+        requires room { self.old.taken < 2 ^ 63 }
+        ensures ok { OnOk result (state_of self.new ≡ step (state_of self.old) event) }
+        ensures err { OnErr result (state_of self.new ≡ state_of self.old) }
+    {
+        match event {
+            Event::Submit(worker, request) => {
+                if self.may_submit(worker) {
+                    return self.submit(worker, request);
+                }
+            }
+            Event::Handle => return self.handle(),
+            Event::Publish => self.published = self.handled.len(),
+            Event::Look(worker) => {
+                if has_worker(worker) {
+                    self.seen[(worker - 1) as usize] = self.published;
+                }
+            }
+        }
+        self.taken += 1;
+        Ok(())
+    }
+}
+
+/// What the schedule makes: of its first `taken` events, which are all of them as long as memory
+/// lasts.
+///
+/// Whatever the schedule is, what was handled and then what is queued is one list in which each
+/// worker's submissions stand in the order in which it submitted them; see `specs/Schedules`.
+pub fn replay(alloc: Global, events: &[Event]) -> World
+    ensures world { state_of result ≡ run (take result.taken events.now) }
+    ensures lawful { IsLawful (state_of result) }
+{
+    let mut world = World::new(alloc);
+    for event in events {
+        match world.take(*event) {
+            Ok(()) => {}
+            Err(_) => return world,
+        }
+    }
+    world
+}

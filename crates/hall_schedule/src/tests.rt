@@ -1,0 +1,213 @@
+//! Schedules with the worlds that they make, worked by hand.
+
+use crate::Event::{Handle, Look, Publish, Submit};
+use crate::{Event, Item, World, replay};
+use std::test::Fail;
+
+/// A worker, its request, and how many it had seen.
+type Placed = (u64, u64, usize);
+
+/// A schedule, and what it makes.
+struct Worked {
+    events: &'static [Event],
+    submitted: [&'static [u64]; 8],
+    queue: &'static [Placed],
+    handled: &'static [Placed],
+    published: usize,
+    seen: [usize; 8],
+}
+
+const WORKED: [Worked; 8] = [
+    // two workers submit one each
+    Worked {
+        events: &[
+            Submit(1, 7),
+            Submit(2, 8),
+            Handle,
+            Publish,
+            Look(1),
+            Handle,
+            Look(2),
+        ],
+        submitted: [&[7], &[8], &[], &[], &[], &[], &[], &[]],
+        queue: &[],
+        handled: &[(1, 7, 0), (2, 8, 0)],
+        published: 1,
+        seen: [1, 1, 0, 0, 0, 0, 0, 0],
+    },
+    // who has not seen the last one handled can submit nothing
+    Worked {
+        events: &[
+            Submit(1, 7),
+            Submit(2, 8),
+            Handle,
+            Publish,
+            Look(1),
+            Handle,
+            Look(2),
+            Submit(1, 9),
+            Submit(2, 10),
+        ],
+        submitted: [&[7, 9], &[8], &[], &[], &[], &[], &[], &[]],
+        queue: &[(1, 9, 1)],
+        handled: &[(1, 7, 0), (2, 8, 0)],
+        published: 1,
+        seen: [1, 1, 0, 0, 0, 0, 0, 0],
+    },
+    // what cannot be changes nothing
+    Worked {
+        events: &[Handle, Look(9), Submit(0, 7)],
+        submitted: [&[], &[], &[], &[], &[], &[], &[], &[]],
+        queue: &[],
+        handled: &[],
+        published: 0,
+        seen: [0, 0, 0, 0, 0, 0, 0, 0],
+    },
+    // all eight submit, and the queue is full
+    Worked {
+        events: &[
+            Submit(1, 11),
+            Submit(2, 12),
+            Submit(3, 13),
+            Submit(4, 14),
+            Submit(5, 15),
+            Submit(6, 16),
+            Submit(7, 17),
+            Submit(8, 18),
+            Submit(1, 19),
+            Handle,
+            Handle,
+            Handle,
+            Handle,
+            Handle,
+            Handle,
+            Handle,
+            Handle,
+            Publish,
+            Look(3),
+            Submit(3, 20),
+        ],
+        submitted: [&[11], &[12], &[13, 20], &[14], &[15], &[16], &[17], &[18]],
+        queue: &[(3, 20, 8)],
+        handled: &[
+            (1, 11, 0),
+            (2, 12, 0),
+            (3, 13, 0),
+            (4, 14, 0),
+            (5, 15, 0),
+            (6, 16, 0),
+            (7, 17, 0),
+            (8, 18, 0),
+        ],
+        published: 8,
+        seen: [0, 0, 8, 0, 0, 0, 0, 0],
+    },
+    // handled, but not shown yet
+    Worked {
+        events: &[
+            Submit(4, 7),
+            Handle,
+            Submit(5, 8),
+            Handle,
+            Look(4),
+            Submit(4, 9),
+            Publish,
+            Look(4),
+            Submit(4, 9),
+            Handle,
+        ],
+        submitted: [&[], &[], &[], &[7, 9], &[8], &[], &[], &[]],
+        queue: &[],
+        handled: &[(4, 7, 0), (5, 8, 0), (4, 9, 2)],
+        published: 2,
+        seen: [0, 0, 0, 2, 0, 0, 0, 0],
+    },
+    // handled in the order of the queue, and not of the workers
+    Worked {
+        events: &[Submit(2, 8), Submit(1, 7), Submit(3, 9), Handle, Handle],
+        submitted: [&[7], &[8], &[9], &[], &[], &[], &[], &[]],
+        queue: &[(3, 9, 0)],
+        handled: &[(2, 8, 0), (1, 7, 0)],
+        published: 0,
+        seen: [0, 0, 0, 0, 0, 0, 0, 0],
+    },
+    // one worker alone
+    Worked {
+        events: &[
+            Submit(8, 7),
+            Handle,
+            Publish,
+            Look(8),
+            Submit(8, 8),
+            Handle,
+            Publish,
+            Look(8),
+            Submit(8, 9),
+            Handle,
+        ],
+        submitted: [&[], &[], &[], &[], &[], &[], &[], &[7, 8, 9]],
+        queue: &[],
+        handled: &[(8, 7, 0), (8, 8, 1), (8, 9, 2)],
+        published: 2,
+        seen: [0, 0, 0, 0, 0, 0, 0, 2],
+    },
+    // nothing to show, and workers that there are not
+    Worked {
+        events: &[
+            Publish,
+            Look(1),
+            Look(0),
+            Submit(9, 7),
+            Submit(u64::MAX, 7),
+            Handle,
+            Submit(1, 7),
+            Publish,
+            Look(2),
+        ],
+        submitted: [&[7], &[], &[], &[], &[], &[], &[], &[]],
+        queue: &[(1, 7, 0)],
+        handled: &[],
+        published: 0,
+        seen: [0, 0, 0, 0, 0, 0, 0, 0],
+    },
+];
+
+fn has_lists(world: &World, worked: &Worked) -> bool {
+    world
+        .submitted
+        .iter()
+        .zip(worked.submitted.iter())
+        .all(|(list, wanted)| list.as_slice() == *wanted)
+}
+
+fn is_placed(items: &[Item], placed: &[Placed]) -> bool {
+    items.len() == placed.len()
+        && items.iter().zip(placed.iter()).all(|(item, wanted)| (
+            item.worker,
+            item.request,
+            item.seen,
+        ) == *wanted)
+}
+
+fn is_as_worked(world: &World, worked: &Worked) -> bool {
+    world.taken == worked.events.len()
+        && has_lists(world, worked)
+        && world.queue.len() == worked.queue.len()
+        && world.queue.iter().zip(worked.queue.iter()).all(|(item, wanted)| (
+            item.worker,
+            item.request,
+            item.seen,
+        ) == *wanted)
+        && is_placed(world.handled.as_slice(), worked.handled)
+        && world.published == worked.published
+        && world.seen == worked.seen
+}
+
+#[test]
+fn each_schedule_makes_its_world(rt: HostRuntime) -> Result<(), Fail> {
+    for worked in &WORKED {
+        let world = replay(rt.alloc(), worked.events);
+        assert!(rt; is_as_worked(&world, worked));
+    }
+    Ok(())
+}
