@@ -21,7 +21,7 @@ use Rattle.front.specs.declared.copies.CopyEnd.{CopyEnd}
 use Rattle.front.specs.declared.copies.CopyRow.{CopyRow}
 use Rattle.circ.specs.Importing.{request_of, requests_of, row_line, row_lines, end_line, counts_line, import_lines, end_exit, is_refusal, accepted_in, refused_in, with_row, HandlesOne, HandlesRows, ImportsAll, ImportsSome, ImportsCut}
 use Rattle.circ.specs.Lines.{fault_line}
-use Rattle.circ.proofs.Fronts.{front-after, appends-nothing}
+use Rattle.terms.proofs.Fronts.{front-after, appends-nothing}
 use Rattle.circ.specs.declared.importing.Counts.{Counts}
 use Rattle.circ.specs.declared.lines.Exit.TheVariants.{Faulted}
 

@@ -1,4 +1,5 @@
-pub mod Fronts
+pub mod Ends
 pub mod Said
 pub mod Told
 pub mod Imports
+pub mod Connections

@@ -32,7 +32,7 @@ understood-alone differ words (Ok command) p = λ other q. understood-once diffe
 understood-alone differ words (Err e) p = tt
 
 -- what is kept is left
-still-left : (s : State) (H K : History) → Shows s H → LeavesOneOf s H K
+pub still-left : (s : State) (H K : History) → Shows s H → LeavesOneOf s H K
 still-left s H K shows = λ trees may. let one = shows.tables.left trees may in (one.0, inl one.1, one.2)
 
 module _ {S : Type 0} (g : Ghosts S) (old new : Held S) (key : List ℕ) (words : List (List ℕ)) where

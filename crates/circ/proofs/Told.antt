@@ -18,7 +18,7 @@ use Rattle.circ.specs.declared.arguments.Report.{Report}
 use Rattle.circ.specs.declared.lines.Exit.{Exit}
 use Rattle.circ.specs.declared.lines.Exit.TheVariants.{Done, Refused, Faulted}
 use Rattle.circ.specs.Lines.{reply_line, fault_line}
-use Rattle.circ.proofs.Fronts.{after-nothing, front-after-nothing}
+use Rattle.terms.proofs.Fronts.{after-nothing, front-after-nothing}
 use Rattle.circ.specs.Reporting.{report_text, IsThere, IsUnknown, TellsOf, WritesAnyReport}
 
 module _ {S : Type 0} (g : Ghosts S) (old new : Held S) (report : Report) (WentOut : List ℕ → Type 0) where

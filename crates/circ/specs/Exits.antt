@@ -1,5 +1,5 @@
 -- The statuses that programs end with.
-use Rattle.std.specs.Prelude.{ℕ}
+use Rattle.std.specs.Prelude.{ℕ, ◌==◌, ◌||◌, if◌then◌else◌}
 use Rattle.terms.specs.declared.reply.Reply.{Reply}
 use Rattle.terms.specs.declared.reply.Reply.TheVariants.{Refused as Denied}
 use Rattle.circ.specs.declared.lines.Exit.{Exit}
@@ -16,3 +16,11 @@ status_of NotUnderstood = 4
 abbrev pub exit_of : Reply → Exit
 exit_of (Denied refusal) = Refused
 exit_of _ = Done
+
+-- How a request that was sent ends the program, by the status of its answer.
+abbrev pub exit_for : ℕ → Exit
+exit_for status =
+    if status == 200 then Done
+    else (if status == 403 || status == 409 then Refused
+    else (if status == 400 || (status == 404 || (status == 405 || status == 413))
+    then NotUnderstood else Faulted))

@@ -1,7 +1,6 @@
 -- The lines that the programs write, each with its newline.
-use Rattle.std.specs.Prelude.{◌≡◌, ℕ, List, [], ◌∷◌, ◌++◌, Option, Result, IfOk, OnOk, OnErr, codes, decimal}
-use Rattle.std.specs.Io.KnownBytes.{Appends}
-use Rattle.terms.specs.Writing.{AppendsFront}
+use Rattle.std.specs.Prelude.{◌≡◌, ℕ, List, [], ◌∷◌, ◌++◌, Option, Result, IfOk, codes, decimal}
+use Rattle.terms.specs.Writing.{Writes}
 use Rattle.terms.specs.declared.fault.Fault.{Fault}
 use Rattle.terms.specs.declared.reply.Reply.{Reply}
 use Rattle.terms.specs.Texts.{reply_text, fault_number}
@@ -19,12 +18,9 @@ fault_line fault = codes "fault " ++ decimal (fault_number fault) ++ 10 ∷ []
 abbrev pub not_understood_line : List ℕ
 not_understood_line = codes "words not understood" ++ 10 ∷ []
 
--- The bytes went out; where a write failed, a beginning of them.
--- `before` and `after` are the bytes that the writer showed and shows.
-pub record Writes {T E : Type 0} (bytes : List ℕ) (before after : Option (List ℕ))
-    (result : Result T E) : Type 0 where
-  pub all : OnOk result (Appends before after bytes)
-  pub front : OnErr result (AppendsFront before after bytes)
+-- That a port can't be had, or that no answer came.
+abbrev pub no_network_line : List ℕ
+no_network_line = codes "fault network" ++ 10 ∷ []
 
 -- The line went out, or a beginning of it, and after the line the program ends so.
 pub record EndsWith {E : Type 0} (end : Exit) (line : List ℕ) (before after : Option (List ℕ))

@@ -1,7 +1,7 @@
 //! What a program is asked to do, by its first words.
 
 use std::alloc::Global;
-use terms::{BranchId, Day, Key, Memory, read_number};
+use terms::{BranchId, CardKey, Day, Key, Memory, read_number};
 
 /// What a program is asked to do.
 #[derive(Drop)]
@@ -22,6 +22,21 @@ pub enum Run<'a> {
     Report {
         path: &'a str,
         report: Report,
+    },
+    /// `serve FILE PORT WORKERS EACH DESKKEY`: the web, over the library in a file, for so many
+    /// connections. There is one worker.
+    Serve {
+        path: &'a str,
+        port: u16,
+        each: u32,
+        desk_key: CardKey,
+    },
+    /// `send PORT DESKKEY KEY WORDS..`: one request of the desk, to a program that serves the web.
+    Send {
+        port: u16,
+        desk_key: CardKey,
+        key: Key,
+        words: &'a [String],
     },
 }
 
@@ -87,6 +102,74 @@ fn read_report_run<'a>(words: &'a [String]) -> Option<Run<'a>> {
     })
 }
 
+/// A port: a number from 1 on.
+fn read_port(text: &str) -> Option<u16> {
+    match u16::try_from(read_number(text)?) {
+        Ok(0) | Err(_) => None,
+        Ok(port) => Some(port),
+    }
+}
+
+/// The most connections that a worker serves.
+const MOST_CONNECTIONS: u32 = 1_000_000;
+
+/// How many connections a worker serves: at least one.
+fn read_each(text: &str) -> Option<u32> {
+    let each = read_number(text)?;
+    if each == 0 || each > MOST_CONNECTIONS {
+        return None;
+    }
+    Some(each)
+}
+
+/// The web over a file: exactly a path and four more words follow, and there is one worker.
+fn read_serve<'a>(alloc: Global, words: &'a [String]) -> Result<Option<Run<'a>>, Memory> {
+    let [path, port, workers, each, desk_key] = words else {
+        return Ok(None);
+    };
+    let (Some(port), Some(1), Some(each)) = (
+        read_port(port.as_str()),
+        read_number(workers.as_str()),
+        read_each(each.as_str()),
+    ) else {
+        return Ok(None);
+    };
+    match CardKey::new(alloc, desk_key.as_str())? {
+        Some(desk_key) => Ok(Some(Run::Serve {
+            path: path.as_str(),
+            port,
+            each,
+            desk_key,
+        })),
+        None => Ok(None),
+    }
+}
+
+/// A request to a program that serves: there has to be a word at least, and each key in its form.
+fn read_send<'a>(alloc: Global, words: &'a [String]) -> Result<Option<Run<'a>>, Memory> {
+    let [port, desk_key, key, words @ ..] = words else {
+        return Ok(None);
+    };
+    if words.is_empty() {
+        return Ok(None);
+    }
+    let Some(port) = read_port(port.as_str()) else {
+        return Ok(None);
+    };
+    let Some(desk_key) = CardKey::new(alloc, desk_key.as_str())? else {
+        return Ok(None);
+    };
+    match Key::new(alloc, key.as_str())? {
+        Some(key) => Ok(Some(Run::Send {
+            port,
+            desk_key,
+            key,
+            words,
+        })),
+        None => Ok(None),
+    }
+}
+
 /// What the words ask for; None where they are not understood. The words of a request themselves
 /// are read later.
 pub fn read_run<'a>(alloc: Global, words: &'a [String]) -> Result<Option<Run<'a>>, Memory> {
@@ -97,6 +180,8 @@ pub fn read_run<'a>(alloc: Global, words: &'a [String]) -> Result<Option<Run<'a>
         "file" => read_file(alloc, words),
         "import" => Ok(read_import_run(words)),
         "report" => Ok(read_report_run(words)),
+        "serve" => read_serve(alloc, words),
+        "send" => read_send(alloc, words),
         _ => Ok(None),
     }
 }

@@ -6,17 +6,17 @@ ghost use Rattle.front.specs.declared.copies.CopyEnd.TheVariants.{Read as NotRea
 ghost use Rattle.desk.specs.Answering.{Handled};
 ghost use Rattle.circ.specs.Importing.{request_of, row_line, end_line, end_exit, counts_line};
 ghost use Rattle.circ.specs.Importing.{import_lines, with_row, ImportsRow, ImportsRows, Imports};
-ghost use Rattle.circ.specs.Lines.{fault_line, Writes, EndsWith};
+ghost use Rattle.terms.specs.Writing.{Writes};
+ghost use Rattle.circ.specs.Lines.{fault_line, EndsWith};
 
 use crate::lines::{Exit, WriteFault, tell_fault};
-use crate::writing::write_pieces;
 use desk::Desk;
 use front::{CopyEnd, CopyRow, read_copies};
 use itoa::Buffer;
 use sqlite::Alter;
 use std::alloc::Global;
 use std::io::{Read, Write};
-use terms::{Caller, Command, Fault, Key, Reply, Request, write_bytes};
+use terms::{Caller, Command, Fault, Key, Reply, Request, write_bytes, write_pieces};
 
 /// How many rows were accepted, and how many refused.
 #[derive(Clone, Copy, Debug, PartialEq, Eq)]

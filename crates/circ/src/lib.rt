@@ -6,10 +6,14 @@ mod importing;
 mod lines;
 mod reports;
 mod requests;
+mod sending;
+mod serving;
 mod writing;
 
 pub use arguments::{Report, Run, read_run};
 pub use importing::{import, unreadable};
-pub use lines::{Exit, WriteFault, not_understood, out_of_memory, tell_fault};
+pub use lines::{Exit, WriteFault, no_network, not_understood, out_of_memory, tell_fault};
 pub use reports::report;
 pub use requests::one;
+pub use sending::send;
+pub use serving::{Served, serve, serve_one};

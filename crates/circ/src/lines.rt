@@ -3,13 +3,14 @@
 ghost use Rattle.std.specs.Prelude.{◌≡◌};
 ghost use Rattle.terms.specs.declared.fault.Fault.TheVariants.{Memory};
 ghost use Rattle.circ.specs.Exits.{status_of, exit_of};
-ghost use Rattle.circ.specs.Lines.{reply_line, fault_line, not_understood_line, EndsWith};
+ghost use Rattle.circ.specs.Lines.{reply_line, fault_line, not_understood_line};
+ghost use Rattle.circ.specs.Lines.{no_network_line, EndsWith};
 
-use crate::writing::{write_pieces, write_reply};
+use crate::writing::write_reply;
 use itoa::Buffer;
 use std::io::Write;
 pub use terms::WriteFault;
-use terms::{Fault, Reply, write_bytes};
+use terms::{Fault, Reply, write_bytes, write_pieces};
 
 /// How a program ends.
 #[derive(Clone, Copy, Debug, PartialEq, Eq)]
@@ -69,6 +70,15 @@ pub fn out_of_memory<W: Write>(writer: &mut W) -> Result<Exit, WriteFault>
         (W.contents writer.old) (W.contents writer.new) result }
 {
     tell_fault(writer, Fault::Memory)
+}
+
+/// Says that a port can't be had, or that no answer came. It takes no memory.
+pub fn no_network<W: Write>(writer: &mut W) -> Result<Exit, WriteFault>
+    ensures { EndsWith Exit.Faulted no_network_line
+        (W.contents writer.old) (W.contents writer.new) result }
+{
+    write_bytes(writer, b"fault network\n")?;
+    Ok(Exit::Faulted)
 }
 
 /// Tells a reply by its text. It takes no memory.

@@ -4,22 +4,11 @@ ghost use Rattle.std.specs.Prelude.{◌++◌, decimal};
 ghost use Rattle.std.specs.List.{join_with_byte};
 ghost use Rattle.terms.specs.Texts.{routed_words, reply_text};
 ghost use Rattle.terms.specs.declared.reply.Reply.TheVariants.{CheckedIn};
-ghost use Rattle.circ.specs.Pieces.{joined};
-ghost use Rattle.circ.specs.Lines.{Writes};
+ghost use Rattle.terms.specs.Writing.{Writes};
 
 use itoa::Buffer;
 use std::io::Write;
-use terms::{Cents, Reply, Routed, WriteFault, write_bytes};
-
-/// Writes the pieces one after another. Where a write fails, a beginning of them went out.
-pub(crate) fn write_pieces<W: Write>(writer: &mut W, pieces: &[&[u8]]) -> Result<(), WriteFault>
-    ensures { Writes (joined pieces.now) (W.contents writer.old) (W.contents writer.new) result }
-{
-    for piece in pieces {
-        write_bytes(writer, piece)?;
-    }
-    Ok(())
-}
+use terms::{Cents, Reply, Routed, WriteFault, write_bytes, write_pieces};
 
 /// Writes the bytes and a number.
 fn write_number<W: Write>(writer: &mut W, before: &[u8], number: u64) -> Result<(), WriteFault>

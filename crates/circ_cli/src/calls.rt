@@ -8,8 +8,9 @@ use sqlite_disk::Disk;
 use std::alloc::Global;
 use std::fs::File;
 use std::io::Write;
+use std::net::{TcpListener, TcpStream};
 use store::Store;
-use terms::{Fault, Key};
+use terms::{CardKey, Fault, Key};
 
 /// The desk over a library in a file.
 pub type FileDesk<S> = Desk<FileStore<FileFrom<S>>>;
@@ -59,6 +60,44 @@ pub fn report<S: Alter, W: Write>(
     writer: &mut W,
 ) -> Result<Exit, WriteFault> {
     circ::report(desk, alloc, wanted, writer)
+}
+
+/// Answers so many connections, one after another.
+pub fn serve<S: Alter, W: Write>(
+    desk: &mut Desk<S>,
+    alloc: Global,
+    listener: &TcpListener,
+    port: u16,
+    each: u32,
+    desk_key: &CardKey,
+    writer: &mut W,
+) -> Result<Exit, WriteFault> {
+    circ::serve(desk, alloc, listener, port, each, desk_key, writer)
+}
+
+/// Sends one request over the connection, and writes its line.
+pub fn send<W: Write>(
+    alloc: Global,
+    stream: &TcpStream,
+    desk_key: &CardKey,
+    key: &Key,
+    words: &[String],
+    writer: &mut W,
+) -> Result<Exit, WriteFault> {
+    circ::send(
+        alloc,
+        &mut &*stream,
+        &mut &*stream,
+        desk_key,
+        key,
+        words,
+        writer,
+    )
+}
+
+/// Writes that there is no network.
+pub fn no_network<W: Write>(writer: &mut W) -> Result<Exit, WriteFault> {
+    circ::no_network(writer)
 }
 
 /// Writes the line of a fault.

@@ -1,20 +1,21 @@
-//! The program `circ`: the circulation desk of a town library, by words.
+//! The program `circ`: the circulation desk of a town library, by words and over the web.
 #![tactic(auto)]
 
 mod calls;
 
 use calls::{
-    FileDesk, close, create, import, not_understood, one, open, out_of_memory, report, tell_fault,
-    unreadable,
+    FileDesk, close, create, import, no_network, not_understood, one, open, out_of_memory, report,
+    send, serve, tell_fault, unreadable,
 };
 use circ::{Exit, Report, Run, WriteFault, read_run};
 use sqlite::{Start, Wary};
 use std::alloc::Global;
 use std::fs::File;
 use std::io::{BufWriter, ErrorKind, Write};
+use std::net::{Ipv4Addr, TcpListener, TcpStream};
 use std::process::ExitCode;
 use std::{env, fs, io};
-use terms::{Fault, Key};
+use terms::{CardKey, Fault, Key};
 
 /// Whether there is no file yet, or one with no bytes.
 fn is_new(rt: &HostRuntime, path: &str) -> bool {
@@ -99,6 +100,54 @@ fn report_on<S: Start, W: Write>(
     }
 }
 
+/// The web over the library in the file, on the port of this machine alone.
+fn serve_on<S: Start, W: Write>(
+    rt: &HostRuntime,
+    start: S,
+    path: &str,
+    port: u16,
+    each: u32,
+    desk_key: &CardKey,
+    writer: &mut W,
+) -> Result<Exit, WriteFault> {
+    match open_or_create(rt, path, start) {
+        Ok(mut desk) => {
+            let told = match TcpListener::bind(rt, (Ipv4Addr::LOCALHOST, port)) {
+                Ok(listener) => {
+                    serve(
+                        &mut desk,
+                        rt.alloc(),
+                        &listener,
+                        port,
+                        each,
+                        desk_key,
+                        writer,
+                    )
+                }
+                Err(_) => no_network(writer),
+            };
+            close(desk);
+            told
+        }
+        Err(fault) => tell_fault(writer, fault),
+    }
+}
+
+/// One request of the desk, to the program that serves on the port of this machine.
+fn send_to<W: Write>(
+    rt: &HostRuntime,
+    port: u16,
+    desk_key: &CardKey,
+    key: &Key,
+    words: &[String],
+    writer: &mut W,
+) -> Result<Exit, WriteFault> {
+    match TcpStream::connect(rt, (Ipv4Addr::LOCALHOST, port)) {
+        Ok(stream) => send(rt.alloc(), &stream, desk_key, key, words, writer),
+        Err(_) => no_network(writer),
+    }
+}
+
 /// The words after the program's name. An argument that is not UTF-8 gives no words, which are not understood.
 fn words_of(rt: &HostRuntime) -> Result<Vec<String>, Fault> {
     let mut words = Vec::new(rt.alloc());
@@ -114,7 +163,33 @@ fn words_of(rt: &HostRuntime) -> Result<Vec<String>, Fault> {
     }
 }
 
-/// Does what the words ask for, and writes its lines: those of a copies file at once, so that what was told was done.
+/// Does what is asked for, and writes its lines: those of a copies file and of the web at once, so that what was told was done.
+fn do_run<S: Start, W: Write>(
+    rt: &HostRuntime,
+    start: S,
+    asked: Run<'_>,
+    writer: &mut W,
+) -> Result<Exit, WriteFault> {
+    match asked {
+        Run::File { path, key, words } => file(rt, start, path, key, words, writer),
+        Run::Import { path, copies } => import_into(rt, start, path, copies, &mut io::writer(rt)),
+        Run::Report { path, report } => report_on(rt, start, path, &report, writer),
+        Run::Serve {
+            path,
+            port,
+            each,
+            desk_key,
+        } => serve_on(rt, start, path, port, each, &desk_key, &mut io::writer(rt)),
+        Run::Send {
+            port,
+            desk_key,
+            key,
+            words,
+        } => send_to(rt, port, &desk_key, &key, words, writer),
+    }
+}
+
+/// Does what the words ask for, if they are understood.
 fn answer<S: Start, W: Write>(
     rt: &HostRuntime,
     start: S,
@@ -123,11 +198,7 @@ fn answer<S: Start, W: Write>(
     writer: &mut W,
 ) -> Result<Exit, WriteFault> {
     match read_run(alloc, words) {
-        Ok(Some(Run::File { path, key, words })) => file(rt, start, path, key, words, writer),
-        Ok(Some(Run::Import { path, copies })) => {
-            import_into(rt, start, path, copies, &mut io::writer(rt))
-        }
-        Ok(Some(Run::Report { path, report })) => report_on(rt, start, path, &report, writer),
+        Ok(Some(asked)) => do_run(rt, start, asked, writer),
         Ok(None) => not_understood(writer),
         Err(_) => out_of_memory(writer),
     }

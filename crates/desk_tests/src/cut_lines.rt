@@ -17,8 +17,8 @@ pub const BEES: &str =
 
 /// A writer that takes so many bytes, and then fails.
 #[derive(Drop)]
-struct Narrow {
-    taken: Vec<u8>,
+pub struct Narrow {
+    pub taken: Vec<u8>,
     room: usize,
 }
 
@@ -38,7 +38,7 @@ impl io::Write for Narrow {
     }
 }
 
-fn room_for(alloc: Global, room: usize) -> Narrow {
+pub fn room_for(alloc: Global, room: usize) -> Narrow {
     Narrow {
         taken: Vec::new(alloc),
         room,
@@ -190,8 +190,8 @@ fn cuts_the_lines_of_rows(rt: HostRuntime) -> Result<(), Fail> {
 
 /// A reader of some bytes that fails after them.
 #[derive(Drop)]
-struct Failing {
-    bytes: &'static [u8],
+pub struct Failing {
+    pub bytes: &'static [u8],
 }
 
 impl Read for Failing {

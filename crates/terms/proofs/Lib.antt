@@ -4,3 +4,4 @@ pub mod ReplyTextLemmas
 pub mod ReadingLemmas
 pub mod Utf8Lemmas
 pub mod KeyLemmas
+pub mod Fronts

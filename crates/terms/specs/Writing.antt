@@ -1,5 +1,6 @@
 -- Bytes on their way out, for writers that tell what they hold.
-use Rattle.std.specs.Prelude.{◌≡◌, ℕ, List, ◌++◌, Option}
+use Rattle.std.specs.Prelude.{◌≡◌, ℕ, List, ◌++◌, Option, Result, OnOk, OnErr, flat_map}
+use Rattle.std.specs.Borrow.{Bor}
 use Rattle.std.specs.Io.KnownBytes.{Appends}
 
 -- A beginning of the bytes went out, perhaps nothing, perhaps all.
@@ -8,3 +9,14 @@ pub record AppendsFront (old new : Option (List ℕ)) (bytes : List ℕ) : Type 
   pub rest : List ℕ
   pub whole : bytes ≡ sent ++ rest
   pub wrote : Appends old new sent
+
+-- The bytes went out; where a write failed, a beginning of them.
+-- `before` and `after` are the bytes that the writer showed and shows.
+pub record Writes {T E : Type 0} (bytes : List ℕ) (before after : Option (List ℕ))
+    (result : Result T E) : Type 0 where
+  pub all : OnOk result (Appends before after bytes)
+  pub front : OnErr result (AppendsFront before after bytes)
+
+-- The bytes of the pieces, one after another.
+abbrev pub joined : List (Bor (List ℕ)) → List ℕ
+joined pieces = flat_map (λ p. p.now) pieces

@@ -46,4 +46,4 @@ pub use row::{
 pub use tables::{Rows, Tables};
 pub use text::{CardKey, Key, Name, Text};
 pub use week::Mask;
-pub use writing::{WriteFault, write_bytes};
+pub use writing::{WriteFault, write_bytes, write_pieces};

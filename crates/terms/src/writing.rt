@@ -1,8 +1,6 @@
 //! Bytes on their way out.
 
-ghost use Rattle.std.specs.Prelude.{OnOk, OnErr};
-ghost use Rattle.std.specs.Io.KnownBytes.{Appends};
-ghost use Rattle.terms.specs.Writing.{AppendsFront};
+ghost use Rattle.terms.specs.Writing.{Writes, joined};
 
 use std::io::Write;
 
@@ -13,9 +11,7 @@ pub struct WriteFault;
 /// Writes the bytes. Where a write fails, or takes nothing, a beginning of them went out. It takes
 /// no memory.
 pub fn write_bytes<W: Write>(writer: &mut W, bytes: &[u8]) -> Result<(), WriteFault>
-    ensures all { OnOk result (Appends (W.contents writer.old) (W.contents writer.new) bytes.now) }
-    ensures front { OnErr result (AppendsFront (W.contents writer.old)
-        (W.contents writer.new) bytes.now) }
+    ensures { Writes bytes.now (W.contents writer.old) (W.contents writer.new) result }
 {
     let mut written = 0;
     while written < bytes.len() {
@@ -24,6 +20,17 @@ pub fn write_bytes<W: Write>(writer: &mut W, bytes: &[u8]) -> Result<(), WriteFa
             Ok(taken) => written += taken,
             Err(_) => return Err(WriteFault),
         }
+    }
+    Ok(())
+}
+
+/// Writes the pieces one after another. Where a write fails, a beginning of them went out. It takes
+/// no memory.
+pub fn write_pieces<W: Write>(writer: &mut W, pieces: &[&[u8]]) -> Result<(), WriteFault>
+    ensures { Writes (joined pieces.now) (W.contents writer.old) (W.contents writer.new) result }
+{
+    for piece in pieces {
+        write_bytes(writer, piece)?;
     }
     Ok(())
 }

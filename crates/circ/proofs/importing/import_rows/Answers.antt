@@ -9,7 +9,8 @@ use Rattle.circ.specs.Importing.{end_line, end_exit, counts_line, ImportsOf}
 use Rattle.circ.specs.declared.importing.Counts.{Counts}
 use Rattle.circ.specs.Lines.{fault_line}
 use Rattle.circ.specs.declared.lines.Exit.TheVariants.{Faulted}
-use Rattle.circ.proofs.Fronts.{after-nothing, front-after-nothing, ends-as}
+use Rattle.terms.proofs.Fronts.{after-nothing, front-after-nothing}
+use Rattle.circ.proofs.Ends.{ends-as}
 use Rattle.circ.proofs.Imports.{SoFar, far-none, far-more, within, room-for, imports-some, imports-cut, imports-all, lines-whole, lines-front}
 use Rattle.circ.proofs.importing.import_rows.Goals as goal
 

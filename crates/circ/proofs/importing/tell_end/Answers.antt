@@ -1,6 +1,6 @@
 use Rattle.std.proofs.Common.{rules}
 use Rattle.desk.proofs.Looking.{on-err-any}
-use Rattle.circ.proofs.Fronts.{failed-first, front-after}
+use Rattle.terms.proofs.Fronts.{failed-first, front-after}
 use Rattle.circ.proofs.importing.tell_end.Goals as goal
 
 pub returns-in_err-write_end : goal.returns-in_err-write_end

@@ -7,7 +7,7 @@ use Rattle.terms.specs.Writing.{AppendsFront}
 use Rattle.terms.specs.declared.reply.Reply.TheVariants.{CheckedIn}
 use Rattle.terms.specs.declared.reply.Routed.{Routed}
 use Rattle.terms.specs.declared.reply.Routed.TheVariants.{Shelf, HoldShelf, Transit}
-use Rattle.circ.proofs.Fronts.{failed-first, second-out, second-failed}
+use Rattle.terms.proofs.Fronts.{failed-first, second-out, second-failed}
 use Rattle.circ.proofs.writing.write_checked_in.Goals as goal
 
 -- the fine in its words, a space, and where the copy goes

@@ -1,4 +1,4 @@
-use Rattle.std.proofs.Common.{◌≡◌, ℕ, ◌+◌, ◌-◌, List, ◌++◌, None, Some, arith, length, take, drop, sym, ap, ◌∙◌, subst, Option, take_all}
+use Rattle.std.proofs.Common.{◌≡◌, ℕ, ◌+◌, ◌-◌, List, ◌++◌, None, Some, arith, rules, length, take, drop, sym, ap, ◌∙◌, subst, Option, take_all}
 use Rattle.std.specs.Io.KnownBytes.{Appends, Keeps}
 use Rattle.terms.specs.Writing.{AppendsFront}
 use Rattle.std.proofs.KnownBytes.{Appends-trans, Appends-kept}
@@ -29,8 +29,8 @@ nothing_sent None c n bytes e p = tt
 nothing_sent (Some x) None n bytes e p = absurd p
 nothing_sent (Some x) (Some y) n bytes e p = p ∙ ap (λ k. x ++ take k bytes) e ∙ append-nil x
 
-pub returns-in-Ok-eq0-clause-front : goal.returns-in-Ok-eq0-clause-front
-returns-in-Ok-eq0-clause-front g c = front_sent _ _ _ c.args.bytes.now c.loop-written.written c.loop-written.invariant.sent (nothing_sent _ _ _ _ c.in-Ok-eq0.field-0-test c.in-Ok-eq0.ensures.bytes)
+pub returns-in-Ok-eq0 : goal.returns-in-Ok-eq0
+returns-in-Ok-eq0 g c = record { all = search rules; front = front_sent _ _ _ c.args.bytes.now c.loop-written.written c.loop-written.invariant.sent (nothing_sent _ _ _ _ c.in-Ok-eq0.field-0-test c.in-Ok-eq0.ensures.bytes) }
 
-pub returns-in-Err-clause-front : goal.returns-in-Err-clause-front
-returns-in-Err-clause-front g c = front_sent _ _ _ c.args.bytes.now c.loop-written.written c.loop-written.invariant.sent c.in-Err.ensures.bytes
+pub returns-in-Err : goal.returns-in-Err
+returns-in-Err g c = record { all = search rules; front = front_sent _ _ _ c.args.bytes.now c.loop-written.written c.loop-written.invariant.sent c.in-Err.ensures.bytes }

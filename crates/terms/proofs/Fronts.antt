@@ -3,10 +3,9 @@ use Rattle.std.proofs.Common.{◌≡◌, ℕ, suc, ◌<◌, List, [], ◌++◌, 
 use Rattle.std.proofs.Math.Seq.{drop-cons}
 use Rattle.std.proofs.lemmas.Grind.{flat_map-append}
 use Rattle.std.proofs.KnownBytes.{Appends-trans}
-use Rattle.std.specs.Prelude.{Result, Ok, Err, OnOk, OnErr, IfOk}
+use Rattle.std.specs.Prelude.{Result, Ok, Err, OnOk, OnErr}
 use Rattle.std.specs.Io.KnownBytes.{Appends, Keeps}
-use Rattle.terms.specs.Writing.{AppendsFront}
-use Rattle.circ.specs.Pieces.{joined}
+use Rattle.terms.specs.Writing.{AppendsFront, joined}
 
 -- a beginning of what follows, after all that came before, is a beginning of both
 pub front-after : (a b c : Option (List ℕ)) (xs ys : List ℕ) → Appends a b xs → AppendsFront b c ys → AppendsFront a c (xs ++ ys)
@@ -49,7 +48,7 @@ joined-at pieces i d h =
     ∙ ap (λ (rest : List (Bor (List ℕ))). joined (take i pieces) ++ joined rest) (drop-cons pieces i d h)
 
 -- a beginning of a piece after all the pieces before it is a beginning of the pieces
-pub front-of-pieces : (a b c : Option (List ℕ)) (pieces : List (Bor (List ℕ))) (i : ℕ) (d : Bor (List ℕ)) → i < length pieces
+front-of-pieces : (a b c : Option (List ℕ)) (pieces : List (Bor (List ℕ))) (i : ℕ) (d : Bor (List ℕ)) → i < length pieces
     → Appends a b (joined (take i pieces)) → AppendsFront b c (get_or pieces i d).now → AppendsFront a c (joined pieces)
 front-of-pieces a b c pieces i d h p q =
     subst (AppendsFront a c) (sym (joined-at pieces i d h))
@@ -69,7 +68,7 @@ pub second-failed : {T E : Type 0} (r : Result T E) (a b c : Option (List ℕ)) 
 second-failed (Ok x) a b c xs ys p q = tt
 second-failed (Err e) a b c xs ys p q = front-after a b c xs ys p q
 
--- what follows from what went out, where it is known how the program ends
-pub ends-as : {E X Q : Type 0} (P : X → Type 0) (r : Result X E) (exit : X) → IfOk r (λ e. e ≡ exit) → OnOk r Q → (Q → P exit) → IfOk r P
-ends-as P (Ok e) exit is q f = subst P (sym is) (f q)
-ends-as P (Err e) exit is q f = tt
+pub failed-at : {T E : Type 0} (r : Result T E) (a b c : Option (List ℕ)) (pieces : List (Bor (List ℕ))) (i : ℕ) (d : Bor (List ℕ)) → i < length pieces
+    → Appends a b (joined (take i pieces)) → AppendsFront b c (get_or pieces i d).now → OnErr r (AppendsFront a c (joined pieces))
+failed-at (Ok x) a b c pieces i d h p q = tt
+failed-at (Err e) a b c pieces i d h p q = front-of-pieces a b c pieces i d h p q

@@ -1,7 +1,7 @@
 use Rattle.std.proofs.Common.{take}
 use Rattle.std.specs.Io.KnownBytes.{Appends}
-use Rattle.circ.specs.Pieces.{joined}
-use Rattle.circ.proofs.writing.write_pieces.Given as goal
+use Rattle.terms.specs.Writing.{joined}
+use Rattle.terms.proofs.writing.write_pieces.Given as goal
 
 abbrev pub invariant-loop-piece : goal.invariant-loop-piece
 invariant-loop-piece g l = Appends (g.W.Write.contents l.fn.writer) (g.W.Write.contents l.writer) (joined (take l.piece-index l.pieces))

@@ -1,0 +1,56 @@
+//! One request of the desk, sent to a program that serves the web.
+
+ghost use Rattle.std.specs.Prelude.{◌≡◌, ◌++◌, ◌∷◌, []};
+ghost use Rattle.circ.specs.Exits.{exit_for};
+ghost use Rattle.circ.specs.Lines.{EndsWith};
+
+use crate::lines::{Exit, WriteFault, no_network, out_of_memory};
+use std::alloc::Global;
+use std::io::{Read, Write};
+use terms::{CardKey, Key, write_pieces};
+use web::{AnswerFault, SendFault, read_answer, write_send};
+
+/// How an answer of this status ends the program.
+fn exit_of_status(status: u16) -> Exit
+    ensures { result ≡ exit_for status }
+{
+    match status {
+        200 => Exit::Done,
+        403 | 409 => Exit::Refused,
+        400 | 404 | 405 | 413 => Exit::NotUnderstood,
+        _ => Exit::Faulted,
+    }
+}
+
+/// Tells an answer by its body. It takes no memory.
+fn tell_answer<W: Write>(writer: &mut W, status: u16, body: &str) -> Result<Exit, WriteFault>
+    ensures { EndsWith (exit_for status) (body.now ++ 10 ∷ [])
+        (W.contents writer.old) (W.contents writer.new) result }
+{
+    write_pieces(writer, &[body.as_bytes(), b"\n"])?;
+    Ok(exit_of_status(status))
+}
+
+/// Sends the words as a request of the desk, and writes one line: the body of its answer, or that
+/// there was no network or no memory for it. The request goes out by `output`, and its answer comes
+/// by `input`.
+pub fn send<I: Read, O: Write, W: Write>(
+    alloc: Global,
+    input: &mut I,
+    output: &mut O,
+    desk_key: &CardKey,
+    key: &Key,
+    words: &[String],
+    writer: &mut W,
+) -> Result<Exit, WriteFault> {
+    match write_send(alloc, output, desk_key, key, words) {
+        Ok(()) => {}
+        Err(SendFault::Memory) => return out_of_memory(writer),
+        Err(SendFault::Write) => return no_network(writer),
+    }
+    match read_answer(alloc, input) {
+        Ok(answer) => tell_answer(writer, answer.status, answer.body.as_str()),
+        Err(AnswerFault::Memory) => out_of_memory(writer),
+        Err(AnswerFault::Malformed | AnswerFault::Read) => no_network(writer),
+    }
+}

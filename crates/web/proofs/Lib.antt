@@ -1,0 +1,11 @@
+pub mod Seeking
+pub mod Targets
+pub mod FieldLemmas
+pub mod LengthLemmas
+pub mod KeyLemmas
+pub mod JsonLemmas
+pub mod BodyLemmas
+pub mod CheckLemmas
+pub mod AnswerLemmas
+pub mod ReceivingLemmas
+pub mod ReadOnce

@@ -1,0 +1,15 @@
+pub mod Routes
+pub mod Fields
+pub mod Found
+pub mod Heads
+pub mod Json
+pub mod Bodies
+pub mod Asking
+pub mod Requests
+pub mod Checks
+pub mod Faults
+pub mod Answers
+pub mod Sending
+pub mod Receiving
+pub mod Laws
+pub mod Asked

@@ -1,0 +1,57 @@
+//! The head of a request.
+
+ghost use Rattle.std.specs.Prelude.{◌≡◌, ◌≤◌, IfOk, IfErr, IfSome, IfNone, length, take};
+ghost use Rattle.std.specs.Io.KnownBytes.{Consumes};
+ghost use Rattle.httparse.specs.Spans.{IsRequestOf, IsRequestWithin};
+ghost use Rattle.web.specs.Faults.{IsOwnFault};
+ghost use Rattle.web.specs.Heads.{HasNoHead, Fills};
+ghost use Rattle.web.specs.declared.limits.TheConstants.{HEAD_BYTES, HEAD_FIELDS};
+
+use crate::fault::WebFault;
+use httparse::Status;
+use httparse::spans::{HeaderSpan, RequestSpans, parse_request};
+use std::io;
+use std::io::Read;
+
+/// Reads until the head of a request is whole. It gives the head's parts and how many bytes of the
+/// buffer were filled, or `None` where what the reader gives begins with no head.
+pub(crate) fn read_head<R: Read>(
+    reader: &mut R,
+    buf: &mut [u8],
+    headers: &mut [HeaderSpan],
+) -> Result<Option<(RequestSpans, usize)>, WebFault>
+    requires size { length buf.old ≡ HEAD_BYTES }
+    requires room { length headers.old ≡ HEAD_FIELDS }
+    ensures own { IfErr result IsOwnFault }
+    ensures filled { IfOk result (λ o. IfSome o (λ p. (p.1 ≤ HEAD_BYTES)
+        × Consumes (R.remaining reader.old) (R.remaining reader.new) (take p.1 buf.new))) }
+    ensures head { IfOk result (λ o. IfSome o
+        (λ p. IsRequestOf (take p.1 buf.new) headers.new p.0)) }
+    ensures within { IfOk result (λ o. IfSome o
+        (λ p. IsRequestWithin (take p.1 buf.new) headers.new p.0)) }
+    ensures none { IfOk result (λ o. IfNone o (IfSome (R.remaining reader.old) HasNoHead)) }
+{
+    let mut filled = 0;
+    while filled < buf.len() {
+        let n = fill(reader, buf, filled)?;
+        if n == 0 {
+            return Ok(None);
+        }
+        filled += n;
+        match parse_request(&buf[..filled], headers) {
+            Ok(Status::Complete(head)) => return Ok(Some((head, filled))),
+            Ok(Status::Partial) => {}
+            Err(_) => return Ok(None),
+        }
+    }
+    Ok(None)
+}
+
+/// One read into the part of the buffer that isn't filled yet.
+pub(crate) fn fill<R: Read>(reader: &mut R, buf: &mut [u8], filled: usize) -> io::Result<usize>
+    requires { filled ≤ length buf.old }
+    ensures { IfOk result
+        (Fills (R.remaining reader.old) (R.remaining reader.new) buf.old buf.new filled) }
+{
+    reader.read(&mut buf[filled..])
+}

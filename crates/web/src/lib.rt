@@ -1,0 +1,33 @@
+//! Requests that come over the web, and their answers: from bytes to a request, and from an answer
+//! to bytes, with the client's side of both.
+#![tactic(auto)]
+
+mod answer;
+mod asked;
+mod body;
+mod command;
+#[cfg(test)]
+mod examples;
+mod fault;
+mod fields;
+mod head;
+mod json;
+mod keys;
+mod laws;
+mod limits;
+mod receiving;
+mod request;
+mod routes;
+mod sending;
+#[cfg(test)]
+mod tests;
+mod written;
+
+pub use answer::{Answer, write_answer};
+pub use asked::Asked;
+pub use fault::{WebFault, WebStatus};
+pub use laws::requests_read_once;
+pub use receiving::{AnswerFault, Answered, read_answer};
+pub use request::{WebRequest, read_request};
+pub use sending::{SendFault, write_send};
+pub use written::Json;

@@ -1,0 +1,229 @@
+//! Web requests: the checks that a request passes, in their order.
+
+ghost use Rattle.std.specs.Prelude.{◌≡◌, ◌++◌, IsUtf8, IfOk, IfSome, length, take, drop, map};
+ghost use Rattle.httparse.specs.Spans.{IsRequestWithin, span_bytes, header_bytes};
+ghost use Rattle.web.specs.Checks.{UnlessFaulted, ChecksBody, ChecksKey};
+ghost use Rattle.web.specs.Checks.{ChecksMethod, ChecksTarget, ChecksLength, ChecksHead};
+ghost use Rattle.web.specs.Requests.{shown_key, request_key, stands_twice, repeats_key};
+ghost use Rattle.web.specs.declared.limits.TheConstants.{HEAD_BYTES, HEAD_FIELDS};
+
+use crate::body::read_body;
+use crate::command::read_command;
+use crate::fault::{WebFault, WebStatus};
+use crate::fields::{Fields, Found, body_length};
+use crate::head::read_head;
+use crate::keys::{card_key, outside_key};
+use crate::limits::{HEAD_BYTES, HEAD_FIELDS};
+use crate::routes::{Route, route_of};
+use httparse::spans::{EMPTY_HEADER_SPAN, HeaderSpan, RequestSpans};
+use std::alloc::Global;
+use std::io::Read;
+use std::str;
+use terms::{CardKey, Command, Key, Memory, PatronId};
+
+/// A request from the web. Whether the key that it shows is the right one is not looked at here.
+#[derive(Drop)]
+pub struct WebRequest {
+    /// The patron of the route: none on the desk's.
+    pub patron: Option<PatronId>,
+    /// The card key that the caller shows, or the desk's key on the desk's route: none where the
+    /// field is absent or its value has not the form.
+    pub shown: Option<CardKey>,
+    /// The key of the request: none for a patron's page, whatever key it shows.
+    pub key: Option<Key>,
+    /// What is asked for.
+    pub command: Command,
+}
+
+/// The key that the caller shows, if it has its form.
+fn shown_of(alloc: Global, route: &Route, fields: &Fields<'_>) -> Result<Option<CardKey>, Memory>
+    ensures { IfOk result (λ shown. shown ≡ shown_key route.now fields.now) }
+{
+    match fields.values(route.key_field().as_bytes()) {
+        Found::One(value) => card_key(alloc, value),
+        _ => Ok(None),
+    }
+}
+
+/// The key of the request, if it has its form.
+fn key_of(alloc: Global, fields: &Fields<'_>) -> Result<Option<Key>, Memory>
+    ensures { IfOk result (λ key. key ≡ request_key fields.now) }
+{
+    match fields.values(b"Request-Key") {
+        Found::One(value) => outside_key(alloc, value),
+        _ => Ok(None),
+    }
+}
+
+/// Whether a field of this name stands more than once.
+fn is_twice(fields: &Fields<'_>, name: &[u8]) -> bool
+    ensures { result ≡ stands_twice name.now fields.now }
+{
+    match fields.values(name) {
+        Found::Several => true,
+        _ => false,
+    }
+}
+
+/// Whether one of the three keys stands more than once.
+fn is_key_repeated(fields: &Fields<'_>) -> bool
+    ensures { result ≡ repeats_key fields.now }
+{
+    is_twice(fields, b"Card-Key")
+        || is_twice(fields, b"Desk-Key")
+        || is_twice(fields, b"Request-Key")
+}
+
+/// The last check: the body is the route's.
+fn check_body(
+    alloc: Global,
+    route: &Route,
+    shown: Option<CardKey>,
+    key: Option<Key>,
+    body: &[u8],
+) -> Result<WebRequest, WebFault>
+    ensures { UnlessFaulted result (ChecksBody route.now shown key body.now result) }
+{
+    match read_command(alloc, route, body)? {
+        Some(command) => Ok(WebRequest {
+            patron: route.patron(),
+            shown,
+            key,
+            command,
+        }),
+        None => Err(WebFault::Status(WebStatus::BadRequest)),
+    }
+}
+
+/// The check of the request's key, and the last.
+fn check_key(
+    alloc: Global,
+    route: &Route,
+    fields: &Fields<'_>,
+    body: &[u8],
+) -> Result<WebRequest, WebFault>
+    ensures { UnlessFaulted result (ChecksKey route.now fields.now body.now result) }
+{
+    let shown = shown_of(alloc, route, fields)?;
+    if !route.is_post() {
+        return check_body(alloc, route, shown, None, body);
+    }
+    match key_of(alloc, fields)? {
+        Some(key) => check_body(alloc, route, shown, Some(key), body),
+        None => Err(WebFault::Status(WebStatus::BadRequest)),
+    }
+}
+
+/// The checks of the method and of repeated keys, and those after.
+fn check_method(
+    alloc: Global,
+    route: &Route,
+    method: &[u8],
+    fields: &Fields<'_>,
+    body: &[u8],
+) -> Result<WebRequest, WebFault>
+    ensures { UnlessFaulted result
+        (ChecksMethod route.now method.now fields.now body.now result) }
+{
+    if !route.has_method(method) {
+        return Err(WebFault::Status(WebStatus::MethodNotAllowed(route.method())));
+    }
+    if is_key_repeated(fields) {
+        return Err(WebFault::Status(WebStatus::BadRequest));
+    }
+    check_key(alloc, route, fields, body)
+}
+
+/// The check of the target, and those after.
+fn check_target(
+    alloc: Global,
+    method: &[u8],
+    target: &[u8],
+    fields: &Fields<'_>,
+    body: &[u8],
+) -> Result<WebRequest, WebFault>
+    requires { IsUtf8 target.now }
+    ensures { UnlessFaulted result
+        (ChecksTarget method.now target.now fields.now body.now result) }
+{
+    let Ok(target) = str::from_utf8(target) else {
+        return Err(WebFault::Status(WebStatus::NotFound));
+    };
+    match route_of(alloc, target)? {
+        Some(route) => check_method(alloc, &route, method, fields, body),
+        None => Err(WebFault::Status(WebStatus::NotFound)),
+    }
+}
+
+/// The checks after that of the head, whose parts the spans name.
+fn check_head<R: Read>(
+    alloc: Global,
+    reader: &mut R,
+    bytes: &[u8],
+    headers: &[HeaderSpan],
+    spans: RequestSpans,
+) -> Result<WebRequest, WebFault>
+    requires within { IsRequestWithin bytes.now headers.now spans }
+    requires text { IsUtf8 (span_bytes bytes.now spans.path) }
+    ensures { IfSome (R.remaining reader.old) (λ left. UnlessFaulted result
+        (ChecksLength (span_bytes bytes.now spans.method) (span_bytes bytes.now spans.path)
+        (map (header_bytes bytes.now) (take spans.headers headers.now))
+        (drop spans.len bytes.now ++ left) result)) }
+{
+    let fields = Fields::new(bytes, &headers[..spans.headers]);
+    let size = body_length(&fields)?;
+    let Some(body) = read_body(alloc, reader, &bytes[spans.len..], size)? else {
+        return Err(WebFault::Status(WebStatus::BadRequest));
+    };
+    check_target(
+        alloc,
+        spans.method.of(bytes),
+        spans.path.of(bytes),
+        &fields,
+        &body,
+    )
+}
+
+/// Room for so many bytes. The size is an argument, so that no proof writes out a list of as many.
+pub(crate) fn room_for_bytes(alloc: Global, size: usize) -> Result<Vec<u8>, Memory>
+    ensures { IfOk result (λ room. length room.items ≡ size) }
+{
+    vec![in alloc; 0; size]
+}
+
+/// Room for so many fields.
+pub(crate) fn room_for_fields(alloc: Global, size: usize) -> Result<Vec<HeaderSpan>, Memory>
+    ensures { IfOk result (λ room. length room.items ≡ size) }
+{
+    vec![in alloc; EMPTY_HEADER_SPAN; size]
+}
+
+/// Reads a request with room for its head.
+fn read_with<R: Read>(
+    alloc: Global,
+    reader: &mut R,
+    buf: &mut [u8],
+    headers: &mut [HeaderSpan],
+) -> Result<WebRequest, WebFault>
+    requires size { length buf.old ≡ HEAD_BYTES }
+    requires room { length headers.old ≡ HEAD_FIELDS }
+    ensures { IfSome (R.remaining reader.old)
+        (λ bytes. UnlessFaulted result (ChecksHead bytes result)) }
+{
+    let Some((spans, filled)) = read_head(reader, buf, headers)? else {
+        return Err(WebFault::Status(WebStatus::BadRequest));
+    };
+    check_head(alloc, reader, &buf[..filled], headers, spans)
+}
+
+/// Reads one request: its head, within 8,192 bytes and 32 fields, and its body. A request that
+/// fails a check is refused with the status of the first that it fails, however the reader cuts the
+/// bytes. Nothing is read once the body is whole.
+pub fn read_request<R: Read>(alloc: Global, reader: &mut R) -> Result<WebRequest, WebFault>
+    ensures { IfSome (R.remaining reader.old)
+        (λ bytes. UnlessFaulted result (ChecksHead bytes result)) }
+{
+    let mut buf = room_for_bytes(alloc, HEAD_BYTES)?;
+    let mut headers = room_for_fields(alloc, HEAD_FIELDS)?;
+    read_with(alloc, reader, &mut buf, &mut headers)
+}

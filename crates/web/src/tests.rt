@@ -1,0 +1,346 @@
+//! Requests as connections bring them, and answers as connections take them, whole and in pieces.
+
+use crate::examples::{
+    ANSWERED, BAD_REQUEST, CONFLICT, FORBIDDEN, HELD, LENT, ONLY_POST, QUOTED, READ, REFUSED, SENT,
+    SHOWN, UNAVAILABLE, UNREAD,
+};
+use crate::{
+    Answer, AnswerFault, WebFault, WebRequest, WebStatus, read_answer, read_request,
+    requests_read_once, write_answer, write_send,
+};
+use http::Method;
+use std::alloc::Global;
+use std::io;
+use std::io::{Read, Write};
+use std::test::Fail;
+use terms::{CardKey, Day, Fault, HoldId, Key, LoanId, Refusal, Reply, Text, request_text};
+
+/// A reader that gives its bytes in pieces, the first and the others of these sizes. After the last
+/// byte it ends, or fails.
+#[derive(Drop)]
+struct Drip<'a> {
+    bytes: &'a [u8],
+    first: usize,
+    others: usize,
+    fails: bool,
+}
+
+impl Read for Drip<'_> {
+    fn read(&mut self, buf: &mut [u8]) -> io::Result<usize> {
+        if self.bytes.is_empty() && self.fails {
+            return Err(io::ErrorKind::Other.into());
+        }
+        let end = buf.len().min(self.first);
+        self.first = self.others;
+        let taken = self.bytes.read(&mut buf[..end])?;
+        Ok(taken)
+    }
+}
+
+/// A writer with room for so many bytes. It fails where there is none left.
+#[derive(Drop)]
+struct Narrow {
+    taken: Vec<u8>,
+    room: usize,
+}
+
+impl Write for Narrow {
+    fn write(&mut self, buf: &[u8]) -> io::Result<usize> {
+        let count = buf.len().min(self.room);
+        if count == 0 {
+            return Err(io::ErrorKind::Other.into());
+        }
+        self.taken.extend_from_slice(&buf[..count])?;
+        self.room -= count;
+        Ok(count)
+    }
+
+    fn flush(&mut self) -> io::Result<()> {
+        Ok(())
+    }
+}
+
+/// Which side of a connection reads.
+#[derive(Clone, Copy)]
+enum Side {
+    Server,
+    Client,
+}
+
+/// A request in words: its patron, the key that is shown, its own key, and what it asks for.
+fn said(alloc: Global, request: &WebRequest) -> Result<String, Fail> {
+    let command = request_text(alloc, &request.command)?;
+    let patron = match &request.patron {
+        Some(patron) => patron.number(),
+        None => 0,
+    };
+    let shown = match &request.shown {
+        Some(key) => key.as_str(),
+        None => "-",
+    };
+    let key = match &request.key {
+        Some(key) => key.as_str(),
+        None => "-",
+    };
+    Ok(format!(in alloc; "{patron} {shown} {key}: {command}")?)
+}
+
+/// The bytes of an answer.
+fn written(alloc: Global, answer: &Answer) -> Result<String, Fail> {
+    let mut bytes = Vec::new(alloc);
+    if write_answer(&mut bytes, answer).is_err() {
+        return Err("an answer is not written".into());
+    }
+    String::from_utf8(bytes).map_err(|_| "an answer is no text".into())
+}
+
+/// What a request is read as: its words, or the answer to one that fails a check.
+fn request_told(alloc: Global, reader: &mut Drip<'_>) -> Result<String, Fail> {
+    match read_request(alloc, reader) {
+        Ok(request) => said(alloc, &request),
+        Err(WebFault::Status(status)) => written(alloc, &Answer::Failed(status)),
+        Err(WebFault::Read) => Ok(String::from_str(alloc, "failed")?),
+        Err(WebFault::Memory) => Err("no memory".into()),
+    }
+}
+
+/// What an answer is read as: its status and its body.
+fn answer_told(alloc: Global, reader: &mut Drip<'_>) -> Result<String, Fail> {
+    match read_answer(alloc, reader) {
+        Ok(answer) => {
+            let status = answer.status;
+            let body = answer.body.as_str();
+            Ok(format!(in alloc; "{status} {body}")?)
+        }
+        Err(AnswerFault::Malformed) => Ok(String::from_str(alloc, "malformed")?),
+        Err(AnswerFault::Read) => Ok(String::from_str(alloc, "failed")?),
+        Err(AnswerFault::Memory) => Err("no memory".into()),
+    }
+}
+
+/// Whether this is what is read of the bytes, in pieces of these sizes.
+fn is_read(
+    alloc: Global,
+    side: Side,
+    bytes: &[u8],
+    pieces: (usize, usize, bool),
+    want: &str,
+) -> Result<bool, Fail> {
+    let (first, others, fails) = pieces;
+    let mut reader = Drip {
+        bytes,
+        first,
+        others,
+        fails,
+    };
+    let told = match side {
+        Side::Server => request_told(alloc, &mut reader)?,
+        Side::Client => answer_told(alloc, &mut reader)?,
+    };
+    Ok(told.as_str() == want)
+}
+
+/// Whether this is what is read of the bytes, whole, in pieces of one size, and in two pieces.
+fn is_read_anyhow(alloc: Global, side: Side, bytes: &[u8], want: &str) -> Result<bool, Fail> {
+    for size in [1, 2, 7, 100_000] {
+        if !is_read(alloc, side, bytes, (size, size, false), want)? {
+            return Ok(false);
+        }
+    }
+    for first in 1..bytes.len() {
+        if !is_read(alloc, side, bytes, (first, 100_000, false), want)? {
+            return Ok(false);
+        }
+    }
+    Ok(true)
+}
+
+/// Whether a read that fails is told, at each byte, and none is made after the last byte.
+fn is_read_exactly(alloc: Global, side: Side, bytes: &[u8], want: &str) -> Result<bool, Fail> {
+    for end in 0..bytes.len() {
+        if !is_read(alloc, side, &bytes[..end], (7, 100_000, true), "failed")? {
+            return Ok(false);
+        }
+    }
+    for size in [1, 2, 7, 100_000] {
+        if !is_read(alloc, side, bytes, (size, size, true), want)? {
+            return Ok(false);
+        }
+    }
+    Ok(true)
+}
+
+#[test]
+fn requests_are_read(rt: HostRuntime) -> Result<(), Fail> {
+    let alloc = rt.alloc();
+    requests_read_once();
+    for (text, want) in READ {
+        let bytes = text.as_bytes();
+        assert!(rt; is_read_anyhow(alloc, Side::Server, bytes, want)?, "{want}");
+        assert!(rt;
+            is_read_exactly(alloc, Side::Server, bytes, want)?,
+            "{want}, no more"
+        );
+    }
+    Ok(())
+}
+
+#[test]
+fn checks_refuse_in_their_order(rt: HostRuntime) -> Result<(), Fail> {
+    let alloc = rt.alloc();
+    for (text, answer) in REFUSED {
+        assert!(rt;
+            is_read_anyhow(alloc, Side::Server, text.as_bytes(), answer)?,
+            "{text}"
+        );
+    }
+    let latin = b"POST /patrons/2/holds HTTP/1.1\r\nCard-Key: cardkey00002\r\nRequest-Key: h1\r\n\
+        Content-Length: 37\r\n\r\n{\"branch\":\"\xe9\",\"branch\":1,\"title\":100}";
+    assert!(rt; is_read_anyhow(alloc, Side::Server, latin, BAD_REQUEST)?);
+    Ok(())
+}
+
+/// A page's request with so many fields, the last of which has a value of this length.
+fn page_with(alloc: Global, fields: usize, length: usize) -> Result<String, Fail> {
+    let mut text = String::from_str(
+        alloc,
+        "GET /patrons/1 HTTP/1.1\r\nCard-Key: cardkey00001\r\n",
+    )?;
+    for _ in 2..fields {
+        text.push_str("A: \r\n")?;
+    }
+    text.push_str("A: ")?;
+    for _ in 0..length {
+        text.push('a')?;
+    }
+    text.push_str("\r\n\r\n")?;
+    Ok(text)
+}
+
+#[test]
+fn heads_have_limits(rt: HostRuntime) -> Result<(), Fail> {
+    let alloc = rt.alloc();
+    let page = "1 cardkey00001 -: page 1";
+    for (fields, length, size, want) in [
+        (2, 8136, 8192, page),
+        (2, 8137, 8193, BAD_REQUEST),
+        (32, 0, 206, page),
+        (33, 0, 211, BAD_REQUEST),
+    ] {
+        let text = page_with(alloc, fields, length)?;
+        assert_eq!(rt; text.len(), size);
+        assert!(rt;
+            is_read_anyhow(alloc, Side::Server, text.as_bytes(), want)?,
+            "{size}"
+        );
+    }
+    Ok(())
+}
+
+/// Answers, each with its bytes.
+fn answers(alloc: Global) -> Result<[(Answer, &'static str); 8], Fail> {
+    let Some(due) = Day::new(20521) else {
+        return Err("no day".into());
+    };
+    let lent = Reply::Lent {
+        loan: LoanId::new(1),
+        due,
+    };
+    let held = Reply::Held {
+        hold: HoldId::new(1),
+    };
+    let page = Text::new(String::from_str(alloc, "patron 1 owed 0 name Ann Bell")?);
+    let quoted = Text::new(String::from_str(alloc, "patron 2 owed 0 name \"Bo\" Carr\nx")?);
+    Ok([
+        (Answer::reply(alloc, &lent)?, LENT),
+        (Answer::reply(alloc, &held)?, HELD),
+        (Answer::reply(alloc, &Reply::Shown { page })?, SHOWN),
+        (
+            Answer::reply(alloc, &Reply::Shown { page: quoted })?,
+            QUOTED,
+        ),
+        (
+            Answer::reply(alloc, &Reply::Refused(Refusal::NotAllowed))?,
+            FORBIDDEN,
+        ),
+        (Answer::Refused(Refusal::UnknownBranch), CONFLICT),
+        (Answer::Faulted(Fault::Database), UNAVAILABLE),
+        (
+            Answer::Failed(WebStatus::MethodNotAllowed(Method::POST)),
+            ONLY_POST,
+        ),
+    ])
+}
+
+/// Whether a writer with too little room for an answer takes the beginning that it has room for.
+fn is_cut(alloc: Global, answer: &Answer, want: &str) -> Result<bool, Fail> {
+    let bytes = want.as_bytes();
+    for room in 0..bytes.len() {
+        let mut writer = Narrow {
+            taken: Vec::new(alloc),
+            room,
+        };
+        if write_answer(&mut writer, answer).is_ok() || writer.taken[..] != bytes[..room] {
+            return Ok(false);
+        }
+    }
+    Ok(true)
+}
+
+#[test]
+fn answers_are_written(rt: HostRuntime) -> Result<(), Fail> {
+    let alloc = rt.alloc();
+    for (answer, want) in &answers(alloc)? {
+        let text = written(alloc, answer)?;
+        assert_eq!(rt; text.as_str(), *want);
+        assert!(rt; is_cut(alloc, answer, want)?, "{want}");
+    }
+    Ok(())
+}
+
+#[test]
+fn requests_are_sent(rt: HostRuntime) -> Result<(), Fail> {
+    let alloc = rt.alloc();
+    let (Some(desk_key), Some(key)) = (CardKey::new(alloc, "deskkey00001")?, Key::new(alloc, "d1")?)
+    else {
+        return Err("a key has not its form".into());
+    };
+    let mut words = Vec::new(alloc);
+    for word in ["check-out", "1", "10", "1"] {
+        words.push(String::from_str(alloc, word)?)?;
+    }
+    for room in 0..SENT.len() + 1 {
+        let mut writer = Narrow {
+            taken: Vec::new(alloc),
+            room,
+        };
+        let sent = write_send(alloc, &mut writer, &desk_key, &key, &words);
+        assert_eq!(rt; sent.is_ok(), room == SENT.len());
+        assert!(rt; writer.taken[..] == SENT.as_bytes()[..room], "{room}");
+    }
+    let want = "0 deskkey00001 d1: check-out 1 10 1";
+    assert!(rt; is_read_anyhow(alloc, Side::Server, SENT.as_bytes(), want)?);
+    Ok(())
+}
+
+#[test]
+fn answers_are_read(rt: HostRuntime) -> Result<(), Fail> {
+    let alloc = rt.alloc();
+    for (text, want) in ANSWERED {
+        let bytes = text.as_bytes();
+        assert!(rt; is_read_anyhow(alloc, Side::Client, bytes, want)?, "{want}");
+        assert!(rt;
+            is_read_exactly(alloc, Side::Client, bytes, want)?,
+            "{want}, no more"
+        );
+    }
+    for text in UNREAD {
+        assert!(rt;
+            is_read_anyhow(alloc, Side::Client, text.as_bytes(), "malformed")?,
+            "{text}"
+        );
+    }
+    let latin = b"HTTP/1.1 200 OK\r\nContent-Length: 1\r\n\r\n\xe9";
+    assert!(rt; is_read_anyhow(alloc, Side::Client, latin, "malformed")?);
+    Ok(())
+}

@@ -1,0 +1,343 @@
+#!/usr/bin/env python3
+"""Runs `circ serve` and `circ send` over sockets, with clients that nobody here wrote: curl and Python's http.client.
+
+Expected answers are those of docs/RULES.md, worked out by hand; those of the month's commands come from `desk_rules`.
+"""
+
+import http.client
+import json
+import os
+import shlex
+import shutil
+import socket
+import subprocess
+import tempfile
+import threading
+import time
+
+import end_to_end as desk
+from desk_rules import Library
+from end_to_end import CIRC, GROUND, PROGRAM, TOP, check, circ, rows, say, whole
+
+DESK_KEY = "deskkey00001"
+ANN, BO = {"Card-Key": "cardkey00001"}, {"Card-Key": "cardkey00002"}
+ANNS_PAGE = b'{"reply":"patron 1 owed 0 name Ann Bell"}'
+PAGE_OF_ANN = b"GET /patrons/1 HTTP/1.1\r\nCard-Key: cardkey00001\r\n\r\n"
+
+
+def free_port():
+    """A port that nobody listens on."""
+    with socket.socket() as found:
+        found.bind(("127.0.0.1", 0))
+        return found.getsockname()[1]
+
+
+class Serving:
+    """The program serving a file for so many connections; at the end it has printed just these lines and has this status."""
+
+    def __init__(self, path, each, after="", status=0):
+        self.port, self.after, self.status = free_port(), after, status
+        self.words = ["serve", path, str(self.port), "1", str(each), DESK_KEY]
+
+    def __enter__(self):
+        self.run = subprocess.Popen([PROGRAM, *self.words], stdout=subprocess.PIPE, stderr=subprocess.PIPE)
+        check("the first line", self.run.stdout.readline(), f"listening on {self.port}\n".encode())
+        return self
+
+    def __exit__(self, kind, error, trace):
+        if kind:
+            self.run.kill()
+        out, err = self.run.communicate(timeout=120)
+        if not kind:
+            check("what it printed", (out.decode(), err, self.run.returncode), (self.after, b"", self.status))
+
+    def ask(self, method, target, fields=None, body=None):
+        """The status, the body and the fields of an answer, by http.client."""
+        connection = http.client.HTTPConnection("127.0.0.1", self.port, timeout=60)
+        connection.request(method, target, body, fields or {})
+        answer = connection.getresponse()
+        given = answer.status, answer.read(), dict(answer.getheaders())
+        connection.close()
+        return given
+
+    def answers(self, method, target, fields, body, status, answer):
+        """Asks, and compares the answer."""
+        found = self.ask(method, target, fields, body)
+        check(f"{method} {target} {fields} {body}", found[:2], (status, answer))
+        size = str(len(answer))
+        wanted = {"Content-Type": "application/json", "Content-Length": size, "Connection": "close"}
+        check(f"its fields {target}", {name: found[2].get(name) for name in wanted}, wanted)
+        return found[2]
+
+    def desk(self, key, words):
+        """What the desk is answered, by http.client."""
+        fields = {"Desk-Key": DESK_KEY, "Request-Key": key}
+        return self.ask("POST", "/desk", fields, json.dumps(words))[:2]
+
+    def curl(self, target, *options):
+        """The status and the body of an answer, by curl."""
+        url = f"http://127.0.0.1:{self.port}{target}"
+        run = subprocess.run(["curl", "-s", "-m", "60", "-w", "\n%{http_code}", *options, url], capture_output=True, timeout=90)
+        check(f"curl {target}", run.returncode, 0)
+        body, _, status = run.stdout.rpartition(b"\n")
+        return int(status), body
+
+    def raw(self, *pieces, pause=0.002):
+        """All the bytes that pieces of a request are answered."""
+        with socket.create_connection(("127.0.0.1", self.port), timeout=60) as peer:
+            peer.setsockopt(socket.IPPROTO_TCP, socket.TCP_NODELAY, 1)
+            for piece in pieces:
+                peer.sendall(piece)
+                time.sleep(pause)
+            peer.shutdown(socket.SHUT_WR)
+            return everything(peer)
+
+
+def everything(peer):
+    """All that a peer sends up to its end."""
+    found = b""
+    while more := peer.recv(4096):
+        found += more
+    return found
+
+
+def answer(status, body, allow=""):
+    """The bytes of an answer."""
+    return (f"HTTP/1.1 {status}\r\n{allow}Content-Type: application/json\r\nContent-Length: {len(body)}\r\n"
+            f"Connection: close\r\n\r\n").encode() + body
+
+
+def a_library(folder, name):
+    """The small library that all begin with."""
+    path = os.path.join(folder, name)
+    say(path, GROUND)
+    return path
+
+
+def each_route(folder):
+    """Each route with its command, and each status."""
+    path = a_library(folder, "routes.db")
+    hold = b'{"branch":1,"title":100}'
+    posted = [
+        ("POST", "/patrons/2/holds", {**BO, "Request-Key": "h1"}, hold, 200, b'{"reply":"hold 1"}'),
+        ("GET", "/patrons/2", BO, None, 200,
+         b'{"reply":"patron 2 owed 0 name Bo Carr\\nhold 1 at 1 waiting title 100 Rivers of the North"}'),
+        ("GET", "/patrons/1", ANN, None, 200, ANNS_PAGE),
+        # the same key again gets the same reply, and another request under it is refused
+        ("POST", "/patrons/2/holds", {**BO, "Request-Key": "h1"}, hold, 200, b'{"reply":"hold 1"}'),
+        ("POST", "/patrons/2/holds", {**BO, "Request-Key": "h1"}, b'{"branch":2,"title":100}', 409, b'{"refusal":80}'),
+        ("POST", "/patrons/2/holds", {**BO, "Request-Key": "h2"}, hold, 409, b'{"refusal":50}'),
+        ("POST", "/patrons/2/holds/1/cancel", {**BO, "Request-Key": "c1"}, None, 200, b'{"reply":"ok"}'),
+        ("POST", "/patrons/2/holds/1/cancel", {**BO, "Request-Key": "c2"}, None, 409, b'{"refusal":53}'),
+        # another patron's hold is as none
+        ("POST", "/patrons/1/holds/1/cancel", {**ANN, "Request-Key": "c3"}, None, 409, b'{"refusal":15}'),
+        ("POST", "/desk", {"Desk-Key": DESK_KEY, "Request-Key": "d1"}, b'["check-out","1","10","1"]', 200,
+         b'{"reply":"loan 1 due 2026-03-09"}'),
+        ("POST", "/patrons/1/loans/1/renew", {**ANN, "Request-Key": "r1"}, None, 200, b'{"reply":"loan 1 due 2026-03-16"}'),
+        ("POST", "/patrons/2/loans/1/renew", {**BO, "Request-Key": "r2"}, None, 409, b'{"refusal":14}'),
+        ("POST", "/desk", {"Desk-Key": DESK_KEY, "Request-Key": "d2"}, b'["page","1"]', 200,
+         b'{"reply":"patron 1 owed 0 name Ann Bell\\nloan 1 due 2026-03-16 renewals 0 title 100 Rivers of the North"}'),
+        # keys
+        ("GET", "/patrons/2", ANN, None, 403, b'{"refusal":81}'),
+        ("GET", "/patrons/8", ANN, None, 403, b'{"refusal":81}'),
+        ("GET", "/patrons/2", {}, None, 403, b'{"refusal":81}'),
+        ("GET", "/patrons/2", {"Card-Key": "short"}, None, 403, b'{"refusal":81}'),
+        ("POST", "/patrons/2/holds", {**ANN, "Request-Key": "h3"}, hold, 403, b'{"refusal":81}'),
+        ("POST", "/desk", {"Desk-Key": "deskkey00002", "Request-Key": "d3"}, b'["page","1"]', 403, b'{"refusal":81}'),
+        ("POST", "/desk", {**ANN, "Request-Key": "d3"}, b'["page","1"]', 403, b'{"refusal":81}'),
+        # the checks before them
+        ("POST", "/patrons/2/holds", {"Card-Key": "cardkey00009"}, hold, 400, b'{"status":400}'),
+        ("POST", "/patrons/2/holds", {**BO, "Request-Key": "h 4"}, hold, 400, b'{"status":400}'),
+        ("POST", "/patrons/2/holds", {**BO, "Request-Key": "h4"}, b'{"branch":"1","title":100}', 400, b'{"status":400}'),
+        ("POST", "/desk", {"Desk-Key": DESK_KEY, "Request-Key": "d4"}, b'["page","01"]', 400, b'{"status":400}'),
+        ("DELETE", "/patrons/x", {}, None, 404, b'{"status":404}'),
+        ("GET", "/patrons/01", ANN, None, 404, b'{"status":404}'),
+        ("GET", "/patrons/2?x=1", BO, None, 404, b'{"status":404}'),
+        ("GET", "/", {}, None, 404, b'{"status":404}'),
+        ("POST", "/desk", {"Desk-Key": DESK_KEY, "Request-Key": "d5"}, b" " * 65_537, 413, b'{"status":413}'),
+    ]
+    wrong = [("DELETE", "/patrons/1", "GET"), ("PUT", "/desk", "POST"), ("GET", "/patrons/1/loans/1/renew", "POST")]
+    with Serving(path, len(posted) + len(wrong)) as serving:
+        for method, target, fields, body, status, wanted in posted:
+            serving.answers(method, target, fields, body, status, wanted)
+        for method, target, allowed in wrong:
+            found = serving.answers(method, target, {}, None, 405, b'{"status":405}')
+            check(f"what {target} allows", found.get("Allow"), allowed)
+    check("the loan", rows(path, "SELECT loan, copy, patron, due, renewals_left FROM loans"), [(1, 10, 1, 20528, 0)])
+    check("the hold", rows(path, "SELECT hold, patron, title, branch, state FROM holds"), [(1, 2, 100, 1, 3)])
+    check("what is kept of patrons", rows(path, "SELECT caller, key FROM kept WHERE caller > 0 ORDER BY caller, key"),
+          [(1, "r1"), (2, "c1"), (2, "h1")])
+
+
+def by_curl(folder):
+    """Each route by curl, as the README shows it, and a body for which curl waits to be told to go on."""
+    path = a_library(folder, "curl.db")
+    with open(os.path.join(TOP, "README.md"), encoding="utf-8") as file:
+        lines = [line.strip() for line in file if line.startswith("    curl ")]
+    answers = [b'{"reply":"hold 1"}', b'{"reply":"patron 2 owed 0 name Bo Carr\\nhold 1 at 1 waiting title 100 Rivers of the North"}',
+               b'{"reply":"ok"}', b'{"reply":"loan 1 due 2026-03-09"}', b'{"reply":"loan 1 due 2026-03-16"}']
+    check("the README shows each route", len(lines), len(answers))
+    with Serving(path, len(answers) + 1) as serving:
+        for line, wanted in zip(lines, answers):
+            words = shlex.split(line.replace("127.0.0.1:8080", f"127.0.0.1:{serving.port}"))
+            run = subprocess.run([*words, "-s", "-m", "60"], capture_output=True, timeout=90)
+            check(line, (run.stdout, run.returncode), (wanted, 0))
+        long = os.path.join(folder, "long.json")
+        with open(long, "w", encoding="utf-8") as file:
+            file.write('["branch","3","5","Hill"]' + " " * 60_000)
+        found = serving.curl("/desk", "-H", f"Desk-Key: {DESK_KEY}", "-H", "Request-Key: e1",
+                             "-H", "Expect: 100-continue", "--data-binary", f"@{long}")
+        check("a body that curl asks about", found, (200, b'{"reply":"ok"}'))
+
+
+def in_pieces(folder):
+    """A request is answered the same however its bytes come."""
+    path = a_library(folder, "pieces.db")
+    whole_page = answer("200 OK", ANNS_PAGE)
+    pieces = [[PAGE_OF_ANN[at:at + step] for at in range(0, len(PAGE_OF_ANN), step)] for step in (1, 2, 7)]
+    pieces += [[PAGE_OF_ANN[:at], PAGE_OF_ANN[at:]] for at in range(1, len(PAGE_OF_ANN))]
+    body = b'{"branch":1,"title":100}'
+    head = f"POST /patrons/2/holds HTTP/1.1\r\nCard-Key: cardkey00002\r\nRequest-Key: h1\r\nContent-Length: {len(body)}\r\n\r\n".encode()
+    with Serving(path, len(pieces) + 7) as serving:
+        for cut in pieces:
+            check("a page in pieces", serving.raw(*cut), whole_page)
+        held = answer("200 OK", b'{"reply":"hold 1"}')
+        check("a body that comes late", serving.raw(head, body, pause=0.3), held)
+        check("a body in pieces", serving.raw(head, *[body[at:at + 5] for at in range(0, len(body), 5)]), held)
+        check("a body one byte short", serving.raw(head, body[:-1]), answer("400 Bad Request", b'{"status":400}'))
+        check("a head cut in its middle", serving.raw(PAGE_OF_ANN[:30]), answer("400 Bad Request", b'{"status":400}'))
+        check("the method that is allowed", serving.raw(b"DELETE /patrons/1 HTTP/1.1\r\n\r\n"),
+              answer("405 Method Not Allowed", b'{"status":405}', "Allow: GET\r\n"))
+        # a client that is gone before its answer
+        with socket.create_connection(("127.0.0.1", serving.port), timeout=60) as gone:
+            gone.sendall(PAGE_OF_ANN[:30])
+        check("the next one", serving.raw(PAGE_OF_ANN), whole_page)
+    check("one hold", rows(path, "SELECT COUNT(*) FROM holds"), [(1,)])
+
+
+def one_waits(folder):
+    """Connections are answered in the order in which they came; one that waits for its turn is answered too."""
+    path = a_library(folder, "waits.db")
+    with Serving(path, 9) as serving:
+        peers = [socket.create_connection(("127.0.0.1", serving.port), timeout=60) for _ in range(9)]
+        peers[8].sendall(PAGE_OF_ANN)
+        for peer in peers[:8]:
+            peer.sendall(PAGE_OF_ANN)
+            check("one of eight", everything(peer), answer("200 OK", ANNS_PAGE))
+            peer.close()
+        check("the ninth", everything(peers[8]), answer("200 OK", ANNS_PAGE))
+        peers[8].close()
+
+
+def a_silent_client(folder):
+    """A client that sends nothing is let go after half a minute, and the next one is answered."""
+    path = a_library(folder, "silent.db")
+    with Serving(path, 2) as serving:
+        with socket.create_connection(("127.0.0.1", serving.port), timeout=90) as silent:
+            began = time.monotonic()
+            check("the next one", serving.raw(PAGE_OF_ANN), answer("200 OK", ANNS_PAGE))
+            check("it had waited", 29 < time.monotonic() - began < 45, True)
+            check("the silent one gets nothing", everything(silent), b"")
+
+
+def faults(folder):
+    """After a fault of the desk its connection is told, nobody else is served, and a line tells the fault."""
+    path = a_library(folder, "damaged.db")
+    desk.write(path, "UPDATE patrons SET card_key = 'short' WHERE patron = 2")
+    before = whole(path)
+    with Serving(path, 5, "fault 93\n", 3) as serving:
+        serving.answers("GET", "/patrons/1", ANN, None, 200, ANNS_PAGE)
+        serving.answers("GET", "/patrons/2", BO, None, 503, b'{"fault":93}')
+    check("the rows stay", whole(path), before)
+    # another process has the file
+    path = a_library(folder, "taken.db")
+    with Serving(path, 1) as serving:
+        check("the file is taken", circ(["file", path, "x1", "begin-day", "2026-03-03"]), ("fault 91", 3))
+        check("a port that is taken", circ(["serve", os.path.join(folder, "new.db"), str(serving.port), "1", "1", DESK_KEY]),
+              ("fault network", 3))
+        serving.answers("GET", "/patrons/1", ANN, None, 200, ANNS_PAGE)
+    check("nobody listens", circ(["send", str(free_port()), DESK_KEY, "s1", "page", "1"]), ("fault network", 3))
+    # an answer that doesn't come
+    with socket.socket() as listener:
+        listener.bind(("127.0.0.1", 0))
+        listener.listen()
+        thread = threading.Thread(target=lambda: listener.accept()[0].close())
+        thread.start()
+        words = ["send", str(listener.getsockname()[1]), DESK_KEY, "s1", "page", "1"]
+        check("no answer comes", circ(words), ("fault network", 3))
+        thread.join()
+
+
+def bad_words(folder):
+    """Words out of form are told before anything is opened."""
+    path = os.path.join(folder, "never.db")
+    port = str(free_port())
+    for words in (["serve"], ["serve", path], ["serve", path, port, "1", "1"], ["serve", path, "0", "1", "1", DESK_KEY],
+                  ["serve", path, "65536", "1", "1", DESK_KEY], ["serve", path, port, "0", "1", DESK_KEY],
+                  ["serve", path, port, "2", "1", DESK_KEY], ["serve", path, port, "1", "0", DESK_KEY],
+                  ["serve", path, port, "1", "1000001", DESK_KEY], ["serve", path, port, "1", "01", DESK_KEY],
+                  ["serve", path, port, "1", "1", "short"], ["serve", path, port, "1", "1", DESK_KEY, "more"],
+                  ["send"], ["send", port], ["send", port, DESK_KEY], ["send", port, DESK_KEY, "k1"],
+                  ["send", "0", DESK_KEY, "k1", "page", "1"], ["send", port, "short", "k1", "page", "1"],
+                  ["send", port, DESK_KEY, "k 1", "page", "1"]):
+        check(f"{words}", circ(words), ("words not understood", 4))
+    check("no file is made", os.path.exists(path), False)
+
+
+def sent(folder):
+    """The month of commands by `circ send`: each answer, its status, and every row as by `circ file`."""
+    with open(os.path.join(TOP, "tests", "month.txt"), encoding="utf-8") as file:
+        requests = [shlex.split(line) for line in file]
+    path, library = os.path.join(folder, "month.db"), Library()
+    others = [
+        (DESK_KEY, "o1", ["page", "01"], b'{"status":400}\n', 4),
+        (DESK_KEY, "o2", ["no-such-word"], b'{"status":400}\n', 4),
+        (DESK_KEY, "o3", ["branch", *["Hill"] * 12], b'{"status":400}\n', 4),
+        ("deskkey00002", "o4", ["page", "1"], b'{"refusal":81}\n', 2),
+    ]
+    with Serving(path, len(requests) + len(others)) as serving:
+        for key, *words in requests:
+            line = library.handle(key, words)
+            wanted = {"refusal": int(line.split()[1])} if line.startswith("refused") else {"reply": line}
+            run = subprocess.run([PROGRAM, "send", str(serving.port), DESK_KEY, key, *words], capture_output=True, timeout=60)
+            found = run.stdout.decode(), run.stderr, run.returncode
+            check(f"{key} {words}", found,
+                  (json.dumps(wanted, ensure_ascii=False, separators=(",", ":")) + "\n", b"", 2 if "refusal" in wanted else 0))
+        for desk_key, key, words, wanted, status in others:
+            run = subprocess.run([PROGRAM, "send", str(serving.port), desk_key, key, *words], capture_output=True, timeout=60)
+            check(f"{words}", (run.stdout, run.returncode), (wanted, status))
+    desk.the_rows_are(path, library)
+
+
+def main():
+    subprocess.run([CIRC], stdout=subprocess.DEVNULL, check=False)  # builds the program where it isn't there
+    if not shutil.which("curl"):
+        raise SystemExit("web: curl is missing")
+    with tempfile.TemporaryDirectory() as folder:
+        # half a minute in which nothing happens, beside the others
+        failed = []
+        silent = threading.Thread(target=lambda: failed.append(caught(a_silent_client, folder)))
+        silent.start()
+        each_route(folder)
+        by_curl(folder)
+        in_pieces(folder)
+        one_waits(folder)
+        faults(folder)
+        bad_words(folder)
+        sent(folder)
+        silent.join()
+        check("the silent client", failed, [None])
+    print(f"web: {desk.passed} passed, 0 failed")
+
+
+def caught(call, folder):
+    """What a call in a thread of its own failed with."""
+    try:
+        call(folder)
+    except BaseException as error:
+        return repr(error)
+    return None
+
+
+if __name__ == "__main__":
+    main()
