@@ -6,8 +6,6 @@ mod answer;
 mod asked;
 mod body;
 mod command;
-#[cfg(test)]
-mod examples;
 mod fault;
 mod fields;
 mod head;
@@ -19,8 +17,6 @@ mod receiving;
 mod request;
 mod routes;
 mod sending;
-#[cfg(test)]
-mod tests;
 mod written;
 
 pub use answer::{Answer, write_answer};

@@ -4,16 +4,16 @@ use crate::examples::{
     ANSWERED, BAD_REQUEST, CONFLICT, FORBIDDEN, HELD, LENT, ONLY_POST, QUOTED, READ, REFUSED, SENT,
     SHOWN, UNAVAILABLE, UNREAD,
 };
-use crate::{
-    Answer, AnswerFault, WebFault, WebRequest, WebStatus, read_answer, read_request,
-    requests_read_once, write_answer, write_send,
-};
 use http::Method;
 use std::alloc::Global;
 use std::io;
 use std::io::{Read, Write};
 use std::test::Fail;
 use terms::{CardKey, Day, Fault, HoldId, Key, LoanId, Refusal, Reply, Text, request_text};
+use web::{
+    Answer, AnswerFault, WebFault, WebRequest, WebStatus, read_answer, read_request,
+    requests_read_once, write_answer, write_send,
+};
 
 /// A reader that gives its bytes in pieces, the first and the others of these sizes. After the last
 /// byte it ends, or fails.
