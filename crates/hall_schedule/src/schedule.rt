@@ -10,10 +10,10 @@ use std::alloc::{AllocError, Global};
 use std::collections::VecDeque;
 
 /// How many workers there are at most.
-const WORKERS: u64 = 8;
+pub const WORKERS: u64 = 8;
 
 /// How many submissions the queue holds.
-const PLACES: usize = 8;
+pub const PLACES: usize = 8;
 
 /// One step of a worker or of the desk.
 #[derive(Clone, Copy, Debug, PartialEq, Eq)]

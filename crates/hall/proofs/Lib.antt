@@ -1,0 +1,4 @@
+pub mod Turns
+pub mod HandledLists
+pub mod Hiring
+pub mod Progress

@@ -1,0 +1,128 @@
+-- What stands after one submission more.
+use Rattle.std.proofs.Common.{◌≡◌, ℕ, ◌+◌, ◌≤◌, List, [], ◌∷◌, ◌++◌, length, Option, None, Some, ◌⊎◌, inl, inr, refl, sym, ap, subst, arith}
+use Rattle.std.specs.Prelude.{Ok, Err}
+use Rattle.store.specs.Library.{Ghosts, Held, state}
+use Rattle.terms.specs.declared.command.Request.{Request}
+use Rattle.terms.specs.declared.fault.Fault.{Fault}
+use Rattle.terms.specs.declared.fault.Fault.TheVariants.{Closed, Stored}
+use Rattle.terms.specs.declared.reply.Reply.{Reply}
+use Rattle.model.specs.History.{History}
+use Rattle.model.specs.Requests.{after, after_one}
+use Rattle.desk.specs.Answering.{Shows, LeavesOneOf}
+use Rattle.desk.specs.Running.{Handles, ShowsHeadline}
+use Rattle.hall.specs.declared.messages.Submission.{Submission}
+use Rattle.hall.specs.declared.messages.Message.{Message}
+use Rattle.hall.specs.declared.messages.Message.TheVariants.{Submit}
+use Rattle.hall.specs.Queue.{submissions, handled, unhandled, requests}
+use Rattle.hall.specs.Handling.{HandledFirst, IsHandled, MeetsFault, IsPassedOver, TakesNext}
+use Rattle.hall.proofs.HandledLists.{submit_same, submit_more, rest_more, no_rest}
+
+after-last : (xs : List Request) (H : History) (r : Request) → after H (xs ++ r ∷ []) ≡ after_one (after H xs) r
+after-last [] H r = refl
+after-last (x ∷ xs) H r = after-last xs (after_one H x) r
+
+none-some : (o : Option Fault) (f : Fault) → o ≡ None → o ≡ Some f → ⊥
+none-some o f n s = cc
+
+module _ {S : Type 0} (g : Ghosts S) where
+  -- nothing was handled
+  pub none-handled : (held : Held S) (rest : List Request) → HandledFirst [] rest g held held None
+  none-handled held rest = record {
+    clean = λ disk. disk;
+    shown = λ disk e H shows. shows;
+    headline = λ disk e more. let never : ⊥ = omega (arith, more) in absurd never;
+    sound = λ disk e. let never : ⊥ = cc in absurd never;
+    undone = λ disk is_open H shows. shows;
+    left = λ disk. tt;
+  }
+
+  -- one more was handled
+  handled-more : (first rest rest' : List Request) (request : Request) (a b c : Held S) (reply : Reply) → HandledFirst first rest g a b None → Handles request g b c (Ok reply)
+      → HandledFirst (first ++ request ∷ []) rest' g a c None
+  handled-more first rest rest' request a b c reply h d = record {
+    clean = λ disk. h.clean (d.handled.clean disk);
+    shown = λ disk e H shows.
+        subst (Shows (state g c)) (sym (after-last first H request)) (d.handled.replied disk (after H first) (h.shown (d.handled.clean disk) refl H shows)).1;
+    headline = λ disk e more H shows.
+        subst (ShowsHeadline g c) (sym (after-last first H request)) (d.headline disk (after H first) (h.shown (d.handled.clean disk) refl H shows));
+    sound = λ disk e. let never : ⊥ = cc in absurd never;
+    undone = λ disk is_open H shows.
+        subst (Shows (state g c)) (sym (after-last first H request)) (d.handled.replied disk (after H first) (h.shown (d.handled.clean disk) refl H shows)).1;
+    left = λ disk. tt;
+  }
+
+  -- a fault came
+  fault-met : (first rest : List Request) (request : Request) (a b c : Held S) (fault : Fault) → rest ≡ [] → HandledFirst first rest g a b None → Handles request g b c (Err fault)
+      → HandledFirst first (rest ++ request ∷ []) g a c (Some fault)
+  fault-met first rest request a b c fault none h d = record {
+    clean = λ disk. h.clean (d.handled.clean disk);
+    shown = λ disk e. let never : ⊥ = cc in absurd never;
+    headline = λ disk e. let never : ⊥ = cc in absurd never;
+    sound = λ disk e H shows.
+        let is : fault ≡ Stored = cc in
+        d.handled.sound disk (ap Err is) (after H first) (h.shown (d.handled.clean disk) refl H shows);
+    undone = λ disk is_open H shows. d.handled.undone disk is_open (after H first) (h.shown (d.handled.clean disk) refl H shows);
+    left = λ disk H shows. (request, [], ap (λ (x : List Request). x ++ request ∷ []) none, d.handled.left disk (after H first) (h.shown (d.handled.clean disk) refl H shows));
+  }
+
+  -- a stop leaves what the tables show
+  still-left : (held : Held S) (H K : History) → Shows (state g held) H → LeavesOneOf (state g held) H K
+  still-left held H K shows = λ trees may. let found = shows.tables.left trees may in (found.0, inl found.1, found.2)
+
+  -- the count has come to its end
+  closed-now : (first rest : List Request) (request : Request) (a b : Held S) → rest ≡ [] → HandledFirst first rest g a b None → HandledFirst first (rest ++ request ∷ []) g a b (Some Closed)
+  closed-now first rest request a b none h = record {
+    clean = h.clean;
+    shown = λ disk e. let never : ⊥ = cc in absurd never;
+    headline = λ disk e. let never : ⊥ = cc in absurd never;
+    sound = λ disk e. let never : ⊥ = cc in absurd never;
+    undone = h.undone;
+    left = λ disk H shows. (request, [], ap (λ (x : List Request). x ++ request ∷ []) none, still-left b (after H first) (after_one (after H first) request) (h.shown disk refl H shows));
+  }
+
+  -- it was closed before
+  closed-on : (first rest : List Request) (request : Request) (a b : Held S) (fault : Fault) → HandledFirst first rest g a b (Some fault) → HandledFirst first (rest ++ request ∷ []) g a b (Some fault)
+  closed-on first rest request a b fault h = record {
+    clean = h.clean;
+    shown = h.shown;
+    headline = h.headline;
+    sound = h.sound;
+    undone = h.undone;
+    left = λ disk H shows. let l = h.left disk H shows in (l.0, l.1 ++ request ∷ [], ap (λ (x : List Request). x ++ request ∷ []) l.2, l.3);
+  }
+
+  passed-over : (first rest : List Request) (request : Request) (a b : Held S) (before : Option Fault) (fault : Fault) → (before ≡ None → rest ≡ [])
+      → (before ≡ Some fault) ⊎ ((before ≡ None) × (fault ≡ Closed)) → HandledFirst first rest g a b before → HandledFirst first (rest ++ request ∷ []) g a b (Some fault)
+  passed-over first rest request a b before fault all (inl same) h = closed-on first rest request a b fault (subst (HandledFirst first rest g a b) same h)
+  passed-over first rest request a b before fault all (inr now) h =
+      subst (λ (f : Fault). HandledFirst first (rest ++ request ∷ []) g a b (Some f)) (sym now.1) (closed-now first rest request a b (all now.0) (subst (HandledFirst first rest g a b) now.0 h))
+
+  -- one more submission was received
+  pub submission-kept : (a b c : Held S) (n m : ℕ) (before after' : Option Fault) (got got' : List Message) (s : Submission) → got' ≡ got ++ Submit s ∷ []
+      → TakesNext s.request g b c n m before after' → n ≤ length (submissions got) → (before ≡ None → n ≡ length (submissions got))
+      → HandledFirst (requests (handled n got)) (requests (unhandled n got)) g a b before
+      → (m ≤ length (submissions got')) × (after' ≡ None → m ≡ length (submissions got')) × HandledFirst (requests (handled m got')) (requests (unhandled m got')) g a c after'
+  submission-kept a b c n m before after' got got' s e (inl t) le all h =
+      let first = requests (handled n got) in
+      let rest = requests (unhandled n got) in
+      let rest' = requests (unhandled m got') in
+      let k = submit_more n m got got' s e t.counted (all t.was) in
+      let done = handled-more first rest rest' s.request a b c t.reply (subst (HandledFirst first rest g a b) t.was h) t.handles in
+      (omega (arith, k.0), (λ none. k.0), subst (λ (x : List Request). HandledFirst x rest' g a c after') (sym k.1) (subst (HandledFirst (first ++ s.request ∷ []) rest' g a c) (sym t.is) done))
+  submission-kept a b c n m before after' got got' s e (inr (inl t)) le all h =
+      let first = requests (handled n got) in
+      let rest = requests (unhandled n got) in
+      let k = submit_same n m got got' s e t.counted le in
+      let met = fault-met first rest s.request a b c t.fault (no_rest n got (all t.was)) (subst (HandledFirst first rest g a b) t.was h) t.handles in
+      let here : HandledFirst first (rest ++ s.request ∷ []) g a c after' = subst (HandledFirst first (rest ++ s.request ∷ []) g a c) (sym t.is) met in
+      let more : HandledFirst first (requests (unhandled m got')) g a c after' = subst (λ (x : List Request). HandledFirst first x g a c after') (sym (rest_more n m got got' s e t.counted le)) here in
+      (k.0, (λ none. absurd (none-some after' t.fault none t.is)), subst (λ (x : List Request). HandledFirst x (requests (unhandled m got')) g a c after') (sym k.1) more)
+  submission-kept a b c n m before after' got got' s e (inr (inr t)) le all h =
+      let first = requests (handled n got) in
+      let rest = requests (unhandled n got) in
+      let k = submit_same n m got got' s e t.counted le in
+      let past = passed-over first rest s.request a b before t.fault (λ none. no_rest n got (all none)) t.was h in
+      let same : HandledFirst first (rest ++ s.request ∷ []) g a c (Some t.fault) = subst (λ (x : Held S). HandledFirst first (rest ++ s.request ∷ []) g a x (Some t.fault)) (sym t.same) past in
+      let here : HandledFirst first (rest ++ s.request ∷ []) g a c after' = subst (HandledFirst first (rest ++ s.request ∷ []) g a c) (sym t.is) same in
+      let more : HandledFirst first (requests (unhandled m got')) g a c after' = subst (λ (x : List Request). HandledFirst first x g a c after') (sym (rest_more n m got got' s e t.counted le)) here in
+      (k.0, (λ none. absurd (none-some after' t.fault none t.is)), subst (λ (x : List Request). HandledFirst x (requests (unhandled m got')) g a c after') (sym k.1) more)

@@ -1,0 +1,42 @@
+use Rattle.std.proofs.Common.{◌≡◌, ◌+◌, ◌≤◌, ℕ, true, false, List, [], ◌∷◌, ◌++◌, ◌⊎◌, length, slice_index_or, sym, ap, ◌∙◌, subst, inl, inr, arith}
+use Rattle.terms.specs.declared.command.Request.{Request}
+use Rattle.hall.specs.declared.messages.Message.{Message}
+use Rattle.hall.specs.declared.messages.Message.TheVariants.{Submit, Leave}
+use Rattle.hall.specs.declared.messages.View.{View}
+use Rattle.hall.specs.Queue.{of, is_open, submissions, handled, unhandled, requests}
+use Rattle.hall.specs.Handling.{HandledFirst}
+use Rattle.hall.proofs.HandledLists.{leave_kept, rest_kept, stays_gone, goes_now}
+use Rattle.hall.proofs.Progress.{submission-kept}
+use Rattle.hall.proofs.desk_side.DeskSide.desk_loop.Goals as goal
+
+pub work-preserved-in-Ok-Leave : goal.work-preserved-in-Ok-Leave
+work-preserved-in-Ok-Leave g c =
+    let i = c.work.invariant in
+    let e = c.in-Ok-Leave.ensures.0 in
+    let got : c.receive.new.self.got ≡ c.work.inbox.got ++ Leave c.in-Ok-Leave.worker ∷ [] = ap (λ (v : View). v.got) e ∙ ap (λ (x : Message). c.work.inbox.got ++ x ∷ []) c.in-Ok-Leave.field-0-is in
+    let k = leave_kept c.work.progress.handled c.work.inbox.got c.receive.new.self.got c.in-Ok-Leave.worker got i.counted in
+    record {
+      hearing = (ap (λ (v : View). v.gets) e ∙ i.hearing.0, ap (λ (v : View). v.sends) e ∙ i.hearing.1);
+      gone = λ j h. elim (c.note.ensures j h) [ inl old ↦ stays_gone c.work.inbox.got c.receive.new.self.got (Leave c.in-Ok-Leave.worker) got (j + 1) (i.gone j old) | inr now ↦ goes_now c.work.inbox.got c.receive.new.self.got (j + 1) c.in-Ok-Leave.worker got now ];
+      counted = omega (arith, k.0, i.counted);
+      all = λ f. i.all f ∙ sym k.0;
+      desk = subst (λ (l : List Request). HandledFirst l (requests (unhandled c.work.progress.handled c.receive.new.self.got)) g.S.Store c.args.self.desk c.work.desk c.work.progress.fault) (sym (ap requests k.1))
+          (subst (λ (l : List Request). HandledFirst (requests (handled c.work.progress.handled c.work.inbox.got)) l g.S.Store c.args.self.desk c.work.desk c.work.progress.fault)
+          (sym (rest_kept c.work.progress.handled c.work.inbox.got c.receive.new.self.got c.in-Ok-Leave.worker got)) i.desk);
+    }
+
+pub work-preserved-in-Ok-Submit : goal.work-preserved-in-Ok-Submit
+work-preserved-in-Ok-Submit g c =
+    let i = c.work.invariant in
+    let e = c.in-Ok-Submit.ensures.0 in
+    let s = c.in-Ok-Submit.submission in
+    let got : c.receive.new.self.got ≡ c.work.inbox.got ++ Submit s ∷ [] = ap (λ (v : View). v.got) e ∙ ap (λ (x : Message). c.work.inbox.got ++ x ∷ []) c.in-Ok-Submit.field-0-is in
+    let n = c.handle_or_tell in
+    let k = submission-kept g.S.Store c.args.self.desk c.work.desk n.new.desk c.work.progress.handled n.new.progress.handled c.work.progress.fault n.new.progress.fault c.work.inbox.got c.receive.new.self.got s got n.ensures i.counted i.all i.desk in
+    record {
+      hearing = (ap (λ (v : View). v.gets) e ∙ i.hearing.0, ap (λ (v : View). v.sends) e ∙ i.hearing.1);
+      gone = λ j h. stays_gone c.work.inbox.got c.receive.new.self.got (Submit s) got (j + 1) (i.gone j h);
+      counted = k.0;
+      all = k.1;
+      desk = k.2;
+    }

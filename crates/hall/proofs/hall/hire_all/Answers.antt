@@ -1,0 +1,13 @@
+use Rattle.hall.proofs.Hiring.{hired, still-hearing}
+use Rattle.hall.proofs.hall.hire_all.Goals as goal
+
+pub loop-k-preserved : goal.loop-k-preserved
+loop-k-preserved g c =
+    let i = c.loop-k.invariant in
+    let s = still-hearing c.loop-k.inbox c.hire.new.inbox c.in_ok-post.ensures.1 i.hearing i.fresh c.loop-k.k i.made in
+    record {
+      hearing = s.0;
+      fresh = s.1;
+      made = s.2;
+      all = hired c.loop-k.k c.loop-k.all.items c.push.new.self.items c.new-worker.result i.all c.new-worker.ensures c.in_ok-push.ensures.items;
+    }

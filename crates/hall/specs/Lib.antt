@@ -1,0 +1,4 @@
+pub mod Names
+pub mod Queue
+pub mod Handling
+pub mod Openings

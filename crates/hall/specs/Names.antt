@@ -1,0 +1,17 @@
+-- What tells the queue of one hall from another's.
+use Rattle.atomic_table.specs.Seated.{TableId}
+use Rattle.atomic_table.specs.declared.badge.Badge.{Badge}
+use Rattle.crossbeam_channel.specs.Claims.{no_key}
+use Rattle.crossbeam_channel.specs.declared.flavors.array.Key.{Key}
+use Rattle.hall.specs.declared.messages.Message.{Message}
+
+-- The name of a queue.
+pub record Name : Type 0 where
+  -- the table of turns
+  pub queue : TableId
+  -- the key of the places
+  pub key : Badge (Key Message)
+
+-- A name of no queue.
+abbrev pub no_name : Name
+no_name = record { queue = (no_key {X = Message}).table_id; key = no_key }

@@ -1,0 +1,241 @@
+//! The ends of the queue.
+
+ghost use Rattle.std.specs.Prelude.{◌≡◌, ◌+◌, true, false, length, MatchResult};
+ghost use Rattle.crossbeam_channel.specs.Claims.{IsKeyed};
+ghost use Rattle.crossbeam_channel.specs.Ends.{sends_on};
+ghost use Rattle.crossbeam_channel.specs.Err.{send_message};
+ghost use Rattle.hall.specs.Queue.{from, of, is_open, HasNumber, IsNext, IsHearing, IsSending};
+ghost use Rattle.hall.specs.Queue.{desk_view, worker_view, joined, taken_in, sent_more, got_more};
+
+use crate::messages::{Message, View};
+use crate::opening::Opening;
+use crate::rule::{Gets, Hires, InTurn, Sends, TakesIn, Total};
+use crossbeam_channel::{Pass, RecvError, RuledReceiver, RuledSender, SendError, bounded_with};
+use hall_schedule::PLACES;
+use std::alloc::Global;
+use std::marker::{Model, PhantomData};
+use std::sync::Wait;
+use terms::Memory;
+
+/// A queue of 8 places that belongs to no hall yet.
+#[derive(Drop)]
+pub struct Opened {
+    sender: RuledSender<Message, View, InTurn>,
+    receiver: RuledReceiver<Message, View, InTurn>,
+    pass: Pass<Message, View>,
+}
+
+impl Model for Opened {
+    ghost use Rattle.std.specs.Prelude.{◌≡◌};
+    ghost use Rattle.crossbeam_channel.specs.Claims.{view as knows, IsSeatAt};
+    ghost use Rattle.crossbeam_channel.specs.Ends.{sends_on, receives_on, ruled_capacity};
+    ghost use Rattle.hall_schedule.specs.declared.schedule.TheConstants.{PLACES};
+    ghost use Rattle.hall.specs.Queue.{desk_view};
+    ghost use Rattle.hall.specs.Names.{Name};
+
+    ghost Value = { Name };
+
+    ghost view = { λ o. record { queue = o.pass.table_id; key = o.pass.me.0.of } };
+
+    ghost invariant = { λ o. (receives_on o.receiver ≡ sends_on o.sender)
+        × (ruled_capacity (sends_on o.sender) ≡ PLACES)
+        × IsSeatAt (sends_on o.sender) o.pass
+        × (knows o.pass ≡ desk_view) };
+}
+
+impl Opened {
+    /// The queue of a hall, which is opened with it by `Hall::new`. It has 8 places, and nothing was
+    /// sent or received.
+    pub fn new(alloc: Global) -> Result<Opened, Memory> {
+        let (sender, receiver, pass) = bounded_with::<Message, View, InTurn, Global>(
+            alloc, PLACES,
+        )?;
+        Ok(Opened {
+            sender,
+            receiver,
+            pass,
+        })
+    }
+
+    /// The desk's end, and what makes workers' ends.
+    pub(crate) fn ends<J: Opening>(self) -> (Hiring<J>, Inbox<J>)
+        requires { self ≡ J.name }
+        ensures { result.1 ≡ desk_view }
+    {
+        let Opened {
+            sender,
+            receiver,
+            pass,
+        } = self;
+        (
+            Hiring {
+                sender,
+                of: PhantomData,
+            },
+            Inbox {
+                receiver,
+                pass,
+                of: PhantomData,
+            },
+        )
+    }
+}
+
+/// A worker's end.
+#[derive(Drop)]
+pub struct Post<J: Opening> {
+    sender: RuledSender<Message, View, InTurn>,
+    pass: Pass<Message, View>,
+    of: PhantomData<J>,
+}
+
+impl<J: Opening> Model for Post<J> {
+    ghost use Rattle.std.specs.Prelude.{◌≡◌};
+    ghost use Rattle.crossbeam_channel.specs.Claims.{view as knows, IsSeatAt};
+    ghost use Rattle.crossbeam_channel.specs.Ends.{sends_on};
+    ghost use Rattle.hall.specs.declared.messages.View.{View};
+
+    ghost Value = { View };
+
+    ghost view = { λ p. knows p.pass };
+
+    ghost invariant = { λ p. IsSeatAt (sends_on p.sender) p.pass
+        × ((sends_on p.sender).stamps.shared.table_id ≡ J.name.queue)
+        × ((sends_on p.sender).stamps.shared.key ≡ J.name.key) };
+}
+
+impl<J: Opening> Post<J> {
+    /// Sends a message, and waits for a free place. An error gives it back: the desk is gone.
+    pub(crate) fn send<R: Wait>(
+        &mut self,
+        rt: &R,
+        message: Message,
+    ) -> Result<(), SendError<Message>>
+        requires sends { self.old.sends ≡ true }
+        requires mine { from message ≡ self.old.worker }
+        requires stays { is_open self.old.sent ≡ true }
+        requires next { HasNumber (length self.old.sent + 1) message }
+        ensures { MatchResult result (λ _. self.new ≡ sent_more self.old message)
+            (λ e. (send_message e ≡ message) × (self.new ≡ self.old)) }
+    {
+        self.sender.send_as::<Sends, R>(rt, &mut self.pass, message)
+    }
+}
+
+/// The desk's end.
+#[derive(Drop)]
+pub struct Inbox<J: Opening> {
+    receiver: RuledReceiver<Message, View, InTurn>,
+    pass: Pass<Message, View>,
+    of: PhantomData<J>,
+}
+
+impl<J: Opening> Model for Inbox<J> {
+    ghost use Rattle.std.specs.Prelude.{◌≡◌};
+    ghost use Rattle.crossbeam_channel.specs.Claims.{view as knows, IsSeatAt};
+    ghost use Rattle.crossbeam_channel.specs.Ends.{receives_on};
+    ghost use Rattle.hall.specs.declared.messages.View.{View};
+
+    ghost Value = { View };
+
+    ghost view = { λ p. knows p.pass };
+
+    ghost invariant = { λ p. IsSeatAt (receives_on p.receiver) p.pass
+        × ((receives_on p.receiver).stamps.shared.table_id ≡ J.name.queue)
+        × ((receives_on p.receiver).stamps.shared.key ≡ J.name.key) };
+}
+
+impl<J: Opening> Inbox<J> {
+    /// Takes the message at the front. An error isn't the end: the queue was empty at one moment.
+    pub(crate) fn receive<R: Wait>(&mut self, rt: &R) -> Result<Message, RecvError>
+        requires { self.old.gets ≡ true }
+        ensures { MatchResult result (λ x. (self.new ≡ got_more self.old x) × IsNext self.old.got x)
+            (λ _. self.new ≡ self.old) }
+    {
+        self.receiver.recv_as::<Gets, R>(rt, &mut self.pass)
+    }
+
+    /// What it received, once it receives no more.
+    pub(crate) fn end(self) -> Heard<J>
+        ensures { result ≡ self }
+    {
+        let Inbox {
+            receiver,
+            pass,
+            of: _,
+        } = self;
+        drop(receiver);
+        Heard {
+            pass,
+            of: PhantomData,
+        }
+    }
+}
+
+/// What the desk received, once it receives no more.
+#[derive(Drop)]
+pub struct Heard<J: Opening> {
+    pass: Pass<Message, View>,
+    of: PhantomData<J>,
+}
+
+impl<J: Opening> Model for Heard<J> {
+    ghost use Rattle.std.specs.Prelude.{◌≡◌, []};
+    ghost use Rattle.crossbeam_channel.specs.Claims.{view as knows};
+    ghost use Rattle.hall.specs.declared.messages.View.{View};
+
+    ghost Value = { View };
+
+    ghost view = { λ p. knows p.pass };
+
+    ghost invariant = { λ p. (p.pass.table_id ≡ J.name.queue)
+        × (p.pass.me.0.of ≡ J.name.key)
+        × (p.pass.me.1 ≡ []) };
+}
+
+impl<J: Opening> Heard<J> {
+    /// Takes in the end of a worker. Where its Leave was received, all that it sent was received.
+    pub(crate) fn take_in(&mut self, post: Post<J>)
+        requires desk { IsHearing self.old }
+        requires worker { IsSending post }
+        ensures heard { self.new ≡ taken_in self.old post }
+        ensures whole { is_open (of post.worker self.old.got) ≡ false
+            → of post.worker self.old.got ≡ post.sent }
+    {
+        let Post {
+            sender,
+            pass,
+            of: _,
+        } = post;
+        sender.absorb::<TakesIn>(&mut self.pass, pass);
+        sender.learn_as::<Total>(&mut self.pass);
+    }
+}
+
+/// What makes workers' ends.
+#[derive(Drop)]
+pub(crate) struct Hiring<J: Opening> {
+    sender: RuledSender<Message, View, InTurn>,
+    of: PhantomData<J>,
+    ghost keyed: { IsKeyed (sends_on sender)
+        × ((sends_on sender).stamps.shared.table_id ≡ J.name.queue)
+        × ((sends_on sender).stamps.shared.key ≡ J.name.key) },
+}
+
+impl<J: Opening> Hiring<J> {
+    /// The end of one more worker, which has the next number.
+    pub(crate) fn hire(&self, inbox: &mut Inbox<J>) -> Result<Post<J>, Memory>
+        requires { IsHearing inbox.old }
+        ensures { MatchResult result
+            (λ p. (p ≡ worker_view (inbox.old.made + 1)) × (inbox.new ≡ joined inbox.old))
+            (λ _. inbox.new ≡ inbox.old) }
+    {
+        let sender = self.sender.try_clone()?;
+        let pass = sender.another::<Hires>(&mut inbox.pass);
+        Ok(Post {
+            sender,
+            pass,
+            of: PhantomData,
+        })
+    }
+}

@@ -1,0 +1,5 @@
+use Rattle.hall_tests.proofs.tests.eight_workers.Given as goal
+
+-- the queue that was just opened
+abbrev pub ghosts-run_hall : goal.ghosts-run_hall
+ghosts-run_hall g a = record { name = a.opened }

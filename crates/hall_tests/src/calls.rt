@@ -1,0 +1,100 @@
+//! The calls under test, with no clauses: so a test with many of them is proved fast.
+
+ghost use Rattle.std.specs.Prelude.{◌≡◌};
+
+use desk::Desk;
+use hall::{DeskSide, Ended, Hall, HallFault, Left, Opened, Opening, Worker};
+use sqlite::{Connection, MemStore};
+use std::alloc::Global;
+use std::sync::Wait;
+use terms::{Fault, Memory, Reply, Request};
+
+/// What a hall is opened with or given back as.
+pub type Side<J> = (DeskSide<J, MemStore>, Vec<Worker<J>>);
+
+/// A queue.
+pub fn open_queue(alloc: Global) -> Result<Opened, Memory> {
+    Opened::new(alloc)
+}
+
+/// The hall of so many workers; or the number that says why there is none, and the desk.
+pub fn open_hall<J: Opening>(
+    alloc: Global,
+    opened: Opened,
+    desk: Desk<MemStore>,
+    workers: usize,
+) -> Result<Side<J>, (u32, Desk<MemStore>)>
+    requires { opened ≡ J.name }
+{
+    match Hall::new::<J, MemStore>(alloc, opened, desk, workers) {
+        Ok(side) => Ok(side),
+        Err(HallFault { why, desk }) => Err((why.number(), desk)),
+    }
+}
+
+/// Limits the steps of each call of the database.
+pub fn limit_side<J: Opening>(side: &mut DeskSide<J, MemStore>, limit: u64) {
+    side.limit_steps(Some(limit));
+}
+
+/// Handles what comes.
+pub fn handle_all<J: Opening, R: Wait>(
+    rt: &R,
+    alloc: Global,
+    side: DeskSide<J, MemStore>,
+) -> (Desk<MemStore>, Ended<J>, Option<Fault>) {
+    side.desk_loop(rt, alloc)
+}
+
+/// Submits a request, and gives its number.
+pub fn submit<J: Opening, R: Wait>(
+    rt: &R,
+    worker: &mut Worker<J>,
+    request: Request,
+) -> Result<u64, Fault> {
+    worker.submit(rt, request)
+}
+
+/// Why a submission isn't handled, if the worker was told.
+pub fn fault_of<J: Opening>(worker: &Worker<J>, number: u64) -> Option<Fault> {
+    worker.fault_of(number)
+}
+
+/// Leaves.
+pub fn leave<J: Opening, R: Wait>(rt: &R, worker: Worker<J>) -> Left<J> {
+    worker.leave(rt)
+}
+
+/// Takes in the end of a worker, and tells how many submissions were handled.
+pub fn take_in<J: Opening>(ended: &mut Ended<J>, left: Left<J>) -> u64 {
+    ended.take_in(left);
+    ended.handled()
+}
+
+/// The desk of a new library in memory.
+pub fn in_memory(alloc: Global) -> Result<Desk<MemStore>, Fault> {
+    Desk::in_memory(alloc)
+}
+
+/// Has a list of requests handled, under a limit of steps for each call of the database if there is one: how many replies came,
+/// and the fault that ended it.
+pub fn run(
+    desk: &mut Desk<MemStore>,
+    alloc: Global,
+    requests: &[Request],
+    limit: Option<u64>,
+) -> (Vec<Reply>, Option<Fault>) {
+    desk.limit_steps(limit);
+    let ended = match desk.run(alloc, requests) {
+        Ok(replies) => (replies, None),
+        Err((replies, fault)) => (replies, Some(fault)),
+    };
+    desk.limit_steps(None);
+    ended
+}
+
+/// The database under a desk, with no limit.
+pub fn connection(mut desk: Desk<MemStore>) -> Connection<MemStore> {
+    desk.limit_steps(None);
+    desk.into_store().into_connection()
+}
