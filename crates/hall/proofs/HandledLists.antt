@@ -1,14 +1,13 @@
 -- What was handled, and what a worker submitted.
-use Rattle.std.proofs.Common.{◌≡◌, ℕ, ◌+◌, ◌<◌, ◌≤◌, Bool, true, false, true≢false, cond, List, [], ◌∷◌, ◌++◌, length, map, take, drop, sym, refl, ap, ◌∙◌, subst, eqb, arith, length-append}
+use Rattle.std.proofs.Common.{◌≡◌, ℕ, ◌+◌, ◌≤◌, true, false, true≢false, cond, List, [], ◌∷◌, ◌++◌, length, take, drop, sym, refl, ap, ◌∙◌, eqb, arith, length-append}
 use Rattle.std.proofs.lemmas.Bool.Decides.{nat_tests}
 use Rattle.std.proofs.lemmas.List.{append-nil, take-append-drop, take-append-le, drop-append-le, map-append}
-use Rattle.std.proofs.Math.Seq.{take-append_seam, take-append-add}
+use Rattle.std.proofs.Math.Seq.{take-append-add}
 use Rattle.hall.specs.declared.messages.Submission.{Submission}
 use Rattle.hall.specs.declared.messages.View.{View}
-use Rattle.terms.specs.declared.command.Request.{Request}
 use Rattle.hall.specs.declared.messages.Message.{Message}
 use Rattle.hall.specs.declared.messages.Message.TheVariants.{Submit, Leave}
-use Rattle.hall.specs.Queue.{from, of, is_open, submissions, own, handled, unhandled, requests, sent_more, AreFirst}
+use Rattle.hall.specs.Queue.{of, is_open, submissions, own, handled, unhandled, requests, sent_more, AreFirst}
 use Rattle.hall.proofs.Turns.{of-append}
 
 pub submissions-append : (xs ys : List Message) → submissions (xs ++ ys) ≡ submissions xs ++ submissions ys

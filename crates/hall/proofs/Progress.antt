@@ -1,5 +1,5 @@
 -- What stands after one submission more.
-use Rattle.std.proofs.Common.{◌≡◌, ℕ, ◌+◌, ◌≤◌, List, [], ◌∷◌, ◌++◌, length, Option, None, Some, ◌⊎◌, inl, inr, refl, sym, ap, subst, arith}
+use Rattle.std.proofs.Common.{◌≡◌, ℕ, ◌≤◌, List, [], ◌∷◌, ◌++◌, length, Option, None, Some, ◌⊎◌, inl, inr, refl, sym, ap, subst, arith}
 use Rattle.std.specs.Prelude.{Ok, Err}
 use Rattle.store.specs.Library.{Ghosts, Held, state}
 use Rattle.terms.specs.declared.command.Request.{Request}
@@ -14,7 +14,7 @@ use Rattle.hall.specs.declared.messages.Submission.{Submission}
 use Rattle.hall.specs.declared.messages.Message.{Message}
 use Rattle.hall.specs.declared.messages.Message.TheVariants.{Submit}
 use Rattle.hall.specs.Queue.{submissions, handled, unhandled, requests}
-use Rattle.hall.specs.Handling.{HandledFirst, IsHandled, MeetsFault, IsPassedOver, TakesNext}
+use Rattle.hall.specs.Handling.{HandledFirst, TakesNext}
 use Rattle.hall.proofs.HandledLists.{submit_same, submit_more, rest_more, no_rest}
 
 after-last : (xs : List Request) (H : History) (r : Request) → after H (xs ++ r ∷ []) ≡ after_one (after H xs) r

@@ -1,4 +1,4 @@
-use Rattle.std.proofs.Common.{◌≡◌, ◌≤◌, [], vec_capacity}
+use Rattle.std.proofs.Common.{◌≡◌, []}
 use Rattle.hall.specs.Queue.{IsHearing, worker_views}
 use Rattle.hall.proofs.hall.hire_all.Given as goal
 

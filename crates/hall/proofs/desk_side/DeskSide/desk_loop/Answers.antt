@@ -1,9 +1,9 @@
-use Rattle.std.proofs.Common.{◌≡◌, ◌+◌, ◌≤◌, ℕ, true, false, List, [], ◌∷◌, ◌++◌, ◌⊎◌, length, slice_index_or, sym, ap, ◌∙◌, subst, inl, inr, arith}
+use Rattle.std.proofs.Common.{◌≡◌, ◌+◌, List, [], ◌∷◌, ◌++◌, sym, ap, ◌∙◌, subst, inl, inr, arith}
 use Rattle.terms.specs.declared.command.Request.{Request}
 use Rattle.hall.specs.declared.messages.Message.{Message}
 use Rattle.hall.specs.declared.messages.Message.TheVariants.{Submit, Leave}
 use Rattle.hall.specs.declared.messages.View.{View}
-use Rattle.hall.specs.Queue.{of, is_open, submissions, handled, unhandled, requests}
+use Rattle.hall.specs.Queue.{handled, unhandled, requests}
 use Rattle.hall.specs.Handling.{HandledFirst}
 use Rattle.hall.proofs.HandledLists.{leave_kept, rest_kept, stays_gone, goes_now}
 use Rattle.hall.proofs.Progress.{submission-kept}

@@ -1,4 +1,4 @@
-use Rattle.std.proofs.Common.{◌≡◌, ◌+◌, ◌∙◌, ap, true, length}
+use Rattle.std.proofs.Common.{◌+◌, ◌∙◌, ap}
 use Rattle.hall.specs.declared.messages.Submission.{Submission}
 use Rattle.hall.specs.declared.messages.View.{View}
 use Rattle.hall.proofs.HandledLists.{posted}
