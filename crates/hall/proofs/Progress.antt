@@ -1,6 +1,6 @@
 -- What stands after one submission more.
-use Rattle.std.proofs.Common.{◌≡◌, ℕ, ◌≤◌, List, [], ◌∷◌, ◌++◌, length, Option, None, Some, ◌⊎◌, inl, inr, refl, sym, ap, subst, arith}
-use Rattle.std.specs.Prelude.{Ok, Err}
+use Rattle.std.proofs.Common.{◌≡◌, ℕ, ◌+◌, ◌≤◌, List, [], ◌∷◌, ◌++◌, length, Option, None, Some, ◌⊎◌, inl, inr, refl, sym, ap, ◌∙◌, subst, arith}
+use Rattle.std.specs.Prelude.{Ok, Err, IfSome, ◌^◌}
 use Rattle.store.specs.Library.{Ghosts, Held, state}
 use Rattle.terms.specs.declared.command.Request.{Request}
 use Rattle.terms.specs.declared.fault.Fault.{Fault}
@@ -10,11 +10,13 @@ use Rattle.model.specs.History.{History}
 use Rattle.model.specs.Requests.{after, after_one}
 use Rattle.desk.specs.Answering.{Shows, LeavesOneOf}
 use Rattle.desk.specs.Running.{Handles, ShowsHeadline}
+use Rattle.desk.proofs.Shown.{headline}
+use Rattle.model.specs.Picture.{picture}
 use Rattle.hall.specs.declared.messages.Submission.{Submission}
 use Rattle.hall.specs.declared.messages.Message.{Message}
 use Rattle.hall.specs.declared.messages.Message.TheVariants.{Submit}
 use Rattle.hall.specs.Queue.{submissions, handled, unhandled, requests}
-use Rattle.hall.specs.Handling.{HandledFirst, TakesNext}
+use Rattle.hall.specs.Handling.{HandledFirst, TakesNext, ClosedBy}
 use Rattle.hall.proofs.HandledLists.{submit_same, submit_more, rest_more, no_rest}
 
 after-last : (xs : List Request) (H : History) (r : Request) → after H (xs ++ r ∷ []) ≡ after_one (after H xs) r
@@ -25,12 +27,15 @@ none-some : (o : Option Fault) (f : Fault) → o ≡ None → o ≡ Some f → �
 none-some o f n s = cc
 
 module _ {S : Type 0} (g : Ghosts S) where
+  shows-headline : (held : Held S) (H : History) → Shows (state g held) H → ShowsHeadline g held H
+  shows-headline held H shows = (picture H, shows.tables.now, headline H shows.legal shows.forms)
+
   -- nothing was handled
   pub none-handled : (held : Held S) (rest : List Request) → HandledFirst [] rest g held held None
   none-handled held rest = record {
     clean = λ disk. disk;
     shown = λ disk e H shows. shows;
-    headline = λ disk e more. let never : ⊥ = omega (arith, more) in absurd never;
+    headline = λ disk e H shows. shows-headline held H shows;
     sound = λ disk e. let never : ⊥ = cc in absurd never;
     undone = λ disk is_open H shows. shows;
     left = λ disk. tt;
@@ -43,7 +48,7 @@ module _ {S : Type 0} (g : Ghosts S) where
     clean = λ disk. h.clean (d.handled.clean disk);
     shown = λ disk e H shows.
         subst (Shows (state g c)) (sym (after-last first H request)) (d.handled.replied disk (after H first) (h.shown (d.handled.clean disk) refl H shows)).1;
-    headline = λ disk e more H shows.
+    headline = λ disk e H shows.
         subst (ShowsHeadline g c) (sym (after-last first H request)) (d.headline disk (after H first) (h.shown (d.handled.clean disk) refl H shows));
     sound = λ disk e. let never : ⊥ = cc in absurd never;
     undone = λ disk is_open H shows.
@@ -91,10 +96,10 @@ module _ {S : Type 0} (g : Ghosts S) where
     left = λ disk H shows. let l = h.left disk H shows in (l.0, l.1 ++ request ∷ [], ap (λ (x : List Request). x ++ request ∷ []) l.2, l.3);
   }
 
-  passed-over : (first rest : List Request) (request : Request) (a b : Held S) (before : Option Fault) (fault : Fault) → (before ≡ None → rest ≡ [])
-      → (before ≡ Some fault) ⊎ ((before ≡ None) × (fault ≡ Closed)) → HandledFirst first rest g a b before → HandledFirst first (rest ++ request ∷ []) g a b (Some fault)
-  passed-over first rest request a b before fault all (inl same) h = closed-on first rest request a b fault (subst (HandledFirst first rest g a b) same h)
-  passed-over first rest request a b before fault all (inr now) h =
+  passed-over : (n : ℕ) (first rest : List Request) (request : Request) (a b : Held S) (before : Option Fault) (fault : Fault) → (before ≡ None → rest ≡ [])
+      → (before ≡ Some fault) ⊎ ((before ≡ None) × (fault ≡ Closed) × (2 ^ 64 ≤ n + 1)) → HandledFirst first rest g a b before → HandledFirst first (rest ++ request ∷ []) g a b (Some fault)
+  passed-over n first rest request a b before fault all (inl same) h = closed-on first rest request a b fault (subst (HandledFirst first rest g a b) same h)
+  passed-over n first rest request a b before fault all (inr now) h =
       subst (λ (f : Fault). HandledFirst first (rest ++ request ∷ []) g a b (Some f)) (sym now.1) (closed-now first rest request a b (all now.0) (subst (HandledFirst first rest g a b) now.0 h))
 
   -- one more submission was received
@@ -121,8 +126,35 @@ module _ {S : Type 0} (g : Ghosts S) where
       let first = requests (handled n got) in
       let rest = requests (unhandled n got) in
       let k = submit_same n m got got' s e t.counted le in
-      let past = passed-over first rest s.request a b before t.fault (λ none. no_rest n got (all none)) t.was h in
+      let past = passed-over n first rest s.request a b before t.fault (λ none. no_rest n got (all none)) t.was h in
       let same : HandledFirst first (rest ++ s.request ∷ []) g a c (Some t.fault) = subst (λ (x : Held S). HandledFirst first (rest ++ s.request ∷ []) g a x (Some t.fault)) (sym t.same) past in
       let here : HandledFirst first (rest ++ s.request ∷ []) g a c after' = subst (HandledFirst first (rest ++ s.request ∷ []) g a c) (sym t.is) same in
       let more : HandledFirst first (requests (unhandled m got')) g a c after' = subst (λ (x : List Request). HandledFirst first x g a c after') (sym (rest_more n m got got' s e t.counted le)) here in
       (k.0, (λ none. absurd (none-some after' t.fault none t.is)), subst (λ (x : List Request). HandledFirst x (requests (unhandled m got')) g a c after') (sym k.1) more)
+
+  -- a request more came after the hall was closed, or when no more could be counted
+  still-closed : (n : ℕ) (rest : List Request) (request : Request) (b : Held S) (before : Option Fault) (fault : Fault)
+      → (before ≡ Some fault) ⊎ ((before ≡ None) × (fault ≡ Closed) × (2 ^ 64 ≤ n + 1)) → IfSome before (ClosedBy n rest g b) → ClosedBy n (rest ++ request ∷ []) g b fault
+  still-closed n rest request b before fault (inl same) h = go (subst (λ (o : Option Fault). IfSome o (ClosedBy n rest g b)) same h)
+    where
+      go : ClosedBy n rest g b fault → ClosedBy n (rest ++ request ∷ []) g b fault
+      go (inl d) = inl (record { before = d.before; next = d.next; later = d.later ++ request ∷ []; rest_is = ap (λ (x : List Request). x ++ request ∷ []) d.rest_is; handles = d.handles })
+      go (inr used) = inr used
+  still-closed n rest request b before fault (inr now) h = inr (now.1, now.2)
+
+  -- what closed the hall, after one submission more
+  pub cause-kept : (b c : Held S) (n m : ℕ) (before after' : Option Fault) (got got' : List Message) (s : Submission) → got' ≡ got ++ Submit s ∷ []
+      → TakesNext s.request g b c n m before after' → n ≤ length (submissions got) → (before ≡ None → n ≡ length (submissions got))
+      → IfSome before (ClosedBy n (requests (unhandled n got)) g b) → IfSome after' (ClosedBy m (requests (unhandled m got')) g c)
+  cause-kept b c n m before after' got got' s e (inl t) le all h = subst (λ (o : Option Fault). IfSome o (ClosedBy m (requests (unhandled m got')) g c)) (sym t.is) tt
+  cause-kept b c n m before after' got got' s e (inr (inl t)) le all h =
+      let rest = requests (unhandled n got) in
+      let none : rest ++ s.request ∷ [] ≡ s.request ∷ [] = ap (λ (x : List Request). x ++ s.request ∷ []) (no_rest n got (all t.was)) in
+      let met : ClosedBy m (requests (unhandled m got')) g c t.fault = inl (record { before = b; next = s.request; later = []; rest_is = rest_more n m got got' s e t.counted le ∙ none; handles = t.handles }) in
+      subst (λ (o : Option Fault). IfSome o (ClosedBy m (requests (unhandled m got')) g c)) (sym t.is) met
+  cause-kept b c n m before after' got got' s e (inr (inr t)) le all h =
+      let past = still-closed n (requests (unhandled n got)) s.request b before t.fault t.was h in
+      let here : ClosedBy n (requests (unhandled m got')) g b t.fault = subst (λ (x : List Request). ClosedBy n x g b t.fault) (sym (rest_more n m got got' s e t.counted le)) past in
+      let same : ClosedBy n (requests (unhandled m got')) g c t.fault = subst (λ (x : Held S). ClosedBy n (requests (unhandled m got')) g x t.fault) (sym t.same) here in
+      let counted : ClosedBy m (requests (unhandled m got')) g c t.fault = subst (λ (k : ℕ). ClosedBy k (requests (unhandled m got')) g c t.fault) (sym t.counted) same in
+      subst (λ (o : Option Fault). IfSome o (ClosedBy m (requests (unhandled m got')) g c)) (sym t.is) counted

@@ -1,5 +1,5 @@
 -- What the desk of a hall has done, after the submissions that it handled.
-use Rattle.std.specs.Prelude.{◌≡◌, ◌⊎◌, ℕ, ◌+◌, ◌<◌, ◌≤◌, false, List, ◌∷◌, length, Option, None, Some, Ok, Err, IfSome}
+use Rattle.std.specs.Prelude.{◌≡◌, ◌⊎◌, ℕ, ◌+◌, ◌^◌, ◌<◌, ◌≤◌, false, List, ◌∷◌, length, Option, None, Some, Ok, Err, IfSome}
 use Rattle.store.specs.Library.{Ghosts, Held, state, IsClean, IsOpen}
 use Rattle.terms.specs.declared.command.Request.{Request}
 use Rattle.terms.specs.declared.fault.Fault.{Fault}
@@ -21,9 +21,9 @@ pub record HandledFirst {S : Type 0} (first rest : List Request)
   -- the tables show the list of accepted requests after them
   pub shown : IsClean g new → fault ≡ None → (H : History) → Shows (state g old) H
       → Shows (state g new) (after H first)
-  -- of that list they show the headline, once a request was handled
-  pub headline : IsClean g new → fault ≡ None → 0 < length first
-      → (H : History) → Shows (state g old) H → ShowsHeadline g new (after H first)
+  -- of that list they show the headline
+  pub headline : IsClean g new → fault ≡ None → (H : History) → Shows (state g old) H
+      → ShowsHeadline g new (after H first)
   -- fault 93 doesn't come where the tables show a list of accepted requests
   pub sound : IsClean g new → fault ≡ Some Stored → (H : History) → Shows (state g old) H → ⊥
   -- after a fault the tables show that list too, as long as the database is open
@@ -59,7 +59,7 @@ pub record MeetsFault {S : Type 0} (request : Request)
 pub record IsPassedOver {S : Type 0}
     (old new : Held S) (n m : ℕ) (before after : Option Fault) : Type 0 where
   pub fault : Fault
-  pub was : (before ≡ Some fault) ⊎ ((before ≡ None) × (fault ≡ Closed))
+  pub was : (before ≡ Some fault) ⊎ ((before ≡ None) × (fault ≡ Closed) × (2 ^ 64 ≤ n + 1))
   pub is : after ≡ Some fault
   pub counted : m ≡ n
   pub same : new ≡ old
@@ -71,6 +71,22 @@ abbrev pub TakesNext : {S : Type 0} → Request → Ghosts S → Held S → Held
 TakesNext request g old new n m before after =
     IsHandled request g old new n m before after
     ⊎ (MeetsFault request g old new n m before after ⊎ IsPassedOver old new n m before after)
+
+-- ---- what closes a hall
+
+-- The desk gave this fault for the first of the requests that weren't handled.
+pub record IsDesksFault {S : Type 0} (rest : List Request)
+    (g : Ghosts S) (new : Held S) (fault : Fault) : Type 0 where
+  pub before : Held S
+  pub next : Request
+  pub later : List Request
+  pub rest_is : rest ≡ next ∷ later
+  pub handles : Handles next g before new (Err fault)
+
+-- It did, or the fault is 92 and no more submissions can be counted.
+abbrev pub ClosedBy : {S : Type 0} → ℕ → List Request → Ghosts S → Held S → Fault → Type 0
+ClosedBy n rest g new fault =
+    IsDesksFault rest g new fault ⊎ ((fault ≡ Closed) × (2 ^ 64 ≤ n + 1))
 
 -- ---- until each worker has left
 
@@ -84,5 +100,7 @@ pub record Finishes {S : Type 0} (workers n : ℕ) (got : List Message)
   pub counted : n ≤ length (submissions got)
   -- where the hall was not closed, every submission was handled
   pub all : fault ≡ None → n ≡ length (submissions got)
+  -- what closed it
+  pub cause : IfSome fault (ClosedBy n (requests (unhandled n got)) g new)
   -- the desk stands where the handled list has brought it
   pub desk : HandledFirst (requests (handled n got)) (requests (unhandled n got)) g old new fault

@@ -82,7 +82,7 @@ impl Progress {
         ensures open { IsNone result → self.now.fault ≡ None }
         ensures room { IsNone result → self.now.handled + 1 < 2 ^ 64 }
         ensures closed { IfSome result (λ fault. (self.now.fault ≡ Some fault)
-            ⊎ ((self.now.fault ≡ None) × (fault ≡ Closed))) }
+            ⊎ ((self.now.fault ≡ None) × (fault ≡ Closed) × (2 ^ 64 ≤ self.now.handled + 1))) }
     {
         match self.fault {
             Some(fault) => Some(fault),

@@ -3,6 +3,7 @@ use Rattle.std.specs.Prelude.{◌≡◌, ℕ, ◌+◌, ◌-◌, ◌≤◌, Bool,
 use Rattle.std.specs.List.{list_all}
 use Rattle.std.specs.declared.vec.Vec.{Vec}
 use Rattle.std.specs.declared.alloc.Global.{Global}
+use Rattle.hall_schedule.specs.declared.schedule.TheConstants.{WORKERS, PLACES}
 use Rattle.hall_schedule.specs.declared.schedule.Item.{Item}
 use Rattle.hall_schedule.specs.declared.schedule.Event.{Event}
 use Rattle.hall_schedule.specs.declared.schedule.Event.TheVariants.{Submit, Handle, Publish, Look}
@@ -37,9 +38,9 @@ state_of w = record { taken = w.taken; submitted = lists_of w.submitted; queue =
 abbrev pub start : State
 start = record { taken = 0; submitted = [] ∷ [] ∷ [] ∷ [] ∷ [] ∷ [] ∷ [] ∷ [] ∷ []; queue = []; handled = []; published = 0; seen = 0 ∷ 0 ∷ 0 ∷ 0 ∷ 0 ∷ 0 ∷ 0 ∷ 0 ∷ [] }
 
--- Workers have the numbers 1 to 8.
+-- Workers have the numbers from 1 on.
 abbrev pub is_worker : ℕ → Bool
-is_worker w = nat_le 1 w && nat_le w 8
+is_worker w = nat_le 1 w && nat_le w WORKERS
 
 -- The item is of worker w.
 abbrev pub is_of : ℕ → Item → Bool
@@ -57,9 +58,9 @@ list_at s w = slice_index_or s.submitted (w - 1) []
 abbrev pub seen_at : State → ℕ → ℕ
 seen_at s w = slice_index s.seen (w - 1)
 
--- A worker may submit where the queue has a free place of its eight, and the worker has seen handled all that it submitted.
+-- A worker may submit where the queue has a free place, and the worker has seen handled all that it submitted.
 abbrev pub may_submit : State → ℕ → Bool
-may_submit s w = is_worker w && (nat_lt (length s.queue) 8 && (count_by (is_of w) (take (seen_at s w) s.handled) == length (list_at s w)))
+may_submit s w = is_worker w && (nat_lt (length s.queue) PLACES && (count_by (is_of w) (take (seen_at s w) s.handled) == length (list_at s w)))
 
 -- An event that cannot be is taken, and changes nothing else.
 abbrev pub ticked : State → State

@@ -1,13 +1,24 @@
-use Rattle.std.proofs.Common.{◌≡◌, ◌+◌, List, [], ◌∷◌, ◌++◌, sym, ap, ◌∙◌, subst, inl, inr, arith}
+use Rattle.std.proofs.Common.{◌≡◌, ◌+◌, List, [], ◌∷◌, ◌++◌, sym, ap, ◌∙◌, subst, inl, inr, arith, rules}
+use Rattle.std.specs.Prelude.{IfSome}
 use Rattle.terms.specs.declared.command.Request.{Request}
 use Rattle.hall.specs.declared.messages.Message.{Message}
 use Rattle.hall.specs.declared.messages.Message.TheVariants.{Submit, Leave}
 use Rattle.hall.specs.declared.messages.View.{View}
 use Rattle.hall.specs.Queue.{handled, unhandled, requests}
-use Rattle.hall.specs.Handling.{HandledFirst}
+use Rattle.hall.specs.Handling.{HandledFirst, ClosedBy}
 use Rattle.hall.proofs.HandledLists.{leave_kept, rest_kept, stays_gone, goes_now}
-use Rattle.hall.proofs.Progress.{submission-kept}
+use Rattle.hall.proofs.Progress.{none-handled, submission-kept, cause-kept}
 use Rattle.hall.proofs.desk_side.DeskSide.desk_loop.Goals as goal
+
+pub work-init : goal.work-init
+work-init g c = record {
+  hearing = search rules;
+  gone = search rules;
+  counted = search rules;
+  all = search rules;
+  cause = tt;
+  desk = none-handled g.S.Store c.args.self.desk (requests (unhandled 0 c.args.self.inbox.got));
+}
 
 pub work-preserved-in-Ok-Leave : goal.work-preserved-in-Ok-Leave
 work-preserved-in-Ok-Leave g c =
@@ -20,6 +31,8 @@ work-preserved-in-Ok-Leave g c =
       gone = λ j h. elim (c.note.ensures j h) [ inl old ↦ stays_gone c.work.inbox.got c.receive.new.self.got (Leave c.in-Ok-Leave.worker) got (j + 1) (i.gone j old) | inr now ↦ goes_now c.work.inbox.got c.receive.new.self.got (j + 1) c.in-Ok-Leave.worker got now ];
       counted = omega (arith, k.0, i.counted);
       all = λ f. i.all f ∙ sym k.0;
+      cause = subst (λ (l : List Request). IfSome c.work.progress.fault (ClosedBy c.work.progress.handled l g.S.Store c.work.desk))
+          (sym (rest_kept c.work.progress.handled c.work.inbox.got c.receive.new.self.got c.in-Ok-Leave.worker got)) i.cause;
       desk = subst (λ (l : List Request). HandledFirst l (requests (unhandled c.work.progress.handled c.receive.new.self.got)) g.S.Store c.args.self.desk c.work.desk c.work.progress.fault) (sym (ap requests k.1))
           (subst (λ (l : List Request). HandledFirst (requests (handled c.work.progress.handled c.work.inbox.got)) l g.S.Store c.args.self.desk c.work.desk c.work.progress.fault)
           (sym (rest_kept c.work.progress.handled c.work.inbox.got c.receive.new.self.got c.in-Ok-Leave.worker got)) i.desk);
@@ -38,5 +51,6 @@ work-preserved-in-Ok-Submit g c =
       gone = λ j h. stays_gone c.work.inbox.got c.receive.new.self.got (Submit s) got (j + 1) (i.gone j h);
       counted = k.0;
       all = k.1;
+      cause = cause-kept g.S.Store c.work.desk n.new.desk c.work.progress.handled n.new.progress.handled c.work.progress.fault n.new.progress.fault c.work.inbox.got c.receive.new.self.got s got n.ensures i.counted i.all i.cause;
       desk = k.2;
     }

@@ -1,6 +1,7 @@
 use Rattle.std.proofs.Common.{◌≡◌, ◌+◌, ◌≤◌, ℕ, None, true, false, length, slice_index_or}
+use Rattle.std.specs.Prelude.{IfSome}
 use Rattle.hall.specs.Queue.{IsHearing, of, is_open, submissions, handled, unhandled, requests}
-use Rattle.hall.specs.Handling.{HandledFirst}
+use Rattle.hall.specs.Handling.{HandledFirst, ClosedBy}
 use Rattle.hall.proofs.desk_side.DeskSide.desk_loop.Given as goal
 
 abbrev pub invariant-work : goal.invariant-work
@@ -9,5 +10,6 @@ invariant-work g l = record {
   gone : (k : ℕ) → slice_index_or l.gone k false ≡ true → is_open (of (k + 1) l.inbox.got) ≡ false;
   counted : l.progress.handled ≤ length (submissions l.inbox.got);
   all : l.progress.fault ≡ None → l.progress.handled ≡ length (submissions l.inbox.got);
+  cause : IfSome l.progress.fault (ClosedBy l.progress.handled (requests (unhandled l.progress.handled l.inbox.got)) g.S.Store l.desk);
   desk : HandledFirst (requests (handled l.progress.handled l.inbox.got)) (requests (unhandled l.progress.handled l.inbox.got)) g.S.Store l.initial.desk l.desk l.progress.fault;
 }
