@@ -6,7 +6,9 @@ pub mod Handled
 pub mod Afterwards
 pub mod Shown
 pub mod Sound
-pub mod OwnPage
+pub mod PageFor
+pub mod Untouched
+pub mod Enrolled
 pub mod RowLists
 pub mod PageLists
 pub mod PageRows

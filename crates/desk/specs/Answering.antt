@@ -30,6 +30,7 @@ use Rattle.model.specs.Forms.{HasForms}
 use Rattle.model.specs.Laws.{AgreesOn}
 use Rattle.model.specs.Requests.{IsLegal, is_known, may_send, kept_of, event_of, reply_by_key, reply_to, after_one}
 use Rattle.desk.specs.Callers.{RefusesForeign}
+use Rattle.desk.specs.Touching.{KeepsOthers}
 
 -- ---- tables that show a history
 
@@ -150,15 +151,17 @@ pub record Records {S A : Type 0} (owner : Owner) (made : Picture → Picture)
       → LeavesEither (state g new) P (made P)
 
 -- A command was answered, where the list of accepted requests is as `If` says: `reply` is the reply
--- that the list gives, and `next` the list after the command.
+-- that the list gives, `next` the list after the command, and `touched` the patrons whose own rows
+-- may differ by then.
 pub record Answered {S : Type 0} (owner : Owner) (If : History → Type 0) (reply : History → Reply)
-    (next : History → History)
+    (next : History → History) (touched : List ℕ)
     (g : Ghosts S) (old new : Held S) (result : Result Reply Fault) : Type 0 where
   pub clean : IsClean g new → IsClean g old
-  -- the answer is that reply, and the tables show what the next list leaves
+  -- the answer is that reply, and the tables show what the next list leaves, with the same own rows
+  -- of every patron who isn't among those touched
   pub replied : IsClean g new → IsOwner owner
       → IfOk result (λ given. (H : History) → Shows (state g old) H → If H
-      → (given ≡ reply H) × KeepsPicture (state g new) (picture (next H)))
+      → (given ≡ reply H) × KeepsPicture (state g new) (picture (next H)) × KeepsOthers touched H (next H))
   -- fault 93 comes after no such list
   pub sound : IsClean g new → IsOwner owner → result ≡ Err Stored
       → (H : History) → Shows (state g old) H → If H → ⊥
@@ -167,15 +170,15 @@ pub record Answered {S : Type 0} (owner : Owner) (If : History → Type 0) (repl
       → LeavesOneOf (state g new) H (next H)
 
 -- A command of the owner was answered, which is kept under the key if it is accepted.
-abbrev pub AnswersCommand : {S : Type 0} → Owner → List ℕ → Command → (History → Type 0)
+abbrev pub AnswersCommand : {S : Type 0} → Owner → List ℕ → Command → (History → Type 0) → List ℕ
     → Ghosts S → Held S → Held S → Result Reply Fault → Type 0
 AnswersCommand owner key command If =
     Answered owner If (λ H. answer H owner command) (λ H. added H (event owner key command))
 
 -- A request that its caller may send was answered: by what is kept under its key, and else by what
 -- becomes of its command.
-abbrev pub AnswersByKey : {S : Type 0} → Request → Ghosts S → Held S → Held S → Result Reply Fault
-    → Type 0
+abbrev pub AnswersByKey : {S : Type 0} → Request → List ℕ → Ghosts S → Held S → Held S
+    → Result Reply Fault → Type 0
 AnswersByKey request =
     Answered (owner_of request.caller)
     (λ _. may_send (owner_of request.caller) request.command ≡ true)
@@ -199,3 +202,9 @@ pub record Handled {S : Type 0} (request : Request)
   -- a stop leaves what was there or what is there after the request
   pub left : IsClean g new → (H : History) → Shows (state g old) H
       → LeavesOneOf (state g new) H (after_one H request)
+
+-- A request that was handled left the own rows of every patron who isn't among these as they were.
+abbrev pub TouchesOnly : {S : Type 0} → Request → List ℕ → Ghosts S → Held S → Held S
+    → Result Reply Fault → Type 0
+TouchesOnly request touched g old new result = IsClean g new → IfOk result
+    (λ _. (H : History) → Shows (state g old) H → KeepsOthers touched H (after_one H request))

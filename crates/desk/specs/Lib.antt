@@ -1,7 +1,9 @@
 pub mod Callers
+pub mod Touching
 pub mod Answering
 pub mod Headline
 pub mod Paging
 pub mod Reporting
 pub mod Written
+pub mod Showing
 pub mod Running

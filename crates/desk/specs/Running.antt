@@ -1,5 +1,6 @@
 -- What a desk shows when it is made, and after many requests.
-use Rattle.std.specs.Prelude.{◌≡◌, ◌≤◌, ◌+◌, ℕ, List, [], length, take, Vec, vec_len, Result, IfOk, IfErr, OnErr}
+use Rattle.std.specs.Prelude.{◌≡◌, ◌≤◌, ◌+◌, ◌==◌, ℕ, false, List, [], length, take, Vec, vec_len, Result, Ok, Err, IfOk, IfErr, OnErr}
+use Rattle.std.specs.List.{list_any}
 use Rattle.store.specs.Library.{Ghosts, Held, state, IsClean, IsOpen}
 use Rattle.store.specs.Commit.{empty_library}
 use Rattle.store.specs.Stops.{KeepsPicture}
@@ -13,6 +14,7 @@ use Rattle.model.specs.History.{History}
 use Rattle.model.specs.Requests.{after, after_one, replies as replies_to}
 use Rattle.desk.specs.Answering.{Handled, Shows, LeavesOneOf, Learns, IsPageFor, IsOwnPageFor}
 use Rattle.desk.specs.Headline.{Headline}
+use Rattle.desk.specs.Showing.{own_page}
 
 -- A desk was made over the tables of a store.
 pub record Begins {S E : Type 0}
@@ -36,6 +38,19 @@ pub record Handles {S : Type 0} (request : Request)
   -- of the list after it the tables show the headline
   pub headline : IsClean g new → IfOk result (λ _. (H : History) → Shows (state g old) H
       → ShowsHeadline g new (after_one H request))
+
+-- The reply without the patrons that are told beside it.
+abbrev pub reply_alone : Result (Reply × List ℕ) Fault → Result Reply Fault
+reply_alone (Ok told) = Ok told.0
+reply_alone (Err fault) = Err fault
+
+-- A request was handled, and it was told which patrons' pages it may have changed.
+pub record HandlesTouching {S : Type 0} (request : Request)
+    (g : Ghosts S) (old new : Held S) (result : Result (Reply × List ℕ) Fault) : Type 0 where
+  pub handles : Handles request g old new (reply_alone result)
+  -- everybody else's page and card key are what they were
+  pub kept : IsClean g new → IfOk result (λ told. (H : History) → Shows (state g old) H → (p : ℕ)
+      → list_any (λ q. q == p) told.1 ≡ false → own_page (after_one H request) p ≡ own_page H p)
 
 -- A patron who shows a card key was shown the own page, or refused.
 pub record ShowsPage {S : Type 0} (patron : ℕ) (card_key : List ℕ)

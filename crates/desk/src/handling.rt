@@ -10,10 +10,11 @@ ghost use Rattle.terms.specs.declared.reply.Reply.{Reply as ReplyOf};
 ghost use Rattle.store.specs.Commit.{command_made};
 ghost use Rattle.model.specs.Requests.{may_send as may_send_command, is_page};
 ghost use Rattle.desk.specs.Answering.{Handled, repeated, Records, AnswersCommand, AnswersByKey};
-ghost use Rattle.desk.specs.Answering.{IsViewFor, Undoes, UndoesPictures};
+ghost use Rattle.desk.specs.Answering.{IsViewFor, Undoes, UndoesPictures, TouchesOnly};
 
 use crate::callers::{is_known, may_send, settle};
 use crate::paging::show;
+use crate::touching::{Touched, touched_by};
 use circ_core::{Changes, View, decide};
 use sqlite::Alter;
 use std::alloc::Global;
@@ -55,10 +56,11 @@ fn carry_out<'a, S: Alter>(
     key: &Key,
     text: &Text,
     command: &'a Command,
+    touched: &mut Touched,
 ) -> Result<Reply, Fault>
     requires { (is_page command.now ≡ false) × (text.now ≡ request_text_of command.now) }
     ensures answered { AnswersCommand owner key.now command.now
-        (IsViewFor owner command.now view.now)
+        (IsViewFor owner command.now view.now) touched.new
         S.Store store.old store.new result }
     ensures undone { UndoesPictures S.Store store.old store.new result }
 {
@@ -67,6 +69,7 @@ fn carry_out<'a, S: Alter>(
         Ok(decision) => {
             let reply = reply_text(alloc, &decision.reply)?;
             record(store, &decision.changes, owner, key, text, &reply)?;
+            *touched = touched_by(&decision.changes);
             Ok(decision.reply)
         }
     }
@@ -80,10 +83,11 @@ fn answer<S: Alter>(
     key: &Key,
     text: &Text,
     command: &Command,
+    touched: &mut Touched,
 ) -> Result<Reply, Fault>
     requires { (is_page command.now ≡ false) × (text.now ≡ request_text_of command.now) }
     ensures answered { AnswersCommand owner key.now command.now
-        (λ _. may_send_command owner command.now ≡ true)
+        (λ _. may_send_command owner command.now ≡ true) touched.new
         S.Store store.old store.new result }
     ensures undone { Undoes S.Store store.old store.new result }
 {
@@ -91,7 +95,7 @@ fn answer<S: Alter>(
         return Ok(Reply::Refused(refusal));
     }
     let view = store.view_for(alloc, command)?;
-    carry_out(store, alloc, &view, owner, key, text, command)
+    carry_out(store, alloc, &view, owner, key, text, command, touched)
 }
 
 /// The kept reply to the same text, refusal 80 to another. 93 where what is kept is no reply.
@@ -110,9 +114,14 @@ fn repeat(kept: &KeptReply, text: &Text) -> Result<Reply, Fault>
 
 /// The reply to a request whose caller may send it: the kept reply or 80 for a key that was used,
 /// and else what becomes of the command.
-fn respond<S: Alter>(store: &mut Store<S>, alloc: Global, request: &Request) -> Result<Reply, Fault>
+fn respond<S: Alter>(
+    store: &mut Store<S>,
+    alloc: Global,
+    request: &Request,
+    touched: &mut Touched,
+) -> Result<Reply, Fault>
     requires { is_page request.now.command ≡ false }
-    ensures answered { AnswersByKey request.now S.Store store.old store.new result }
+    ensures answered { AnswersByKey request.now touched.new S.Store store.old store.new result }
     ensures undone { IsOwner (owner_of request.now.caller)
         → Undoes S.Store store.old store.new result }
 {
@@ -126,6 +135,7 @@ fn respond<S: Alter>(store: &mut Store<S>, alloc: Global, request: &Request) -> 
             &request.key,
             &text,
             &request.command,
+            touched,
         ),
     }
 }
@@ -139,14 +149,17 @@ fn has_forms(request: &Request)
 }
 
 /// The reply to a request: 81 for a caller who may not send it; the page, which looks at no key;
-/// the kept reply or 80 for a key that was used, and else what becomes of the command.
-pub(crate) fn handle<S: Alter>(
+/// the kept reply or 80 for a key that was used, and else what becomes of the command. Where that is
+/// accepted, `touched` is set to the patrons whose own rows it changed.
+pub(crate) fn handle_touching<S: Alter>(
     store: &mut Store<S>,
     alloc: Global,
     request: &Request,
+    touched: &mut Touched,
 ) -> Result<Reply, Fault>
     ensures formed { IsCommand request.now.command × IsKey request.now.key }
     ensures handled { Handled request.now S.Store store.old store.new result }
+    ensures touches { TouchesOnly request.now touched.new S.Store store.old store.new result }
 {
     has_forms(request);
     if !is_known(store, alloc, &request.caller)?
@@ -157,5 +170,18 @@ pub(crate) fn handle<S: Alter>(
     if let Command::Page { patron } = &request.command {
         return show(store, alloc, *patron);
     }
-    respond(store, alloc, request)
+    respond(store, alloc, request, touched)
+}
+
+/// The reply to a request, whomever it touched.
+pub(crate) fn handle<S: Alter>(
+    store: &mut Store<S>,
+    alloc: Global,
+    request: &Request,
+) -> Result<Reply, Fault>
+    ensures formed { IsCommand request.now.command × IsKey request.now.key }
+    ensures handled { Handled request.now S.Store store.old store.new result }
+{
+    let mut touched = Touched::none();
+    handle_touching(store, alloc, request, &mut touched)
 }

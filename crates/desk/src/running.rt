@@ -4,14 +4,17 @@ ghost use Rattle.std.specs.Prelude.{◌≡◌, [], IfOk};
 ghost use Rattle.store.specs.Library.{state, over_memory, IsClean, IsOpen};
 ghost use Rattle.store.specs.Limits.{limit_of};
 ghost use Rattle.model.specs.Reports.{overdue as overdue_of, shelf as shelf_of};
-ghost use Rattle.desk.specs.Answering.{Shows};
+ghost use Rattle.desk.specs.Answering.{Shows, Learns};
 ghost use Rattle.desk.specs.Written.{WritesTill, WritesReport};
-ghost use Rattle.desk.specs.Running.{Begins, Handles, Ran, ShowsPage};
+ghost use Rattle.desk.specs.Running.{Begins, Handles, HandlesTouching, Ran, ShowsPage};
+ghost use Rattle.desk.specs.Showing.{own_page as own_page_of, AreEnrolled};
 
-use crate::handling::handle;
+use crate::handling::{handle, handle_touching};
 use crate::overdue::overdue;
 use crate::paging::show_own;
 use crate::reporting::{ReportFault, shelf, till};
+use crate::showing::{OwnPage, own_page, patrons};
+use crate::touching::Touched;
 use sqlite::{Alter, MemStore};
 use std::alloc::Global;
 use std::io::Write;
@@ -63,6 +66,21 @@ impl<S: Alter> Desk<S> {
         handle(&mut self.store, alloc, request)
     }
 
+    /// The reply to a request as `handle` gives it, and the patrons whose pages the request may have
+    /// changed; everybody else's page and card key are what they were. Where the request was
+    /// refused, repeated or a page, nobody is named. 90, 91 or 93 in its place.
+    pub fn handle_touching(
+        &mut self,
+        alloc: Global,
+        request: &Request,
+    ) -> Result<(Reply, Touched), Fault>
+        ensures { HandlesTouching request.now S.Store self.old self.new result }
+    {
+        let mut touched = Touched::none();
+        let reply = handle_touching(&mut self.store, alloc, request, &mut touched)?;
+        Ok((reply, touched))
+    }
+
     /// The replies to the requests, handled one after another; at a fault the replies before it,
     /// and the fault.
     ///
@@ -89,6 +107,24 @@ impl<S: Alter> Desk<S> {
         ensures { ShowsPage patron card_key.now S.Store self.old self.new result }
     {
         show_own(&mut self.store, alloc, patron, card_key)
+    }
+
+    /// The enrolled patrons, the least number first. 90, 91; 93 doesn't come where the tables show a
+    /// list of accepted requests.
+    pub fn patrons(&mut self, alloc: Global) -> Result<Vec<PatronId>, Fault>
+        ensures { Learns (λ H patrons. AreEnrolled H patrons.items)
+            S.Store self.old self.new result }
+    {
+        patrons(&mut self.store, alloc)
+    }
+
+    /// The page of a patron with the card key that opens it, as the desk sees them; none where there
+    /// is no such patron. 90, 91; 93 doesn't come where the tables show a list of accepted requests.
+    pub fn own_page(&mut self, alloc: Global, patron: PatronId) -> Result<Option<OwnPage>, Fault>
+        ensures { Learns (λ H page. page ≡ own_page_of H patron)
+            S.Store self.old self.new result }
+    {
+        own_page(&mut self.store, alloc, patron)
     }
 
     /// Writes the till report of a day: the sums of its fines, prices, payments and waivers, in

@@ -28,7 +28,7 @@ drop_all : (xs : List Submission) → drop (length xs) xs ≡ []
 drop_all [] = refl
 drop_all (x ∷ xs) = drop_all xs
 
-all_of : (xs : List Submission) → take (length xs) xs ≡ xs
+pub all_of : (xs : List Submission) → take (length xs) xs ≡ xs
 all_of [] = refl
 all_of (x ∷ xs) = ap (λ r. x ∷ r) (all_of xs)
 

@@ -1,21 +1,25 @@
 -- What stands after one submission more.
 use Rattle.std.proofs.Common.{◌≡◌, ℕ, ◌+◌, ◌≤◌, List, [], ◌∷◌, ◌++◌, length, Option, None, Some, ◌⊎◌, inl, inr, refl, sym, ap, ◌∙◌, subst, arith}
-use Rattle.std.specs.Prelude.{Ok, Err, IfSome, ◌^◌}
-use Rattle.store.specs.Library.{Ghosts, Held, state}
+use Rattle.std.proofs.Common.{⊎_elim, take}
+use Rattle.std.proofs.lemmas.List.{append-nil}
+use Rattle.std.specs.Prelude.{Result, Ok, Err, IfSome, ◌^◌}
+use Rattle.store.specs.Library.{Ghosts, Held, State, state, IsClean, IsOpen}
 use Rattle.terms.specs.declared.command.Request.{Request}
 use Rattle.terms.specs.declared.fault.Fault.{Fault}
-use Rattle.terms.specs.declared.fault.Fault.TheVariants.{Closed, Stored}
+use Rattle.terms.specs.declared.fault.Fault.TheVariants.{Closed, Memory, Stored}
 use Rattle.terms.specs.declared.reply.Reply.{Reply}
 use Rattle.model.specs.History.{History}
 use Rattle.model.specs.Requests.{after, after_one}
-use Rattle.desk.specs.Answering.{Shows, LeavesOneOf}
+use Rattle.desk.specs.Answering.{Shows, Stays, Looks, LeavesOneOf}
 use Rattle.desk.specs.Running.{Handles, ShowsHeadline}
+use Rattle.desk.proofs.Looking.{leaves-first}
 use Rattle.desk.proofs.Shown.{headline}
 use Rattle.model.specs.Picture.{picture}
 use Rattle.hall.specs.declared.messages.Submission.{Submission}
 use Rattle.hall.specs.declared.messages.Message.{Message}
 use Rattle.hall.specs.declared.messages.Message.TheVariants.{Submit}
 use Rattle.hall.specs.Queue.{submissions, handled, unhandled, requests}
+use Rattle.hall.specs.Openings.{LooksOnly, MeetsFaultOf}
 use Rattle.hall.specs.Handling.{HandledFirst, TakesNext, ClosedBy}
 use Rattle.hall.proofs.HandledLists.{submit_same, submit_more, rest_more, no_rest}
 
@@ -25,6 +29,9 @@ after-last (x ∷ xs) H r = after-last xs (after_one H x) r
 
 none-some : (o : Option Fault) (f : Fault) → o ≡ None → o ≡ Some f → ⊥
 none-some o f n s = cc
+
+some-is : (e f : Fault) → Some e ≡ Some f → e ≡ f
+some-is e f h = cc
 
 module _ {S : Type 0} (g : Ghosts S) where
   shows-headline : (held : Held S) (H : History) → Shows (state g held) H → ShowsHeadline g held H
@@ -41,20 +48,46 @@ module _ {S : Type 0} (g : Ghosts S) where
     left = λ disk. tt;
   }
 
-  -- one more was handled
-  handled-more : (first rest rest' : List Request) (request : Request) (a b c : Held S) (reply : Reply) → HandledFirst first rest g a b None → Handles request g b c (Ok reply)
-      → HandledFirst (first ++ request ∷ []) rest' g a c None
-  handled-more first rest rest' request a b c reply h d = record {
-    clean = λ disk. h.clean (d.handled.clean disk);
-    shown = λ disk e H shows.
-        subst (Shows (state g c)) (sym (after-last first H request)) (d.handled.replied disk (after H first) (h.shown (d.handled.clean disk) refl H shows)).1;
-    headline = λ disk e H shows.
-        subst (ShowsHeadline g c) (sym (after-last first H request)) (d.headline disk (after H first) (h.shown (d.handled.clean disk) refl H shows));
-    sound = λ disk e. let never : ⊥ = cc in absurd never;
-    undone = λ disk is_open H shows.
-        subst (Shows (state g c)) (sym (after-last first H request)) (d.handled.replied disk (after H first) (h.shown (d.handled.clean disk) refl H shows)).1;
-    left = λ disk. tt;
-  }
+  -- whatever came of a look, the tables show what they showed, as long as the database is open
+  stays-any : (a b : Held S) (r : Result (Unit {0}) Fault) → Looks (state g a) (state g b) r → IsClean g b → IsOpen g b → Stays (state g a) (state g b)
+  stays-any a b (Ok x) looks disk is_open = looks.stays disk
+  stays-any a b (Err e) looks disk is_open = looks.undone disk is_open
+
+  module _ (first rest : List Request) (request : Request) (a b m : Held S) (reply : Reply) (h : HandledFirst first rest g a b None) (d : Handles request g b m (Ok reply)) where
+    -- what the tables show once it is handled
+    made-shows : IsClean g m → (H : History) → Shows (state g a) H → Shows (state g m) (after H (first ++ request ∷ []))
+    made-shows disk H shows = subst (Shows (state g m)) (sym (after-last first H request)) (d.handled.replied disk (after H first) (h.shown (d.handled.clean disk) refl H shows)).1
+
+    -- one more was handled, and shown
+    handled-more : (rest' : List Request) (c : Held S) → LooksOnly g m c (Ok tt) → HandledFirst (first ++ request ∷ []) rest' g a c None
+    handled-more rest' c l =
+        let now : IsClean g c → (H : History) → Shows (state g a) H → Shows (state g c) (after H (first ++ request ∷ [])) = λ disk H shows. l.looks.stays disk (after H (first ++ request ∷ [])) (made-shows (l.looks.clean disk) H shows) in
+        record {
+          clean = λ disk. h.clean (d.handled.clean (l.looks.clean disk));
+          shown = λ disk e. now disk;
+          headline = λ disk e H shows. shows-headline c (after H (first ++ request ∷ [])) (now disk H shows);
+          sound = λ disk e. let never : ⊥ = cc in absurd never;
+          undone = λ disk is_open. now disk;
+          left = λ disk. tt;
+        }
+
+    -- one more was handled, but the board can't show it
+    handled-unshown : (rest' : List Request) (c : Held S) (fault : Fault) → MeetsFaultOf g m c fault → HandledFirst (first ++ request ∷ []) rest' g a c (Some fault)
+    handled-unshown rest' c fault l =
+        let looks = l.looks.looks in
+        record {
+          clean = λ disk. h.clean (d.handled.clean (looks.clean disk));
+          shown = λ disk e. let never : ⊥ = cc in absurd never;
+          headline = λ disk e. let never : ⊥ = cc in absurd never;
+          sound = λ disk e H shows. stored disk (some-is fault Stored e) H (made-shows (looks.clean disk) H shows) l.cause;
+          undone = λ disk is_open H shows. stays-any m c l.looked looks disk is_open (after H (first ++ request ∷ [])) (made-shows (looks.clean disk) H shows);
+          left = λ disk H shows. leaves-first (state g c) (picture (after H (first ++ request ∷ []))) (picture (after H ((first ++ request ∷ []) ++ take 1 rest')))
+              (looks.left disk (after H (first ++ request ∷ [])) (made-shows (looks.clean disk) H shows));
+        }
+      where
+        stored : IsClean g c → fault ≡ Stored → (H : History) → Shows (state g m) (after H (first ++ request ∷ [])) → (l.looked ≡ Err fault) ⊎ (fault ≡ Memory) → ⊥
+        stored disk is H shows (inl met) = l.looks.sound disk (met ∙ ap Err is) (after H (first ++ request ∷ [])) shows tt
+        stored disk is H shows (inr want) = let never : Memory ≡ Stored = sym want ∙ is in absurd (cc)
 
   -- a fault came
   fault-met : (first rest : List Request) (request : Request) (a b c : Held S) (fault : Fault) → rest ≡ [] → HandledFirst first rest g a b None → Handles request g b c (Err fault)
@@ -64,11 +97,19 @@ module _ {S : Type 0} (g : Ghosts S) where
     shown = λ disk e. let never : ⊥ = cc in absurd never;
     headline = λ disk e. let never : ⊥ = cc in absurd never;
     sound = λ disk e H shows.
-        let is : fault ≡ Stored = cc in
+        let is : fault ≡ Stored = some-is fault Stored e in
         d.handled.sound disk (ap Err is) (after H first) (h.shown (d.handled.clean disk) refl H shows);
     undone = λ disk is_open H shows. d.handled.undone disk is_open (after H first) (h.shown (d.handled.clean disk) refl H shows);
-    left = λ disk H shows. (request, [], ap (λ (x : List Request). x ++ request ∷ []) none, d.handled.left disk (after H first) (h.shown (d.handled.clean disk) refl H shows));
+    left = λ disk H shows. subst (LeavesOneOf (state g c) (after H first)) (sym (ap (λ (l : List Request). after H (first ++ take 1 (l ++ request ∷ []))) none ∙ after-last first H request))
+        (d.handled.left disk (after H first) (h.shown (d.handled.clean disk) refl H shows));
   }
+
+  -- what may be there after one more of the rest
+  still-leaves : (s : State) (H : History) (first rest : List Request) (request : Request) → LeavesOneOf s (after H first) (after H (first ++ take 1 rest)) → LeavesOneOf s (after H first) (after H (first ++ take 1 (rest ++ request ∷ [])))
+  still-leaves s H first [] request left =
+      let same : LeavesOneOf s (after H first) (after H first) = subst (λ (l : List Request). LeavesOneOf s (after H first) (after H l)) (append-nil first) left in
+      λ trees may. let found = same trees may in (found.0, ⊎_elim (λ one. inl one) (λ other. inl other) found.1, found.2)
+  still-leaves s H first (x ∷ xs) request left = left
 
   -- a stop leaves what the tables show
   still-left : (held : Held S) (H K : History) → Shows (state g held) H → LeavesOneOf (state g held) H K
@@ -82,7 +123,7 @@ module _ {S : Type 0} (g : Ghosts S) where
     headline = λ disk e. let never : ⊥ = cc in absurd never;
     sound = λ disk e. let never : ⊥ = cc in absurd never;
     undone = h.undone;
-    left = λ disk H shows. (request, [], ap (λ (x : List Request). x ++ request ∷ []) none, still-left b (after H first) (after_one (after H first) request) (h.shown disk refl H shows));
+    left = λ disk H shows. still-left b (after H first) (after H (first ++ take 1 (rest ++ request ∷ []))) (h.shown disk refl H shows);
   }
 
   -- it was closed before
@@ -93,7 +134,7 @@ module _ {S : Type 0} (g : Ghosts S) where
     headline = h.headline;
     sound = h.sound;
     undone = h.undone;
-    left = λ disk H shows. let l = h.left disk H shows in (l.0, l.1 ++ request ∷ [], ap (λ (x : List Request). x ++ request ∷ []) l.2, l.3);
+    left = λ disk H shows. still-leaves (state g b) H first rest request (h.left disk H shows);
   }
 
   passed-over : (n : ℕ) (first rest : List Request) (request : Request) (a b : Held S) (before : Option Fault) (fault : Fault) → (before ≡ None → rest ≡ [])
@@ -112,9 +153,16 @@ module _ {S : Type 0} (g : Ghosts S) where
       let rest = requests (unhandled n got) in
       let rest' = requests (unhandled m got') in
       let k = submit_more n m got got' s e t.counted (all t.was) in
-      let done = handled-more first rest rest' s.request a b c t.reply (subst (HandledFirst first rest g a b) t.was h) t.handles in
+      let done = handled-more first rest s.request a b t.made t.reply (subst (HandledFirst first rest g a b) t.was h) t.handles rest' c t.looks in
       (omega (arith, k.0), (λ none. k.0), subst (λ (x : List Request). HandledFirst x rest' g a c after') (sym k.1) (subst (HandledFirst (first ++ s.request ∷ []) rest' g a c) (sym t.is) done))
   submission-kept a b c n m before after' got got' s e (inr (inl t)) le all h =
+      let first = requests (handled n got) in
+      let rest = requests (unhandled n got) in
+      let rest' = requests (unhandled m got') in
+      let k = submit_more n m got got' s e t.counted (all t.was) in
+      let done = handled-unshown first rest s.request a b t.made t.reply (subst (HandledFirst first rest g a b) t.was h) t.handles rest' c t.fault t.looks in
+      (omega (arith, k.0), (λ none. k.0), subst (λ (x : List Request). HandledFirst x rest' g a c after') (sym k.1) (subst (HandledFirst (first ++ s.request ∷ []) rest' g a c) (sym t.is) done))
+  submission-kept a b c n m before after' got got' s e (inr (inr (inl t))) le all h =
       let first = requests (handled n got) in
       let rest = requests (unhandled n got) in
       let k = submit_same n m got got' s e t.counted le in
@@ -122,7 +170,7 @@ module _ {S : Type 0} (g : Ghosts S) where
       let here : HandledFirst first (rest ++ s.request ∷ []) g a c after' = subst (HandledFirst first (rest ++ s.request ∷ []) g a c) (sym t.is) met in
       let more : HandledFirst first (requests (unhandled m got')) g a c after' = subst (λ (x : List Request). HandledFirst first x g a c after') (sym (rest_more n m got got' s e t.counted le)) here in
       (k.0, (λ none. absurd (none-some after' t.fault none t.is)), subst (λ (x : List Request). HandledFirst x (requests (unhandled m got')) g a c after') (sym k.1) more)
-  submission-kept a b c n m before after' got got' s e (inr (inr t)) le all h =
+  submission-kept a b c n m before after' got got' s e (inr (inr (inr t))) le all h =
       let first = requests (handled n got) in
       let rest = requests (unhandled n got) in
       let k = submit_same n m got got' s e t.counted le in
@@ -139,8 +187,9 @@ module _ {S : Type 0} (g : Ghosts S) where
     where
       go : ClosedBy n rest g b fault → ClosedBy n (rest ++ request ∷ []) g b fault
       go (inl d) = inl (record { before = d.before; next = d.next; later = d.later ++ request ∷ []; rest_is = ap (λ (x : List Request). x ++ request ∷ []) d.rest_is; handles = d.handles })
-      go (inr used) = inr used
-  still-closed n rest request b before fault (inr now) h = inr (now.1, now.2)
+      go (inr (inl board)) = inr (inl board)
+      go (inr (inr used)) = inr (inr used)
+  still-closed n rest request b before fault (inr now) h = inr (inr (now.1, now.2))
 
   -- what closed the hall, after one submission more
   pub cause-kept : (b c : Held S) (n m : ℕ) (before after' : Option Fault) (got got' : List Message) (s : Submission) → got' ≡ got ++ Submit s ∷ []
@@ -148,11 +197,14 @@ module _ {S : Type 0} (g : Ghosts S) where
       → IfSome before (ClosedBy n (requests (unhandled n got)) g b) → IfSome after' (ClosedBy m (requests (unhandled m got')) g c)
   cause-kept b c n m before after' got got' s e (inl t) le all h = subst (λ (o : Option Fault). IfSome o (ClosedBy m (requests (unhandled m got')) g c)) (sym t.is) tt
   cause-kept b c n m before after' got got' s e (inr (inl t)) le all h =
+      let cause : ClosedBy m (requests (unhandled m got')) g c t.fault = inr (inl (record { made = t.made; looks = t.looks })) in
+      subst (λ (o : Option Fault). IfSome o (ClosedBy m (requests (unhandled m got')) g c)) (sym t.is) cause
+  cause-kept b c n m before after' got got' s e (inr (inr (inl t))) le all h =
       let rest = requests (unhandled n got) in
       let none : rest ++ s.request ∷ [] ≡ s.request ∷ [] = ap (λ (x : List Request). x ++ s.request ∷ []) (no_rest n got (all t.was)) in
       let met : ClosedBy m (requests (unhandled m got')) g c t.fault = inl (record { before = b; next = s.request; later = []; rest_is = rest_more n m got got' s e t.counted le ∙ none; handles = t.handles }) in
       subst (λ (o : Option Fault). IfSome o (ClosedBy m (requests (unhandled m got')) g c)) (sym t.is) met
-  cause-kept b c n m before after' got got' s e (inr (inr t)) le all h =
+  cause-kept b c n m before after' got got' s e (inr (inr (inr t))) le all h =
       let past = still-closed n (requests (unhandled n got)) s.request b before t.fault t.was h in
       let here : ClosedBy n (requests (unhandled m got')) g b t.fault = subst (λ (x : List Request). ClosedBy n x g b t.fault) (sym (rest_more n m got got' s e t.counted le)) past in
       let same : ClosedBy n (requests (unhandled m got')) g c t.fault = subst (λ (x : Held S). ClosedBy n (requests (unhandled m got')) g x t.fault) (sym t.same) here in

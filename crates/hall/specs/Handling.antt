@@ -1,14 +1,21 @@
 -- What the desk of a hall has done, after the submissions that it handled.
-use Rattle.std.specs.Prelude.{◌≡◌, ◌⊎◌, ℕ, ◌+◌, ◌^◌, ◌<◌, ◌≤◌, false, List, ◌∷◌, length, Option, None, Some, Ok, Err, IfSome}
+use Rattle.std.specs.Prelude.{◌≡◌, ◌⊎◌, ℕ, ◌+◌, ◌^◌, ◌<◌, ◌≤◌, ◌==◌, Bool, true, false, List, [], ◌∷◌, ◌++◌, length, map, take, Option, None, Some, Result, Ok, Err, IfSome, MatchResult, IsSome}
+use Rattle.std.specs.List.{list_any}
 use Rattle.store.specs.Library.{Ghosts, Held, state, IsClean, IsOpen}
 use Rattle.terms.specs.declared.command.Request.{Request}
 use Rattle.terms.specs.declared.fault.Fault.{Fault}
-use Rattle.terms.specs.declared.fault.Fault.TheVariants.{Closed, Stored}
+use Rattle.terms.specs.declared.fault.Fault.TheVariants.{Closed, Memory, Stored}
 use Rattle.terms.specs.declared.reply.Reply.{Reply}
 use Rattle.model.specs.History.{History}
-use Rattle.model.specs.Requests.{after, after_one}
-use Rattle.desk.specs.Answering.{Shows, LeavesOneOf}
+use Rattle.model.specs.Requests.{after, after_one, reply_to}
+use Rattle.desk.specs.Answering.{Shows, LeavesOneOf, Learns}
 use Rattle.desk.specs.Running.{Handles, ShowsHeadline}
+use Rattle.desk.specs.Showing.{own_page}
+use Rattle.desk.specs.declared.showing.OwnPage.{OwnPage}
+use Rattle.board.specs.declared.entry.Entry.{Entry}
+use Rattle.board.specs.Showing.{count_own, overlaid, requests as entry_requests}
+use Rattle.hall.specs.declared.messages.Submission.{Submission}
+use Rattle.hall.specs.Openings.{LooksOnly, MeetsFaultOf}
 use Rattle.hall.specs.declared.messages.Message.{Message}
 use Rattle.hall.specs.Queue.{of, is_open, submissions, handled, unhandled, requests}
 
@@ -31,19 +38,33 @@ pub record HandledFirst {S : Type 0} (first rest : List Request)
       → Shows (state g new) (after H first)
   -- and then a stop leaves that, or what is there after the first of the rest too
   pub left : IsClean g new → IfSome fault (λ _. (H : History) → Shows (state g old) H
-      → (next : Request) × (later : List Request) × (rest ≡ next ∷ later)
-      × LeavesOneOf (state g new) (after H first) (after_one (after H first) next))
+      → LeavesOneOf (state g new) (after H first) (after H (first ++ take 1 rest)))
 
 -- ---- one submission more
 
--- It was handled.
+-- It was handled, and then pages were looked up to be shown.
 pub record IsHandled {S : Type 0} (request : Request)
     (g : Ghosts S) (old new : Held S) (n m : ℕ) (before after : Option Fault) : Type 0 where
   pub was : before ≡ None
   pub is : after ≡ None
   pub counted : m ≡ n + 1
   pub reply : Reply
-  pub handles : Handles request g old new (Ok reply)
+  pub made : Held S
+  pub handles : Handles request g old made (Ok reply)
+  pub looks : LooksOnly g made new (Ok tt)
+
+-- It was handled, but the board can't show it, which closes the hall: for want of memory, or because
+-- a page could not be looked up.
+pub record IsUnshown {S : Type 0} (request : Request)
+    (g : Ghosts S) (old new : Held S) (n m : ℕ) (before after : Option Fault) : Type 0 where
+  pub was : before ≡ None
+  pub fault : Fault
+  pub is : after ≡ Some fault
+  pub counted : m ≡ n + 1
+  pub reply : Reply
+  pub made : Held S
+  pub handles : Handles request g old made (Ok reply)
+  pub looks : MeetsFaultOf g made new fault
 
 -- It met a fault, which closes the hall.
 pub record MeetsFault {S : Type 0} (request : Request)
@@ -70,7 +91,8 @@ abbrev pub TakesNext : {S : Type 0} → Request → Ghosts S → Held S → Held
     → Option Fault → Option Fault → Type 0
 TakesNext request g old new n m before after =
     IsHandled request g old new n m before after
-    ⊎ (MeetsFault request g old new n m before after ⊎ IsPassedOver old new n m before after)
+    ⊎ (IsUnshown request g old new n m before after
+    ⊎ (MeetsFault request g old new n m before after ⊎ IsPassedOver old new n m before after))
 
 -- ---- what closes a hall
 
@@ -83,10 +105,50 @@ pub record IsDesksFault {S : Type 0} (rest : List Request)
   pub rest_is : rest ≡ next ∷ later
   pub handles : Handles next g before new (Err fault)
 
--- It did, or the fault is 92 and no more submissions can be counted.
+-- The board couldn't show the last request that was handled.
+pub record IsBoardsFault {S : Type 0} (g : Ghosts S) (new : Held S) (fault : Fault) : Type 0 where
+  pub made : Held S
+  pub looks : MeetsFaultOf g made new fault
+
+-- The desk gave the fault, or the board couldn't be written, or the fault is 92 and no more
+-- submissions can be counted.
 abbrev pub ClosedBy : {S : Type 0} → ℕ → List Request → Ghosts S → Held S → Fault → Type 0
 ClosedBy n rest g new fault =
-    IsDesksFault rest g new fault ⊎ ((fault ≡ Closed) × (2 ^ 64 ≤ n + 1))
+    IsDesksFault rest g new fault
+    ⊎ (IsBoardsFault g new fault ⊎ ((fault ≡ Closed) × (2 ^ 64 ≤ n + 1)))
+
+-- ---- what the board shows
+
+-- An entry without its reply.
+abbrev pub submission_of : Entry → Submission
+submission_of e = record { worker = e.worker; number = e.number; request = e.request }
+
+-- The board shows these submissions, one after another.
+abbrev pub AreShown : List Entry → List Submission → Type 0
+AreShown entries handled = map submission_of entries ≡ handled
+
+-- These pages were looked up for the patrons, and are to be shown over those before.
+abbrev pub PutsPages : List ℕ → List (ℕ × OwnPage) → List (ℕ × OwnPage) → History → Type 0
+PutsPages patrons before after H = (p : ℕ) (page : Option OwnPage)
+    → (own_page H p ≡ None → overlaid before p page ≡ None)
+    → (list_any (λ q. q == p) patrons ≡ false → overlaid before p page ≡ own_page H p)
+    → overlaid after p page ≡ own_page H p
+
+-- What the desk's tables are known to show, with a disk that gives back what is written to it.
+abbrev pub KnowsList : {S : Type 0} → Bool → Ghosts S → Held S → History → Type 0
+KnowsList {S} known g held H = known ≡ true → ((any : Held S) → IsClean g any) × Shows (state g held) H
+
+-- The submission was handled with this reply, and the board shows all before it: it has the next
+-- number of its worker. Where the list of accepted requests is known, the reply is the one that it
+-- gives, and the pages of all but these patrons are what they were.
+pub record IsDue {S : Type 0} (known : Bool) (from : History) (g : Ghosts S) (desk : Held S)
+    (shown : List Entry) (s : Submission) (reply : Reply) (touched : List ℕ) : Type 0 where
+  pub number : s.number ≡ count_own s.worker shown + 1
+  pub reply_is : known ≡ true → reply ≡ reply_to (after from (entry_requests shown)) s.request
+  pub list : KnowsList known g desk (after_one (after from (entry_requests shown)) s.request)
+  pub kept : known ≡ true → (p : ℕ) → list_any (λ q. q == p) touched ≡ false
+      → own_page (after_one (after from (entry_requests shown)) s.request) p
+      ≡ own_page (after from (entry_requests shown)) p
 
 -- ---- until each worker has left
 

@@ -1,4 +1,5 @@
 pub mod Names
 pub mod Queue
-pub mod Handling
 pub mod Openings
+pub mod Handling
+pub mod Serving

@@ -1,15 +1,43 @@
 -- Why a hall isn't opened.
-use Rattle.std.specs.Prelude.{ℕ, ◌&&◌, if◌then◌else◌, nat_le}
+use Rattle.std.specs.Prelude.{◌≡◌, ◌⊎◌, ℕ, true, false, Bool, ◌&&◌, nat_le, Result, Ok, Err}
+use Rattle.store.specs.Library.{Ghosts, Held}
+use Rattle.desk.specs.Answering.{Learns}
+use Rattle.terms.specs.declared.fault.Fault.{Fault}
 use Rattle.terms.specs.Texts.{fault_number, refusal_number}
-use Rattle.terms.specs.declared.fault.Fault.TheVariants.{Memory}
+use Rattle.terms.specs.declared.fault.Fault.TheVariants.{Memory, Closed}
 use Rattle.terms.specs.declared.refusal.Refusal.TheVariants.{OutOfLimits}
 use Rattle.hall_schedule.specs.declared.schedule.TheConstants.{WORKERS}
 use Rattle.hall.specs.declared.hall.Why.{Why}
 use Rattle.hall.specs.declared.hall.Why.TheVariants.{Refused, Faulted}
 
--- Why a hall of so many workers isn't opened: there are none or too many, or no memory is left.
-abbrev pub why_not : ℕ → Why
-why_not workers = if nat_le 1 workers && nat_le workers WORKERS then Faulted Memory else Refused OutOfLimits
+-- ---- a desk that only looks
+
+-- The desk only looked at its tables.
+abbrev pub LooksOnly : {S : Type 0} → Ghosts S → Held S → Held S → Result (Unit {0}) Fault → Type 0
+LooksOnly = Learns (λ _ _. Unit {0})
+
+-- The desk only looked at its tables, and then came this fault: that of a look, or 90 because no
+-- memory was left.
+pub record MeetsFaultOf {S : Type 0} (g : Ghosts S) (old new : Held S) (fault : Fault) : Type 0 where
+  pub looked : Result (Unit {0}) Fault
+  pub looks : LooksOnly g old new looked
+  pub cause : (looked ≡ Err fault) ⊎ (fault ≡ Memory)
+
+-- ---- a hall that isn't opened
+
+-- There may be so many workers.
+abbrev pub can_be_workers : ℕ → Bool
+can_be_workers workers = nat_le 1 workers && nat_le workers WORKERS
+
+-- Why a hall of so many workers isn't opened. Its desk comes back: it wasn't asked for anything, or
+-- only looked at its tables.
+pub record IsUnopened {S : Type 0} (workers : ℕ) (g : Ghosts S) (old new : Held S) (why : Why)
+    : Type 0 where
+  -- there are none, or too many
+  pub refused : can_be_workers workers ≡ false → (why ≡ Refused OutOfLimits) × (new ≡ old)
+  -- a page couldn't be looked up, or no memory was left; or the board has no place for a reader
+  pub faulted : can_be_workers workers ≡ true → (fault : Fault) × (why ≡ Faulted fault)
+      × (MeetsFaultOf g old new fault ⊎ (LooksOnly g old new (Ok tt) × (fault ≡ Closed)))
 
 -- The number that stands for it.
 abbrev pub why_number : Why → ℕ

@@ -1,47 +1,51 @@
 //! The side of the desk.
 
-ghost use Rattle.std.specs.Prelude.{◌≡◌, ◌+◌, ◌^◌, ◌<◌, ◌≤◌, ◌⊎◌, ℕ, true, false, [], None, Some};
-ghost use Rattle.std.specs.Prelude.{IfSome, IsNone, IsTrue, slice_index_or};
+ghost use Rattle.std.specs.Prelude.{◌≡◌, ◌+◌, ◌++◌, ◌∷◌, ◌^◌, ◌<◌, ◌≤◌, ◌⊎◌, ℕ, true, false, []};
+ghost use Rattle.std.specs.Prelude.{None, Some, Ok, List, IfSome, IsSome, IsNone, IsTrue, slice_index_or};
+ghost use Rattle.std.specs.Prelude.{MatchResult};
+ghost use Rattle.model.specs.Requests.{after};
+ghost use Rattle.desk.specs.Answering.{Learns};
+ghost use Rattle.board.specs.Showing.{count_own, requests};
 ghost use Rattle.terms.specs.declared.fault.Fault.TheVariants.{Closed};
 ghost use Rattle.hall_schedule.specs.declared.schedule.TheConstants.{WORKERS};
 ghost use Rattle.store.specs.Limits.{limit_of};
 ghost use Rattle.hall.specs.Queue.{IsHearing};
-ghost use Rattle.hall.specs.Handling.{TakesNext, Finishes};
+ghost use Rattle.hall.specs.Openings.{LooksOnly, MeetsFaultOf};
+ghost use Rattle.hall.specs.Handling.{TakesNext, Finishes, KnowsList, PutsPages, IsDue};
+ghost use Rattle.hall.specs.Handling.{AreShown};
+ghost use Rattle.hall.specs.declared.messages.Submission.{Submission};
 
 use crate::ended::Ended;
 use crate::ends::Inbox;
 use crate::messages::{Message, Submission};
 use crate::notices::Notices;
 use crate::opening::Opening;
-use desk::Desk;
+use board::{BoardWriter, Entry, Publisher, WorkerId};
+use desk::{Desk, Touched};
 use hall_schedule::WORKERS;
 use sqlite::Alter;
 use std::alloc::Global;
 use std::sync::{Arc, Wait};
 use std::thread;
-use terms::Fault;
+use terms::{Fault, PatronId, Reply};
 
-/// The side of the desk in a hall, for the thread that owns the database.
+/// The side of the desk in a hall, for the thread that owns the database. It is not `Drop`: end it by
+/// `desk_loop`.
 pub struct DeskSide<J: Opening, S: Alter> {
     pub(crate) inbox: Inbox<J>,
     pub(crate) desk: Desk<S>,
+    pub(crate) publisher: Publisher<J>,
     pub(crate) notices: Arc<Notices, Global>,
     pub(crate) workers: usize,
     pub(crate) ghost few: { workers ≤ WORKERS },
     pub(crate) ghost hearing: { IsHearing inbox },
     pub(crate) ghost fresh: { inbox.got ≡ [] },
+    pub(crate) ghost blank: { (publisher.shown ≡ []) × (publisher.pages ≡ []) },
+    pub(crate) ghost known: { KnowsList J.Origin.known S.Store desk J.Origin.from },
 }
 
-impl<J: Opening, S: Alter + Drop> Drop for DeskSide<J, S> {
-    fn drop(self) {
-        let DeskSide {
-            inbox: _,
-            desk: _,
-            notices: _,
-            workers: _,
-        } = self;
-    }
-}
+/// What writes the board; once the hall is closed it shows nothing more.
+type BoardSide<J> = Result<Publisher<J>, BoardWriter<J>>;
 
 /// How far the desk has come.
 #[derive(Clone, Copy)]
@@ -66,61 +70,133 @@ fn have_left(gone: &[bool; 8], workers: usize) -> bool
 }
 
 /// Notes that a worker has left.
-fn note(gone: &mut [bool; 8], worker: u64)
+fn note(gone: &mut [bool; 8], worker: WorkerId)
     ensures { (k : ℕ) → slice_index_or gone.new k false ≡ true
         → (slice_index_or gone.old k false ≡ true) ⊎ (k + 1 ≡ worker) }
 {
-    if 1 <= worker && worker <= WORKERS {
-        gone[(worker - 1) as usize] = true;
-    }
+    gone[(worker.number() - 1) as usize] = true;
 }
 
-impl Progress {
-    /// What the hall is closed by before one submission more: the fault that closed it, or 92 where
-    /// no more can be counted.
-    fn closed_by(&self) -> Option<Fault>
-        ensures open { IsNone result → self.now.fault ≡ None }
-        ensures room { IsNone result → self.now.handled + 1 < 2 ^ 64 }
-        ensures closed { IfSome result (λ fault. (self.now.fault ≡ Some fault)
-            ⊎ ((self.now.fault ≡ None) × (fault ≡ Closed) × (2 ^ 64 ≤ self.now.handled + 1))) }
-    {
-        match self.fault {
-            Some(fault) => Some(fault),
-            None => {
-                if self.handled == u64::MAX {
-                    Some(Fault::Closed)
-                } else {
-                    None
-                }
-            }
+/// Looks up the pages of these patrons, which are to be shown with the next entry. 90, 91, 93.
+fn put_pages<J: Opening, S: Alter>(
+    alloc: Global,
+    desk: &mut Desk<S>,
+    publisher: &mut Publisher<J>,
+    patrons: &[PatronId],
+) -> Result<(), Fault>
+    ensures same { publisher.new.shown ≡ publisher.old.shown }
+    ensures pages { Learns
+        (λ H _. PutsPages patrons.now publisher.old.pages publisher.new.pages H)
+        S.Store desk.old desk.new result }
+{
+    'patrons: for patron in patrons {
+        if let Some(page) = desk.own_page(alloc, *patron)? {
+            publisher.put(alloc, *patron, page)?;
         }
     }
+    Ok(())
 }
 
-/// Has a submission handled, unless the hall is closed. A fault closes it. The worker is told why a
-/// submission isn't handled.
-fn handle_or_tell<S: Alter, R: Wait>(
+/// Shows a submission that was handled, with the pages that it may have changed.
+fn show<J: Opening, S: Alter, R: Wait>(
+    rt: &R,
+    alloc: Global,
+    desk: &mut Desk<S>,
+    publisher: Publisher<J>,
+    submission: Submission,
+    reply: Reply,
+    touched: &Touched,
+) -> Result<Publisher<J>, (BoardWriter<J>, Fault)>
+    requires blank { publisher.pages ≡ [] }
+    requires due { IsDue J.known J.from S.Store desk.old publisher.shown submission reply
+        touched.now }
+    ensures { MatchResult result
+        (λ p. (p.shown ≡ publisher.shown ++ (record { worker = submission.worker;
+            number = submission.number; request = submission.request; reply = reply }) ∷ [])
+        × (p.pages ≡ []) × LooksOnly S.Store desk.old desk.new (Ok tt))
+        (λ e. MeetsFaultOf S.Store desk.old desk.new e.1) }
+{
+    let mut publisher = publisher;
+    if let Err(fault) = put_pages(alloc, desk, &mut publisher, touched.as_slice()) {
+        return Err((publisher.stop(), fault));
+    }
+    let Submission {
+        worker,
+        number,
+        request,
+    } = submission;
+    let _in_limits = worker.number();
+    let entry = Entry {
+        worker,
+        number,
+        request,
+        reply,
+    };
+    match publisher.publish(rt, alloc, entry) {
+        Ok(publisher) => Ok(publisher),
+        Err(writer) => Err((writer, Fault::Memory)),
+    }
+}
+
+/// Has a submission handled and shown. A fault closes the hall; the worker is told why a submission
+/// has no reply.
+fn handle_next<J: Opening, S: Alter, R: Wait>(
     rt: &R,
     alloc: Global,
     desk: &mut Desk<S>,
     progress: &mut Progress,
     notices: &Notices,
-    submission: &Submission,
-)
-    ensures { TakesNext submission.now.request S.Store desk.old desk.new
+    publisher: Publisher<J>,
+    submission: Submission,
+) -> BoardSide<J>
+    requires open { progress.old.fault ≡ None }
+    requires blank { publisher.pages ≡ [] }
+    requires number { submission.number ≡ count_own submission.worker publisher.shown + 1 }
+    requires known { KnowsList J.known S.Store desk.old
+        (after J.from (requests publisher.shown)) }
+    ensures next { TakesNext submission.request S.Store desk.old desk.new
         progress.old.handled progress.new.handled progress.old.fault progress.new.fault }
+    ensures shown { MatchResult result
+        (λ p. (progress.new.fault ≡ None) × (p.pages ≡ [])
+        × ((submissions : List Submission) → AreShown publisher.shown submissions
+        → AreShown p.shown (submissions ++ submission ∷ [])))
+        (λ _. IsSome progress.new.fault) }
 {
-    if let Some(fault) = progress.closed_by() {
-        notices.tell(rt, submission.worker, submission.number, Fault::Closed);
-        progress.fault = Some(fault);
-        return;
+    let worker = submission.worker;
+    let number = submission.number;
+    if progress.handled == u64::MAX {
+        notices.tell(rt, worker, number, Fault::Closed);
+        progress.fault = Some(Fault::Closed);
+        return Err(publisher.stop());
     }
-    match desk.handle(alloc, &submission.request) {
-        Ok(_reply) => progress.handled += 1,
-        Err(fault) => {
-            notices.tell(rt, submission.worker, submission.number, fault);
-            progress.fault = Some(fault);
+    match desk.handle_touching(alloc, submission.request.get()) {
+        Ok((reply, touched)) => {
+            progress.handled += 1;
+            match show(rt, alloc, desk, publisher, submission, reply, &touched) {
+                Ok(publisher) => {
+                    notices.wake(worker);
+                    Ok(publisher)
+                }
+                Err((writer, fault)) => {
+                    notices.tell(rt, worker, number, Fault::Closed);
+                    progress.fault = Some(fault);
+                    Err(writer)
+                }
+            }
         }
+        Err(fault) => {
+            notices.tell(rt, worker, number, fault);
+            progress.fault = Some(fault);
+            Err(publisher.stop())
+        }
+    }
+}
+
+/// Ends the board: nobody reads it any more.
+fn close<J: Opening, R: Wait>(rt: &R, board: BoardSide<J>) {
+    match board {
+        Ok(publisher) => publisher.close(rt),
+        Err(writer) => drop(writer.take(rt)),
     }
 }
 
@@ -129,19 +205,23 @@ impl<J: Opening, S: Alter> DeskSide<J, S> {
     /// and 0 stands for 1.
     pub fn limit_steps(&mut self, limit: Option<u64>)
         ensures desk { self.new.desk ≡ record self.old.desk { step_limit = limit_of limit } }
-        ensures same { (self.new.inbox ≡ self.old.inbox) × (self.new.workers ≡ self.old.workers) }
+        ensures same { (self.new.inbox ≡ self.old.inbox) × (self.new.publisher ≡ self.old.publisher)
+            × (self.new.workers ≡ self.old.workers) }
     {
         self.desk.limit_steps(limit);
     }
 
     /// Handles what the workers submit, in the order in which it comes, until each of them has left,
-    /// and hands the desk back.
+    /// and hands the desk back. Each one that was handled is shown on the board, with the pages that
+    /// it may have changed, before the next is handled.
     ///
     /// A fault of the desk closes the hall: the worker whose request met it is told that fault, and
-    /// for each other submission waiting or later its worker is told 92. The loop goes on until each
-    /// worker has left, and gives the fault. So the hall was closed exactly where there is a fault;
-    /// where there is none, every submission was handled. 90, 91 and 93 as `Desk::handle` gives them;
-    /// 92 where 2^64 - 1 submissions were handled and one more came. Closing takes no memory.
+    /// for each other submission waiting or later its worker is told 92. So does a board that can't
+    /// show what was handled, for want of memory or because a page could not be had: then all are
+    /// told 92. The loop goes on until each worker has left, and gives the fault. So the hall was
+    /// closed exactly where there is a fault; where there is none, every submission was handled. 90,
+    /// 91 and 93 as the desk gives them; 92 where 2^64 - 1 submissions were handled and one more
+    /// came. Closing takes no memory, and the board stays as it was shown last.
     pub fn desk_loop<R: Wait>(self, rt: &R, alloc: Global) -> (Desk<S>, Ended<J>, Option<Fault>)
         ensures { Finishes self.workers result.1.handled result.1.heard.got
             S.Store self.desk result.0 result.2 }
@@ -149,9 +229,11 @@ impl<J: Opening, S: Alter> DeskSide<J, S> {
         let DeskSide {
             mut inbox,
             mut desk,
+            publisher,
             notices,
             workers,
         } = self;
+        let mut board: BoardSide<J> = Ok(publisher);
         let mut gone = [false; 8];
         let mut progress = Progress {
             handled: 0,
@@ -164,12 +246,26 @@ impl<J: Opening, S: Alter> DeskSide<J, S> {
             match inbox.receive(rt) {
                 Ok(Message::Leave(worker)) => note(&mut gone, worker),
                 Ok(Message::Submit(submission)) => {
-                    handle_or_tell(rt, alloc, &mut desk, &mut progress, &notices, &submission);
-                    drop(submission);
+                    board = match board {
+                        Ok(publisher) => handle_next(
+                            rt,
+                            alloc,
+                            &mut desk,
+                            &mut progress,
+                            &notices,
+                            publisher,
+                            submission,
+                        ),
+                        Err(writer) => {
+                            notices.tell(rt, submission.worker, submission.number, Fault::Closed);
+                            Err(writer)
+                        }
+                    };
                 }
                 Err(_) => thread::yield_now(),
             }
         }
+        close(rt, board);
         let ended = Ended {
             heard: inbox.end(),
             handled: progress.handled,

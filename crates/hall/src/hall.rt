@@ -1,21 +1,30 @@
 //! A hall is opened.
 
-ghost use Rattle.std.specs.Prelude.{◌≡◌, ◌+◌, ◌≤◌, [], IfErr, IfOk, OnOk, vec_len};
+ghost use Rattle.std.specs.Prelude.{◌≡◌, ◌+◌, ◌≤◌, ◌⊎◌, ℕ, true, [], Ok, IfErr, IfOk, OnOk};
+ghost use Rattle.std.specs.Prelude.{MatchResult};
 ghost use Rattle.hall_schedule.specs.declared.schedule.TheConstants.{WORKERS as most};
-ghost use Rattle.terms.specs.Texts.{fault_number, refusal_number};
-ghost use Rattle.hall.specs.Queue.{IsHearing, worker_views};
-ghost use Rattle.hall.specs.Openings.{why_not, why_number};
+ghost use Rattle.terms.specs.declared.fault.Fault.TheVariants as Fault;
+ghost use Rattle.desk.specs.Answering.{Learns};
+ghost use Rattle.desk.specs.Showing.{own_page};
+ghost use Rattle.board.specs.Showing.{page_at};
+ghost use Rattle.hall.specs.Queue.{IsHearing, worker_view};
+ghost use Rattle.hall.specs.Openings.{why_number, can_be_workers, IsUnopened, LooksOnly};
+ghost use Rattle.hall.specs.Openings.{MeetsFaultOf};
+ghost use Rattle.hall.specs.Handling.{KnowsList};
+ghost use Rattle.hall.specs.Serving.{AreWorkers};
 
 use crate::desk_side::DeskSide;
-use crate::ends::{Hiring, Inbox, Opened};
+use crate::ends::{Hiring, Inbox, Opened, Post};
 use crate::notices::Notices;
 use crate::opening::Opening;
 use crate::worker::Worker;
+use board::{First, Publisher, Window, WorkerId};
+use crossbeam_utils::sync::Parker;
 use desk::Desk;
 use hall_schedule::WORKERS;
 use sqlite::Alter;
 use std::alloc::Global;
-use std::sync::Arc;
+use std::sync::{Arc, Wait};
 use terms::{Fault, Memory, Refusal};
 
 /// Why a hall could not be opened.
@@ -23,7 +32,8 @@ use terms::{Fault, Memory, Refusal};
 pub enum Why {
     /// 21: there are to be no workers, or more than 8.
     Refused(Refusal),
-    /// 90: no memory is left.
+    /// 90, 91 or 93: a page could not be had, or no memory is left; 92: the board has no place for a
+    /// reader.
     Faulted(Fault),
 }
 
@@ -49,75 +59,164 @@ pub struct HallFault<S: Alter> {
 /// between them.
 pub struct Hall;
 
-/// The workers, numbered from 1 on.
-fn hire_all<J: Opening>(
+/// The pages of all patrons, as the desk sees them. 90, 91, 93.
+fn first_pages<S: Alter>(desk: &mut Desk<S>, alloc: Global) -> Result<First, Fault>
+    ensures { Learns (λ H first. (p : ℕ) → page_at first p ≡ own_page H p)
+        S.Store desk.old desk.new result }
+{
+    let patrons = desk.patrons(alloc)?;
+    let mut first = First::new(alloc);
+    'patrons: for patron in patrons.as_slice() {
+        if let Some(page) = desk.own_page(alloc, *patron)? {
+            first = first.with(alloc, *patron, page)?;
+        }
+    }
+    Ok(first)
+}
+
+/// One worker more, of this number.
+fn hire_one<J: Opening, R: Wait>(
+    rt: &R,
+    alloc: Global,
+    post: Post<J>,
+    window: Window<J>,
+    worker: WorkerId,
+    notices: &Arc<Notices, Global>,
+) -> Result<Worker<J>, Memory>
+    requires { post ≡ worker_view worker }
+    ensures { IfOk result (λ w. (w.post ≡ worker_view worker) × (w.seen ≡ window)) }
+{
+    let parker = Parker::new(alloc)?;
+    notices.hang(rt, worker, parker.unparker().clone()?);
+    Ok(Worker::new(
+        post,
+        window,
+        worker,
+        Arc::try_clone(notices)?,
+        parker,
+    ))
+}
+
+/// The workers, numbered from 1 on. 90; 92 where the board has no place for a reader.
+fn hire_all<J: Opening, R: Wait>(
+    rt: &R,
     alloc: Global,
     hiring: &Hiring<J>,
     inbox: &mut Inbox<J>,
+    publisher: &Publisher<J>,
     notices: &Arc<Notices, Global>,
     workers: usize,
-) -> Result<Vec<Worker<J>>, Memory>
+) -> Result<Vec<Worker<J>>, Fault>
     requires inbox { IsHearing inbox.old × (inbox.old.got ≡ []) × (inbox.old.made ≡ 0) }
+    requires limits { workers ≤ most }
     ensures inbox { IsHearing inbox.new × (inbox.new.got ≡ []) }
-    ensures workers { IfOk result (λ all. all.items ≡ worker_views workers) }
+    ensures workers { IfOk result (λ all. AreWorkers workers all.items) }
+    ensures fault { IfErr result (λ fault. (fault ≡ Fault.Memory) ⊎ (fault ≡ Fault.Closed)) }
 {
     let mut all = Vec::with_capacity(alloc, workers)?;
     for k in 0..workers {
+        let worker = WorkerId::new(k as u64 + 1).unwrap();
+        let Ok(window) = publisher.window() else {
+            return Err(Fault::Closed);
+        };
         let post = hiring.hire(inbox)?;
-        let worker = Worker::new(post, k as u64 + 1, Arc::try_clone(notices)?);
-        all.push(worker)?;
+        all.push(hire_one(rt, alloc, post, window, worker, notices)?)?;
     }
     Ok(all)
 }
 
-/// What `Hall::new` gives, but for the desk, once there are to be as many workers as there can be.
-fn open<J: Opening>(
+/// What `Hall::new` gives, but for the desk and the board.
+type Hired<J> = (Inbox<J>, Arc<Notices, Global>, Vec<Worker<J>>);
+
+/// The workers of a hall, and what they share with the desk. 90; 92 where the board has no place for
+/// a reader.
+fn hire<J: Opening, R: Wait>(
+    rt: &R,
     alloc: Global,
     opened: Opened,
+    publisher: &Publisher<J>,
     workers: usize,
-) -> Result<(Inbox<J>, Arc<Notices, Global>, Vec<Worker<J>>), Memory>
-    requires { opened ≡ J.name }
+) -> Result<Hired<J>, Fault>
+    requires name { opened ≡ J.name }
+    requires limits { workers ≤ most }
     ensures inbox { IfOk result (λ r. IsHearing r.0 × (r.0.got ≡ [])) }
-    ensures workers { IfOk result (λ r. r.2.items ≡ worker_views workers) }
+    ensures workers { IfOk result (λ r. AreWorkers workers r.2.items) }
+    ensures fault { IfErr result (λ fault. (fault ≡ Fault.Memory) ⊎ (fault ≡ Fault.Closed)) }
 {
     let (hiring, mut inbox) = opened.ends::<J>();
     let notices = Arc::new(alloc, Notices::new())?;
-    let all = hire_all(alloc, &hiring, &mut inbox, &notices, workers)?;
+    let all = hire_all(
+        rt, alloc, &hiring, &mut inbox, publisher, &notices, workers,
+    )?;
     Ok((inbox, notices, all))
+}
+
+/// A board that shows the pages of all patrons. 90, 91, 93.
+fn open_board<J: Opening, S: Alter>(
+    alloc: Global,
+    desk: &mut Desk<S>,
+    workers: usize,
+) -> Result<Publisher<J>, Fault>
+    requires limits { (1 ≤ workers) × (workers ≤ most) }
+    requires known { KnowsList J.known S.Store desk.old J.from }
+    ensures board { IfOk result (λ p. (p.shown ≡ []) × (p.pages ≡ [])) }
+    ensures looks { MatchResult result (λ _. LooksOnly S.Store desk.old desk.new (Ok tt))
+        (MeetsFaultOf S.Store desk.old desk.new) }
+{
+    let first = first_pages(desk, alloc)?;
+    Ok(Publisher::new(alloc, first, workers)?)
 }
 
 impl Hall {
     /// Opens a hall of 1 to 8 workers on a queue that was just opened: the desk's side, and the
-    /// workers, numbered from 1 on. 21 for another number of workers, 90; then the desk is given
-    /// back. The places where workers are told a fault are made here.
-    pub fn new<J: Opening, S: Alter>(
+    /// workers, numbered from 1 on. The board shows the pages of all patrons.
+    ///
+    /// 21 for another number of workers; 90, 91 or 93 where a page can't be had, or no memory is
+    /// left; 92 where the board gives a worker no reader's place. Then the desk is given back, and
+    /// its tables show what they showed. The places where workers are told a fault are made here.
+    ///
+    /// Where the opening says that it knows what the tables show, they are to show it.
+    pub fn new<J: Opening, S: Alter, R: Wait>(
+        rt: &R,
         alloc: Global,
         opened: Opened,
         desk: Desk<S>,
         workers: usize,
     ) -> Result<(DeskSide<J, S>, Vec<Worker<J>>), HallFault<S>>
-        requires { opened ≡ J.name }
-        ensures side { IfOk result (λ r. (r.0.desk ≡ desk) × (r.0.workers ≡ workers)) }
-        ensures workers { IfOk result (λ r. r.1.items ≡ worker_views workers) }
-        ensures limits { OnOk result ((1 ≤ workers) × (workers ≤ most)) }
-        ensures fault { IfErr result (λ f. (f.why ≡ why_not workers) × (f.desk ≡ desk)) }
+        requires name { opened ≡ J.name }
+        requires known { KnowsList J.known S.Store desk J.from }
+        ensures side { IfOk result (λ r. LooksOnly S.Store desk r.0.desk (Ok tt)
+            × (r.0.workers ≡ workers)) }
+        ensures workers { IfOk result (λ r. AreWorkers workers r.1.items) }
+        ensures limits { OnOk result (can_be_workers workers ≡ true) }
+        ensures fault { IfErr result (λ f. IsUnopened workers S.Store desk f.desk f.why) }
     {
         if workers < 1 || workers > WORKERS as usize {
             let why = Why::Refused(Refusal::OutOfLimits);
             return Err(HallFault { why, desk });
         }
-        match open(alloc, opened, workers) {
+        let mut desk = desk;
+        let publisher = match open_board::<J, S>(alloc, &mut desk, workers) {
+            Ok(publisher) => publisher,
+            Err(fault) => {
+                let why = Why::Faulted(fault);
+                return Err(HallFault { why, desk });
+            }
+        };
+        match hire(rt, alloc, opened, &publisher, workers) {
             Ok((inbox, notices, all)) => {
                 let side = DeskSide {
                     inbox,
                     desk,
+                    publisher,
                     notices,
                     workers,
                 };
                 Ok((side, all))
             }
-            Err(_) => {
-                let why = Why::Faulted(Fault::Memory);
+            Err(fault) => {
+                publisher.close(rt);
+                let why = Why::Faulted(fault);
                 Err(HallFault { why, desk })
             }
         }

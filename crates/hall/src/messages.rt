@@ -1,7 +1,7 @@
 //! What goes through the queue, and what each side knows of it.
 
+use board::{SharedRequest, WorkerId};
 use std::collections::LinkedList;
-use terms::Request;
 
 /// The number of the last submission that a worker may make.
 pub const LAST_SUBMISSION: u64 = 1 << 50;
@@ -10,9 +10,9 @@ pub const LAST_SUBMISSION: u64 = 1 << 50;
 /// to 2^50 without a gap.
 #[derive(Drop)]
 pub struct Submission {
-    pub worker: u64,
+    pub worker: WorkerId,
     pub number: u64,
-    pub request: Request,
+    pub request: SharedRequest,
 }
 
 /// What a worker sends to the desk.
@@ -20,7 +20,7 @@ pub struct Submission {
 pub enum Message {
     Submit(Submission),
     /// This worker has left, and sends nothing more.
-    Leave(u64),
+    Leave(WorkerId),
 }
 
 /// What a worker that has left had sent. No value of it is made.

@@ -1,37 +1,51 @@
 //! The side of a worker.
 
-ghost use Rattle.std.specs.Prelude.{◌≡◌, ◌+◌, ◌≤◌, length, MatchResult, MatchBool};
+ghost use Rattle.std.specs.Prelude.{◌≡◌, length, MatchResult, MatchBool, IfOk, IfSome, option_map};
+ghost use Rattle.std.specs.Arc.{arc_value};
+ghost use Rattle.terms.specs.Writing.{Writes};
 ghost use Rattle.terms.specs.declared.fault.Fault.TheVariants.{Closed};
-ghost use Rattle.hall.specs.declared.messages.Message.TheVariants.{Submit, Leave};
-ghost use Rattle.hall.specs.declared.messages.TheConstants.{LAST_SUBMISSION};
+ghost use Rattle.web.specs.Answers.{answer_bytes, answer_for};
+ghost use Rattle.board.specs.Showing.{StartsWith, IsReply};
+ghost use Rattle.hall.specs.declared.messages.Message.TheVariants.{Leave};
 ghost use Rattle.hall.specs.Queue.{IsSending, sent_more, worker_view};
+ghost use Rattle.hall.specs.Serving.{submitted, SubmitsOnce, page_asked, Meets, Serves};
+ghost use Rattle.hall.specs.Serving.{IsReplied, TellsSubmitted, TellsPage, shown_page};
 
 use crate::ends::Post;
 use crate::messages::{LAST_SUBMISSION, Message, Submission};
 use crate::notices::Notices;
 use crate::opening::Opening;
+use board::{Entry, SharedRequest, Unseen, Window, WorkerId};
+use crossbeam_utils::sync::Parker;
+use desk::OwnPage;
 use std::alloc::Global;
+use std::io::{Read, Write};
 use std::marker::Model;
 use std::sync::{Arc, Wait};
-use terms::{Fault, Request};
+use terms::{Caller, CardKey, Command, Fault, Memory, PatronId, Refusal, Reply, Request};
+use web::{Answer, Asked, WebFault, read_request, write_answer};
 
-/// A worker of a hall. Contracts see what it sent.
+/// A worker of a hall. Contracts see what it sent, and what it has seen of the handled list.
 #[derive(Drop)]
 pub struct Worker<J: Opening> {
     post: Post<J>,
-    worker: u64,
+    window: Window<J>,
+    worker: WorkerId,
     number: u64,
+    /// Its last submission.
+    last: Option<SharedRequest>,
     notices: Arc<Notices, Global>,
+    parker: Parker,
 }
 
 impl<J: Opening> Model for Worker<J> {
     ghost use Rattle.std.specs.Prelude.{◌≡◌, true, length};
     ghost use Rattle.hall.specs.Queue.{IsSending, is_open};
-    ghost use Rattle.hall.specs.declared.messages.View.{View};
+    ghost use Rattle.hall.specs.Serving.{Working};
 
-    ghost Value = { View };
+    ghost Value = { Working };
 
-    ghost view = { λ w. w.post };
+    ghost view = { λ w. record { post = w.post; seen = w.window } };
 
     ghost invariant = { λ w. IsSending w.post
         × (w.post.worker ≡ w.worker)
@@ -48,27 +62,143 @@ pub struct Left<J: Opening> {
     pub(crate) ghost sending: { IsSending post },
 }
 
+/// No answer went out whole: a read or a write failed, or no memory was left for the answer.
+#[derive(Clone, Copy, Debug, PartialEq, Eq)]
+pub struct ServeFault;
+
+/// Why a worker has no reply to what it asked.
+#[derive(Clone, Copy)]
+enum Lost {
+    /// This fault came instead.
+    Told(Fault),
+    /// No memory is left to take the reply.
+    Untold,
+}
+
+/// Waits until the board shows the entry of a submission, or the worker is told a fault.
+fn await_entry<J: Opening, R: Wait>(
+    rt: &R,
+    window: &mut Window<J>,
+    notices: &Notices,
+    parker: &Parker,
+    worker: WorkerId,
+    number: u64,
+    request: &SharedRequest,
+) -> Result<Arc<Entry, Global>, Lost>
+    ensures on { StartsWith window.new window.old }
+    ensures found { IfOk result (λ entry. IsReply J.from J.known window.new worker number request.now
+        (arc_value entry).reply) }
+{
+    'looks: for _ in rt.forever() {
+        match window.entry(worker, number, request) {
+            Ok(Some(entry)) => return Ok(entry),
+            Ok(None) => {}
+            Err(Unseen::Memory) => return Err(Lost::Untold),
+            Err(Unseen::Gone) => return Err(Lost::Told(Fault::Closed)),
+        }
+        if let Some(fault) = notices.fault_of(worker, number) {
+            return Err(Lost::Told(fault));
+        }
+        parker.park(rt);
+    }
+    unreachable!()
+}
+
+/// The patron whose page the desk asks for, if it does.
+fn page_by_desk(request: &Request) -> Option<PatronId>
+    ensures { result ≡ page_asked request.now }
+{
+    match (&request.caller, &request.command) {
+        (Caller::Desk, Command::Page { patron }) => Some(*patron),
+        _ => None,
+    }
+}
+
+/// The answer to a look at a page, as the board shows it: to the desk, or by the card key that is
+/// shown.
+fn page_answer(
+    alloc: Global,
+    page: Option<Arc<OwnPage, Global>>,
+    shown: Option<&CardKey>,
+) -> Result<Answer, Memory>
+    ensures { IfOk result (λ answer. answer ≡ answer_for
+        (shown_page (option_map arc_value page) (option_map (λ k. k.now) shown.entry))) }
+{
+    match (page, shown) {
+        (Some(page), Some(card_key)) => {
+            if page.card_key.is_same(card_key) {
+                Answer::reply(alloc, &page.reply)
+            } else {
+                Ok(Answer::Refused(Refusal::NotAllowed))
+            }
+        }
+        (None, Some(_)) => Ok(Answer::Refused(Refusal::NotAllowed)),
+        (Some(page), None) => Answer::reply(alloc, &page.reply),
+        (None, None) => Ok(Answer::Refused(Refusal::UnknownPatron)),
+    }
+}
+
+/// Writes an answer. It takes no memory.
+fn send<W: Write>(writer: &mut W, answer: &Answer) -> Result<(), ServeFault>
+    ensures { Writes (answer_bytes answer.now)
+        (W.contents writer.old) (W.contents writer.new) result }
+{
+    match write_answer(writer, answer) {
+        Ok(()) => Ok(()),
+        Err(_) => Err(ServeFault),
+    }
+}
+
 impl<J: Opening> Worker<J> {
     /// A worker that has submitted nothing.
-    pub(crate) fn new(post: Post<J>, worker: u64, notices: Arc<Notices, Global>) -> Worker<J>
+    pub(crate) fn new(
+        post: Post<J>,
+        window: Window<J>,
+        worker: WorkerId,
+        notices: Arc<Notices, Global>,
+        parker: Parker,
+    ) -> Worker<J>
         requires { post ≡ worker_view worker }
-        ensures { result ≡ worker_view worker }
+        ensures { (result.post ≡ worker_view worker) × (result.seen ≡ window) }
     {
         Worker {
             post,
+            window,
             worker,
             number: 0,
+            last: None,
             notices,
+            parker,
+        }
+    }
+
+    /// Waits until its last submission is on the board. A fault says that it never will be.
+    fn settle<R: Wait>(&mut self, rt: &R) -> Result<(), Lost>
+        ensures same { self.new.post ≡ self.old.post }
+        ensures on { StartsWith self.new.seen self.old.seen }
+    {
+        let Some(last) = &self.last else {
+            return Ok(());
+        };
+        match await_entry(
+            rt,
+            &mut self.window,
+            &self.notices,
+            &self.parker,
+            self.worker,
+            self.number,
+            last,
+        ) {
+            Ok(_) => Ok(()),
+            Err(lost) => Err(lost),
         }
     }
 
     /// Submits a request under the worker's next number, from 1 to 2^50, and waits for a free place
     /// in the queue. 92, and nothing is submitted, where the numbers are used up or the desk is gone.
-    pub fn submit<R: Wait>(&mut self, rt: &R, request: Request) -> Result<u64, Fault>
+    fn submit<R: Wait>(&mut self, rt: &R, request: SharedRequest) -> Result<(), Fault>
         ensures { MatchResult result
-            (λ number. (number ≡ length self.old.sent + 1) × (number ≤ LAST_SUBMISSION)
-            × (self.new ≡ sent_more self.old
-            (Submit (record { worker = self.old.worker; number = number; request = request }))))
+            (λ _. self.new ≡ record self.old { post = submitted self.old.post request })
             (λ fault. (fault ≡ Closed) × (self.new ≡ self.old)) }
     {
         if self.number >= LAST_SUBMISSION {
@@ -83,29 +213,170 @@ impl<J: Opening> Worker<J> {
         match self.post.send(rt, Message::Submit(submission)) {
             Ok(()) => {
                 self.number = number;
-                Ok(number)
+                Ok(())
             }
             Err(_) => Err(Fault::Closed),
         }
     }
 
-    /// Why the submission of this number was not handled, once the worker was told: the fault that
-    /// it met, or 92 where the hall was closed before.
-    pub fn fault_of(&self, number: u64) -> Option<Fault> {
-        self.notices.fault_of(self.worker, number)
+    /// Waits for the reply to the last submission, which is of this request.
+    fn await_reply<R: Wait>(
+        &mut self,
+        rt: &R,
+        request: SharedRequest,
+    ) -> Result<Arc<Entry, Global>, Lost>
+        ensures same { self.new.post ≡ self.old.post }
+        ensures on { StartsWith self.new.seen self.old.seen }
+        ensures found { IfOk result (λ entry. IsReply J.from J.known self.new.seen
+            self.old.post.worker (length self.old.post.sent) request (arc_value entry).reply) }
+    {
+        let found = await_entry(
+            rt,
+            &mut self.window,
+            &self.notices,
+            &self.parker,
+            self.worker,
+            self.number,
+            &request,
+        );
+        self.last = Some(request);
+        found
+    }
+
+    /// Submits a request, and waits for its reply.
+    fn ask<R: Wait>(
+        &mut self,
+        rt: &R,
+        alloc: Global,
+        request: Request,
+    ) -> Result<Arc<Entry, Global>, Lost>
+        ensures on { StartsWith self.new.seen self.old.seen }
+        ensures once { SubmitsOnce self.old.post self.new.post request }
+        ensures found { IfOk result (λ entry. IsReplied J.from J.known request self.old self.new
+            (arc_value entry).reply) }
+    {
+        match self.settle(rt) {
+            Ok(()) => {}
+            Err(Lost::Told(_)) => return Err(Lost::Told(Fault::Closed)),
+            Err(Lost::Untold) => return Err(Lost::Told(Fault::Memory)),
+        }
+        let Ok(own) = SharedRequest::new(alloc, request) else {
+            return Err(Lost::Told(Fault::Memory));
+        };
+        let Ok(other) = own.try_clone() else {
+            return Err(Lost::Told(Fault::Memory));
+        };
+        match self.submit(rt, other) {
+            Ok(()) => self.await_reply(rt, own),
+            Err(fault) => Err(Lost::Told(fault)),
+        }
+    }
+
+    /// The answer to a request of the desk or of a patron, from the desk. None where no memory is
+    /// left for it.
+    fn answer_from_desk<R: Wait>(
+        &mut self,
+        rt: &R,
+        alloc: Global,
+        request: Request,
+    ) -> Option<Answer>
+        ensures on { StartsWith self.new.seen self.old.seen }
+        ensures once { SubmitsOnce self.old.post self.new.post request }
+        ensures told { IfSome result (TellsSubmitted J.from J.known request self.old self.new) }
+    {
+        match self.ask(rt, alloc, request) {
+            Ok(entry) => Answer::reply(alloc, &entry.reply).ok(),
+            Err(Lost::Told(fault)) => Some(Answer::Faulted(fault)),
+            Err(Lost::Untold) => None,
+        }
+    }
+
+    /// The reply to a look at the page of a patron, from the board: by the card key that is shown, or
+    /// by the desk. 90 or 92 in its place.
+    fn answer_from_board(
+        &mut self,
+        alloc: Global,
+        patron: PatronId,
+        shown: Option<&CardKey>,
+    ) -> Answer
+        ensures same { self.new.post ≡ self.old.post }
+        ensures on { StartsWith self.new.seen self.old.seen }
+        ensures told { TellsPage J.from J.known patron (option_map (λ k. k.now) shown.entry)
+            self.new.seen result }
+    {
+        let answer = match self.window.page(patron) {
+            Ok(page) => page_answer(alloc, page, shown),
+            Err(Unseen::Memory) => Ok(Answer::Faulted(Fault::Memory)),
+            Err(Unseen::Gone) => Ok(Answer::Faulted(Fault::Closed)),
+        };
+        match answer {
+            Ok(answer) => answer,
+            Err(_) => Answer::Faulted(Fault::Memory),
+        }
+    }
+
+    /// The answer to what is asked for. None where no memory is left for it.
+    fn answer<R: Wait>(&mut self, rt: &R, alloc: Global, asked: Asked) -> Option<Answer>
+        ensures { Meets J.from J.known asked self.old self.new result }
+    {
+        match asked {
+            Asked::Nothing => Some(Answer::Refused(Refusal::NotAllowed)),
+            Asked::Page(patron, card_key) => {
+                Some(self.answer_from_board(alloc, patron, Some(&card_key)))
+            }
+            Asked::Request(request) => match page_by_desk(&request) {
+                Some(patron) => Some(self.answer_from_board(alloc, patron, None)),
+                None => self.answer_from_desk(rt, alloc, request),
+            },
+        }
+    }
+
+    /// Serves one connection: reads its request, and writes its answer.
+    ///
+    /// The answer is that of the request as the bytes make it, or the status of the first check that
+    /// they fail. A page is shown from the board, without waiting for the desk. Every other request
+    /// is submitted, and its reply comes from the board once the desk has handled it; 90, 91, 92 or
+    /// 93 in its place: the fault that it met, or 92 where the hall is closed or the worker's numbers
+    /// are used up. A connection breaks where a read or a write fails, or no memory is left for the
+    /// answer: then nothing or a beginning of the answer went out. Where no memory is left to read
+    /// it, the answer is fault 90.
+    pub fn serve<I: Read, O: Write, R: Wait>(
+        &mut self,
+        rt: &R,
+        alloc: Global,
+        desk_key: &CardKey,
+        reader: &mut I,
+        writer: &mut O,
+    ) -> Result<(), ServeFault>
+        ensures { Serves J.from J.known desk_key.now (I.remaining reader.old) self.old self.new
+            (O.contents writer.old) (O.contents writer.new) result }
+    {
+        let answer = match read_request(alloc, reader) {
+            Ok(request) => self.answer(rt, alloc, request.asked(desk_key)),
+            Err(WebFault::Status(status)) => Some(Answer::Failed(status)),
+            Err(WebFault::Memory) => Some(Answer::Faulted(Fault::Memory)),
+            Err(WebFault::Read) => None,
+        };
+        match answer {
+            Some(answer) => send(writer, &answer),
+            None => Err(ServeFault),
+        }
     }
 
     /// Leaves the hall: the desk waits for this of each worker. What comes back is its end of the
     /// queue, which tells what it had submitted.
     pub fn leave<R: Wait>(self, rt: &R) -> Left<J>
-        ensures { MatchBool result.is_told (result.post ≡ sent_more self (Leave self.worker))
-            (result.post ≡ self) }
+        ensures { MatchBool result.is_told
+            (result.post ≡ sent_more self.post (Leave self.post.worker)) (result.post ≡ self.post) }
     {
         let Worker {
             mut post,
+            window: _,
             worker,
             number: _,
+            last: _,
             notices: _,
+            parker: _,
         } = self;
         let is_told = match post.send(rt, Message::Leave(worker)) {
             Ok(()) => true,

@@ -36,3 +36,4 @@ pub mod RowRanges
 pub mod References
 pub mod ClosedDays
 pub mod RepeatedLists
+pub mod KeptRows

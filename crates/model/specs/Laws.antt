@@ -3,12 +3,14 @@ use Rattle.std.specs.Prelude.{◌≡◌, ◌≢◌, ℕ, ◌+◌, ◌==◌, ◌�
 use Rattle.std.specs.List.{list_any}
 use Rattle.terms.specs.declared.command.Command.TheVariants.{CancelHold}
 use Rattle.terms.specs.declared.command.Request.{Request}
+use Rattle.terms.specs.declared.row.LoanRow.{LoanRow}
+use Rattle.terms.specs.declared.row.HoldRow.{HoldRow}
 use Rattle.terms.specs.declared.row.HoldState.{HoldState}
 use Rattle.terms.specs.declared.row.HoldState.TheVariants.{Waiting, Ready, Filled, Cancelled, Expired}
 use Rattle.model.specs.Checks.{is_within}
 use Rattle.model.specs.History.{Event, History, patron_of, title_of, holds, hold_of}
 use Rattle.model.specs.Places.{Place, HoldShelf, Transit, Loan, MissingCopy, WithdrawnCopy, place, state, line, goal_of, title_of_hold}
-use Rattle.model.specs.Picture.{picture}
+use Rattle.model.specs.Picture.{Picture, picture}
 use Rattle.model.specs.Claims.{Claims, AtMostOne}
 use Rattle.model.specs.Loans.{due, renewals_left, open_loans, title_of_loan}
 use Rattle.model.specs.Accounts.{account, charges, credits, owed}
@@ -100,6 +102,17 @@ pub record AgreesOn (H K : History) (p : ℕ) : Type 0 where
 -- Two histories that agree on a patron give the patron the same page.
 abbrev pub OwnRows : Type 0
 OwnRows = (H K : History) (p : ℕ) → AgreesOn H K p → page H p ≡ page K p
+
+-- A picture keeps a patron's own rows of the one before it: the patron's row is the same, and each loan and each hold that
+-- it shows of the patron stood so before.
+pub record KeepsOwnRows (P Q : Picture) (p : ℕ) : Type 0 where
+  pub patron : P.patrons p ≡ Q.patrons p
+  pub loans : (l : ℕ) (r : LoanRow) → Q.loans l ≡ Some r → r.patron ≡ p → P.loans l ≡ Some r
+  pub holds : (h : ℕ) (r : HoldRow) → Q.holds h ≡ Some r → r.patron ≡ p → P.holds h ≡ Some r
+
+-- A legal history agrees with the one before its last event on each patron whose own rows its picture keeps.
+abbrev pub KeptRowsAgree : Type 0
+KeptRowsAgree = (e : Event) (H : History) (p : ℕ) → IsLegal (e ∷ H) → KeepsOwnRows (picture H) (picture (e ∷ H)) p → AgreesOn H (e ∷ H) p
 
 -- Every legal history has the invariant.
 abbrev pub Invariants : Type 0

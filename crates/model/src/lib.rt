@@ -5,7 +5,8 @@
 #![tactic(auto)]
 
 ghost use Rattle.model.specs.Laws.{StaysLegal, Places, Bindings, Balance, HoldRows, FinalStates};
-ghost use Rattle.model.specs.Laws.{FirstInLineIsServed, RepeatsActOnce, OwnRows, Invariants};
+ghost use Rattle.model.specs.Laws.{FirstInLineIsServed, RepeatsActOnce, OwnRows, KeptRowsAgree};
+ghost use Rattle.model.specs.Laws.{Invariants};
 ghost use Rattle.model.specs.Calendars.{CalendarsAgree};
 ghost use Rattle.model.specs.Forms.{FormsStay, FormsAreWhole, RowsInLimits, FewClosedDays};
 ghost use Rattle.model.specs.References.{References};
@@ -107,6 +108,13 @@ pub fn shelf_limits_exist_law()
 /// loans and active holds, and on the copies and titles of these.
 pub fn own_rows_law()
     ensures { OwnRows }
+{}
+
+/// After one more accepted command a patron has the same own row, open loans and active holds, and
+/// these the same copies and titles, unless a row of the patron, of one of the patron's loans or of
+/// one of the patron's holds was put.
+pub fn kept_rows_law()
+    ensures { KeptRowsAgree }
 {}
 
 /// The open days, the least open day and the days late of these definitions are those of the crate

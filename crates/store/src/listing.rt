@@ -237,4 +237,14 @@ impl<S: Alter> Store<S> {
         prove!(is_idle);
         all_tables(&mut self.conn, alloc)
     }
+
+    /// All rows of `patrons`, the least number first. 90, 91, 93.
+    pub fn patrons(&mut self, alloc: Global) -> Result<Rows<PatronRow>, Fault>
+        ensures { Looked InLimits (λ P rows. AreRows P.patrons (λ r. r.patron) AllPass rows)
+            IsSound S.Store self.old self.new result }
+    {
+        let is_idle = self.conn.is_autocommit();
+        prove!(is_idle);
+        patrons(&mut self.conn, alloc)
+    }
 }

@@ -4,14 +4,15 @@ use Rattle.store.specs.Stops.{KeepsPicture}
 use Rattle.terms.specs.Callers.{owner_of}
 use Rattle.model.specs.History.{History}
 use Rattle.model.specs.Picture.{picture}
-use Rattle.model.specs.Requests.{is_known, is_allowed, is_page, may_send}
+use Rattle.model.specs.Requests.{is_known, is_allowed, is_page, may_send, after_one}
 use Rattle.model.proofs.Runs.{after_one-legal, after-forms}
-use Rattle.desk.specs.Answering.{LeavesOneOf, Shows, Stays}
+use Rattle.desk.specs.Answering.{LeavesOneOf, Shows, Stays, after_key}
 use Rattle.model.specs.Answers.{answer}
 use Rattle.desk.proofs.Handled.{allowed-both, not-page, reply-key, after-key, reply-page, after-page}
 use Rattle.desk.proofs.Looking.{if-ok-is, if-ok-given, on-err, on-err-given, on-ok-is, leaves-first}
 use Rattle.desk.proofs.Owning.{known-owner}
-use Rattle.desk.proofs.handling.handle.Goals as goal
+use Rattle.desk.proofs.Untouched.{others-as}
+use Rattle.desk.proofs.handling.handle_touching.Goals as goal
 
 pub respond-requires : goal.respond-requires
 respond-requires g c = not-page c.args.request.now.command c.in_default.not-Page
@@ -59,6 +60,18 @@ returns-clause-handled g c = record {
       subst (λ (K : History). LeavesOneOf (state g.S.Store c.respond.new.store) H K) (sym (after-key H r allowed page))
       (c.respond.ensures.answered.left disk (known-owner H shows.legal shows.forms r.caller known) H mid may);
 }
+
+pub returns-clause-touches : goal.returns-clause-touches
+returns-clause-touches g c = λ disk. if-ok-is _ c.respond.result (λ reply is H shows.
+    let r = c.args.request.now in
+    let first = c.respond.ensures.answered.clean disk in
+    let known : is_known H r.caller ≡ true = sym (c.in_ok-is_known.ensures.shown first H shows tt) ∙ c.if-not-branch.false in
+    let may : may_send (owner_of r.caller) r.command ≡ true = rw c.owner.ensures at (sym c.may_send.ensures ∙ c.if-not-may_send.false) in
+    let allowed : is_allowed H r.caller r.command ≡ true = allowed-both H r.caller r.command known may in
+    let page : is_page r.command ≡ false = not-page r.command c.in_default.not-Page in
+    let mid = c.in_ok-is_known.ensures.looks.stays first H shows in
+    let done = if-ok-given _ c.respond.result (c.respond.ensures.answered.replied disk) reply is (known-owner H shows.legal shows.forms r.caller known) H mid may in
+    others-as c.respond.new.touched H (after_one H r) (after_key H r) (after-key H r allowed page) done.2)
 
 pub returns-in-Page-clause-handled : goal.returns-in-Page-clause-handled
 returns-in-Page-clause-handled g c = record {

@@ -1,0 +1,4 @@
+pub mod Beginnings
+pub mod Keeping
+pub mod Lasts
+pub mod PageLists

@@ -1,0 +1,39 @@
+use Rattle.std.proofs.Common.{◌≡◌, ℕ, true, List, [], ◌∷◌, ◌++◌, Result, Ok, Err, MatchResult, drop, sym, ap, ◌∙◌}
+use Rattle.board.specs.declared.board.Update.{Update}
+use Rattle.board.specs.declared.board.Update.TheVariants as update
+use Rattle.left_right.specs.Sides.{view}
+use Rattle.std.specs.Arc.{arc_value}
+use Rattle.board.specs.declared.entry.Entry.{Entry}
+use Rattle.desk.specs.declared.showing.OwnPage.{OwnPage}
+use Rattle.board.specs.Rule.{Publishing, pages_of, are_pages}
+use Rattle.board.proofs.PageLists.{pages-more}
+use Rattle.board.proofs.publisher.Publisher.put.Goals as goal
+use Rattle.board.proofs.publisher.Publisher.put.Goals.{in-Ok, in-Err}
+
+pub invariant_of-self : goal.invariant_of-self
+invariant_of-self g c =
+    let o = c.self.inside.writer in
+    let us = drop o.behind o.log.items in
+    (rw c.append.ensures.desk c.self.invariant.0, elim c.match-append.branch [
+      | in-Ok w ↦ (pages-more us (drop c.append.new.self.behind c.append.new.self.log.items) c.number.result c.in_ok-page.page w.in-Ok.ensures.pending c.self.invariant.1).0
+      | in-Err w ↦ ap are_pages w.in-Err.ensures.pending.1 ∙ c.self.invariant.1
+    ])
+
+both : (s t : List Entry) (p q : List (ℕ × OwnPage)) → s ≡ t → p ≡ q → ◌≡◌ {A = Publishing} (record { shown = s; pages = p }) (record { shown = t; pages = q })
+both s t p q e f = ap (λ (x : List Entry). record { shown = x; pages = p }) e ∙ ap (λ (x : List (ℕ × OwnPage)). record { shown = t; pages = x }) f
+
+pub returns : goal.returns
+returns g c =
+    let o = c.self.inside.writer in
+    let us = drop o.behind o.log.items in
+    let us' = drop c.append.new.self.behind c.append.new.self.log.items in
+    let shown : (view c.append.new.self.desk.place).entries ≡ c.args.self.now.shown = rw c.append.ensures.desk (ap (λ (s : Publishing). s.shown) c.self.view_is) in
+    let pages : pages_of us ≡ c.args.self.now.pages = ap (λ (s : Publishing). s.pages) c.self.view_is in
+    elim c.match-append.branch [
+      | in-Ok w ↦
+          let more = (pages-more us us' c.number.result c.in_ok-page.page w.in-Ok.ensures.pending c.self.invariant.1).1 in
+          rw w.result-is (both (view c.append.new.self.desk.place).entries c.args.self.now.shown (pages_of us') (c.args.self.now.pages ++ (c.args.patron, c.args.page) ∷ []) shown
+          (more ∙ (ap (λ (l : List (ℕ × OwnPage)). l ++ (c.number.result, arc_value c.in_ok-page.page) ∷ []) pages
+          ∙ (ap (λ n. c.args.self.now.pages ++ (n, arc_value c.in_ok-page.page) ∷ []) c.number.ensures.value ∙ ap (λ x. c.args.self.now.pages ++ (c.args.patron, x) ∷ []) c.in_ok-page.ensures.ok))))
+      | in-Err w ↦ rw w.result-is (both (view c.append.new.self.desk.place).entries c.args.self.now.shown (pages_of us') c.args.self.now.pages shown (ap pages_of w.in-Err.ensures.pending.1 ∙ pages))
+    ]

@@ -1,0 +1,6 @@
+use Rattle.left_right.specs.Sides.{view}
+use Rattle.board.proofs.Keeping.{looks}
+use Rattle.board.proofs.window.Window.page.Goals as goal
+
+pub enter_as-requires : goal.enter_as-requires
+enter_as-requires g c = looks g.J.Origin.from g.J.Origin.known c.in-Some.reader.place.id (view c.in-Some.reader.place)

@@ -1,0 +1,20 @@
+//! What was handled, and what is seen of it.
+
+use crate::request::SharedRequest;
+use crate::worker_id::WorkerId;
+use std::collections::LinkedList;
+use terms::Reply;
+
+/// An entry of the handled list: a worker's submission of this number, and its reply.
+#[derive(Drop)]
+pub struct Entry {
+    pub worker: WorkerId,
+    pub number: u64,
+    pub request: SharedRequest,
+    pub reply: Reply,
+}
+
+/// What a side of the board knows: a beginning of the handled list. No value of it is made.
+pub struct Seen {
+    pub entries: LinkedList<Entry>,
+}

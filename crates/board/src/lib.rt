@@ -1,0 +1,22 @@
+//! The board of a hall: what was handled last for each worker, and the page of each patron. Workers
+//! read it with no lock, while the desk goes on.
+#![tactic(auto)]
+
+mod board;
+mod entry;
+mod first;
+mod origin;
+mod publisher;
+mod request;
+mod rule;
+mod window;
+mod worker_id;
+
+pub use board::{Board, Update};
+pub use entry::{Entry, Seen};
+pub use first::First;
+pub use origin::Origin;
+pub use publisher::{BoardWriter, Publisher};
+pub use request::SharedRequest;
+pub use window::{Unseen, Window};
+pub use worker_id::WorkerId;

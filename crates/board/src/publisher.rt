@@ -1,0 +1,117 @@
+//! The desk's side of the board.
+
+ghost use Rattle.std.specs.Prelude.{◌≡◌, ◌++◌, ◌<◌, ◌^◌, [], ◌∷◌, ℕ, true, MatchResult, IfOk};
+ghost use Rattle.desk.specs.Showing.{own_page};
+ghost use Rattle.board.specs.Showing.{page_at};
+ghost use Rattle.board.specs.Rule.{MayFollow};
+
+use crate::board::{Board, Update};
+use crate::entry::{Entry, Seen};
+use crate::first::First;
+use crate::origin::Origin;
+use desk::OwnPage;
+use crate::rule::{OneList, Publish};
+use crate::window::Window;
+use left_right::writer::Writer;
+use std::alloc::{AllocError, Global};
+use std::marker::Model;
+use std::sync::{Arc, Wait};
+use terms::{Memory, PatronId};
+
+/// What writes the board.
+pub type BoardWriter<J> = Writer<Board, Update, Seen, OneList<J>>;
+
+/// The desk's side. Contracts see the list that is shown, and the pages that are to be shown with
+/// the next entry. It is not `Drop`: end it by `close`.
+pub struct Publisher<J: Origin> {
+    writer: BoardWriter<J>,
+}
+
+impl<J: Origin> Model for Publisher<J> {
+    ghost use Rattle.std.specs.Prelude.{◌≡◌, true, length, drop};
+    ghost use Rattle.left_right.specs.Sides.{view as knows};
+    ghost use Rattle.board.specs.Rule.{Publishing, pages_of, are_pages};
+
+    ghost Value = { Publishing };
+
+    ghost view = { λ p. record {
+        shown = (knows p.writer.desk.place).entries;
+        pages = pages_of (drop p.writer.behind p.writer.log.items);
+    } };
+
+    ghost invariant = { λ p.
+        (length (knows p.writer.desk.place).entries ≡ p.writer.desk.shown.value.version)
+        × (are_pages (drop p.writer.behind p.writer.log.items) ≡ true) };
+}
+
+impl<J: Origin> Publisher<J> {
+    /// A board with these pages, for so many readers.
+    pub fn new(alloc: Global, first: First, readers: usize) -> Result<Publisher<J>, Memory>
+        requires readers { (0 < readers) × (readers < 2 ^ 32) }
+        requires pages { J.known ≡ true → (patron : ℕ) → page_at first patron ≡ own_page J.from patron }
+        ensures { IfOk result (λ p. (p.shown ≡ []) × (p.pages ≡ [])) }
+    {
+        let First { board, copy } = first;
+        let writer = BoardWriter::<J>::new(alloc, board, copy, readers)?;
+        Ok(Publisher { writer })
+    }
+
+    /// A window that has seen nothing. An error says that no reader's place is left.
+    pub fn window(&self) -> Result<Window<J>, Memory>
+        ensures { IfOk result (λ w. w ≡ []) }
+    {
+        let reader = self.writer.factory().reader()?;
+        Ok(Window::over(reader))
+    }
+
+    /// The page of a patron is to be shown with the next entry.
+    pub fn put(&mut self, alloc: Global, patron: PatronId, page: OwnPage) -> Result<(), Memory>
+        ensures { MatchResult result
+            (λ _. self.new ≡ record self.old { pages = self.old.pages ++ (patron, page) ∷ [] })
+            (λ _. self.new ≡ self.old) }
+    {
+        let page = Arc::new(alloc, page)?;
+        match self.writer.append(Update::Page(patron.number(), page)) {
+            Ok(()) => Ok(()),
+            Err(_) => Err(AllocError),
+        }
+    }
+
+    /// Shows one entry more. An error leaves the readers what they saw, for good: its writer shows
+    /// nothing more.
+    pub fn publish<R: Wait>(
+        self,
+        rt: &R,
+        alloc: Global,
+        entry: Entry,
+    ) -> Result<Publisher<J>, BoardWriter<J>>
+        requires { MayFollow J.from J.known self entry }
+        ensures { IfOk result (λ p. (p.shown ≡ self.shown ++ entry ∷ []) × (p.pages ≡ [])) }
+    {
+        let Publisher { mut writer } = self;
+        let Ok(entry) = Arc::new(alloc, entry) else {
+            return Err(writer);
+        };
+        match writer.append(Update::Entry(entry)) {
+            Ok(()) => {}
+            Err(_) => return Err(writer),
+        }
+        let (writer, met) = writer.publish_as::<Publish, R>(rt);
+        match met {
+            Ok(()) => Ok(Publisher { writer }),
+            Err(_) => Err(writer),
+        }
+    }
+
+    /// Ends the board, once its readers are done.
+    pub fn close<R: Wait>(self, rt: &R) {
+        let Publisher { writer } = self;
+        drop(writer.take(rt));
+    }
+
+    /// Its writer, which shows nothing more. The readers keep what they see.
+    pub fn stop(self) -> BoardWriter<J> {
+        let Publisher { writer } = self;
+        writer
+    }
+}

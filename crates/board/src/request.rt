@@ -1,0 +1,95 @@
+//! A request that the desk and a worker hold both.
+
+ghost use Rattle.std.specs.Prelude.{◌≡◌, IsTrue, IfOk};
+ghost use Rattle.terms.specs.Texts.{request_text as request_text_of};
+
+use std::alloc::Global;
+use std::marker::Model;
+use std::sync::Arc;
+use terms::{Caller, Memory, Request, Text, command_has_forms, request_text, request_texts_differ};
+
+/// A request with the text of its command.
+#[derive(Drop)]
+struct Told {
+    request: Request,
+    text: Text,
+    ghost told: { text ≡ request_text_of request.command },
+}
+
+/// A request that can be held in several places, and compared with another.
+#[derive(Drop)]
+pub struct SharedRequest {
+    told: Arc<Told, Global>,
+}
+
+impl Model for SharedRequest {
+    ghost use Rattle.std.specs.Arc.{arc_value};
+    ghost use Rattle.terms.specs.declared.command.Request.{Request};
+
+    ghost Value = { Request };
+
+    ghost view = { λ r. (arc_value r.told).request };
+}
+
+/// Whether the callers are the same, by their numbers and card keys.
+fn is_same_caller(one: &Caller, other: &Caller) -> bool
+    ensures { IsTrue result → one.now ≡ other.now }
+{
+    match (one, other) {
+        (Caller::Desk, Caller::Desk) => true,
+        (Caller::Patron(patron, key), Caller::Patron(other_patron, other_key)) => {
+            patron.number() == other_patron.number() && key.is_same(other_key)
+        }
+        _ => false,
+    }
+}
+
+/// Whether what was asked is the same, by caller, key and text.
+fn is_same_told(one: &Told, other: &Told) -> bool
+    ensures { IsTrue result → one.now.request ≡ other.now.request }
+{
+    request_texts_differ();
+    command_has_forms(&one.request.command);
+    command_has_forms(&other.request.command);
+    if !one.text.is_same(&other.text) {
+        return false;
+    }
+    if one.request.key.as_str() != other.request.key.as_str() {
+        return false;
+    }
+    is_same_caller(&one.request.caller, &other.request.caller)
+}
+
+impl SharedRequest {
+    /// A request that can be shared.
+    pub fn new(alloc: Global, request: Request) -> Result<SharedRequest, Memory>
+        ensures { IfOk result (λ shared. shared ≡ request) }
+    {
+        let text = request_text(alloc, &request.command)?;
+        let told = Arc::new(alloc, Told { request, text })?;
+        Ok(SharedRequest { told })
+    }
+
+    /// The same request again. It takes no memory, but the count of its holders can be full.
+    pub fn try_clone(&self) -> Result<SharedRequest, Memory>
+        ensures { IfOk result (λ shared. shared ≡ self.now) }
+    {
+        let told = Arc::try_clone(&self.told)?;
+        Ok(SharedRequest { told })
+    }
+
+    /// The request.
+    pub fn get(&self) -> &Request
+        ensures { result.now ≡ self.now }
+    {
+        let told: &Told = &self.told;
+        &told.request
+    }
+
+    /// Whether the other one asks the same, of the same caller and under the same key.
+    pub fn is_same(&self, other: &SharedRequest) -> bool
+        ensures { IsTrue result → self.now ≡ other.now }
+    {
+        is_same_told(&self.told, &other.told)
+    }
+}

@@ -1,0 +1,56 @@
+//! What the patrons are shown: who is enrolled, and each one's own page.
+
+ghost use Rattle.std.specs.Prelude.{◌≡◌, map, IfOk};
+ghost use Rattle.desk.specs.Answering.{Learns};
+ghost use Rattle.desk.specs.Showing.{own_page as own_page_of, AreEnrolled};
+
+use crate::paging::show;
+use sqlite::Alter;
+use std::alloc::Global;
+use store::Store;
+use terms::{CardKey, Fault, Memory, PatronId, PatronRow, Reply};
+
+/// What a patron is shown: the card key that opens the page, and the reply to `page`.
+#[derive(Drop)]
+pub struct OwnPage {
+    pub card_key: CardKey,
+    pub reply: Reply,
+}
+
+/// The numbers of the patrons of these rows.
+fn numbers(alloc: Global, rows: &[PatronRow]) -> Result<Vec<PatronId>, Memory>
+    ensures { IfOk result (λ numbers. numbers.items ≡ map (λ r. r.patron) rows.now) }
+{
+    let mut numbers = Vec::new(alloc);
+    'rows: for row in rows {
+        numbers.push(row.patron)?;
+    }
+    Ok(numbers)
+}
+
+/// The enrolled patrons, the least number first. 90, 91, 93.
+pub(crate) fn patrons<S: Alter>(store: &mut Store<S>, alloc: Global) -> Result<Vec<PatronId>, Fault>
+    ensures { Learns (λ H patrons. AreEnrolled H patrons.items)
+        S.Store store.old store.new result }
+{
+    let rows = store.patrons(alloc)?;
+    Ok(numbers(alloc, rows.as_slice())?)
+}
+
+/// The page of a patron with the card key that opens it, where there is the patron. 90, 91, 93.
+pub(crate) fn own_page<S: Alter>(
+    store: &mut Store<S>,
+    alloc: Global,
+    patron: PatronId,
+) -> Result<Option<OwnPage>, Fault>
+    ensures { Learns (λ H page. page ≡ own_page_of H patron) S.Store store.old store.new result }
+{
+    match store.patron(alloc, patron)? {
+        Some(row) => {
+            let reply = show(store, alloc, patron)?;
+            let PatronRow { card_key, .. } = row;
+            Ok(Some(OwnPage { card_key, reply }))
+        }
+        None => Ok(None),
+    }
+}

@@ -1,0 +1,5 @@
+use Rattle.board.proofs.Beginnings.{starts_self, starts_on}
+use Rattle.hall.proofs.worker.await_entry.Goals as goal
+
+pub looks-init : goal.looks-init
+looks-init g c = starts_self c.args.window.now

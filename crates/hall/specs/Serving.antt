@@ -1,0 +1,171 @@
+-- What a worker knows, submits and answers.
+use Rattle.std.specs.Prelude.{◌≡◌, ◌⊎◌, ℕ, ◌+◌, if◌then◌else◌, bytes_eq, Bool, true, List, [], ◌∷◌, ◌++◌, length, map, Option, Some, None, Result, Ok, Err, IfOk, IfSome, OnOk, OnErr}
+use Rattle.std.specs.Io.KnownBytes.{Appends, Keeps}
+use Rattle.terms.specs.Writing.{AppendsFront}
+use Rattle.terms.specs.declared.command.Caller.{Caller}
+use Rattle.terms.specs.declared.command.Caller.TheVariants.{Desk}
+use Rattle.terms.specs.declared.command.Command.{Command}
+use Rattle.terms.specs.declared.command.Command.TheVariants.{Page as AsksPage}
+use Rattle.terms.specs.declared.command.Request.{Request as Requested}
+use Rattle.terms.specs.declared.fault.Fault.{Fault}
+use Rattle.terms.specs.declared.fault.Fault.TheVariants.{Memory}
+use Rattle.terms.specs.declared.refusal.Refusal.TheVariants.{NotAllowed, UnknownPatron}
+use Rattle.terms.specs.declared.reply.Reply.{Reply}
+use Rattle.terms.specs.declared.reply.Reply.TheVariants.{Refused}
+use Rattle.model.specs.History.{History}
+use Rattle.model.specs.Requests.{after, reply_to}
+use Rattle.desk.specs.Answering.{page_for}
+use Rattle.desk.specs.Showing.{own_page}
+use Rattle.desk.specs.declared.showing.OwnPage.{OwnPage}
+use Rattle.web.specs.Answers.{answer_bytes, answer_for}
+use Rattle.web.specs.Asked.{asked_of}
+use Rattle.web.specs.Checks.{ChecksHead}
+use Rattle.web.specs.declared.answer.Answer.{Answer}
+use Rattle.web.specs.declared.answer.Answer.TheVariants.{Faulted, Failed}
+use Rattle.web.specs.declared.asked.Asked.{Asked}
+use Rattle.web.specs.declared.asked.Asked.TheVariants.{Nothing, Page, Request}
+use Rattle.web.specs.declared.fault.WebFault.TheVariants.{Status}
+use Rattle.web.specs.declared.fault.WebStatus.{WebStatus}
+use Rattle.web.specs.declared.request.WebRequest.{WebRequest}
+use Rattle.board.specs.declared.entry.Entry.{Entry}
+use Rattle.board.specs.Showing.{StartsWith, IsReply, requests}
+use Rattle.hall.specs.declared.messages.Message.TheVariants.{Submit}
+use Rattle.hall.specs.declared.messages.View.{View}
+use Rattle.hall.specs.Queue.{sent_more, worker_views}
+
+-- ---- what a worker knows
+
+-- What it sent, and what it has seen on the board: a beginning of the handled list.
+pub record Working : Type 0 where
+  pub post : View
+  pub seen : List Entry
+
+-- The workers 1 to n, which have sent nothing.
+abbrev pub AreWorkers : ℕ → List Working → Type 0
+AreWorkers n workers = map (λ (w : Working). w.post) workers ≡ worker_views n
+
+-- ---- what is submitted
+
+-- What the worker knows of the queue once it has submitted the request, under its next number.
+abbrev pub submitted : View → Requested → View
+submitted v request = sent_more v (Submit (record { worker = v.worker; number = length v.sent + 1; request = request }))
+
+-- Nothing was submitted, or this request was, once.
+abbrev pub SubmitsOnce : View → View → Requested → Type 0
+SubmitsOnce old new request = (new ≡ old) ⊎ (new ≡ submitted old request)
+
+-- ---- what is asked for
+
+-- Whose page the desk asks for, where it asks for a page: that is answered from the board.
+abbrev pub page_by_desk : Caller → Command → Option ℕ
+page_by_desk Desk (AsksPage patron) = Some patron
+page_by_desk _ _ = None
+
+abbrev pub page_asked : Requested → Option ℕ
+page_asked request = page_by_desk request.caller request.command
+
+module _ (from : History) (known : Bool) where
+  -- The reply to a request that was not answered from the board: it was submitted, and this is the
+  -- reply that the board shows for it.
+  pub record IsReplied (request : Requested) (old new : Working) (reply : Reply) : Type 0 where
+    pub submits : new.post ≡ submitted old.post request
+    pub replied : IsReply from known new.seen old.post.worker (length old.post.sent + 1) request reply
+
+  -- The reply to a request of the desk for a page, or of anybody for something else.
+  abbrev pub IsReplyFor : Option ℕ → Requested → Working → Working → Reply → Type 0
+  IsReplyFor (Some patron) request old new reply =
+      (new.post ≡ old.post) × (known ≡ true → reply ≡ reply_to (after from (requests new.seen)) request)
+  IsReplyFor None request old new reply = IsReplied request old new reply
+
+  -- The reply to what is asked for. A page is the one after what the worker has seen, a beginning of
+  -- the handled list; where the list of accepted requests is known, that list after it gives it.
+  abbrev pub IsReplyTo : Asked → Working → Working → Reply → Type 0
+  IsReplyTo Nothing old new reply = (new.post ≡ old.post) × (reply ≡ Refused NotAllowed)
+  IsReplyTo (Page patron card_key) old new reply =
+      (new.post ≡ old.post) × (known ≡ true → reply ≡ page_for (after from (requests new.seen)) patron card_key)
+  IsReplyTo (Request request) old new reply = IsReplyFor (page_asked request) request old new reply
+
+-- What is shown of a page: to the desk the page, or that there is no such patron; to who shows a card
+-- key the page that it opens, or that this isn't allowed.
+abbrev pub shown_page : Option OwnPage → Option (List ℕ) → Reply
+shown_page (Some page) (Some card_key) = if bytes_eq page.card_key card_key then page.reply else Refused NotAllowed
+shown_page None (Some card_key) = Refused NotAllowed
+shown_page (Some page) None = page.reply
+shown_page None None = Refused UnknownPatron
+
+-- What is asked for is submitted once, or nothing is.
+abbrev pub SubmitsAsked : Asked → View → View → Type 0
+SubmitsAsked (Request request) old new = SubmitsOnce old new request
+SubmitsAsked _ old new = new ≡ old
+
+-- ---- what is answered
+
+-- The answer that tells what became of a request.
+abbrev pub answer_to : Result Reply Fault → Answer
+answer_to (Ok reply) = answer_for reply
+answer_to (Err fault) = Faulted fault
+
+module _ (from : History) (known : Bool) where
+  -- The answer tells what became of what is asked for.
+  pub record TellsReply (asked : Asked) (old new : Working) (answer : Answer) : Type 0 where
+    pub outcome : Result Reply Fault
+    pub answer_is : answer ≡ answer_to outcome
+    pub reply : IfOk outcome (IsReplyTo from known asked old new)
+
+  -- The same of a request that is submitted.
+  pub record TellsSubmitted (request : Requested) (old new : Working) (answer : Answer) : Type 0 where
+    pub outcome : Result Reply Fault
+    pub answer_is : answer ≡ answer_to outcome
+    pub reply : IfOk outcome (IsReplied from known request old new)
+
+  -- The same of a page.
+  pub record TellsPage (patron : ℕ) (shown : Option (List ℕ)) (seen : List Entry) (answer : Answer)
+      : Type 0 where
+    pub outcome : Result Reply Fault
+    pub answer_is : answer ≡ answer_to outcome
+    pub reply : known ≡ true → IfOk outcome (λ reply. reply ≡ shown_page (own_page (after from (requests seen)) patron) shown)
+
+  -- What is asked for was met with an answer; or there is none, since no memory was left for it.
+  pub record Meets (asked : Asked) (old new : Working) (answer : Option Answer) : Type 0 where
+    pub on : StartsWith new.seen old.seen
+    pub once : SubmitsAsked asked old.post new.post
+    pub told : IfSome answer (TellsReply asked old new)
+
+-- What was read fails a check: the answer is its status.
+pub record TellsStatus (bytes : Option (List ℕ)) (answer : Answer) : Type 0 where
+  pub status : WebStatus
+  pub read : IfSome bytes (λ all. ChecksHead all (Err (Status status)))
+  pub answer_is : answer ≡ Failed status
+
+module _ (from : History) (known : Bool) where
+  -- A request was read: the answer is what became of what it asks for.
+  pub record TellsOutcome (desk_key : List ℕ) (bytes : Option (List ℕ)) (old new : Working)
+      (answer : Answer) : Type 0 where
+    pub request : WebRequest
+    pub read : IfSome bytes (λ all. ChecksHead all (Ok request))
+    pub tells : TellsReply from known (asked_of desk_key request) old new answer
+
+  -- The answer to the bytes: a status, fault 90 since there was no memory to read them, or what
+  -- became of what they ask for.
+  abbrev pub Answers : List ℕ → Option (List ℕ) → Working → Working → Answer → Type 0
+  Answers desk_key bytes old new answer =
+      TellsStatus bytes answer
+      ⊎ ((answer ≡ Faulted Memory) ⊎ TellsOutcome desk_key bytes old new answer)
+
+  -- A connection was served. `bytes` are those that the reader has, where it tells them; `before`
+  -- and `after` are the bytes that the writer showed and shows.
+  pub record Serves {E : Type 0} (desk_key : List ℕ) (bytes : Option (List ℕ)) (old new : Working)
+      (before after : Option (List ℕ)) (result : Result (Unit {0}) E) : Type 0 where
+    -- what the worker has seen never gets shorter
+    pub on : StartsWith new.seen old.seen
+    -- nothing was submitted, or the one request that the bytes ask for
+    pub once : (new.post ≡ old.post)
+        ⊎ ((request : Requested) × (web : WebRequest) × IfSome bytes (λ all. ChecksHead all (Ok web))
+        × (asked_of desk_key web ≡ Request request) × (new.post ≡ submitted old.post request))
+    -- one answer went out, whole
+    pub told : OnOk result ((answer : Answer) × Answers desk_key bytes old new answer
+        × Appends before after (answer_bytes answer))
+    -- or nothing, or a beginning of one
+    pub broken : OnErr result (Keeps before after
+        ⊎ ((answer : Answer) × Answers desk_key bytes old new answer
+        × AppendsFront before after (answer_bytes answer)))
