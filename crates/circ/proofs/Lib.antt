@@ -2,4 +2,4 @@ pub mod Ends
 pub mod Said
 pub mod Told
 pub mod Imports
-pub mod Connections
+pub mod Halls

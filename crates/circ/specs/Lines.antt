@@ -22,6 +22,14 @@ not_understood_line = codes "words not understood" ++ 10 ∷ []
 abbrev pub no_network_line : List ℕ
 no_network_line = codes "fault network" ++ 10 ∷ []
 
+-- On which port the web is served.
+abbrev pub port_line : ℕ → List ℕ
+port_line port = codes "listening on " ++ decimal port ++ 10 ∷ []
+
+-- That a thread could not be made.
+abbrev pub threads_line : List ℕ
+threads_line = codes "fault threads" ++ 10 ∷ []
+
 -- The line went out, or a beginning of it, and after the line the program ends so.
 pub record EndsWith {E : Type 0} (end : Exit) (line : List ℕ) (before after : Option (List ℕ))
     (result : Result Exit E) : Type 0 where

@@ -16,4 +16,4 @@ pub use lines::{Exit, WriteFault, no_network, not_understood, out_of_memory, tel
 pub use reports::report;
 pub use requests::one;
 pub use sending::send;
-pub use serving::{Served, serve, serve_one};
+pub use serving::serve;

@@ -4,7 +4,8 @@ ghost use Rattle.std.specs.Prelude.{◌≡◌};
 ghost use Rattle.terms.specs.declared.fault.Fault.TheVariants.{Memory};
 ghost use Rattle.circ.specs.Exits.{status_of, exit_of};
 ghost use Rattle.circ.specs.Lines.{reply_line, fault_line, not_understood_line};
-ghost use Rattle.circ.specs.Lines.{no_network_line, EndsWith};
+ghost use Rattle.circ.specs.Lines.{no_network_line, port_line, threads_line, EndsWith};
+ghost use Rattle.terms.specs.Writing.{Writes};
 
 use crate::writing::write_reply;
 use itoa::Buffer;
@@ -79,6 +80,29 @@ pub fn no_network<W: Write>(writer: &mut W) -> Result<Exit, WriteFault>
 {
     write_bytes(writer, b"fault network\n")?;
     Ok(Exit::Faulted)
+}
+
+/// Says that a thread could not be made. It takes no memory.
+pub(crate) fn tell_threads<W: Write>(writer: &mut W) -> Result<Exit, WriteFault>
+    ensures { EndsWith Exit.Faulted threads_line
+        (W.contents writer.old) (W.contents writer.new) result }
+{
+    write_bytes(writer, b"fault threads\n")?;
+    Ok(Exit::Faulted)
+}
+
+/// Tells the port. It takes no memory.
+pub(crate) fn tell_port<W: Write>(writer: &mut W, port: u16) -> Result<(), WriteFault>
+    ensures { Writes (port_line port) (W.contents writer.old) (W.contents writer.new) result }
+{
+    write_pieces(
+        writer,
+        &[
+            b"listening on ",
+            Buffer::new().format(port).as_bytes(),
+            b"\n",
+        ],
+    )
 }
 
 /// Tells a reply by its text. It takes no memory.

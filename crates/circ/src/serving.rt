@@ -1,100 +1,28 @@
-//! The web: one connection after another.
+//! The web: the workers of a hall, each in a thread of its own.
 
+ghost use Rattle.std.specs.Prelude.{◌≡◌};
 ghost use Rattle.terms.specs.Writing.{Writes};
-ghost use Rattle.circ.specs.Serving.{Meets, Sends, ServesAsked, Serves, ServesMany, ServesPort};
-ghost use Rattle.circ.specs.Serving.{port_line};
+ghost use Rattle.hall.specs.Handling.{KnowsList};
+ghost use Rattle.circ.specs.Lines.{EndsWith, port_line, threads_line};
+ghost use Rattle.circ.specs.Serving.{HandlesSome, ServesPort, end_text, exit_after};
 
-use crate::lines::{Exit, WriteFault, tell_fault};
+use crate::lines::{Exit, WriteFault, not_understood, out_of_memory, tell_fault, tell_port};
+use crate::lines::tell_threads;
 use desk::Desk;
-use itoa::Buffer;
+use hall::{DeskSide, Hall, HallFault, Opened, Opening, Why, Worker};
 use sqlite::Alter;
 use std::alloc::Global;
 use std::io::{Read, Write};
+use std::marker::Brand;
 use std::net::{Shutdown, TcpListener, TcpStream};
+use std::sync::{Arc, Mutex, Wait};
+use std::thread;
+use std::thread::{JoinHandle, Threads};
 use std::time::Duration;
-use terms::{CardKey, Fault, Refusal, Reply, write_pieces};
-use web::{Answer, Asked, WebFault, read_request, write_answer};
+use terms::{CardKey, Fault, Memory};
 
-/// What came of a connection.
-#[derive(Clone, Copy, Debug, PartialEq, Eq)]
-pub struct Served {
-    /// Whether an answer went out, whole.
-    pub is_answered: bool,
-    /// The fault of the desk, after which it serves nobody.
-    pub fault: Option<Fault>,
-}
-
-/// The reply to what is asked for. 90, 91 or 93 in its place, as `Desk::handle` and `Desk::page`
-/// give them.
-fn meet<S: Alter>(desk: &mut Desk<S>, alloc: Global, asked: &Asked) -> Result<Reply, Fault>
-    ensures { Meets asked.now S.Store desk.old desk.new result }
-{
-    match asked {
-        Asked::Nothing => Ok(Reply::Refused(Refusal::NotAllowed)),
-        Asked::Page(patron, card_key) => desk.page(alloc, *patron, card_key),
-        Asked::Request(request) => desk.handle(alloc, request),
-    }
-}
-
-/// Writes an answer. It takes no memory.
-fn send_answer<W: Write>(writer: &mut W, answer: &Answer, fault: Option<Fault>) -> Served
-    ensures { Sends answer.now fault (W.contents writer.old) (W.contents writer.new) result }
-{
-    Served {
-        is_answered: write_answer(writer, answer).is_ok(),
-        fault,
-    }
-}
-
-/// Answers what is asked for. Where no memory is left for an answer, none goes out; what was
-/// accepted stands, and its key gets the reply again.
-fn serve_asked<S: Alter, W: Write>(
-    desk: &mut Desk<S>,
-    alloc: Global,
-    asked: &Asked,
-    writer: &mut W,
-) -> Served
-    ensures { ServesAsked asked.now
-        S.Store desk.old desk.new (W.contents writer.old) (W.contents writer.new) result }
-{
-    match meet(desk, alloc, asked) {
-        Ok(reply) => match Answer::reply(alloc, &reply) {
-            Ok(answer) => send_answer(writer, &answer, None),
-            Err(_) => Served {
-                is_answered: false,
-                fault: None,
-            },
-        },
-        Err(fault) => send_answer(writer, &Answer::Faulted(fault), Some(fault)),
-    }
-}
-
-/// Answers one connection: reads its request, handles it or shows the page, and writes the answer.
-///
-/// The answer is that of the request as the bytes make it, or the status of the first check that
-/// they fail; what goes out and what the tables show is said in `specs/Serving`. A connection
-/// breaks where a read or a write fails or no memory is left for its answer: then nothing or a
-/// beginning of the answer went out. Where no memory is left to read it, the answer is fault 90.
-pub fn serve_one<S: Alter, R: Read, W: Write>(
-    desk: &mut Desk<S>,
-    alloc: Global,
-    desk_key: &CardKey,
-    reader: &mut R,
-    writer: &mut W,
-) -> Served
-    ensures { Serves desk_key.now (R.remaining reader.old)
-        S.Store desk.old desk.new (W.contents writer.old) (W.contents writer.new) result }
-{
-    match read_request(alloc, reader) {
-        Ok(request) => serve_asked(desk, alloc, &request.asked(desk_key), writer),
-        Err(WebFault::Status(status)) => send_answer(writer, &Answer::Failed(status), None),
-        Err(WebFault::Memory) => send_answer(writer, &Answer::Faulted(Fault::Memory), None),
-        Err(WebFault::Read) => Served {
-            is_answered: false,
-            fault: None,
-        },
-    }
-}
+/// The most workers of a hall.
+const MOST_WORKERS: usize = 8;
 
 /// How long a connection may keep a read or a write waiting, in seconds; then it is broken.
 const LONGEST_WAIT: u64 = 30;
@@ -121,80 +49,275 @@ fn end(mut stream: &TcpStream) {
     }
 }
 
-/// Waits for a connection, and answers it. One that can't be had is passed over. It gives the fault
-/// of the desk, after which nobody is served.
-fn serve_next<S: Alter>(
-    desk: &mut Desk<S>,
-    alloc: Global,
-    desk_key: &CardKey,
-    listener: &TcpListener,
-) -> Option<Fault>
-    ensures { ServesMany S.Store desk.old desk.new result }
-{
-    let Ok((stream, _)) = listener.accept() else {
-        return None;
-    };
-    let wait = Some(Duration::from_secs(LONGEST_WAIT));
-    if stream.set_read_timeout(wait).is_err() || stream.set_write_timeout(wait).is_err() {
-        return None;
-    }
-    let served = serve_one(desk, alloc, desk_key, &mut &stream, &mut &stream);
-    if served.is_answered {
-        end(&stream);
-    }
-    served.fault
+/// What the threads of the workers share.
+#[derive(Drop)]
+struct Shared<J: Opening> {
+    /// The workers that have not begun.
+    waiting: Mutex<Vec<Worker<J>>>,
+    listener: TcpListener,
+    desk_key: CardKey,
 }
 
-/// Answers so many connections, one after another, or those up to a fault of the desk.
-fn serve_each<S: Alter>(
-    desk: &mut Desk<S>,
-    alloc: Global,
-    desk_key: &CardKey,
-    listener: &TcpListener,
-    each: u32,
-) -> Option<Fault>
-    ensures { ServesMany S.Store desk.old desk.new result }
-{
-    for _ in 0..each {
-        if let Some(fault) = serve_next(desk, alloc, desk_key, listener) {
-            return Some(fault);
+impl<J: Opening> Shared<J> {
+    /// These workers are to begin.
+    fn put<R: Wait>(&self, rt: &R, workers: Vec<Worker<J>>) {
+        *self.waiting.lock(rt) = workers;
+    }
+
+    /// A worker that has not begun, if there is one.
+    fn next<R: Wait>(&self, rt: &R) -> Option<Worker<J>> {
+        self.waiting.lock(rt).pop()
+    }
+
+    /// A worker waits for a connection, and serves it. One that can't be had is passed over.
+    fn serve_next<R: Wait>(&self, rt: &R, alloc: Global, worker: &mut Worker<J>) {
+        let Ok((stream, _)) = self.listener.accept() else {
+            return;
+        };
+        let wait = Some(Duration::from_secs(LONGEST_WAIT));
+        if stream.set_read_timeout(wait).is_err() || stream.set_write_timeout(wait).is_err() {
+            return;
+        }
+        match worker.serve(rt, alloc, &self.desk_key, &mut &stream, &mut &stream) {
+            Ok(()) => end(&stream),
+            Err(_) => {}
         }
     }
-    None
+
+    /// A worker serves so many connections, and leaves.
+    fn work<R: Wait>(&self, rt: &R, alloc: Global, each: u32) {
+        let Some(mut worker) = self.next(rt) else {
+            return;
+        };
+        for _ in 0..each {
+            self.serve_next(rt, alloc, &mut worker);
+        }
+        drop(worker.leave(rt));
+    }
 }
 
-/// Tells the port. It takes no memory.
-fn tell_port<W: Write>(writer: &mut W, port: u16) -> Result<(), WriteFault>
-    ensures { Writes (port_line port) (W.contents writer.old) (W.contents writer.new) result }
-{
-    write_pieces(
-        writer,
-        &[
-            b"listening on ",
-            Buffer::new().format(port).as_bytes(),
-            b"\n",
-        ],
-    )
-}
-
-/// Tells the port, and answers so many connections, one after another. A connection that can't be
-/// had counts as one. After a fault of the desk, which its connection is told, nobody is served,
-/// and a line tells the fault.
-pub fn serve<S: Alter, W: Write>(
-    desk: &mut Desk<S>,
+/// What all threads share before there are workers, and room for the threads.
+fn share<J: Opening>(
     alloc: Global,
-    listener: &TcpListener,
+    listener: TcpListener,
+    desk_key: CardKey,
+) -> Result<(Arc<Shared<J>, Global>, Vec<JoinHandle<()>>), Memory> {
+    let threads = Vec::with_capacity(alloc, MOST_WORKERS)?;
+    let waiting = Mutex::new(Vec::new(alloc));
+    let shared = Arc::new(
+        alloc,
+        Shared {
+            waiting,
+            listener,
+            desk_key,
+        },
+    )?;
+    Ok((shared, threads))
+}
+
+/// A thread for a worker that has not begun, if it can be made.
+fn start<J: Opening + Send + Sync + 'static, R: Threads + Wait + Copy + Send + 'static>(
+    rt: R,
+    alloc: Global,
+    shared: &Arc<Shared<J>, Global>,
+    each: u32,
+) -> Option<JoinHandle<()>> {
+    let theirs = Arc::try_clone(shared).ok()?;
+    thread::spawn(&rt, move || theirs.work(&rt, alloc, each)).ok()
+}
+
+/// Starts a thread for each worker, and tells whether all could be made. Where one can't, a worker
+/// leaves at once.
+fn start_all<J: Opening + Send + Sync + 'static, R: Threads + Wait + Copy + Send + 'static>(
+    rt: R,
+    alloc: Global,
+    shared: &Arc<Shared<J>, Global>,
+    count: usize,
+    each: u32,
+    threads: &mut Vec<JoinHandle<()>>,
+) -> bool {
+    let mut are_whole = true;
+    for _ in 0..count {
+        match start(rt, alloc, shared, each) {
+            Some(handle) => {
+                let _ = threads.push(handle);
+            }
+            None => {
+                shared.work(&rt, alloc, 0);
+                are_whole = false;
+            }
+        }
+    }
+    are_whole
+}
+
+/// Waits until the threads have ended.
+fn join_all<R: Threads>(rt: &R, threads: Vec<JoinHandle<()>>) {
+    for handle in threads {
+        handle.join(rt);
+    }
+}
+
+/// What came of a hall.
+struct Met<S: Alter> {
+    desk: Desk<S>,
+    /// The fault that closed it.
+    fault: Option<Fault>,
+    /// Whether each worker had a thread.
+    are_whole: bool,
+}
+
+/// Runs a hall: each worker serves so many connections in a thread of its own, and this thread is
+/// the desk's.
+fn run<J: Opening + Send + Sync + 'static, S: Alter, R: Threads + Wait + Copy + Send + 'static>(
+    rt: R,
+    alloc: Global,
+    side: DeskSide<J, S>,
+    workers: Vec<Worker<J>>,
+    shared: &Arc<Shared<J>, Global>,
+    threads: Vec<JoinHandle<()>>,
+    each: u32,
+) -> Met<S>
+    requires { KnowsList J.known S.Store side.desk J.from }
+    ensures { HandlesSome S.Store side.desk result.desk result.fault }
+{
+    let mut threads = threads;
+    let count = workers.len();
+    shared.put(&rt, workers);
+    let are_whole = start_all(rt, alloc, shared, count, each, &mut threads);
+    let (desk, ended, fault) = side.desk_loop(&rt, alloc);
+    drop(ended);
+    join_all(&rt, threads);
+    Met {
+        desk,
+        fault,
+        are_whole,
+    }
+}
+
+/// Tells how it ended: that a thread could not be made, and the fault that closed the hall.
+fn tell_end<W: Write>(
+    writer: &mut W,
+    are_whole: bool,
+    fault: Option<Fault>,
+) -> Result<Exit, WriteFault>
+    ensures { EndsWith (exit_after are_whole fault) (end_text are_whole fault)
+        (W.contents writer.old) (W.contents writer.new) result }
+{
+    match (are_whole, fault) {
+        (true, None) => Ok(Exit::Done),
+        (true, Some(fault)) => tell_fault(writer, fault),
+        (false, None) => tell_threads(writer),
+        (false, Some(fault)) => {
+            tell_threads(writer)?;
+            tell_fault(writer, fault)
+        }
+    }
+}
+
+/// Tells the port, runs the hall, and tells how it ended. Where the port can't be told, nobody is
+/// served, and nothing more is written.
+fn serve_hall<
+    J: Opening + Send + Sync + 'static,
+    S: Alter,
+    W: Write,
+    R: Threads + Wait + Copy + Send + 'static,
+>(
+    rt: R,
+    alloc: Global,
+    side: DeskSide<J, S>,
+    workers: Vec<Worker<J>>,
+    shared: &Arc<Shared<J>, Global>,
+    threads: Vec<JoinHandle<()>>,
     port: u16,
     each: u32,
-    desk_key: &CardKey,
     writer: &mut W,
-) -> Result<Exit, WriteFault>
-    ensures { ServesPort port
-        S.Store desk.old desk.new (W.contents writer.old) (W.contents writer.new) result }
+) -> (Desk<S>, Result<Exit, WriteFault>)
+    requires { KnowsList J.known S.Store side.desk J.from }
+    ensures { ServesPort port S.Store side.desk result.0
+        (W.contents writer.old) (W.contents writer.new) result.1 }
 {
-    tell_port(writer, port)?;
-    match serve_each(desk, alloc, desk_key, listener, each) {
-        Some(fault) => tell_fault(writer, fault),
-        None => Ok(Exit::Done),
+    match tell_port(writer, port) {
+        Ok(()) => {
+            let met = run(rt, alloc, side, workers, shared, threads, each);
+            (met.desk, tell_end(writer, met.are_whole, met.fault))
+        }
+        Err(fault) => {
+            let met = run(rt, alloc, side, workers, shared, threads, 0);
+            (met.desk, Err(fault))
+        }
+    }
+}
+
+/// The same of a desk whose hall is opened first, on a queue that was just opened.
+fn open_and_serve<
+    J: Opening + Send + Sync + 'static,
+    S: Alter,
+    W: Write,
+    R: Threads + Wait + Copy + Send + 'static,
+>(
+    rt: R,
+    alloc: Global,
+    opened: Opened,
+    desk: Desk<S>,
+    listener: TcpListener,
+    port: u16,
+    workers: usize,
+    each: u32,
+    desk_key: CardKey,
+    writer: &mut W,
+) -> (Desk<S>, Result<Exit, WriteFault>)
+    requires name { opened ≡ J.name }
+    requires known { KnowsList J.known S.Store desk J.from }
+    ensures { ServesPort port S.Store desk result.0
+        (W.contents writer.old) (W.contents writer.new) result.1 }
+{
+    let (shared, threads) = match share::<J>(alloc, listener, desk_key) {
+        Ok(all) => all,
+        Err(_) => return (desk, out_of_memory(writer)),
+    };
+    match Hall::new::<J, S, R>(&rt, alloc, opened, desk, workers) {
+        Ok((side, workers)) => {
+            serve_hall(
+                rt, alloc, side, workers, &shared, threads, port, each, writer,
+            )
+        }
+        Err(HallFault {
+            why: Why::Faulted(fault),
+            desk,
+        }) => (desk, tell_fault(writer, fault)),
+        Err(HallFault {
+            why: Why::Refused(_),
+            desk,
+        }) => (desk, not_understood(writer)),
+    }
+}
+
+/// Serves the web with 1 to 8 workers, each in a thread of its own: tells the port once the hall is
+/// open, has each worker serve so many connections, and hands the desk back. A connection that can't
+/// be had counts as one.
+///
+/// At the end a line tells that a thread could not be made, whose worker left at once, and the last
+/// one the fault that closed the hall. Where the hall can't be opened that fault stands alone; for
+/// another number of workers the line is that of words that aren't understood.
+pub fn serve<S: Alter, W: Write, R: Threads + Wait + Copy + Send + 'static>(
+    rt: R,
+    alloc: Global,
+    desk: Desk<S>,
+    listener: TcpListener,
+    port: u16,
+    workers: usize,
+    each: u32,
+    desk_key: CardKey,
+    writer: &mut W,
+) -> (Desk<S>, Result<Exit, WriteFault>)
+    ensures { ServesPort port S.Store desk result.0
+        (W.contents writer.old) (W.contents writer.new) result.1 }
+{
+    match Opened::new(alloc) {
+        Ok(opened) => open_and_serve::<Brand, S, W, R>(
+            rt, alloc, opened, desk, listener, port, workers, each, desk_key, writer,
+        ),
+        Err(_) => (desk, out_of_memory(writer)),
     }
 }

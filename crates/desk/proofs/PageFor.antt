@@ -22,7 +22,7 @@ module _ (patron : ℕ) (card_key : List ℕ) where
     | false ↦ Refused NotAllowed
   ]
 
-  page_for-same : (H K : History) → AgreesOn H K patron → page_for H patron card_key ≡ page_for K patron card_key
+  pub page_for-same : (H K : History) → AgreesOn H K patron → page_for H patron card_key ≡ page_for K patron card_key
   unfolding shown_by
   page_for-same H K agrees = ap (λ (o : Option PatronFacts). shown_by o (page H patron)) agrees.patron ∙ ap (shown_by (patron_of K patron)) (page-same H K patron agrees)
 

@@ -23,7 +23,7 @@ use Rattle.hall.specs.Openings.{LooksOnly, MeetsFaultOf}
 use Rattle.hall.specs.Handling.{HandledFirst, TakesNext, ClosedBy}
 use Rattle.hall.proofs.HandledLists.{submit_same, submit_more, rest_more, no_rest}
 
-after-last : (xs : List Request) (H : History) (r : Request) → after H (xs ++ r ∷ []) ≡ after_one (after H xs) r
+pub after-last : (xs : List Request) (H : History) (r : Request) → after H (xs ++ r ∷ []) ≡ after_one (after H xs) r
 after-last [] H r = refl
 after-last (x ∷ xs) H r = after-last xs (after_one H x) r
 
@@ -52,6 +52,48 @@ module _ {S : Type 0} (g : Ghosts S) where
   stays-any : (a b : Held S) (r : Result (Unit {0}) Fault) → Looks (state g a) (state g b) r → IsClean g b → IsOpen g b → Stays (state g a) (state g b)
   stays-any a b (Ok x) looks disk is_open = looks.stays disk
   stays-any a b (Err e) looks disk is_open = looks.undone disk is_open
+
+  if-some : (o : Option Fault) (P Q : Type 0) → (P → Q) → IfSome o (λ _. P) → IfSome o (λ _. Q)
+  if-some None P Q f h = tt
+  if-some (Some x) P Q f h = f h
+
+  -- some were handled after a look at the tables
+  pub handled-after-look : (first rest : List Request) (a b c : Held S) (fault : Option Fault) → LooksOnly g a b (Ok tt) → HandledFirst first rest g b c fault → HandledFirst first rest g a c fault
+  handled-after-look first rest a b c fault l h = record {
+    clean = λ disk. l.looks.clean (h.clean disk);
+    shown = λ disk e H shows. h.shown disk e H (l.looks.stays (h.clean disk) H shows);
+    headline = λ disk e H shows. h.headline disk e H (l.looks.stays (h.clean disk) H shows);
+    sound = λ disk e H shows. h.sound disk e H (l.looks.stays (h.clean disk) H shows);
+    undone = λ disk is_open H shows. h.undone disk is_open H (l.looks.stays (h.clean disk) H shows);
+    left = λ disk. if-some fault _ _ (λ f H shows. f H (l.looks.stays (h.clean disk) H shows)) (h.left disk);
+  }
+
+  -- a look met a fault, or one came after it
+  pub unopened : (a b : Held S) (fault : Fault) → MeetsFaultOf g a b fault ⊎ (LooksOnly g a b (Ok tt) × (fault ≡ Closed)) → HandledFirst [] [] g a b (Some fault)
+  unopened a b fault (inl met) =
+      let looks = met.looks.looks in
+      record {
+        clean = looks.clean;
+        shown = λ disk e. let never : ⊥ = cc in absurd never;
+        headline = λ disk e. let never : ⊥ = cc in absurd never;
+        sound = λ disk e H shows. stored disk (some-is fault Stored e) H shows met.cause;
+        undone = λ disk is_open. stays-any a b met.looked looks disk is_open;
+        left = λ disk H shows. leaves-first (state g b) (picture H) (picture H) (looks.left disk H shows);
+      }
+    where
+      stored : IsClean g b → fault ≡ Stored → (H : History) → Shows (state g a) H → (met.looked ≡ Err fault) ⊎ (fault ≡ Memory) → ⊥
+      stored disk is H shows (inl same) = met.looks.sound disk (same ∙ ap Err is) H shows tt
+      stored disk is H shows (inr want) = let never : Memory ≡ Stored = sym want ∙ is in absurd (cc)
+  unopened a b fault (inr met) =
+      let looks = met.0.looks in
+      record {
+        clean = looks.clean;
+        shown = λ disk e. let never : ⊥ = cc in absurd never;
+        headline = λ disk e. let never : ⊥ = cc in absurd never;
+        sound = λ disk e. let never : Closed ≡ Stored = sym met.1 ∙ some-is fault Stored e in absurd (cc);
+        undone = λ disk is_open. looks.stays disk;
+        left = λ disk H shows. leaves-first (state g b) (picture H) (picture H) (looks.left disk H shows);
+      }
 
   module _ (first rest : List Request) (request : Request) (a b m : Held S) (reply : Reply) (h : HandledFirst first rest g a b None) (d : Handles request g b m (Ok reply)) where
     -- what the tables show once it is handled

@@ -3,15 +3,29 @@ use Rattle.std.proofs.Common.{◌≡◌, ℕ, ◌+◌, ◌==◌, Bool, true, fal
 use Rattle.std.specs.List.{list_any, count_by, sum_by}
 use Rattle.std.proofs.lemmas.List.Sums.{sum_by-cons}
 use Rattle.std.proofs.lemmas.List.{map-append, take-append-drop}
+use Rattle.std.specs.Prelude.{Result, Ok, Err, IsSome, MatchResult}
 use Rattle.terms.specs.declared.command.Request.{Request}
+use Rattle.terms.specs.declared.fault.Fault.{Fault}
+use Rattle.terms.specs.declared.reply.Reply.{Reply}
+use Rattle.store.specs.Library.{Ghosts, Held, state}
+use Rattle.model.specs.History.{History}
+use Rattle.model.specs.Requests.{after, after_one}
+use Rattle.desk.specs.Answering.{Learns, Shows}
+use Rattle.desk.specs.Running.{HandlesTouching}
+use Rattle.desk.specs.Showing.{own_page}
+use Rattle.desk.specs.declared.showing.OwnPage.{OwnPage}
 use Rattle.board.specs.declared.entry.Entry.{Entry}
-use Rattle.board.specs.Showing.{count_own, requests as entry_requests}
+use Rattle.board.specs.Showing.{count_own, overlaid, IsNextEntry, requests as entry_requests}
+use Rattle.board.specs.Rule.{MayFollow, Publishing}
+use Rattle.board.specs.Workers.{is_worker}
 use Rattle.hall.specs.declared.messages.Submission.{Submission}
 use Rattle.hall.specs.declared.messages.Message.{Message}
 use Rattle.hall.specs.declared.messages.Message.TheVariants.{Submit, Leave}
 use Rattle.hall.specs.Queue.{of, is_open, submissions, own, handled, requests, IsNext}
-use Rattle.hall.specs.Handling.{submission_of, AreShown}
-use Rattle.hall.proofs.HandledLists.{submissions_of, all_of}
+use Rattle.hall.specs.Handling.{submission_of, AreShown, KnowsList, PutsPages, IsDue, HandledFirst, MayBeNext, ShowsNext, BoardShows}
+use Rattle.hall.proofs.HandledLists.{submissions_of, submissions-append, all_of}
+use Rattle.hall.proofs.Pages.{no-page-before}
+use Rattle.hall.proofs.Progress.{after-last}
 
 own-count : (w : ℕ) (es : List Entry) → count_own w es ≡ length (own w (map submission_of es))
 own-count w [] = refl
@@ -29,14 +43,80 @@ open-length [] h = refl
 open-length (Submit s ∷ ms) h = let r = open-length ms h in omega (arith, r)
 open-length (Leave w ∷ ms) h = absurd (cc)
 
+-- all that came were handled
+all-handled : (n : ℕ) (got : List Message) → n ≡ length (submissions got) → handled n got ≡ submissions got
+all-handled n got whole = ap (λ k. handled k got) whole ∙ all_of (submissions got)
+
 -- the number of a submission that was just received, where all before it are shown
 pub due-number : (n : ℕ) (got : List Message) (s : Submission) (shown : List Entry) → IsNext got (Submit s) → n ≡ length (submissions got) → AreShown shown (handled n got) → s.number ≡ count_own s.worker shown + 1
 due-number n got s shown next whole is =
-    let all : handled n got ≡ submissions got = ap (λ k. handled k got) whole ∙ all_of (submissions got) in
+    let all = all-handled n got whole in
     let long : length (of s.worker got) ≡ count_own s.worker shown =
         sym (open-length (of s.worker got) next.0) ∙ (ap length (submissions_of s.worker got) ∙ (ap (λ l. length (own s.worker l)) (sym (is ∙ all)) ∙ sym (own-count s.worker shown))) in
     next.1 ∙ ap (λ k. k + 1) long
 
--- one more is shown
-pub shown-more : (shown shown' : List Entry) (e : Entry) (all : List Submission) (s : Submission) → shown' ≡ shown ++ e ∷ [] → submission_of e ≡ s → AreShown shown all → AreShown shown' (all ++ s ∷ [])
-shown-more shown shown' e all s more is h = ap (map submission_of) more ∙ (map-append submission_of shown (e ∷ []) ∙ (ap (λ l. l ++ submission_of e ∷ []) h ∙ ap (λ x. all ++ x ∷ []) is))
+-- the board after one more submission
+pub board-kept : {V W : Type 0} (n m : ℕ) (before after' : Option Fault) (got got' : List Message) (s : Submission) (old : Result Publishing V) (new : Result Publishing W) → got' ≡ got ++ Submit s ∷ []
+    → (before ≡ None → n ≡ length (submissions got)) → (after' ≡ None → m ≡ length (submissions got')) → BoardShows old (handled n got) before → ShowsNext old new s after' → BoardShows new (handled m got') after'
+board-kept n m before after' got got' s (Ok p) (Ok q) e all all' shows next =
+    let more : submissions got' ≡ submissions got ++ s ∷ [] = ap submissions e ∙ submissions-append got (Submit s ∷ []) in
+    (next.0, next.1, next.2 ∙ (ap (λ l. l ++ s ∷ []) (shows.2 ∙ all-handled n got (all shows.0)) ∙ (sym more ∙ sym (all-handled m got' (all' next.0)))))
+board-kept n m before after' got got' s (Err w) (Ok q) e all all' shows next = absurd next
+board-kept n m before after' got got' s (Ok p) (Err v) e all all' shows next = next
+board-kept n m before after' got got' s (Err w) (Err v) e all all' shows next = next
+
+-- ---- what may be shown next
+
+module _ {S : Type 0} (g : Ghosts S) (known : Bool) (from : History) where
+  -- a submission that was handled is due to be shown
+  pub is-due : (old made : Held S) (shown : List Entry) (s : Submission) (reply : Reply) (touched : List ℕ) → s.number ≡ count_own s.worker shown + 1
+      → KnowsList known g old (after from (entry_requests shown)) → HandlesTouching s.request g old made (Ok (reply, touched)) → IsDue known from g made shown s reply touched
+  is-due old made shown s reply touched number list handles =
+      let H : History = after from (entry_requests shown) in
+      record {
+        number = number;
+        reply_is = λ k. let at = list k in (handles.handles.handled.replied (at.0 made) H at.1).0;
+        list = λ k. let at = list k in (at.0, (handles.handles.handled.replied (at.0 made) H at.1).1);
+        kept = λ k p out. let at = list k in handles.kept (at.0 made) H at.1 p out;
+      }
+
+  -- one that is due may be shown once its pages are looked up
+  pub may-follow : (desk now : Held S) (shown : List Entry) (s : Submission) (reply : Reply) (touched : List ℕ) (before : List (ℕ × OwnPage)) (p : Publishing)
+      → is_worker s.worker ≡ true → IsDue known from g desk shown s reply touched → before ≡ [] → Learns {A = Unit {0}} (λ H _. PutsPages touched before p.pages H) g desk now (Ok tt) → p.shown ≡ shown
+      → MayFollow from known p (record { worker = s.worker; number = s.number; request = s.request; reply = reply })
+  may-follow desk now shown s reply touched before p worker due blank learnt same =
+      let e : Entry = record { worker = s.worker; number = s.number; request = s.request; reply = reply } in
+      let K : History = after from (entry_requests shown) in
+      let H : History = after_one K s.request in
+      let next : IsNextEntry from known shown e = record { worker = worker; number = due.number; reply = due.reply_is } in
+      let list-is : after from (entry_requests (shown ++ e ∷ [])) ≡ H =
+          ap (after from) (map-append (λ (d : Entry). d.request) shown (e ∷ [])) ∙ after-last (entry_requests shown) from s.request in
+      record {
+        next = subst (λ (l : List Entry). IsNextEntry from known l e) (sym same) next;
+        pages = λ k q.
+            let list = due.list k in
+            let puts : PutsPages touched [] p.pages H = subst (λ (l : List (ℕ × OwnPage)). PutsPages touched l p.pages H) blank (learnt.shown (list.0 now) H list.1 tt) in
+            subst (λ (l : List Entry). overlaid p.pages q (own_page (after from (entry_requests l)) q) ≡ own_page (after from (entry_requests (l ++ e ∷ []))) q) (sym same)
+            (puts q (own_page K q) (no-page-before K s.request q) (λ out. sym (due.kept k q out)) ∙ ap (λ (J : History). own_page J q) (sym list-is));
+      }
+
+  -- the list of accepted requests, as far as the board shows it
+  pub knows-shown : (old desk : Held S) (shown : List Entry) (all : List Submission) (rest : List Request) (fault : Option Fault) → KnowsList known g old from
+      → HandledFirst (requests all) rest g old desk fault → fault ≡ None → AreShown shown all → KnowsList known g desk (after from (entry_requests shown))
+  knows-shown old desk shown all rest fault list h open is k =
+      let at = list k in
+      (at.0, subst (λ (l : List Request). Shows (state g desk) (after from l)) (sym (same-requests shown ∙ ap requests is)) (h.shown (at.0 desk) open from at.1))
+
+  -- the next submission may be handled, where the hall isn't closed
+  pub may-be-next : {W : Type 0} (old desk : Held S) (n : ℕ) (got : List Message) (s : Submission) (fault : Option Fault) (board : Result Publishing W) (rest : List Request) → KnowsList known g old from
+      → IsNext got (Submit s) → (fault ≡ None → n ≡ length (submissions got)) → HandledFirst (requests (handled n got)) rest g old desk fault → BoardShows board (handled n got) fault
+      → MatchResult board (λ (p : Publishing). (fault ≡ None) × MayBeNext known from g desk p s) (λ _. IsSome fault)
+  may-be-next old desk n got s fault (Ok p) rest list next all h shows =
+      (shows.0, record { blank = shows.1; number = due-number n got s p.shown next (all shows.0) shows.2; list = knows-shown old desk p.shown (handled n got) rest fault list h shows.0 shows.2 })
+  may-be-next old desk n got s fault (Err w) rest list next all h shows = shows
+
+-- what is shown next, after a board that shows something
+pub shows-next : {V W : Type 0} (old : Publishing) (new : Result Publishing W) (s : Submission) (fault : Option Fault)
+    → MatchResult new (λ (p : Publishing). (fault ≡ None) × (p.pages ≡ []) × AreShown p.shown (map submission_of old.shown ++ s ∷ [])) (λ _. IsSome fault) → ShowsNext {V = V} (Ok old) new s fault
+shows-next old (Ok p) s fault h = h
+shows-next old (Err w) s fault h = h

@@ -12,6 +12,7 @@ use Rattle.desk.specs.Answering.{Shows, LeavesOneOf, Learns}
 use Rattle.desk.specs.Running.{Handles, ShowsHeadline}
 use Rattle.desk.specs.Showing.{own_page}
 use Rattle.desk.specs.declared.showing.OwnPage.{OwnPage}
+use Rattle.board.specs.Rule.{Publishing}
 use Rattle.board.specs.declared.entry.Entry.{Entry}
 use Rattle.board.specs.Showing.{count_own, overlaid, requests as entry_requests}
 use Rattle.hall.specs.declared.messages.Submission.{Submission}
@@ -149,6 +150,27 @@ pub record IsDue {S : Type 0} (known : Bool) (from : History) (g : Ghosts S) (de
   pub kept : known ≡ true → (p : ℕ) → list_any (λ q. q == p) touched ≡ false
       → own_page (after_one (after from (entry_requests shown)) s.request) p
       ≡ own_page (after from (entry_requests shown)) p
+
+-- The submission may be handled next: the board shows all that were, with nothing that is yet to be
+-- shown, and this one has the next number of its worker.
+pub record MayBeNext {S : Type 0} (known : Bool) (from : History) (g : Ghosts S) (desk : Held S)
+    (p : Publishing) (s : Submission) : Type 0 where
+  pub blank : p.pages ≡ []
+  pub number : s.number ≡ count_own s.worker p.shown + 1
+  pub list : KnowsList known g desk (after from (entry_requests p.shown))
+
+-- The board shows this submission too, after those before; or a fault has closed the hall.
+abbrev pub ShowsNext : {V W : Type 0} → Result Publishing V → Result Publishing W → Submission
+    → Option Fault → Type 0
+ShowsNext (Ok old) (Ok new) s fault =
+    (fault ≡ None) × (new.pages ≡ []) × AreShown new.shown (map submission_of old.shown ++ s ∷ [])
+ShowsNext (Err writer) (Ok new) s fault = ⊥
+ShowsNext old (Err writer) s fault = IsSome fault
+
+-- The board shows these submissions, or a fault has closed the hall.
+abbrev pub BoardShows : {W : Type 0} → Result Publishing W → List Submission → Option Fault → Type 0
+BoardShows (Ok p) handled fault = (fault ≡ None) × (p.pages ≡ []) × AreShown p.shown handled
+BoardShows (Err writer) handled fault = IsSome fault
 
 -- ---- until each worker has left
 

@@ -14,7 +14,7 @@ use Rattle.terms.specs.declared.reply.Reply.{Reply}
 use Rattle.terms.specs.declared.reply.Reply.TheVariants.{Refused}
 use Rattle.model.specs.History.{History}
 use Rattle.model.specs.Requests.{after, reply_to}
-use Rattle.desk.specs.Answering.{page_for}
+use Rattle.desk.specs.Answering.{IsPageFor, IsOwnPageFor}
 use Rattle.desk.specs.Showing.{own_page}
 use Rattle.desk.specs.declared.showing.OwnPage.{OwnPage}
 use Rattle.web.specs.Answers.{answer_bytes, answer_for}
@@ -64,6 +64,12 @@ page_by_desk _ _ = None
 abbrev pub page_asked : Requested → Option ℕ
 page_asked request = page_by_desk request.caller request.command
 
+-- The reply is the page that the card key opens after this list of accepted requests, or that this
+-- isn't allowed; and the same after every list that agrees with it on the patron's own rows.
+pub record IsOwnPage (patron : ℕ) (card_key : List ℕ) (H : History) (reply : Reply) : Type 0 where
+  pub page : IsPageFor patron card_key H reply
+  pub own : IsOwnPageFor patron card_key H reply
+
 module _ (from : History) (known : Bool) where
   -- The reply to a request that was not answered from the board: it was submitted, and this is the
   -- reply that the board shows for it.
@@ -82,7 +88,7 @@ module _ (from : History) (known : Bool) where
   abbrev pub IsReplyTo : Asked → Working → Working → Reply → Type 0
   IsReplyTo Nothing old new reply = (new.post ≡ old.post) × (reply ≡ Refused NotAllowed)
   IsReplyTo (Page patron card_key) old new reply =
-      (new.post ≡ old.post) × (known ≡ true → reply ≡ page_for (after from (requests new.seen)) patron card_key)
+      (new.post ≡ old.post) × (known ≡ true → IsOwnPage patron card_key (after from (requests new.seen)) reply)
   IsReplyTo (Request request) old new reply = IsReplyFor (page_asked request) request old new reply
 
 -- What is shown of a page: to the desk the page, or that there is no such patron; to who shows a card

@@ -1,19 +1,14 @@
 //! The side of the desk.
 
-ghost use Rattle.std.specs.Prelude.{◌≡◌, ◌+◌, ◌++◌, ◌∷◌, ◌^◌, ◌<◌, ◌≤◌, ◌⊎◌, ℕ, true, false, []};
-ghost use Rattle.std.specs.Prelude.{None, Some, Ok, List, IfSome, IsSome, IsNone, IsTrue, slice_index_or};
-ghost use Rattle.std.specs.Prelude.{MatchResult};
-ghost use Rattle.model.specs.Requests.{after};
+ghost use Rattle.std.specs.Prelude.{◌≡◌, ◌+◌, ◌++◌, ◌∷◌, ◌<◌, ◌≤◌, ◌⊎◌, ℕ, true, false, [], map};
+ghost use Rattle.std.specs.Prelude.{None, Ok, IsSome, IsTrue, slice_index_or, MatchResult};
 ghost use Rattle.desk.specs.Answering.{Learns};
-ghost use Rattle.board.specs.Showing.{count_own, requests};
-ghost use Rattle.terms.specs.declared.fault.Fault.TheVariants.{Closed};
 ghost use Rattle.hall_schedule.specs.declared.schedule.TheConstants.{WORKERS};
 ghost use Rattle.store.specs.Limits.{limit_of};
 ghost use Rattle.hall.specs.Queue.{IsHearing};
 ghost use Rattle.hall.specs.Openings.{LooksOnly, MeetsFaultOf};
 ghost use Rattle.hall.specs.Handling.{TakesNext, Finishes, KnowsList, PutsPages, IsDue};
-ghost use Rattle.hall.specs.Handling.{AreShown};
-ghost use Rattle.hall.specs.declared.messages.Submission.{Submission};
+ghost use Rattle.hall.specs.Handling.{MayBeNext, ShowsNext, AreShown, submission_of};
 
 use crate::ended::Ended;
 use crate::ends::Inbox;
@@ -41,7 +36,6 @@ pub struct DeskSide<J: Opening, S: Alter> {
     pub(crate) ghost hearing: { IsHearing inbox },
     pub(crate) ghost fresh: { inbox.got ≡ [] },
     pub(crate) ghost blank: { (publisher.shown ≡ []) × (publisher.pages ≡ []) },
-    pub(crate) ghost known: { KnowsList J.Origin.known S.Store desk J.Origin.from },
 }
 
 /// What writes the board; once the hall is closed it shows nothing more.
@@ -150,16 +144,12 @@ fn handle_next<J: Opening, S: Alter, R: Wait>(
     submission: Submission,
 ) -> BoardSide<J>
     requires open { progress.old.fault ≡ None }
-    requires blank { publisher.pages ≡ [] }
-    requires number { submission.number ≡ count_own submission.worker publisher.shown + 1 }
-    requires known { KnowsList J.known S.Store desk.old
-        (after J.from (requests publisher.shown)) }
+    requires next { MayBeNext J.known J.from S.Store desk.old publisher submission }
     ensures next { TakesNext submission.request S.Store desk.old desk.new
         progress.old.handled progress.new.handled progress.old.fault progress.new.fault }
     ensures shown { MatchResult result
         (λ p. (progress.new.fault ≡ None) × (p.pages ≡ [])
-        × ((submissions : List Submission) → AreShown publisher.shown submissions
-        → AreShown p.shown (submissions ++ submission ∷ [])))
+        × AreShown p.shown (map submission_of publisher.shown ++ submission ∷ []))
         (λ _. IsSome progress.new.fault) }
 {
     let worker = submission.worker;
@@ -188,6 +178,32 @@ fn handle_next<J: Opening, S: Alter, R: Wait>(
             notices.tell(rt, worker, number, fault);
             progress.fault = Some(fault);
             Err(publisher.stop())
+        }
+    }
+}
+
+/// Has a submission handled and shown, unless the hall is closed.
+fn take_next<J: Opening, S: Alter, R: Wait>(
+    rt: &R,
+    alloc: Global,
+    desk: &mut Desk<S>,
+    progress: &mut Progress,
+    notices: &Notices,
+    board: BoardSide<J>,
+    submission: Submission,
+) -> BoardSide<J>
+    requires { MatchResult board (λ p. (progress.old.fault ≡ None)
+        × MayBeNext J.known J.from S.Store desk.old p submission)
+        (λ _. IsSome progress.old.fault) }
+    ensures next { TakesNext submission.request S.Store desk.old desk.new
+        progress.old.handled progress.new.handled progress.old.fault progress.new.fault }
+    ensures shown { ShowsNext board result submission progress.new.fault }
+{
+    match board {
+        Ok(publisher) => handle_next(rt, alloc, desk, progress, notices, publisher, submission),
+        Err(writer) => {
+            notices.tell(rt, submission.worker, submission.number, Fault::Closed);
+            Err(writer)
         }
     }
 }
@@ -223,6 +239,7 @@ impl<J: Opening, S: Alter> DeskSide<J, S> {
     /// 91 and 93 as the desk gives them; 92 where 2^64 - 1 submissions were handled and one more
     /// came. Closing takes no memory, and the board stays as it was shown last.
     pub fn desk_loop<R: Wait>(self, rt: &R, alloc: Global) -> (Desk<S>, Ended<J>, Option<Fault>)
+        requires { KnowsList J.known S.Store self.desk J.from }
         ensures { Finishes self.workers result.1.handled result.1.heard.got
             S.Store self.desk result.0 result.2 }
     {
@@ -246,21 +263,15 @@ impl<J: Opening, S: Alter> DeskSide<J, S> {
             match inbox.receive(rt) {
                 Ok(Message::Leave(worker)) => note(&mut gone, worker),
                 Ok(Message::Submit(submission)) => {
-                    board = match board {
-                        Ok(publisher) => handle_next(
-                            rt,
-                            alloc,
-                            &mut desk,
-                            &mut progress,
-                            &notices,
-                            publisher,
-                            submission,
-                        ),
-                        Err(writer) => {
-                            notices.tell(rt, submission.worker, submission.number, Fault::Closed);
-                            Err(writer)
-                        }
-                    };
+                    board = take_next(
+                        rt,
+                        alloc,
+                        &mut desk,
+                        &mut progress,
+                        &notices,
+                        board,
+                        submission,
+                    );
                 }
                 Err(_) => thread::yield_now(),
             }

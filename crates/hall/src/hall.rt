@@ -187,6 +187,7 @@ impl Hall {
         requires known { KnowsList J.known S.Store desk J.from }
         ensures side { IfOk result (λ r. LooksOnly S.Store desk r.0.desk (Ok tt)
             × (r.0.workers ≡ workers)) }
+        ensures known { IfOk result (λ r. KnowsList J.known S.Store r.0.desk J.from) }
         ensures workers { IfOk result (λ r. AreWorkers workers r.1.items) }
         ensures limits { OnOk result (can_be_workers workers ≡ true) }
         ensures fault { IfErr result (λ f. IsUnopened workers S.Store desk f.desk f.why) }

@@ -285,7 +285,10 @@ impl<J: Opening> Worker<J> {
         ensures told { IfSome result (TellsSubmitted J.from J.known request self.old self.new) }
     {
         match self.ask(rt, alloc, request) {
-            Ok(entry) => Answer::reply(alloc, &entry.reply).ok(),
+            Ok(entry) => match Answer::reply(alloc, &entry.reply) {
+                Ok(answer) => Some(answer),
+                Err(_) => None,
+            },
             Err(Lost::Told(fault)) => Some(Answer::Faulted(fault)),
             Err(Lost::Untold) => None,
         }
@@ -304,14 +307,13 @@ impl<J: Opening> Worker<J> {
         ensures told { TellsPage J.from J.known patron (option_map (λ k. k.now) shown.entry)
             self.new.seen result }
     {
-        let answer = match self.window.page(patron) {
-            Ok(page) => page_answer(alloc, page, shown),
-            Err(Unseen::Memory) => Ok(Answer::Faulted(Fault::Memory)),
-            Err(Unseen::Gone) => Ok(Answer::Faulted(Fault::Closed)),
-        };
-        match answer {
-            Ok(answer) => answer,
-            Err(_) => Answer::Faulted(Fault::Memory),
+        match self.window.page(patron) {
+            Ok(page) => match page_answer(alloc, page, shown) {
+                Ok(answer) => answer,
+                Err(_) => Answer::Faulted(Fault::Memory),
+            },
+            Err(Unseen::Memory) => Answer::Faulted(Fault::Memory),
+            Err(Unseen::Gone) => Answer::Faulted(Fault::Closed),
         }
     }
 

@@ -1,13 +1,14 @@
 //! The calls under test, with no clauses: so a test with many of them is proved fast.
 
-ghost use Rattle.std.specs.Prelude.{◌≡◌};
+ghost use Rattle.std.specs.Prelude.{◌≡◌, false};
 
 use desk::Desk;
 use hall::{DeskSide, Ended, Hall, HallFault, Left, Opened, Opening, Worker};
 use sqlite::{Connection, MemStore};
 use std::alloc::Global;
+use std::io::{Read, Write};
 use std::sync::Wait;
-use terms::{Fault, Memory, Reply, Request};
+use terms::{CardKey, Fault, Memory, Reply, Request};
 
 /// What a hall is opened with or given back as.
 pub type Side<J> = (DeskSide<J, MemStore>, Vec<Worker<J>>);
@@ -18,15 +19,17 @@ pub fn open_queue(alloc: Global) -> Result<Opened, Memory> {
 }
 
 /// The hall of so many workers; or the number that says why there is none, and the desk.
-pub fn open_hall<J: Opening>(
+pub fn open_hall<J: Opening, R: Wait>(
+    rt: &R,
     alloc: Global,
     opened: Opened,
     desk: Desk<MemStore>,
     workers: usize,
 ) -> Result<Side<J>, (u32, Desk<MemStore>)>
-    requires { opened ≡ J.name }
+    requires name { opened ≡ J.name }
+    requires known { J.known ≡ false }
 {
-    match Hall::new::<J, MemStore>(alloc, opened, desk, workers) {
+    match Hall::new::<J, MemStore, R>(rt, alloc, opened, desk, workers) {
         Ok(side) => Ok(side),
         Err(HallFault { why, desk }) => Err((why.number(), desk)),
     }
@@ -42,22 +45,25 @@ pub fn handle_all<J: Opening, R: Wait>(
     rt: &R,
     alloc: Global,
     side: DeskSide<J, MemStore>,
-) -> (Desk<MemStore>, Ended<J>, Option<Fault>) {
+) -> (Desk<MemStore>, Ended<J>, Option<Fault>)
+    requires { J.known ≡ false }
+{
     side.desk_loop(rt, alloc)
 }
 
-/// Submits a request, and gives its number.
-pub fn submit<J: Opening, R: Wait>(
+/// Serves a connection; whether an answer went out whole.
+pub fn serve<J: Opening, R: Wait, I: Read, O: Write>(
     rt: &R,
+    alloc: Global,
     worker: &mut Worker<J>,
-    request: Request,
-) -> Result<u64, Fault> {
-    worker.submit(rt, request)
-}
-
-/// Why a submission isn't handled, if the worker was told.
-pub fn fault_of<J: Opening>(worker: &Worker<J>, number: u64) -> Option<Fault> {
-    worker.fault_of(number)
+    desk_key: &CardKey,
+    reader: &mut I,
+    writer: &mut O,
+) -> bool {
+    match worker.serve(rt, alloc, desk_key, reader, writer) {
+        Ok(()) => true,
+        Err(_) => false,
+    }
 }
 
 /// Leaves.

@@ -3,7 +3,11 @@
 #![tactic(auto)]
 
 #[cfg(test)]
+mod bytes;
+#[cfg(test)]
 mod calls;
+#[cfg(test)]
+mod connections;
 #[cfg(test)]
 mod library;
 #[cfg(test)]

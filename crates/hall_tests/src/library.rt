@@ -74,23 +74,42 @@ pub fn library(alloc: Global) -> Result<Desk<MemStore>, Fail> {
     Ok(desk)
 }
 
-/// The request of a worker's patron for the title of this number, the first, the second or the third.
+/// The words of the hold of a worker's patron for the title of this number, the first, the second or the third.
+fn hold_words(alloc: Global, worker: u64, number: u64) -> Result<String, Fail> {
+    Ok(format!(in alloc; "place-hold {worker} {number}00 1")?)
+}
+
+/// The same as a request.
 pub fn hold(alloc: Global, worker: u64, number: u64) -> Result<Request, Fail> {
     let card_key = format!(in alloc; "cardkey0000{worker}")?;
     let card_key = CardKey::new(alloc, &card_key)?.ok_or("a card key")?;
     let key = format!(in alloc; "h{number}")?;
-    let text = format!(in alloc; "place-hold {worker} {number}00 1")?;
+    let text = hold_words(alloc, worker, number)?;
     let caller = Caller::Patron(PatronId::new(u32::try_from(worker)?), card_key);
     request(alloc, caller, &key, &text)
 }
 
-/// The requests of a worker's patron.
+/// The holds of a worker's patron.
 pub fn holds(alloc: Global, worker: u64) -> Result<Vec<Request>, Fail> {
     let mut list = Vec::new(alloc);
     for number in 1..HOLDS + 1 {
         list.push(hold(alloc, worker, number)?)?;
     }
     Ok(list)
+}
+
+/// The same hold as the bytes of a connection.
+pub fn hold_bytes(alloc: Global, worker: u64, number: u64) -> Result<String, Fail> {
+    Ok(format!(in alloc;
+        "POST /patrons/{worker}/holds HTTP/1.1\r\nCard-Key: cardkey0000{worker}\r\nRequest-Key: h{number}\r\nContent-Length: 24\r\n\r\n{{\"branch\":1,\"title\":{number}00}}"
+    )?)
+}
+
+/// A look at the page of a worker's patron, as the bytes of a connection.
+pub fn page_bytes(alloc: Global, worker: u64) -> Result<String, Fail> {
+    Ok(format!(in alloc;
+        "GET /patrons/{worker} HTTP/1.1\r\nCard-Key: cardkey0000{worker}\r\n\r\n"
+    )?)
 }
 
 /// Adds a value and a bar to a text.

@@ -1,49 +1,63 @@
 //! Workers and a desk, in threads.
 
-ghost use Rattle.std.specs.Prelude.{◌≡◌};
+ghost use Rattle.std.specs.Prelude.{◌≡◌, false};
 
+use crate::bytes::{answer, gets, told};
 use crate::calls::{
-    connection, fault_of, handle_all, leave, limit_side, open_hall, open_queue, run, submit,
-    take_in,
+    connection, handle_all, leave, limit_side, open_hall, open_queue, run, take_in,
 };
-use crate::library::{HOLDS, hold, holds, library, order, rows};
+use crate::library::{HOLDS, hold, hold_bytes, holds, library, order, page_bytes, rows};
 use desk::Desk;
 use hall::{DeskSide, Ended, Left, Opened, Opening, Worker};
 use sqlite::MemStore;
 use std::alloc::{AllocError, Global};
-use std::cmp::Ordering;
 use std::marker::Brand;
 use std::process::Abort;
 use std::sync::Wait;
 use std::test::Fail;
 use std::thread;
 use std::thread::{Threads, join};
-use terms::{Fault, Request};
+use terms::Fault;
 
-/// A worker, and what it is to submit.
+/// A worker, and the number of its patron.
 #[derive(Drop)]
 struct Job<J: Opening> {
     worker: Worker<J>,
-    requests: Vec<Request>,
+    patron: u64,
 }
 
-/// Submits all, and leaves. How many submissions had the numbers that come next to one another.
-fn work<J: Opening, R: Wait>(rt: &R, job: Job<J>) -> (Left<J>, u64) {
-    let Job {
-        mut worker,
-        requests,
-    } = job;
+/// How many holds a page shows.
+fn held(page: &str) -> usize {
+    page.split("\\nhold ").count().saturating_sub(1)
+}
+
+/// Places the patron's holds, and looks at the page after each: how many were answered, and shown at
+/// once.
+fn place_all<J: Opening, R: Wait>(
+    rt: &R,
+    alloc: Global,
+    worker: &mut Worker<J>,
+    patron: u64,
+) -> Result<u64, Fail> {
+    let page = page_bytes(alloc, patron)?;
     let mut count = 0u64;
-    for request in requests {
-        match submit(rt, &mut worker, request) {
-            Ok(number) => {
-                if number == count.wrapping_add(1) {
-                    count = number;
-                }
-            }
-            Err(_) => break,
+    for title in 1..HOLDS + 1 {
+        let text = told(rt, alloc, worker, &hold_bytes(alloc, patron, title)?)?;
+        let page = told(rt, alloc, worker, &page)?;
+        if text.starts_with("HTTP/1.1 200 OK") && held(&page) as u64 == title {
+            count = count.wrapping_add(1);
         }
     }
+    Ok(count)
+}
+
+/// Places all, and leaves.
+fn work<J: Opening, R: Wait>(rt: &R, alloc: Global, job: Job<J>) -> (Left<J>, u64) {
+    let Job { mut worker, patron } = job;
+    let count = match place_all(rt, alloc, &mut worker, patron) {
+        Ok(count) => count,
+        Err(_) => 0,
+    };
     (leave(rt, worker), count)
 }
 
@@ -62,10 +76,12 @@ fn meet<J: Opening + Send + Sync, R: Threads + Wait + Sync>(
     alloc: Global,
     side: DeskSide<J, MemStore>,
     jobs: Vec<Job<J>>,
-) -> Result<Met<J>, AllocError> {
+) -> Result<Met<J>, AllocError>
+    requires { J.known ≡ false }
+{
     let (lefts, (desk, ended, fault)) = join(
         rt,
-        move || thread::map_vec(rt, jobs, &|job| work(rt, job)),
+        move || thread::map_vec(rt, jobs, &|job| work(rt, alloc, job)),
         move || handle_all(rt, alloc, side),
     );
     Ok(Met {
@@ -79,11 +95,10 @@ fn meet<J: Opening + Send + Sync, R: Threads + Wait + Sync>(
 /// The workers' jobs.
 fn jobs<J: Opening>(alloc: Global, workers: Vec<Worker<J>>) -> Result<Vec<Job<J>>, Fail> {
     let mut jobs = Vec::new(alloc);
-    let mut number = 0u64;
+    let mut patron = 0u64;
     for worker in workers {
-        number = number.wrapping_add(1);
-        let requests = holds(alloc, number)?;
-        jobs.push(Job { worker, requests })?;
+        patron = patron.wrapping_add(1);
+        jobs.push(Job { worker, patron })?;
     }
     Ok(jobs)
 }
@@ -139,9 +154,10 @@ fn run_hall<J: Opening + Send + Sync, R: Threads + Wait + Abort + Sync>(
     opened: Opened,
     workers: u64,
 ) -> Result<(), Fail>
-    requires { opened ≡ J.name }
+    requires name { opened ≡ J.name }
+    requires known { J.known ≡ false }
 {
-    let Ok((side, all)) = open_hall::<J>(alloc, opened, library(alloc)?, workers as usize) else {
+    let Ok((side, all)) = open_hall::<J, _>(rt, alloc, opened, library(alloc)?, workers as usize) else {
         return Err("a hall".into());
     };
     let jobs = jobs(alloc, all)?;
@@ -157,48 +173,6 @@ fn two_workers(rt: HostRuntime) -> Result<(), Fail> {
 #[test]
 fn eight_workers(rt: HostRuntime) -> Result<(), Fail> {
     run_hall::<Brand, _>(&rt, rt.alloc(), open_queue(rt.alloc())?, 8)
-}
-
-/// Waits until the worker is told why this submission isn't handled.
-fn await_fault<J: Opening, R: Wait>(rt: &R, worker: &Worker<J>, number: u64) -> Fault {
-    for _ in rt.forever() {
-        if let Some(fault) = fault_of(worker, number) {
-            return fault;
-        }
-        thread::yield_now();
-    }
-    unreachable!()
-}
-
-/// What two workers were told whose hall closes while it handles the first one's three submissions.
-#[derive(Drop)]
-struct Told<J: Opening> {
-    lefts: (Left<J>, Left<J>),
-    first: [Option<Fault>; 3],
-    second: Fault,
-}
-
-/// The second worker submits once the first was told of its last submission.
-fn work_closed<J: Opening, R: Wait>(
-    rt: &R,
-    mut one: Worker<J>,
-    mut two: Worker<J>,
-    requests: Vec<Request>,
-    late: Request,
-) -> Told<J> {
-    for request in requests {
-        let _ = submit(rt, &mut one, request);
-    }
-    let _last = await_fault(rt, &one, HOLDS);
-    let first = [fault_of(&one, 1), fault_of(&one, 2), fault_of(&one, 3)];
-    let _ = submit(rt, &mut two, late);
-    let second = await_fault(rt, &two, 1);
-    let lefts = (leave(rt, one), leave(rt, two));
-    Told {
-        lefts,
-        first,
-        second,
-    }
 }
 
 /// What one list comes to under a limit of steps: how many of its requests are answered, the fault after them, and all rows.
@@ -223,12 +197,90 @@ fn run_limited(alloc: Global, limit: u64) -> Result<Option<Wanted>, Fail> {
     }))
 }
 
-/// What the first worker is told of its submission at this place, from 0 on.
-fn told_at(wanted: &Wanted, at: usize) -> Option<Fault> {
-    match at.cmp(&wanted.answered) {
-        Ordering::Less => None,
-        Ordering::Equal => Some(wanted.fault),
-        Ordering::Greater => Some(Fault::Closed),
+/// What the worker's patron is answered for the hold of this title, from 1 on: those that the list
+/// answers, then its fault, then 92.
+fn is_answered(
+    alloc: Global,
+    wanted: &Wanted,
+    title: u64,
+    text: &str,
+) -> Result<bool, Fail> {
+    let answered = wanted.answered as u64;
+    if title <= answered {
+        return Ok(text.starts_with("HTTP/1.1 200 OK"));
+    }
+    let fault = if title == answered.wrapping_add(1) {
+        wanted.fault
+    } else {
+        Fault::Closed
+    };
+    let number = fault.number();
+    let line = format!(in alloc; "503 Service Unavailable {{\"fault\":{number}}}")?;
+    Ok(text == answer(alloc, &line)?.as_str())
+}
+
+/// How many of the first worker's answers are right: its holds, and the page after them.
+fn right_of_one<J: Opening, R: Wait>(
+    rt: &R,
+    alloc: Global,
+    worker: &mut Worker<J>,
+    wanted: &Wanted,
+) -> Result<u64, Fail> {
+    let mut count = 0u64;
+    for title in 1..HOLDS + 1 {
+        let text = told(rt, alloc, worker, &hold_bytes(alloc, 1, title)?)?;
+        if is_answered(alloc, wanted, title, &text)? {
+            count = count.wrapping_add(1);
+        }
+    }
+    if held(&told(rt, alloc, worker, &page_bytes(alloc, 1)?)?) == wanted.answered {
+        count = count.wrapping_add(1);
+    }
+    Ok(count)
+}
+
+/// How many of the second worker's answers are right, once the hall is closed: 92 for its hold, and
+/// the first one's page as it was shown last.
+fn right_of_two<J: Opening, R: Wait>(
+    rt: &R,
+    alloc: Global,
+    worker: &mut Worker<J>,
+    wanted: &Wanted,
+) -> Result<u64, Fail> {
+    let mut count = 0u64;
+    let closed = "503 Service Unavailable {\"fault\":92}";
+    if gets(rt, alloc, worker, &hold_bytes(alloc, 2, 1)?, closed)? {
+        count = count.wrapping_add(1);
+    }
+    if held(&told(rt, alloc, worker, &page_bytes(alloc, 1)?)?) == wanted.answered {
+        count = count.wrapping_add(1);
+    }
+    Ok(count)
+}
+
+/// What two workers were answered, one after the other.
+#[derive(Drop)]
+struct Told<J: Opening> {
+    lefts: (Left<J>, Left<J>),
+    first: Option<u64>,
+    second: Option<u64>,
+}
+
+/// The second worker serves once the first has served.
+fn work_closed<J: Opening, R: Wait>(
+    rt: &R,
+    alloc: Global,
+    mut one: Worker<J>,
+    mut two: Worker<J>,
+    wanted: &Wanted,
+) -> Told<J> {
+    let first = right_of_one(rt, alloc, &mut one, wanted).ok();
+    let second = right_of_two(rt, alloc, &mut two, wanted).ok();
+    let lefts = (leave(rt, one), leave(rt, two));
+    Told {
+        lefts,
+        first,
+        second,
     }
 }
 
@@ -240,25 +292,22 @@ fn check_closed<J: Opening + Send + Sync, R: Threads + Wait + Abort + Sync>(
     limit: u64,
     wanted: &Wanted,
 ) -> Result<(), Fail>
-    requires { opened ≡ J.name }
+    requires name { opened ≡ J.name }
+    requires known { J.known ≡ false }
 {
-    let Ok((mut side, mut all)) = open_hall::<J>(alloc, opened, library(alloc)?, 2) else {
+    let Ok((mut side, mut all)) = open_hall::<J, _>(rt, alloc, opened, library(alloc)?, 2) else {
         return Err("a hall".into());
     };
     limit_side(&mut side, limit);
     let two = all.pop().ok_or("a worker")?;
     let one = all.pop().ok_or("a worker")?;
-    let requests = holds(alloc, 1)?;
-    let late = hold(alloc, 2, 1)?;
     let (told, (desk, mut ended, fault)) = join(
         rt,
-        move || work_closed(rt, one, two, requests, late),
+        move || work_closed(rt, alloc, one, two, wanted),
         move || handle_all(rt, alloc, side),
     );
-    assert!(rt; fault == Some(wanted.fault) && told.second == Fault::Closed);
-    for at in 0..3usize {
-        assert!(rt; told.first[at] == told_at(wanted, at), "{limit}");
-    }
+    assert!(rt; fault == Some(wanted.fault), "{limit}");
+    assert!(rt; told.first == Some(4) && told.second == Some(2), "{limit}");
     let (one, two) = told.lefts;
     assert!(rt; take_in(&mut ended, one) == wanted.answered as u64);
     assert!(rt; take_in(&mut ended, two) == wanted.answered as u64);
@@ -284,15 +333,16 @@ fn a_fault_closes_the_hall(rt: HostRuntime) -> Result<(), Fail> {
 }
 
 /// A hall of so many workers isn't opened, and its desk comes back.
-fn refuse<J: Opening>(
-    rt: &impl Abort,
+fn refuse<J: Opening, R: Wait + Abort>(
+    rt: &R,
     alloc: Global,
     opened: Opened,
     workers: usize,
 ) -> Result<(), Fail>
-    requires { opened ≡ J.name }
+    requires name { opened ≡ J.name }
+    requires known { J.known ≡ false }
 {
-    match open_hall::<J>(alloc, opened, library(alloc)?, workers) {
+    match open_hall::<J, _>(rt, alloc, opened, library(alloc)?, workers) {
         Ok(_) => Err("no hall".into()),
         Err((number, desk)) => {
             assert!(rt; number == 21);
@@ -306,6 +356,6 @@ fn refuse<J: Opening>(
 #[test]
 fn no_workers_and_nine_are_refused(rt: HostRuntime) -> Result<(), Fail> {
     let alloc = rt.alloc();
-    refuse::<Brand>(&rt, alloc, open_queue(alloc)?, 0)?;
-    refuse::<Brand>(&rt, alloc, open_queue(alloc)?, 9)
+    refuse::<Brand, _>(&rt, alloc, open_queue(alloc)?, 0)?;
+    refuse::<Brand, _>(&rt, alloc, open_queue(alloc)?, 9)
 }

@@ -2,7 +2,7 @@ use Rattle.std.proofs.Common.{◌≡◌, ℕ, List, take}
 use Rattle.std.specs.Prelude.{Ok}
 use Rattle.desk.specs.Answering.{Learns}
 use Rattle.desk.specs.Showing.{AreEnrolled}
-use Rattle.hall.specs.Handling.{PutsPages}
+use Rattle.hall.proofs.Pages.{AreFirstPages}
 use Rattle.hall.proofs.hall.first_pages.Given as goal
 
 abbrev pub invariant-patrons : goal.invariant-patrons

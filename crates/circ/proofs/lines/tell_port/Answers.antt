@@ -1,7 +1,7 @@
 use Rattle.std.proofs.Common.{List, ℕ, [], ◌∷◌, ◌++◌, subst, ◌∙◌}
 use Rattle.std.specs.Prelude.{codes}
 use Rattle.terms.specs.Writing.{Writes}
-use Rattle.circ.proofs.serving.tell_port.Goals as goal
+use Rattle.circ.proofs.lines.tell_port.Goals as goal
 
 pub returns : goal.returns
 returns g c =

@@ -1,0 +1,124 @@
+-- Pages that are looked up for patrons, one after another.
+use Rattle.std.proofs.Common.{◌≡◌, ℕ, ◌+◌, ◌<◌, ◌==◌, Bool, true, false, ◌||◌, cond, List, [], ◌∷◌, ◌++◌, length, take, get_or, refl, sym, ◌∙◌, ap, option_map}
+use Rattle.std.specs.Prelude.{Option, Some, None, is_some}
+use Rattle.std.specs.Option.{option_or}
+use Rattle.std.specs.List.{list_any}
+use Rattle.std.proofs.lemmas.Bool.{eqb-true}
+use Rattle.std.proofs.lemmas.List.{take_more}
+use Rattle.std.proofs.lemmas.List.Folds.{list_any-append}
+use Rattle.terms.specs.declared.command.Command.{Command}
+use Rattle.terms.specs.declared.command.Command.TheVariants.{Patron}
+use Rattle.terms.specs.declared.command.Request.{Request}
+use Rattle.model.specs.History.{History, PatronFacts, patron_of, patron_after}
+use Rattle.model.specs.Requests.{adds, after_one, event_of}
+use Rattle.desk.specs.Showing.{own_page, AreEnrolled}
+use Rattle.desk.specs.declared.showing.OwnPage.{OwnPage}
+use Rattle.board.specs.Showing.{page_at, overlaid}
+use Rattle.hall.specs.Handling.{PutsPages}
+
+-- ---- patrons among others
+
+among-last : (p q : ℕ) (ps : List ℕ) (b : Bool) → (q == p) ≡ b → list_any (λ r. r == p) (ps ++ q ∷ []) ≡ (list_any (λ r. r == p) ps || b)
+among-last p q ps true e = list_any-append (λ r. r == p) ps (q ∷ []) ∙ ap (λ c. list_any (λ r. r == p) ps || (c || false)) e
+among-last p q ps false e = list_any-append (λ r. r == p) ps (q ∷ []) ∙ ap (λ c. list_any (λ r. r == p) ps || (c || false)) e
+
+or-true : (b : Bool) → (b || true) ≡ true
+or-true true = refl
+or-true false = refl
+
+or-false : (b : Bool) → (b || false) ≡ b
+or-false true = refl
+or-false false = refl
+
+-- The elements up to the next one.
+pub taken-more : (xs : List ℕ) (i x : ℕ) → i < length xs → x ≡ get_or xs i x → take (i + 1) xs ≡ take i xs ++ x ∷ []
+taken-more xs i x within is = take_more xs i x within ∙ ap (λ y. take i xs ++ y ∷ []) (sym is)
+
+-- ---- the pages that are to be shown next
+
+overlaid-more : (ps : List (ℕ × OwnPage)) (q p : ℕ) (page : OwnPage) (before : Option OwnPage) → overlaid (ps ++ (q, page) ∷ []) p before ≡ cond (q == p) (Some page) (overlaid ps p before)
+overlaid-more [] q p page before = refl
+overlaid-more (x ∷ ps) q p page before = overlaid-more ps q p page (cond (x.0 == p) (Some x.1) before)
+
+pub puts-nothing : (H : History) (before : List (ℕ × OwnPage)) → PutsPages [] before before H
+puts-nothing H before p page none other = other refl
+
+pub puts-page : (H : History) (ps : List ℕ) (q : ℕ) (before now : List (ℕ × OwnPage)) (page : OwnPage) → PutsPages ps before now H → Some page ≡ own_page H q
+    → PutsPages (ps ++ q ∷ []) before (now ++ (q, page) ∷ []) H
+puts-page H ps q before now page h is p last none other = overlaid-more now q p page last ∙ by (q == p) refl
+  where
+    by : (b : Bool) → (q == p) ≡ b → cond b (Some page) (overlaid now p last) ≡ own_page H p
+    by true e = is ∙ ap (own_page H) (eqb-true q p e)
+    by false e = h p last none (λ out. other (among-last p q ps false e ∙ ap (λ c. c || false) out))
+
+pub puts-none : (H : History) (ps : List ℕ) (q : ℕ) (before now : List (ℕ × OwnPage)) → PutsPages ps before now H → None ≡ own_page H q → PutsPages (ps ++ q ∷ []) before now H
+puts-none H ps q before now h is p last none other = by (q == p) refl
+  where
+    by : (b : Bool) → (q == p) ≡ b → overlaid now p last ≡ own_page H p
+    by true e =
+        let here : own_page H p ≡ None = ap (own_page H) (sym (eqb-true q p e)) ∙ sym is in
+        h p last none (λ out. none here ∙ sym here)
+    by false e = h p last none (λ out. other (among-last p q ps false e ∙ ap (λ c. c || false) out))
+
+-- ---- the pages that are shown first
+
+-- Of these patrons the pages are those of the list of accepted requests; there are no others.
+abbrev pub AreFirstPages : List ℕ → List (ℕ × OwnPage) → History → Type 0
+AreFirstPages patrons pages H = (p : ℕ) → page_at pages p ≡ cond (list_any (λ q. q == p) patrons) (own_page H p) None
+
+pub first-none : (H : History) → AreFirstPages [] [] H
+first-none H p = refl
+
+pub first-page : (H : History) (ps : List ℕ) (q : ℕ) (now next : List (ℕ × OwnPage)) (page : OwnPage) → AreFirstPages ps now H → Some page ≡ own_page H q
+    → ((p : ℕ) → page_at next p ≡ cond (q == p) (Some page) (page_at now p)) → AreFirstPages (ps ++ q ∷ []) next H
+first-page H ps q now next page h is put p = put p ∙ by (q == p) refl
+  where
+    by : (b : Bool) → (q == p) ≡ b → cond b (Some page) (page_at now p) ≡ cond (list_any (λ r. r == p) (ps ++ q ∷ [])) (own_page H p) None
+    by true e = is ∙ (ap (own_page H) (eqb-true q p e) ∙ sym (ap (λ c. cond c (own_page H p) None) (among-last p q ps true e ∙ or-true (list_any (λ r. r == p) ps))))
+    by false e = h p ∙ sym (ap (λ c. cond c (own_page H p) None) (among-last p q ps false e ∙ or-false (list_any (λ r. r == p) ps)))
+
+none-both : {A : Type 0} (c : Bool) (o : Option A) → o ≡ None → cond c o None ≡ None
+none-both true o e = e
+none-both false o e = refl
+
+pub first-nowhere : (H : History) (ps : List ℕ) (q : ℕ) (now : List (ℕ × OwnPage)) → AreFirstPages ps now H → None ≡ own_page H q → AreFirstPages (ps ++ q ∷ []) now H
+first-nowhere H ps q now h is p = by (q == p) refl
+  where
+    by : (b : Bool) → (q == p) ≡ b → page_at now p ≡ cond (list_any (λ r. r == p) (ps ++ q ∷ [])) (own_page H p) None
+    by true e =
+        let here : own_page H p ≡ None = ap (own_page H) (sym (eqb-true q p e)) ∙ sym is in
+        h p ∙ (none-both (list_any (λ r. r == p) ps) (own_page H p) here ∙ sym (none-both (list_any (λ r. r == p) (ps ++ q ∷ [])) (own_page H p) here))
+    by false e = h p ∙ sym (ap (λ c. cond c (own_page H p) None) (among-last p q ps false e ∙ or-false (list_any (λ r. r == p) ps)))
+
+no-map : {A B : Type 0} (f : A → B) (o : Option A) → is_some o ≡ false → None ≡ option_map f o
+no-map f None e = refl
+no-map f (Some x) e = let never : ⊥ = cc in absurd never
+
+pub first-whole : (H : History) (ps : List ℕ) (now : List (ℕ × OwnPage)) → AreEnrolled H ps → AreFirstPages ps now H → (p : ℕ) → page_at now p ≡ own_page H p
+first-whole H ps now are h p = h p ∙ by (list_any (λ r. r == p) ps) refl
+  where
+    by : (b : Bool) → list_any (λ r. r == p) ps ≡ b → cond b (own_page H p) None ≡ own_page H p
+    by true e = refl
+    by false e = no-map _ (patron_of H p) (sym (are p) ∙ e)
+
+-- ---- who is enrolled stays so
+
+none-or : {A : Type 0} (a b : Option A) → option_or a b ≡ None → a ≡ None
+none-or (Some x) b e = let never : ⊥ = cc in absurd never
+none-or None b e = refl
+
+stays-enrolled : (x : Command) (p : ℕ) (o : Option PatronFacts) → patron_after x p o ≡ None → o ≡ None
+stays-enrolled (Patron n k card_key name) p o e = none-or o _ e
+stays-enrolled _ p o e = e
+
+map-none : {A B : Type 0} (f : A → B) (o : Option A) → option_map f o ≡ None → o ≡ None
+map-none f None e = refl
+map-none f (Some x) e = let never : ⊥ = cc in absurd never
+
+-- Who has no page after a request had none before it.
+pub no-page-before : (K : History) (r : Request) (p : ℕ) → own_page (after_one K r) p ≡ None → own_page K p ≡ None
+no-page-before K r p e = ap (option_map _) (by (adds K r) (map-none _ (patron_of (after_one K r) p) e))
+  where
+    by : (b : Bool) → patron_of (cond b (event_of r ∷ K) K) p ≡ None → patron_of K p ≡ None
+    by true h = stays-enrolled r.command p (patron_of K p) h
+    by false h = h

@@ -1,0 +1,103 @@
+//! Requests and answers as bytes, a writer that takes some bytes and then fails, and a reader that fails.
+
+use crate::calls::serve;
+use hall::{Opening, Worker};
+use std::alloc::Global;
+use std::io::{self, Read, Write};
+use std::sync::Wait;
+use std::test::Fail;
+use terms::CardKey;
+
+/// A writer that takes so many bytes, and then fails.
+#[derive(Drop)]
+pub struct Narrow {
+    pub taken: Vec<u8>,
+    room: usize,
+}
+
+impl Write for Narrow {
+    fn write(&mut self, buf: &[u8]) -> io::Result<usize> {
+        let count = buf.len().min(self.room);
+        if count == 0 {
+            return Err(io::Error::from(io::ErrorKind::Other));
+        }
+        self.taken.extend_from_slice(&buf[..count])?;
+        self.room -= count;
+        Ok(count)
+    }
+
+    fn flush(&mut self) -> io::Result<()> {
+        Ok(())
+    }
+}
+
+/// A reader of some bytes that fails after them.
+#[derive(Drop)]
+pub struct Failing {
+    pub bytes: &'static [u8],
+}
+
+impl Read for Failing {
+    fn read(&mut self, buf: &mut [u8]) -> io::Result<usize> {
+        if self.bytes.is_empty() {
+            return Err(io::ErrorKind::Other.into());
+        }
+        let taken = self.bytes.read(buf)?;
+        Ok(taken)
+    }
+}
+
+/// The bytes of an answer, by its status and its body.
+pub fn answer(alloc: Global, text: &str) -> Result<String, Fail> {
+    let at = text.find('{').ok_or("a body")?;
+    let (status, body) = (text[..at].trim_end(), &text[at..]);
+    let size = body.len();
+    Ok(format!(in alloc;
+        "HTTP/1.1 {status}\r\nContent-Type: application/json\r\nContent-Length: {size}\r\nConnection: close\r\n\r\n{body}"
+    )?)
+}
+
+/// Serves one connection, with the desk's key; the writer takes so many bytes. What it took, and whether an answer went out
+/// whole.
+pub fn served<J: Opening, R: Wait, I: Read + Drop>(
+    rt: &R,
+    alloc: Global,
+    worker: &mut Worker<J>,
+    mut reader: I,
+    room: usize,
+) -> Result<(Vec<u8>, bool), Fail> {
+    let desk_key = CardKey::new(alloc, "deskkey00001")?.ok_or("a key")?;
+    let mut writer = Narrow {
+        taken: Vec::new(alloc),
+        room,
+    };
+    let is_whole = serve(rt, alloc, worker, &desk_key, &mut reader, &mut writer);
+    Ok((writer.taken, is_whole))
+}
+
+/// Whether a request gets its answer, whole.
+pub fn gets<J: Opening, R: Wait>(
+    rt: &R,
+    alloc: Global,
+    worker: &mut Worker<J>,
+    request: &str,
+    text: &str,
+) -> Result<bool, Fail> {
+    let (taken, is_whole) = served(rt, alloc, worker, request.as_bytes(), 100_000)?;
+    let wanted = answer(alloc, text)?;
+    Ok(is_whole && taken.as_slice() == wanted.as_bytes())
+}
+
+/// The text of what a request gets.
+pub fn told<J: Opening, R: Wait>(
+    rt: &R,
+    alloc: Global,
+    worker: &mut Worker<J>,
+    request: &str,
+) -> Result<String, Fail> {
+    let (taken, is_whole) = served(rt, alloc, worker, request.as_bytes(), 100_000)?;
+    if !is_whole {
+        return Err("an answer".into());
+    }
+    Ok(String::from_str(alloc, std::str::from_utf8(taken.as_slice())?)?)
+}

@@ -1,0 +1,208 @@
+//! Connections of one worker, over readers that fail after some bytes and writers that take some bytes.
+
+ghost use Rattle.std.specs.Prelude.{◌≡◌, false};
+
+use crate::bytes::{Failing, answer, gets, served};
+use crate::calls::{handle_all, leave, open_hall, open_queue, take_in};
+use crate::library::library;
+use hall::{Left, Opened, Opening, Worker};
+use std::alloc::Global;
+use std::marker::Brand;
+use std::process::Abort;
+use std::sync::Wait;
+use std::test::Fail;
+use std::thread::{Threads, join};
+
+const HOLD: &str =
+    "POST /patrons/2/holds HTTP/1.1\r\nCard-Key: cardkey00002\r\nRequest-Key: h1\r\nContent-Length: 24\r\n\r\n{\"branch\":1,\"title\":100}";
+
+const HELD: &str = "200 OK {\"reply\":\"hold 1\"}";
+
+const ANNS_PAGE: &str = "200 OK {\"reply\":\"patron 1 owed 0 name Ann Bell\"}";
+
+/// Requests one after another, each with the status and the body of its answer.
+const ANSWERED: [(&str, &str); 11] = [
+    (HOLD, HELD),
+    (
+        "GET /patrons/2 HTTP/1.1\r\nCard-Key: cardkey00002\r\n\r\n",
+        "200 OK {\"reply\":\"patron 2 owed 0 name Bo Carr\\nhold 1 at 1 waiting title 100 Rivers of the North\"}",
+    ),
+    (
+        "GET /patrons/1 HTTP/1.1\r\nCard-Key: cardkey00001\r\n\r\n",
+        ANNS_PAGE,
+    ),
+    (
+        "GET /patrons/2 HTTP/1.1\r\nCard-Key: cardkey00001\r\n\r\n",
+        "403 Forbidden {\"refusal\":81}",
+    ),
+    (
+        "GET /patrons/9 HTTP/1.1\r\nCard-Key: cardkey00001\r\n\r\n",
+        "403 Forbidden {\"refusal\":81}",
+    ),
+    (
+        "POST /desk HTTP/1.1\r\nDesk-Key: deskkey00002\r\nRequest-Key: d1\r\nContent-Length: 26\r\n\r\n[\"check-out\",\"1\",\"10\",\"1\"]",
+        "403 Forbidden {\"refusal\":81}",
+    ),
+    (
+        "POST /desk HTTP/1.1\r\nDesk-Key: deskkey00001\r\nRequest-Key: d1\r\nContent-Length: 26\r\n\r\n[\"check-out\",\"3\",\"30\",\"1\"]",
+        "200 OK {\"reply\":\"loan 1 due 2026-03-09\"}",
+    ),
+    (
+        "POST /patrons/1/loans/1/renew HTTP/1.1\r\nCard-Key: cardkey00001\r\nRequest-Key: r1\r\n\r\n",
+        "409 Conflict {\"refusal\":14}",
+    ),
+    (
+        "POST /desk HTTP/1.1\r\nDesk-Key: deskkey00001\r\nRequest-Key: d2\r\nContent-Length: 12\r\n\r\n[\"page\",\"1\"]",
+        ANNS_PAGE,
+    ),
+    (
+        "POST /desk HTTP/1.1\r\nDesk-Key: deskkey00001\r\nRequest-Key: d3\r\nContent-Length: 12\r\n\r\n[\"page\",\"9\"]",
+        "409 Conflict {\"refusal\":11}",
+    ),
+    ("GET /patrons/1 HT", "400 Bad Request {\"status\":400}"),
+];
+
+/// What is done with the worker.
+#[derive(Clone, Copy)]
+enum Deed {
+    /// Each kind of request is answered.
+    Answers,
+    /// A hold's answer is cut after each of its bytes, and then had whole.
+    Cuts,
+    /// Reads fail after each byte of a hold; another hold is the first. A read that would fail after
+    /// the last byte isn't made.
+    Breaks,
+}
+
+/// How many of the requests get their answers.
+fn answers<J: Opening, R: Wait>(
+    rt: &R,
+    alloc: Global,
+    worker: &mut Worker<J>,
+) -> Result<usize, Fail> {
+    let mut count = 0usize;
+    for (request, text) in ANSWERED {
+        if gets(rt, alloc, worker, request, text)? {
+            count = count.wrapping_add(1);
+        }
+    }
+    Ok(count)
+}
+
+/// How often a hold's answer is cut after as many bytes as the writer takes; and whether it is had
+/// then.
+fn cuts<J: Opening, R: Wait>(
+    rt: &R,
+    alloc: Global,
+    worker: &mut Worker<J>,
+) -> Result<usize, Fail> {
+    let text = answer(alloc, HELD)?;
+    let mut count = 0usize;
+    for room in 0..text.len() {
+        let (taken, is_whole) = served(rt, alloc, worker, HOLD.as_bytes(), room)?;
+        let is_beginning = text.as_bytes().starts_with(taken.as_slice());
+        if !is_whole && is_beginning && taken.len() == room {
+            count = count.wrapping_add(1);
+        }
+    }
+    if gets(rt, alloc, worker, HOLD, HELD)? {
+        count = count.wrapping_add(1);
+    }
+    Ok(count)
+}
+
+/// How often nothing is answered where a read fails, and then another hold is the first.
+fn breaks<J: Opening, R: Wait>(
+    rt: &R,
+    alloc: Global,
+    worker: &mut Worker<J>,
+) -> Result<usize, Fail> {
+    let bytes = HOLD.as_bytes();
+    let mut count = 0usize;
+    for size in 0..bytes.len() {
+        let reader = Failing {
+            bytes: &bytes[..size],
+        };
+        let (taken, is_whole) = served(rt, alloc, worker, reader, 100_000)?;
+        if !is_whole && taken.is_empty() {
+            count = count.wrapping_add(1);
+        }
+    }
+    let other = HOLD.replace(alloc, "h1", "h2")?;
+    if gets(rt, alloc, worker, other.as_str(), HELD)? {
+        count = count.wrapping_add(1);
+    }
+    let (_, is_whole) = served(rt, alloc, worker, Failing { bytes }, 100_000)?;
+    if is_whole {
+        count = count.wrapping_add(1);
+    }
+    Ok(count)
+}
+
+/// Does this, and leaves.
+fn work<J: Opening, R: Wait>(
+    rt: &R,
+    alloc: Global,
+    mut worker: Worker<J>,
+    deed: Deed,
+) -> (Left<J>, Option<usize>) {
+    let count = match deed {
+        Deed::Answers => answers(rt, alloc, &mut worker).ok(),
+        Deed::Cuts => cuts(rt, alloc, &mut worker).ok(),
+        Deed::Breaks => breaks(rt, alloc, &mut worker).ok(),
+    };
+    (leave(rt, worker), count)
+}
+
+/// A hall of one, and a desk beside it: how often it went well, and how many submissions were
+/// handled.
+fn meet<J: Opening + Send + Sync, R: Threads + Wait + Abort + Sync>(
+    rt: &R,
+    alloc: Global,
+    opened: Opened,
+    deed: Deed,
+) -> Result<(usize, u64), Fail>
+    requires name { opened ≡ J.name }
+    requires known { J.known ≡ false }
+{
+    let Ok((side, mut all)) = open_hall::<J, R>(rt, alloc, opened, library(alloc)?, 1) else {
+        return Err("a hall".into());
+    };
+    let worker = all.pop().ok_or("a worker")?;
+    let ((left, count), (_desk, mut ended, fault)) = join(
+        rt,
+        move || work(rt, alloc, worker, deed),
+        move || handle_all(rt, alloc, side),
+    );
+    assert!(rt; fault == None && left.is_told);
+    let handled = take_in(&mut ended, left);
+    Ok((count.ok_or("answers")?, handled))
+}
+
+#[test]
+fn answers_each_kind_of_request(rt: HostRuntime) -> Result<(), Fail> {
+    let alloc = rt.alloc();
+    let met = meet::<Brand, _>(&rt, alloc, open_queue(alloc)?, Deed::Answers)?;
+    assert!(rt; met == (11, 3), "{met:?}");
+    Ok(())
+}
+
+/// However often its answer is cut, the hold is placed once, and its key gets the reply.
+#[test]
+fn a_cut_answer_can_be_had_again(rt: HostRuntime) -> Result<(), Fail> {
+    let alloc = rt.alloc();
+    let size = answer(alloc, HELD)?.len().wrapping_add(1);
+    let met = meet::<Brand, _>(&rt, alloc, open_queue(alloc)?, Deed::Cuts)?;
+    assert!(rt; met == (size, size as u64), "{met:?}");
+    Ok(())
+}
+
+/// Nothing was asked for where a read failed.
+#[test]
+fn a_request_that_is_not_whole_is_none(rt: HostRuntime) -> Result<(), Fail> {
+    let alloc = rt.alloc();
+    let size = HOLD.len().wrapping_add(2);
+    let met = meet::<Brand, _>(&rt, alloc, open_queue(alloc)?, Deed::Breaks)?;
+    assert!(rt; met == (size, 2), "{met:?}");
+    Ok(())
+}
