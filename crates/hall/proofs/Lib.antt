@@ -5,3 +5,4 @@ pub mod Pages
 pub mod Progress
 pub mod Shown
 pub mod Replies
+pub mod Reasons

@@ -1,20 +1,26 @@
 -- Pages that are looked up for patrons, one after another.
-use Rattle.std.proofs.Common.{◌≡◌, ℕ, ◌+◌, ◌<◌, ◌==◌, Bool, true, false, ◌||◌, cond, List, [], ◌∷◌, ◌++◌, length, take, get_or, refl, sym, ◌∙◌, ap, option_map}
-use Rattle.std.specs.Prelude.{Option, Some, None, is_some}
+use Rattle.std.proofs.Common.{◌≡◌, ℕ, ◌+◌, ◌<◌, ◌≤◌, ◌==◌, Bool, true, false, ◌||◌, cond, List, [], ◌∷◌, ◌++◌, length, take, get_or, inl, inr, refl, sym, ◌∙◌, ap, subst, option_map}
+use Rattle.std.specs.Prelude.{Option, Some, None, is_some, Result, Ok, Err, IsErr, IsErrAnd, MatchResult}
+use Rattle.store.specs.Library.{Ghosts, Held}
 use Rattle.std.specs.Option.{option_or}
 use Rattle.std.specs.List.{list_any}
 use Rattle.std.proofs.lemmas.Bool.{eqb-true}
-use Rattle.std.proofs.lemmas.List.{take_more}
+use Rattle.std.proofs.lemmas.List.{take_more, take_all}
 use Rattle.std.proofs.lemmas.List.Folds.{list_any-append}
 use Rattle.terms.specs.declared.command.Command.{Command}
 use Rattle.terms.specs.declared.command.Command.TheVariants.{Patron}
 use Rattle.terms.specs.declared.command.Request.{Request}
+use Rattle.terms.specs.declared.fault.Fault.{Fault}
+use Rattle.terms.specs.declared.fault.Fault.TheVariants.{Memory}
 use Rattle.model.specs.History.{History, PatronFacts, patron_of, patron_after}
 use Rattle.model.specs.Requests.{adds, after_one, event_of}
+use Rattle.desk.specs.Answering.{Learns}
 use Rattle.desk.specs.Showing.{own_page, AreEnrolled}
 use Rattle.desk.specs.declared.showing.OwnPage.{OwnPage}
+use Rattle.desk.proofs.Looking.{◌⨾◌, gives, fails}
 use Rattle.board.specs.Showing.{page_at, overlaid}
 use Rattle.hall.specs.Handling.{PutsPages}
+use Rattle.hall.specs.Openings.{AreFirstPages, MeetsFaultOf}
 
 -- ---- patrons among others
 
@@ -62,15 +68,11 @@ puts-none H ps q before now h is p last none other = by (q == p) refl
 
 -- ---- the pages that are shown first
 
--- Of these patrons the pages are those of the list of accepted requests; there are no others.
-abbrev pub AreFirstPages : List ℕ → List (ℕ × OwnPage) → History → Type 0
-AreFirstPages patrons pages H = (p : ℕ) → page_at pages p ≡ cond (list_any (λ q. q == p) patrons) (own_page H p) None
-
-pub first-none : (H : History) → AreFirstPages [] [] H
+pub first-none : (H : History) → AreFirstPages [] H []
 first-none H p = refl
 
-pub first-page : (H : History) (ps : List ℕ) (q : ℕ) (now next : List (ℕ × OwnPage)) (page : OwnPage) → AreFirstPages ps now H → Some page ≡ own_page H q
-    → ((p : ℕ) → page_at next p ≡ cond (q == p) (Some page) (page_at now p)) → AreFirstPages (ps ++ q ∷ []) next H
+pub first-page : (H : History) (ps : List ℕ) (q : ℕ) (now next : List (ℕ × OwnPage)) (page : OwnPage) → AreFirstPages ps H now → Some page ≡ own_page H q
+    → ((p : ℕ) → page_at next p ≡ cond (q == p) (Some page) (page_at now p)) → AreFirstPages (ps ++ q ∷ []) H next
 first-page H ps q now next page h is put p = put p ∙ by (q == p) refl
   where
     by : (b : Bool) → (q == p) ≡ b → cond b (Some page) (page_at now p) ≡ cond (list_any (λ r. r == p) (ps ++ q ∷ [])) (own_page H p) None
@@ -81,7 +83,7 @@ none-both : {A : Type 0} (c : Bool) (o : Option A) → o ≡ None → cond c o N
 none-both true o e = e
 none-both false o e = refl
 
-pub first-nowhere : (H : History) (ps : List ℕ) (q : ℕ) (now : List (ℕ × OwnPage)) → AreFirstPages ps now H → None ≡ own_page H q → AreFirstPages (ps ++ q ∷ []) now H
+pub first-nowhere : (H : History) (ps : List ℕ) (q : ℕ) (now : List (ℕ × OwnPage)) → AreFirstPages ps H now → None ≡ own_page H q → AreFirstPages (ps ++ q ∷ []) H now
 first-nowhere H ps q now h is p = by (q == p) refl
   where
     by : (b : Bool) → (q == p) ≡ b → page_at now p ≡ cond (list_any (λ r. r == p) (ps ++ q ∷ [])) (own_page H p) None
@@ -94,7 +96,7 @@ no-map : {A B : Type 0} (f : A → B) (o : Option A) → is_some o ≡ false →
 no-map f None e = refl
 no-map f (Some x) e = let never : ⊥ = cc in absurd never
 
-pub first-whole : (H : History) (ps : List ℕ) (now : List (ℕ × OwnPage)) → AreEnrolled H ps → AreFirstPages ps now H → (p : ℕ) → page_at now p ≡ own_page H p
+pub first-whole : (H : History) (ps : List ℕ) (now : List (ℕ × OwnPage)) → AreEnrolled H ps → AreFirstPages ps H now → (p : ℕ) → page_at now p ≡ own_page H p
 first-whole H ps now are h p = h p ∙ by (list_any (λ r. r == p) ps) refl
   where
     by : (b : Bool) → list_any (λ r. r == p) ps ≡ b → cond b (own_page H p) None ≡ own_page H p
@@ -119,6 +121,47 @@ map-none f (Some x) e = let never : ⊥ = cc in absurd never
 pub no-page-before : (K : History) (r : Request) (p : ℕ) → own_page (after_one K r) p ≡ None → own_page K p ≡ None
 no-page-before K r p e = ap (option_map _) (by (adds K r) (map-none _ (patron_of (after_one K r) p) e))
   where
-    by : (b : Bool) → patron_of (cond b (event_of r ∷ K) K) p ≡ None → patron_of K p ≡ None
+    by : (b : Bool) → patron_of (elim b as (λ _. History) [ true ↦ event_of r ∷ K | false ↦ K ]) p ≡ None → patron_of K p ≡ None
     by true h = stays-enrolled r.command p (patron_of K p) h
     by false h = h
+
+-- ---- one look after another
+
+module _ {S : Type 0} (g : Ghosts S) (a b c : Held S) (xs : List ℕ) (i q : ℕ) (more : take (i + 1) xs ≡ take i xs ++ q ∷ []) (o : Option OwnPage) (look : Learns (λ H found. found ≡ own_page H q) g b c (Ok o)) where
+  module _ (before now next : List (ℕ × OwnPage)) (first : Learns {A = Unit {0}} (λ H _. PutsPages (take i xs) before now H) g a b (Ok tt)) where
+    pub put-page : (page : OwnPage) → o ≡ Some page → next ≡ now ++ (q, page) ∷ [] → Learns {A = Unit {0}} (λ H _. PutsPages (take (i + 1) xs) before next H) g a c (Ok tt)
+    put-page page is e = gives (first ⨾ look) (λ _ _ _. (tt, λ _. tt)) (λ H legal _ met.
+        subst (λ (l : List ℕ). PutsPages l before next H) (sym more)
+        (subst (λ (n : List (ℕ × OwnPage)). PutsPages (take i xs ++ q ∷ []) before n H) (sym e) (puts-page H (take i xs) q before now page met.0 (sym is ∙ met.1))))
+
+    pub put-none : o ≡ None → next ≡ now → Learns {A = Unit {0}} (λ H _. PutsPages (take (i + 1) xs) before next H) g a c (Ok tt)
+    put-none is e = gives (first ⨾ look) (λ _ _ _. (tt, λ _. tt)) (λ H legal _ met.
+        subst (λ (l : List ℕ). PutsPages l before next H) (sym more)
+        (subst (λ (n : List (ℕ × OwnPage)). PutsPages (take i xs ++ q ∷ []) before n H) (sym e) (puts-none H (take i xs) q before now met.0 (sym is ∙ met.1))))
+
+  module _ (now next : List (ℕ × OwnPage)) (first : Learns {A = Unit {0}} (λ H _. AreFirstPages (take i xs) H now) g a b (Ok tt)) where
+    pub first-put : (page : OwnPage) → o ≡ Some page → ((p : ℕ) → page_at next p ≡ cond (q == p) (Some page) (page_at now p)) → Learns {A = Unit {0}} (λ H _. AreFirstPages (take (i + 1) xs) H next) g a c (Ok tt)
+    first-put page is put = gives (first ⨾ look) (λ _ _ _. (tt, λ _. tt)) (λ H legal _ met.
+        subst (λ (l : List ℕ). AreFirstPages l H next) (sym more) (first-page H (take i xs) q now next page met.0 (sym is ∙ met.1) put))
+
+    pub first-passed : o ≡ None → next ≡ now → Learns {A = Unit {0}} (λ H _. AreFirstPages (take (i + 1) xs) H next) g a c (Ok tt)
+    first-passed is e = gives (first ⨾ look) (λ _ _ _. (tt, λ _. tt)) (λ H legal _ met.
+        subst (λ (l : List ℕ). AreFirstPages l H next) (sym more) (subst (λ (n : List (ℕ × OwnPage)). AreFirstPages (take i xs ++ q ∷ []) H n) (sym e) (first-nowhere H (take i xs) q now met.0 (sym is ∙ met.1))))
+
+-- the pages once all are put
+pub first-all : {S : Type 0} (g : Ghosts S) (a b : Held S) (xs : List ℕ) (i : ℕ) (now : List (ℕ × OwnPage)) → length xs ≤ i → Learns {A = Unit {0}} (λ H _. AreFirstPages (take i xs) H now) g a b (Ok tt)
+    → Learns (AreFirstPages xs) g a b (Ok now)
+first-all g a b xs i now long first = gives first (λ _ _ _. tt) (λ H legal _ met. subst (λ (l : List ℕ). AreFirstPages l H now) (take_all i xs long) met)
+
+-- ---- looks that end in a fault
+
+module _ {S A : Type 0} {Is : History → A → Type 0} (g : Ghosts S) (a b : Held S) where
+  -- the fault is that of the look
+  pub meets-fault : {T : Type 0} (P : T → Type 0) (fault : Fault) (r : Result T Fault) → IsErr r × IsErrAnd r (λ e. e ≡ fault) → Learns Is g a b (Err fault) → MatchResult r P (MeetsFaultOf g a b)
+  meets-fault P fault (Ok x) is look = let never : ⊥ = cc (is.0) in absurd never
+  meets-fault P fault (Err e) is look = record { looked = Err e; looks = fails {B = Unit {0}} (Err e) is look (λ _ _ _. tt); cause = inl refl }
+
+  -- no memory was left after it
+  pub meets-want : {T : Type 0} (P : T → Type 0) (x : A) (r : Result T Fault) → IsErr r × IsErrAnd r (λ e. e ≡ Memory) → Learns Is g a b (Ok x) → MatchResult r P (MeetsFaultOf g a b)
+  meets-want P x (Ok y) is look = let never : ⊥ = cc (is.0) in absurd never
+  meets-want P x (Err e) is look = record { looked = Ok tt; looks = gives look (λ _ _ _. tt) (λ _ _ _ _. tt); cause = inr is.1 }

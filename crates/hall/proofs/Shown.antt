@@ -1,9 +1,9 @@
 -- What the board shows of what was handled.
-use Rattle.std.proofs.Common.{◌≡◌, ℕ, ◌+◌, ◌==◌, Bool, true, false, cond, List, [], ◌∷◌, ◌++◌, length, map, Option, None, Some, sym, refl, ap, ◌∙◌, subst, eqb, arith}
+use Rattle.std.proofs.Common.{◌≡◌, ℕ, ◌+◌, ◌≤◌, ◌==◌, Bool, true, false, cond, List, [], ◌∷◌, ◌++◌, length, map, Option, None, Some, sym, refl, ap, ◌∙◌, subst, eqb, arith}
 use Rattle.std.specs.List.{list_any, count_by, sum_by}
 use Rattle.std.proofs.lemmas.List.Sums.{sum_by-cons}
 use Rattle.std.proofs.lemmas.List.{map-append, take-append-drop}
-use Rattle.std.specs.Prelude.{Result, Ok, Err, IsSome, MatchResult}
+use Rattle.std.specs.Prelude.{Result, Ok, Err, IsSome, IfSome, MatchResult}
 use Rattle.terms.specs.declared.command.Request.{Request}
 use Rattle.terms.specs.declared.fault.Fault.{Fault}
 use Rattle.terms.specs.declared.reply.Reply.{Reply}
@@ -21,11 +21,11 @@ use Rattle.board.specs.Workers.{is_worker}
 use Rattle.hall.specs.declared.messages.Submission.{Submission}
 use Rattle.hall.specs.declared.messages.Message.{Message}
 use Rattle.hall.specs.declared.messages.Message.TheVariants.{Submit, Leave}
-use Rattle.hall.specs.Queue.{of, is_open, submissions, own, handled, requests, IsNext}
-use Rattle.hall.specs.Handling.{submission_of, AreShown, KnowsList, PutsPages, IsDue, HandledFirst, MayBeNext, ShowsNext, BoardShows}
-use Rattle.hall.proofs.HandledLists.{submissions_of, submissions-append, all_of}
+use Rattle.hall.specs.Queue.{of, is_open, submissions, own, handled, unhandled, requests, IsNext}
+use Rattle.hall.specs.Handling.{submission_of, AreShown, KnowsList, PutsPages, IsDue, HandledFirst, ClosedBy, MayBeNext, MayHandle, MayTake, ShowsNext, TakesMessage, BoardShows, Stands}
+use Rattle.hall.proofs.HandledLists.{submissions_of, submissions-append, all_of, leave_kept, rest_kept}
 use Rattle.hall.proofs.Pages.{no-page-before}
-use Rattle.hall.proofs.Progress.{after-last}
+use Rattle.hall.proofs.Progress.{after-last, submission-kept, cause-kept}
 
 own-count : (w : ℕ) (es : List Entry) → count_own w es ≡ length (own w (map submission_of es))
 own-count w [] = refl
@@ -103,20 +103,56 @@ module _ {S : Type 0} (g : Ghosts S) (known : Bool) (from : History) where
   -- the list of accepted requests, as far as the board shows it
   pub knows-shown : (old desk : Held S) (shown : List Entry) (all : List Submission) (rest : List Request) (fault : Option Fault) → KnowsList known g old from
       → HandledFirst (requests all) rest g old desk fault → fault ≡ None → AreShown shown all → KnowsList known g desk (after from (entry_requests shown))
-  knows-shown old desk shown all rest fault list h open is k =
+  knows-shown old desk shown all rest fault list h none is k =
       let at = list k in
-      (at.0, subst (λ (l : List Request). Shows (state g desk) (after from l)) (sym (same-requests shown ∙ ap requests is)) (h.shown (at.0 desk) open from at.1))
+      (at.0, subst (λ (l : List Request). Shows (state g desk) (after from l)) (sym (same-requests shown ∙ ap requests is)) (h.shown (at.0 desk) none from at.1))
 
   -- the next submission may be handled, where the hall isn't closed
   pub may-be-next : {W : Type 0} (old desk : Held S) (n : ℕ) (got : List Message) (s : Submission) (fault : Option Fault) (board : Result Publishing W) (rest : List Request) → KnowsList known g old from
       → IsNext got (Submit s) → (fault ≡ None → n ≡ length (submissions got)) → HandledFirst (requests (handled n got)) rest g old desk fault → BoardShows board (handled n got) fault
-      → MatchResult board (λ (p : Publishing). (fault ≡ None) × MayBeNext known from g desk p s) (λ _. IsSome fault)
+      → MayHandle known from g desk fault board s
   may-be-next old desk n got s fault (Ok p) rest list next all h shows =
       (shows.0, record { blank = shows.1; number = due-number n got s p.shown next (all shows.0) shows.2; list = knows-shown old desk p.shown (handled n got) rest fault list h shows.0 shows.2 })
   may-be-next old desk n got s fault (Err w) rest list next all h shows = shows
 
 -- what is shown next, after a board that shows something
-pub shows-next : {V W : Type 0} (old : Publishing) (new : Result Publishing W) (s : Submission) (fault : Option Fault)
+pub shows-next : (V : Type 0) {W : Type 0} (old : Publishing) (new : Result Publishing W) (s : Submission) (fault : Option Fault)
     → MatchResult new (λ (p : Publishing). (fault ≡ None) × (p.pages ≡ []) × AreShown p.shown (map submission_of old.shown ++ s ∷ [])) (λ _. IsSome fault) → ShowsNext {V = V} (Ok old) new s fault
-shows-next old (Ok p) s fault h = h
-shows-next old (Err w) s fault h = h
+shows-next V old (Ok p) s fault h = h
+shows-next V old (Err w) s fault h = h
+
+-- ---- one message more
+
+module _ {S W : Type 0} (g : Ghosts S) where
+  -- it may be taken
+  pub may-take : (known : Bool) (from : History) (old desk : Held S) (n : ℕ) (fault : Option Fault) (got : List Message) (board : Result Publishing W) (message : Message) → KnowsList known g old from
+      → IsNext got message → Stands g old desk n fault got board → MayTake known from g desk fault board message
+  may-take known from old desk n fault got board (Submit s) list next h = may-be-next g known from old desk n got s fault board (requests (unhandled n got)) list next h.all h.desk h.board
+  may-take known from old desk n fault got board (Leave w) list next h = tt
+
+  -- how the desk stands once it is taken
+  pub message-kept : (old b c : Held S) (n m : ℕ) (before after' : Option Fault) (got got' : List Message) (board board' : Result Publishing W) (message : Message) → got' ≡ got ++ message ∷ []
+      → TakesMessage message g b c n m before after' board board' → Stands g old b n before got board → Stands g old c m after' got' board'
+  message-kept old b c n m before after' got got' board board' (Submit s) e t h =
+      let k = submission-kept g old b c n m before after' got got' s e t.0 h.counted h.all h.desk in
+      record {
+        counted = k.0;
+        all = k.1;
+        cause = cause-kept g b c n m before after' got got' s e t.0 h.counted h.all h.cause;
+        desk = k.2;
+        board = board-kept n m before after' got got' s board board' e h.all k.1 h.board t.1;
+      }
+  message-kept old b c n m before after' got got' board board' (Leave w) e t h =
+      let k = leave_kept n got got' w e h.counted in
+      let rest = rest_kept n got got' w e in
+      let now : Stands g old b n before got' board = record {
+        counted = omega (arith, k.0, h.counted);
+        all = λ f. h.all f ∙ sym k.0;
+        cause = subst (λ (l : List Request). IfSome before (ClosedBy n l g b)) (sym rest) h.cause;
+        desk = subst (λ (l : List Request). HandledFirst l (requests (unhandled n got')) g old b before) (sym (ap requests k.1))
+            (subst (λ (l : List Request). HandledFirst (requests (handled n got)) l g old b before) (sym rest) h.desk);
+        board = subst (λ (l : List Submission). BoardShows board l before) (sym k.1) h.board;
+      } in
+      subst (λ (d : Held S). Stands g old d m after' got' board') (sym t.0)
+      (subst (λ (j : ℕ). Stands g old b j after' got' board') (sym t.1)
+      (subst (λ (f : Option Fault). Stands g old b n f got' board') (sym t.2.0) (subst (λ (x : Result Publishing W). Stands g old b n before got' x) (sym t.2.1) now)))

@@ -18,6 +18,7 @@ use Rattle.board.specs.Showing.{count_own, overlaid, requests as entry_requests}
 use Rattle.hall.specs.declared.messages.Submission.{Submission}
 use Rattle.hall.specs.Openings.{LooksOnly, MeetsFaultOf}
 use Rattle.hall.specs.declared.messages.Message.{Message}
+use Rattle.hall.specs.declared.messages.Message.TheVariants.{Submit, Leave}
 use Rattle.hall.specs.Queue.{of, is_open, submissions, handled, unhandled, requests}
 
 -- The first of these requests were handled, one after another, and `fault` is what came then, if any
@@ -167,10 +168,46 @@ ShowsNext (Ok old) (Ok new) s fault =
 ShowsNext (Err writer) (Ok new) s fault = ⊥
 ShowsNext old (Err writer) s fault = IsSome fault
 
+module _ {S W : Type 0} (known : Bool) (from : History) (g : Ghosts S) (desk : Held S)
+    (fault : Option Fault) where
+  -- The submission may be handled next, unless a fault has closed the hall.
+  abbrev pub MayHandle : Result Publishing W → Submission → Type 0
+  MayHandle (Ok p) s = (fault ≡ None) × MayBeNext known from g desk p s
+  MayHandle (Err writer) s = IsSome fault
+
+  -- So may a submission that was sent; a Leave always may.
+  abbrev pub MayTake : Result Publishing W → Message → Type 0
+  MayTake board (Submit s) = MayHandle board s
+  MayTake board (Leave worker) = Unit {0}
+
+-- One more message was taken: a submission as above, and where the board may still be written it
+-- shows it; the Leave of a worker changes nothing.
+abbrev pub TakesMessage : {S W : Type 0} → Message → Ghosts S → Held S → Held S → ℕ → ℕ
+    → Option Fault → Option Fault → Result Publishing W → Result Publishing W → Type 0
+TakesMessage (Submit s) g old new n m before after shown shows =
+    TakesNext s.request g old new n m before after × ShowsNext shown shows s after
+TakesMessage (Leave worker) g old new n m before after shown shows =
+    (new ≡ old) × (m ≡ n) × (after ≡ before) × (shows ≡ shown)
+
 -- The board shows these submissions, or a fault has closed the hall.
 abbrev pub BoardShows : {W : Type 0} → Result Publishing W → List Submission → Option Fault → Type 0
 BoardShows (Ok p) handled fault = (fault ≡ None) × (p.pages ≡ []) × AreShown p.shown handled
 BoardShows (Err writer) handled fault = IsSome fault
+
+-- How the desk of an open hall stands, after these messages: what it handled, what closed it, and
+-- what the board shows.
+pub record Stands {S W : Type 0} (g : Ghosts S) (old new : Held S) (n : ℕ) (fault : Option Fault)
+    (got : List Message) (board : Result Publishing W) : Type 0 where
+  -- the handled ones are among those received
+  pub counted : n ≤ length (submissions got)
+  -- where the hall was not closed, every submission was handled
+  pub all : fault ≡ None → n ≡ length (submissions got)
+  -- what closed it
+  pub cause : IfSome fault (ClosedBy n (requests (unhandled n got)) g new)
+  -- the desk stands where the handled list has brought it
+  pub desk : HandledFirst (requests (handled n got)) (requests (unhandled n got)) g old new fault
+  -- and the board shows that list
+  pub shown : BoardShows board (handled n got) fault
 
 -- ---- until each worker has left
 

@@ -1,7 +1,12 @@
 -- Why a hall isn't opened.
-use Rattle.std.specs.Prelude.{◌≡◌, ◌⊎◌, ℕ, true, false, Bool, ◌&&◌, nat_le, Result, Ok, Err}
+use Rattle.std.specs.Prelude.{◌≡◌, ◌⊎◌, ◌==◌, ℕ, true, false, Bool, ◌&&◌, if◌then◌else◌, nat_le, List, None, Result, Ok, Err}
+use Rattle.std.specs.List.{list_any}
 use Rattle.store.specs.Library.{Ghosts, Held}
 use Rattle.desk.specs.Answering.{Learns}
+use Rattle.desk.specs.Showing.{own_page}
+use Rattle.desk.specs.declared.showing.OwnPage.{OwnPage}
+use Rattle.board.specs.Showing.{page_at}
+use Rattle.model.specs.History.{History}
 use Rattle.terms.specs.declared.fault.Fault.{Fault}
 use Rattle.terms.specs.Texts.{fault_number, refusal_number}
 use Rattle.terms.specs.declared.fault.Fault.TheVariants.{Memory, Closed}
@@ -22,6 +27,10 @@ pub record MeetsFaultOf {S : Type 0} (g : Ghosts S) (old new : Held S) (fault : 
   pub looked : Result (Unit {0}) Fault
   pub looks : LooksOnly g old new looked
   pub cause : (looked ≡ Err fault) ⊎ (fault ≡ Memory)
+
+-- Of these patrons the pages are those that the list of accepted requests makes; there are no others.
+abbrev pub AreFirstPages : List ℕ → History → List (ℕ × OwnPage) → Type 0
+AreFirstPages patrons H pages = (p : ℕ) → page_at pages p ≡ (if list_any (λ q. q == p) patrons then own_page H p else None)
 
 -- ---- a hall that isn't opened
 

@@ -9,6 +9,8 @@ ghost use Rattle.hall.specs.Queue.{IsHearing};
 ghost use Rattle.hall.specs.Openings.{LooksOnly, MeetsFaultOf};
 ghost use Rattle.hall.specs.Handling.{TakesNext, Finishes, KnowsList, PutsPages, IsDue};
 ghost use Rattle.hall.specs.Handling.{MayBeNext, ShowsNext, AreShown, submission_of};
+ghost use Rattle.hall.specs.Handling.{MayHandle, MayTake, TakesMessage};
+ghost use Rattle.hall.specs.declared.messages.Message.TheVariants.{Leave};
 
 use crate::ended::Ended;
 use crate::ends::Inbox;
@@ -192,9 +194,7 @@ fn take_next<J: Opening, S: Alter, R: Wait>(
     board: BoardSide<J>,
     submission: Submission,
 ) -> BoardSide<J>
-    requires { MatchResult board (λ p. (progress.old.fault ≡ None)
-        × MayBeNext J.known J.from S.Store desk.old p submission)
-        (λ _. IsSome progress.old.fault) }
+    requires { MayHandle J.known J.from S.Store desk.old progress.old.fault board submission }
     ensures next { TakesNext submission.request S.Store desk.old desk.new
         progress.old.handled progress.new.handled progress.old.fault progress.new.fault }
     ensures shown { ShowsNext board result submission progress.new.fault }
@@ -204,6 +204,35 @@ fn take_next<J: Opening, S: Alter, R: Wait>(
         Err(writer) => {
             notices.tell(rt, submission.worker, submission.number, Fault::Closed);
             Err(writer)
+        }
+    }
+}
+
+/// Takes what a worker sent: has a submission handled and shown, or notes that the worker has left.
+fn take_message<J: Opening, S: Alter, R: Wait>(
+    rt: &R,
+    alloc: Global,
+    desk: &mut Desk<S>,
+    progress: &mut Progress,
+    notices: &Notices,
+    gone: &mut [bool; 8],
+    board: BoardSide<J>,
+    message: Message,
+) -> BoardSide<J>
+    requires { MayTake J.known J.from S.Store desk.old progress.old.fault board message }
+    ensures next { TakesMessage message S.Store desk.old desk.new
+        progress.old.handled progress.new.handled progress.old.fault progress.new.fault
+        board result }
+    ensures gone { (k : ℕ) → slice_index_or gone.new k false ≡ true
+        → (slice_index_or gone.old k false ≡ true) ⊎ (message ≡ Leave (k + 1)) }
+{
+    match message {
+        Message::Leave(worker) => {
+            note(gone, worker);
+            board
+        }
+        Message::Submit(submission) => {
+            take_next(rt, alloc, desk, progress, notices, board, submission)
         }
     }
 }
@@ -261,16 +290,16 @@ impl<J: Opening, S: Alter> DeskSide<J, S> {
                 break;
             }
             match inbox.receive(rt) {
-                Ok(Message::Leave(worker)) => note(&mut gone, worker),
-                Ok(Message::Submit(submission)) => {
-                    board = take_next(
+                Ok(message) => {
+                    board = take_message(
                         rt,
                         alloc,
                         &mut desk,
                         &mut progress,
                         &notices,
+                        &mut gone,
                         board,
-                        submission,
+                        message,
                     );
                 }
                 Err(_) => thread::yield_now(),

@@ -9,7 +9,7 @@ ghost use Rattle.desk.specs.Showing.{own_page};
 ghost use Rattle.board.specs.Showing.{page_at};
 ghost use Rattle.hall.specs.Queue.{IsHearing, worker_view};
 ghost use Rattle.hall.specs.Openings.{why_number, can_be_workers, IsUnopened, LooksOnly};
-ghost use Rattle.hall.specs.Openings.{MeetsFaultOf};
+ghost use Rattle.hall.specs.Openings.{MeetsFaultOf, AreFirstPages};
 ghost use Rattle.hall.specs.Handling.{KnowsList};
 ghost use Rattle.hall.specs.Serving.{AreWorkers};
 
@@ -25,7 +25,7 @@ use hall_schedule::WORKERS;
 use sqlite::Alter;
 use std::alloc::Global;
 use std::sync::{Arc, Wait};
-use terms::{Fault, Memory, Refusal};
+use terms::{Fault, Memory, PatronId, Refusal};
 
 /// Why a hall could not be opened.
 #[derive(Clone, Copy, Debug, PartialEq, Eq)]
@@ -59,19 +59,30 @@ pub struct HallFault<S: Alter> {
 /// between them.
 pub struct Hall;
 
-/// The pages of all patrons, as the desk sees them. 90, 91, 93.
-fn first_pages<S: Alter>(desk: &mut Desk<S>, alloc: Global) -> Result<First, Fault>
-    ensures { Learns (λ H first. (p : ℕ) → page_at first p ≡ own_page H p)
-        S.Store desk.old desk.new result }
+/// The pages of these patrons, as the desk sees them. 90, 91, 93.
+fn pages_of<S: Alter>(
+    alloc: Global,
+    desk: &mut Desk<S>,
+    patrons: &[PatronId],
+) -> Result<First, Fault>
+    ensures { Learns (AreFirstPages patrons.now) S.Store desk.old desk.new result }
 {
-    let patrons = desk.patrons(alloc)?;
     let mut first = First::new(alloc);
-    'patrons: for patron in patrons.as_slice() {
+    'patrons: for patron in patrons {
         if let Some(page) = desk.own_page(alloc, *patron)? {
             first = first.with(alloc, *patron, page)?;
         }
     }
     Ok(first)
+}
+
+/// The pages of all patrons, as the desk sees them. 90, 91, 93.
+fn first_pages<S: Alter>(alloc: Global, desk: &mut Desk<S>) -> Result<First, Fault>
+    ensures { Learns (λ H first. (p : ℕ) → page_at first p ≡ own_page H p)
+        S.Store desk.old desk.new result }
+{
+    let patrons = desk.patrons(alloc)?;
+    pages_of(alloc, desk, patrons.as_slice())
 }
 
 /// One worker more, of this number.
@@ -163,7 +174,7 @@ fn open_board<J: Opening, S: Alter>(
     ensures looks { MatchResult result (λ _. LooksOnly S.Store desk.old desk.new (Ok tt))
         (MeetsFaultOf S.Store desk.old desk.new) }
 {
-    let first = first_pages(desk, alloc)?;
+    let first = first_pages(alloc, desk)?;
     Ok(Publisher::new(alloc, first, workers)?)
 }
 

@@ -1,3 +1,5 @@
+use Rattle.std.proofs.Common.{◌∙◌, ap, rules}
+use Rattle.hall.specs.Queue.{worker_view}
 use Rattle.hall.proofs.Hiring.{hired, still-hearing}
 use Rattle.hall.proofs.hall.hire_all.Goals as goal
 
@@ -9,5 +11,5 @@ loop-k-preserved g c =
       hearing = s.0;
       fresh = s.1;
       made = s.2;
-      all = hired c.loop-k.k c.loop-k.all.items c.push.new.self.items c.new-worker.result i.all c.new-worker.ensures c.in_ok-push.ensures.items;
+      all = hired c.loop-k.k c.loop-k.all.items c.push.new.self.items c.in_ok-hire_one.field-0 i.all (c.in_ok-hire_one.ensures.0 ∙ ap worker_view (search rules)) c.in_ok-push.ensures.items;
     }

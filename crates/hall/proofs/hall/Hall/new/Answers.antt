@@ -1,0 +1,6 @@
+use Rattle.std.proofs.Common.{rules, inl, inr, refl}
+use Rattle.hall.proofs.Reasons.{unhired}
+use Rattle.hall.proofs.hall.Hall.new.Goals as goal
+
+pub returns-in-Err-hire-clause-fault : goal.returns-in-Err-hire-clause-fault
+returns-in-Err-hire-clause-fault g c = unhired g.S.Store c.args.workers c.args.desk c.open_board.new.desk c.in-Err-hire.fault (search rules) c.in-Ok.ensures.looks c.in-Err-hire.ensures.fault
