@@ -6,3 +6,4 @@ pub mod Progress
 pub mod Shown
 pub mod Replies
 pub mod Reasons
+pub mod Served

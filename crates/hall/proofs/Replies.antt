@@ -1,23 +1,30 @@
 -- Pages as the board shows them are the replies of the desk.
-use Rattle.std.proofs.Common.{◌≡◌, ℕ, Bool, true, false, not, List, [], ◌∷◌, refl, sym, ◌∙◌, ap}
-use Rattle.std.specs.Prelude.{Option, Some, None, option_map, unwrap_or, is_some, bytes_eq}
+use Rattle.std.proofs.Common.{◌≡◌, ℕ, Bool, true, false, not, cond, List, [], ◌∷◌, inl, refl, sym, ◌∙◌, ap, subst}
+use Rattle.std.specs.Prelude.{Option, Some, None, option_map, unwrap_or, is_some, bytes_eq, Result, Ok, Err, IfOk}
 use Rattle.terms.specs.declared.command.Caller.{Caller}
 use Rattle.terms.specs.declared.command.Caller.TheVariants.{Desk}
 use Rattle.terms.specs.declared.command.Command.{Command}
 use Rattle.terms.specs.declared.command.Command.TheVariants.{Page}
 use Rattle.terms.specs.declared.command.Request.{Request}
+use Rattle.terms.specs.declared.fault.Fault.{Fault}
 use Rattle.terms.specs.declared.refusal.Refusal.TheVariants.{UnknownPatron, NotAllowed}
 use Rattle.terms.specs.declared.reply.Reply.{Reply}
 use Rattle.terms.specs.declared.reply.Reply.TheVariants.{Shown, Refused}
 use Rattle.model.specs.Checks.{first_failing}
 use Rattle.model.specs.History.{History, PatronFacts, patron_of}
 use Rattle.model.specs.Pages.{page}
-use Rattle.model.specs.Requests.{reply_to}
+use Rattle.model.specs.Requests.{after, reply_to}
 use Rattle.desk.specs.Answering.{page_for}
 use Rattle.desk.specs.Showing.{own_page}
 use Rattle.desk.specs.declared.showing.OwnPage.{OwnPage}
 use Rattle.desk.proofs.PageFor.{page_for-same}
-use Rattle.hall.specs.Serving.{shown_page, page_by_desk, page_asked, IsOwnPage}
+use Rattle.web.specs.declared.answer.Answer.{Answer}
+use Rattle.web.specs.declared.answer.Answer.TheVariants as answer
+use Rattle.web.specs.declared.asked.Asked.TheVariants.{Nothing}
+use Rattle.web.specs.declared.asked.Asked.TheVariants as asked
+use Rattle.board.specs.Showing.{StartsWith, requests}
+use Rattle.board.proofs.Beginnings.{starts_self}
+use Rattle.hall.specs.Serving.{Working, shown_page, page_by_desk, page_asked, IsOwnPage, IsReplyFor, IsReplyTo, TellsPage, Meets}
 
 abbrev asked_page : Option PatronFacts → List ℕ → Reply
 asked_page row text = elim (first_failing ((UnknownPatron, not (is_some row)) ∷ [])) as (λ _. Reply) [ Some refused ↦ Refused refused | None ↦ Shown text ]
@@ -28,7 +35,7 @@ board_page row text = option_map (λ r. record { card_key = r.card_key; reply = 
 by-card-key : (card_key : List ℕ) (row : Option PatronFacts) (text : List ℕ) → shown_page (board_page row text) (Some card_key)
     ≡ elim (unwrap_or (option_map (λ r. bytes_eq r.card_key card_key) row) false) [ true ↦ asked_page row text | false ↦ Refused NotAllowed ]
 by-card-key card_key None text = refl
-by-card-key card_key (Some r) text = refl
+by-card-key card_key (Some r) text = elim (bytes_eq r.card_key card_key) as (λ b. cond b (Shown text) (Refused NotAllowed) ≡ elim b as (λ _. Reply) [ true ↦ Shown text | false ↦ Refused NotAllowed ]) [ true ↦ refl | false ↦ refl ]
 
 -- by a card key
 pub page-shown : (H : History) (patron : ℕ) (card_key : List ℕ) → shown_page (own_page H patron) (Some card_key) ≡ page_for H patron card_key
@@ -52,3 +59,25 @@ page-replied H request patron asked = by request.caller request.command asked
         let same : q ≡ patron = cc in
         by-desk (patron_of H patron) (page H patron) ∙ ap (λ n. reply_to H (record { caller = Desk; key = request.key; command = Page n })) (sym same)
     by _ _ is = let never : ⊥ = cc in absurd never
+
+-- ---- what is asked for is met
+
+module _ (from : History) (known : Bool) (old : Working) where
+  pub nothing-met : Meets from known Nothing old old (Some (answer.Refused NotAllowed))
+  nothing-met = record { on = starts_self old.seen; once = refl; told = record { outcome = Ok (Refused NotAllowed); answer_is = refl; reply = (refl, refl) } }
+
+  module _ (new : Working) (told : Answer) (on : StartsWith new.seen old.seen) (same : new.post ≡ old.post) (patron : ℕ) where
+    pub page-met : (card_key : List ℕ) → TellsPage from known patron (Some card_key) new.seen told → Meets from known (asked.Page patron card_key) old new (Some told)
+    page-met card_key t = record { on = on; once = same; told = record { outcome = t.outcome; answer_is = t.answer_is; reply = by t.outcome t.reply } }
+      where
+        by : (o : Result Reply Fault) → (known ≡ true → IfOk o (λ reply. reply ≡ shown_page (own_page (after from (requests new.seen)) patron) (Some card_key))) → IfOk o (IsReplyTo from known (asked.Page patron card_key) old new)
+        by (Ok reply) h = (same, λ k. own-page (after from (requests new.seen)) patron card_key reply (h k))
+        by (Err fault) h = tt
+
+    pub desk-page-met : (request : Request) → page_asked request ≡ Some patron → TellsPage from known patron None new.seen told → Meets from known (asked.Request request) old new (Some told)
+    desk-page-met request asks t = record { on = on; once = inl same; told = record { outcome = t.outcome; answer_is = t.answer_is; reply = by t.outcome t.reply } }
+      where
+        by : (o : Result Reply Fault) → (known ≡ true → IfOk o (λ reply. reply ≡ shown_page (own_page (after from (requests new.seen)) patron) None)) → IfOk o (IsReplyTo from known (asked.Request request) old new)
+        by (Ok reply) h =
+            subst (λ (q : Option ℕ). IsReplyFor from known q request old new reply) (sym asks) (same, λ k. h k ∙ page-replied (after from (requests new.seen)) request patron asks)
+        by (Err fault) h = tt

@@ -127,7 +127,7 @@ module _ {S W : Type 0} (g : Ghosts S) where
   -- it may be taken
   pub may-take : (known : Bool) (from : History) (old desk : Held S) (n : ℕ) (fault : Option Fault) (got : List Message) (board : Result Publishing W) (message : Message) → KnowsList known g old from
       → IsNext got message → Stands g old desk n fault got board → MayTake known from g desk fault board message
-  may-take known from old desk n fault got board (Submit s) list next h = may-be-next g known from old desk n got s fault board (requests (unhandled n got)) list next h.all h.desk h.board
+  may-take known from old desk n fault got board (Submit s) list next h = may-be-next g known from old desk n got s fault board (requests (unhandled n got)) list next h.all h.desk h.shown
   may-take known from old desk n fault got board (Leave w) list next h = tt
 
   -- how the desk stands once it is taken
@@ -140,7 +140,7 @@ module _ {S W : Type 0} (g : Ghosts S) where
         all = k.1;
         cause = cause-kept g b c n m before after' got got' s e t.0 h.counted h.all h.cause;
         desk = k.2;
-        board = board-kept n m before after' got got' s board board' e h.all k.1 h.board t.1;
+        shown = board-kept n m before after' got got' s board board' e h.all k.1 h.shown t.1;
       }
   message-kept old b c n m before after' got got' board board' (Leave w) e t h =
       let k = leave_kept n got got' w e h.counted in
@@ -151,8 +151,8 @@ module _ {S W : Type 0} (g : Ghosts S) where
         cause = subst (λ (l : List Request). IfSome before (ClosedBy n l g b)) (sym rest) h.cause;
         desk = subst (λ (l : List Request). HandledFirst l (requests (unhandled n got')) g old b before) (sym (ap requests k.1))
             (subst (λ (l : List Request). HandledFirst (requests (handled n got)) l g old b before) (sym rest) h.desk);
-        board = subst (λ (l : List Submission). BoardShows board l before) (sym k.1) h.board;
+        shown = subst (λ (l : List Submission). BoardShows board l before) (sym k.1) h.shown;
       } in
       subst (λ (d : Held S). Stands g old d m after' got' board') (sym t.0)
       (subst (λ (j : ℕ). Stands g old b j after' got' board') (sym t.1)
-      (subst (λ (f : Option Fault). Stands g old b n f got' board') (sym t.2.0) (subst (λ (x : Result Publishing W). Stands g old b n before got' x) (sym t.2.1) now)))
+      (subst (λ (f : Option Fault). Stands g old b n f got' board') (sym t.2) (subst (λ (x : Result Publishing W). Stands g old b n before got' x) (sym t.3) now)))

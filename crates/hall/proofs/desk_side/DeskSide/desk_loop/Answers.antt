@@ -17,7 +17,7 @@ work-init g c = record {
     all = search rules;
     cause = tt;
     desk = none-handled g.S.Store c.args.self.desk (requests (unhandled 0 c.args.self.inbox.got));
-    board = (refl, c.args.self.blank.1, ap (map submission_of) c.args.self.blank.0);
+    shown = (refl, c.args.self.blank.1, ap (map submission_of) c.args.self.blank.0);
   };
 }
 
