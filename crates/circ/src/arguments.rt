@@ -1,5 +1,6 @@
 //! What a program is asked to do, by its first words.
 
+use hall_schedule::WORKERS;
 use std::alloc::Global;
 use terms::{BranchId, CardKey, Day, Key, Memory, read_number};
 
@@ -23,11 +24,12 @@ pub enum Run<'a> {
         path: &'a str,
         report: Report,
     },
-    /// `serve FILE PORT WORKERS EACH DESKKEY`: the web, over the library in a file, for so many
-    /// connections. There is one worker.
+    /// `serve FILE PORT WORKERS EACH DESKKEY`: the web, over the library in a file, with so many
+    /// workers, each of which serves so many connections.
     Serve {
         path: &'a str,
         port: u16,
+        workers: usize,
         each: u32,
         desk_key: CardKey,
     },
@@ -110,6 +112,15 @@ fn read_port(text: &str) -> Option<u16> {
     }
 }
 
+/// The number of the workers: from 1 to 8.
+fn read_workers(text: &str) -> Option<usize> {
+    let workers = read_number(text)?;
+    if workers == 0 || u64::from(workers) > WORKERS {
+        return None;
+    }
+    Some(workers as usize)
+}
+
 /// The most connections that a worker serves.
 const MOST_CONNECTIONS: u32 = 1_000_000;
 
@@ -122,14 +133,14 @@ fn read_each(text: &str) -> Option<u32> {
     Some(each)
 }
 
-/// The web over a file: exactly a path and four more words follow, and there is one worker.
+/// The web over a file: exactly a path and four more words follow.
 fn read_serve<'a>(alloc: Global, words: &'a [String]) -> Result<Option<Run<'a>>, Memory> {
     let [path, port, workers, each, desk_key] = words else {
         return Ok(None);
     };
-    let (Some(port), Some(1), Some(each)) = (
+    let (Some(port), Some(workers), Some(each)) = (
         read_port(port.as_str()),
-        read_number(workers.as_str()),
+        read_workers(workers.as_str()),
         read_each(each.as_str()),
     ) else {
         return Ok(None);
@@ -138,6 +149,7 @@ fn read_serve<'a>(alloc: Global, words: &'a [String]) -> Result<Option<Run<'a>>,
         Some(desk_key) => Ok(Some(Run::Serve {
             path: path.as_str(),
             port,
+            workers,
             each,
             desk_key,
         })),

@@ -10,6 +10,7 @@ use crate::lines::{Exit, WriteFault, not_understood, out_of_memory, tell_fault, 
 use crate::lines::tell_threads;
 use desk::Desk;
 use hall::{DeskSide, Hall, HallFault, Opened, Opening, Why, Worker};
+use hall_schedule::WORKERS;
 use sqlite::Alter;
 use std::alloc::Global;
 use std::io::{Read, Write};
@@ -20,9 +21,6 @@ use std::thread;
 use std::thread::{JoinHandle, Threads};
 use std::time::Duration;
 use terms::{CardKey, Fault, Memory};
-
-/// The most workers of a hall.
-const MOST_WORKERS: usize = 8;
 
 /// How long a connection may keep a read or a write waiting, in seconds; then it is broken.
 const LONGEST_WAIT: u64 = 30;
@@ -102,7 +100,7 @@ fn share<J: Opening>(
     listener: TcpListener,
     desk_key: CardKey,
 ) -> Result<(Arc<Shared<J>, Global>, Vec<JoinHandle<()>>), Memory> {
-    let threads = Vec::with_capacity(alloc, MOST_WORKERS)?;
+    let threads = Vec::with_capacity(alloc, WORKERS as usize)?;
     let waiting = Mutex::new(Vec::new(alloc));
     let shared = Arc::new(
         alloc,

@@ -9,6 +9,8 @@ use std::alloc::Global;
 use std::fs::File;
 use std::io::Write;
 use std::net::{TcpListener, TcpStream};
+use std::sync::Wait;
+use std::thread::Threads;
 use store::Store;
 use terms::{CardKey, Fault, Key};
 
@@ -62,17 +64,21 @@ pub fn report<S: Alter, W: Write>(
     circ::report(desk, alloc, wanted, writer)
 }
 
-/// Answers so many connections, one after another.
-pub fn serve<S: Alter, W: Write>(
-    desk: &mut Desk<S>,
+/// Serves the web with so many workers, each of which serves so many connections. It gives the desk back.
+pub fn serve<S: Alter, W: Write, R: Threads + Wait + Copy + Send + 'static>(
+    rt: R,
     alloc: Global,
-    listener: &TcpListener,
+    desk: Desk<S>,
+    listener: TcpListener,
     port: u16,
+    workers: usize,
     each: u32,
-    desk_key: &CardKey,
+    desk_key: CardKey,
     writer: &mut W,
-) -> Result<Exit, WriteFault> {
-    circ::serve(desk, alloc, listener, port, each, desk_key, writer)
+) -> (Desk<S>, Result<Exit, WriteFault>) {
+    circ::serve(
+        rt, alloc, desk, listener, port, workers, each, desk_key, writer,
+    )
 }
 
 /// Sends one request over the connection, and writes its line.

@@ -106,31 +106,31 @@ fn serve_on<S: Start, W: Write>(
     start: S,
     path: &str,
     port: u16,
+    workers: usize,
     each: u32,
-    desk_key: &CardKey,
+    desk_key: CardKey,
     writer: &mut W,
 ) -> Result<Exit, WriteFault> {
-    match open_or_create(rt, path, start) {
-        Ok(mut desk) => {
-            let told = match TcpListener::bind(rt, (Ipv4Addr::LOCALHOST, port)) {
-                Ok(listener) => {
-                    serve(
-                        &mut desk,
-                        rt.alloc(),
-                        &listener,
-                        port,
-                        each,
-                        desk_key,
-                        writer,
-                    )
-                }
-                Err(_) => no_network(writer),
-            };
-            close(desk);
-            told
-        }
-        Err(fault) => tell_fault(writer, fault),
-    }
+    let desk = match open_or_create(rt, path, start) {
+        Ok(desk) => desk,
+        Err(fault) => return tell_fault(writer, fault),
+    };
+    let (desk, told) = match TcpListener::bind(rt, (Ipv4Addr::LOCALHOST, port)) {
+        Ok(listener) => serve(
+            *rt,
+            rt.alloc(),
+            desk,
+            listener,
+            port,
+            workers,
+            each,
+            desk_key,
+            writer,
+        ),
+        Err(_) => (desk, no_network(writer)),
+    };
+    close(desk);
+    told
 }
 
 /// One request of the desk, to the program that serves on the port of this machine.
@@ -177,9 +177,19 @@ fn do_run<S: Start, W: Write>(
         Run::Serve {
             path,
             port,
+            workers,
             each,
             desk_key,
-        } => serve_on(rt, start, path, port, each, &desk_key, &mut io::writer(rt)),
+        } => serve_on(
+            rt,
+            start,
+            path,
+            port,
+            workers,
+            each,
+            desk_key,
+            &mut io::writer(rt),
+        ),
         Run::Send {
             port,
             desk_key,
