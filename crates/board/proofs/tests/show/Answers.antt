@@ -1,0 +1,12 @@
+use Rattle.std.proofs.lemmas.Bool.{false≢true}
+use Rattle.board.proofs.tests.show.Goals as goal
+
+pub publish-requires : goal.publish-requires
+publish-requires g c = record {
+  next = record {
+    worker = c.number.ensures.limits;
+    number = c.requires;
+    reply = λ known. absurd (false≢true known);
+  };
+  pages = λ known patron. absurd (false≢true known);
+}
