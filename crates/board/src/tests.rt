@@ -153,7 +153,7 @@ fn first_pages(alloc: Global) -> Result<First, Fail> {
 }
 
 /// A board for two windows. Nothing is known of the tables at its opening.
-fn open(alloc: Global) -> Result<Publisher<Brand>, Fail>
+fn open_board(alloc: Global) -> Result<Publisher<Brand>, Fail>
     ensures { IfOk result (λ p. p.shown ≡ []) }
 {
     let first = first_pages(alloc)?;
@@ -477,7 +477,7 @@ fn each_entry_is_shown_with_its_page(rt: HostRuntime) -> Result<(), Fail> {
     let alloc = rt.alloc();
     let all = all_asked(alloc)?;
     let steps = steps(alloc)?;
-    let publisher = open(alloc)?;
+    let publisher = open_board(alloc)?;
     let Some(windows) = windows(&publisher) else {
         publisher.close(&rt);
         return Err("two windows".into());
@@ -514,7 +514,7 @@ fn a_stopped_board_shows_what_it_showed(rt: HostRuntime) -> Result<(), Fail> {
         request: _request,
         page,
     } = step;
-    let publisher = open(alloc)?;
+    let publisher = open_board(alloc)?;
     let Some(windows) = windows(&publisher) else {
         publisher.close(&rt);
         return Err("two windows".into());
@@ -534,7 +534,7 @@ fn has_third(publisher: &Publisher<Brand>) -> bool {
 
 #[test]
 fn a_window_that_is_left_gives_its_place_back(rt: HostRuntime) -> Result<(), Fail> {
-    let publisher = open(rt.alloc())?;
+    let publisher = open_board(rt.alloc())?;
     let is_full = !has_third(&publisher);
     let is_free = windows(&publisher).is_some();
     publisher.close(&rt);

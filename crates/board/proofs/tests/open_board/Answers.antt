@@ -1,5 +1,5 @@
 use Rattle.std.proofs.lemmas.Bool.{false≢true}
-use Rattle.board.proofs.tests.open.Goals as goal
+use Rattle.board.proofs.tests.open_board.Goals as goal
 
 pub new-requires-clause-pages : goal.new-requires-clause-pages
 new-requires-clause-pages c = λ known patron. absurd (false≢true known)
