@@ -51,10 +51,12 @@ module _ (from : History) (known : Bool) where
       Nones : List (Option Entry) → Type 0
       Nones [] = Unit {0}
       Nones (o ∷ os) = (o ≡ None) × Nones os
+
       none_at : (os : List (Option Entry)) → Nones os → (k : ℕ) → get_or os k None ≡ None
       none_at [] h k = refl
       none_at (o ∷ os) h zero = h.0
       none_at (o ∷ os) h (suc k) = none_at os h.1 k
+
       nobody : (w : ℕ) → last_on w (record blank { pages = x.pages }) ≡ cond (is_worker w) (last_of w []) None
       nobody w = ap (λ o. cond (is_worker w) o None) (none_at blank.last (refl, (refl, (refl, (refl, (refl, (refl, (refl, (refl, tt)))))))) (w - 1))
 
@@ -82,11 +84,13 @@ module _ (from : History) (known : Bool) where
       let put = put-all x us pages in
       let mid : Showing = fold updated x us in
       let lasts : mid.last ≡ x.last = ap (λ (y : Showing). y.last) put.0 in
-      let long' : length mid.last ≡ 8 = ap length lasts ∙ long in
-      (record {
-        last = λ w. ap (last_on w) is ∙ last_next mid e entries w may.next.worker long' (ap (λ l. cond (is_worker w) (get_or l (w - 1) None) None) lasts ∙ b.last w);
-        pages = λ k p. ap (λ (y : Showing). page_at y.pages p) is ∙ (put.1 p ∙ (ap (overlaid (pages_of us) p) (b.pages k p) ∙ may.pages k p));
-      }, ap (λ (y : Showing). length y.last) is ∙ (ap (λ c. length (cond c (set mid.last (e.worker - 1) (Some e)) mid.last)) may.next.worker ∙ (length-set mid.last (e.worker - 1) (Some e) ∙ long')))
+      let long' : length mid.last ≡ 8 = ap length lasts ∙ long in (
+        record {
+          last = λ w. ap (last_on w) is ∙ last_next mid e entries w may.next.worker long' (ap (λ l. cond (is_worker w) (get_or l (w - 1) None) None) lasts ∙ b.last w);
+          pages = λ k p. ap (λ (y : Showing). page_at y.pages p) is ∙ (put.1 p ∙ (ap (overlaid (pages_of us) p) (b.pages k p) ∙ may.pages k p));
+        },
+        ap (λ (y : Showing). length y.last) is ∙ (ap (λ c. length (cond c (set mid.last (e.worker - 1) (Some e)) mid.last)) may.next.worker ∙ (length-set mid.last (e.worker - 1) (Some e) ∙ long')),
+      )
 
   pub publishes : (side : ℕ) (v : Seen) (x next : Showing) (us : List Update) (e : Entry) → length v.entries ≡ x.version → are_pages us ≡ true
       → MayFollow from known (record { shown = v.entries; pages = pages_of us }) e → next ≡ with_entry (fold updated x us) e → TurnsAt (Keeps from known) side v x next Publishes
@@ -99,9 +103,11 @@ module _ (from : History) (known : Bool) where
       let put = put-all x us pages in
       let versions : (fold updated x us).version ≡ x.version = ap (λ (y : Showing). y.version) put.0 in
       let count : length after' ≡ next.version = length-append v.entries (e ∷ []) ∙ (ap (λ n. n + 1) (long ∙ sym versions) ∙ sym (ap (λ (y : Showing). y.version) is)) in
-      let sound : AreEntries from known [] after' = entries-append [] v.entries e (subst (AreEntries from known []) same h.sound) may.next in
-      (w, record { entries = after'; board = b.0; count = count; places = b.1; sound = sound; each = set_view after' views side w (starts_self after') more },
-      record { entry = e; latest = ap (λ (y : Showing). y.latest) is; more = refl; count = count })
+      let sound : AreEntries from known [] after' = entries-append [] v.entries e (subst (AreEntries from known []) same h.sound) may.next in (
+        w,
+        record { entries = after'; board = b.0; count = count; places = b.1; sound = sound; each = set_view after' views side w (starts_self after') more },
+        record { entry = e; latest = ap (λ (y : Showing). y.latest) is; more = refl; count = count },
+      )
 
   -- what a worker finds under its number is the reply to its submission
   pub found : (seen : List Entry) (x : Showing) (w n : ℕ) (request : Request) (e : Entry) → IsBoardOf from known seen x → AreEntries from known [] seen → ShowsEntry x w n request e → IsReply from known seen w n request e.reply

@@ -40,6 +40,7 @@ last_next x e entries w ise long old = by (is_worker w) refl
   where
     list : List (Option Entry)
     list = cond (is_worker e.worker) (set x.last (e.worker - 1) (Some e)) x.last
+
     by : (b : Bool) → is_worker w ≡ b → cond b (get_or list (w - 1) None) None ≡ cond b (last_of w (entries ++ e ∷ [])) None
     by false h = refl
     by true h =

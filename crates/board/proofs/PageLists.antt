@@ -23,6 +23,7 @@ map-put {X} {Y} g (e ∷ es) p x = by (map-put g es p x) (nat_cmp p e.0)
   where
     f : ℕ × X → ℕ × Y
     f d = (d.0, g d.1)
+
     by : map f (insert_entry nat_cmp es p x) ≡ insert_entry nat_cmp (map f es) p (g x) → (r : Ordering) → map f (match_ordering r ((p, x) ∷ e ∷ es) ((e.0, x) ∷ es) (e ∷ insert_entry nat_cmp es p x))
         ≡ match_ordering r ((p, g x) ∷ f e ∷ map f es) ((e.0, g x) ∷ map f es) (f e ∷ insert_entry nat_cmp (map f es) p (g x))
     by rest Less = refl

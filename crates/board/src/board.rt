@@ -5,9 +5,9 @@ ghost use Rattle.std.specs.Arc.{arc_value};
 ghost use Rattle.board.specs.Showing.{blank, page_at, with_page, with_last, with_entry, last_on, ShowsEntry};
 
 use crate::entry::Entry;
-use desk::OwnPage;
 use crate::request::SharedRequest;
 use crate::worker_id::WorkerId;
+use desk::OwnPage;
 use left_right::Absorb;
 use std::alloc::{AllocError, Global};
 use std::collections::BTreeMap;
@@ -42,10 +42,10 @@ impl Model for Board {
     ghost Value = { Showing };
 
     ghost view = { λ b. record {
-        pages = map (λ e. (e.0, arc_value e.1)) b.pages.entries;
-        last = map (option_map arc_value) b.last;
-        latest = option_map arc_value b.latest;
-        version = b.version;
+      pages = map (λ e. (e.0, arc_value e.1)) b.pages.entries;
+      last = map (option_map arc_value) b.last;
+      latest = option_map arc_value b.latest;
+      version = b.version;
     } };
 }
 
@@ -72,11 +72,7 @@ impl Board {
     }
 
     /// Puts the page of a patron, for the one that is there.
-    pub(crate) fn put(
-        &mut self,
-        patron: u32,
-        page: &Arc<OwnPage, Global>,
-    ) -> Result<(), AllocError>
+    pub(crate) fn put(&mut self, patron: u32, page: &Arc<OwnPage, Global>) -> Result<(), AllocError>
         ensures { MatchResult result
             (λ _. self.new ≡ with_page self.old patron (arc_value page.now))
             (λ _. self.new ≡ self.old) }

@@ -9,9 +9,9 @@ use crate::board::{Board, Update};
 use crate::entry::{Entry, Seen};
 use crate::first::First;
 use crate::origin::Origin;
-use desk::OwnPage;
 use crate::rule::{OneList, Publish};
 use crate::window::Window;
+use desk::OwnPage;
 use left_right::writer::Writer;
 use std::alloc::{AllocError, Global};
 use std::marker::Model;
@@ -35,8 +35,8 @@ impl<J: Origin> Model for Publisher<J> {
     ghost Value = { Publishing };
 
     ghost view = { λ p. record {
-        shown = (knows p.writer.desk.place).entries;
-        pages = pages_of (drop p.writer.behind p.writer.log.items);
+      shown = (knows p.writer.desk.place).entries;
+      pages = pages_of (drop p.writer.behind p.writer.log.items);
     } };
 
     ghost invariant = { λ p.

@@ -53,13 +53,16 @@ module _ {S : Type 0} (g : Ghosts S) where
     port-told are_whole fault some out ends = record {
       fault = fault;
       serves = some;
-      told = inl (are_whole, record {
-        exit_is = ends.exit_is;
-        writes = record {
-          all = second-out r a b c (port_line port) (end_text are_whole fault) out ends.writes.all;
-          front = second-failed r a b c (port_line port) (end_text are_whole fault) out ends.writes.front;
-        };
-      });
+      told = inl (
+        are_whole,
+        record {
+          exit_is = ends.exit_is;
+          writes = record {
+            all = second-out r a b c (port_line port) (end_text are_whole fault) out ends.writes.all;
+            front = second-failed r a b c (port_line port) (end_text are_whole fault) out ends.writes.front;
+          };
+        },
+      );
     }
 
   -- the port could not be told
@@ -68,10 +71,13 @@ module _ {S : Type 0} (g : Ghosts S) where
   port-untold {E} port old new a b error fault some front = record {
     fault = fault;
     serves = some;
-    told = inl (true, record {
-      exit_is = tt;
-      writes = record { all = tt; front = failed-first {T = Exit} (Err error) a b (port_line port) (end_text true fault) front };
-    });
+    told = inl (
+      true,
+      record {
+        exit_is = tt;
+        writes = record { all = tt; front = failed-first {T = Exit} (Err error) a b (port_line port) (end_text true fault) front };
+      },
+    );
   }
 
   -- the fault of a hall that isn't opened was told

@@ -6,8 +6,9 @@ ghost use Rattle.hall.specs.Handling.{KnowsList};
 ghost use Rattle.circ.specs.Lines.{EndsWith, port_line, threads_line};
 ghost use Rattle.circ.specs.Serving.{HandlesSome, ServesPort, end_text, exit_after};
 
-use crate::lines::{Exit, WriteFault, not_understood, out_of_memory, tell_fault, tell_port};
-use crate::lines::tell_threads;
+use crate::lines::{
+    Exit, WriteFault, not_understood, out_of_memory, tell_fault, tell_port, tell_threads,
+};
 use desk::Desk;
 use hall::{DeskSide, Hall, HallFault, Opened, Opening, Why, Worker};
 use hall_schedule::WORKERS;
@@ -280,14 +281,18 @@ fn open_and_serve<
                 rt, alloc, side, workers, &shared, threads, port, each, writer,
             )
         }
-        Err(HallFault {
-            why: Why::Faulted(fault),
-            desk,
-        }) => (desk, tell_fault(writer, fault)),
-        Err(HallFault {
-            why: Why::Refused(_),
-            desk,
-        }) => (desk, not_understood(writer)),
+        Err(
+            HallFault {
+                why: Why::Faulted(fault),
+                desk,
+            },
+        ) => (desk, tell_fault(writer, fault)),
+        Err(
+            HallFault {
+                why: Why::Refused(_),
+                desk,
+            },
+        ) => (desk, not_understood(writer)),
     }
 }
 

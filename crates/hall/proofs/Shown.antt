@@ -52,7 +52,7 @@ pub due-number : (n : ℕ) (got : List Message) (s : Submission) (shown : List E
 due-number n got s shown next whole is =
     let all = all-handled n got whole in
     let long : length (of s.worker got) ≡ count_own s.worker shown =
-        sym (open-length (of s.worker got) next.0) ∙ (ap length (submissions_of s.worker got) ∙ (ap (λ l. length (own s.worker l)) (sym (is ∙ all)) ∙ sym (own-count s.worker shown))) in
+    sym (open-length (of s.worker got) next.0) ∙ (ap length (submissions_of s.worker got) ∙ (ap (λ l. length (own s.worker l)) (sym (is ∙ all)) ∙ sym (own-count s.worker shown))) in
     next.1 ∙ ap (λ k. k + 1) long
 
 -- the board after one more submission
@@ -90,7 +90,7 @@ module _ {S : Type 0} (g : Ghosts S) (known : Bool) (from : History) where
       let H : History = after_one K s.request in
       let next : IsNextEntry from known shown e = record { worker = worker; number = due.number; reply = due.reply_is } in
       let list-is : after from (entry_requests (shown ++ e ∷ [])) ≡ H =
-          ap (after from) (map-append (λ (d : Entry). d.request) shown (e ∷ [])) ∙ after-last (entry_requests shown) from s.request in
+      ap (after from) (map-append (λ (d : Entry). d.request) shown (e ∷ [])) ∙ after-last (entry_requests shown) from s.request in
       record {
         next = subst (λ (l : List Entry). IsNextEntry from known l e) (sym same) next;
         pages = λ k q.

@@ -107,8 +107,12 @@ fn show<J: Opening, S: Alter, R: Wait>(
     requires due { IsDue J.known J.from S.Store desk.old publisher.shown submission reply
         touched.now }
     ensures { MatchResult result
-        (λ p. (p.shown ≡ publisher.shown ++ (record { worker = submission.worker;
-            number = submission.number; request = submission.request; reply = reply }) ∷ [])
+        (λ p. (p.shown ≡ publisher.shown ++ (record {
+          worker = submission.worker;
+          number = submission.number;
+          request = submission.request;
+          reply = reply;
+        }) ∷ [])
         × (p.pages ≡ []) × LooksOnly S.Store desk.old desk.new (Ok tt))
         (λ e. MeetsFaultOf S.Store desk.old desk.new e.1) }
 {

@@ -99,13 +99,7 @@ fn hire_one<J: Opening, R: Wait>(
 {
     let parker = Parker::new(alloc)?;
     notices.hang(rt, worker, parker.unparker().clone()?);
-    Ok(Worker::new(
-        post,
-        window,
-        worker,
-        Arc::try_clone(notices)?,
-        parker,
-    ))
+    Ok(Worker::new(post, window, worker, Arc::try_clone(notices)?, parker))
 }
 
 /// The workers, numbered from 1 on. 90; 92 where the board has no place for a reader.
@@ -156,9 +150,7 @@ fn hire<J: Opening, R: Wait>(
 {
     let (hiring, mut inbox) = opened.ends::<J>();
     let notices = Arc::new(alloc, Notices::new())?;
-    let all = hire_all(
-        rt, alloc, &hiring, &mut inbox, publisher, &notices, workers,
-    )?;
+    let all = hire_all(rt, alloc, &hiring, &mut inbox, publisher, &notices, workers)?;
     Ok((inbox, notices, all))
 }
 

@@ -91,11 +91,7 @@ fn answers<J: Opening, R: Wait>(
 
 /// How often a hold's answer is cut after as many bytes as the writer takes; and whether it is had
 /// then.
-fn cuts<J: Opening, R: Wait>(
-    rt: &R,
-    alloc: Global,
-    worker: &mut Worker<J>,
-) -> Result<usize, Fail> {
+fn cuts<J: Opening, R: Wait>(rt: &R, alloc: Global, worker: &mut Worker<J>) -> Result<usize, Fail> {
     let text = answer(alloc, HELD)?;
     let mut count = 0usize;
     for room in 0..text.len() {

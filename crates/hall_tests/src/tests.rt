@@ -157,7 +157,8 @@ fn run_hall<J: Opening + Send + Sync, R: Threads + Wait + Abort + Sync>(
     requires name { opened ≡ J.name }
     requires known { J.known ≡ false }
 {
-    let Ok((side, all)) = open_hall::<J, _>(rt, alloc, opened, library(alloc)?, workers as usize) else {
+    let Ok((side, all)) = open_hall::<J, _>(rt, alloc, opened, library(alloc)?, workers as usize)
+    else {
         return Err("a hall".into());
     };
     let jobs = jobs(alloc, all)?;
@@ -199,12 +200,7 @@ fn run_limited(alloc: Global, limit: u64) -> Result<Option<Wanted>, Fail> {
 
 /// What the worker's patron is answered for the hold of this title, from 1 on: those that the list
 /// answers, then its fault, then 92.
-fn is_answered(
-    alloc: Global,
-    wanted: &Wanted,
-    title: u64,
-    text: &str,
-) -> Result<bool, Fail> {
+fn is_answered(alloc: Global, wanted: &Wanted, title: u64, text: &str) -> Result<bool, Fail> {
     let answered = wanted.answered as u64;
     if title <= answered {
         return Ok(text.starts_with("HTTP/1.1 200 OK"));

@@ -23,10 +23,10 @@ patrons-preserved g c =
     let more = taken-more xs k q within c.patron-item.is in
     elim c.match-branch-2.branch [
       | in-Some+in_ok-first w ↦
-        first-put g.S.Store c.args.desk.now c.patrons.desk c.own_page.new.self xs k q more c.in_ok-page.field-0 c.in_ok-page.ensures c.patrons.first c.match-branch-2.first i w.in-Some.page w.in-Some.is
-            (λ p. ap (λ (n : List (ℕ × OwnPage)). page_at n p) (w.first-is ∙ w.in_ok-first.ensures) ∙ page-put c.patrons.first q w.in-Some.page p)
+          first-put g.S.Store c.args.desk.now c.patrons.desk c.own_page.new.self xs k q more c.in_ok-page.field-0 c.in_ok-page.ensures c.patrons.first c.match-branch-2.first i w.in-Some.page w.in-Some.is
+          (λ p. ap (λ (n : List (ℕ × OwnPage)). page_at n p) (w.first-is ∙ w.in_ok-first.ensures) ∙ page-put c.patrons.first q w.in-Some.page p)
       | in_default w ↦
-        first-passed g.S.Store c.args.desk.now c.patrons.desk c.own_page.new.self xs k q more c.in_ok-page.field-0 c.in_ok-page.ensures c.patrons.first c.match-branch-2.first i w.in_default.is w.first-is
+          first-passed g.S.Store c.args.desk.now c.patrons.desk c.own_page.new.self xs k q more c.in_ok-page.field-0 c.in_ok-page.ensures c.patrons.first c.match-branch-2.first i w.in_default.is w.first-is
     ]
 
 pub returns : goal.returns

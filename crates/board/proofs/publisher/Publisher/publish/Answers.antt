@@ -19,5 +19,5 @@ publish_as-writer-requires g c next is =
     let mine : record { shown = (view k.place).entries; pages = pages_of us } ≡ c.args.self = rw c.in-Ok-append.ensures.desk c.self.view_is in
     let may = subst (λ (s : Publishing). MayFollow g.J.Origin.from g.J.Origin.known s e) (sym mine) c.requires in
     let is' : next ≡ with_entry (fold updated k.shown.value us) e =
-        is ∙ (ap (fold updated k.shown.value) c.in-Ok-append.ensures.pending ∙ (fold-append updated k.shown.value us (update.Entry c.in-Ok.entry ∷ []) ∙ ap (with_entry (fold updated k.shown.value us)) c.in-Ok.ensures.ok)) in
+    is ∙ (ap (fold updated k.shown.value) c.in-Ok-append.ensures.pending ∙ (fold-append updated k.shown.value us (update.Entry c.in-Ok.entry ∷ []) ∙ ap (with_entry (fold updated k.shown.value us)) c.in-Ok.ensures.ok)) in
     publishes g.J.Origin.from g.J.Origin.known k.place.id (view k.place) k.shown.value next us e long c.self.invariant.1 may is'

@@ -13,11 +13,13 @@ use Rattle.board.proofs.publisher.Publisher.put.Goals.{in-Ok, in-Err}
 pub invariant_of-self : goal.invariant_of-self
 invariant_of-self g c =
     let o = c.self.inside.writer in
-    let us = drop o.behind o.log.items in
-    (rw c.append.ensures.desk c.self.invariant.0, elim c.match-append.branch [
-      | in-Ok w ↦ (pages-more us (drop c.append.new.self.behind c.append.new.self.log.items) c.number.result c.in_ok-page.page w.in-Ok.ensures.pending c.self.invariant.1).0
-      | in-Err w ↦ ap are_pages w.in-Err.ensures.pending.1 ∙ c.self.invariant.1
-    ])
+    let us = drop o.behind o.log.items in (
+      rw c.append.ensures.desk c.self.invariant.0,
+      elim c.match-append.branch [
+        | in-Ok w ↦ (pages-more us (drop c.append.new.self.behind c.append.new.self.log.items) c.number.result c.in_ok-page.page w.in-Ok.ensures.pending c.self.invariant.1).0
+        | in-Err w ↦ ap are_pages w.in-Err.ensures.pending.1 ∙ c.self.invariant.1
+      ],
+    )
 
 both : (s t : List Entry) (p q : List (ℕ × OwnPage)) → s ≡ t → p ≡ q → ◌≡◌ {A = Publishing} (record { shown = s; pages = p }) (record { shown = t; pages = q })
 both s t p q e f = ap (λ (x : List Entry). record { shown = x; pages = p }) e ∙ ap (λ (x : List (ℕ × OwnPage)). record { shown = t; pages = x }) f
