@@ -19,7 +19,7 @@ import subprocess
 import sys
 import tempfile
 import time
-from contextlib import closing
+from contextlib import closing, contextmanager
 
 import calendar_weeks
 from desk_rules import Library
@@ -520,13 +520,20 @@ def timed(call):
     return given, time.perf_counter() - begin
 
 
-def rows_now(path, text):
-    """What stock SQLite reads in a copy of the files, so that what a kill left stays as it is."""
+@contextmanager
+def as_it_is(path):
+    """A copy of the files for stock SQLite, so that what a kill left stays as it is."""
     with tempfile.TemporaryDirectory() as folder:
         copied = os.path.join(folder, "copy.db")
         for tail in ("", "-wal"):
             if os.path.exists(path + tail):
                 shutil.copy(path + tail, copied + tail)
+        yield copied
+
+
+def rows_now(path, text):
+    """What stock SQLite reads in a copy of the files."""
+    with as_it_is(path) as copied:
         return rows(copied, text)
 
 
@@ -564,8 +571,8 @@ def a_month(folder):
             printed, hit = kill_at_work(["file", killed, key, *words], moments.uniform(0, 1.2 * took))
             kept = rows_now(killed, f"SELECT COUNT(*) FROM kept WHERE caller = 0 AND key = '{key}'") == [(1,)]
             # what was told is kept, whenever the kill came
-            check(f"{key} {words} told and kept, seed {seed}", kept or key not in library.kept or printed == "", True)
-            if hit and key in library.kept:
+            check(f"{key} {words} told and kept, seed {seed}", kept or (0, key) not in library.kept or printed == "", True)
+            if hit and (0, key) in library.kept:
                 hits[kept] += 1
         check(f"{key} {words} after kills, seed {seed}", answers(killed, key, words), (line + "\n", status_of(line)))
     check("the month has each of these", IN_THE_MONTH - seen, set())
