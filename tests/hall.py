@@ -256,7 +256,7 @@ def no_step_back(town):
     path, library = town.copied("steps.db")
     seed = random.randrange(10**9)
     print(f"hall: renewals and pages mixed by the seed {seed}")
-    watched = [Watched(library, patron) for patron in PATRONS[:4] for _ in range(1)]
+    watched = [Watched(library, patron) for patron in PATRONS[:4]]
     turns = 100
 
     def client(number):
@@ -301,7 +301,7 @@ def killed_at(path, plans, moment):
 def kills(town):
     """The program is killed while eight clients are at work: what was answered is kept, and what is sent again acts once. No request acts in part."""
     plans = [[it for pair in zip(holds_of(patron), renewals_of(patron)) for it in pair] for patron in PATRONS]
-    everyone = [(caller, key) for plan in plans for caller, key, _ in plan]
+    everyone = {(caller, key) for plan in plans for caller, key, _ in plan}
     seed, sums = random.randrange(10**9), {"answered": 0, "cut": 0, "cut and kept": 0}
     moments = random.Random(seed)
     print(f"hall: moments of kills by the seed {seed}")
