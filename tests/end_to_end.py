@@ -552,11 +552,16 @@ IN_THE_MONTH = {
 }
 
 
+def month():
+    """The requests of a month: the key of each and its words."""
+    with open(os.path.join(TOP, "tests", "month.txt"), encoding="utf-8") as file:
+        return [shlex.split(line) for line in file]
+
+
 def a_month(folder):
     """Three branches in one month: each line is that of the rules, and so is each row; and with a run that is killed at
     a random moment before many of the commands, which are then sent again under the same key, the rows are the same."""
-    with open(os.path.join(TOP, "tests", "month.txt"), encoding="utf-8") as file:
-        requests = [shlex.split(line) for line in file]
+    requests = month()
     calm, killed = os.path.join(folder, "calm.db"), os.path.join(folder, "killed.db")
     library, seed = Library(), random.randrange(10**9)
     print(f"end to end: {len(requests)} requests of a month, moments of kills by the seed {seed}")

@@ -66,9 +66,11 @@ class Town:
     def __init__(self, folder):
         self.folder, self.path, self.rules = folder, os.path.join(folder, "town.db"), Library()
         requests = [*self.requests()]
-        with Serving(self.path, len(requests), workers=2) as serving:
+        with Serving(self.path, len(requests) + len(PATRONS), workers=2) as serving:
             for at, words in enumerate(requests):
                 check(f"{words}", asked(serving, 0, f"t{at}", words), told(self.rules.handle(f"t{at}", words)))
+            for patron in PATRONS:
+                check("the page of a patron who came meanwhile", page_of(serving, patron), page_by(self.rules, patron))
         desk.the_rows_are(self.path, self.rules)
 
     def requests(self):
@@ -153,6 +155,23 @@ def a_reply_is_on_the_page(town, workers):
             for caller, key, words in (request, renewal):
                 check(f"{key} {words}", asked(serving, caller, key, words), told(library.handle(key, words, caller)))
                 check(f"the page after {words}", page_of(serving, 1), page_by(library, 1))
+    desk.the_rows_are(path, library)
+
+
+def pages_of_a_month(folder):
+    """The month of commands with two workers: after each, every page that it changed is shown anew, and another patron's as it was."""
+    path, library, pages, turns = os.path.join(folder, "month.db"), Library(), {}, []
+    for at, (key, *words) in enumerate(desk.month()):
+        before, wanted = pages, told(library.handle(key, words))
+        pages = {patron: page_by(library, patron) for patron in library.patrons}
+        looks = [patron for patron in pages if pages[patron] != before.get(patron)] + [*pages][at % max(len(pages), 1):][:1]
+        turns.append((key, words, wanted, [(patron, pages[patron]) for patron in looks]))
+    check("commands change pages of several patrons", max(len(looks) for *_, looks in turns) > 2, True)
+    with Serving(path, sum(1 + len(looks) for *_, looks in turns), workers=2) as serving:
+        for key, words, wanted, looks in turns:
+            check(f"{key} {words}", asked(serving, 0, key, words), wanted)
+            for patron, page in looks:
+                check(f"the page of {patron} after {key} {words}", page_of(serving, patron), page)
     desk.the_rows_are(path, library)
 
 
@@ -376,6 +395,7 @@ def main():
     with tempfile.TemporaryDirectory() as folder:
         a_hold_and_its_page(folder)
         one_is_held(folder)
+        pages_of_a_month(folder)
         town = Town(folder)
         for workers in (2, 8):
             a_reply_is_on_the_page(town, workers)

@@ -338,9 +338,7 @@ def bad_words(folder):
 
 def sent(folder, workers):
     """The month of commands by `circ send`: each answer, its status, and every row as by `circ file`."""
-    with open(os.path.join(TOP, "tests", "month.txt"), encoding="utf-8") as file:
-        requests = [shlex.split(line) for line in file]
-    path, library = os.path.join(folder, "month.db"), Library()
+    requests, path, library = desk.month(), os.path.join(folder, "month.db"), Library()
     others = [
         (DESK_KEY, "o1", ["page", "01"], b'{"status":400}\n', 4),
         (DESK_KEY, "o2", ["no-such-word"], b'{"status":400}\n', 4),
