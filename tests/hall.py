@@ -17,11 +17,9 @@ import socket
 import subprocess
 import tempfile
 import threading
-import time
 from concurrent.futures import ThreadPoolExecutor
 
 import end_to_end as desk
-import web
 from desk_rules import Library
 from end_to_end import CIRC, GROUND, check, rows, timed
 from web import ANN, ANNS_PAGE, BO, PAGE_OF_ANN, Serving, a_library, answer, everything, told
@@ -82,8 +80,8 @@ class Town:
             yield ["patron", str(patron), "1", f"cardkey{patron:05}", f"Reader {patron}"]
         for title in (*range(1, 17), *TITLES):
             yield ["acquire", str(title), str(title), "1", "1", "2500", f"A title of number {title}"]
-        for copy_ in range(1, 17):
-            yield ["check-out", str((copy_ + 1) // 2), str(copy_), "1"]
+        for number in range(1, 17):
+            yield ["check-out", str((number + 1) // 2), str(number), "1"]
 
     def copied(self, name):
         """A copy of the file, and one of its rules."""
@@ -226,7 +224,7 @@ class Watched:
         self.head, *lines = self.page()
         self.loans = self.library.open_loans(patron)
         self.lines = {loan: [line] for loan, line in zip(self.loans, lines)}
-        self.dues = {loan: [self.library.loans[loan]["due"]] for loan in self.loans}
+        self.dues = {loan: [str(self.library.loans[loan]["due"])] for loan in self.loans}
         for _ in range(RENEWALS):
             for loan in self.loans:
                 self.dues[loan].append(self.library.do_renew(loan).split()[-1])
@@ -262,16 +260,16 @@ class Watched:
         with self.lock:
             before = self.known[loan]
             self.sent[loan] += 1
-        status, body = asked(serving, caller_of(self.patron), key, ["renew", str(loan)])
-        check(f"a renewal of loan {loan}", (status, body.startswith(f'{{"reply":"loan {loan} due '.encode())), (200, True))
-        due = body[-12:-2].decode()
+        found = asked(serving, caller_of(self.patron), key, ["renew", str(loan)])
+        due = found[1][-12:-2].decode()
+        check(f"a renewal of loan {loan}", found, told(f"loan {loan} due {due}"))
         check(f"a due day of the rules: {due}", due in self.dues[loan], True)
         check(f"it is a renewal more than {before}", self.dues[loan].index(due) > before, True)
         self.note(loan, self.dues[loan].index(due))
 
 
 def no_step_back(town):
-    """Eight clients, two for a patron, mix renewals and looks: a page shows every renewal that was answered and every page shown before."""
+    """Eight clients, two for a patron, mix renewals and looks: a page shows what was answered or shown before it was asked for."""
     path, library = town.copied("steps.db")
     seed = random.randrange(10**9)
     print(f"hall: renewals and pages mixed by the seed {seed}")
@@ -318,7 +316,7 @@ def killed_at(path, plans, moment):
 
 
 def kills(town):
-    """The program is killed while eight clients are at work: what was answered is kept, and what is sent again acts once. No request acts in part."""
+    """The program is killed while eight clients are at work: what was answered is kept, nothing acts in part, and what is sent again acts once."""
     plans = [[it for pair in zip(holds_of(patron), renewals_of(patron)) for it in pair] for patron in PATRONS]
     everyone = {(caller, key) for plan in plans for caller, key, _ in plan}
     seed, sums = random.randrange(10**9), {"answered": 0, "cut": 0, "cut and kept": 0}
