@@ -4,7 +4,8 @@ ghost use Rattle.std.specs.Prelude.{◌≡◌};
 ghost use Rattle.terms.specs.Writing.{Writes};
 ghost use Rattle.hall.specs.Handling.{KnowsList};
 ghost use Rattle.circ.specs.Lines.{EndsWith, port_line, threads_line};
-ghost use Rattle.circ.specs.Serving.{HandlesSome, ServesPort, end_text, exit_after};
+ghost use Rattle.circ.specs.Serving.{HandlesSome, ServesHall, ServesPort};
+ghost use Rattle.circ.specs.Serving.{end_text, exit_after, why_line, exit_of_why};
 
 use crate::lines::{
     Exit, WriteFault, not_understood, out_of_memory, tell_fault, tell_port, tell_threads,
@@ -233,18 +234,37 @@ fn serve_hall<
     writer: &mut W,
 ) -> (Desk<S>, Result<Exit, WriteFault>)
     requires { KnowsList J.known S.Store side.desk J.from }
-    ensures { ServesPort port S.Store side.desk result.0
+    ensures { ServesHall port S.Store side.desk result.0
         (W.contents writer.old) (W.contents writer.new) result.1 }
 {
     match tell_port(writer, port) {
         Ok(()) => {
-            let met = run(rt, alloc, side, workers, shared, threads, each);
-            (met.desk, tell_end(writer, met.are_whole, met.fault))
+            let Met {
+                desk,
+                fault,
+                are_whole,
+            } = run(rt, alloc, side, workers, shared, threads, each);
+            (desk, tell_end(writer, are_whole, fault))
         }
         Err(fault) => {
-            let met = run(rt, alloc, side, workers, shared, threads, 0);
-            (met.desk, Err(fault))
+            let Met {
+                desk,
+                fault: _,
+                are_whole: _,
+            } = run(rt, alloc, side, workers, shared, threads, 0);
+            (desk, Err(fault))
         }
+    }
+}
+
+/// Tells why a hall isn't opened.
+fn tell_why<W: Write>(writer: &mut W, why: Why) -> Result<Exit, WriteFault>
+    ensures { EndsWith (exit_of_why why) (why_line why)
+        (W.contents writer.old) (W.contents writer.new) result }
+{
+    match why {
+        Why::Refused(_) => not_understood(writer),
+        Why::Faulted(fault) => tell_fault(writer, fault),
     }
 }
 
@@ -281,18 +301,7 @@ fn open_and_serve<
                 rt, alloc, side, workers, &shared, threads, port, each, writer,
             )
         }
-        Err(
-            HallFault {
-                why: Why::Faulted(fault),
-                desk,
-            },
-        ) => (desk, tell_fault(writer, fault)),
-        Err(
-            HallFault {
-                why: Why::Refused(_),
-                desk,
-            },
-        ) => (desk, not_understood(writer)),
+        Err(HallFault { why, desk }) => (desk, tell_why(writer, why)),
     }
 }
 

@@ -1,7 +1,7 @@
 //! The calls under test, with no clauses: so a test with many of them is proved fast. Each is generic over the database's
 //! store, so that what it is proved from stays small.
 
-use circ::{Exit, Report, Served, WriteFault};
+use circ::{Exit, Report, WriteFault};
 use desk::Desk;
 use sqlite::{Alter, Connection, FileStore, Files, MemStore, Options};
 use sqlite_disk::{Crash, Disk};
@@ -39,17 +39,6 @@ pub fn import<S: Alter, R: Read + Drop, W: Write>(
     writer: &mut W,
 ) -> Result<Exit, WriteFault> {
     circ::import(desk, alloc, reader, writer)
-}
-
-/// Has a connection answered.
-pub fn serve_one<S: Alter, R: Read, W: Write>(
-    desk: &mut Desk<S>,
-    alloc: Global,
-    desk_key: &CardKey,
-    reader: &mut R,
-    writer: &mut W,
-) -> Served {
-    circ::serve_one(desk, alloc, desk_key, reader, writer)
 }
 
 /// Has a request handled.

@@ -5,8 +5,6 @@
 #[cfg(test)]
 mod calls;
 #[cfg(test)]
-mod connections;
-#[cfg(test)]
 mod cut_lines;
 #[cfg(test)]
 mod ground;

@@ -5,7 +5,6 @@ use hall::{Opening, Worker};
 use std::alloc::Global;
 use std::io::{self, Read, Write};
 use std::sync::Wait;
-use std::test::Fail;
 use terms::CardKey;
 
 /// A writer that takes so many bytes, and then fails.
@@ -47,14 +46,14 @@ impl Read for Failing {
     }
 }
 
-/// The bytes of an answer, by its status and its body.
-pub fn answer(alloc: Global, text: &str) -> Result<String, Fail> {
-    let at = text.find('{').ok_or("a body")?;
+/// The bytes of an answer, by its status and its body. None where no memory is left.
+pub fn answer(alloc: Global, text: &str) -> Option<String> {
+    let at = text.find('{')?;
     let (status, body) = (text[..at].trim_end(), &text[at..]);
     let size = body.len();
-    Ok(format!(in alloc;
+    format!(in alloc;
         "HTTP/1.1 {status}\r\nContent-Type: application/json\r\nContent-Length: {size}\r\nConnection: close\r\n\r\n{body}"
-    )?)
+    ).ok()
 }
 
 /// Serves one connection, with the desk's key; the writer takes so many bytes. What it took, and whether an answer went out
@@ -65,14 +64,14 @@ pub fn served<J: Opening, R: Wait, I: Read + Drop>(
     worker: &mut Worker<J>,
     mut reader: I,
     room: usize,
-) -> Result<(Vec<u8>, bool), Fail> {
-    let desk_key = CardKey::new(alloc, "deskkey00001")?.ok_or("a key")?;
+) -> Option<(Vec<u8>, bool)> {
+    let desk_key = CardKey::new(alloc, "deskkey00001").ok()??;
     let mut writer = Narrow {
         taken: Vec::new(alloc),
         room,
     };
     let is_whole = serve(rt, alloc, worker, &desk_key, &mut reader, &mut writer);
-    Ok((writer.taken, is_whole))
+    Some((writer.taken, is_whole))
 }
 
 /// Whether a request gets its answer, whole.
@@ -82,22 +81,22 @@ pub fn gets<J: Opening, R: Wait>(
     worker: &mut Worker<J>,
     request: &str,
     text: &str,
-) -> Result<bool, Fail> {
+) -> Option<bool> {
     let (taken, is_whole) = served(rt, alloc, worker, request.as_bytes(), 100_000)?;
     let wanted = answer(alloc, text)?;
-    Ok(is_whole && taken.as_slice() == wanted.as_bytes())
+    Some(is_whole && taken.as_slice() == wanted.as_bytes())
 }
 
-/// The text of what a request gets.
+/// The text of what a request gets, where that is whole.
 pub fn told<J: Opening, R: Wait>(
     rt: &R,
     alloc: Global,
     worker: &mut Worker<J>,
     request: &str,
-) -> Result<String, Fail> {
+) -> Option<String> {
     let (taken, is_whole) = served(rt, alloc, worker, request.as_bytes(), 100_000)?;
     if !is_whole {
-        return Err("an answer".into());
+        return None;
     }
-    Ok(String::from_str(alloc, std::str::from_utf8(taken.as_slice())?)?)
+    String::from_str(alloc, std::str::from_utf8(taken.as_slice()).ok()?).ok()
 }

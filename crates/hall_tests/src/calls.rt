@@ -8,7 +8,7 @@ use sqlite::{Connection, MemStore};
 use std::alloc::Global;
 use std::io::{Read, Write};
 use std::sync::Wait;
-use terms::{CardKey, Fault, Memory, Reply, Request};
+use terms::{CardKey, Fault, Memory, PatronId, Reply, Request};
 
 /// What a hall is opened with or given back as.
 pub type Side<J> = (DeskSide<J, MemStore>, Vec<Worker<J>>);
@@ -82,21 +82,37 @@ pub fn in_memory(alloc: Global) -> Result<Desk<MemStore>, Fault> {
     Desk::in_memory(alloc)
 }
 
-/// Has a list of requests handled, under a limit of steps for each call of the database if there is one: how many replies came,
-/// and the fault that ended it.
+/// Has a list of requests handled: the replies that came, and the fault that ended it.
 pub fn run(
     desk: &mut Desk<MemStore>,
     alloc: Global,
     requests: &[Request],
-    limit: Option<u64>,
 ) -> (Vec<Reply>, Option<Fault>) {
-    desk.limit_steps(limit);
-    let ended = match desk.run(alloc, requests) {
+    match desk.run(alloc, requests) {
         Ok(replies) => (replies, None),
         Err((replies, fault)) => (replies, Some(fault)),
+    }
+}
+
+/// Has a request handled, and then looks up the page of a patron, each under a limit of steps for each call of the database:
+/// whether the request was handled, and the fault that came.
+pub fn handle_and_look(
+    desk: &mut Desk<MemStore>,
+    alloc: Global,
+    request: &Request,
+    patron: PatronId,
+    limit: u64,
+) -> (bool, Option<Fault>) {
+    desk.limit_steps(Some(limit));
+    let met = match desk.handle(alloc, request) {
+        Ok(_) => match desk.own_page(alloc, patron) {
+            Ok(_) => (true, None),
+            Err(fault) => (true, Some(fault)),
+        },
+        Err(fault) => (false, Some(fault)),
     };
     desk.limit_steps(None);
-    ended
+    met
 }
 
 /// The database under a desk, with no limit.

@@ -11,7 +11,8 @@ use std::marker::Brand;
 use std::process::Abort;
 use std::sync::Wait;
 use std::test::Fail;
-use std::thread::{Threads, join};
+use std::thread;
+use std::thread::Threads;
 
 const HOLD: &str =
     "POST /patrons/2/holds HTTP/1.1\r\nCard-Key: cardkey00002\r\nRequest-Key: h1\r\nContent-Length: 24\r\n\r\n{\"branch\":1,\"title\":100}";
@@ -75,23 +76,19 @@ enum Deed {
 }
 
 /// How many of the requests get their answers.
-fn answers<J: Opening, R: Wait>(
-    rt: &R,
-    alloc: Global,
-    worker: &mut Worker<J>,
-) -> Result<usize, Fail> {
+fn answers<J: Opening, R: Wait>(rt: &R, alloc: Global, worker: &mut Worker<J>) -> Option<usize> {
     let mut count = 0usize;
     for (request, text) in ANSWERED {
         if gets(rt, alloc, worker, request, text)? {
             count = count.wrapping_add(1);
         }
     }
-    Ok(count)
+    Some(count)
 }
 
 /// How often a hold's answer is cut after as many bytes as the writer takes; and whether it is had
 /// then.
-fn cuts<J: Opening, R: Wait>(rt: &R, alloc: Global, worker: &mut Worker<J>) -> Result<usize, Fail> {
+fn cuts<J: Opening, R: Wait>(rt: &R, alloc: Global, worker: &mut Worker<J>) -> Option<usize> {
     let text = answer(alloc, HELD)?;
     let mut count = 0usize;
     for room in 0..text.len() {
@@ -104,15 +101,11 @@ fn cuts<J: Opening, R: Wait>(rt: &R, alloc: Global, worker: &mut Worker<J>) -> R
     if gets(rt, alloc, worker, HOLD, HELD)? {
         count = count.wrapping_add(1);
     }
-    Ok(count)
+    Some(count)
 }
 
 /// How often nothing is answered where a read fails, and then another hold is the first.
-fn breaks<J: Opening, R: Wait>(
-    rt: &R,
-    alloc: Global,
-    worker: &mut Worker<J>,
-) -> Result<usize, Fail> {
+fn breaks<J: Opening, R: Wait>(rt: &R, alloc: Global, worker: &mut Worker<J>) -> Option<usize> {
     let bytes = HOLD.as_bytes();
     let mut count = 0usize;
     for size in 0..bytes.len() {
@@ -124,7 +117,7 @@ fn breaks<J: Opening, R: Wait>(
             count = count.wrapping_add(1);
         }
     }
-    let other = HOLD.replace(alloc, "h1", "h2")?;
+    let other = HOLD.replace(alloc, "h1", "h2").ok()?;
     if gets(rt, alloc, worker, other.as_str(), HELD)? {
         count = count.wrapping_add(1);
     }
@@ -132,28 +125,29 @@ fn breaks<J: Opening, R: Wait>(
     if is_whole {
         count = count.wrapping_add(1);
     }
-    Ok(count)
+    Some(count)
 }
 
-/// Does this, and leaves.
+/// The only worker does this, and leaves.
 fn work<J: Opening, R: Wait>(
     rt: &R,
     alloc: Global,
-    mut worker: Worker<J>,
+    mut all: Vec<Worker<J>>,
     deed: Deed,
-) -> (Left<J>, Option<usize>) {
+) -> Option<(Left<J>, usize)> {
+    let mut worker = all.pop()?;
     let count = match deed {
-        Deed::Answers => answers(rt, alloc, &mut worker).ok(),
-        Deed::Cuts => cuts(rt, alloc, &mut worker).ok(),
-        Deed::Breaks => breaks(rt, alloc, &mut worker).ok(),
+        Deed::Answers => answers(rt, alloc, &mut worker),
+        Deed::Cuts => cuts(rt, alloc, &mut worker),
+        Deed::Breaks => breaks(rt, alloc, &mut worker),
     };
-    (leave(rt, worker), count)
+    Some((leave(rt, worker), count?))
 }
 
 /// A hall of one, and a desk beside it: how often it went well, and how many submissions were
 /// handled.
-fn meet<J: Opening + Send + Sync, R: Threads + Wait + Abort + Sync>(
-    rt: &R,
+fn meet<J: Opening + Send + Sync + 'static, R: Threads + Wait + Abort + Copy + Send + 'static>(
+    rt: R,
     alloc: Global,
     opened: Opened,
     deed: Deed,
@@ -161,25 +155,23 @@ fn meet<J: Opening + Send + Sync, R: Threads + Wait + Abort + Sync>(
     requires name { opened ≡ J.name }
     requires known { J.known ≡ false }
 {
-    let Ok((side, mut all)) = open_hall::<J, R>(rt, alloc, opened, library(alloc)?, 1) else {
+    let Ok((side, all)) = open_hall::<J, R>(&rt, alloc, opened, library(alloc)?, 1) else {
         return Err("a hall".into());
     };
-    let worker = all.pop().ok_or("a worker")?;
-    let ((left, count), (_desk, mut ended, fault)) = join(
-        rt,
-        move || work(rt, alloc, worker, deed),
-        move || handle_all(rt, alloc, side),
-    );
-    assert!(rt; fault == None && left.is_told);
+    let started = thread::spawn(&rt, move || work(&rt, alloc, all, deed)).ok();
+    let (_desk, mut ended, fault) = handle_all(&rt, alloc, side);
+    let met = started.ok_or("a thread")?.join(&rt);
+    let (left, count) = met.ok_or("answers")?;
+    assert!(&rt; fault == None && left.is_told);
     let handled = take_in(&mut ended, left);
-    Ok((count.ok_or("answers")?, handled))
+    Ok((count, handled))
 }
 
 #[test]
 fn answers_each_kind_of_request(rt: HostRuntime) -> Result<(), Fail> {
     let alloc = rt.alloc();
-    let met = meet::<Brand, _>(&rt, alloc, open_queue(alloc)?, Deed::Answers)?;
-    assert!(rt; met == (11, 3), "{met:?}");
+    let met = meet::<Brand, _>(rt, alloc, open_queue(alloc)?, Deed::Answers)?;
+    assert!(&rt; met == (11, 3), "{met:?}");
     Ok(())
 }
 
@@ -187,9 +179,12 @@ fn answers_each_kind_of_request(rt: HostRuntime) -> Result<(), Fail> {
 #[test]
 fn a_cut_answer_can_be_had_again(rt: HostRuntime) -> Result<(), Fail> {
     let alloc = rt.alloc();
-    let size = answer(alloc, HELD)?.len().wrapping_add(1);
-    let met = meet::<Brand, _>(&rt, alloc, open_queue(alloc)?, Deed::Cuts)?;
-    assert!(rt; met == (size, size as u64), "{met:?}");
+    let size = answer(alloc, HELD)
+        .ok_or("an answer")?
+        .len()
+        .wrapping_add(1);
+    let met = meet::<Brand, _>(rt, alloc, open_queue(alloc)?, Deed::Cuts)?;
+    assert!(&rt; met == (size, size as u64), "{met:?}");
     Ok(())
 }
 
@@ -198,7 +193,7 @@ fn a_cut_answer_can_be_had_again(rt: HostRuntime) -> Result<(), Fail> {
 fn a_request_that_is_not_whole_is_none(rt: HostRuntime) -> Result<(), Fail> {
     let alloc = rt.alloc();
     let size = HOLD.len().wrapping_add(2);
-    let met = meet::<Brand, _>(&rt, alloc, open_queue(alloc)?, Deed::Breaks)?;
-    assert!(rt; met == (size, 2), "{met:?}");
+    let met = meet::<Brand, _>(rt, alloc, open_queue(alloc)?, Deed::Breaks)?;
+    assert!(&rt; met == (size, 2), "{met:?}");
     Ok(())
 }

@@ -67,7 +67,7 @@ pub fn library(alloc: Global) -> Result<Desk<MemStore>, Fail> {
         let (key, text) = line.split_once(' ').ok_or("words")?;
         list.push(request(alloc, Caller::Desk, key, text)?)?;
     }
-    let (replies, fault) = run(&mut desk, alloc, &list, None);
+    let (replies, fault) = run(&mut desk, alloc, &list);
     if replies.len() != list.len() || fault.is_some() {
         return Err("a library".into());
     }
@@ -98,18 +98,18 @@ pub fn holds(alloc: Global, worker: u64) -> Result<Vec<Request>, Fail> {
     Ok(list)
 }
 
-/// The same hold as the bytes of a connection.
-pub fn hold_bytes(alloc: Global, worker: u64, number: u64) -> Result<String, Fail> {
-    Ok(format!(in alloc;
+/// The same hold as the bytes of a connection. None where no memory is left.
+pub fn hold_bytes(alloc: Global, worker: u64, number: u64) -> Option<String> {
+    format!(in alloc;
         "POST /patrons/{worker}/holds HTTP/1.1\r\nCard-Key: cardkey0000{worker}\r\nRequest-Key: h{number}\r\nContent-Length: 24\r\n\r\n{{\"branch\":1,\"title\":{number}00}}"
-    )?)
+    ).ok()
 }
 
 /// A look at the page of a worker's patron, as the bytes of a connection.
-pub fn page_bytes(alloc: Global, worker: u64) -> Result<String, Fail> {
-    Ok(format!(in alloc;
+pub fn page_bytes(alloc: Global, worker: u64) -> Option<String> {
+    format!(in alloc;
         "GET /patrons/{worker} HTTP/1.1\r\nCard-Key: cardkey0000{worker}\r\n\r\n"
-    )?)
+    ).ok()
 }
 
 /// Adds a value and a bar to a text.

@@ -4,27 +4,20 @@ ghost use Rattle.std.specs.Prelude.{◌≡◌, false};
 
 use crate::bytes::{answer, gets, told};
 use crate::calls::{
-    connection, handle_all, leave, limit_side, open_hall, open_queue, run, take_in,
+    connection, handle_all, handle_and_look, leave, limit_side, open_hall, open_queue, run, take_in,
 };
 use crate::library::{HOLDS, hold, hold_bytes, holds, library, order, page_bytes, rows};
 use desk::Desk;
 use hall::{DeskSide, Ended, Left, Opened, Opening, Worker};
 use sqlite::MemStore;
-use std::alloc::{AllocError, Global};
+use std::alloc::Global;
 use std::marker::Brand;
 use std::process::Abort;
 use std::sync::Wait;
 use std::test::Fail;
 use std::thread;
-use std::thread::{Threads, join};
-use terms::Fault;
-
-/// A worker, and the number of its patron.
-#[derive(Drop)]
-struct Job<J: Opening> {
-    worker: Worker<J>,
-    patron: u64,
-}
+use std::thread::{JoinHandle, Threads};
+use terms::{Fault, PatronId};
 
 /// How many holds a page shows.
 fn held(page: &str) -> usize {
@@ -38,7 +31,7 @@ fn place_all<J: Opening, R: Wait>(
     alloc: Global,
     worker: &mut Worker<J>,
     patron: u64,
-) -> Result<u64, Fail> {
+) -> Option<u64> {
     let page = page_bytes(alloc, patron)?;
     let mut count = 0u64;
     for title in 1..HOLDS + 1 {
@@ -48,59 +41,69 @@ fn place_all<J: Opening, R: Wait>(
             count = count.wrapping_add(1);
         }
     }
-    Ok(count)
+    Some(count)
 }
 
 /// Places all, and leaves.
-fn work<J: Opening, R: Wait>(rt: &R, alloc: Global, job: Job<J>) -> (Left<J>, u64) {
-    let Job { mut worker, patron } = job;
-    let count = match place_all(rt, alloc, &mut worker, patron) {
-        Ok(count) => count,
-        Err(_) => 0,
-    };
+fn work<J: Opening, R: Wait>(
+    rt: &R,
+    alloc: Global,
+    mut worker: Worker<J>,
+    patron: u64,
+) -> (Left<J>, Option<u64>) {
+    let count = place_all(rt, alloc, &mut worker, patron);
     (leave(rt, worker), count)
+}
+
+/// A worker's thread.
+type Working<J> = JoinHandle<(Left<J>, Option<u64>)>;
+
+/// Each worker in a thread of its own, with the patron of its number.
+fn start_all<J: Opening + Send + Sync + 'static, R: Threads + Wait + Copy + Send + 'static>(
+    rt: R,
+    alloc: Global,
+    workers: Vec<Worker<J>>,
+) -> Option<Vec<Working<J>>> {
+    let mut threads = Vec::with_capacity(alloc, workers.len()).ok()?;
+    let mut patron = 0u64;
+    for worker in workers {
+        patron = patron.wrapping_add(1);
+        let thread = thread::spawn(&rt, move || work(&rt, alloc, worker, patron)).ok()?;
+        threads.push(thread).ok()?;
+    }
+    Some(threads)
 }
 
 /// What a hall has come to.
 #[derive(Drop)]
 struct Met<J: Opening> {
-    lefts: Vec<(Left<J>, u64)>,
+    lefts: Vec<(Left<J>, Option<u64>)>,
     desk: Desk<MemStore>,
     ended: Ended<J>,
     fault: Option<Fault>,
 }
 
-/// Each worker in a thread of its own, and the desk in one.
-fn meet<J: Opening + Send + Sync, R: Threads + Wait + Sync>(
-    rt: &R,
+/// The workers in threads, and the desk in this one.
+fn meet<J: Opening + Send + Sync + 'static, R: Threads + Wait + Copy + Send + 'static>(
+    rt: R,
     alloc: Global,
     side: DeskSide<J, MemStore>,
-    jobs: Vec<Job<J>>,
-) -> Result<Met<J>, AllocError>
+    workers: Vec<Worker<J>>,
+) -> Result<Met<J>, Fail>
     requires { J.known ≡ false }
 {
-    let (lefts, (desk, ended, fault)) = join(
-        rt,
-        move || thread::map_vec(rt, jobs, &|job| work(rt, alloc, job)),
-        move || handle_all(rt, alloc, side),
-    );
+    let started = start_all(rt, alloc, workers);
+    let (desk, ended, fault) = handle_all(&rt, alloc, side);
+    let mut lefts = Vec::new(alloc);
+    for thread in started.ok_or("threads")? {
+        lefts.push(thread.join(&rt))?;
+    }
     Ok(Met {
-        lefts: lefts?,
+        lefts,
         desk,
         ended,
         fault,
     })
-}
-
-/// The workers' jobs.
-fn jobs<J: Opening>(alloc: Global, workers: Vec<Worker<J>>) -> Result<Vec<Job<J>>, Fail> {
-    let mut jobs = Vec::new(alloc);
-    let mut patron = 0u64;
-    for worker in workers {
-        patron = patron.wrapping_add(1);
-        jobs.push(Job { worker, patron })?;
-    }
-    Ok(jobs)
 }
 
 /// The rows of a library whose desk handles one list: of each worker its requests in turn, in the order that these numbers tell.
@@ -115,7 +118,7 @@ fn rows_of_run(rt: &impl Abort, alloc: Global, order: &[i64]) -> Result<String, 
         let place = next.get_mut(worker as usize).ok_or("a worker")?;
         *place = place.wrapping_add(1);
     }
-    let (replies, fault) = run(&mut desk, alloc, &list, None);
+    let (replies, fault) = run(&mut desk, alloc, &list);
     assert!(rt; replies.len() == list.len() && fault == None);
     rows(alloc, &mut connection(desk))
 }
@@ -135,7 +138,7 @@ fn check_whole<J: Opening>(
     } = met;
     assert!(rt; fault == None && lefts.len() as u64 == workers);
     for (left, count) in lefts {
-        assert!(rt; left.is_told && count == HOLDS);
+        assert!(rt; left.is_told && count == Some(HOLDS));
         let handled = take_in(&mut ended, left);
         assert!(rt; handled == workers.wrapping_mul(HOLDS));
     }
@@ -148,8 +151,8 @@ fn check_whole<J: Opening>(
 }
 
 /// A hall of so many workers.
-fn run_hall<J: Opening + Send + Sync, R: Threads + Wait + Abort + Sync>(
-    rt: &R,
+fn run_hall<J: Opening + Send + Sync + 'static, R: Threads + Wait + Abort + Copy + Send + 'static>(
+    rt: R,
     alloc: Global,
     opened: Opened,
     workers: u64,
@@ -157,62 +160,83 @@ fn run_hall<J: Opening + Send + Sync, R: Threads + Wait + Abort + Sync>(
     requires name { opened ≡ J.name }
     requires known { J.known ≡ false }
 {
-    let Ok((side, all)) = open_hall::<J, _>(rt, alloc, opened, library(alloc)?, workers as usize)
-    else {
+    let desk = library(alloc)?;
+    let Ok((side, all)) = open_hall::<J, R>(&rt, alloc, opened, desk, workers as usize) else {
         return Err("a hall".into());
     };
-    let jobs = jobs(alloc, all)?;
-    let met = meet(rt, alloc, side, jobs)?;
-    check_whole(rt, alloc, met, workers)
+    let met = meet(rt, alloc, side, all)?;
+    check_whole(&rt, alloc, met, workers)
 }
 
 #[test]
 fn two_workers(rt: HostRuntime) -> Result<(), Fail> {
-    run_hall::<Brand, _>(&rt, rt.alloc(), open_queue(rt.alloc())?, 2)
+    run_hall::<Brand, _>(rt, rt.alloc(), open_queue(rt.alloc())?, 2)
 }
 
 #[test]
 fn eight_workers(rt: HostRuntime) -> Result<(), Fail> {
-    run_hall::<Brand, _>(&rt, rt.alloc(), open_queue(rt.alloc())?, 8)
+    run_hall::<Brand, _>(rt, rt.alloc(), open_queue(rt.alloc())?, 8)
 }
 
-/// What one list comes to under a limit of steps: how many of its requests are answered, the fault after them, and all rows.
+/// Where the first worker's list ends under a limit of steps: how many of its requests are shown, how
+/// many are handled, what the worker is told of the next one, and the fault that closes the hall.
+#[derive(Clone, Copy)]
+struct Cut {
+    shown: usize,
+    handled: u64,
+    told: Fault,
+    fault: Fault,
+}
+
+/// Where it ends, and all rows after it.
 #[derive(Drop)]
 struct Wanted {
-    answered: usize,
-    fault: Fault,
+    cut: Cut,
     text: String,
 }
 
-/// What the first worker's list comes to; none where no fault comes.
+/// Where the first worker's list ends, be it at a request or at the page after it; none where no
+/// fault comes. Of a page that can't be had the worker is told 92.
 fn run_limited(alloc: Global, limit: u64) -> Result<Option<Wanted>, Fail> {
     let mut desk = library(alloc)?;
-    let (replies, fault) = run(&mut desk, alloc, &holds(alloc, 1)?, Some(limit));
-    let Some(fault) = fault else {
-        return Ok(None);
-    };
-    Ok(Some(Wanted {
-        answered: replies.len(),
-        fault,
-        text: rows(alloc, &mut connection(desk))?,
-    }))
+    let mut shown = 0usize;
+    for request in &holds(alloc, 1)? {
+        let patron = PatronId::new(1);
+        let (is_handled, fault) = handle_and_look(&mut desk, alloc, request, patron, limit);
+        if let Some(fault) = fault {
+            let told = if is_handled { Fault::Closed } else { fault };
+            let handled = (shown as u64).wrapping_add(u64::from(is_handled));
+            let text = rows(alloc, &mut connection(desk))?;
+            return Ok(Some(Wanted {
+                cut: Cut {
+                    shown,
+                    handled,
+                    told,
+                    fault,
+                },
+                text,
+            }));
+        }
+        shown = shown.wrapping_add(1);
+    }
+    Ok(None)
 }
 
-/// What the worker's patron is answered for the hold of this title, from 1 on: those that the list
-/// answers, then its fault, then 92.
-fn is_answered(alloc: Global, wanted: &Wanted, title: u64, text: &str) -> Result<bool, Fail> {
-    let answered = wanted.answered as u64;
-    if title <= answered {
-        return Ok(text.starts_with("HTTP/1.1 200 OK"));
+/// What the worker's patron is answered for the hold of this title, from 1 on: the reply of those that
+/// are shown, then what is told of the next, then 92.
+fn is_answered(alloc: Global, cut: Cut, title: u64, text: &str) -> Option<bool> {
+    let shown = cut.shown as u64;
+    if title <= shown {
+        return Some(text.starts_with("HTTP/1.1 200 OK"));
     }
-    let fault = if title == answered.wrapping_add(1) {
-        wanted.fault
+    let fault = if title == shown.wrapping_add(1) {
+        cut.told
     } else {
         Fault::Closed
     };
     let number = fault.number();
-    let line = format!(in alloc; "503 Service Unavailable {{\"fault\":{number}}}")?;
-    Ok(text == answer(alloc, &line)?.as_str())
+    let line = format!(in alloc; "503 Service Unavailable {{\"fault\":{number}}}").ok()?;
+    Some(text == answer(alloc, &line)?.as_str())
 }
 
 /// How many of the first worker's answers are right: its holds, and the page after them.
@@ -220,19 +244,19 @@ fn right_of_one<J: Opening, R: Wait>(
     rt: &R,
     alloc: Global,
     worker: &mut Worker<J>,
-    wanted: &Wanted,
-) -> Result<u64, Fail> {
+    cut: Cut,
+) -> Option<u64> {
     let mut count = 0u64;
     for title in 1..HOLDS + 1 {
         let text = told(rt, alloc, worker, &hold_bytes(alloc, 1, title)?)?;
-        if is_answered(alloc, wanted, title, &text)? {
+        if is_answered(alloc, cut, title, &text)? {
             count = count.wrapping_add(1);
         }
     }
-    if held(&told(rt, alloc, worker, &page_bytes(alloc, 1)?)?) == wanted.answered {
+    if held(&told(rt, alloc, worker, &page_bytes(alloc, 1)?)?) == cut.shown {
         count = count.wrapping_add(1);
     }
-    Ok(count)
+    Some(count)
 }
 
 /// How many of the second worker's answers are right, once the hall is closed: 92 for its hold, and
@@ -241,17 +265,17 @@ fn right_of_two<J: Opening, R: Wait>(
     rt: &R,
     alloc: Global,
     worker: &mut Worker<J>,
-    wanted: &Wanted,
-) -> Result<u64, Fail> {
+    cut: Cut,
+) -> Option<u64> {
     let mut count = 0u64;
     let closed = "503 Service Unavailable {\"fault\":92}";
     if gets(rt, alloc, worker, &hold_bytes(alloc, 2, 1)?, closed)? {
         count = count.wrapping_add(1);
     }
-    if held(&told(rt, alloc, worker, &page_bytes(alloc, 1)?)?) == wanted.answered {
+    if held(&told(rt, alloc, worker, &page_bytes(alloc, 1)?)?) == cut.shown {
         count = count.wrapping_add(1);
     }
-    Ok(count)
+    Some(count)
 }
 
 /// What two workers were answered, one after the other.
@@ -266,49 +290,46 @@ struct Told<J: Opening> {
 fn work_closed<J: Opening, R: Wait>(
     rt: &R,
     alloc: Global,
-    mut one: Worker<J>,
-    mut two: Worker<J>,
-    wanted: &Wanted,
-) -> Told<J> {
-    let first = right_of_one(rt, alloc, &mut one, wanted).ok();
-    let second = right_of_two(rt, alloc, &mut two, wanted).ok();
+    mut all: Vec<Worker<J>>,
+    cut: Cut,
+) -> Option<Told<J>> {
+    let mut two = all.pop()?;
+    let mut one = all.pop()?;
+    let first = right_of_one(rt, alloc, &mut one, cut);
+    let second = right_of_two(rt, alloc, &mut two, cut);
     let lefts = (leave(rt, one), leave(rt, two));
-    Told {
+    Some(Told {
         lefts,
         first,
         second,
-    }
+    })
 }
 
 /// The hall closes where the list ends, and both workers are told.
-fn check_closed<J: Opening + Send + Sync, R: Threads + Wait + Abort + Sync>(
-    rt: &R,
-    alloc: Global,
-    opened: Opened,
-    limit: u64,
-    wanted: &Wanted,
-) -> Result<(), Fail>
+fn check_closed<
+    J: Opening + Send + Sync + 'static,
+    R: Threads + Wait + Abort + Copy + Send + 'static,
+>(rt: R, alloc: Global, opened: Opened, limit: u64, wanted: &Wanted) -> Result<(), Fail>
     requires name { opened ≡ J.name }
     requires known { J.known ≡ false }
 {
-    let Ok((mut side, mut all)) = open_hall::<J, _>(rt, alloc, opened, library(alloc)?, 2) else {
+    let desk = library(alloc)?;
+    let Ok((mut side, all)) = open_hall::<J, R>(&rt, alloc, opened, desk, 2) else {
         return Err("a hall".into());
     };
     limit_side(&mut side, limit);
-    let two = all.pop().ok_or("a worker")?;
-    let one = all.pop().ok_or("a worker")?;
-    let (told, (desk, mut ended, fault)) = join(
-        rt,
-        move || work_closed(rt, alloc, one, two, wanted),
-        move || handle_all(rt, alloc, side),
-    );
-    assert!(rt; fault == Some(wanted.fault), "{limit}");
-    assert!(rt; told.first == Some(4) && told.second == Some(2), "{limit}");
+    let cut = wanted.cut;
+    let started = thread::spawn(&rt, move || work_closed(&rt, alloc, all, cut)).ok();
+    let (desk, mut ended, fault) = handle_all(&rt, alloc, side);
+    let met = started.ok_or("a thread")?.join(&rt);
+    let told = met.ok_or("workers")?;
+    assert!(&rt; fault == Some(cut.fault), "{limit}");
+    assert!(&rt; told.first == Some(4) && told.second == Some(2), "{limit}");
     let (one, two) = told.lefts;
-    assert!(rt; take_in(&mut ended, one) == wanted.answered as u64);
-    assert!(rt; take_in(&mut ended, two) == wanted.answered as u64);
+    assert!(&rt; take_in(&mut ended, one) == cut.handled);
+    assert!(&rt; take_in(&mut ended, two) == cut.handled);
     let text = rows(alloc, &mut connection(desk))?;
-    assert!(rt; text.as_str() == wanted.text.as_str());
+    assert!(&rt; text.as_str() == wanted.text.as_str());
     Ok(())
 }
 
@@ -316,15 +337,19 @@ fn check_closed<J: Opening + Send + Sync, R: Threads + Wait + Abort + Sync>(
 fn a_fault_closes_the_hall(rt: HostRuntime) -> Result<(), Fail> {
     let alloc = rt.alloc();
     let mut places = [0u64; 3];
+    let mut pages = 0u64;
     for limit in 1..200u64 {
         let Some(wanted) = run_limited(alloc, limit)? else {
             break;
         };
-        check_closed::<Brand, _>(&rt, alloc, open_queue(alloc)?, limit, &wanted)?;
-        let place = places.get_mut(wanted.answered).ok_or("a place")?;
+        check_closed::<Brand, _>(rt, alloc, open_queue(alloc)?, limit, &wanted)?;
+        let place = places.get_mut(wanted.cut.shown).ok_or("a place")?;
         *place = place.wrapping_add(1);
+        if wanted.cut.handled > wanted.cut.shown as u64 {
+            pages = pages.wrapping_add(1);
+        }
     }
-    assert!(rt; places[0] > 0 && places[2] > 0, "{places:?}");
+    assert!(&rt; places[0] > 0 && pages > 0, "{places:?} {pages}");
     Ok(())
 }
 
@@ -339,7 +364,13 @@ fn refuse<J: Opening, R: Wait + Abort>(
     requires known { J.known ≡ false }
 {
     match open_hall::<J, _>(rt, alloc, opened, library(alloc)?, workers) {
-        Ok(_) => Err("no hall".into()),
+        Ok((side, all)) => {
+            for worker in all {
+                let _ = leave(rt, worker);
+            }
+            let _ = handle_all(rt, alloc, side);
+            Err("no hall".into())
+        }
         Err((number, desk)) => {
             assert!(rt; number == 21);
             let text = rows(alloc, &mut connection(desk))?;
