@@ -1,7 +1,7 @@
 """The rules of docs/RULES.md once more, in plain Python: what each request of the desk is answered, and the rows after it.
 
-It was written from the rules and shares nothing with the program, so that the two can be compared. It leaves out what no
-test on files reaches: requests of patrons, with their keys and refusal 81, and numbers that are used up (70).
+It was written from the rules and shares nothing with the program, so that the two can be compared. It leaves out what
+patrons are refused because it isn't theirs (14, 15 and 81), and numbers that are used up (70).
 """
 
 import datetime
@@ -34,7 +34,7 @@ class Library:
         self.branches, self.closed, self.kinds, self.rules = {}, {}, {}, {}
         self.patrons, self.titles, self.copies = {}, {}, {}
         self.loans, self.holds, self.transits, self.lines = {}, {}, {}, []
-        self.kept = {}
+        self.kept = {}  # by caller and key
 
     # ---- days
 
@@ -331,8 +331,8 @@ class Library:
 
     # ---- requests
 
-    def handle(self, key, words):
-        """The lines that answer a request of the desk."""
+    def handle(self, key, words, caller=0):
+        """The lines that answer a request of the desk, or of a patron about what is the patron's own."""
         name, arguments = words[0], [int(word) if word.isdecimal() else word for word in words[1:]]
         # names and texts are words, also where they are digits
         if name in ("branch", "patron", "acquire"):
@@ -340,15 +340,15 @@ class Library:
         if name == "patron":
             arguments[2] = words[3]
         text = " ".join(words)
-        if name != "page" and key in self.kept:
-            kept, reply = self.kept[key]
+        if name != "page" and (caller, key) in self.kept:
+            kept, reply = self.kept[caller, key]
             return reply if kept == text else "refused 80"
         try:
             reply = getattr(self, "do_" + name.replace("-", "_"))(*arguments)
         except Refused as refusal:
             return f"refused {refusal}"
         if name != "page":
-            self.kept[key] = (text, reply)
+            self.kept[caller, key] = (text, reply)
         return reply
 
     def take_in(self, rows):
@@ -407,5 +407,5 @@ class Library:
             "transits": [(n, goal, hold) for n, (goal, hold) in sorted(self.transits.items())],
             "lines": [(n, r["patron"], number(r["day"]), sorts.index(r["sort"]), r["amount"], r["loan"])
                       for n, r in enumerate(self.lines, 1)],
-            "kept": [(0, key, text, reply) for key, (text, reply) in sorted(self.kept.items())],
+            "kept": [(caller, key, text, reply) for (caller, key), (text, reply) in sorted(self.kept.items())],
         }

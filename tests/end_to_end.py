@@ -19,7 +19,7 @@ import subprocess
 import sys
 import tempfile
 import time
-from contextlib import closing
+from contextlib import closing, contextmanager
 
 import calendar_weeks
 from desk_rules import Library
@@ -520,13 +520,20 @@ def timed(call):
     return given, time.perf_counter() - begin
 
 
-def rows_now(path, text):
-    """What stock SQLite reads in a copy of the files, so that what a kill left stays as it is."""
+@contextmanager
+def as_it_is(path):
+    """A copy of the files for stock SQLite, so that what a kill left stays as it is."""
     with tempfile.TemporaryDirectory() as folder:
         copied = os.path.join(folder, "copy.db")
         for tail in ("", "-wal"):
             if os.path.exists(path + tail):
                 shutil.copy(path + tail, copied + tail)
+        yield copied
+
+
+def rows_now(path, text):
+    """What stock SQLite reads in a copy of the files."""
+    with as_it_is(path) as copied:
         return rows(copied, text)
 
 
@@ -545,11 +552,16 @@ IN_THE_MONTH = {
 }
 
 
+def month():
+    """The requests of a month: the key of each and its words."""
+    with open(os.path.join(TOP, "tests", "month.txt"), encoding="utf-8") as file:
+        return [shlex.split(line) for line in file]
+
+
 def a_month(folder):
     """Three branches in one month: each line is that of the rules, and so is each row; and with a run that is killed at
     a random moment before many of the commands, which are then sent again under the same key, the rows are the same."""
-    with open(os.path.join(TOP, "tests", "month.txt"), encoding="utf-8") as file:
-        requests = [shlex.split(line) for line in file]
+    requests = month()
     calm, killed = os.path.join(folder, "calm.db"), os.path.join(folder, "killed.db")
     library, seed = Library(), random.randrange(10**9)
     print(f"end to end: {len(requests)} requests of a month, moments of kills by the seed {seed}")
@@ -564,8 +576,8 @@ def a_month(folder):
             printed, hit = kill_at_work(["file", killed, key, *words], moments.uniform(0, 1.2 * took))
             kept = rows_now(killed, f"SELECT COUNT(*) FROM kept WHERE caller = 0 AND key = '{key}'") == [(1,)]
             # what was told is kept, whenever the kill came
-            check(f"{key} {words} told and kept, seed {seed}", kept or key not in library.kept or printed == "", True)
-            if hit and key in library.kept:
+            check(f"{key} {words} told and kept, seed {seed}", kept or (0, key) not in library.kept or printed == "", True)
+            if hit and (0, key) in library.kept:
                 hits[kept] += 1
         check(f"{key} {words} after kills, seed {seed}", answers(killed, key, words), (line + "\n", status_of(line)))
     check("the month has each of these", IN_THE_MONTH - seen, set())

@@ -14,6 +14,7 @@ import subprocess
 import tempfile
 import threading
 import time
+from concurrent.futures import ThreadPoolExecutor
 
 import end_to_end as desk
 from desk_rules import Library
@@ -33,23 +34,38 @@ def free_port():
 
 
 class Serving:
-    """The program serving a file for so many connections; at the end it has printed just these lines and has this status."""
+    """The program serving a file for so many connections; at the end it has printed just these lines and has this status.
+    Its workers serve as many each, so at the end the spare ones ask for nowhere: were they fewer or more, that would fail."""
 
-    def __init__(self, path, each, after="", status=0):
-        self.port, self.after, self.status = free_port(), after, status
-        self.words = ["serve", path, str(self.port), "1", str(each), DESK_KEY]
+    def __init__(self, path, connections, after="", status=0, workers=1, **how):
+        self.port, self.after, self.status, self.how = free_port(), after, status, how
+        each = -(-connections // workers)
+        self.spare = each * workers - connections
+        self.words = ["serve", path, str(self.port), str(workers), str(each), DESK_KEY]
 
     def __enter__(self):
-        self.run = subprocess.Popen([PROGRAM, *self.words], stdout=subprocess.PIPE, stderr=subprocess.PIPE)
-        check("the first line", self.run.stdout.readline(), f"listening on {self.port}\n".encode())
+        self.run = subprocess.Popen([PROGRAM, *self.words], stdout=subprocess.PIPE, stderr=subprocess.PIPE, **self.how)
+        try:
+            check("the first line", self.run.stdout.readline(), f"listening on {self.port}\n".encode())
+        except BaseException:
+            self.end()
+            raise
         return self
 
     def __exit__(self, kind, error, trace):
-        if kind:
-            self.run.kill()
-        out, err = self.run.communicate(timeout=120)
-        if not kind:
-            check("what it printed", (out.decode(), err, self.run.returncode), (self.after, b"", self.status))
+        try:
+            if not kind:
+                for _ in range(self.spare):
+                    self.answers("GET", "/nowhere", {}, None, 404, b'{"status":404}')
+                out, err = self.run.communicate(timeout=120)
+                check("what it printed", (out.decode(), err, self.run.returncode), (self.after, b"", self.status))
+        finally:
+            self.end()
+
+    def end(self):
+        """Ends the program, if it is still there."""
+        self.run.kill()
+        self.run.wait()
 
     def ask(self, method, target, fields=None, body=None):
         """The status, the body and the fields of an answer, by http.client."""
@@ -107,6 +123,13 @@ def answer(status, body, allow=""):
             f"Connection: close\r\n\r\n").encode() + body
 
 
+def told(line):
+    """The status and the body of the answer that tells a line of the desk."""
+    if line.startswith("refused "):
+        return 409, f'{{"refusal":{line.split()[1]}}}'.encode()
+    return 200, json.dumps({"reply": line}, ensure_ascii=False, separators=(",", ":")).encode()
+
+
 def a_library(folder, name):
     """The small library that all begin with."""
     path = os.path.join(folder, name)
@@ -114,7 +137,7 @@ def a_library(folder, name):
     return path
 
 
-def each_route(folder):
+def each_route(folder, workers):
     """Each route with its command, and each status."""
     path = a_library(folder, "routes.db")
     hold = b'{"branch":1,"title":100}'
@@ -157,7 +180,7 @@ def each_route(folder):
         ("POST", "/desk", {"Desk-Key": DESK_KEY, "Request-Key": "d5"}, b" " * 65_537, 413, b'{"status":413}'),
     ]
     wrong = [("DELETE", "/patrons/1", "GET"), ("PUT", "/desk", "POST"), ("GET", "/patrons/1/loans/1/renew", "POST")]
-    with Serving(path, len(posted) + len(wrong)) as serving:
+    with Serving(path, len(posted) + len(wrong), workers=workers) as serving:
         for method, target, fields, body, status, wanted in posted:
             serving.answers(method, target, fields, body, status, wanted)
         for method, target, allowed in wrong:
@@ -169,7 +192,7 @@ def each_route(folder):
           [(1, "r1"), (2, "c1"), (2, "h1")])
 
 
-def by_curl(folder):
+def by_curl(folder, workers):
     """Each route by curl, as the README shows it, and a body for which curl waits to be told to go on."""
     path = a_library(folder, "curl.db")
     with open(os.path.join(TOP, "README.md"), encoding="utf-8") as file:
@@ -177,7 +200,7 @@ def by_curl(folder):
     answers = [b'{"reply":"hold 1"}', b'{"reply":"patron 2 owed 0 name Bo Carr\\nhold 1 at 1 waiting title 100 Rivers of the North"}',
                b'{"reply":"ok"}', b'{"reply":"loan 1 due 2026-03-09"}', b'{"reply":"loan 1 due 2026-03-16"}']
     check("the README shows each route", len(lines), len(answers))
-    with Serving(path, len(answers) + 1) as serving:
+    with Serving(path, len(answers) + 1, workers=workers) as serving:
         for line, wanted in zip(lines, answers):
             words = shlex.split(line.replace("127.0.0.1:8080", f"127.0.0.1:{serving.port}"))
             run = subprocess.run([*words, "-s", "-m", "60"], capture_output=True, timeout=90)
@@ -190,7 +213,7 @@ def by_curl(folder):
         check("a body that curl asks about", found, (200, b'{"reply":"ok"}'))
 
 
-def in_pieces(folder):
+def in_pieces(folder, workers):
     """A request is answered the same however its bytes come."""
     path = a_library(folder, "pieces.db")
     whole_page = answer("200 OK", ANNS_PAGE)
@@ -198,7 +221,7 @@ def in_pieces(folder):
     pieces += [[PAGE_OF_ANN[:at], PAGE_OF_ANN[at:]] for at in range(1, len(PAGE_OF_ANN))]
     body = b'{"branch":1,"title":100}'
     head = f"POST /patrons/2/holds HTTP/1.1\r\nCard-Key: cardkey00002\r\nRequest-Key: h1\r\nContent-Length: {len(body)}\r\n\r\n".encode()
-    with Serving(path, len(pieces) + 7) as serving:
+    with Serving(path, len(pieces) + 7, workers=workers) as serving:
         for cut in pieces:
             check("a page in pieces", serving.raw(*cut), whole_page)
         held = answer("200 OK", b'{"reply":"hold 1"}')
@@ -215,10 +238,10 @@ def in_pieces(folder):
     check("one hold", rows(path, "SELECT COUNT(*) FROM holds"), [(1,)])
 
 
-def one_waits(folder):
-    """Connections are answered in the order in which they came; one that waits for its turn is answered too."""
+def one_waits(folder, workers):
+    """Connections are answered in the order in which they came; one that waits for a worker is answered too."""
     path = a_library(folder, "waits.db")
-    with Serving(path, 9) as serving:
+    with Serving(path, 9, workers=workers) as serving:
         peers = [socket.create_connection(("127.0.0.1", serving.port), timeout=60) for _ in range(9)]
         peers[8].sendall(PAGE_OF_ANN)
         for peer in peers[:8]:
@@ -229,27 +252,55 @@ def one_waits(folder):
         peers[8].close()
 
 
-def a_silent_client(folder):
-    """A client that sends nothing is let go after half a minute, and the next one is answered."""
-    path = a_library(folder, "silent.db")
-    with Serving(path, 2) as serving:
+def a_silent_client(folder, workers):
+    """A client that sends nothing is let go after half a minute; it keeps one worker waiting and no other."""
+    path = a_library(folder, f"silent{workers}.db")
+    with Serving(path, 2, workers=workers) as serving:
         with socket.create_connection(("127.0.0.1", serving.port), timeout=90) as silent:
             began = time.monotonic()
             check("the next one", serving.raw(PAGE_OF_ANN), answer("200 OK", ANNS_PAGE))
-            check("it had waited", 29 < time.monotonic() - began < 45, True)
+            waited = time.monotonic() - began
+            check("it had waited, if there is one worker", 29 < waited < 45 if workers == 1 else waited < 15, True)
             check("the silent one gets nothing", everything(silent), b"")
+            check("it was let go", 29 < time.monotonic() - began < 45, True)
 
 
-def faults(folder):
-    """After a fault of the desk its connection is told, nobody else is served, and a line tells the fault."""
-    path = a_library(folder, "damaged.db")
+def a_damaged_patron(folder, workers):
+    """Every page is made at the start, so a damaged patron is told in place of the first line, and nobody is served."""
+    path = a_library(folder, "patron.db")
     desk.write(path, "UPDATE patrons SET card_key = 'short' WHERE patron = 2")
     before = whole(path)
-    with Serving(path, 5, "fault 93\n", 3) as serving:
-        serving.answers("GET", "/patrons/1", ANN, None, 200, ANNS_PAGE)
-        serving.answers("GET", "/patrons/2", BO, None, 503, b'{"fault":93}')
+    check("a damaged patron", circ(["serve", path, str(free_port()), str(workers), "1", DESK_KEY]), ("fault 93", 3))
     check("the rows stay", whole(path), before)
-    # another process has the file
+
+
+def a_damaged_copy(folder, workers):
+    """The request that meets a fault of the desk is told it, each later one that the hall is closed; pages stay, and a line tells the fault."""
+    path = a_library(folder, "copy.db")
+    desk.write(path, "UPDATE copies SET condition = 3 WHERE copy = 20")
+    before = whole(path)
+    clerk = lambda key: {"Desk-Key": DESK_KEY, "Request-Key": key}
+    bos_page = b'{"reply":"patron 2 owed 0 name Bo Carr"}'
+    first = ("POST", "/desk", clerk("f1"), b'["check-out","1","20","2"]', 503, b'{"fault":93}')
+    later = [
+        ("POST", "/desk", clerk("f1"), b'["check-out","1","20","2"]', 503, b'{"fault":92}'),
+        ("POST", "/desk", clerk("f2"), b'["check-out","1","10","1"]', 503, b'{"fault":92}'),
+        ("POST", "/patrons/2/holds", {**BO, "Request-Key": "f3"}, b'{"branch":1,"title":100}', 503, b'{"fault":92}'),
+        ("GET", "/patrons/2", BO, None, 200, bos_page),
+        ("POST", "/desk", clerk("f4"), b'["page","2"]', 200, bos_page),
+        ("GET", "/patrons/2", ANN, None, 403, b'{"refusal":81}'),
+        ("POST", "/desk", clerk("f5"), b'["page","8"]', 409, b'{"refusal":11}'),
+        ("POST", "/desk", {**clerk("f6"), "Desk-Key": "deskkey00002"}, b'["check-out","1","10","1"]', 403, b'{"refusal":81}'),
+        ("POST", "/desk", clerk("f7"), b'["check-out","1"]', 400, b'{"status":400}'),
+    ] * 3
+    with Serving(path, 2 + len(later), "fault 93\n", 3, workers=workers) as serving:
+        for asked in [("GET", "/patrons/1", ANN, None, 200, ANNS_PAGE), first, *later]:
+            serving.answers(*asked)
+    check("the rows stay", whole(path), before)
+
+
+def no_network(folder):
+    """A file or a port that another process has, nobody who listens, and an answer that doesn't come."""
     path = a_library(folder, "taken.db")
     with Serving(path, 1) as serving:
         check("the file is taken", circ(["file", path, "x1", "begin-day", "2026-03-03"]), ("fault 91", 3))
@@ -274,7 +325,8 @@ def bad_words(folder):
     port = str(free_port())
     for words in (["serve"], ["serve", path], ["serve", path, port, "1", "1"], ["serve", path, "0", "1", "1", DESK_KEY],
                   ["serve", path, "65536", "1", "1", DESK_KEY], ["serve", path, port, "0", "1", DESK_KEY],
-                  ["serve", path, port, "2", "1", DESK_KEY], ["serve", path, port, "1", "0", DESK_KEY],
+                  ["serve", path, port, "9", "1", DESK_KEY], ["serve", path, port, "01", "1", DESK_KEY],
+                  ["serve", path, port, "1", "0", DESK_KEY],
                   ["serve", path, port, "1", "1000001", DESK_KEY], ["serve", path, port, "1", "01", DESK_KEY],
                   ["serve", path, port, "1", "1", "short"], ["serve", path, port, "1", "1", DESK_KEY, "more"],
                   ["send"], ["send", port], ["send", port, DESK_KEY], ["send", port, DESK_KEY, "k1"],
@@ -284,25 +336,21 @@ def bad_words(folder):
     check("no file is made", os.path.exists(path), False)
 
 
-def sent(folder):
+def sent(folder, workers):
     """The month of commands by `circ send`: each answer, its status, and every row as by `circ file`."""
-    with open(os.path.join(TOP, "tests", "month.txt"), encoding="utf-8") as file:
-        requests = [shlex.split(line) for line in file]
-    path, library = os.path.join(folder, "month.db"), Library()
+    requests, path, library = desk.month(), os.path.join(folder, "month.db"), Library()
     others = [
         (DESK_KEY, "o1", ["page", "01"], b'{"status":400}\n', 4),
         (DESK_KEY, "o2", ["no-such-word"], b'{"status":400}\n', 4),
         (DESK_KEY, "o3", ["branch", *["Hill"] * 12], b'{"status":400}\n', 4),
         ("deskkey00002", "o4", ["page", "1"], b'{"refusal":81}\n', 2),
     ]
-    with Serving(path, len(requests) + len(others)) as serving:
+    with Serving(path, len(requests) + len(others), workers=workers) as serving:
         for key, *words in requests:
-            line = library.handle(key, words)
-            wanted = {"refusal": int(line.split()[1])} if line.startswith("refused") else {"reply": line}
+            status, body = told(library.handle(key, words))
             run = subprocess.run([PROGRAM, "send", str(serving.port), DESK_KEY, key, *words], capture_output=True, timeout=60)
-            found = run.stdout.decode(), run.stderr, run.returncode
-            check(f"{key} {words}", found,
-                  (json.dumps(wanted, ensure_ascii=False, separators=(",", ":")) + "\n", b"", 2 if "refusal" in wanted else 0))
+            found = run.stdout, run.stderr, run.returncode
+            check(f"{key} {words}", found, (body + b"\n", b"", 0 if status == 200 else 2))
         for desk_key, key, words, wanted, status in others:
             run = subprocess.run([PROGRAM, "send", str(serving.port), desk_key, key, *words], capture_output=True, timeout=60)
             check(f"{words}", (run.stdout, run.returncode), (wanted, status))
@@ -314,29 +362,19 @@ def main():
     if not shutil.which("curl"):
         raise SystemExit("web: curl is missing")
     with tempfile.TemporaryDirectory() as folder:
-        # half a minute in which nothing happens, beside the others
-        failed = []
-        silent = threading.Thread(target=lambda: failed.append(caught(a_silent_client, folder)))
-        silent.start()
-        each_route(folder)
-        by_curl(folder)
-        in_pieces(folder)
-        one_waits(folder)
-        faults(folder)
-        bad_words(folder)
-        sent(folder)
-        silent.join()
-        check("the silent client", failed, [None])
+        with ThreadPoolExecutor() as pool:
+            # half a minute in which nothing happens, beside the others
+            silent = [pool.submit(a_silent_client, folder, workers) for workers in (1, 2)]
+            no_network(folder)
+            bad_words(folder)
+            for workers in (1, 2, 8):
+                room = os.path.join(folder, f"workers{workers}")
+                os.mkdir(room)
+                for part in (each_route, by_curl, in_pieces, one_waits, a_damaged_patron, a_damaged_copy, sent):
+                    part(room, workers)
+            for it in silent:
+                it.result()
     print(f"web: {desk.passed} passed, 0 failed")
-
-
-def caught(call, folder):
-    """What a call in a thread of its own failed with."""
-    try:
-        call(folder)
-    except BaseException as error:
-        return repr(error)
-    return None
 
 
 if __name__ == "__main__":

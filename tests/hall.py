@@ -1,0 +1,408 @@
+#!/usr/bin/env python3
+"""Runs `circ serve` with several workers under clients that come at once: what each is answered, and the rows at the end.
+
+Single answers are those of docs/RULES.md, worked out by hand. Under load `desk_rules` handles the same requests one after another, in the
+order of their hold numbers or in that in which the file kept them: the replies and the rows have to be the same.
+"""
+
+import copy
+import http.client
+import json
+import os
+import random
+import resource
+import shutil
+import signal
+import socket
+import subprocess
+import tempfile
+import threading
+from concurrent.futures import ThreadPoolExecutor
+
+import end_to_end as desk
+from desk_rules import Library
+from end_to_end import CIRC, GROUND, check, rows, timed
+from web import ANN, ANNS_PAGE, BO, PAGE_OF_ANN, Serving, a_library, answer, everything, told
+
+HALF_A_HEAD = PAGE_OF_ANN[:30]
+FAILED = answer("400 Bad Request", b'{"status":400}')
+PATRONS, TITLES, RENEWALS = range(1, 9), range(101, 151), 99
+HOLDS = len(TITLES)
+
+
+def at_once(calls):
+    """What calls give that are all made at once, each in a thread of its own."""
+    with ThreadPoolExecutor(len(calls)) as pool:
+        made = [pool.submit(call) for call in calls]
+    return [it.result() for it in made]
+
+
+def asked(serving, caller, key, words):
+    """What a request is answered: by the desk's route, or by that of the patron who asks."""
+    if not caller:
+        return serving.desk(key, words)
+    fields = {"Card-Key": f"cardkey{caller:05}", "Request-Key": key}
+    if words[0] == "renew":
+        return serving.ask("POST", f"/patrons/{caller}/loans/{words[1]}/renew", fields)[:2]
+    body = json.dumps({"branch": int(words[3]), "title": int(words[2])})
+    return serving.ask("POST", f"/patrons/{caller}/holds", fields, body)[:2]
+
+
+def page_of(serving, patron):
+    """What a patron's look at the own page is answered."""
+    return serving.ask("GET", f"/patrons/{patron}", {"Card-Key": f"cardkey{patron:05}"})[:2]
+
+
+def page_by(library, patron):
+    """The page as the rules have it, answered."""
+    return told(library.handle("", ["page", str(patron)]))
+
+
+class Town:
+    """A library of eight patrons, each with two loans of which nobody else wants the titles, and of fifty titles to be held; and its rules."""
+
+    def __init__(self, folder):
+        self.folder, self.path, self.rules = folder, os.path.join(folder, "town.db"), Library()
+        requests = [*self.requests()]
+        with Serving(self.path, len(requests) + len(PATRONS), workers=2) as serving:
+            for at, words in enumerate(requests):
+                check(f"{words}", asked(serving, 0, f"t{at}", words), told(self.rules.handle(f"t{at}", words)))
+            for patron in PATRONS:
+                check("the page of a patron who came meanwhile", page_of(serving, patron), page_by(self.rules, patron))
+        desk.the_rows_are(self.path, self.rules)
+
+    def requests(self):
+        """What is asked of the desk to make it."""
+        for line in ("begin-day 2026-03-02", "branch 1 5 Main", "branch 2 3 Harbour", "week 1 ooooooc", "kind 1 200 200 500",
+                     f"rule 1 1 6 {RENEWALS} 20 100"):
+            yield line.split()
+        for patron in PATRONS:
+            yield ["patron", str(patron), "1", f"cardkey{patron:05}", f"Reader {patron}"]
+        for title in (*range(1, 17), *TITLES):
+            yield ["acquire", str(title), str(title), "1", "1", "2500", f"A title of number {title}"]
+        for number in range(1, 17):
+            yield ["check-out", str((number + 1) // 2), str(number), "1"]
+
+    def copied(self, name):
+        """A copy of the file, and one of its rules."""
+        path = os.path.join(self.folder, name)
+        shutil.copy(self.path, path)
+        return path, copy.deepcopy(self.rules)
+
+
+def caller_of(patron):
+    """Half of the patrons ask by their own routes, and the desk for the others."""
+    return patron if patron % 2 else 0
+
+
+def holds_of(patron):
+    """A patron's requests to hold each title: the caller, the key and the words."""
+    return [(caller_of(patron), f"h{patron}-{title}", ["place-hold", str(patron), str(title), str(1 + title % 2)]) for title in TITLES]
+
+
+def renewals_of(patron):
+    """As many requests to renew a patron's two loans."""
+    return [(caller_of(patron), f"r{patron}-{n}", ["renew", str(2 * patron - n % 2)]) for n in range(HOLDS)]
+
+
+def hold_number(reply):
+    """The number of a hold that was answered."""
+    status, body = reply
+    check("a hold is accepted", (status, body.startswith(b'{"reply":"hold ')), (200, True))
+    return int(body[len(b'{"reply":"hold '):-2])
+
+
+def handle_holds(library, answered):
+    """Has the rules handle holds that were answered, in the order of their numbers: they are numbered from 1, and each reply is the same."""
+    numbered = sorted((hold_number(reply), request, reply) for request, reply in answered)
+    check("the numbers of the holds", [number for number, _, _ in numbered], [*range(1, len(numbered) + 1)])
+    for number, (caller, key, words), reply in numbered:
+        check(f"hold {number}", reply, told(library.handle(key, words, caller)))
+
+
+def handle_kept(path, library):
+    """Has the rules handle what the file kept since, in the order in which it was kept: each reply is the same, and so is each row."""
+    for caller, key, text, reply in rows(path, "SELECT caller, key, text, reply FROM kept ORDER BY rowid"):
+        if (caller, key) not in library.kept:
+            check(f"{caller} {key} {text}", reply, library.handle(key, text.split(), caller))
+    desk.the_rows_are(path, library)
+
+
+def a_hold_and_its_page(folder):
+    """Two workers: a hold is on its page, another's page is as before, and a head cut in its middle changes nothing."""
+    path, library = a_library(folder, "hold.db"), Library()
+    for key, words, _ in GROUND:
+        library.handle(key, words)
+    check("the hold by the rules", library.handle("h1", ["place-hold", "2", "100", "1"], 2), "hold 1")
+    bos_page = b'{"reply":"patron 2 owed 0 name Bo Carr\\nhold 1 at 1 waiting title 100 Rivers of the North"}'
+    with Serving(path, 20, workers=2) as serving:
+        serving.answers("GET", "/patrons/1", ANN, None, 200, ANNS_PAGE)
+        serving.answers("POST", "/patrons/2/holds", {**BO, "Request-Key": "h1"}, b'{"branch":1,"title":100}', 200, b'{"reply":"hold 1"}')
+        for _ in range(6):
+            serving.answers("GET", "/patrons/2", BO, None, 200, bos_page)
+            serving.answers("GET", "/patrons/1", ANN, None, 200, ANNS_PAGE)
+            check("a head cut in its middle", serving.raw(HALF_A_HEAD), FAILED)
+    desk.the_rows_are(path, library)
+
+
+def a_reply_is_on_the_page(town, workers):
+    """What was replied is on the page at once, whichever worker is asked for it: nobody can choose, and each serves as many connections."""
+    path, library = town.copied(f"replied{workers}.db")
+    with Serving(path, 4 * HOLDS, workers=workers) as serving:
+        for request, renewal in zip(holds_of(1), renewals_of(1)):
+            for caller, key, words in (request, renewal):
+                check(f"{key} {words}", asked(serving, caller, key, words), told(library.handle(key, words, caller)))
+                check(f"the page after {words}", page_of(serving, 1), page_by(library, 1))
+    desk.the_rows_are(path, library)
+
+
+def pages_of_a_month(folder):
+    """The month of commands with two workers: after each, every page that it changed is shown anew, and another patron's as it was."""
+    path, library, pages, turns = os.path.join(folder, "month.db"), Library(), {}, []
+    for at, (key, *words) in enumerate(desk.month()):
+        before, wanted = pages, told(library.handle(key, words))
+        pages = {patron: page_by(library, patron) for patron in library.patrons}
+        looks = [patron for patron in pages if pages[patron] != before.get(patron)] + [*pages][at % max(len(pages), 1):][:1]
+        turns.append((key, words, wanted, [(patron, pages[patron]) for patron in looks]))
+    check("commands change pages of several patrons", max(len(looks) for *_, looks in turns) > 2, True)
+    with Serving(path, sum(1 + len(looks) for *_, looks in turns), workers=2) as serving:
+        for key, words, wanted, looks in turns:
+            check(f"{key} {words}", asked(serving, 0, key, words), wanted)
+            for patron, page in looks:
+                check(f"the page of {patron} after {key} {words}", page_of(serving, patron), page)
+    desk.the_rows_are(path, library)
+
+
+def one_is_held(folder):
+    """Two workers for a connection each: while one is held in mid head, the other one is answered."""
+    path = a_library(folder, "held.db")
+    with Serving(path, 2, workers=2) as serving:
+        held, other = (socket.create_connection(("127.0.0.1", serving.port), timeout=60) for _ in range(2))
+        with held, other:
+            held.sendall(HALF_A_HEAD)
+            other.sendall(PAGE_OF_ANN)
+            other.settimeout(0.1)
+            found = b""
+            for _ in range(100):
+                try:
+                    found = other.recv(4096)
+                    break
+                except TimeoutError:
+                    pass
+            if not found:
+                held.close()
+                other.close()
+            check("one is answered while the other is held", found != b"", True)
+            other.settimeout(60)
+            check("its answer", found + everything(other), answer("200 OK", ANNS_PAGE))
+            other.close()
+            held.sendall(PAGE_OF_ANN[len(HALF_A_HEAD):])
+            check("the one that was held", everything(held), answer("200 OK", ANNS_PAGE))
+
+
+def fifty_holds_each(town):
+    """Eight workers and fifty holds by each of eight clients: all are accepted, and the rows are those of the same requests one after another."""
+    path, library = town.copied("fifty.db")
+
+    def client(patron):
+        return [(request, asked(serving, *request)) for request in holds_of(patron)]
+
+    with Serving(path, len(PATRONS) * HOLDS, workers=8) as serving:
+        found = at_once([lambda patron=patron: client(patron) for patron in PATRONS])
+    for answered in found:
+        numbers = [hold_number(reply) for _, reply in answered]
+        check("each client's own in their order", numbers, sorted(numbers))
+    handle_holds(library, [it for answered in found for it in answered])
+    desk.the_rows_are(path, library)
+
+
+class Watched:
+    """A patron whose renewals and pages are counted: how many renewals of each loan were sent, and how many were answered or shown at least."""
+
+    def __init__(self, library, patron):
+        self.library, self.patron, self.lock = copy.deepcopy(library), patron, threading.Lock()
+        self.head, *lines = self.page()
+        self.loans = self.library.open_loans(patron)
+        self.lines = {loan: [line] for loan, line in zip(self.loans, lines)}
+        self.dues = {loan: [str(self.library.loans[loan]["due"])] for loan in self.loans}
+        for _ in range(RENEWALS):
+            for loan in self.loans:
+                self.dues[loan].append(self.library.do_renew(loan).split()[-1])
+            for loan, line in zip(self.loans, self.page()[1:]):
+                self.lines[loan].append(line)
+        self.sent, self.known = dict.fromkeys(self.loans, 0), dict.fromkeys(self.loans, 0)
+
+    def page(self):
+        """The lines of the page as the rules have it now."""
+        return self.library.handle("", ["page", str(self.patron)]).split("\n")
+
+    def note(self, loan, count):
+        """Notes a count of renewals that was answered or shown; none is more than were sent."""
+        with self.lock:
+            check(f"renewals of loan {loan} that were sent", count <= self.sent[loan], True)
+            self.known[loan] = max(self.known[loan], count)
+
+    def look(self, serving):
+        """Looks at the page: it shows all that was known before."""
+        before = dict(self.known)
+        status, body = page_of(serving, self.patron)
+        check("a page", status, 200)
+        head, *lines = json.loads(body)["reply"].split("\n")
+        check("its first line and its loans", (head, len(lines)), (self.head, len(self.loans)))
+        for loan, line in zip(self.loans, lines):
+            check(f"a line of the rules: {line}", line in self.lines[loan], True)
+            count = self.lines[loan].index(line)
+            check(f"no step back from renewal {before[loan]} of loan {loan}: {line}", count >= before[loan], True)
+            self.note(loan, count)
+
+    def renew(self, serving, loan, key):
+        """Renews a loan: the due day is that of a renewal after all that were known."""
+        with self.lock:
+            before = self.known[loan]
+            self.sent[loan] += 1
+        found = asked(serving, caller_of(self.patron), key, ["renew", str(loan)])
+        due = found[1][-12:-2].decode()
+        check(f"a renewal of loan {loan}", found, told(f"loan {loan} due {due}"))
+        check(f"a due day of the rules: {due}", due in self.dues[loan], True)
+        check(f"it is a renewal more than {before}", self.dues[loan].index(due) > before, True)
+        self.note(loan, self.dues[loan].index(due))
+
+
+def no_step_back(town):
+    """Eight clients, two for a patron, mix renewals and looks: a page shows what was answered or shown before it was asked for."""
+    path, library = town.copied("steps.db")
+    seed = random.randrange(10**9)
+    print(f"hall: renewals and pages mixed by the seed {seed}")
+    watched = [Watched(library, patron) for patron in PATRONS[:4]]
+    turns = 100
+
+    def client(number):
+        it, mixed = watched[number // 2], random.Random(seed + number)
+        for turn in range(turns):
+            if mixed.random() < 0.5:
+                it.look(serving)
+            else:
+                it.renew(serving, mixed.choice(it.loans), f"n{number}-{turn}")
+
+    with Serving(path, 8 * turns + len(watched), workers=8) as serving:
+        at_once([lambda number=number: client(number) for number in range(8)])
+        for it in watched:
+            check("every renewal sent was answered, as it is on the page", it.known, it.sent)
+            it.look(serving)
+    handle_kept(path, library)
+
+
+def work(serving, requests, answers):
+    """Asks one request after another up to the first that has no answer, and notes the answers; whether that one may have reached the program."""
+    for request in requests:
+        try:
+            answers[request[0], request[1]] = asked(serving, *request)
+        except ConnectionRefusedError:
+            return False
+        except (OSError, http.client.HTTPException):
+            return True
+    return False
+
+
+def killed_at(path, plans, moment):
+    """The answers of eight clients until the program is killed at a moment, and how many of them wait for an answer in vain."""
+    answers = {}
+    with Serving(path, 8_000_000, status=-signal.SIGKILL, workers=8) as serving:
+        killer = threading.Timer(moment, serving.run.kill)
+        killer.start()
+        waiting = at_once([lambda plan=plan: work(serving, plan, answers) for plan in plans])
+        killer.join()
+    return answers, sum(waiting)
+
+
+def kills(town):
+    """The program is killed while eight clients are at work: what was answered is kept, nothing acts in part, and what is sent again acts once."""
+    plans = [[it for pair in zip(holds_of(patron), renewals_of(patron)) for it in pair] for patron in PATRONS]
+    everyone = {(caller, key) for plan in plans for caller, key, _ in plan}
+    seed, sums = random.randrange(10**9), {"answered": 0, "cut": 0, "cut and kept": 0}
+    moments = random.Random(seed)
+    print(f"hall: moments of kills by the seed {seed}")
+
+    def all_of_it(path):
+        answers = {}
+        with Serving(path, len(everyone), workers=8) as serving:
+            waiting = at_once([lambda plan=plan: work(serving, plan, answers) for plan in plans])
+        check("all are answered", (waiting, len(answers)), ([False] * 8, len(everyone)))
+        return answers
+
+    path, library = town.copied("calm.db")
+    _, took = timed(lambda: all_of_it(path))
+    handle_kept(path, library)
+    for at in range(6):
+        path, library = town.copied(f"killed{at}.db")
+        answered, cut = killed_at(path, plans, moments.uniform(0.05, 0.8) * took)
+        with desk.as_it_is(path) as left:
+            handle_kept(left, library)
+        kept = {it: told(reply) for it, (_, reply) in library.kept.items() if it in everyone}
+        for it, reply in answered.items():
+            check(f"{it} was answered and is kept, seed {seed}", kept.get(it), reply)
+        check(f"what else is kept was cut, seed {seed}", len(kept) - len(answered) <= cut, True)
+        sums = {name: sums[name] + more for name, more in zip(sums, (len(answered), cut, len(kept) - len(answered)))}
+        again = all_of_it(path)
+        for it, reply in kept.items():
+            check(f"{it} gets its reply again, seed {seed}", again[it], reply)
+        for it, (status, _) in again.items():
+            check(f"{it} is accepted, seed {seed}", status, 200)
+        handle_kept(path, library)
+        for it, reply in again.items():
+            check(f"the reply of {it}, seed {seed}", reply, told(library.kept[it][1]))
+    print("hall: requests at kills: " + ", ".join(f"{many} {what}" for what, many in sums.items()))
+    check(f"kills hit work, seed {seed}", (sums["answered"] > 0, sums["cut"] > 0), (True, True))
+
+
+def a_full_disk(town):
+    """The disk takes no more while eight clients are at work: one is told the fault, all later requests that the hall is closed. What was
+    answered stands, and so do the pages."""
+    path, library = town.copied("full.db")
+    looks = [patron for patron in PATRONS for _ in range(3)]
+
+    def client(patron):
+        found = []
+        for at, request in enumerate(holds_of(patron)):
+            # no file of the process can be written from here on; the signal that would come with it is ignored as it is here
+            if patron == 1 and at == 10:
+                resource.prlimit(serving.run.pid, resource.RLIMIT_FSIZE, (0, 0))
+            found.append((request, asked(serving, *request)))
+        return found
+
+    connections = len(PATRONS) * HOLDS + 2 * len(looks)
+    with Serving(path, connections, "fault 91\n", 3, workers=8, restore_signals=False) as serving:
+        found = at_once([lambda patron=patron: client(patron) for patron in PATRONS])
+        accepted = [it for answered in found for it in answered if it[1][0] == 200]
+        handle_holds(library, accepted)
+        refused = [reply for answered in found for _, reply in answered if reply[0] != 200]
+        check("one met the fault", refused.count((503, b'{"fault":91}')), 1)
+        check("the others met a closed hall", refused.count((503, b'{"fault":92}')), len(refused) - 1)
+        for answered in found:
+            statuses = [status for _, (status, _) in answered]
+            check("nothing is accepted after that", statuses, sorted(statuses))
+        check("ten were accepted before", [status for _, (status, _) in found[0]], [200] * 10 + [503] * (HOLDS - 10))
+        for at, patron in enumerate(looks):
+            check("a page as it was last", page_of(serving, patron), page_by(library, patron))
+            check("the same by the desk", asked(serving, 0, f"p{at}", ["page", str(patron)]), page_by(library, patron))
+    desk.the_rows_are(path, library)
+
+
+def main():
+    subprocess.run([CIRC], stdout=subprocess.DEVNULL, check=False)  # builds the program where it isn't there
+    with tempfile.TemporaryDirectory() as folder:
+        a_hold_and_its_page(folder)
+        one_is_held(folder)
+        pages_of_a_month(folder)
+        town = Town(folder)
+        for workers in (2, 8):
+            a_reply_is_on_the_page(town, workers)
+        fifty_holds_each(town)
+        no_step_back(town)
+        a_full_disk(town)
+        kills(town)
+    print(f"hall: {desk.passed} passed, 0 failed")
+
+
+if __name__ == "__main__":
+    main()
