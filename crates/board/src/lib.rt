@@ -9,6 +9,8 @@ mod origin;
 mod publisher;
 mod request;
 mod rule;
+#[cfg(test)]
+mod tests;
 mod window;
 mod worker_id;
 

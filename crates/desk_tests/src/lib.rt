@@ -16,3 +16,5 @@ mod limits;
 mod lists;
 #[cfg(test)]
 mod stops;
+#[cfg(test)]
+mod touches;

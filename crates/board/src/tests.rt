@@ -1,0 +1,543 @@
+//! Requests compared, numbers of workers, and boards from their opening to their end.
+
+ghost use Rattle.std.specs.Prelude.{◌≡◌, ◌+◌, ◌++◌, [], ◌∷◌, IfOk, IfSome};
+ghost use Rattle.board.specs.Showing.{count_own};
+
+use crate::{Entry, First, Publisher, SharedRequest, Unseen, Window, WorkerId};
+use desk::OwnPage;
+use std::alloc::Global;
+use std::marker::Brand;
+use std::sync::Wait;
+use std::test::Fail;
+use terms::{
+    BranchId, Caller, CardKey, Command, HoldId, Key, LoanId, Owner, PatronId, Reply, Request, Text,
+    TitleId, request_text,
+};
+
+// ---- requests
+
+/// A request that can be shared, of a caller under a key.
+fn shared(
+    alloc: Global,
+    caller: Caller,
+    key: &str,
+    command: Command,
+) -> Result<SharedRequest, Fail> {
+    let key = Key::new(alloc, key)?.ok_or("a key")?;
+    let request = Request {
+        caller,
+        key,
+        command,
+    };
+    Ok(SharedRequest::new(alloc, request)?)
+}
+
+/// A patron who shows a card key.
+fn patron(alloc: Global, number: u32, card_key: &str) -> Result<Caller, Fail> {
+    let card_key = CardKey::new(alloc, card_key)?.ok_or("a card key")?;
+    Ok(Caller::Patron(PatronId::new(number), card_key))
+}
+
+/// To renew a loan.
+fn renewal(loan: u32) -> Command {
+    Command::Renew {
+        loan: LoanId::new(loan),
+    }
+}
+
+/// The request with which the others are compared: patron 1 renews loan 5.
+fn own(alloc: Global) -> Result<SharedRequest, Fail> {
+    let caller = patron(alloc, 1, "cardkey00001")?;
+    shared(alloc, caller, "k1", renewal(5))
+}
+
+/// Whether each of two requests is the other.
+fn are_same(one: &SharedRequest, other: &SharedRequest) -> bool {
+    one.is_same(other) && other.is_same(one)
+}
+
+/// Whether neither of two requests is the other.
+fn are_apart(one: &SharedRequest, other: &SharedRequest) -> bool {
+    !one.is_same(other) && !other.is_same(one)
+}
+
+#[test]
+fn requests_of_the_same_parts_are_the_same(rt: HostRuntime) -> Result<(), Fail> {
+    let alloc = rt.alloc();
+    let one = own(alloc)?;
+    assert!(rt; are_same(&one, &own(alloc)?));
+    let copied = one.try_clone()?;
+    assert!(rt; are_same(&one, &copied));
+    let desk = shared(alloc, Caller::Desk, "k1", renewal(5))?;
+    assert!(rt; are_same(&desk, &shared(alloc, Caller::Desk, "k1", renewal(5))?));
+    Ok(())
+}
+
+#[test]
+fn requests_with_another_caller_key_or_loan_are_others(rt: HostRuntime) -> Result<(), Fail> {
+    let alloc = rt.alloc();
+    let one = own(alloc)?;
+    for (number, card_key, key, loan) in [
+        (2, "cardkey00001", "k1", 5),
+        (1, "cardkey00002", "k1", 5),
+        (1, "cardkey00001", "k2", 5),
+        (1, "cardkey00001", "k1", 6),
+    ] {
+        let caller = patron(alloc, number, card_key)?;
+        let other = shared(alloc, caller, key, renewal(loan))?;
+        assert!(rt; are_apart(&one, &other), "{number} {card_key} {key} {loan}");
+    }
+    Ok(())
+}
+
+#[test]
+fn a_request_of_the_desk_or_with_another_command_is_another(rt: HostRuntime) -> Result<(), Fail> {
+    let alloc = rt.alloc();
+    let one = own(alloc)?;
+    let desk = shared(alloc, Caller::Desk, "k1", renewal(5))?;
+    assert!(rt; are_apart(&one, &desk));
+    let command = Command::CancelHold {
+        hold: HoldId::new(5),
+    };
+    let caller = patron(alloc, 1, "cardkey00001")?;
+    let other = shared(alloc, caller, "k1", command)?;
+    assert!(rt; are_apart(&one, &other));
+    Ok(())
+}
+
+#[test]
+fn a_shared_request_can_be_read(rt: HostRuntime) -> Result<(), Fail> {
+    let alloc = rt.alloc();
+    let one = own(alloc)?;
+    let request = one.get();
+    assert!(rt; request.caller.owner() == Owner::Patron(PatronId::new(1)));
+    assert!(rt; request.key.as_str() == "k1");
+    assert!(rt; request_text(alloc, &request.command)?.as_str() == "renew 5");
+    Ok(())
+}
+
+// ---- workers
+
+#[test]
+fn workers_are_numbered_from_1_to_8(rt: HostRuntime) -> Result<(), Fail> {
+    for number in 1..9u64 {
+        let worker = WorkerId::new(number).ok_or("a worker")?;
+        assert!(rt; worker.number() == number);
+    }
+    for number in [0, 9, u64::MAX] {
+        assert!(rt; WorkerId::new(number).is_none(), "{number}");
+    }
+    Ok(())
+}
+
+// ---- a board
+
+/// A page of a patron who has this card key.
+fn page(alloc: Global, card_key: &str, text: &str) -> Result<OwnPage, Fail> {
+    let card_key = CardKey::new(alloc, card_key)?.ok_or("a card key")?;
+    let page = Text::new(String::from_str(alloc, text)?);
+    Ok(OwnPage {
+        card_key,
+        reply: Reply::Shown { page },
+    })
+}
+
+/// What the board shows first: the pages of patrons 1 and 2.
+fn first_pages(alloc: Global) -> Result<First, Fail> {
+    let one = page(alloc, "cardkey00001", "page 1")?;
+    let two = page(alloc, "cardkey00002", "page 2")?;
+    let first = First::new(alloc);
+    let first = first.with(alloc, PatronId::new(2), two)?;
+    let first = first.with(alloc, PatronId::new(1), one)?;
+    Ok(first)
+}
+
+/// A board for two windows. Nothing is known of the tables at its opening.
+fn open_board(alloc: Global) -> Result<Publisher<Brand>, Fail>
+    ensures { IfOk result (λ p. p.shown ≡ []) }
+{
+    let first = first_pages(alloc)?;
+    let publisher = Publisher::<Brand>::new(alloc, first, 2)?;
+    Ok(publisher)
+}
+
+/// Two windows, where the board has places for them.
+fn windows(publisher: &Publisher<Brand>) -> Option<(Window<Brand>, Window<Brand>)> {
+    let one = publisher.window().ok()?;
+    let two = publisher.window().ok()?;
+    Some((one, two))
+}
+
+/// A page more, for the next entry; where that fails the board is ended.
+fn put<R: Wait>(
+    rt: &R,
+    alloc: Global,
+    publisher: Publisher<Brand>,
+    patron: PatronId,
+    page: OwnPage,
+) -> Option<Publisher<Brand>>
+    ensures { IfSome result (λ p. p.shown ≡ publisher.shown) }
+{
+    let mut publisher = publisher;
+    match publisher.put(alloc, patron, page) {
+        Ok(()) => Some(publisher),
+        Err(_) => {
+            publisher.close(rt);
+            None
+        }
+    }
+}
+
+/// An entry more; where that fails the board is ended.
+fn show<R: Wait>(
+    rt: &R,
+    alloc: Global,
+    publisher: Publisher<Brand>,
+    entry: Entry,
+) -> Option<Publisher<Brand>>
+    requires { entry.number ≡ count_own entry.worker publisher.shown + 1 }
+    ensures { IfSome result (λ p. p.shown ≡ publisher.shown ++ entry ∷ []) }
+{
+    let _in_limits = entry.worker.number();
+    match publisher.publish(rt, alloc, entry) {
+        Ok(publisher) => Some(publisher),
+        Err(writer) => {
+            drop(writer.take(rt));
+            None
+        }
+    }
+}
+
+/// What a worker asked for, and the patron's page once it was handled.
+#[derive(Drop)]
+struct Step {
+    request: SharedRequest,
+    page: OwnPage,
+}
+
+/// The first entry of all: hold 1, by worker 1 for patron 1.
+fn show_one<R: Wait>(
+    rt: &R,
+    alloc: Global,
+    publisher: Publisher<Brand>,
+    step: Step,
+) -> Option<Publisher<Brand>>
+    requires { publisher.shown ≡ [] }
+    ensures { IfSome result (λ p. count_own 2 p.shown ≡ 0) }
+{
+    let Step { request, page } = step;
+    let publisher = put(rt, alloc, publisher, PatronId::new(1), page)?;
+    let Some(worker) = WorkerId::new(1) else {
+        publisher.close(rt);
+        return None;
+    };
+    let entry = Entry {
+        worker,
+        number: 1,
+        request,
+        reply: Reply::Held {
+            hold: HoldId::new(1),
+        },
+    };
+    show(rt, alloc, publisher, entry)
+}
+
+/// The first entry of worker 2: hold 2, for patron 2.
+fn show_two<R: Wait>(
+    rt: &R,
+    alloc: Global,
+    publisher: Publisher<Brand>,
+    step: Step,
+) -> Option<Publisher<Brand>>
+    requires { count_own 2 publisher.shown ≡ 0 }
+{
+    let Step { request, page } = step;
+    let publisher = put(rt, alloc, publisher, PatronId::new(2), page)?;
+    let Some(worker) = WorkerId::new(2) else {
+        publisher.close(rt);
+        return None;
+    };
+    let entry = Entry {
+        worker,
+        number: 1,
+        request,
+        reply: Reply::Held {
+            hold: HoldId::new(2),
+        },
+    };
+    show(rt, alloc, publisher, entry)
+}
+
+// ---- what a window shows
+
+/// Whether a page has this card key and this text.
+fn is_page(own: &OwnPage, card_key: &str, text: &str) -> bool {
+    let shown = match &own.reply {
+        Reply::Shown { page } => page.as_str(),
+        _ => "",
+    };
+    own.card_key.as_str() == card_key && shown == text
+}
+
+/// Whether a window shows a patron this text, under this card key.
+fn shows(window: &mut Window<Brand>, patron: u32, card_key: &str, text: &str) -> bool {
+    match window.page(PatronId::new(patron)) {
+        Ok(Some(own)) => is_page(&own, card_key, text),
+        _ => false,
+    }
+}
+
+/// Whether a window shows no page of a patron.
+fn shows_none(window: &mut Window<Brand>, patron: u32) -> bool {
+    match window.page(PatronId::new(patron)) {
+        Ok(None) => true,
+        _ => false,
+    }
+}
+
+/// A worker's submission: what a window is asked for.
+#[derive(Drop)]
+struct Asked {
+    worker: WorkerId,
+    number: u64,
+    request: SharedRequest,
+}
+
+/// Whether an entry is of this submission, and has this hold as its reply.
+fn is_entry(entry: &Entry, asked: &Asked, hold: u32) -> bool {
+    let told = match &entry.reply {
+        Reply::Held { hold: given } => given.number(),
+        _ => 0,
+    };
+    entry.worker.number() == asked.worker.number()
+        && entry.number == asked.number
+        && entry.request.is_same(&asked.request)
+        && told == hold
+}
+
+/// Whether a window shows this hold as the reply to a submission.
+fn tells(window: &mut Window<Brand>, asked: &Asked, hold: u32) -> bool {
+    match window.entry(asked.worker, asked.number, &asked.request) {
+        Ok(Some(entry)) => is_entry(&entry, asked, hold),
+        _ => false,
+    }
+}
+
+/// Whether a window shows no reply to a submission.
+fn tells_none(window: &mut Window<Brand>, asked: &Asked) -> bool {
+    match window.entry(asked.worker, asked.number, &asked.request) {
+        Ok(None) => true,
+        _ => false,
+    }
+}
+
+/// Whether a window tells that the desk is gone, whatever is asked.
+fn is_gone(window: &mut Window<Brand>, asked: &Asked) -> bool {
+    let is_page_gone = match window.page(PatronId::new(1)) {
+        Err(unseen) => unseen == Unseen::Gone,
+        Ok(_) => false,
+    };
+    let is_entry_gone = match window.entry(asked.worker, asked.number, &asked.request) {
+        Err(unseen) => unseen == Unseen::Gone,
+        Ok(_) => false,
+    };
+    is_page_gone && is_entry_gone
+}
+
+// ---- the walk
+
+/// The submission of a worker's patron, by their number: to have a title held.
+fn ask(alloc: Global, worker: u64, number: u64, patron_number: u32) -> Result<Asked, Fail> {
+    let worker = WorkerId::new(worker).ok_or("a worker")?;
+    let request = hold(alloc, patron_number)?;
+    Ok(Asked {
+        worker,
+        number,
+        request,
+    })
+}
+
+/// The request of patron 1 or 2 for a hold, each under the key h1.
+fn hold(alloc: Global, patron_number: u32) -> Result<SharedRequest, Fail> {
+    let card_key = format!(in alloc; "cardkey0000{patron_number}")?;
+    let caller = patron(alloc, patron_number, card_key.as_str())?;
+    let command = Command::PlaceHold {
+        patron: PatronId::new(patron_number),
+        title: TitleId::new(100),
+        branch: BranchId::new(1),
+    };
+    shared(alloc, caller, "h1", command)
+}
+
+/// What the two workers submit, and what they don't.
+#[derive(Drop)]
+struct AllAsked {
+    one: Asked,
+    two: Asked,
+    others: [Asked; 3],
+}
+
+/// Each other submission differs from one that is handled in one thing: its number, its request or its worker.
+fn all_asked(alloc: Global) -> Result<AllAsked, Fail> {
+    let one = ask(alloc, 1, 1, 1)?;
+    let two = ask(alloc, 2, 1, 2)?;
+    let number = ask(alloc, 1, 2, 1)?;
+    let request = ask(alloc, 1, 1, 2)?;
+    let worker = ask(alloc, 3, 1, 1)?;
+    Ok(AllAsked {
+        one,
+        two,
+        others: [number, request, worker],
+    })
+}
+
+/// Whether a window shows no reply to what wasn't submitted.
+fn tells_no_other(window: &mut Window<Brand>, all: &AllAsked) -> bool {
+    for other in &all.others {
+        if !tells_none(window, other) {
+            return false;
+        }
+    }
+    true
+}
+
+/// Whether a window shows the first pages, and nothing as handled.
+fn is_as_opened(window: &mut Window<Brand>, all: &AllAsked) -> bool {
+    shows(window, 1, "cardkey00001", "page 1")
+        && shows(window, 2, "cardkey00002", "page 2")
+        && shows_none(window, 3)
+        && tells_none(window, &all.one)
+        && tells_none(window, &all.two)
+        && tells_no_other(window, all)
+}
+
+/// Whether a window shows the first entry alone, with its page.
+fn is_after_one(window: &mut Window<Brand>, all: &AllAsked) -> bool {
+    shows(window, 1, "cardkey00001", "page 1 with hold 1")
+        && shows(window, 2, "cardkey00002", "page 2")
+        && shows_none(window, 3)
+        && tells(window, &all.one, 1)
+        && tells_none(window, &all.two)
+        && tells_no_other(window, all)
+}
+
+/// Whether a window shows the entry of the second worker too, and the first one's still.
+fn is_after_two(window: &mut Window<Brand>, all: &AllAsked) -> bool {
+    shows(window, 1, "cardkey00001", "page 1 with hold 1")
+        && shows(window, 2, "cardkey00002", "page 2 with hold 2")
+        && shows_none(window, 3)
+        && tells(window, &all.one, 1)
+        && tells(window, &all.two, 2)
+        && tells_no_other(window, all)
+}
+
+/// The two steps of the walk.
+fn steps(alloc: Global) -> Result<(Step, Step), Fail> {
+    let request = hold(alloc, 1)?;
+    let new_page = page(alloc, "cardkey00001", "page 1 with hold 1")?;
+    let one = Step {
+        request,
+        page: new_page,
+    };
+    let request = hold(alloc, 2)?;
+    let new_page = page(alloc, "cardkey00002", "page 2 with hold 2")?;
+    let two = Step {
+        request,
+        page: new_page,
+    };
+    Ok((one, two))
+}
+
+/// Whether both windows show what they should: at first, after one entry, after two, and once the
+/// board is closed. None where no memory is left.
+fn walk<R: Wait>(
+    rt: &R,
+    alloc: Global,
+    publisher: Publisher<Brand>,
+    windows: (Window<Brand>, Window<Brand>),
+    all: &AllAsked,
+    steps: (Step, Step),
+) -> Option<[bool; 4]>
+    requires { publisher.shown ≡ [] }
+{
+    let (mut one, mut two) = windows;
+    let (first, second) = steps;
+    let opened = is_as_opened(&mut one, all) && is_as_opened(&mut two, all);
+    let publisher = show_one(rt, alloc, publisher, first)?;
+    let shown = is_after_one(&mut one, all) && is_after_one(&mut two, all);
+    let publisher = show_two(rt, alloc, publisher, second)?;
+    let both = is_after_two(&mut one, all) && is_after_two(&mut two, all);
+    publisher.close(rt);
+    let ended = is_gone(&mut one, &all.one) && is_gone(&mut two, &all.one);
+    Some([opened, shown, both, ended])
+}
+
+#[test]
+fn each_entry_is_shown_with_its_page(rt: HostRuntime) -> Result<(), Fail> {
+    let alloc = rt.alloc();
+    let all = all_asked(alloc)?;
+    let steps = steps(alloc)?;
+    let publisher = open_board(alloc)?;
+    let Some(windows) = windows(&publisher) else {
+        publisher.close(&rt);
+        return Err("two windows".into());
+    };
+    let seen = walk(&rt, alloc, publisher, windows, &all, steps).ok_or("memory")?;
+    assert!(rt; seen == [true; 4], "{seen:?}");
+    Ok(())
+}
+
+/// Whether a window shows what it should of a board that is stopped with a page to be shown: what it
+/// showed, until the writer is taken. None where no memory is left.
+fn walk_stopped<R: Wait>(
+    rt: &R,
+    alloc: Global,
+    publisher: Publisher<Brand>,
+    windows: (Window<Brand>, Window<Brand>),
+    all: &AllAsked,
+    page: OwnPage,
+) -> Option<[bool; 2]> {
+    let (mut one, _two) = windows;
+    let publisher = put(rt, alloc, publisher, PatronId::new(1), page)?;
+    let writer = publisher.stop();
+    let stopped = is_as_opened(&mut one, all);
+    drop(writer.take(rt));
+    Some([stopped, is_gone(&mut one, &all.one)])
+}
+
+#[test]
+fn a_stopped_board_shows_what_it_showed(rt: HostRuntime) -> Result<(), Fail> {
+    let alloc = rt.alloc();
+    let all = all_asked(alloc)?;
+    let (step, _second) = steps(alloc)?;
+    let Step {
+        request: _request,
+        page,
+    } = step;
+    let publisher = open_board(alloc)?;
+    let Some(windows) = windows(&publisher) else {
+        publisher.close(&rt);
+        return Err("two windows".into());
+    };
+    let seen = walk_stopped(&rt, alloc, publisher, windows, &all, page).ok_or("memory")?;
+    assert!(rt; seen == [true; 2], "{seen:?}");
+    Ok(())
+}
+
+/// Whether a board for two windows has a place for one more while there are two.
+fn has_third(publisher: &Publisher<Brand>) -> bool {
+    match windows(publisher) {
+        Some((_one, _two)) => publisher.window().is_ok(),
+        None => true,
+    }
+}
+
+#[test]
+fn a_window_that_is_left_gives_its_place_back(rt: HostRuntime) -> Result<(), Fail> {
+    let publisher = open_board(rt.alloc())?;
+    let is_full = !has_third(&publisher);
+    let is_free = windows(&publisher).is_some();
+    publisher.close(&rt);
+    assert!(rt; is_full && is_free);
+    Ok(())
+}
