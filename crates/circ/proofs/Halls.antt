@@ -100,15 +100,11 @@ module _ {S : Type 0} (g : Ghosts S) where
     told = inr (inr (same, ends));
   }
 
-why-named : {S E : Type 0} (g : Ghosts S) (port workers : ℕ) (old new : Held S) (w : Why) (a b : Option (List ℕ)) (r : Result Exit E) → IsUnopened workers g old new w → EndsWith (exit_of_why w) (why_line w) a b r
-    → ServesPort port g old new a b r
-why-named g port workers old new (why.Faulted fault) a b r is ends = fault-told g port old new a b r fault (not-opened g workers old new fault is) ends
-why-named g port workers old new (why.Refused refusal) a b r is ends = words-told g port old new a b r (not-asked g workers old new refusal is) ends
-
 -- why the hall isn't opened was told
-pub why-told : {S E : Type 0} (g : Ghosts S) (port workers : ℕ) (old new desk : Held S) (w : Why) (a b : Option (List ℕ)) (r : Result Exit E) → desk ≡ new → IsUnopened workers g old desk w
-    → EndsWith (exit_of_why w) (why_line w) a b r → ServesPort port g old new a b r
-why-told {S} g port workers old new desk w a b r at unopened ends = why-named g port workers old new w a b r (subst (λ (d : Held S). IsUnopened workers g old d w) at unopened) ends
+pub why-told : {S E : Type 0} (g : Ghosts S) (port workers : ℕ) (old new : Held S) (w : Why) (a b : Option (List ℕ)) (r : Result Exit E) → IsUnopened workers g old new w → EndsWith (exit_of_why w) (why_line w) a b r
+    → ServesPort port g old new a b r
+why-told g port workers old new (why.Faulted fault) a b r is ends = fault-told g port old new a b r fault (not-opened g workers old new fault is) ends
+why-told g port workers old new (why.Refused refusal) a b r is ends = words-told g port old new a b r (not-asked g workers old new refusal is) ends
 
 -- that a thread could not be made was told, and then the fault
 pub both-told : {E : Type 0} (are_whole : Bool) (fault : Option Fault) (met : Fault) (a b : Option (List ℕ)) (r : Result Exit E) → are_whole ≡ false → fault ≡ Some met

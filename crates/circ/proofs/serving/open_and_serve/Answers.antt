@@ -10,4 +10,4 @@ returns-in-Ok-new g c = opened-served g.S.Store c.args.port c.args.desk c.in-Ok-
 
 pub returns : goal.returns
 returns g c =
-    why-told g.S.Store c.args.port c.args.workers c.args.desk c.in-Err-new.desk c.in-Err-new.field-0.desk c.in-Err-new.field-0.why _ _ c.tell_why.result c.in-Err-new.desk-is c.in-Err-new.ensures.fault c.tell_why.ensures
+    why-told g.S.Store c.args.port c.args.workers c.args.desk c.in-Err-new.field-0.desk c.in-Err-new.field-0.why _ _ c.tell_why.result c.in-Err-new.ensures.fault c.tell_why.ensures
