@@ -14,6 +14,8 @@ use std::fs::File;
 use std::io::{BufWriter, ErrorKind, Write};
 use std::net::{Ipv4Addr, TcpListener, TcpStream};
 use std::process::ExitCode;
+use std::sync::Wait;
+use std::thread::Threads;
 use std::{env, fs, io};
 use terms::{CardKey, Fault, Key};
 
@@ -101,8 +103,9 @@ fn report_on<S: Start, W: Write>(
 }
 
 /// The web over the library in the file, on the port of this machine alone.
-fn serve_on<S: Start, W: Write>(
+fn serve_on<S: Start, W: Write, R: Threads + Wait + Copy + Send + 'static>(
     rt: &HostRuntime,
+    threads: R,
     start: S,
     path: &str,
     port: u16,
@@ -117,7 +120,7 @@ fn serve_on<S: Start, W: Write>(
     };
     let (desk, told) = match TcpListener::bind(rt, (Ipv4Addr::LOCALHOST, port)) {
         Ok(listener) => serve(
-            *rt,
+            threads,
             rt.alloc(),
             desk,
             listener,
@@ -164,8 +167,9 @@ fn words_of(rt: &HostRuntime) -> Result<Vec<String>, Fault> {
 }
 
 /// Does what is asked for, and writes its lines: those of a copies file and of the web at once, so that what was told was done.
-fn do_run<S: Start, W: Write>(
+fn do_run<S: Start, W: Write, R: Threads + Wait + Copy + Send + 'static>(
     rt: &HostRuntime,
+    threads: R,
     start: S,
     asked: Run<'_>,
     writer: &mut W,
@@ -182,6 +186,7 @@ fn do_run<S: Start, W: Write>(
             desk_key,
         } => serve_on(
             rt,
+            threads,
             start,
             path,
             port,
@@ -200,28 +205,32 @@ fn do_run<S: Start, W: Write>(
 }
 
 /// Does what the words ask for, if they are understood.
-fn answer<S: Start, W: Write>(
+fn answer<S: Start, W: Write, R: Threads + Wait + Copy + Send + 'static>(
     rt: &HostRuntime,
+    threads: R,
     start: S,
     alloc: Global,
     words: &[String],
     writer: &mut W,
 ) -> Result<Exit, WriteFault> {
     match read_run(alloc, words) {
-        Ok(Some(asked)) => do_run(rt, start, asked, writer),
+        Ok(Some(asked)) => do_run(rt, threads, start, asked, writer),
         Ok(None) => not_understood(writer),
         Err(_) => out_of_memory(writer),
     }
 }
 
 /// The whole run: the lines of a request or a report go out together at its end.
-fn run(rt: &HostRuntime) -> Result<Exit, WriteFault> {
+fn run<R: Threads + Wait + Copy + Send + 'static>(
+    rt: &HostRuntime,
+    threads: R,
+) -> Result<Exit, WriteFault> {
     let mut writer = match BufWriter::new(rt.alloc(), io::writer(rt)) {
         Ok(writer) => writer,
         Err(_) => return out_of_memory(&mut io::writer(rt)),
     };
     let exit = match words_of(rt) {
-        Ok(words) => answer(rt, Wary, rt.alloc(), &words, &mut writer)?,
+        Ok(words) => answer(rt, threads, Wary, rt.alloc(), &words, &mut writer)?,
         Err(fault) => tell_fault(&mut writer, fault)?,
     };
     match writer.flush() {
@@ -231,6 +240,6 @@ fn run(rt: &HostRuntime) -> Result<Exit, WriteFault> {
 }
 
 fn main(rt: HostRuntime) -> ExitCode {
-    let exit = run(&rt).unwrap_or(Exit::Faulted);
+    let exit = run(&rt, rt).unwrap_or(Exit::Faulted);
     ExitCode::from(exit.status())
 }
