@@ -14,5 +14,3 @@ mod limits;
 mod lists;
 #[cfg(test)]
 mod stops;
-#[cfg(test)]
-mod touches;
