@@ -14,8 +14,8 @@ use Rattle.model.specs.History.{History}
 use Rattle.model.specs.Requests.{reply_to, after_one}
 use Rattle.desk.specs.Answering.{Shows, Stays, LeavesOneOf}
 use Rattle.front.specs.Understood.{IsUnderstoodAs}
-use Rattle.front.specs.declared.words.WordFault.{WordFault}
-use Rattle.front.specs.declared.words.WordFault.TheVariants.{NotUnderstood as NoCommand}
+use Rattle.terms.specs.declared.words.WordFault.{WordFault}
+use Rattle.terms.specs.declared.words.WordFault.TheVariants.{NotUnderstood as NoCommand}
 use Rattle.circ.specs.declared.lines.Exit.{Exit}
 use Rattle.circ.specs.declared.lines.Exit.TheVariants.{Faulted, NotUnderstood}
 use Rattle.circ.specs.Exits.{exit_of}

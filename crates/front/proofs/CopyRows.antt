@@ -8,7 +8,7 @@ use Rattle.std.proofs.lemmas.Str.{IsUtf8-from_ascii}
 use Rattle.std.proofs.lemmas.Bool.{cases_lt}
 use Rattle.csv.specs.Records.{field_at}
 use Rattle.terms.specs.Forms.{IsName, is_name}
-use Rattle.front.specs.Forms.{texts}
+use Rattle.terms.specs.Commands.{texts}
 use Rattle.front.specs.Copies.{Fields, IsRow, IsNoRow, row_fields}
 use Rattle.front.specs.CopyReading.{HasNumbers}
 use Rattle.front.specs.declared.copies.CopyRow.{CopyRow}
@@ -24,10 +24,10 @@ unfolding field_at
 numbers_of fields row h =
     record {
       copy = (h.0.0.0, at_place fields row 0 h);
-      title = (h.0.0.1, at_place fields row 1 h);
-      kind = (h.0.0.2, at_place fields row 3 h);
-      home = (h.0.0.3, at_place fields row 4 h);
-      price = (h.0.1, at_place fields row 5 h);
+      title = (h.0.0.1.0, at_place fields row 1 h);
+      kind = (h.0.0.1.1.0, at_place fields row 3 h);
+      home = (h.0.0.1.1.1.0, at_place fields row 4 h);
+      price = (h.0.1.1.1.1.1.0, at_place fields row 5 h);
     }
 
 pub text_of : (fields : Fields) (row : CopyRow) → IsRow fields row → field_at fields 2 ≡ Some row.text
@@ -44,7 +44,7 @@ no_name fields text there bad =
     record {
       none = λ row h.
           let same : text ≡ row.text = cc (sym there ∙ text_of fields row h) in
-          let good : is_name text ≡ true = ap is_name same ∙ h.0.0.5.0 in
+          let good : is_name text ≡ true = ap is_name same ∙ h.0.0.1.1.1.1.1.0.0 in
           absurd (cc);
     }
 
@@ -95,7 +95,7 @@ row_is fields row text long closed there good same numbers =
     let name : IsName row.text = subst IsName (sym same) good in
     let found : field_at fields 2 ≡ Some row.text = there ∙ ap Some (sym same) in
     let price : row.price < 2 ^ 64 = let p = numbers.price.0 in omega (arith, p) in (
-      ((numbers.copy.0, numbers.title.0, numbers.kind.0, numbers.home.0, price, name), numbers.price.0),
+      ((numbers.copy.0, (numbers.title.0, (numbers.kind.0, (numbers.home.0, (price, (name, tt)))))), (tt, (tt, (tt, (tt, (numbers.price.0, (tt, tt))))))),
       seven fields _ _ _ _ _ _ _ long numbers.copy.1 numbers.title.1 found numbers.kind.1 numbers.home.1 numbers.price.1 closed,
     )
 

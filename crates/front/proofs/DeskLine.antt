@@ -8,16 +8,21 @@ use Rattle.clap.specs.Matches.{first_value}
 use Rattle.clap.specs.declared.parser.matches.Found.{Found}
 use Rattle.clap.specs.declared.parser.matches.ArgMatches.{ArgMatches}
 use Rattle.clap.specs.declared.builder.command.Command.{Command}
-use Rattle.std.specs.Borrow.{Bor}
-use Rattle.front.specs.Forms.{texts}
+use Rattle.std.proofs.lemmas.List.{length-map}
+use Rattle.terms.specs.Commands.{Column, Line, column, commands, parts_in}
+use Rattle.terms.specs.declared.form.PartForm.{PartForm}
 use Rattle.clap.specs.Walk.{first_of, rows_of, Names, Row, Text, Walk, answers_to, nothing_held, walk, walk_from, walked}
 use Rattle.clap.specs.Simple.{App, Shape, built, built_leaf, inherited, is_simple, HasMatchesOf, app_of, subcommand_rows_of, label_of, names_of, marked_built, with_leaf_noted, subcommand_of}
 use Rattle.clap.specs.Takes.{takes, turn_passes, walk_passes}
 use Rattle.std.specs.Str.{bytes_eq}
 use Rattle.std.proofs.lemmas.Slice.Eq.{bytes_eq-Decides}
-use Rattle.front.specs.Line.{arguments_in, HasShape, IsApp, Form, command_app, forms, desk_app as desk}
+use Rattle.front.specs.Line.{HasShape, IsApp, command_app, desk_app as desk, names_in}
 use Rattle.front.specs.Understood.{begins_with_hyphen}
 use Rattle.front.proofs.Walks.{Takes, level_passes-words, rows_are, rows_by, distinct_by, or_false, values_by}
+
+-- a command's name, and the names of its parts
+abbrev Form : Type 0
+Form = Text × List Text
 
 abbrev top : Shape
 top = (built desk).top
@@ -41,113 +46,117 @@ record IsMet (form : Form) : Type 0 where
   named : (leaf form).name ≡ form.0
   takes : Takes (leaf form) form.1
 
-is_met_begin_day : IsMet (codes "begin-day", codes "day" ∷ [])
-unfolding clap_on_literals
-is_met_begin_day = record { walk = refl; passes = refl; found = refl; named = refl; takes = record { placed = (refl, refl, refl, tt); fits = refl } }
+-- the commands of the table, by their places
+abbrev at : ℕ → Form
+at k = let form = get_or commands k ([], []) in (form.0, names_in form.1)
 
-is_met_branch : IsMet (codes "branch", codes "branch" ∷ codes "pickup" ∷ codes "name" ∷ [])
+met_0 : IsMet (at 0)
 unfolding clap_on_literals
-is_met_branch = record { walk = refl; passes = refl; found = refl; named = refl; takes = record { placed = (refl, refl, refl, (refl, refl, refl, (refl, refl, refl, tt))); fits = refl } }
+met_0 = record { walk = refl; passes = refl; found = refl; named = refl; takes = record { placed = (refl, refl, refl, tt); fits = refl } }
 
-is_met_week : IsMet (codes "week", codes "branch" ∷ codes "mask" ∷ [])
+met_1 : IsMet (at 1)
 unfolding clap_on_literals
-is_met_week = record { walk = refl; passes = refl; found = refl; named = refl; takes = record { placed = (refl, refl, refl, (refl, refl, refl, tt)); fits = refl } }
+met_1 = record { walk = refl; passes = refl; found = refl; named = refl; takes = record { placed = (refl, refl, refl, (refl, refl, refl, (refl, refl, refl, tt))); fits = refl } }
 
-is_met_close_day : IsMet (codes "close-day", codes "branch" ∷ codes "day" ∷ [])
+met_2 : IsMet (at 2)
 unfolding clap_on_literals
-is_met_close_day = record { walk = refl; passes = refl; found = refl; named = refl; takes = record { placed = (refl, refl, refl, (refl, refl, refl, tt)); fits = refl } }
+met_2 = record { walk = refl; passes = refl; found = refl; named = refl; takes = record { placed = (refl, refl, refl, (refl, refl, refl, tt)); fits = refl } }
 
-is_met_open_day : IsMet (codes "open-day", codes "branch" ∷ codes "day" ∷ [])
+met_3 : IsMet (at 3)
 unfolding clap_on_literals
-is_met_open_day = record { walk = refl; passes = refl; found = refl; named = refl; takes = record { placed = (refl, refl, refl, (refl, refl, refl, tt)); fits = refl } }
+met_3 = record { walk = refl; passes = refl; found = refl; named = refl; takes = record { placed = (refl, refl, refl, (refl, refl, refl, tt)); fits = refl } }
 
-is_met_kind : IsMet (codes "kind", codes "kind" ∷ codes "loans" ∷ codes "holds" ∷ codes "debt" ∷ [])
+met_4 : IsMet (at 4)
 unfolding clap_on_literals
-is_met_kind = record { walk = refl; passes = refl; found = refl; named = refl; takes = record { placed = (refl, refl, refl, (refl, refl, refl, (refl, refl, refl, (refl, refl, refl, tt)))); fits = refl } }
+met_4 = record { walk = refl; passes = refl; found = refl; named = refl; takes = record { placed = (refl, refl, refl, (refl, refl, refl, tt)); fits = refl } }
 
-is_met_rule : IsMet (codes "rule", codes "kind" ∷ codes "copy-kind" ∷ codes "period" ∷ codes "renewals" ∷ codes "rate" ∷ codes "cap" ∷ [])
+met_5 : IsMet (at 5)
 unfolding clap_on_literals
-is_met_rule = record { walk = refl; passes = refl; found = refl; named = refl; takes = record { placed = (refl, refl, refl, (refl, refl, refl, (refl, refl, refl, (refl, refl, refl, (refl, refl, refl, (refl, refl, refl, tt)))))); fits = refl } }
+met_5 = record { walk = refl; passes = refl; found = refl; named = refl; takes = record { placed = (refl, refl, refl, (refl, refl, refl, (refl, refl, refl, (refl, refl, refl, tt)))); fits = refl } }
 
-is_met_patron : IsMet (codes "patron", codes "patron" ∷ codes "kind" ∷ codes "card-key" ∷ codes "name" ∷ [])
+met_6 : IsMet (at 6)
 unfolding clap_on_literals
-is_met_patron = record { walk = refl; passes = refl; found = refl; named = refl; takes = record { placed = (refl, refl, refl, (refl, refl, refl, (refl, refl, refl, (refl, refl, refl, tt)))); fits = refl } }
+met_6 = record { walk = refl; passes = refl; found = refl; named = refl; takes = record { placed = (refl, refl, refl, (refl, refl, refl, (refl, refl, refl, (refl, refl, refl, (refl, refl, refl, (refl, refl, refl, tt)))))); fits = refl } }
 
-is_met_acquire : IsMet (codes "acquire", codes "copy" ∷ codes "title" ∷ codes "kind" ∷ codes "home" ∷ codes "price" ∷ codes "text" ∷ [])
+met_7 : IsMet (at 7)
 unfolding clap_on_literals
-is_met_acquire = record { walk = refl; passes = refl; found = refl; named = refl; takes = record { placed = (refl, refl, refl, (refl, refl, refl, (refl, refl, refl, (refl, refl, refl, (refl, refl, refl, (refl, refl, refl, tt)))))); fits = refl } }
+met_7 = record { walk = refl; passes = refl; found = refl; named = refl; takes = record { placed = (refl, refl, refl, (refl, refl, refl, (refl, refl, refl, (refl, refl, refl, tt)))); fits = refl } }
 
-is_met_check_out : IsMet (codes "check-out", codes "patron" ∷ codes "copy" ∷ codes "branch" ∷ [])
+met_8 : IsMet (at 8)
 unfolding clap_on_literals
-is_met_check_out = record { walk = refl; passes = refl; found = refl; named = refl; takes = record { placed = (refl, refl, refl, (refl, refl, refl, (refl, refl, refl, tt))); fits = refl } }
+met_8 = record { walk = refl; passes = refl; found = refl; named = refl; takes = record { placed = (refl, refl, refl, (refl, refl, refl, (refl, refl, refl, (refl, refl, refl, (refl, refl, refl, (refl, refl, refl, tt)))))); fits = refl } }
 
-is_met_check_in : IsMet (codes "check-in", codes "copy" ∷ codes "branch" ∷ [])
+met_9 : IsMet (at 9)
 unfolding clap_on_literals
-is_met_check_in = record { walk = refl; passes = refl; found = refl; named = refl; takes = record { placed = (refl, refl, refl, (refl, refl, refl, tt)); fits = refl } }
+met_9 = record { walk = refl; passes = refl; found = refl; named = refl; takes = record { placed = (refl, refl, refl, (refl, refl, refl, (refl, refl, refl, tt))); fits = refl } }
 
-is_met_renew : IsMet (codes "renew", codes "loan" ∷ [])
+met_10 : IsMet (at 10)
 unfolding clap_on_literals
-is_met_renew = record { walk = refl; passes = refl; found = refl; named = refl; takes = record { placed = (refl, refl, refl, tt); fits = refl } }
+met_10 = record { walk = refl; passes = refl; found = refl; named = refl; takes = record { placed = (refl, refl, refl, (refl, refl, refl, tt)); fits = refl } }
 
-is_met_place_hold : IsMet (codes "place-hold", codes "patron" ∷ codes "title" ∷ codes "branch" ∷ [])
+met_11 : IsMet (at 11)
 unfolding clap_on_literals
-is_met_place_hold = record { walk = refl; passes = refl; found = refl; named = refl; takes = record { placed = (refl, refl, refl, (refl, refl, refl, (refl, refl, refl, tt))); fits = refl } }
+met_11 = record { walk = refl; passes = refl; found = refl; named = refl; takes = record { placed = (refl, refl, refl, tt); fits = refl } }
 
-is_met_cancel_hold : IsMet (codes "cancel-hold", codes "hold" ∷ [])
+met_12 : IsMet (at 12)
 unfolding clap_on_literals
-is_met_cancel_hold = record { walk = refl; passes = refl; found = refl; named = refl; takes = record { placed = (refl, refl, refl, tt); fits = refl } }
+met_12 = record { walk = refl; passes = refl; found = refl; named = refl; takes = record { placed = (refl, refl, refl, (refl, refl, refl, (refl, refl, refl, tt))); fits = refl } }
 
-is_met_unshelve : IsMet (codes "unshelve", codes "hold" ∷ [])
+met_13 : IsMet (at 13)
 unfolding clap_on_literals
-is_met_unshelve = record { walk = refl; passes = refl; found = refl; named = refl; takes = record { placed = (refl, refl, refl, tt); fits = refl } }
+met_13 = record { walk = refl; passes = refl; found = refl; named = refl; takes = record { placed = (refl, refl, refl, tt); fits = refl } }
 
-is_met_unshelve_cancelled : IsMet (codes "unshelve-cancelled", codes "hold" ∷ [])
+met_14 : IsMet (at 14)
 unfolding clap_on_literals
-is_met_unshelve_cancelled = record { walk = refl; passes = refl; found = refl; named = refl; takes = record { placed = (refl, refl, refl, tt); fits = refl } }
+met_14 = record { walk = refl; passes = refl; found = refl; named = refl; takes = record { placed = (refl, refl, refl, tt); fits = refl } }
 
-is_met_missing : IsMet (codes "missing", codes "copy" ∷ [])
+met_15 : IsMet (at 15)
 unfolding clap_on_literals
-is_met_missing = record { walk = refl; passes = refl; found = refl; named = refl; takes = record { placed = (refl, refl, refl, tt); fits = refl } }
+met_15 = record { walk = refl; passes = refl; found = refl; named = refl; takes = record { placed = (refl, refl, refl, tt); fits = refl } }
 
-is_met_withdraw : IsMet (codes "withdraw", codes "copy" ∷ [])
+met_16 : IsMet (at 16)
 unfolding clap_on_literals
-is_met_withdraw = record { walk = refl; passes = refl; found = refl; named = refl; takes = record { placed = (refl, refl, refl, tt); fits = refl } }
+met_16 = record { walk = refl; passes = refl; found = refl; named = refl; takes = record { placed = (refl, refl, refl, tt); fits = refl } }
 
-is_met_pay : IsMet (codes "pay", codes "patron" ∷ codes "amount" ∷ [])
+met_17 : IsMet (at 17)
 unfolding clap_on_literals
-is_met_pay = record { walk = refl; passes = refl; found = refl; named = refl; takes = record { placed = (refl, refl, refl, (refl, refl, refl, tt)); fits = refl } }
+met_17 = record { walk = refl; passes = refl; found = refl; named = refl; takes = record { placed = (refl, refl, refl, tt); fits = refl } }
 
-is_met_waive : IsMet (codes "waive", codes "patron" ∷ codes "amount" ∷ [])
+met_18 : IsMet (at 18)
 unfolding clap_on_literals
-is_met_waive = record { walk = refl; passes = refl; found = refl; named = refl; takes = record { placed = (refl, refl, refl, (refl, refl, refl, tt)); fits = refl } }
+met_18 = record { walk = refl; passes = refl; found = refl; named = refl; takes = record { placed = (refl, refl, refl, (refl, refl, refl, tt)); fits = refl } }
 
-is_met_page : IsMet (codes "page", codes "patron" ∷ [])
+met_19 : IsMet (at 19)
 unfolding clap_on_literals
-is_met_page = record { walk = refl; passes = refl; found = refl; named = refl; takes = record { placed = (refl, refl, refl, tt); fits = refl } }
+met_19 = record { walk = refl; passes = refl; found = refl; named = refl; takes = record { placed = (refl, refl, refl, (refl, refl, refl, tt)); fits = refl } }
 
-abbrev AreMet : List Form → Type 0
+met_20 : IsMet (at 20)
+unfolding clap_on_literals
+met_20 = record { walk = refl; passes = refl; found = refl; named = refl; takes = record { placed = (refl, refl, refl, tt); fits = refl } }
+
+abbrev AreMet : List Line → Type 0
 AreMet [] = Unit {0}
-AreMet (form ∷ rest) = IsMet form × AreMet rest
+AreMet (form ∷ rest) = IsMet (form.0, names_in form.1) × AreMet rest
 
-are_met : AreMet forms
-are_met = (is_met_begin_day, (is_met_branch, (is_met_week, (is_met_close_day, (is_met_open_day, (is_met_kind, (is_met_rule, (is_met_patron, (is_met_acquire, (is_met_check_out, (is_met_check_in, (is_met_renew, (is_met_place_hold, (is_met_cancel_hold, (is_met_unshelve, (is_met_unshelve_cancelled, (is_met_missing, (is_met_withdraw, (is_met_pay, (is_met_waive, (is_met_page, tt)))))))))))))))))))))
+are_met : AreMet commands
+are_met = (met_0, (met_1, (met_2, (met_3, (met_4, (met_5, (met_6, (met_7, (met_8, (met_9, (met_10, (met_11, (met_12, (met_13, (met_14, (met_15, (met_16, (met_17, (met_18, (met_19, (met_20, tt)))))))))))))))))))))
 
 pub is_simple_desk : is_simple desk ≡ true
 unfolding clap_on_literals
 is_simple_desk = refl
 
 -- a command that is found is met
-met_in : (commands : List Form) → AreMet commands → (name : Text) (ids : List Text) → arguments_in commands name ≡ Some ids → IsMet (name, ids)
-unfolding arguments_in
-met_in [] met name ids e = absurd (cc)
-met_in (form ∷ rest) met name ids e = go (bytes_eq form.0 name) refl (λ h. met_in rest met.1 name ids h)
+met_in : (forms : List Line) → AreMet forms → (name : Text) (parts : List Column) → parts_in forms name ≡ Some parts → IsMet (name, names_in parts)
+unfolding parts_in
+met_in [] met name parts e = absurd (cc)
+met_in (form ∷ rest) met name parts e = go (bytes_eq form.0 name) refl (λ h. met_in rest met.1 name parts h)
   where
-    go : (b : Bool) → bytes_eq form.0 name ≡ b → (arguments_in rest name ≡ Some ids → IsMet (name, ids)) → IsMet (name, ids)
+    go : (b : Bool) → bytes_eq form.0 name ≡ b → (parts_in rest name ≡ Some parts → IsMet (name, names_in parts)) → IsMet (name, names_in parts)
     go true t more =
         let same : form.0 ≡ name = (bytes_eq-Decides form.0 name).0 t in
-        let one : Some form.1 ≡ Some ids = rw t at e in
-        let ids_are : form.1 ≡ ids = cc in
-        subst (λ (n : Text). IsMet (n, ids)) same (subst (λ (xs : List Text). IsMet (form.0, xs)) ids_are met.0)
+        let one : Some form.1 ≡ Some parts = rw t at e in
+        let parts_are : form.1 ≡ parts = cc in
+        subst (λ (n : Text). IsMet (n, names_in parts)) same (subst (λ (ps : List Column). IsMet (form.0, names_in ps)) parts_are met.0)
     go false t more = more (rw t at e)
 
 -- the line stops at the name, and leaves the other words to the command
@@ -185,44 +194,50 @@ subcommand_of-words form met ws long plain =
     rw (at_top, found, named, rows) refl
 
 -- the form of the words' command is met
-met_by : (words ids : List Text) → (shape : HasShape words ids) → IsMet (shape.name, ids)
-met_by words ids shape = met_in forms are_met shape.name ids shape.known
+met_by : (words : List Text) (parts : List Column) → (shape : HasShape words parts) → IsMet (shape.name, names_in parts)
+met_by words parts shape = met_in commands are_met shape.name parts shape.known
+
+counted : (words : List Text) (parts : List Column) → (shape : HasShape words parts) → length shape.others ≡ length (names_in parts)
+counted words parts shape = shape.count ∙ sym (length-map parts (λ (part : Column). part.0))
 
 plain_after : (words : List Text) (name : Text) (others : List Text) → words ≡ name ∷ others → list_any begins_with_hyphen words ≡ false → list_any begins_with_hyphen others ≡ false
 plain_after words name others joined plain =
     let e : list_any begins_with_hyphen (name ∷ others) ≡ false = subst (λ (ws : List Text). list_any begins_with_hyphen ws ≡ false) joined plain in
     (or_false (begins_with_hyphen name) (list_any begins_with_hyphen others) e).1
 
-pub taken-by_shape : (words ids : List Text) → HasShape words ids → takes desk words ≡ true
-taken-by_shape words ids shape =
+pub taken-by_shape : (words : List Text) (parts : List Column) → HasShape words parts → takes desk words ≡ true
+taken-by_shape words parts shape =
     ap (takes desk) shape.joined
-    ∙ takes-words (shape.name, ids) (met_by words ids shape) shape.others shape.count (plain_after words shape.name shape.others shape.joined shape.plain)
+    ∙ takes-words (shape.name, names_in parts) (met_by words parts shape) shape.others (counted words parts shape)
+    (plain_after words shape.name shape.others shape.joined shape.plain)
 
-rows-by_shape : (words ids : List Text) → (shape : HasShape words ids) → subcommand_of desk words ≡ Some (shape.name, rows_by ids shape.others)
-rows-by_shape words ids shape =
+rows-by_shape : (words : List Text) (parts : List Column) → (shape : HasShape words parts) → subcommand_of desk words ≡ Some (shape.name, rows_by (names_in parts) shape.others)
+rows-by_shape words parts shape =
     ap (subcommand_of desk) shape.joined
-    ∙ subcommand_of-words (shape.name, ids) (met_by words ids shape) shape.others shape.count (plain_after words shape.name shape.others shape.joined shape.plain)
+    ∙ subcommand_of-words (shape.name, names_in parts) (met_by words parts shape) shape.others (counted words parts shape)
+    (plain_after words shape.name shape.others shape.joined shape.plain)
 
 first_values : (found : Found) (ids : List Text) → map (first_value found) ids ≡ map (λ id. first_of id (rows_of found)) ids
 first_values found [] = refl
 first_values found (id ∷ ids) = ap₂ (λ (x : Option Text) (xs : List (Option Text)). x ∷ xs) (first_value-rows found id) (first_values found ids)
 
 -- what the matches hold is the words after the name
-pub values-by_shape : (words ids : List Text) → HasShape words ids → (o : Option (Text × List Row)) (found : Found) → o ≡ subcommand_of desk words
-    → Some (rows_of found) ≡ option_map (λ p. p.1) o → map (first_value found) ids ≡ map Some (drop 1 words)
-values-by_shape words ids shape o found is rows =
-    let met = met_by words ids shape in
-    let known : option_map (λ p. p.1) o ≡ Some (rows_by ids shape.others) = ap (option_map (λ (p : Text × List Row). p.1)) (is ∙ rows-by_shape words ids shape) in
+pub values-by_shape : (words : List Text) (parts : List Column) → HasShape words parts → (o : Option (Text × List Row)) (found : Found) → o ≡ subcommand_of desk words
+    → Some (rows_of found) ≡ option_map (λ p. p.1) o → map (first_value found) (names_in parts) ≡ map Some (drop 1 words)
+values-by_shape words parts shape o found is rows =
+    let ids = names_in parts in
+    let met = met_by words parts shape in
+    let known : option_map (λ p. p.1) o ≡ Some (rows_by ids shape.others) = ap (option_map (λ (p : Text × List Row). p.1)) (is ∙ rows-by_shape words parts shape) in
     let both : Some (rows_of found) ≡ Some (rows_by ids shape.others) = rows ∙ known in
     let same : rows_of found ≡ rows_by ids shape.others = cc in
     let rest : drop 1 words ≡ shape.others = ap (drop 1) shape.joined in
     first_values found ids
     ∙ (ap (λ (rs : List Row). map (λ id. first_of id rs) ids) same
-    ∙ (values_by ids shape.others shape.count (distinct_by (leaf (shape.name, ids)) ids met.takes) ∙ sym (ap (map Some) rest)))
+    ∙ (values_by ids shape.others (counted words parts shape) (distinct_by (leaf (shape.name, ids)) ids met.takes) ∙ sym (ap (map Some) rest)))
 
-pub rows_there : (words ids : List Text) → HasShape words ids → (o : Option (Text × List Row)) → o ≡ subcommand_of desk words → None ≡ option_map (λ p. p.1) o → ⊥
-rows_there words ids shape o is none =
-    let known : option_map (λ p. p.1) o ≡ Some (rows_by ids shape.others) = ap (option_map (λ (p : Text × List Row). p.1)) (is ∙ rows-by_shape words ids shape) in
+pub rows_there : (words : List Text) (parts : List Column) → HasShape words parts → (o : Option (Text × List Row)) → o ≡ subcommand_of desk words → None ≡ option_map (λ p. p.1) o → ⊥
+rows_there words parts shape o is none =
+    let known : option_map (λ p. p.1) o ≡ Some (rows_by (names_in parts) shape.others) = ap (option_map (λ (p : Text × List Row). p.1)) (is ∙ rows-by_shape words parts shape) in
     absurd (cc)
 
 -- what a parse of the line gives
@@ -235,10 +250,10 @@ Somes-same [] (y ∷ ys) e = absurd (cc)
 Somes-same (x ∷ xs) [] e = absurd (cc)
 Somes-same (x ∷ xs) (y ∷ ys) e = ap₂ (λ (z : Text) (zs : List Text). z ∷ zs) (cc) (Somes-same xs ys (cc))
 
--- an argument that was given no word
-pub none-given : (f : Text → Option Text) (arguments : List (Bor Text)) (i : ℕ) (d : Bor Text) (found : List Text) → i < length arguments → f (get_or arguments i d).now ≡ None
-    → map Some found ≡ map f (texts arguments) → ⊥
+-- a part that was given no word
+pub none-given : (f : Text → Option Text) (parts : List PartForm) (i : ℕ) (d : PartForm) (found : List Text) → i < length parts → f (get_or parts i d).name.now ≡ None
+    → map Some found ≡ map f (names_in (map column parts)) → ⊥
 none-given f [] i d found lt none e = absurd (omega arith)
-none-given f (a ∷ arguments) i d [] lt none e = absurd (cc)
-none-given f (a ∷ arguments) zero d (x ∷ found) lt none e = let one : Some x ≡ f a.now = cc in absurd (cc)
-none-given f (a ∷ arguments) (suc i) d (x ∷ found) lt none e = none-given f arguments i d found (omega arith) none (cc)
+none-given f (p ∷ parts) i d [] lt none e = absurd (cc)
+none-given f (p ∷ parts) zero d (x ∷ found) lt none e = let one : Some x ≡ f p.name.now = cc in absurd (cc)
+none-given f (p ∷ parts) (suc i) d (x ∷ found) lt none e = none-given f parts i d found (omega arith) none (cc)

@@ -1,13 +1,7 @@
--- The error that a `?` hands on.
-use Rattle.std.proofs.Common.{◌≡◌, Result, Ok, Err}
-use Rattle.std.specs.Result.{IsErrAnd}
-use Rattle.front.specs.declared.words.WordFault.{WordFault}
-use Rattle.front.specs.declared.words.WordFault.TheVariants.{Memory, NotUnderstood}
-
--- where the error handed on is this one, so is the one that came
-pub same_error : {A B E : Type 0} (r : Result A E) (came said : E) → IsErrAnd r (λ e. e ≡ came) → r ≡ Err said → ◌≡◌ {A = Result B E} (Err came) (Err said)
-same_error (Ok x) came said h e = absurd h
-same_error (Err x) came said h e = cc
+-- Faults of reading words.
+use Rattle.std.proofs.Common.{◌≡◌, Result, Err}
+use Rattle.terms.specs.declared.words.WordFault.{WordFault}
+use Rattle.terms.specs.declared.words.WordFault.TheVariants.{Memory, NotUnderstood}
 
 -- want of memory is no refusal
 pub not_refused : {A : Type 0} (fault : WordFault) → fault ≡ Memory → ◌≡◌ {A = Result A WordFault} (Err fault) (Err NotUnderstood) → ⊥

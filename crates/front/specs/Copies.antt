@@ -5,7 +5,7 @@ use Rattle.std.specs.Fmt.{decimal}
 use Rattle.csv.specs.Reading.{default_config, records, strip_bom}
 use Rattle.terms.specs.declared.command.Command.{Command}
 use Rattle.terms.specs.declared.command.Command.TheVariants.{Acquire}
-use Rattle.front.specs.Understood.{IsSayable}
+use Rattle.terms.specs.Commands.{IsSayable}
 use Rattle.front.specs.declared.copies.CopyRow.{CopyRow}
 use Rattle.front.specs.declared.copies.CopyEnd.{CopyEnd}
 use Rattle.front.specs.declared.copies.CopyEnd.TheVariants.{Whole, Bad, Read, Memory}

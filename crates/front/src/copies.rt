@@ -7,7 +7,7 @@ ghost use Rattle.csv.specs.Reading.{error_kind, is_io, reader_state, source_of, 
 ghost use Rattle.csv.specs.declared.parser.State.TheVariants.{StartRecord};
 ghost use Rattle.csv.specs.Records.{field_at, fields_of};
 ghost use Rattle.front.specs.Copies.{IsRow, IsNoRow, IsReading, FilesReadOnce};
-ghost use Rattle.front.specs.Forms.{texts};
+ghost use Rattle.terms.specs.Commands.{texts};
 ghost use Rattle.front.specs.CopyReading.{HasNumber, HasNumbers, Takes, IsPlain, IsRestReading};
 ghost use Rattle.front.specs.declared.copies.CopyEnd.TheVariants.{Read as NotRead};
 ghost use Rattle.front.specs.declared.copies.CopyEnd.TheVariants.{Memory as NoMemory};

@@ -1,10 +1,10 @@
 //! From words and files to commands.
 #![tactic(auto)]
 
-mod commands;
 mod copies;
 mod line;
 mod words;
 
 pub use copies::{CopyEnd, CopyRow, MOST_ROWS, files_read_once, read_copies};
-pub use words::{WordFault, read_words};
+pub use terms::WordFault;
+pub use words::read_words;

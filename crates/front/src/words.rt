@@ -6,34 +6,18 @@ ghost use Rattle.clap.specs.Words.{Text, first_value, found_of, kind_of, subcomm
 ghost use Rattle.clap.specs.Words.{subcommand_rows_of, takes};
 ghost use Rattle.terms.specs.declared.command.Command.{Command as Said};
 ghost use Rattle.front.specs.Understood.{IsUnderstoodAs, begins_with_hyphen, texts_of};
-ghost use Rattle.front.specs.Line.{HasShape, IsAfterName, desk_app};
-ghost use Rattle.front.specs.Forms.{texts};
-ghost use Rattle.front.specs.declared.words.WordFault.TheVariants.{Memory as NoMemory};
-ghost use Rattle.front.specs.declared.words.WordFault.TheVariants.{NotUnderstood as Refused};
+ghost use Rattle.front.specs.Line.{HasShape, IsAfterName, desk_app, names_in};
+ghost use Rattle.terms.specs.Commands.{column, texts};
+ghost use Rattle.terms.specs.declared.words.WordFault.TheVariants.{Memory as NoMemory};
+ghost use Rattle.terms.specs.declared.words.WordFault.TheVariants.{NotUnderstood as Refused};
 
-use crate::commands::command;
-use crate::line::{FORMS, arguments_of, desk_line};
+use crate::line::desk_line;
 use clap::error::ErrorKind;
 use clap::{ArgMatches, Error};
 use std::alloc::{AllocError, Global};
-use terms::Command;
-
-/// Why words were not read.
-#[derive(Clone, Copy, Debug, PartialEq, Eq)]
-pub enum WordFault {
-    /// They are not the words of a command.
-    NotUnderstood,
-    /// No memory was left.
-    Memory,
-}
-
-impl From<AllocError> for WordFault {
-    ghost from_gives = { λ _ fault. fault ≡ NoMemory };
-
-    fn from(_error: AllocError) -> WordFault {
-        WordFault::Memory
-    }
-}
+use terms::{
+    Command, PartForm, WordFault, command_forms, commands_are_listed, parts_for, read_command,
+};
 
 fn has_hyphen(word: &str) -> bool
     ensures { result ≡ begins_with_hyphen word.now }
@@ -55,23 +39,24 @@ fn any_has_hyphen(words: &[String]) -> bool
     false
 }
 
-/// The arguments of the command that the words have the shape of: a name, as many words as it
-/// takes, and no hyphen before any.
-fn arguments_for(words: &[String]) -> Option<&'static [&'static str]>
-    ensures some { IfSome result (λ ids. HasShape (texts_of words.now) (texts ids.now)) }
+/// The parts of the command that the words have the shape of: a name, a word for each of its parts,
+/// and no hyphen before any.
+fn parts_of_words(words: &[String]) -> Option<&'static [PartForm]>
+    ensures some { IfSome result (λ parts. HasShape (texts_of words.now) (map column parts.now)) }
     ensures none { IfNone result ((said : Said) → IsUnderstoodAs (texts_of words.now) said → ⊥) }
 {
+    commands_are_listed();
     let [name, others @ ..] = words else {
         return None;
     };
-    let arguments = arguments_of(&FORMS, name.as_str())?;
-    if arguments.len() != others.len() {
+    let parts = parts_for(name.as_str())?;
+    if parts.len() != others.len() {
         return None;
     }
     if any_has_hyphen(words) {
         return None;
     }
-    Some(arguments)
+    Some(parts)
 }
 
 fn fault_of(error: &Error) -> WordFault
@@ -89,28 +74,28 @@ fn matches_of<'a>(alloc: Global, words: &'a [String]) -> Result<ArgMatches<'a>, 
         (texts_of words.entry.now)) }
     ensures refused { result ≡ Err Refused → takes desk_app (texts_of words.entry.now) ≢ true }
 {
-    let line = desk_line(alloc, &FORMS)?;
+    let line = desk_line(alloc, command_forms())?;
     match line.try_get_matches_from(words) {
         Ok(matches) => Ok(matches),
         Err(error) => Err(fault_of(&error)),
     }
 }
 
-/// The words that a command's arguments were given, unless one was given none.
+/// The words that a command's parts were given, unless one was given none.
 fn words_given<'a>(
     alloc: Global,
     given: &ArgMatches<'a>,
-    arguments: &[&str],
+    parts: &[PartForm],
 ) -> Result<Option<Vec<&'a str>>, AllocError>
     ensures read { IfOk result (λ some. IfSome some
         (λ found. map Some (texts found.items) ≡ map (first_value (found_of given.now))
-        (texts arguments.now))) }
+        (names_in (map column parts.now)))) }
     ensures refused { IfOk result (λ some. IfNone some ((found : List Text)
-        → map Some found ≢ map (first_value (found_of given.now)) (texts arguments.now))) }
+        → map Some found ≢ map (first_value (found_of given.now)) (names_in (map column parts.now)))) }
 {
     let mut words = Vec::new(alloc);
-    for argument in arguments {
-        let Some(word) = given.get_str(argument) else {
+    for part in parts {
+        let Some(word) = given.get_str(part.name) else {
             return Ok(None);
         };
         words.push(word)?;
@@ -119,21 +104,21 @@ fn words_given<'a>(
 }
 
 /// The words after the command's name, as `clap` gives them to its arguments.
-fn argument_words<'a>(
+fn words_after_name<'a>(
     alloc: Global,
     words: &'a [String],
-    arguments: &[&str],
+    parts: &[PartForm],
 ) -> Result<Vec<&'a str>, WordFault>
     ensures read { IfOk result (λ given_words. HasShape (texts_of words.entry.now)
-        (texts arguments.now) → IsAfterName (texts_of words.entry.now) (texts given_words.items)) }
+        (map column parts.now) → IsAfterName (texts_of words.entry.now) (texts given_words.items)) }
     ensures refused { result ≡ Err Refused
-        → HasShape (texts_of words.entry.now) (texts arguments.now) → ⊥ }
+        → HasShape (texts_of words.entry.now) (map column parts.now) → ⊥ }
 {
     let matches = matches_of(alloc, words)?;
     let Some((_, given)) = matches.subcommand() else {
         return Err(WordFault::NotUnderstood);
     };
-    match words_given(alloc, given, arguments)? {
+    match words_given(alloc, given, parts)? {
         Some(found) => Ok(found),
         None => Err(WordFault::NotUnderstood),
     }
@@ -146,12 +131,12 @@ pub fn read_words(alloc: Global, words: &[String]) -> Result<Command, WordFault>
     ensures refused { result ≡ Err Refused → (said : Said)
         → IsUnderstoodAs (texts_of words.now) said → ⊥ }
 {
-    let Some(arguments) = arguments_for(words) else {
+    let Some(parts) = parts_of_words(words) else {
         return Err(WordFault::NotUnderstood);
     };
     let [name, ..] = words else {
         return Err(WordFault::NotUnderstood);
     };
-    let given = argument_words(alloc, words, arguments)?;
-    command(alloc, name.as_str(), &given)
+    let given = words_after_name(alloc, words, parts)?;
+    read_command(alloc, name.as_str(), &given)
 }

@@ -85,7 +85,7 @@ after-forms [] H forms asks = forms
 after-forms (r ∷ rs) H forms asks = after-forms rs (after_one H r) (forms-one H r forms asks.0 asks.1) asks.2
 
 whole-week : (c : Command) → IsCommand c → IsWholeWeek c
-whole-week (Week branch closed) form = form.1
+whole-week (Week branch closed) form = form.1.0
 whole-week _ form = tt
 
 -- Where commands have their forms, weeks are whole.

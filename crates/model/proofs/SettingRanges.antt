@@ -136,14 +136,14 @@ module _ (H : History) (inv : SettingRanges H) (o : Owner) where
   branches-step : (x : Command) → IsCommand x → refusal H o x ≡ None → (b : ℕ) (r : BranchFacts) → branch_after x b (branch_of H b) ≡ Some r → BranchIn b r
   branches-step (Branch n pickup name) form ok b r e =
       let limits = and_parts (is_small_number n) (is_within 0 60 pickup) (not-false _ (passed (checks H o (Branch n pickup name)) ok).0) in
-      make-at BranchIn n b (record { pickup = pickup; name = name }) (branch_of H b) (within 1 99 n limits.0, (within 0 60 pickup limits.1).1, form.2) (inv.branches b) r e
+      make-at BranchIn n b (record { pickup = pickup; name = name }) (branch_of H b) (within 1 99 n limits.0, (within 0 60 pickup limits.1).1, form.1.1.0) (inv.branches b) r e
   branches-step _ form ok b r e = inv.branches b r e
 
   weeks-step : (x : Command) → IsCommand x → refusal H o x ≡ None → (b : ℕ) → AreWeekdays (week_after x b (week_of H b))
   weeks-step (Week n closed) form ok b = go (n == b)
     where
       go : (x : Bool) → AreWeekdays (cond x closed (week_of H b))
-      go true = record { seven = form.1; some_open = some-open closed (passed (checks H o (Week n closed)) ok).1.0 }
+      go true = record { seven = form.1.0; some_open = some-open closed (passed (checks H o (Week n closed)) ok).1.0 }
       go false = inv.weeks b
   weeks-step _ form ok b = inv.weeks b
 
@@ -154,7 +154,7 @@ module _ (H : History) (inv : SettingRanges H) (o : Owner) where
       small = small-branch n (passed (checks H o (CloseDay n day)) ok).0
 
       new : (x : Bool) → (day == d) ≡ x → n ≡ b → (x || is_single (singles_of H b) d) ≡ true → IsSmall b × IsDayNumber d
-      new true q same f = (subst IsSmall same small, subst IsDayNumber (eqb-true day d q) form.1)
+      new true q same f = (subst IsSmall same small, subst IsDayNumber (eqb-true day d q) form.1.0)
       new false q same f = inv.singles b d f
 
       go : (x : Bool) → (n == b) ≡ x → is_single (cond x (day ∷ singles_of H b) (singles_of H b)) d ≡ true → IsSmall b × IsDayNumber d
@@ -185,13 +185,13 @@ module _ (H : History) (inv : SettingRanges H) (o : Owner) where
   patrons-step : (x : Command) → IsCommand x → refusal H o x ≡ None → (p : ℕ) (r : PatronFacts) → patron_after x p (patron_of H p) ≡ Some r → PatronIn p r
   patrons-step (Patron n k card_key name) form ok p r e =
       let limits = and_parts (is_large_number n) (is_small_number k) (not-false _ (passed (checks H o (Patron n k card_key name)) ok).0) in
-      make-at PatronIn n p (record { kind = k; card_key = card_key; name = name }) (patron_of H p) (within 1 9999999 n limits.0, within 1 99 k limits.1, form.2, form.3) (inv.patrons p) r e
+      make-at PatronIn n p (record { kind = k; card_key = card_key; name = name }) (patron_of H p) (within 1 9999999 n limits.0, within 1 99 k limits.1, form.1.1.0, form.1.1.1.0) (inv.patrons p) r e
   patrons-step _ form ok p r e = inv.patrons p r e
 
   titles-step : (x : Command) → IsCommand x → refusal H o x ≡ None → (t : ℕ) (text : List ℕ) → title_after x t (title_of H t) ≡ Some text → TitleIn t text
   titles-step (Acquire c n k home price name) form ok t text e =
       let limits = copy-within c n k home price name (not-false _ (passed (checks H o (Acquire c n k home price name)) ok).0) in
-      make-at TitleIn n t name (title_of H t) (limits.1, form.5) (inv.titles t) text e
+      make-at TitleIn n t name (title_of H t) (limits.1, form.1.1.1.1.1.0) (inv.titles t) text e
   titles-step _ form ok t text e = inv.titles t text e
 
   copies-step : (x : Command) → refusal H o x ≡ None → (c : ℕ) (r : CopyFacts) → copy_after x c (copy_of H c) ≡ Some r → CopyIn c r

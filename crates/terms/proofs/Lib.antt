@@ -1,4 +1,7 @@
+pub mod Faults
 pub mod WordLemmas
+pub mod TableLemmas
+pub mod CommandLemmas
 pub mod RequestTextLemmas
 pub mod ReplyTextLemmas
 pub mod ReadingLemmas

@@ -1,162 +1,130 @@
--- A request text is read back word by word.
-use Rattle.std.proofs.Common.{◌≡◌, ℕ, List, ap, sym, ◌∙◌, refl, arith}
-use Rattle.std.specs.Prelude.{if◌then◌else◌, codes}
-use Rattle.std.specs.Str.{bytes_eq}
-use Rattle.terms.specs.Texts.{command_words, request_text}
-use Rattle.terms.specs.Laws.{IsCommand, RequestTextsDiffer}
+-- A request text has the words of one command alone.
+use Rattle.std.proofs.Common.{◌≡◌, ℕ, zero, suc, ◌+◌, ◌<◌, List, [], ◌∷◌, ◌++◌, Bool, true, false, ◌&&◌, length, map, ap, ap₂, sym, subst, ◌∙◌, refl, arith, Some}
+use Rattle.std.specs.Prelude.{codes}
+use Rattle.std.specs.List.{join_with_byte}
+use Rattle.std.proofs.lemmas.List.{length-map}
+use Rattle.std.proofs.lemmas.Bool.{false≢true}
+use Rattle.terms.specs.Forms.{has_no_space}
+use Rattle.terms.specs.Commands.{commands, kind_of, parts_in}
+use Rattle.terms.specs.Laws.{IsPart, AreParts, IsCommand, RequestTextsDiffer}
+use Rattle.terms.specs.Texts.{Part, Number, Amount, Day, Mask, CardKey, Name, said, word_of, command_words, request_text}
 use Rattle.terms.specs.declared.command.Command.{Command}
-use Rattle.terms.specs.declared.command.Command.TheVariants.{BeginDay, Branch, Week, CloseDay, OpenDay, Kind, Rule, Patron, Acquire, CheckOut, CheckIn, Renew, PlaceHold, CancelHold, Unshelve, UnshelveCancelled, Missing, Withdraw, Pay, Waive, Page}
-use Rattle.terms.proofs.WordLemmas.{first_word, other_words, first_word-append, other_words-append, no_space-decimal, number, number-decimal, day_below, day_below-day_text, closed_by, closed_by-mask_text, no_space-card_key}
+use Rattle.terms.specs.declared.form.PartKind.{PartKind}
+use Rattle.terms.specs.declared.form.PartKind.TheVariants as kind
+use Rattle.terms.proofs.TableLemmas.{are_apart, command_from, is_low, is_spaceless, told}
+use Rattle.terms.proofs.WordLemmas.{both_true, closed_by, closed_by-mask_text, day_below, day_below-day_text, first_word, first_word-append, no_space-card_key, no_space-decimal, number, number-decimal, other_words, other_words-append}
 
--- the command that a request text was made from
-read_back : List ℕ → Command
-read_back t =
-    let name = first_word t in
-    let a = other_words t in
-    let b = other_words a in
-    let c = other_words b in
-    let d = other_words c in
-    let e = other_words d in
-    let f = other_words e in
-    if bytes_eq name (codes "begin-day") then BeginDay (day_below 84006 a)
-    else (if bytes_eq name (codes "branch") then Branch (number (first_word a)) (number (first_word b)) c
-    else (if bytes_eq name (codes "week") then Week (number (first_word a)) (closed_by b)
-    else (if bytes_eq name (codes "close-day") then CloseDay (number (first_word a)) (day_below 84006 b)
-    else (if bytes_eq name (codes "open-day") then OpenDay (number (first_word a)) (day_below 84006 b)
-    else (if bytes_eq name (codes "kind") then Kind (number (first_word a)) (number (first_word b)) (number (first_word c)) (number d)
-    else (if bytes_eq name (codes "rule") then Rule (number (first_word a)) (number (first_word b)) (number (first_word c)) (number (first_word d)) (number (first_word e)) (number f)
-    else (if bytes_eq name (codes "patron") then Patron (number (first_word a)) (number (first_word b)) (first_word c) d
-    else (if bytes_eq name (codes "acquire") then Acquire (number (first_word a)) (number (first_word b)) (number (first_word c)) (number (first_word d)) (number (first_word e)) f
-    else (if bytes_eq name (codes "check-out") then CheckOut (number (first_word a)) (number (first_word b)) (number c)
-    else (if bytes_eq name (codes "check-in") then CheckIn (number (first_word a)) (number b)
-    else (if bytes_eq name (codes "renew") then Renew (number a)
-    else (if bytes_eq name (codes "place-hold") then PlaceHold (number (first_word a)) (number (first_word b)) (number c)
-    else (if bytes_eq name (codes "cancel-hold") then CancelHold (number a)
-    else (if bytes_eq name (codes "unshelve") then Unshelve (number a)
-    else (if bytes_eq name (codes "unshelve-cancelled") then UnshelveCancelled (number a)
-    else (if bytes_eq name (codes "missing") then Missing (number a)
-    else (if bytes_eq name (codes "withdraw") then Withdraw (number a)
-    else (if bytes_eq name (codes "pay") then Pay (number (first_word a)) (number b)
-    else (if bytes_eq name (codes "waive") then Waive (number (first_word a)) (number b)
-    else Page (number a))))))))))))))))))))
+-- no word but the last has a space
+AreApart : List (List ℕ) → Type 0
+AreApart [] = Unit {0}
+AreApart (w ∷ []) = Unit {0}
+AreApart (w ∷ x ∷ ws) = (has_no_space w ≡ true) × AreApart (x ∷ ws)
 
-read_back-request_text : (c : Command) → IsCommand c → read_back (request_text c) ≡ c
-unfolding read_back request_text command_words first_word other_words
-read_back-request_text (BeginDay day) h =
-    let d0 = day_below-day_text 84006 day (omega (arith, h)) (omega arith) in
-    simp (first_word-append, other_words-append, d0) refl
-read_back-request_text (Branch branch pickup name) h =
-    let n0 = no_space-decimal branch (omega (arith, h)) in
-    let d0 = number-decimal branch (omega (arith, h)) in
-    let n1 = no_space-decimal pickup (omega (arith, h)) in
-    let d1 = number-decimal pickup (omega (arith, h)) in
-    simp (first_word-append, other_words-append, n0, d0, n1, d1) refl
-read_back-request_text (Week branch week) h =
-    let n0 = no_space-decimal branch (omega (arith, h)) in
-    let d0 = number-decimal branch (omega (arith, h)) in
-    let d1 = closed_by-mask_text week h.1 in
-    simp (first_word-append, other_words-append, n0, d0, d1) refl
-read_back-request_text (CloseDay branch day) h =
-    let n0 = no_space-decimal branch (omega (arith, h)) in
-    let d0 = number-decimal branch (omega (arith, h)) in
-    let d1 = day_below-day_text 84006 day (omega (arith, h)) (omega arith) in
-    simp (first_word-append, other_words-append, n0, d0, d1) refl
-read_back-request_text (OpenDay branch day) h =
-    let n0 = no_space-decimal branch (omega (arith, h)) in
-    let d0 = number-decimal branch (omega (arith, h)) in
-    let d1 = day_below-day_text 84006 day (omega (arith, h)) (omega arith) in
-    simp (first_word-append, other_words-append, n0, d0, d1) refl
-read_back-request_text (Kind kind loans holds debt) h =
-    let n0 = no_space-decimal kind (omega (arith, h)) in
-    let d0 = number-decimal kind (omega (arith, h)) in
-    let n1 = no_space-decimal loans (omega (arith, h)) in
-    let d1 = number-decimal loans (omega (arith, h)) in
-    let n2 = no_space-decimal holds (omega (arith, h)) in
-    let d2 = number-decimal holds (omega (arith, h)) in
-    let d3 = number-decimal debt (omega (arith, h)) in
-    simp (first_word-append, other_words-append, n0, d0, n1, d1, n2, d2, d3) refl
-read_back-request_text (Rule kind copy_kind period renewals rate cap) h =
-    let n0 = no_space-decimal kind (omega (arith, h)) in
-    let d0 = number-decimal kind (omega (arith, h)) in
-    let n1 = no_space-decimal copy_kind (omega (arith, h)) in
-    let d1 = number-decimal copy_kind (omega (arith, h)) in
-    let n2 = no_space-decimal period (omega (arith, h)) in
-    let d2 = number-decimal period (omega (arith, h)) in
-    let n3 = no_space-decimal renewals (omega (arith, h)) in
-    let d3 = number-decimal renewals (omega (arith, h)) in
-    let n4 = no_space-decimal rate (omega (arith, h)) in
-    let d4 = number-decimal rate (omega (arith, h)) in
-    let d5 = number-decimal cap (omega (arith, h)) in
-    simp (first_word-append, other_words-append, n0, d0, n1, d1, n2, d2, n3, d3, n4, d4, d5) refl
-read_back-request_text (Patron patron kind card_key name) h =
-    let n0 = no_space-decimal patron (omega (arith, h)) in
-    let d0 = number-decimal patron (omega (arith, h)) in
-    let n1 = no_space-decimal kind (omega (arith, h)) in
-    let d1 = number-decimal kind (omega (arith, h)) in
-    let n2 = no_space-card_key card_key h.2 in
-    simp (first_word-append, other_words-append, n0, d0, n1, d1, n2) refl
-read_back-request_text (Acquire copy title kind home price text) h =
-    let n0 = no_space-decimal copy (omega (arith, h)) in
-    let d0 = number-decimal copy (omega (arith, h)) in
-    let n1 = no_space-decimal title (omega (arith, h)) in
-    let d1 = number-decimal title (omega (arith, h)) in
-    let n2 = no_space-decimal kind (omega (arith, h)) in
-    let d2 = number-decimal kind (omega (arith, h)) in
-    let n3 = no_space-decimal home (omega (arith, h)) in
-    let d3 = number-decimal home (omega (arith, h)) in
-    let n4 = no_space-decimal price (omega (arith, h)) in
-    let d4 = number-decimal price (omega (arith, h)) in
-    simp (first_word-append, other_words-append, n0, d0, n1, d1, n2, d2, n3, d3, n4, d4) refl
-read_back-request_text (CheckOut patron copy branch) h =
-    let n0 = no_space-decimal patron (omega (arith, h)) in
-    let d0 = number-decimal patron (omega (arith, h)) in
-    let n1 = no_space-decimal copy (omega (arith, h)) in
-    let d1 = number-decimal copy (omega (arith, h)) in
-    let d2 = number-decimal branch (omega (arith, h)) in
-    simp (first_word-append, other_words-append, n0, d0, n1, d1, d2) refl
-read_back-request_text (CheckIn copy branch) h =
-    let n0 = no_space-decimal copy (omega (arith, h)) in
-    let d0 = number-decimal copy (omega (arith, h)) in
-    let d1 = number-decimal branch (omega (arith, h)) in
-    simp (first_word-append, other_words-append, n0, d0, d1) refl
-read_back-request_text (Renew loan) h =
-    let d0 = number-decimal loan (omega (arith, h)) in
-    simp (first_word-append, other_words-append, d0) refl
-read_back-request_text (PlaceHold patron title branch) h =
-    let n0 = no_space-decimal patron (omega (arith, h)) in
-    let d0 = number-decimal patron (omega (arith, h)) in
-    let n1 = no_space-decimal title (omega (arith, h)) in
-    let d1 = number-decimal title (omega (arith, h)) in
-    let d2 = number-decimal branch (omega (arith, h)) in
-    simp (first_word-append, other_words-append, n0, d0, n1, d1, d2) refl
-read_back-request_text (CancelHold hold) h =
-    let d0 = number-decimal hold (omega (arith, h)) in
-    simp (first_word-append, other_words-append, d0) refl
-read_back-request_text (Unshelve hold) h =
-    let d0 = number-decimal hold (omega (arith, h)) in
-    simp (first_word-append, other_words-append, d0) refl
-read_back-request_text (UnshelveCancelled hold) h =
-    let d0 = number-decimal hold (omega (arith, h)) in
-    simp (first_word-append, other_words-append, d0) refl
-read_back-request_text (Missing copy) h =
-    let d0 = number-decimal copy (omega (arith, h)) in
-    simp (first_word-append, other_words-append, d0) refl
-read_back-request_text (Withdraw copy) h =
-    let d0 = number-decimal copy (omega (arith, h)) in
-    simp (first_word-append, other_words-append, d0) refl
-read_back-request_text (Pay patron amount) h =
-    let n0 = no_space-decimal patron (omega (arith, h)) in
-    let d0 = number-decimal patron (omega (arith, h)) in
-    let d1 = number-decimal amount (omega (arith, h)) in
-    simp (first_word-append, other_words-append, n0, d0, d1) refl
-read_back-request_text (Waive patron amount) h =
-    let n0 = no_space-decimal patron (omega (arith, h)) in
-    let d0 = number-decimal patron (omega (arith, h)) in
-    let d1 = number-decimal amount (omega (arith, h)) in
-    simp (first_word-append, other_words-append, n0, d0, d1) refl
-read_back-request_text (Page patron) h =
-    let d0 = number-decimal patron (omega (arith, h)) in
-    simp (first_word-append, other_words-append, d0) refl
+-- words that are joined by spaces are told apart again
+joined-once : (ws vs : List (List ℕ)) → length ws ≡ length vs → AreApart ws → AreApart vs → join_with_byte 32 ws ≡ join_with_byte 32 vs → ws ≡ vs
+unfolding AreApart
+joined-once [] [] long p q e = refl
+joined-once [] (v ∷ vs) long p q e = absurd (omega (arith, long))
+joined-once (w ∷ ws) [] long p q e = absurd (omega (arith, long))
+joined-once (w ∷ []) (v ∷ []) long p q e = ap (λ (t : List ℕ). t ∷ []) e
+joined-once (w ∷ []) (v ∷ y ∷ vs) long p q e = absurd (omega (arith, long))
+joined-once (w ∷ x ∷ ws) (v ∷ []) long p q e = absurd (omega (arith, long))
+joined-once (w ∷ x ∷ ws) (v ∷ y ∷ vs) long p q e =
+    let a = join_with_byte 32 (x ∷ ws) in
+    let b = join_with_byte 32 (y ∷ vs) in
+    let here : w ≡ v = sym (first_word-append w a p.0) ∙ (ap first_word e ∙ first_word-append v b q.0) in
+    let later : a ≡ b = sym (other_words-append w a p.0) ∙ (ap other_words e ∙ other_words-append v b q.0) in
+    let count : length (x ∷ ws) ≡ length (y ∷ vs) = omega (arith, long) in
+    ap₂ (λ (t : List ℕ) (ts : List (List ℕ)). t ∷ ts) here (joined-once (x ∷ ws) (y ∷ vs) count p.1 q.1 later)
+
+-- the word of a part without spaces
+spaceless : (part : Part) → IsPart part → is_spaceless part ≡ true → has_no_space (word_of part) ≡ true
+spaceless (Number n) h e = no_space-decimal n (omega (arith, h))
+spaceless (Amount n) h e = no_space-decimal n (omega (arith, h))
+spaceless (CardKey t) h e = no_space-card_key t h
+spaceless (Day n) h e = absurd (false≢true e)
+spaceless (Mask closed) h e = absurd (false≢true e)
+spaceless (Name t) h e = absurd (false≢true e)
+
+words-apart : (w : List ℕ) (parts : List Part) → has_no_space w ≡ true → AreParts parts → are_apart parts ≡ true → AreApart (w ∷ map word_of parts)
+unfolding AreApart
+words-apart w [] plain h e = tt
+words-apart w (part ∷ []) plain h e = (plain, tt)
+words-apart w (part ∷ other ∷ parts) plain h e =
+    let both = both_true (is_spaceless part) (are_apart (other ∷ parts)) e in
+    (plain, words-apart (word_of part) (other ∷ parts) (spaceless part h.0 both.0) h.1 both.1)
+
+-- the name is the first word
+first_word-joined : (w : List ℕ) (parts : List Part) → has_no_space w ≡ true → are_apart parts ≡ true → first_word (join_with_byte 32 (w ∷ map word_of parts)) ≡ w
+first_word-joined w [] plain e = absurd (false≢true e)
+first_word-joined w (part ∷ parts) plain e = first_word-append w (join_with_byte 32 (word_of part ∷ map word_of parts)) plain
+
+-- a part is known by its kind and its word
+part_from : PartKind → List ℕ → Part
+part_from kind.Number t = Number (number t)
+part_from kind.Amount t = Amount (number t)
+part_from kind.Day t = Day (day_below 84006 t)
+part_from kind.Mask t = Mask (closed_by t)
+part_from kind.CardKey t = CardKey t
+part_from kind.Name t = Name t
+
+part_from-word_of : (part : Part) → IsPart part → part_from (kind_of part) (word_of part) ≡ part
+unfolding part_from
+part_from-word_of (Number n) h = ap Number (number-decimal n (omega (arith, h)))
+part_from-word_of (Amount n) h = ap Amount (number-decimal n (omega (arith, h)))
+part_from-word_of (Day n) h = ap Day (day_below-day_text 84006 n (omega (arith, h)) (omega arith))
+part_from-word_of (Mask closed) h = ap Mask (closed_by-mask_text closed h)
+part_from-word_of (CardKey t) h = refl
+part_from-word_of (Name t) h = refl
+
+parts_from : List PartKind → List (List ℕ) → List Part
+parts_from [] words = []
+parts_from (k ∷ kinds) [] = []
+parts_from (k ∷ kinds) (w ∷ words) = part_from k w ∷ parts_from kinds words
+
+parts_from-words : (parts : List Part) → AreParts parts → parts_from (map kind_of parts) (map word_of parts) ≡ parts
+unfolding parts_from
+parts_from-words [] h = refl
+parts_from-words (part ∷ parts) h = ap₂ (λ (p : Part) (ps : List Part). p ∷ ps) (part_from-word_of part h.0) (parts_from-words parts h.1)
+
+first_word-request_text : (c : Command) → first_word (request_text c) ≡ (said c).0
+unfolding request_text command_words
+first_word-request_text c =
+    let t = told c in
+    first_word-joined (said c).0 (said c).1 (both_true (has_no_space (said c).0) (is_low (said c).0) t.named).0 t.apart
+
+command_words-apart : (c : Command) → IsCommand c → AreApart (command_words c)
+unfolding command_words
+command_words-apart c h =
+    let t = told c in
+    words-apart (said c).0 (said c).1 (both_true (has_no_space (said c).0) (is_low (said c).0) t.named).0 h t.apart
+
+-- commands with one name have parts of the same kinds
+kinds-same : (a b : Command) → (said a).0 ≡ (said b).0 → map kind_of (said a).1 ≡ map kind_of (said b).1
+kinds-same a b e =
+    let s = told a in
+    let t = told b in
+    let one : Some s.parts ≡ Some t.parts = sym s.found ∙ (ap (parts_in commands) e ∙ t.found) in
+    let same : s.parts ≡ t.parts = cc in
+    sym s.kinds ∙ (ap (map (λ (part : List ℕ × PartKind). part.1)) same ∙ t.kinds)
+
+words-length : (c : Command) → length (command_words c) ≡ suc (length (map kind_of (said c).1))
+unfolding command_words
+words-length c = ap suc (length-map (said c).1 word_of ∙ sym (length-map (said c).1 kind_of))
+
+tail-same : (w : List ℕ) (ws vs : List (List ℕ)) (v : List ℕ) → w ∷ ws ≡ v ∷ vs → ws ≡ vs
+tail-same w ws vs v e = cc
+
+words-same : (a b : Command) → command_words a ≡ command_words b → map word_of (said a).1 ≡ map word_of (said b).1
+unfolding command_words
+words-same a b e = tail-same (said a).0 (map word_of (said a).1) (map word_of (said b).1) (said b).0 e
 
 pub request_texts_differ : RequestTextsDiffer
-request_texts_differ a b ha hb e = sym (read_back-request_text a ha) ∙ (ap read_back e ∙ read_back-request_text b hb)
+unfolding request_text
+request_texts_differ a b ha hb e =
+    let names : (said a).0 ≡ (said b).0 = sym (first_word-request_text a) ∙ (ap first_word e ∙ first_word-request_text b) in
+    let kinds = kinds-same a b names in
+    let long : length (command_words a) ≡ length (command_words b) = words-length a ∙ (ap (λ (ks : List PartKind). suc (length ks)) kinds ∙ sym (words-length b)) in
+    let words = words-same a b (joined-once (command_words a) (command_words b) long (command_words-apart a ha) (command_words-apart b hb) e) in
+    let parts : (said a).1 ≡ (said b).1 = sym (parts_from-words (said a).1 ha) ∙ (ap₂ parts_from kinds words ∙ parts_from-words (said b).1 hb) in
+    sym (told a).back ∙ (ap₂ command_from names parts ∙ (told b).back)

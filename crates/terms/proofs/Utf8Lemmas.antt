@@ -1,5 +1,5 @@
 -- Request texts, and reply texts of replies that can be kept, are UTF-8.
-use Rattle.std.proofs.Common.{◌≡◌, ℕ, zero, suc, ◌+◌, ◌+◌, ◌<◌, ◌≤◌, ◌/◌, ◌%◌, List, [], ◌∷◌, ◌++◌, Bool, true, false, refl, sym, subst, arith}
+use Rattle.std.proofs.Common.{◌≡◌, ℕ, zero, suc, ◌+◌, ◌+◌, ◌<◌, ◌≤◌, ◌/◌, ◌%◌, List, [], ◌∷◌, ◌++◌, Bool, true, false, map, refl, sym, subst, arith}
 use Rattle.std.specs.Prelude.{nat_lt, if◌then◌else◌, codes, IsUtf8, Some, None}
 use Rattle.std.specs.List.{list_all, join_with_byte}
 use Rattle.std.specs.Fmt.{decimal}
@@ -10,20 +10,16 @@ use Rattle.std.proofs.lemmas.Str.{IsUtf8-from_ascii, IsUtf8-append, IsUtf8-nil}
 use Rattle.std.proofs.lemmas.Fmt.{IsAscii-decimal}
 use Rattle.calendar.specs.Days.{IsDayNumber, day_text, date_text}
 use Rattle.calendar.proofs.DayLemmas.{day_text-written}
-use Rattle.terms.specs.Forms.{is_alphanumeric, is_card_key}
-use Rattle.terms.specs.Texts.{mask_text, command_words, request_text, routed_words, reply_words, reply_text}
-use Rattle.terms.specs.Laws.{IsCommand, IsNumber, IsAmount, IsRouted, IsKept}
+use Rattle.terms.specs.Forms.{has_no_space, is_alphanumeric, is_card_key}
+use Rattle.terms.specs.Texts.{Part, Number, Amount, Day, Mask, CardKey, Name, said, word_of, mask_text, command_words, request_text, routed_words, reply_words, reply_text}
+use Rattle.terms.specs.Laws.{IsPart, AreParts, IsCommand, IsNumber, IsAmount, IsRouted, IsKept}
 use Rattle.terms.specs.declared.command.Command.{Command}
-use Rattle.terms.specs.declared.command.Command.TheVariants.{BeginDay, Branch, Week, CloseDay, OpenDay, Kind, Rule, Patron, Acquire, CheckOut, CheckIn, Renew, PlaceHold, CancelHold, Unshelve, UnshelveCancelled, Missing, Withdraw, Pay, Waive, Page}
 use Rattle.terms.specs.declared.reply.Routed.{Routed}
 use Rattle.terms.specs.declared.reply.Routed.TheVariants.{Shelf, HoldShelf, Transit}
 use Rattle.terms.specs.declared.reply.Reply.{Reply}
 use Rattle.terms.specs.declared.reply.Reply.TheVariants.{Done, Lent, CheckedIn, Held, Moved, Lost, Owed, Shown, Refused}
+use Rattle.terms.proofs.TableLemmas.{is_low, told}
 use Rattle.terms.proofs.WordLemmas.{both_true}
-
--- Each byte is ASCII.
-abbrev is_low : List ℕ → Bool
-is_low = list_all (λ b. nat_lt b 128)
 
 low-IsAscii : (bs : List ℕ) → is_low bs ≡ true → IsAscii bs
 low-IsAscii [] h i = omega arith
@@ -98,54 +94,23 @@ joined-IsUtf8 [] h = IsUtf8-nil
 joined-IsUtf8 (w ∷ []) h = h.0
 joined-IsUtf8 (w ∷ x ∷ ws) h = spaced-IsUtf8 w (join_with_byte 32 (x ∷ ws)) h.0 (joined-IsUtf8 (x ∷ ws) h.1)
 
-words-are : (c : Command) → IsCommand c → AreUtf8 (command_words c)
-unfolding command_words
-words-are (BeginDay day) h =
-    (low-IsUtf8 (codes "begin-day") refl, (day-IsUtf8 day h, tt))
-words-are (Branch branch pickup name) h =
-    (low-IsUtf8 (codes "branch") refl, (number-IsUtf8 branch h.0, (number-IsUtf8 pickup h.1, (h.2.1, tt))))
-words-are (Week branch week) h =
-    (low-IsUtf8 (codes "week") refl, (number-IsUtf8 branch h.0, (mask-IsUtf8 week, tt)))
-words-are (CloseDay branch day) h =
-    (low-IsUtf8 (codes "close-day") refl, (number-IsUtf8 branch h.0, (day-IsUtf8 day h.1, tt)))
-words-are (OpenDay branch day) h =
-    (low-IsUtf8 (codes "open-day") refl, (number-IsUtf8 branch h.0, (day-IsUtf8 day h.1, tt)))
-words-are (Kind kind loans holds debt) h =
-    (low-IsUtf8 (codes "kind") refl, (number-IsUtf8 kind h.0, (number-IsUtf8 loans h.1, (number-IsUtf8 holds h.2, (amount-IsUtf8 debt h.3, tt)))))
-words-are (Rule kind copy_kind period renewals rate most) h =
-    (low-IsUtf8 (codes "rule") refl, (number-IsUtf8 kind h.0, (number-IsUtf8 copy_kind h.1, (number-IsUtf8 period h.2, (number-IsUtf8 renewals h.3, (amount-IsUtf8 rate h.4, (amount-IsUtf8 most h.5, tt)))))))
-words-are (Patron patron kind card_key name) h =
-    (low-IsUtf8 (codes "patron") refl, (number-IsUtf8 patron h.0, (number-IsUtf8 kind h.1, (card_key-IsUtf8 card_key h.2, (h.3.1, tt)))))
-words-are (Acquire copy title kind home price text) h =
-    (low-IsUtf8 (codes "acquire") refl, (number-IsUtf8 copy h.0, (number-IsUtf8 title h.1, (number-IsUtf8 kind h.2, (number-IsUtf8 home h.3, (amount-IsUtf8 price h.4, (h.5.1, tt)))))))
-words-are (CheckOut patron copy branch) h =
-    (low-IsUtf8 (codes "check-out") refl, (number-IsUtf8 patron h.0, (number-IsUtf8 copy h.1, (number-IsUtf8 branch h.2, tt))))
-words-are (CheckIn copy branch) h =
-    (low-IsUtf8 (codes "check-in") refl, (number-IsUtf8 copy h.0, (number-IsUtf8 branch h.1, tt)))
-words-are (Renew loan) h =
-    (low-IsUtf8 (codes "renew") refl, (number-IsUtf8 loan h, tt))
-words-are (PlaceHold patron title branch) h =
-    (low-IsUtf8 (codes "place-hold") refl, (number-IsUtf8 patron h.0, (number-IsUtf8 title h.1, (number-IsUtf8 branch h.2, tt))))
-words-are (CancelHold hold) h =
-    (low-IsUtf8 (codes "cancel-hold") refl, (number-IsUtf8 hold h, tt))
-words-are (Unshelve hold) h =
-    (low-IsUtf8 (codes "unshelve") refl, (number-IsUtf8 hold h, tt))
-words-are (UnshelveCancelled hold) h =
-    (low-IsUtf8 (codes "unshelve-cancelled") refl, (number-IsUtf8 hold h, tt))
-words-are (Missing copy) h =
-    (low-IsUtf8 (codes "missing") refl, (number-IsUtf8 copy h, tt))
-words-are (Withdraw copy) h =
-    (low-IsUtf8 (codes "withdraw") refl, (number-IsUtf8 copy h, tt))
-words-are (Pay patron amount) h =
-    (low-IsUtf8 (codes "pay") refl, (number-IsUtf8 patron h.0, (amount-IsUtf8 amount h.1, tt)))
-words-are (Waive patron amount) h =
-    (low-IsUtf8 (codes "waive") refl, (number-IsUtf8 patron h.0, (amount-IsUtf8 amount h.1, tt)))
-words-are (Page patron) h =
-    (low-IsUtf8 (codes "page") refl, (number-IsUtf8 patron h, tt))
+part-IsUtf8 : (part : Part) → IsPart part → IsUtf8 (word_of part)
+part-IsUtf8 (Number n) h = number-IsUtf8 n h
+part-IsUtf8 (Amount n) h = amount-IsUtf8 n h
+part-IsUtf8 (Day n) h = day-IsUtf8 n h
+part-IsUtf8 (Mask closed) h = mask-IsUtf8 closed
+part-IsUtf8 (CardKey t) h = card_key-IsUtf8 t h
+part-IsUtf8 (Name t) h = h.1
+
+parts-are : (parts : List Part) → AreParts parts → AreUtf8 (map word_of parts)
+parts-are [] h = tt
+parts-are (part ∷ parts) h = (part-IsUtf8 part h.0, parts-are parts h.1)
 
 pub request_text-IsUtf8 : (c : Command) → IsCommand c → IsUtf8 (request_text c)
-unfolding request_text
-request_text-IsUtf8 c h = joined-IsUtf8 (command_words c) (words-are c h)
+unfolding request_text command_words
+request_text-IsUtf8 c h =
+    let name = both_true (has_no_space (said c).0) (is_low (said c).0) (told c).named in
+    joined-IsUtf8 ((said c).0 ∷ map word_of (said c).1) (low-IsUtf8 (said c).0 name.1, parts-are (said c).1 h)
 
 routed-are : (r : Routed) → IsRouted r → AreUtf8 (routed_words r)
 unfolding routed_words

@@ -1,10 +1,9 @@
 -- The laws of request texts and reply texts.
-use Rattle.std.specs.Prelude.{◌≡◌, ◌<◌, ◌^◌, ℕ, true, Some, None, length, IsUtf8}
+use Rattle.std.specs.Prelude.{◌≡◌, ◌<◌, ◌^◌, ℕ, true, Some, None, List, [], ◌∷◌, length, IsUtf8}
 use Rattle.calendar.specs.Days.{IsDayNumber}
 use Rattle.terms.specs.Forms.{IsName, is_card_key}
-use Rattle.terms.specs.Texts.{request_text, reply_text}
+use Rattle.terms.specs.Texts.{Part, Number, Amount, Day, Mask, CardKey, Name, said, request_text, reply_text}
 use Rattle.terms.specs.declared.command.Command.{Command}
-use Rattle.terms.specs.declared.command.Command.TheVariants.{BeginDay, Branch, Week, CloseDay, OpenDay, Kind, Rule, Patron, Acquire, CheckOut, CheckIn, Renew, PlaceHold, CancelHold, Unshelve, UnshelveCancelled, Missing, Withdraw, Pay, Waive, Page}
 use Rattle.terms.specs.declared.reply.Routed.{Routed}
 use Rattle.terms.specs.declared.reply.Routed.TheVariants.{Shelf, HoldShelf, Transit}
 use Rattle.terms.specs.declared.reply.Reply.{Reply}
@@ -17,31 +16,22 @@ IsNumber n = n < 2 ^ 32
 abbrev pub IsAmount : ℕ → Type 0
 IsAmount n = n < 2 ^ 64
 
--- Each number, day, mask and text of the command has its form.
+-- A part has its form.
+abbrev pub IsPart : Part → Type 0
+IsPart (Number n) = IsNumber n
+IsPart (Amount n) = IsAmount n
+IsPart (Day n) = IsDayNumber n
+IsPart (Mask closed) = length closed ≡ 7
+IsPart (CardKey t) = is_card_key t ≡ true
+IsPart (Name t) = IsName t
+
+abbrev pub AreParts : List Part → Type 0
+AreParts [] = Unit {0}
+AreParts (part ∷ parts) = IsPart part × AreParts parts
+
+-- Each part of the command has its form.
 abbrev pub IsCommand : Command → Type 0
-IsCommand (BeginDay day) = IsDayNumber day
-IsCommand (Branch branch pickup name) = IsNumber branch × IsNumber pickup × IsName name
-IsCommand (Week branch week) = IsNumber branch × (length week ≡ 7)
-IsCommand (CloseDay branch day) = IsNumber branch × IsDayNumber day
-IsCommand (OpenDay branch day) = IsNumber branch × IsDayNumber day
-IsCommand (Kind kind loans holds debt) = IsNumber kind × IsNumber loans × IsNumber holds × IsAmount debt
-IsCommand (Rule kind copy_kind period renewals rate cap) =
-    IsNumber kind × IsNumber copy_kind × IsNumber period × IsNumber renewals × IsAmount rate × IsAmount cap
-IsCommand (Patron patron kind card_key name) = IsNumber patron × IsNumber kind × (is_card_key card_key ≡ true) × IsName name
-IsCommand (Acquire copy title kind home price text) =
-    IsNumber copy × IsNumber title × IsNumber kind × IsNumber home × IsAmount price × IsName text
-IsCommand (CheckOut patron copy branch) = IsNumber patron × IsNumber copy × IsNumber branch
-IsCommand (CheckIn copy branch) = IsNumber copy × IsNumber branch
-IsCommand (Renew loan) = IsNumber loan
-IsCommand (PlaceHold patron title branch) = IsNumber patron × IsNumber title × IsNumber branch
-IsCommand (CancelHold hold) = IsNumber hold
-IsCommand (Unshelve hold) = IsNumber hold
-IsCommand (UnshelveCancelled hold) = IsNumber hold
-IsCommand (Missing copy) = IsNumber copy
-IsCommand (Withdraw copy) = IsNumber copy
-IsCommand (Pay patron amount) = IsNumber patron × IsAmount amount
-IsCommand (Waive patron amount) = IsNumber patron × IsAmount amount
-IsCommand (Page patron) = IsNumber patron
+IsCommand command = AreParts (said command).1
 
 -- Two commands with one request text are one command.
 abbrev pub RequestTextsDiffer : Type 0

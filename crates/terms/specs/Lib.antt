@@ -3,6 +3,7 @@ pub mod Texts
 pub mod Money
 pub mod Callers
 pub mod Laws
+pub mod Commands
 pub mod Pictures
 pub mod Limits
 pub mod Writing

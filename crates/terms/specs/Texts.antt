@@ -1,5 +1,5 @@
 -- Request texts and reply texts: one spelling each.
-use Rattle.std.specs.Prelude.{ℕ, Bool, false, if◌then◌else◌, List, [], ◌∷◌, slice_index_or, codes, Some, None}
+use Rattle.std.specs.Prelude.{ℕ, Bool, false, if◌then◌else◌, List, [], ◌∷◌, slice_index_or, codes, map, Some, None}
 use Rattle.std.specs.Fmt.{decimal}
 use Rattle.std.specs.List.{join_with_byte}
 use Rattle.calendar.specs.Days.{day_text}
@@ -24,31 +24,51 @@ mask_text closed =
     weekday_letter closed 0 ∷ weekday_letter closed 1 ∷ weekday_letter closed 2 ∷ weekday_letter closed 3
     ∷ weekday_letter closed 4 ∷ weekday_letter closed 5 ∷ weekday_letter closed 6 ∷ []
 
--- the words of a command
+-- a part of a command, by its kind: a number, an amount in cents, a day, a mask of closed weekdays, a card key, a name
+pub data Part : Type 0 where
+  Number : ℕ → Part
+  Amount : ℕ → Part
+  Day : ℕ → Part
+  Mask : List Bool → Part
+  CardKey : List ℕ → Part
+  Name : List ℕ → Part
+
+-- the word that writes a part
+abbrev pub word_of : Part → List ℕ
+word_of (Number n) = decimal n
+word_of (Amount n) = decimal n
+word_of (Day n) = day_text n
+word_of (Mask closed) = mask_text closed
+word_of (CardKey t) = t
+word_of (Name t) = t
+
+-- what a command says: its name, and its parts in their order
+abbrev pub said : Command → List ℕ × List Part
+said (BeginDay day) = (codes "begin-day", Day day ∷ [])
+said (Branch branch pickup name) = (codes "branch", Number branch ∷ Number pickup ∷ Name name ∷ [])
+said (Week branch week) = (codes "week", Number branch ∷ Mask week ∷ [])
+said (CloseDay branch day) = (codes "close-day", Number branch ∷ Day day ∷ [])
+said (OpenDay branch day) = (codes "open-day", Number branch ∷ Day day ∷ [])
+said (Kind kind loans holds debt) = (codes "kind", Number kind ∷ Number loans ∷ Number holds ∷ Amount debt ∷ [])
+said (Rule kind copy_kind period renewals rate cap) = (codes "rule", Number kind ∷ Number copy_kind ∷ Number period ∷ Number renewals ∷ Amount rate ∷ Amount cap ∷ [])
+said (Patron patron kind card_key name) = (codes "patron", Number patron ∷ Number kind ∷ CardKey card_key ∷ Name name ∷ [])
+said (Acquire copy title kind home price text) = (codes "acquire", Number copy ∷ Number title ∷ Number kind ∷ Number home ∷ Amount price ∷ Name text ∷ [])
+said (CheckOut patron copy branch) = (codes "check-out", Number patron ∷ Number copy ∷ Number branch ∷ [])
+said (CheckIn copy branch) = (codes "check-in", Number copy ∷ Number branch ∷ [])
+said (Renew loan) = (codes "renew", Number loan ∷ [])
+said (PlaceHold patron title branch) = (codes "place-hold", Number patron ∷ Number title ∷ Number branch ∷ [])
+said (CancelHold hold) = (codes "cancel-hold", Number hold ∷ [])
+said (Unshelve hold) = (codes "unshelve", Number hold ∷ [])
+said (UnshelveCancelled hold) = (codes "unshelve-cancelled", Number hold ∷ [])
+said (Missing copy) = (codes "missing", Number copy ∷ [])
+said (Withdraw copy) = (codes "withdraw", Number copy ∷ [])
+said (Pay patron amount) = (codes "pay", Number patron ∷ Amount amount ∷ [])
+said (Waive patron amount) = (codes "waive", Number patron ∷ Amount amount ∷ [])
+said (Page patron) = (codes "page", Number patron ∷ [])
+
+-- the words of a command: its name, and a word for each part
 unfoldable pub command_words : Command → List (List ℕ)
-command_words (BeginDay day) = codes "begin-day" ∷ day_text day ∷ []
-command_words (Branch branch pickup name) = codes "branch" ∷ decimal branch ∷ decimal pickup ∷ name ∷ []
-command_words (Week branch week) = codes "week" ∷ decimal branch ∷ mask_text week ∷ []
-command_words (CloseDay branch day) = codes "close-day" ∷ decimal branch ∷ day_text day ∷ []
-command_words (OpenDay branch day) = codes "open-day" ∷ decimal branch ∷ day_text day ∷ []
-command_words (Kind kind loans holds debt) = codes "kind" ∷ decimal kind ∷ decimal loans ∷ decimal holds ∷ decimal debt ∷ []
-command_words (Rule kind copy_kind period renewals rate cap) =
-    codes "rule" ∷ decimal kind ∷ decimal copy_kind ∷ decimal period ∷ decimal renewals ∷ decimal rate ∷ decimal cap ∷ []
-command_words (Patron patron kind card_key name) = codes "patron" ∷ decimal patron ∷ decimal kind ∷ card_key ∷ name ∷ []
-command_words (Acquire copy title kind home price text) =
-    codes "acquire" ∷ decimal copy ∷ decimal title ∷ decimal kind ∷ decimal home ∷ decimal price ∷ text ∷ []
-command_words (CheckOut patron copy branch) = codes "check-out" ∷ decimal patron ∷ decimal copy ∷ decimal branch ∷ []
-command_words (CheckIn copy branch) = codes "check-in" ∷ decimal copy ∷ decimal branch ∷ []
-command_words (Renew loan) = codes "renew" ∷ decimal loan ∷ []
-command_words (PlaceHold patron title branch) = codes "place-hold" ∷ decimal patron ∷ decimal title ∷ decimal branch ∷ []
-command_words (CancelHold hold) = codes "cancel-hold" ∷ decimal hold ∷ []
-command_words (Unshelve hold) = codes "unshelve" ∷ decimal hold ∷ []
-command_words (UnshelveCancelled hold) = codes "unshelve-cancelled" ∷ decimal hold ∷ []
-command_words (Missing copy) = codes "missing" ∷ decimal copy ∷ []
-command_words (Withdraw copy) = codes "withdraw" ∷ decimal copy ∷ []
-command_words (Pay patron amount) = codes "pay" ∷ decimal patron ∷ decimal amount ∷ []
-command_words (Waive patron amount) = codes "waive" ∷ decimal patron ∷ decimal amount ∷ []
-command_words (Page patron) = codes "page" ∷ decimal patron ∷ []
+command_words command = (said command).0 ∷ map word_of (said command).1
 
 -- the request text of a command: its words, joined by single spaces
 unfoldable pub request_text : Command → List ℕ

@@ -3,9 +3,15 @@
 ghost use Rattle.std.specs.Prelude.{◌≡◌, true, false};
 ghost use Rattle.terms.specs.Laws.{IsCommand, IsRouted, IsKept, RequestTextsDiffer};
 ghost use Rattle.terms.specs.Laws.{ReplyTextsDiffer, RequestTextsUtf8, ReplyTextsUtf8};
+ghost use Rattle.terms.specs.Commands.{CommandsAreListed};
 
 use crate::command::Command;
 use crate::reply::{Reply, Routed};
+
+/// Every command stands in the table of commands, with parts of the kinds that it has.
+pub fn commands_are_listed()
+    ensures { CommandsAreListed }
+{}
 
 /// Two commands with one request text are one command.
 pub fn request_texts_differ()

@@ -3,6 +3,7 @@
 
 mod command;
 mod fault;
+mod form;
 mod laws;
 mod limits;
 mod money;
@@ -16,13 +17,15 @@ mod tables;
 mod text;
 mod thing;
 mod week;
+mod words;
 mod writing;
 
 pub use calendar::{Day, Memory, Weekdays};
 pub use command::{Caller, Command, Owner, Request, request_text};
 pub use fault::Fault;
+pub use form::{CommandForm, PartForm, PartKind, command_forms, parts_for};
 pub use laws::{
-    can_be_kept, command_has_forms, reply_texts_are_utf8, reply_texts_differ,
+    can_be_kept, command_has_forms, commands_are_listed, reply_texts_are_utf8, reply_texts_differ,
     request_texts_are_utf8, request_texts_differ,
 };
 pub use limits::{
@@ -46,4 +49,5 @@ pub use row::{
 pub use tables::{Rows, Tables};
 pub use text::{CardKey, Key, Name, Text};
 pub use week::Mask;
+pub use words::{WordFault, read_command};
 pub use writing::{WriteFault, write_bytes, write_pieces};

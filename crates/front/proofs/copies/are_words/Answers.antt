@@ -3,7 +3,7 @@ use Rattle.std.specs.Borrow.{Bor}
 use Rattle.std.proofs.lemmas.List.{length-map}
 use Rattle.csv.specs.Records.{field_at, fields_of}
 use Rattle.front.specs.Copies.{Fields}
-use Rattle.front.specs.Forms.{texts}
+use Rattle.terms.specs.Commands.{texts}
 use Rattle.front.proofs.CopyRows.{one_more, same_fields, word_at}
 use Rattle.front.proofs.copies.are_words.Goals as goal
 

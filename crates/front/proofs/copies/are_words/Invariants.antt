@@ -1,6 +1,6 @@
 use Rattle.std.proofs.Common.{◌≡◌, ◌<◌, ℕ}
 use Rattle.csv.specs.Records.{field_at, fields_of}
-use Rattle.front.specs.Forms.{texts}
+use Rattle.terms.specs.Commands.{texts}
 use Rattle.front.proofs.copies.are_words.Given as goal
 
 abbrev pub invariant-loop-place : goal.invariant-loop-place

@@ -9,7 +9,7 @@ returns-then-not-is_word_at-clause-bad c =
     record { none = λ row h. let closed : c.is_word_at.result ≡ true = c.is_word_at.ensures.1 (closing_of (fields_of c.args.fields.now) row h) in absurd (cc) }
 
 pub returns-in_default-clause-bad : goal.returns-in_default-clause-bad
-returns-in_default-clause-bad c = record { none = λ row h. c.in_default.ensures.none row.text h.0.0.5.1 (text_of (fields_of c.args.fields.now) row h) }
+returns-in_default-clause-bad c = record { none = λ row h. c.in_default.ensures.none row.text h.0.0.1.1.1.1.1.0.1 (text_of (fields_of c.args.fields.now) row h) }
 
 pub returns-in-Some-2-clause-good : goal.returns-in-Some-2-clause-good
 returns-in-Some-2-clause-good c =

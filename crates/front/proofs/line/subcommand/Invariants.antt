@@ -1,7 +1,7 @@
-use Rattle.std.proofs.Common.{take}
-use Rattle.front.specs.Line.{IsApp, command_app}
-use Rattle.front.specs.Forms.{texts}
+use Rattle.std.proofs.Common.{map, take}
+use Rattle.terms.specs.Commands.{column}
+use Rattle.front.specs.Line.{IsApp, command_app, names_in}
 use Rattle.front.proofs.line.subcommand.Given as goal
 
-abbrev pub invariant-loop-argument : goal.invariant-loop-argument
-invariant-loop-argument l = IsApp l.line (command_app l.form.name.now (texts (take l.argument-index l.form.arguments.now)))
+abbrev pub invariant-loop-part : goal.invariant-loop-part
+invariant-loop-part l = IsApp l.line (command_app l.form.name.now (names_in (map column (take l.part-index l.form.parts.now))))

@@ -5,4 +5,4 @@ use Rattle.front.proofs.words.words_given.Goals as goal
 
 pub returns-in_default-clause-refused : goal.returns-in_default-clause-refused
 returns-in_default-clause-refused c = λ found e.
-    none-given (first_value (found_of c.args.given.now)) c.args.arguments.now c.loop-argument.argument-index _ found c.loop-argument-test.true (sym c.in_default.ensures) e
+    none-given (first_value (found_of c.args.given.now)) c.args.parts.now c.loop-part.part-index _ found c.loop-part-test.true (sym c.in_default.ensures) e

@@ -1,21 +1,41 @@
-//! The commands, each read from the words of its arguments.
+//! Commands, each read from its name and the words of its parts.
 
 ghost use Rattle.std.specs.Prelude.{◌≡◌, ◌<◌, ◌^◌, codes, length, true, IfOk};
 ghost use Rattle.std.specs.Fmt.{decimal};
 ghost use Rattle.calendar.specs.Days.{IsDayNumber, day_text};
 ghost use Rattle.terms.specs.Forms.{IsName, is_card_key};
 ghost use Rattle.terms.specs.Texts.{mask_text};
-ghost use Rattle.front.specs.Commands.{IsReadAs, IsNoCommand, IsNoNumber, IsNoDay, IsNoMask};
-ghost use Rattle.front.specs.Commands.{IsNoName, IsNoCardKey};
-ghost use Rattle.front.specs.Forms.{texts};
-ghost use Rattle.front.specs.declared.words.WordFault.TheVariants.{NotUnderstood as Refused};
+ghost use Rattle.terms.specs.Commands.{IsReadAs, IsNoCommand, IsNoNumber, IsNoDay, IsNoMask};
+ghost use Rattle.terms.specs.Commands.{IsNoName, IsNoCardKey, texts};
+ghost use Rattle.terms.specs.declared.words.WordFault.TheVariants.{Memory as NoMemory};
+ghost use Rattle.terms.specs.declared.words.WordFault.TheVariants.{NotUnderstood as Refused};
 
-use crate::words::WordFault;
-use std::alloc::Global;
-use terms::{
-    BranchId, CardKey, Cents, Command, CopyId, CopyKind, Count, Day, Days, HoldId, LoanId, Mask,
-    Name, PatronId, PatronKind, TitleId, read_number,
+use crate::command::Command;
+use crate::number::{
+    BranchId, Cents, CopyId, CopyKind, Count, Days, HoldId, LoanId, PatronId, PatronKind, TitleId,
 };
+use crate::reading::read_number;
+use crate::text::{CardKey, Name};
+use crate::week::Mask;
+use calendar::Day;
+use std::alloc::{AllocError, Global};
+
+/// Why words were not read.
+#[derive(Clone, Copy, Debug, PartialEq, Eq)]
+pub enum WordFault {
+    /// They are not the words of a command.
+    NotUnderstood,
+    /// No memory was left.
+    Memory,
+}
+
+impl From<AllocError> for WordFault {
+    ghost from_gives = { λ _ fault. fault ≡ NoMemory };
+
+    fn from(_error: AllocError) -> WordFault {
+        WordFault::Memory
+    }
+}
 
 /// The number that a word writes.
 fn number(word: &str) -> Result<u32, WordFault>
@@ -70,7 +90,7 @@ fn read_amount(word: &str) -> Result<Cents, WordFault>
     Ok(Cents::new(u64::from(number(word)?)))
 }
 
-#[tactic(auto, unfolding(terms::specs::Texts::command_words))]
+#[tactic(auto, unfolding(crate::specs::Texts::command_words))]
 fn begin_day(values: &[&str]) -> Result<Command, WordFault>
     ensures read { IfOk result (IsReadAs (codes "begin-day") (texts values.now)) }
     ensures refused { result ≡ Err Refused → IsNoCommand (codes "begin-day") (texts values.now) }
@@ -82,7 +102,7 @@ fn begin_day(values: &[&str]) -> Result<Command, WordFault>
     Ok(Command::BeginDay { day })
 }
 
-#[tactic(auto, unfolding(terms::specs::Texts::command_words))]
+#[tactic(auto, unfolding(crate::specs::Texts::command_words))]
 fn branch(alloc: Global, values: &[&str]) -> Result<Command, WordFault>
     ensures read { IfOk result (IsReadAs (codes "branch") (texts values.now)) }
     ensures refused { result ≡ Err Refused → IsNoCommand (codes "branch") (texts values.now) }
@@ -100,7 +120,7 @@ fn branch(alloc: Global, values: &[&str]) -> Result<Command, WordFault>
     })
 }
 
-#[tactic(auto, unfolding(terms::specs::Texts::command_words))]
+#[tactic(auto, unfolding(crate::specs::Texts::command_words))]
 fn week(values: &[&str]) -> Result<Command, WordFault>
     ensures read { IfOk result (IsReadAs (codes "week") (texts values.now)) }
     ensures refused { result ≡ Err Refused → IsNoCommand (codes "week") (texts values.now) }
@@ -113,7 +133,7 @@ fn week(values: &[&str]) -> Result<Command, WordFault>
     Ok(Command::Week { branch, week })
 }
 
-#[tactic(auto, unfolding(terms::specs::Texts::command_words))]
+#[tactic(auto, unfolding(crate::specs::Texts::command_words))]
 fn close_day(values: &[&str]) -> Result<Command, WordFault>
     ensures read { IfOk result (IsReadAs (codes "close-day") (texts values.now)) }
     ensures refused { result ≡ Err Refused → IsNoCommand (codes "close-day") (texts values.now) }
@@ -126,7 +146,7 @@ fn close_day(values: &[&str]) -> Result<Command, WordFault>
     Ok(Command::CloseDay { branch, day })
 }
 
-#[tactic(auto, unfolding(terms::specs::Texts::command_words))]
+#[tactic(auto, unfolding(crate::specs::Texts::command_words))]
 fn open_day(values: &[&str]) -> Result<Command, WordFault>
     ensures read { IfOk result (IsReadAs (codes "open-day") (texts values.now)) }
     ensures refused { result ≡ Err Refused → IsNoCommand (codes "open-day") (texts values.now) }
@@ -139,7 +159,7 @@ fn open_day(values: &[&str]) -> Result<Command, WordFault>
     Ok(Command::OpenDay { branch, day })
 }
 
-#[tactic(auto, unfolding(terms::specs::Texts::command_words))]
+#[tactic(auto, unfolding(crate::specs::Texts::command_words))]
 fn kind(values: &[&str]) -> Result<Command, WordFault>
     ensures read { IfOk result (IsReadAs (codes "kind") (texts values.now)) }
     ensures refused { result ≡ Err Refused → IsNoCommand (codes "kind") (texts values.now) }
@@ -159,7 +179,7 @@ fn kind(values: &[&str]) -> Result<Command, WordFault>
     })
 }
 
-#[tactic(auto, unfolding(terms::specs::Texts::command_words))]
+#[tactic(auto, unfolding(crate::specs::Texts::command_words))]
 fn rule(values: &[&str]) -> Result<Command, WordFault>
     ensures read { IfOk result (IsReadAs (codes "rule") (texts values.now)) }
     ensures refused { result ≡ Err Refused → IsNoCommand (codes "rule") (texts values.now) }
@@ -183,7 +203,7 @@ fn rule(values: &[&str]) -> Result<Command, WordFault>
     })
 }
 
-#[tactic(auto, unfolding(terms::specs::Texts::command_words))]
+#[tactic(auto, unfolding(crate::specs::Texts::command_words))]
 fn patron(alloc: Global, values: &[&str]) -> Result<Command, WordFault>
     ensures read { IfOk result (IsReadAs (codes "patron") (texts values.now)) }
     ensures refused { result ≡ Err Refused → IsNoCommand (codes "patron") (texts values.now) }
@@ -203,7 +223,7 @@ fn patron(alloc: Global, values: &[&str]) -> Result<Command, WordFault>
     })
 }
 
-#[tactic(auto, unfolding(terms::specs::Texts::command_words))]
+#[tactic(auto, unfolding(crate::specs::Texts::command_words))]
 fn acquire(alloc: Global, values: &[&str]) -> Result<Command, WordFault>
     ensures read { IfOk result (IsReadAs (codes "acquire") (texts values.now)) }
     ensures refused { result ≡ Err Refused → IsNoCommand (codes "acquire") (texts values.now) }
@@ -227,7 +247,7 @@ fn acquire(alloc: Global, values: &[&str]) -> Result<Command, WordFault>
     })
 }
 
-#[tactic(auto, unfolding(terms::specs::Texts::command_words))]
+#[tactic(auto, unfolding(crate::specs::Texts::command_words))]
 fn check_out(values: &[&str]) -> Result<Command, WordFault>
     ensures read { IfOk result (IsReadAs (codes "check-out") (texts values.now)) }
     ensures refused { result ≡ Err Refused → IsNoCommand (codes "check-out") (texts values.now) }
@@ -245,7 +265,7 @@ fn check_out(values: &[&str]) -> Result<Command, WordFault>
     })
 }
 
-#[tactic(auto, unfolding(terms::specs::Texts::command_words))]
+#[tactic(auto, unfolding(crate::specs::Texts::command_words))]
 fn check_in(values: &[&str]) -> Result<Command, WordFault>
     ensures read { IfOk result (IsReadAs (codes "check-in") (texts values.now)) }
     ensures refused { result ≡ Err Refused → IsNoCommand (codes "check-in") (texts values.now) }
@@ -258,7 +278,7 @@ fn check_in(values: &[&str]) -> Result<Command, WordFault>
     Ok(Command::CheckIn { copy, branch })
 }
 
-#[tactic(auto, unfolding(terms::specs::Texts::command_words))]
+#[tactic(auto, unfolding(crate::specs::Texts::command_words))]
 fn renew(values: &[&str]) -> Result<Command, WordFault>
     ensures read { IfOk result (IsReadAs (codes "renew") (texts values.now)) }
     ensures refused { result ≡ Err Refused → IsNoCommand (codes "renew") (texts values.now) }
@@ -270,7 +290,7 @@ fn renew(values: &[&str]) -> Result<Command, WordFault>
     Ok(Command::Renew { loan })
 }
 
-#[tactic(auto, unfolding(terms::specs::Texts::command_words))]
+#[tactic(auto, unfolding(crate::specs::Texts::command_words))]
 fn place_hold(values: &[&str]) -> Result<Command, WordFault>
     ensures read { IfOk result (IsReadAs (codes "place-hold") (texts values.now)) }
     ensures refused { result ≡ Err Refused → IsNoCommand (codes "place-hold") (texts values.now) }
@@ -288,7 +308,7 @@ fn place_hold(values: &[&str]) -> Result<Command, WordFault>
     })
 }
 
-#[tactic(auto, unfolding(terms::specs::Texts::command_words))]
+#[tactic(auto, unfolding(crate::specs::Texts::command_words))]
 fn cancel_hold(values: &[&str]) -> Result<Command, WordFault>
     ensures read { IfOk result (IsReadAs (codes "cancel-hold") (texts values.now)) }
     ensures refused { result ≡ Err Refused → IsNoCommand (codes "cancel-hold") (texts values.now) }
@@ -300,7 +320,7 @@ fn cancel_hold(values: &[&str]) -> Result<Command, WordFault>
     Ok(Command::CancelHold { hold })
 }
 
-#[tactic(auto, unfolding(terms::specs::Texts::command_words))]
+#[tactic(auto, unfolding(crate::specs::Texts::command_words))]
 fn unshelve(values: &[&str]) -> Result<Command, WordFault>
     ensures read { IfOk result (IsReadAs (codes "unshelve") (texts values.now)) }
     ensures refused { result ≡ Err Refused → IsNoCommand (codes "unshelve") (texts values.now) }
@@ -312,7 +332,7 @@ fn unshelve(values: &[&str]) -> Result<Command, WordFault>
     Ok(Command::Unshelve { hold })
 }
 
-#[tactic(auto, unfolding(terms::specs::Texts::command_words))]
+#[tactic(auto, unfolding(crate::specs::Texts::command_words))]
 fn unshelve_cancelled(values: &[&str]) -> Result<Command, WordFault>
     ensures read { IfOk result (IsReadAs (codes "unshelve-cancelled") (texts values.now)) }
     ensures refused { result ≡ Err Refused
@@ -325,7 +345,7 @@ fn unshelve_cancelled(values: &[&str]) -> Result<Command, WordFault>
     Ok(Command::UnshelveCancelled { hold })
 }
 
-#[tactic(auto, unfolding(terms::specs::Texts::command_words))]
+#[tactic(auto, unfolding(crate::specs::Texts::command_words))]
 fn missing(values: &[&str]) -> Result<Command, WordFault>
     ensures read { IfOk result (IsReadAs (codes "missing") (texts values.now)) }
     ensures refused { result ≡ Err Refused → IsNoCommand (codes "missing") (texts values.now) }
@@ -337,7 +357,7 @@ fn missing(values: &[&str]) -> Result<Command, WordFault>
     Ok(Command::Missing { copy })
 }
 
-#[tactic(auto, unfolding(terms::specs::Texts::command_words))]
+#[tactic(auto, unfolding(crate::specs::Texts::command_words))]
 fn withdraw(values: &[&str]) -> Result<Command, WordFault>
     ensures read { IfOk result (IsReadAs (codes "withdraw") (texts values.now)) }
     ensures refused { result ≡ Err Refused → IsNoCommand (codes "withdraw") (texts values.now) }
@@ -349,7 +369,7 @@ fn withdraw(values: &[&str]) -> Result<Command, WordFault>
     Ok(Command::Withdraw { copy })
 }
 
-#[tactic(auto, unfolding(terms::specs::Texts::command_words))]
+#[tactic(auto, unfolding(crate::specs::Texts::command_words))]
 fn pay(values: &[&str]) -> Result<Command, WordFault>
     ensures read { IfOk result (IsReadAs (codes "pay") (texts values.now)) }
     ensures refused { result ≡ Err Refused → IsNoCommand (codes "pay") (texts values.now) }
@@ -362,7 +382,7 @@ fn pay(values: &[&str]) -> Result<Command, WordFault>
     Ok(Command::Pay { patron, amount })
 }
 
-#[tactic(auto, unfolding(terms::specs::Texts::command_words))]
+#[tactic(auto, unfolding(crate::specs::Texts::command_words))]
 fn waive(values: &[&str]) -> Result<Command, WordFault>
     ensures read { IfOk result (IsReadAs (codes "waive") (texts values.now)) }
     ensures refused { result ≡ Err Refused → IsNoCommand (codes "waive") (texts values.now) }
@@ -375,7 +395,7 @@ fn waive(values: &[&str]) -> Result<Command, WordFault>
     Ok(Command::Waive { patron, amount })
 }
 
-#[tactic(auto, unfolding(terms::specs::Texts::command_words))]
+#[tactic(auto, unfolding(crate::specs::Texts::command_words))]
 fn page(values: &[&str]) -> Result<Command, WordFault>
     ensures read { IfOk result (IsReadAs (codes "page") (texts values.now)) }
     ensures refused { result ≡ Err Refused → IsNoCommand (codes "page") (texts values.now) }
@@ -387,9 +407,10 @@ fn page(values: &[&str]) -> Result<Command, WordFault>
     Ok(Command::Page { patron })
 }
 
-/// The command of this name with these arguments, each of which has to have its form.
-#[tactic(auto, unfolding(terms::specs::Texts::command_words))]
-pub fn command(alloc: Global, name: &str, values: &[&str]) -> Result<Command, WordFault>
+/// The command with this name whose parts these words write, each in its form. Other words are told
+/// as `NotUnderstood`.
+#[tactic(auto, unfolding(crate::specs::Texts::command_words))]
+pub fn read_command(alloc: Global, name: &str, values: &[&str]) -> Result<Command, WordFault>
     ensures read { IfOk result (IsReadAs name.now (texts values.now)) }
     ensures refused { result ≡ Err Refused → IsNoCommand name.now (texts values.now) }
 {

@@ -1,0 +1,133 @@
+-- What is seen of each command in turn: how it stands in the table, that its words can be told apart, and that it is made again from its name and parts.
+use Rattle.std.proofs.Common.{◌≡◌, ◌<◌, ◌≤◌, ◌+◌, ℕ, List, [], ◌∷◌, Bool, true, false, not, ◌&&◌, map, get_or, length, drop, add-one, drop-cons, drop_of_length-le, refl, Some, None}
+use Rattle.std.specs.Prelude.{if◌then◌else◌, codes, nat_lt}
+use Rattle.std.specs.List.{list_all}
+use Rattle.std.specs.Str.{bytes_eq}
+use Rattle.terms.specs.Forms.{has_no_space}
+use Rattle.terms.specs.Commands.{Column, IsListed, Text, commands, kind_of, line, parts_in}
+use Rattle.terms.specs.Texts.{Part, Number, Amount, Day, Mask, CardKey, Name, said}
+use Rattle.terms.specs.declared.command.Command.{Command}
+use Rattle.terms.specs.declared.form.CommandForm.{CommandForm}
+use Rattle.terms.specs.declared.command.Command.TheVariants.{BeginDay, Branch, Week, CloseDay, OpenDay, Kind, Rule, Patron, Acquire, CheckOut, CheckIn, Renew, PlaceHold, CancelHold, Unshelve, UnshelveCancelled, Missing, Withdraw, Pay, Waive, Page}
+
+-- each byte is ASCII
+abbrev pub is_low : List ℕ → Bool
+is_low = list_all (λ b. nat_lt b 128)
+
+-- the word of the part has no space, as every number and every card key has none
+abbrev pub is_spaceless : Part → Bool
+is_spaceless (Number _) = true
+is_spaceless (Amount _) = true
+is_spaceless (CardKey _) = true
+is_spaceless (Day _) = false
+is_spaceless (Mask _) = false
+is_spaceless (Name _) = false
+
+-- there are parts, and no part but the last can have a space
+abbrev pub are_apart : List Part → Bool
+are_apart [] = false
+are_apart (part ∷ []) = true
+are_apart (part ∷ other ∷ parts) = is_spaceless part && are_apart (other ∷ parts)
+
+-- what a part holds
+abbrev number_in : Part → ℕ
+number_in (Number n) = n
+number_in (Amount n) = n
+number_in (Day n) = n
+number_in (Mask _) = 0
+number_in (CardKey _) = 0
+number_in (Name _) = 0
+
+abbrev text_in : Part → List ℕ
+text_in (Number _) = []
+text_in (Amount _) = []
+text_in (Day _) = []
+text_in (Mask _) = []
+text_in (CardKey t) = t
+text_in (Name t) = t
+
+abbrev days_in : Part → List Bool
+days_in (Number _) = []
+days_in (Amount _) = []
+days_in (Day _) = []
+days_in (Mask closed) = closed
+days_in (CardKey _) = []
+days_in (Name _) = []
+
+-- the command with this name and these parts
+pub command_from : List ℕ → List Part → Command
+command_from name parts =
+    let n = λ (k : ℕ). number_in (get_or parts k (Number 0)) in
+    let t = λ (k : ℕ). text_in (get_or parts k (Number 0)) in
+    if bytes_eq name (codes "begin-day") then BeginDay (n 0)
+    else (if bytes_eq name (codes "branch") then Branch (n 0) (n 1) (t 2)
+    else (if bytes_eq name (codes "week") then Week (n 0) (days_in (get_or parts 1 (Number 0)))
+    else (if bytes_eq name (codes "close-day") then CloseDay (n 0) (n 1)
+    else (if bytes_eq name (codes "open-day") then OpenDay (n 0) (n 1)
+    else (if bytes_eq name (codes "kind") then Kind (n 0) (n 1) (n 2) (n 3)
+    else (if bytes_eq name (codes "rule") then Rule (n 0) (n 1) (n 2) (n 3) (n 4) (n 5)
+    else (if bytes_eq name (codes "patron") then Patron (n 0) (n 1) (t 2) (t 3)
+    else (if bytes_eq name (codes "acquire") then Acquire (n 0) (n 1) (n 2) (n 3) (n 4) (t 5)
+    else (if bytes_eq name (codes "check-out") then CheckOut (n 0) (n 1) (n 2)
+    else (if bytes_eq name (codes "check-in") then CheckIn (n 0) (n 1)
+    else (if bytes_eq name (codes "renew") then Renew (n 0)
+    else (if bytes_eq name (codes "place-hold") then PlaceHold (n 0) (n 1) (n 2)
+    else (if bytes_eq name (codes "cancel-hold") then CancelHold (n 0)
+    else (if bytes_eq name (codes "unshelve") then Unshelve (n 0)
+    else (if bytes_eq name (codes "unshelve-cancelled") then UnshelveCancelled (n 0)
+    else (if bytes_eq name (codes "missing") then Missing (n 0)
+    else (if bytes_eq name (codes "withdraw") then Withdraw (n 0)
+    else (if bytes_eq name (codes "pay") then Pay (n 0) (n 1)
+    else (if bytes_eq name (codes "waive") then Waive (n 0) (n 1)
+    else Page (n 0))))))))))))))))))))
+
+pub record IsTold (command : Command) : Type 0 where
+  pub parts : List Column
+  pub found : parts_in commands (said command).0 ≡ Some parts
+  pub kinds : map (λ part. part.1) parts ≡ map kind_of (said command).1
+  pub named : (has_no_space (said command).0 && is_low (said command).0) ≡ true
+  pub apart : are_apart (said command).1 ≡ true
+  pub back : command_from (said command).0 (said command).1 ≡ command
+
+pub told : (command : Command) → IsTold command
+unfolding command_from parts_in
+told (BeginDay a) = record { parts = _; found = refl; kinds = refl; named = refl; apart = refl; back = refl }
+told (Branch a b c) = record { parts = _; found = refl; kinds = refl; named = refl; apart = refl; back = refl }
+told (Week a b) = record { parts = _; found = refl; kinds = refl; named = refl; apart = refl; back = refl }
+told (CloseDay a b) = record { parts = _; found = refl; kinds = refl; named = refl; apart = refl; back = refl }
+told (OpenDay a b) = record { parts = _; found = refl; kinds = refl; named = refl; apart = refl; back = refl }
+told (Kind a b c d) = record { parts = _; found = refl; kinds = refl; named = refl; apart = refl; back = refl }
+told (Rule a b c d e f) = record { parts = _; found = refl; kinds = refl; named = refl; apart = refl; back = refl }
+told (Patron a b c d) = record { parts = _; found = refl; kinds = refl; named = refl; apart = refl; back = refl }
+told (Acquire a b c d e f) = record { parts = _; found = refl; kinds = refl; named = refl; apart = refl; back = refl }
+told (CheckOut a b c) = record { parts = _; found = refl; kinds = refl; named = refl; apart = refl; back = refl }
+told (CheckIn a b) = record { parts = _; found = refl; kinds = refl; named = refl; apart = refl; back = refl }
+told (Renew a) = record { parts = _; found = refl; kinds = refl; named = refl; apart = refl; back = refl }
+told (PlaceHold a b c) = record { parts = _; found = refl; kinds = refl; named = refl; apart = refl; back = refl }
+told (CancelHold a) = record { parts = _; found = refl; kinds = refl; named = refl; apart = refl; back = refl }
+told (Unshelve a) = record { parts = _; found = refl; kinds = refl; named = refl; apart = refl; back = refl }
+told (UnshelveCancelled a) = record { parts = _; found = refl; kinds = refl; named = refl; apart = refl; back = refl }
+told (Missing a) = record { parts = _; found = refl; kinds = refl; named = refl; apart = refl; back = refl }
+told (Withdraw a) = record { parts = _; found = refl; kinds = refl; named = refl; apart = refl; back = refl }
+told (Pay a b) = record { parts = _; found = refl; kinds = refl; named = refl; apart = refl; back = refl }
+told (Waive a b) = record { parts = _; found = refl; kinds = refl; named = refl; apart = refl; back = refl }
+told (Page a) = record { parts = _; found = refl; kinds = refl; named = refl; apart = refl; back = refl }
+
+pub listed : (command : Command) → IsListed command
+listed command = let told_is = told command in record { parts = told_is.parts; found = told_is.found; kinds = told_is.kinds }
+
+-- a form with this name has the parts
+pub parts-here : (forms : List CommandForm) (name : Text) (i : ℕ) (d : CommandForm) → i < length forms → bytes_eq (line (get_or forms i d)).0 name ≡ true
+    → parts_in (map line (drop i forms)) name ≡ Some (line (get_or forms i d)).1
+unfolding parts_in
+parts-here forms name i d lt hit = rw (drop-cons forms i d lt, hit) refl
+
+-- a form with another name is passed over
+pub parts-later : (forms : List CommandForm) (name : Text) (i : ℕ) (d : CommandForm) → i < length forms → bytes_eq (line (get_or forms i d)).0 name ≡ false
+    → parts_in (map line (drop i forms)) name ≡ parts_in (map line (drop (i + 1) forms)) name
+unfolding parts_in
+parts-later forms name i d lt miss = rw (add-one, drop-cons forms i d lt, miss) refl
+
+pub parts-none : (forms : List CommandForm) (name : Text) (i : ℕ) → length forms ≤ i → parts_in (map line (drop i forms)) name ≡ None
+unfolding parts_in
+parts-none forms name i past = rw (drop_of_length-le forms past) refl

@@ -1,0 +1,270 @@
+//! The table of commands: the name of each, and its parts with their kinds.
+
+ghost use Rattle.std.specs.Prelude.{◌≡◌, map, option_map};
+ghost use Rattle.terms.specs.Commands.{commands, column, line, parts_in};
+
+/// What a word of a command writes.
+#[derive(Clone, Copy, Debug, PartialEq, Eq)]
+pub enum PartKind {
+    /// A number below 2^32.
+    Number,
+    /// An amount in cents, which a word writes below 2^32.
+    Amount,
+    /// A day, as `2026-03-02`.
+    Day,
+    /// The closed weekdays, as `ooooooc`.
+    Mask,
+    /// A card key.
+    CardKey,
+    /// A name, or the text of a title.
+    Name,
+}
+
+/// A part of a command: its name, and what its word writes.
+#[derive(Clone, Copy)]
+pub struct PartForm {
+    pub name: &'static str,
+    pub kind: PartKind,
+}
+
+/// A command's name, and its parts in their order.
+#[derive(Clone, Copy)]
+pub struct CommandForm {
+    pub name: &'static str,
+    pub parts: &'static [PartForm],
+}
+
+const DAY: PartForm = PartForm {
+    name: "day",
+    kind: PartKind::Day,
+};
+
+const BRANCH: PartForm = PartForm {
+    name: "branch",
+    kind: PartKind::Number,
+};
+
+const PICKUP: PartForm = PartForm {
+    name: "pickup",
+    kind: PartKind::Number,
+};
+
+const NAME: PartForm = PartForm {
+    name: "name",
+    kind: PartKind::Name,
+};
+
+const MASK: PartForm = PartForm {
+    name: "mask",
+    kind: PartKind::Mask,
+};
+
+const KIND: PartForm = PartForm {
+    name: "kind",
+    kind: PartKind::Number,
+};
+
+const LOANS: PartForm = PartForm {
+    name: "loans",
+    kind: PartKind::Number,
+};
+
+const HOLDS: PartForm = PartForm {
+    name: "holds",
+    kind: PartKind::Number,
+};
+
+const DEBT: PartForm = PartForm {
+    name: "debt",
+    kind: PartKind::Amount,
+};
+
+const COPY_KIND: PartForm = PartForm {
+    name: "copy-kind",
+    kind: PartKind::Number,
+};
+
+const PERIOD: PartForm = PartForm {
+    name: "period",
+    kind: PartKind::Number,
+};
+
+const RENEWALS: PartForm = PartForm {
+    name: "renewals",
+    kind: PartKind::Number,
+};
+
+const RATE: PartForm = PartForm {
+    name: "rate",
+    kind: PartKind::Amount,
+};
+
+const CAP: PartForm = PartForm {
+    name: "cap",
+    kind: PartKind::Amount,
+};
+
+const PATRON: PartForm = PartForm {
+    name: "patron",
+    kind: PartKind::Number,
+};
+
+const CARD_KEY: PartForm = PartForm {
+    name: "card-key",
+    kind: PartKind::CardKey,
+};
+
+const COPY: PartForm = PartForm {
+    name: "copy",
+    kind: PartKind::Number,
+};
+
+const TITLE: PartForm = PartForm {
+    name: "title",
+    kind: PartKind::Number,
+};
+
+const HOME: PartForm = PartForm {
+    name: "home",
+    kind: PartKind::Number,
+};
+
+const PRICE: PartForm = PartForm {
+    name: "price",
+    kind: PartKind::Amount,
+};
+
+const TEXT: PartForm = PartForm {
+    name: "text",
+    kind: PartKind::Name,
+};
+
+const LOAN: PartForm = PartForm {
+    name: "loan",
+    kind: PartKind::Number,
+};
+
+const HOLD: PartForm = PartForm {
+    name: "hold",
+    kind: PartKind::Number,
+};
+
+const AMOUNT: PartForm = PartForm {
+    name: "amount",
+    kind: PartKind::Amount,
+};
+
+/// The commands.
+const COMMANDS: [CommandForm; 21] = [
+    CommandForm {
+        name: "begin-day",
+        parts: &[DAY],
+    },
+    CommandForm {
+        name: "branch",
+        parts: &[BRANCH, PICKUP, NAME],
+    },
+    CommandForm {
+        name: "week",
+        parts: &[BRANCH, MASK],
+    },
+    CommandForm {
+        name: "close-day",
+        parts: &[BRANCH, DAY],
+    },
+    CommandForm {
+        name: "open-day",
+        parts: &[BRANCH, DAY],
+    },
+    CommandForm {
+        name: "kind",
+        parts: &[KIND, LOANS, HOLDS, DEBT],
+    },
+    CommandForm {
+        name: "rule",
+        parts: &[KIND, COPY_KIND, PERIOD, RENEWALS, RATE, CAP],
+    },
+    CommandForm {
+        name: "patron",
+        parts: &[PATRON, KIND, CARD_KEY, NAME],
+    },
+    CommandForm {
+        name: "acquire",
+        parts: &[COPY, TITLE, KIND, HOME, PRICE, TEXT],
+    },
+    CommandForm {
+        name: "check-out",
+        parts: &[PATRON, COPY, BRANCH],
+    },
+    CommandForm {
+        name: "check-in",
+        parts: &[COPY, BRANCH],
+    },
+    CommandForm {
+        name: "renew",
+        parts: &[LOAN],
+    },
+    CommandForm {
+        name: "place-hold",
+        parts: &[PATRON, TITLE, BRANCH],
+    },
+    CommandForm {
+        name: "cancel-hold",
+        parts: &[HOLD],
+    },
+    CommandForm {
+        name: "unshelve",
+        parts: &[HOLD],
+    },
+    CommandForm {
+        name: "unshelve-cancelled",
+        parts: &[HOLD],
+    },
+    CommandForm {
+        name: "missing",
+        parts: &[COPY],
+    },
+    CommandForm {
+        name: "withdraw",
+        parts: &[COPY],
+    },
+    CommandForm {
+        name: "pay",
+        parts: &[PATRON, AMOUNT],
+    },
+    CommandForm {
+        name: "waive",
+        parts: &[PATRON, AMOUNT],
+    },
+    CommandForm {
+        name: "page",
+        parts: &[PATRON],
+    },
+];
+
+/// The commands that are understood, each with its parts.
+pub fn command_forms() -> &'static [CommandForm]
+    ensures { map line result.now ≡ commands }
+{
+    &COMMANDS
+}
+
+/// The form of the command with this name among these, if there is one.
+fn form_named(forms: &[CommandForm], name: &str) -> Option<&'static [PartForm]>
+    ensures { option_map (λ parts. map column parts.now) result ≡ parts_in
+        (map line forms.now) name.now }
+{
+    for form in forms {
+        if form.name == name {
+            return Some(form.parts);
+        }
+    }
+    None
+}
+
+/// The parts of the command with this name, in their order.
+pub fn parts_for(name: &str) -> Option<&'static [PartForm]>
+    ensures { option_map (λ parts. map column parts.now) result ≡ parts_in commands name.now }
+{
+    form_named(command_forms(), name)
+}
