@@ -19,7 +19,7 @@ use Rattle.model.specs.Refusals.{checks, has_patron}
 use Rattle.model.specs.Picture.{picture, meta_row, patron_row, patron_columns, nth_line, line_row, line_columns}
 use Rattle.model.proofs.Moves.{false-ne}
 use Rattle.model.proofs.Passing.{passed}
-use Rattle.circ_core.specs.declared.views.AccountView.{AccountView}
+use Rattle.circ_core.specs.declared.views.View.{View}
 use Rattle.circ_core.specs.Lending.{owed_by}
 use Rattle.circ_core.specs.Accounts.{settle_checks, settle_rows, settled, page_checks}
 use Rattle.circ_core.specs.Views.{IsAccountView}
@@ -112,7 +112,7 @@ module _ (H : History) (p m : ℕ) (sort : Sort) (no_charge : charge sort (suc m
 
 -- ---- payments and waivers
 
-module _ (H : History) (p : ℕ) (rows : AccountView) (w : IsAccountView (picture H) p rows) where
+module _ (H : History) (p : ℕ) (rows : View) (w : IsAccountView (picture H) p rows) where
   patron_is : (r : PatronFacts) → patron_of H p ≡ Some r → rows.patron ≡ Some (patron_columns H p r)
   patron_is r there = w.patron ∙ ap (option_map (patron_columns H p)) there
 

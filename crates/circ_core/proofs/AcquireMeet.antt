@@ -14,7 +14,7 @@ use Rattle.model.specs.Places.{Place, Nowhere, Shelf, place, state, place_after,
 use Rattle.model.specs.Picture.{picture, branch_columns, title_row, copy_columns, copy_row, hold_row, condition_at, transit_at, if_ready}
 use Rattle.circ_core.specs.declared.changes.RowChange.{RowChange}
 use Rattle.circ_core.specs.declared.changes.RowChange.TheVariants.{PutTitle, PutCopy}
-use Rattle.circ_core.specs.declared.views.AcquireView.{AcquireView}
+use Rattle.circ_core.specs.declared.views.View.{View}
 use Rattle.circ_core.specs.Setting.{rows_unless, title_differs, copy_differs, acquire_checks, acquire_rows}
 use Rattle.terms.specs.Pictures.{put}
 use Rattle.circ_core.specs.Views.{IsAcquireView}
@@ -179,7 +179,7 @@ module _ (H : History) (inv : Invariant H) (c t k home price : ℕ) (text : List
     lines = λ _. refl;
   }
 
-  pub acquire_meets : (rows : AcquireView) → IsAcquireView (picture H) c t home rows
+  pub acquire_meets : (rows : View) → IsAcquireView (picture H) c t home rows
       → Meets H (Acquire c t k home price text) (acquire_checks rows c t k home price text) Done (acquire_rows rows c t k home price text)
   unfolding new_title new_copy
   acquire_meets rows w = record {

@@ -18,7 +18,7 @@ use Rattle.model.specs.Invariant.{Invariant, Serves}
 use Rattle.model.specs.Picture.{picture, copy_columns, hold_row, hold_columns, transit_row, transit_at, condition_at, if_ready}
 use Rattle.model.proofs.Bindings.{not-false}
 use Rattle.model.proofs.Passing.{passed}
-use Rattle.circ_core.specs.declared.views.CancelHoldView.{CancelHoldView}
+use Rattle.circ_core.specs.declared.views.View.{View}
 use Rattle.circ_core.specs.Lending.{finished}
 use Rattle.circ_core.specs.Holding.{waits, cancel_hold_checks, cancelled_rows, let_go_rows, cancel_hold_rows}
 use Rattle.circ_core.specs.Tables.{changed, SameRows}
@@ -201,7 +201,7 @@ module _ (H : History) (inv : Invariant H) (h : ℕ) where
 
 -- ---- cancel-hold
 
-module _ (H : History) (inv : Invariant H) (h : ℕ) (v : CancelHoldView) (w : IsCancelHoldView (picture H) h v) where
+module _ (H : History) (inv : Invariant H) (h : ℕ) (v : View) (w : IsCancelHoldView (picture H) h v) where
   known : not (has_hold H Desk h) ≡ false → (f : HoldFacts) × (hold_of H h ≡ Some f)
   known e = some-is (hold_of H h) (ap not (sym (and-true (is_some (hold_of H h)))) ∙ e)
 

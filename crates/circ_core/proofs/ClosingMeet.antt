@@ -13,7 +13,7 @@ use Rattle.model.specs.History.{History, singles_of}
 use Rattle.model.specs.Refusals.{has_branch}
 use Rattle.model.specs.Picture.{picture}
 use Rattle.model.proofs.ClosedDays.{as-many, eq-sym}
-use Rattle.circ_core.specs.declared.views.ClosedDayView.{ClosedDayView}
+use Rattle.circ_core.specs.declared.views.View.{View}
 use Rattle.circ_core.specs.Closing.{is_closed_day, has_all_days, close_day_checks, close_day_rows, open_day_checks, open_day_rows}
 use Rattle.circ_core.specs.Views.{IsCalendarOf, IsClosedDayView}
 use Rattle.circ_core.proofs.Meets.{Meets}
@@ -45,7 +45,7 @@ taken d n (x ∷ xs) = go (d == x) refl (d == n) refl (taken d n xs)
 
 -- ---- the checks
 
-module _ (H : History) (inv : Invariant H) (b d : ℕ) (rows : ClosedDayView) (w : IsClosedDayView (picture H) b rows) where
+module _ (H : History) (inv : Invariant H) (b d : ℕ) (rows : View) (w : IsClosedDayView (picture H) b rows) where
   closed_same : (o : Option Closings) → IsCalendarOf (picture H) b o → not (has_branch H b) ≡ false → is_closed_day o d ≡ is_single (singles_of H b) d
   closed_same (Some closings) x there = x.single d
   closed_same None x there = let no_branch : not (has_branch H b) ≡ true = sym (calendar_there H b None x) in let never : ⊥ = cc in absurd never

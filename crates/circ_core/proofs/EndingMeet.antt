@@ -21,7 +21,7 @@ use Rattle.model.specs.Requests.{IsLegal}
 use Rattle.model.specs.Invariant.{Invariant}
 use Rattle.model.specs.Picture.{picture, meta_row, line_row, patron_row, patron_columns, loan_row, loan_columns, branch_columns}
 use Rattle.model.proofs.Moves.{false-ne}
-use Rattle.circ_core.specs.declared.views.LenderView.{LenderView}
+use Rattle.circ_core.specs.declared.views.View.{View}
 use Rattle.circ_core.specs.Ending.{fine_due, ended_loan, lines_for, lacks_numbers, charge_rows}
 use Rattle.circ_core.specs.Tables.{changed}
 use Rattle.circ_core.specs.Views.{IsLoanOf, IsLenderOf, IsLenderView}
@@ -68,7 +68,7 @@ module _ (H : History) (legal : IsLegal H) (inv : Invariant H) (c : ℕ) (q : Lo
   pub enrolled : (f : PatronFacts) × (patron_of H q.patron ≡ Some f)
   enrolled = subst (λ (x : LoanRow). (f : PatronFacts) × (patron_of H x.patron ≡ Some f)) l.row (borrower-there H inv q.loan l.facts l.made)
 
-  pub borrower_row : (rows : LenderView) → IsLenderView (picture H) (Some q) rows → rows.patron ≡ Some (patron_columns H q.patron enrolled.0)
+  pub borrower_row : (rows : View) → IsLenderView (picture H) (Some q) rows → rows.patron ≡ Some (patron_columns H q.patron enrolled.0)
   borrower_row rows w = w.patron ∙ ap (option_map (patron_columns H q.patron)) enrolled.1
 
   fine_by : (o : Option Closings) → IsLenderOf (picture H) (Some q) o → fine_due (Some q) o (today H)
@@ -80,9 +80,9 @@ module _ (H : History) (legal : IsLegal H) (inv : Invariant H) (c : ℕ) (q : Lo
       no_branch e = sym (is_none-map (branch_columns H q.branch) (branch_of H l.facts.branch)) ∙ ap (λ x. is_none (option_map (branch_columns H q.branch) (branch_of H x.branch))) l.row ∙ ap is_none e
 
   -- The fine on the rows is that of the history.
-  pub fine_same : (rows : LenderView) → IsLenderView (picture H) (Some q) rows → fine_due (Some q) rows.calendar (today H) ≡ fine_now H q.loan
+  pub fine_same : (rows : View) → IsLenderView (picture H) (Some q) rows → fine_due (Some q) rows.lender (today H) ≡ fine_now H q.loan
   fine_same rows w =
-      fine_by rows.calendar w.calendar
+      fine_by rows.lender w.calendar
       ∙ ap (λ x. fine_for (late (is_open H x.branch) x.due (today H)) x.rate x.cap) (sym l.row)
       ∙ sym (ap (λ o. unwrap_or (option_map (λ r. fine_for (late (is_open H r.branch) (due H q.loan) (today H)) r.terms.rate r.terms.cap) o) 0) l.made)
 
@@ -185,10 +185,10 @@ module _ (H : History) (legal : IsLegal H) (inv : Invariant H) (c : ℕ) (q : Lo
   both_lines = rw (fine_line-is, price_line-is) refl
 
   -- The fine and a price are charged as the history has it, on any tables that show its account and numbers.
-  pub charges_show : (rows : LenderView) → IsLenderView (picture H) (Some q) rows → (price : ℕ) → price ≤ 1000000 → (P : Picture) → P.meta ≡ meta_row H
+  pub charges_show : (rows : View) → IsLenderView (picture H) (Some q) rows → (price : ℕ) → price ≤ 1000000 → (P : Picture) → P.meta ≡ meta_row H
       → ((k : ℕ) → P.patrons k ≡ patron_row H k) → ((k : ℕ) → P.lines k ≡ line_row H k)
       → ShowsLines H (lines_with H q.patron q.loan (fine_now H q.loan) price) P
-      (changed (charge_rows (meta_row H) rows.patron (Some q) (fine_due (Some q) rows.calendar (today H)) price) P)
+      (changed (charge_rows (meta_row H) rows.patron (Some q) (fine_due (Some q) rows.lender (today H)) price) P)
   charges_show rows w price small P meta patrons rows_of_lines =
       let f : (f : PatronFacts) × (patron_of H q.patron ≡ Some f) = enrolled H legal inv c q l in
       rw (fine_same H legal inv c q l rows w, borrower_row H legal inv c q l rows w)

@@ -23,9 +23,7 @@ use Rattle.model.specs.Picture.{picture, meta_row, patron_columns, copy_columns,
 use Rattle.model.proofs.Passing.{passed}
 use Rattle.circ_core.specs.declared.changes.RowChange.{RowChange}
 use Rattle.circ_core.specs.declared.changes.RowChange.TheVariants.{TakeTransit}
-use Rattle.circ_core.specs.declared.views.CopyView.{CopyView}
-use Rattle.circ_core.specs.declared.views.LenderView.{LenderView}
-use Rattle.circ_core.specs.declared.views.MissingView.{MissingView}
+use Rattle.circ_core.specs.declared.views.View.{View}
 use Rattle.circ_core.specs.Lending.{is_missing as is_missing_row, is_withdrawn as is_withdrawn_row}
 use Rattle.circ_core.specs.Ending.{fine_due, lines_for, lacks_numbers, charge_rows}
 use Rattle.circ_core.specs.Leaving.{condition_rows, price_due, fine_in, price_in, missing_checks, lost_reply, missing_reply, release_rows, missing_rows, withdraw_checks, withdraw_rows}
@@ -47,7 +45,7 @@ changed-append (x ∷ xs) ys P = changed-append xs ys (change x P)
 
 -- ---- withdraw
 
-module _ (H : History) (inv : Invariant H) (c : ℕ) (v : CopyView) (w : IsCopyView (picture H) c v) where
+module _ (H : History) (inv : Invariant H) (c : ℕ) (v : View) (w : IsCopyView (picture H) c v) where
   copy_is : (r : CopyFacts) → copy_of H c ≡ Some r → v.copy ≡ Some (copy_columns H c r)
   copy_is r there = w.copy ∙ ap (option_map (copy_columns H c)) there
 
@@ -107,18 +105,18 @@ module _ (H : History) (legal : IsLegal H) (inv : Invariant H) (c : ℕ) (r : Co
   no_lines : is_on_loan (place H c) ≡ false → lines_by H (Missing c) ≡ []
   no_lines off = rw (fine_line-none H (place H c) off, price_line-none (place H c) off) refl
 
-  numbers_same : (o : Option LoanRow) → IsLoanOf (picture H) c o → (rows : LenderView) → IsLenderView (picture H) o rows
-      → lacks_numbers (meta_row H) (fine_due o rows.calendar (today H)) (price_due o (Some row)) ≡ lacks_lines H (length (lines_by H (Missing c)))
+  numbers_same : (o : Option LoanRow) → IsLoanOf (picture H) c o → (rows : View) → IsLenderView (picture H) o rows
+      → lacks_numbers (meta_row H) (fine_due o rows.lender (today H)) (price_due o (Some row)) ≡ lacks_lines H (length (lines_by H (Missing c)))
   numbers_same (Some q) w rows v =
       let l : IsLent H c q = lent H inv c q w in
-      lacks_same H (fine_due (Some q) rows.calendar (today H)) r.price (lines_by H (Missing c))
+      lacks_same H (fine_due (Some q) rows.lender (today H)) r.price (lines_by H (Missing c))
       (length-append (fine_line H (place H c)) (price_line H c (place H c))
       ∙ ap (λ n. n + length (price_line H c (place H c))) (ap length (fine_line-is H legal inv c q l) ∙ line-count H q.patron _ (Some q.loan) (fine_now H q.loan) ∙ ap lines_for (sym (fine_same H legal inv c q l rows v)))
-      ∙ ap (λ n. lines_for (fine_due (Some q) rows.calendar (today H)) + n) (ap length (price_line-is H legal inv c q l) ∙ line-count H q.patron _ (Some q.loan) (price_of H c) ∙ ap lines_for price_is))
+      ∙ ap (λ n. lines_for (fine_due (Some q) rows.lender (today H)) + n) (ap length (price_line-is H legal inv c q l) ∙ line-count H q.patron _ (Some q.loan) (price_of H c) ∙ ap lines_for price_is))
   numbers_same None w rows v = lacks_same H 0 0 (lines_by H (Missing c)) (ap length (no_lines (off_loan None w refl)))
 
-  reply_same : (o : Option LoanRow) → IsLoanOf (picture H) c o → (rows : LenderView) → IsLenderView (picture H) o rows
-      → lost_reply o (fine_due o rows.calendar (today H)) (price_due o (Some row)) ≡ missed H c (place H c)
+  reply_same : (o : Option LoanRow) → IsLoanOf (picture H) c o → (rows : View) → IsLenderView (picture H) o rows
+      → lost_reply o (fine_due o rows.lender (today H)) (price_due o (Some row)) ≡ missed H c (place H c)
   reply_same (Some q) w rows v =
       let l : IsLent H c q = lent H inv c q w in
       rw (fine_same H legal inv c q l rows v, ← price_is) (sym (ap (missed H c) l.here))
@@ -133,8 +131,8 @@ module _ (H : History) (legal : IsLegal H) (inv : Invariant H) (c : ℕ) (r : Co
   abbrev freed : Option LoanRow → Option HoldRow → Option TransitRow → Picture
   freed loan hold transit = changed (condition_rows (Some row) condition.Missing ++ release_rows loan hold transit (today H)) (picture H)
 
-  lead_on : (q : LoanRow) → IsLent H c q → (hold : Option HoldRow) (transit : Option TransitRow) (rows : LenderView) → IsLenderView (picture H) (Some q) rows → (owner : Owner) (key : List ℕ)
-      → SameRows (changed (charge_rows (meta_row H) rows.patron (Some q) (fine_due (Some q) rows.calendar (today H)) r.price) (freed (Some q) hold transit)) (picture (event owner key (Missing c) ∷ H))
+  lead_on : (q : LoanRow) → IsLent H c q → (hold : Option HoldRow) (transit : Option TransitRow) (rows : View) → IsLenderView (picture H) (Some q) rows → (owner : Owner) (key : List ℕ)
+      → SameRows (changed (charge_rows (meta_row H) rows.patron (Some q) (fine_due (Some q) rows.lender (today H)) r.price) (freed (Some q) hold transit)) (picture (event owner key (Missing c) ∷ H))
   lead_on q l hold transit rows v owner key =
       let off : is_on_hold_shelf (place H c) ≡ false = ap is_on_hold_shelf l.here in
       let still : is_in_transit (place H c) ≡ false = ap is_in_transit l.here in
@@ -181,8 +179,8 @@ module _ (H : History) (legal : IsLegal H) (inv : Invariant H) (c : ℕ) (r : Co
       }
 
   lead_by : (loan : Option LoanRow) → IsLoanOf (picture H) c loan → (hold : Option HoldRow) → IsHoldOf (picture H) c hold → (transit : Option TransitRow) → transit ≡ transit_row H c
-      → (rows : LenderView) → IsLenderView (picture H) loan rows → (owner : Owner) (key : List ℕ)
-      → SameRows (changed (charge_rows (meta_row H) rows.patron loan (fine_due loan rows.calendar (today H)) (price_due loan (Some row))) (freed loan hold transit)) (picture (event owner key (Missing c) ∷ H))
+      → (rows : View) → IsLenderView (picture H) loan rows → (owner : Owner) (key : List ℕ)
+      → SameRows (changed (charge_rows (meta_row H) rows.patron loan (fine_due loan rows.lender (today H)) (price_due loan (Some row))) (freed loan hold transit)) (picture (event owner key (Missing c) ∷ H))
   lead_by (Some q) w hold x transit y rows v owner key = lead_on q (lent H inv c q w) hold transit rows v owner key
   lead_by None w (Some q) x transit y rows v owner key =
       let k = kept_by H inv c r there q x in
@@ -208,15 +206,15 @@ module _ (H : History) (legal : IsLegal H) (inv : Invariant H) (c : ℕ) (r : Co
       rw v.patron (lead_off (off_loan None w refl) (freed None None None) refl refl refl refl refl refl refl (λ _. refl) refl refl owner key
       (holds_all_stay H c MissingCopy refl refl off) (transits_still H c MissingCopy refl refl still))
 
-module _ (H : History) (legal : IsLegal H) (inv : Invariant H) (c : ℕ) (v : MissingView) (w : IsMissingView (picture H) c v) where
-  copy_here : (r : CopyFacts) → copy_of H c ≡ Some r → v.at.copy ≡ Some (copy_columns H c r)
+module _ (H : History) (legal : IsLegal H) (inv : Invariant H) (c : ℕ) (v : View) (w : IsMissingView (picture H) c v) where
+  copy_here : (r : CopyFacts) → copy_of H c ≡ Some r → v.copy ≡ Some (copy_columns H c r)
   copy_here r there = w.at.copy ∙ ap (option_map (copy_columns H c)) there
 
   numbers_here : (r : CopyFacts) → copy_of H c ≡ Some r → lacks_numbers v.meta (fine_in v) (price_in v) ≡ lacks_lines H (length (lines_by H (Missing c)))
   numbers_here r there =
-      ap (λ m. lacks_numbers m (fine_due v.at.loan v.lender.calendar m.today) (price_in v)) w.meta
-      ∙ ap (λ o. lacks_numbers (meta_row H) (fine_due v.at.loan v.lender.calendar (today H)) (price_due v.at.loan o)) (copy_here r there)
-      ∙ numbers_same H legal inv c r there v.at.loan w.at.loan v.lender w.lender
+      ap (λ m. lacks_numbers m (fine_due v.loan v.lender m.today) (price_in v)) w.meta
+      ∙ ap (λ o. lacks_numbers (meta_row H) (fine_due v.loan v.lender (today H)) (price_due v.loan o)) (copy_here r there)
+      ∙ numbers_same H legal inv c r there v.loan w.at.loan v w.lender
 
   missing_same : SameChecks (missing_checks v) (checks H Desk (Missing c))
   missing_same = (
@@ -232,9 +230,9 @@ module _ (H : History) (legal : IsLegal H) (inv : Invariant H) (c : ℕ) (v : Mi
 
   missing_due : (r : CopyFacts) → copy_of H c ≡ Some r → missing_reply v ≡ missed H c (place H c)
   missing_due r there =
-      ap (λ m. lost_reply v.at.loan (fine_due v.at.loan v.lender.calendar m.today) (price_in v)) w.meta
-      ∙ ap (λ o. lost_reply v.at.loan (fine_due v.at.loan v.lender.calendar (today H)) (price_due v.at.loan o)) (copy_here r there)
-      ∙ reply_same H legal inv c r there v.at.loan w.at.loan v.lender w.lender
+      ap (λ m. lost_reply v.loan (fine_due v.loan v.lender m.today) (price_in v)) w.meta
+      ∙ ap (λ o. lost_reply v.loan (fine_due v.loan v.lender (today H)) (price_due v.loan o)) (copy_here r there)
+      ∙ reply_same H legal inv c r there v.loan w.at.loan v w.lender
 
   missing_leads : (r : CopyFacts) → copy_of H c ≡ Some r → Leads H (Missing c) (missing_rows v)
   missing_leads r there owner key =
@@ -242,11 +240,11 @@ module _ (H : History) (legal : IsLegal H) (inv : Invariant H) (c : ℕ) (v : Mi
         w.meta,
         copy_here r there,
         changed-append
-            (condition_rows (Some (copy_columns H c r)) condition.Missing ++ release_rows v.at.loan v.at.hold v.at.transit (today H))
-            (charge_rows (meta_row H) v.lender.patron v.at.loan (fine_due v.at.loan v.lender.calendar (today H)) (price_due v.at.loan (Some (copy_columns H c r))))
+            (condition_rows (Some (copy_columns H c r)) condition.Missing ++ release_rows v.loan v.hold v.transit (today H))
+            (charge_rows (meta_row H) v.patron v.loan (fine_due v.loan v.lender (today H)) (price_due v.loan (Some (copy_columns H c r))))
             (picture H),
       )
-      (lead_by H legal inv c r there v.at.loan w.at.loan v.at.hold w.at.hold v.at.transit w.at.transit v.lender w.lender owner key)
+      (lead_by H legal inv c r there v.loan w.at.loan v.hold w.at.hold v.transit w.at.transit v w.lender owner key)
 
   pub missing_meets : Meets H (Missing c) (missing_checks v) (missing_reply v) (missing_rows v)
   missing_meets = record {

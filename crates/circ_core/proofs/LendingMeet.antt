@@ -15,19 +15,19 @@ use Rattle.terms.specs.declared.command.Command.TheVariants.{CheckOut}
 use Rattle.terms.specs.declared.reply.Reply.TheVariants.{Lent}
 use Rattle.calendar.specs.Openings.{Closings}
 use Rattle.circ_core.specs.declared.changes.RowChange.TheVariants.{PutMeta, PutLoan}
-use Rattle.circ_core.specs.declared.views.CheckOutView.{CheckOutView}
-use Rattle.circ_core.specs.Lending.{is_missing as is_missing_row, is_withdrawn as is_withdrawn_row, filled_hold, has_more, loans_allowed, debt_allowed, owed_by, check_out_checks, period_of, renewals_of, rate_of, cap_of, period_end, IsDueFrom, IsShutFrom, new_loan, finished, fill_rows, check_out_rows, LendsOrRefuses}
+use Rattle.circ_core.specs.declared.views.View.{View}
+use Rattle.circ_core.specs.Lending.{is_missing as is_missing_row, is_withdrawn as is_withdrawn_row, filled_hold, has_more, loans_allowed, debt_allowed, owed_by, check_out_checks, period_of, renewals_of, rate_of, cap_of, period_end, loan_due, due_in, new_loan, finished, fill_rows, check_out_rows}
 use Rattle.terms.specs.Pictures.{put}
 use Rattle.circ_core.specs.Tables.{changed, SameRows}
 use Rattle.circ_core.specs.Views.{IsCalendarOf, IsFirstOf, IsFirstFor, IsCount, IsActiveOn, AreHoldsFor, IsCheckOutView, rule_in}
 use Rattle.circ_core.specs.declared.changes.Decision.{Decision}
 use Rattle.circ_core.specs.Decides.{Decides, event}
-use Rattle.circ_core.proofs.Meets.{Meets, Leads, SameChecks, first_failing-same, decided}
-use Rattle.circ_core.proofs.OpenMeet.{calendar_there, least_same, never_shut}
+use Rattle.circ_core.proofs.Meets.{Meets, Leads, SameChecks}
+use Rattle.circ_core.proofs.OpenMeet.{calendar_there, due_from-is, due_from-there, same_day}
 use Rattle.model.proofs.DueDayLaws.{checked_out-terms}
 use Rattle.terms.specs.declared.refusal.Refusal.{Refusal}
 use Rattle.model.specs.Invariant.{Invariant}
-use Rattle.circ_core.proofs.Rows.{is_none-map, none-map, some-is}
+use Rattle.circ_core.proofs.Rows.{is_none-map, none-map, some-is, there-is}
 use Rattle.circ_core.proofs.Claims.{loan_claims, transit_claims, hold_row-is}
 use Rattle.circ_core.proofs.KindNow.{loans_same, debt_same, owed_same}
 use Rattle.circ_core.proofs.PatronCounts.{open_loans-count, others_none, others_one}
@@ -68,8 +68,8 @@ abbrev after_three : List Check → List Check
 after_three (x ∷ y ∷ z ∷ ks) = ks
 after_three _ = []
 
-module _ (H : History) (inv : Invariant H) (p c b : ℕ) (v : CheckOutView) (w : IsCheckOutView (picture H) p c b v) where
-  copy_is : (r : CopyFacts) → copy_of H c ≡ Some r → v.at.copy ≡ Some (copy_columns H c r)
+module _ (H : History) (inv : Invariant H) (p c b : ℕ) (v : View) (w : IsCheckOutView (picture H) p c b v) where
+  copy_is : (r : CopyFacts) → copy_of H c ≡ Some r → v.copy ≡ Some (copy_columns H c r)
   copy_is r there = w.at.copy ∙ ap (λ o. option_map (copy_columns H c) o) there
 
   title_is : (r : CopyFacts) → copy_of H c ≡ Some r → title_of_copy H c ≡ r.title
@@ -84,12 +84,12 @@ module _ (H : History) (inv : Invariant H) (p c b : ℕ) (v : CheckOutView) (w :
 
   -- A copy that is claimed by nothing else stands.
   stands : (r : CopyFacts) → copy_of H c ≡ Some r → is_withdrawn (place H c) ≡ false → is_missing (place H c) ≡ false → is_on_loan (place H c) ≡ false → is_in_transit (place H c) ≡ false
-      → Standing H p c b v.at.copy v.at.hold v.first
+      → Standing H p c b v.copy v.hold v.first
   stands r there = go (place H c) refl
     where
-      go : (x : Place) → place H c ≡ x → is_withdrawn x ≡ false → is_missing x ≡ false → is_on_loan x ≡ false → is_in_transit x ≡ false → Standing H p c b v.at.copy v.at.hold v.first
-      go (Shelf n) at d e f g = standing_shelf H inv p c b r there v.at.copy v.at.hold v.first w.at.copy w.at.hold (first_is r there) n at
-      go (HoldShelf h) at d e f g = standing_hold H inv p c b r there v.at.copy v.at.hold v.first w.at.copy w.at.hold (first_is r there) h at
+      go : (x : Place) → place H c ≡ x → is_withdrawn x ≡ false → is_missing x ≡ false → is_on_loan x ≡ false → is_in_transit x ≡ false → Standing H p c b v.copy v.hold v.first
+      go (Shelf n) at d e f g = standing_shelf H inv p c b r there v.copy v.hold v.first w.at.copy w.at.hold (first_is r there) n at
+      go (HoldShelf h) at d e f g = standing_hold H inv p c b r there v.copy v.hold v.first w.at.copy w.at.hold (first_is r there) h at
       go Nowhere at d e f g = absurd ((inv.acquired c r there).0 at)
       go (Transit n h) at d e f g = let never : ⊥ = cc in absurd never
       go (Loan l) at d e f g = let never : ⊥ = cc in absurd never
@@ -114,78 +114,11 @@ module _ (H : History) (inv : Invariant H) (p c b : ℕ) (v : CheckOutView) (w :
     owed_now = owed_same H p q enrolled v.patron w.patron v.kind w.kind
 
     rule_is : v.rule ≡ rule_row H q.kind r.kind
-    rule_is = w.rule ∙ ap (λ o. rule_in (picture H) o v.at.copy) patron_is ∙ ap (λ o. rule_in (picture H) (Some (patron_columns H p q)) o) (copy_is r there)
+    rule_is = w.rule ∙ ap (λ o. rule_in (picture H) o v.copy) patron_is ∙ ap (λ o. rule_in (picture H) (Some (patron_columns H p q)) o) (copy_is r there)
 
     terms_is : terms_for H p c ≡ rule_of H q.kind r.kind
     terms_is = ap (λ o. option_and_then (λ x. option_and_then (λ y. rule_of H x.kind y.kind) (copy_of H c)) o) enrolled
         ∙ ap (λ o. option_and_then (λ y. rule_of H q.kind y.kind) o) there
-
-    after_copy : SameChecks (after_three (check_out_checks v p b)) (after_three (checks H Desk (CheckOut p c b)))
-    after_copy = (
-      refl,
-      (ap is_withdrawn_row (copy_is r there) ∙ withdrawn_at H c r (place H c)),
-      λ p35. (
-        refl,
-        (ap is_missing_row (copy_is r there) ∙ lost_at H c r (place H c)),
-        λ p34. (
-          refl,
-          loan_claims H inv c v.at.loan w.at.loan,
-          λ p31. (
-            refl,
-            transit_claims H inv c v.at.transit w.at.transit,
-            λ p32.
-                let st : Standing H p c b v.at.copy v.at.hold v.first = stands r there p35 p34 p31 p32 in (
-                  refl,
-                  st.elsewhere,
-                  λ p30. (
-                    refl,
-                    st.other,
-                    λ p33. (
-                      refl,
-                      st.wanted,
-                      λ p36. (
-                        refl,
-                        more_same r there (filled_hold v.at.hold v.first) (st.fill p33 p36),
-                        λ p50. (
-                          refl,
-                          (ap is_none rule_is ∙ is_none-map (rule_columns H q.kind r.kind) (rule_of H q.kind r.kind) ∙ ap is_none (sym terms_is)),
-                          λ p16. (
-                            refl,
-                            (ap (λ n. nat_le n v.open_loans) loans_now ∙ ap (λ n. nat_le (kind_now H p).loans n) (open_loans-count H inv p v.open_loans w.open_loans)),
-                            λ p37. (
-                              refl,
-                              (ap (λ n. nat_lt n (owed_by v.patron)) debt_now ∙ ap (λ n. nat_lt (kind_now H p).debt n) owed_now),
-                              λ p38.
-                                  (refl, (ap (λ m. nat_lt LAST_NUMBER m.next_loan) w.meta ∙ lt-le LAST_NUMBER (loans H)), λ p70. tt),
-                            ),
-                          ),
-                        ),
-                      ),
-                    ),
-                  ),
-                ),
-          ),
-        ),
-      ),
-    )
-
-  pub check_out_same : SameChecks (check_out_checks v p b) (checks H Desk (CheckOut p c b))
-  check_out_same = (
-    refl,
-    calendar_there H b v.calendar w.calendar,
-    λ p10. (
-      refl,
-      (ap is_none w.patron ∙ none-map (patron_columns H p) (patron_of H p)),
-      λ p11. (
-        refl,
-        (ap is_none w.at.copy ∙ none-map (copy_columns H c) (copy_of H c)),
-        λ p13.
-            let q : (x : PatronFacts) × (patron_of H p ≡ Some x) = some-is (patron_of H p) p11 in
-            let r : (x : CopyFacts) × (copy_of H c ≡ Some x) = some-is (copy_of H c) p13 in
-            after_copy q.0 q.1 r.0 r.1,
-      ),
-    ),
-  )
 
   -- ---- the reply
 
@@ -245,23 +178,89 @@ module _ (H : History) (inv : Invariant H) (p c b : ℕ) (v : CheckOutView) (w :
     period_end-same : period_end v ≡ today H + terms_now.period
     period_end-same = ap (λ m. m.today + period_of v.rule) w.meta ∙ ap (λ n. today H + n) period_same
 
-    due_same : (o : Option Closings) → IsCalendarOf (picture H) b o → (due : ℕ) → IsDueFrom o (period_end v) due → due ≡ due_now
-    due_same (Some closings) x due is =
-        let found : least (is_open H b) (period_end v) ≡ Some due = least_same H b closings x (period_end v) due is in
-        ap (λ o. unwrap_or o 0) (sym found ∙ ap (least (is_open H b)) period_end-same)
-    due_same None x due is = absurd is
+    due_is : loan_due v ≡ first_due H p c b
+    due_is = due_from-is H b v.calendar w.calendar has (period_end v) ∙ ap (least (is_open H b)) period_end-same
+
+    -- The calendar doesn't end before the loan can be due.
+    due_there : is_none (terms_for H p c) ≡ false → is_none (loan_due v) ≡ false
+    due_there ruled =
+        let t : (x : Terms) × (terms_for H p c ≡ Some x) = there-is (terms_for H p c) ruled in
+        let short : t.0.period ≤ 365 = (inv.terms q.kind r.kind t.0 (sym (terms_is q enrolled r there) ∙ t.1)).0 in
+        let same : period_end v ≡ today H + t.0.period = period_end-same ∙ ap (λ o. today H + (unwrap_or o no_terms).period) t.1 in
+        due_from-there H inv b v.calendar w.calendar has (period_end v) (omega (arith, same, inv.today_from)) (omega (arith, same, short, inv.today_to))
+
+    due_same : is_none (terms_for H p c) ≡ false → due_in v ≡ due_now
+    due_same ruled = same_day (loan_due v) v.meta.today 0 (due_there ruled) ∙ ap (λ o. unwrap_or o 0) due_is
 
     loan_same : new_loan v p c b due_now ≡ loan_now
     loan_same = rw (w.meta, period_same, renewals_same, rate_same, cap_same) refl
 
-    -- The calendar doesn't end before the loan can be due.
-    not_shut : (t : Terms) → terms_for H p c ≡ Some t → (o : Option Closings) → IsCalendarOf (picture H) b o → IsShutFrom o (period_end v) → ⊥
-    not_shut t rule (Some closings) x shut =
-        let short : t.period ≤ 365 = (inv.terms q.kind r.kind t (sym (terms_is q enrolled r there) ∙ rule)).0 in
-        let same : period_end v ≡ today H + t.period = period_end-same ∙ ap (λ o. today H + (unwrap_or o no_terms).period) rule in
-        never_shut H b closings x inv (period_end v) (omega (arith, same, inv.today_from)) (omega (arith, same, short, inv.today_to)) shut
-    not_shut t rule None x shut =
-        let no_branch : not (has_branch H b) ≡ true = sym (calendar_there H b None x) in let never : ⊥ = cc in absurd never
+    after_copy : SameChecks (after_three (check_out_checks v p b)) (after_three (checks H Desk (CheckOut p c b)))
+    after_copy = (
+      refl,
+      (ap is_withdrawn_row (copy_is r there) ∙ withdrawn_at H c r (place H c)),
+      λ p35. (
+        refl,
+        (ap is_missing_row (copy_is r there) ∙ lost_at H c r (place H c)),
+        λ p34. (
+          refl,
+          loan_claims H inv c v.loan w.at.loan,
+          λ p31. (
+            refl,
+            transit_claims H inv c v.transit w.at.transit,
+            λ p32.
+                let st : Standing H p c b v.copy v.hold v.first = stands r there p35 p34 p31 p32 in (
+                  refl,
+                  st.elsewhere,
+                  λ p30. (
+                    refl,
+                    st.other,
+                    λ p33. (
+                      refl,
+                      st.wanted,
+                      λ p36. (
+                        refl,
+                        more_same r there (filled_hold v.hold v.first) (st.fill p33 p36),
+                        λ p50. (
+                          refl,
+                          (ap is_none (rule_is q enrolled r there) ∙ is_none-map (rule_columns H q.kind r.kind) (rule_of H q.kind r.kind) ∙ ap is_none (sym (terms_is q enrolled r there))),
+                          λ p16. (
+                            refl,
+                            (ap (λ n. nat_le n v.open_loans) (loans_now q enrolled r there) ∙ ap (λ n. nat_le (kind_now H p).loans n) (open_loans-count H inv p v.open_loans w.open_loans)),
+                            λ p37. (
+                              refl,
+                              (ap (λ n. nat_lt n (owed_by v.patron)) (debt_now q enrolled r there) ∙ ap (λ n. nat_lt (kind_now H p).debt n) (owed_now q enrolled r there)),
+                              λ p38.
+                                  (refl, (ap (λ m. nat_lt LAST_NUMBER m.next_loan) w.meta ∙ lt-le LAST_NUMBER (loans H)), λ p70. (due_there p16, tt)),
+                            ),
+                          ),
+                        ),
+                      ),
+                    ),
+                  ),
+                ),
+          ),
+        ),
+      ),
+    )
+
+  pub check_out_same : SameChecks (check_out_checks v p b) (checks H Desk (CheckOut p c b))
+  check_out_same = (
+    refl,
+    calendar_there H b v.calendar w.calendar,
+    λ p10. (
+      refl,
+      (ap is_none w.patron ∙ none-map (patron_columns H p) (patron_of H p)),
+      λ p11. (
+        refl,
+        (ap is_none w.at.copy ∙ none-map (copy_columns H c) (copy_of H c)),
+        λ p13.
+            let q : (x : PatronFacts) × (patron_of H p ≡ Some x) = some-is (patron_of H p) p11 in
+            let r : (x : CopyFacts) × (copy_of H c ≡ Some x) = some-is (copy_of H c) p13 in
+            after_copy q.0 q.1 r.0 r.1 p10,
+      ),
+    ),
+  )
 
   -- ---- the rows
 
@@ -416,31 +415,21 @@ module _ (H : History) (inv : Invariant H) (p c b : ℕ) (v : CheckOutView) (w :
       let k = passed (checks H Desk (CheckOut p c b)) ok in
       let q : (x : PatronFacts) × (patron_of H p ≡ Some x) = some-is (patron_of H p) k.1.0 in
       let r : (x : CopyFacts) × (copy_of H c ≡ Some x) = some-is (copy_of H c) k.1.1.0 in
-      let st : Standing H p c b v.at.copy v.at.hold v.first = stands r.0 r.1 k.1.1.1.0 k.1.1.1.1.0 k.1.1.1.1.1.0 k.1.1.1.1.1.1.0 in
-      let fill : FillsAs H p c (filled_hold v.at.hold v.first) = st.fill k.1.1.1.1.1.1.1.1.0 k.1.1.1.1.1.1.1.1.1.0 in
-      rw (meta_same, loan_same q.0 q.1 r.0 r.1 k.0) (lead (filled_hold v.at.hold v.first) fill st.present st.still owner key)
+      let st : Standing H p c b v.copy v.hold v.first = stands r.0 r.1 k.1.1.1.0 k.1.1.1.1.0 k.1.1.1.1.1.0 k.1.1.1.1.1.1.0 in
+      let fill : FillsAs H p c (filled_hold v.hold v.first) = st.fill k.1.1.1.1.1.1.1.1.0 k.1.1.1.1.1.1.1.1.1.0 in
+      rw (meta_same, loan_same q.0 q.1 r.0 r.1 k.0) (lead (filled_hold v.hold v.first) fill st.present st.still owner key)
 
-  meets : Meets H (CheckOut p c b) (check_out_checks v p b) (Lent v.meta.next_loan due_now) (check_out_rows v p c b due_now)
-  meets = record {
+  pub check_out_meets : Meets H (CheckOut p c b) (check_out_checks v p b) (Lent v.meta.next_loan (due_in v)) (check_out_rows v p c b (due_in v))
+  check_out_meets = record {
     same = check_out_same;
-    due = λ _. ap (λ m. Lent m.next_loan due_now) w.meta;
-    leads = check_out_leads;
+    due = λ ok. ap (λ m. Lent m.next_loan (due_in v)) w.meta ∙ ap (λ d. Lent (next_loan H) d) (due_here ok);
+    leads = λ ok owner key. rw (due_here ok) (check_out_leads ok owner key);
   }
-
-  -- A function that lends or refuses by the rows decides as the history has it.
-  pub check_out_decides : (result : Result Decision Refusal) → LendsOrRefuses v p c b result → Decides H (CheckOut p c b) result
-  check_out_decides (Ok decision) l =
-      let ok : refusal H Desk (CheckOut p c b) ≡ None = sym (first_failing-same (check_out_checks v p b) (checks H Desk (CheckOut p c b)) check_out_same) ∙ l.0 in
-      let k = passed (checks H Desk (CheckOut p c b)) ok in
-      let q : (x : PatronFacts) × (patron_of H p ≡ Some x) = some-is (patron_of H p) k.1.0 in
-      let r : (x : CopyFacts) × (copy_of H c ≡ Some x) = some-is (copy_of H c) k.1.1.0 in
-      let same : l.1.0 ≡ due_now = due_same q.0 q.1 r.0 r.1 k.0 v.calendar w.calendar l.1.0 l.1.1 in
-      decided H (CheckOut p c b) _ _ _ meets (Ok decision) (l.0, (l.1.2 ∙ ap (λ d. Lent v.meta.next_loan d) same), (l.1.3 ∙ ap (λ d. check_out_rows v p c b d) same))
-  check_out_decides (Err n) (inl fails) = decided H (CheckOut p c b) _ _ _ meets (Err n) fails
-  check_out_decides (Err n) (inr late) =
-      let ok : refusal H Desk (CheckOut p c b) ≡ None = sym (first_failing-same (check_out_checks v p b) (checks H Desk (CheckOut p c b)) check_out_same) ∙ late.0 in
-      let k = passed (checks H Desk (CheckOut p c b)) ok in
-      let q : (x : PatronFacts) × (patron_of H p ≡ Some x) = some-is (patron_of H p) k.1.0 in
-      let r : (x : CopyFacts) × (copy_of H c ≡ Some x) = some-is (copy_of H c) k.1.1.0 in
-      let t : (x : Terms) × (terms_for H p c ≡ Some x) = checked_out-terms H Desk p c b ok in
-      absurd (not_shut q.0 q.1 r.0 r.1 k.0 t.0 t.1 v.calendar w.calendar late.2)
+    where
+      due_here : refusal H Desk (CheckOut p c b) ≡ None → due_in v ≡ due_now
+      due_here ok =
+          let k = passed (checks H Desk (CheckOut p c b)) ok in
+          let q : (x : PatronFacts) × (patron_of H p ≡ Some x) = some-is (patron_of H p) k.1.0 in
+          let r : (x : CopyFacts) × (copy_of H c ≡ Some x) = some-is (copy_of H c) k.1.1.0 in
+          let t : (x : Terms) × (terms_for H p c ≡ Some x) = checked_out-terms H Desk p c b ok in
+          due_same q.0 q.1 r.0 r.1 k.0 (ap is_none t.1)

@@ -1,3 +1,4 @@
+pub mod DueDays
 pub mod Meets
 pub mod Rows
 pub mod Rising

@@ -16,23 +16,31 @@ use Rattle.circ_core.specs.Tables.{changed, SameRows}
 use Rattle.circ_core.specs.Decided.{Decided}
 use Rattle.circ_core.specs.Decides.{Decides, IsDecision, reply_due, event}
 
--- The same checks in the same order; of a later one only if the earlier ones pass.
+-- No check fails.
+abbrev pub ArePassed : List Check → Type 0
+ArePassed [] = Unit {0}
+ArePassed (k ∷ ks) = (k.1 ≡ false) × ArePassed ks
+
+-- The same checks in the same order, of a later one only if the earlier ones pass; and after them checks that no legal history fails.
 abbrev pub SameChecks : List Check → List Check → Type 0
-SameChecks [] [] = Unit {0}
+SameChecks ks [] = ArePassed ks
 SameChecks (k ∷ ks) (l ∷ ls) = (k.0 ≡ l.0) × (k.1 ≡ l.1) × (l.1 ≡ false → SameChecks ks ls)
-SameChecks _ _ = ⊥
+SameChecks [] (l ∷ ls) = ⊥
 
 same_at : (k l : Check) (ks ls : List Check) → k.0 ≡ l.0 → (b : Bool) → l.1 ≡ b → (l.1 ≡ false → first_failing ks ≡ first_failing ls)
     → ◌≡◌ {A = Option Refusal} (elim b [ true ↦ Some k.0 | false ↦ first_failing ks ]) (elim b [ true ↦ Some l.0 | false ↦ first_failing ls ])
 same_at k l ks ls e true p rest = ap Some e
 same_at k l ks ls e false p rest = rest p
 
+passed-none : (ks : List Check) → ArePassed ks → first_failing ks ≡ None
+passed-none [] s = refl
+passed-none (k ∷ ks) s = rw s.0 (passed-none ks s.1)
+
 -- The same checks fail first.
 pub first_failing-same : (ks ls : List Check) → SameChecks ks ls → first_failing ks ≡ first_failing ls
-first_failing-same [] [] s = refl
+first_failing-same ks [] s = passed-none ks s
 first_failing-same (k ∷ ks) (l ∷ ls) s = rw s.1 (same_at k l ks ls s.0 l.1 refl (λ p. first_failing-same ks ls (s.2 p)))
 first_failing-same [] (l ∷ ls) s = absurd s
-first_failing-same (k ∷ ks) [] s = absurd s
 
 -- The changes lead to the tables with the command added, whoever sent it and under whatever key.
 abbrev pub Leads : History → Command → List RowChange → Type 0

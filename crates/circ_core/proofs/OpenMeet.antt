@@ -1,20 +1,20 @@
 -- The calendar of a view is that of the history.
 use Rattle.calendar.specs.declared.limits.TheConstants.{FIRST_DAY, LAST_DAY}
 use Rattle.std.proofs.Common.{◌≡◌, ℕ, suc, ◌+◌, ◌≤◌, ◌<◌, Bool, true, false, not, List, [], ◌∷◌, length, refl, sym, ◌∙◌, ap, subst, arith}
-use Rattle.std.specs.Prelude.{Option, Some, None, is_none, nat_le, ◌&&◌, slice_index_or}
+use Rattle.std.specs.Prelude.{Option, Some, None, is_none, unwrap_or, nat_le, ◌&&◌, slice_index_or}
 use Rattle.std.specs.List.{list_any}
-use Rattle.calendar.specs.Openings.{Closings, IsLeastOpen, weekday, open_days_after}
+use Rattle.calendar.specs.Openings.{Closings, weekday, open_days_after}
 use Rattle.calendar.specs.Openings as openings
-use Rattle.model.specs.Calendar.{is_single, opens, least, IsLeast, late}
+use Rattle.model.specs.Calendar.{is_single, opens, least, late}
 use Rattle.model.specs.History.{History, week_of, singles_of, is_open, BranchFacts, branch_of}
 use Rattle.model.specs.Invariant.{Invariant}
 use Rattle.model.specs.Refusals.{has_branch}
 use Rattle.model.specs.Picture.{picture, branch_columns}
 use Rattle.model.proofs.CalendarsMeet.{calendars_agree}
-use Rattle.model.proofs.Least.{least-IsLeast}
 use Rattle.model.proofs.OpenDays.{open-exists}
-use Rattle.circ_core.specs.Lending.{IsShutFrom}
+use Rattle.circ_core.specs.DueDay.{due_from}
 use Rattle.circ_core.specs.Views.{AreClosedDays, IsCalendarOf}
+use Rattle.circ_core.proofs.DueDays.{one_test as calendar_test}
 use Rattle.circ_core.proofs.Rows.{none-map, option_map-is}
 
 -- The calendar is missing exactly where the branch is.
@@ -43,34 +43,38 @@ module _ (H : History) (b : ℕ) (closings : Closings) (w : AreClosedDays (pictu
   one_test = λ i. λ d. open_same d i
 
   -- The least open day of the calendar is that of the history.
-  pub least_same : (from due : ℕ) → IsLeastOpen closings from due → least (is_open H b) from ≡ Some due
-  least_same from due is = subst (λ (test : ℕ → Bool). least test from ≡ Some due) one_test ((calendars_agree.least_day closings from due).1 is)
-
-  -- Where the calendar has no open day left, the history has none.
-  pub shut_same : (from : ℕ) → IsShutFrom (Some closings) from → least (is_open H b) from ≡ None
-  shut_same from shut = go (least (is_open H b) from) refl
-    where
-      go : (o : Option ℕ) → least (is_open H b) from ≡ o → least (is_open H b) from ≡ None
-      go (Some e) found =
-          let is : IsLeast (is_open H b) from e = least-IsLeast (is_open H b) from e found in
-          let on : openings.is_open closings e ≡ true = sym (calendars_agree.open_days closings e) ∙ open_same e ∙ is.opens in
-          let off : openings.is_open closings e ≡ false = shut e is.from is.within in
-          let never : ⊥ = cc in absurd never
-      go None found = found
+  pub least_is : (from : ℕ) → least (openings.is_open closings) from ≡ least (is_open H b) from
+  least_is from = ap (λ (test : ℕ → Bool). least test from) (sym (calendar_test closings) ∙ one_test)
 
   -- As many days are late.
   pub late_same : (due now : ℕ) → open_days_after closings due now ≡ late (is_open H b) due now
   late_same due now = sym (calendars_agree.late_days closings due now) ∙ ap (λ (test : ℕ → Bool). late test due now) one_test
 
   -- From a day that leaves room enough the calendar has an open day.
-  pub never_shut : Invariant H → (from : ℕ) → FIRST_DAY ≤ from → from + 2806 ≤ LAST_DAY → IsShutFrom (Some closings) from → ⊥
-  never_shut inv from low high shut =
+  pub opens_again : Invariant H → (from : ℕ) → FIRST_DAY ≤ from → from + 2806 ≤ LAST_DAY → is_none (least (is_open H b) from) ≡ false
+  opens_again inv from low high =
       let seven : length closings.weekly ≡ 7 = w.weekdays.seven in
       let day : (k : ℕ) × (k < length closings.weekly) × (slice_index_or closings.weekly k false ≡ false) = open_weekday closings.weekly w.weekdays.some_open in
       let at : slice_index_or (week_of H b) day.0 false ≡ false = ap (λ week. slice_index_or week day.0 false) (sym weekly_same) ∙ day.2 in
       let found : (e : ℕ) × (least (is_open H b) from ≡ Some e) =
       open-exists (week_of H b) (singles_of H b) day.0 from (omega (arith, day.1, seven)) at (inv.few_singles b) low high in
-      let is : IsLeast (is_open H b) from found.0 = least-IsLeast (is_open H b) from found.0 found.1 in
-      let on : openings.is_open closings found.0 ≡ true = sym (calendars_agree.open_days closings found.0) ∙ open_same found.0 ∙ is.opens in
-      let off : openings.is_open closings found.0 ≡ false = shut found.0 is.from is.within in
-      let never : ⊥ = cc in never
+      ap is_none found.1
+
+-- The due day on the rows is the least open day of the history.
+pub due_from-is : (H : History) (b : ℕ) (o : Option Closings) → IsCalendarOf (picture H) b o → not (has_branch H b) ≡ false → (from : ℕ) → due_from o from ≡ least (is_open H b) from
+unfolding due_from
+due_from-is H b (Some closings) w has from = least_is H b closings w from
+due_from-is H b None w has from = let no_branch : not (has_branch H b) ≡ true = sym (calendar_there H b None w) in let never : ⊥ = cc in absurd never
+
+-- From a day that leaves room enough there is one.
+pub due_from-there : (H : History) → Invariant H → (b : ℕ) (o : Option Closings) → IsCalendarOf (picture H) b o → not (has_branch H b) ≡ false
+    → (from : ℕ) → FIRST_DAY ≤ from → from + 2806 ≤ LAST_DAY → is_none (due_from o from) ≡ false
+unfolding due_from
+due_from-there H inv b (Some closings) w has from low high = ap is_none (least_is H b closings w from) ∙ opens_again H b closings w inv from low high
+due_from-there H inv b None w has from low high =
+    let no_branch : not (has_branch H b) ≡ true = sym (calendar_there H b None w) in let never : ⊥ = cc in absurd never
+
+-- A day that is there, whatever would stand for it.
+pub same_day : (o : Option ℕ) (x y : ℕ) → is_none o ≡ false → unwrap_or o x ≡ unwrap_or o y
+same_day (Some d) x y e = refl
+same_day None x y e = let never : ⊥ = cc in absurd never

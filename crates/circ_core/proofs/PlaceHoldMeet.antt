@@ -15,7 +15,7 @@ use Rattle.model.specs.Places.{state, kept_for, limit}
 use Rattle.model.specs.Refusals.{checks, kind_now}
 use Rattle.model.specs.Invariant.{Invariant}
 use Rattle.model.specs.Picture.{picture, patron_columns, branch_columns, hold_row, if_ready}
-use Rattle.circ_core.specs.declared.views.PlaceHoldView.{PlaceHoldView}
+use Rattle.circ_core.specs.declared.views.View.{View}
 use Rattle.circ_core.specs.Holding.{place_hold_checks, new_hold, place_hold_rows}
 use Rattle.circ_core.specs.Views.{IsPlaceHoldView}
 use Rattle.circ_core.proofs.Meets.{Meets, SameChecks}
@@ -24,7 +24,7 @@ use Rattle.circ_core.proofs.KindNow.{holds_same}
 use Rattle.circ_core.proofs.LendingMeet.{lt-le}
 use Rattle.circ_core.proofs.PatronCounts.{holds-some, active_holds-count, loan-of_title}
 
-module _ (H : History) (inv : Invariant H) (p t b : ℕ) (v : PlaceHoldView) (w : IsPlaceHoldView (picture H) p t b v) where
+module _ (H : History) (inv : Invariant H) (p t b : ℕ) (v : View) (w : IsPlaceHoldView (picture H) p t b v) where
   place_hold_same : SameChecks (place_hold_checks v) (checks H Desk (PlaceHold p t b))
   place_hold_same = (
     refl,

@@ -13,58 +13,32 @@ use Rattle.terms.specs.declared.row.HoldRow.{HoldRow}
 use Rattle.terms.specs.declared.row.HoldState.TheVariants.{Waiting}
 use Rattle.terms.specs.Pictures.{put}
 use Rattle.model.specs.Calendar.{least}
-use Rattle.model.specs.Checks.{Check, first_failing}
-use Rattle.model.specs.History.{History, today, is_open, branch_of, CopyFacts, copy_of, PatronFacts, patron_of, HoldFacts, hold_of}
+use Rattle.model.specs.Checks.{Check}
+use Rattle.model.specs.History.{History, today, is_open, BranchFacts, branch_of, CopyFacts, copy_of, PatronFacts, patron_of, HoldFacts, hold_of}
 use Rattle.model.specs.Places.{line, title_of_copy}
 use Rattle.model.specs.Loans.{LoanFacts, loan_of, due, ended, renewals, renewals_left, renewed_due, title_of_loan}
 use Rattle.model.specs.Accounts.{borrower}
-use Rattle.model.specs.Refusals.{checks, has_loan, is_empty, kind_now, owes_too_much}
+use Rattle.model.specs.Refusals.{checks, refusal, has_branch, has_loan, is_empty, kind_now, owes_too_much}
 use Rattle.model.specs.Requests.{IsLegal}
 use Rattle.model.specs.Invariant.{Invariant}
 use Rattle.model.specs.Picture.{picture, branch_columns, copy_columns, loan_row, loan_columns, hold_columns}
 use Rattle.model.proofs.Passing.{passed}
-use Rattle.circ_core.specs.declared.changes.Decision.{Decision}
-use Rattle.circ_core.specs.declared.views.RenewView.{RenewView}
-use Rattle.circ_core.specs.Lending.{debt_allowed, owed_by, IsDueFrom, IsShutFrom}
-use Rattle.circ_core.specs.Renewing.{is_over, is_late, is_renewed_out, renew_checks, renewed_end, renewed_rows, RenewsOrRefuses}
+use Rattle.circ_core.specs.declared.views.View.{View}
+use Rattle.circ_core.specs.Lending.{debt_allowed, owed_by}
+use Rattle.circ_core.specs.Renewing.{is_over, is_late, is_renewed_out, next_due, renew_checks, renewed_due_day, renewed_due_in, renewed_rows}
 use Rattle.circ_core.specs.Views.{IsCalendarOf, IsLenderOf, IsFirstOf, IsFirstFor, IsRenewView, copy_in, borrower_in}
-use Rattle.circ_core.specs.Decides.{Decides}
-use Rattle.circ_core.proofs.Meets.{Meets, SameChecks, first_failing-same, decided}
-use Rattle.circ_core.proofs.Rows.{and-true, is_none-None, is_none-map, none-map}
+use Rattle.circ_core.proofs.Meets.{Meets, Leads, SameChecks}
+use Rattle.circ_core.proofs.Rows.{and-true, none-map, there-is}
 use Rattle.circ_core.proofs.FirstInLine.{line_none, line_some}
 use Rattle.circ_core.proofs.KindNow.{debt_same, owed_same}
 use Rattle.circ_core.proofs.Lenders.{legal-lenders, borrower-there, lent_copy-there}
-use Rattle.circ_core.proofs.OpenMeet.{least_same, shut_same}
-
--- ---- two tables of checks, one after the other
-
-first_failing-none : (xs ys : List Check) → first_failing xs ≡ None → first_failing (xs ++ ys) ≡ first_failing ys
-first_failing-none [] ys e = refl
-first_failing-none (k ∷ ks) ys e = go k.1 (λ f. first_failing-none ks ys f) e
-  where
-    go : (b : Bool) → (first_failing ks ≡ None → first_failing (ks ++ ys) ≡ first_failing ys) → ◌≡◌ {A = Option Refusal} (elim b [ true ↦ Some k.0 | false ↦ first_failing ks ]) None
-        → ◌≡◌ {A = Option Refusal} (elim b [ true ↦ Some k.0 | false ↦ first_failing (ks ++ ys) ]) (first_failing ys)
-    go true ih f = let never : ⊥ = cc in absurd never
-    go false ih f = ih f
-
-first_failing-some : (xs ys : List Check) (n : Refusal) → first_failing xs ≡ Some n → first_failing (xs ++ ys) ≡ Some n
-first_failing-some [] ys n e = let never : ⊥ = cc in absurd never
-first_failing-some (k ∷ ks) ys n e = go k.1 (λ f. first_failing-some ks ys n f) e
-  where
-    go : (b : Bool) → (first_failing ks ≡ Some n → first_failing (ks ++ ys) ≡ Some n) → ◌≡◌ {A = Option Refusal} (elim b [ true ↦ Some k.0 | false ↦ first_failing ks ]) (Some n)
-        → ◌≡◌ {A = Option Refusal} (elim b [ true ↦ Some k.0 | false ↦ first_failing (ks ++ ys) ]) (Some n)
-    go true ih f = f
-    go false ih f = ih f
+use Rattle.circ_core.proofs.OpenMeet.{due_from-is, same_day}
 
 none-is_some : {A : Type 0} (o : Option A) → is_some o ≡ false → o ≡ None
 none-is_some None e = refl
 none-is_some (Some x) e = let never : ⊥ = cc in absurd never
 
-module _ (H : History) (legal : IsLegal H) (inv : Invariant H) (l : ℕ) (v : RenewView) (w : IsRenewView (picture H) l v) where
-  -- The six checks, and the one on the new due day.
-  abbrev tests : Bool → List Check
-  tests late = renew_checks v ++ (PastCalendar, late) ∷ []
-
+module _ (H : History) (legal : IsLegal H) (inv : Invariant H) (l : ℕ) (v : View) (w : IsRenewView (picture H) l v) where
   unknown_same : is_none v.loan ≡ not (has_loan H Desk l)
   unknown_same = ap is_none w.loan ∙ none-map (loan_columns H l) (loan_of H l) ∙ ap not (sym (and-true (is_some (loan_of H l))))
 
@@ -121,26 +95,26 @@ module _ (H : History) (legal : IsLegal H) (inv : Invariant H) (l : ℕ) (v : Re
     renewed_due-is : renewed_due H l (due H l) ≡ least (is_open H r.branch) (due H l + r.terms.period)
     renewed_due-is = ap (option_and_then (λ y. least (is_open H y.branch) (due H l + y.terms.period))) made
 
-    end_is : renewed_end v.loan ≡ due H l + r.terms.period
-    end_is = ap renewed_end loan_is
+    calendar_is : IsCalendarOf (picture H) r.branch v.lender
+    calendar_is = subst (λ o. IsLenderOf (picture H) o v.lender) loan_is w.calendar
 
-    calendar_is : IsCalendarOf (picture H) r.branch v.calendar
-    calendar_is = subst (λ o. IsLenderOf (picture H) o v.calendar) loan_is w.calendar
+    lender_there : not (has_branch H r.branch) ≡ false
+    lender_there = go (branch_of H r.branch) refl
+      where
+        go : (o : Option BranchFacts) → branch_of H r.branch ≡ o → not (is_some o) ≡ false
+        go (Some f) e = refl
+        go None e = absurd (legal-lenders H legal l r made e)
 
-    due_same : (o : Option Closings) → IsCalendarOf (picture H) r.branch o → (day : ℕ) → IsDueFrom o (renewed_end v.loan) day → renewed_due H l (due H l) ≡ Some day
-    due_same (Some closings) x day is =
-        let found : least (is_open H r.branch) (renewed_end v.loan) ≡ Some day = least_same H r.branch closings x (renewed_end v.loan) day is in
-        renewed_due-is ∙ ap (least (is_open H r.branch)) (sym end_is) ∙ found
-    due_same None x day is = absurd is
-
-    late_same : (o : Option Closings) → IsCalendarOf (picture H) r.branch o → IsShutFrom o (renewed_end v.loan) → renewed_due H l (due H l) ≡ None
-    late_same (Some closings) x shut = renewed_due-is ∙ ap (least (is_open H r.branch)) (sym end_is) ∙ shut_same H r.branch closings x (renewed_end v.loan) shut
-    late_same None x shut = absurd (legal-lenders H legal l r made (is_none-None _ (sym (is_none-map (branch_columns H r.branch) (branch_of H r.branch)) ∙ ap is_none x)))
+    due_is : renewed_due_day v ≡ renewed_due H l (due H l)
+    due_is =
+        ap (λ o. next_due o v.lender) loan_is
+        ∙ due_from-is H r.branch v.lender calendar_is lender_there (due H l + r.terms.period)
+        ∙ sym renewed_due-is
 
   -- ---- the checks
 
-  same : (late : Bool) → late ≡ is_none (renewed_due H l (due H l)) → SameChecks (tests late) (checks H Desk (Renew l))
-  same late e = (
+  same : SameChecks (renew_checks v) (checks H Desk (Renew l))
+  same = (
     refl,
     unknown_same,
     λ p14.
@@ -153,7 +127,7 @@ module _ (H : History) (legal : IsLegal H) (inv : Invariant H) (l : ℕ) (v : Re
             λ p41. (
               refl,
               line_same r.0 r.1 (none-is_some (ended H l) p40),
-              λ p36. (refl, ap is_renewed_out (loan_is r.0 r.1), λ p42. (refl, debt_here r.0 r.1, λ p38. (refl, e, λ p39. tt))),
+              λ p36. (refl, ap is_renewed_out (loan_is r.0 r.1), λ p42. (refl, debt_here r.0 r.1, λ p38. (refl, ap is_none (due_is r.0 r.1), λ p39. tt))),
             ),
           ),
         ),
@@ -194,38 +168,38 @@ module _ (H : History) (legal : IsLegal H) (inv : Invariant H) (l : ℕ) (v : Re
         go true e = subst (λ m. Some loan_now ≡ loan_at m true) (eqb-true _ _ e) here
         go false e = refl
 
-    meets : Meets H (Renew l) (tests false) (Lent l day) (renewed_rows v.loan day)
-    meets = record {
-      same = same false (sym (ap is_none found));
-      due = λ _. ap (λ o. Lent l (unwrap_or o 0)) (sym found);
-      leads = λ _ owner key.
-          rw (loan_is r made) (record {
-            meta = refl;
-            branches = λ _. refl;
-            closed_days = λ _ _. refl;
-            kinds = λ _. refl;
-            rules = λ _ _. refl;
-            patrons = λ _. refl;
-            titles = λ _. refl;
-            copies = λ _. refl;
-            loans = loans_lead;
-            holds = λ _. refl;
-            transits = λ _. refl;
-            lines = λ _. refl;
-          });
-    }
+    leads_at : Leads H (Renew l) (renewed_rows v.loan day)
+    leads_at owner key =
+        rw (loan_is r made) (record {
+          meta = refl;
+          branches = λ _. refl;
+          closed_days = λ _ _. refl;
+          kinds = λ _. refl;
+          rules = λ _ _. refl;
+          patrons = λ _. refl;
+          titles = λ _. refl;
+          copies = λ _. refl;
+          loans = loans_lead;
+          holds = λ _. refl;
+          transits = λ _. refl;
+          lines = λ _. refl;
+        })
 
-  -- A function that renews or refuses by the rows decides as the history has it.
-  pub renew_decides : (result : Result Decision Refusal) → RenewsOrRefuses v l result → Decides H (Renew l) result
-  renew_decides (Ok decision) d =
-      let r : (r : LoanFacts) × (loan_of H l ≡ Some r) = made-is (passed (renew_checks v) d.0).0 in
-      let found : renewed_due H l (due H l) ≡ Some d.1.0 = due_same r.0 r.1 v.calendar (calendar_is r.0 r.1) d.1.0 d.1.1 in
-      decided H (Renew l) _ _ _ (meets r.0 r.1 d.1.0 found) (Ok decision) (first_failing-none (renew_checks v) ((PastCalendar, false) ∷ []) d.0, d.1.2, d.1.3)
-  renew_decides (Err n) (inl fails) =
-      let late : Bool = is_none (renewed_due H l (due H l)) in
-      sym (first_failing-same (tests late) (checks H Desk (Renew l)) (same late refl)) ∙ first_failing-some (renew_checks v) ((PastCalendar, late) ∷ []) n fails
-  renew_decides (Err n) (inr past) =
-      let r : (r : LoanFacts) × (loan_of H l ≡ Some r) = made-is (passed (renew_checks v) past.0).0 in
-      let late : renewed_due H l (due H l) ≡ None = late_same r.0 r.1 v.calendar (calendar_is r.0 r.1) past.2 in
-      sym (first_failing-same (tests true) (checks H Desk (Renew l)) (same true (sym (ap is_none late))))
-      ∙ first_failing-none (renew_checks v) ((PastCalendar, true) ∷ []) past.0 ∙ ap Some (sym past.1)
+  -- The new due day, where the renewal isn't refused.
+  day_same : refusal H Desk (Renew l) ≡ None → renewed_due_in v ≡ unwrap_or (renewed_due H l (due H l)) 0
+  day_same ok =
+      let k = passed (checks H Desk (Renew l)) ok in
+      let r : (r : LoanFacts) × (loan_of H l ≡ Some r) = made-is (unknown_same ∙ k.0) in
+      same_day (renewed_due_day v) v.meta.today 0 (ap is_none (due_is r.0 r.1) ∙ k.1.1.1.1.1.1.0) ∙ ap (λ o. unwrap_or o 0) (due_is r.0 r.1)
+
+  pub renew_meets : Meets H (Renew l) (renew_checks v) (Lent l (renewed_due_in v)) (renewed_rows v.loan (renewed_due_in v))
+  renew_meets = record {
+    same = same;
+    due = λ ok. ap (λ d. Lent l d) (day_same ok);
+    leads = λ ok owner key.
+        let k = passed (checks H Desk (Renew l)) ok in
+        let r : (r : LoanFacts) × (loan_of H l ≡ Some r) = made-is (unknown_same ∙ k.0) in
+        let found : (d : ℕ) × (renewed_due H l (due H l) ≡ Some d) = there-is (renewed_due H l (due H l)) k.1.1.1.1.1.1.0 in
+        let day : renewed_due_in v ≡ found.0 = day_same ok ∙ ap (λ o. unwrap_or o 0) found.1 in
+        rw day (leads_at r.0 r.1 found.0 found.1 owner key);
+  }

@@ -25,18 +25,16 @@ use Rattle.model.specs.Requests.{IsLegal}
 use Rattle.model.proofs.Invariants.{legal-Invariant}
 use Rattle.model.proofs.Moves.{moved}
 use Rattle.model.proofs.Passing.{passed}
-use Rattle.circ_core.specs.declared.changes.Decision.{Decision}
 use Rattle.circ_core.specs.declared.changes.RowChange.{RowChange}
 use Rattle.circ_core.specs.declared.changes.RowChange.TheVariants.{PutCopy}
 use Rattle.circ_core.specs.declared.routing.Course.{Course}
 use Rattle.circ_core.specs.declared.routing.Course.TheVariants as course
-use Rattle.circ_core.specs.declared.views.CheckInView.{CheckInView}
-use Rattle.circ_core.specs.declared.views.LenderView.{LenderView}
-use Rattle.circ_core.specs.Decides.{Decides, event}
+use Rattle.circ_core.specs.declared.views.View.{View}
+use Rattle.circ_core.specs.Decides.{event}
 use Rattle.circ_core.specs.Ending.{fine_due, lines_for, lacks_numbers, charge_rows}
 use Rattle.circ_core.specs.Lending.{is_withdrawn as is_withdrawn_row}
-use Rattle.circ_core.specs.Returning.{check_in_checks, check_in_course, over_rows, found_rows, left_rows, check_in_rows, check_in_reply, ChecksIn}
-use Rattle.circ_core.specs.Routing.{home_in, routed_by, arrival_rows, IsLimitOf, HasNoLimit}
+use Rattle.circ_core.specs.Returning.{check_in_checks, check_in_course, check_in_limit, over_rows, found_rows, left_rows, check_in_rows, check_in_reply}
+use Rattle.circ_core.specs.Routing.{home_in, routed_by, arrival_rows}
 use Rattle.circ_core.specs.Tables.{changed, SameRows}
 use Rattle.circ_core.specs.Views.{IsLoanOf, IsFirstOf, IsFirstFor, IsLenderView, IsCheckInView}
 use Rattle.circ_core.proofs.Arriving.{ready_put, sent_put, arrival_changed, arrived_row, arrive, IsOver, over, sends, stays_present, present_there}
@@ -44,8 +42,8 @@ use Rattle.circ_core.proofs.Charging.{ShowsLines}
 use Rattle.circ_core.proofs.Claims.{loan_claims, hold_claims, hold_none, IsKept}
 use Rattle.circ_core.proofs.EndingMeet.{IsLent, lent, fine_same, loan_ended, one_ends, none_ends, fine_line-is, fine_line-none, fine_at-is, fine_at-none, fine_lines, line-count, lacks_same, charges_show}
 use Rattle.circ_core.proofs.LendingMeet.{withdrawn_at}
-use Rattle.circ_core.proofs.Meets.{SameChecks, Leads}
-use Rattle.circ_core.proofs.RoutingMeet.{place_by, Limits, LeadsTo, by_rows, limits, limit_exists, told_same, routes_as}
+use Rattle.circ_core.proofs.Meets.{Meets, SameChecks, Leads}
+use Rattle.circ_core.proofs.RoutingMeet.{place_by, Limits, LeadsTo, by_rows, limits, limit_there, told_same}
 use Rattle.circ_core.proofs.Rows.{none-map, some-is}
 
 -- ---- small facts
@@ -243,37 +241,37 @@ module _ (H : History) (inv : Invariant H) (c b : ℕ) (f : CopyFacts) (there : 
 
 -- ---- the fine
 
-module _ (H : History) (legal : IsLegal H) (inv : Invariant H) (c : ℕ) (rows : LenderView) where
+module _ (H : History) (legal : IsLegal H) (inv : Invariant H) (c : ℕ) (rows : View) where
   -- The lines after the check-in.
   abbrev lines_now : List Line
   lines_now = lines H ++ fine_line H (place H c)
 
-  fine_is : (loan : Option LoanRow) → IsLoanOf (picture H) c loan → IsLenderView (picture H) loan rows → fine_due loan rows.calendar (today H) ≡ fine_at H (place H c)
+  fine_is : (loan : Option LoanRow) → IsLoanOf (picture H) c loan → IsLenderView (picture H) loan rows → fine_due loan rows.lender (today H) ≡ fine_at H (place H c)
   fine_is (Some q) l w =
       let x : IsLent H c q = lent H inv c q l in
       fine_same H legal inv c q x rows w ∙ sym (fine_at-is H legal inv c q x)
   fine_is None l w = sym (fine_at-none H (place H c) (sym (loan_claims H inv c None l)))
 
   lines_counted : (loan : Option LoanRow) → IsLoanOf (picture H) c loan → IsLenderView (picture H) loan rows
-      → length (fine_line H (place H c)) ≡ lines_for (fine_due loan rows.calendar (today H)) + lines_for 0
+      → length (fine_line H (place H c)) ≡ lines_for (fine_due loan rows.lender (today H)) + lines_for 0
   lines_counted (Some q) l w =
       let x : IsLent H c q = lent H inv c q l in
-      let count : length (fine_line H (place H c)) ≡ lines_for (fine_due (Some q) rows.calendar (today H)) =
+      let count : length (fine_line H (place H c)) ≡ lines_for (fine_due (Some q) rows.lender (today H)) =
       ap length (fine_line-is H legal inv c q x) ∙ line-count H q.patron _ (Some q.loan) (fine_now H q.loan) ∙ ap lines_for (sym (fine_same H legal inv c q x rows w)) in
       omega (arith, count)
   lines_counted None l w = ap length (fine_line-none H (place H c) (sym (loan_claims H inv c None l)))
 
   lacks_is : (loan : Option LoanRow) → IsLoanOf (picture H) c loan → IsLenderView (picture H) loan rows
-      → lacks_numbers (meta_row H) (fine_due loan rows.calendar (today H)) 0 ≡ lacks_lines H (length (fine_line H (place H c)))
-  lacks_is loan l w = lacks_same H (fine_due loan rows.calendar (today H)) 0 (fine_line H (place H c)) (lines_counted loan l w)
+      → lacks_numbers (meta_row H) (fine_due loan rows.lender (today H)) 0 ≡ lacks_lines H (length (fine_line H (place H c)))
+  lacks_is loan l w = lacks_same H (fine_due loan rows.lender (today H)) 0 (fine_line H (place H c)) (lines_counted loan l w)
 
   -- The borrower, if there is one, is charged the fine.
   fine_shows : (loan : Option LoanRow) → IsLoanOf (picture H) c loan → IsLenderView (picture H) loan rows → (P : Picture) → P.meta ≡ meta_row H
       → ((k : ℕ) → P.patrons k ≡ patron_row H k) → ((k : ℕ) → P.lines k ≡ line_row H k)
-      → ShowsLines H lines_now P (changed (charge_rows (meta_row H) rows.patron loan (fine_due loan rows.calendar (today H)) 0) P)
+      → ShowsLines H lines_now P (changed (charge_rows (meta_row H) rows.patron loan (fine_due loan rows.lender (today H)) 0) P)
   fine_shows (Some q) l w P meta patrons of_lines =
       let x : IsLent H c q = lent H inv c q l in
-      subst (λ xs. ShowsLines H xs P (changed (charge_rows (meta_row H) rows.patron (Some q) (fine_due (Some q) rows.calendar (today H)) 0) P)) (sym (fine_lines H legal inv c q x))
+      subst (λ xs. ShowsLines H xs P (changed (charge_rows (meta_row H) rows.patron (Some q) (fine_due (Some q) rows.lender (today H)) 0) P)) (sym (fine_lines H legal inv c q x))
       (charges_show H legal inv c q x rows w 0 (omega arith) P meta patrons of_lines)
   fine_shows None l w P meta patrons of_lines =
       subst (λ xs. ShowsLines H xs P (changed (charge_rows (meta_row H) rows.patron None 0 0) P)) (sym same)
@@ -297,24 +295,27 @@ module _ (H : History) (legal : IsLegal H) (inv : Invariant H) (c : ℕ) (rows :
 
 -- ---- the command
 
-module _ (H : History) (legal : IsLegal H) (c b : ℕ) (v : CheckInView) (w : IsCheckInView (picture H) c b v) where
+module _ (H : History) (legal : IsLegal H) (c b : ℕ) (v : View) (w : IsCheckInView (picture H) c b v) where
   inv : Invariant H
   inv = legal-Invariant H legal
 
-  copy_is : (f : CopyFacts) → copy_of H c ≡ Some f → v.at.copy ≡ Some (copy_columns H c f)
+  today_is : v.meta.today ≡ today H
+  today_is = ap (λ m. m.today) w.meta
+
+  copy_is : (f : CopyFacts) → copy_of H c ≡ Some f → v.copy ≡ Some (copy_columns H c f)
   copy_is f there = w.at.copy ∙ ap (λ o. option_map (copy_columns H c) o) there
 
-  shelf_same : (f : CopyFacts) → copy_of H c ≡ Some f → is_some v.at.hold ≡ is_on_hold_shelf (place H c)
+  shelf_same : (f : CopyFacts) → copy_of H c ≡ Some f → is_some v.hold ≡ is_on_hold_shelf (place H c)
   shelf_same f there = go (is_on_hold_shelf (place H c)) refl
     where
-      go : (x : Bool) → is_on_hold_shelf (place H c) ≡ x → is_some v.at.hold ≡ x
+      go : (x : Bool) → is_on_hold_shelf (place H c) ≡ x → is_some v.hold ≡ x
       go true e =
           let at : (h : ℕ) × (place H c ≡ HoldShelf h) = on_shelf-is (place H c) e in
-          let q : (q : HoldRow) × (v.at.hold ≡ Some q) × IsKept H c at.0 q = hold_claims H inv c f there v.at.hold at.0 w.at.hold at.1 in
+          let q : (q : HoldRow) × (v.hold ≡ Some q) × IsKept H c at.0 q = hold_claims H inv c f there v.hold at.0 w.at.hold at.1 in
           ap is_some q.1
-      go false e = ap is_some (hold_none H inv c f there v.at.hold w.at.hold e)
+      go false e = ap is_some (hold_none H inv c f there v.hold w.at.hold e)
 
-  check_in_same : SameChecks (check_in_checks v) (checks H Desk (CheckIn c b))
+  check_in_same : SameChecks (check_in_checks v b) (checks H Desk (CheckIn c b))
   check_in_same = (
     refl,
     (ap is_none w.here.branch ∙ none-map (branch_columns H b) (branch_of H b)),
@@ -330,8 +331,8 @@ module _ (H : History) (legal : IsLegal H) (c b : ℕ) (v : CheckInView) (w : Is
               shelf_same r.0 r.1,
               λ p33. (
                 refl,
-                (ap (λ m. lacks_numbers m (fine_due v.at.loan v.lender.calendar m.today) 0) w.meta ∙ lacks_is H legal inv c v.lender v.at.loan w.at.loan w.lender),
-                λ p70. tt,
+                (ap (λ m. lacks_numbers m (fine_due v.loan v.lender m.today) 0) w.meta ∙ lacks_is H legal inv c v v.loan w.at.loan w.lender),
+                λ p70. (limit_there H inv b v w.here today_is p10 (check_in_course v b), tt),
               ),
             ),
           ),
@@ -341,83 +342,80 @@ module _ (H : History) (legal : IsLegal H) (c b : ℕ) (v : CheckInView) (w : Is
   abbrev way : Course
   way = check_in_course v b
 
-  today_is : v.meta.today ≡ today H
-  today_is = ap (λ m. m.today) w.meta
-
   module _ (known : not (has_branch H b) ≡ false) (f : CopyFacts) (there : copy_of H c ≡ Some f) (kept : is_withdrawn (place H c) ≡ false) (off : is_on_hold_shelf (place H c) ≡ false) where
     to_there : LeadsTo H b way (route H c b)
     to_there =
-        let home : home_in v.at.copy ≡ home_of H c = ap home_in (copy_is f there) ∙ sym (ap (λ o. unwrap_or (option_map (λ r. r.home) o) 0) there) in
+        let home : home_in v.copy ≡ home_of H c = ap home_in (copy_is f there) ∙ sym (ap (λ o. unwrap_or (option_map (λ r. r.home) o) 0) there) in
         let title : f.title ≡ title_of_copy H c = sym (ap (λ o. unwrap_or (option_map (λ r. r.title) o) 0) there) in
         let first : IsFirstOf (picture H) (title_of_copy H c) v.first =
         subst (λ t. IsFirstOf (picture H) t v.first) title (subst (λ o. IsFirstFor (picture H) o v.first) (copy_is f there) w.first) in
-        by_rows H inv c b (home_in v.at.copy) home v.at.transit v.coming v.first w.at.transit w.coming first
+        by_rows H inv c b (home_in v.copy) home v.transit v.coming v.first w.at.transit w.coming first
 
-    exists : HasNoLimit way v.here v.meta.today → ⊥
-    exists = limit_exists H b v.here w.here v.meta.today today_is inv known way
+    -- The limit of the hold that becomes ready.
+    abbrev until : ℕ
+    until = check_in_limit v b
 
-    module _ (until : ℕ) (is : IsLimitOf way v.here v.meta.today until) where
-      reply_same : check_in_reply v b until ≡ CheckedIn (fine_at H (place H c)) (routed H (route H c b))
-      reply_same =
-          ap (λ m. CheckedIn (fine_due v.at.loan v.lender.calendar m.today) (routed_by way b until)) w.meta
-          ∙ ap (λ n. CheckedIn n (routed_by way b until)) (fine_is H legal inv c v.lender v.at.loan w.at.loan w.lender)
-          ∙ ap (λ r. CheckedIn (fine_at H (place H c)) r) (told_same H b v.here w.here v.meta.today today_is way to_there.1 until is ∙ ap (λ p. routed H p) to_there.0)
+    reply_same : check_in_reply v b until ≡ CheckedIn (fine_at H (place H c)) (routed H (route H c b))
+    reply_same =
+        ap (λ m. CheckedIn (fine_due v.loan v.lender m.today) (routed_by way b until)) w.meta
+        ∙ ap (λ n. CheckedIn n (routed_by way b until)) (fine_is H legal inv c v v.loan w.at.loan w.lender)
+        ∙ ap (λ r. CheckedIn (fine_at H (place H c)) r) (told_same H inv b v w.here today_is known way to_there.1 ∙ ap (λ p. routed H p) to_there.0)
 
-      -- The tables once the copy has left, and once it has arrived.
-      abbrev gone : Picture
-      gone = changed (left_rows v.at.loan v.at.transit v.at.copy way c (today H)) (picture H)
+    -- The tables once the copy has left, and once it has arrived.
+    abbrev gone : Picture
+    gone = changed (left_rows v.loan v.transit v.copy way c (today H)) (picture H)
 
-      abbrev come : Picture
-      come = record gone { holds = λ h. ready_put way c until (gone.holds h) h; transits = λ x. sent_put way c (gone.transits x) x }
+    abbrev come : Picture
+    come = record gone { holds = λ h. ready_put way c until (gone.holds h) h; transits = λ x. sent_put way c (gone.transits x) x }
 
-      abbrev charged_at : Picture → Picture
-      charged_at P = changed (charge_rows (meta_row H) v.lender.patron v.at.loan (fine_due v.at.loan v.lender.calendar (today H)) 0) P
+    abbrev charged_at : Picture → Picture
+    charged_at P = changed (charge_rows (meta_row H) v.patron v.loan (fine_due v.loan v.lender (today H)) 0) P
 
-      changed_same : changed (check_in_rows v c b until) (picture H) ≡ charged_at come
-      changed_same =
-          ap (λ m. changed ((left_rows v.at.loan v.at.transit v.at.copy way c m.today ++ arrival_rows way c until)
-          ++ charge_rows m v.lender.patron v.at.loan (fine_due v.at.loan v.lender.calendar m.today) 0) (picture H)) w.meta
-          ∙ changed-append (left_rows v.at.loan v.at.transit v.at.copy way c (today H) ++ arrival_rows way c until)
-          (charge_rows (meta_row H) v.lender.patron v.at.loan (fine_due v.at.loan v.lender.calendar (today H)) 0) (picture H)
-          ∙ ap charged_at (changed-append (left_rows v.at.loan v.at.transit v.at.copy way c (today H)) (arrival_rows way c until) (picture H) ∙ arrival_changed way c until gone)
+    changed_same : changed (check_in_rows v c b until) (picture H) ≡ charged_at come
+    changed_same =
+        ap (λ m. changed ((left_rows v.loan v.transit v.copy way c m.today ++ arrival_rows way c until)
+        ++ charge_rows m v.patron v.loan (fine_due v.loan v.lender m.today) 0) (picture H)) w.meta
+        ∙ changed-append (left_rows v.loan v.transit v.copy way c (today H) ++ arrival_rows way c until)
+        (charge_rows (meta_row H) v.patron v.loan (fine_due v.loan v.lender (today H)) 0) (picture H)
+        ∙ ap charged_at (changed-append (left_rows v.loan v.transit v.copy way c (today H)) (arrival_rows way c until) (picture H) ∙ arrival_changed way c until gone)
 
-      left : HasLeft H c b way gone
-      left = leaves H inv c b f there way v.at.loan v.at.transit v.at.copy w.at.loan w.at.transit (copy_is f there) kept
+    left : HasLeft H c b way gone
+    left = leaves H inv c b f there way v.loan v.transit v.copy w.at.loan w.at.transit (copy_is f there) kept
 
-      shown : ShowsLines H (lines H ++ fine_line H (place H c)) come (charged_at come)
-      shown = fine_shows H legal inv c v.lender v.at.loan w.at.loan w.lender come left.meta (λ k. ap (λ t. t k) left.patrons) (λ k. ap (λ t. t k) left.lines)
+    shown : ShowsLines H (lines H ++ fine_line H (place H c)) come (charged_at come)
+    shown = fine_shows H legal inv c v v.loan w.at.loan w.lender come left.meta (λ k. ap (λ t. t k) left.patrons) (λ k. ap (λ t. t k) left.lines)
 
-      check_in_leads : Leads H (CheckIn c b) (check_in_rows v c b until)
-      check_in_leads owner key =
-          let l : Limits H way until = limits H b v.here w.here v.meta.today today_is way to_there.1 until is in
-          subst (λ P. SameRows P (picture (event owner key (CheckIn c b) ∷ H))) (sym changed_same) (record {
-            meta = shown.meta;
-            branches = λ n. ap (λ t. t n) (shown.branches ∙ left.branches);
-            closed_days = λ n d. ap (λ t. t n d) (shown.closed_days ∙ left.closed_days);
-            kinds = λ n. ap (λ t. t n) (shown.kinds ∙ left.kinds);
-            rules = λ n d. ap (λ t. t n d) (shown.rules ∙ left.rules);
-            patrons = shown.patrons;
-            titles = λ n. ap (λ t. t n) (shown.titles ∙ left.titles);
-            copies = λ n. ap (λ t. t n) shown.copies ∙ left.copies n
-                ∙ ap (λ q. option_map (λ r. record (copy_columns H n r) { condition = condition_at (moved c q (place H) n) }) (copy_of H n)) to_there.0;
-            loans = λ n. ap (λ t. t n) shown.loans ∙ left.loans n;
-            holds = λ h. ap (λ t. t h) shown.holds ∙ ap (λ t. ready_put way c until (t h) h) left.holds
-                ∙ arrive H inv c f there b until way to_there.1 l h (unkept (place H c) h off)
-                ∙ ap (λ q. arrived_row H inv c f there b until q h) to_there.0;
-            transits = λ n. ap (λ t. t n) shown.transits ∙ sends H c b way gone.transits left.free left.transits n
-                ∙ ap (λ q. transit_at n (moved c q (place H) n)) to_there.0;
-            lines = shown.lines;
-          })
+    check_in_leads : Leads H (CheckIn c b) (check_in_rows v c b until)
+    check_in_leads owner key =
+        let l : Limits H way until = limits H inv b v w.here today_is known way to_there.1 in
+        subst (λ P. SameRows P (picture (event owner key (CheckIn c b) ∷ H))) (sym changed_same) (record {
+          meta = shown.meta;
+          branches = λ n. ap (λ t. t n) (shown.branches ∙ left.branches);
+          closed_days = λ n d. ap (λ t. t n d) (shown.closed_days ∙ left.closed_days);
+          kinds = λ n. ap (λ t. t n) (shown.kinds ∙ left.kinds);
+          rules = λ n d. ap (λ t. t n d) (shown.rules ∙ left.rules);
+          patrons = shown.patrons;
+          titles = λ n. ap (λ t. t n) (shown.titles ∙ left.titles);
+          copies = λ n. ap (λ t. t n) shown.copies ∙ left.copies n
+              ∙ ap (λ q. option_map (λ r. record (copy_columns H n r) { condition = condition_at (moved c q (place H) n) }) (copy_of H n)) to_there.0;
+          loans = λ n. ap (λ t. t n) shown.loans ∙ left.loans n;
+          holds = λ h. ap (λ t. t h) shown.holds ∙ ap (λ t. ready_put way c until (t h) h) left.holds
+              ∙ arrive H inv c f there b until way to_there.1 l h (unkept (place H c) h off)
+              ∙ ap (λ q. arrived_row H inv c f there b until q h) to_there.0;
+          transits = λ n. ap (λ t. t n) shown.transits ∙ sends H c b way gone.transits left.free left.transits n
+              ∙ ap (λ q. transit_at n (moved c q (place H) n)) to_there.0;
+          lines = shown.lines;
+        })
 
-  -- A function that checks in by the rows decides as the history has it.
-  pub check_in_decides : (result : Result Decision Refusal) → ChecksIn v c b result → Decides H (CheckIn c b) result
-  check_in_decides =
-      routes_as H (CheckIn c b) (check_in_checks v) (check_in_course v b) v.here v.meta.today (check_in_reply v b) (check_in_rows v c b) check_in_same
-      (λ ok until is.
-      let p = passed (checks H Desk (CheckIn c b)) ok in
-      let r : (f : CopyFacts) × (copy_of H c ≡ Some f) = some-is (copy_of H c) p.1.0 in
-      (reply_same p.0 r.0 r.1 p.1.1.0 p.1.1.1.0 until is, check_in_leads p.0 r.0 r.1 p.1.1.0 p.1.1.1.0 until is))
-      (λ ok.
-      let p = passed (checks H Desk (CheckIn c b)) ok in
-      let r : (f : CopyFacts) × (copy_of H c ≡ Some f) = some-is (copy_of H c) p.1.0 in
-      exists p.0 r.0 r.1 p.1.1.0 p.1.1.1.0)
+  pub check_in_meets : Meets H (CheckIn c b) (check_in_checks v b) (check_in_reply v b (check_in_limit v b)) (check_in_rows v c b (check_in_limit v b))
+  check_in_meets = record {
+    same = check_in_same;
+    due = λ ok.
+        let p = passed (checks H Desk (CheckIn c b)) ok in
+        let r : (f : CopyFacts) × (copy_of H c ≡ Some f) = some-is (copy_of H c) p.1.0 in
+        reply_same p.0 r.0 r.1 p.1.1.0 p.1.1.1.0;
+    leads = λ ok.
+        let p = passed (checks H Desk (CheckIn c b)) ok in
+        let r : (f : CopyFacts) × (copy_of H c ≡ Some f) = some-is (copy_of H c) p.1.0 in
+        check_in_leads p.0 r.0 r.1 p.1.1.0 p.1.1.1.0;
+  }

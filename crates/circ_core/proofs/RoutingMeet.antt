@@ -1,6 +1,6 @@
 -- Routing by the rows is that of the history.
 use Rattle.std.proofs.Common.{◌≡◌, ℕ, ◌+◌, ◌≤◌, ◌==◌, Bool, true, false, not, List, ◌∷◌, inl, inr, refl, sym, ◌∙◌, ap, subst, arith}
-use Rattle.std.specs.Prelude.{Option, Some, None, option_map, unwrap_or, Result, Ok, Err}
+use Rattle.std.specs.Prelude.{Option, Some, None, option_map, unwrap_or, is_none}
 use Rattle.std.proofs.lemmas.Bool.{eqb-true}
 use Rattle.terms.specs.declared.command.Command.{Command}
 use Rattle.terms.specs.declared.command.Owner.TheVariants.{Desk}
@@ -20,19 +20,14 @@ use Rattle.model.specs.Refusals.{checks, refusal, has_branch}
 use Rattle.model.specs.Answers.{routed}
 use Rattle.model.specs.Picture.{picture, branch_columns, hold_columns, transit_row, transit_at}
 use Rattle.model.proofs.Bindings.{line-head}
-use Rattle.circ_core.specs.declared.changes.Decision.{Decision}
-use Rattle.circ_core.specs.declared.changes.RowChange.{RowChange}
 use Rattle.circ_core.specs.declared.routing.Course.{Course}
 use Rattle.circ_core.specs.declared.routing.Course.TheVariants as course
-use Rattle.circ_core.specs.declared.views.BranchView.{BranchView}
-use Rattle.circ_core.specs.Decides.{Decides, reply_due}
-use Rattle.circ_core.specs.Lending.{IsDueFrom, IsShutFrom}
-use Rattle.circ_core.specs.Routing.{served, course_for, course_of, pickup_of, routed_by, IsLimitOf, HasNoLimit, RoutesOrRefuses}
-use Rattle.circ_core.specs.Views.{IsCalendarOf, IsFirstOf, IsBranchView, coming_in}
+use Rattle.circ_core.specs.declared.views.View.{View}
+use Rattle.circ_core.specs.Routing.{served, course_for, course_of, pickup_of, limit_in_view, routed_by, shelf_limit}
+use Rattle.circ_core.specs.Views.{IsFirstOf, IsBranchView, coming_in}
 use Rattle.circ_core.proofs.Claims.{hold_row-from}
 use Rattle.circ_core.proofs.FirstInLine.{line_none, line_some}
-use Rattle.circ_core.proofs.Meets.{SameChecks, Leads, first_failing-same, decided}
-use Rattle.circ_core.proofs.OpenMeet.{calendar_there, least_same, never_shut}
+use Rattle.circ_core.proofs.OpenMeet.{due_from-is, due_from-there}
 use Rattle.circ_core.proofs.Rows.{some-is}
 
 -- ---- where the copy goes
@@ -129,66 +124,52 @@ Limits H (course.HoldShelf r) until = limit_now H r.hold ≡ Some until
 Limits H course.Shelf until = Unit {0}
 Limits H (course.Transit g k) until = Unit {0}
 
-module _ (H : History) (b : ℕ) (here : BranchView) (w : IsBranchView (picture H) b here) (day : ℕ) (now : day ≡ today H) where
-  pickup_same : pickup_of here.branch ≡ unwrap_or (option_map (λ r. r.pickup) (branch_of H b)) 0
+module _ (H : History) (inv : Invariant H) (b : ℕ) (v : View) (w : IsBranchView (picture H) b v.branch v.calendar) (now : v.meta.today ≡ today H) (known : not (has_branch H b) ≡ false) where
+  pickup_same : pickup_of v.branch ≡ unwrap_or (option_map (λ r. r.pickup) (branch_of H b)) 0
   pickup_same = ap pickup_of w.branch ∙ go (branch_of H b)
     where
       go : (o : Option BranchFacts) → pickup_of (option_map (branch_columns H b) o) ≡ unwrap_or (option_map (λ r. r.pickup) o) 0
       go (Some r) = refl
       go None = refl
 
-  -- The limit by the rows is the one that the history gives now.
-  limit_same : (h : ℕ) → goal_of H h ≡ b → (until : ℕ) → IsDueFrom here.calendar (day + pickup_of here.branch) until → limit_now H h ≡ Some until
-  limit_same h goal until is =
-      ap (λ g. least (is_open H g) (today H + unwrap_or (option_map (λ r. r.pickup) (branch_of H g)) 0)) goal
-      ∙ ap (λ n. least (is_open H b) (today H + n)) (sym pickup_same)
-      ∙ ap (λ n. least (is_open H b) (n + pickup_of here.branch)) (sym now)
-      ∙ go here.calendar w.calendar is
-    where
-      go : (o : Option Closings) → IsCalendarOf (picture H) b o → IsDueFrom o (day + pickup_of here.branch) until → least (is_open H b) (day + pickup_of here.branch) ≡ Some until
-      go (Some closings) x d = least_same H b closings x (day + pickup_of here.branch) until d
-      go None x d = absurd d
-
   -- The calendar doesn't end before the limit.
-  pub limit_exists : Invariant H → not (has_branch H b) ≡ false → (way : Course) → HasNoLimit way here day → ⊥
-  limit_exists inv known (course.HoldShelf q) shut = go here.calendar w.calendar shut
-    where
-      go : (o : Option Closings) → IsCalendarOf (picture H) b o → IsShutFrom o (day + pickup_of here.branch) → ⊥
-      go (Some closings) x s =
-          let r : (r : BranchFacts) × (branch_of H b ≡ Some r) = some-is (branch_of H b) known in
-          let short : r.0.pickup ≤ 60 = inv.pickups b r.0 r.1 in
-          let same : pickup_of here.branch ≡ r.0.pickup = pickup_same ∙ ap (λ o. unwrap_or (option_map (λ f. f.pickup) o) 0) r.1 in
-          never_shut H b closings x inv (day + pickup_of here.branch) (omega (arith, now, inv.today_from)) (omega (arith, now, same, short, inv.today_to)) s
-      go None x s = let no_branch : not (has_branch H b) ≡ true = sym (calendar_there H b None x) in let never : ⊥ = cc in absurd never
-  limit_exists inv known course.Shelf shut = absurd shut
-  limit_exists inv known (course.Transit g h) shut = absurd shut
+  pub limit_there : (way : Course) → is_none (shelf_limit way v) ≡ false
+  unfolding shelf_limit
+  limit_there (course.HoldShelf q) =
+      let r : (r : BranchFacts) × (branch_of H b ≡ Some r) = some-is (branch_of H b) known in
+      let short : r.0.pickup ≤ 60 = inv.pickups b r.0 r.1 in
+      let same : pickup_of v.branch ≡ r.0.pickup = pickup_same ∙ ap (λ o. unwrap_or (option_map (λ f. f.pickup) o) 0) r.1 in
+      due_from-there H inv b v.calendar w.calendar known (v.meta.today + pickup_of v.branch) (omega (arith, now, inv.today_from)) (omega (arith, now, same, short, inv.today_to))
+  limit_there course.Shelf = refl
+  limit_there (course.Transit g h) = refl
+
+  -- The limit by the rows is the one that the history gives now.
+  limit_is : (q : HoldRow) → goal_of H q.hold ≡ b → shelf_limit (course.HoldShelf q) v ≡ limit_now H q.hold
+  unfolding shelf_limit
+  limit_is q goal =
+      due_from-is H b v.calendar w.calendar known (v.meta.today + pickup_of v.branch)
+      ∙ ap (λ n. least (is_open H b) (n + pickup_of v.branch)) now
+      ∙ ap (λ n. least (is_open H b) (today H + n)) pickup_same
+      ∙ sym (ap (λ g. least (is_open H g) (today H + unwrap_or (option_map (λ r. r.pickup) (branch_of H g)) 0)) goal)
+
+  some_day : (o : Option ℕ) (x : ℕ) → is_none o ≡ false → o ≡ Some (unwrap_or o x)
+  some_day (Some d) x e = refl
+  some_day None x e = let never : ⊥ = cc in absurd never
+
+  limit_same : (q : HoldRow) → goal_of H q.hold ≡ b → limit_now H q.hold ≡ Some (limit_in_view (course.HoldShelf q) v)
+  limit_same q goal = sym (limit_is q goal) ∙ some_day (shelf_limit (course.HoldShelf q) v) v.meta.today (limit_there (course.HoldShelf q))
 
   -- The limit by the rows is that of the hold that becomes ready.
-  pub limits : (way : Course) → Suits H b way → (until : ℕ) → IsLimitOf way here day until → Limits H way until
-  limits (course.HoldShelf q) s until is = limit_same q.hold s.4 until is
-  limits course.Shelf s until is = tt
-  limits (course.Transit g h) s until is = tt
+  pub limits : (way : Course) → Suits H b way → Limits H way (limit_in_view way v)
+  limits (course.HoldShelf q) s = limit_same q s.4
+  limits course.Shelf s = tt
+  limits (course.Transit g h) s = tt
 
   -- The reply tells where the copy went.
-  pub told_same : (way : Course) → Suits H b way → (until : ℕ) → IsLimitOf way here day until → routed_by way b until ≡ routed H (place_by way b)
-  told_same (course.HoldShelf q) s until is =
-      let limit : limit_now H q.hold ≡ Some until = limit_same q.hold s.4 until is in
+  pub told_same : (way : Course) → Suits H b way → routed_by way b (limit_in_view way v) ≡ routed H (place_by way b)
+  told_same (course.HoldShelf q) s =
+      let until = limit_in_view (course.HoldShelf q) v in
+      let limit : limit_now H q.hold ≡ Some until = limit_same q s.4 in
       ap (λ n. Routed.HoldShelf q.hold n until) (sym s.4) ∙ ap (λ o. Routed.HoldShelf q.hold (goal_of H q.hold) (unwrap_or o 0)) (sym limit)
-  told_same course.Shelf s until is = refl
-  told_same (course.Transit g h) s until is = refl
-
--- ---- the decision
-
--- A function that routes or refuses by the rows decides as the history has it.
-pub routes_as : (H : History) (command : Command) (tests : List Check) (way : Course) (here : BranchView) (day : ℕ) (reply : ℕ → Reply) (rows : ℕ → List RowChange)
-    → SameChecks tests (checks H Desk command)
-    → (refusal H Desk command ≡ None → (until : ℕ) → IsLimitOf way here day until → (reply until ≡ reply_due H command) × Leads H command (rows until))
-    → (refusal H Desk command ≡ None → HasNoLimit way here day → ⊥)
-    → (result : Result Decision Refusal) → RoutesOrRefuses tests way here day reply rows result → Decides H command result
-routes_as H command tests way here day reply rows same now exists (Ok decision) r =
-    let none : refusal H Desk command ≡ None = sym (first_failing-same tests (checks H Desk command) same) ∙ r.0 in
-    let both : (reply r.1.0 ≡ reply_due H command) × Leads H command (rows r.1.0) = now none r.1.0 r.1.1 in
-    decided H command tests (reply r.1.0) (rows r.1.0) (record { same = same; due = λ _. both.0; leads = λ _. both.1 }) (Ok decision) (r.0, r.1.2, r.1.3)
-routes_as H command tests way here day reply rows same now exists (Err n) (inl fails) = sym (first_failing-same tests (checks H Desk command) same) ∙ fails
-routes_as H command tests way here day reply rows same now exists (Err n) (inr shut) =
-    absurd (exists (sym (first_failing-same tests (checks H Desk command) same) ∙ shut.0) shut.2)
+  told_same course.Shelf s = refl
+  told_same (course.Transit g h) s = refl

@@ -23,6 +23,10 @@ pub some-is : {A : Type 0} (o : Option A) → not (is_some o) ≡ false → (x :
 some-is (Some x) e = (x, refl)
 some-is None e = let never : ⊥ = cc in absurd never
 
+pub there-is : {A : Type 0} (o : Option A) → is_none o ≡ false → (x : A) × (o ≡ Some x)
+there-is (Some x) e = (x, refl)
+there-is None e = let never : ⊥ = cc in absurd never
+
 pub option_map-is : {A B : Type 0} (f : A → B) (o : Option A) (y : B) → option_map f o ≡ Some y → (x : A) × (o ≡ Some x) × (f x ≡ y)
 option_map-is f (Some x) y e = (x, refl, cc)
 option_map-is f None y e = let never : ⊥ = cc in absurd never

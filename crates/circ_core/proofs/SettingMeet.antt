@@ -17,7 +17,7 @@ use Rattle.terms.specs.declared.command.Owner.TheVariants.{Desk}
 use Rattle.model.specs.Picture.{picture, meta_row, branch_row, branch_columns, kind_row, kind_columns, rule_columns, patron_columns}
 use Rattle.circ_core.specs.declared.changes.RowChange.{RowChange}
 use Rattle.circ_core.specs.declared.changes.RowChange.TheVariants.{PutBranch, PutPatron}
-use Rattle.circ_core.specs.declared.views.PatronView.{PatronView}
+use Rattle.circ_core.specs.declared.views.View.{View}
 use Rattle.circ_core.specs.Setting.{rows_unless, begin_day_checks, begin_day_rows, branch_differs, branch_checks, branch_rows, week_checks, week_rows, kind_checks, kind_rows, rule_checks, rule_rows, patron_differs, patron_checks, patron_rows}
 use Rattle.circ_core.specs.Views.{IsPatronView}
 use Rattle.circ_core.proofs.Meets.{Meets, Leads}
@@ -143,7 +143,7 @@ module _ (H : History) (inv : Invariant H) (p k : ℕ) (card_key name : List ℕ
     lines = λ _. refl;
   }
 
-  pub patron_meets : (rows : PatronView) → IsPatronView (picture H) p k rows
+  pub patron_meets : (rows : View) → IsPatronView (picture H) p k rows
       → Meets H (Patron p k card_key name) (patron_checks rows p k card_key name) Done (patron_rows rows p k card_key name)
   unfolding patron_facts new_patron
   patron_meets rows w = record {

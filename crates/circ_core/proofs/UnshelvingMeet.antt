@@ -22,23 +22,22 @@ use Rattle.model.specs.Picture.{picture, hold_row, hold_columns, copy_row, copy_
 use Rattle.model.proofs.Invariants.{legal-Invariant}
 use Rattle.model.proofs.Moves.{moved}
 use Rattle.model.proofs.Passing.{passed}
-use Rattle.circ_core.specs.declared.changes.Decision.{Decision}
 use Rattle.circ_core.specs.declared.changes.RowChange.TheVariants.{PutHold}
 use Rattle.circ_core.specs.declared.routing.Course.{Course}
 use Rattle.circ_core.specs.declared.routing.Course.TheVariants as course
-use Rattle.circ_core.specs.declared.views.UnshelveView.{UnshelveView}
-use Rattle.circ_core.specs.Decides.{Decides, event}
+use Rattle.circ_core.specs.declared.views.View.{View}
+use Rattle.circ_core.specs.Decides.{event}
 use Rattle.circ_core.specs.Lending.{finished}
-use Rattle.circ_core.specs.Routing.{home_in, number_in, readied, arrival_rows, IsLimitOf, HasNoLimit}
+use Rattle.circ_core.specs.Routing.{home_in, number_in, readied, arrival_rows, shelf_limit}
 use Rattle.circ_core.specs.Tables.{change, changed, SameRows}
-use Rattle.circ_core.specs.Unshelving.{is_ready_row, limit_in, pickup_branch, unshelve_checks, unshelve_cancelled_checks, course_unshelved, ended_hold, unshelve_rows, unshelve_reply, Unshelves}
+use Rattle.circ_core.specs.Unshelving.{is_ready_row, limit_in, pickup_branch, unshelve_checks, unshelve_cancelled_checks, course_unshelved, ended_hold, next_limit, unshelve_rows, unshelve_reply}
 use Rattle.circ_core.specs.Views.{IsFirstOf, IsFirstFor, IsBranchView, IsPickupView, IsUnshelveView}
 use Rattle.circ_core.proofs.Arriving.{ready_put, sent_put, arrival_changed, row_of, arrive, over, sends, stays_present}
 use Rattle.circ_core.proofs.Claims.{kept-is, hold_row-from, shelf_row}
 use Rattle.circ_core.proofs.HoldBranches.{hold-branch}
-use Rattle.circ_core.proofs.Meets.{SameChecks, Leads}
+use Rattle.circ_core.proofs.Meets.{Meets, SameChecks, Leads}
 use Rattle.circ_core.proofs.Rising.{find-same}
-use Rattle.circ_core.proofs.RoutingMeet.{place_by, Suits, Limits, LeadsTo, by_line, limits, limit_exists, told_same, routes_as}
+use Rattle.circ_core.proofs.RoutingMeet.{place_by, Suits, Limits, LeadsTo, by_line, limits, limit_there, told_same}
 
 -- ---- one copy leaves its hold shelf
 
@@ -135,7 +134,7 @@ module _ (H : History) (inv : Invariant H) (g c : ℕ) (f : CopyFacts) (there : 
 
 -- ---- the commands
 
-module _ (H : History) (legal : IsLegal H) (g : ℕ) (v : UnshelveView) (w : IsUnshelveView (picture H) g v) where
+module _ (H : History) (legal : IsLegal H) (g : ℕ) (v : View) (w : IsUnshelveView (picture H) g v) where
   inv : Invariant H
   inv = legal-Invariant H legal
 
@@ -189,20 +188,6 @@ module _ (H : History) (legal : IsLegal H) (g : ℕ) (v : UnshelveView) (w : IsU
   limit_same : IsThere Ready → limit_in v.hold ≡ unwrap_or (limit H g) 0
   limit_same k = ap limit_in k.3
 
-  cancelled_same : SameChecks (unshelve_cancelled_checks v) (checks H Desk (UnshelveCancelled g))
-  cancelled_same = (refl, unknown_same, λ p15. (refl, ready_same p15, λ p53. tt))
-
-  expired_same : SameChecks (unshelve_checks v) (checks H Desk (Unshelve g))
-  expired_same = (
-    refl,
-    unknown_same,
-    λ p15. (
-      refl,
-      ready_same p15,
-      λ p53. (refl, (ap (λ m. nat_le m.today (limit_in v.hold)) w.meta ∙ ap (λ n. nat_le (today H) n) (limit_same (stands_ready p15 p53))), λ p54. tt),
-    ),
-  )
-
   -- ---- the copy that leaves
 
   module _ (k : IsThere Ready) where
@@ -241,10 +226,10 @@ module _ (H : History) (legal : IsLegal H) (g : ℕ) (v : UnshelveView) (w : IsU
     branch_is : branch ≡ goal_of H g
     branch_is = ap pickup_branch k.3 ∙ sym (ap (λ o. unwrap_or (option_map (λ r. r.branch) o) 0) k.2)
 
-    here_is : IsBranchView (picture H) branch v.here
+    here_is : IsBranchView (picture H) branch v.branch v.calendar
     here_is = go v.hold k.3 w.here
       where
-        go : (o : Option HoldRow) → o ≡ Some (hold_columns H g Ready k.0) → IsPickupView (picture H) o v.here → IsBranchView (picture H) (pickup_branch o) v.here
+        go : (o : Option HoldRow) → o ≡ Some (hold_columns H g Ready k.0) → IsPickupView (picture H) o v.branch v.calendar → IsBranchView (picture H) (pickup_branch o) v.branch v.calendar
         go (Some r) e x = x
         go None e x = let never : ⊥ = cc in absurd never
 
@@ -254,8 +239,11 @@ module _ (H : History) (legal : IsLegal H) (g : ℕ) (v : UnshelveView) (w : IsU
     branch_there : not (has_branch H branch) ≡ false
     branch_there = ap (λ n. not (has_branch H n)) (ap pickup_branch k.3) ∙ hold-branch H legal g k.0 k.2
 
-    exists : HasNoLimit way v.here v.meta.today → ⊥
-    exists = limit_exists H branch v.here here_is v.meta.today today_is inv branch_there way
+    limit_here : is_none (shelf_limit way v) ≡ false
+    limit_here = limit_there H inv branch v here_is today_is branch_there way
+
+    abbrev until : ℕ
+    until = next_limit v
 
     module _ (s : OnShelf) where
       to_there : LeadsTo H branch way (route H s.0 (goal_of H g))
@@ -270,25 +258,25 @@ module _ (H : History) (legal : IsLegal H) (g : ℕ) (v : UnshelveView) (w : IsU
             r.1,
           )
 
-      reply_same : (until : ℕ) → IsLimitOf way v.here v.meta.today until → unshelve_reply v until ≡ Moved (routed H (route H (unwrap_or (kept_for H g) 0) (goal_of H g)))
-      reply_same until is =
+      reply_same : unshelve_reply v until ≡ Moved (routed H (route H (unwrap_or (kept_for H g) 0) (goal_of H g)))
+      reply_same =
           ap Moved
-          (told_same H branch v.here here_is v.meta.today today_is way to_there.1 until is
+          (told_same H inv branch v here_is today_is branch_there way to_there.1
           ∙ ap (λ p. routed H p) to_there.0
           ∙ ap (λ o. routed H (route H (unwrap_or o 0) (goal_of H g))) (sym s.4))
 
-      rows_same : (ends : HoldState) (until : ℕ) → unshelve_rows v ends until ≡ PutHold (finished (hold_columns H g Ready k.0) ends) ∷ arrival_rows way s.0 until
-      rows_same ends until =
+      rows_same : (ends : HoldState) → unshelve_rows v ends until ≡ PutHold (finished (hold_columns H g Ready k.0) ends) ∷ arrival_rows way s.0 until
+      rows_same ends =
           ap (λ o. ended_hold o ends ++ arrival_rows way (number_in v.copy) until) k.3
           ∙ ap (λ o. PutHold (finished (hold_columns H g Ready k.0) ends) ∷ arrival_rows way (number_in o) until) s.5
 
-      changed_same : (ends : HoldState) (until : ℕ) → changed (unshelve_rows v ends until) (picture H)
+      changed_same : (ends : HoldState) → changed (unshelve_rows v ends until) (picture H)
           ≡ record (picture H) {
             holds = λ h. ready_put way s.0 until (put (hold_row H) g (Some (finished (hold_columns H g Ready k.0) ends)) h) h;
             transits = λ x. sent_put way s.0 (transit_row H x) x;
           }
-      changed_same ends until =
-          ap (λ rows. changed rows (picture H)) (rows_same ends until)
+      changed_same ends =
+          ap (λ rows. changed rows (picture H)) (rows_same ends)
           ∙ arrival_changed way s.0 until (change (PutHold (finished (hold_columns H g Ready k.0) ends)) (picture H))
 
       -- The tables after the hold has ended in this state, those of the kept requests as given.
@@ -303,11 +291,11 @@ module _ (H : History) (legal : IsLegal H) (g : ℕ) (v : UnshelveView) (w : IsU
         kept = kept;
       }
 
-      leads_after : (ends : HoldState) → is_ready (Some ends) ≡ false → (until : ℕ) → IsLimitOf way v.here v.meta.today until → (kept : Owner → List ℕ → Option KeptRow)
+      leads_after : (ends : HoldState) → is_ready (Some ends) ≡ false → (kept : Owner → List ℕ → Option KeptRow)
           → SameRows (changed (unshelve_rows v ends until) (picture H)) (tables_after ends kept)
-      leads_after ends final until is kept =
-          let l : Limits H way until = limits H branch v.here here_is v.meta.today today_is way to_there.1 until is in
-          subst (λ P. SameRows P (tables_after ends kept)) (sym (changed_same ends until)) (record {
+      leads_after ends final kept =
+          let l : Limits H way until = limits H inv branch v here_is today_is branch_there way to_there.1 in
+          subst (λ P. SameRows P (tables_after ends kept)) (sym (changed_same ends)) (record {
             meta = refl;
             branches = λ _. refl;
             closed_days = λ _ _. refl;
@@ -323,28 +311,42 @@ module _ (H : History) (legal : IsLegal H) (g : ℕ) (v : UnshelveView) (w : IsU
             lines = λ _. refl;
           })
 
-      expired_lead : (until : ℕ) → IsLimitOf way v.here v.meta.today until → Leads H (Unshelve g) (unshelve_rows v Expired until)
-      expired_lead until is owner key = leads_after Expired refl until is (picture (event owner key (Unshelve g) ∷ H)).kept
+      expired_lead : Leads H (Unshelve g) (unshelve_rows v Expired until)
+      expired_lead owner key = leads_after Expired refl (picture (event owner key (Unshelve g) ∷ H)).kept
 
-      cancelled_lead : (until : ℕ) → IsLimitOf way v.here v.meta.today until → Leads H (UnshelveCancelled g) (unshelve_rows v Cancelled until)
-      cancelled_lead until is owner key = leads_after Cancelled refl until is (picture (event owner key (UnshelveCancelled g) ∷ H)).kept
+      cancelled_lead : Leads H (UnshelveCancelled g) (unshelve_rows v Cancelled until)
+      cancelled_lead owner key = leads_after Cancelled refl (picture (event owner key (UnshelveCancelled g) ∷ H)).kept
 
-  -- ---- the decisions
+  -- ---- the commands, on the rows
 
-  pub unshelve_decides : (result : Result Decision Refusal) → Unshelves (unshelve_checks v) v Expired result → Decides H (Unshelve g) result
-  unshelve_decides =
-      routes_as H (Unshelve g) (unshelve_checks v) (course_unshelved v) v.here v.meta.today (unshelve_reply v) (unshelve_rows v Expired) expired_same
-      (λ ok until is.
-      let p = passed (checks H Desk (Unshelve g)) ok in
-      let k : IsThere Ready = stands_ready p.0 p.1.0 in
-      (reply_same k (on_shelf k) until is, expired_lead k (on_shelf k) until is))
-      (λ ok. let p = passed (checks H Desk (Unshelve g)) ok in exists (stands_ready p.0 p.1.0))
+  cancelled_same : SameChecks (unshelve_cancelled_checks v) (checks H Desk (UnshelveCancelled g))
+  cancelled_same = (refl, unknown_same, λ p15. (refl, ready_same p15, λ p53. (limit_here (stands_ready p15 p53), tt)))
 
-  pub unshelve_cancelled_decides : (result : Result Decision Refusal) → Unshelves (unshelve_cancelled_checks v) v Cancelled result → Decides H (UnshelveCancelled g) result
-  unshelve_cancelled_decides =
-      routes_as H (UnshelveCancelled g) (unshelve_cancelled_checks v) (course_unshelved v) v.here v.meta.today (unshelve_reply v) (unshelve_rows v Cancelled) cancelled_same
-      (λ ok until is.
-      let p = passed (checks H Desk (UnshelveCancelled g)) ok in
-      let k : IsThere Ready = stands_ready p.0 p.1.0 in
-      (reply_same k (on_shelf k) until is, cancelled_lead k (on_shelf k) until is))
-      (λ ok. let p = passed (checks H Desk (UnshelveCancelled g)) ok in exists (stands_ready p.0 p.1.0))
+  expired_same : SameChecks (unshelve_checks v) (checks H Desk (Unshelve g))
+  expired_same = (
+    refl,
+    unknown_same,
+    λ p15. (
+      refl,
+      ready_same p15,
+      λ p53. (
+        refl,
+        (ap (λ m. nat_le m.today (limit_in v.hold)) w.meta ∙ ap (λ n. nat_le (today H) n) (limit_same (stands_ready p15 p53))),
+        λ p54. (limit_here (stands_ready p15 p53), tt),
+      ),
+    ),
+  )
+
+  pub unshelve_meets : Meets H (Unshelve g) (unshelve_checks v) (unshelve_reply v (next_limit v)) (unshelve_rows v Expired (next_limit v))
+  unshelve_meets = record {
+    same = expired_same;
+    due = λ ok. let p = passed (checks H Desk (Unshelve g)) ok in let k : IsThere Ready = stands_ready p.0 p.1.0 in reply_same k (on_shelf k);
+    leads = λ ok. let p = passed (checks H Desk (Unshelve g)) ok in let k : IsThere Ready = stands_ready p.0 p.1.0 in expired_lead k (on_shelf k);
+  }
+
+  pub unshelve_cancelled_meets : Meets H (UnshelveCancelled g) (unshelve_cancelled_checks v) (unshelve_reply v (next_limit v)) (unshelve_rows v Cancelled (next_limit v))
+  unshelve_cancelled_meets = record {
+    same = cancelled_same;
+    due = λ ok. let p = passed (checks H Desk (UnshelveCancelled g)) ok in let k : IsThere Ready = stands_ready p.0 p.1.0 in reply_same k (on_shelf k);
+    leads = λ ok. let p = passed (checks H Desk (UnshelveCancelled g)) ok in let k : IsThere Ready = stands_ready p.0 p.1.0 in cancelled_lead k (on_shelf k);
+  }

@@ -9,11 +9,11 @@ use Rattle.terms.specs.declared.row.Sort.{Sort}
 use Rattle.model.specs.Checks.{Check}
 use Rattle.circ_core.specs.declared.changes.RowChange.{RowChange}
 use Rattle.circ_core.specs.declared.changes.RowChange.TheVariants.{PutMeta, PutPatron, PutLine}
-use Rattle.circ_core.specs.declared.views.AccountView.{AccountView}
+use Rattle.circ_core.specs.declared.views.View.{View}
 use Rattle.circ_core.specs.Lending.{owed_by}
 
 -- The amount is zero or above what the patron owes; no line number is left.
-abbrev pub settle_checks : AccountView → ℕ → List Check
+abbrev pub settle_checks : View → ℕ → List Check
 settle_checks view amount =
     (UnknownPatron, is_none view.patron) ∷ (BadAmount, (amount == 0) || nat_lt (owed_by view.patron) amount)
     ∷ (NumbersUsedUp, nat_lt LAST_NUMBER view.meta.next_line) ∷ []
@@ -28,7 +28,7 @@ settled meta (Some row) patron sort amount =
     PutMeta (record meta { next_line = meta.next_line + 1 }) ∷ PutPatron (record row { owed = row.owed - amount }) ∷ PutLine (new_line meta patron sort amount) ∷ []
 settled meta None patron sort amount = []
 
-abbrev pub settle_rows : AccountView → ℕ → Sort → ℕ → List RowChange
+abbrev pub settle_rows : View → ℕ → Sort → ℕ → List RowChange
 settle_rows view patron sort amount = settled view.meta view.patron patron sort amount
 
 abbrev pub page_checks : Option PatronRow → List Check

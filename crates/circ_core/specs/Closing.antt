@@ -6,7 +6,7 @@ use Rattle.terms.specs.declared.refusal.Refusal.TheVariants.{UnknownBranch, BadD
 use Rattle.model.specs.Checks.{Check}
 use Rattle.circ_core.specs.declared.changes.RowChange.{RowChange}
 use Rattle.circ_core.specs.declared.changes.RowChange.TheVariants.{PutClosedDay, TakeClosedDay}
-use Rattle.circ_core.specs.declared.views.ClosedDayView.{ClosedDayView}
+use Rattle.circ_core.specs.declared.views.View.{View}
 
 -- The day is closed singly.
 abbrev pub is_closed_day : Option Closings → ℕ → Bool
@@ -18,7 +18,7 @@ abbrev pub has_all_days : Option Closings → Bool
 has_all_days (Some closings) = nat_le MOST_CLOSED_DAYS (length closings.single)
 has_all_days None = false
 
-abbrev pub close_day_checks : ClosedDayView → ℕ → List Check
+abbrev pub close_day_checks : View → ℕ → List Check
 close_day_checks view day =
     (UnknownBranch, is_none view.calendar) ∷ (BadDay, nat_le day view.meta.today) ∷ (AlreadyClosed, is_closed_day view.calendar day)
     ∷ (OutOfLimits, has_all_days view.calendar) ∷ []
@@ -26,7 +26,7 @@ close_day_checks view day =
 abbrev pub close_day_rows : ℕ → ℕ → List RowChange
 close_day_rows branch day = PutClosedDay branch day ∷ []
 
-abbrev pub open_day_checks : ClosedDayView → ℕ → List Check
+abbrev pub open_day_checks : View → ℕ → List Check
 open_day_checks view day =
     (UnknownBranch, is_none view.calendar) ∷ (BadDay, nat_le day view.meta.today) ∷ (NotClosed, not (is_closed_day view.calendar day)) ∷ []
 

@@ -9,8 +9,7 @@ use Rattle.terms.specs.declared.row.TransitRow.{TransitRow}
 use Rattle.model.specs.Checks.{Check}
 use Rattle.circ_core.specs.declared.changes.RowChange.{RowChange}
 use Rattle.circ_core.specs.declared.changes.RowChange.TheVariants.{PutMeta, PutHold, PutTransit}
-use Rattle.circ_core.specs.declared.views.CancelHoldView.{CancelHoldView}
-use Rattle.circ_core.specs.declared.views.PlaceHoldView.{PlaceHoldView}
+use Rattle.circ_core.specs.declared.views.View.{View}
 use Rattle.circ_core.specs.Lending.{finished}
 
 -- ---- place-hold
@@ -20,7 +19,7 @@ abbrev pub holds_allowed : Option KindRow → ℕ
 holds_allowed (Some kind) = kind.holds
 holds_allowed None = 0
 
-abbrev pub place_hold_checks : PlaceHoldView → List Check
+abbrev pub place_hold_checks : View → List Check
 place_hold_checks view =
     (refusal.UnknownPatron, is_none view.patron)
     ∷ (refusal.UnknownTitle, is_none view.title)
@@ -44,7 +43,7 @@ new_hold number patron title branch = record {
 }
 
 -- The next number is given, and the hold is made.
-abbrev pub place_hold_rows : PlaceHoldView → ℕ → ℕ → ℕ → List RowChange
+abbrev pub place_hold_rows : View → ℕ → ℕ → ℕ → List RowChange
 place_hold_rows view patron title branch =
     PutMeta (record view.meta { next_hold = view.meta.next_hold + 1 }) ∷ PutHold (new_hold view.meta.next_hold patron title branch) ∷ []
 
@@ -55,7 +54,7 @@ abbrev pub waits : Option HoldRow → Bool
 waits (Some row) = elim row.state [ Waiting ↦ true | _ ↦ false ]
 waits None = false
 
-abbrev pub cancel_hold_checks : CancelHoldView → List Check
+abbrev pub cancel_hold_checks : View → List Check
 cancel_hold_checks view = (refusal.UnknownHold, is_none view.hold) ∷ (refusal.WrongHoldState, not (waits view.hold)) ∷ []
 
 abbrev pub cancelled_rows : Option HoldRow → List RowChange
@@ -67,5 +66,5 @@ abbrev pub let_go_rows : Option TransitRow → List RowChange
 let_go_rows (Some row) = PutTransit (record row { hold = None }) ∷ []
 let_go_rows None = []
 
-abbrev pub cancel_hold_rows : CancelHoldView → List RowChange
+abbrev pub cancel_hold_rows : View → List RowChange
 cancel_hold_rows view = cancelled_rows view.hold ++ let_go_rows view.transit

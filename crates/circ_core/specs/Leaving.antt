@@ -13,8 +13,7 @@ use Rattle.terms.specs.declared.row.Condition.TheVariants.{Missing, Withdrawn}
 use Rattle.model.specs.Checks.{Check}
 use Rattle.circ_core.specs.declared.changes.RowChange.{RowChange}
 use Rattle.circ_core.specs.declared.changes.RowChange.TheVariants.{PutCopy, PutLoan, PutHold, TakeTransit}
-use Rattle.circ_core.specs.declared.views.CopyView.{CopyView}
-use Rattle.circ_core.specs.declared.views.MissingView.{MissingView}
+use Rattle.circ_core.specs.declared.views.View.{View}
 use Rattle.circ_core.specs.Lending.{is_missing, is_withdrawn}
 use Rattle.circ_core.specs.Ending.{fine_due, lacks_numbers, ended_loan, charge_rows}
 
@@ -30,15 +29,15 @@ abbrev pub price_due : Option LoanRow → Option CopyRow → ℕ
 price_due (Some loan) (Some copy) = copy.price
 price_due _ _ = 0
 
-abbrev pub fine_in : MissingView → ℕ
-fine_in view = fine_due view.at.loan view.lender.calendar view.meta.today
+abbrev pub fine_in : View → ℕ
+fine_in view = fine_due view.loan view.lender view.meta.today
 
-abbrev pub price_in : MissingView → ℕ
-price_in view = price_due view.at.loan view.at.copy
+abbrev pub price_in : View → ℕ
+price_in view = price_due view.loan view.copy
 
-abbrev pub missing_checks : MissingView → List Check
+abbrev pub missing_checks : View → List Check
 missing_checks view =
-    (refusal.UnknownCopy, is_none view.at.copy) ∷ (refusal.CopyWithdrawn, is_withdrawn view.at.copy) ∷ (refusal.CopyMissing, is_missing view.at.copy)
+    (refusal.UnknownCopy, is_none view.copy) ∷ (refusal.CopyWithdrawn, is_withdrawn view.copy) ∷ (refusal.CopyMissing, is_missing view.copy)
     ∷ (refusal.NumbersUsedUp, lacks_numbers view.meta (fine_in view) (price_in view)) ∷ []
 
 -- What is charged is told where the copy was on loan.
@@ -46,8 +45,8 @@ abbrev pub lost_reply : Option LoanRow → ℕ → ℕ → Reply
 lost_reply (Some loan) fine price = Lost fine price
 lost_reply None fine price = Done
 
-abbrev pub missing_reply : MissingView → Reply
-missing_reply view = lost_reply view.at.loan (fine_in view) (price_in view)
+abbrev pub missing_reply : View → Reply
+missing_reply view = lost_reply view.loan (fine_in view) (price_in view)
 
 -- The hold waits again under its old number, with no copy and no shelf limit.
 abbrev pub waiting_again : HoldRow → HoldRow
@@ -61,17 +60,17 @@ release_rows None None (Some transit) today = TakeTransit transit.copy ∷ []
 release_rows None None None today = []
 
 -- The copy is missing, what it was bound to is free, and the borrower is charged the fine and the price.
-abbrev pub missing_rows : MissingView → List RowChange
+abbrev pub missing_rows : View → List RowChange
 missing_rows view =
-    (condition_rows view.at.copy Missing ++ release_rows view.at.loan view.at.hold view.at.transit view.meta.today)
-    ++ charge_rows view.meta view.lender.patron view.at.loan (fine_in view) (price_in view)
+    (condition_rows view.copy Missing ++ release_rows view.loan view.hold view.transit view.meta.today)
+    ++ charge_rows view.meta view.patron view.loan (fine_in view) (price_in view)
 
 -- ---- withdraw
 
-abbrev pub withdraw_checks : CopyView → List Check
+abbrev pub withdraw_checks : View → List Check
 withdraw_checks view =
     (refusal.UnknownCopy, is_none view.copy) ∷ (refusal.CopyWithdrawn, is_withdrawn view.copy) ∷ (refusal.OnLoan, is_some view.loan)
     ∷ (refusal.InTransit, is_some view.transit) ∷ (refusal.OnHoldShelf, is_some view.hold) ∷ []
 
-abbrev pub withdraw_rows : CopyView → List RowChange
+abbrev pub withdraw_rows : View → List RowChange
 withdraw_rows view = condition_rows view.copy Withdrawn

@@ -1,11 +1,8 @@
 -- The checks and row changes of check-out, on the rows of a view.
-use Rattle.calendar.specs.declared.limits.TheConstants.{LAST_DAY}
 use Rattle.terms.specs.declared.limits.TheConstants.{LAST_NUMBER}
-use Rattle.std.specs.Prelude.{◌≡◌, ◌⊎◌, ℕ, ◌+◌, ◌≤◌, ◌==◌, nat_le, nat_lt, not, Bool, true, false, List, [], ◌∷◌, Option, Some, None, is_none, is_some, Result, Ok, Err}
-use Rattle.calendar.specs.Openings.{Closings, is_open, IsLeastOpen}
-use Rattle.terms.specs.declared.refusal.Refusal.{Refusal}
+use Rattle.std.specs.Prelude.{◌≡◌, ◌⊎◌, ℕ, ◌+◌, ◌≤◌, ◌==◌, nat_le, nat_lt, not, Bool, true, false, List, [], ◌∷◌, Option, Some, None, is_none, is_some, unwrap_or}
+use Rattle.calendar.specs.Openings.{Closings}
 use Rattle.terms.specs.declared.refusal.Refusal.TheVariants as refusal
-use Rattle.terms.specs.declared.reply.Reply.TheVariants.{Lent}
 use Rattle.terms.specs.declared.row.PatronRow.{PatronRow}
 use Rattle.terms.specs.declared.row.KindRow.{KindRow}
 use Rattle.terms.specs.declared.row.RuleRow.{RuleRow}
@@ -15,10 +12,10 @@ use Rattle.terms.specs.declared.row.HoldRow.{HoldRow}
 use Rattle.terms.specs.declared.row.HoldState.{HoldState}
 use Rattle.terms.specs.declared.row.HoldState.TheVariants.{Filled}
 use Rattle.terms.specs.declared.row.Condition.TheVariants as condition
-use Rattle.circ_core.specs.declared.changes.Decision.{Decision}
+use Rattle.circ_core.specs.DueDay.{due_from}
 use Rattle.circ_core.specs.declared.changes.RowChange.{RowChange}
 use Rattle.circ_core.specs.declared.changes.RowChange.TheVariants.{PutMeta, PutLoan, PutHold}
-use Rattle.circ_core.specs.declared.views.CheckOutView.{CheckOutView}
+use Rattle.circ_core.specs.declared.views.View.{View}
 use Rattle.model.specs.Checks.{Check, first_failing}
 
 -- ---- tests on rows
@@ -72,27 +69,6 @@ abbrev pub owed_by : Option PatronRow → ℕ
 owed_by (Some patron) = patron.owed
 owed_by None = 0
 
--- ---- the checks, in their order
-
-abbrev pub check_out_checks : CheckOutView → ℕ → ℕ → List Check
-check_out_checks view patron branch =
-    (refusal.UnknownBranch, is_none view.calendar)
-    ∷ (refusal.UnknownPatron, is_none view.patron)
-    ∷ (refusal.UnknownCopy, is_none view.at.copy)
-    ∷ (refusal.CopyWithdrawn, is_withdrawn view.at.copy)
-    ∷ (refusal.CopyMissing, is_missing view.at.copy)
-    ∷ (refusal.OnLoan, is_some view.at.loan)
-    ∷ (refusal.InTransit, is_some view.at.transit)
-    ∷ (refusal.Elsewhere, not (stands_at view.at.hold view.at.copy == branch))
-    ∷ (refusal.OnHoldShelf, is_of_other view.at.hold patron)
-    ∷ (refusal.HoldWaits, is_wanted view.at.hold view.first patron)
-    ∷ (refusal.AlreadyHolds, has_more (filled_hold view.at.hold view.first) view.own_holds)
-    ∷ (refusal.NoRule, is_none view.rule)
-    ∷ (refusal.TooManyLoans, nat_le (loans_allowed view.kind) view.open_loans)
-    ∷ (refusal.OwesTooMuch, nat_lt (debt_allowed view.kind) (owed_by view.patron))
-    ∷ (refusal.NumbersUsedUp, nat_lt LAST_NUMBER view.meta.next_loan)
-    ∷ []
-
 -- ---- the due day
 
 abbrev pub period_of : Option RuleRow → ℕ
@@ -112,23 +88,42 @@ cap_of (Some rule) = rule.cap
 cap_of None = 0
 
 -- The first day that the loan may be due: the end of its period.
-abbrev pub period_end : CheckOutView → ℕ
+abbrev pub period_end : View → ℕ
 period_end view = view.meta.today + period_of view.rule
 
--- The day is the least open one of the lending branch from that day on.
-abbrev pub IsDueFrom : Option Closings → ℕ → ℕ → Type 0
-IsDueFrom (Some closings) from due = IsLeastOpen closings from due
-IsDueFrom None from due = ⊥
+-- The day on which the loan is due, if the calendar has one; today stands for it where it has none.
+abbrev pub loan_due : View → Option ℕ
+loan_due view = due_from view.calendar (period_end view)
 
--- From that day on the lending branch has no open day left in the calendar.
-abbrev pub IsShutFrom : Option Closings → ℕ → Type 0
-IsShutFrom (Some closings) from = (k : ℕ) → from ≤ k → k ≤ LAST_DAY → is_open closings k ≡ false
-IsShutFrom None from = Unit {0}
+abbrev pub due_in : View → ℕ
+due_in view = unwrap_or (loan_due view) view.meta.today
+
+-- ---- the checks, in their order
+
+abbrev pub check_out_checks : View → ℕ → ℕ → List Check
+check_out_checks view patron branch =
+    (refusal.UnknownBranch, is_none view.calendar)
+    ∷ (refusal.UnknownPatron, is_none view.patron)
+    ∷ (refusal.UnknownCopy, is_none view.copy)
+    ∷ (refusal.CopyWithdrawn, is_withdrawn view.copy)
+    ∷ (refusal.CopyMissing, is_missing view.copy)
+    ∷ (refusal.OnLoan, is_some view.loan)
+    ∷ (refusal.InTransit, is_some view.transit)
+    ∷ (refusal.Elsewhere, not (stands_at view.hold view.copy == branch))
+    ∷ (refusal.OnHoldShelf, is_of_other view.hold patron)
+    ∷ (refusal.HoldWaits, is_wanted view.hold view.first patron)
+    ∷ (refusal.AlreadyHolds, has_more (filled_hold view.hold view.first) view.own_holds)
+    ∷ (refusal.NoRule, is_none view.rule)
+    ∷ (refusal.TooManyLoans, nat_le (loans_allowed view.kind) view.open_loans)
+    ∷ (refusal.OwesTooMuch, nat_lt (debt_allowed view.kind) (owed_by view.patron))
+    ∷ (refusal.NumbersUsedUp, nat_lt LAST_NUMBER view.meta.next_loan)
+    ∷ (refusal.PastCalendar, is_none (loan_due view))
+    ∷ []
 
 -- ---- the rows that change
 
 -- The loan that is made, under the rule as it is now.
-abbrev pub new_loan : CheckOutView → ℕ → ℕ → ℕ → ℕ → LoanRow
+abbrev pub new_loan : View → ℕ → ℕ → ℕ → ℕ → LoanRow
 new_loan view patron copy branch due = record {
   loan = view.meta.next_loan;
   copy = copy;
@@ -152,18 +147,7 @@ fill_rows (Some hold) = PutHold (finished hold Filled) ∷ []
 fill_rows None = []
 
 -- The next number is given, the loan is made, and the hold that the check-out serves is filled.
-abbrev pub check_out_rows : CheckOutView → ℕ → ℕ → ℕ → ℕ → List RowChange
+abbrev pub check_out_rows : View → ℕ → ℕ → ℕ → ℕ → List RowChange
 check_out_rows view patron copy branch due =
     PutMeta (record view.meta { next_loan = view.meta.next_loan + 1 }) ∷ PutLoan (new_loan view patron copy branch due)
-    ∷ fill_rows (filled_hold view.at.hold view.first)
-
--- A check-out is refused by its first failing check, or where no day is left on which the loan could be due;
--- else the loan is due on the least open day from the end of its period, and the rows change accordingly.
-abbrev pub LendsOrRefuses : CheckOutView → ℕ → ℕ → ℕ → Result Decision Refusal → Type 0
-LendsOrRefuses view patron copy branch (Ok decision) =
-    (first_failing (check_out_checks view patron branch) ≡ None)
-    × ((due : ℕ) × IsDueFrom view.calendar (period_end view) due
-    × (decision.reply ≡ Lent view.meta.next_loan due) × (decision.changes ≡ check_out_rows view patron copy branch due))
-LendsOrRefuses view patron copy branch (Err refused) =
-    (first_failing (check_out_checks view patron branch) ≡ Some refused)
-    ⊎ ((first_failing (check_out_checks view patron branch) ≡ None) × (refused ≡ refusal.PastCalendar) × IsShutFrom view.calendar (period_end view))
+    ∷ fill_rows (filled_hold view.hold view.first)

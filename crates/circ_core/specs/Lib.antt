@@ -4,6 +4,7 @@ pub mod Views
 pub mod Decided
 pub mod Decides
 pub mod Setting
+pub mod DueDay
 pub mod Lending
 pub mod Closing
 pub mod Accounts

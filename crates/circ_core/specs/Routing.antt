@@ -1,22 +1,17 @@
 -- Where a copy goes that is handed in, on the rows of a view.
-use Rattle.std.specs.Prelude.{◌≡◌, ◌⊎◌, ℕ, ◌+◌, ◌==◌, true, false, List, [], ◌∷◌, Option, Some, None, Result, Ok, Err}
-use Rattle.terms.specs.declared.refusal.Refusal.{Refusal}
-use Rattle.terms.specs.declared.refusal.Refusal.TheVariants.{PastCalendar}
-use Rattle.terms.specs.declared.reply.Reply.{Reply}
+use Rattle.std.specs.Prelude.{ℕ, ◌+◌, ◌==◌, true, false, List, [], ◌∷◌, Option, Some, None, unwrap_or}
 use Rattle.terms.specs.declared.reply.Routed.{Routed}
 use Rattle.terms.specs.declared.reply.Routed.TheVariants as routed
 use Rattle.terms.specs.declared.row.BranchRow.{BranchRow}
 use Rattle.terms.specs.declared.row.CopyRow.{CopyRow}
 use Rattle.terms.specs.declared.row.HoldRow.{HoldRow}
 use Rattle.terms.specs.declared.row.HoldState.TheVariants.{Ready}
-use Rattle.circ_core.specs.declared.changes.Decision.{Decision}
 use Rattle.circ_core.specs.declared.changes.RowChange.{RowChange}
 use Rattle.circ_core.specs.declared.changes.RowChange.TheVariants.{PutHold, PutTransit}
 use Rattle.circ_core.specs.declared.routing.Course.{Course}
 use Rattle.circ_core.specs.declared.routing.Course.TheVariants.{HoldShelf, Shelf, Transit}
-use Rattle.circ_core.specs.declared.views.BranchView.{BranchView}
-use Rattle.circ_core.specs.Lending.{IsDueFrom, IsShutFrom}
-use Rattle.model.specs.Checks.{Check, first_failing}
+use Rattle.circ_core.specs.declared.views.View.{View}
+use Rattle.circ_core.specs.DueDay.{due_from}
 
 -- ---- the course of a copy
 
@@ -54,15 +49,15 @@ abbrev pub pickup_of : Option BranchRow → ℕ
 pickup_of (Some row) = row.pickup
 pickup_of None = 0
 
--- A hold that becomes ready has the least open day from the end of the pick-up period for its limit; else any day will do.
-abbrev pub IsLimitOf : Course → BranchView → ℕ → ℕ → Type 0
-IsLimitOf (HoldShelf hold) here today until = IsDueFrom here.calendar (today + pickup_of here.branch) until
-IsLimitOf _ here today until = Unit {0}
+-- The limit of a hold that becomes ready: the least open day from the end of the pick-up period, if the calendar has one.
+-- A copy that goes elsewhere needs none, and today stands for it.
+unfoldable pub shelf_limit : Course → View → Option ℕ
+shelf_limit (HoldShelf hold) view = due_from view.calendar (view.meta.today + pickup_of view.branch)
+shelf_limit Shelf view = Some view.meta.today
+shelf_limit (Transit goal hold) view = Some view.meta.today
 
--- A hold would become ready, but from the end of the pick-up period on the branch has no open day left in the calendar.
-abbrev pub HasNoLimit : Course → BranchView → ℕ → Type 0
-HasNoLimit (HoldShelf hold) here today = IsShutFrom here.calendar (today + pickup_of here.branch)
-HasNoLimit _ here today = ⊥
+abbrev pub limit_in_view : Course → View → ℕ
+limit_in_view course view = unwrap_or (shelf_limit course view) view.meta.today
 
 -- ---- the rows that change
 
@@ -75,13 +70,3 @@ abbrev pub arrival_rows : Course → ℕ → ℕ → List RowChange
 arrival_rows (HoldShelf hold) copy until = PutHold (readied hold copy until) ∷ []
 arrival_rows Shelf copy until = []
 arrival_rows (Transit goal hold) copy until = PutTransit (record { copy = copy; goal = goal; hold = hold }) ∷ []
-
--- ---- the decision
-
--- A command that routes a copy is refused by its first failing check, or where no day is left for the shelf limit;
--- else its reply and its row changes are these, with the limit.
-abbrev pub RoutesOrRefuses : List Check → Course → BranchView → ℕ → (ℕ → Reply) → (ℕ → List RowChange) → Result Decision Refusal → Type 0
-RoutesOrRefuses checks course here today reply rows (Ok decision) =
-    (first_failing checks ≡ None) × ((until : ℕ) × IsLimitOf course here today until × (decision.reply ≡ reply until) × (decision.changes ≡ rows until))
-RoutesOrRefuses checks course here today reply rows (Err refused) =
-    (first_failing checks ≡ Some refused) ⊎ ((first_failing checks ≡ None) × (refused ≡ PastCalendar) × HasNoLimit course here today)

@@ -13,8 +13,7 @@ use Rattle.terms.specs.declared.row.Condition.TheVariants.{Present}
 use Rattle.terms.specs.declared.command.Command.TheVariants.{Branch, Kind, Rule, Patron, Acquire}
 use Rattle.circ_core.specs.declared.changes.RowChange.{RowChange}
 use Rattle.circ_core.specs.declared.changes.RowChange.TheVariants.{PutMeta, PutBranch, PutKind, PutRule, PutPatron, PutTitle, PutCopy}
-use Rattle.circ_core.specs.declared.views.PatronView.{PatronView}
-use Rattle.circ_core.specs.declared.views.AcquireView.{AcquireView}
+use Rattle.circ_core.specs.declared.views.View.{View}
 use Rattle.model.specs.Checks.{Check, is_within_limits}
 
 -- Rows that are put unless there is one already.
@@ -83,13 +82,13 @@ abbrev pub patron_differs : Option PatronRow → ℕ → List ℕ → List ℕ �
 patron_differs (Some row) kind card_key name = not ((row.kind == kind) && (bytes_eq row.card_key card_key && bytes_eq row.name name))
 patron_differs None kind card_key name = false
 
-abbrev pub patron_checks : PatronView → ℕ → ℕ → List ℕ → List ℕ → List Check
+abbrev pub patron_checks : View → ℕ → ℕ → List ℕ → List ℕ → List Check
 patron_checks view patron kind card_key name =
     (OutOfLimits, not (is_within_limits (Patron patron kind card_key name))) ∷ (UnknownKind, is_none view.kind)
     ∷ (OtherContent, patron_differs view.patron kind card_key name) ∷ []
 
 -- A new patron owes nothing.
-abbrev pub patron_rows : PatronView → ℕ → ℕ → List ℕ → List ℕ → List RowChange
+abbrev pub patron_rows : View → ℕ → ℕ → List ℕ → List ℕ → List RowChange
 patron_rows view patron kind card_key name =
     rows_unless view.patron (PutPatron (record { patron = patron; kind = kind; card_key = card_key; name = name; owed = 0 }) ∷ [])
 
@@ -106,13 +105,13 @@ copy_differs (Some row) title kind home price =
     not ((row.title == title) && ((row.kind == kind) && ((row.home == home) && (row.price == price))))
 copy_differs None title kind home price = false
 
-abbrev pub acquire_checks : AcquireView → ℕ → ℕ → ℕ → ℕ → ℕ → List ℕ → List Check
+abbrev pub acquire_checks : View → ℕ → ℕ → ℕ → ℕ → ℕ → List ℕ → List Check
 acquire_checks view copy title kind home price text =
-    (OutOfLimits, not (is_within_limits (Acquire copy title kind home price text))) ∷ (UnknownBranch, is_none view.home)
+    (OutOfLimits, not (is_within_limits (Acquire copy title kind home price text))) ∷ (UnknownBranch, is_none view.branch)
     ∷ (OtherContent, title_differs view.title text || copy_differs view.copy title kind home price) ∷ []
 
 -- The first copy of a title makes the title's row too; a new copy is present.
-abbrev pub acquire_rows : AcquireView → ℕ → ℕ → ℕ → ℕ → ℕ → List ℕ → List RowChange
+abbrev pub acquire_rows : View → ℕ → ℕ → ℕ → ℕ → ℕ → List ℕ → List RowChange
 acquire_rows view copy title kind home price text =
     rows_unless view.title (PutTitle (record { title = title; text = text }) ∷ [])
     ++ rows_unless view.copy (PutCopy (record { copy = copy; title = title; kind = kind; home = home; price = price; condition = Present }) ∷ [])

@@ -14,22 +14,7 @@ use Rattle.terms.specs.declared.row.TransitRow.{TransitRow}
 use Rattle.terms.specs.declared.command.Command.{Command}
 use Rattle.terms.specs.declared.command.Command.TheVariants.{BeginDay, Branch, Week, Kind, Rule, Patron, Acquire, CheckOut, CheckIn, Renew, PlaceHold, CancelHold, Unshelve, UnshelveCancelled, Missing, Withdraw, CloseDay, OpenDay, Pay, Waive, Page}
 use Rattle.terms.specs.Pictures.{Picture}
-use Rattle.circ_core.specs.declared.views.PatronView.{PatronView}
-use Rattle.circ_core.specs.declared.views.ClosedDayView.{ClosedDayView}
-use Rattle.circ_core.specs.declared.views.AccountView.{AccountView}
-use Rattle.circ_core.specs.declared.views.AcquireView.{AcquireView}
-use Rattle.circ_core.specs.declared.views.CopyView.{CopyView}
-use Rattle.circ_core.specs.declared.views.CheckOutView.{CheckOutView}
-use Rattle.circ_core.specs.declared.views.RenewView.{RenewView}
-use Rattle.circ_core.specs.declared.views.PlaceHoldView.{PlaceHoldView}
-use Rattle.circ_core.specs.declared.views.CancelHoldView.{CancelHoldView}
-use Rattle.circ_core.specs.declared.views.BranchView.{BranchView}
-use Rattle.circ_core.specs.declared.views.LenderView.{LenderView}
-use Rattle.circ_core.specs.declared.views.CheckInView.{CheckInView}
-use Rattle.circ_core.specs.declared.views.UnshelveView.{UnshelveView}
-use Rattle.circ_core.specs.declared.views.MissingView.{MissingView}
 use Rattle.circ_core.specs.declared.views.View.{View}
-use Rattle.circ_core.specs.declared.views.View.TheVariants as view
 
 -- ---- rows that are searched
 
@@ -153,59 +138,78 @@ IsLenderOf P None calendar = calendar ≡ None
 
 -- ---- the views
 
+-- The view has no row and counts nothing.
+pub record IsEmpty (rows : View) : Type 0 where
+  pub branch : rows.branch ≡ None
+  pub calendar : rows.calendar ≡ None
+  pub kind : rows.kind ≡ None
+  pub rule : rows.rule ≡ None
+  pub patron : rows.patron ≡ None
+  pub title : rows.title ≡ None
+  pub copy : rows.copy ≡ None
+  pub loan : rows.loan ≡ None
+  pub lender : rows.lender ≡ None
+  pub transit : rows.transit ≡ None
+  pub hold : rows.hold ≡ None
+  pub coming : rows.coming ≡ None
+  pub first : rows.first ≡ None
+  pub open_loans : rows.open_loans ≡ 0
+  pub own_holds : rows.own_holds ≡ 0
+  pub active_holds : rows.active_holds ≡ 0
+
 -- The kind that is named, and the patron.
-pub record IsPatronView (P : Picture) (p k : ℕ) (rows : PatronView) : Type 0 where
+pub record IsPatronView (P : Picture) (p k : ℕ) (rows : View) : Type 0 where
   pub kind : rows.kind ≡ P.kinds k
   pub patron : rows.patron ≡ P.patrons p
 
 -- The home branch, the title and the copy.
-pub record IsAcquireView (P : Picture) (c t b : ℕ) (rows : AcquireView) : Type 0 where
-  pub home : rows.home ≡ P.branches b
+pub record IsAcquireView (P : Picture) (c t b : ℕ) (rows : View) : Type 0 where
+  pub home : rows.branch ≡ P.branches b
   pub title : rows.title ≡ P.titles t
   pub copy : rows.copy ≡ P.copies c
 
 -- The copy, and the rows that claim it.
-pub record IsCopyView (P : Picture) (c : ℕ) (rows : CopyView) : Type 0 where
+pub record IsCopyView (P : Picture) (c : ℕ) (rows : View) : Type 0 where
   pub copy : rows.copy ≡ P.copies c
   pub loan : IsLoanOf P c rows.loan
   pub transit : rows.transit ≡ P.transits c
   pub hold : IsHoldOf P c rows.hold
 
 -- The rows that a check-out needs.
-pub record IsCheckOutView (P : Picture) (p c b : ℕ) (rows : CheckOutView) : Type 0 where
+pub record IsCheckOutView (P : Picture) (p c b : ℕ) (rows : View) : Type 0 where
   pub meta : rows.meta ≡ P.meta
   pub calendar : IsCalendarOf P b rows.calendar
   pub patron : rows.patron ≡ P.patrons p
   pub kind : rows.kind ≡ kind_in P rows.patron
-  pub rule : rows.rule ≡ rule_in P rows.patron rows.at.copy
-  pub at : IsCopyView P c rows.at
-  pub first : IsFirstFor P rows.at.copy rows.first
+  pub rule : rows.rule ≡ rule_in P rows.patron rows.copy
+  pub at : IsCopyView P c rows
+  pub first : IsFirstFor P rows.copy rows.first
   pub open_loans : IsCount (IsOpenBy P p) rows.open_loans
-  pub own_holds : AreHoldsFor P p rows.at.copy rows.own_holds
+  pub own_holds : AreHoldsFor P p rows.copy rows.own_holds
 
 -- The calendar of the branch, each single day of it once.
-pub record IsClosedDayView (P : Picture) (b : ℕ) (rows : ClosedDayView) : Type 0 where
+pub record IsClosedDayView (P : Picture) (b : ℕ) (rows : View) : Type 0 where
   pub meta : rows.meta ≡ P.meta
   pub calendar : IsCalendarOf P b rows.calendar
   pub once : IfSome rows.calendar (λ closings. has_repeat closings.single ≡ false)
 
 -- The patron, and the next numbers.
-pub record IsAccountView (P : Picture) (p : ℕ) (rows : AccountView) : Type 0 where
+pub record IsAccountView (P : Picture) (p : ℕ) (rows : View) : Type 0 where
   pub meta : rows.meta ≡ P.meta
   pub patron : rows.patron ≡ P.patrons p
 
 -- The rows that a renewal needs.
-pub record IsRenewView (P : Picture) (l : ℕ) (rows : RenewView) : Type 0 where
+pub record IsRenewView (P : Picture) (l : ℕ) (rows : View) : Type 0 where
   pub meta : rows.meta ≡ P.meta
   pub loan : rows.loan ≡ P.loans l
   pub copy : rows.copy ≡ copy_in P rows.loan
   pub first : IsFirstFor P rows.copy rows.first
   pub patron : rows.patron ≡ borrower_in P rows.loan
   pub kind : rows.kind ≡ kind_in P rows.patron
-  pub calendar : IsLenderOf P rows.loan rows.calendar
+  pub calendar : IsLenderOf P rows.loan rows.lender
 
 -- The rows that a new hold needs.
-pub record IsPlaceHoldView (P : Picture) (p t b : ℕ) (rows : PlaceHoldView) : Type 0 where
+pub record IsPlaceHoldView (P : Picture) (p t b : ℕ) (rows : View) : Type 0 where
   pub meta : rows.meta ≡ P.meta
   pub patron : rows.patron ≡ P.patrons p
   pub kind : rows.kind ≡ kind_in P rows.patron
@@ -216,69 +220,68 @@ pub record IsPlaceHoldView (P : Picture) (p t b : ℕ) (rows : PlaceHoldView) : 
   pub active_holds : IsCount (IsActiveBy P p) rows.active_holds
 
 -- The hold, and the travel for it.
-pub record IsCancelHoldView (P : Picture) (h : ℕ) (rows : CancelHoldView) : Type 0 where
+pub record IsCancelHoldView (P : Picture) (h : ℕ) (rows : View) : Type 0 where
   pub hold : rows.hold ≡ P.holds h
   pub transit : IsTravelFor P h rows.transit
 
 -- The branch and its calendar.
-pub record IsBranchView (P : Picture) (b : ℕ) (rows : BranchView) : Type 0 where
-  pub branch : rows.branch ≡ P.branches b
-  pub calendar : IsCalendarOf P b rows.calendar
+pub record IsBranchView (P : Picture) (b : ℕ) (row : Option BranchRow) (closings : Option Closings) : Type 0 where
+  pub branch : row ≡ P.branches b
+  pub calendar : IsCalendarOf P b closings
 
 -- The pick-up branch of the hold; without a hold none is looked for.
-abbrev pub IsPickupView : Picture → Option HoldRow → BranchView → Type 0
-IsPickupView P (Some hold) rows = IsBranchView P hold.branch rows
-IsPickupView P None rows = (rows.branch ≡ None) × (rows.calendar ≡ None)
+abbrev pub IsPickupView : Picture → Option HoldRow → Option BranchRow → Option Closings → Type 0
+IsPickupView P (Some hold) row closings = IsBranchView P hold.branch row closings
+IsPickupView P None row closings = (row ≡ None) × (closings ≡ None)
 
 -- The lending branch's calendar and the borrower of the loan, if there is one.
-pub record IsLenderView (P : Picture) (loan : Option LoanRow) (rows : LenderView) : Type 0 where
-  pub calendar : IsLenderOf P loan rows.calendar
+pub record IsLenderView (P : Picture) (loan : Option LoanRow) (rows : View) : Type 0 where
+  pub calendar : IsLenderOf P loan rows.lender
   pub patron : rows.patron ≡ borrower_in P loan
 
 -- The rows that a check-in needs.
-pub record IsCheckInView (P : Picture) (c b : ℕ) (rows : CheckInView) : Type 0 where
+pub record IsCheckInView (P : Picture) (c b : ℕ) (rows : View) : Type 0 where
   pub meta : rows.meta ≡ P.meta
-  pub here : IsBranchView P b rows.here
-  pub at : IsCopyView P c rows.at
-  pub lender : IsLenderView P rows.at.loan rows.lender
-  pub coming : rows.coming ≡ coming_in P rows.at.transit
-  pub first : IsFirstFor P rows.at.copy rows.first
+  pub here : IsBranchView P b rows.branch rows.calendar
+  pub at : IsCopyView P c rows
+  pub lender : IsLenderView P rows.loan rows
+  pub coming : rows.coming ≡ coming_in P rows.transit
+  pub first : IsFirstFor P rows.copy rows.first
 
 -- The rows that unshelving needs.
-pub record IsUnshelveView (P : Picture) (h : ℕ) (rows : UnshelveView) : Type 0 where
+pub record IsUnshelveView (P : Picture) (h : ℕ) (rows : View) : Type 0 where
   pub meta : rows.meta ≡ P.meta
   pub hold : rows.hold ≡ P.holds h
   pub copy : rows.copy ≡ named_copy_in P rows.hold
-  pub here : IsPickupView P rows.hold rows.here
+  pub here : IsPickupView P rows.hold rows.branch rows.calendar
   pub first : IsFirstFor P rows.copy rows.first
 
 -- The rows that declaring a copy missing needs.
-pub record IsMissingView (P : Picture) (c : ℕ) (rows : MissingView) : Type 0 where
+pub record IsMissingView (P : Picture) (c : ℕ) (rows : View) : Type 0 where
   pub meta : rows.meta ≡ P.meta
-  pub at : IsCopyView P c rows.at
-  pub lender : IsLenderView P rows.at.loan rows.lender
+  pub at : IsCopyView P c rows
+  pub lender : IsLenderView P rows.loan rows
 
--- The view holds the rows of the tables that the command needs; a view of another command's rows doesn't.
+-- The view holds the rows of the tables that the command needs.
 abbrev pub IsViewOf : Picture → Command → View → Type 0
-IsViewOf P (BeginDay day) (view.BeginDay meta) = meta ≡ P.meta
-IsViewOf P (Branch branch pickup name) (view.Branch row) = row ≡ P.branches branch
-IsViewOf P (Week branch week) (view.Week row) = row ≡ P.branches branch
-IsViewOf P (Kind kind loans holds debt) view.Kind = Unit {0}
-IsViewOf P (Rule kind copy_kind period renewals rate cap) (view.Rule row) = row ≡ P.kinds kind
-IsViewOf P (Patron patron kind card_key name) (view.Patron rows) = IsPatronView P patron kind rows
-IsViewOf P (Acquire copy title kind home price text) (view.Acquire rows) = IsAcquireView P copy title home rows
-IsViewOf P (CheckOut patron copy branch) (view.CheckOut rows) = IsCheckOutView P patron copy branch rows
-IsViewOf P (CloseDay branch day) (view.CloseDay rows) = IsClosedDayView P branch rows
-IsViewOf P (OpenDay branch day) (view.OpenDay rows) = IsClosedDayView P branch rows
-IsViewOf P (Pay patron amount) (view.Pay rows) = IsAccountView P patron rows
-IsViewOf P (Waive patron amount) (view.Waive rows) = IsAccountView P patron rows
-IsViewOf P (CheckIn copy branch) (view.CheckIn rows) = IsCheckInView P copy branch rows
-IsViewOf P (Renew loan) (view.Renew rows) = IsRenewView P loan rows
-IsViewOf P (PlaceHold patron title branch) (view.PlaceHold rows) = IsPlaceHoldView P patron title branch rows
-IsViewOf P (CancelHold hold) (view.CancelHold rows) = IsCancelHoldView P hold rows
-IsViewOf P (Unshelve hold) (view.Unshelve rows) = IsUnshelveView P hold rows
-IsViewOf P (UnshelveCancelled hold) (view.UnshelveCancelled rows) = IsUnshelveView P hold rows
-IsViewOf P (Missing copy) (view.Missing rows) = IsMissingView P copy rows
-IsViewOf P (Withdraw copy) (view.Withdraw rows) = IsCopyView P copy rows
-IsViewOf P (Page patron) (view.Page row) = row ≡ P.patrons patron
-IsViewOf P _ _ = ⊥
+IsViewOf P (BeginDay day) rows = rows.meta ≡ P.meta
+IsViewOf P (Branch branch pickup name) rows = rows.branch ≡ P.branches branch
+IsViewOf P (Week branch week) rows = rows.branch ≡ P.branches branch
+IsViewOf P (CloseDay branch day) rows = IsClosedDayView P branch rows
+IsViewOf P (OpenDay branch day) rows = IsClosedDayView P branch rows
+IsViewOf P (Kind kind loans holds debt) rows = Unit {0}
+IsViewOf P (Rule kind copy_kind period renewals rate cap) rows = rows.kind ≡ P.kinds kind
+IsViewOf P (Patron patron kind card_key name) rows = IsPatronView P patron kind rows
+IsViewOf P (Acquire copy title kind home price text) rows = IsAcquireView P copy title home rows
+IsViewOf P (CheckOut patron copy branch) rows = IsCheckOutView P patron copy branch rows
+IsViewOf P (CheckIn copy branch) rows = IsCheckInView P copy branch rows
+IsViewOf P (Renew loan) rows = IsRenewView P loan rows
+IsViewOf P (PlaceHold patron title branch) rows = IsPlaceHoldView P patron title branch rows
+IsViewOf P (CancelHold hold) rows = IsCancelHoldView P hold rows
+IsViewOf P (Unshelve hold) rows = IsUnshelveView P hold rows
+IsViewOf P (UnshelveCancelled hold) rows = IsUnshelveView P hold rows
+IsViewOf P (Missing copy) rows = IsMissingView P copy rows
+IsViewOf P (Withdraw copy) rows = IsCopyView P copy rows
+IsViewOf P (Pay patron amount) rows = IsAccountView P patron rows
+IsViewOf P (Waive patron amount) rows = IsAccountView P patron rows
+IsViewOf P (Page patron) rows = rows.patron ≡ P.patrons patron

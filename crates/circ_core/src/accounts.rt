@@ -8,14 +8,14 @@ ghost use Rattle.circ_core.specs.Accounts.{settle_checks, settle_rows, page_chec
 
 use crate::changes::{Changes, Decision, RowChange};
 use crate::setting::done;
-use crate::views::AccountView;
+use crate::views::View;
 use terms::{
     Cents, LAST_NUMBER, LineId, LineRow, PatronId, PatronPut, PatronRow, Refusal, Reply, Sort,
 };
 
 /// `pay` and `waive`, by the sort of the line that is made: refusals 11, 60, 70.
 pub(crate) fn settle<'a>(
-    view: &'a AccountView,
+    view: &'a View,
     patron: PatronId,
     sort: Sort,
     amount: Cents,

@@ -9,7 +9,7 @@ ghost use Rattle.circ_core.specs.Closing.{close_day_rows, open_day_checks, open_
 use crate::changes::{Changes, Decision, RowChange};
 use crate::checks::first_refusal;
 use crate::setting::done;
-use crate::views::ClosedDayView;
+use crate::views::View;
 use calendar::Calendar;
 use terms::{BranchId, Day, Refusal};
 
@@ -35,7 +35,7 @@ fn is_full(calendar: &Option<Calendar>) -> bool
 
 /// `close-day`: refusals 10, 23, 24, 21.
 pub(crate) fn close_day<'a>(
-    view: &ClosedDayView,
+    view: &View,
     branch: BranchId,
     day: Day,
 ) -> Result<Decision<'a>, Refusal>
@@ -54,11 +54,7 @@ pub(crate) fn close_day<'a>(
 }
 
 /// `open-day`: refusals 10, 23, 25.
-pub(crate) fn open_day<'a>(
-    view: &ClosedDayView,
-    branch: BranchId,
-    day: Day,
-) -> Result<Decision<'a>, Refusal>
+pub(crate) fn open_day<'a>(view: &View, branch: BranchId, day: Day) -> Result<Decision<'a>, Refusal>
     ensures { Decided (open_day_checks view.now day) Done (open_day_rows branch day) result }
 {
     let is_late = day.number() <= view.meta.today.number();

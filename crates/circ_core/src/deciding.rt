@@ -20,13 +20,8 @@ use crate::unshelving::{unshelve, unshelve_cancelled};
 use crate::views::View;
 use terms::{Command, Refusal, RuleRow, Sort};
 
-/// The rows are not those that the command needs: nothing can be told of them, and nothing is
-/// changed.
-const OTHER_VIEW: Refusal = Refusal::OutOfLimits;
-
 /// The refusal of the desk's command, or its reply with the rows that change. The view has the rows
-/// that the command needs; a view that was made for another kind of command is refused with 21. It
-/// takes no memory.
+/// that the command needs. It takes no memory.
 ///
 /// On the view of the tables that a legal list of accepted events leaves, it is the refusal or the
 /// reply which that list gives the command, and the rows change so that the tables are those of the
@@ -45,31 +40,21 @@ fn decide_on_rows<'a>(view: &'a View, command: &'a Command) -> Result<Decision<'
     ensures { DecidesOn view.now command.now result }
 {
     match command {
-        Command::BeginDay { day } => match view {
-            View::BeginDay(meta) => begin_day(meta, *day),
-            _ => Err(OTHER_VIEW),
-        },
+        Command::BeginDay { day } => begin_day(&view.meta, *day),
         Command::Branch {
             branch,
             pickup,
             name,
-        } => match view {
-            View::Branch(row) => add_branch(row, *branch, *pickup, name),
-            _ => Err(OTHER_VIEW),
-        },
-        Command::Week { week, .. } => match view {
-            View::Week(row) => set_week(row, *week),
-            _ => Err(OTHER_VIEW),
-        },
+        } => add_branch(&view.branch, *branch, *pickup, name),
+        Command::Week { week, .. } => set_week(&view.branch, *week),
+        Command::CloseDay { branch, day } => close_day(view, *branch, *day),
+        Command::OpenDay { branch, day } => open_day(view, *branch, *day),
         Command::Kind {
             kind,
             loans,
             holds,
             debt,
-        } => match view {
-            View::Kind => set_kind(*kind, *loans, *holds, *debt),
-            _ => Err(OTHER_VIEW),
-        },
+        } => set_kind(*kind, *loans, *holds, *debt),
         Command::Rule {
             kind,
             copy_kind,
@@ -77,29 +62,23 @@ fn decide_on_rows<'a>(view: &'a View, command: &'a Command) -> Result<Decision<'
             renewals,
             rate,
             cap,
-        } => match view {
-            View::Rule(row) => {
-                let rule = RuleRow {
-                    kind: *kind,
-                    copy_kind: *copy_kind,
-                    period: *period,
-                    renewals: *renewals,
-                    rate: *rate,
-                    cap: *cap,
-                };
-                set_rule(row, &rule)
-            }
-            _ => Err(OTHER_VIEW),
-        },
+        } => {
+            let rule = RuleRow {
+                kind: *kind,
+                copy_kind: *copy_kind,
+                period: *period,
+                renewals: *renewals,
+                rate: *rate,
+                cap: *cap,
+            };
+            set_rule(&view.kind, &rule)
+        }
         Command::Patron {
             patron,
             kind,
             card_key,
             name,
-        } => match view {
-            View::Patron(rows) => enrol(rows, *patron, *kind, card_key, name),
-            _ => Err(OTHER_VIEW),
-        },
+        } => enrol(view, *patron, *kind, card_key, name),
         Command::Acquire {
             copy,
             title,
@@ -107,73 +86,26 @@ fn decide_on_rows<'a>(view: &'a View, command: &'a Command) -> Result<Decision<'
             home,
             price,
             text,
-        } => match view {
-            View::Acquire(rows) => acquire(rows, *copy, *title, *kind, *home, *price, text),
-            _ => Err(OTHER_VIEW),
-        },
+        } => acquire(view, *copy, *title, *kind, *home, *price, text),
         Command::CheckOut {
             patron,
             copy,
             branch,
-        } => match view {
-            View::CheckOut(rows) => check_out(rows, *patron, *copy, *branch),
-            _ => Err(OTHER_VIEW),
-        },
-        Command::CloseDay { branch, day } => match view {
-            View::CloseDay(rows) => close_day(rows, *branch, *day),
-            _ => Err(OTHER_VIEW),
-        },
-        Command::OpenDay { branch, day } => match view {
-            View::OpenDay(rows) => open_day(rows, *branch, *day),
-            _ => Err(OTHER_VIEW),
-        },
-        Command::Pay { patron, amount } => match view {
-            View::Pay(rows) => settle(rows, *patron, Sort::Payment, *amount),
-            _ => Err(OTHER_VIEW),
-        },
-        Command::Waive { patron, amount } => match view {
-            View::Waive(rows) => settle(rows, *patron, Sort::Waiver, *amount),
-            _ => Err(OTHER_VIEW),
-        },
-        Command::Page { .. } => match view {
-            View::Page(row) => page(row),
-            _ => Err(OTHER_VIEW),
-        },
-        Command::CheckIn { copy, branch } => match view {
-            View::CheckIn(rows) => check_in(rows, *copy, *branch),
-            _ => Err(OTHER_VIEW),
-        },
-        Command::Renew { loan } => match view {
-            View::Renew(rows) => renew(rows, *loan),
-            _ => Err(OTHER_VIEW),
-        },
+        } => check_out(view, *patron, *copy, *branch),
+        Command::CheckIn { copy, branch } => check_in(view, *copy, *branch),
+        Command::Renew { loan } => renew(view, *loan),
         Command::PlaceHold {
             patron,
             title,
             branch,
-        } => match view {
-            View::PlaceHold(rows) => place_hold(rows, *patron, *title, *branch),
-            _ => Err(OTHER_VIEW),
-        },
-        Command::CancelHold { .. } => match view {
-            View::CancelHold(rows) => cancel_hold(rows),
-            _ => Err(OTHER_VIEW),
-        },
-        Command::Unshelve { .. } => match view {
-            View::Unshelve(rows) => unshelve(rows),
-            _ => Err(OTHER_VIEW),
-        },
-        Command::UnshelveCancelled { .. } => match view {
-            View::UnshelveCancelled(rows) => unshelve_cancelled(rows),
-            _ => Err(OTHER_VIEW),
-        },
-        Command::Missing { .. } => match view {
-            View::Missing(rows) => declare_missing(rows),
-            _ => Err(OTHER_VIEW),
-        },
-        Command::Withdraw { .. } => match view {
-            View::Withdraw(rows) => withdraw(rows),
-            _ => Err(OTHER_VIEW),
-        },
+        } => place_hold(view, *patron, *title, *branch),
+        Command::CancelHold { .. } => cancel_hold(view),
+        Command::Unshelve { .. } => unshelve(view),
+        Command::UnshelveCancelled { .. } => unshelve_cancelled(view),
+        Command::Missing { .. } => declare_missing(view),
+        Command::Withdraw { .. } => withdraw(view),
+        Command::Pay { patron, amount } => settle(view, *patron, Sort::Payment, *amount),
+        Command::Waive { patron, amount } => settle(view, *patron, Sort::Waiver, *amount),
+        Command::Page { .. } => page(&view.patron),
     }
 }

@@ -12,7 +12,7 @@ use crate::changes::{Changes, Decision, RowChange};
 use crate::checks::first_refusal;
 use crate::lending::finish;
 use crate::setting::done;
-use crate::views::{CancelHoldView, PlaceHoldView};
+use crate::views::View;
 use terms::{
     BranchId, Count, HoldId, HoldRow, HoldState, KindRow, LAST_NUMBER, PatronId, Refusal, Reply,
     TitleId, TransitRow,
@@ -29,7 +29,7 @@ fn has_all_holds(kind: &Option<KindRow>, active_holds: Count) -> bool
 }
 
 /// The refusal of a hold that is to be placed, by its table of checks.
-fn place_hold_refusal(view: &PlaceHoldView) -> Option<Refusal>
+fn place_hold_refusal(view: &View) -> Option<Refusal>
     ensures { result ≡ first_failing (place_hold_checks view.now) }
 {
     first_refusal(&[
@@ -51,7 +51,7 @@ fn place_hold_refusal(view: &PlaceHoldView) -> Option<Refusal>
 
 /// `place-hold`: refusals 11, 12, 10, 50, 52, 51, 70, in this order.
 pub(crate) fn place_hold<'a>(
-    view: &PlaceHoldView,
+    view: &View,
     patron: PatronId,
     title: TitleId,
     branch: BranchId,
@@ -117,7 +117,7 @@ fn with_let_go<'a>(changes: Changes<'a>, transit: &Option<TransitRow>) -> Change
 }
 
 /// `cancel-hold`: refusals 15, 53.
-pub(crate) fn cancel_hold<'a>(view: &CancelHoldView) -> Result<Decision<'a>, Refusal>
+pub(crate) fn cancel_hold<'a>(view: &View) -> Result<Decision<'a>, Refusal>
     ensures { Decided (cancel_hold_checks view.now) Done (cancel_hold_rows view.now) result }
 {
     let refusal = first_refusal(&[

@@ -12,7 +12,7 @@ use crate::checks::first_refusal;
 use crate::ending::{fine_of, needs_more_numbers, with_charges, with_end};
 use crate::lending::{is_gone, is_lost};
 use crate::setting::done;
-use crate::views::{CopyView, MissingView};
+use crate::views::View;
 use calendar::Day;
 use terms::{Cents, Condition, CopyRow, HoldRow, HoldState, LoanRow, Refusal, Reply};
 
@@ -56,17 +56,17 @@ fn wait_again(hold: &HoldRow) -> HoldRow
 }
 
 /// The changes, and what becomes of that to which the copy was bound.
-fn with_release<'a>(changes: Changes<'a>, at: &CopyView, today: Day) -> Changes<'a>
+fn with_release<'a>(changes: Changes<'a>, view: &View, today: Day) -> Changes<'a>
     requires { length changes ≤ 1 }
     ensures rows { result ≡ changes.entry
-        ++ release_rows at.now.loan at.now.hold at.now.transit today }
+        ++ release_rows view.now.loan view.now.hold view.now.transit today }
     ensures few { length result ≤ 2 }
 {
-    match &at.loan {
-        Some(_) => with_end(changes, &at.loan, today),
-        None => match &at.hold {
+    match &view.loan {
+        Some(_) => with_end(changes, &view.loan, today),
+        None => match &view.hold {
             Some(hold) => changes.with(RowChange::PutHold(wait_again(hold))),
-            None => match &at.transit {
+            None => match &view.transit {
                 Some(transit) => changes.with(RowChange::TakeTransit(transit.copy)),
                 None => changes,
             },
@@ -84,18 +84,17 @@ fn reply_of(loan: &Option<LoanRow>, fine: Cents, price: Cents) -> Reply
 }
 
 /// `missing`: refusals 13, 35, 34, 70, in this order.
-pub(crate) fn declare_missing<'a>(view: &'a MissingView) -> Result<Decision<'a>, Refusal>
+pub(crate) fn declare_missing<'a>(view: &'a View) -> Result<Decision<'a>, Refusal>
     ensures { Decided (missing_checks view.now) (missing_reply view.now)
         (missing_rows view.now) result }
 {
-    let at = &view.at;
     let today = view.meta.today;
-    let fine = fine_of(&at.loan, &view.lender.calendar, today);
-    let price = price_of(&at.loan, &at.copy);
+    let fine = fine_of(&view.loan, &view.lender, today);
+    let price = price_of(&view.loan, &view.copy);
     let refusal = first_refusal(&[
-        (Refusal::UnknownCopy, at.copy.is_none()),
-        (Refusal::CopyWithdrawn, is_gone(&at.copy)),
-        (Refusal::CopyMissing, is_lost(&at.copy)),
+        (Refusal::UnknownCopy, view.copy.is_none()),
+        (Refusal::CopyWithdrawn, is_gone(&view.copy)),
+        (Refusal::CopyMissing, is_lost(&view.copy)),
     ]);
     if let Some(first) = refusal {
         return Err(first);
@@ -103,33 +102,26 @@ pub(crate) fn declare_missing<'a>(view: &'a MissingView) -> Result<Decision<'a>,
     if needs_more_numbers(&view.meta, fine, price) {
         return Err(Refusal::NumbersUsedUp);
     }
-    let freed = with_release(copy_changes(&at.copy, Condition::Missing), at, today);
+    let freed = with_release(copy_changes(&view.copy, Condition::Missing), view, today);
     Ok(Decision {
-        reply: reply_of(&at.loan, fine, price),
-        changes: with_charges(
-            freed,
-            &view.meta,
-            &view.lender.patron,
-            &at.loan,
-            fine,
-            price,
-        ),
+        reply: reply_of(&view.loan, fine, price),
+        changes: with_charges(freed, &view.meta, &view.patron, &view.loan, fine, price),
     })
 }
 
 /// `withdraw`: refusals 13, 35, 31, 32, 33, in this order.
-pub(crate) fn withdraw<'a>(at: &CopyView) -> Result<Decision<'a>, Refusal>
-    ensures { Decided (withdraw_checks at.now) Done (withdraw_rows at.now) result }
+pub(crate) fn withdraw<'a>(view: &View) -> Result<Decision<'a>, Refusal>
+    ensures { Decided (withdraw_checks view.now) Done (withdraw_rows view.now) result }
 {
     let refusal = first_refusal(&[
-        (Refusal::UnknownCopy, at.copy.is_none()),
-        (Refusal::CopyWithdrawn, is_gone(&at.copy)),
-        (Refusal::OnLoan, at.loan.is_some()),
-        (Refusal::InTransit, at.transit.is_some()),
-        (Refusal::OnHoldShelf, at.hold.is_some()),
+        (Refusal::UnknownCopy, view.copy.is_none()),
+        (Refusal::CopyWithdrawn, is_gone(&view.copy)),
+        (Refusal::OnLoan, view.loan.is_some()),
+        (Refusal::InTransit, view.transit.is_some()),
+        (Refusal::OnHoldShelf, view.hold.is_some()),
     ]);
     if let Some(first) = refusal {
         return Err(first);
     }
-    Ok(done(copy_changes(&at.copy, Condition::Withdrawn)))
+    Ok(done(copy_changes(&view.copy, Condition::Withdrawn)))
 }

@@ -1,18 +1,20 @@
 //! Check-out.
 
 ghost use Rattle.terms.specs.declared.limits.TheConstants.{LAST_NUMBER};
-ghost use Rattle.std.specs.Prelude.{◌≡◌, ◌+◌, ◌≤◌, ◌==◌, nat_le, nat_lt, IfSome, IfNone};
+ghost use Rattle.std.specs.Prelude.{◌≡◌, ◌+◌, ◌≤◌, ◌==◌, nat_le, nat_lt, is_none};
+ghost use Rattle.terms.specs.declared.reply.Reply.TheVariants.{Lent};
 ghost use Rattle.model.specs.Checks.{first_failing};
+ghost use Rattle.circ_core.specs.Decided.{Decided};
 ghost use Rattle.circ_core.specs.Lending.{is_missing, is_withdrawn, stands_at, is_of_other};
 ghost use Rattle.circ_core.specs.Lending.{filled_hold, is_wanted, has_more, loans_allowed};
 ghost use Rattle.circ_core.specs.Lending.{debt_allowed, owed_by, check_out_checks, period_of};
-ghost use Rattle.circ_core.specs.Lending.{renewals_of, rate_of, cap_of, IsDueFrom, IsShutFrom};
-ghost use Rattle.circ_core.specs.Lending.{check_out_rows, new_loan, finished, LendsOrRefuses};
+ghost use Rattle.circ_core.specs.Lending.{renewals_of, rate_of, cap_of, loan_due, due_in};
+ghost use Rattle.circ_core.specs.Lending.{check_out_rows, new_loan, finished};
 
 use crate::changes::{Changes, Decision, RowChange};
 use crate::checks::first_refusal;
-use crate::views::CheckOutView;
-use calendar::Calendar;
+use crate::due::due_day;
+use crate::views::View;
 use terms::{
     BranchId, Cents, Condition, CopyId, CopyKind, CopyRow, Count, Day, Days, HoldRow, HoldState,
     KindRow, LAST_NUMBER, LoanId, LoanRow, PatronId, PatronKind, PatronRow, Refusal, Reply,
@@ -120,24 +122,29 @@ fn is_used_up(next_loan: LoanId) -> bool
 }
 
 /// The refusal of a check-out, by its table of checks.
-fn check_out_refusal(view: &CheckOutView, patron: PatronId, branch: BranchId) -> Option<Refusal>
+fn check_out_refusal(
+    view: &View,
+    patron: PatronId,
+    branch: BranchId,
+    is_late: bool,
+) -> Option<Refusal>
+    requires { is_late ≡ is_none (loan_due view.now) }
     ensures { result ≡ first_failing (check_out_checks view.now patron branch) }
 {
-    let at = &view.at;
-    let filled = hold_to_fill(&at.hold, &view.first);
+    let filled = hold_to_fill(&view.hold, &view.first);
     first_refusal(&[
         (Refusal::UnknownBranch, view.calendar.is_none()),
         (Refusal::UnknownPatron, view.patron.is_none()),
-        (Refusal::UnknownCopy, at.copy.is_none()),
-        (Refusal::CopyWithdrawn, is_gone(&at.copy)),
-        (Refusal::CopyMissing, is_lost(&at.copy)),
-        (Refusal::OnLoan, at.loan.is_some()),
-        (Refusal::InTransit, at.transit.is_some()),
-        (Refusal::Elsewhere, !is_at(&at.hold, &at.copy, branch)),
-        (Refusal::OnHoldShelf, is_anothers(&at.hold, patron)),
+        (Refusal::UnknownCopy, view.copy.is_none()),
+        (Refusal::CopyWithdrawn, is_gone(&view.copy)),
+        (Refusal::CopyMissing, is_lost(&view.copy)),
+        (Refusal::OnLoan, view.loan.is_some()),
+        (Refusal::InTransit, view.transit.is_some()),
+        (Refusal::Elsewhere, !is_at(&view.hold, &view.copy, branch)),
+        (Refusal::OnHoldShelf, is_anothers(&view.hold, patron)),
         (
             Refusal::HoldWaits,
-            is_for_another(&at.hold, &view.first, patron),
+            is_for_another(&view.hold, &view.first, patron),
         ),
         (Refusal::AlreadyHolds, holds_more(&filled, view.own_holds)),
         (Refusal::NoRule, view.rule.is_none()),
@@ -150,24 +157,8 @@ fn check_out_refusal(view: &CheckOutView, patron: PatronId, branch: BranchId) ->
             owes_too_much(&view.kind, &view.patron),
         ),
         (Refusal::NumbersUsedUp, is_used_up(view.meta.next_loan)),
+        (Refusal::PastCalendar, is_late),
     ])
-}
-
-/// The least open day from so many days after a day, if the calendar has one.
-pub(crate) fn due_day(calendar: &Option<Calendar>, today: Day, period: Days) -> Option<Day>
-    ensures some { IfSome result (IsDueFrom calendar.now (today + period)) }
-    ensures none { IfNone result (IsShutFrom calendar.now (today + period)) }
-{
-    let Some(days) = calendar else {
-        return None;
-    };
-    let Some(end) = today.number().checked_add(period.number()) else {
-        return None;
-    };
-    let Some(from) = Day::new(end) else {
-        return None;
-    };
-    days.least_open(from)
 }
 
 /// The terms of the rule; without one, which a check refuses, none at all.
@@ -191,13 +182,7 @@ fn terms_of(rule: &Option<RuleRow>) -> RuleRow
 }
 
 /// The loan that is made.
-fn loan_for(
-    view: &CheckOutView,
-    patron: PatronId,
-    copy: CopyId,
-    branch: BranchId,
-    due: Day,
-) -> LoanRow
+fn loan_for(view: &View, patron: PatronId, copy: CopyId, branch: BranchId, due: Day) -> LoanRow
     ensures { result ≡ new_loan view.now patron copy branch due }
 {
     let rule = terms_of(&view.rule);
@@ -229,7 +214,7 @@ pub(crate) fn finish(hold: HoldRow, state: HoldState) -> HoldRow
 
 /// The rows that a check-out changes: the next number, the loan, and the hold that it fills.
 fn check_out_changes<'a>(
-    view: &CheckOutView,
+    view: &View,
     patron: PatronId,
     copy: CopyId,
     branch: BranchId,
@@ -241,7 +226,7 @@ fn check_out_changes<'a>(
     let loan = loan_for(view, patron, copy, branch, due);
     let mut meta = view.meta;
     meta.next_loan = LoanId::new(meta.next_loan.number() + 1);
-    match hold_to_fill(&view.at.hold, &view.first) {
+    match hold_to_fill(&view.hold, &view.first) {
         Some(hold) => Changes::three(
             RowChange::PutMeta(meta),
             RowChange::PutLoan(loan),
@@ -255,20 +240,20 @@ fn check_out_changes<'a>(
 /// 39 where the calendar has no open day left, which rows that the desk made itself never bring
 /// about.
 pub(crate) fn check_out<'a>(
-    view: &CheckOutView,
+    view: &View,
     patron: PatronId,
     copy: CopyId,
     branch: BranchId,
 ) -> Result<Decision<'a>, Refusal>
-    ensures { LendsOrRefuses view.now patron copy branch result }
+    ensures { Decided (check_out_checks view.now patron branch)
+        (Lent view.now.meta.next_loan (due_in view.now))
+        (check_out_rows view.now patron copy branch (due_in view.now)) result }
 {
-    if let Some(refusal) = check_out_refusal(view, patron, branch) {
+    let found = due_day(&view.calendar, view.meta.today, terms_of(&view.rule).period);
+    if let Some(refusal) = check_out_refusal(view, patron, branch, found.is_none()) {
         return Err(refusal);
     }
-    let period = terms_of(&view.rule).period;
-    let Some(due) = due_day(&view.calendar, view.meta.today, period) else {
-        return Err(Refusal::PastCalendar);
-    };
+    let due = found.unwrap_or(view.meta.today);
     let loan = view.meta.next_loan;
     Ok(Decision {
         reply: Reply::Lent { loan, due },

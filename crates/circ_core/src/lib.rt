@@ -7,6 +7,7 @@ mod changes;
 mod checks;
 mod closing;
 mod deciding;
+mod due;
 mod ending;
 mod holding;
 mod leaving;
@@ -22,7 +23,4 @@ mod views;
 pub use changes::{Changes, Decision, RowChange};
 pub use deciding::decide;
 pub use owners::owners_law;
-pub use views::{
-    AccountView, AcquireView, BranchView, CancelHoldView, CheckInView, CheckOutView, ClosedDayView,
-    CopyView, LenderView, MissingView, PatronView, PlaceHoldView, RenewView, UnshelveView, View,
-};
+pub use views::View;

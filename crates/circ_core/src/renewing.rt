@@ -1,14 +1,17 @@
 //! Renewal.
 
-ghost use Rattle.std.specs.Prelude.{◌≡◌, Some};
+ghost use Rattle.std.specs.Prelude.{◌≡◌, is_none};
+ghost use Rattle.terms.specs.declared.reply.Reply.TheVariants.{Lent};
+ghost use Rattle.circ_core.specs.Decided.{Decided};
 ghost use Rattle.model.specs.Checks.{first_failing};
 ghost use Rattle.circ_core.specs.Renewing.{is_over, is_late, is_renewed_out, renew_checks};
-ghost use Rattle.circ_core.specs.Renewing.{renewed_rows, RenewsOrRefuses};
+ghost use Rattle.circ_core.specs.Renewing.{renewed_rows, renewed_due_day, renewed_due_in};
 
 use crate::changes::{Changes, Decision, RowChange};
 use crate::checks::first_refusal;
-use crate::lending::{due_day, owes_too_much};
-use crate::views::RenewView;
+use crate::due::due_day;
+use crate::lending::owes_too_much;
+use crate::views::View;
 use calendar::Day;
 use terms::{Count, LoanId, LoanRow, Refusal, Reply};
 
@@ -40,7 +43,8 @@ fn has_no_renewals(loan: &Option<LoanRow>) -> bool
 }
 
 /// The refusal of a renewal, by its table of checks.
-fn renew_refusal(view: &RenewView) -> Option<Refusal>
+fn renew_refusal(view: &View, is_late: bool) -> Option<Refusal>
+    requires { is_late ≡ is_none (renewed_due_day view.now) }
     ensures { result ≡ first_failing (renew_checks view.now) }
 {
     first_refusal(&[
@@ -53,35 +57,48 @@ fn renew_refusal(view: &RenewView) -> Option<Refusal>
             Refusal::OwesTooMuch,
             owes_too_much(&view.kind, &view.patron),
         ),
+        (Refusal::PastCalendar, is_late),
     ])
 }
 
-/// The loan with its new due day, and a renewal fewer.
-fn renewed<'a>(row: &LoanRow, due: Day) -> Changes<'a>
-    ensures { result ≡ renewed_rows (Some row.now) due }
+/// The day on which the loan is due after a renewal, if the calendar has one.
+fn next_due_day(view: &View) -> Option<Day>
+    ensures { result ≡ renewed_due_day view.now }
 {
-    let mut renewed = *row;
-    renewed.due = due;
-    renewed.renewals_left = Count::new(row.renewals_left.number().saturating_sub(1));
-    Changes::one(RowChange::PutLoan(renewed))
+    match &view.loan {
+        Some(row) => due_day(&view.lender, row.due, row.period),
+        None => None,
+    }
+}
+
+/// The loan with its new due day, and a renewal fewer.
+fn renewed<'a>(loan: &Option<LoanRow>, due: Day) -> Changes<'a>
+    ensures { result ≡ renewed_rows loan.now due }
+{
+    match loan {
+        Some(row) => {
+            let mut renewed = *row;
+            renewed.due = due;
+            renewed.renewals_left = Count::new(row.renewals_left.number().saturating_sub(1));
+            Changes::one(RowChange::PutLoan(renewed))
+        }
+        None => Changes::none(),
+    }
 }
 
 /// `renew`: refusals 14, 40, 41, 36, 42, 38, 39, in this order. The new period begins at the old
 /// due day.
-pub(crate) fn renew<'a>(view: &RenewView, loan: LoanId) -> Result<Decision<'a>, Refusal>
-    ensures { RenewsOrRefuses view.now loan result }
+pub(crate) fn renew<'a>(view: &View, loan: LoanId) -> Result<Decision<'a>, Refusal>
+    ensures { Decided (renew_checks view.now) (Lent loan (renewed_due_in view.now))
+        (renewed_rows view.now.loan (renewed_due_in view.now)) result }
 {
-    if let Some(refusal) = renew_refusal(view) {
+    let found = next_due_day(view);
+    if let Some(refusal) = renew_refusal(view, found.is_none()) {
         return Err(refusal);
     }
-    let Some(row) = &view.loan else {
-        return Err(Refusal::UnknownLoan);
-    };
-    let Some(due) = due_day(&view.calendar, row.due, row.period) else {
-        return Err(Refusal::PastCalendar);
-    };
+    let due = found.unwrap_or(view.meta.today);
     Ok(Decision {
         reply: Reply::Lent { loan, due },
-        changes: renewed(row, due),
+        changes: renewed(&view.loan, due),
     })
 }

@@ -2,14 +2,16 @@
 
 ghost use Rattle.std.specs.Prelude.{◌≡◌, ◌≤◌, length};
 ghost use Rattle.circ_core.specs.Returning.{check_in_course, over_rows, found_rows, left_rows};
-ghost use Rattle.circ_core.specs.Returning.{ChecksIn};
+ghost use Rattle.circ_core.specs.Decided.{Decided};
+ghost use Rattle.circ_core.specs.Returning.{check_in_checks, check_in_limit, check_in_reply};
+ghost use Rattle.circ_core.specs.Returning.{check_in_rows};
 
 use crate::changes::{Changes, Decision, RowChange};
 use crate::checks::first_refusal;
 use crate::ending::{fine_of, needs_more_numbers, with_charges, with_end};
 use crate::lending::is_gone;
 use crate::routing::{Course, home_branch, limit_day, route, told, with_arrival};
-use crate::views::{CheckInView, CopyView};
+use crate::views::View;
 use terms::{BranchId, Cents, Condition, CopyId, CopyRow, Day, Refusal, Reply};
 
 /// A travel that is over leaves the table; one that goes on is put there anew.
@@ -44,50 +46,46 @@ fn find_again<'a>(copy: &Option<CopyRow>) -> Changes<'a>
 }
 
 /// The row that changes where the copy was: a loan, a travel, or among the missing.
-fn leave<'a>(at: &CopyView, course: &Course, copy: CopyId, today: Day) -> Changes<'a>
-    ensures rows { result ≡ left_rows at.now.loan at.now.transit at.now.copy course.now copy today }
+fn leave<'a>(view: &View, course: &Course, copy: CopyId, today: Day) -> Changes<'a>
+    ensures rows { result ≡ left_rows view.now.loan view.now.transit view.now.copy course.now copy today }
     ensures few { length result ≤ 1 }
 {
-    match &at.loan {
-        Some(_) => with_end(Changes::none(), &at.loan, today),
-        None => match &at.transit {
+    match &view.loan {
+        Some(_) => with_end(Changes::none(), &view.loan, today),
+        None => match &view.transit {
             Some(_) => end_travel(course, copy),
-            None => find_again(&at.copy),
+            None => find_again(&view.copy),
         },
     }
 }
 
 /// Where the copy goes.
-fn next_place(view: &CheckInView, branch: BranchId) -> Course
+fn next_place(view: &View, branch: BranchId) -> Course
     ensures { result ≡ check_in_course view.now branch }
 {
-    route(
-        home_branch(&view.at.copy),
-        &view.coming,
-        &view.first,
-        branch,
-    )
+    route(home_branch(&view.copy), &view.coming, &view.first, branch)
 }
 
 /// `check-in`: refusals 10, 13, 35, 33, 70, in this order; 39 where the calendar has no open day
 /// left for the limit of the hold that becomes ready, which rows that the desk made itself never
 /// bring about.
 pub(crate) fn check_in<'a>(
-    view: &'a CheckInView,
+    view: &'a View,
     copy: CopyId,
     branch: BranchId,
 ) -> Result<Decision<'a>, Refusal>
-    ensures { ChecksIn view.now copy branch result }
+    ensures { Decided (check_in_checks view.now branch)
+        (check_in_reply view.now branch (check_in_limit view.now branch))
+        (check_in_rows view.now copy branch (check_in_limit view.now branch)) result }
 {
-    let at = &view.at;
     let today = view.meta.today;
-    let fine = fine_of(&at.loan, &view.lender.calendar, today);
+    let fine = fine_of(&view.loan, &view.lender, today);
     let nothing = Cents::new(0);
     let refusal = first_refusal(&[
-        (Refusal::UnknownBranch, view.here.branch.is_none()),
-        (Refusal::UnknownCopy, at.copy.is_none()),
-        (Refusal::CopyWithdrawn, is_gone(&at.copy)),
-        (Refusal::OnHoldShelf, at.hold.is_some()),
+        (Refusal::UnknownBranch, view.branch.is_none()),
+        (Refusal::UnknownCopy, view.copy.is_none()),
+        (Refusal::CopyWithdrawn, is_gone(&view.copy)),
+        (Refusal::OnHoldShelf, view.hold.is_some()),
     ]);
     if let Some(first) = refusal {
         return Err(first);
@@ -96,22 +94,15 @@ pub(crate) fn check_in<'a>(
         return Err(Refusal::NumbersUsedUp);
     }
     let course = next_place(view, branch);
-    let Some(until) = limit_day(&course, &view.here, today) else {
+    let Some(until) = limit_day(&course, view) else {
         return Err(Refusal::PastCalendar);
     };
-    let moved = with_arrival(leave(at, &course, copy, today), &course, copy, until);
+    let moved = with_arrival(leave(view, &course, copy, today), &course, copy, until);
     Ok(Decision {
         reply: Reply::CheckedIn {
             fine,
             routed: told(&course, branch, until),
         },
-        changes: with_charges(
-            moved,
-            &view.meta,
-            &view.lender.patron,
-            &at.loan,
-            fine,
-            nothing,
-        ),
+        changes: with_charges(moved, &view.meta, &view.patron, &view.loan, fine, nothing),
     })
 }

@@ -1,12 +1,12 @@
 //! Where a copy goes that is handed in.
 
-ghost use Rattle.std.specs.Prelude.{◌≡◌, ◌≤◌, ◌++◌, length, IfSome, IfNone};
+ghost use Rattle.std.specs.Prelude.{◌≡◌, ◌≤◌, ◌++◌, length};
 ghost use Rattle.circ_core.specs.Routing.{served, course_of, pickup_of, home_in, number_in};
-ghost use Rattle.circ_core.specs.Routing.{IsLimitOf, HasNoLimit, routed_by, readied, arrival_rows};
+ghost use Rattle.circ_core.specs.Routing.{routed_by, readied, arrival_rows, shelf_limit};
 
 use crate::changes::{Changes, RowChange};
-use crate::lending::due_day;
-use crate::views::BranchView;
+use crate::due::due_day;
+use crate::views::View;
 use terms::{
     BranchId, BranchRow, CopyId, CopyRow, Day, Days, HoldId, HoldRow, HoldState, Routed, TransitRow,
 };
@@ -90,13 +90,14 @@ pub(crate) fn copy_number(copy: &Option<CopyRow>) -> CopyId
 }
 
 /// The shelf limit of a hold that becomes ready: the least open day from the end of the pick-up
-/// period, if the calendar has one. A copy that goes elsewhere needs none.
-pub(crate) fn limit_day(course: &Course, here: &BranchView, today: Day) -> Option<Day>
-    ensures some { IfSome result (IsLimitOf course.now here.now today) }
-    ensures none { IfNone result (HasNoLimit course.now here.now today) }
+/// period, if the calendar has one. A copy that goes elsewhere needs none, and today stands for it.
+#[tactic(auto, unfolding(crate::specs::Routing::shelf_limit))]
+pub(crate) fn limit_day(course: &Course, view: &View) -> Option<Day>
+    ensures { result ≡ shelf_limit course.now view.now }
 {
+    let today = view.meta.today;
     match course {
-        Course::HoldShelf(_) => due_day(&here.calendar, today, pickup_days(&here.branch)),
+        Course::HoldShelf(_) => due_day(&view.calendar, today, pickup_days(&view.branch)),
         Course::Shelf => Some(today),
         Course::Transit(_, _) => Some(today),
     }

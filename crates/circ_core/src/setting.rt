@@ -14,7 +14,7 @@ ghost use Rattle.circ_core.specs.Setting.{acquire_rows, rows_unless};
 
 use crate::changes::{Changes, Decision, RowChange};
 use crate::checks::first_refusal;
-use crate::views::{AcquireView, PatronView};
+use crate::views::View;
 use terms::{
     BranchId, BranchPut, BranchRow, CardKey, Cents, Condition, CopyId, CopyKind, CopyRow, Count,
     Day, Days, HIGHEST_CAP, HIGHEST_DEBT, HIGHEST_PRICE, HIGHEST_RATE, KindRow, LAST_LARGE_NUMBER,
@@ -191,7 +191,7 @@ fn differs_patron(
 
 /// `patron`: refusals 21, 17, 20.
 pub(crate) fn enrol<'a>(
-    view: &PatronView,
+    view: &View,
     patron: PatronId,
     kind: PatronKind,
     card_key: &'a CardKey,
@@ -248,7 +248,7 @@ fn differs_copy(row: &Option<CopyRow>, new: &CopyRow) -> bool
 }
 
 /// The rows of a new title and a new copy, each unless it is there.
-fn acquired<'a>(view: &AcquireView, copy: CopyRow, text: &'a Name) -> Changes<'a>
+fn acquired<'a>(view: &View, copy: CopyRow, text: &'a Name) -> Changes<'a>
     ensures { result ≡
         rows_unless view.now.title (PutTitle (record { title = copy.title; text = text.now }) ∷ [])
         ++ rows_unless view.now.copy (PutCopy copy ∷ []) }
@@ -271,7 +271,7 @@ fn acquired<'a>(view: &AcquireView, copy: CopyRow, text: &'a Name) -> Changes<'a
 
 /// `acquire`: refusals 21, 10, 20.
 pub(crate) fn acquire<'a>(
-    view: &AcquireView,
+    view: &View,
     copy: CopyId,
     title: TitleId,
     kind: CopyKind,
@@ -297,7 +297,7 @@ pub(crate) fn acquire<'a>(
     let differs = differs_title(&view.title, text) || differs_copy(&view.copy, &row);
     if let Some(refusal) = first_refusal(&[
         (Refusal::OutOfLimits, !fits),
-        (Refusal::UnknownBranch, view.home.is_none()),
+        (Refusal::UnknownBranch, view.branch.is_none()),
         (Refusal::OtherContent, differs),
     ]) {
         return Err(refusal);

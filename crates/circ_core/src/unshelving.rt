@@ -1,17 +1,19 @@
 //! Unshelving: a ready hold ends, and its copy is routed.
 
-ghost use Rattle.std.specs.Prelude.{◌≡◌, ◌≤◌, [], length};
+ghost use Rattle.std.specs.Prelude.{◌≡◌, ◌≤◌, length};
 ghost use Rattle.terms.specs.declared.row.HoldState.TheVariants.{Cancelled, Expired};
 ghost use Rattle.circ_core.specs.Unshelving.{is_ready_row, limit_in, pickup_branch};
 ghost use Rattle.circ_core.specs.Unshelving.{unshelve_checks, unshelve_cancelled_checks};
-ghost use Rattle.circ_core.specs.Unshelving.{course_unshelved, ended_hold, Unshelves};
+ghost use Rattle.circ_core.specs.Decided.{Decided};
+ghost use Rattle.circ_core.specs.Unshelving.{unshelve_reply, unshelve_rows};
+ghost use Rattle.circ_core.specs.Unshelving.{course_unshelved, ended_hold, next_limit};
 
 use crate::changes::{Changes, Decision, RowChange};
 use crate::checks::first_refusal;
 use crate::lending::finish;
 use crate::routing::{Course, copy_number, home_branch, limit_day, route, told, with_arrival};
-use crate::views::UnshelveView;
-use terms::{BranchId, HoldRow, HoldState, Refusal, Reply};
+use crate::views::View;
+use terms::{BranchId, Day, HoldRow, HoldState, Refusal, Reply};
 
 fn is_on_shelf(hold: &Option<HoldRow>) -> bool
     ensures { result ≡ is_ready_row hold.now }
@@ -23,7 +25,7 @@ fn is_on_shelf(hold: &Option<HoldRow>) -> bool
 }
 
 /// The shelf limit of the hold, as a day number, 0 where it has none.
-fn shelf_limit(hold: &Option<HoldRow>) -> u32
+fn shelf_limit_of(hold: &Option<HoldRow>) -> u32
     ensures { result ≡ limit_in hold.now }
 {
     match hold {
@@ -46,7 +48,7 @@ fn picked_up_at(hold: &Option<HoldRow>) -> BranchId
 }
 
 /// Where the copy goes that leaves the hold shelf.
-fn next_course(view: &UnshelveView) -> Course
+fn next_course(view: &View) -> Course
     ensures { result ≡ course_unshelved view.now }
 {
     route(
@@ -69,51 +71,60 @@ fn end_hold<'a>(hold: &Option<HoldRow>, ends: HoldState) -> Changes<'a>
 }
 
 /// A ready hold ends in the given state, and its copy is routed at the pick-up branch.
-fn take_off<'a>(view: &UnshelveView, ends: HoldState) -> Result<Decision<'a>, Refusal>
-    ensures { Unshelves [] view.now ends result }
+fn take_off<'a>(view: &View, ends: HoldState, course: &Course, until: Day) -> Decision<'a>
+    requires { course.now ≡ course_unshelved view.now }
+    ensures reply { result.reply ≡ unshelve_reply view.now until }
+    ensures rows { result.changes ≡ unshelve_rows view.now ends until }
 {
-    let course = next_course(view);
-    let Some(until) = limit_day(&course, &view.here, view.meta.today) else {
-        return Err(Refusal::PastCalendar);
-    };
-    Ok(Decision {
+    Decision {
         reply: Reply::Moved {
-            routed: told(&course, picked_up_at(&view.hold), until),
+            routed: told(course, picked_up_at(&view.hold), until),
         },
         changes: with_arrival(
             end_hold(&view.hold, ends),
-            &course,
+            course,
             copy_number(&view.copy),
             until,
         ),
-    })
+    }
 }
 
 /// `unshelve`: refusals 15, 53, 54, in this order; 39 where the calendar has no open day left for
 /// the limit of the next hold, which rows that the desk made itself never bring about.
-pub(crate) fn unshelve<'a>(view: &UnshelveView) -> Result<Decision<'a>, Refusal>
-    ensures { Unshelves (unshelve_checks view.now) view.now Expired result }
+pub(crate) fn unshelve<'a>(view: &View) -> Result<Decision<'a>, Refusal>
+    ensures { Decided (unshelve_checks view.now) (unshelve_reply view.now (next_limit view.now))
+        (unshelve_rows view.now Expired (next_limit view.now)) result }
 {
-    let may_be_taken = view.meta.today.number() <= shelf_limit(&view.hold);
+    let course = next_course(view);
+    let limit = limit_day(&course, view);
+    let may_be_taken = view.meta.today.number() <= shelf_limit_of(&view.hold);
     if let Some(refusal) = first_refusal(&[
         (Refusal::UnknownHold, view.hold.is_none()),
         (Refusal::WrongHoldState, !is_on_shelf(&view.hold)),
         (Refusal::LimitNotPassed, may_be_taken),
+        (Refusal::PastCalendar, limit.is_none()),
     ]) {
         return Err(refusal);
     }
-    take_off(view, HoldState::Expired)
+    let until = limit.unwrap_or(view.meta.today);
+    Ok(take_off(view, HoldState::Expired, &course, until))
 }
 
 /// `unshelve-cancelled`: refusals 15, 53; 39 as for `unshelve`.
-pub(crate) fn unshelve_cancelled<'a>(view: &UnshelveView) -> Result<Decision<'a>, Refusal>
-    ensures { Unshelves (unshelve_cancelled_checks view.now) view.now Cancelled result }
+pub(crate) fn unshelve_cancelled<'a>(view: &View) -> Result<Decision<'a>, Refusal>
+    ensures { Decided (unshelve_cancelled_checks view.now)
+        (unshelve_reply view.now (next_limit view.now))
+        (unshelve_rows view.now Cancelled (next_limit view.now)) result }
 {
+    let course = next_course(view);
+    let limit = limit_day(&course, view);
     if let Some(refusal) = first_refusal(&[
         (Refusal::UnknownHold, view.hold.is_none()),
         (Refusal::WrongHoldState, !is_on_shelf(&view.hold)),
+        (Refusal::PastCalendar, limit.is_none()),
     ]) {
         return Err(refusal);
     }
-    take_off(view, HoldState::Cancelled)
+    let until = limit.unwrap_or(view.meta.today);
+    Ok(take_off(view, HoldState::Cancelled, &course, until))
 }

@@ -1,185 +1,83 @@
 //! The rows that a command needs.
 
+ghost use Rattle.circ_core.specs.Views.{IsEmpty};
+
 use calendar::Calendar;
 use terms::{
-    BranchRow, CopyRow, Count, HoldRow, KindRow, LoanRow, MetaRow, PatronRow, RuleRow, TitleRow,
-    TransitRow,
+    BranchRow, CopyRow, Count, Day, HoldId, HoldRow, KindRow, LineId, LoanId, LoanRow, MetaRow,
+    PatronRow, RuleRow, TitleRow, TransitRow,
 };
 
-/// For `patron`: the kind that it names, and the patron.
+/// The rows that a command needs: two calendars, twelve rows and three counts at most, and never a
+/// whole line of holds. A row that the command does not need is not there, and a count that it does
+/// not need is 0.
 #[derive(Drop)]
-pub struct PatronView {
-    pub kind: Option<KindRow>,
-    pub patron: Option<PatronRow>,
-}
-
-/// For `acquire`: the home branch, the title and the copy.
-#[derive(Drop)]
-pub struct AcquireView {
-    pub home: Option<BranchRow>,
-    pub title: Option<TitleRow>,
-    pub copy: Option<CopyRow>,
-}
-
-/// For `close-day` and `open-day`.
-#[derive(Drop)]
-pub struct ClosedDayView {
+pub struct View {
+    /// Today and the next numbers.
     pub meta: MetaRow,
-    /// The calendar of the branch, if there is the branch.
+    /// The branch that is named: where a copy is lent, handed in or acquired, or a hold is picked
+    /// up.
+    pub branch: Option<BranchRow>,
+    /// The calendar of that branch.
     pub calendar: Option<Calendar>,
-}
-
-/// For `pay` and `waive`.
-#[derive(Drop)]
-pub struct AccountView {
-    pub meta: MetaRow,
-    pub patron: Option<PatronRow>,
-}
-
-/// A copy, and the rows that claim it: its open loan, its transit, and the ready hold that names
-/// it.
-#[derive(Clone, Copy, Debug, PartialEq, Eq)]
-pub struct CopyView {
-    pub copy: Option<CopyRow>,
-    pub loan: Option<LoanRow>,
-    pub transit: Option<TransitRow>,
-    pub hold: Option<HoldRow>,
-}
-
-/// For `check-out`.
-#[derive(Drop)]
-pub struct CheckOutView {
-    pub meta: MetaRow,
-    /// The calendar of the lending branch, if there is the branch.
-    pub calendar: Option<Calendar>,
-    pub patron: Option<PatronRow>,
-    /// The patron's kind as it is now.
+    /// The kind of patron that is named, or the patron's kind as it is now.
     pub kind: Option<KindRow>,
     /// The rule for the patron's kind and the copy's.
     pub rule: Option<RuleRow>,
-    pub at: CopyView,
-    /// The first hold in line for the copy's title.
-    pub first: Option<HoldRow>,
-    /// How many loans of the patron are open.
-    pub open_loans: Count,
-    /// How many active holds the patron has on the copy's title.
-    pub own_holds: Count,
-}
-
-/// For `renew`.
-#[derive(Drop)]
-pub struct RenewView {
-    pub meta: MetaRow,
-    pub loan: Option<LoanRow>,
-    /// The copy that is lent.
-    pub copy: Option<CopyRow>,
-    /// The first hold in line for the copy's title.
-    pub first: Option<HoldRow>,
-    /// The borrower.
+    /// The patron who is named, or the borrower of the loan.
     pub patron: Option<PatronRow>,
-    /// The borrower's kind as it is now.
-    pub kind: Option<KindRow>,
-    /// The calendar of the lending branch.
-    pub calendar: Option<Calendar>,
-}
-
-/// For `place-hold`.
-#[derive(Drop)]
-pub struct PlaceHoldView {
-    pub meta: MetaRow,
-    pub patron: Option<PatronRow>,
-    /// The patron's kind as it is now.
-    pub kind: Option<KindRow>,
     pub title: Option<TitleRow>,
-    /// The pick-up branch.
-    pub branch: Option<BranchRow>,
-    /// How many active holds the patron has on the title.
-    pub own_holds: Count,
-    /// An open loan of the patron of a copy of the title, if there is one.
+    /// The copy that is named, or that of the loan or the hold.
+    pub copy: Option<CopyRow>,
+    /// The loan that is named, or the open loan of the copy.
     pub loan: Option<LoanRow>,
-    /// How many active holds the patron has.
-    pub active_holds: Count,
-}
-
-/// For `cancel-hold`.
-#[derive(Clone, Copy, Debug, PartialEq, Eq)]
-pub struct CancelHoldView {
-    pub hold: Option<HoldRow>,
-    /// The travel of a copy for the hold.
+    /// The calendar of the branch that made the loan.
+    pub lender: Option<Calendar>,
+    /// The travel of the copy, or the one for the hold.
     pub transit: Option<TransitRow>,
-}
-
-/// A branch where a copy is handed in, with its calendar.
-#[derive(Drop)]
-pub struct BranchView {
-    pub branch: Option<BranchRow>,
-    pub calendar: Option<Calendar>,
-}
-
-/// What the end of a copy's loan needs: the calendar of the branch that lent it, and the borrower.
-/// Both are missing where the copy is not on loan.
-#[derive(Drop)]
-pub struct LenderView {
-    pub calendar: Option<Calendar>,
-    pub patron: Option<PatronRow>,
-}
-
-/// For `check-in`.
-#[derive(Drop)]
-pub struct CheckInView {
-    pub meta: MetaRow,
-    pub here: BranchView,
-    pub at: CopyView,
-    pub lender: LenderView,
+    /// The hold that is named, or the one on whose shelf the copy stands.
+    pub hold: Option<HoldRow>,
     /// The hold that the copy travels for.
     pub coming: Option<HoldRow>,
     /// The first hold in line for the copy's title.
     pub first: Option<HoldRow>,
+    /// How many loans of the patron are open.
+    pub open_loans: Count,
+    /// How many active holds the patron has on the title.
+    pub own_holds: Count,
+    /// How many active holds the patron has.
+    pub active_holds: Count,
 }
 
-/// For `unshelve` and `unshelve-cancelled`.
-#[derive(Drop)]
-pub struct UnshelveView {
-    pub meta: MetaRow,
-    pub hold: Option<HoldRow>,
-    /// The copy that the hold names.
-    pub copy: Option<CopyRow>,
-    /// The pick-up branch of the hold.
-    pub here: BranchView,
-    /// The first hold in line for the copy's title.
-    pub first: Option<HoldRow>,
-}
-
-/// For `missing`.
-#[derive(Drop)]
-pub struct MissingView {
-    pub meta: MetaRow,
-    pub at: CopyView,
-    pub lender: LenderView,
-}
-
-/// The rows that a command needs, and no others: never a whole line of holds.
-#[derive(Drop)]
-pub enum View {
-    BeginDay(MetaRow),
-    Branch(Option<BranchRow>),
-    Week(Option<BranchRow>),
-    Kind,
-    Rule(Option<KindRow>),
-    Patron(PatronView),
-    Acquire(AcquireView),
-    CheckOut(CheckOutView),
-    CheckIn(CheckInView),
-    Renew(RenewView),
-    PlaceHold(PlaceHoldView),
-    CancelHold(CancelHoldView),
-    Unshelve(UnshelveView),
-    UnshelveCancelled(UnshelveView),
-    Missing(MissingView),
-    Withdraw(CopyView),
-    CloseDay(ClosedDayView),
-    OpenDay(ClosedDayView),
-    Pay(AccountView),
-    Waive(AccountView),
-    Page(Option<PatronRow>),
+impl View {
+    /// A view of no row, whose numbers are 0 and whose day is the calendar's first.
+    pub fn empty() -> View
+        ensures { IsEmpty result }
+    {
+        View {
+            meta: MetaRow {
+                schema: 0,
+                today: Day::FIRST,
+                next_loan: LoanId::new(0),
+                next_hold: HoldId::new(0),
+                next_line: LineId::new(0),
+            },
+            branch: None,
+            calendar: None,
+            kind: None,
+            rule: None,
+            patron: None,
+            title: None,
+            copy: None,
+            loan: None,
+            lender: None,
+            transit: None,
+            hold: None,
+            coming: None,
+            first: None,
+            open_loans: Count::new(0),
+            own_holds: Count::new(0),
+            active_holds: Count::new(0),
+        }
+    }
 }

@@ -14,10 +14,7 @@ ghost use Rattle.circ_core.specs.Views.{borrower_in, named_copy_in, coming_in};
 ghost use Rattle.circ_tables.specs.Reading.{Views};
 
 use calendar::{Calendar, CloseError, Day, Weekdays};
-use circ_core::{
-    AccountView, AcquireView, BranchView, CancelHoldView, CheckInView, CheckOutView, ClosedDayView,
-    CopyView, LenderView, MissingView, PatronView, PlaceHoldView, RenewView, UnshelveView, View,
-};
+use circ_core::View;
 use circ_tables::{
     closed_days_of, count_active_holds, count_active_holds_on, count_open_loans, first_in_line,
     get_branch, get_copy, get_hold, get_kind, get_loan, get_meta, get_patron, get_rule, get_title,
@@ -84,12 +81,16 @@ fn branch_view<S: Alter>(
     conn: &mut Connection<S>,
     alloc: Global,
     number: BranchId,
-) -> Result<BranchView, Fault>
-    ensures { Views (λ P rows. IsBranchView P number rows) S.Store conn.old conn.new result }
+) -> Result<View, Fault>
+    ensures { Views (λ P rows. IsBranchView P number rows.branch rows.calendar) S.Store conn.old conn.new result }
 {
     let branch = get_branch(conn, alloc, number)?;
     let calendar = calendar_from(conn, alloc, number, &branch)?;
-    Ok(BranchView { branch, calendar })
+    Ok(View {
+        branch,
+        calendar,
+        ..View::empty()
+    })
 }
 
 /// The calendar of the branch that made the loan.
@@ -112,15 +113,12 @@ fn pickup_view<S: Alter>(
     conn: &mut Connection<S>,
     alloc: Global,
     hold: &Option<HoldRow>,
-) -> Result<BranchView, Fault>
-    ensures { Views (λ P rows. IsPickupView P hold.now rows) S.Store conn.old conn.new result }
+) -> Result<View, Fault>
+    ensures { Views (λ P rows. IsPickupView P hold.now rows.branch rows.calendar) S.Store conn.old conn.new result }
 {
     match hold {
         Some(row) => branch_view(conn, alloc, row.branch),
-        None => Ok(BranchView {
-            branch: None,
-            calendar: None,
-        }),
+        None => Ok(View::empty()),
     }
 }
 
@@ -263,18 +261,19 @@ fn coming_hold<S: Alter>(
 }
 
 /// A copy, and the rows that claim it.
-fn copy_view<S: Alter>(conn: &mut Connection<S>, number: CopyId) -> Result<CopyView, Fault>
+fn copy_view<S: Alter>(conn: &mut Connection<S>, number: CopyId) -> Result<View, Fault>
     ensures { Views (λ P rows. IsCopyView P number rows) S.Store conn.old conn.new result }
 {
     let copy = get_copy(conn, number)?;
     let loan = open_loan_of(conn, number)?;
     let transit = get_transit(conn, number)?;
     let hold = ready_hold_of(conn, number)?;
-    Ok(CopyView {
+    Ok(View {
         copy,
         loan,
         transit,
         hold,
+        ..View::empty()
     })
 }
 
@@ -283,12 +282,16 @@ fn lender_view<S: Alter>(
     conn: &mut Connection<S>,
     alloc: Global,
     loan: &Option<LoanRow>,
-) -> Result<LenderView, Fault>
+) -> Result<View, Fault>
     ensures { Views (λ P rows. IsLenderView P loan.now rows) S.Store conn.old conn.new result }
 {
-    let calendar = lender_calendar(conn, alloc, loan)?;
+    let lender = lender_calendar(conn, alloc, loan)?;
     let patron = borrower_of(conn, alloc, loan)?;
-    Ok(LenderView { calendar, patron })
+    Ok(View {
+        lender,
+        patron,
+        ..View::empty()
+    })
 }
 
 fn patron_view<S: Alter>(
@@ -296,12 +299,16 @@ fn patron_view<S: Alter>(
     alloc: Global,
     number: PatronId,
     kind: PatronKind,
-) -> Result<PatronView, Fault>
+) -> Result<View, Fault>
     ensures { Views (λ P rows. IsPatronView P number kind rows) S.Store conn.old conn.new result }
 {
     let kind = get_kind(conn, kind)?;
     let patron = get_patron(conn, alloc, number)?;
-    Ok(PatronView { kind, patron })
+    Ok(View {
+        kind,
+        patron,
+        ..View::empty()
+    })
 }
 
 fn acquire_view<S: Alter>(
@@ -309,50 +316,67 @@ fn acquire_view<S: Alter>(
     alloc: Global,
     number: CopyId,
     of: TitleId,
-    branch: BranchId,
-) -> Result<AcquireView, Fault>
-    ensures { Views (λ P rows. IsAcquireView P number of branch rows)
+    home: BranchId,
+) -> Result<View, Fault>
+    ensures { Views (λ P rows. IsAcquireView P number of home rows)
         S.Store conn.old conn.new result }
 {
-    let home = get_branch(conn, alloc, branch)?;
+    let branch = get_branch(conn, alloc, home)?;
     let title = get_title(conn, alloc, of)?;
     let copy = get_copy(conn, number)?;
-    Ok(AcquireView { home, title, copy })
+    Ok(View {
+        branch,
+        title,
+        copy,
+        ..View::empty()
+    })
 }
 
 fn closed_day_view<S: Alter>(
     conn: &mut Connection<S>,
     alloc: Global,
     branch: BranchId,
-) -> Result<ClosedDayView, Fault>
+) -> Result<View, Fault>
     ensures { Views (λ P rows. IsClosedDayView P branch rows) S.Store conn.old conn.new result }
 {
     let meta = get_meta(conn)?;
     let calendar = calendar_of(conn, alloc, branch)?;
-    Ok(ClosedDayView { meta, calendar })
+    Ok(View {
+        meta,
+        calendar,
+        ..View::empty()
+    })
 }
 
 fn account_view<S: Alter>(
     conn: &mut Connection<S>,
     alloc: Global,
     number: PatronId,
-) -> Result<AccountView, Fault>
+) -> Result<View, Fault>
     ensures { Views (λ P rows. IsAccountView P number rows) S.Store conn.old conn.new result }
 {
     let meta = get_meta(conn)?;
     let patron = get_patron(conn, alloc, number)?;
-    Ok(AccountView { meta, patron })
+    Ok(View {
+        meta,
+        patron,
+        ..View::empty()
+    })
 }
 
 fn cancel_hold_view<S: Alter>(
     conn: &mut Connection<S>,
     number: HoldId,
-) -> Result<CancelHoldView, Fault>
+) -> Result<View, Fault>
     ensures { Views (λ P rows. IsCancelHoldView P number rows) S.Store conn.old conn.new result }
 {
     let hold = get_hold(conn, number)?;
     let transit = transit_for(conn, number)?;
-    Ok(CancelHoldView { hold, transit })
+    Ok(View {
+        hold,
+        transit,
+        ..View::empty()
+    })
 }
 
 fn check_out_view<S: Alter>(
@@ -361,7 +385,7 @@ fn check_out_view<S: Alter>(
     number: PatronId,
     copy: CopyId,
     branch: BranchId,
-) -> Result<CheckOutView, Fault>
+) -> Result<View, Fault>
     ensures { Views (λ P rows. IsCheckOutView P number copy branch rows)
         S.Store conn.old conn.new result }
 {
@@ -374,16 +398,16 @@ fn check_out_view<S: Alter>(
     let first = first_for(conn, &at.copy)?;
     let open_loans = count_open_loans(conn, number)?;
     let own_holds = holds_for(conn, number, &at.copy)?;
-    Ok(CheckOutView {
+    Ok(View {
         meta,
         calendar,
         patron,
         kind,
         rule,
-        at,
         first,
         open_loans,
         own_holds,
+        ..at
     })
 }
 
@@ -391,7 +415,7 @@ fn renew_view<S: Alter>(
     conn: &mut Connection<S>,
     alloc: Global,
     number: LoanId,
-) -> Result<RenewView, Fault>
+) -> Result<View, Fault>
     ensures { Views (λ P rows. IsRenewView P number rows) S.Store conn.old conn.new result }
 {
     let meta = get_meta(conn)?;
@@ -400,15 +424,16 @@ fn renew_view<S: Alter>(
     let first = first_for(conn, &copy)?;
     let patron = borrower_of(conn, alloc, &loan)?;
     let kind = kind_of(conn, &patron)?;
-    let calendar = lender_calendar(conn, alloc, &loan)?;
-    Ok(RenewView {
+    let lender = lender_calendar(conn, alloc, &loan)?;
+    Ok(View {
         meta,
         loan,
         copy,
         first,
         patron,
         kind,
-        calendar,
+        lender,
+        ..View::empty()
     })
 }
 
@@ -418,7 +443,7 @@ fn place_hold_view<S: Alter>(
     number: PatronId,
     wanted: TitleId,
     pickup: BranchId,
-) -> Result<PlaceHoldView, Fault>
+) -> Result<View, Fault>
     ensures { Views (λ P rows. IsPlaceHoldView P number wanted pickup rows)
         S.Store conn.old conn.new result }
 {
@@ -430,7 +455,7 @@ fn place_hold_view<S: Alter>(
     let own_holds = count_active_holds_on(conn, number, wanted)?;
     let loan = open_loan_of_title(conn, number, wanted)?;
     let active_holds = count_active_holds(conn, number)?;
-    Ok(PlaceHoldView {
+    Ok(View {
         meta,
         patron,
         kind,
@@ -439,6 +464,7 @@ fn place_hold_view<S: Alter>(
         own_holds,
         loan,
         active_holds,
+        ..View::empty()
     })
 }
 
@@ -447,22 +473,24 @@ fn check_in_view<S: Alter>(
     alloc: Global,
     copy: CopyId,
     branch: BranchId,
-) -> Result<CheckInView, Fault>
+) -> Result<View, Fault>
     ensures { Views (λ P rows. IsCheckInView P copy branch rows) S.Store conn.old conn.new result }
 {
     let meta = get_meta(conn)?;
     let here = branch_view(conn, alloc, branch)?;
     let at = copy_view(conn, copy)?;
-    let lender = lender_view(conn, alloc, &at.loan)?;
+    let end = lender_view(conn, alloc, &at.loan)?;
     let coming = coming_hold(conn, &at.transit)?;
     let first = first_for(conn, &at.copy)?;
-    Ok(CheckInView {
+    Ok(View {
         meta,
-        here,
-        at,
-        lender,
+        branch: here.branch,
+        calendar: here.calendar,
+        lender: end.lender,
+        patron: end.patron,
         coming,
         first,
+        ..at
     })
 }
 
@@ -470,7 +498,7 @@ fn unshelve_view<S: Alter>(
     conn: &mut Connection<S>,
     alloc: Global,
     number: HoldId,
-) -> Result<UnshelveView, Fault>
+) -> Result<View, Fault>
     ensures { Views (λ P rows. IsUnshelveView P number rows) S.Store conn.old conn.new result }
 {
     let meta = get_meta(conn)?;
@@ -478,12 +506,12 @@ fn unshelve_view<S: Alter>(
     let copy = named_copy(conn, &hold)?;
     let here = pickup_view(conn, alloc, &hold)?;
     let first = first_for(conn, &copy)?;
-    Ok(UnshelveView {
+    Ok(View {
         meta,
         hold,
         copy,
-        here,
         first,
+        ..here
     })
 }
 
@@ -491,13 +519,70 @@ fn missing_view<S: Alter>(
     conn: &mut Connection<S>,
     alloc: Global,
     copy: CopyId,
-) -> Result<MissingView, Fault>
+) -> Result<View, Fault>
     ensures { Views (λ P rows. IsMissingView P copy rows) S.Store conn.old conn.new result }
 {
     let meta = get_meta(conn)?;
     let at = copy_view(conn, copy)?;
-    let lender = lender_view(conn, alloc, &at.loan)?;
-    Ok(MissingView { meta, at, lender })
+    let end = lender_view(conn, alloc, &at.loan)?;
+    Ok(View {
+        meta,
+        lender: end.lender,
+        patron: end.patron,
+        ..at
+    })
+}
+
+/// Today and the next numbers.
+fn meta_view<S: Alter>(conn: &mut Connection<S>) -> Result<View, Fault>
+    ensures { Views (λ P rows. rows.meta ≡ P.meta) S.Store conn.old conn.new result }
+{
+    let meta = get_meta(conn)?;
+    Ok(View {
+        meta,
+        ..View::empty()
+    })
+}
+
+/// The row of a branch alone.
+fn branch_row_view<S: Alter>(
+    conn: &mut Connection<S>,
+    alloc: Global,
+    number: BranchId,
+) -> Result<View, Fault>
+    ensures { Views (λ P rows. rows.branch ≡ P.branches number) S.Store conn.old conn.new result }
+{
+    let branch = get_branch(conn, alloc, number)?;
+    Ok(View {
+        branch,
+        ..View::empty()
+    })
+}
+
+/// The row of a kind of patron alone.
+fn kind_view<S: Alter>(conn: &mut Connection<S>, number: PatronKind) -> Result<View, Fault>
+    ensures { Views (λ P rows. rows.kind ≡ P.kinds number) S.Store conn.old conn.new result }
+{
+    let kind = get_kind(conn, number)?;
+    Ok(View {
+        kind,
+        ..View::empty()
+    })
+}
+
+/// The row of a patron alone.
+fn page_view<S: Alter>(
+    conn: &mut Connection<S>,
+    alloc: Global,
+    number: PatronId,
+) -> Result<View, Fault>
+    ensures { Views (λ P rows. rows.patron ≡ P.patrons number) S.Store conn.old conn.new result }
+{
+    let patron = get_patron(conn, alloc, number)?;
+    Ok(View {
+        patron,
+        ..View::empty()
+    })
 }
 
 /// The rows that the command needs, and no others.
@@ -509,49 +594,36 @@ pub(crate) fn view_for<S: Alter>(
     ensures { Views (λ P view. IsViewOf P command.now view) S.Store conn.old conn.new result }
 {
     match command {
-        Command::BeginDay { .. } => Ok(View::BeginDay(get_meta(conn)?)),
-        Command::Branch { branch, .. } => Ok(View::Branch(get_branch(conn, alloc, *branch)?)),
-        Command::Week { branch, .. } => Ok(View::Week(get_branch(conn, alloc, *branch)?)),
-        Command::CloseDay { branch, .. } => Ok(View::CloseDay(closed_day_view(
-            conn, alloc, *branch,
-        )?)),
-        Command::OpenDay { branch, .. } => Ok(View::OpenDay(closed_day_view(
-            conn, alloc, *branch,
-        )?)),
-        Command::Kind { .. } => Ok(View::Kind),
-        Command::Rule { kind, .. } => Ok(View::Rule(get_kind(conn, *kind)?)),
-        Command::Patron { patron, kind, .. } => Ok(View::Patron(patron_view(
-            conn, alloc, *patron, *kind,
-        )?)),
+        Command::BeginDay { .. } => meta_view(conn),
+        Command::Branch { branch, .. } => branch_row_view(conn, alloc, *branch),
+        Command::Week { branch, .. } => branch_row_view(conn, alloc, *branch),
+        Command::CloseDay { branch, .. } => closed_day_view(conn, alloc, *branch),
+        Command::OpenDay { branch, .. } => closed_day_view(conn, alloc, *branch),
+        Command::Kind { .. } => Ok(View::empty()),
+        Command::Rule { kind, .. } => kind_view(conn, *kind),
+        Command::Patron { patron, kind, .. } => patron_view(conn, alloc, *patron, *kind),
         Command::Acquire {
-            copy,
-            title,
-            home,
-            ..
-        } => Ok(View::Acquire(acquire_view(conn, alloc, *copy, *title, *home)?)),
+            copy, title, home, ..
+        } => acquire_view(conn, alloc, *copy, *title, *home),
         Command::CheckOut {
             patron,
             copy,
             branch,
-        } => Ok(View::CheckOut(check_out_view(conn, alloc, *patron, *copy, *branch)?)),
-        Command::CheckIn { copy, branch } => Ok(View::CheckIn(check_in_view(
-            conn, alloc, *copy, *branch,
-        )?)),
-        Command::Renew { loan } => Ok(View::Renew(renew_view(conn, alloc, *loan)?)),
+        } => check_out_view(conn, alloc, *patron, *copy, *branch),
+        Command::CheckIn { copy, branch } => check_in_view(conn, alloc, *copy, *branch),
+        Command::Renew { loan } => renew_view(conn, alloc, *loan),
         Command::PlaceHold {
             patron,
             title,
             branch,
-        } => Ok(View::PlaceHold(place_hold_view(conn, alloc, *patron, *title, *branch)?)),
-        Command::CancelHold { hold } => Ok(View::CancelHold(cancel_hold_view(conn, *hold)?)),
-        Command::Unshelve { hold } => Ok(View::Unshelve(unshelve_view(conn, alloc, *hold)?)),
-        Command::UnshelveCancelled { hold } => Ok(View::UnshelveCancelled(unshelve_view(
-            conn, alloc, *hold,
-        )?)),
-        Command::Missing { copy } => Ok(View::Missing(missing_view(conn, alloc, *copy)?)),
-        Command::Withdraw { copy } => Ok(View::Withdraw(copy_view(conn, *copy)?)),
-        Command::Pay { patron, .. } => Ok(View::Pay(account_view(conn, alloc, *patron)?)),
-        Command::Waive { patron, .. } => Ok(View::Waive(account_view(conn, alloc, *patron)?)),
-        Command::Page { patron } => Ok(View::Page(get_patron(conn, alloc, *patron)?)),
+        } => place_hold_view(conn, alloc, *patron, *title, *branch),
+        Command::CancelHold { hold } => cancel_hold_view(conn, *hold),
+        Command::Unshelve { hold } => unshelve_view(conn, alloc, *hold),
+        Command::UnshelveCancelled { hold } => unshelve_view(conn, alloc, *hold),
+        Command::Missing { copy } => missing_view(conn, alloc, *copy),
+        Command::Withdraw { copy } => copy_view(conn, *copy),
+        Command::Pay { patron, .. } => account_view(conn, alloc, *patron),
+        Command::Waive { patron, .. } => account_view(conn, alloc, *patron),
+        Command::Page { patron } => page_view(conn, alloc, *patron),
     }
 }

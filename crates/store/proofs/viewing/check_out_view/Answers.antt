@@ -28,4 +28,4 @@ returns-in_err-own_holds g c = fails _ _ c.from_residual-in_err-own_holds.ensure
 pub returns : goal.returns
 returns g c =
     gives (c.in_ok-meta.ensures.view ⨾ c.in_ok-calendar.ensures ⨾ c.in_ok-patron.ensures.view ⨾ c.in_ok-kind.ensures ⨾ c.in_ok-at.ensures ⨾ c.in_ok-rule.ensures ⨾ c.in_ok-first.ensures ⨾ (open_loans_seen c.in_ok-open_loans.ensures) ⨾ c.in_ok-own_holds.ensures)
-    (λ P all. record { meta = all.0; calendar = all.1.0.0; patron = all.1.1.0; kind = all.1.1.1.0; at = all.1.1.1.1.0; rule = all.1.1.1.1.1.0; first = all.1.1.1.1.1.1.0; open_loans = all.1.1.1.1.1.1.1.0; own_holds = all.1.1.1.1.1.1.1.1 })
+    (λ P all. record { meta = all.0; calendar = all.1.0.0; patron = all.1.1.0; kind = all.1.1.1.0; at = record { copy = all.1.1.1.1.0.copy; loan = all.1.1.1.1.0.loan; transit = all.1.1.1.1.0.transit; hold = all.1.1.1.1.0.hold }; rule = all.1.1.1.1.1.0; first = all.1.1.1.1.1.1.0; open_loans = all.1.1.1.1.1.1.1.0; own_holds = all.1.1.1.1.1.1.1.1 })

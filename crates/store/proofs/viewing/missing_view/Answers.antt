@@ -4,10 +4,10 @@ use Rattle.store.proofs.viewing.missing_view.Goals as goal
 pub returns-in_err-at : goal.returns-in_err-at
 returns-in_err-at g c = fails _ _ c.from_residual-in_err-at.ensures (c.in_ok-meta.ensures.view ⨾ c.in_err-at.ensures)
 
-pub returns-in_err-lender : goal.returns-in_err-lender
-returns-in_err-lender g c = fails _ _ c.from_residual-in_err-lender.ensures (c.in_ok-meta.ensures.view ⨾ c.in_ok-at.ensures ⨾ c.in_err-lender.ensures)
+pub returns-in_err-end : goal.returns-in_err-end
+returns-in_err-end g c = fails _ _ c.from_residual-in_err-end.ensures (c.in_ok-meta.ensures.view ⨾ c.in_ok-at.ensures ⨾ c.in_err-end.ensures)
 
 pub returns : goal.returns
 returns g c =
-    gives (c.in_ok-meta.ensures.view ⨾ c.in_ok-at.ensures ⨾ c.in_ok-lender.ensures)
-    (λ P all. record { meta = all.0; at = all.1.0; lender = all.1.1 })
+    gives (c.in_ok-meta.ensures.view ⨾ c.in_ok-at.ensures ⨾ c.in_ok-end.ensures)
+    (λ P all. record { meta = all.0; at = record { copy = all.1.0.copy; loan = all.1.0.loan; transit = all.1.0.transit; hold = all.1.0.hold }; lender = record { calendar = all.1.1.calendar; patron = all.1.1.patron } })
