@@ -1,4 +1,3 @@
-pub mod Slots
 pub mod Tables
 pub mod Views
 pub mod Decided

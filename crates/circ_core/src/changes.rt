@@ -2,9 +2,9 @@
 
 ghost use Rattle.std.specs.Prelude.{◌≡◌, List, [], ◌∷◌, ◌++◌, ◌≤◌, length, slice_get};
 ghost use Rattle.std.specs.Option.{option_copied};
-ghost use Rattle.circ_core.specs.Slots.{filled, IsPacked};
 ghost use Rattle.circ_core.specs.declared.changes.RowChange.{RowChange};
 
+use arrayvec::ArrayVec;
 use std::marker::Model;
 use terms::{
     BranchId, BranchPut, CopyId, CopyRow, Day, HoldRow, KindRow, LineRow, LoanRow, MetaRow,
@@ -30,24 +30,23 @@ pub enum RowChange<'a> {
     PutLine(LineRow),
 }
 
+/// What a place holds that no change fills.
+impl<'a> Default for RowChange<'a> {
+    fn default() -> Self {
+        RowChange::TakeTransit(CopyId::new(0))
+    }
+}
+
 /// The changes of one command, in order: at most six.
 #[derive(Drop)]
 pub struct Changes<'a> {
-    first: Option<RowChange<'a>>,
-    second: Option<RowChange<'a>>,
-    third: Option<RowChange<'a>>,
-    fourth: Option<RowChange<'a>>,
-    fifth: Option<RowChange<'a>>,
-    sixth: Option<RowChange<'a>>,
+    rows: ArrayVec<RowChange<'a>, 6>,
 }
 
 impl<'a> Model for Changes<'a> {
     ghost Value = { List RowChange };
 
-    ghost view = { λ c. filled (c.first ∷ c.second ∷ c.third ∷ c.fourth ∷ c.fifth ∷ c.sixth ∷ []) };
-
-    ghost invariant = { λ c. IsPacked
-        (c.first ∷ c.second ∷ c.third ∷ c.fourth ∷ c.fifth ∷ c.sixth ∷ []) };
+    ghost view = { λ c. c.rows.items };
 }
 
 impl<'a> Changes<'a> {
@@ -59,12 +58,7 @@ impl<'a> Changes<'a> {
         ensures { result ≡ [] }
     {
         Changes {
-            first: None,
-            second: None,
-            third: None,
-            fourth: None,
-            fifth: None,
-            sixth: None,
+            rows: ArrayVec::new(),
         }
     }
 
@@ -72,42 +66,21 @@ impl<'a> Changes<'a> {
     pub fn one(first: RowChange<'a>) -> Self
         ensures { result ≡ first.entry ∷ [] }
     {
-        Changes {
-            first: Some(first),
-            second: None,
-            third: None,
-            fourth: None,
-            fifth: None,
-            sixth: None,
-        }
+        Changes::none().with(first)
     }
 
     /// Two changes.
     pub fn two(first: RowChange<'a>, second: RowChange<'a>) -> Self
         ensures { result ≡ first.entry ∷ second.entry ∷ [] }
     {
-        Changes {
-            first: Some(first),
-            second: Some(second),
-            third: None,
-            fourth: None,
-            fifth: None,
-            sixth: None,
-        }
+        Changes::one(first).with(second)
     }
 
     /// Three changes.
     pub fn three(first: RowChange<'a>, second: RowChange<'a>, third: RowChange<'a>) -> Self
         ensures { result ≡ first.entry ∷ second.entry ∷ third.entry ∷ [] }
     {
-        Changes {
-            first: Some(first),
-            second: Some(second),
-            third: Some(third),
-            fourth: None,
-            fifth: None,
-            sixth: None,
-        }
+        Changes::two(first, second).with(third)
     }
 
     /// The changes with one more at the end, of at most six.
@@ -115,21 +88,9 @@ impl<'a> Changes<'a> {
         requires { length self ≤ 5 }
         ensures { result ≡ self.entry ++ change.entry ∷ [] }
     {
-        let mut changes = self;
-        if changes.first.is_none() {
-            changes.first = Some(change);
-        } else if changes.second.is_none() {
-            changes.second = Some(change);
-        } else if changes.third.is_none() {
-            changes.third = Some(change);
-        } else if changes.fourth.is_none() {
-            changes.fourth = Some(change);
-        } else if changes.fifth.is_none() {
-            changes.fifth = Some(change);
-        } else {
-            changes.sixth = Some(change);
-        }
-        changes
+        let Changes { mut rows } = self;
+        rows.push(change);
+        Changes { rows }
     }
 
     /// The change at a place below `PLACES`, if that place is filled.
@@ -137,15 +98,8 @@ impl<'a> Changes<'a> {
         ensures value { option_copied result ≡ slice_get self.now place }
         ensures few { length self.now ≤ 6 }
     {
-        match place {
-            0 => self.first.as_ref(),
-            1 => self.second.as_ref(),
-            2 => self.third.as_ref(),
-            3 => self.fourth.as_ref(),
-            4 => self.fifth.as_ref(),
-            5 => self.sixth.as_ref(),
-            _ => None,
-        }
+        let rows = self.rows.as_slice();
+        rows.get(place)
     }
 }
 
