@@ -1,5 +1,5 @@
 -- What is told of a report, by what the desk answered.
-use Rattle.std.proofs.Common.{◌≡◌, ℕ, List, Option, None, inl, inr, refl, sym, subst}
+use Rattle.std.proofs.Common.{◌≡◌, ℕ, List, Option, inl, inr, refl, sym, subst}
 use Rattle.std.specs.Prelude.{Result, Ok, Err, OnOk, OnErr, IfOk, IsTrue}
 use Rattle.std.specs.Io.KnownBytes.{Appends, Keeps}
 use Rattle.store.specs.Library.{Ghosts, Held, state, HasCleanDisk}
@@ -12,14 +12,13 @@ use Rattle.terms.specs.declared.reply.Reply.TheVariants.{Refused as Denied}
 use Rattle.model.specs.History.{History}
 use Rattle.model.specs.Picture.{picture}
 use Rattle.desk.specs.Answering.{Shows, Stays}
-use Rattle.desk.specs.Written.{HasBranch, WritesReport}
-use Rattle.desk.specs.declared.reporting.ReportFault.{ReportFault}
-use Rattle.circ.specs.declared.arguments.Report.{Report}
+use Rattle.desk.specs.Reports.{report_text, IsThere, IsUnknown}
+use Rattle.desk.specs.declared.reports.Report.{Report}
 use Rattle.circ.specs.declared.lines.Exit.{Exit}
 use Rattle.circ.specs.declared.lines.Exit.TheVariants.{Done, Refused, Faulted}
 use Rattle.circ.specs.Lines.{reply_line, fault_line}
 use Rattle.terms.proofs.Fronts.{after-nothing, front-after-nothing}
-use Rattle.circ.specs.Reporting.{report_text, IsThere, IsUnknown, TellsOf, WritesAnyReport}
+use Rattle.circ.specs.Reporting.{TellsOf}
 
 module _ {S : Type 0} (g : Ghosts S) (old new : Held S) (report : Report) (WentOut : List ℕ → Type 0) where
   pub tells-report : (HasCleanDisk (state g new) → (H : History) → Shows (state g old) H → IsThere H report × WentOut (report_text H report) × Shows (state g new) H)
@@ -34,25 +33,6 @@ module _ {S : Type 0} (g : Ghosts S) (old new : Held S) (report : Report) (WentO
   pub tells-fault : (fault : Fault) → (HasCleanDisk (state g new) → fault ≡ Stored → (H : History) → Shows (state g old) H → ⊥)
       → (HasCleanDisk (state g new) → IsTrue (state g new).is_open → Stays (state g old) (state g new)) → WentOut (fault_line fault) → TellsOf report g old new WentOut Faulted
   tells-fault fault sound undone line = inr (inr (record { fault = fault; exit_is = refl; line = line; sound = sound; undone = undone }))
-
--- A report of a branch, told as the report that was asked for.
-pub of-branch : {S T : Type 0} {g : Ghosts S} {old new : Held S} {a b : Option (List ℕ)} {r : Result T ReportFault} (report : Report) (text : History → List ℕ) (branch : ℕ)
-    → ((H : History) → HasBranch H branch → IsThere H report) → ((H : History) → text H ≡ report_text H report) → ((H : History) → (picture H).branches branch ≡ None → IsUnknown H report)
-    → WritesReport text branch g old new a b r → WritesAnyReport report g old new a b r
-of-branch {T = T} {g = g} {old = old} {a = a} {b = b} {r = r} report text branch there same unknown wrote = record {
-  written = λ disk. go r (wrote.known disk) (wrote.written disk);
-  refused = wrote.refused;
-  unknown = λ disk refusal e H shows. let none = wrote.unknown disk refusal e H shows in (unknown H none.0, none.1);
-  silent = wrote.silent;
-  sound = wrote.sound;
-  cut = λ disk e H shows. let was = wrote.cut disk e H shows in (there H was.0, subst (AppendsFront a b) (same H) was.1, was.2);
-  looks = wrote.looks;
-}
-  where
-    go : (q : Result T ReportFault) → OnOk q ((H : History) → Shows (state g old) H → HasBranch H branch) → OnOk q ((H : History) → Shows (state g old) H → Appends a b (text H))
-        → OnOk q ((H : History) → Shows (state g old) H → IsThere H report × Appends a b (report_text H report))
-    go (Ok x) known written = λ H shows. (there H (known H shows), subst (Appends a b) (same H) (written H shows))
-    go (Err e) known written = tt
 
 -- the line went out whole, or a beginning of it, after nothing
 module _ {E : Type 0} (Tells : (List ℕ → Type 0) → Exit → Type 0) (r : Result Exit E) (a b c : Option (List ℕ)) (line : List ℕ) (exit : Exit)

@@ -1,5 +1,6 @@
 //! What a program is asked to do, by its first words.
 
+use desk::Report;
 use hall_schedule::WORKERS;
 use std::alloc::Global;
 use terms::{BranchId, CardKey, Day, Key, Memory, read_number};
@@ -40,17 +41,6 @@ pub enum Run<'a> {
         key: Key,
         words: &'a [String],
     },
-}
-
-/// A report that the desk writes.
-#[derive(Clone, Copy, Debug, PartialEq, Eq)]
-pub enum Report {
-    /// The overdue loans that a branch made.
-    Overdue(BranchId),
-    /// The sums of a day's lines of accounts.
-    Till(Day),
-    /// The ready holds of a branch.
-    Shelf(BranchId),
 }
 
 /// A request on a file: there has to be a word at least, and a key in its form.

@@ -10,7 +10,8 @@ mod sending;
 mod serving;
 mod writing;
 
-pub use arguments::{Report, Run, read_run};
+pub use arguments::{Run, read_run};
+pub use desk::Report;
 pub use importing::{import, unreadable};
 pub use lines::{Exit, WriteFault, no_network, not_understood, out_of_memory, tell_fault};
 pub use reports::report;

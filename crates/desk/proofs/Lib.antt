@@ -23,3 +23,4 @@ pub mod ShelfRows
 pub mod OverdueLists
 pub mod OverdueRows
 pub mod WrittenReports
+pub mod ReportForms

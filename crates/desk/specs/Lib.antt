@@ -5,5 +5,6 @@ pub mod Headline
 pub mod Paging
 pub mod Reporting
 pub mod Written
+pub mod Reports
 pub mod Showing
 pub mod Running

@@ -8,7 +8,7 @@ use Rattle.circ.proofs.reports.report.Goals as goal
 pub returns-in-Ok : goal.returns-in-Ok
 returns-in-Ok g c = record {
   clean = search rules;
-  written = tells-report g.S.Store c.args.desk.now c.write_report.new.desk c.args.report.now _
+  written = tells-report g.S.Store c.args.desk.now c.report.new.self c.args.report.now _
       (λ disk H shows. let out = c.in-Ok.ensures.written disk H shows in (out.0, out.1, c.in-Ok.ensures.looks.stays disk H shows));
   left = search rules;
   cut = search rules;
@@ -19,15 +19,15 @@ returns-in-Err-Refused g c = record {
   clean = search rules;
   written = let is = ap Err c.in-Err-Refused.field-0-is in
       let refused = c.in-Err-Refused.ensures.refused c.in-Err-Refused.refusal is in
-      told-whole (TellsOf c.args.report.now g.S.Store c.args.desk.now c.write_report.new.desk) c.tell_reply.result _ _ _ _ Refused
-      (λ WentOut line. tells-unknown g.S.Store c.args.desk.now c.write_report.new.desk c.args.report.now WentOut c.in-Err-Refused.refusal refused.0
+      told-whole (TellsOf c.args.report.now g.S.Store c.args.desk.now c.report.new.self) c.tell_reply.result _ _ _ _ Refused
+      (λ WentOut line. tells-unknown g.S.Store c.args.desk.now c.report.new.self c.args.report.now WentOut c.in-Err-Refused.refusal refused.0
       (λ disk H shows. c.in-Err-Refused.ensures.unknown disk c.in-Err-Refused.refusal is H shows) line)
       refused.1 c.tell_reply.ensures.exit_is c.tell_reply.ensures.writes.all;
   left = search rules;
   cut = let is = ap Err c.in-Err-Refused.field-0-is in
       let refused = c.in-Err-Refused.ensures.refused c.in-Err-Refused.refusal is in
-      told-cut (TellsOf c.args.report.now g.S.Store c.args.desk.now c.write_report.new.desk) c.tell_reply.result _ _ _ _ Refused
-      (λ WentOut line. tells-unknown g.S.Store c.args.desk.now c.write_report.new.desk c.args.report.now WentOut c.in-Err-Refused.refusal refused.0
+      told-cut (TellsOf c.args.report.now g.S.Store c.args.desk.now c.report.new.self) c.tell_reply.result _ _ _ _ Refused
+      (λ WentOut line. tells-unknown g.S.Store c.args.desk.now c.report.new.self c.args.report.now WentOut c.in-Err-Refused.refusal refused.0
       (λ disk H shows. c.in-Err-Refused.ensures.unknown disk c.in-Err-Refused.refusal is H shows) line)
       refused.1 c.tell_reply.ensures.writes.front;
 }
@@ -36,14 +36,14 @@ pub returns-in-Err-Faulted : goal.returns-in-Err-Faulted
 returns-in-Err-Faulted g c = record {
   clean = search rules;
   written = let is = ap Err c.in-Err-Faulted.field-0-is in
-      told-whole (TellsOf c.args.report.now g.S.Store c.args.desk.now c.write_report.new.desk) c.tell_fault.result _ _ _ _ Faulted
-      (λ WentOut line. tells-fault g.S.Store c.args.desk.now c.write_report.new.desk c.args.report.now WentOut c.in-Err-Faulted.fault
+      told-whole (TellsOf c.args.report.now g.S.Store c.args.desk.now c.report.new.self) c.tell_fault.result _ _ _ _ Faulted
+      (λ WentOut line. tells-fault g.S.Store c.args.desk.now c.report.new.self c.args.report.now WentOut c.in-Err-Faulted.fault
       (λ disk stored H shows. c.in-Err-Faulted.ensures.sound disk (ap Err (c.in-Err-Faulted.field-0-is ∙ ap Met stored)) H shows) c.in-Err-Faulted.ensures.looks.undone line)
       (c.in-Err-Faulted.ensures.silent c.in-Err-Faulted.fault is) c.tell_fault.ensures.exit_is c.tell_fault.ensures.writes.all;
   left = search rules;
   cut = let is = ap Err c.in-Err-Faulted.field-0-is in
-      told-cut (TellsOf c.args.report.now g.S.Store c.args.desk.now c.write_report.new.desk) c.tell_fault.result _ _ _ _ Faulted
-      (λ WentOut line. tells-fault g.S.Store c.args.desk.now c.write_report.new.desk c.args.report.now WentOut c.in-Err-Faulted.fault
+      told-cut (TellsOf c.args.report.now g.S.Store c.args.desk.now c.report.new.self) c.tell_fault.result _ _ _ _ Faulted
+      (λ WentOut line. tells-fault g.S.Store c.args.desk.now c.report.new.self c.args.report.now WentOut c.in-Err-Faulted.fault
       (λ disk stored H shows. c.in-Err-Faulted.ensures.sound disk (ap Err (c.in-Err-Faulted.field-0-is ∙ ap Met stored)) H shows) c.in-Err-Faulted.ensures.looks.undone line)
       (c.in-Err-Faulted.ensures.silent c.in-Err-Faulted.fault is) c.tell_fault.ensures.writes.front;
 }
@@ -55,7 +55,7 @@ returns-in-Err-NotWritten g c = record {
   left = search rules;
   cut = (
     Done,
-    tells-report g.S.Store c.args.desk.now c.write_report.new.desk c.args.report.now _
+    tells-report g.S.Store c.args.desk.now c.report.new.self c.args.report.now _
         (λ disk H shows. c.in-Err-NotWritten.ensures.cut disk (ap Err c.in-Err-NotWritten.field-0-is) H shows),
   );
 }

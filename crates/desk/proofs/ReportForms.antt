@@ -1,0 +1,31 @@
+-- A report of a branch, told as the report that was asked for.
+use Rattle.std.proofs.Common.{◌≡◌, ℕ, List, Option, None, subst}
+use Rattle.std.specs.Prelude.{Result, Ok, Err, OnOk}
+use Rattle.std.specs.Io.KnownBytes.{Appends}
+use Rattle.store.specs.Library.{Ghosts, Held, state}
+use Rattle.terms.specs.Writing.{AppendsFront}
+use Rattle.model.specs.History.{History}
+use Rattle.model.specs.Picture.{picture}
+use Rattle.desk.specs.Answering.{Shows}
+use Rattle.desk.specs.Written.{HasBranch, WritesReport}
+use Rattle.desk.specs.Reports.{report_text, IsThere, IsUnknown, WritesAnyReport}
+use Rattle.desk.specs.declared.reporting.ReportFault.{ReportFault}
+use Rattle.desk.specs.declared.reports.Report.{Report}
+
+pub of-branch : {S T : Type 0} {g : Ghosts S} {old new : Held S} {a b : Option (List ℕ)} {r : Result T ReportFault} (report : Report) (text : History → List ℕ) (branch : ℕ)
+    → ((H : History) → HasBranch H branch → IsThere H report) → ((H : History) → text H ≡ report_text H report) → ((H : History) → (picture H).branches branch ≡ None → IsUnknown H report)
+    → WritesReport text branch g old new a b r → WritesAnyReport report g old new a b r
+of-branch {T = T} {g = g} {old = old} {a = a} {b = b} {r = r} report text branch there same unknown wrote = record {
+  written = λ disk. go r (wrote.known disk) (wrote.written disk);
+  refused = wrote.refused;
+  unknown = λ disk refusal e H shows. let none = wrote.unknown disk refusal e H shows in (unknown H none.0, none.1);
+  silent = wrote.silent;
+  sound = wrote.sound;
+  cut = λ disk e H shows. let was = wrote.cut disk e H shows in (there H was.0, subst (AppendsFront a b) (same H) was.1, was.2);
+  looks = wrote.looks;
+}
+  where
+    go : (q : Result T ReportFault) → OnOk q ((H : History) → Shows (state g old) H → HasBranch H branch) → OnOk q ((H : History) → Shows (state g old) H → Appends a b (text H))
+        → OnOk q ((H : History) → Shows (state g old) H → IsThere H report × Appends a b (report_text H report))
+    go (Ok x) known written = λ H shows. (there H (known H shows), subst (Appends a b) (same H) (written H shows))
+    go (Err e) known written = tt

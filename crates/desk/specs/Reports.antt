@@ -1,0 +1,62 @@
+-- The reports of the desk as one: their texts, and what becomes of one that is written.
+use Rattle.std.specs.Prelude.{◌≡◌, ℕ, List, Option, None, Result, Err, OnOk}
+use Rattle.std.specs.Io.KnownBytes.{Appends, Keeps}
+use Rattle.store.specs.Library.{Ghosts, Held, state, IsClean}
+use Rattle.terms.specs.Writing.{AppendsFront}
+use Rattle.terms.specs.declared.fault.Fault.{Fault}
+use Rattle.terms.specs.declared.fault.Fault.TheVariants.{Stored}
+use Rattle.terms.specs.declared.refusal.Refusal.{Refusal}
+use Rattle.terms.specs.declared.refusal.Refusal.TheVariants.{UnknownBranch}
+use Rattle.model.specs.History.{History}
+use Rattle.model.specs.Picture.{picture}
+use Rattle.model.specs.Reports.{overdue, till, shelf}
+use Rattle.desk.specs.Answering.{Shows, Looks}
+use Rattle.desk.specs.Written.{HasBranch}
+use Rattle.desk.specs.declared.reporting.ReportFault.{ReportFault}
+use Rattle.desk.specs.declared.reporting.ReportFault.TheVariants.{Refused, Faulted, NotWritten}
+use Rattle.desk.specs.declared.reports.Report.{Report}
+use Rattle.desk.specs.declared.reports.Report.TheVariants.{Overdue, Till, Shelf}
+
+-- The report after a list of accepted requests.
+abbrev pub report_text : History → Report → List ℕ
+report_text H (Overdue branch) = overdue H branch
+report_text H (Till day) = till H day
+report_text H (Shelf branch) = shelf H branch
+
+-- There is such a report: one of any day, and those of each branch that there is.
+abbrev pub IsThere : History → Report → Type 0
+IsThere H (Overdue branch) = HasBranch H branch
+IsThere H (Till day) = Unit {0}
+IsThere H (Shelf branch) = HasBranch H branch
+
+-- There is no such report: it is one of an unknown branch.
+abbrev pub IsUnknown : History → Report → Type 0
+IsUnknown H (Overdue branch) = (picture H).branches branch ≡ None
+IsUnknown H (Till day) = ⊥
+IsUnknown H (Shelf branch) = (picture H).branches branch ≡ None
+
+-- The bytes of a report were written, or it was refused, or a fault came before anything was
+-- written, or a write failed. `before` and `after` are the bytes that the writer showed and shows.
+pub record WritesAnyReport {S T : Type 0} (report : Report)
+    (g : Ghosts S) (old new : Held S) (before after : Option (List ℕ))
+    (result : Result T ReportFault) : Type 0 where
+  -- the report is there, and it went out as the tables show it
+  pub written : IsClean g new
+      → OnOk result ((H : History) → Shows (state g old) H
+      → IsThere H report × Appends before after (report_text H report))
+  -- a refusal is that of an unknown branch, and nothing went out
+  pub refused : (refusal : Refusal) → result ≡ Err (Refused refusal)
+      → (refusal ≡ UnknownBranch) × Keeps before after
+  -- and the report is one of an unknown branch; the tables show what they showed
+  pub unknown : IsClean g new → (refusal : Refusal) → result ≡ Err (Refused refusal)
+      → (H : History) → Shows (state g old) H → IsUnknown H report × Shows (state g new) H
+  -- at a fault nothing went out
+  pub silent : (fault : Fault) → result ≡ Err (Faulted fault) → Keeps before after
+  -- fault 93 doesn't come where the tables show a list of accepted requests
+  pub sound : IsClean g new → result ≡ Err (Faulted Stored) → (H : History) → Shows (state g old) H
+      → ⊥
+  -- where a write failed, a beginning of the report went out, and the tables show what they showed
+  pub cut : IsClean g new → result ≡ Err NotWritten → (H : History) → Shows (state g old) H
+      → IsThere H report × AppendsFront before after (report_text H report) × Shows (state g new) H
+  -- whatever the outcome, the tables show what they showed
+  pub looks : Looks (state g old) (state g new) result

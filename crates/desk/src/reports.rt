@@ -1,0 +1,41 @@
+//! The reports of the desk, by one call.
+
+ghost use Rattle.desk.specs.Reports.{WritesAnyReport};
+
+use crate::reporting::ReportFault;
+use crate::running::Desk;
+use sqlite::Alter;
+use std::alloc::Global;
+use std::io::Write;
+use terms::{BranchId, Day};
+
+/// A report that the desk writes.
+#[derive(Clone, Copy, Debug, PartialEq, Eq)]
+pub enum Report {
+    /// The overdue loans that a branch made.
+    Overdue(BranchId),
+    /// The sums of a day's lines of accounts.
+    Till(Day),
+    /// The ready holds of a branch.
+    Shelf(BranchId),
+}
+
+impl<S: Alter> Desk<S> {
+    /// Writes the bytes of a report; 10 for a branch that there isn't, and 90, 91, 93 before
+    /// anything is written. A branch's number may be any.
+    pub fn report<W: Write>(
+        &mut self,
+        alloc: Global,
+        report: &Report,
+        writer: &mut W,
+    ) -> Result<(), ReportFault>
+        ensures { WritesAnyReport report.now S.Store self.old self.new
+            (W.contents writer.old) (W.contents writer.new) result }
+    {
+        match report {
+            Report::Overdue(branch) => self.overdue(alloc, *branch, writer),
+            Report::Till(day) => self.till(alloc, *day, writer),
+            Report::Shelf(branch) => self.shelf(alloc, *branch, writer),
+        }
+    }
+}
