@@ -1,0 +1,50 @@
+#!/usr/bin/env python3
+"""Installs the program under a place of its own and uses it from there.
+
+    tests/installed.py
+"""
+
+import os
+import subprocess
+import sys
+import tempfile
+
+TOP = os.path.dirname(os.path.dirname(os.path.abspath(__file__)))
+FILES = ["bin/circ", "share/man/man1/circ.1", "share/bash-completion/completions/circ"]
+
+
+def run(*words, **more):
+    return subprocess.run(words, capture_output=True, text=True, timeout=120, **more)
+
+
+def main():
+    wrong = []
+
+    def same(what, one, other):
+        if one != other:
+            wrong.append(f"{what}: {one!r} is not {other!r}")
+
+    install = os.path.join(TOP, "install")
+    with tempfile.TemporaryDirectory() as place:
+        prefix = os.path.join(place, "under a name with spaces")
+        done = run(install, prefix)
+        same("what install says", (done.returncode, done.stdout.splitlines()), (0, [f"{prefix}/{path}" for path in FILES]))
+        same("the files that are there", sorted(os.path.relpath(os.path.join(at, name), prefix) for at, _, names in os.walk(prefix) for name in names), sorted(FILES))
+        told = run(f"{prefix}/bin/circ", "file", f"{place}/town.db", "g1", "begin-day", "2026-03-02", cwd=place)
+        same("the installed program", (told.returncode, told.stdout), (0, "ok\n"))
+        again = run(install, prefix)
+        same("a second time", (again.returncode, again.stdout), (0, done.stdout))
+        source = f'source "{prefix}/{FILES[2]}"; COMP_WORDS=(circ file town.db k1 unsh); COMP_CWORD=4; _circ; echo "${{COMPREPLY[*]}}"'
+        same("the completion", run("bash", "-c", source).stdout, "unshelve unshelve-cancelled\n")
+        file = os.path.join(place, "file")
+        open(file, "w", encoding="utf-8").close()
+        same("a place that can't be", run(install, f"{file}/below").returncode, 1)
+    same("no place", run(install).returncode, 4)
+    for line in wrong:
+        print(line)
+    print(f"installed: 7 compared, {len(wrong)} differ")
+    return 1 if wrong else 0
+
+
+if __name__ == "__main__":
+    sys.exit(main())
