@@ -4,7 +4,8 @@
     tests/words.py
 
 The table of commands (`crates/terms/src/form.rt`): each command and its parts stand so in the manual page, its name in the completion for bash
-and in the table of the README. The numbers of refusals and faults (`crates/terms/src/refusal.rt`, `fault.rt`): each stands in the manual page.
+and in the table of the README. The numbers of refusals and faults (`crates/terms/src/refusal.rt`, `fault.rt`): the manual page tells what each means, and the
+program does in the same words (`crates/circ_cli/src/messages.rt`).
 """
 
 import os
@@ -33,14 +34,16 @@ def numbers(path):
 
 
 def in_manual(manual):
-    """The commands of the manual page, and the numbers of its diagnostics, ranges counted out."""
+    """The commands of the manual page, and what it says of each number."""
     listed = manual[manual.index(".Sh COMMANDS") : manual.index(".Sh FILES")]
     words = {line.split()[0]: line.split()[2:] for line in re.findall(r"^\.It Cm (.+)$", listed, re.M)}
-    told = set()
-    for item in re.findall(r"^\.It ([0-9 ,to]+)$", manual[manual.index(".Sh DIAGNOSTICS") :], re.M):
-        ends = [int(number) for number in re.findall(r"\d+", item)]
-        told |= set(range(ends[0], ends[1] + 1)) if " to " in item else set(ends)
-    return words, told
+    meanings = re.findall(r"^\.It (\d+)\n((?:[^.].*\n)+)", manual[manual.index(".Sh DIAGNOSTICS") :], re.M)
+    return words, {int(number): " ".join(text.split()) for number, text in meanings}
+
+
+def meanings():
+    """What each refusal and each fault means, as the manual page has it."""
+    return in_manual(read("docs/circ.1"))[1]
 
 
 def main():
@@ -61,12 +64,15 @@ def main():
     readme = re.findall(r"^\| `([a-z-]+)(?: [A-Z ]+)?` \| .* \| `([a-z-]+) ", read("README.md"), re.M)
     same("the README's commands", sorted(name for name, _ in readme), sorted(table))
     same("the README's examples", [name for name, example in readme if name != example], [])
-    same("the manual page's refusals", told, numbers("crates/terms/src/refusal.rt"))
-    faults = numbers("crates/terms/src/fault.rt")
+    same("the manual page's numbers", set(told), numbers("crates/terms/src/refusal.rt") | numbers("crates/terms/src/fault.rt"))
+    messages = read("crates/circ_cli/src/messages.rt")
+    same("what is told of them", {int(number): text for number, text in re.findall(r'^        (\d+) => "(.*)",$', messages, re.M)}, told)
+    version = re.search(r'VERSION: &str = "([0-9.]+)"', messages).group(1), re.search(r"SCHEMA: u32 = (\d+)", messages).group(1)
+    same("the version", version, re.search(r"^## ([0-9.]+), schema (\d+)$", read("CHANGES.md"), re.M).groups())
     same("the faults that the manual page leaves out", {fault for fault in faults if not re.search(rf"\b{fault}\b", manual)}, set())
     for line in wrong:
         print(line)
-    print(f"words: {len(table)} commands, {len(told)} refusals and {len(faults)} faults compared, {len(wrong)} differ")
+    print(f"words: {len(table)} commands and {len(told)} numbers compared, {len(wrong)} differ")
     return 1 if wrong else 0
 
 

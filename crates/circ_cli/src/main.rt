@@ -2,12 +2,14 @@
 #![tactic(auto)]
 
 mod calls;
+mod messages;
 
 use calls::{
     FileDesk, close, create, import, no_network, not_understood, one, open, out_of_memory, report,
     send, serve, tell_fault, unreadable,
 };
 use circ::{Exit, Report, Run, WriteFault, read_run};
+use messages::{Noting, explain};
 use sqlite::{Start, Wary};
 use std::alloc::Global;
 use std::fs::File;
@@ -220,23 +222,29 @@ fn answer<S: Start, W: Write, R: Threads + Wait + Copy + Send + 'static>(
     }
 }
 
-/// The whole run: the lines of a request or a report go out together at its end.
+/// The whole run: the lines of a request or a report go out together at its end, and then what the last of them means, on
+/// standard error.
 fn run<R: Threads + Wait + Copy + Send + 'static>(
     rt: &HostRuntime,
     threads: R,
 ) -> Result<Exit, WriteFault> {
     let mut writer = match BufWriter::new(rt.alloc(), io::writer(rt)) {
-        Ok(writer) => writer,
+        Ok(writer) => Noting::new(writer),
         Err(_) => return out_of_memory(&mut io::writer(rt)),
     };
-    let exit = match words_of(rt) {
-        Ok(words) => answer(rt, threads, Wary, rt.alloc(), &words, &mut writer)?,
-        Err(fault) => tell_fault(&mut writer, fault)?,
+    let (exit, words) = match words_of(rt) {
+        Ok(words) => {
+            let exit = answer(rt, threads, Wary, rt.alloc(), &words, &mut writer)?;
+            (exit, words)
+        }
+        Err(fault) => (tell_fault(&mut writer, fault)?, Vec::new(rt.alloc())),
     };
-    match writer.flush() {
-        Ok(()) => Ok(exit),
-        Err(_) => Err(WriteFault),
+    if writer.flush().is_err() {
+        return Err(WriteFault);
     }
+    // What can't be told there is left: the line and the status stand.
+    let _ = explain(rt, &words, writer.last_line());
+    Ok(exit)
 }
 
 fn main(rt: HostRuntime) -> ExitCode {
