@@ -69,7 +69,6 @@ def main():
     same("what is told of them", {int(number): text for number, text in re.findall(r'^        (\d+) => "(.*)",$', messages, re.M)}, told)
     version = re.search(r'VERSION: &str = "([0-9.]+)"', messages).group(1), re.search(r"SCHEMA: u32 = (\d+)", messages).group(1)
     same("the version", version, re.search(r"^## ([0-9.]+), schema (\d+)$", read("CHANGES.md"), re.M).groups())
-    same("the faults that the manual page leaves out", {fault for fault in faults if not re.search(rf"\b{fault}\b", manual)}, set())
     for line in wrong:
         print(line)
     print(f"words: {len(table)} commands and {len(told)} numbers compared, {len(wrong)} differ")
