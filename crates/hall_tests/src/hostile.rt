@@ -29,8 +29,8 @@ pub const HOSTILE: [&str; 15] = [
     "POST /desk HTTP/1.1\r\nDesk-Key: deskkey00001\r\nRequest-Key: d1\r\nContent-Length: 10\r\n\r\n[\"page\",1]",
 ];
 
-/// Whether a request gets this answer, whole, or, where the read after some of its bytes fails, else
-/// none; no read is made after its last byte unless it is cut.
+/// Whether a request gets this answer, whole, or none where the read after some of its bytes fails,
+/// and this answer where no read fails.
 fn breaks<J: Opening, R: Wait>(
     rt: &R,
     alloc: Global,
@@ -71,9 +71,8 @@ fn is_cut<J: Opening, R: Wait>(
     Some(true)
 }
 
-/// Whether a request gets its answer or none, however reads and writes fail, and Ann's page is shown
-/// as ever after it.
-fn withstands<J: Opening, R: Wait>(
+/// Whether a request gets its answer, however writes fail, and Ann's page is shown as ever after it.
+fn withstands_cuts<J: Opening, R: Wait>(
     rt: &R,
     alloc: Global,
     worker: &mut Worker<J>,
@@ -81,10 +80,26 @@ fn withstands<J: Opening, R: Wait>(
     text: &str,
 ) -> Option<bool> {
     let text = answer(alloc, text)?;
-    let breaks = breaks(rt, alloc, worker, bytes, text.as_str())?;
+    let (taken, is_whole) = served(rt, alloc, worker, bytes, 100_000)?;
+    let is_answered = is_whole && taken.as_slice() == text.as_bytes();
     let is_cut = is_cut(rt, alloc, worker, bytes, text.as_str())?;
     let is_next = gets(rt, alloc, worker, ANN, ANNS_PAGE)?;
-    Some(breaks && is_cut && is_next)
+    Some(is_answered && is_cut && is_next)
+}
+
+/// Whether it gets its answer or none also where reads fail, at each byte, and Ann's page is shown as
+/// ever after it.
+fn withstands<J: Opening, R: Wait>(
+    rt: &R,
+    alloc: Global,
+    worker: &mut Worker<J>,
+    bytes: &[u8],
+    text: &str,
+) -> Option<bool> {
+    let wanted = answer(alloc, text)?;
+    let breaks = breaks(rt, alloc, worker, bytes, wanted.as_str())?;
+    let withstands_cuts = withstands_cuts(rt, alloc, worker, bytes, text)?;
+    Some(breaks && withstands_cuts)
 }
 
 /// The request for Ann's page with so many fields, the last of which has so many letters.
@@ -103,19 +118,21 @@ fn page_with(alloc: Global, fields: usize, length: usize) -> Option<String> {
 }
 
 /// How many of the heads at the limits are withstood, of 8,192 bytes and 8,193, of 32 fields and 33.
+/// Reads of the long ones that fail are tested with those of requests alone.
 fn withstands_heads<J: Opening, R: Wait>(
     rt: &R,
     alloc: Global,
     worker: &mut Worker<J>,
 ) -> Option<usize> {
     let mut count = 0usize;
-    for (fields, length, text) in [
-        (2, 8136, ANNS_PAGE),
-        (2, 8137, FAILED),
-        (32, 0, ANNS_PAGE),
-        (33, 0, FAILED),
-    ] {
-        let page = page_with(alloc, fields, length)?;
+    for (length, text) in [(8136, ANNS_PAGE), (8137, FAILED)] {
+        let page = page_with(alloc, 2, length)?;
+        if withstands_cuts(rt, alloc, worker, page.as_bytes(), text)? {
+            count = count.wrapping_add(1);
+        }
+    }
+    for (fields, text) in [(32, ANNS_PAGE), (33, FAILED)] {
+        let page = page_with(alloc, fields, 0)?;
         if withstands(rt, alloc, worker, page.as_bytes(), text)? {
             count = count.wrapping_add(1);
         }
