@@ -51,6 +51,9 @@ LENGTHS = ["+5", "-1", "", "5 5", "0x5", "00000000005", "0000000005", "123456789
 FIELDS = ["Host: 127.0.0.1", "Accept: */*", "X:", "A: b", "Expect: 100-continue", "Connection: close", "X-\u00fc: 1", "Bad Name: 1", ": 1", "Name : 1",
           "Transfer-Encoding: chunked", "transfer-encoding:", "Transfer-Encodings: x", "Folded: a\r\n b", "Nul: \x00", "Tab:\ta\t", "Del: \x7f",
           "Cr: a\rb", "Latin: \u00fc"]
+ODD_VALUES = ['"1"', "-1", "-0", "1.0", "1e0", "1E+2", "4294967295", "4294967296", "18446744073709551616", "1e308", "1e309", "-1e400", "01", "+1", "null",
+              "true", "nul", "[1]", "[]", "[1,]", "{}", '{"a":1}', "{1:1}", ".5", "1.", "1e", "NaN", "-Infinity", "1" + "0" * 400, '"\\ud83d\\ude00"', '"\\ud800"',
+              '"\\ude00\\ud83d"', '"\\ud83dx"', '"\\ud83d\\n"', '"\\u12G4"', '"\\x"', '"\x01"', '"\x7f"', '"\t"', "'1'", "1//", '"']
 TOKENS = [b"GET ", b"POST ", b"/patrons/", b"/desk", b" HTTP/1.1", b"\r\n", b"\n", b"\r", b"\r\n\r\n", b": ", b"Content-Length", b"Card-Key", b"Desk-Key",
           b"Request-Key", b"{", b"}", b"[", b"]", b'"', b",", b'"branch":', b'"title":', b"1", b"0", b"-", b" ", b"\t", b"\x00", b"\xff", b"\xc3", b"\\u",
           b"\\ud800", b"\\", b"e9", b".5", b"null", MARK, b"end", b'""', b"copy,title,text,kind,home,price,end\n", b";", b"'"]
@@ -93,25 +96,26 @@ class Cases:
     def blank(self):
         return self.rng.choice(["", "", "", " ", "\n", "\t", "\r\n"]) if self.odd(0.3) else ""
 
-    def json_number(self):
-        if self.odd(0.85):
-            return self.number_text(0)
-        return self.rng.choice(['"1"', "-1", "-0", "1.0", "1e0", "1E2", "4294967295", "4294967296", "18446744073709551616", "1e400", "01", "+1", "null",
-                                "true", "[1]", "{}", ".5", "1.", "NaN", "Infinity", "1" + "0" * 400, '"\\ud83d\\ude00"', '"\\ud800"', '"\\udc00\\ud800"', '"\x01"'])
+    def json_value(self, chance=0.15):
+        """Mostly a number as it should be."""
+        return self.rng.choice(ODD_VALUES) if self.odd(chance) else self.number_text(0)
 
     def hold(self):
         members = [("branch", self.rng.choice(["1", "2"])), ("title", self.rng.choice(["100", "200", "300"]))]
-        members = [(name, value if self.odd(0.8) else self.json_number()) for name, value in members]
-        if self.odd(0.15):
-            members.append((self.rng.choice(["branch", "title", "copy", "", "Branch"]), self.json_number()))
+        members = [(name, value if self.odd(0.8) else self.json_value()) for name, value in members]
+        if self.odd(0.1):
+            members.append((self.rng.choice(["branch", "title", "copy", "", "Branch"]), self.json_value()))
         if self.odd(0.03):
             members.pop(0)
         self.rng.shuffle(members)
+        # a value that another takes the place of has to be JSON all the same
+        if self.odd(0.15):
+            members.insert(0, (self.rng.choice(["branch", "title"]), self.json_value(0.9)))
         texts = [self.blank() + self.json_string(name) + self.blank() + ":" + self.blank() + value + self.blank() for name, value in members]
         return "{" + ",".join(texts) + "}"
 
     def desk_body(self):
-        items = [self.json_string(word) if self.odd(0.98) else self.json_number() for word in self.words()]
+        items = [self.json_string(word) if self.odd(0.98) else self.json_value(0.5) for word in self.words()]
         return "[" + ",".join(self.blank() + item + self.blank() for item in items) + "]"
 
     def deep(self):
@@ -267,8 +271,8 @@ class Cases:
             row[place] = self.one_of(NAMES, ODD_NAMES, 0.3) if place == 2 else self.one_of([*NUMBERS, "9", "1000000", "1000001"], ODD_NUMBERS, 0.3)
         if self.odd(0.01):
             row[self.rng.randrange(6)] = self.rng.choice(["062", "\ufeff", "", " 1"])
-        if self.odd(0.01):
-            row[6] = self.rng.choice(["END", "end ", "en", ""])
+        if self.odd(0.03):
+            row[6] = self.rng.choice(["END", "End", "end ", "en", ""])
         if self.odd(0.02):
             row.pop(self.rng.randrange(7))
         if self.odd(0.01):
