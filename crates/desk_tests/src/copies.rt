@@ -102,7 +102,7 @@ fn tells_rows<S: Alter>(
 ) -> Result<(), Fail> {
     let rows = ended_lines(front).saturating_sub(1);
     let mut wanted = String::new(alloc);
-    for row in 1..rows + 1 {
+    for row in 1..rows.wrapping_add(1) {
         wanted.push_str(format!(in alloc; "row {row} ok\n")?.as_str())?;
     }
     wanted.push_str(format!(in alloc; "fault reading\naccepted {rows} refused 0\n")?.as_str())?;

@@ -31,7 +31,7 @@ pub const HOSTILE: [&str; 15] = [
 
 /// Whether a request gets this answer, whole, or none where the read after some of its bytes fails,
 /// and this answer where no read fails.
-fn breaks<J: Opening, R: Wait>(
+fn is_broken_anywhere<J: Opening, R: Wait>(
     rt: &R,
     alloc: Global,
     worker: &mut Worker<J>,
@@ -54,7 +54,7 @@ fn breaks<J: Opening, R: Wait>(
 }
 
 /// Whether its answer is cut after as many bytes as the writer takes.
-fn is_cut<J: Opening, R: Wait>(
+fn is_cut_anywhere<J: Opening, R: Wait>(
     rt: &R,
     alloc: Global,
     worker: &mut Worker<J>,
@@ -82,7 +82,7 @@ fn withstands_cuts<J: Opening, R: Wait>(
     let text = answer(alloc, text)?;
     let (taken, is_whole) = served(rt, alloc, worker, bytes, 100_000)?;
     let is_answered = is_whole && taken.as_slice() == text.as_bytes();
-    let is_cut = is_cut(rt, alloc, worker, bytes, text.as_str())?;
+    let is_cut = is_cut_anywhere(rt, alloc, worker, bytes, text.as_str())?;
     let is_next = gets(rt, alloc, worker, ANN, ANNS_PAGE)?;
     Some(is_answered && is_cut && is_next)
 }
@@ -97,9 +97,9 @@ fn withstands<J: Opening, R: Wait>(
     text: &str,
 ) -> Option<bool> {
     let wanted = answer(alloc, text)?;
-    let breaks = breaks(rt, alloc, worker, bytes, wanted.as_str())?;
-    let withstands_cuts = withstands_cuts(rt, alloc, worker, bytes, text)?;
-    Some(breaks && withstands_cuts)
+    let is_broken = is_broken_anywhere(rt, alloc, worker, bytes, wanted.as_str())?;
+    let is_cut = withstands_cuts(rt, alloc, worker, bytes, text)?;
+    Some(is_broken && is_cut)
 }
 
 /// The request for Ann's page with so many fields, the last of which has so many letters.
