@@ -6,7 +6,6 @@ Expected lines and rows are those of the desk's rules, worked out by hand; those
 """
 
 import copy
-import csv
 import hashlib
 import os
 import random
@@ -593,11 +592,6 @@ def a_month(folder):
 
 
 HEADER = "copy,title,text,kind,home,price,end\n"
-BEES = HEADER + """\
-50,500,"Maps, Old and New",1,1,1500,end
-51,500,"Maps, Old and New",1,2,1500,end
-52,501,Winter Bees,2,1,700,end
-"""
 
 
 def take_in(path, copies):
@@ -605,92 +599,6 @@ def take_in(path, copies):
     run = subprocess.run([CIRC, "import", path, copies], capture_output=True, timeout=120)
     check("standard error of a copies file", run.stderr, b"")
     return run.stdout.decode(), run.returncode
-
-
-def copies_files(folder):
-    """Rows of copies files, good, refused and bad; files that can't be read."""
-    path, copies = os.path.join(folder, "taken.db"), os.path.join(folder, "copies.csv")
-    say(path, GROUND)
-
-    def taken(text, lines, status):
-        with open(copies, "wb") as file:
-            file.write(text if isinstance(text, bytes) else text.encode())
-        check(f"{text!r}", take_in(path, copies), (lines, status))
-
-    taken(BEES[:BEES.index("ter Bees")], "row 1 ok\nrow 2 ok\nrow 3 bad\naccepted 2 refused 0\n", 4)
-    taken(BEES, "row 1 ok\nrow 2 ok\nrow 3 ok\naccepted 3 refused 0\n", 0)
-    check("a row each", rows(path, "SELECT copy, title, home FROM copies WHERE copy IN (50, 51) ORDER BY copy"),
-          [(50, 500, 1), (51, 500, 2)])
-    before = whole(path)
-    taken(BEES.replace("Bees", "Birds"), "row 1 ok\nrow 2 ok\nrow 3 refused 20\naccepted 2 refused 1\n", 2)
-    taken("\ufeff" + BEES, "row 1 ok\nrow 2 ok\nrow 3 ok\naccepted 3 refused 0\n", 0)
-    taken("", "row 0 bad\naccepted 0 refused 0\n", 4)
-    taken(HEADER, "accepted 0 refused 0\n", 0)
-    taken(HEADER.replace("end", "END"), "row 0 bad\naccepted 0 refused 0\n", 4)
-    taken(HEADER.encode() + b"53,502,M\xe4rz,1,1,1500,end\n", "row 1 bad\naccepted 0 refused 0\n", 4)
-    check("no row is changed", whole(path), before)
-    taken(HEADER + """60,600,Tall Ships,1,1,900,end
-60,600,Tall Ships,1,1,900,end
-61,600,Tall Ships,1,9,900,end
-61,600,Tall Ships,1,2,1000001,end
-61,600,Tall Ships,1,2,900,end
-""", "row 1 ok\nrow 2 ok\nrow 3 refused 10\nrow 4 refused 21\nrow 5 ok\naccepted 3 refused 2\n", 2)
-    before, unread = whole(path), ("fault reading\naccepted 0 refused 0\n", 3)
-    check("no copies file", take_in(path, os.path.join(folder, "absent.csv")), unread)
-    check("a directory of copies", take_in(path, folder), unread)
-    check("no row is changed", whole(path), before)
-    new = os.path.join(folder, "first.db")
-    check("a new library", take_in(new, copies),
-          ("".join(f"row {n} refused {m}\n" for n, m in ((1, 10), (2, 10), (3, 10), (4, 21), (5, 10)))
-           + "accepted 0 refused 5\n", 2))
-    check("it is made", [name for name, found in whole(new).items() if found], ["meta"])
-    garbage = os.path.join(folder, "no_library.db")
-    with open(garbage, "wb") as file:
-        file.write(b"this is no database " * 500)
-    check("no library", take_in(garbage, copies), ("fault 91\n", 3))
-
-
-def a_delivery(folder):
-    """A copies file of three hundred rows, some of them refused: its lines and rows are those of the rules; and with runs that
-    are killed at random moments before it is taken in again, the rows are the same."""
-    calm, killed = os.path.join(folder, "delivered.db"), os.path.join(folder, "interrupted.db")
-    copies, library, seed = os.path.join(folder, "delivery.csv"), Library(), random.randrange(10**9)
-    for key, words, _ in GROUND:
-        library.handle(key, words)
-    for path in (calm, killed):
-        say(path, GROUND)
-    moments = random.Random(seed)
-    print(f"end to end: a copies file, moments of kills by the seed {seed}")
-    books = [(1000 + n, 700 + n // 3, f'Volume {n // 3}, "the {n // 3 % 7}th"', 1 + n % 2, 1 + n % 5 // 2, 50 * n) for n in range(300)]
-    with open(copies, "w", encoding="utf-8", newline="") as file:
-        file.write(HEADER)
-        csv.writer(file).writerows([*book, "end"] for book in books)
-    lines = library.take_in(books)
-    taken, hits = [row[0] for row in books if row[0] in library.copies], 0
-    fresh = os.path.join(folder, "to_be_delivered.db")
-    shutil.copy(killed, fresh)
-    delivered, took = timed(lambda: take_in(calm, copies))
-    check("the lines of the delivery", delivered, (lines, 2))
-    for at in range(60):
-        if at >= 12 and hits:
-            break
-        printed, hit = kill_at_work(["import", killed, copies], moments.uniform(0, took))
-        told = printed[:printed.rfind("\n") + 1]
-        check(f"a beginning of the lines, seed {seed}", lines.startswith(told), True)
-        found = rows_now(killed, "SELECT copy FROM copies WHERE copy >= 1000 ORDER BY copy")
-        check(f"the first rows, seed {seed}", [copy for (copy,) in found], taken[:len(found)])
-        check(f"what was told is there, seed {seed}", told.count(" ok\n") <= len(found), True)
-        hits += hit and 0 < len(found) < len(taken)
-        # where all rows came in before a kill hit work, the library begins again
-        if not hits and len(found) == len(taken):
-            if os.path.exists(killed + "-wal"):
-                os.remove(killed + "-wal")
-            shutil.copy(fresh, killed)
-    check(f"kills hit the delivery at work, seed {seed}", hits > 0, True)
-    check("some rows are refused", 0 < lines.count("refused 10") < 300, True)
-    the_rows_are(calm, library)
-    check(f"the lines after kills, seed {seed}", take_in(killed, copies), (lines, 2))
-    check(f"the rows after kills, seed {seed}", whole(killed), whole(calm))
 
 
 def a_creation(folder):
@@ -893,8 +801,6 @@ def main():
         the_readme(folder)
         every_pair(folder)
         a_month(folder)
-        copies_files(folder)
-        a_delivery(folder)
         a_creation(folder)
         lost_output(folder)
         two_at_once(folder)

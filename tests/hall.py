@@ -17,15 +17,15 @@ import socket
 import subprocess
 import tempfile
 import threading
+import time
 from concurrent.futures import ThreadPoolExecutor
 
 import end_to_end as desk
 from desk_rules import Library
 from end_to_end import CIRC, GROUND, check, rows, timed
-from web import ANN, ANNS_PAGE, BO, PAGE_OF_ANN, Serving, a_library, answer, everything, told
+from web import ANN, ANNS_PAGE, BO, FAILED, HOLD, PAGE_OF_ANN, Serving, a_library, answer, everything, hold_with, told
 
 HALF_A_HEAD = PAGE_OF_ANN[:30]
-FAILED = answer("400 Bad Request", b'{"status":400}')
 PATRONS, TITLES, RENEWALS = range(1, 9), range(101, 151), 99
 HOLDS = len(TITLES)
 
@@ -388,9 +388,92 @@ def a_full_disk(town):
     desk.the_rows_are(path, library)
 
 
+def let_go(serving, bytes_):
+    """A client that sends a beginning of a request and then nothing gets no answer, and is let go after half a minute."""
+    with socket.create_connection(("127.0.0.1", serving.port), timeout=90) as peer:
+        peer.sendall(bytes_)
+        began = time.monotonic()
+        check(f"nothing is answered to {bytes_}", everything(peer), b"")
+        check(f"it is let go after {bytes_}", 29 < time.monotonic() - began < 45, True)
+
+
+def byte_by_byte(serving):
+    """A client that sends a byte each second is answered, however long its request takes."""
+    with socket.create_connection(("127.0.0.1", serving.port), timeout=90) as peer:
+        for byte in b"GET /patrons/1 HTTP/1.0\nCard-Key:cardkey00001\n\n":
+            peer.sendall(bytes((byte,)))
+            time.sleep(1)
+        check("a request byte by byte", everything(peer), answer("200 OK", ANNS_PAGE))
+
+
+def unread(serving, is_over):
+    """A client that doesn't read its answer, nor closes its end: the answer lies there until it does."""
+    with socket.create_connection(("127.0.0.1", serving.port), timeout=90) as peer:
+        peer.sendall(PAGE_OF_ANN)
+        is_over.wait(90)
+        check("an answer that was left alone", everything(peer), answer("200 OK", ANNS_PAGE))
+
+
+def crowd(serving, count):
+    """So many connections that are opened at once, and left with nothing sent. How many were made."""
+    peers = []
+    for _ in range(count):
+        peer = socket.socket()
+        peer.setblocking(False)
+        peer.connect_ex(("127.0.0.1", serving.port))
+        peers.append(peer)
+    made = sum(peer.getsockopt(socket.IPPROTO_TCP, socket.TCP_INFO, 1)[0] == 1 for peer in peers)
+    for peer in peers:
+        peer.close()
+    return made
+
+
+def slow_clients(folder):
+    """Clients that are slow, silent or gone keep the workers waiting that they have, for half a minute after their last byte. The patrons
+    of the other workers are served meanwhile, and then all is as before."""
+    path, waits, is_over = a_library(folder, "slow.db"), [], threading.Event()
+    before = desk.whole(path)
+    half_a_body = hold_with(HOLD, key=b"s1")[:-12]
+
+    def looks():
+        while not is_over.is_set():
+            began = time.monotonic()
+            check("a page meanwhile", serving.raw(PAGE_OF_ANN), answer("200 OK", ANNS_PAGE))
+            waits.append(time.monotonic() - began)
+            time.sleep(0.1)
+
+    with Serving(path, 8_000_000, status=-signal.SIGKILL, workers=8) as serving, ThreadPoolExecutor(8) as pool:
+        slow = [pool.submit(byte_by_byte, serving), pool.submit(let_go, serving, HALF_A_HEAD), pool.submit(let_go, serving, half_a_body)]
+        late = [pool.submit(unread, serving, is_over), pool.submit(looks)]
+        try:
+            made = sum(crowd(serving, 1000) for _ in range(2))
+            for it in slow:
+                it.result()
+        finally:
+            is_over.set()
+        for it in late:
+            it.result()
+        print(f"hall: {len(waits)} pages beside slow clients, each within {max(waits):.1f} seconds; {made} of 2000 connections were made and left")
+        check("all looks were soon answered", (len(waits) > 100, max(waits) < 15), (True, True))
+        check("connections were made", made > 100, True)
+        with desk.as_it_is(path) as left:
+            check("the rows after slow clients", desk.whole(left), before)
+        # each of the eight workers is there again: as many connections wait for one another's end
+        peers = [socket.create_connection(("127.0.0.1", serving.port), timeout=20) for _ in range(8)]
+        for peer in reversed(peers):
+            peer.sendall(PAGE_OF_ANN)
+            check("one of eight at once", everything(peer), answer("200 OK", ANNS_PAGE))
+        for peer in peers:
+            peer.close()
+        check("the request that was never whole", serving.raw(hold_with(HOLD, key=b"s1")), answer("200 OK", b'{"reply":"hold 1"}'))
+        serving.run.kill()
+
+
 def main():
     subprocess.run([CIRC], stdout=subprocess.DEVNULL, check=False)  # builds the program where it isn't there
-    with tempfile.TemporaryDirectory() as folder:
+    with tempfile.TemporaryDirectory() as folder, ThreadPoolExecutor(1) as pool:
+        # most of a minute in which little happens, beside the others
+        slow = pool.submit(slow_clients, folder)
         a_hold_and_its_page(folder)
         one_is_held(folder)
         pages_of_a_month(folder)
@@ -401,6 +484,7 @@ def main():
         no_step_back(town)
         a_full_disk(town)
         kills(town)
+        slow.result()
     print(f"hall: {desk.passed} passed, 0 failed")
 
 

@@ -7,9 +7,11 @@ Expected answers are those of docs/RULES.md, worked out by hand; those of the mo
 import http.client
 import json
 import os
+import random
 import shlex
 import shutil
 import socket
+import struct
 import subprocess
 import tempfile
 import threading
@@ -27,18 +29,24 @@ PAGE_OF_ANN = b"GET /patrons/1 HTTP/1.1\r\nCard-Key: cardkey00001\r\n\r\n"
 
 
 def free_port():
-    """A port that nobody listens on."""
-    with socket.socket() as found:
-        found.bind(("127.0.0.1", 0))
-        return found.getsockname()[1]
+    """A port that nobody listens on. It is below those that connections get, so none of these takes it meanwhile."""
+    while True:
+        port = random.randrange(10_000, 32_768)
+        with socket.socket() as found:
+            try:
+                found.bind(("127.0.0.1", port))
+                return port
+            except OSError:
+                pass
 
 
 class Serving:
     """The program serving a file for so many connections; at the end it has printed just these lines and has this status.
-    Its workers serve as many each, so at the end the spare ones ask for nowhere: were they fewer or more, that would fail."""
+    Its workers serve as many each, so at the end the spare ones ask for nowhere: were they fewer or more, that would fail.
+    No answer tells the desk's key or a card key."""
 
     def __init__(self, path, connections, after="", status=0, workers=1, **how):
-        self.port, self.after, self.status, self.how = free_port(), after, status, how
+        self.port, self.after, self.status, self.how, self.heard = free_port(), after, status, how, []
         each = -(-connections // workers)
         self.spare = each * workers - connections
         self.words = ["serve", path, str(self.port), str(workers), str(each), DESK_KEY]
@@ -59,6 +67,7 @@ class Serving:
                     self.answers("GET", "/nowhere", {}, None, 404, b'{"status":404}')
                 out, err = self.run.communicate(timeout=120)
                 check("what it printed", (out.decode(), err, self.run.returncode), (self.after, b"", self.status))
+                check("keys in answers", [key for key in (DESK_KEY, "cardkey") if key.encode() in b"\n".join(self.heard)], [])
         finally:
             self.end()
 
@@ -74,6 +83,7 @@ class Serving:
         answer = connection.getresponse()
         given = answer.status, answer.read(), dict(answer.getheaders())
         connection.close()
+        self.heard += [given[1], str(given[2]).encode()]
         return given
 
     def answers(self, method, target, fields, body, status, answer):
@@ -96,6 +106,7 @@ class Serving:
         run = subprocess.run(["curl", "-s", "-m", "60", "-w", "\n%{http_code}", *options, url], capture_output=True, timeout=90)
         check(f"curl {target}", run.returncode, 0)
         body, _, status = run.stdout.rpartition(b"\n")
+        self.heard.append(body)
         return int(status), body
 
     def raw(self, *pieces, pause=0.002):
@@ -106,7 +117,8 @@ class Serving:
                 peer.sendall(piece)
                 time.sleep(pause)
             peer.shutdown(socket.SHUT_WR)
-            return everything(peer)
+            self.heard.append(everything(peer))
+            return self.heard[-1]
 
 
 def everything(peer):
@@ -238,6 +250,150 @@ def in_pieces(folder, workers):
     check("one hold", rows(path, "SELECT COUNT(*) FROM holds"), [(1,)])
 
 
+HOLD = b'{"branch":1,"title":100}'
+FAILED = answer("400 Bad Request", b'{"status":400}')
+
+
+def page_with(fields, padding=0):
+    """The request for Ann's page with so many fields, the last of which is so long."""
+    lines = [b"GET /patrons/1 HTTP/1.1", b"Card-Key: cardkey00001", *[b"A: "] * (fields - 2), b"A: " + b"a" * padding]
+    return b"\r\n".join(lines) + b"\r\n\r\n"
+
+
+def page_fields(*lines, target=b"/patrons/1", body=b""):
+    """The request for Ann's page with these fields too."""
+    return b"GET " + target + b" HTTP/1.1\r\nCard-Key: cardkey00001\r\n" + b"".join(line + b"\r\n" for line in lines) + b"\r\n" + body
+
+
+def hold_with(body, length=None, key=b"h1"):
+    """Bo's request for a hold with this body."""
+    size = str(len(body) if length is None else length).encode()
+    return (b"POST /patrons/2/holds HTTP/1.1\r\nCard-Key: cardkey00002\r\nRequest-Key: " + key + b"\r\nContent-Length: " + size + b"\r\n\r\n" + body)
+
+
+def desk_with(body):
+    """The desk's request with this body."""
+    return (f"POST /desk HTTP/1.1\r\nDesk-Key: {DESK_KEY}\r\nRequest-Key: d1\r\nContent-Length: {len(body)}\r\n\r\n").encode() + body
+
+
+# Requests that a client might make up, each with its answer. None changes a row.
+HOSTILE = [
+    ("a head of 8,192 bytes", page_with(2, 8_136), answer("200 OK", ANNS_PAGE)),
+    ("a head of 8,193 bytes", page_with(2, 8_137), FAILED),
+    ("32 fields", page_with(32), answer("200 OK", ANNS_PAGE)),
+    ("33 fields", page_with(33), FAILED),
+    ("two lengths", page_fields(b"Content-Length: 0", b"Content-Length: 0"), FAILED),
+    ("a length with a sign", page_fields(b"Content-Length: +5", body=b"12345"), FAILED),
+    ("a length of eleven digits", page_fields(b"Content-Length: 00000000000"), FAILED),
+    ("a coding, on an unknown route", page_fields(b"Transfer-Encoding: chunked", target=b"/nowhere"), FAILED),
+    ("one key twice", page_fields(b"card-key: cardkey00001"), FAILED),
+    ("a body one byte short", page_fields(b"Content-Length: 2", body=b"1"), FAILED),
+    ("a hold's body one byte short", hold_with(HOLD[:-1], len(HOLD)), FAILED),
+    ("a third member", hold_with(b'{"branch":1,"copy":10,"title":100}'), FAILED),
+    ("a branch that is a text", hold_with(b'{"branch":"1","title":100}'), FAILED),
+    ("a branch below 0", hold_with(b'{"branch":-1,"title":100}'), FAILED),
+    ("a branch of 2^32", hold_with(b'{"branch":4294967296,"title":100}'), FAILED),
+    ("a body that is no UTF-8", hold_with(b'{"branch":"\xe9","branch":1,"title":100}'), FAILED),
+    ("no words", desk_with(b"[]"), FAILED),
+    ("thirteen words", desk_with(json.dumps(["page"] * 13).encode()), FAILED),
+    ("a word too few", desk_with(b'["page"]'), FAILED),
+    ("a word that is a number", desk_with(b'["page",1]'), FAILED),
+]
+
+
+def reset(port, bytes_, pause=0.0):
+    """Sends these bytes and breaks the connection, so that reads and writes at its other end fail."""
+    with socket.create_connection(("127.0.0.1", port), timeout=60) as peer:
+        peer.setsockopt(socket.SOL_SOCKET, socket.SO_LINGER, struct.pack("ii", 1, 0))
+        peer.sendall(bytes_)
+        time.sleep(pause)
+
+
+def hostile_bytes(folder, workers):
+    """What a hostile client sends gets its answer, or none where the connection breaks; then Ann's page is answered as ever, and the rows stay."""
+    path = a_library(folder, "hostile.db")
+    before, broken = whole(path), [page_with(32)[:30], hold_with(HOLD)[:-1], hold_with(HOLD, key=b"h0")[:40], desk_with(b'["withdraw","10"]')[:-2]]
+    check("the limits of a head", (len(page_with(2, 8_136)), len(page_with(2, 8_137)), page_with(33).count(b": ")), (8_192, 8_193, 33))
+
+    def all_is_well(what):
+        check(f"the next one after {what}", serving.raw(PAGE_OF_ANN, pause=0), answer("200 OK", ANNS_PAGE))
+        with desk.as_it_is(path) as left:
+            check(f"the rows after {what}", whole(left), before)
+
+    with Serving(path, 2 * (len(HOSTILE) + len(broken)) + 2 * len(PAUSES) + 2, workers=workers) as serving:
+        for what, request, wanted in HOSTILE:
+            check(what, serving.raw(request, pause=0), wanted)
+            all_is_well(what)
+        for request in broken:
+            reset(serving.port, request, 0.01)
+            all_is_well("a connection that broke")
+        # the whole request came, and its answer may have been cut at any byte, or gone nowhere
+        for pause in PAUSES:
+            reset(serving.port, hold_with(HOLD), pause)
+            check("the next one after a cut answer", serving.raw(PAGE_OF_ANN, pause=0), answer("200 OK", ANNS_PAGE))
+        check("the same key again", serving.raw(hold_with(HOLD)), answer("200 OK", b'{"reply":"hold 1"}'))
+        check("Ann's page", serving.raw(PAGE_OF_ANN), answer("200 OK", ANNS_PAGE))
+    after = whole(path)
+    check("one hold", (len(after["holds"]), after["kept"].pop(), after["meta"]), (1, (2, "h1", "place-hold 2 100 1", "hold 1"), [(1, 1, 20514, 1, 2, 1)]))
+    check("all else stays", {**after, "holds": [], "meta": before["meta"]}, before)
+
+
+PAUSES = [n / 4000 for n in range(12)]  # in seconds, until a connection is broken whose answer is on its way
+
+
+def no_key_is_told(folder):
+    """Whatever is asked and shown, no answer, line or message has the desk's key, a card key or a key of a request in it."""
+    path, heard = a_library(folder, "secret.db"), []
+    keys = card, wrong, desk_key, own = "9card9card9", "8wrong8wrong", "7desk7desk7", "6request-6"
+
+    def runs(*words):
+        run = subprocess.run([PROGRAM, *words], capture_output=True, timeout=60)
+        heard.extend([run.stdout, run.stderr])
+
+    copies = os.path.join(folder, own + ".csv")
+    with open(copies, "w", encoding="utf-8") as file:
+        file.write(f"{desk.HEADER}50,500,{card},1,1,1,END\n")
+    for words in (["patron", "4", "1", card, "Di East"], ["patron", "4", "1", wrong, "Di East"], ["patron", "5", "1", "card key", card],
+                  ["check-out", "4", "10", "1"], ["check-out", "4", "99", "1"], ["page", "4"], ["page", card]):
+        runs("file", path, own, *words)
+        runs("file", path, f"{own}-{words[0]}", *words)
+    check("the patron is there", rows(path, "SELECT card_key FROM patrons WHERE patron = 4"), [(card,)])
+    for words in (["file", path, card + "_", "page", "4"], ["import", path, copies], ["import", path, own], ["report", path, "shelf", card],
+                  ["serve", path, "0", "1", "1", desk_key], ["serve", folder, str(free_port()), "1", "1", desk_key],
+                  ["send", str(free_port()), desk_key, own, "page", "4"], [desk_key]):
+        runs(*words)
+    port = str(free_port())
+    words, asked = ["serve", path, port, "2", "30", desk_key], 0
+    with subprocess.Popen([PROGRAM, *words], stdout=subprocess.PIPE, stderr=subprocess.PIPE) as serving:
+        try:
+            check("the first line", serving.stdout.readline(), f"listening on {port}\n".encode())
+            for shown in (card, wrong, desk_key, own):
+                for target, body in (("/patrons/4", b""), ("/patrons/4/holds", HOLD), ("/patrons/4/holds/1/cancel", b""), ("/patrons/4/loans/1/renew", b""),
+                                     ("/desk", json.dumps(["patron", "6", "1", card, "Ed"]).encode()), ("/desk", json.dumps([shown]).encode()),
+                                     (f"/{shown}", b"")):
+                    method = b"GET" if target == "/patrons/4" else b"POST"
+                    lines = [f"{target} HTTP/1.1", f"Card-Key: {shown}", f"Desk-Key: {shown}", f"Request-Key: {own}-{asked}", f"Content-Length: {len(body)}"]
+                    with socket.create_connection(("127.0.0.1", int(port)), timeout=60) as peer:
+                        peer.sendall(method + b" " + "\r\n".join([*lines, "", ""]).encode() + body)
+                        peer.shutdown(socket.SHUT_WR)
+                        heard.append(everything(peer))
+                    asked += 1
+            for _ in range(60 - asked - 2):
+                with socket.create_connection(("127.0.0.1", int(port)), timeout=60) as peer:
+                    peer.sendall(f"GET /{card}\x00 {desk_key}\r\nCard-Key: {card}".encode())
+                    peer.shutdown(socket.SHUT_WR)
+                    heard.append(everything(peer))
+            for shown in (desk_key, wrong):
+                runs("send", port, shown, own + "-s", "patron", "7", "1", card, "Flo")
+            heard.extend(serving.communicate(timeout=60))
+        finally:
+            serving.kill()
+    text = b"\n".join(heard)
+    statuses = [status for status in (b"200 OK", b"400 ", b"403 ", b"404 ", b"409 ") if b"HTTP/1.1 " + status not in text]
+    check("each kind of answer was heard", (statuses, text.count(b"not understood") > 2, text.count(b"fault") > 2), ([], True, True))
+    check("no key was heard", [key for key in keys if key.encode() in text], [])
+
+
 def one_waits(folder, workers):
     """Connections are answered in the order in which they came; one that waits for a worker is answered too."""
     path = a_library(folder, "waits.db")
@@ -367,10 +523,11 @@ def main():
             silent = [pool.submit(a_silent_client, folder, workers) for workers in (1, 2)]
             no_network(folder)
             bad_words(folder)
+            no_key_is_told(folder)
             for workers in (1, 2, 8):
                 room = os.path.join(folder, f"workers{workers}")
                 os.mkdir(room)
-                for part in (each_route, by_curl, in_pieces, one_waits, a_damaged_patron, a_damaged_copy, sent):
+                for part in (each_route, by_curl, in_pieces, hostile_bytes, one_waits, a_damaged_patron, a_damaged_copy, sent):
                     part(room, workers)
             for it in silent:
                 it.result()

@@ -3,6 +3,7 @@
 
 use circ::{Exit, Report, WriteFault};
 use desk::Desk;
+use front::{CopyEnd, read_copies};
 use sqlite::{Alter, Connection, FileStore, Files, MemStore, Options};
 use sqlite_disk::{Crash, Disk};
 use std::alloc::Global;
@@ -39,6 +40,12 @@ pub fn import<S: Alter, R: Read + Drop, W: Write>(
     writer: &mut W,
 ) -> Result<Exit, WriteFault> {
     circ::import(desk, alloc, reader, writer)
+}
+
+/// Reads a copies file: how many rows it has, and how the reading ended.
+pub fn copies<R: Read + Drop>(alloc: Global, reader: R) -> (usize, CopyEnd) {
+    let (rows, end) = read_copies(alloc, reader);
+    (rows.len(), end)
 }
 
 /// Has a request handled.

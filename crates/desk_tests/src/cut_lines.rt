@@ -190,11 +190,11 @@ fn cuts_the_lines_of_rows(rt: HostRuntime) -> Result<(), Fail> {
 
 /// A reader of some bytes that fails after them.
 #[derive(Drop)]
-pub struct Failing {
-    pub bytes: &'static [u8],
+pub struct Failing<'a> {
+    pub bytes: &'a [u8],
 }
 
-impl Read for Failing {
+impl Read for Failing<'_> {
     fn read(&mut self, buf: &mut [u8]) -> io::Result<usize> {
         if self.bytes.is_empty() {
             return Err(io::ErrorKind::Other.into());

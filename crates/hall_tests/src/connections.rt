@@ -3,8 +3,9 @@
 ghost use Rattle.std.specs.Prelude.{◌≡◌, false};
 
 use crate::bytes::{Failing, answer, gets, served};
-use crate::calls::{handle_all, leave, open_hall, open_queue, take_in};
-use crate::library::library;
+use crate::calls::{connection, handle_all, leave, open_hall, open_queue, take_in};
+use crate::hostile::{HOSTILE, withstands_all};
+use crate::library::{library, rows};
 use hall::{Left, Opened, Opening, Worker};
 use std::alloc::Global;
 use std::marker::Brand;
@@ -19,7 +20,7 @@ const HOLD: &str =
 
 const HELD: &str = "200 OK {\"reply\":\"hold 1\"}";
 
-const ANNS_PAGE: &str = "200 OK {\"reply\":\"patron 1 owed 0 name Ann Bell\"}";
+pub const ANNS_PAGE: &str = "200 OK {\"reply\":\"patron 1 owed 0 name Ann Bell\"}";
 
 /// Requests one after another, each with the status and the body of its answer.
 const ANSWERED: [(&str, &str); 11] = [
@@ -73,6 +74,8 @@ enum Deed {
     /// Reads fail after each byte of a hold; another hold is the first. A read that would fail after
     /// the last byte isn't made.
     Breaks,
+    /// What hostile clients send is withstood.
+    Withstands,
 }
 
 /// How many of the requests get their answers.
@@ -140,18 +143,19 @@ fn work<J: Opening, R: Wait>(
         Deed::Answers => answers(rt, alloc, &mut worker),
         Deed::Cuts => cuts(rt, alloc, &mut worker),
         Deed::Breaks => breaks(rt, alloc, &mut worker),
+        Deed::Withstands => withstands_all(rt, alloc, &mut worker),
     };
     Some((leave(rt, worker), count?))
 }
 
-/// A hall of one, and a desk beside it: how often it went well, and how many submissions were
-/// handled.
+/// A hall of one, and a desk beside it: how often it went well, how many submissions were handled,
+/// and all rows at the end.
 fn meet<J: Opening + Send + Sync + 'static, R: Threads + Wait + Abort + Copy + Send + 'static>(
     rt: R,
     alloc: Global,
     opened: Opened,
     deed: Deed,
-) -> Result<(usize, u64), Fail>
+) -> Result<(usize, u64, String), Fail>
     requires name { opened ≡ J.name }
     requires known { J.known ≡ false }
 {
@@ -159,19 +163,20 @@ fn meet<J: Opening + Send + Sync + 'static, R: Threads + Wait + Abort + Copy + S
         return Err("a hall".into());
     };
     let started = thread::spawn(&rt, move || work(&rt, alloc, all, deed)).ok();
-    let (_desk, mut ended, fault) = handle_all(&rt, alloc, side);
+    let (desk, mut ended, fault) = handle_all(&rt, alloc, side);
     let met = started.ok_or("a thread")?.join(&rt);
     let (left, count) = met.ok_or("answers")?;
     assert!(&rt; fault == None && left.is_told);
     let handled = take_in(&mut ended, left);
-    Ok((count, handled))
+    let text = rows(alloc, &mut connection(desk))?;
+    Ok((count, handled, text))
 }
 
 #[test]
 fn answers_each_kind_of_request(rt: HostRuntime) -> Result<(), Fail> {
     let alloc = rt.alloc();
-    let met = meet::<Brand, _>(rt, alloc, open_queue(alloc)?, Deed::Answers)?;
-    assert!(&rt; met == (11, 3), "{met:?}");
+    let (count, handled, _) = meet::<Brand, _>(rt, alloc, open_queue(alloc)?, Deed::Answers)?;
+    assert!(&rt; count == 11 && handled == 3, "{count} {handled}");
     Ok(())
 }
 
@@ -183,8 +188,11 @@ fn a_cut_answer_can_be_had_again(rt: HostRuntime) -> Result<(), Fail> {
         .ok_or("an answer")?
         .len()
         .wrapping_add(1);
-    let met = meet::<Brand, _>(rt, alloc, open_queue(alloc)?, Deed::Cuts)?;
-    assert!(&rt; met == (size, size as u64), "{met:?}");
+    let (count, handled, _) = meet::<Brand, _>(rt, alloc, open_queue(alloc)?, Deed::Cuts)?;
+    assert!(&rt;
+        count == size && handled == size as u64,
+        "{count} {handled}"
+    );
     Ok(())
 }
 
@@ -193,7 +201,22 @@ fn a_cut_answer_can_be_had_again(rt: HostRuntime) -> Result<(), Fail> {
 fn a_request_that_is_not_whole_is_none(rt: HostRuntime) -> Result<(), Fail> {
     let alloc = rt.alloc();
     let size = HOLD.len().wrapping_add(2);
-    let met = meet::<Brand, _>(rt, alloc, open_queue(alloc)?, Deed::Breaks)?;
-    assert!(&rt; met == (size, 2), "{met:?}");
+    let (count, handled, _) = meet::<Brand, _>(rt, alloc, open_queue(alloc)?, Deed::Breaks)?;
+    assert!(&rt; count == size && handled == 2, "{count} {handled}");
+    Ok(())
+}
+
+/// What a hostile client sends never comes to the desk, and the next client is answered as ever.
+#[test]
+fn hostile_clients_change_nothing(rt: HostRuntime) -> Result<(), Fail> {
+    let alloc = rt.alloc();
+    let met = meet::<Brand, _>(rt, alloc, open_queue(alloc)?, Deed::Withstands)?;
+    let (count, handled, text) = met;
+    assert!(&rt;
+        count == HOSTILE.len() + 5 && handled == 0,
+        "{count} {handled}"
+    );
+    let before = rows(alloc, &mut connection(library(alloc)?))?;
+    assert!(&rt; text.as_str() == before.as_str());
     Ok(())
 }

@@ -100,11 +100,27 @@ pub const READ: [(&str, &str); 8] = [
     ),
 ];
 
-/// What fails a check, each with its answer.
-pub const REFUSED: [(&str, &str); 45] = [
-    ("", BAD_REQUEST),
-    ("GET /patrons/1 HT", BAD_REQUEST),
-    ("GET /patrons/1 HTTP/2.0\r\n\r\n", BAD_REQUEST),
+/// What ends too soon: all are answered as malformed, once nothing more comes.
+pub const CUT: [&str; 5] = [
+    "",
+    "GET /patrons/1 HT",
+    "GET /nowhere HTTP/1.1\r\nContent-Length: 65536\r\n\r\n",
+    "POST /desk HTTP/1.1\r\nDesk-Key: deskkey00001\r\nRequest-Key: d1\r\n\
+        Content-Length: 26\r\n\r\n[\"check-out\",\"1\",\"10\",\"1\"",
+    "GET /nowhere HTTP/1.1\r\nContent-Length: 2\r\n\r\n1",
+];
+
+/// Heads that no more bytes can mend, each with how many bytes have to come before that is known.
+pub const NO_HEAD: [(&str, usize); 2] = [
+    ("GET /patrons/1 HTTP/2.0\r\n\r\n", 21),
+    (
+        "GET /patrons/1 HTTP/1.1\r\nCard Key: cardkey00001\r\n\r\n",
+        30,
+    ),
+];
+
+/// Heads whose fields are refused before any byte of a body is looked at, each with its answer.
+pub const REFUSED_HEADS: [(&str, &str); 7] = [
     (
         "GET /nowhere HTTP/1.1\r\nTransfer-Encoding: chunked\r\n\r\n",
         BAD_REQUEST,
@@ -123,10 +139,6 @@ pub const REFUSED: [(&str, &str); 45] = [
         BAD_REQUEST,
     ),
     (
-        "GET /nowhere HTTP/1.1\r\nContent-Length: 65536\r\n\r\n",
-        BAD_REQUEST,
-    ),
-    (
         "GET /nowhere HTTP/1.1\r\nContent-Length: 65537\r\n\r\n",
         TOO_LARGE,
     ),
@@ -138,15 +150,10 @@ pub const REFUSED: [(&str, &str); 45] = [
         "DELETE /desk HTTP/1.1\r\nContent-Length: 4294967296\r\n\r\n",
         TOO_LARGE,
     ),
-    (
-        "POST /desk HTTP/1.1\r\nDesk-Key: deskkey00001\r\nRequest-Key: d1\r\n\
-        Content-Length: 26\r\n\r\n[\"check-out\",\"1\",\"10\",\"1\"",
-        BAD_REQUEST,
-    ),
-    (
-        "GET /nowhere HTTP/1.1\r\nContent-Length: 2\r\n\r\n1",
-        BAD_REQUEST,
-    ),
+];
+
+/// What fails another check, each with its answer.
+pub const REFUSED: [(&str, &str); 32] = [
     ("DELETE /patrons/x HTTP/1.1\r\n\r\n", NOT_FOUND),
     (
         "GET /patrons/01 HTTP/1.1\r\nCard-Key: cardkey00001\r\n\r\n",

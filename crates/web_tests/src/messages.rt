@@ -1,8 +1,8 @@
 //! Requests as connections bring them, and answers as connections take them, whole and in pieces.
 
 use crate::examples::{
-    ANSWERED, BAD_REQUEST, CONFLICT, FORBIDDEN, HELD, LENT, ONLY_POST, QUOTED, READ, REFUSED, SENT,
-    SHOWN, UNAVAILABLE, UNREAD,
+    ANSWERED, BAD_REQUEST, CONFLICT, CUT, FORBIDDEN, HELD, LENT, NO_HEAD, NOT_FOUND, ONLY_POST,
+    QUOTED, READ, REFUSED, REFUSED_HEADS, SENT, SHOWN, TOO_LARGE, UNAVAILABLE, UNREAD,
 };
 use http::Method;
 use std::alloc::Global;
@@ -185,18 +185,80 @@ fn requests_are_read(rt: HostRuntime) -> Result<(), Fail> {
     Ok(())
 }
 
+/// How many beginnings of the bytes, from the empty one on, are told as a read that failed, where
+/// the reader fails after them. The others get the answer, else there is no such number.
+fn failed_reads(alloc: Global, bytes: &[u8], want: &str) -> Result<Option<usize>, Fail> {
+    let mut count = 0usize;
+    for end in 0..bytes.len() + 1 {
+        let (front, pieces) = (&bytes[..end], (7, 100_000, true));
+        if count == end && is_read(alloc, Side::Server, front, pieces, "failed")? {
+            count = count.wrapping_add(1);
+        } else if !is_read(alloc, Side::Server, front, pieces, want)? {
+            return Ok(None);
+        }
+    }
+    Ok(Some(count))
+}
+
+/// What ends too soon is refused at its end alone: where a read fails there, that is told.
+#[test]
+fn what_is_cut_is_refused(rt: HostRuntime) -> Result<(), Fail> {
+    let alloc = rt.alloc();
+    for text in CUT {
+        let bytes = text.as_bytes();
+        assert!(rt;
+            is_read_anyhow(alloc, Side::Server, bytes, BAD_REQUEST)?,
+            "{text}"
+        );
+        let failed = failed_reads(alloc, bytes, BAD_REQUEST)?;
+        assert!(rt; failed == Some(bytes.len() + 1), "{text}");
+    }
+    Ok(())
+}
+
+/// A head is refused once it is whole, or once nothing that follows can make it one.
+#[test]
+fn heads_are_refused(rt: HostRuntime) -> Result<(), Fail> {
+    let alloc = rt.alloc();
+    for (text, least) in NO_HEAD {
+        let bytes = text.as_bytes();
+        assert!(rt;
+            is_read_anyhow(alloc, Side::Server, bytes, BAD_REQUEST)?,
+            "{text}"
+        );
+        let failed = failed_reads(alloc, bytes, BAD_REQUEST)?.ok_or("an answer")?;
+        assert!(rt; least <= failed && failed <= bytes.len(), "{text} {failed}");
+    }
+    for (text, answer) in REFUSED_HEADS {
+        let bytes = text.as_bytes();
+        assert!(rt;
+            is_read_anyhow(alloc, Side::Server, bytes, answer)?,
+            "{text}"
+        );
+        let end = text.find("\r\n\r\n").ok_or("an end")?;
+        let failed = failed_reads(alloc, bytes, answer)?;
+        assert!(rt; failed == Some(end.wrapping_add(4)), "{text}");
+    }
+    Ok(())
+}
+
+/// Each other check refuses once the body is whole.
 #[test]
 fn checks_refuse_in_their_order(rt: HostRuntime) -> Result<(), Fail> {
     let alloc = rt.alloc();
     for (text, answer) in REFUSED {
+        let bytes = text.as_bytes();
         assert!(rt;
-            is_read_anyhow(alloc, Side::Server, text.as_bytes(), answer)?,
+            is_read_anyhow(alloc, Side::Server, bytes, answer)?,
             "{text}"
         );
+        let failed = failed_reads(alloc, bytes, answer)?;
+        assert!(rt; failed == Some(bytes.len()), "{text}");
     }
     let latin = b"POST /patrons/2/holds HTTP/1.1\r\nCard-Key: cardkey00002\r\nRequest-Key: h1\r\n\
         Content-Length: 37\r\n\r\n{\"branch\":\"\xe9\",\"branch\":1,\"title\":100}";
     assert!(rt; is_read_anyhow(alloc, Side::Server, latin, BAD_REQUEST)?);
+    assert!(rt; failed_reads(alloc, latin, BAD_REQUEST)? == Some(latin.len()));
     Ok(())
 }
 
@@ -221,24 +283,26 @@ fn page_with(alloc: Global, fields: usize, length: usize) -> Result<String, Fail
 fn heads_have_limits(rt: HostRuntime) -> Result<(), Fail> {
     let alloc = rt.alloc();
     let page = "1 cardkey00001 -: page 1";
-    for (fields, length, size, want) in [
-        (2, 8136, 8192, page),
-        (2, 8137, 8193, BAD_REQUEST),
-        (32, 0, 206, page),
-        (33, 0, 211, BAD_REQUEST),
+    // where a read fails, that is told up to the byte at which a head that is too long, or has too
+    // many fields, can't be a good one any more
+    for (fields, length, size, want, least) in [
+        (2, 8136, 8192, page, 8192),
+        (2, 8137, 8193, BAD_REQUEST, 8192),
+        (32, 0, 206, page, 206),
+        (33, 0, 211, BAD_REQUEST, 205),
     ] {
         let text = page_with(alloc, fields, length)?;
-        assert_eq!(rt; text.len(), size);
-        assert!(rt;
-            is_read_anyhow(alloc, Side::Server, text.as_bytes(), want)?,
-            "{size}"
-        );
+        let bytes = text.as_bytes();
+        assert_eq!(rt; bytes.len(), size);
+        assert!(rt; is_read_anyhow(alloc, Side::Server, bytes, want)?, "{size}");
+        let failed = failed_reads(alloc, bytes, want)?.ok_or("an answer")?;
+        assert!(rt; least <= failed && failed <= size, "{size} {failed}");
     }
     Ok(())
 }
 
 /// Answers, each with its bytes.
-fn answers(alloc: Global) -> Result<[(Answer, &'static str); 8], Fail> {
+fn answers(alloc: Global) -> Result<[(Answer, &'static str); 11], Fail> {
     let Some(due) = Day::new(20521) else {
         return Err("no day".into());
     };
@@ -269,6 +333,9 @@ fn answers(alloc: Global) -> Result<[(Answer, &'static str); 8], Fail> {
             Answer::Failed(WebStatus::MethodNotAllowed(Method::POST)),
             ONLY_POST,
         ),
+        (Answer::Failed(WebStatus::BadRequest), BAD_REQUEST),
+        (Answer::Failed(WebStatus::NotFound), NOT_FOUND),
+        (Answer::Failed(WebStatus::PayloadTooLarge), TOO_LARGE),
     ])
 }
 

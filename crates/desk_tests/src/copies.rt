@@ -1,0 +1,125 @@
+//! Copies files as readers bring them: rows that aren't good, a row too many, and reads that fail at each byte.
+
+use crate::calls::{copies, import};
+use crate::cut_lines::{BEES, Failing};
+use crate::ground::ground;
+use circ::Exit;
+use desk::Desk;
+use front::CopyEnd;
+use sqlite::Alter;
+use std::alloc::Global;
+use std::process::Abort;
+use std::test::Fail;
+
+/// A header and a good row.
+const BEGUN: &str = "copy,title,text,kind,home,price,end\n50,500,Maps,1,1,1500,end\n";
+
+/// Rows that aren't good: a field too few, a number with a zero before it, another closing word, and
+/// no title.
+const BAD: [&str; 4] = [
+    "51,500,Maps,1,1500,end\n",
+    "062,500,Maps,1,1,1500,end\n",
+    "51,500,Maps,1,1,1500,END\n",
+    "51,501,,1,1,1500,end\n",
+];
+
+/// How many lines have ended.
+fn ended_lines(bytes: &[u8]) -> usize {
+    bytes.iter().filter(|byte| **byte == b'\n').count()
+}
+
+/// How a file whose second row is bad is read where the reader fails after some of its bytes: its
+/// first row is there once its line has ended, and the end is told once the bad line has ended, if a
+/// line's end ends it at all.
+fn breaks(rt: &impl Abort, alloc: Global, bytes: &[u8], lines: usize) {
+    for size in 0..bytes.len() + 1 {
+        let front = &bytes[..size];
+        let told = copies(alloc, Failing { bytes: front });
+        let ended = ended_lines(front);
+        let end = if ended < lines {
+            CopyEnd::Read
+        } else {
+            CopyEnd::Bad(2)
+        };
+        let rows = if ended < 2 { 0 } else { 1 };
+        assert!(rt; told == (rows, end), "{size} {told:?}");
+    }
+}
+
+/// A bad row after a good one ends the reading, also where good rows follow it.
+fn is_bad(rt: &impl Abort, alloc: Global, row: &[u8], lines: usize) -> Result<(), Fail> {
+    let mut bytes: Vec<u8> = Vec::new(alloc);
+    bytes.extend_from_slice(BEGUN.as_bytes())?;
+    bytes.extend_from_slice(row)?;
+    breaks(rt, alloc, &bytes, lines);
+    let told = copies(alloc, bytes.as_slice());
+    assert!(rt; told == (1, CopyEnd::Bad(2)), "{told:?}");
+    bytes.extend_from_slice(b"52,502,Bees,1,1,700,end\n")?;
+    let told = copies(alloc, bytes.as_slice());
+    assert!(rt; told == (1, CopyEnd::Bad(2)), "{told:?}");
+    Ok(())
+}
+
+#[test]
+fn bad_rows_end_a_file(rt: HostRuntime) -> Result<(), Fail> {
+    let alloc = rt.alloc();
+    for row in BAD {
+        is_bad(&rt, alloc, row.as_bytes(), 3)?;
+    }
+    is_bad(&rt, alloc, b"51,501,M\xe4rz,1,1,1500,end\n", 3)?;
+    // a quote that is never closed goes on over lines, so no line ends that row
+    is_bad(&rt, alloc, b"51,501,\"Maps,1,1,1500,end\n", 4)
+}
+
+/// A file of so many good rows.
+fn rows_of(alloc: Global, count: u32) -> Result<Vec<u8>, Fail> {
+    let mut bytes: Vec<u8> = Vec::new(alloc);
+    bytes.extend_from_slice(b"copy,title,text,kind,home,price,end\n")?;
+    for _ in 0..count {
+        bytes.extend_from_slice(b"50,500,Maps,1,1,1500,end\n")?;
+    }
+    Ok(bytes)
+}
+
+#[test]
+fn a_file_has_100_000_rows(rt: HostRuntime) -> Result<(), Fail> {
+    let alloc = rt.alloc();
+    let bytes = rows_of(alloc, 100_000)?;
+    let told = copies(alloc, bytes.as_slice());
+    assert!(&rt; told == (100_000, CopyEnd::Whole), "{told:?}");
+    let bytes = rows_of(alloc, 100_001)?;
+    let told = copies(alloc, bytes.as_slice());
+    assert!(&rt; told == (100_000, CopyEnd::Bad(100_001)), "{told:?}");
+    Ok(())
+}
+
+/// The rows that a reader gave before it failed are taken in, and told.
+fn tells_rows<S: Alter>(
+    rt: &impl Abort,
+    alloc: Global,
+    desk: &mut Desk<S>,
+    front: &'static [u8],
+) -> Result<(), Fail> {
+    let rows = ended_lines(front).saturating_sub(1);
+    let mut wanted = String::new(alloc);
+    for row in 1..rows.wrapping_add(1) {
+        wanted.push_str(format!(in alloc; "row {row} ok\n")?.as_str())?;
+    }
+    wanted.push_str(format!(in alloc; "fault reading\naccepted {rows} refused 0\n")?.as_str())?;
+    let mut told: Vec<u8> = Vec::new(alloc);
+    let exit = import(desk, alloc, Failing { bytes: front }, &mut told)?;
+    assert!(rt; exit == Exit::Faulted);
+    assert!(rt; told.as_slice() == wanted.as_bytes(), "{wanted}");
+    Ok(())
+}
+
+#[test]
+fn a_read_that_fails_ends_a_file(rt: HostRuntime) -> Result<(), Fail> {
+    let alloc = rt.alloc();
+    let mut desk = ground(&rt, alloc)?;
+    let bytes = BEES.as_bytes();
+    for size in 0..bytes.len() + 1 {
+        tells_rows(&rt, alloc, &mut desk, &bytes[..size])?;
+    }
+    Ok(())
+}
