@@ -63,11 +63,11 @@ bees_text = (refl, low_text (codes "Winter Bees") refl)
 
 maps_row : IsRow maps_fields maps
 unfolding digits
-maps_row = (((omega arith, omega arith, omega arith, omega arith, omega arith, maps_text), omega arith), refl)
+maps_row = (((omega arith, (omega arith, (omega arith, (omega arith, (omega arith, (maps_text, tt)))))), (tt, (tt, (tt, (tt, (omega arith, (tt, tt))))))), refl)
 
 bees_row : IsRow bees_fields bees
 unfolding digits
-bees_row = (((omega arith, omega arith, omega arith, omega arith, omega arith, bees_text), omega arith), refl)
+bees_row = (((omega arith, (omega arith, (omega arith, (omega arith, (omega arith, (bees_text, tt)))))), (tt, (tt, (tt, (tt, (omega arith, (tt, tt))))))), refl)
 
 cut_row : IsNoRow cut_fields
 cut_row = record { none = λ row h. let size = ap (λ (fields : Fields). length fields) h.1 in absurd (omega (arith, size)) }
