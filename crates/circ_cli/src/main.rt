@@ -168,7 +168,7 @@ fn words_of(rt: &HostRuntime) -> Result<Vec<String>, Fault> {
     }
 }
 
-/// Does what is asked for, and writes its lines: those of a copies file and of the web at once, so that what was told was done.
+/// Does what is asked for, and writes its lines.
 fn do_run<S: Start, W: Write, R: Threads + Wait + Copy + Send + 'static>(
     rt: &HostRuntime,
     threads: R,
@@ -178,7 +178,7 @@ fn do_run<S: Start, W: Write, R: Threads + Wait + Copy + Send + 'static>(
 ) -> Result<Exit, WriteFault> {
     match asked {
         Run::File { path, key, words } => file(rt, start, path, key, words, writer),
-        Run::Import { path, copies } => import_into(rt, start, path, copies, &mut io::writer(rt)),
+        Run::Import { path, copies } => import_into(rt, start, path, copies, writer),
         Run::Report { path, report } => report_on(rt, start, path, &report, writer),
         Run::Serve {
             path,
@@ -195,7 +195,7 @@ fn do_run<S: Start, W: Write, R: Threads + Wait + Copy + Send + 'static>(
             workers,
             each,
             desk_key,
-            &mut io::writer(rt),
+            writer,
         ),
         Run::Send {
             port,
@@ -222,29 +222,47 @@ fn answer<S: Start, W: Write, R: Threads + Wait + Copy + Send + 'static>(
     }
 }
 
-/// The whole run: the lines of a request or a report go out together at its end, and then what the last of them means, on
-/// standard error.
+/// Does what the words ask for, and tells on standard error what the last line means.
+fn run_with<W: Write, R: Threads + Wait + Copy + Send + 'static>(
+    rt: &HostRuntime,
+    threads: R,
+    words: &[String],
+    writer: W,
+) -> Result<Exit, WriteFault> {
+    let mut noting = Noting::new(writer);
+    let exit = answer(rt, threads, Wary, rt.alloc(), words, &mut noting)?;
+    if noting.flush().is_err() {
+        return Err(WriteFault);
+    }
+    // What can't be told there is left: the line and the status stand.
+    let _ = explain(rt, words, noting.last_line());
+    Ok(exit)
+}
+
+/// Whether each line is written at once: those of a copies file and of the web, so that what was told was done.
+fn tells_at_once(words: &[String]) -> bool {
+    match words.first() {
+        Some(word) => word.as_str() == "import" || word.as_str() == "serve",
+        None => false,
+    }
+}
+
+/// The whole run: the lines of a request or a report go out together at its end.
 fn run<R: Threads + Wait + Copy + Send + 'static>(
     rt: &HostRuntime,
     threads: R,
 ) -> Result<Exit, WriteFault> {
-    let mut writer = match BufWriter::new(rt.alloc(), io::writer(rt)) {
-        Ok(writer) => Noting::new(writer),
-        Err(_) => return out_of_memory(&mut io::writer(rt)),
+    let words = match words_of(rt) {
+        Ok(words) => words,
+        Err(fault) => return tell_fault(&mut io::writer(rt), fault),
     };
-    let (exit, words) = match words_of(rt) {
-        Ok(words) => {
-            let exit = answer(rt, threads, Wary, rt.alloc(), &words, &mut writer)?;
-            (exit, words)
-        }
-        Err(fault) => (tell_fault(&mut writer, fault)?, Vec::new(rt.alloc())),
-    };
-    if writer.flush().is_err() {
-        return Err(WriteFault);
+    if tells_at_once(&words) {
+        return run_with(rt, threads, &words, io::writer(rt));
     }
-    // What can't be told there is left: the line and the status stand.
-    let _ = explain(rt, &words, writer.last_line());
-    Ok(exit)
+    match BufWriter::new(rt.alloc(), io::writer(rt)) {
+        Ok(writer) => run_with(rt, threads, &words, writer),
+        Err(_) => out_of_memory(&mut io::writer(rt)),
+    }
 }
 
 fn main(rt: HostRuntime) -> ExitCode {
