@@ -67,7 +67,7 @@ def main():
     same("the manual page's numbers", set(told), numbers("crates/terms/src/refusal.rt") | numbers("crates/terms/src/fault.rt"))
     messages = read("crates/circ_cli/src/messages.rt")
     same("what is told of them", {int(number): text for number, text in re.findall(r'^        (\d+) => "(.*)",$', messages, re.M)}, told)
-    version = re.search(r'VERSION: &str = "([0-9.]+)"', messages).group(1), re.search(r"SCHEMA: u32 = (\d+)", messages).group(1)
+    version = re.search(r'VERSION: &str = "([0-9.]+)"', messages).group(1), re.search(r"SCHEMA: u32 = (\d+)", read("crates/store/src/changing.rt")).group(1)
     same("the version", version, re.search(r"^## ([0-9.]+), schema (\d+)$", read("CHANGES.md"), re.M).groups())
     for line in wrong:
         print(line)

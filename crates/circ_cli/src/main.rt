@@ -187,15 +187,7 @@ fn do_run<S: Start, W: Write, R: Threads + Wait + Copy + Send + 'static>(
             each,
             desk_key,
         } => serve_on(
-            rt,
-            threads,
-            start,
-            path,
-            port,
-            workers,
-            each,
-            desk_key,
-            writer,
+            rt, threads, start, path, port, workers, each, desk_key, writer,
         ),
         Run::Send {
             port,
@@ -223,7 +215,7 @@ fn answer<S: Start, W: Write, R: Threads + Wait + Copy + Send + 'static>(
 }
 
 /// Does what the words ask for, and tells on standard error what the last line means.
-fn run_with<W: Write, R: Threads + Wait + Copy + Send + 'static>(
+fn run_with<W: Write + Drop, R: Threads + Wait + Copy + Send + 'static>(
     rt: &HostRuntime,
     threads: R,
     words: &[String],

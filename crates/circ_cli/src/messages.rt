@@ -3,13 +3,11 @@
 
 use std::io::{self, Write};
 use std::str;
+use store::SCHEMA;
 use terms::{CommandForm, PartForm, command_forms, parts_for, read_number};
 
 /// The version of the program, as the file of changes has it.
 const VERSION: &str = "0.9.0";
-
-/// The schema of the libraries that it makes and opens.
-const SCHEMA: u32 = 1;
 
 /// How much of a line is kept: more than the longest that is looked at.
 const KEPT: usize = 32;
@@ -113,9 +111,11 @@ fn meaning(number: u32) -> Option<&'static str> {
         80 => "the key was used for another request",
         81 => "wrong key, or not allowed to this caller",
         90 => "no memory was left",
-        91 => "the database refused a call: another process has the file, it can't be written, or the disk is full",
+        91 =>
+            "the database refused a call: another process has the file, it can't be written, or the disk is full",
         92 => "the desk is closed",
-        93 => "no library: the file is absent, empty, of another kind or schema, or has a damaged row",
+        93 =>
+            "no library: the file is absent, empty, of another kind or schema, or has a damaged row",
         _ => return None,
     };
     Some(text)

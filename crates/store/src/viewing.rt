@@ -364,10 +364,7 @@ fn account_view<S: Alter>(
     })
 }
 
-fn cancel_hold_view<S: Alter>(
-    conn: &mut Connection<S>,
-    number: HoldId,
-) -> Result<View, Fault>
+fn cancel_hold_view<S: Alter>(conn: &mut Connection<S>, number: HoldId) -> Result<View, Fault>
     ensures { Views (λ P rows. IsCancelHoldView P number rows) S.Store conn.old conn.new result }
 {
     let hold = get_hold(conn, number)?;
@@ -603,7 +600,10 @@ pub(crate) fn view_for<S: Alter>(
         Command::Rule { kind, .. } => kind_view(conn, *kind),
         Command::Patron { patron, kind, .. } => patron_view(conn, alloc, *patron, *kind),
         Command::Acquire {
-            copy, title, home, ..
+            copy,
+            title,
+            home,
+            ..
         } => acquire_view(conn, alloc, *copy, *title, *home),
         Command::CheckOut {
             patron,
