@@ -3,7 +3,7 @@
 ghost use Rattle.std.specs.Prelude.{◌≡◌, false};
 
 use crate::bytes::{Failing, answer, gets, served};
-use crate::calls::{handle_all, leave, open_hall, open_queue, take_in};
+use crate::calls::{close, handle_all, leave, open_hall, open_queue, take_in};
 use crate::library::library;
 use hall::{Left, Opened, Opening, Worker};
 use std::alloc::Global;
@@ -160,11 +160,17 @@ fn meet<J: Opening + Send + Sync + 'static, R: Threads + Wait + Abort + Copy + S
     };
     let started = thread::spawn(&rt, move || work(&rt, alloc, all, deed)).ok();
     let (_desk, mut ended, fault) = handle_all(&rt, alloc, side);
-    let met = started.ok_or("a thread")?.join(&rt);
-    let (left, count) = met.ok_or("answers")?;
-    assert!(&rt; fault == None && left.is_told);
-    let handled = take_in(&mut ended, left);
-    Ok((count, handled))
+    let met = match started {
+        Some(thread) => thread.join(&rt),
+        None => None,
+    };
+    let count = match met {
+        Some((left, count)) => take_in(&mut ended, left).then_some(count),
+        None => None,
+    };
+    let handled = close(&rt, ended);
+    assert!(&rt; fault == None);
+    Ok((count.ok_or("answers")?, handled))
 }
 
 #[test]

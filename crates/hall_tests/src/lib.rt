@@ -9,6 +9,8 @@ mod calls;
 #[cfg(test)]
 mod connections;
 #[cfg(test)]
+mod known;
+#[cfg(test)]
 mod library;
 #[cfg(test)]
 mod tests;
