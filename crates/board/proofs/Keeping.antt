@@ -1,25 +1,22 @@
 -- Each step keeps the rule of the board.
-use Rattle.std.proofs.Common.{◌≡◌, ◌≢◌, ℕ, ◌+◌, ◌-◌, ◌<◌, ◌≤◌, Bool, true, false, cond, List, [], ◌∷◌, ◌++◌, length, map, set, fold, Option, Some, None, get_or, zero, suc, sym, refl, ap, ◌∙◌, subst, ⊎_elim, ◌⊎◌, inl, inr, append_assoc, arith, length-append}
+use Rattle.std.proofs.Common.{◌≡◌, ◌≢◌, ℕ, ◌+◌, ◌-◌, Bool, true, false, cond, List, [], ◌∷◌, ◌++◌, length, set, fold, Option, Some, None, get_or, zero, suc, sym, refl, ap, ◌∙◌, subst, ⊎_elim, append_assoc, length-append}
 use mathlib.Core.Option.{some, some-ne-none}
 use lib.ListN.{get_elem?}
 use Rattle.std.proofs.lemmas.List.{append-nil}
 use Rattle.std.proofs.Math.ListN.{length-set}
-use Rattle.std.specs.Arc.{arc_value}
 use Rattle.crossbeam_utils.specs.Register.{Admits, Turns, TurnsAt}
 use Rattle.atomic_table.proofs.Lists.{at_set, at_snoc}
 use Rattle.model.specs.History.{History}
 use Rattle.model.specs.Requests.{after, reply_to}
 use Rattle.terms.specs.declared.command.Request.{Request}
-use Rattle.terms.specs.declared.reply.Reply.{Reply}
 use Rattle.board.specs.declared.board.Update.{Update}
-use Rattle.board.specs.declared.board.Update.TheVariants as update
 use Rattle.board.specs.declared.entry.Entry.{Entry}
 use Rattle.board.specs.declared.entry.Seen.{Seen}
 use Rattle.board.specs.Workers.{is_worker}
 use Rattle.board.specs.Showing.{Showing, StartsWith, IsBoardOf, IsNextEntry, AreEntries, IsReply, ShowsEntry, page_at, overlaid, last_of, last_on, count_own, requests, with_entry, updated, blank}
 use Rattle.desk.specs.Showing.{own_page}
-use Rattle.board.specs.Rule.{Keeps, Looks, Publishes, MayFollow, Publishing, nothing_seen, pages_of, are_pages}
-use Rattle.board.proofs.Beginnings.{fold-append, starts_more, starts_self, whole}
+use Rattle.board.specs.Rule.{Keeps, ShowsAll, Looks, Publishes, MayFollow, nothing_seen, pages_of, are_pages}
+use Rattle.board.proofs.Beginnings.{starts_more, starts_self, whole}
 use Rattle.board.proofs.Lasts.{last_next, found_in, count_found, StandsLast}
 use Rattle.board.proofs.PageLists.{put-all}
 
@@ -37,15 +34,12 @@ module _ (from : History) (known : Bool) where
   set_view entries views side w mine others j u e =
       ⊎_elim (λ (x : (j ≡ side) × (w ≡ u)). subst (λ (y : Seen). StartsWith entries y.entries) x.1 mine) (λ (x : (j ≢ side) × (get_elem? views j ≡ some u)). others j u x.1) (at_set views side j w u e)
 
-  -- the rule holds of what is shown first
-  pub begins : (x : Showing) → x ≡ record blank { pages = x.pages } → (known ≡ true → (p : ℕ) → page_at x.pages p ≡ own_page from p) → Keeps from known x (nothing_seen ∷ [])
-  begins x is pages = record {
-    entries = [];
+  -- a board with pages alone shows what no entry comes to
+  pub shows-first : (x : Showing) → x ≡ record blank { pages = x.pages } → (known ≡ true → (p : ℕ) → page_at x.pages p ≡ own_page from p) → ShowsAll from known [] x
+  shows-first x is pages = record {
     board = record { last = λ w. ap (last_on w) is ∙ nobody w; pages = pages };
     count = ap (λ (b : Showing). b.version) (sym is);
     places = ap (λ (b : Showing). length b.last) is;
-    sound = tt;
-    each = λ side v e. ⊎_elim (λ (y : get_elem? {A = Seen} [] side ≡ some v). absurd (some-ne-none v (sym y))) (λ (y : nothing_seen ≡ v). subst (λ (u : Seen). StartsWith [] u.entries) y ([], refl)) (at_snoc [] nothing_seen v side e);
   }
     where
       Nones : List (Option Entry) → Type 0
@@ -60,13 +54,20 @@ module _ (from : History) (known : Bool) where
       nobody : (w : ℕ) → last_on w (record blank { pages = x.pages }) ≡ cond (is_worker w) (last_of w []) None
       nobody w = ap (λ o. cond (is_worker w) o None) (none_at blank.last (refl, (refl, (refl, (refl, (refl, (refl, (refl, (refl, tt)))))))) (w - 1))
 
+  -- the rule holds of what is shown first
+  pub begins : (x : Showing) → x ≡ record blank { pages = x.pages } → (known ≡ true → (p : ℕ) → page_at x.pages p ≡ own_page from p) → Keeps from known x (nothing_seen ∷ [])
+  begins x is pages = record {
+    entries = [];
+    shows = shows-first x is pages;
+    sound = tt;
+    each = λ side v e. ⊎_elim (λ (y : get_elem? {A = Seen} [] side ≡ some v). absurd (some-ne-none v (sym y))) (λ (y : nothing_seen ≡ v). subst (λ (u : Seen). StartsWith [] u.entries) y ([], refl)) (at_snoc [] nothing_seen v side e);
+  }
+
   -- a side more, which has seen nothing
   pub admits : Admits (Keeps from known) nothing_seen
   admits x views h = record {
     entries = h.entries;
-    board = h.board;
-    count = h.count;
-    places = h.places;
+    shows = h.shows;
     sound = h.sound;
     each = λ side v e. ⊎_elim (λ (old : get_elem? views side ≡ some v). h.each side v old) (λ (is : nothing_seen ≡ v). subst (λ (u : Seen). StartsWith h.entries u.entries) is (h.entries, refl)) (at_snoc views nothing_seen v side e);
   }
@@ -74,39 +75,38 @@ module _ (from : History) (known : Bool) where
   pub looks : (side : ℕ) (v : Seen) → Turns (Keeps from known) side v (λ x. x) (Looks from known)
   looks side v x views h at =
       let w : Seen = record { entries = h.entries } in
-      (w, record { entries = h.entries; board = h.board; count = h.count; places = h.places; sound = h.sound; each = set_view h.entries views side w (starts_self h.entries) h.each }, record { more = h.each side v at; board = h.board; sound = h.sound })
+      (w, record { entries = h.entries; shows = h.shows; sound = h.sound; each = set_view h.entries views side w (starts_self h.entries) h.each }, record { more = h.each side v at; board = h.shows.board; sound = h.sound })
 
   -- the board once an entry is shown
-  board_next : (entries : List Entry) (x next : Showing) (us : List Update) (e : Entry) → IsBoardOf from known entries x → length x.last ≡ 8 → are_pages us ≡ true
-      → MayFollow from known (record { shown = entries; pages = pages_of us }) e → next ≡ with_entry (fold updated x us) e
-      → IsBoardOf from known (entries ++ e ∷ []) next × (length next.last ≡ 8)
-  board_next entries x next us e b long pages may is =
+  pub shows-next : (entries : List Entry) (x next : Showing) (us : List Update) (e : Entry) → ShowsAll from known entries x → are_pages us ≡ true
+      → MayFollow from known (record { shown = entries; board = x; pages = pages_of us }) e → next ≡ with_entry (fold updated x us) e → ShowsAll from known (entries ++ e ∷ []) next
+  shows-next entries x next us e shows pages may is =
       let put = put-all x us pages in
       let mid : Showing = fold updated x us in
       let lasts : mid.last ≡ x.last = ap (λ (y : Showing). y.last) put.0 in
-      let long' : length mid.last ≡ 8 = ap length lasts ∙ long in (
-        record {
-          last = λ w. ap (last_on w) is ∙ last_next mid e entries w may.next.worker long' (ap (λ l. cond (is_worker w) (get_or l (w - 1) None) None) lasts ∙ b.last w);
-          pages = λ k p. ap (λ (y : Showing). page_at y.pages p) is ∙ (put.1 p ∙ (ap (overlaid (pages_of us) p) (b.pages k p) ∙ may.pages k p));
-        },
-        ap (λ (y : Showing). length y.last) is ∙ (ap (λ c. length (cond c (set mid.last (e.worker - 1) (Some e)) mid.last)) may.next.worker ∙ (length-set mid.last (e.worker - 1) (Some e) ∙ long')),
-      )
+      let long : length mid.last ≡ 8 = ap length lasts ∙ shows.places in
+      let versions : mid.version ≡ x.version = ap (λ (y : Showing). y.version) put.0 in
+      record {
+        board = record {
+          last = λ w. ap (last_on w) is ∙ last_next mid e entries w may.next.worker long (ap (λ l. cond (is_worker w) (get_or l (w - 1) None) None) lasts ∙ shows.board.last w);
+          pages = λ k p. ap (λ (y : Showing). page_at y.pages p) is ∙ (put.1 p ∙ (ap (overlaid (pages_of us) p) (shows.board.pages k p) ∙ may.pages k p));
+        };
+        count = length-append entries (e ∷ []) ∙ (ap (λ n. n + 1) (shows.count ∙ sym versions) ∙ sym (ap (λ (y : Showing). y.version) is));
+        places = ap (λ (y : Showing). length y.last) is ∙ (ap (λ c. length (cond c (set mid.last (e.worker - 1) (Some e)) mid.last)) may.next.worker ∙ (length-set mid.last (e.worker - 1) (Some e) ∙ long));
+      }
 
-  pub publishes : (side : ℕ) (v : Seen) (x next : Showing) (us : List Update) (e : Entry) → length v.entries ≡ x.version → are_pages us ≡ true
-      → MayFollow from known (record { shown = v.entries; pages = pages_of us }) e → next ≡ with_entry (fold updated x us) e → TurnsAt (Keeps from known) side v x next Publishes
-  publishes side v x next us e long pages may is views h at =
-      let same : h.entries ≡ v.entries = whole h.entries v.entries (h.each side v at) (long ∙ sym h.count) in
+  pub publishes : (side : ℕ) (v : Seen) (x next : Showing) (us : List Update) (e : Entry) → ShowsAll from known v.entries x → are_pages us ≡ true
+      → MayFollow from known (record { shown = v.entries; board = x; pages = pages_of us }) e → next ≡ with_entry (fold updated x us) e → TurnsAt (Keeps from known) side v x next Publishes
+  publishes side v x next us e shows pages may is views h at =
+      let same : h.entries ≡ v.entries = whole h.entries v.entries (h.each side v at) (shows.count ∙ sym h.shows.count) in
       let after' : List Entry = v.entries ++ e ∷ [] in
       let w : Seen = record { entries = after' } in
       let more : (j : ℕ) (u : Seen) → get_elem? views j ≡ some u → StartsWith after' u.entries = λ j u a. starts_more v.entries u.entries (e ∷ []) (subst (λ l. StartsWith l u.entries) same (h.each j u a)) in
-      let b = board_next v.entries x next us e (subst (λ l. IsBoardOf from known l x) same h.board) h.places pages may is in
-      let put = put-all x us pages in
-      let versions : (fold updated x us).version ≡ x.version = ap (λ (y : Showing). y.version) put.0 in
-      let count : length after' ≡ next.version = length-append v.entries (e ∷ []) ∙ (ap (λ n. n + 1) (long ∙ sym versions) ∙ sym (ap (λ (y : Showing). y.version) is)) in
+      let now = shows-next v.entries x next us e shows pages may is in
       let sound : AreEntries from known [] after' = entries-append [] v.entries e (subst (AreEntries from known []) same h.sound) may.next in (
         w,
-        record { entries = after'; board = b.0; count = count; places = b.1; sound = sound; each = set_view after' views side w (starts_self after') more },
-        record { entry = e; latest = ap (λ (y : Showing). y.latest) is; more = refl; count = count },
+        record { entries = after'; shows = now; sound = sound; each = set_view after' views side w (starts_self after') more },
+        record { entry = e; latest = ap (λ (y : Showing). y.latest) is; more = refl; count = now.count },
       )
 
   -- what a worker finds under its number is the reply to its submission

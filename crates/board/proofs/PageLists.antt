@@ -1,16 +1,14 @@
 -- Pages in the order of their patrons.
-use Rattle.std.proofs.Common.{◌≡◌, ℕ, ◌<◌, ◌==◌, Bool, true, false, cond, List, [], ◌∷◌, ◌++◌, length, map, fold, Ordering, Less, Equal, Greater, Option, Some, None, sym, refl, ap, ◌∙◌, subst, arith}
-use Rattle.std.specs.Map.{lookup}
-use Rattle.std.specs.BTreeMap.{insert_entry, is_at}
+use Rattle.std.proofs.Common.{◌≡◌, ℕ, ◌<◌, ◌==◌, Bool, true, false, cond, List, [], ◌∷◌, ◌++◌, map, fold, Ordering, Less, Equal, Greater, Some, None, sym, refl, ap, ◌∙◌, subst, arith}
+use Rattle.std.specs.BTreeMap.{insert_entry}
 use Rattle.std.specs.Ordering.{is_eq, nat_cmp, match_ordering, MatchOrdering}
 use Rattle.std.specs.Cmp.{ranks, unsigned_tied, nat_eq_equiv}
-use Rattle.std.proofs.lemmas.Bool.{eq-eqb, eqb-true}
+use Rattle.std.proofs.lemmas.Bool.{eqb-true}
 use Rattle.std.specs.Arc.{arc_value}
 use Rattle.std.specs.declared.sync.Arc.{Arc}
 use Rattle.std.proofs.Common.{Global}
 use Rattle.board.specs.declared.board.Update.{Update}
 use Rattle.board.specs.declared.board.Update.TheVariants as update
-use Rattle.board.specs.declared.entry.Entry.{Entry}
 use Rattle.desk.specs.declared.showing.OwnPage.{OwnPage}
 use Rattle.board.specs.Showing.{Showing, page_at, put_page, overlaid, updated}
 use Rattle.board.specs.Rule.{pages_of, are_pages}

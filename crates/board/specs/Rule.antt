@@ -1,5 +1,5 @@
 -- The rule of the board.
-use Rattle.std.specs.Prelude.{◌≡◌, ℕ, ◌+◌, Bool, true, false, List, [], ◌∷◌, ◌++◌, length, Option, None, Some}
+use Rattle.std.specs.Prelude.{◌≡◌, ℕ, Bool, true, false, List, [], ◌∷◌, ◌++◌, length, Some}
 use Rattle.std.specs.Arc.{arc_value}
 use mathlib.Core.Option.{some}
 use lib.ListN.{get_elem?}
@@ -19,10 +19,21 @@ nothing_seen = record { entries = [] }
 
 -- ---- what the desk's side knows
 
--- The list that is shown, and the pages that are to be shown with the next entry.
+-- The list that is shown, what workers see of it, and the pages that are to be shown with the next
+-- entry.
 pub record Publishing : Type 0 where
   pub shown : List Entry
+  pub board : Showing
   pub pages : List (ℕ × OwnPage)
+
+-- The list that is shown, for good, and what workers see of it.
+pub record Stopped : Type 0 where
+  pub shown : List Entry
+  pub board : Showing
+
+-- Nothing more is shown.
+abbrev pub as_stopped : Publishing → Stopped
+as_stopped p = record { shown = p.shown; board = p.board }
 
 -- The pages among updates.
 abbrev pub pages_of : List Update → List (ℕ × OwnPage)
@@ -46,12 +57,16 @@ module _ (from : History) (known : Bool) where
 
   -- ---- the rule
 
-  -- The board shows what one list of entries comes to, with which what each side has seen begins.
-  pub record Keeps (x : Showing) (views : List Seen) : Type 0 where
-    pub entries : List Entry
+  -- The board shows what these entries come to, and how many there are.
+  pub record ShowsAll (entries : List Entry) (x : Showing) : Type 0 where
     pub board : IsBoardOf from known entries x
     pub count : length entries ≡ x.version
     pub places : length x.last ≡ 8
+
+  -- The board shows what one list of entries comes to, with which what each side has seen begins.
+  pub record Keeps (x : Showing) (views : List Seen) : Type 0 where
+    pub entries : List Entry
+    pub shows : ShowsAll entries x
     pub sound : AreEntries from known [] entries
     pub each : (side : ℕ) (v : Seen) → get_elem? views side ≡ some v → StartsWith entries v.entries
 

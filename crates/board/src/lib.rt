@@ -9,6 +9,7 @@ mod origin;
 mod publisher;
 mod request;
 mod rule;
+mod stopped;
 #[cfg(test)]
 mod tests;
 mod window;
@@ -18,7 +19,8 @@ pub use board::{Board, Update};
 pub use entry::{Entry, Seen};
 pub use first::First;
 pub use origin::Origin;
-pub use publisher::{BoardWriter, Publisher};
+pub use publisher::Publisher;
 pub use request::SharedRequest;
+pub use stopped::StoppedBoard;
 pub use window::{Unseen, Window};
 pub use worker_id::WorkerId;

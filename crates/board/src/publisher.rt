@@ -2,14 +2,15 @@
 
 ghost use Rattle.std.specs.Prelude.{◌≡◌, ◌++◌, ◌<◌, ◌^◌, [], ◌∷◌, ℕ, true, MatchResult, IfOk};
 ghost use Rattle.desk.specs.Showing.{own_page};
-ghost use Rattle.board.specs.Showing.{page_at};
-ghost use Rattle.board.specs.Rule.{MayFollow};
+ghost use Rattle.board.specs.Showing.{blank, page_at};
+ghost use Rattle.board.specs.Rule.{MayFollow, as_stopped};
 
 use crate::board::{Board, Update};
 use crate::entry::{Entry, Seen};
 use crate::first::First;
 use crate::origin::Origin;
 use crate::rule::{OneList, Publish};
+use crate::stopped::StoppedBoard;
 use crate::window::Window;
 use desk::OwnPage;
 use left_right::writer::Writer;
@@ -19,28 +20,29 @@ use std::sync::{Arc, Wait};
 use terms::{Memory, PatronId};
 
 /// What writes the board.
-pub type BoardWriter<J> = Writer<Board, Update, Seen, OneList<J>>;
+pub(crate) type BoardWriter<J> = Writer<Board, Update, Seen, OneList<J>>;
 
-/// The desk's side. Contracts see the list that is shown, and the pages that are to be shown with
-/// the next entry. It is not `Drop`: end it by `close`.
+/// The desk's side. Contracts see the list that is shown, what workers see of it, and the pages that
+/// are to be shown with the next entry. It is not `Drop`: end it by `close`.
 pub struct Publisher<J: Origin> {
     writer: BoardWriter<J>,
 }
 
 impl<J: Origin> Model for Publisher<J> {
-    ghost use Rattle.std.specs.Prelude.{◌≡◌, true, length, drop};
+    ghost use Rattle.std.specs.Prelude.{◌≡◌, true, drop};
     ghost use Rattle.left_right.specs.Sides.{view as knows};
-    ghost use Rattle.board.specs.Rule.{Publishing, pages_of, are_pages};
+    ghost use Rattle.board.specs.Rule.{Publishing, ShowsAll, pages_of, are_pages};
 
     ghost Value = { Publishing };
 
     ghost view = { λ p. record {
       shown = (knows p.writer.desk.place).entries;
+      board = p.writer.desk.shown.value;
       pages = pages_of (drop p.writer.behind p.writer.log.items);
     } };
 
     ghost invariant = { λ p.
-        (length (knows p.writer.desk.place).entries ≡ p.writer.desk.shown.value.version)
+        ShowsAll J.from J.known (knows p.writer.desk.place).entries p.writer.desk.shown.value
         × (are_pages (drop p.writer.behind p.writer.log.items) ≡ true) };
 }
 
@@ -49,7 +51,8 @@ impl<J: Origin> Publisher<J> {
     pub fn new(alloc: Global, first: First, readers: usize) -> Result<Publisher<J>, Memory>
         requires readers { (0 < readers) × (readers < 2 ^ 32) }
         requires pages { J.known ≡ true → (patron : ℕ) → page_at first patron ≡ own_page J.from patron }
-        ensures { IfOk result (λ p. (p.shown ≡ []) × (p.pages ≡ [])) }
+        ensures { IfOk result (λ p. (p.shown ≡ []) × (p.pages ≡ [])
+            × (p.board ≡ record blank { pages = first })) }
     {
         let First { board, copy } = first;
         let writer = BoardWriter::<J>::new(alloc, board, copy, readers)?;
@@ -77,41 +80,44 @@ impl<J: Origin> Publisher<J> {
         }
     }
 
-    /// Shows one entry more. An error leaves the readers what they saw, for good: its writer shows
+    /// Shows one entry more. An error leaves the readers what they saw, for good: the board shows
     /// nothing more.
     pub fn publish<R: Wait>(
         self,
         rt: &R,
         alloc: Global,
         entry: Entry,
-    ) -> Result<Publisher<J>, BoardWriter<J>>
+    ) -> Result<Publisher<J>, StoppedBoard<J>>
         requires { MayFollow J.from J.known self entry }
-        ensures { IfOk result (λ p. (p.shown ≡ self.shown ++ entry ∷ []) × (p.pages ≡ [])) }
+        ensures { MatchResult result
+            (λ p. (p.shown ≡ self.shown ++ entry ∷ []) × (p.pages ≡ []))
+            (λ b. b ≡ as_stopped self) }
     {
         let Publisher { mut writer } = self;
         let Ok(entry) = Arc::new(alloc, entry) else {
-            return Err(writer);
+            return Err(StoppedBoard::over(writer));
         };
         match writer.append(Update::Entry(entry)) {
             Ok(()) => {}
-            Err(_) => return Err(writer),
+            Err(_) => return Err(StoppedBoard::over(writer)),
         }
         let (writer, met) = writer.publish_as::<Publish, R>(rt);
         match met {
             Ok(()) => Ok(Publisher { writer }),
-            Err(_) => Err(writer),
+            Err(_) => Err(StoppedBoard::over(writer)),
         }
     }
 
     /// Ends the board, once its readers are done.
     pub fn close<R: Wait>(self, rt: &R) {
-        let Publisher { writer } = self;
-        drop(writer.take(rt));
+        self.stop().close(rt);
     }
 
-    /// Its writer, which shows nothing more. The readers keep what they see.
-    pub fn stop(self) -> BoardWriter<J> {
+    /// Its board, which shows nothing more. The readers keep what they see.
+    pub fn stop(self) -> StoppedBoard<J>
+        ensures { result ≡ as_stopped self }
+    {
         let Publisher { writer } = self;
-        writer
+        StoppedBoard::over(writer)
     }
 }

@@ -201,8 +201,8 @@ fn show<R: Wait>(
     let _in_limits = entry.worker.number();
     match publisher.publish(rt, alloc, entry) {
         Ok(publisher) => Some(publisher),
-        Err(writer) => {
-            drop(writer.take(rt));
+        Err(stopped) => {
+            stopped.close(rt);
             None
         }
     }
@@ -488,7 +488,7 @@ fn each_entry_is_shown_with_its_page(rt: HostRuntime) -> Result<(), Fail> {
 }
 
 /// Whether a window shows what it should of a board that is stopped with a page to be shown: what it
-/// showed, until the writer is taken. None where no memory is left.
+/// showed, until it is ended. None where no memory is left.
 fn walk_stopped<R: Wait>(
     rt: &R,
     alloc: Global,
@@ -499,10 +499,10 @@ fn walk_stopped<R: Wait>(
 ) -> Option<[bool; 2]> {
     let (mut one, _two) = windows;
     let publisher = put(rt, alloc, publisher, PatronId::new(1), page)?;
-    let writer = publisher.stop();
-    let stopped = is_as_opened(&mut one, all);
-    drop(writer.take(rt));
-    Some([stopped, is_gone(&mut one, &all.one)])
+    let stopped = publisher.stop();
+    let shown = is_as_opened(&mut one, all);
+    stopped.close(rt);
+    Some([shown, is_gone(&mut one, &all.one)])
 }
 
 #[test]

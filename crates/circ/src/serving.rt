@@ -186,7 +186,7 @@ fn run<J: Opening + Send + Sync + 'static, S: Alter, R: Threads + Wait + Copy + 
     shared.put(&rt, workers);
     let are_whole = start_all(rt, alloc, shared, count, each, &mut threads);
     let (desk, ended, fault) = side.desk_loop(&rt, alloc);
-    drop(ended);
+    ended.close(&rt);
     join_all(&rt, threads);
     Met {
         desk,

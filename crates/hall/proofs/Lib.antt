@@ -3,7 +3,9 @@ pub mod HandledLists
 pub mod Hiring
 pub mod Pages
 pub mod Progress
+pub mod Causes
 pub mod Shown
 pub mod Replies
 pub mod Reasons
+pub mod NewLibrary
 pub mod Served

@@ -18,9 +18,10 @@ use Rattle.desk.specs.Answering.{Learns}
 use Rattle.desk.specs.Showing.{own_page, AreEnrolled}
 use Rattle.desk.specs.declared.showing.OwnPage.{OwnPage}
 use Rattle.desk.proofs.Looking.{◌⨾◌, gives, fails}
-use Rattle.board.specs.Showing.{page_at, overlaid}
+use Rattle.board.specs.Rule.{Publishing}
+use Rattle.board.specs.Showing.{Showing, blank, page_at, overlaid}
 use Rattle.hall.specs.Handling.{PutsPages}
-use Rattle.hall.specs.Openings.{AreFirstPages, MeetsFaultOf}
+use Rattle.hall.specs.Openings.{AreFirstPages, MeetsFaultOf, OpensBoard}
 
 -- ---- patrons among others
 
@@ -152,6 +153,17 @@ module _ {S : Type 0} (g : Ghosts S) (a b c : Held S) (xs : List ℕ) (i q : ℕ
 pub first-all : {S : Type 0} (g : Ghosts S) (a b : Held S) (xs : List ℕ) (i : ℕ) (now : List (ℕ × OwnPage)) → length xs ≤ i → Learns {A = Unit {0}} (λ H _. AreFirstPages (take i xs) H now) g a b (Ok tt)
     → Learns (AreFirstPages xs) g a b (Ok now)
 first-all g a b xs i now long first = gives first (λ _ _ _. tt) (λ H legal _ met. subst (λ (l : List ℕ). AreFirstPages l H now) (take_all i xs long) met)
+
+-- the board that shows them
+pub opens-board : {S : Type 0} (g : Ghosts S) (a b : Held S) (first : List (ℕ × OwnPage)) (p : Publishing) → p.shown ≡ [] → p.pages ≡ [] → p.board ≡ record blank { pages = first }
+    → Learns (λ H pages. (q : ℕ) → page_at pages q ≡ own_page H q) g a b (Ok first) → OpensBoard g a b p
+opens-board g a b first p shown none is learnt =
+    let same : p.board.pages ≡ first = ap (λ (x : Showing). x.pages) is in
+    record {
+      none = (shown, none);
+      alone = is ∙ ap (λ (l : List (ℕ × OwnPage)). record blank { pages = l }) (sym same);
+      pages = subst (λ (l : List (ℕ × OwnPage)). Learns (λ H pages. (q : ℕ) → page_at pages q ≡ own_page H q) g a b (Ok l)) (sym same) learnt;
+    }
 
 -- ---- looks that end in a fault
 

@@ -20,14 +20,14 @@ use Rattle.hall.specs.declared.messages.Message.{Message}
 use Rattle.hall.specs.declared.messages.Message.TheVariants.{Submit}
 use Rattle.hall.specs.Queue.{submissions, handled, unhandled, requests}
 use Rattle.hall.specs.Openings.{LooksOnly, MeetsFaultOf}
-use Rattle.hall.specs.Handling.{HandledFirst, TakesNext, ClosedBy}
+use Rattle.hall.specs.Handling.{HandledFirst, TakesNext}
 use Rattle.hall.proofs.HandledLists.{submit_same, submit_more, rest_more, no_rest}
 
 pub after-last : (xs : List Request) (H : History) (r : Request) → after H (xs ++ r ∷ []) ≡ after_one (after H xs) r
 after-last [] H r = refl
 after-last (x ∷ xs) H r = after-last xs (after_one H x) r
 
-none-some : (o : Option Fault) (f : Fault) → o ≡ None → o ≡ Some f → ⊥
+pub none-some : (o : Option Fault) (f : Fault) → o ≡ None → o ≡ Some f → ⊥
 none-some o f n s = cc
 
 some-is : (e f : Fault) → Some e ≡ Some f → e ≡ f
@@ -221,34 +221,3 @@ module _ {S : Type 0} (g : Ghosts S) where
       let here : HandledFirst first (rest ++ s.request ∷ []) g a c after' = subst (HandledFirst first (rest ++ s.request ∷ []) g a c) (sym t.is) same in
       let more : HandledFirst first (requests (unhandled m got')) g a c after' = subst (λ (x : List Request). HandledFirst first x g a c after') (sym (rest_more n m got got' s e t.counted le)) here in
       (k.0, (λ none. absurd (none-some after' t.fault none t.is)), subst (λ (x : List Request). HandledFirst x (requests (unhandled m got')) g a c after') (sym k.1) more)
-
-  -- a request more came after the hall was closed, or when no more could be counted
-  still-closed : (n : ℕ) (rest : List Request) (request : Request) (b : Held S) (before : Option Fault) (fault : Fault)
-      → (before ≡ Some fault) ⊎ ((before ≡ None) × (fault ≡ Closed) × (2 ^ 64 ≤ n + 1)) → IfSome before (ClosedBy n rest g b) → ClosedBy n (rest ++ request ∷ []) g b fault
-  still-closed n rest request b before fault (inl same) h = go (subst (λ (o : Option Fault). IfSome o (ClosedBy n rest g b)) same h)
-    where
-      go : ClosedBy n rest g b fault → ClosedBy n (rest ++ request ∷ []) g b fault
-      go (inl d) = inl (record { before = d.before; next = d.next; later = d.later ++ request ∷ []; rest_is = ap (λ (x : List Request). x ++ request ∷ []) d.rest_is; handles = d.handles })
-      go (inr (inl board)) = inr (inl board)
-      go (inr (inr used)) = inr (inr used)
-  still-closed n rest request b before fault (inr now) h = inr (inr (now.1, now.2))
-
-  -- what closed the hall, after one submission more
-  pub cause-kept : (b c : Held S) (n m : ℕ) (before after' : Option Fault) (got got' : List Message) (s : Submission) → got' ≡ got ++ Submit s ∷ []
-      → TakesNext s.request g b c n m before after' → n ≤ length (submissions got) → (before ≡ None → n ≡ length (submissions got))
-      → IfSome before (ClosedBy n (requests (unhandled n got)) g b) → IfSome after' (ClosedBy m (requests (unhandled m got')) g c)
-  cause-kept b c n m before after' got got' s e (inl t) le all h = subst (λ (o : Option Fault). IfSome o (ClosedBy m (requests (unhandled m got')) g c)) (sym t.is) tt
-  cause-kept b c n m before after' got got' s e (inr (inl t)) le all h =
-      let cause : ClosedBy m (requests (unhandled m got')) g c t.fault = inr (inl (record { made = t.made; looks = t.looks })) in
-      subst (λ (o : Option Fault). IfSome o (ClosedBy m (requests (unhandled m got')) g c)) (sym t.is) cause
-  cause-kept b c n m before after' got got' s e (inr (inr (inl t))) le all h =
-      let rest = requests (unhandled n got) in
-      let none : rest ++ s.request ∷ [] ≡ s.request ∷ [] = ap (λ (x : List Request). x ++ s.request ∷ []) (no_rest n got (all t.was)) in
-      let met : ClosedBy m (requests (unhandled m got')) g c t.fault = inl (record { before = b; next = s.request; later = []; rest_is = rest_more n m got got' s e t.counted le ∙ none; handles = t.handles }) in
-      subst (λ (o : Option Fault). IfSome o (ClosedBy m (requests (unhandled m got')) g c)) (sym t.is) met
-  cause-kept b c n m before after' got got' s e (inr (inr (inr t))) le all h =
-      let past = still-closed n (requests (unhandled n got)) s.request b before t.fault t.was h in
-      let here : ClosedBy n (requests (unhandled m got')) g b t.fault = subst (λ (x : List Request). ClosedBy n x g b t.fault) (sym (rest_more n m got got' s e t.counted le)) past in
-      let same : ClosedBy n (requests (unhandled m got')) g c t.fault = subst (λ (x : Held S). ClosedBy n (requests (unhandled m got')) g x t.fault) (sym t.same) here in
-      let counted : ClosedBy m (requests (unhandled m got')) g c t.fault = subst (λ (k : ℕ). ClosedBy k (requests (unhandled m got')) g c t.fault) (sym t.counted) same in
-      subst (λ (o : Option Fault). IfSome o (ClosedBy m (requests (unhandled m got')) g c)) (sym t.is) counted

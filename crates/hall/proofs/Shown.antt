@@ -1,5 +1,5 @@
 -- What the board shows of what was handled.
-use Rattle.std.proofs.Common.{◌≡◌, ℕ, ◌+◌, ◌≤◌, ◌==◌, Bool, true, false, cond, List, [], ◌∷◌, ◌++◌, length, map, Option, None, Some, sym, refl, ap, ◌∙◌, subst, eqb, arith}
+use Rattle.std.proofs.Common.{◌≡◌, ℕ, ◌+◌, ◌<◌, ◌≤◌, ◌==◌, Bool, true, false, cond, List, [], ◌∷◌, ◌++◌, length, map, Option, None, Some, sym, refl, ap, ◌∙◌, subst, eqb, arith}
 use Rattle.std.specs.List.{list_any, count_by, sum_by}
 use Rattle.std.proofs.lemmas.List.Sums.{sum_by-cons}
 use Rattle.std.proofs.lemmas.List.{map-append, take-append-drop}
@@ -16,16 +16,17 @@ use Rattle.desk.specs.Showing.{own_page}
 use Rattle.desk.specs.declared.showing.OwnPage.{OwnPage}
 use Rattle.board.specs.declared.entry.Entry.{Entry}
 use Rattle.board.specs.Showing.{count_own, overlaid, IsNextEntry, requests as entry_requests}
-use Rattle.board.specs.Rule.{MayFollow, Publishing}
+use Rattle.board.specs.Rule.{MayFollow, Publishing, Stopped}
 use Rattle.board.specs.Workers.{is_worker}
 use Rattle.hall.specs.declared.messages.Submission.{Submission}
 use Rattle.hall.specs.declared.messages.Message.{Message}
 use Rattle.hall.specs.declared.messages.Message.TheVariants.{Submit, Leave}
 use Rattle.hall.specs.Queue.{of, is_open, submissions, own, handled, unhandled, requests, IsNext}
-use Rattle.hall.specs.Handling.{submission_of, AreShown, KnowsList, PutsPages, IsDue, HandledFirst, ClosedBy, MayBeNext, MayHandle, MayTake, ShowsNext, TakesMessage, BoardShows, Stands}
+use Rattle.hall.specs.Handling.{submission_of, AreShown, KnowsList, PutsPages, IsDue, HandledFirst, ClosedBy, MayBeNext, MayHandle, MayTake, ShowsNext, TakesMessage, BoardShows, Stands, Finishes, shown_by}
 use Rattle.hall.proofs.HandledLists.{submissions_of, submissions-append, all_of, leave_kept, rest_kept}
 use Rattle.hall.proofs.Pages.{no-page-before}
-use Rattle.hall.proofs.Progress.{after-last, submission-kept, cause-kept}
+use Rattle.hall.proofs.Progress.{after-last, submission-kept}
+use Rattle.hall.proofs.Causes.{open-shows, cause-left, cause-kept}
 
 own-count : (w : ℕ) (es : List Entry) → count_own w es ≡ length (own w (map submission_of es))
 own-count w [] = refl
@@ -56,14 +57,14 @@ due-number n got s shown next whole is =
     next.1 ∙ ap (λ k. k + 1) long
 
 -- the board after one more submission
-pub board-kept : {V W : Type 0} (n m : ℕ) (before after' : Option Fault) (got got' : List Message) (s : Submission) (old : Result Publishing V) (new : Result Publishing W) → got' ≡ got ++ Submit s ∷ []
+pub board-kept : (n m : ℕ) (before after' : Option Fault) (got got' : List Message) (s : Submission) (old new : Result Publishing Stopped) → got' ≡ got ++ Submit s ∷ []
     → (before ≡ None → n ≡ length (submissions got)) → (after' ≡ None → m ≡ length (submissions got')) → BoardShows old (handled n got) before → ShowsNext old new s after' → BoardShows new (handled m got') after'
 board-kept n m before after' got got' s (Ok p) (Ok q) e all all' shows next =
     let more : submissions got' ≡ submissions got ++ s ∷ [] = ap submissions e ∙ submissions-append got (Submit s ∷ []) in
     (next.0, next.1, next.2 ∙ (ap (λ l. l ++ s ∷ []) (shows.2 ∙ all-handled n got (all shows.0)) ∙ (sym more ∙ sym (all-handled m got' (all' next.0)))))
 board-kept n m before after' got got' s (Err w) (Ok q) e all all' shows next = absurd next
-board-kept n m before after' got got' s (Ok p) (Err v) e all all' shows next = next
-board-kept n m before after' got got' s (Err w) (Err v) e all all' shows next = next
+board-kept n m before after' got got' s (Ok p) (Err v) e all all' shows next = next.0
+board-kept n m before after' got got' s (Err w) (Err v) e all all' shows next = next.0
 
 -- ---- what may be shown next
 
@@ -108,7 +109,7 @@ module _ {S : Type 0} (g : Ghosts S) (known : Bool) (from : History) where
       (at.0, subst (λ (l : List Request). Shows (state g desk) (after from l)) (sym (same-requests shown ∙ ap requests is)) (h.shown (at.0 desk) none from at.1))
 
   -- the next submission may be handled, where the hall isn't closed
-  pub may-be-next : {W : Type 0} (old desk : Held S) (n : ℕ) (got : List Message) (s : Submission) (fault : Option Fault) (board : Result Publishing W) (rest : List Request) → KnowsList known g old from
+  pub may-be-next : (old desk : Held S) (n : ℕ) (got : List Message) (s : Submission) (fault : Option Fault) (board : Result Publishing Stopped) (rest : List Request) → KnowsList known g old from
       → IsNext got (Submit s) → (fault ≡ None → n ≡ length (submissions got)) → HandledFirst (requests (handled n got)) rest g old desk fault → BoardShows board (handled n got) fault
       → MayHandle known from g desk fault board s
   may-be-next old desk n got s fault (Ok p) rest list next all h shows =
@@ -116,29 +117,29 @@ module _ {S : Type 0} (g : Ghosts S) (known : Bool) (from : History) where
   may-be-next old desk n got s fault (Err w) rest list next all h shows = shows
 
 -- what is shown next, after a board that shows something
-pub shows-next : (V : Type 0) {W : Type 0} (old : Publishing) (new : Result Publishing W) (s : Submission) (fault : Option Fault)
-    → MatchResult new (λ (p : Publishing). (fault ≡ None) × (p.pages ≡ []) × AreShown p.shown (map submission_of old.shown ++ s ∷ [])) (λ _. IsSome fault) → ShowsNext {V = V} (Ok old) new s fault
-shows-next V old (Ok p) s fault h = h
-shows-next V old (Err w) s fault h = h
+pub shows-next : (old : Publishing) (new : Result Publishing Stopped) (s : Submission) (fault : Option Fault)
+    → MatchResult new (λ (p : Publishing). (fault ≡ None) × (p.pages ≡ []) × AreShown p.shown (map submission_of old.shown ++ s ∷ [])) (λ (b : Stopped). IsSome fault × (b.shown ≡ old.shown)) → ShowsNext (Ok old) new s fault
+shows-next old (Ok p) s fault h = h
+shows-next old (Err w) s fault h = h
 
 -- ---- one message more
 
-module _ {S W : Type 0} (g : Ghosts S) where
+module _ {S : Type 0} (g : Ghosts S) where
   -- it may be taken
-  pub may-take : (known : Bool) (from : History) (old desk : Held S) (n : ℕ) (fault : Option Fault) (got : List Message) (board : Result Publishing W) (message : Message) → KnowsList known g old from
+  pub may-take : (known : Bool) (from : History) (old desk : Held S) (n : ℕ) (fault : Option Fault) (got : List Message) (board : Result Publishing Stopped) (message : Message) → KnowsList known g old from
       → IsNext got message → Stands g old desk n fault got board → MayTake known from g desk fault board message
   may-take known from old desk n fault got board (Submit s) list next h = may-be-next g known from old desk n got s fault board (requests (unhandled n got)) list next h.all h.desk h.shown
   may-take known from old desk n fault got board (Leave w) list next h = tt
 
   -- how the desk stands once it is taken
-  pub message-kept : (old b c : Held S) (n m : ℕ) (before after' : Option Fault) (got got' : List Message) (board board' : Result Publishing W) (message : Message) → got' ≡ got ++ message ∷ []
+  pub message-kept : (old b c : Held S) (n m : ℕ) (before after' : Option Fault) (got got' : List Message) (board board' : Result Publishing Stopped) (message : Message) → got' ≡ got ++ message ∷ []
       → TakesMessage message g b c n m before after' board board' → Stands g old b n before got board → Stands g old c m after' got' board'
   message-kept old b c n m before after' got got' board board' (Submit s) e t h =
       let k = submission-kept g old b c n m before after' got got' s e t.0 h.counted h.all h.desk in
       record {
         counted = k.0;
         all = k.1;
-        cause = cause-kept g b c n m before after' got got' s e t.0 h.counted h.all h.cause;
+        cause = cause-kept g b c n m before after' got got' s board board' e h.counted h.all (λ none. open-shows board (handled n got) before none h.shown) t.1 t.0 h.cause;
         desk = k.2;
         shown = board-kept n m before after' got got' s board board' e h.all k.1 h.shown t.1;
       }
@@ -148,11 +149,23 @@ module _ {S W : Type 0} (g : Ghosts S) where
       let now : Stands g old b n before got' board = record {
         counted = omega (arith, k.0, h.counted);
         all = λ f. h.all f ∙ sym k.0;
-        cause = subst (λ (l : List Request). IfSome before (ClosedBy n l g b)) (sym rest) h.cause;
+        cause = cause-left g n got got' b (shown_by board) before rest k.1 h.cause;
         desk = subst (λ (l : List Request). HandledFirst l (requests (unhandled n got')) g old b before) (sym (ap requests k.1))
             (subst (λ (l : List Request). HandledFirst (requests (handled n got)) l g old b before) (sym rest) h.desk);
         shown = subst (λ (l : List Submission). BoardShows board l before) (sym k.1) h.shown;
       } in
       subst (λ (d : Held S). Stands g old d m after' got' board') (sym t.0)
       (subst (λ (j : ℕ). Stands g old b j after' got' board') (sym t.1)
-      (subst (λ (f : Option Fault). Stands g old b n f got' board') (sym t.2) (subst (λ (x : Result Publishing W). Stands g old b n before got' x) (sym t.3) now)))
+      (subst (λ (f : Option Fault). Stands g old b n f got' board') (sym t.2) (subst (λ (x : Result Publishing Stopped). Stands g old b n before got' x) (sym t.3) now)))
+
+  -- what stands once each worker has left
+  pub finishes : (workers n : ℕ) (got : List Message) (entries : List Entry) (old now : Held S) (fault : Option Fault) (board : Result Publishing Stopped) → ((k : ℕ) → k < workers → is_open (of (k + 1) got) ≡ false)
+      → entries ≡ shown_by board → Stands g old now n fault got board → Finishes workers n got entries g old now fault
+  finishes workers n got entries old now fault board gone same h = record {
+    gone = gone;
+    counted = h.counted;
+    all = h.all;
+    shown = λ none. ap (map submission_of) same ∙ open-shows board (handled n got) fault none h.shown;
+    cause = subst (λ (l : List Entry). IfSome fault (ClosedBy n got g now l)) (sym same) h.cause;
+    desk = h.desk;
+  }

@@ -12,7 +12,7 @@ use Rattle.desk.specs.Answering.{Shows, LeavesOneOf, Learns}
 use Rattle.desk.specs.Running.{Handles, ShowsHeadline}
 use Rattle.desk.specs.Showing.{own_page}
 use Rattle.desk.specs.declared.showing.OwnPage.{OwnPage}
-use Rattle.board.specs.Rule.{Publishing}
+use Rattle.board.specs.Rule.{Publishing, Stopped}
 use Rattle.board.specs.declared.entry.Entry.{Entry}
 use Rattle.board.specs.Showing.{count_own, overlaid, requests as entry_requests}
 use Rattle.hall.specs.declared.messages.Submission.{Submission}
@@ -96,29 +96,6 @@ TakesNext request g old new n m before after =
     ⊎ (IsUnshown request g old new n m before after
     ⊎ (MeetsFault request g old new n m before after ⊎ IsPassedOver old new n m before after))
 
--- ---- what closes a hall
-
--- The desk gave this fault for the first of the requests that weren't handled.
-pub record IsDesksFault {S : Type 0} (rest : List Request)
-    (g : Ghosts S) (new : Held S) (fault : Fault) : Type 0 where
-  pub before : Held S
-  pub next : Request
-  pub later : List Request
-  pub rest_is : rest ≡ next ∷ later
-  pub handles : Handles next g before new (Err fault)
-
--- The board couldn't show the last request that was handled.
-pub record IsBoardsFault {S : Type 0} (g : Ghosts S) (new : Held S) (fault : Fault) : Type 0 where
-  pub made : Held S
-  pub looks : MeetsFaultOf g made new fault
-
--- The desk gave the fault, or the board couldn't be written, or the fault is 92 and no more
--- submissions can be counted.
-abbrev pub ClosedBy : {S : Type 0} → ℕ → List Request → Ghosts S → Held S → Fault → Type 0
-ClosedBy n rest g new fault =
-    IsDesksFault rest g new fault
-    ⊎ (IsBoardsFault g new fault ⊎ ((fault ≡ Closed) × (2 ^ 64 ≤ n + 1)))
-
 -- ---- what the board shows
 
 -- An entry without its reply.
@@ -128,6 +105,45 @@ submission_of e = record { worker = e.worker; number = e.number; request = e.req
 -- The board shows these submissions, one after another.
 abbrev pub AreShown : List Entry → List Submission → Type 0
 AreShown entries handled = map submission_of entries ≡ handled
+
+-- The list that it shows, be it for good.
+abbrev pub shown_by : Result Publishing Stopped → List Entry
+shown_by (Ok p) = p.shown
+shown_by (Err b) = b.shown
+
+-- ---- what closes a hall
+
+-- `got` is what was received and `n` how many submissions were handled; the board shows these entries,
+-- for good.
+module _ {S : Type 0} (n : ℕ) (got : List Message) (g : Ghosts S) (new : Held S)
+    (entries : List Entry) (fault : Fault) where
+  -- The desk gave this fault for the first of the requests that weren't handled.
+  pub record IsDesksFault : Type 0 where
+    pub before : Held S
+    pub next : Request
+    pub later : List Request
+    pub rest_is : requests (unhandled n got) ≡ next ∷ later
+    pub handles : Handles next g before new (Err fault)
+    pub shown : AreShown entries (handled n got)
+
+  -- The board couldn't show the last submission that was handled.
+  pub record IsBoardsFault : Type 0 where
+    pub made : Held S
+    pub looks : MeetsFaultOf g made new fault
+    pub last : Submission
+    pub shown : handled n got ≡ map submission_of entries ++ last ∷ []
+
+  -- No more submissions can be counted.
+  pub record IsFull : Type 0 where
+    pub is : fault ≡ Closed
+    pub full : 2 ^ 64 ≤ n + 1
+    pub shown : AreShown entries (handled n got)
+
+  -- One of these.
+  abbrev pub ClosedBy : Type 0
+  ClosedBy = IsDesksFault ⊎ (IsBoardsFault ⊎ IsFull)
+
+-- ---- what is shown next
 
 -- These pages were looked up for the patrons, and are to be shown over those before.
 abbrev pub PutsPages : List ℕ → List (ℕ × OwnPage) → List (ℕ × OwnPage) → History → Type 0
@@ -160,50 +176,52 @@ pub record MayBeNext {S : Type 0} (known : Bool) (from : History) (g : Ghosts S)
   pub number : s.number ≡ count_own s.worker p.shown + 1
   pub list : KnowsList known g desk (after from (entry_requests p.shown))
 
--- The board shows this submission too, after those before; or a fault has closed the hall.
-abbrev pub ShowsNext : {V W : Type 0} → Result Publishing V → Result Publishing W → Submission
+-- The board shows this submission too, after those before; or a fault has closed the hall, and it shows
+-- what it showed, for good.
+abbrev pub ShowsNext : Result Publishing Stopped → Result Publishing Stopped → Submission
     → Option Fault → Type 0
 ShowsNext (Ok old) (Ok new) s fault =
     (fault ≡ None) × (new.pages ≡ []) × AreShown new.shown (map submission_of old.shown ++ s ∷ [])
-ShowsNext (Err writer) (Ok new) s fault = ⊥
-ShowsNext old (Err writer) s fault = IsSome fault
+ShowsNext (Err old) (Ok new) s fault = ⊥
+ShowsNext (Ok old) (Err new) s fault = IsSome fault × (new.shown ≡ old.shown)
+ShowsNext (Err old) (Err new) s fault = IsSome fault × (new.shown ≡ old.shown)
 
-module _ {S W : Type 0} (known : Bool) (from : History) (g : Ghosts S) (desk : Held S)
+module _ {S : Type 0} (known : Bool) (from : History) (g : Ghosts S) (desk : Held S)
     (fault : Option Fault) where
   -- The submission may be handled next, unless a fault has closed the hall.
-  abbrev pub MayHandle : Result Publishing W → Submission → Type 0
+  abbrev pub MayHandle : Result Publishing Stopped → Submission → Type 0
   MayHandle (Ok p) s = (fault ≡ None) × MayBeNext known from g desk p s
-  MayHandle (Err writer) s = IsSome fault
+  MayHandle (Err b) s = IsSome fault
 
   -- So may a submission that was sent; a Leave always may.
-  abbrev pub MayTake : Result Publishing W → Message → Type 0
+  abbrev pub MayTake : Result Publishing Stopped → Message → Type 0
   MayTake board (Submit s) = MayHandle board s
   MayTake board (Leave worker) = Unit {0}
 
 -- One more message was taken: a submission as above, and where the board may still be written it
 -- shows it; the Leave of a worker changes nothing.
-abbrev pub TakesMessage : {S W : Type 0} → Message → Ghosts S → Held S → Held S → ℕ → ℕ
-    → Option Fault → Option Fault → Result Publishing W → Result Publishing W → Type 0
+abbrev pub TakesMessage : {S : Type 0} → Message → Ghosts S → Held S → Held S → ℕ → ℕ
+    → Option Fault → Option Fault → Result Publishing Stopped → Result Publishing Stopped → Type 0
 TakesMessage (Submit s) g old new n m before after shown shows =
     TakesNext s.request g old new n m before after × ShowsNext shown shows s after
 TakesMessage (Leave worker) g old new n m before after shown shows =
     (new ≡ old) × (m ≡ n) × (after ≡ before) × (shows ≡ shown)
 
 -- The board shows these submissions, or a fault has closed the hall.
-abbrev pub BoardShows : {W : Type 0} → Result Publishing W → List Submission → Option Fault → Type 0
+abbrev pub BoardShows : Result Publishing Stopped → List Submission → Option Fault → Type 0
 BoardShows (Ok p) handled fault = (fault ≡ None) × (p.pages ≡ []) × AreShown p.shown handled
-BoardShows (Err writer) handled fault = IsSome fault
+BoardShows (Err b) handled fault = IsSome fault
 
 -- How the desk of an open hall stands, after these messages: what it handled, what closed it, and
 -- what the board shows.
-pub record Stands {S W : Type 0} (g : Ghosts S) (old new : Held S) (n : ℕ) (fault : Option Fault)
-    (got : List Message) (board : Result Publishing W) : Type 0 where
+pub record Stands {S : Type 0} (g : Ghosts S) (old new : Held S) (n : ℕ) (fault : Option Fault)
+    (got : List Message) (board : Result Publishing Stopped) : Type 0 where
   -- the handled ones are among those received
   pub counted : n ≤ length (submissions got)
   -- where the hall was not closed, every submission was handled
   pub all : fault ≡ None → n ≡ length (submissions got)
-  -- what closed it
-  pub cause : IfSome fault (ClosedBy n (requests (unhandled n got)) g new)
+  -- what closed it, and what the board shows since
+  pub cause : IfSome fault (ClosedBy n got g new (shown_by board))
   -- the desk stands where the handled list has brought it
   pub desk : HandledFirst (requests (handled n got)) (requests (unhandled n got)) g old new fault
   -- and the board shows that list
@@ -212,8 +230,9 @@ pub record Stands {S W : Type 0} (g : Ghosts S) (old new : Held S) (n : ℕ) (fa
 -- ---- until each worker has left
 
 -- The desk took what the workers sent, until each had left: `got` is what it received and `n` how
--- many submissions it handled. The hall was closed exactly where there is a fault.
-pub record Finishes {S : Type 0} (workers n : ℕ) (got : List Message)
+-- many submissions it handled; the board shows these entries. The hall was closed exactly where there
+-- is a fault.
+pub record Finishes {S : Type 0} (workers n : ℕ) (got : List Message) (entries : List Entry)
     (g : Ghosts S) (old new : Held S) (fault : Option Fault) : Type 0 where
   -- the Leave of each worker was received
   pub gone : (k : ℕ) → k < workers → is_open (of (k + 1) got) ≡ false
@@ -221,7 +240,9 @@ pub record Finishes {S : Type 0} (workers n : ℕ) (got : List Message)
   pub counted : n ≤ length (submissions got)
   -- where the hall was not closed, every submission was handled
   pub all : fault ≡ None → n ≡ length (submissions got)
-  -- what closed it
-  pub cause : IfSome fault (ClosedBy n (requests (unhandled n got)) g new)
+  -- and the board shows just the handled list, in order
+  pub shown : fault ≡ None → AreShown entries (handled n got)
+  -- what closed it, and what the board shows then: the handled list, or all of it but the last
+  pub cause : IfSome fault (ClosedBy n got g new entries)
   -- the desk stands where the handled list has brought it
   pub desk : HandledFirst (requests (handled n got)) (requests (unhandled n got)) g old new fault

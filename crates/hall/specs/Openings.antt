@@ -1,11 +1,12 @@
 -- Why a hall isn't opened.
-use Rattle.std.specs.Prelude.{◌≡◌, ◌⊎◌, ◌==◌, ℕ, true, false, Bool, ◌&&◌, if◌then◌else◌, nat_le, List, None, Result, Ok, Err}
+use Rattle.std.specs.Prelude.{◌≡◌, ◌⊎◌, ◌==◌, ℕ, true, false, Bool, ◌&&◌, if◌then◌else◌, nat_le, List, [], None, Result, Ok, Err}
 use Rattle.std.specs.List.{list_any}
 use Rattle.store.specs.Library.{Ghosts, Held}
 use Rattle.desk.specs.Answering.{Learns}
 use Rattle.desk.specs.Showing.{own_page}
 use Rattle.desk.specs.declared.showing.OwnPage.{OwnPage}
-use Rattle.board.specs.Showing.{page_at}
+use Rattle.board.specs.Rule.{Publishing}
+use Rattle.board.specs.Showing.{blank, page_at}
 use Rattle.model.specs.History.{History}
 use Rattle.terms.specs.declared.fault.Fault.{Fault}
 use Rattle.terms.specs.Texts.{fault_number, refusal_number}
@@ -32,6 +33,17 @@ pub record MeetsFaultOf {S : Type 0} (g : Ghosts S) (old new : Held S) (fault : 
 abbrev pub AreFirstPages : List ℕ → History → List (ℕ × OwnPage) → Type 0
 AreFirstPages patrons H pages = (p : ℕ) → page_at pages p ≡ (if list_any (λ q. q == p) patrons then own_page H p else None)
 
+-- ---- a board that is opened
+
+-- The board shows pages alone: whatever list of accepted requests the tables show, those that it makes,
+-- of its patrons and of nobody else.
+pub record OpensBoard {S : Type 0} (g : Ghosts S) (old new : Held S) (p : Publishing) : Type 0 where
+  -- no entry is shown, and no page waits for one
+  pub none : (p.shown ≡ []) × (p.pages ≡ [])
+  pub alone : p.board ≡ record blank { pages = p.board.pages }
+  pub pages : Learns (λ H first. (patron : ℕ) → page_at first patron ≡ own_page H patron)
+      g old new (Ok p.board.pages)
+
 -- ---- a hall that isn't opened
 
 -- There may be so many workers.
@@ -47,6 +59,13 @@ pub record IsUnopened {S : Type 0} (workers : ℕ) (g : Ghosts S) (old new : Hel
   -- a page couldn't be looked up, or no memory was left; or the board has no place for a reader
   pub faulted : can_be_workers workers ≡ true → (fault : Fault) × (why ≡ Faulted fault)
       × (MeetsFaultOf g old new fault ⊎ (LooksOnly g old new (Ok tt) × (fault ≡ Closed)))
+
+-- Why a hall of so many workers isn't opened over a new library.
+pub record IsUnmade (workers : ℕ) (why : Why) : Type 0 where
+  -- there are none, or too many
+  pub refused : can_be_workers workers ≡ false → why ≡ Refused OutOfLimits
+  -- the library couldn't be made, or the hall not be opened
+  pub faulted : can_be_workers workers ≡ true → (fault : Fault) × (why ≡ Faulted fault)
 
 -- The number that stands for it.
 abbrev pub why_number : Why → ℕ

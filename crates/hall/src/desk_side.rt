@@ -5,10 +5,11 @@ ghost use Rattle.std.specs.Prelude.{None, Ok, IsSome, IsTrue, slice_index_or, Ma
 ghost use Rattle.desk.specs.Answering.{Learns};
 ghost use Rattle.hall_schedule.specs.declared.schedule.TheConstants.{WORKERS};
 ghost use Rattle.store.specs.Limits.{limit_of};
+ghost use Rattle.board.specs.Rule.{ShowsAll};
 ghost use Rattle.hall.specs.Queue.{IsHearing};
 ghost use Rattle.hall.specs.Openings.{LooksOnly, MeetsFaultOf};
 ghost use Rattle.hall.specs.Handling.{TakesNext, Finishes, KnowsList, PutsPages, IsDue};
-ghost use Rattle.hall.specs.Handling.{MayBeNext, ShowsNext, AreShown, submission_of};
+ghost use Rattle.hall.specs.Handling.{MayBeNext, ShowsNext, AreShown, submission_of, shown_by};
 ghost use Rattle.hall.specs.Handling.{MayHandle, MayTake, TakesMessage};
 ghost use Rattle.hall.specs.declared.messages.Message.TheVariants.{Leave};
 
@@ -17,7 +18,7 @@ use crate::ends::Inbox;
 use crate::messages::{Message, Submission};
 use crate::notices::Notices;
 use crate::opening::Opening;
-use board::{BoardWriter, Entry, Publisher, WorkerId};
+use board::{Entry, Publisher, StoppedBoard, WorkerId};
 use desk::{Desk, Touched};
 use hall_schedule::WORKERS;
 use sqlite::Alter;
@@ -40,8 +41,8 @@ pub struct DeskSide<J: Opening, S: Alter> {
     pub(crate) ghost blank: { (publisher.shown ≡ []) × (publisher.pages ≡ []) },
 }
 
-/// What writes the board; once the hall is closed it shows nothing more.
-type BoardSide<J> = Result<Publisher<J>, BoardWriter<J>>;
+/// The board; once the hall is closed it shows nothing more.
+type BoardSide<J> = Result<Publisher<J>, StoppedBoard<J>>;
 
 /// How far the desk has come.
 #[derive(Clone, Copy)]
@@ -102,7 +103,7 @@ fn show<J: Opening, S: Alter, R: Wait>(
     submission: Submission,
     reply: Reply,
     touched: &Touched,
-) -> Result<Publisher<J>, (BoardWriter<J>, Fault)>
+) -> Result<Publisher<J>, (StoppedBoard<J>, Fault)>
     requires blank { publisher.pages ≡ [] }
     requires due { IsDue J.known J.from S.Store desk.old publisher.shown submission reply
         touched.now }
@@ -114,7 +115,7 @@ fn show<J: Opening, S: Alter, R: Wait>(
           reply = reply;
         }) ∷ [])
         × (p.pages ≡ []) × LooksOnly S.Store desk.old desk.new (Ok tt))
-        (λ e. MeetsFaultOf S.Store desk.old desk.new e.1) }
+        (λ e. (e.0.shown ≡ publisher.shown) × MeetsFaultOf S.Store desk.old desk.new e.1) }
 {
     let mut publisher = publisher;
     if let Err(fault) = put_pages(alloc, desk, &mut publisher, touched.as_slice()) {
@@ -134,7 +135,7 @@ fn show<J: Opening, S: Alter, R: Wait>(
     };
     match publisher.publish(rt, alloc, entry) {
         Ok(publisher) => Ok(publisher),
-        Err(writer) => Err((writer, Fault::Memory)),
+        Err(stopped) => Err((stopped, Fault::Memory)),
     }
 }
 
@@ -156,7 +157,7 @@ fn handle_next<J: Opening, S: Alter, R: Wait>(
     ensures shown { MatchResult result
         (λ p. (progress.new.fault ≡ None) × (p.pages ≡ [])
         × AreShown p.shown (map submission_of publisher.shown ++ submission ∷ []))
-        (λ _. IsSome progress.new.fault) }
+        (λ b. IsSome progress.new.fault × (b.shown ≡ publisher.shown)) }
 {
     let worker = submission.worker;
     let number = submission.number;
@@ -173,10 +174,10 @@ fn handle_next<J: Opening, S: Alter, R: Wait>(
                     notices.wake(worker);
                     Ok(publisher)
                 }
-                Err((writer, fault)) => {
+                Err((stopped, fault)) => {
                     notices.tell(rt, worker, number, Fault::Closed);
                     progress.fault = Some(fault);
-                    Err(writer)
+                    Err(stopped)
                 }
             }
         }
@@ -205,9 +206,9 @@ fn take_next<J: Opening, S: Alter, R: Wait>(
 {
     match board {
         Ok(publisher) => handle_next(rt, alloc, desk, progress, notices, publisher, submission),
-        Err(writer) => {
+        Err(stopped) => {
             notices.tell(rt, submission.worker, submission.number, Fault::Closed);
-            Err(writer)
+            Err(stopped)
         }
     }
 }
@@ -241,12 +242,17 @@ fn take_message<J: Opening, S: Alter, R: Wait>(
     }
 }
 
-/// Ends the board: nobody reads it any more.
-fn close<J: Opening, R: Wait>(rt: &R, board: BoardSide<J>) {
-    match board {
-        Ok(publisher) => publisher.close(rt),
-        Err(writer) => drop(writer.take(rt)),
-    }
+/// The board, which shows nothing more.
+fn stop<J: Opening>(board: BoardSide<J>) -> StoppedBoard<J>
+    ensures same { result.shown ≡ shown_by board }
+    ensures all { ShowsAll J.from J.known result.shown result.board }
+{
+    let stopped = match board {
+        Ok(publisher) => publisher.stop(),
+        Err(stopped) => stopped,
+    };
+    stopped.shows_its_list();
+    stopped
 }
 
 impl<J: Opening, S: Alter> DeskSide<J, S> {
@@ -270,11 +276,13 @@ impl<J: Opening, S: Alter> DeskSide<J, S> {
     /// told 92. The loop goes on until each worker has left, and gives the fault. So the hall was
     /// closed exactly where there is a fault; where there is none, every submission was handled. 90,
     /// 91 and 93 as the desk gives them; 92 where 2^64 - 1 submissions were handled and one more
-    /// came. Closing takes no memory, and the board stays as it was shown last.
+    /// came. Closing takes no memory, and the board stays as it was shown last; it is in what is
+    /// left.
     pub fn desk_loop<R: Wait>(self, rt: &R, alloc: Global) -> (Desk<S>, Ended<J>, Option<Fault>)
         requires { KnowsList J.known S.Store self.desk J.from }
-        ensures { Finishes self.workers result.1.handled result.1.heard.got
+        ensures finishes { Finishes self.workers result.1.handled result.1.heard.got result.1.board.shown
             S.Store self.desk result.0 result.2 }
+        ensures board { ShowsAll J.from J.known result.1.board.shown result.1.board.board }
     {
         let DeskSide {
             mut inbox,
@@ -309,9 +317,9 @@ impl<J: Opening, S: Alter> DeskSide<J, S> {
                 Err(_) => thread::yield_now(),
             }
         }
-        close(rt, board);
         let ended = Ended {
             heard: inbox.end(),
+            board: stop(board),
             handled: progress.handled,
         };
         (desk, ended, progress.fault)

@@ -1,15 +1,16 @@
 //! A hall is opened.
 
-ghost use Rattle.std.specs.Prelude.{◌≡◌, ◌+◌, ◌≤◌, ◌⊎◌, ℕ, true, [], Ok, IfErr, IfOk, OnOk};
+ghost use Rattle.std.specs.Prelude.{◌≡◌, ◌+◌, ◌≤◌, ◌⊎◌, ℕ, true, [], None, Ok, IfErr, IfOk, OnOk};
 ghost use Rattle.std.specs.Prelude.{MatchResult};
 ghost use Rattle.hall_schedule.specs.declared.schedule.TheConstants.{WORKERS as most};
 ghost use Rattle.terms.specs.declared.fault.Fault.TheVariants as Fault;
+ghost use Rattle.store.specs.Library.{over_memory};
 ghost use Rattle.desk.specs.Answering.{Learns};
 ghost use Rattle.desk.specs.Showing.{own_page};
 ghost use Rattle.board.specs.Showing.{page_at};
 ghost use Rattle.hall.specs.Queue.{IsHearing, worker_view};
-ghost use Rattle.hall.specs.Openings.{why_number, can_be_workers, IsUnopened, LooksOnly};
-ghost use Rattle.hall.specs.Openings.{MeetsFaultOf, AreFirstPages};
+ghost use Rattle.hall.specs.Openings.{why_number, can_be_workers, IsUnopened, IsUnmade, LooksOnly};
+ghost use Rattle.hall.specs.Openings.{MeetsFaultOf, AreFirstPages, OpensBoard};
 ghost use Rattle.hall.specs.Handling.{KnowsList};
 ghost use Rattle.hall.specs.Serving.{AreWorkers};
 
@@ -22,7 +23,7 @@ use board::{First, Publisher, Window, WorkerId};
 use crossbeam_utils::sync::Parker;
 use desk::Desk;
 use hall_schedule::WORKERS;
-use sqlite::Alter;
+use sqlite::{Alter, MemStore};
 use std::alloc::Global;
 use std::sync::{Arc, Wait};
 use terms::{Fault, Memory, PatronId, Refusal};
@@ -162,12 +163,19 @@ fn open_board<J: Opening, S: Alter>(
 ) -> Result<Publisher<J>, Fault>
     requires limits { (1 ≤ workers) × (workers ≤ most) }
     requires known { KnowsList J.known S.Store desk.old J.from }
-    ensures board { IfOk result (λ p. (p.shown ≡ []) × (p.pages ≡ [])) }
+    ensures board { IfOk result (OpensBoard S.Store desk.old desk.new) }
     ensures looks { MatchResult result (λ _. LooksOnly S.Store desk.old desk.new (Ok tt))
         (MeetsFaultOf S.Store desk.old desk.new) }
 {
     let first = first_pages(alloc, desk)?;
     Ok(Publisher::new(alloc, first, workers)?)
+}
+
+/// Whether there may be so many workers.
+fn can_be(workers: usize) -> bool
+    ensures { result ≡ can_be_workers workers }
+{
+    workers >= 1 && workers <= WORKERS as usize
 }
 
 impl Hall {
@@ -191,11 +199,12 @@ impl Hall {
         ensures side { IfOk result (λ r. LooksOnly S.Store desk r.0.desk (Ok tt)
             × (r.0.workers ≡ workers)) }
         ensures known { IfOk result (λ r. KnowsList J.known S.Store r.0.desk J.from) }
+        ensures pages { IfOk result (λ r. OpensBoard S.Store desk r.0.desk r.0.publisher) }
         ensures workers { IfOk result (λ r. AreWorkers workers r.1.items) }
         ensures limits { OnOk result (can_be_workers workers ≡ true) }
         ensures fault { IfErr result (λ f. IsUnopened workers S.Store desk f.desk f.why) }
     {
-        if workers < 1 || workers > WORKERS as usize {
+        if !can_be(workers) {
             let why = Why::Refused(Refusal::OutOfLimits);
             return Err(HallFault { why, desk });
         }
@@ -223,6 +232,41 @@ impl Hall {
                 let why = Why::Faulted(fault);
                 Err(HallFault { why, desk })
             }
+        }
+    }
+
+    /// Opens a hall of 1 to 8 workers over the desk of a new library in memory, on a queue that was
+    /// just opened. Its tables show the empty list of accepted requests: so that is known of it,
+    /// where its opening names that list, and nobody has a page.
+    ///
+    /// 21 for another number of workers; else 90 or 91 where there is no library, and 90 to 92 as
+    /// `new` gives them.
+    pub fn in_memory<J: Opening, R: Wait>(
+        rt: &R,
+        alloc: Global,
+        opened: Opened,
+        workers: usize,
+    ) -> Result<(DeskSide<J, MemStore>, Vec<Worker<J>>), Why>
+        requires name { opened ≡ J.name }
+        requires from { J.from ≡ [] }
+        ensures side { IfOk result (λ r. r.0.workers ≡ workers) }
+        ensures known { IfOk result (λ r. KnowsList true over_memory r.0.desk J.from) }
+        ensures pages { IfOk result (λ r. (patron : ℕ)
+            → page_at r.0.publisher.board.pages patron ≡ None) }
+        ensures workers { IfOk result (λ r. AreWorkers workers r.1.items) }
+        ensures limits { OnOk result (can_be_workers workers ≡ true) }
+        ensures fault { IfErr result (IsUnmade workers) }
+    {
+        if !can_be(workers) {
+            return Err(Why::Refused(Refusal::OutOfLimits));
+        }
+        let desk = match Desk::in_memory(alloc) {
+            Ok(desk) => desk,
+            Err(fault) => return Err(Why::Faulted(fault)),
+        };
+        match Hall::new::<J, MemStore, R>(rt, alloc, opened, desk, workers) {
+            Ok(hall) => Ok(hall),
+            Err(HallFault { why, desk: _ }) => Err(why),
         }
     }
 }

@@ -1,6 +1,8 @@
 //! The calls under test, with no clauses: so a test with many of them is proved fast.
 
-ghost use Rattle.std.specs.Prelude.{◌≡◌, false};
+ghost use Rattle.std.specs.Prelude.{◌≡◌, [], true, false, IfOk};
+ghost use Rattle.store.specs.Library.{over_memory};
+ghost use Rattle.hall.specs.Handling.{KnowsList};
 
 use desk::Desk;
 use hall::{DeskSide, Ended, Hall, HallFault, Left, Opened, Opening, Worker};
@@ -35,6 +37,24 @@ pub fn open_hall<J: Opening, R: Wait>(
     }
 }
 
+/// The hall of so many workers over a new library in memory; or the number that says why there is
+/// none.
+pub fn open_in_memory<J: Opening, R: Wait>(
+    rt: &R,
+    alloc: Global,
+    opened: Opened,
+    workers: usize,
+) -> Result<Side<J>, u32>
+    requires name { opened ≡ J.name }
+    requires from { J.from ≡ [] }
+    ensures { IfOk result (λ r. KnowsList true over_memory r.0.desk J.from) }
+{
+    match Hall::in_memory::<J, R>(rt, alloc, opened, workers) {
+        Ok(side) => Ok(side),
+        Err(why) => Err(why.number()),
+    }
+}
+
 /// Limits the steps of each call of the database.
 pub fn limit_side<J: Opening>(side: &mut DeskSide<J, MemStore>, limit: u64) {
     side.limit_steps(Some(limit));
@@ -47,6 +67,17 @@ pub fn handle_all<J: Opening, R: Wait>(
     side: DeskSide<J, MemStore>,
 ) -> (Desk<MemStore>, Ended<J>, Option<Fault>)
     requires { J.known ≡ false }
+{
+    side.desk_loop(rt, alloc)
+}
+
+/// The same where it is known what the tables show.
+pub fn handle_known<J: Opening, R: Wait>(
+    rt: &R,
+    alloc: Global,
+    side: DeskSide<J, MemStore>,
+) -> (Desk<MemStore>, Ended<J>, Option<Fault>)
+    requires { KnowsList J.known over_memory side.desk J.from }
 {
     side.desk_loop(rt, alloc)
 }
@@ -71,10 +102,18 @@ pub fn leave<J: Opening, R: Wait>(rt: &R, worker: Worker<J>) -> Left<J> {
     worker.leave(rt)
 }
 
-/// Takes in the end of a worker, and tells how many submissions were handled.
-pub fn take_in<J: Opening>(ended: &mut Ended<J>, left: Left<J>) -> u64 {
+/// Takes in the end of a worker, and tells whether the desk was told that it left.
+pub fn take_in<J: Opening>(ended: &mut Ended<J>, left: Left<J>) -> bool {
+    let is_told = left.is_told;
     ended.take_in(left);
-    ended.handled()
+    is_told
+}
+
+/// Ends what is left of a desk's side, and tells how many submissions were handled.
+pub fn close<J: Opening, R: Wait>(rt: &R, ended: Ended<J>) -> u64 {
+    let handled = ended.handled();
+    ended.close(rt);
+    handled
 }
 
 /// The desk of a new library in memory.

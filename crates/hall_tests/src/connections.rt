@@ -3,7 +3,7 @@
 ghost use Rattle.std.specs.Prelude.{◌≡◌, false};
 
 use crate::bytes::{Failing, answer, gets, served};
-use crate::calls::{connection, handle_all, leave, open_hall, open_queue, take_in};
+use crate::calls::{close, connection, handle_all, leave, open_hall, open_queue, take_in};
 use crate::hostile::{HOSTILE, withstands_all};
 use crate::library::{library, rows};
 use hall::{Left, Opened, Opening, Worker};
@@ -164,12 +164,18 @@ fn meet<J: Opening + Send + Sync + 'static, R: Threads + Wait + Abort + Copy + S
     };
     let started = thread::spawn(&rt, move || work(&rt, alloc, all, deed)).ok();
     let (desk, mut ended, fault) = handle_all(&rt, alloc, side);
-    let met = started.ok_or("a thread")?.join(&rt);
-    let (left, count) = met.ok_or("answers")?;
-    assert!(&rt; fault == None && left.is_told);
-    let handled = take_in(&mut ended, left);
+    let met = match started {
+        Some(thread) => thread.join(&rt),
+        None => None,
+    };
+    let count = match met {
+        Some((left, count)) => take_in(&mut ended, left).then_some(count),
+        None => None,
+    };
+    let handled = close(&rt, ended);
+    assert!(&rt; fault == None);
     let text = rows(alloc, &mut connection(desk))?;
-    Ok((count, handled, text))
+    Ok((count.ok_or("answers")?, handled, text))
 }
 
 #[test]

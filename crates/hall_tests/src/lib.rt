@@ -11,6 +11,8 @@ mod connections;
 #[cfg(test)]
 mod hostile;
 #[cfg(test)]
+mod known;
+#[cfg(test)]
 mod library;
 #[cfg(test)]
 mod tests;

@@ -10,11 +10,11 @@ use std::test::Fail;
 use terms::{Caller, CardKey, Key, PatronId, Request};
 
 /// The desk's requests that make the library: a key, words, and with a bar before it a last word that has blanks. There are eight
-/// patrons, who may have five holds each, and three titles.
+/// patrons, who may have fifty holds each, and three titles.
 const GROUND: &str = "g1 begin-day 2026-03-02
 g2 branch 1 5|Main
 g3 week 1 ooooooc
-g4 kind 1 5 5 500
+g4 kind 1 5 50 500
 g5 rule 1 1 6 1 20 100
 p1 patron 1 1 cardkey00001|Ann Bell
 p2 patron 2 1 cardkey00002|Bo Carr
@@ -32,8 +32,17 @@ c3 acquire 30 300 1 1 800|Night Ferries";
 const TABLES: &str =
     "meta branches closed_days kinds rules patrons titles copies loans holds transits lines kept";
 
-/// How many holds each worker's patron places.
+/// How many holds each worker's patron places where it isn't said.
 pub const HOLDS: u64 = 3;
+
+/// The title of the hold of this number, and the copy that is acquired for it from the fourth on.
+fn title(number: u64) -> u64 {
+    if number <= HOLDS {
+        number.wrapping_mul(100)
+    } else {
+        number.wrapping_add(400)
+    }
+}
 
 /// The request of a caller under a key.
 fn request(alloc: Global, caller: Caller, key: &str, text: &str) -> Result<Request, Fail> {
@@ -59,14 +68,31 @@ fn request(alloc: Global, caller: Caller, key: &str, text: &str) -> Result<Reque
     })
 }
 
+/// What the desk is asked for each title from the fourth on, up to so many.
+fn add_titles(alloc: Global, list: &mut Vec<Request>, titles: u64) -> Result<(), Fail> {
+    for number in HOLDS + 1..titles.saturating_add(1) {
+        let key = format!(in alloc; "t{number}")?;
+        let title = title(number);
+        let text = format!(in alloc; "acquire {title} {title} 1 1 800|Book {number}")?;
+        list.push(request(alloc, Caller::Desk, &key, &text)?)?;
+    }
+    Ok(())
+}
+
 /// The desk of the small library.
 pub fn library(alloc: Global) -> Result<Desk<MemStore>, Fail> {
+    library_of(alloc, HOLDS)
+}
+
+/// The same with so many titles.
+pub fn library_of(alloc: Global, titles: u64) -> Result<Desk<MemStore>, Fail> {
     let mut desk = in_memory(alloc)?;
     let mut list = Vec::new(alloc);
     for line in GROUND.split('\n') {
         let (key, text) = line.split_once(' ').ok_or("words")?;
         list.push(request(alloc, Caller::Desk, key, text)?)?;
     }
+    add_titles(alloc, &mut list, titles)?;
     let (replies, fault) = run(&mut desk, alloc, &list);
     if replies.len() != list.len() || fault.is_some() {
         return Err("a library".into());
@@ -74,9 +100,10 @@ pub fn library(alloc: Global) -> Result<Desk<MemStore>, Fail> {
     Ok(desk)
 }
 
-/// The words of the hold of a worker's patron for the title of this number, the first, the second or the third.
+/// The words of the hold of a worker's patron for the title of this number.
 fn hold_words(alloc: Global, worker: u64, number: u64) -> Result<String, Fail> {
-    Ok(format!(in alloc; "place-hold {worker} {number}00 1")?)
+    let title = title(number);
+    Ok(format!(in alloc; "place-hold {worker} {title} 1")?)
 }
 
 /// The same as a request.
@@ -100,8 +127,9 @@ pub fn holds(alloc: Global, worker: u64) -> Result<Vec<Request>, Fail> {
 
 /// The same hold as the bytes of a connection. None where no memory is left.
 pub fn hold_bytes(alloc: Global, worker: u64, number: u64) -> Option<String> {
+    let title = title(number);
     format!(in alloc;
-        "POST /patrons/{worker}/holds HTTP/1.1\r\nCard-Key: cardkey0000{worker}\r\nRequest-Key: h{number}\r\nContent-Length: 24\r\n\r\n{{\"branch\":1,\"title\":{number}00}}"
+        "POST /patrons/{worker}/holds HTTP/1.1\r\nCard-Key: cardkey0000{worker}\r\nRequest-Key: h{number}\r\nContent-Length: 24\r\n\r\n{{\"branch\":1,\"title\":{title}}}"
     ).ok()
 }
 

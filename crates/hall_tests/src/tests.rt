@@ -4,9 +4,12 @@ ghost use Rattle.std.specs.Prelude.{◌≡◌, false};
 
 use crate::bytes::{answer, gets, told};
 use crate::calls::{
-    connection, handle_all, handle_and_look, leave, limit_side, open_hall, open_queue, run, take_in,
+    close, connection, handle_all, handle_and_look, leave, limit_side, open_hall, open_queue, run,
+    take_in,
 };
-use crate::library::{HOLDS, hold, hold_bytes, holds, library, order, page_bytes, rows};
+use crate::library::{
+    HOLDS, hold, hold_bytes, holds, library, library_of, order, page_bytes, rows,
+};
 use desk::Desk;
 use hall::{DeskSide, Ended, Left, Opened, Opening, Worker};
 use sqlite::MemStore;
@@ -24,17 +27,18 @@ fn held(page: &str) -> usize {
     page.split("\\nhold ").count().saturating_sub(1)
 }
 
-/// Places the patron's holds, and looks at the page after each: how many were answered, and shown at
-/// once.
+/// Places so many holds of the patron, and looks at the page after each: how many were answered, and
+/// shown at once.
 fn place_all<J: Opening, R: Wait>(
     rt: &R,
     alloc: Global,
     worker: &mut Worker<J>,
     patron: u64,
+    each: u64,
 ) -> Option<u64> {
     let page = page_bytes(alloc, patron)?;
     let mut count = 0u64;
-    for title in 1..HOLDS + 1 {
+    for title in 1..each.saturating_add(1) {
         let text = told(rt, alloc, worker, &hold_bytes(alloc, patron, title)?)?;
         let page = told(rt, alloc, worker, &page)?;
         if text.starts_with("HTTP/1.1 200 OK") && held(&page) as u64 == title {
@@ -50,8 +54,9 @@ fn work<J: Opening, R: Wait>(
     alloc: Global,
     mut worker: Worker<J>,
     patron: u64,
+    each: u64,
 ) -> (Left<J>, Option<u64>) {
-    let count = place_all(rt, alloc, &mut worker, patron);
+    let count = place_all(rt, alloc, &mut worker, patron, each);
     (leave(rt, worker), count)
 }
 
@@ -63,24 +68,44 @@ fn start_all<J: Opening + Send + Sync + 'static, R: Threads + Wait + Copy + Send
     rt: R,
     alloc: Global,
     workers: Vec<Worker<J>>,
+    each: u64,
 ) -> Option<Vec<Working<J>>> {
     let mut threads = Vec::with_capacity(alloc, workers.len()).ok()?;
     let mut patron = 0u64;
     for worker in workers {
         patron = patron.wrapping_add(1);
-        let thread = thread::spawn(&rt, move || work(&rt, alloc, worker, patron)).ok()?;
+        let thread = thread::spawn(&rt, move || work(&rt, alloc, worker, patron, each)).ok()?;
         threads.push(thread).ok()?;
     }
     Some(threads)
 }
 
+/// Of each worker whether the desk was told that it left, and how many of its holds were answered and
+/// shown.
+type Told = Vec<(bool, Option<u64>)>;
+
 /// What a hall has come to.
 #[derive(Drop)]
-struct Met<J: Opening> {
-    lefts: Vec<(Left<J>, Option<u64>)>,
+struct Met {
+    told: Option<Told>,
     desk: Desk<MemStore>,
-    ended: Ended<J>,
+    handled: u64,
     fault: Option<Fault>,
+}
+
+/// Waits for the threads, and takes in the ends of the workers.
+fn join_all<J: Opening, R: Threads>(
+    rt: &R,
+    alloc: Global,
+    ended: &mut Ended<J>,
+    threads: Vec<Working<J>>,
+) -> Option<Told> {
+    let mut told = Vec::new(alloc);
+    for thread in threads {
+        let (left, count) = thread.join(rt);
+        told.push((take_in(ended, left), count)).ok()?;
+    }
+    Some(told)
 }
 
 /// The workers in threads, and the desk in this one.
@@ -89,26 +114,28 @@ fn meet<J: Opening + Send + Sync + 'static, R: Threads + Wait + Copy + Send + 's
     alloc: Global,
     side: DeskSide<J, MemStore>,
     workers: Vec<Worker<J>>,
-) -> Result<Met<J>, Fail>
+    each: u64,
+) -> Met
     requires { J.known ≡ false }
 {
-    let started = start_all(rt, alloc, workers);
-    let (desk, ended, fault) = handle_all(&rt, alloc, side);
-    let mut lefts = Vec::new(alloc);
-    for thread in started.ok_or("threads")? {
-        lefts.push(thread.join(&rt))?;
-    }
-    Ok(Met {
-        lefts,
+    let started = start_all(rt, alloc, workers, each);
+    let (desk, mut ended, fault) = handle_all(&rt, alloc, side);
+    let told = match started {
+        Some(threads) => join_all(&rt, alloc, &mut ended, threads),
+        None => None,
+    };
+    let handled = close(&rt, ended);
+    Met {
+        told,
         desk,
-        ended,
+        handled,
         fault,
-    })
+    }
 }
 
 /// The rows of a library whose desk handles one list: of each worker its requests in turn, in the order that these numbers tell.
-fn rows_of_run(rt: &impl Abort, alloc: Global, order: &[i64]) -> Result<String, Fail> {
-    let mut desk = library(alloc)?;
+fn rows_of_run(rt: &impl Abort, alloc: Global, order: &[i64], titles: u64) -> Result<String, Fail> {
+    let mut desk = library_of(alloc, titles)?;
     let mut next = [1u64; 9];
     let mut list = Vec::new(alloc);
     for worker in order {
@@ -124,58 +151,61 @@ fn rows_of_run(rt: &impl Abort, alloc: Global, order: &[i64]) -> Result<String, 
 }
 
 /// All is handled, each worker's in turn, and the tables are those of one list.
-fn check_whole<J: Opening>(
+fn check_whole(
     rt: &impl Abort,
     alloc: Global,
-    met: Met<J>,
+    met: Met,
     workers: u64,
+    each: u64,
 ) -> Result<(), Fail> {
     let Met {
-        lefts,
+        told,
         desk,
-        mut ended,
+        handled,
         fault,
     } = met;
-    assert!(rt; fault == None && lefts.len() as u64 == workers);
-    for (left, count) in lefts {
-        assert!(rt; left.is_told && count == Some(HOLDS));
-        let handled = take_in(&mut ended, left);
-        assert!(rt; handled == workers.wrapping_mul(HOLDS));
+    let told = told.ok_or("threads")?;
+    assert!(rt; fault == None && told.len() as u64 == workers);
+    for (is_told, count) in &told {
+        assert!(rt; *is_told && *count == Some(each));
     }
+    assert!(rt; handled == workers.wrapping_mul(each));
     let mut conn = connection(desk);
     let order = order(alloc, &mut conn)?;
-    assert!(rt; order.len() as u64 == workers.wrapping_mul(HOLDS));
+    assert!(rt; order.len() as u64 == workers.wrapping_mul(each));
     let text = rows(alloc, &mut conn)?;
-    assert!(rt; text.as_str() == rows_of_run(rt, alloc, &order)?.as_str());
+    assert!(rt; text.as_str() == rows_of_run(rt, alloc, &order, each)?.as_str());
     Ok(())
 }
 
-/// A hall of so many workers.
+/// A hall of so many workers, each of whose patrons places so many holds.
 fn run_hall<J: Opening + Send + Sync + 'static, R: Threads + Wait + Abort + Copy + Send + 'static>(
     rt: R,
     alloc: Global,
     opened: Opened,
     workers: u64,
+    each: u64,
 ) -> Result<(), Fail>
     requires name { opened ≡ J.name }
     requires known { J.known ≡ false }
 {
-    let desk = library(alloc)?;
+    let desk = library_of(alloc, each)?;
     let Ok((side, all)) = open_hall::<J, R>(&rt, alloc, opened, desk, workers as usize) else {
         return Err("a hall".into());
     };
-    let met = meet(rt, alloc, side, all)?;
-    check_whole(&rt, alloc, met, workers)
+    let met = meet(rt, alloc, side, all, each);
+    check_whole(&rt, alloc, met, workers, each)
 }
 
 #[test]
 fn two_workers(rt: HostRuntime) -> Result<(), Fail> {
-    run_hall::<Brand, _>(rt, rt.alloc(), open_queue(rt.alloc())?, 2)
+    run_hall::<Brand, _>(rt, rt.alloc(), open_queue(rt.alloc())?, 2, HOLDS)
 }
 
+/// Each of eight workers has fifty holds placed.
 #[test]
 fn eight_workers(rt: HostRuntime) -> Result<(), Fail> {
-    run_hall::<Brand, _>(rt, rt.alloc(), open_queue(rt.alloc())?, 8)
+    run_hall::<Brand, _>(rt, rt.alloc(), open_queue(rt.alloc())?, 8, 50)
 }
 
 /// Where the first worker's list ends under a limit of steps: how many of its requests are shown, how
@@ -280,7 +310,7 @@ fn right_of_two<J: Opening, R: Wait>(
 
 /// What two workers were answered, one after the other.
 #[derive(Drop)]
-struct Told<J: Opening> {
+struct Answered<J: Opening> {
     lefts: (Left<J>, Left<J>),
     first: Option<u64>,
     second: Option<u64>,
@@ -292,17 +322,33 @@ fn work_closed<J: Opening, R: Wait>(
     alloc: Global,
     mut all: Vec<Worker<J>>,
     cut: Cut,
-) -> Option<Told<J>> {
+) -> Option<Answered<J>> {
     let mut two = all.pop()?;
     let mut one = all.pop()?;
     let first = right_of_one(rt, alloc, &mut one, cut);
     let second = right_of_two(rt, alloc, &mut two, cut);
     let lefts = (leave(rt, one), leave(rt, two));
-    Some(Told {
+    Some(Answered {
         lefts,
         first,
         second,
     })
+}
+
+/// Takes in the ends of both, and tells how many of their answers were right.
+fn take_both<J: Opening>(
+    ended: &mut Ended<J>,
+    answered: Answered<J>,
+) -> (Option<u64>, Option<u64>) {
+    let Answered {
+        lefts,
+        first,
+        second,
+    } = answered;
+    let (one, two) = lefts;
+    take_in(ended, one);
+    take_in(ended, two);
+    (first, second)
 }
 
 /// The hall closes where the list ends, and both workers are told.
@@ -321,13 +367,18 @@ fn check_closed<
     let cut = wanted.cut;
     let started = thread::spawn(&rt, move || work_closed(&rt, alloc, all, cut)).ok();
     let (desk, mut ended, fault) = handle_all(&rt, alloc, side);
-    let met = started.ok_or("a thread")?.join(&rt);
-    let told = met.ok_or("workers")?;
+    let met = match started {
+        Some(thread) => thread.join(&rt),
+        None => None,
+    };
+    let counts = match met {
+        Some(answered) => take_both(&mut ended, answered),
+        None => (None, None),
+    };
+    let handled = close(&rt, ended);
     assert!(&rt; fault == Some(cut.fault), "{limit}");
-    assert!(&rt; told.first == Some(4) && told.second == Some(2), "{limit}");
-    let (one, two) = told.lefts;
-    assert!(&rt; take_in(&mut ended, one) == cut.handled);
-    assert!(&rt; take_in(&mut ended, two) == cut.handled);
+    assert!(&rt; counts == (Some(4), Some(2)), "{limit}");
+    assert!(&rt; handled == cut.handled, "{limit}");
     let text = rows(alloc, &mut connection(desk))?;
     assert!(&rt; text.as_str() == wanted.text.as_str());
     Ok(())
@@ -368,13 +419,14 @@ fn refuse<J: Opening, R: Wait + Abort>(
             for worker in all {
                 let _ = leave(rt, worker);
             }
-            let _ = handle_all(rt, alloc, side);
+            let (_, ended, _) = handle_all(rt, alloc, side);
+            close(rt, ended);
             Err("no hall".into())
         }
         Err((number, desk)) => {
             assert!(rt; number == 21);
             let text = rows(alloc, &mut connection(desk))?;
-            assert!(rt; text.as_str() == rows_of_run(rt, alloc, &[])?.as_str());
+            assert!(rt; text.as_str() == rows_of_run(rt, alloc, &[], HOLDS)?.as_str());
             Ok(())
         }
     }

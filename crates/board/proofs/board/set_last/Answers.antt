@@ -1,4 +1,4 @@
-use Rattle.std.proofs.Common.{◌≡◌, ◌-◌, ℕ, true, cond, List, Option, None, Some, map, set, sym, ap, ◌∙◌, option_map}
+use Rattle.std.proofs.Common.{◌≡◌, ◌-◌, ℕ, true, cond, List, Option, Some, map, set, sym, ap, ◌∙◌, option_map}
 use Rattle.std.specs.Arc.{arc_value}
 use Rattle.std.proofs.lemmas.List.{map-set}
 use Rattle.board.specs.declared.entry.Entry.{Entry}

@@ -21,5 +21,5 @@ returns-in-Err-show-clause-next g c = inr (inl (record {
   reply = c.in-Ok.reply;
   made = c.handle_touching.new.self;
   handles = rw (← c.get.ensures) c.in-Ok.ensures.handles;
-  looks = c.in-Err-show.ensures;
+  looks = c.in-Err-show.ensures.1;
 }))

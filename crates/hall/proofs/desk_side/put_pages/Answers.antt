@@ -1,4 +1,4 @@
-use Rattle.std.proofs.Common.{◌≡◌, ◌+◌, ◌<◌, ℕ, List, ap, ◌∙◌, arith, length}
+use Rattle.std.proofs.Common.{◌<◌, ℕ, List, ap, ◌∙◌, arith, length}
 use Rattle.board.specs.Rule.{Publishing}
 use Rattle.hall.proofs.Pages.{taken-more, put-page, put-none}
 use Rattle.hall.proofs.desk_side.put_pages.Goals.{in-Some+in_ok-put, in_default}

@@ -1,4 +1,4 @@
-use Rattle.std.proofs.Common.{◌≡◌, ℕ, List, take}
+use Rattle.std.proofs.Common.{◌≡◌, take}
 use Rattle.std.specs.Prelude.{Ok}
 use Rattle.desk.specs.Answering.{Learns}
 use Rattle.hall.specs.Handling.{PutsPages}

@@ -1,5 +1,5 @@
-use Rattle.std.proofs.Common.{ap, subst}
-use Rattle.desk.proofs.Looking.{fails, learns-on, ◌⨾◌}
+use Rattle.std.proofs.Common.{subst}
+use Rattle.desk.proofs.Looking.{learns-on, ◌⨾◌}
 use Rattle.hall.specs.Openings.{AreFirstPages}
 use Rattle.hall.proofs.Pages.{first-whole}
 use Rattle.hall.proofs.hall.first_pages.Goals as goal

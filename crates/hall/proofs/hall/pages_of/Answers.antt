@@ -1,8 +1,6 @@
-use Rattle.std.proofs.Common.{◌≡◌, ◌+◌, ◌<◌, ℕ, List, [], ap, sym, subst, ◌∙◌, arith, length}
-use Rattle.std.specs.Prelude.{Ok}
-use Rattle.desk.specs.Answering.{Learns}
+use Rattle.std.proofs.Common.{◌<◌, ℕ, List, [], ap, sym, subst, ◌∙◌, arith, length}
 use Rattle.desk.specs.declared.showing.OwnPage.{OwnPage}
-use Rattle.desk.proofs.Looking.{idle, gives, ◌⨾◌, fails, stops}
+use Rattle.desk.proofs.Looking.{idle, gives}
 use Rattle.board.specs.Showing.{page_at}
 use Rattle.board.proofs.PageLists.{page-put}
 use Rattle.hall.specs.Openings.{AreFirstPages}

@@ -1,4 +1,4 @@
-use Rattle.board.proofs.Beginnings.{starts_self, starts_on}
+use Rattle.board.proofs.Beginnings.{starts_self}
 use Rattle.hall.proofs.worker.await_entry.Goals as goal
 
 pub looks-init : goal.looks-init

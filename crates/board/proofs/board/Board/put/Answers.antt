@@ -1,7 +1,5 @@
-use Rattle.std.proofs.Common.{◌≡◌, ℕ, List, Option, map, ap, ◌∙◌, sym, option_map}
+use Rattle.std.proofs.Common.{ℕ, List, map, ap, ◌∙◌, option_map}
 use Rattle.std.specs.Arc.{arc_value}
-use Rattle.std.specs.Ordering.{nat_cmp}
-use Rattle.std.specs.BTreeMap.{insert_entry}
 use Rattle.desk.specs.declared.showing.OwnPage.{OwnPage}
 use Rattle.board.specs.Showing.{Showing, put_page}
 use Rattle.board.proofs.PageLists.{map-put}

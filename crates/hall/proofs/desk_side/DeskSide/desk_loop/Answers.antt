@@ -1,11 +1,11 @@
-use Rattle.std.proofs.Common.{◌≡◌, ◌+◌, ◌++◌, ◌∷◌, [], map, refl, ap, ◌∙◌, inl, inr, rules}
+use Rattle.std.proofs.Common.{◌≡◌, ◌+◌, ◌<◌, ◌++◌, ◌∷◌, ℕ, false, List, [], map, refl, sym, ap, subst, ◌∙◌, inl, inr, rules}
 use Rattle.hall.specs.declared.messages.Message.{Message}
 use Rattle.hall.specs.declared.messages.View.{View}
-use Rattle.hall.specs.Queue.{unhandled, requests}
-use Rattle.hall.specs.Handling.{submission_of}
+use Rattle.hall.specs.Queue.{unhandled, requests, of, is_open}
+use Rattle.hall.specs.Handling.{submission_of, Finishes}
 use Rattle.hall.proofs.HandledLists.{stays_gone, goes_now}
 use Rattle.hall.proofs.Progress.{none-handled}
-use Rattle.hall.proofs.Shown.{may-take, message-kept}
+use Rattle.hall.proofs.Shown.{may-take, message-kept, finishes}
 use Rattle.hall.proofs.desk_side.DeskSide.desk_loop.Goals as goal
 
 pub work-init : goal.work-init
@@ -39,3 +39,10 @@ work-preserved-in-Ok g c =
       ];
       stands = message-kept g.S.Store c.args.self.desk c.work.desk t.new.desk c.work.progress.handled t.new.progress.handled c.work.progress.fault t.new.progress.fault c.work.inbox.got c.receive.new.self.got c.work.board t.result c.in-Ok.message got t.ensures.next i.stands;
     }
+
+pub returns-clause-finishes : goal.returns-clause-finishes
+returns-clause-finishes g c =
+    let got : c.end.result.got ≡ c.work.inbox.got = ap (λ (v : View). v.got) c.end.ensures in
+    let gone : (k : ℕ) → k < c.args.self.workers → is_open (of (k + 1) c.work.inbox.got) ≡ false = search rules in
+    subst (λ (l : List Message). Finishes c.args.self.workers c.work.progress.handled l c.stop.result.shown g.S.Store c.args.self.desk c.work.desk c.work.progress.fault) (sym got)
+    (finishes g.S.Store c.args.self.workers c.work.progress.handled c.work.inbox.got c.stop.result.shown c.args.self.desk c.work.desk c.work.progress.fault c.work.board gone c.stop.ensures.same c.work.invariant.stands)

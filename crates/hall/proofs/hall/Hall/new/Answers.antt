@@ -1,4 +1,4 @@
-use Rattle.std.proofs.Common.{rules, inl, inr, refl}
+use Rattle.std.proofs.Common.{rules}
 use Rattle.hall.proofs.Reasons.{unhired}
 use Rattle.hall.proofs.hall.Hall.new.Goals as goal
 

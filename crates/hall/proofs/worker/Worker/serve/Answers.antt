@@ -1,5 +1,5 @@
 use Rattle.std.proofs.Common.{◌≡◌, ◌∙◌, sym, ap, subst}
-use Rattle.std.specs.Prelude.{Option, Some, None, Ok, Err}
+use Rattle.std.specs.Prelude.{Option, Some, None, Err}
 use Rattle.web.specs.declared.answer.Answer.{Answer}
 use Rattle.web.specs.declared.answer.Answer.TheVariants.{Faulted, Failed}
 use Rattle.terms.specs.declared.fault.Fault.TheVariants.{Memory}

@@ -1,0 +1,29 @@
+-- A hall over the desk of a new library in memory.
+use Rattle.std.proofs.Common.{◌≡◌, ℕ, Bool, true, false, List, [], refl, sym, subst}
+use Rattle.std.specs.Prelude.{None, Ok}
+use Rattle.sqlite.proofs.Callers.{memory_is_clean}
+use Rattle.sqlite_trees.specs.declared.memory.MemStore.{MemStore}
+use Rattle.store.specs.Library.{Held, state, over_memory}
+use Rattle.model.specs.History.{History}
+use Rattle.desk.specs.Answering.{Shows}
+use Rattle.board.specs.Rule.{Publishing}
+use Rattle.board.specs.Showing.{page_at}
+use Rattle.hall.specs.declared.hall.Why.{Why}
+use Rattle.hall.specs.Handling.{KnowsList}
+use Rattle.hall.specs.Openings.{LooksOnly, OpensBoard, IsUnopened, IsUnmade}
+
+-- its tables are known to show the empty list
+pub knows-none : (known : Bool) (from : History) (desk : Held MemStore) → from ≡ [] → Shows (state over_memory desk) [] → KnowsList known over_memory desk from
+knows-none known from desk is shows k = (memory_is_clean, subst (Shows (state over_memory desk)) (sym is) shows)
+
+module _ (old new : Held MemStore) (shows : Shows (state over_memory old) []) where
+  -- after a look too
+  pub still-none : LooksOnly over_memory old new (Ok tt) → Shows (state over_memory new) []
+  still-none l = l.looks.stays (memory_is_clean new) [] shows
+
+  -- nobody has a page
+  pub no-pages : (p : Publishing) → OpensBoard over_memory old new p → (patron : ℕ) → page_at p.board.pages patron ≡ None
+  no-pages p opens patron = opens.pages.shown (memory_is_clean new) [] shows tt patron
+
+pub unmade : (workers : ℕ) (old new : Held MemStore) (why : Why) → IsUnopened workers over_memory old new why → IsUnmade workers why
+unmade workers old new why is = record { refused = λ out. (is.refused out).0; faulted = λ within. let met = is.faulted within in (met.0, met.1) }
