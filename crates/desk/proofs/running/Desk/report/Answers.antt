@@ -4,7 +4,7 @@ use Rattle.desk.specs.Reports.{WritesAnyReport}
 use Rattle.desk.specs.declared.reports.Report.{Report}
 use Rattle.desk.specs.declared.reports.Report.TheVariants.{Overdue, Shelf}
 use Rattle.desk.proofs.ReportForms.{of-branch}
-use Rattle.desk.proofs.reports.Desk.report.Goals as goal
+use Rattle.desk.proofs.running.Desk.report.Goals as goal
 
 pub returns-in-Overdue : goal.returns-in-Overdue
 returns-in-Overdue g c =
