@@ -22,7 +22,6 @@ from contextlib import closing, contextmanager
 
 import calendar_weeks
 from desk_rules import Library
-from messages import message, without_version
 
 TOP = os.path.dirname(os.path.dirname(os.path.abspath(__file__)))
 CIRC = os.path.join(TOP, "circ")
@@ -164,9 +163,9 @@ def check(what, found, wanted):
 
 
 def circ(words, **how):
-    """The line and the status of one run; standard error says what the line means."""
+    """The line and the status of one run; nothing may stand on standard error."""
     run = subprocess.run([CIRC, *words], capture_output=True, timeout=120, **how)
-    check(f"standard error of {words}", without_version(run.stderr), message(words, run.stdout))
+    check(f"standard error of {words}", run.stderr, b"")
     line = run.stdout.decode()
     check(f"one line of {words}", (line.count("\n"), line.endswith("\n")), (1, True))
     return line[:-1], run.returncode
@@ -418,7 +417,7 @@ def refusals_of_other_rows(folder, path):
 def answers(path, key, words):
     """What one run prints, of any number of lines, and its status."""
     run = subprocess.run([CIRC, "file", path, key, *words], capture_output=True, timeout=120)
-    check(f"standard error of {key} {words}", without_version(run.stderr), message(["file", path, key, *words], run.stdout))
+    check(f"standard error of {key} {words}", run.stderr, b"")
     return run.stdout.decode(), run.returncode
 
 
@@ -451,7 +450,7 @@ def a_day_at_the_desk(folder):
 def report(path, *words):
     """What a report prints, and its status."""
     run = subprocess.run([CIRC, "report", path, *words], capture_output=True, timeout=120)
-    check(f"standard error of {words}", without_version(run.stderr), message(["report", path, *words], run.stdout))
+    check(f"standard error of {words}", run.stderr, b"")
     return run.stdout.decode(), run.returncode
 
 
@@ -598,7 +597,7 @@ HEADER = "copy,title,text,kind,home,price,end\n"
 def take_in(path, copies):
     """What taking in a copies file prints, and its status."""
     run = subprocess.run([CIRC, "import", path, copies], capture_output=True, timeout=120)
-    check("standard error of a copies file", without_version(run.stderr), message(["import", path, copies], run.stdout))
+    check("standard error of a copies file", run.stderr, b"")
     return run.stdout.decode(), run.returncode
 
 

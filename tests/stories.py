@@ -39,7 +39,6 @@ from concurrent.futures import ThreadPoolExecutor
 
 from desk_rules import Library
 from end_to_end import CIRC, GROUND, PROGRAM, TOP, rows, status_of, whole, write
-from messages import message, without_version
 
 KINDS = ("weekly", "report", "rows", "pairs", "sql", "select", "damage")
 SILENT = ("pairs", "sql", "damage")  # lines with no answer of their own
@@ -110,11 +109,10 @@ class Story:
             self.compare(place, law, rows(self.path, text), [])
 
     def send(self, step, words, lines, status):
-        """One run of the program: its lines, its status, and on standard error what the last of them means."""
+        """One run of the program: its lines, its status, and nothing on standard error."""
         ran = subprocess.run([PROGRAM, *words], capture_output=True, timeout=120)
-        found = ran.stdout.decode().split("\n"), ran.returncode, without_version(ran.stderr)
-        wanted = [*lines, ""]
-        self.compare(step.place, shlex.join(words), found, (wanted, status, message(words, "\n".join(wanted).encode())))
+        found = ran.stdout.decode().split("\n"), ran.returncode, ran.stderr
+        self.compare(step.place, shlex.join(words), found, ([*lines, ""], status, b""))
 
     def ask(self, step, key, words, lines):
         """One request; the rules give the same lines, where its words are understood."""

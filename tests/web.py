@@ -21,7 +21,6 @@ from concurrent.futures import ThreadPoolExecutor
 import end_to_end as desk
 from desk_rules import Library
 from end_to_end import CIRC, GROUND, PROGRAM, TOP, check, circ, rows, say, whole
-from messages import message
 
 DESK_KEY = "deskkey00001"
 ANN, BO = {"Card-Key": "cardkey00001"}, {"Card-Key": "cardkey00002"}
@@ -507,7 +506,7 @@ def sent(folder, workers):
             status, body = told(library.handle(key, words))
             run = subprocess.run([PROGRAM, "send", str(serving.port), DESK_KEY, key, *words], capture_output=True, timeout=60)
             found = run.stdout, run.stderr, run.returncode
-            check(f"{key} {words}", found, (body + b"\n", message(["send", *words], body), 0 if status == 200 else 2))
+            check(f"{key} {words}", found, (body + b"\n", b"", 0 if status == 200 else 2))
         for desk_key, key, words, wanted, status in others:
             run = subprocess.run([PROGRAM, "send", str(serving.port), desk_key, key, *words], capture_output=True, timeout=60)
             check(f"{words}", (run.stdout, run.returncode), (wanted, status))

@@ -4,8 +4,7 @@
     tests/words.py
 
 The table of commands (`crates/terms/src/form.rt`): each command and its parts stand so in the manual page, its name in the completion for bash
-and in the table of the README. The numbers of refusals and faults (`crates/terms/src/refusal.rt`, `fault.rt`): the manual page tells what each means, and the
-program does in the same words (`crates/circ_cli/src/messages.rt`).
+and in the table of the README. The numbers of refusals and faults (`crates/terms/src/refusal.rt`, `fault.rt`): the manual page tells what each means.
 """
 
 import os
@@ -41,11 +40,6 @@ def in_manual(manual):
     return words, {int(number): " ".join(text.split()) for number, text in meanings}
 
 
-def meanings():
-    """What each refusal and each fault means, as the manual page has it."""
-    return in_manual(read("docs/circ.1"))[1]
-
-
 def main():
     wrong = []
 
@@ -65,10 +59,6 @@ def main():
     same("the README's commands", sorted(name for name, _ in readme), sorted(table))
     same("the README's examples", [name for name, example in readme if name != example], [])
     same("the manual page's numbers", set(told), numbers("crates/terms/src/refusal.rt") | numbers("crates/terms/src/fault.rt"))
-    messages = read("crates/circ_cli/src/messages.rt")
-    same("what is told of them", {int(number): text for number, text in re.findall(r'^        (\d+) => "(.*)",$', messages, re.M)}, told)
-    version = re.search(r'VERSION: &str = "([0-9.]+)"', messages).group(1), re.search(r"SCHEMA: u32 = (\d+)", read("crates/store/src/changing.rt")).group(1)
-    same("the version", version, re.search(r"^## ([0-9.]+), schema (\d+)$", read("CHANGES.md"), re.M).groups())
     for line in wrong:
         print(line)
     print(f"words: {len(table)} commands and {len(told)} numbers compared, {len(wrong)} differ")

@@ -2,14 +2,12 @@
 #![tactic(auto)]
 
 mod calls;
-mod messages;
 
 use calls::{
     FileDesk, close, create, import, no_network, not_understood, one, open, out_of_memory, report,
     send, serve, tell_fault, unreadable,
 };
 use circ::{Exit, Report, Run, WriteFault, read_run};
-use messages::{Noting, explain};
 use sqlite::{Start, Wary};
 use std::alloc::Global;
 use std::fs::File;
@@ -168,7 +166,7 @@ fn words_of(rt: &HostRuntime) -> Result<Vec<String>, Fault> {
     }
 }
 
-/// Does what is asked for, and writes its lines.
+/// Does what is asked for, and writes its lines: those of a copies file and of the web at once, so that what was told was done.
 fn do_run<S: Start, W: Write, R: Threads + Wait + Copy + Send + 'static>(
     rt: &HostRuntime,
     threads: R,
@@ -178,7 +176,7 @@ fn do_run<S: Start, W: Write, R: Threads + Wait + Copy + Send + 'static>(
 ) -> Result<Exit, WriteFault> {
     match asked {
         Run::File { path, key, words } => file(rt, start, path, key, words, writer),
-        Run::Import { path, copies } => import_into(rt, start, path, copies, writer),
+        Run::Import { path, copies } => import_into(rt, start, path, copies, &mut io::writer(rt)),
         Run::Report { path, report } => report_on(rt, start, path, &report, writer),
         Run::Serve {
             path,
@@ -187,7 +185,15 @@ fn do_run<S: Start, W: Write, R: Threads + Wait + Copy + Send + 'static>(
             each,
             desk_key,
         } => serve_on(
-            rt, threads, start, path, port, workers, each, desk_key, writer,
+            rt,
+            threads,
+            start,
+            path,
+            port,
+            workers,
+            each,
+            desk_key,
+            &mut io::writer(rt),
         ),
         Run::Send {
             port,
@@ -214,46 +220,22 @@ fn answer<S: Start, W: Write, R: Threads + Wait + Copy + Send + 'static>(
     }
 }
 
-/// Does what the words ask for, and tells on standard error what the last line means.
-fn run_with<W: Write + Drop, R: Threads + Wait + Copy + Send + 'static>(
-    rt: &HostRuntime,
-    threads: R,
-    words: &[String],
-    writer: W,
-) -> Result<Exit, WriteFault> {
-    let mut noting = Noting::new(writer);
-    let exit = answer(rt, threads, Wary, rt.alloc(), words, &mut noting)?;
-    if noting.flush().is_err() {
-        return Err(WriteFault);
-    }
-    // What can't be told there is left: the line and the status stand.
-    let _ = explain(rt, words, noting.last_line());
-    Ok(exit)
-}
-
-/// Whether each line is written at once: those of a copies file and of the web, so that what was told was done.
-fn tells_at_once(words: &[String]) -> bool {
-    match words.first() {
-        Some(word) => word.as_str() == "import" || word.as_str() == "serve",
-        None => false,
-    }
-}
-
 /// The whole run: the lines of a request or a report go out together at its end.
 fn run<R: Threads + Wait + Copy + Send + 'static>(
     rt: &HostRuntime,
     threads: R,
 ) -> Result<Exit, WriteFault> {
-    let words = match words_of(rt) {
-        Ok(words) => words,
-        Err(fault) => return tell_fault(&mut io::writer(rt), fault),
+    let mut writer = match BufWriter::new(rt.alloc(), io::writer(rt)) {
+        Ok(writer) => writer,
+        Err(_) => return out_of_memory(&mut io::writer(rt)),
     };
-    if tells_at_once(&words) {
-        return run_with(rt, threads, &words, io::writer(rt));
-    }
-    match BufWriter::new(rt.alloc(), io::writer(rt)) {
-        Ok(writer) => run_with(rt, threads, &words, writer),
-        Err(_) => out_of_memory(&mut io::writer(rt)),
+    let exit = match words_of(rt) {
+        Ok(words) => answer(rt, threads, Wary, rt.alloc(), &words, &mut writer)?,
+        Err(fault) => tell_fault(&mut writer, fault)?,
+    };
+    match writer.flush() {
+        Ok(()) => Ok(exit),
+        Err(_) => Err(WriteFault),
     }
 }
 
