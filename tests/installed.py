@@ -24,6 +24,7 @@ def main():
         if one != other:
             wrong.append(f"{what}: {one!r} is not {other!r}")
 
+    subprocess.run([os.path.join(TOP, "circ")], stdout=subprocess.DEVNULL, check=False)  # builds the program where it isn't there
     install = os.path.join(TOP, "install")
     with tempfile.TemporaryDirectory() as place:
         prefix = os.path.join(place, "under a name with spaces")
