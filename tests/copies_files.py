@@ -13,7 +13,7 @@ import tempfile
 
 import end_to_end as desk
 from desk_rules import Library
-from end_to_end import CIRC, GROUND, HEADER, check, kill_at_work, rows, rows_now, say, take_in, the_rows_are, timed, whole
+from end_to_end import CIRC, GROUND, HEADER, TOP, check, kill_at_work, rows, rows_now, say, take_in, the_rows_are, timed, whole
 
 BEES = HEADER + """\
 50,500,"Maps, Old and New",1,1,1500,end
@@ -134,6 +134,23 @@ def bad_rows(folder):
         check(f"its title before {what}", rows(path, "SELECT * FROM titles WHERE title >= 500"), [(500, "Maps")])
 
 
+def a_spreadsheets_files(folder):
+    """The files that LibreOffice Calc wrote (tests/data), as they are, with a byte order mark, and with the ends of lines of another system."""
+    copies = os.path.join(folder, "calc.csv")
+    wanted = [(50, "Maps, Old and New", 1500), (51, "Maps, Old and New", 1500), (52, 'The "Winter" Bees', 700), (53, "M\u00e4rchen, neu erz\u00e4hlt", 900)]
+    for name in ("calc.csv", "calc_quoted.csv"):
+        with open(os.path.join(TOP, "tests", "data", name), "rb") as file:
+            written = file.read()
+        for how, mark, end in (("as it is", b"", b"\n"), ("with a mark", b"\xef\xbb\xbf", b"\n"), ("with CR LF", b"", b"\r\n"), ("with both", b"\xef\xbb\xbf", b"\r\n")):
+            path = os.path.join(folder, f"{name} {how}.db")
+            say(path, GROUND)
+            with open(copies, "wb") as file:
+                file.write(mark + written.replace(b"\n", end))
+            check(f"{name} {how}", take_in(path, copies), ("".join(f"row {n} ok\n" for n in range(1, 5)) + "accepted 4 refused 0\n", 0))
+            found = rows(path, "SELECT copy, text, price FROM copies JOIN titles USING (title) WHERE copy >= 50 ORDER BY copy")
+            check(f"the copies of {name} {how}", found, wanted)
+
+
 def a_row_too_many(folder):
     """A file of 100,000 rows is taken in whole; row 100,001 ends it as bad, though it is as good as the others. One copy and its like:
     the first row acquires it, the others do so again under the same key."""
@@ -154,6 +171,7 @@ def main():
     with tempfile.TemporaryDirectory() as folder:
         copies_files(folder)
         bad_rows(folder)
+        a_spreadsheets_files(folder)
         a_row_too_many(folder)
         a_delivery(folder)
     print(f"copies files: {desk.passed} passed, 0 failed")

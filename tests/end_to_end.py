@@ -22,6 +22,7 @@ from contextlib import closing, contextmanager
 
 import calendar_weeks
 from desk_rules import Library
+from messages import message
 
 TOP = os.path.dirname(os.path.dirname(os.path.abspath(__file__)))
 CIRC = os.path.join(TOP, "circ")
@@ -122,6 +123,8 @@ BAD_WORDS = [
     ["import", "FILE"],
     ["import", "FILE", "copies.csv", "again"],
     ["report", "FILE", "sums", "1"],
+    ["audit"],
+    ["audit", "FILE", "again"],
     ["", "", "", ""],
     ["file", "FILE", "", "begin-day", "2026-03-03"],
     ["file", "FILE", "k" * 41, "begin-day", "2026-03-03"],
@@ -163,10 +166,10 @@ def check(what, found, wanted):
 
 
 def circ(words, **how):
-    """The line and the status of one run; nothing may stand on standard error."""
+    """The line and the status of one run, which says on standard error what the line means."""
     run = subprocess.run([CIRC, *words], capture_output=True, timeout=120, **how)
-    check(f"standard error of {words}", run.stderr, b"")
     line = run.stdout.decode()
+    check(f"standard error of {words}", run.stderr, message(words, line))
     check(f"one line of {words}", (line.count("\n"), line.endswith("\n")), (1, True))
     return line[:-1], run.returncode
 
@@ -417,7 +420,7 @@ def refusals_of_other_rows(folder, path):
 def answers(path, key, words):
     """What one run prints, of any number of lines, and its status."""
     run = subprocess.run([CIRC, "file", path, key, *words], capture_output=True, timeout=120)
-    check(f"standard error of {key} {words}", run.stderr, b"")
+    check(f"standard error of {key} {words}", run.stderr, message(["file", path, key, *words], run.stdout.decode()))
     return run.stdout.decode(), run.returncode
 
 
@@ -450,7 +453,7 @@ def a_day_at_the_desk(folder):
 def report(path, *words):
     """What a report prints, and its status."""
     run = subprocess.run([CIRC, "report", path, *words], capture_output=True, timeout=120)
-    check(f"standard error of {words}", run.stderr, b"")
+    check(f"standard error of {words}", run.stderr, message(["report", path, *words], run.stdout.decode()))
     return run.stdout.decode(), run.returncode
 
 
@@ -503,6 +506,58 @@ def reports(folder):
         check("it stays", os.path.getsize(empty), 0)
 
 
+def a_long_line(folder):
+    """A copy that comes in goes to the first of a thousand holds that wait for its title."""
+    path = os.path.join(folder, "line.db")
+    say(path, GROUND)
+    with closing(sqlite3.connect(path)) as db, db:
+        db.executemany("INSERT INTO patrons VALUES (?, 1, ?, ?, 0)", ((n, f"card{n:08}", f"Reader {n}") for n in range(1001, 2001)))
+        db.executemany("INSERT INTO holds VALUES (?, ?, 100, ?, 0, NULL, NULL)", ((n, 1000 + n, 1 + n % 2) for n in range(1, 1001)))
+        db.execute("UPDATE meta SET next_hold = 1001")
+    say(path, [
+        ("c1", ["check-in", "10", "2"], "fine 0 ready 1 at 2 until 2026-03-05"),
+        ("c2", ["check-in", "11", "2"], "fine 0 transit 1 for 2"),
+        ("c3", ["place-hold", "1", "100", "1"], "hold 1001"),
+    ])
+    check("the others wait", rows(path, "SELECT COUNT(*), MIN(hold), MAX(hold) FROM holds WHERE state = 0"), [(1000, 2, 1001)])
+
+
+def memory_of(words, out):
+    """The most memory that a run of the program takes, in KiB, and its status; what it prints goes into a file."""
+    with open(out, "wb") as file:
+        child = subprocess.Popen([PROGRAM, *words], stdout=file)
+        _, status, used = os.wait4(child.pid, 0)
+    child.returncode = os.waitstatus_to_exitcode(status)
+    return used.ru_maxrss, child.returncode
+
+
+LATE = 100_000
+ROOM = 8 * 1024  # KiB; the rows of a whole report of so many loans would take several times as much
+
+
+def a_long_report(folder):
+    """A report of 100,000 overdue loans takes about the memory of one of none: its rows are read by pages."""
+    path, out = os.path.join(folder, "late.db"), os.path.join(folder, "late.txt")
+    say(path, GROUND)
+    with closing(sqlite3.connect(path)) as db, db:
+        each = range(1, LATE + 1)
+        db.executemany("INSERT INTO copies VALUES (?, 100, 1, 1, 2500, 0)", ((1000 + n,) for n in each))
+        db.executemany("INSERT INTO loans VALUES (?, ?, 1, 1, 20514, 20521, 6, 1, 20, 100, NULL)", ((n, 1000 + n) for n in each))
+        db.execute("UPDATE meta SET next_loan = ?", (LATE + 1,))
+    say(path, [("d1", ["begin-day", "2026-03-17"], "ok")])
+    least, status = memory_of(["report", path, "shelf", "2"], out)
+    check("an empty shelf in a large library", status, 0)
+    most, status = memory_of(["report", path, "overdue", "1"], out)
+    check("a long report", status, 0)
+    with open(out, encoding="utf-8") as file:
+        lines = file.read().splitlines()
+    check("its header", lines[0], "      loan  patron    copy due         late title")
+    wanted = (f"{n:>10} {1:>7} {1000 + n:>7} 2026-03-09     7 Rivers of the North" for n in range(1, LATE + 1))
+    check("its rows", next((pair for pair in zip(lines[1:-1], wanted) if pair[0] != pair[1]), None), None)
+    check("its end", (len(lines), lines[-1]), (LATE + 2, f"overdue {LATE}"))
+    check(f"{most - least} KiB for the rows, of {ROOM}", most - least < ROOM, True)
+
+
 def kill_at_work(words, seconds):
     """Starts a run and kills it after a while; it may have ended by then. What it printed, and whether the kill hit it."""
     with subprocess.Popen([PROGRAM, *words], stdout=subprocess.PIPE) as run:
@@ -537,7 +592,8 @@ def rows_now(path, text):
 
 
 def the_rows_are(path, library):
-    """The file holds exactly the rows that the rules give."""
+    """The file holds exactly the rows that the rules give, and they are sound."""
+    check("the audit", circ(["audit", path]), ("sound", 0))
     found = {name: sorted(rows, key=lambda row: row[:2] if name != "transits" else row[:1])
              for name, rows in whole(path).items()}
     for name, rows_of in library.tables().items():
@@ -597,7 +653,7 @@ HEADER = "copy,title,text,kind,home,price,end\n"
 def take_in(path, copies):
     """What taking in a copies file prints, and its status."""
     run = subprocess.run([CIRC, "import", path, copies], capture_output=True, timeout=120)
-    check("standard error of a copies file", run.stderr, b"")
+    check("standard error of a copies file", run.stderr, message(["import", path, copies], run.stdout.decode()))
     return run.stdout.decode(), run.returncode
 
 
@@ -630,7 +686,7 @@ def lost_output(folder):
     check("a full disk", run.returncode, 3)
     check("the loan stands", rows(path, "SELECT loan, copy FROM loans"), [(1, 10)])
     say(path, [("k1", ["check-out", "1", "10", "1"], "loan 1 due 2026-03-09")])
-    for words in (["report", path, "shelf", "1"], ["file", path, "k2", "page", "1"], ["file"]):
+    for words in (["report", path, "shelf", "1"], ["audit", path], ["file", path, "k2", "page", "1"], ["file"]):
         with open("/dev/full", "wb") as full:
             check(f"a full disk at {words[0]}", subprocess.run([CIRC, *words], stdout=full, timeout=120).returncode, 3)
     with open(copies, "w", encoding="utf-8") as file:
@@ -689,7 +745,7 @@ def every_pair(folder):
 
 
 def the_readme(folder):
-    """The first day that the README shows, and the example of each row of its table of words."""
+    """The first day that the README shows, and the example of each row of the rules' table of words."""
     with open(os.path.join(TOP, "README.md"), encoding="utf-8") as file:
         page = file.read()
     room, library = os.path.join(folder, "readme"), Library()
@@ -701,7 +757,8 @@ def the_readme(folder):
         run = subprocess.run([CIRC, "file", "town.db", key, *words], capture_output=True, timeout=120, cwd=room)
         check(f"{key} {words}", (run.stdout.decode(), run.returncode), (line + "\n", status_of(line)))
     check("its last line", line, "loan 1 due 2026-03-09")
-    table = re.findall(r"^\| `([a-z-]+) ?[^`]*` \|[^|]*\| `([^`]+)` \| ([^|]*) \|$", page, re.MULTILINE)
+    with open(os.path.join(TOP, "docs", "RULES.md"), encoding="utf-8") as file:
+        table = re.findall(r"^\| `([a-z-]+) ?[^`]*` \|[^|]*\| `([^`]+)` \| ([^|]*) \|[^|]*\|$", file.read(), re.MULTILINE)
     check("a row for each word", len(table), 21)
     library, path = Library(), os.path.join(folder, "examples.db")
     for at, (word, example, refusals) in enumerate(table):
@@ -709,7 +766,7 @@ def the_readme(folder):
         check(f"the example of {word}", words[0], word)
         line = library.handle(f"e{at}", words)
         check(f"{example}", answers(path, f"e{at}", words), (line + "\n", status_of(line)))
-        known = line.split()[1] in refusals.replace(",", "").split() if line.startswith("refused") else True
+        known = line.split()[1] in re.findall(r"\d+", refusals) if line.startswith("refused") else True
         check(f"the refusal of {example} is in its row", known, True)
 
 
@@ -797,6 +854,8 @@ def main():
         payments(folder)
         movements(folder)
         reports(folder)
+        a_long_line(folder)
+        a_long_report(folder)
         a_day_at_the_desk(folder)
         the_readme(folder)
         every_pair(folder)

@@ -26,6 +26,7 @@ from concurrent.futures import ProcessPoolExecutor
 import end_to_end as desk
 from desk_rules import Library
 from end_to_end import CIRC, GROUND, PROGRAM, check, say
+from messages import message
 from outer_forms import HEAD_BYTES, HEADER, MARK, MOST_LEVELS, WORDS, answer_to, is_card_key, is_day, is_mask, is_name, lines_of
 from web import DESK_KEY, Serving, everything
 
@@ -327,7 +328,7 @@ def take_in_all(cases, path, library, where, seen):
             opened.write(copies)
         lines, status = lines_of(library, copies)
         run = subprocess.run([PROGRAM, "import", path, file], capture_output=True, timeout=60)
-        check(f"{where}, copies file {at}: {copies!r}", (run.stdout.decode(), run.stderr, run.returncode), (lines, b"", status))
+        check(f"{where}, copies file {at}: {copies!r}", (run.stdout.decode(), run.stderr, run.returncode), (lines, message(["import", path, file], lines), status))
         seen[f"files that end with status {status}"] += 1
 
 

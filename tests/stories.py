@@ -9,7 +9,7 @@ a time as there are processors. The lines of a story:
     new                            its library isn't there yet, in place of the small one
     KEY WORDS.. -> ANSWER          a request and its answer; a word with blanks stands in quotes
     weekly N KEY WORDS.. -> ANSWER N such requests, under KEY0, KEY1, .., each with a last word that is a week later
-    report WORDS.. -> ANSWER       a report
+    report WORDS.. -> ANSWER       a report; a fault may be its last line, after a beginning of it
     rows -> ANSWER                 a copies file, of the lines `< TEXT` that follow; \\u and four digits stand for a letter there
     pairs                          every ordered pair of the requests `& WORDS..` that follow, one after another in the one library
     sql TEXT                       what stock SQLite writes past the desk
@@ -21,7 +21,8 @@ a time as there are processors. The lines of a story:
     # TEXT                         a remark
 
 The status of a run follows from its answer. Where a story writes nothing past the desk, its answers (those of pairs too) and its
-rows at the end are compared with the rules in plain Python as well, and its rows with the laws of places, holds and accounts.
+rows at the end are compared with the rules in plain Python as well, and its rows with the laws of places, holds and accounts, which
+`circ audit` looks at too.
 """
 
 import copy
@@ -39,6 +40,7 @@ from concurrent.futures import ThreadPoolExecutor
 
 from desk_rules import Library
 from end_to_end import CIRC, GROUND, PROGRAM, TOP, rows, status_of, whole, write
+from messages import message
 
 KINDS = ("weekly", "report", "rows", "pairs", "sql", "select", "damage")
 SILENT = ("pairs", "sql", "damage")  # lines with no answer of their own
@@ -107,12 +109,14 @@ class Story:
     def look_at_laws(self, place):
         for law, text in LAWS.items():
             self.compare(place, law, rows(self.path, text), [])
+        ran = subprocess.run([PROGRAM, "audit", self.path], capture_output=True, timeout=120)
+        self.compare(place, "the audit", (ran.stdout, ran.returncode), (b"sound\n", 0))
 
     def send(self, step, words, lines, status):
-        """One run of the program: its lines, its status, and nothing on standard error."""
+        """One run of the program: its lines, its status, and what it says of them on standard error."""
         ran = subprocess.run([PROGRAM, *words], capture_output=True, timeout=120)
         found = ran.stdout.decode().split("\n"), ran.returncode, ran.stderr
-        self.compare(step.place, shlex.join(words), found, ([*lines, ""], status, b""))
+        self.compare(step.place, shlex.join(words), found, ([*lines, ""], status, message(words, "".join(f"{it}\n" for it in lines))))
 
     def ask(self, step, key, words, lines):
         """One request; the rules give the same lines, where its words are understood."""
@@ -132,7 +136,7 @@ class Story:
 
     def do_report(self, step):
         kind, *words = shlex.split(step.text)
-        self.send(step, ["report", self.path, kind, *words], step.answer, status_of(step.answer[0]))
+        self.send(step, ["report", self.path, kind, *words], step.answer, status_of(step.answer[-1]))
 
     def do_rows(self, step):
         """The status is that of a fault, else of a bad row, else of refused rows."""

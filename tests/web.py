@@ -21,6 +21,7 @@ from concurrent.futures import ThreadPoolExecutor
 import end_to_end as desk
 from desk_rules import Library
 from end_to_end import CIRC, GROUND, PROGRAM, TOP, check, circ, rows, say, whole
+from messages import message
 
 DESK_KEY = "deskkey00001"
 ANN, BO = {"Card-Key": "cardkey00001"}, {"Card-Key": "cardkey00002"}
@@ -66,7 +67,7 @@ class Serving:
                 for _ in range(self.spare):
                     self.answers("GET", "/nowhere", {}, None, 404, b'{"status":404}')
                 out, err = self.run.communicate(timeout=120)
-                check("what it printed", (out.decode(), err, self.run.returncode), (self.after, b"", self.status))
+                check("what it printed", (out.decode(), err, self.run.returncode), (self.after, message(self.words, self.after), self.status))
                 check("keys in answers", [key for key in (DESK_KEY, "cardkey") if key.encode() in b"\n".join(self.heard)], [])
         finally:
             self.end()
@@ -205,13 +206,13 @@ def each_route(folder, workers):
 
 
 def by_curl(folder, workers):
-    """Each route by curl, as the README shows it, and a body for which curl waits to be told to go on."""
+    """Each route by curl, as docs/USING.md shows it, and a body for which curl waits to be told to go on."""
     path = a_library(folder, "curl.db")
-    with open(os.path.join(TOP, "README.md"), encoding="utf-8") as file:
+    with open(os.path.join(TOP, "docs", "USING.md"), encoding="utf-8") as file:
         lines = [line.strip() for line in file if line.startswith("    curl ")]
     answers = [b'{"reply":"hold 1"}', b'{"reply":"patron 2 owed 0 name Bo Carr\\nhold 1 at 1 waiting title 100 Rivers of the North"}',
                b'{"reply":"ok"}', b'{"reply":"loan 1 due 2026-03-09"}', b'{"reply":"loan 1 due 2026-03-16"}']
-    check("the README shows each route", len(lines), len(answers))
+    check("each route is shown", len(lines), len(answers))
     with Serving(path, len(answers) + 1, workers=workers) as serving:
         for line, wanted in zip(lines, answers):
             words = shlex.split(line.replace("127.0.0.1:8080", f"127.0.0.1:{serving.port}"))
@@ -506,7 +507,8 @@ def sent(folder, workers):
             status, body = told(library.handle(key, words))
             run = subprocess.run([PROGRAM, "send", str(serving.port), DESK_KEY, key, *words], capture_output=True, timeout=60)
             found = run.stdout, run.stderr, run.returncode
-            check(f"{key} {words}", found, (body + b"\n", b"", 0 if status == 200 else 2))
+            answer = body.decode() + "\n"
+            check(f"{key} {words}", found, (answer.encode(), message(["send"], answer), 0 if status == 200 else 2))
         for desk_key, key, words, wanted, status in others:
             run = subprocess.run([PROGRAM, "send", str(serving.port), desk_key, key, *words], capture_output=True, timeout=60)
             check(f"{words}", (run.stdout, run.returncode), (wanted, status))

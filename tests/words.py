@@ -4,19 +4,15 @@
     tests/words.py
 
 The table of commands (`crates/terms/src/form.rt`): each command and its parts stand so in the manual page, its name in the completion for bash
-and in the table of the README. The numbers of refusals and faults (`crates/terms/src/refusal.rt`, `fault.rt`): the manual page tells what each means.
+and in the table of the rules. The numbers of refusals and faults (`crates/terms/src/refusal.rt`, `fault.rt`): what each means stands in one way in the
+program's messages (`crates/messages/src/meanings.rt`), the manual page and the rules. The runs of the usage are those of the manual page, and the newest
+version of CHANGES.md and its schema are the program's.
 """
 
-import os
 import re
 import sys
 
-TOP = os.path.dirname(os.path.dirname(os.path.abspath(__file__)))
-
-
-def read(path):
-    with open(os.path.join(TOP, path), encoding="utf-8") as file:
-        return file.read()
+from messages import SCHEMA, VERSION, of_manual, read
 
 
 def commands():
@@ -32,12 +28,15 @@ def numbers(path):
     return {int(number) for number in re.findall(r"=> (\d+),", read(path))}
 
 
-def in_manual(manual):
-    """The commands of the manual page, and what it says of each number."""
-    listed = manual[manual.index(".Sh COMMANDS") : manual.index(".Sh FILES")]
-    words = {line.split()[0]: line.split()[2:] for line in re.findall(r"^\.It Cm (.+)$", listed, re.M)}
-    meanings = re.findall(r"^\.It (\d+)\n((?:[^.].*\n)+)", manual[manual.index(".Sh DIAGNOSTICS") :], re.M)
-    return words, {int(number): " ".join(text.split()) for number, text in meanings}
+def meanings():
+    """What the program says that each number means."""
+    found = re.findall(r'number: (\d+),\s*text:\s*"([^"]*)"', read("crates/messages/src/meanings.rt"))
+    return {int(number): text for number, text in found}
+
+
+def rules():
+    """What the page of rules says that each number means."""
+    return {int(number): text for number, text in re.findall(r"^\| (\d+) \| ([^|]*) \|", read("docs/RULES.md"), re.M)}
 
 
 def main():
@@ -50,15 +49,21 @@ def main():
     table = commands()
     if len(table) < 21:
         wrong.append(f"only {len(table)} commands were found in the table")
-    manual = read("docs/circ.1")
-    words, told = in_manual(manual)
+    runs, words, told = of_manual(read("docs/circ.1"))
     same("the manual page's commands", words, table)
     completed = re.search(r'local commands="([^"]*)"', read("docs/circ.bash")).group(1).split()
     same("the completion's words", completed, list(table))
-    readme = re.findall(r"^\| `([a-z-]+)(?: [A-Z ]+)?` \| .* \| `([a-z-]+) ", read("README.md"), re.M)
-    same("the README's commands", sorted(name for name, _ in readme), sorted(table))
-    same("the README's examples", [name for name, example in readme if name != example], [])
-    same("the manual page's numbers", set(told), numbers("crates/terms/src/refusal.rt") | numbers("crates/terms/src/fault.rt"))
+    ruled = re.findall(r"^\| `([a-z-]+)(?: [A-Z ]+)?` \| [^|]* \| `([a-z-]+) ", read("docs/RULES.md"), re.M)
+    same("the commands of the rules", sorted(name for name, _ in ruled), sorted(table))
+    same("the examples of the rules", [name for name, example in ruled if name != example], [])
+    same("the numbers that have a meaning", set(told), numbers("crates/terms/src/refusal.rt") | numbers("crates/terms/src/fault.rt"))
+    same("the program's meanings", meanings(), told)
+    same("the meanings of the rules", rules(), told)
+    usages = re.findall(r'^    "(circ [^"]*)",$', read("crates/messages/src/usage.rt"), re.M)
+    same("the runs of the usage", usages, runs)
+    version = re.search(r'VERSION: &str = "([^"]*)"', read("crates/messages/src/usage.rt")).group(1)
+    schema = re.search(r"SCHEMA: u32 = (\d+)", read("crates/store/src/changing.rt")).group(1)
+    same("the newest version and its schema", (VERSION, SCHEMA), (version, schema))
     for line in wrong:
         print(line)
     print(f"words: {len(table)} commands and {len(told)} numbers compared, {len(wrong)} differ")

@@ -3,3 +3,8 @@ pub mod Said
 pub mod Told
 pub mod Imports
 pub mod Halls
+mod CountedRows
+mod SoundClaims
+mod SoundBindings
+mod SoundBalances
+mod Audits

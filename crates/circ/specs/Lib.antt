@@ -4,3 +4,4 @@ pub mod Saying
 pub mod Reporting
 pub mod Importing
 pub mod Serving
+pub mod Auditing

@@ -4,6 +4,8 @@ use Rattle.terms.specs.Writing.{Writes}
 use Rattle.terms.specs.declared.fault.Fault.{Fault}
 use Rattle.terms.specs.declared.reply.Reply.{Reply}
 use Rattle.terms.specs.Texts.{reply_text, fault_number}
+use Rattle.circ_audit.specs.declared.auditing.Finding.{Finding}
+use Rattle.circ_audit.specs.declared.auditing.Finding.TheVariants.{Claims, Binding, Balance}
 use Rattle.circ.specs.declared.lines.Exit.{Exit}
 
 -- A reply is told by its text.
@@ -29,6 +31,20 @@ port_line port = codes "listening on " ++ decimal port ++ 10 ∷ []
 -- That a thread could not be made.
 abbrev pub threads_line : List ℕ
 threads_line = codes "fault threads" ++ 10 ∷ []
+
+-- That the tables keep the three laws of sound tables.
+abbrev pub sound_line : List ℕ
+sound_line = codes "sound" ++ 10 ∷ []
+
+-- That a law is broken, and the number of which it is.
+abbrev pub unsound_line : List ℕ → ℕ → List ℕ
+unsound_line law number = codes "unsound " ++ (law ++ (decimal number ++ 10 ∷ []))
+
+-- A finding of an audit is told by its law and its number.
+abbrev pub finding_line : Finding → List ℕ
+finding_line (Claims copy) = unsound_line (codes "claims ") copy
+finding_line (Binding hold) = unsound_line (codes "binding ") hold
+finding_line (Balance patron) = unsound_line (codes "balance ") patron
 
 -- The line went out, or a beginning of it, and after the line the program ends so.
 pub record EndsWith {E : Type 0} (end : Exit) (line : List ℕ) (before after : Option (List ℕ))

@@ -1,5 +1,5 @@
 -- What is said to a report that is asked for: its bytes or a line, and how the program ends.
-use Rattle.std.specs.Prelude.{◌≡◌, ◌⊎◌, ℕ, List, Option, Result, IfOk, OnErr}
+use Rattle.std.specs.Prelude.{◌≡◌, ◌⊎◌, ℕ, List, ◌++◌, Option, Result, IfOk, OnErr}
 use Rattle.std.specs.Io.KnownBytes.{Appends}
 use Rattle.store.specs.Stops.{LeavesPicture}
 use Rattle.terms.specs.Writing.{AppendsFront}
@@ -12,6 +12,7 @@ use Rattle.terms.specs.declared.reply.Reply.TheVariants.{Refused as Denied}
 use Rattle.model.specs.History.{History}
 use Rattle.model.specs.Picture.{picture}
 use Rattle.desk.specs.Answering.{Shows, Stays}
+use Rattle.desk.specs.Parts.{IsFront}
 use Rattle.desk.specs.Reports.{report_text, IsThere, IsUnknown}
 use Rattle.desk.specs.declared.reports.Report.{Report}
 use Rattle.circ.specs.declared.lines.Exit.{Exit}
@@ -34,24 +35,29 @@ pub record TellsUnknown {S : Type 0} (report : Report)
   pub unknown : IsClean g new → (H : History) → Shows (state g old) H
       → IsUnknown H report × Shows (state g new) H
 
--- A fault went out, which is not 93 where the tables showed a list of accepted requests; and they
--- show what they showed, as long as the database is open.
+-- A beginning of the report went out, perhaps nothing of it, and then a fault, which is not 93 where
+-- the tables showed a list of accepted requests; and they show what they showed, as long as the
+-- database is open.
 pub record TellsFault {S : Type 0} (report : Report)
     (g : Ghosts S) (old new : Held S) (WentOut : List ℕ → Type 0) (exit : Exit) : Type 0 where
+  -- what went out of the report
+  pub sent : List ℕ
+  pub front : IsClean g new → (H : History) → Shows (state g old) H
+      → IsFront sent (report_text H report)
   pub fault : Fault
   pub exit_is : exit ≡ Faulted
-  pub line : WentOut (fault_line fault)
+  pub line : WentOut (sent ++ fault_line fault)
   pub sound : IsClean g new → fault ≡ Stored → (H : History) → Shows (state g old) H → ⊥
   pub undone : IsClean g new → IsOpen g new → Stays (state g old) (state g new)
 
--- A report goes out, or the refusal of an unknown branch, or a fault.
+-- A report goes out, or the refusal of an unknown branch, or a beginning of the report and a fault.
 abbrev pub TellsOf : {S : Type 0} → Report → Ghosts S → Held S → Held S → (List ℕ → Type 0) → Exit
     → Type 0
 TellsOf report g old new WentOut exit =
     TellsReport report g old new WentOut exit
     ⊎ (TellsUnknown report g old new WentOut exit ⊎ TellsFault report g old new WentOut exit)
 
--- A report was asked for, and its bytes or a line were written.
+-- A report was asked for, and its bytes, or a line, or a beginning of them and a line, were written.
 pub record TellsAnyReport {S E : Type 0} (report : Report)
     (g : Ghosts S) (old new : Held S) (before after : Option (List ℕ))
     (result : Result Exit E) : Type 0 where

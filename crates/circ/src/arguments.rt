@@ -25,6 +25,10 @@ pub enum Run<'a> {
         path: &'a str,
         report: Report,
     },
+    /// `audit FILE`: whether the tables of the library in a file keep the laws of sound tables.
+    Audit {
+        path: &'a str,
+    },
     /// `serve FILE PORT WORKERS EACH DESKKEY`: the web, over the library in a file, with so many
     /// workers, each of which serves so many connections.
     Serve {
@@ -91,6 +95,16 @@ fn read_report_run<'a>(words: &'a [String]) -> Option<Run<'a>> {
     Some(Run::Report {
         path: path.as_str(),
         report,
+    })
+}
+
+/// An audit of a file: exactly its path follows.
+fn read_audit_run<'a>(words: &'a [String]) -> Option<Run<'a>> {
+    let [path] = words else {
+        return None;
+    };
+    Some(Run::Audit {
+        path: path.as_str(),
     })
 }
 
@@ -182,6 +196,7 @@ pub fn read_run<'a>(alloc: Global, words: &'a [String]) -> Result<Option<Run<'a>
         "file" => read_file(alloc, words),
         "import" => Ok(read_import_run(words)),
         "report" => Ok(read_report_run(words)),
+        "audit" => Ok(read_audit_run(words)),
         "serve" => read_serve(alloc, words),
         "send" => read_send(alloc, words),
         _ => Ok(None),

@@ -2,6 +2,7 @@
 #![tactic(auto)]
 
 mod arguments;
+mod auditing;
 mod importing;
 mod lines;
 mod reports;
@@ -11,6 +12,7 @@ mod serving;
 mod writing;
 
 pub use arguments::{Run, read_run};
+pub use auditing::audit;
 pub use desk::Report;
 pub use importing::{import, unreadable};
 pub use lines::{Exit, WriteFault, no_network, not_understood, out_of_memory, tell_fault};

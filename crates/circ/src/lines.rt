@@ -5,9 +5,11 @@ ghost use Rattle.terms.specs.declared.fault.Fault.TheVariants.{Memory};
 ghost use Rattle.circ.specs.Exits.{status_of, exit_of};
 ghost use Rattle.circ.specs.Lines.{reply_line, fault_line, not_understood_line};
 ghost use Rattle.circ.specs.Lines.{no_network_line, port_line, threads_line, EndsWith};
+ghost use Rattle.circ.specs.Lines.{sound_line, unsound_line, finding_line};
 ghost use Rattle.terms.specs.Writing.{Writes};
 
 use crate::writing::write_reply;
+use circ_audit::Finding;
 use itoa::Buffer;
 use std::io::Write;
 pub use terms::WriteFault;
@@ -18,7 +20,7 @@ use terms::{Fault, Reply, write_bytes, write_pieces};
 pub enum Exit {
     /// 0: it is done.
     Done,
-    /// 2: it is refused.
+    /// 2: it is refused, or an audit found a law that is broken.
     Refused,
     /// 3: there was a fault, or a line could not be written.
     Faulted,
@@ -115,5 +117,43 @@ pub(crate) fn tell_reply<W: Write>(writer: &mut W, reply: &Reply) -> Result<Exit
     match reply {
         Reply::Refused(_) => Ok(Exit::Refused),
         _ => Ok(Exit::Done),
+    }
+}
+
+/// Tells that the tables are sound. It takes no memory.
+pub(crate) fn tell_sound<W: Write>(writer: &mut W) -> Result<Exit, WriteFault>
+    ensures { EndsWith Exit.Done sound_line
+        (W.contents writer.old) (W.contents writer.new) result }
+{
+    write_bytes(writer, b"sound\n")?;
+    Ok(Exit::Done)
+}
+
+/// Tells which law is broken, and of which number. It takes no memory.
+fn tell_unsound<W: Write>(writer: &mut W, law: &[u8], number: u32) -> Result<Exit, WriteFault>
+    ensures { EndsWith Exit.Refused (unsound_line law.now number)
+        (W.contents writer.old) (W.contents writer.new) result }
+{
+    write_pieces(
+        writer,
+        &[
+            b"unsound ",
+            law,
+            Buffer::new().format(number).as_bytes(),
+            b"\n",
+        ],
+    )?;
+    Ok(Exit::Refused)
+}
+
+/// Tells what an audit found. It takes no memory.
+pub(crate) fn tell_finding<W: Write>(writer: &mut W, finding: Finding) -> Result<Exit, WriteFault>
+    ensures { EndsWith Exit.Refused (finding_line finding)
+        (W.contents writer.old) (W.contents writer.new) result }
+{
+    match finding {
+        Finding::Claims(copy) => tell_unsound(writer, b"claims ", copy.number()),
+        Finding::Binding(hold) => tell_unsound(writer, b"binding ", hold.number()),
+        Finding::Balance(patron) => tell_unsound(writer, b"balance ", patron.number()),
     }
 }

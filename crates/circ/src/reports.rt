@@ -9,8 +9,9 @@ use std::alloc::Global;
 use std::io::Write;
 use terms::Reply;
 
-/// Writes a report, or one line in its place: `refused 10` for a branch that is unknown, or
-/// `fault N`. A branch's number may be any.
+/// Writes a report, or `refused 10` in its place for a branch that is unknown. Where a fault comes,
+/// the line `fault N` follows what went out of the report by then, which may be nothing. A branch's
+/// number may be any.
 ///
 /// What goes out, the end and what the tables show are said in `specs/Reporting`. Where a write
 /// fails, a beginning of that went out. Whatever may leave of the tables when the program is

@@ -17,20 +17,37 @@ use terms::{CardKey, Fault, Key};
 /// The desk over a library in a file.
 pub type FileDesk<S> = Desk<FileStore<FileFrom<S>>>;
 
+/// The tables of a library in a file.
+pub type FileTables<S> = Store<FileStore<FileFrom<S>>>;
+
 /// The desk over a new library in the file.
 pub fn create<S: Start>(rt: &HostRuntime, path: &str, start: S) -> Result<FileDesk<S>, Fault> {
     Desk::new(Store::create_from(rt, path, start)?)
 }
 
+/// The tables of the library in the file.
+pub fn open_tables<S: Start>(
+    rt: &HostRuntime,
+    path: &str,
+    start: S,
+) -> Result<FileTables<S>, Fault> {
+    Store::open_from(rt, path, start)
+}
+
 /// The desk over the library in the file.
 pub fn open<S: Start>(rt: &HostRuntime, path: &str, start: S) -> Result<FileDesk<S>, Fault> {
-    Desk::new(Store::open_from(rt, path, start)?)
+    Desk::new(open_tables(rt, path, start)?)
 }
 
 /// Copies the database's log into the file, so that the file alone is the library; where that fails, the log stays beside it and
 /// nothing is lost.
 pub fn close<D: Disk + Drop>(desk: Desk<FileStore<D>>) {
-    let _ = desk.into_store().close();
+    close_tables(desk.into_store());
+}
+
+/// The same of the tables alone.
+pub fn close_tables<D: Disk + Drop>(store: Store<FileStore<D>>) {
+    let _ = store.close();
 }
 
 /// Handles one request, and writes its line.
@@ -62,6 +79,15 @@ pub fn report<S: Alter, W: Write>(
     writer: &mut W,
 ) -> Result<Exit, WriteFault> {
     circ::report(desk, alloc, wanted, writer)
+}
+
+/// Audits a library, and writes one line.
+pub fn audit<S: Alter, W: Write>(
+    store: &mut Store<S>,
+    alloc: Global,
+    writer: &mut W,
+) -> Result<Exit, WriteFault> {
+    circ::audit(store, alloc, writer)
 }
 
 /// Serves the web with so many workers, each of which serves so many connections. It gives the desk back.

@@ -1,15 +1,18 @@
-//! The program `circ`: the circulation desk of a town library, by words and over the web.
+//! The program `circ`: the circulation desk of a town library, by words and over the web. What scripts read goes to standard output, and what is said of it
+//! for a person to standard error.
 #![tactic(auto)]
 
 mod calls;
+mod notes;
 
 use calls::{
-    FileDesk, close, create, import, no_network, not_understood, one, open, out_of_memory, report,
-    send, serve, tell_fault, unreadable,
+    FileDesk, audit, close, close_tables, create, import, no_network, not_understood, one, open,
+    open_tables, out_of_memory, report, send, serve, tell_fault, unreadable,
 };
 use circ::{Exit, Report, Run, WriteFault, read_run};
+use messages::{Line, Noting};
+use notes::{say, say_unwritten};
 use sqlite::{Start, Wary};
-use std::alloc::Global;
 use std::fs::File;
 use std::io::{BufWriter, ErrorKind, Write};
 use std::net::{Ipv4Addr, TcpListener, TcpStream};
@@ -102,6 +105,26 @@ fn report_on<S: Start, W: Write>(
     }
 }
 
+/// The audit of the library in the file. Where there is no file, or one with no bytes, there is no library: 93, and no file is made.
+fn audit_on<S: Start, W: Write>(
+    rt: &HostRuntime,
+    start: S,
+    path: &str,
+    writer: &mut W,
+) -> Result<Exit, WriteFault> {
+    if is_new(rt, path) {
+        return tell_fault(writer, Fault::Stored);
+    }
+    match open_tables(rt, path, start) {
+        Ok(mut store) => {
+            let told = audit(&mut store, rt.alloc(), writer);
+            close_tables(store);
+            told
+        }
+        Err(fault) => tell_fault(writer, fault),
+    }
+}
+
 /// The web over the library in the file, on the port of this machine alone.
 fn serve_on<S: Start, W: Write, R: Threads + Wait + Copy + Send + 'static>(
     rt: &HostRuntime,
@@ -166,7 +189,15 @@ fn words_of(rt: &HostRuntime) -> Result<Vec<String>, Fault> {
     }
 }
 
-/// Does what is asked for, and writes its lines: those of a copies file and of the web at once, so that what was told was done.
+/// Whether the lines of a run go out at once, so that what was told was done: those of a copies file and of the web.
+fn tells_at_once(words: &[String]) -> bool {
+    match words.first() {
+        Some(run) => run.as_str() == "import" || run.as_str() == "serve",
+        None => false,
+    }
+}
+
+/// Does what is asked for, and writes its lines.
 fn do_run<S: Start, W: Write, R: Threads + Wait + Copy + Send + 'static>(
     rt: &HostRuntime,
     threads: R,
@@ -176,8 +207,9 @@ fn do_run<S: Start, W: Write, R: Threads + Wait + Copy + Send + 'static>(
 ) -> Result<Exit, WriteFault> {
     match asked {
         Run::File { path, key, words } => file(rt, start, path, key, words, writer),
-        Run::Import { path, copies } => import_into(rt, start, path, copies, &mut io::writer(rt)),
+        Run::Import { path, copies } => import_into(rt, start, path, copies, writer),
         Run::Report { path, report } => report_on(rt, start, path, &report, writer),
+        Run::Audit { path } => audit_on(rt, start, path, writer),
         Run::Serve {
             path,
             port,
@@ -185,15 +217,7 @@ fn do_run<S: Start, W: Write, R: Threads + Wait + Copy + Send + 'static>(
             each,
             desk_key,
         } => serve_on(
-            rt,
-            threads,
-            start,
-            path,
-            port,
-            workers,
-            each,
-            desk_key,
-            &mut io::writer(rt),
+            rt, threads, start, path, port, workers, each, desk_key, writer,
         ),
         Run::Send {
             port,
@@ -209,29 +233,13 @@ fn answer<S: Start, W: Write, R: Threads + Wait + Copy + Send + 'static>(
     rt: &HostRuntime,
     threads: R,
     start: S,
-    alloc: Global,
     words: &[String],
     writer: &mut W,
 ) -> Result<Exit, WriteFault> {
-    match read_run(alloc, words) {
-        Ok(Some(asked)) => do_run(rt, threads, start, asked, writer),
-        Ok(None) => not_understood(writer),
-        Err(_) => out_of_memory(writer),
-    }
-}
-
-/// The whole run: the lines of a request or a report go out together at its end.
-fn run<R: Threads + Wait + Copy + Send + 'static>(
-    rt: &HostRuntime,
-    threads: R,
-) -> Result<Exit, WriteFault> {
-    let mut writer = match BufWriter::new(rt.alloc(), io::writer(rt)) {
-        Ok(writer) => writer,
-        Err(_) => return out_of_memory(&mut io::writer(rt)),
-    };
-    let exit = match words_of(rt) {
-        Ok(words) => answer(rt, threads, Wary, rt.alloc(), &words, &mut writer)?,
-        Err(fault) => tell_fault(&mut writer, fault)?,
+    let exit = match read_run(rt.alloc(), words) {
+        Ok(Some(asked)) => do_run(rt, threads, start, asked, writer)?,
+        Ok(None) => not_understood(writer)?,
+        Err(_) => out_of_memory(writer)?,
     };
     match writer.flush() {
         Ok(()) => Ok(exit),
@@ -239,7 +247,61 @@ fn run<R: Threads + Wait + Copy + Send + 'static>(
     }
 }
 
+/// The end of a run, with what it means said on standard error: where that takes nothing, the lines and the status tell enough.
+fn end(rt: &HostRuntime, told: &Line, words: &[String], exit: Result<Exit, WriteFault>) -> Exit {
+    match exit {
+        Ok(exit) => {
+            let _ = say(rt, told, words);
+            exit
+        }
+        Err(_) => {
+            let _ = say_unwritten(rt);
+            Exit::Faulted
+        }
+    }
+}
+
+/// A run whose lines go out at once.
+fn run_at_once<R: Threads + Wait + Copy + Send + 'static>(
+    rt: &HostRuntime,
+    threads: R,
+    words: &[String],
+) -> Exit {
+    let mut writer = Noting::new(io::writer(rt));
+    let exit = answer(rt, threads, Wary, words, &mut writer);
+    end(rt, &writer.told(), words, exit)
+}
+
+/// A run whose lines go out together at its end, and those of a report whenever the buffer is full.
+fn run_together<R: Threads + Wait + Copy + Send + 'static>(
+    rt: &HostRuntime,
+    threads: R,
+    words: &[String],
+) -> Exit {
+    match BufWriter::new(rt.alloc(), io::writer(rt)) {
+        Ok(writer) => {
+            let mut writer = Noting::new(writer);
+            let exit = answer(rt, threads, Wary, words, &mut writer);
+            end(rt, &writer.told(), words, exit)
+        }
+        Err(_) => without_memory(rt),
+    }
+}
+
+/// A run for which no memory is left before it begins.
+fn without_memory(rt: &HostRuntime) -> Exit {
+    tell_fault(&mut io::writer(rt), Fault::Memory).unwrap_or(Exit::Faulted)
+}
+
+/// The whole run.
+fn run<R: Threads + Wait + Copy + Send + 'static>(rt: &HostRuntime, threads: R) -> Exit {
+    match words_of(rt) {
+        Ok(words) if tells_at_once(words.as_slice()) => run_at_once(rt, threads, words.as_slice()),
+        Ok(words) => run_together(rt, threads, words.as_slice()),
+        Err(_) => without_memory(rt),
+    }
+}
+
 fn main(rt: HostRuntime) -> ExitCode {
-    let exit = run(&rt, rt).unwrap_or(Exit::Faulted);
-    ExitCode::from(exit.status())
+    ExitCode::from(run(&rt, rt).status())
 }

@@ -19,7 +19,7 @@ use Rattle.circ_core.specs.Routing.{readied, arrival_rows}
 use Rattle.circ_core.specs.Tables.{changed}
 use Rattle.circ_core.proofs.Claims.{kept-is}
 use Rattle.circ_core.proofs.Rising.{find-same, find-only}
-use Rattle.circ_core.proofs.RoutingMeet.{place_by, Suits, Limits}
+use Rattle.circ_core.proofs.RoutingMeets.{place_by, Suits, Limits}
 
 -- ---- what the rows of an arrival change
 

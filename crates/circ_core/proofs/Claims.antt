@@ -8,7 +8,7 @@ use Rattle.terms.specs.declared.row.HoldState.{HoldState}
 use Rattle.terms.specs.declared.row.HoldState.TheVariants.{Waiting, Ready, Filled, Cancelled, Expired}
 use Rattle.terms.specs.declared.row.TransitRow.{TransitRow}
 use Rattle.circ_core.specs.Views.{IsLoanOf, IsHoldOf}
-use Rattle.model.specs.Invariant.{Invariant}
+use Rattle.model.specs.Invariant.{Invariant, Serves}
 use Rattle.circ_core.proofs.Rows.{option_map-is}
 use Rattle.circ_core.proofs.Rising.{find-passes, find-only}
 use Rattle.model.specs.History.{History, HoldFacts, hold_of, CopyFacts, copy_of, copies}
@@ -16,7 +16,6 @@ use Rattle.model.specs.Places.{Place, Nowhere, Shelf, HoldShelf, Transit, Loan, 
 use Rattle.model.specs.Loans.{LoanFacts, loan_of, ended}
 use Rattle.model.specs.Refusals.{is_on_loan, is_in_transit, is_on_hold_shelf}
 use Rattle.model.specs.Picture.{picture, loan_row, loan_columns, hold_row, hold_columns, transit_row, transit_at, if_ready}
-use Rattle.model.specs.Invariant.{Serves}
 
 -- ---- what a row says
 

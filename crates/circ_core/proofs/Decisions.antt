@@ -13,17 +13,24 @@ use Rattle.circ_core.specs.Views.{IsViewOf}
 use Rattle.circ_core.specs.Deciding.{DecidesOn}
 use Rattle.circ_core.specs.Decides.{Decides}
 use Rattle.circ_core.proofs.Meets.{decided}
-use Rattle.circ_core.proofs.SettingMeet.{begin_day_meets, branch_meets, week_meets, kind_meets, rule_meets, patron_meets}
-use Rattle.circ_core.proofs.AcquireMeet.{acquire_meets}
-use Rattle.circ_core.proofs.LendingMeet.{check_out_meets}
-use Rattle.circ_core.proofs.ReturningMeet.{check_in_meets}
-use Rattle.circ_core.proofs.UnshelvingMeet.{unshelve_meets, unshelve_cancelled_meets}
-use Rattle.circ_core.proofs.ClosingMeet.{close_day_meets, open_day_meets}
-use Rattle.circ_core.proofs.RenewMeet.{renew_meets}
-use Rattle.circ_core.proofs.PlaceHoldMeet.{place_hold_meets}
-use Rattle.circ_core.proofs.CancelMeet.{cancel_hold_meets}
-use Rattle.circ_core.proofs.LeavingMeet.{missing_meets, withdraw_meets}
-use Rattle.circ_core.proofs.AccountsMeet.{pay_meets, waive_meets, page_meets}
+use Rattle.circ_core.proofs.BeginDayMeets.{begin_day_meets}
+use Rattle.circ_core.proofs.BranchMeets.{branch_meets}
+use Rattle.circ_core.proofs.WeekMeets.{week_meets}
+use Rattle.circ_core.proofs.KindMeets.{kind_meets}
+use Rattle.circ_core.proofs.RuleMeets.{rule_meets}
+use Rattle.circ_core.proofs.PatronMeets.{patron_meets}
+use Rattle.circ_core.proofs.AcquireMeets.{acquire_meets}
+use Rattle.circ_core.proofs.CheckOutMeets.{check_out_meets}
+use Rattle.circ_core.proofs.CheckInMeets.{check_in_meets}
+use Rattle.circ_core.proofs.UnshelveMeets.{unshelve_meets, unshelve_cancelled_meets}
+use Rattle.circ_core.proofs.CloseDayMeets.{close_day_meets, open_day_meets}
+use Rattle.circ_core.proofs.RenewMeets.{renew_meets}
+use Rattle.circ_core.proofs.PlaceHoldMeets.{place_hold_meets}
+use Rattle.circ_core.proofs.CancelHoldMeets.{cancel_hold_meets}
+use Rattle.circ_core.proofs.MissingMeets.{missing_meets}
+use Rattle.circ_core.proofs.WithdrawMeets.{withdraw_meets}
+use Rattle.circ_core.proofs.SettleMeets.{pay_meets, waive_meets}
+use Rattle.circ_core.proofs.PageMeets.{page_meets}
 
 pub decides : (H : History) → IsLegal H → (v : View) (command : Command) (result : Result Decision Refusal)
     → IsViewOf (picture H) command v → DecidesOn v command result → Decides H command result

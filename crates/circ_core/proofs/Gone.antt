@@ -13,7 +13,7 @@ use Rattle.model.specs.Places.{Place, Nowhere, Shelf, HoldShelf, Transit, Loan, 
 use Rattle.model.specs.Invariant.{Invariant}
 use Rattle.model.specs.Refusals.{is_on_hold_shelf, is_in_transit}
 use Rattle.model.specs.Picture.{picture, copy_row, copy_columns, hold_row, transit_row, transit_at, condition_at, if_ready}
-use Rattle.circ_core.specs.Leaving.{waiting_again}
+use Rattle.circ_core.specs.Missing.{waiting_again}
 use Rattle.circ_core.specs.Views.{IsHoldOf}
 use Rattle.circ_core.proofs.Rising.{find-same}
 use Rattle.circ_core.proofs.Claims.{IsKept, hold_claims, hold_none, named-is}

@@ -7,8 +7,9 @@ use Rattle.model.specs.History.{History, KindFacts, kind_of, PatronFacts, patron
 use Rattle.model.specs.Accounts.{owed}
 use Rattle.model.specs.Refusals.{kind_now}
 use Rattle.model.specs.Picture.{picture, kind_row, kind_columns, patron_row, patron_columns}
-use Rattle.circ_core.specs.Lending.{loans_allowed, debt_allowed, owed_by}
-use Rattle.circ_core.specs.Holding.{holds_allowed}
+use Rattle.circ_core.specs.CheckOut.{loans_allowed}
+use Rattle.circ_core.specs.Debt.{debt_allowed, owed_by}
+use Rattle.circ_core.specs.PlaceHold.{holds_allowed}
 use Rattle.circ_core.specs.Views.{kind_in}
 
 module _ (H : History) (p : ℕ) (f : PatronFacts) (enrolled : patron_of H p ≡ Some f)

@@ -12,10 +12,9 @@ use Rattle.circ_core.proofs.Rows.{is_none-None, option_map-is}
 use Rattle.circ_core.proofs.Lenders.{lent_copy-there}
 use Rattle.circ_core.proofs.Counts.{any_filter-some, any_filter-from, numbers_to-has, count-length}
 use Rattle.circ_core.proofs.Claims.{loan_row-is, hold_row-is, hold_row-from}
-use Rattle.model.specs.History.{History, CopyFacts, copy_of, HoldFacts, hold_of, holds, numbers_to}
+use Rattle.model.specs.History.{History, CopyFacts, copy_of, HoldFacts, hold_of, holds, numbers_to, loans}
 use Rattle.model.specs.Places.{is_waiting, is_ready, state, title_of_copy, title_of_hold, patron_of_hold}
 use Rattle.model.specs.Loans.{LoanFacts, loan_of, ended, is_loan_of_patron, is_open_loan, open_loans, title_of_loan, has_on_loan}
-use Rattle.model.specs.History.{loans}
 use Rattle.model.specs.Refusals.{is_active, active_holds, has_hold_on}
 use Rattle.model.specs.Picture.{picture, copy_columns, loan_columns, hold_columns}
 

@@ -6,16 +6,15 @@ use Rattle.terms.specs.declared.row.CopyRow.{CopyRow}
 use Rattle.terms.specs.declared.row.HoldRow.{HoldRow}
 use Rattle.terms.specs.declared.row.HoldState.TheVariants.{Waiting, Ready}
 use Rattle.terms.specs.declared.row.Condition.TheVariants.{Present}
-use Rattle.circ_core.specs.Lending.{stands_at, is_of_other, filled_hold, is_wanted}
+use Rattle.circ_core.specs.CheckOut.{stands_at, is_of_other, filled_hold, is_wanted}
 use Rattle.circ_core.specs.Views.{IsActiveOn, IsFirstOf, IsHoldOf}
-use Rattle.model.specs.Invariant.{Invariant}
+use Rattle.model.specs.Invariant.{Invariant, Serves}
 use Rattle.circ_core.proofs.Claims.{IsKept, hold_claims, hold_none, hold_row-from}
 use Rattle.circ_core.proofs.FirstInLine.{line_none, line_some}
 use Rattle.model.specs.History.{History, HoldFacts, hold_of, CopyFacts, copy_of}
 use Rattle.model.specs.Places.{Shelf, HoldShelf, place, state, line, fills, fills_from, fills_first, goal_of, title_of_copy, title_of_hold, patron_of_hold}
 use Rattle.model.specs.Refusals.{is_elsewhere, is_kept_for_other, is_wanted_by_other, is_first_other, is_on_hold_shelf}
 use Rattle.model.specs.Picture.{picture, hold_row, hold_columns, copy_row, transit_at, condition_at}
-use Rattle.model.specs.Invariant.{Serves}
 
 -- The hold that this check-out fills.
 abbrev pub FillsAs : History → ℕ → ℕ → Option HoldRow → Type 0

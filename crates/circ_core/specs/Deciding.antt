@@ -9,15 +9,25 @@ use Rattle.terms.specs.declared.command.Command.TheVariants.{BeginDay, Branch, W
 use Rattle.circ_core.specs.declared.changes.Decision.{Decision}
 use Rattle.circ_core.specs.declared.views.View.{View}
 use Rattle.circ_core.specs.Decided.{Decided}
-use Rattle.circ_core.specs.Setting.{begin_day_checks, begin_day_rows, branch_checks, branch_rows, week_checks, week_rows, kind_checks, kind_rows, rule_checks, rule_rows, patron_checks, patron_rows, acquire_checks, acquire_rows}
-use Rattle.circ_core.specs.Lending.{owed_by, check_out_checks, check_out_rows, due_in}
-use Rattle.circ_core.specs.Returning.{check_in_checks, check_in_limit, check_in_reply, check_in_rows}
-use Rattle.circ_core.specs.Unshelving.{next_limit, unshelve_checks, unshelve_cancelled_checks, unshelve_reply, unshelve_rows}
-use Rattle.circ_core.specs.Closing.{close_day_checks, close_day_rows, open_day_checks, open_day_rows}
-use Rattle.circ_core.specs.Leaving.{missing_checks, missing_reply, missing_rows, withdraw_checks, withdraw_rows}
-use Rattle.circ_core.specs.Renewing.{renew_checks, renewed_due_in, renewed_rows}
-use Rattle.circ_core.specs.Holding.{place_hold_checks, place_hold_rows, cancel_hold_checks, cancel_hold_rows}
-use Rattle.circ_core.specs.Accounts.{settle_checks, settle_rows, page_checks}
+use Rattle.circ_core.specs.BeginDay.{begin_day_checks, begin_day_rows}
+use Rattle.circ_core.specs.Branch.{branch_checks, branch_rows}
+use Rattle.circ_core.specs.Week.{week_checks, week_rows}
+use Rattle.circ_core.specs.Kind.{kind_checks, kind_rows}
+use Rattle.circ_core.specs.Rule.{rule_checks, rule_rows}
+use Rattle.circ_core.specs.Patron.{patron_checks, patron_rows}
+use Rattle.circ_core.specs.Acquire.{acquire_checks, acquire_rows}
+use Rattle.circ_core.specs.Debt.{owed_by}
+use Rattle.circ_core.specs.CheckOut.{check_out_checks, check_out_rows, due_in}
+use Rattle.circ_core.specs.CheckIn.{check_in_checks, check_in_limit, check_in_reply, check_in_rows}
+use Rattle.circ_core.specs.Unshelve.{next_limit, unshelve_checks, unshelve_cancelled_checks, unshelve_reply, unshelve_rows}
+use Rattle.circ_core.specs.CloseDay.{close_day_checks, close_day_rows, open_day_checks, open_day_rows}
+use Rattle.circ_core.specs.Missing.{missing_checks, missing_reply, missing_rows}
+use Rattle.circ_core.specs.Withdraw.{withdraw_checks, withdraw_rows}
+use Rattle.circ_core.specs.Renew.{renew_checks, renewed_due_in, renewed_rows}
+use Rattle.circ_core.specs.PlaceHold.{place_hold_checks, place_hold_rows}
+use Rattle.circ_core.specs.CancelHold.{cancel_hold_checks, cancel_hold_rows}
+use Rattle.circ_core.specs.Settle.{settle_checks, settle_rows}
+use Rattle.circ_core.specs.Page.{page_checks}
 
 -- The decision is that of the command's checks, reply and row changes.
 abbrev pub DecidesOn : View → Command → Result Decision Refusal → Type 0

@@ -1,5 +1,5 @@
 -- The tables as row changes leave them.
-use Rattle.std.specs.Prelude.{◌≡◌, ℕ, true, false, List, [], ◌∷◌, Some, None}
+use Rattle.std.specs.Prelude.{◌≡◌, ℕ, true, false, List, [], ◌∷◌, Option, Some, None}
 use Rattle.terms.specs.Pictures.{Picture, put, put_pair}
 use Rattle.circ_core.specs.declared.changes.RowChange.{RowChange}
 use Rattle.circ_core.specs.declared.changes.RowChange.TheVariants.{PutMeta, PutBranch, PutClosedDay, TakeClosedDay, PutKind, PutRule, PutPatron, PutTitle, PutCopy, PutLoan, PutHold, PutTransit, TakeTransit, PutLine}
@@ -40,3 +40,8 @@ pub record SameRows (P Q : Picture) : Type 0 where
   pub holds : (h : ℕ) → P.holds h ≡ Q.holds h
   pub transits : (c : ℕ) → P.transits c ≡ Q.transits c
   pub lines : (n : ℕ) → P.lines n ≡ Q.lines n
+
+-- Rows that are put unless there is one already.
+abbrev pub rows_unless : {A : Type 0} → Option A → List RowChange → List RowChange
+rows_unless (Some row) rows = []
+rows_unless None rows = rows

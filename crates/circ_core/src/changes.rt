@@ -2,6 +2,7 @@
 
 ghost use Rattle.std.specs.Prelude.{◌≡◌, List, [], ◌∷◌, ◌++◌, ◌≤◌, length, slice_get};
 ghost use Rattle.std.specs.Option.{option_copied};
+ghost use Rattle.terms.specs.declared.reply.Reply.TheVariants.{Done};
 ghost use Rattle.circ_core.specs.declared.changes.RowChange.{RowChange};
 
 use arrayvec::ArrayVec;
@@ -108,4 +109,15 @@ impl<'a> Changes<'a> {
 pub struct Decision<'a> {
     pub reply: Reply,
     pub changes: Changes<'a>,
+}
+
+/// The changes go with the reply that it is done.
+pub(crate) fn done<'a>(changes: Changes<'a>) -> Decision<'a>
+    ensures reply { result.reply ≡ Done }
+    ensures changes { result.changes ≡ changes.entry }
+{
+    Decision {
+        reply: Reply::Done,
+        changes,
+    }
 }

@@ -7,17 +7,26 @@ ghost use Rattle.circ_core.specs.Deciding.{DecidesOn};
 ghost use Rattle.circ_core.specs.Views.{IsViewOf};
 ghost use Rattle.circ_core.specs.Decides.{Decides};
 
-use crate::accounts::{page, settle};
+use crate::acquire::acquire;
+use crate::begin_day::begin_day;
+use crate::branch::add_branch;
+use crate::cancel_hold::cancel_hold;
 use crate::changes::Decision;
-use crate::closing::{close_day, open_day};
-use crate::holding::{cancel_hold, place_hold};
-use crate::leaving::{declare_missing, withdraw};
-use crate::lending::check_out;
-use crate::renewing::renew;
-use crate::returning::check_in;
-use crate::setting::{acquire, add_branch, begin_day, enrol, set_kind, set_rule, set_week};
-use crate::unshelving::{unshelve, unshelve_cancelled};
+use crate::check_in::check_in;
+use crate::check_out::check_out;
+use crate::close_day::{close_day, open_day};
+use crate::kind::set_kind;
+use crate::missing::declare_missing;
+use crate::page::page;
+use crate::patron::enrol;
+use crate::place_hold::place_hold;
+use crate::renew::renew;
+use crate::rule::set_rule;
+use crate::settle::settle;
+use crate::unshelve::{unshelve, unshelve_cancelled};
 use crate::views::View;
+use crate::week::set_week;
+use crate::withdraw::withdraw;
 use terms::{Command, Refusal, RuleRow, Sort};
 
 /// The refusal of the desk's command, or its reply with the rows that change. The view has the rows

@@ -1,24 +1,37 @@
 //! Decisions: from the rows that a command needs to its refusal, or its reply and the rows that
-//! change.
+//! change. Each command has a module of its name, here and among the definitions and the proofs.
 #![tactic(auto)]
 
-mod accounts;
+mod acquire;
+mod begin_day;
+mod branch;
+mod cancel_hold;
 mod changes;
+mod check_in;
+mod check_out;
 mod checks;
-mod closing;
+mod close_day;
+mod condition;
+mod debt;
 mod deciding;
-mod due;
+mod due_day;
 mod ending;
-mod holding;
-mod leaving;
-mod lending;
+mod holds;
+mod kind;
+mod limits;
+mod missing;
 mod owners;
-mod renewing;
-mod returning;
+mod page;
+mod patron;
+mod place_hold;
+mod renew;
 mod routing;
-mod setting;
-mod unshelving;
+mod rule;
+mod settle;
+mod unshelve;
 mod views;
+mod week;
+mod withdraw;
 
 pub use changes::{Changes, Decision, RowChange};
 pub use deciding::decide;

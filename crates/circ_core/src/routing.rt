@@ -5,7 +5,7 @@ ghost use Rattle.circ_core.specs.Routing.{served, course_of, pickup_of, home_in,
 ghost use Rattle.circ_core.specs.Routing.{routed_by, readied, arrival_rows, shelf_limit};
 
 use crate::changes::{Changes, RowChange};
-use crate::due::due_day;
+use crate::due_day::due_day;
 use crate::views::View;
 use terms::{
     BranchId, BranchRow, CopyId, CopyRow, Day, Days, HoldId, HoldRow, HoldState, Routed, TransitRow,

@@ -1,19 +1,24 @@
 //! Lists of the rows that pass a test, in the order of their keys.
 
 ghost use Rattle.sql_maps.specs.Maps.{Listed, ListedBy, PairBelow};
+ghost use Rattle.sql_maps.specs.Pages.{FirstRows};
 ghost use Rattle.circ_tables.specs.Reading.{Lists, branches, closed_days, kinds, rules, patrons};
 ghost use Rattle.circ_tables.specs.Reading.{titles, copies, loans, holds, transits, lines, kept};
-ghost use Rattle.circ_tables.specs.Selections.{is_open_by, is_active_by, is_ready_at};
-ghost use Rattle.circ_tables.specs.Selections.{is_overdue_at, is_line_of, is_any};
+ghost use Rattle.circ_tables.specs.Selections.{is_open_by, is_active_by, is_ready_after};
+ghost use Rattle.circ_tables.specs.Selections.{is_overdue_after, is_line_after, is_any, is_after};
+ghost use Rattle.circ_tables.specs.declared.lists.TheConstants.{PAGE_ROWS};
 
 use crate::list::rows_of;
 use calendar::Day;
 use sqlite::{Alter, Connection, params};
 use std::alloc::Global;
 use terms::{
-    BranchId, BranchRow, ClosedDayRow, CopyRow, Fault, HoldRow, KeptRow, KindRow, LineRow, LoanRow,
-    PatronId, PatronRow, RuleRow, TitleRow, TransitRow,
+    BranchId, BranchRow, ClosedDayRow, CopyId, CopyRow, Fault, HoldId, HoldRow, KeptRow, KindRow,
+    LineId, LineRow, LoanId, LoanRow, PatronId, PatronRow, RuleRow, TitleId, TitleRow, TransitRow,
 };
+
+/// How many rows a page of a list has, but for its last one. The texts of pages name it too.
+pub const PAGE_ROWS: usize = 1000;
 
 /// The open loans of a patron, the least number first. 90, 91, 93.
 pub fn open_loans_by<S: Alter>(
@@ -51,59 +56,69 @@ pub fn active_holds_by<S: Alter>(
     )
 }
 
-/// The ready holds with this pick-up branch, the least number first. 90, 91, 93.
-pub fn ready_holds_at<S: Alter>(
+/// The first ready holds with this pick-up branch whose numbers are above this one, the least
+/// number first: all of them, or as many as a page has. 90, 91, 93.
+pub fn ready_holds_after<S: Alter>(
     conn: &mut Connection<S>,
     alloc: Global,
     branch: BranchId,
+    after: HoldId,
 ) -> Result<Vec<HoldRow>, Fault>
-    ensures { Lists holds (λ l. l.items) (λ m. Listed m (is_ready_at branch))
+    ensures { Lists holds (λ l. l.items)
+        (λ m. FirstRows PAGE_ROWS m (is_ready_after branch after))
         S.Store conn.old conn.new result }
 {
     rows_of(
         conn,
         alloc,
         (),
-        "SELECT * FROM holds WHERE branch = ?1 AND state = 1 ORDER BY hold",
-        params![branch.number()],
+        "SELECT * FROM holds WHERE branch = ?1 AND state = 1 AND hold > ?2 ORDER BY hold LIMIT 1000",
+        params![branch.number(), after.number()],
     )
 }
 
-/// The open loans that the branch made and that were due before the day, the least number first.
-/// 90, 91, 93.
-pub fn overdue_loans_at<S: Alter>(
+/// The first open loans that the branch made, that were due before the day and whose numbers are
+/// above this one, the least number first: all of them, or as many as a page has. 90, 91, 93.
+///
+/// The order names `ended` too, which all of them have in common: so it is the order of the index
+/// of a branch's loans, and no more of them are read than are given.
+pub fn overdue_loans_after<S: Alter>(
     conn: &mut Connection<S>,
     alloc: Global,
     branch: BranchId,
     day: Day,
+    after: LoanId,
 ) -> Result<Vec<LoanRow>, Fault>
-    ensures { Lists loans (λ l. l.items) (λ m. Listed m (is_overdue_at branch day))
+    ensures { Lists loans (λ l. l.items)
+        (λ m. FirstRows PAGE_ROWS m (is_overdue_after branch day after))
         S.Store conn.old conn.new result }
 {
     rows_of(
         conn,
         alloc,
         (),
-        "SELECT * FROM loans WHERE branch = ?1 AND ended IS NULL AND due < ?2 ORDER BY loan",
-        params![branch.number(), day.number()],
+        "SELECT * FROM loans WHERE branch = ?1 AND ended IS NULL AND due < ?2 AND loan > ?3 ORDER BY ended, loan LIMIT 1000",
+        params![branch.number(), day.number(), after.number()],
     )
 }
 
-/// The lines of a day, of all sorts, the least number first. 90, 91, 93.
-pub fn lines_of<S: Alter>(
+/// The first lines of a day, of all sorts, whose numbers are above this one, the least number
+/// first: all of them, or as many as a page has. 90, 91, 93.
+pub fn lines_after<S: Alter>(
     conn: &mut Connection<S>,
     alloc: Global,
     day: Day,
+    after: LineId,
 ) -> Result<Vec<LineRow>, Fault>
-    ensures { Lists lines (λ l. l.items) (λ m. Listed m (is_line_of day))
+    ensures { Lists lines (λ l. l.items) (λ m. FirstRows PAGE_ROWS m (is_line_after day after))
         S.Store conn.old conn.new result }
 {
     rows_of(
         conn,
         alloc,
         (),
-        "SELECT * FROM lines WHERE day = ?1 ORDER BY line",
-        params![day.number()],
+        "SELECT * FROM lines WHERE day = ?1 AND line > ?2 ORDER BY line LIMIT 1000",
+        params![day.number(), after.number()],
     )
 }
 
@@ -241,5 +256,138 @@ pub fn all_kept<S: Alter>(conn: &mut Connection<S>, alloc: Global) -> Result<Vec
         alloc,
         "SELECT * FROM kept ORDER BY caller, key",
         &[],
+    )
+}
+
+/// The first rows of `patrons` whose numbers are above this one, the least number first: all of them, or
+/// as many as a page has. 90, 91, 93.
+pub fn all_patrons_after<S: Alter>(
+    conn: &mut Connection<S>,
+    alloc: Global,
+    after: PatronId,
+) -> Result<Vec<PatronRow>, Fault>
+    ensures { Lists patrons (λ l. l.items) (λ m. FirstRows PAGE_ROWS m (is_after after))
+        S.Store conn.old conn.new result }
+{
+    rows_of(
+        conn,
+        alloc,
+        alloc,
+        "SELECT * FROM patrons WHERE patron > ?1 ORDER BY patron LIMIT 1000",
+        params![after.number()],
+    )
+}
+
+/// The first rows of `titles` whose numbers are above this one, the least number first: all of them, or
+/// as many as a page has. 90, 91, 93.
+pub fn all_titles_after<S: Alter>(
+    conn: &mut Connection<S>,
+    alloc: Global,
+    after: TitleId,
+) -> Result<Vec<TitleRow>, Fault>
+    ensures { Lists titles (λ l. l.items) (λ m. FirstRows PAGE_ROWS m (is_after after))
+        S.Store conn.old conn.new result }
+{
+    rows_of(
+        conn,
+        alloc,
+        alloc,
+        "SELECT * FROM titles WHERE title > ?1 ORDER BY title LIMIT 1000",
+        params![after.number()],
+    )
+}
+
+/// The first rows of `copies` whose numbers are above this one, the least number first: all of them, or
+/// as many as a page has. 90, 91, 93.
+pub fn all_copies_after<S: Alter>(
+    conn: &mut Connection<S>,
+    alloc: Global,
+    after: CopyId,
+) -> Result<Vec<CopyRow>, Fault>
+    ensures { Lists copies (λ l. l.items) (λ m. FirstRows PAGE_ROWS m (is_after after))
+        S.Store conn.old conn.new result }
+{
+    rows_of(
+        conn,
+        alloc,
+        (),
+        "SELECT * FROM copies WHERE copy > ?1 ORDER BY copy LIMIT 1000",
+        params![after.number()],
+    )
+}
+
+/// The first rows of `loans` whose numbers are above this one, the least number first: all of them, or
+/// as many as a page has. 90, 91, 93.
+pub fn all_loans_after<S: Alter>(
+    conn: &mut Connection<S>,
+    alloc: Global,
+    after: LoanId,
+) -> Result<Vec<LoanRow>, Fault>
+    ensures { Lists loans (λ l. l.items) (λ m. FirstRows PAGE_ROWS m (is_after after))
+        S.Store conn.old conn.new result }
+{
+    rows_of(
+        conn,
+        alloc,
+        (),
+        "SELECT * FROM loans WHERE loan > ?1 ORDER BY loan LIMIT 1000",
+        params![after.number()],
+    )
+}
+
+/// The first rows of `holds` whose numbers are above this one, the least number first: all of them, or
+/// as many as a page has. 90, 91, 93.
+pub fn all_holds_after<S: Alter>(
+    conn: &mut Connection<S>,
+    alloc: Global,
+    after: HoldId,
+) -> Result<Vec<HoldRow>, Fault>
+    ensures { Lists holds (λ l. l.items) (λ m. FirstRows PAGE_ROWS m (is_after after))
+        S.Store conn.old conn.new result }
+{
+    rows_of(
+        conn,
+        alloc,
+        (),
+        "SELECT * FROM holds WHERE hold > ?1 ORDER BY hold LIMIT 1000",
+        params![after.number()],
+    )
+}
+
+/// The first rows of `transits` whose numbers are above this one, the least number first: all of them, or
+/// as many as a page has. 90, 91, 93.
+pub fn all_transits_after<S: Alter>(
+    conn: &mut Connection<S>,
+    alloc: Global,
+    after: CopyId,
+) -> Result<Vec<TransitRow>, Fault>
+    ensures { Lists transits (λ l. l.items) (λ m. FirstRows PAGE_ROWS m (is_after after))
+        S.Store conn.old conn.new result }
+{
+    rows_of(
+        conn,
+        alloc,
+        (),
+        "SELECT * FROM transits WHERE copy > ?1 ORDER BY copy LIMIT 1000",
+        params![after.number()],
+    )
+}
+
+/// The first rows of `lines` whose numbers are above this one, the least number first: all of them, or
+/// as many as a page has. 90, 91, 93.
+pub fn all_lines_after<S: Alter>(
+    conn: &mut Connection<S>,
+    alloc: Global,
+    after: LineId,
+) -> Result<Vec<LineRow>, Fault>
+    ensures { Lists lines (λ l. l.items) (λ m. FirstRows PAGE_ROWS m (is_after after))
+        S.Store conn.old conn.new result }
+{
+    rows_of(
+        conn,
+        alloc,
+        (),
+        "SELECT * FROM lines WHERE line > ?1 ORDER BY line LIMIT 1000",
+        params![after.number()],
     )
 }

@@ -22,5 +22,10 @@ pub mod ShelfLists
 pub mod ShelfRows
 pub mod OverdueLists
 pub mod OverdueRows
+pub mod Parts
+pub mod NumberLists
+pub mod PagesListed
+pub mod TillPages
+pub mod WholeReports
 pub mod WrittenReports
 pub mod ReportForms

@@ -4,7 +4,9 @@ pub mod Answering
 pub mod Headline
 pub mod Paging
 pub mod Reporting
+pub mod Parts
 pub mod Written
+pub mod Lending
 pub mod Reports
 pub mod Showing
 pub mod Running

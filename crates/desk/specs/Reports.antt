@@ -1,9 +1,7 @@
 -- The reports of the desk as one: their texts, and what becomes of one that is written.
-use Rattle.std.specs.Prelude.{◌≡◌, ℕ, List, Option, None, Result, Err, OnOk}
+use Rattle.std.specs.Prelude.{◌≡◌, ℕ, List, Option, None, Result, Err, OnOk, OnErr}
 use Rattle.std.specs.Io.KnownBytes.{Appends, Keeps}
 use Rattle.store.specs.Library.{Ghosts, Held, state, IsClean}
-use Rattle.terms.specs.Writing.{AppendsFront}
-use Rattle.terms.specs.declared.fault.Fault.{Fault}
 use Rattle.terms.specs.declared.fault.Fault.TheVariants.{Stored}
 use Rattle.terms.specs.declared.refusal.Refusal.{Refusal}
 use Rattle.terms.specs.declared.refusal.Refusal.TheVariants.{UnknownBranch}
@@ -11,7 +9,7 @@ use Rattle.model.specs.History.{History}
 use Rattle.model.specs.Picture.{picture}
 use Rattle.model.specs.Reports.{overdue, till, shelf}
 use Rattle.desk.specs.Answering.{Shows, Looks}
-use Rattle.desk.specs.Written.{HasBranch}
+use Rattle.desk.specs.Written.{HasBranch, SendsFront}
 use Rattle.desk.specs.declared.reporting.ReportFault.{ReportFault}
 use Rattle.desk.specs.declared.reporting.ReportFault.TheVariants.{Refused, Faulted, NotWritten}
 use Rattle.desk.specs.declared.reports.Report.{Report}
@@ -35,8 +33,8 @@ IsUnknown H (Overdue branch) = (picture H).branches branch ≡ None
 IsUnknown H (Till day) = ⊥
 IsUnknown H (Shelf branch) = (picture H).branches branch ≡ None
 
--- The bytes of a report were written, or it was refused, or a fault came before anything was
--- written, or a write failed. `before` and `after` are the bytes that the writer showed and shows.
+-- The bytes of a report were written, or it was refused, or a write or the database failed. `before`
+-- and `after` are the bytes that the writer showed and shows.
 pub record WritesAnyReport {S T : Type 0} (report : Report)
     (g : Ghosts S) (old new : Held S) (before after : Option (List ℕ))
     (result : Result T ReportFault) : Type 0 where
@@ -50,13 +48,13 @@ pub record WritesAnyReport {S T : Type 0} (report : Report)
   -- and the report is one of an unknown branch; the tables show what they showed
   pub unknown : IsClean g new → (refusal : Refusal) → result ≡ Err (Refused refusal)
       → (H : History) → Shows (state g old) H → IsUnknown H report × Shows (state g new) H
-  -- at a fault nothing went out
-  pub silent : (fault : Fault) → result ≡ Err (Faulted fault) → Keeps before after
+  -- where a write or the database failed, a beginning of the report went out
+  pub cut : OnErr result (SendsFront (λ H. report_text H report) g old new before after)
   -- fault 93 doesn't come where the tables show a list of accepted requests
   pub sound : IsClean g new → result ≡ Err (Faulted Stored) → (H : History) → Shows (state g old) H
       → ⊥
-  -- where a write failed, a beginning of the report went out, and the tables show what they showed
-  pub cut : IsClean g new → result ≡ Err NotWritten → (H : History) → Shows (state g old) H
-      → IsThere H report × AppendsFront before after (report_text H report) × Shows (state g new) H
+  -- where a write failed, the report is there, and the tables show what they showed
+  pub stays : IsClean g new → result ≡ Err NotWritten → (H : History) → Shows (state g old) H
+      → IsThere H report × Shows (state g new) H
   -- whatever the outcome, the tables show what they showed
   pub looks : Looks (state g old) (state g new) result

@@ -1,24 +1,24 @@
-//! Reports: the till of a day, and the ready holds of a branch.
+//! Reports: what becomes of them, and the one of the ready holds of a branch.
+//!
+//! The rows of a report are read and written page by page, so that what it takes of memory doesn't
+//! grow with it.
 
-ghost use Rattle.std.specs.Prelude.{◌≡◌, ◌≤◌, ℕ, ◌++◌, ◌∷◌, [], ◌^◌, cond, map, Some, IfOk, OnErr};
-ghost use Rattle.std.specs.Prelude.{string_bytes};
-ghost use Rattle.terms.specs.declared.row.Sort.{Sort as AnySort};
-ghost use Rattle.store.specs.Lists.{AreReadyAt};
-ghost use Rattle.model.specs.Picture.{picture};
-ghost use Rattle.model.specs.Reports.{is_sort, report_lines, shelf_line, shelf as shelf_of};
-ghost use Rattle.model.specs.Reports.{till as till_of};
-ghost use Rattle.desk.specs.Answering.{Learns, LearnsIf};
-ghost use Rattle.desk.specs.Written.{WritesTill, IsReport, WritesReport};
-ghost use Rattle.desk.specs.Reporting.{rows_sum, rows_sums, till_words, shelf_header, ready_words};
-ghost use Rattle.desk.specs.Reporting.{ready_count, IsReadyRow, AreReadyRows};
+ghost use Rattle.std.specs.Prelude.{◌≡◌, ◌++◌, ◌∷◌, [], map, IfOk, string_bytes};
+ghost use Rattle.model.specs.Reports.{report_lines, ready_holds, shelf_line};
+ghost use Rattle.model.specs.Reports.{shelf as shelf_of};
+ghost use Rattle.desk.specs.Answering.{LearnsIf};
+ghost use Rattle.desk.specs.Parts.{WritesPart, WritesText, IsAny, IsPage, IsLast};
+ghost use Rattle.desk.specs.Parts.{AreAllRows, above};
+ghost use Rattle.desk.specs.Written.{WritesReport};
+ghost use Rattle.desk.specs.Reporting.{ready_words, ready_count, IsReadyRow, AreReadyRows};
 
 use crate::paging::title_row;
 use sqlite::Alter;
 use std::alloc::Global;
 use std::io::Write;
-use store::Store;
+use store::{PAGE_ROWS, Store};
 use terms::{
-    BranchId, CopyId, Day, Fault, HoldRow, LineRow, Memory, Refusal, Sort, TitleRow, WriteFault,
+    BranchId, CopyId, Day, Fault, HoldId, HoldRow, Memory, Refusal, TitleRow, WriteFault,
     write_bytes,
 };
 
@@ -27,7 +27,7 @@ use terms::{
 pub enum ReportFault {
     /// It was refused, and nothing was written.
     Refused(Refusal),
-    /// A fault came before anything was written.
+    /// A fault came; a beginning of the report may have gone out.
     Faulted(Fault),
     /// A write failed; a beginning of the report may have gone out.
     NotWritten,
@@ -44,6 +44,18 @@ impl From<Fault> for ReportFault {
     }
 }
 
+impl From<Memory> for ReportFault {
+    ghost use Rattle.std.specs.Prelude.{◌≡◌};
+    ghost use Rattle.terms.specs.declared.fault.Fault.TheVariants.{Memory as NoMemory};
+    ghost use Rattle.desk.specs.declared.reporting.ReportFault.TheVariants.{Faulted};
+
+    ghost from_gives = { λ _ why. why ≡ Faulted NoMemory };
+
+    fn from(_memory: Memory) -> ReportFault {
+        ReportFault::Faulted(Fault::Memory)
+    }
+}
+
 impl From<WriteFault> for ReportFault {
     ghost use Rattle.std.specs.Prelude.{◌≡◌};
     ghost use Rattle.desk.specs.declared.reporting.ReportFault.TheVariants.{NotWritten};
@@ -55,101 +67,16 @@ impl From<WriteFault> for ReportFault {
     }
 }
 
-/// The sums of a day's lines, by their sorts, in cents.
-#[derive(Clone, Copy, Debug, PartialEq, Eq)]
-struct Sums {
-    fines: u64,
-    prices: u64,
-    payments: u64,
-    waivers: u64,
-}
-
-/// The amount of a line of the sort; of another's nothing.
-fn amount_of(row: &LineRow, sort: Sort) -> u64
-    ensures { result ≡ cond (is_sort row.now.sort sort) row.now.amount 0 }
-{
-    if row.sort == sort {
-        row.amount.number()
-    } else {
-        0
-    }
-}
-
-/// The sum of the lines of one sort. 93 where it reaches 2^64, which no history leads to.
-fn sum_of(rows: &[LineRow], sort: Sort) -> Result<u64, Fault>
-    ensures sum { IfOk result (λ sum. sum ≡ rows_sum sort rows.now) }
-    ensures over { OnErr result (2 ^ 64 ≤ rows_sum sort rows.now) }
-{
-    let mut sum = 0u64;
-    'rows: for row in rows {
-        let Some(more) = sum.checked_add(amount_of(row, sort)) else {
-            return Err(Fault::Stored);
-        };
-        sum = more;
-    }
-    Ok(sum)
-}
-
-/// The sums of the lines, by their sorts. 93 where one reaches 2^64.
-fn sums_of(rows: &[LineRow]) -> Result<Sums, Fault>
-    ensures sums { IfOk result (λ sums. sums ≡ rows_sums rows.now) }
-    ensures over { OnErr result ((sort : AnySort) × (2 ^ 64 ≤ rows_sum sort rows.now)) }
-{
-    Ok(Sums {
-        fines: sum_of(rows, Sort::Fine)?,
-        prices: sum_of(rows, Sort::Price)?,
-        payments: sum_of(rows, Sort::Payment)?,
-        waivers: sum_of(rows, Sort::Waiver)?,
-    })
-}
-
-/// The lines of the till report.
-fn till_lines(alloc: Global, day: Day, sums: Sums) -> Result<String, Memory>
-    ensures { IfOk result (λ text. string_bytes text ≡ till_words day sums) }
-{
-    let Sums {
-        fines,
-        prices,
-        payments,
-        waivers,
-    } = sums;
-    format!(in alloc;
-        "till {day}\nfines    {fines:>15}\nprices   {prices:>15}\n\
-         payments {payments:>15}\nwaivers  {waivers:>15}\n"
-    )
-}
-
-/// The till report of a day. 90, 91; 93, which never comes where the tables show a history.
-fn till_text<S: Alter>(store: &mut Store<S>, alloc: Global, day: Day) -> Result<String, Fault>
-    ensures { Learns (λ H text. string_bytes text ≡ till_of H day)
-        S.Store store.old store.new result }
-{
-    let rows = store.lines(alloc, day)?;
-    let sums = sums_of(&rows)?;
-    Ok(till_lines(alloc, day, sums)?)
-}
-
-/// Writes the till report of a day. 90, 91, before anything is written; or a write failed.
-pub(crate) fn till<S: Alter, W: Write>(
-    store: &mut Store<S>,
-    alloc: Global,
-    day: Day,
-    writer: &mut W,
-) -> Result<(), ReportFault>
-    ensures { WritesTill day
-        S.Store store.old store.new (W.contents writer.old) (W.contents writer.new) result }
-{
-    let text = till_text(store, alloc, day)?;
-    write_bytes(writer, text.as_bytes())?;
-    Ok(())
+/// What a page of a report's rows told: how many rows, and the number of the last one where more
+/// may follow.
+#[derive(Clone, Copy)]
+pub(crate) struct Told {
+    pub(crate) rows: usize,
+    pub(crate) last: Option<u32>,
 }
 
 /// The header of the shelf report.
-fn shelf_start(alloc: Global) -> Result<String, Memory>
-    ensures { IfOk result (λ text. string_bytes text ≡ shelf_header ++ (10 ∷ [])) }
-{
-    format!(in alloc; "      hold    copy  patron until      title\n")
-}
+const SHELF_HEADER: &str = "      hold    copy  patron until      title\n";
 
 /// The row of a ready hold, with the copy that stands there for it, the shelf limit and the title.
 fn shelf_row(
@@ -193,75 +120,119 @@ fn ready_line<S: Alter>(store: &mut Store<S>, alloc: Global, row: &HoldRow) -> R
     Ok(shelf_row(alloc, row, copy, limit_day, &title)?)
 }
 
-/// The rows of ready holds, one after another. 90, 91, 93.
-fn add_ready<S: Alter>(
+/// Writes the row of a ready hold. 90, 91, 93.
+fn write_ready<S: Alter, W: Write>(
+    store: &mut Store<S>,
+    alloc: Global,
+    row: &HoldRow,
+    writer: &mut W,
+) -> Result<(), ReportFault>
+    ensures { WritesText (IsReadyRow row.now) (λ H. shelf_line H row.now.hold ++ (10 ∷ []))
+        S.Store store.old store.new (W.contents writer.old) (W.contents writer.new) result }
+{
+    let line = ready_line(store, alloc, row)?;
+    write_bytes(writer, line.as_bytes())?;
+    Ok(())
+}
+
+/// Writes the rows of ready holds, one after another. 90, 91, 93.
+fn write_ready_rows<S: Alter, W: Write>(
     store: &mut Store<S>,
     alloc: Global,
     rows: &[HoldRow],
-    text: &mut String,
-) -> Result<(), Fault>
-    ensures { LearnsIf (AreReadyRows rows.now) (λ H _. string_bytes text.new
-        ≡ string_bytes text.old ++ report_lines (map (λ r. shelf_line H r.hold) rows.now))
-        S.Store store.old store.new result }
+    writer: &mut W,
+) -> Result<(), ReportFault>
+    ensures { WritesText (AreReadyRows rows.now)
+        (λ H. report_lines (map (λ r. shelf_line H r.hold) rows.now))
+        S.Store store.old store.new (W.contents writer.old) (W.contents writer.new) result }
 {
     'rows: for row in rows {
-        let line = ready_line(store, alloc, row)?;
-        text.push_str(&line)?;
+        write_ready(store, alloc, row, writer)?;
     }
     Ok(())
 }
 
-/// The shelf report over these rows: the header, a row for each, and how many there are. 90, 91,
-/// 93.
-fn shelf_lines<S: Alter>(
-    store: &mut Store<S>,
-    alloc: Global,
-    rows: &[HoldRow],
-) -> Result<String, Fault>
-    ensures { LearnsIf (AreReadyRows rows.now)
-        (λ H text. (branch : ℕ) → AreReadyAt (picture H) branch rows.now
-        → string_bytes text ≡ shelf_of H branch)
-        S.Store store.old store.new result }
+/// The number of the last hold of a full page, after which more may follow.
+fn last_hold(rows: &[HoldRow]) -> Option<u32>
+    ensures { IsLast (λ r. r.hold) rows.now result }
 {
-    let mut text = shelf_start(alloc)?;
-    add_ready(store, alloc, rows, &mut text)?;
-    let last = shelf_end(alloc, rows.len())?;
-    text.push_str(&last)?;
-    Ok(text)
-}
-
-/// The shelf report of a branch that there is. 90, 91, 93.
-fn ready_text<S: Alter>(
-    store: &mut Store<S>,
-    alloc: Global,
-    branch: BranchId,
-) -> Result<String, Fault>
-    ensures { Learns (λ H text. string_bytes text ≡ shelf_of H branch)
-        S.Store store.old store.new result }
-{
-    let rows = store.ready_holds(alloc, branch)?;
-    shelf_lines(store, alloc, &rows)
-}
-
-/// The shelf report of a branch, if there is the branch. 90, 91, 93.
-fn shelf_text<S: Alter>(
-    store: &mut Store<S>,
-    alloc: Global,
-    branch: BranchId,
-) -> Result<Option<String>, Fault>
-    ensures { Learns (IsReport (λ H. shelf_of H branch) branch) S.Store store.old store.new result }
-{
-    match store.branch(alloc, branch)? {
-        Some(_row) => {
-            let text = ready_text(store, alloc, branch)?;
-            Ok(Some(text))
-        }
-        None => Ok(None),
+    if rows.len() < PAGE_ROWS {
+        return None;
+    }
+    match rows.last() {
+        Some(row) => Some(row.hold.number()),
+        None => None,
     }
 }
 
-/// Writes the shelf report of a branch; 10 where there is no such branch. 90, 91, 93, before
-/// anything is written; or a write failed.
+/// Writes a page of the rows of a branch's ready holds, from above a number on. 90, 91, 93.
+fn write_ready_page<S: Alter, W: Write>(
+    store: &mut Store<S>,
+    alloc: Global,
+    branch: BranchId,
+    after: HoldId,
+    writer: &mut W,
+) -> Result<Told, ReportFault>
+    ensures { WritesPart IsAny
+        (λ H told sent. IsPage (shelf_line H) (ready_holds H branch) after told sent)
+        (λ H. report_lines (map (shelf_line H) (above after (ready_holds H branch))))
+        S.Store store.old store.new (W.contents writer.old) (W.contents writer.new) result }
+{
+    let rows = store.ready_holds(alloc, branch, after)?;
+    let page = rows.as_slice();
+    write_ready_rows(store, alloc, page, writer)?;
+    Ok(Told {
+        rows: page.len(),
+        last: last_hold(page),
+    })
+}
+
+/// Writes the rows of a branch's ready holds, page by page, and tells how many they are. 90, 91,
+/// 93.
+fn write_ready_pages<S: Alter, W: Write>(
+    store: &mut Store<S>,
+    alloc: Global,
+    branch: BranchId,
+    writer: &mut W,
+) -> Result<usize, ReportFault>
+    ensures { WritesPart IsAny
+        (λ H count sent. AreAllRows (shelf_line H) (ready_holds H branch) count sent)
+        (λ H. report_lines (map (shelf_line H) (ready_holds H branch)))
+        S.Store store.old store.new (W.contents writer.old) (W.contents writer.new) result }
+{
+    let mut count = 0usize;
+    let mut after = HoldId::new(0);
+    'pages: for _page in 0..u64::MAX {
+        let told = write_ready_page(store, alloc, branch, after, writer)?;
+        count = count.saturating_add(told.rows);
+        match told.last {
+            Some(last) => after = HoldId::new(last),
+            None => return Ok(count),
+        }
+    }
+    Ok(count)
+}
+
+/// Writes the shelf report of a branch: the header, a row for each ready hold, and how many there
+/// are. 90, 91, 93.
+fn write_shelf<S: Alter, W: Write>(
+    store: &mut Store<S>,
+    alloc: Global,
+    branch: BranchId,
+    writer: &mut W,
+) -> Result<(), ReportFault>
+    ensures { WritesText IsAny (λ H. shelf_of H branch)
+        S.Store store.old store.new (W.contents writer.old) (W.contents writer.new) result }
+{
+    write_bytes(writer, SHELF_HEADER.as_bytes())?;
+    let count = write_ready_pages(store, alloc, branch, writer)?;
+    let last = shelf_end(alloc, count)?;
+    write_bytes(writer, last.as_bytes())?;
+    Ok(())
+}
+
+/// Writes the shelf report of a branch; 10 where there is no such branch. 90, 91, 93, or a write
+/// failed: then a beginning of it may have gone out.
 pub(crate) fn shelf<S: Alter, W: Write>(
     store: &mut Store<S>,
     alloc: Global,
@@ -271,9 +242,8 @@ pub(crate) fn shelf<S: Alter, W: Write>(
     ensures { WritesReport (λ H. shelf_of H branch) branch S.Store store.old store.new
         (W.contents writer.old) (W.contents writer.new) result }
 {
-    let Some(report) = shelf_text(store, alloc, branch)? else {
-        return Err(ReportFault::Refused(Refusal::UnknownBranch));
-    };
-    write_bytes(writer, report.as_bytes())?;
-    Ok(())
+    match store.branch(alloc, branch)? {
+        Some(_row) => write_shelf(store, alloc, branch, writer),
+        None => Err(ReportFault::Refused(Refusal::UnknownBranch)),
+    }
 }

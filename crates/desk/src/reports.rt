@@ -21,8 +21,9 @@ pub enum Report {
 }
 
 impl<S: Alter> Desk<S> {
-    /// Writes the bytes of a report; 10 for a branch that there isn't, and 90, 91, 93 before
-    /// anything is written. A branch's number may be any.
+    /// Writes the bytes of a report; 10 for a branch that there isn't, and then nothing is written.
+    /// 90, 91, 93, or a write failed: then a beginning of them may have gone out. A branch's number
+    /// may be any.
     pub fn report<W: Write>(
         &mut self,
         alloc: Global,

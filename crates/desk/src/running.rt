@@ -12,8 +12,9 @@ ghost use Rattle.desk.specs.Showing.{own_page as own_page_of, AreEnrolled};
 use crate::handling::{handle, handle_touching};
 use crate::overdue::overdue;
 use crate::paging::show_own;
-use crate::reporting::{ReportFault, shelf, till};
+use crate::reporting::{ReportFault, shelf};
 use crate::showing::{OwnPage, own_page, patrons};
+use crate::till::till;
 use crate::touching::Touched;
 use sqlite::{Alter, MemStore};
 use std::alloc::Global;
@@ -128,8 +129,8 @@ impl<S: Alter> Desk<S> {
     }
 
     /// Writes the till report of a day: the sums of its fines, prices, payments and waivers, in
-    /// cents. 90, 91 before anything is written; 93 doesn't come where the tables show a list of
-    /// accepted requests. It is never refused.
+    /// cents. It is never refused. 90, 91, or a write failed, and then a beginning of it may have
+    /// gone out; 93 doesn't come where the tables show a list of accepted requests.
     pub fn till<W: Write>(
         &mut self,
         alloc: Global,
@@ -142,8 +143,9 @@ impl<S: Alter> Desk<S> {
         till(&mut self.store, alloc, day, writer)
     }
 
-    /// Writes the shelf report of a branch: its ready holds, by number; 10 where there is no such
-    /// branch, and then nothing is written. 90, 91, 93 before anything is written.
+    /// Writes the shelf report of a branch: its ready holds, by number, page by page; 10 where there
+    /// is no such branch, and then nothing is written. 90, 91, 93, or a write failed: then a
+    /// beginning of it may have gone out.
     pub fn shelf<W: Write>(
         &mut self,
         alloc: Global,
@@ -157,8 +159,9 @@ impl<S: Alter> Desk<S> {
     }
 
     /// Writes the overdue report of a branch: its open loans that are due before today, by number,
-    /// each with the open days that it is late by; 10 where there is no such branch, and then
-    /// nothing is written. 90, 91, 93 before anything is written.
+    /// each with the open days that it is late by, page by page; 10 where there is no such branch,
+    /// and then nothing is written. 90, 91, 93, or a write failed: then a beginning of it may have
+    /// gone out.
     pub fn overdue<W: Write>(
         &mut self,
         alloc: Global,

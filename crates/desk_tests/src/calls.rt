@@ -2,14 +2,15 @@
 //! store, so that what it is proved from stays small.
 
 use circ::{Exit, Report, WriteFault};
+use circ_audit::Finding;
 use desk::Desk;
 use front::{CopyEnd, read_copies};
-use sqlite::{Alter, Connection, FileStore, Files, MemStore, Options};
+use sqlite::{Alter, Connection, FileStore, Files, Options};
 use sqlite_disk::{Crash, Disk};
 use std::alloc::Global;
 use std::io::{Read, Write};
 use store::Store;
-use terms::{CardKey, Fault, Key, Owner, PatronId, Reply, Request};
+use terms::{CardKey, Fault, Key, Owner, PatronId, Reply, Tables};
 
 /// Has one request by words handled, and its line written.
 pub fn one<S: Alter, W: Write>(
@@ -32,6 +33,20 @@ pub fn report<S: Alter, W: Write>(
     circ::report(desk, alloc, wanted, writer)
 }
 
+/// Has a library audited, and the line written.
+pub fn audit<S: Alter, W: Write>(
+    store: &mut Store<S>,
+    alloc: Global,
+    writer: &mut W,
+) -> Result<Exit, WriteFault> {
+    circ::audit(store, alloc, writer)
+}
+
+/// The audit of rows.
+pub fn laws(tables: &Tables) -> Result<(), Finding> {
+    circ_audit::audit(tables)
+}
+
 /// Has a copies file taken in, and its lines written.
 pub fn import<S: Alter, R: Read + Drop, W: Write>(
     desk: &mut Desk<S>,
@@ -46,27 +61,6 @@ pub fn import<S: Alter, R: Read + Drop, W: Write>(
 pub fn copies<R: Read + Drop>(alloc: Global, reader: R) -> (usize, CopyEnd) {
     let (rows, end) = read_copies(alloc, reader);
     (rows.len(), end)
-}
-
-/// Has a request handled.
-pub fn handle<S: Alter>(
-    desk: &mut Desk<S>,
-    alloc: Global,
-    request: &Request,
-) -> Result<Reply, Fault> {
-    desk.handle(alloc, request)
-}
-
-/// Has a list of requests handled: the replies, and the fault that ended it.
-pub fn run<S: Alter>(
-    desk: &mut Desk<S>,
-    alloc: Global,
-    requests: &[Request],
-) -> (Vec<Reply>, Option<Fault>) {
-    match desk.run(alloc, requests) {
-        Ok(replies) => (replies, None),
-        Err((replies, fault)) => (replies, Some(fault)),
-    }
 }
 
 /// What a patron is shown who shows a card key.
@@ -103,29 +97,9 @@ pub fn counts<S: Alter>(store: &mut Store<S>, alloc: Global) -> Result<[usize; 1
     ])
 }
 
-/// The database under a desk.
-pub fn connection<S: Alter>(desk: Desk<S>) -> Connection<S> {
-    desk.into_store().into_connection()
-}
-
-/// The store over tables that were made.
-pub fn open<S: Alter + Drop>(conn: Connection<S>) -> Result<Store<S>, Fault> {
-    Store::open(conn)
-}
-
 /// The store over new tables.
 pub fn create<S: Alter + Drop>(conn: Connection<S>) -> Result<Store<S>, Fault> {
     Store::create(conn)
-}
-
-/// The desk of a new library in memory.
-pub fn in_memory(alloc: Global) -> Result<Desk<MemStore>, Fault> {
-    Desk::in_memory(alloc)
-}
-
-/// The desk over a store.
-pub fn desk_over<S: Alter + Drop>(store: Store<S>) -> Result<Desk<S>, Fault> {
-    Desk::new(store)
 }
 
 /// The store under a desk.

@@ -1,8 +1,7 @@
 //! Copies files as readers bring them: rows that aren't good, a row too many, and reads that fail at each byte.
 
 use crate::calls::{copies, import};
-use crate::cut_lines::{BEES, Failing};
-use crate::ground::ground;
+use crate::cut_lines::BEES;
 use circ::Exit;
 use desk::Desk;
 use front::CopyEnd;
@@ -10,6 +9,8 @@ use sqlite::Alter;
 use std::alloc::Global;
 use std::process::Abort;
 use std::test::Fail;
+use test_bytes::Drip;
+use test_library::ground;
 
 /// A header and a good row.
 const BEGUN: &str = "copy,title,text,kind,home,price,end\n50,500,Maps,1,1,1500,end\n";
@@ -34,7 +35,7 @@ fn ended_lines(bytes: &[u8]) -> usize {
 fn breaks(rt: &impl Abort, alloc: Global, bytes: &[u8], lines: usize) {
     for size in 0..bytes.len() + 1 {
         let front = &bytes[..size];
-        let told = copies(alloc, Failing { bytes: front });
+        let told = copies(alloc, Drip::failing(front));
         let ended = ended_lines(front);
         let end = if ended < lines {
             CopyEnd::Read
@@ -107,7 +108,7 @@ fn tells_rows<S: Alter>(
     }
     wanted.push_str(format!(in alloc; "fault reading\naccepted {rows} refused 0\n")?.as_str())?;
     let mut told: Vec<u8> = Vec::new(alloc);
-    let exit = import(desk, alloc, Failing { bytes: front }, &mut told)?;
+    let exit = import(desk, alloc, Drip::failing(front), &mut told)?;
     assert!(rt; exit == Exit::Faulted);
     assert!(rt; told.as_slice() == wanted.as_bytes(), "{wanted}");
     Ok(())

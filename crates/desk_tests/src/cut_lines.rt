@@ -1,49 +1,19 @@
 //! Writers that take some bytes and then fail, and a reader that fails.
 
-use crate::calls::{connection, import, one, report};
-use crate::ground::{check, ground, key, opened, words_of};
+use crate::calls::{import, one, report};
 use circ::{Exit, Report, WriteFault, out_of_memory, unreadable};
 use desk::Desk;
 use sqlite::{Alter, MemStore};
 use std::alloc::Global;
-use std::io::{self, Read};
 use std::process::Abort;
 use std::test::Fail;
 use terms::{BranchId, Day};
+use test_bytes::{Drip, Narrow};
+use test_library::{check, connection, ground, key, opened, rows, words_of};
 
 /// A header and three rows of copies, of two titles.
 pub const BEES: &str =
     "copy,title,text,kind,home,price,end\n50,500,\"Maps, Old and New\",1,1,1500,end\n51,500,\"Maps, Old and New\",1,2,1500,end\n52,501,Winter Bees,2,1,700,end\n";
-
-/// A writer that takes so many bytes, and then fails.
-#[derive(Drop)]
-pub struct Narrow {
-    pub taken: Vec<u8>,
-    room: usize,
-}
-
-impl io::Write for Narrow {
-    fn write(&mut self, buf: &[u8]) -> io::Result<usize> {
-        let count = buf.len().min(self.room);
-        if count == 0 {
-            return Err(io::Error::from(io::ErrorKind::Other));
-        }
-        self.taken.extend_from_slice(&buf[..count])?;
-        self.room -= count;
-        Ok(count)
-    }
-
-    fn flush(&mut self) -> io::Result<()> {
-        Ok(())
-    }
-}
-
-pub fn room_for(alloc: Global, room: usize) -> Narrow {
-    Narrow {
-        taken: Vec::new(alloc),
-        room,
-    }
-}
 
 /// The write failed, and what was taken is the beginning of the text.
 fn was_cut(
@@ -54,8 +24,8 @@ fn was_cut(
     room: usize,
 ) {
     assert!(rt; told == Err(WriteFault), "at {text}");
-    let is_beginning = text.as_bytes().starts_with(writer.taken.as_slice());
-    assert!(rt; is_beginning && writer.taken.len() == room, "at {text}");
+    let is_beginning = text.as_bytes().starts_with(writer.taken());
+    assert!(rt; is_beginning && writer.taken().len() == room, "at {text}");
 }
 
 /// The line that answers the words is cut after so many bytes.
@@ -67,7 +37,7 @@ fn cut<S: Alter>(
     room: usize,
 ) -> Result<(), Fail> {
     let words = words_of(alloc, text)?;
-    let mut writer = room_for(alloc, room);
+    let mut writer = Narrow::new(alloc, room);
     let told = one(desk, alloc, key(alloc, "k1")?, &words, &mut writer);
     was_cut(rt, told, &writer, line, room);
     Ok(())
@@ -145,7 +115,7 @@ fn cuts_report<S: Alter>(
     text: &str,
 ) {
     for room in 0..text.len() {
-        let mut writer = room_for(alloc, room);
+        let mut writer = Narrow::new(alloc, room);
         let told = report(desk, alloc, wanted, &mut writer);
         was_cut(rt, told, &writer, text, room);
     }
@@ -168,11 +138,59 @@ fn cuts_reports(rt: HostRuntime) -> Result<(), Fail> {
     Ok(())
 }
 
+/// A report after some requests is cut at each of its bytes, and the tables stay as they are.
+fn cuts_report_after(
+    rt: &impl Abort,
+    alloc: Global,
+    lines: &str,
+    wanted: &Report,
+    text: &str,
+) -> Result<(), Fail> {
+    let mut desk = ground(rt, alloc)?;
+    check(rt, alloc, &mut desk, lines)?;
+    let mut conn = connection(desk);
+    let before = rows(alloc, &mut conn)?;
+    let mut desk = opened(conn)?;
+    cuts_report(rt, alloc, &mut desk, wanted, text);
+    let mut writer = Narrow::new(alloc, text.len());
+    assert!(rt; report(&mut desk, alloc, wanted, &mut writer)? == Exit::Done);
+    assert!(rt; writer.taken() == text.as_bytes());
+    assert!(rt; rows(alloc, &mut connection(desk))? == before);
+    Ok(())
+}
+
+/// Of a branch and a day: an overdue loan, a fine, and a ready hold.
+#[test]
+fn cuts_reports_of_rows(rt: HostRuntime) -> Result<(), Fail> {
+    let (main, day) = (BranchId::new(1), Day::read("2026-03-17").ok_or("a day")?);
+    cuts_report_after(
+        &rt,
+        rt.alloc(),
+        "desk k1 check-out 1 10 1 -> loan 1 due 2026-03-09\ndesk k2 begin-day 2026-03-17 -> ok",
+        &Report::Overdue(main),
+        "      loan  patron    copy due         late title\n         1       1      10 2026-03-09     7 Rivers of the North\noverdue 1\n",
+    )?;
+    cuts_report_after(
+        &rt,
+        rt.alloc(),
+        "desk k1 close-day 1 2026-03-09 -> ok\ndesk k2 check-out 1 10 1 -> loan 1 due 2026-03-10\ndesk k3 begin-day 2026-03-17 -> ok\ndesk k4 check-in 10 1 -> fine 100 shelf 1",
+        &Report::Till(day),
+        "till 2026-03-17\nfines                100\nprices                 0\npayments               0\nwaivers                0\n",
+    )?;
+    cuts_report_after(
+        &rt,
+        rt.alloc(),
+        "desk k1 place-hold 2 100 1 -> hold 1\ndesk k2 place-hold 3 100 1 -> hold 2\ndesk k3 check-in 10 1 -> fine 0 ready 1 at 1 until 2026-03-07",
+        &Report::Shelf(main),
+        "      hold    copy  patron until      title\n         1      10       2 2026-03-07 Rivers of the North\nready 1\n",
+    )
+}
+
 /// The lines of a copies file are cut after so many bytes; so many copies are there then.
 fn cuts_rows(rt: &impl Abort, alloc: Global, room: usize, copies: u32) -> Result<(), Fail> {
     let lines = "row 1 ok\nrow 2 ok\nrow 3 ok\naccepted 3 refused 0\n";
     let mut desk = ground(rt, alloc)?;
-    let mut writer = room_for(alloc, room);
+    let mut writer = Narrow::new(alloc, room);
     let told = import(&mut desk, alloc, BEES.as_bytes(), &mut writer);
     was_cut(rt, told, &writer, lines, room);
     let (_, found) = counted(desk, "SELECT COUNT(*) FROM copies WHERE copy >= 50")?;
@@ -188,27 +206,9 @@ fn cuts_the_lines_of_rows(rt: HostRuntime) -> Result<(), Fail> {
     Ok(())
 }
 
-/// A reader of some bytes that fails after them.
-#[derive(Drop)]
-pub struct Failing<'a> {
-    pub bytes: &'a [u8],
-}
-
-impl Read for Failing<'_> {
-    fn read(&mut self, buf: &mut [u8]) -> io::Result<usize> {
-        if self.bytes.is_empty() {
-            return Err(io::ErrorKind::Other.into());
-        }
-        let taken = self.bytes.read(buf)?;
-        Ok(taken)
-    }
-}
-
 /// What is told of a reader that fails, of a file that can't be opened, and where there is no memory.
 fn tells<S: Alter>(desk: &mut Desk<S>, alloc: Global, bytes: &mut Vec<u8>) -> Result<bool, Fail> {
-    let reader = Failing {
-        bytes: BEES.as_bytes(),
-    };
+    let reader = Drip::failing(BEES.as_bytes());
     let ends = (import(desk, alloc, reader, bytes)?, unreadable(bytes)?);
     let status = out_of_memory(bytes)?.status();
     Ok(ends == (Exit::Faulted, Exit::Faulted) && status == 3)

@@ -3,13 +3,13 @@
 #![tactic(auto)]
 
 #[cfg(test)]
+mod audits;
+#[cfg(test)]
 mod calls;
 #[cfg(test)]
 mod copies;
 #[cfg(test)]
 mod cut_lines;
-#[cfg(test)]
-mod ground;
 #[cfg(test)]
 mod limits;
 #[cfg(test)]

@@ -1,13 +1,14 @@
 //! Limits on the steps of the database, over memory.
 
-use crate::calls::{connection, handle, import};
-use crate::ground::{check, ground, opened, request, rows};
-use circ::Exit;
+use crate::calls::{import, report};
+use circ::{Exit, Report};
 use desk::Desk;
 use sqlite::MemStore;
 use std::alloc::Global;
+use std::process::Abort;
 use std::test::Fail;
-use terms::Fault;
+use terms::{BranchId, Fault};
+use test_library::{SCRIPTS, check, connection, ground, handle, opened, request, rows};
 
 /// Loans and holds that a check-out has to count: patron 1 is the first in line for title 100.
 const BUSY: &str = "desk b1 check-out 1 30 1 -> loan 1 due 2026-03-14
@@ -63,6 +64,88 @@ fn a_limit_on_steps_refuses_and_changes_nothing(rt: HostRuntime) -> Result<(), F
     Ok(())
 }
 
+/// One request under a limit: where it meets a fault, that is the database's, and no row is changed. The desk with no limit, and whether there was one.
+fn is_stopped(
+    rt: &impl Abort,
+    alloc: Global,
+    desk: Desk<MemStore>,
+    line: &str,
+    limit: u64,
+) -> Result<(Desk<MemStore>, bool), Fail> {
+    let (said, _) = line.split_once(" -> ").ok_or("an arrow")?;
+    let asked = request(alloc, said)?;
+    let (mut desk, before) = shown(alloc, desk)?;
+    desk.limit_steps(Some(limit));
+    let fault = handle(&mut desk, alloc, &asked).err();
+    let (desk, after) = shown(alloc, desk)?;
+    if fault.is_none() {
+        return Ok((desk, false));
+    }
+    assert!(rt; fault == Some(Fault::Database), "{line} at {limit}");
+    assert!(rt; before.as_str() == after.as_str(), "{line} at {limit}");
+    Ok((desk, true))
+}
+
+/// A script on a new library, of which one request is asked under a limit first: every answer and all rows are those without it. Whether that
+/// request met a fault.
+fn is_stopped_once(
+    rt: &impl Abort,
+    alloc: Global,
+    script: &str,
+    (at, limit): (usize, u64),
+    wanted: &str,
+) -> Result<bool, Fail> {
+    let mut desk = ground(rt, alloc)?;
+    let mut stopped = false;
+    for (number, line) in script.split('\n').enumerate() {
+        if number == at {
+            (desk, stopped) = is_stopped(rt, alloc, desk, line, limit)?;
+        }
+        check(rt, alloc, &mut desk, line)?;
+    }
+    let (_, rows) = shown(alloc, desk)?;
+    assert!(rt; rows.as_str() == wanted, "line {at} at {limit}");
+    Ok(stopped)
+}
+
+/// One request of a script under each limit, from 1 up to the first under which it meets no fault: how many there were.
+fn stops(
+    rt: &impl Abort,
+    alloc: Global,
+    script: &str,
+    at: usize,
+    wanted: &str,
+) -> Result<u64, Fail> {
+    for limit in 1..1_000u64 {
+        if !is_stopped_once(rt, alloc, script, (at, limit), wanted)? {
+            return Ok(limit - 1);
+        }
+    }
+    Err("a limit under which the request is answered".into())
+}
+
+/// Each request of a script: none is answered in one step of the database.
+fn withstands_limits(rt: &impl Abort, alloc: Global, script: &str) -> Result<(), Fail> {
+    let mut desk = ground(rt, alloc)?;
+    check(rt, alloc, &mut desk, script)?;
+    let (_, wanted) = shown(alloc, desk)?;
+    for at in 0..script.split('\n').count() {
+        let stopped = stops(rt, alloc, script, at, wanted.as_str())?;
+        assert!(rt; stopped > 0, "line {at}");
+    }
+    Ok(())
+}
+
+#[test]
+fn each_request_is_refused_under_each_limit_and_answered_after_it(
+    rt: HostRuntime,
+) -> Result<(), Fail> {
+    for script in &SCRIPTS {
+        withstands_limits(&rt, rt.alloc(), script)?;
+    }
+    Ok(())
+}
+
 #[test]
 fn a_fault_ends_a_copies_file(rt: HostRuntime) -> Result<(), Fail> {
     let alloc = rt.alloc();
@@ -73,5 +156,52 @@ fn a_fault_ends_a_copies_file(rt: HostRuntime) -> Result<(), Fail> {
     let ended = import(&mut desk, alloc, file.as_bytes(), &mut bytes)?;
     assert!(rt; ended == Exit::Faulted);
     assert!(rt; bytes.as_slice() == "fault 91\naccepted 0 refused 0\n".as_bytes());
+    Ok(())
+}
+
+/// The report under a limit on the steps: how it ended, and its bytes.
+fn limited_report(
+    alloc: Global,
+    desk: &mut Desk<MemStore>,
+    limit: u64,
+) -> Result<(Exit, Vec<u8>), Fail> {
+    desk.limit_steps(Some(limit));
+    let mut bytes: Vec<u8> = Vec::new(alloc);
+    let ended = report(desk, alloc, &Report::Overdue(BranchId::new(1)), &mut bytes)?;
+    Ok((ended, bytes))
+}
+
+/// The bytes are a beginning of the report and then the line of the fault. How long the beginning is.
+fn is_cut(rt: &impl Abort, bytes: &[u8], limit: u64) -> usize {
+    let front = bytes.strip_suffix(b"fault 91\n").unwrap_or(b"?");
+    assert!(rt; LATE.as_bytes().starts_with(front), "at {limit}");
+    front.len()
+}
+
+/// Two loans that are overdue, and the report of them.
+const LATE: &str = "      loan  patron    copy due         late title
+         1       1      10 2026-03-09     7 Rivers of the North
+         2       2      11 2026-03-09     7 Rivers of the North
+overdue 2
+";
+
+#[test]
+fn a_fault_follows_a_beginning_of_a_report(rt: HostRuntime) -> Result<(), Fail> {
+    let alloc = rt.alloc();
+    let mut desk = ground(&rt, alloc)?;
+    let lines =
+        "desk b1 check-out 1 10 1 -> loan 1 due 2026-03-09\ndesk b2 check-out 2 11 1 -> loan 2 due 2026-03-09\ndesk b3 begin-day 2026-03-17 -> ok";
+    check(&rt, alloc, &mut desk, lines)?;
+    let mut longest = 0;
+    for limit in 1..200u64 {
+        let (ended, bytes) = limited_report(alloc, &mut desk, limit)?;
+        if ended == Exit::Done {
+            assert!(rt; bytes.as_slice() == LATE.as_bytes(), "at {limit}");
+            break;
+        }
+        assert!(rt; ended == Exit::Faulted && limit < 199, "at {limit}");
+        longest = is_cut(&rt, &bytes, limit);
+    }
+    assert!(rt; longest > 0);
     Ok(())
 }

@@ -1,14 +1,14 @@
 //! Lists of requests, by the desk and by patrons; a patron's own page; all rows; and what is opened or made.
 
-use crate::calls::{connection, counts, create, import, open, page, store};
+use crate::calls::{counts, create, import, page, store};
 use crate::cut_lines::BEES;
-use crate::ground::{check, ground, opened, runs};
 use desk::Desk;
 use sqlite::{Alter, Connection, MemStore};
 use std::alloc::Global;
 use std::process::Abort;
 use std::test::Fail;
 use terms::{CardKey, Fault, PatronId};
+use test_library::{check, connection, ground, open, opened, runs};
 
 /// What patrons ask for once copy 10 is lent to patron 1, and copies 20 and 30 are on the shelf.
 const ASKED: &str = "desk a1 check-out 1 10 1 -> loan 1 due 2026-03-09

@@ -1,9 +1,6 @@
 //! Stops: a fuse in one of the two files of a library blows in the midst of a check-out.
 
-use crate::calls::{
-    close, connection_of, create_files, desk_over, handle, into_files, open_files, restart, store,
-};
-use crate::ground::{check, fill, opened, request, rows};
+use crate::calls::{close, connection_of, create_files, into_files, open_files, restart, store};
 use sqlite::{Alter, Connection, FileStore, Files, Options};
 use sqlite_disk::{Crash, Disk, Fuse, Memory};
 use std::alloc::Global;
@@ -11,6 +8,7 @@ use std::io;
 use std::process::Abort;
 use std::test::Fail;
 use store::Store;
+use test_library::{check, desk_over, fill, handle, opened, request, rows};
 
 /// Little is kept in memory, so that a check-out reads and writes the files early and copies the log at its end.
 fn options() -> Options {

@@ -1,50 +1,12 @@
-//! Requests and answers as bytes, a writer that takes some bytes and then fails, and a reader that fails.
+//! Requests and answers as bytes.
 
 use crate::calls::serve;
 use hall::{Opening, Worker};
 use std::alloc::Global;
-use std::io::{self, Read, Write};
+use std::io::Read;
 use std::sync::Wait;
 use terms::CardKey;
-
-/// A writer that takes so many bytes, and then fails.
-#[derive(Drop)]
-pub struct Narrow {
-    pub taken: Vec<u8>,
-    room: usize,
-}
-
-impl Write for Narrow {
-    fn write(&mut self, buf: &[u8]) -> io::Result<usize> {
-        let count = buf.len().min(self.room);
-        if count == 0 {
-            return Err(io::Error::from(io::ErrorKind::Other));
-        }
-        self.taken.extend_from_slice(&buf[..count])?;
-        self.room -= count;
-        Ok(count)
-    }
-
-    fn flush(&mut self) -> io::Result<()> {
-        Ok(())
-    }
-}
-
-/// A reader of some bytes that fails after them.
-#[derive(Drop)]
-pub struct Failing<'a> {
-    pub bytes: &'a [u8],
-}
-
-impl Read for Failing<'_> {
-    fn read(&mut self, buf: &mut [u8]) -> io::Result<usize> {
-        if self.bytes.is_empty() {
-            return Err(io::ErrorKind::Other.into());
-        }
-        let taken = self.bytes.read(buf)?;
-        Ok(taken)
-    }
-}
+use test_bytes::Narrow;
 
 /// The bytes of an answer, by its status and its body. None where no memory is left.
 pub fn answer(alloc: Global, text: &str) -> Option<String> {
@@ -66,12 +28,9 @@ pub fn served<J: Opening, R: Wait, I: Read + Drop>(
     room: usize,
 ) -> Option<(Vec<u8>, bool)> {
     let desk_key = CardKey::new(alloc, "deskkey00001").ok()??;
-    let mut writer = Narrow {
-        taken: Vec::new(alloc),
-        room,
-    };
+    let mut writer = Narrow::new(alloc, room);
     let is_whole = serve(rt, alloc, worker, &desk_key, &mut reader, &mut writer);
-    Some((writer.taken, is_whole))
+    Some((writer.into_taken(), is_whole))
 }
 
 /// Whether a request gets its answer, whole.

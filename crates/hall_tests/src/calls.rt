@@ -10,7 +10,7 @@ use sqlite::{Connection, MemStore};
 use std::alloc::Global;
 use std::io::{Read, Write};
 use std::sync::Wait;
-use terms::{CardKey, Fault, Memory, PatronId, Reply, Request};
+use terms::{CardKey, Fault, Memory, PatronId, Request};
 
 /// What a hall is opened with or given back as.
 pub type Side<J> = (DeskSide<J, MemStore>, Vec<Worker<J>>);
@@ -114,23 +114,6 @@ pub fn close<J: Opening, R: Wait>(rt: &R, ended: Ended<J>) -> u64 {
     let handled = ended.handled();
     ended.close(rt);
     handled
-}
-
-/// The desk of a new library in memory.
-pub fn in_memory(alloc: Global) -> Result<Desk<MemStore>, Fault> {
-    Desk::in_memory(alloc)
-}
-
-/// Has a list of requests handled: the replies that came, and the fault that ended it.
-pub fn run(
-    desk: &mut Desk<MemStore>,
-    alloc: Global,
-    requests: &[Request],
-) -> (Vec<Reply>, Option<Fault>) {
-    match desk.run(alloc, requests) {
-        Ok(replies) => (replies, None),
-        Err((replies, fault)) => (replies, Some(fault)),
-    }
 }
 
 /// Has a request handled, and then looks up the page of a patron, each under a limit of steps for each call of the database:

@@ -2,10 +2,10 @@
 
 ghost use Rattle.std.specs.Prelude.{◌≡◌, false};
 
-use crate::bytes::{Failing, answer, gets, served};
+use crate::bytes::{answer, gets, served};
 use crate::calls::{close, connection, handle_all, leave, open_hall, open_queue, take_in};
 use crate::hostile::{HOSTILE, withstands_all};
-use crate::library::{library, rows};
+use crate::library::library;
 use hall::{Left, Opened, Opening, Worker};
 use std::alloc::Global;
 use std::marker::Brand;
@@ -14,6 +14,8 @@ use std::sync::Wait;
 use std::test::Fail;
 use std::thread;
 use std::thread::Threads;
+use test_bytes::Drip;
+use test_library::rows;
 
 const HOLD: &str =
     "POST /patrons/2/holds HTTP/1.1\r\nCard-Key: cardkey00002\r\nRequest-Key: h1\r\nContent-Length: 24\r\n\r\n{\"branch\":1,\"title\":100}";
@@ -112,9 +114,7 @@ fn breaks<J: Opening, R: Wait>(rt: &R, alloc: Global, worker: &mut Worker<J>) ->
     let bytes = HOLD.as_bytes();
     let mut count = 0usize;
     for size in 0..bytes.len() {
-        let reader = Failing {
-            bytes: &bytes[..size],
-        };
+        let reader = Drip::failing(&bytes[..size]);
         let (taken, is_whole) = served(rt, alloc, worker, reader, 100_000)?;
         if !is_whole && taken.is_empty() {
             count = count.wrapping_add(1);
@@ -124,7 +124,7 @@ fn breaks<J: Opening, R: Wait>(rt: &R, alloc: Global, worker: &mut Worker<J>) ->
     if gets(rt, alloc, worker, other.as_str(), HELD)? {
         count = count.wrapping_add(1);
     }
-    let (_, is_whole) = served(rt, alloc, worker, Failing { bytes }, 100_000)?;
+    let (_, is_whole) = served(rt, alloc, worker, Drip::failing(bytes), 100_000)?;
     if is_whole {
         count = count.wrapping_add(1);
     }

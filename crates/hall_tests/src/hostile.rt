@@ -1,10 +1,11 @@
 //! What hostile clients send, over readers and writers that fail at each byte.
 
-use crate::bytes::{Failing, answer, gets, served};
+use crate::bytes::{answer, gets, served};
 use crate::connections::ANNS_PAGE;
 use hall::{Opening, Worker};
 use std::alloc::Global;
 use std::sync::Wait;
+use test_bytes::Drip;
 
 const FAILED: &str = "400 Bad Request {\"status\":400}";
 
@@ -39,9 +40,7 @@ fn is_broken_anywhere<J: Opening, R: Wait>(
     text: &str,
 ) -> Option<bool> {
     for size in 0..bytes.len() {
-        let reader = Failing {
-            bytes: &bytes[..size],
-        };
+        let reader = Drip::failing(&bytes[..size]);
         let (taken, is_whole) = served(rt, alloc, worker, reader, 100_000)?;
         let is_answer = is_whole && taken.as_slice() == text.as_bytes();
         let is_none = !is_whole && taken.is_empty();

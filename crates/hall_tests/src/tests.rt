@@ -4,12 +4,10 @@ ghost use Rattle.std.specs.Prelude.{◌≡◌, false};
 
 use crate::bytes::{answer, gets, told};
 use crate::calls::{
-    close, connection, handle_all, handle_and_look, leave, limit_side, open_hall, open_queue, run,
+    close, connection, handle_all, handle_and_look, leave, limit_side, open_hall, open_queue,
     take_in,
 };
-use crate::library::{
-    HOLDS, hold, hold_bytes, holds, library, library_of, order, page_bytes, rows,
-};
+use crate::library::{HOLDS, hold, hold_bytes, holds, library, library_of, order, page_bytes};
 use desk::Desk;
 use hall::{DeskSide, Ended, Left, Opened, Opening, Worker};
 use sqlite::MemStore;
@@ -21,6 +19,7 @@ use std::test::Fail;
 use std::thread;
 use std::thread::{JoinHandle, Threads};
 use terms::{Fault, PatronId};
+use test_library::{rows, run};
 
 /// How many holds a page shows.
 fn held(page: &str) -> usize {

@@ -20,7 +20,6 @@ pub record Line : Type 0 where
   pub loan : Option ℕ
 
 -- The fine of a loan that ends now: for the open days of the lending branch after the due day, by the loan's own terms.
--- Their grace would stand here.
 abbrev pub fine_now : History → ℕ → ℕ
 fine_now H l = unwrap_or (option_map (λ r. fine_for (late (is_open H r.branch) (due H l) (today H)) r.terms.rate r.terms.cap) (loan_of H l)) 0
 

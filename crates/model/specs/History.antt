@@ -73,7 +73,6 @@ pub record KindFacts : Type 0 where
   pub debt : ℕ
 
 -- A rule's terms: the loan period in days, the renewals, and the cents for each day late, up to a cap.
--- A rule's grace would stand here.
 pub record Terms : Type 0 where
   pub period : ℕ
   pub renewals : ℕ
@@ -197,7 +196,6 @@ abbrev pub next_hold : History → ℕ
 next_hold H = holds H + 1
 
 -- A hold: who placed it, on which title, and where it is to be picked up.
--- A hold's first day would stand here.
 pub record HoldFacts : Type 0 where
   pub patron : ℕ
   pub title : ℕ

@@ -76,7 +76,7 @@ module _ (H : History) where
   abbrev pub kind_row : ℕ → Option KindRow
   kind_row k = option_map (kind_columns k) (kind_of H k)
 
-  -- The columns of a rule. Its grace would stand here.
+  -- The columns of a rule.
   abbrev pub rule_columns : ℕ → ℕ → Terms → RuleRow
   rule_columns k c r = record { kind = k; copy_kind = c; period = r.period; renewals = r.renewals; rate = r.rate; cap = r.cap }
 
@@ -104,7 +104,7 @@ module _ (H : History) where
   abbrev pub copy_row : ℕ → Option CopyRow
   copy_row c = option_map (copy_columns c) (copy_of H c)
 
-  -- The columns of a loan. The grace of its terms would stand here.
+  -- The columns of a loan.
   abbrev pub loan_columns : ℕ → LoanFacts → LoanRow
   loan_columns l r =
       record {
@@ -125,7 +125,7 @@ module _ (H : History) where
   abbrev pub loan_row : ℕ → Option LoanRow
   loan_row l = option_map (loan_columns l) (loan_of H l)
 
-  -- The columns of a hold. Its first day would stand here.
+  -- The columns of a hold.
   abbrev pub hold_columns : ℕ → HoldState → HoldFacts → HoldRow
   hold_columns h s r =
       record {

@@ -71,7 +71,6 @@ module _ (H : History) (places : ℕ → Place) (states : ℕ → Option HoldSta
   is_coming_by h = list_any (λ c. is_bound_for (places c) h) (copies H)
 
   -- The waiting holds of the title that aren't coming, least number first.
-  -- A test that the hold's first day has come would stand here.
   abbrev pub line_by : ℕ → List ℕ
   line_by t = filter (λ h. elim (title_of_hold H h == t) [ true ↦ is_waiting (states h) && not (is_coming_by h) | false ↦ false ]) (numbers_to (holds H))
 

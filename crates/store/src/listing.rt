@@ -3,19 +3,23 @@
 ghost use Rattle.terms.specs.Limits.{InLimits};
 ghost use Rattle.store.specs.Lists.{AreRows, AllPass, AreRuleRows, AreClosedDayRows, AreKeptRows};
 ghost use Rattle.store.specs.Lists.{AreRegisters, AreHoldings, AreDealings, AreTables};
+ghost use Rattle.store.specs.Pages.{AreRowsAfter};
 ghost use Rattle.store.specs.Reads.{Looked, IsSound};
 ghost use Rattle.circ_tables.specs.Reading.{Views};
 
 use crate::store::Store;
 use circ_tables::{
-    all_branches, all_closed_days, all_copies, all_holds, all_kept, all_kinds, all_lines,
-    all_loans, all_patrons, all_rules, all_titles, all_transits, get_meta,
+    all_branches, all_closed_days, all_copies, all_copies_after, all_holds, all_holds_after,
+    all_kept, all_kinds, all_lines, all_lines_after, all_loans, all_loans_after, all_patrons,
+    all_patrons_after, all_rules, all_titles, all_titles_after, all_transits, all_transits_after,
+    get_meta,
 };
 use sqlite::{Alter, Connection};
 use std::alloc::Global;
 use terms::{
-    BranchRow, ClosedDayRow, CopyRow, Fault, HoldRow, KeptRow, KindRow, LineRow, LoanRow, MetaRow,
-    PatronRow, Rows, RuleRow, Tables, TitleRow, TransitRow,
+    BranchRow, ClosedDayRow, CopyId, CopyRow, Fault, HoldId, HoldRow, KeptRow, KindRow, LineId,
+    LineRow, LoanId, LoanRow, MetaRow, PatronId, PatronRow, Rows, RuleRow, Tables, TitleId,
+    TitleRow, TransitRow,
 };
 
 /// The tables that the desk sets.
@@ -246,5 +250,82 @@ impl<S: Alter> Store<S> {
         let is_idle = self.conn.is_autocommit();
         prove!(is_idle);
         patrons(&mut self.conn, alloc)
+    }
+
+    /// A page of the rows of `patrons` whose numbers are above this one, the least number first.
+    /// 90, 91, 93.
+    pub fn patrons_after(&mut self, alloc: Global, after: PatronId) -> Result<Vec<PatronRow>, Fault>
+        ensures { Looked InLimits (λ P rows. AreRowsAfter P.patrons (λ r. r.patron) after rows.items)
+            InLimits S.Store self.old self.new result }
+    {
+        let is_idle = self.conn.is_autocommit();
+        prove!(is_idle);
+        all_patrons_after(&mut self.conn, alloc, after)
+    }
+
+    /// A page of the rows of `titles` whose numbers are above this one, the least number first.
+    /// 90, 91, 93.
+    pub fn titles_after(&mut self, alloc: Global, after: TitleId) -> Result<Vec<TitleRow>, Fault>
+        ensures { Looked InLimits (λ P rows. AreRowsAfter P.titles (λ r. r.title) after rows.items)
+            InLimits S.Store self.old self.new result }
+    {
+        let is_idle = self.conn.is_autocommit();
+        prove!(is_idle);
+        all_titles_after(&mut self.conn, alloc, after)
+    }
+
+    /// A page of the rows of `copies` whose numbers are above this one, the least number first.
+    /// 90, 91, 93.
+    pub fn copies_after(&mut self, alloc: Global, after: CopyId) -> Result<Vec<CopyRow>, Fault>
+        ensures { Looked InLimits (λ P rows. AreRowsAfter P.copies (λ r. r.copy) after rows.items)
+            InLimits S.Store self.old self.new result }
+    {
+        let is_idle = self.conn.is_autocommit();
+        prove!(is_idle);
+        all_copies_after(&mut self.conn, alloc, after)
+    }
+
+    /// A page of the rows of `loans` whose numbers are above this one, the least number first.
+    /// 90, 91, 93.
+    pub fn loans_after(&mut self, alloc: Global, after: LoanId) -> Result<Vec<LoanRow>, Fault>
+        ensures { Looked InLimits (λ P rows. AreRowsAfter P.loans (λ r. r.loan) after rows.items)
+            InLimits S.Store self.old self.new result }
+    {
+        let is_idle = self.conn.is_autocommit();
+        prove!(is_idle);
+        all_loans_after(&mut self.conn, alloc, after)
+    }
+
+    /// A page of the rows of `holds` whose numbers are above this one, the least number first.
+    /// 90, 91, 93.
+    pub fn holds_after(&mut self, alloc: Global, after: HoldId) -> Result<Vec<HoldRow>, Fault>
+        ensures { Looked InLimits (λ P rows. AreRowsAfter P.holds (λ r. r.hold) after rows.items)
+            InLimits S.Store self.old self.new result }
+    {
+        let is_idle = self.conn.is_autocommit();
+        prove!(is_idle);
+        all_holds_after(&mut self.conn, alloc, after)
+    }
+
+    /// A page of the rows of `transits` whose numbers are above this one, the least number first.
+    /// 90, 91, 93.
+    pub fn transits_after(&mut self, alloc: Global, after: CopyId) -> Result<Vec<TransitRow>, Fault>
+        ensures { Looked InLimits (λ P rows. AreRowsAfter P.transits (λ r. r.copy) after rows.items)
+            InLimits S.Store self.old self.new result }
+    {
+        let is_idle = self.conn.is_autocommit();
+        prove!(is_idle);
+        all_transits_after(&mut self.conn, alloc, after)
+    }
+
+    /// A page of the rows of `lines` whose numbers are above this one, the least number first.
+    /// 90, 91, 93.
+    pub fn lines_after(&mut self, alloc: Global, after: LineId) -> Result<Vec<LineRow>, Fault>
+        ensures { Looked InLimits (λ P rows. AreRowsAfter P.lines (λ r. r.line) after rows.items)
+            InLimits S.Store self.old self.new result }
+    {
+        let is_idle = self.conn.is_autocommit();
+        prove!(is_idle);
+        all_lines_after(&mut self.conn, alloc, after)
     }
 }

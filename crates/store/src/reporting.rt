@@ -3,21 +3,22 @@
 ghost use Rattle.std.specs.Prelude.{◌≡◌};
 ghost use Rattle.terms.specs.Limits.{InLimits};
 ghost use Rattle.circ_core.specs.Views.{IsCalendarOf};
-ghost use Rattle.store.specs.Lists.{AreLoansBy, AreHoldsBy, AreReadyAt, AreOverdueAt, AreLinesOf};
+ghost use Rattle.store.specs.Lists.{AreLoansBy, AreHoldsBy};
+ghost use Rattle.store.specs.Pages.{AreReadyAfter, AreOverdueAfter, AreLinesAfter};
 ghost use Rattle.store.specs.Reads.{Looked, IsSound};
 
 use crate::store::Store;
 use crate::viewing::calendar_of;
 use calendar::{Calendar, Day};
 use circ_tables::{
-    active_holds_by, get_branch, get_copy, get_meta, get_title, lines_of, open_loans_by,
-    overdue_loans_at, ready_holds_at,
+    active_holds_by, get_branch, get_copy, get_meta, get_title, lines_after, open_loans_by,
+    overdue_loans_after, ready_holds_after,
 };
 use sqlite::Alter;
 use std::alloc::Global;
 use terms::{
-    BranchId, BranchRow, CopyId, CopyRow, Fault, HoldRow, LineRow, LoanRow, MetaRow, PatronId,
-    TitleId, TitleRow,
+    BranchId, BranchRow, CopyId, CopyRow, Fault, HoldId, HoldRow, LineId, LineRow, LoanId, LoanRow,
+    MetaRow, PatronId, TitleId, TitleRow,
 };
 
 impl<S: Alter> Store<S> {
@@ -41,40 +42,48 @@ impl<S: Alter> Store<S> {
         active_holds_by(&mut self.conn, alloc, patron)
     }
 
-    /// The ready holds with this pick-up branch, the least number first. 90, 91, 93.
-    pub fn ready_holds(&mut self, alloc: Global, branch: BranchId) -> Result<Vec<HoldRow>, Fault>
-        ensures { Looked InLimits (λ P rows. AreReadyAt P branch rows.items) InLimits
+    /// A page of the ready holds with this pick-up branch whose numbers are above this one, the
+    /// least number first. Holds are numbered from 1. 90, 91, 93.
+    pub fn ready_holds(
+        &mut self,
+        alloc: Global,
+        branch: BranchId,
+        after: HoldId,
+    ) -> Result<Vec<HoldRow>, Fault>
+        ensures { Looked InLimits (λ P rows. AreReadyAfter P branch after rows.items) InLimits
             S.Store self.old self.new result }
     {
         let is_idle = self.conn.is_autocommit();
         prove!(is_idle);
-        ready_holds_at(&mut self.conn, alloc, branch)
+        ready_holds_after(&mut self.conn, alloc, branch, after)
     }
 
-    /// The open loans that the branch made and that were due before the day, the least number
-    /// first. 90, 91, 93.
+    /// A page of the open loans that the branch made, that were due before the day and whose
+    /// numbers are above this one, the least number first. Loans are numbered from 1. 90, 91, 93.
     pub fn overdue_loans(
         &mut self,
         alloc: Global,
         branch: BranchId,
         day: Day,
+        after: LoanId,
     ) -> Result<Vec<LoanRow>, Fault>
-        ensures { Looked InLimits (λ P rows. AreOverdueAt P branch day rows.items) InLimits
+        ensures { Looked InLimits (λ P rows. AreOverdueAfter P branch day after rows.items) InLimits
             S.Store self.old self.new result }
     {
         let is_idle = self.conn.is_autocommit();
         prove!(is_idle);
-        overdue_loans_at(&mut self.conn, alloc, branch, day)
+        overdue_loans_after(&mut self.conn, alloc, branch, day, after)
     }
 
-    /// The lines of a day, of all sorts, the least number first. 90, 91, 93.
-    pub fn lines(&mut self, alloc: Global, day: Day) -> Result<Vec<LineRow>, Fault>
-        ensures { Looked InLimits (λ P rows. AreLinesOf P day rows.items) InLimits
+    /// A page of the lines of a day, of all sorts, whose numbers are above this one, the least
+    /// number first. Lines are numbered from 1. 90, 91, 93.
+    pub fn lines(&mut self, alloc: Global, day: Day, after: LineId) -> Result<Vec<LineRow>, Fault>
+        ensures { Looked InLimits (λ P rows. AreLinesAfter P day after rows.items) InLimits
             S.Store self.old self.new result }
     {
         let is_idle = self.conn.is_autocommit();
         prove!(is_idle);
-        lines_of(&mut self.conn, alloc, day)
+        lines_after(&mut self.conn, alloc, day, after)
     }
 
     /// The one row of `meta`: today, and the next numbers. 91, 93.

@@ -5,7 +5,7 @@ use calendar::Day;
 use circ_tables as tables;
 use sqlite::{Alter, Connection, Transaction};
 use std::alloc::Global;
-use terms::{BranchId, CopyId, Fault, HoldId, LineId, PatronId, TitleId, TransitRow};
+use terms::{BranchId, CopyId, Fault, HoldId, LineId, LoanId, PatronId, TitleId, TransitRow};
 
 pub fn make_tables<S: Alter>(tx: &mut Transaction<'_, S>) -> Result<(), Fault> {
     tables::make_tables(tx)
@@ -121,38 +121,127 @@ pub fn active_holds_by<S: Alter>(
     Ok(numbers)
 }
 
-pub fn ready_holds_at<S: Alter>(
+pub fn ready_holds_after<S: Alter>(
     conn: &mut Connection<S>,
     alloc: Global,
     branch: u32,
+    after: u32,
 ) -> Result<Vec<u32>, Fault> {
     let mut numbers = Vec::new(alloc);
-    for row in &tables::ready_holds_at(conn, alloc, BranchId::new(branch))? {
+    let after = HoldId::new(after);
+    for row in &tables::ready_holds_after(conn, alloc, BranchId::new(branch), after)? {
         numbers.push(row.hold.number())?;
     }
     Ok(numbers)
 }
 
-pub fn overdue_loans_at<S: Alter>(
+pub fn overdue_loans_after<S: Alter>(
     conn: &mut Connection<S>,
     alloc: Global,
     branch: u32,
     day: Day,
+    after: u32,
 ) -> Result<Vec<u32>, Fault> {
     let mut numbers = Vec::new(alloc);
-    for row in &tables::overdue_loans_at(conn, alloc, BranchId::new(branch), day)? {
+    let after = LoanId::new(after);
+    for row in &tables::overdue_loans_after(conn, alloc, BranchId::new(branch), day, after)? {
         numbers.push(row.loan.number())?;
     }
     Ok(numbers)
 }
 
-pub fn lines_of<S: Alter>(
+pub fn lines_after<S: Alter>(
     conn: &mut Connection<S>,
     alloc: Global,
     day: Day,
+    after: u32,
 ) -> Result<Vec<u32>, Fault> {
     let mut numbers = Vec::new(alloc);
-    for row in &tables::lines_of(conn, alloc, day)? {
+    for row in &tables::lines_after(conn, alloc, day, LineId::new(after))? {
+        numbers.push(row.line.number())?;
+    }
+    Ok(numbers)
+}
+
+pub fn patrons_after<S: Alter>(
+    conn: &mut Connection<S>,
+    alloc: Global,
+    after: u32,
+) -> Result<Vec<u32>, Fault> {
+    let mut numbers = Vec::new(alloc);
+    for row in &tables::all_patrons_after(conn, alloc, PatronId::new(after))? {
+        numbers.push(row.patron.number())?;
+    }
+    Ok(numbers)
+}
+
+pub fn titles_after<S: Alter>(
+    conn: &mut Connection<S>,
+    alloc: Global,
+    after: u32,
+) -> Result<Vec<u32>, Fault> {
+    let mut numbers = Vec::new(alloc);
+    for row in &tables::all_titles_after(conn, alloc, TitleId::new(after))? {
+        numbers.push(row.title.number())?;
+    }
+    Ok(numbers)
+}
+
+pub fn copies_after<S: Alter>(
+    conn: &mut Connection<S>,
+    alloc: Global,
+    after: u32,
+) -> Result<Vec<u32>, Fault> {
+    let mut numbers = Vec::new(alloc);
+    for row in &tables::all_copies_after(conn, alloc, CopyId::new(after))? {
+        numbers.push(row.copy.number())?;
+    }
+    Ok(numbers)
+}
+
+pub fn loans_after<S: Alter>(
+    conn: &mut Connection<S>,
+    alloc: Global,
+    after: u32,
+) -> Result<Vec<u32>, Fault> {
+    let mut numbers = Vec::new(alloc);
+    for row in &tables::all_loans_after(conn, alloc, LoanId::new(after))? {
+        numbers.push(row.loan.number())?;
+    }
+    Ok(numbers)
+}
+
+pub fn holds_after<S: Alter>(
+    conn: &mut Connection<S>,
+    alloc: Global,
+    after: u32,
+) -> Result<Vec<u32>, Fault> {
+    let mut numbers = Vec::new(alloc);
+    for row in &tables::all_holds_after(conn, alloc, HoldId::new(after))? {
+        numbers.push(row.hold.number())?;
+    }
+    Ok(numbers)
+}
+
+pub fn transits_after<S: Alter>(
+    conn: &mut Connection<S>,
+    alloc: Global,
+    after: u32,
+) -> Result<Vec<u32>, Fault> {
+    let mut numbers = Vec::new(alloc);
+    for row in &tables::all_transits_after(conn, alloc, CopyId::new(after))? {
+        numbers.push(row.copy.number())?;
+    }
+    Ok(numbers)
+}
+
+pub fn all_lines_after<S: Alter>(
+    conn: &mut Connection<S>,
+    alloc: Global,
+    after: u32,
+) -> Result<Vec<u32>, Fault> {
+    let mut numbers = Vec::new(alloc);
+    for row in &tables::all_lines_after(conn, alloc, LineId::new(after))? {
         numbers.push(row.line.number())?;
     }
     Ok(numbers)

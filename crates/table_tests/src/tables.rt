@@ -18,6 +18,8 @@ INSERT INTO copies VALUES (15, 100, 4, 1, 2500, 0), (14, 101, 4, 1, 2500, 0), (1
 INSERT INTO loans VALUES (9, 11, 1, 1, 20700, 20708, 21, 3, 20, 1000, NULL), (8, 13, 2, 1, 20700, 20709, 21, 3, 20, 1000, 20704), (7, 13, 2, 2, 20700, 20712, 21, 3, 20, 1000, NULL), (6, 12, 1, 1, 20700, 20711, 21, 3, 20, 1000, NULL), (5, 12, 2, 2, 20700, 20711, 21, 3, 20, 1000, 20711), (4, 11, 1, 1, 20700, 20710, 21, 3, 20, 1000, NULL), (3, 10, 1, 2, 20700, 20706, 21, 3, 20, 1000, NULL), (2, 10, 2, 1, 20700, 20705, 21, 3, 20, 1000, NULL), (1, 10, 1, 1, 20700, 20705, 21, 3, 20, 1000, 20706);\
 INSERT INTO holds VALUES (11, 3, 102, 2, 1, 13, 20760), (10, 2, 100, 2, 0, NULL, NULL), (9, 1, 102, 2, 0, NULL, NULL), (8, 1, 102, 1, 2, NULL, NULL), (7, 2, 101, 1, 0, NULL, NULL), (6, 2, 101, 1, 3, NULL, NULL), (5, 1, 101, 2, 1, 14, 20760), (4, 1, 100, 2, 0, NULL, NULL), (3, 2, 100, 2, 0, NULL, NULL), (2, 2, 100, 1, 1, 15, 20760), (1, 1, 100, 1, 4, NULL, NULL);\
 INSERT INTO transits VALUES (19, 1, NULL), (18, 2, 9), (17, 1, NULL), (16, 2, 3);\
+INSERT INTO patrons VALUES (3, 1, 'cardkey00003', 'Cy Dunn', 0), (2, 1, 'cardkey00002', 'Bo Carr', 0), (1, 1, 'cardkey00001', 'Ann Bell', 0);\
+INSERT INTO titles VALUES (102, 'Night Ferries'), (101, 'Salt Roads'), (100, 'Rivers of the North');\
 INSERT INTO lines VALUES (6, 1, 20704, 2, 150, NULL), (5, 1, 20706, 3, 150, NULL), (4, 1, 20705, 3, 150, NULL), (3, 1, 20706, 2, 150, NULL), (2, 1, 20704, 1, 150, 8), (1, 1, 20706, 0, 150, 1)";
 
 fn database(_error: Error) -> Fault {
@@ -74,11 +76,11 @@ fn finds_loans<S: Alter>(
     assert!(rt; open_loan_of_title(conn, 2, 101)? == None);
     assert!(rt; count_open_loans(conn, 1)? == 4);
     lists(rt, open_loans_by(conn, alloc, 1)?, &[3, 4, 6, 9]);
-    lists(
-        rt,
-        overdue_loans_at(conn, alloc, 1, day(20_711)?)?,
-        &[2, 4, 9],
-    );
+    let today = day(20_711)?;
+    let first = overdue_loans_after(conn, alloc, 1, today, 0)?;
+    lists(rt, first, &[2, 4, 9]);
+    let later = overdue_loans_after(conn, alloc, 1, today, 2)?;
+    lists(rt, later, &[4, 9]);
     Ok(())
 }
 
@@ -96,7 +98,24 @@ fn finds_holds<S: Alter>(
     assert!(rt; count_active_holds(conn, 1)? == 3);
     assert!(rt; count_active_holds_on(conn, 2, 100)? == 3);
     lists(rt, active_holds_by(conn, alloc, 1)?, &[4, 5, 9]);
-    lists(rt, ready_holds_at(conn, alloc, 2)?, &[5, 11]);
+    lists(rt, ready_holds_after(conn, alloc, 2, 0)?, &[5, 11]);
+    lists(rt, ready_holds_after(conn, alloc, 2, 5)?, &[11]);
+    Ok(())
+}
+
+fn finds_pages<S: Alter>(
+    rt: &impl Abort,
+    conn: &mut Connection<S>,
+    alloc: Global,
+) -> Result<(), Fail> {
+    lists(rt, patrons_after(conn, alloc, 1)?, &[2, 3]);
+    lists(rt, titles_after(conn, alloc, 100)?, &[101, 102]);
+    lists(rt, copies_after(conn, alloc, 13)?, &[14, 15]);
+    lists(rt, loans_after(conn, alloc, 7)?, &[8, 9]);
+    lists(rt, holds_after(conn, alloc, 9)?, &[10, 11]);
+    lists(rt, transits_after(conn, alloc, 17)?, &[18, 19]);
+    lists(rt, all_lines_after(conn, alloc, 4)?, &[5, 6]);
+    lists(rt, all_lines_after(conn, alloc, 6)?, &[]);
     Ok(())
 }
 
@@ -118,7 +137,8 @@ fn finds_days<S: Alter>(
     conn: &mut Connection<S>,
     alloc: Global,
 ) -> Result<(), Fail> {
-    lists(rt, lines_of(conn, alloc, day(20_706)?)?, &[1, 3, 5]);
+    lists(rt, lines_after(conn, alloc, day(20_706)?, 0)?, &[1, 3, 5]);
+    lists(rt, lines_after(conn, alloc, day(20_706)?, 3)?, &[5]);
     assert!(rt; get_line(conn, 4)? == Some(4));
     assert!(rt; get_line(conn, 7)? == None);
     lists(
@@ -154,6 +174,7 @@ fn looks<S: Alter>(rt: &impl Abort, conn: &mut Connection<S>, alloc: Global) -> 
     finds_loans(rt, conn, alloc)?;
     finds_holds(rt, conn, alloc)?;
     finds_days(rt, conn, alloc)?;
+    finds_pages(rt, conn, alloc)?;
     assert!(rt; refuses_a_second(conn)?);
     assert!(rt; transit_for(conn, 9)? == Some(18));
     tells_damage(rt, conn, alloc)

@@ -6,59 +6,13 @@ use crate::examples::{
 };
 use http::Method;
 use std::alloc::Global;
-use std::io;
-use std::io::{Read, Write};
 use std::test::Fail;
 use terms::{CardKey, Day, Fault, HoldId, Key, LoanId, Refusal, Reply, Text, request_text};
+use test_bytes::{Drip, Narrow};
 use web::{
     Answer, AnswerFault, WebFault, WebRequest, WebStatus, read_answer, read_request,
     requests_read_once, write_answer, write_send,
 };
-
-/// A reader that gives its bytes in pieces, the first and the others of these sizes. After the last
-/// byte it ends, or fails.
-#[derive(Drop)]
-struct Drip<'a> {
-    bytes: &'a [u8],
-    first: usize,
-    others: usize,
-    fails: bool,
-}
-
-impl Read for Drip<'_> {
-    fn read(&mut self, buf: &mut [u8]) -> io::Result<usize> {
-        if self.bytes.is_empty() && self.fails {
-            return Err(io::ErrorKind::Other.into());
-        }
-        let end = buf.len().min(self.first);
-        self.first = self.others;
-        let taken = self.bytes.read(&mut buf[..end])?;
-        Ok(taken)
-    }
-}
-
-/// A writer with room for so many bytes. It fails where there is none left.
-#[derive(Drop)]
-struct Narrow {
-    taken: Vec<u8>,
-    room: usize,
-}
-
-impl Write for Narrow {
-    fn write(&mut self, buf: &[u8]) -> io::Result<usize> {
-        let count = buf.len().min(self.room);
-        if count == 0 {
-            return Err(io::ErrorKind::Other.into());
-        }
-        self.taken.extend_from_slice(&buf[..count])?;
-        self.room -= count;
-        Ok(count)
-    }
-
-    fn flush(&mut self) -> io::Result<()> {
-        Ok(())
-    }
-}
 
 /// Which side of a connection reads.
 #[derive(Clone, Copy)]
@@ -343,11 +297,8 @@ fn answers(alloc: Global) -> Result<[(Answer, &'static str); 11], Fail> {
 fn is_cut(alloc: Global, answer: &Answer, want: &str) -> Result<bool, Fail> {
     let bytes = want.as_bytes();
     for room in 0..bytes.len() {
-        let mut writer = Narrow {
-            taken: Vec::new(alloc),
-            room,
-        };
-        if write_answer(&mut writer, answer).is_ok() || writer.taken[..] != bytes[..room] {
+        let mut writer = Narrow::new(alloc, room);
+        if write_answer(&mut writer, answer).is_ok() || writer.taken() != &bytes[..room] {
             return Ok(false);
         }
     }
@@ -377,13 +328,10 @@ fn requests_are_sent(rt: HostRuntime) -> Result<(), Fail> {
         words.push(String::from_str(alloc, word)?)?;
     }
     for room in 0..SENT.len() + 1 {
-        let mut writer = Narrow {
-            taken: Vec::new(alloc),
-            room,
-        };
+        let mut writer = Narrow::new(alloc, room);
         let sent = write_send(alloc, &mut writer, &desk_key, &key, &words);
         assert_eq!(rt; sent.is_ok(), room == SENT.len());
-        assert!(rt; writer.taken[..] == SENT.as_bytes()[..room], "{room}");
+        assert!(rt; writer.taken() == &SENT.as_bytes()[..room], "{room}");
     }
     let want = "0 deskkey00001 d1: check-out 1 10 1";
     assert!(rt; is_read_anyhow(alloc, Side::Server, SENT.as_bytes(), want)?);

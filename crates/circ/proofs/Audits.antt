@@ -1,0 +1,76 @@
+-- What is said of an audit, by what was read and found.
+use Rattle.std.proofs.Common.{◌≡◌, ℕ, List, Option, inl, inr, refl, sym, subst}
+use Rattle.std.specs.Prelude.{Result, Ok, Err, IsTrue, ◌↔◌}
+use Rattle.store.specs.Library.{Ghosts, Held, State, state, HasCleanDisk}
+use Rattle.store.specs.Lists.{AreTables}
+use Rattle.store.specs.Stops.{KeepsPicture}
+use Rattle.store.specs.Reads.{Reads, Looked, IsSound as AreInLimits}
+use Rattle.terms.specs.Limits.{InLimits}
+use Rattle.terms.specs.Pictures.{Picture}
+use Rattle.terms.specs.declared.fault.Fault.{Fault}
+use Rattle.terms.specs.declared.fault.Fault.TheVariants.{Stored}
+use Rattle.terms.specs.declared.tables.Tables.{Tables}
+use Rattle.model.specs.History.{History}
+use Rattle.model.specs.Picture.{picture}
+use Rattle.model.proofs.RowRanges.{legal-rows}
+use Rattle.desk.specs.Answering.{Shows}
+use Rattle.desk.proofs.Sound.{is-sound}
+use Rattle.circ_audit.specs.Sound.{IsSound, IsFirstBroken, IsInOrder, Audits}
+use Rattle.circ_audit.specs.declared.auditing.Finding.{Finding}
+use Rattle.circ_audit.specs.declared.auditing.Finding.TheVariants.{Claims, Binding, Balance}
+use Rattle.circ.specs.declared.lines.Exit.TheVariants.{Done, Refused, Faulted}
+use Rattle.circ.specs.Lines.{sound_line, finding_line, fault_line}
+use Rattle.circ.specs.Auditing.{LegalTablesAreSound, SaysOf}
+use Rattle.circ.proofs.CountedRows.{rises}
+
+-- Rows that were read stand in the order of their numbers.
+in-order : (P : Picture) (tables : Tables) → AreTables P tables → IsInOrder tables
+in-order P tables are = record { holds = rises (λ r. r.hold) tables.holds are.holds.rise; copies = rises (λ r. r.copy) tables.copies are.copies.rise }
+
+-- Sound tables break no law.
+not-both : (tables : Tables) (finding : Finding) → IsSound tables → IsFirstBroken tables finding → ⊥
+not-both tables (Claims copy) sound first = first.broken (sound.claims copy)
+not-both tables (Binding hold) sound first = first.1.broken (sound.bindings hold)
+not-both tables (Balance patron) sound first = first.2.broken (sound.balance patron)
+
+-- The tables show a picture after a read that changed nothing of them.
+keeps-same : (old new : State) (P : Picture) → Reads old new → HasCleanDisk new → new.now ≡ old.now → KeepsPicture old P → KeepsPicture new P
+keeps-same old new P reads disk same keeps = record {
+  now = (subst (λ db. KeepsPicture (record old { now = db }) P) (sym same) (record { now = keeps.now; left = keeps.left })).now;
+  left = reads.left disk P keeps;
+}
+
+module _ {S : Type 0} (g : Ghosts S) (old new : Held S) where
+  pub says-sound : (tables : Tables) → Looked InLimits AreTables AreInLimits g old new (Ok tables) → Audits tables (Ok tt) → SaysOf g old new sound_line Done
+  says-sound tables looked audits = inl (record {
+    tables = tables;
+    line_is = refl;
+    exit_is = refl;
+    read = λ disk P limits keeps.
+        let found = looked.shown disk P keeps.now limits in
+        (found.0, (audits.sound (in-order P tables found.0)).0 refl, keeps-same (state g old) (state g new) P looked.reads disk found.1 keeps);
+  })
+
+  pub says-unsound : LegalTablesAreSound → (tables : Tables) (finding : Finding) → Looked InLimits AreTables AreInLimits g old new (Ok tables) → Audits tables (Err finding)
+      → SaysOf g old new (finding_line finding) Refused
+  says-unsound law tables finding looked audits = inr (inl (record {
+    tables = tables;
+    finding = finding;
+    line_is = refl;
+    exit_is = refl;
+    read = λ disk P limits keeps.
+        let found = looked.shown disk P keeps.now limits in
+        (found.0, (audits.found (in-order P tables found.0) finding).0 refl, keeps-same (state g old) (state g new) P looked.reads disk found.1 keeps);
+    never = λ disk H shows.
+        let found = looked.shown disk (picture H) shows.tables.now (legal-rows H shows.legal shows.forms) in
+        not-both tables finding (law H tables shows.legal shows.forms found.0) ((audits.found (in-order (picture H) tables found.0) finding).0 refl);
+  }))
+
+  pub says-faulted : (fault : Fault) → Looked InLimits AreTables AreInLimits g old new (Err fault) → SaysOf g old new (fault_line fault) Faulted
+  says-faulted fault looked = inr (inr (record {
+    fault = fault;
+    line_is = refl;
+    exit_is = refl;
+    sound = λ disk stored H shows. looked.sound disk (let same : Err fault ≡ Err Stored = cc in same) (picture H) shows.tables.now (is-sound H shows.legal shows.forms);
+    undone = λ disk is_open P keeps. keeps-same (state g old) (state g new) P looked.reads disk (looked.reads.same disk is_open P keeps.now) keeps;
+  }))

@@ -1,0 +1,86 @@
+-- What an audit of a library says, and how the program ends.
+use Rattle.std.specs.Prelude.{◌≡◌, ◌⊎◌, ℕ, List, Option, Result, IfOk, OnErr}
+use Rattle.std.specs.Io.KnownBytes.{Appends}
+use Rattle.store.specs.Library.{Ghosts, Held, state, IsClean, IsOpen}
+use Rattle.store.specs.Lists.{AreTables}
+use Rattle.store.specs.Stops.{KeepsPicture, LeavesPicture}
+use Rattle.terms.specs.Limits.{InLimits}
+use Rattle.terms.specs.Pictures.{Picture}
+use Rattle.terms.specs.Writing.{AppendsFront}
+use Rattle.terms.specs.declared.fault.Fault.{Fault}
+use Rattle.terms.specs.declared.fault.Fault.TheVariants.{Stored}
+use Rattle.terms.specs.declared.tables.Tables.{Tables}
+use Rattle.model.specs.History.{History}
+use Rattle.model.specs.Picture.{picture}
+use Rattle.model.specs.Forms.{HasForms}
+use Rattle.model.specs.Requests.{IsLegal}
+use Rattle.desk.specs.Answering.{Shows}
+use Rattle.circ_audit.specs.Sound.{IsSound, IsFirstBroken}
+use Rattle.circ_audit.specs.declared.auditing.Finding.{Finding}
+use Rattle.circ.specs.declared.lines.Exit.{Exit}
+use Rattle.circ.specs.declared.lines.Exit.TheVariants.{Done, Refused, Faulted}
+use Rattle.circ.specs.Lines.{sound_line, finding_line, fault_line}
+
+-- The rows of the tables that a list of accepted requests leaves keep the three laws.
+abbrev pub LegalTablesAreSound : Type 0
+LegalTablesAreSound = (H : History) (tables : Tables) → IsLegal H → HasForms H
+    → AreTables (picture H) tables → IsSound tables
+
+-- All rows of the tables were read, and they are as `Is` says: so it is of each picture within the
+-- limits that the tables showed, and they show it still.
+abbrev pub Reads : {S : Type 0} → Ghosts S → Held S → Held S → (Tables → Type 0) → Tables
+    → Type 0
+Reads g old new Is tables =
+    IsClean g new → (P : Picture) → InLimits P → KeepsPicture (state g old) P
+    → AreTables P tables × Is tables × KeepsPicture (state g new) P
+
+-- The line is that the tables are sound: their rows keep the three laws.
+pub record SaysSound {S : Type 0} (g : Ghosts S) (old new : Held S) (line : List ℕ)
+    (exit : Exit) : Type 0 where
+  pub tables : Tables
+  pub line_is : line ≡ sound_line
+  pub exit_is : exit ≡ Done
+  pub read : Reads g old new IsSound tables
+
+-- The line is a finding: it is the first law that their rows break. That never comes where the
+-- tables showed a list of accepted requests.
+pub record SaysUnsound {S : Type 0} (g : Ghosts S) (old new : Held S) (line : List ℕ)
+    (exit : Exit) : Type 0 where
+  pub tables : Tables
+  pub finding : Finding
+  pub line_is : line ≡ finding_line finding
+  pub exit_is : exit ≡ Refused
+  pub read : Reads g old new (λ rows. IsFirstBroken rows finding) tables
+  pub never : IsClean g new → (H : History) → Shows (state g old) H → ⊥
+
+-- The line is a fault, which is not 93 where the tables showed a list of accepted requests. They
+-- show what they showed, as long as the database is open.
+pub record SaysFaulted {S : Type 0} (g : Ghosts S) (old new : Held S) (line : List ℕ)
+    (exit : Exit) : Type 0 where
+  pub fault : Fault
+  pub line_is : line ≡ fault_line fault
+  pub exit_is : exit ≡ Faulted
+  pub sound : IsClean g new → fault ≡ Stored → (H : History) → Shows (state g old) H → ⊥
+  pub undone : IsClean g new → IsOpen g new → (P : Picture) → KeepsPicture (state g old) P
+      → KeepsPicture (state g new) P
+
+-- The line is that the tables are sound, a finding, or a fault.
+abbrev pub SaysOf : {S : Type 0} → Ghosts S → Held S → Held S → List ℕ → Exit → Type 0
+SaysOf g old new line exit =
+    SaysSound g old new line exit
+    ⊎ (SaysUnsound g old new line exit ⊎ SaysFaulted g old new line exit)
+
+-- A library was audited, and a line was written.
+pub record SaysAudit {S E : Type 0} (g : Ghosts S) (old new : Held S)
+    (before after : Option (List ℕ)) (result : Result Exit E) : Type 0 where
+  pub clean : IsClean g new → IsClean g old
+  -- the line went out
+  pub written : IfOk result
+      (λ exit. (line : List ℕ) × SaysOf g old new line exit × Appends before after line)
+  -- a stop leaves what was there
+  pub left : IsClean g new → (P : Picture) → KeepsPicture (state g old) P
+      → LeavesPicture (state g new) P
+  -- where a write failed, a beginning of the line went out
+  pub cut : OnErr result
+      ((line : List ℕ) × (exit : Exit) × SaysOf g old new line exit
+      × AppendsFront before after line)

@@ -1,0 +1,87 @@
+-- Rows that are looked up by their numbers, where these rise.
+use Rattle.std.proofs.Common.{◌≡◌, ◌≢◌, ◌⊎◌, ℕ, zero, suc, ◌<◌, ◌≤◌, Bool, true, false, List, [], ◌∷◌, length, get_or, Some, None, Ok, Err, refl, sym, ◌∙◌, ap, subst, inl, inr, eqb, arith}
+use Rattle.std.specs.Prelude.{find}
+use Rattle.std.specs.List.{AllByRecursion}
+use Rattle.std.specs.List.Sorted.{IsBinarySearchResult, IsNonDecreasingBy}
+use Rattle.std.specs.Ordering.{nat_cmp, ordering_index}
+use Rattle.std.proofs.lemmas.Cmp.{ranked}
+use Rattle.std.proofs.lemmas.Bool.{cases_eq, cases_lt, eqb-true, eq-eqb}
+use Rattle.std.proofs.lemmas.Bool.Decides.{nat_tests}
+use Rattle.circ_audit.specs.Sound.{Rises}
+
+-- The first row that passes is found, where no earlier one does.
+find-at : {R : Type 0} (p : R → Bool) (rows : List R) (i : ℕ) (x : R) → i < length rows → get_or rows i x ≡ x → p x ≡ true
+    → ((k : ℕ) → k < i → p (get_or rows k x) ≡ false) → find p rows ≡ Some x
+find-at p [] i x lt is passes before = absurd (omega (arith, lt))
+find-at p (y ∷ rows) zero x lt is passes before = let here : p y ≡ true = ap p is ∙ passes in rw here (ap Some is)
+find-at p (y ∷ rows) (suc i) x lt is passes before =
+    let no : p y ≡ false = before 0 (omega arith) in
+    rw no (find-at p rows i x (omega (arith, lt)) is passes (λ k below. before (suc k) (omega (arith, below))))
+
+-- None is found where none passes.
+find-none : {R : Type 0} (p : R → Bool) (rows : List R) → ((k : ℕ) (d : R) → k < length rows → p (get_or rows k d) ≡ false) → find p rows ≡ None
+find-none p [] none = refl
+find-none p (y ∷ rows) none = let no : p y ≡ false = none 0 y (omega arith) in rw no (find-none p rows (λ k d below. none (suc k) d (omega (arith, below))))
+
+-- The numbers of rows rise from place to place.
+above-all : {R : Type 0} (number_of : R → ℕ) (n : ℕ) (rows : List R) → AllByRecursion (λ s. n < number_of s) rows → (j : ℕ) (d : R) → j < length rows → n < number_of (get_or rows j d)
+above-all number_of n [] all j d lt = absurd (omega (arith, lt))
+above-all number_of n (y ∷ rows) all zero d lt = all.0
+above-all number_of n (y ∷ rows) all (suc j) d lt = above-all number_of n rows all.1 j d (omega (arith, lt))
+
+rises-at : {R : Type 0} (number_of : R → ℕ) (rows : List R) → Rises number_of rows → (i j : ℕ) (d : R) → i < j → j < length rows → number_of (get_or rows i d) < number_of (get_or rows j d)
+rises-at number_of [] rises i j d lt within = absurd (omega (arith, within))
+rises-at number_of (y ∷ rows) rises i zero d lt within = absurd (omega (arith, lt))
+rises-at number_of (y ∷ rows) rises zero (suc j) d lt within = above-all number_of (number_of y) rows rises.0 j d (omega (arith, within))
+rises-at number_of (y ∷ rows) rises (suc i) (suc j) d lt within = rises-at number_of rows rises.1 i j d (omega (arith, lt)) (omega (arith, within))
+
+not-eqb : (m n : ℕ) → m ≢ n → eqb m n ≡ false
+not-eqb m n differ = go (eqb m n) refl
+  where
+    go : (b : Bool) → eqb m n ≡ b → b ≡ false
+    go true e = absurd (differ (eqb-true m n e))
+    go false e = refl
+
+module _ {R : Type 0} (number_of : R → ℕ) (rows : List R) (rises : Rises number_of rows) (n : ℕ) where
+  -- A row with the number is the one that is found.
+  pub row-found : (place : ℕ) (x : R) → place < length rows → get_or rows place x ≡ x → number_of x ≡ n → find (λ r. eqb (number_of r) n) rows ≡ Some x
+  row-found place x within is has = find-at (λ r. eqb (number_of r) n) rows place x within is (eq-eqb (number_of x) n has) (λ k below. not-eqb (number_of (get_or rows k x)) n (differs k below))
+    where
+      differs : (k : ℕ) → k < place → number_of (get_or rows k x) ≢ n
+      differs k below same =
+          let less : number_of (get_or rows k x) < number_of (get_or rows place x) = rises-at number_of rows rises k place x below within in
+          let at : number_of (get_or rows place x) ≡ number_of x = ap number_of is in
+          omega (arith, less, at, has, same)
+
+  -- The comparisons with the number rise along the rows, as a binary search asks.
+  comparisons-rise : IsNonDecreasingBy (λ r. ordering_index (nat_cmp (number_of r) n)) rows
+  comparisons-rise i j d le within = go (cases_eq i j)
+    where
+      go : (i ≡ j) ⊎ (i ≢ j) → ordering_index (nat_cmp (number_of (get_or rows i d)) n) ≤ ordering_index (nat_cmp (number_of (get_or rows j d)) n)
+      go (inl same) = subst (λ (k : ℕ). ordering_index (nat_cmp (number_of (get_or rows i d)) n) ≤ ordering_index (nat_cmp (number_of (get_or rows k d)) n)) same (omega arith)
+      go (inr other) =
+          let less : number_of (get_or rows i d) < number_of (get_or rows j d) = rises-at number_of rows rises i j d (omega (arith, le, other)) within in
+          compared (number_of (get_or rows i d)) (number_of (get_or rows j d)) less
+        where
+          compared : (a b : ℕ) → a < b → ordering_index (nat_cmp a n) ≤ ordering_index (nat_cmp b n)
+          compared a b less = grind (arith, nat_tests)
+
+  -- A binary search ends at the row with the number.
+  pub searched-found : (place : ℕ) (x : R) → place < length rows → x ≡ get_or rows place x → IsBinarySearchResult (λ r. nat_cmp (number_of r) n) rows (Ok place) → Some x ≡ find (λ r. eqb (number_of r) n) rows
+  searched-found place x within is equal =
+      let has : number_of (get_or rows place x) ≡ n = ranked (number_of (get_or rows place x)) n _ (sym (equal x)) in
+      sym (row-found place x within (sym is) (ap number_of is ∙ has))
+
+  -- Or no row has it.
+  pub searched-none : (gap : ℕ) → IsBinarySearchResult (λ r. nat_cmp (number_of r) n) rows (Err gap) → None ≡ find (λ r. eqb (number_of r) n) rows
+  searched-none gap parted = sym (find-none (λ r. eqb (number_of r) n) rows none)
+    where
+      none : (k : ℕ) (d : R) → k < length rows → eqb (number_of (get_or rows k d)) n ≡ false
+      none k d within = not-eqb (number_of (get_or rows k d)) n (λ same. ⊥_of same)
+        where
+          ⊥_of : number_of (get_or rows k d) ≡ n → ⊥
+          ⊥_of same = go (cases_lt k gap)
+            where
+              go : (k < gap) ⊎ (gap ≤ k) → ⊥
+              go (inl before) = let less : number_of (get_or rows k d) < n = ranked (number_of (get_or rows k d)) n _ (sym ((parted comparisons-rise).0 k d (omega arith) before)) in omega (arith, less, same)
+              go (inr from) = let more : n < number_of (get_or rows k d) = ranked (number_of (get_or rows k d)) n _ (sym ((parted comparisons-rise).1 k d from within)) in omega (arith, more, same)

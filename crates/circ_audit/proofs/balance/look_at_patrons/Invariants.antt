@@ -1,0 +1,6 @@
+use Rattle.std.proofs.Common.{take}
+use Rattle.circ_audit.specs.Pages.{LooksAtRows}
+use Rattle.circ_audit.proofs.balance.look_at_patrons.Given as goal
+
+abbrev pub invariant-loop-row : goal.invariant-loop-row
+invariant-loop-row l = LooksAtRows (take l.row-index l.rows) l.charges l.credits l.look

@@ -1,0 +1,114 @@
+-- Numbers that are looked at page by page.
+use Rattle.std.specs.Prelude.{◌≡◌, ◌==◌, ℕ, ◌+◌, ◌/◌, ◌%◌, ◌^◌, ◌<◌, ◌≤◌, nat_lt, Bool, List, All, Option, Some, None, IfSome, sum_by, slice_index, if◌then◌else◌}
+use Rattle.terms.specs.declared.row.PatronRow.{PatronRow}
+use Rattle.terms.specs.declared.row.LineRow.{LineRow}
+use Rattle.circ_audit.specs.declared.pages.Look.{Look}
+use Rattle.circ_audit.specs.declared.window.Window.{Window}
+use Rattle.circ_audit.specs.declared.balance.Totals.{Totals}
+use Rattle.circ_audit.specs.Sound.{FailsFirst}
+
+-- The page of a number.
+abbrev pub page_of : ℕ → ℕ
+page_of n = n / 65536
+
+-- The place of a number on its page.
+abbrev pub place_of : ℕ → ℕ
+place_of n = n % 65536
+
+-- The lesser of two numbers, of which the first may be none.
+abbrev pub lesser_of : Option ℕ → ℕ → ℕ
+lesser_of (Some m) n = if nat_lt n m then n else m
+lesser_of None n = n
+
+-- The least number that breaks a law, after one more of which the law holds or doesn't.
+abbrev pub first_after : Bool → ℕ → Option ℕ → Option ℕ
+first_after right n first = if right then first else Some (lesser_of first n)
+
+-- The same after a row that names a number or none.
+abbrev pub first_named : (ℕ → Bool) → Option ℕ → Option ℕ → Option ℕ
+first_named right (Some n) first = first_after (right n) n first
+first_named right None first = first
+
+-- The lesser of two numbers, of which each may be none.
+abbrev pub earlier_of : Option ℕ → Option ℕ → Option ℕ
+earlier_of first (Some n) = Some (lesser_of first n)
+earlier_of first None = first
+
+-- The number is less than the other, or there is no other.
+abbrev pub IsBelow : ℕ → Option ℕ → Type 0
+IsBelow n (Some m) = n < m
+IsBelow n None = Unit {0}
+
+-- Of all numbers of the page the law holds, or this is the least of which it doesn't.
+abbrev pub FailsOn : (ℕ → Type 0) → ℕ → Option ℕ → Type 0
+FailsOn Law page found = FailsFirst (λ n. page_of n ≡ page → Law n) found
+
+-- A page was looked at.
+pub record LooksAt (Law : ℕ → Type 0) (page : ℕ) (look : Look) : Type 0 where
+  -- the least number of it that breaks the law was found, or there is none
+  pub broken : FailsOn Law page look.broken
+  -- the next number stands on a later page
+  pub ahead : IfSome look.next (λ n. page < page_of n)
+  -- and the law holds of all numbers of later pages before it
+  pub between : (n : ℕ) → page < page_of n → IsBelow n look.next → Law n
+
+-- A counter stops at two.
+abbrev pub capped : ℕ → ℕ
+capped n = if nat_lt n 2 then n else 2
+
+-- The counters of a page show how often each number was counted.
+pub record Shows (w : Window) (times : ℕ → ℕ) : Type 0 where
+  -- each number of the page by its own counter
+  pub here : (n : ℕ) → page_of n ≡ w.page → slice_index w.counters (place_of n) ≡ capped (times n)
+  -- the next number stands on a later page
+  pub ahead : IfSome w.next (λ n. w.page < page_of n)
+  -- and none of later pages before it was counted
+  pub between : (n : ℕ) → w.page < page_of n → IsBelow n w.next → times n ≡ 0
+
+-- Each number was counted so many times more.
+pub record Counts (more : ℕ → ℕ) (old new : Window) : Type 0 where
+  pub page : new.page ≡ old.page
+  pub shows : (times : ℕ → ℕ) → Shows old times → Shows new (λ n. times n + more n)
+
+-- The totals of a page are those of its numbers.
+abbrev pub Sums : Totals → (ℕ → ℕ) → Type 0
+Sums w sum = (n : ℕ) → page_of n ≡ w.page → slice_index w.sums (place_of n) ≡ sum n
+
+-- No total of the page is above this.
+abbrev pub AreWithin : ℕ → Totals → Type 0
+AreWithin most w = (k : ℕ) → slice_index w.sums k ≤ most
+
+-- So much was added to the total of each number, and no more than an amount can be.
+pub record Adds (more : ℕ → ℕ) (old new : Totals) : Type 0 where
+  pub page : new.page ≡ old.page
+  pub sums : (sum : ℕ → ℕ) → Sums old sum → Sums new (λ n. sum n + more n)
+  pub within : (most : ℕ) → AreWithin most old → AreWithin (most + 2 ^ 64) new
+
+-- The rows were added to totals, each with its amount for each number.
+pub record AddsRows (amount : LineRow → ℕ → ℕ) (rows : List LineRow) (old new : Totals)
+    : Type 0 where
+  pub page : new.page ≡ old.page
+  pub sums : (sum : ℕ → ℕ) → Sums old sum → Sums new (λ n. sum n + sum_by (λ r. amount r n) rows)
+
+-- The least number of the page of which something is wrong, after one more, which is right or wrong.
+abbrev pub broken_after : ℕ → Bool → ℕ → Option ℕ → Option ℕ
+broken_after page right n first =
+    if page_of n == page then first_after right n first else first
+
+-- The least number of later pages, after one more.
+abbrev pub next_after : ℕ → ℕ → Option ℕ → Option ℕ
+next_after page n first = if nat_lt page (page_of n) then Some (lesser_of first n) else first
+
+-- The account of a patron is right by the totals of the charges and the credits.
+abbrev pub is_right : PatronRow → Totals → Totals → Bool
+is_right r charges credits =
+    r.owed + slice_index credits.sums (place_of r.patron)
+    == slice_index charges.sums (place_of r.patron)
+
+-- The rows of patrons were looked at, by totals that are these sums.
+abbrev pub LooksAtRows : List PatronRow → Totals → Totals → Look → Type 0
+LooksAtRows rows charges credits look =
+    (charged credited : ℕ → ℕ) → Sums charges charged → Sums credits credited
+    → credits.page ≡ charges.page
+    → LooksAt (λ n. All (λ r. r.patron ≡ n → r.owed + credited n ≡ charged n) rows)
+    charges.page look

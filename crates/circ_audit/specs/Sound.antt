@@ -1,0 +1,100 @@
+-- The three laws of sound tables, and the first of them that is broken.
+use Rattle.std.specs.Prelude.{◌≡◌, ◌↔◌, ℕ, ◌+◌, ◌<◌, ◌≤◌, true, List, [], ◌∷◌, All, count_by, sum_by, Option, Some, Result, Ok, Err, MatchOption}
+use Rattle.std.specs.List.{AllByRecursion}
+use Rattle.terms.specs.declared.tables.Tables.{Tables}
+use Rattle.circ_audit.specs.declared.auditing.Finding.{Finding}
+use Rattle.circ_audit.specs.declared.auditing.Finding.TheVariants.{Claims, Binding, Balance}
+use Rattle.circ_audit.specs.Rows.{names, lent_copy, shelved_copy, travelling_copy, absent_copy, hold_row, is_fit, serves, charge, credit}
+
+-- How many claims the rows make on a copy: by open loans, ready holds, transits, and a condition
+-- other than present.
+abbrev pub claims_on : Tables → ℕ → ℕ
+claims_on t copy =
+    count_by (λ r. names (lent_copy r) copy) t.loans
+    + count_by (λ r. names (shelved_copy r) copy) t.holds
+    + count_by (λ r. names (travelling_copy r) copy) t.transits
+    + count_by (λ r. names (absent_copy r) copy) t.copies
+
+-- At most one claim is made on the copy.
+abbrev pub IsClaimedOnce : Tables → ℕ → Type 0
+IsClaimedOnce t copy = claims_on t copy ≤ 1
+
+-- At most one transit names the hold.
+abbrev pub IsServedOnce : Tables → ℕ → Type 0
+IsServedOnce t hold = count_by (λ r. names r.hold hold) t.transits ≤ 1
+
+-- The hold's row fits its state.
+abbrev pub IsFit : Tables → ℕ → Type 0
+IsFit t hold = All (λ r. r.hold ≡ hold → is_fit t.copies r ≡ true) t.holds
+
+-- Each transit that names the hold serves it.
+abbrev pub IsServed : Tables → ℕ → Type 0
+IsServed t hold =
+    All (λ r. r.hold ≡ Some hold → serves t.copies r (hold_row t.holds hold) ≡ true) t.transits
+
+-- The hold and at most one copy are bound to each other: its row fits its state, each transit that
+-- names it serves it, and no two do.
+pub record IsBound (t : Tables) (hold : ℕ) : Type 0 where
+  pub fit : IsFit t hold
+  pub served : IsServed t hold
+  pub once : IsServedOnce t hold
+
+-- A patron's fines and prices.
+abbrev pub charges_of : Tables → ℕ → ℕ
+charges_of t patron = sum_by (λ r. charge r patron) t.lines
+
+-- A patron's payments and waivers.
+abbrev pub credits_of : Tables → ℕ → ℕ
+credits_of t patron = sum_by (λ r. credit r patron) t.lines
+
+-- What the patron owes by the own row is the charges less the payments and waivers.
+abbrev pub IsBalanced : Tables → ℕ → Type 0
+IsBalanced t patron =
+    All (λ r. r.patron ≡ patron → r.owed + credits_of t patron ≡ charges_of t patron) t.patrons
+
+-- The tables keep the three laws.
+pub record IsSound (t : Tables) : Type 0 where
+  pub claims : (copy : ℕ) → IsClaimedOnce t copy
+  pub bindings : (hold : ℕ) → IsBound t hold
+  pub balance : (patron : ℕ) → IsBalanced t patron
+
+-- The law doesn't hold of the number, and it holds of every lesser one.
+pub record IsLeastBroken (Law : ℕ → Type 0) (n : ℕ) : Type 0 where
+  pub broken : Law n → ⊥
+  pub below : (m : ℕ) → m < n → Law m
+
+-- The finding is the least number of which a law doesn't hold, and the laws before it hold of every
+-- number.
+abbrev pub IsFirstBroken : Tables → Finding → Type 0
+IsFirstBroken t (Claims copy) = IsLeastBroken (IsClaimedOnce t) copy
+IsFirstBroken t (Binding hold) =
+    ((copy : ℕ) → IsClaimedOnce t copy) × IsLeastBroken (IsBound t) hold
+IsFirstBroken t (Balance patron) =
+    ((copy : ℕ) → IsClaimedOnce t copy) × ((hold : ℕ) → IsBound t hold)
+    × IsLeastBroken (IsBalanced t) patron
+
+-- The law holds of every number, or this is the least of which it doesn't.
+abbrev pub FailsFirst : (ℕ → Type 0) → Option ℕ → Type 0
+FailsFirst Law found = MatchOption found ((n : ℕ) → Law n) (λ n. IsLeastBroken Law n)
+
+-- Each number is below all later ones.
+abbrev pub Rises : {R : Type 0} → (R → ℕ) → List R → Type 0
+Rises number_of [] = Unit {0}
+Rises number_of (r ∷ rows) =
+    AllByRecursion (λ s. number_of r < number_of s) rows × Rises number_of rows
+
+-- The rows of holds and copies stand in the order of their numbers, as those of a library are read.
+pub record IsInOrder (t : Tables) : Type 0 where
+  pub holds : Rises (λ r. r.hold) t.holds
+  pub copies : Rises (λ r. r.copy) t.copies
+
+-- The tables were audited.
+pub record Audits (t : Tables) (result : Result (Unit {0}) Finding) : Type 0 where
+  -- they are told to be sound exactly if they keep the three laws
+  pub sound : IsInOrder t → (result ≡ Ok tt) ↔ IsSound t
+  -- a finding is told exactly if it is the first law that is broken
+  pub found : IsInOrder t → (finding : Finding) → (result ≡ Err finding) ↔ IsFirstBroken t finding
+  -- so it is of claims whatever the order of the rows
+  pub claimed : (copy : ℕ) → (result ≡ Err (Claims copy)) ↔ IsFirstBroken t (Claims copy)
+  -- and whatever the order, each patron's balance is right in tables that are told to be sound
+  pub balanced : result ≡ Ok tt → (patron : ℕ) → IsBalanced t patron

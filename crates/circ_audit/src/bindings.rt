@@ -1,0 +1,163 @@
+//! The bindings of holds and copies.
+
+ghost use Rattle.std.specs.Prelude.{◌≡◌};
+ghost use Rattle.circ_audit.specs.Rows.{copy_row, hold_row, is_titled, is_copy_of, is_fit, serves};
+ghost use Rattle.circ_audit.specs.Pages.{first_after, first_named, earlier_of};
+ghost use Rattle.circ_audit.specs.Sound.{Rises, IsInOrder, IsServedOnce, IsBound, FailsFirst};
+ghost use Rattle.circ_audit.specs.Sound.{IsFit, IsServed};
+
+use crate::pages::{Law, Look, first_broken, lesser};
+use crate::rows::{is_ready, is_waiting};
+use crate::window::{Names, Window};
+use terms::{CopyId, CopyRow, HoldId, HoldRow, Tables, TitleId, TransitRow};
+
+/// The row of a copy, among rows in the order of their numbers.
+fn copy_row(copies: &[CopyRow], copy: CopyId) -> Option<CopyRow>
+    ensures { Rises (λ r. r.copy) copies.now → result ≡ copy_row copies.now copy }
+{
+    match copies.binary_search_by_key(&copy.number(), |row| row.copy.number()) {
+        Ok(place) => Some(copies[place]),
+        Err(_) => None,
+    }
+}
+
+/// The row of a hold, among rows in the order of their numbers.
+fn hold_row(holds: &[HoldRow], hold: HoldId) -> Option<HoldRow>
+    ensures { Rises (λ r. r.hold) holds.now → result ≡ hold_row holds.now hold }
+{
+    match holds.binary_search_by_key(&hold.number(), |row| row.hold.number()) {
+        Ok(place) => Some(holds[place]),
+        Err(_) => None,
+    }
+}
+
+/// Whether a copy is named whose row is of the title.
+fn is_copy_of(copies: &[CopyRow], copy: Option<CopyId>, title: TitleId) -> bool
+    ensures { Rises (λ r. r.copy) copies.now → result ≡ is_copy_of copies.now copy title }
+{
+    let Some(copy) = copy else {
+        return false;
+    };
+    match copy_row(copies, copy) {
+        Some(row) => row.title.number() == title.number(),
+        None => false,
+    }
+}
+
+/// Whether the row names a shelf limit and a copy of its title, if the hold is ready, and neither
+/// if it isn't.
+fn is_fit(copies: &[CopyRow], row: &HoldRow) -> bool
+    ensures { Rises (λ r. r.copy) copies.now → result ≡ is_fit copies.now row.now }
+{
+    if is_ready(row.state) {
+        row.limit_day.is_some() && is_copy_of(copies, row.copy, row.title)
+    } else {
+        row.copy.is_none() && row.limit_day.is_none()
+    }
+}
+
+/// Whether the transit serves the hold: it waits, the goal is its pick-up branch, and the copy is
+/// of its title.
+fn serves(copies: &[CopyRow], row: &TransitRow, hold: Option<HoldRow>) -> bool
+    ensures { Rises (λ r. r.copy) copies.now → result ≡ serves copies.now row.now hold }
+{
+    let Some(hold) = hold else {
+        return false;
+    };
+    is_waiting(hold.state)
+        && hold.branch.number() == row.goal.number()
+        && is_copy_of(copies, Some(row.copy), hold.title)
+}
+
+/// The least number of a hold whose row doesn't fit its state, after one row more.
+fn unfit_after(tables: &Tables, row: &HoldRow, first: Option<u32>) -> Option<u32>
+    ensures { IsInOrder tables.now
+        → result ≡ first_after (is_fit tables.now.copies row.now) row.now.hold first }
+{
+    if is_fit(tables.copies.as_slice(), row) {
+        first
+    } else {
+        lesser(first, row.hold.number())
+    }
+}
+
+/// The least number of a hold whose row doesn't fit its state.
+fn first_unfit(tables: &Tables) -> Option<u32>
+    ensures { IsInOrder tables.now → FailsFirst (IsFit tables.now) result }
+{
+    let mut first = None;
+    for row in tables.holds.as_slice() {
+        first = unfit_after(tables, row, first);
+    }
+    first
+}
+
+/// The least number of a hold that a transit names without serving it, after one row more.
+fn unserved_after(tables: &Tables, row: &TransitRow, first: Option<u32>) -> Option<u32>
+    ensures { IsInOrder tables.now
+        → result ≡ first_named
+        (λ h. serves tables.now.copies row.now (hold_row tables.now.holds h))
+        row.now.hold first }
+{
+    let Some(hold) = row.hold else {
+        return first;
+    };
+    let found = hold_row(tables.holds.as_slice(), hold);
+    if serves(tables.copies.as_slice(), row, found) {
+        first
+    } else {
+        lesser(first, hold.number())
+    }
+}
+
+/// The least number of a hold that a transit names without serving it.
+fn first_unserved(tables: &Tables) -> Option<u32>
+    ensures { IsInOrder tables.now → FailsFirst (IsServed tables.now) result }
+{
+    let mut first = None;
+    for row in tables.transits.as_slice() {
+        first = unserved_after(tables, row, first);
+    }
+    first
+}
+
+/// A transit names the hold that it is for.
+impl Names<HoldId> for TransitRow {
+    ghost named = { λ r. r.hold };
+
+    fn named(&self) -> Option<u32> {
+        self.hold.map(HoldId::number)
+    }
+}
+
+/// At most one transit names each hold.
+struct ServedOnce;
+
+impl Law for ServedOnce {
+    ghost keeps = { IsServedOnce };
+
+    fn look(tables: &Tables, page: u16) -> Look {
+        let mut window = Window::new(page);
+        window.tally::<HoldId, TransitRow>(tables.transits.as_slice());
+        window.look()
+    }
+}
+
+/// The lesser of two numbers, of which each may be none.
+fn earlier(first: Option<u32>, other: Option<u32>) -> Option<u32>
+    ensures { result ≡ earlier_of first other }
+{
+    match other {
+        Some(number) => lesser(first, number),
+        None => first,
+    }
+}
+
+/// The least number of a hold that isn't rightly bound. Its clause is for rows in the order of
+/// their numbers.
+pub fn first_unbound(tables: &Tables) -> Option<u32>
+    ensures { IsInOrder tables.now → FailsFirst (IsBound tables.now) result }
+{
+    let alone = earlier(first_unfit(tables), first_unserved(tables));
+    earlier(alone, first_broken::<ServedOnce>(tables))
+}

@@ -1,0 +1,13 @@
+//! The audit of a library's tables: three laws of all rows that were read, and the first of them
+//! that is broken.
+#![tactic(auto)]
+
+mod auditing;
+mod balance;
+mod bindings;
+mod claims;
+mod pages;
+mod rows;
+mod window;
+
+pub use auditing::{Finding, audit};

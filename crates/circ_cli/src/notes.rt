@@ -1,0 +1,65 @@
+//! What the program says for a person on standard error.
+
+use messages::{Line, explain};
+use std::fs::{self, File};
+use std::io::{ErrorKind, Read, Write};
+use store::SCHEMA;
+use terms::{WriteFault, write_bytes};
+
+/// How the file of a database begins.
+const HEADER: [u8; 16] = *b"SQLite format 3\0";
+
+/// Whether the file begins as that of a database.
+fn is_database(rt: &HostRuntime, path: &str) -> bool {
+    let mut header = [0u8; 16];
+    match File::open(rt, path) {
+        Ok(mut file) => file.read(&mut header).is_ok() && header == HEADER,
+        Err(_) => false,
+    }
+}
+
+/// What is known of the file of a library with which a run met a fault.
+fn cause(rt: &HostRuntime, path: &str) -> &'static str {
+    match fs::metadata(rt, path) {
+        Err(error) if error.kind() == ErrorKind::NotFound => "no such file or directory",
+        Err(_) => "the file can't be looked at",
+        Ok(file) if file.is_dir() => "this is a directory",
+        Ok(file) if file.len() == 0 => "the file has no bytes",
+        Ok(_) if !is_database(rt, path) => "the file can't be read, or is no library",
+        Ok(_) => "the file is there, and begins as a library",
+    }
+}
+
+/// The library's file, where a run has one.
+fn library_of(words: &[String]) -> Option<&str> {
+    match words {
+        [run, path, ..] if run.as_str() != "send" => Some(path.as_str()),
+        _ => None,
+    }
+}
+
+/// Writes what is known of a file.
+fn write_cause<W: Write>(writer: &mut W, path: &str, cause: &str) -> Result<(), WriteFault> {
+    write_bytes(writer, b"circ: ")?;
+    write_bytes(writer, path.as_bytes())?;
+    write_bytes(writer, b": ")?;
+    write_bytes(writer, cause.as_bytes())?;
+    write_bytes(writer, b"\n")
+}
+
+/// Says what the line means, and of a fault of the database what is known of the library's file.
+pub fn say(rt: &HostRuntime, told: &Line, words: &[String]) -> Result<(), WriteFault> {
+    let mut writer = rt.stderr();
+    explain(&mut writer, told, words, SCHEMA)?;
+    let is_of_database = told.as_bytes().starts_with(b"fault 91")
+        || told.as_bytes().starts_with(b"fault 93");
+    match library_of(words) {
+        Some(path) if is_of_database => write_cause(&mut writer, path, cause(rt, path)),
+        _ => Ok(()),
+    }
+}
+
+/// Says that a line could not be written.
+pub fn say_unwritten(rt: &HostRuntime) -> Result<(), WriteFault> {
+    write_bytes(&mut rt.stderr(), b"circ: standard output takes no more\n")
+}

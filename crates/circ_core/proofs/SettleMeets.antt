@@ -1,0 +1,182 @@
+-- Pay and waive meet the history.
+use Rattle.terms.specs.declared.limits.TheConstants.{LAST_NUMBER}
+use Rattle.std.proofs.Common.{◌≡◌, ℕ, zero, suc, ◌+◌, ◌-◌, ◌==◌, Bool, true, false, cond, not, ◌||◌, List, [], ◌∷◌, ◌++◌, length, refl, sym, ◌∙◌, ap, subst, arith}
+use Rattle.std.specs.Prelude.{Option, Some, None, option_map, is_none, filter, nat_lt}
+use Rattle.std.proofs.lemmas.Bool.{eqb-true, eq-eqb, or_parts}
+use Rattle.std.proofs.lemmas.List.Elements.{filter-append}
+use Rattle.std.proofs.lemmas.List.Sums.{sum_by-append}
+use Rattle.terms.specs.declared.row.PatronRow.{PatronRow}
+use Rattle.terms.specs.declared.row.LineRow.{LineRow}
+use Rattle.terms.specs.declared.row.Sort.{Sort}
+use Rattle.terms.specs.declared.row.Sort.TheVariants.{Payment, Waiver}
+use Rattle.terms.specs.declared.command.Command.TheVariants.{Pay, Waive}
+use Rattle.terms.specs.declared.command.Owner.TheVariants.{Desk}
+use Rattle.terms.specs.declared.reply.Reply.TheVariants.{Owed}
+use Rattle.terms.specs.Pictures.{put}
+use Rattle.model.specs.History.{History, today, PatronFacts, patron_of}
+use Rattle.model.specs.Accounts.{Line, lines, next_line, account, charge, credit, charges, credits, owed}
+use Rattle.model.specs.Refusals.{checks, has_patron}
+use Rattle.model.specs.Picture.{picture, meta_row, patron_row, patron_columns, nth_line, line_row, line_columns}
+use Rattle.model.proofs.Moves.{false-ne}
+use Rattle.model.proofs.Passing.{passed}
+use Rattle.circ_core.specs.declared.views.View.{View}
+use Rattle.circ_core.specs.Debt.{owed_by}
+use Rattle.circ_core.specs.Settle.{settle_checks, settle_rows, settled}
+use Rattle.circ_core.specs.Views.{IsAccountView}
+use Rattle.circ_core.proofs.Meets.{Meets, Leads, SameChecks}
+use Rattle.circ_core.proofs.Rows.{none-map, some-is}
+
+-- The line that is added has the next number.
+pub nth-added : (xs : List Line) (x : Line) (k : ℕ) → length xs + 1 ≡ k → nth_line (xs ++ x ∷ []) k ≡ Some x
+nth-added [] x zero e = let never : ⊥ = omega (arith, e) in absurd never
+nth-added [] x (suc zero) e = refl
+nth-added [] x (suc (suc k)) e = let never : ⊥ = omega (arith, e) in absurd never
+nth-added (y ∷ xs) x zero e = let never : ⊥ = omega (arith, e) in absurd never
+nth-added (y ∷ xs) x (suc zero) e = let never : ⊥ = omega (arith, e) in absurd never
+nth-added (y ∷ xs) x (suc (suc k)) e = nth-added xs x (suc k) (omega (arith, e))
+
+-- Under every other number is what was there.
+pub nth-kept : (xs : List Line) (x : Line) (k : ℕ) → (length xs + 1 ≡ k → ⊥) → nth_line (xs ++ x ∷ []) k ≡ nth_line xs k
+nth-kept [] x zero ne = refl
+nth-kept [] x (suc zero) ne = absurd (ne refl)
+nth-kept [] x (suc (suc k)) ne = refl
+nth-kept (y ∷ xs) x zero ne = refl
+nth-kept (y ∷ xs) x (suc zero) ne = refl
+nth-kept (y ∷ xs) x (suc (suc k)) ne = nth-kept xs x (suc k) (λ e. ne (omega (arith, e)))
+
+pub length-added : (xs : List Line) (x : Line) → length (xs ++ x ∷ []) ≡ length xs + 1
+length-added [] x = refl
+length-added (y ∷ xs) x = omega (arith, length-added xs x)
+
+module _ (H : History) (p m : ℕ) (sort : Sort) (no_charge : charge sort (suc m) ≡ 0) (is_credit : credit sort (suc m) ≡ suc m) where
+  abbrev added : Line
+  added = record { patron = p; day = today H; sort = sort; amount = suc m; loan = None }
+
+  abbrev lines_now : List Line
+  lines_now = lines H ++ added ∷ []
+
+  abbrev owed_now : ℕ → ℕ
+  owed_now q = charges (filter (λ x. x.patron == q) lines_now) - credits (filter (λ x. x.patron == q) lines_now)
+
+  owed_split : (q : ℕ) → owed_now q ≡ (charges (account H q) + charges (cond (p == q) (added ∷ []) [])) - (credits (account H q) + credits (cond (p == q) (added ∷ []) []))
+  owed_split q =
+      rw (
+        filter-append (λ x. x.patron == q) (lines H) (added ∷ []),
+        sum_by-append (λ x. charge x.sort x.amount) (account H q) (cond (p == q) (added ∷ []) []),
+        sum_by-append (λ x. credit x.sort x.amount) (account H q) (cond (p == q) (added ∷ []) []),
+      ) refl
+
+  -- The patron owes so much less, and nobody else owes anything else.
+  owed_less : owed_now p ≡ owed H p - suc m
+  owed_less = go (p == p) (eq-eqb p p refl) (owed_split p)
+    where
+      go : (b : Bool) → b ≡ true → owed_now p ≡ (charges (account H p) + charges (cond b (added ∷ []) [])) - (credits (account H p) + credits (cond b (added ∷ []) [])) → owed_now p ≡ owed H p - suc m
+      go true e s = s ∙ omega (arith, no_charge, is_credit)
+      go false e s = let never : ⊥ = cc in absurd never
+
+  owed_kept : (q : ℕ) → (p == q) ≡ false → owed_now q ≡ owed H q
+  owed_kept q e = go (p == q) e (owed_split q)
+    where
+      go : (b : Bool) → b ≡ false → owed_now q ≡ (charges (account H q) + charges (cond b (added ∷ []) [])) - (credits (account H q) + credits (cond b (added ∷ []) [])) → owed_now q ≡ owed H q
+      go true f s = let never : ⊥ = cc in absurd never
+      go false f s = s ∙ omega arith
+
+  lines_lead : (k : ℕ) → put (line_row H) (next_line H) (Some (line_columns H (next_line H) added)) k ≡ option_map (line_columns H k) (nth_line lines_now k)
+  lines_lead k = go (next_line H == k) refl
+    where
+      go : (b : Bool) → (next_line H == k) ≡ b
+          → (elim b as (λ _. Option LineRow) [ true ↦ Some (line_columns H (next_line H) added) | false ↦ line_row H k ]) ≡ option_map (line_columns H k) (nth_line lines_now k)
+      go true e =
+          let same : next_line H ≡ k = eqb-true _ _ e in
+          ap (λ n. Some (line_columns H n added)) same ∙ sym (ap (option_map (line_columns H k)) (nth-added (lines H) added k same))
+      go false e = sym (ap (option_map (line_columns H k)) (nth-kept (lines H) added k (false-ne _ _ e)))
+
+  patrons_lead : (r : PatronFacts) → patron_of H p ≡ Some r → (q : ℕ)
+      → put (patron_row H) p (Some (record (patron_columns H p r) { owed = owed H p - suc m })) q
+      ≡ option_map (λ x. record { patron = q; kind = x.kind; card_key = x.card_key; name = x.name; owed = owed_now q }) (patron_of H q)
+  patrons_lead r there q = go (p == q) refl
+    where
+      go : (b : Bool) → (p == q) ≡ b
+          → (elim b as (λ _. Option PatronRow) [ true ↦ Some (record (patron_columns H p r) { owed = owed H p - suc m }) | false ↦ patron_row H q ])
+          ≡ option_map (λ x. record { patron = q; kind = x.kind; card_key = x.card_key; name = x.name; owed = owed_now q }) (patron_of H q)
+      go true e = subst (λ n. Some (record (patron_columns H p r) { owed = owed H p - suc m })
+          ≡ option_map (λ x. record { patron = n; kind = x.kind; card_key = x.card_key; name = x.name; owed = owed_now n }) (patron_of H n)) (eqb-true p q e)
+          (ap (λ n. Some (record (patron_columns H p r) { owed = n })) (sym owed_less)
+          ∙ sym (ap (option_map (λ x. record { patron = p; kind = x.kind; card_key = x.card_key; name = x.name; owed = owed_now p })) there))
+      go false e = ap (λ n. option_map (λ x. record { patron = q; kind = x.kind; card_key = x.card_key; name = x.name; owed = n }) (patron_of H q)) (sym (owed_kept q e))
+
+  meta_lead : record (meta_row H) { next_line = next_line H + 1 } ≡ record (meta_row H) { next_line = length lines_now + 1 }
+  meta_lead = ap (λ n. record (meta_row H) { next_line = n + 1 }) (sym (length-added (lines H) added))
+
+module _ (H : History) (p : ℕ) (rows : View) (w : IsAccountView (picture H) p rows) where
+  patron_is : (r : PatronFacts) → patron_of H p ≡ Some r → rows.patron ≡ Some (patron_columns H p r)
+  patron_is r there = w.patron ∙ ap (option_map (patron_columns H p)) there
+
+  owed_same : not (has_patron H p) ≡ false → owed_by rows.patron ≡ owed H p
+  owed_same ok = let r : (r : PatronFacts) × (patron_of H p ≡ Some r) = some-is (patron_of H p) ok in ap owed_by (patron_is r.0 r.1)
+
+  settle_same : (n : ℕ) → SameChecks (settle_checks rows n) (checks H Desk (Pay p n))
+  settle_same n = (
+    refl,
+    (ap is_none w.patron ∙ none-map (patron_columns H p) (patron_of H p)),
+    λ p11. (
+      refl,
+      (ap (λ x. (n == 0) || nat_lt x n) (owed_same p11)),
+      λ _.
+          (refl, (ap (λ m. nat_lt LAST_NUMBER m.next_line) w.meta), λ _. tt),
+    ),
+  )
+
+  pay_lead : (r : PatronFacts) → patron_of H p ≡ Some r → (n : ℕ) → (n == 0) ≡ false → Leads H (Pay p n) (settled (meta_row H) (Some (patron_columns H p r)) p Payment n)
+  pay_lead r there zero e owner key = let never : ⊥ = cc in absurd never
+  pay_lead r there (suc m) e owner key = record {
+    meta = meta_lead H p m Payment refl refl;
+    branches = λ _. refl;
+    closed_days = λ _ _. refl;
+    kinds = λ _. refl;
+    rules = λ _ _. refl;
+    patrons = patrons_lead H p m Payment refl refl r there;
+    titles = λ _. refl;
+    copies = λ _. refl;
+    loans = λ _. refl;
+    holds = λ _. refl;
+    transits = λ _. refl;
+    lines = lines_lead H p m Payment refl refl;
+  }
+
+  waive_lead : (r : PatronFacts) → patron_of H p ≡ Some r → (n : ℕ) → (n == 0) ≡ false → Leads H (Waive p n) (settled (meta_row H) (Some (patron_columns H p r)) p Waiver n)
+  waive_lead r there zero e owner key = let never : ⊥ = cc in absurd never
+  waive_lead r there (suc m) e owner key = record {
+    meta = meta_lead H p m Waiver refl refl;
+    branches = λ _. refl;
+    closed_days = λ _ _. refl;
+    kinds = λ _. refl;
+    rules = λ _ _. refl;
+    patrons = patrons_lead H p m Waiver refl refl r there;
+    titles = λ _. refl;
+    copies = λ _. refl;
+    loans = λ _. refl;
+    holds = λ _. refl;
+    transits = λ _. refl;
+    lines = lines_lead H p m Waiver refl refl;
+  }
+
+  pub pay_meets : (n : ℕ) → Meets H (Pay p n) (settle_checks rows n) (Owed (owed_by rows.patron - n)) (settle_rows rows p Payment n)
+  pay_meets n = record {
+    same = settle_same n;
+    due = λ ok. ap (λ x. Owed (x - n)) (owed_same (passed (checks H Desk (Pay p n)) ok).0);
+    leads = λ ok owner key.
+        let k = passed (checks H Desk (Pay p n)) ok in
+        let r : (r : PatronFacts) × (patron_of H p ≡ Some r) = some-is (patron_of H p) k.0 in
+        rw (w.meta, patron_is r.0 r.1) (pay_lead r.0 r.1 n (or_parts _ _ k.1.0).0 owner key);
+  }
+
+  pub waive_meets : (n : ℕ) → Meets H (Waive p n) (settle_checks rows n) (Owed (owed_by rows.patron - n)) (settle_rows rows p Waiver n)
+  waive_meets n = record {
+    same = settle_same n;
+    due = λ ok. ap (λ x. Owed (x - n)) (owed_same (passed (checks H Desk (Waive p n)) ok).0);
+    leads = λ ok owner key.
+        let k = passed (checks H Desk (Waive p n)) ok in
+        let r : (r : PatronFacts) × (patron_of H p ≡ Some r) = some-is (patron_of H p) k.0 in
+        rw (w.meta, patron_is r.0 r.1) (waive_lead r.0 r.1 n (or_parts _ _ k.1.0).0 owner key);
+  }

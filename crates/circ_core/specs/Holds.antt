@@ -1,0 +1,8 @@
+-- The rows of holds that end.
+use Rattle.std.specs.Prelude.{None}
+use Rattle.terms.specs.declared.row.HoldRow.{HoldRow}
+use Rattle.terms.specs.declared.row.HoldState.{HoldState}
+
+-- The row of a hold in a final state: it names no copy and no shelf limit any more.
+abbrev pub finished : HoldRow → HoldState → HoldRow
+finished hold state = record hold { state = state; copy = None; limit_day = None }

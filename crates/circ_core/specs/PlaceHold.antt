@@ -1,0 +1,44 @@
+-- The checks and row changes of `place-hold`, on the rows of a view.
+use Rattle.terms.specs.declared.limits.TheConstants.{LAST_NUMBER}
+use Rattle.std.specs.Prelude.{ℕ, ◌+◌, nat_le, nat_lt, List, [], ◌∷◌, Option, Some, None, is_none, is_some}
+use Rattle.terms.specs.declared.refusal.Refusal.TheVariants as refusal
+use Rattle.terms.specs.declared.row.KindRow.{KindRow}
+use Rattle.terms.specs.declared.row.HoldRow.{HoldRow}
+use Rattle.terms.specs.declared.row.HoldState.TheVariants.{Waiting}
+use Rattle.model.specs.Checks.{Check}
+use Rattle.circ_core.specs.declared.changes.RowChange.{RowChange}
+use Rattle.circ_core.specs.declared.changes.RowChange.TheVariants.{PutMeta, PutHold}
+use Rattle.circ_core.specs.declared.views.View.{View}
+
+-- How many active holds the kind may have.
+abbrev pub holds_allowed : Option KindRow → ℕ
+holds_allowed (Some kind) = kind.holds
+holds_allowed None = 0
+
+abbrev pub place_hold_checks : View → List Check
+place_hold_checks view =
+    (refusal.UnknownPatron, is_none view.patron)
+    ∷ (refusal.UnknownTitle, is_none view.title)
+    ∷ (refusal.UnknownBranch, is_none view.branch)
+    ∷ (refusal.AlreadyHolds, nat_lt 0 view.own_holds)
+    ∷ (refusal.HasOnLoan, is_some view.loan)
+    ∷ (refusal.TooManyHolds, nat_le (holds_allowed view.kind) view.active_holds)
+    ∷ (refusal.NumbersUsedUp, nat_lt LAST_NUMBER view.meta.next_hold)
+    ∷ []
+
+-- The hold that is made: it waits, and no copy is for it yet.
+abbrev pub new_hold : ℕ → ℕ → ℕ → ℕ → HoldRow
+new_hold number patron title branch = record {
+  hold = number;
+  patron = patron;
+  title = title;
+  branch = branch;
+  state = Waiting;
+  copy = None;
+  limit_day = None;
+}
+
+-- The next number is given, and the hold is made.
+abbrev pub place_hold_rows : View → ℕ → ℕ → ℕ → List RowChange
+place_hold_rows view patron title branch =
+    PutMeta (record view.meta { next_hold = view.meta.next_hold + 1 }) ∷ PutHold (new_hold view.meta.next_hold patron title branch) ∷ []

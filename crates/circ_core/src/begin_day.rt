@@ -1,0 +1,22 @@
+//! `begin-day`.
+
+ghost use Rattle.terms.specs.declared.reply.Reply.TheVariants.{Done};
+ghost use Rattle.circ_core.specs.Decided.{Decided};
+ghost use Rattle.circ_core.specs.BeginDay.{begin_day_checks, begin_day_rows};
+
+use crate::changes::{Changes, Decision, RowChange, done};
+use crate::checks::first_refusal;
+use terms::{Day, LAST_TODAY, MetaRow, Refusal};
+
+/// `begin-day`: refusal 23.
+pub(crate) fn begin_day<'a>(meta: &MetaRow, day: Day) -> Result<Decision<'a>, Refusal>
+    ensures { Decided (begin_day_checks meta.now day) Done (begin_day_rows meta.now day) result }
+{
+    let fits = meta.today.number() < day.number() && day.number() <= LAST_TODAY;
+    if let Some(refusal) = first_refusal(&[(Refusal::BadDay, !fits)]) {
+        return Err(refusal);
+    }
+    let mut row = *meta;
+    row.today = day;
+    Ok(done(Changes::one(RowChange::PutMeta(row))))
+}

@@ -1,0 +1,218 @@
+-- What the pages find.
+use Rattle.std.proofs.Common.{◌≡◌, ℕ, Some, pos, true, List, [], ◌∷◌, codes, refl, sym, subst, Equal, true≢false}
+use Rattle.std.specs.List.{list_all}
+use Rattle.std.proofs.lemmas.Bool.{and_parts}
+use Rattle.sqlite.specs.declared.types.Value.TheVariants.{Null, Int, Real, Text, Blob}
+use Rattle.sqlite_value.specs.declared.value.Value.{Value}
+use Rattle.sqlite_value.specs.declared.keys.Collation.TheVariants.{Binary}
+use Rattle.sqlite_value.specs.declared.keys.Key.{Key}
+use Rattle.sqlite_value.specs.Keys.{ascending}
+use Rattle.sqlite_value.specs.Order.{value_cmp}
+use Rattle.sqlite.specs.Order.{Row, column}
+use Rattle.sqlite.specs.Schema.{Schema}
+use Rattle.sqlite.specs.Term.{Term, lit, col, op2, holds as passes_test}
+use Rattle.sqlite_sql.specs.Ops.{binary, is_true}
+use Rattle.sqlite_sql.specs.declared.ops.BinaryOp.TheVariants.{Compare, Is}
+use Rattle.sqlite_sql.specs.declared.ops.CompareOp.TheVariants.{Eq, Lt, Gt}
+use Rattle.sqlite.specs.Listing.{understood}
+use Rattle.sqlite.specs.Given.{IsPlain}
+use Rattle.sqlite.specs.State.{State, Shown, IsUnchanged}
+use Rattle.sqlite_tied.specs.Compute.{everything}
+use Rattle.sql_maps.specs.Maps.{Map, Maps, Holds}
+use Rattle.sql_maps.specs.Pages.{FirstRows}
+use Rattle.sqlite_rules.specs.Lists.{Has}
+use Rattle.sql_maps.proofs.PageLemmas.{Pages, page_found}
+use Rattle.circ_tables.specs.Shape.{schema, patrons, titles, copies, loans, holds, transits, lines}
+use Rattle.circ_tables.specs.Selections.{is_ready_after, is_overdue_after, is_line_after, is_after}
+use Rattle.circ_tables.specs.declared.lists.TheConstants.{PAGE_ROWS}
+use Rattle.circ_tables.proofs.KeyedLemmas.{patrons_names, titles_names, copies_names, loans_names, holds_names, transits_names, lines_names}
+
+-- a row of a page is one of the map
+pub there : (most : ℕ) (m : Map) (good : Row → _) (rows : List Row) → FirstRows most m good rows → (v : Row) → Has rows v → (k : Row) × (m k ≡ Some v)
+there most m good rows first v has = let at = first.sound v has in (at.0, at.1)
+
+abbrev by_number : List (Term × Key)
+by_number = (col 1 0, ascending Binary) ∷ []
+
+-- ---- ready holds
+
+abbrev ready_text : List ℕ
+ready_text = codes "SELECT * FROM holds WHERE branch = ?1 AND state = 1 AND hold > ?2 ORDER BY hold LIMIT 1000"
+
+abbrev ready_tests : List Term
+ready_tests = op2 (Compare Eq Binary) (col 1 4) (col 0 0) ∷ op2 (Compare Eq Binary) (col 1 5) (lit (Int (pos 1))) ∷ op2 (Compare Gt Binary) (col 1 0) (col 0 1) ∷ []
+
+ready_pages : Pages schema 9 holds ready_tests by_number PAGE_ROWS holds_names ready_text
+unfolding understood everything
+ready_pages = record { listed = refl; command = refl; bare = (refl, refl); unlisted = refl; single = λ r. refl; key_cell = λ r. refl; as_cells = λ given l. refl; cut = λ given l. refl }
+
+pub ready_plain : (s : Schema) → s ≡ schema → IsPlain (understood s ready_text)
+ready_plain s e = subst (λ z. IsPlain (understood z ready_text)) (sym e) ready_pages.bare
+
+pub ready_found : (a b : ℕ) → (old new : State) (rows : List Row) → Shown ready_text (Int (pos a) ∷ Int (pos b) ∷ []) old new rows → (maps : Maps) → Holds schema old.now maps
+    → FirstRows PAGE_ROWS (maps 9) (is_ready_after a b) rows × IsUnchanged old new
+ready_found a b = page_found schema 9 holds ready_tests by_number PAGE_ROWS holds_names ready_text (Int (pos a) ∷ Int (pos b) ∷ []) (is_ready_after a b) (λ r. refl) (λ x y _ _ less. rw less refl) ready_pages
+
+-- ---- lines of a day
+
+abbrev lines_text : List ℕ
+lines_text = codes "SELECT * FROM lines WHERE day = ?1 AND line > ?2 ORDER BY line LIMIT 1000"
+
+abbrev lines_tests : List Term
+lines_tests = op2 (Compare Eq Binary) (col 1 3) (col 0 0) ∷ op2 (Compare Gt Binary) (col 1 0) (col 0 1) ∷ []
+
+lines_pages : Pages schema 11 lines lines_tests by_number PAGE_ROWS lines_names lines_text
+unfolding understood everything
+lines_pages = record { listed = refl; command = refl; bare = (refl, refl); unlisted = refl; single = λ r. refl; key_cell = λ r. refl; as_cells = λ given l. refl; cut = λ given l. refl }
+
+pub lines_plain : (s : Schema) → s ≡ schema → IsPlain (understood s lines_text)
+lines_plain s e = subst (λ z. IsPlain (understood z lines_text)) (sym e) lines_pages.bare
+
+pub lines_found : (a b : ℕ) → (old new : State) (rows : List Row) → Shown lines_text (Int (pos a) ∷ Int (pos b) ∷ []) old new rows → (maps : Maps) → Holds schema old.now maps
+    → FirstRows PAGE_ROWS (maps 11) (is_line_after a b) rows × IsUnchanged old new
+lines_found a b = page_found schema 11 lines lines_tests by_number PAGE_ROWS lines_names lines_text (Int (pos a) ∷ Int (pos b) ∷ []) (is_line_after a b) (λ r. refl) (λ x y _ _ less. rw less refl) lines_pages
+
+-- ---- overdue loans, whose order names `ended` first
+
+abbrev overdue_text : List ℕ
+overdue_text = codes "SELECT * FROM loans WHERE branch = ?1 AND ended IS NULL AND due < ?2 AND loan > ?3 ORDER BY ended, loan LIMIT 1000"
+
+abbrev overdue_tests : List Term
+overdue_tests = op2 (Compare Eq Binary) (col 1 4) (col 0 0) ∷ op2 (Is Binary) (col 1 11) (lit Null) ∷ op2 (Compare Lt Binary) (col 1 6) (col 0 1) ∷ op2 (Compare Gt Binary) (col 1 0) (col 0 2) ∷ []
+
+abbrev by_ended : List (Term × Key)
+by_ended = (col 1 11, ascending Binary) ∷ (col 1 0, ascending Binary) ∷ []
+
+overdue_pages : Pages schema 8 loans overdue_tests by_ended PAGE_ROWS loans_names overdue_text
+unfolding understood everything
+overdue_pages = record { listed = refl; command = refl; bare = (refl, refl); unlisted = refl; single = λ r. refl; key_cell = λ r. refl; as_cells = λ given l. refl; cut = λ given l. refl }
+
+pub overdue_plain : (s : Schema) → s ≡ schema → IsPlain (understood s overdue_text)
+overdue_plain s e = subst (λ z. IsPlain (understood z overdue_text)) (sym e) overdue_pages.bare
+
+-- what is no value is absent
+absent_is : (v : Value) → is_true (binary (Is Binary) v Null) ≡ true → v ≡ Null
+unfolding binary value_cmp lib.Ieee.is_nan lib.Ieee.lt
+absent_is Null h = refl
+absent_is (Int n) h = absurd (true≢false (sym h))
+absent_is (Real x) h = absurd (true≢false (sym h))
+absent_is (Text t) h = absurd (true≢false (sym h))
+absent_is (Blob b) h = absurd (true≢false (sym h))
+
+nothing_tied : value_cmp Null Null ≡ Equal
+unfolding value_cmp lib.Ieee.is_nan lib.Ieee.lt
+nothing_tied = refl
+
+-- rows that passed have no day on which they ended, so they are in the order of their numbers
+no_end : (given : Row) (x : Row) → list_all (passes_test (given ∷ x ∷ [])) overdue_tests ≡ true → column x 11 ≡ Null
+no_end given x pass = absent_is (column x 11) (and_parts _ _ (and_parts _ _ pass).1).0
+
+pub overdue_found : (a b c : ℕ) → (old new : State) (rows : List Row) → Shown overdue_text (Int (pos a) ∷ Int (pos b) ∷ Int (pos c) ∷ []) old new rows → (maps : Maps) → Holds schema old.now maps
+    → FirstRows PAGE_ROWS (maps 8) (is_overdue_after a b c) rows × IsUnchanged old new
+overdue_found a b c =
+    let given : Row = Int (pos a) ∷ Int (pos b) ∷ Int (pos c) ∷ [] in
+    page_found schema 8 loans overdue_tests by_ended PAGE_ROWS loans_names overdue_text given (is_overdue_after a b c) (λ r. refl)
+    (λ x y p q less. rw (no_end given x p, no_end given y q, less, nothing_tied) refl) overdue_pages
+
+-- ---- all rows of a table
+
+abbrev after_tests : List Term
+after_tests = op2 (Compare Gt Binary) (col 1 0) (col 0 0) ∷ []
+
+abbrev patrons_after_text : List ℕ
+patrons_after_text = codes "SELECT * FROM patrons WHERE patron > ?1 ORDER BY patron LIMIT 1000"
+
+patrons_after_pages : Pages schema 5 patrons after_tests by_number PAGE_ROWS patrons_names patrons_after_text
+unfolding understood everything
+patrons_after_pages = record { listed = refl; command = refl; bare = (refl, refl); unlisted = refl; single = λ r. refl; key_cell = λ r. refl; as_cells = λ given l. refl; cut = λ given l. refl }
+
+pub patrons_after_plain : (s : Schema) → s ≡ schema → IsPlain (understood s patrons_after_text)
+patrons_after_plain s e = subst (λ z. IsPlain (understood z patrons_after_text)) (sym e) patrons_after_pages.bare
+
+pub patrons_after_found : (a : ℕ) → (old new : State) (rows : List Row) → Shown patrons_after_text (Int (pos a) ∷ []) old new rows → (maps : Maps) → Holds schema old.now maps
+    → FirstRows PAGE_ROWS (maps 5) (is_after a) rows × IsUnchanged old new
+patrons_after_found a = page_found schema 5 patrons after_tests by_number PAGE_ROWS patrons_names patrons_after_text (Int (pos a) ∷ []) (is_after a) (λ r. refl) (λ x y _ _ less. rw less refl) patrons_after_pages
+
+abbrev titles_after_text : List ℕ
+titles_after_text = codes "SELECT * FROM titles WHERE title > ?1 ORDER BY title LIMIT 1000"
+
+titles_after_pages : Pages schema 6 titles after_tests by_number PAGE_ROWS titles_names titles_after_text
+unfolding understood everything
+titles_after_pages = record { listed = refl; command = refl; bare = (refl, refl); unlisted = refl; single = λ r. refl; key_cell = λ r. refl; as_cells = λ given l. refl; cut = λ given l. refl }
+
+pub titles_after_plain : (s : Schema) → s ≡ schema → IsPlain (understood s titles_after_text)
+titles_after_plain s e = subst (λ z. IsPlain (understood z titles_after_text)) (sym e) titles_after_pages.bare
+
+pub titles_after_found : (a : ℕ) → (old new : State) (rows : List Row) → Shown titles_after_text (Int (pos a) ∷ []) old new rows → (maps : Maps) → Holds schema old.now maps
+    → FirstRows PAGE_ROWS (maps 6) (is_after a) rows × IsUnchanged old new
+titles_after_found a = page_found schema 6 titles after_tests by_number PAGE_ROWS titles_names titles_after_text (Int (pos a) ∷ []) (is_after a) (λ r. refl) (λ x y _ _ less. rw less refl) titles_after_pages
+
+abbrev copies_after_text : List ℕ
+copies_after_text = codes "SELECT * FROM copies WHERE copy > ?1 ORDER BY copy LIMIT 1000"
+
+copies_after_pages : Pages schema 7 copies after_tests by_number PAGE_ROWS copies_names copies_after_text
+unfolding understood everything
+copies_after_pages = record { listed = refl; command = refl; bare = (refl, refl); unlisted = refl; single = λ r. refl; key_cell = λ r. refl; as_cells = λ given l. refl; cut = λ given l. refl }
+
+pub copies_after_plain : (s : Schema) → s ≡ schema → IsPlain (understood s copies_after_text)
+copies_after_plain s e = subst (λ z. IsPlain (understood z copies_after_text)) (sym e) copies_after_pages.bare
+
+pub copies_after_found : (a : ℕ) → (old new : State) (rows : List Row) → Shown copies_after_text (Int (pos a) ∷ []) old new rows → (maps : Maps) → Holds schema old.now maps
+    → FirstRows PAGE_ROWS (maps 7) (is_after a) rows × IsUnchanged old new
+copies_after_found a = page_found schema 7 copies after_tests by_number PAGE_ROWS copies_names copies_after_text (Int (pos a) ∷ []) (is_after a) (λ r. refl) (λ x y _ _ less. rw less refl) copies_after_pages
+
+abbrev loans_after_text : List ℕ
+loans_after_text = codes "SELECT * FROM loans WHERE loan > ?1 ORDER BY loan LIMIT 1000"
+
+loans_after_pages : Pages schema 8 loans after_tests by_number PAGE_ROWS loans_names loans_after_text
+unfolding understood everything
+loans_after_pages = record { listed = refl; command = refl; bare = (refl, refl); unlisted = refl; single = λ r. refl; key_cell = λ r. refl; as_cells = λ given l. refl; cut = λ given l. refl }
+
+pub loans_after_plain : (s : Schema) → s ≡ schema → IsPlain (understood s loans_after_text)
+loans_after_plain s e = subst (λ z. IsPlain (understood z loans_after_text)) (sym e) loans_after_pages.bare
+
+pub loans_after_found : (a : ℕ) → (old new : State) (rows : List Row) → Shown loans_after_text (Int (pos a) ∷ []) old new rows → (maps : Maps) → Holds schema old.now maps
+    → FirstRows PAGE_ROWS (maps 8) (is_after a) rows × IsUnchanged old new
+loans_after_found a = page_found schema 8 loans after_tests by_number PAGE_ROWS loans_names loans_after_text (Int (pos a) ∷ []) (is_after a) (λ r. refl) (λ x y _ _ less. rw less refl) loans_after_pages
+
+abbrev holds_after_text : List ℕ
+holds_after_text = codes "SELECT * FROM holds WHERE hold > ?1 ORDER BY hold LIMIT 1000"
+
+holds_after_pages : Pages schema 9 holds after_tests by_number PAGE_ROWS holds_names holds_after_text
+unfolding understood everything
+holds_after_pages = record { listed = refl; command = refl; bare = (refl, refl); unlisted = refl; single = λ r. refl; key_cell = λ r. refl; as_cells = λ given l. refl; cut = λ given l. refl }
+
+pub holds_after_plain : (s : Schema) → s ≡ schema → IsPlain (understood s holds_after_text)
+holds_after_plain s e = subst (λ z. IsPlain (understood z holds_after_text)) (sym e) holds_after_pages.bare
+
+pub holds_after_found : (a : ℕ) → (old new : State) (rows : List Row) → Shown holds_after_text (Int (pos a) ∷ []) old new rows → (maps : Maps) → Holds schema old.now maps
+    → FirstRows PAGE_ROWS (maps 9) (is_after a) rows × IsUnchanged old new
+holds_after_found a = page_found schema 9 holds after_tests by_number PAGE_ROWS holds_names holds_after_text (Int (pos a) ∷ []) (is_after a) (λ r. refl) (λ x y _ _ less. rw less refl) holds_after_pages
+
+abbrev transits_after_text : List ℕ
+transits_after_text = codes "SELECT * FROM transits WHERE copy > ?1 ORDER BY copy LIMIT 1000"
+
+transits_after_pages : Pages schema 10 transits after_tests by_number PAGE_ROWS transits_names transits_after_text
+unfolding understood everything
+transits_after_pages = record { listed = refl; command = refl; bare = (refl, refl); unlisted = refl; single = λ r. refl; key_cell = λ r. refl; as_cells = λ given l. refl; cut = λ given l. refl }
+
+pub transits_after_plain : (s : Schema) → s ≡ schema → IsPlain (understood s transits_after_text)
+transits_after_plain s e = subst (λ z. IsPlain (understood z transits_after_text)) (sym e) transits_after_pages.bare
+
+pub transits_after_found : (a : ℕ) → (old new : State) (rows : List Row) → Shown transits_after_text (Int (pos a) ∷ []) old new rows → (maps : Maps) → Holds schema old.now maps
+    → FirstRows PAGE_ROWS (maps 10) (is_after a) rows × IsUnchanged old new
+transits_after_found a = page_found schema 10 transits after_tests by_number PAGE_ROWS transits_names transits_after_text (Int (pos a) ∷ []) (is_after a) (λ r. refl) (λ x y _ _ less. rw less refl) transits_after_pages
+
+abbrev lines_after_text : List ℕ
+lines_after_text = codes "SELECT * FROM lines WHERE line > ?1 ORDER BY line LIMIT 1000"
+
+lines_after_pages : Pages schema 11 lines after_tests by_number PAGE_ROWS lines_names lines_after_text
+unfolding understood everything
+lines_after_pages = record { listed = refl; command = refl; bare = (refl, refl); unlisted = refl; single = λ r. refl; key_cell = λ r. refl; as_cells = λ given l. refl; cut = λ given l. refl }
+
+pub lines_after_plain : (s : Schema) → s ≡ schema → IsPlain (understood s lines_after_text)
+lines_after_plain s e = subst (λ z. IsPlain (understood z lines_after_text)) (sym e) lines_after_pages.bare
+
+pub lines_after_found : (a : ℕ) → (old new : State) (rows : List Row) → Shown lines_after_text (Int (pos a) ∷ []) old new rows → (maps : Maps) → Holds schema old.now maps
+    → FirstRows PAGE_ROWS (maps 11) (is_after a) rows × IsUnchanged old new
+lines_after_found a = page_found schema 11 lines after_tests by_number PAGE_ROWS lines_names lines_after_text (Int (pos a) ∷ []) (is_after a) (λ r. refl) (λ x y _ _ less. rw less refl) lines_after_pages

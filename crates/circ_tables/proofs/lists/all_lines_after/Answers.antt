@@ -1,0 +1,13 @@
+use Rattle.sql_maps.specs.Pages.{FirstRows}
+use Rattle.circ_tables.specs.Reading.{lines}
+use Rattle.circ_tables.specs.Selections.{is_after}
+use Rattle.circ_tables.specs.declared.lists.TheConstants.{PAGE_ROWS}
+use Rattle.circ_tables.proofs.PageLemmas.{there, lines_after_found, lines_after_plain}
+use Rattle.circ_tables.proofs.ReadingLemmas.{lists_of}
+use Rattle.circ_tables.proofs.TableLemmas.{lines_within}
+use Rattle.circ_tables.proofs.lists.all_lines_after.Goals as goal
+
+pub returns : goal.returns
+returns g c =
+    lists_of lines _ _ lines_after_plain _ (λ m. FirstRows PAGE_ROWS m (is_after c.args.after)) (lines_after_found c.args.after)
+    (λ m rows first v has. there PAGE_ROWS m (is_after c.args.after) rows first v has) lines_within _ _ _ _ (rw (c.params-to_sql.ensures, c.number.ensures.value) at c.rows_of.ensures)

@@ -1,0 +1,194 @@
+-- The lines of a day, page by page.
+use Rattle.std.proofs.Common.{◌≡◌, ℕ, suc, ◌≤◌, ◌<◌, ◌+◌, ◌-◌, ◌^◌, min, true, ◌⊎◌, inl, inr, List, [], ◌∷◌, ◌++◌, length, map, refl, sym, ◌∙◌, ap, subst, arith}
+use Rattle.std.specs.Prelude.{Some, None}
+use Rattle.std.specs.List.{Contains, AllByRecursion}
+use Rattle.std.proofs.lemmas.Bool.{cases_lt}
+use Rattle.circ_tables.specs.declared.lists.TheConstants.{PAGE_ROWS}
+use Rattle.store.specs.Lists.{Rise, AreRows}
+use Rattle.store.specs.Pages.{AreLinesAfter}
+use Rattle.terms.specs.Limits.{InLimits}
+use Rattle.terms.specs.Pictures.{Picture}
+use Rattle.terms.specs.declared.row.LineRow.{LineRow}
+use Rattle.terms.specs.declared.row.Sort.{Sort}
+use Rattle.terms.specs.declared.row.Sort.TheVariants.{Fine, Price, Payment, Waiver}
+use Rattle.model.specs.History.{History}
+use Rattle.model.specs.Picture.{picture}
+use Rattle.model.specs.Reports.{till_sum}
+use Rattle.model.specs.Requests.{IsLegal}
+use Rattle.model.proofs.RowRanges.{legal-rows}
+use Rattle.desk.specs.Parts.{IsLast}
+use Rattle.desk.specs.Reporting.{rows_sum, capped_sum, capped_sums, day_sums, AreBelow}
+use Rattle.desk.specs.declared.till.Sums.{Sums}
+use Rattle.std.specs.Prelude.{Result, Ok, Err, IfOk, OnErr}
+use Rattle.store.specs.Library.{Ghosts, Held}
+use Rattle.terms.specs.declared.fault.Fault.{Fault}
+use Rattle.desk.specs.Answering.{Learns, LearnsIf}
+use Rattle.desk.proofs.Looking.{gives, never-fails}
+use Rattle.desk.proofs.NumberLists.{last-is}
+use Rattle.desk.proofs.RowLists.{has, contains-has, has-contains}
+use Rattle.desk.proofs.TillBound.{till-below}
+use Rattle.desk.proofs.TillLines.{AreLinesOf, in-cases, in-none, till-sum}
+use Rattle.desk.proofs.TillSums.{sum-append}
+
+-- ---- rows after rows
+
+module _ {R : Type 0} where
+  contains-first : (x : R) (rows : List R) → Contains (x ∷ rows) x
+  contains-first x rows = (0, omega arith, refl)
+
+  contains-later : (x r : R) (rows : List R) → Contains rows r → Contains (x ∷ rows) r
+  contains-later x r rows at = let lt : at.0 < length rows = at.1 in (suc at.0, omega (arith, lt), at.2)
+
+  in-either : (xs ys : List R) (r : R) → Contains (xs ++ ys) r → Contains xs r ⊎ Contains ys r
+  in-either [] ys r at = inr at
+  in-either (x ∷ xs) ys r at = go (λ more. in-either xs ys r more) (in-cases x r (xs ++ ys) at)
+    where
+      go : (Contains (xs ++ ys) r → Contains xs r ⊎ Contains ys r) → (r ≡ x) ⊎ Contains (xs ++ ys) r → Contains (x ∷ xs) r ⊎ Contains ys r
+      go ih (inl same) = inl (subst (λ y. Contains (x ∷ xs) y) (sym same) (contains-first x xs))
+      go ih (inr more) = elim (ih more) [ inl there ↦ inl (contains-later x r xs there) | inr there ↦ inr there ]
+
+  in-front : (xs ys : List R) (r : R) → Contains xs r → Contains (xs ++ ys) r
+  in-front [] ys r at = absurd (in-none r at)
+  in-front (x ∷ xs) ys r at = elim (in-cases x r xs at) [
+    | inl same ↦ subst (λ y. Contains (x ∷ (xs ++ ys)) y) (sym same) (contains-first x (xs ++ ys))
+    | inr more ↦ contains-later x r (xs ++ ys) (in-front xs ys r more)
+  ]
+
+  in-back : (xs ys : List R) (r : R) → Contains ys r → Contains (xs ++ ys) r
+  in-back [] ys r at = at
+  in-back (x ∷ xs) ys r at = contains-later x r (xs ++ ys) (in-back xs ys r at)
+
+  all-append : (P : R → Type 0) (xs ys : List R) → AllByRecursion P xs → ((r : R) → Contains ys r → P r) → AllByRecursion P (xs ++ ys)
+  all-append P [] [] all more = tt
+  all-append P [] (y ∷ ys) all more = (more y (contains-first y ys), all-append P [] ys tt (λ r at. more r (contains-later y r ys at)))
+  all-append P (x ∷ xs) ys all more = (all.0, all-append P xs ys all.1 more)
+
+  module _ (number_of : R → ℕ) where
+    rise-append : (xs ys : List R) → Rise number_of xs → Rise number_of ys → ((r s : R) → Contains xs r → Contains ys s → number_of r < number_of s) → Rise number_of (xs ++ ys)
+    rise-append [] ys up also below = also
+    rise-append (x ∷ xs) ys up also below = (
+      all-append (λ s. number_of x < number_of s) xs ys up.0 (λ s at. below x s (contains-first x xs) at),
+      rise-append xs ys up.1 also (λ r s at there. below r s (contains-later x r xs at) there),
+    )
+
+-- ---- the lines up to a number
+
+-- The rows are the lines of the day up to this number.
+abbrev pub AreLinesTo : Picture → ℕ → ℕ → List LineRow → Type 0
+AreLinesTo P d after = AreRows P.lines (λ r. r.line) (λ r. (r.day ≡ d) × (r.line ≤ after))
+
+-- There is none up to 0.
+pub no-lines : (P : Picture) (d after : ℕ) → InLimits P → after ≡ 0 → AreLinesTo P d after []
+no-lines P d after legal first = record {
+  sound = λ r at. absurd (in-none r at);
+  whole = λ n r there passes.
+      let low : r.line ≤ after = passes.1 in
+      let high : 1 ≤ r.line = (legal.lines n r there).1.0.0 in
+      absurd (omega (arith, low, high, first));
+  rise = tt;
+}
+
+module _ (P : Picture) (d after : ℕ) (legal : InLimits P) (done rows : List LineRow) (before : AreLinesTo P d after done) (page : AreLinesAfter P d after rows) where
+  joined-rise : Rise (λ r. r.line) (done ++ rows)
+  joined-rise = rise-append (λ (r : LineRow). r.line) done rows before.rise page.rise (λ r s at there.
+      let low : r.line ≤ after = (before.sound r at).1.1 in
+      let high : after < s.line = (page.sound s there).1.1 in
+      omega (arith, low, high))
+
+  -- A page that isn't full is the last one.
+  pub lines-all : IsLast (λ (r : LineRow). r.line) rows None → AreLinesOf P d (done ++ rows)
+  lines-all short = record {
+    sound = λ r at. elim (in-either done rows r at) [
+      | inl there ↦ ((before.sound r there).0, (before.sound r there).1.0)
+      | inr there ↦ ((page.sound r there).0, (page.sound r there).1.0)
+    ];
+    whole = λ n r there day. elim (cases_lt after r.line) [
+      | inl high ↦ elim (page.whole n r there (day, high)) [
+        | inl at ↦ in-back done rows r at
+        | inr rest ↦ (let full : length rows ≡ PAGE_ROWS = rest.0 in absurd (omega (arith, full, short)))
+      ]
+      | inr low ↦ in-front done rows r (before.whole n r there (day, low))
+    ];
+    rise = joined-rise;
+  }
+
+  module _ (last : ℕ) (end : IsLast (λ (r : LineRow). r.line) rows (Some last)) where
+    greatest : ((k : ℕ) → has k (map (λ (r : LineRow). r.line) rows) ≡ true → k ≤ last) × (has last (map (λ (r : LineRow). r.line) rows) ≡ true)
+    greatest = last-is (λ (r : LineRow). r.line) rows (length rows - 1) last page.rise refl end
+
+    -- The last line of a page is above the number that it begins after.
+    pub lines-go-on : after < last
+    lines-go-on =
+        let row : (r : LineRow) × Contains rows r × (r.line ≡ last) = has-contains (λ (r : LineRow). r.line) rows last greatest.1 in
+        let high : after < row.0.line = (page.sound row.0 row.1).1.1 in
+        let same : row.0.line ≡ last = row.2 in
+        omega (arith, high, same)
+
+    -- A page more.
+    pub lines-more : AreLinesTo P d last (done ++ rows)
+    lines-more = record {
+      sound = λ r at. elim (in-either done rows r at) [
+        | inl there ↦
+            let low : r.line ≤ after = (before.sound r there).1.1 in
+            let on : after < last = lines-go-on in
+            ((before.sound r there).0, ((before.sound r there).1.0, omega (arith, low, on)))
+        | inr there ↦ ((page.sound r there).0, ((page.sound r there).1.0, greatest.0 r.line (contains-has (λ (q : LineRow). q.line) rows r there.0 there.1 there.2)))
+      ];
+      whole = λ n r there passes. elim (cases_lt after r.line) [
+        | inl high ↦ elim (page.whole n r there (passes.0, high)) [
+          | inl at ↦ in-back done rows r at
+          | inr rest ↦
+              let row : (s : LineRow) × Contains rows s × (s.line ≡ last) = has-contains (λ (s : LineRow). s.line) rows last greatest.1 in
+              let less : row.0.line < n = rest.1 row.0 row.1 in
+              let same : row.0.line ≡ last = row.2 in
+              let mine : r.line ≡ n = (legal.lines n r there).0 in
+              let low : r.line ≤ last = passes.1 in
+              absurd (omega (arith, less, same, mine, low))
+        ]
+        | inr low ↦ in-front done rows r (before.whole n r there (passes.0, low))
+      ];
+      rise = joined-rise;
+    }
+
+-- ---- the sums so far
+
+-- The sums are those of the lines up to a number, which came in so many pages and no more.
+pub record AreSumsTo (P : Picture) (d after : ℕ) (sums : Sums) (pages : ℕ) : Type 0 where
+  pub done : List LineRow
+  pub lines : AreLinesTo P d after done
+  pub sums_are : sums ≡ capped_sums done
+  pub few : pages ≤ after
+
+-- Sums that stay at the largest number, added one after another.
+pub capped-then : (s : Sort) (before rows : List LineRow) (sum : ℕ) → sum ≡ capped_sum s before → min (sum + rows_sum s rows) (2 ^ 64 - 1) ≡ capped_sum s (before ++ rows)
+capped-then s before rows sum is =
+    let all : rows_sum s (before ++ rows) ≡ rows_sum s before + rows_sum s rows = sum-append s before rows in
+    omega (arith, is, all)
+
+-- What the sums of a page add.
+pub sums-then : (before rows : List LineRow) (sums : Sums) → sums ≡ capped_sums before → (f p q w : ℕ) → f ≡ min (sums.fines + rows_sum Fine rows) (2 ^ 64 - 1) → p ≡ min (sums.prices + rows_sum Price rows) (2 ^ 64 - 1)
+    → q ≡ min (sums.payments + rows_sum Payment rows) (2 ^ 64 - 1) → w ≡ min (sums.waivers + rows_sum Waiver rows) (2 ^ 64 - 1)
+    → record { fines = f; prices = p; payments = q; waivers = w } ≡ capped_sums (before ++ rows)
+sums-then before rows sums is f p q w one two three four = λ i. record {
+  fines = (one ∙ capped-then Fine before rows sums.fines (ap (λ (x : Sums). x.fines) is)) i;
+  prices = (two ∙ capped-then Price before rows sums.prices (ap (λ (x : Sums). x.prices) is)) i;
+  payments = (three ∙ capped-then Payment before rows sums.payments (ap (λ (x : Sums). x.payments) is)) i;
+  waivers = (four ∙ capped-then Waiver before rows sums.waivers (ap (λ (x : Sums). x.waivers) is)) i;
+}
+
+-- The sums of all lines of a day are those of the history, and none is the largest number.
+module _ (H : History) (legal : IsLegal H) (d : ℕ) (rows : List LineRow) (all : AreLinesOf (picture H) d rows) where
+  one-sum : (s : Sort) → capped_sum s rows ≡ till_sum H d s
+  one-sum s = let sum : rows_sum s rows ≡ till_sum H d s = till-sum H d rows all s in let low : till_sum H d s < 2 ^ 64 - 1 = till-below H legal d s in omega (arith, sum, low)
+
+  pub sums-are-days : capped_sums rows ≡ day_sums H d
+  sums-are-days = λ i. record { fines = one-sum Fine i; prices = one-sum Price i; payments = one-sum Payment i; waivers = one-sum Waiver i }
+
+  pub sums-are-below : (sums : Sums) → sums ≡ capped_sums rows → AreBelow sums
+  sums-are-below sums is = subst AreBelow (sym (is ∙ sums-are-days)) (till-below H legal d Fine, till-below H legal d Price, till-below H legal d Payment, till-below H legal d Waiver)
+
+-- The sums of all lines, once they were looked at.
+module _ {S : Type 0} {g : Ghosts S} {a b : Held S} {d : ℕ} {sums : Sums} (learnt : LearnsIf {A = Unit {0}} (λ H. InLimits (picture H)) (λ H _. (rows : List LineRow) × AreLinesOf (picture H) d rows × (sums ≡ capped_sums rows)) g a b (Ok tt)) where
+  pub checked : (r : Result Sums Fault) → IfOk r (λ same. (same ≡ sums) × AreBelow sums) → OnErr r (AreBelow sums → ⊥) → Learns (λ H x. x ≡ day_sums H d) g a b r
+  checked (Ok x) same over = gives learnt (λ H list _. legal-rows H list.0 list.1) (λ H legal _ is. same.0 ∙ is.2 ∙ sums-are-days H legal d is.0 is.1)
+  checked (Err e) same over = never-fails (Err e) refl learnt (λ H list _. legal-rows H list.0 list.1) (λ H list _ is. over (sums-are-below H list.0 d is.0 is.1 sums is.2))

@@ -1,0 +1,14 @@
+use Rattle.std.proofs.Common.{string_bytes, ap}
+use Rattle.std.specs.Fmt.{styled_decimal}
+use Rattle.desk.proofs.Looking.{if-ok}
+use Rattle.desk.proofs.ReportRows.{till-text}
+use Rattle.desk.proofs.till.till_lines.Goals as goal
+
+pub returns : goal.returns
+returns c = if-ok _ _ c.format.result
+    (λ text e. till-text c.args.day c.args.sums _ _ _ _ (string_bytes text)
+    (ap (λ s. styled_decimal s c.args.sums.fines) c.laid_out.ensures)
+    (ap (λ s. styled_decimal s c.args.sums.prices) c.laid_out-2.ensures)
+    (ap (λ s. styled_decimal s c.args.sums.payments) c.laid_out-3.ensures)
+    (ap (λ s. styled_decimal s c.args.sums.waivers) c.laid_out-4.ensures) e)
+    c.format.ensures.ok

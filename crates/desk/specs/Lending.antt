@@ -1,0 +1,26 @@
+-- What the overdue report reads of its branch before its rows.
+use Rattle.std.specs.Prelude.{◌≡◌, ℕ, List, Option, Some, None}
+use Rattle.std.specs.List.{Contains}
+use Rattle.terms.specs.declared.row.LoanRow.{LoanRow}
+use Rattle.model.specs.History.{History}
+use Rattle.model.specs.Picture.{picture}
+use Rattle.desk.specs.Reporting.{CountsFor}
+use Rattle.desk.specs.Written.{HasBranch}
+use Rattle.desk.specs.declared.overdue.Lender.{Lender}
+
+-- The calendar is that of the branch, and the day is today.
+abbrev pub Counts : Lender → History → Type 0
+Counts lender H = CountsFor H lender.branch lender.calendar lender.today
+
+-- This is the row of a loan.
+abbrev pub IsLateRow : Lender → LoanRow → History → Type 0
+IsLateRow lender r H = ((picture H).loans r.loan ≡ Some r) × Counts lender H
+
+-- These are rows of loans.
+abbrev pub AreLateRows : Lender → List LoanRow → History → Type 0
+AreLateRows lender rows H = (r : LoanRow) → Contains rows r → IsLateRow lender r H
+
+-- It was read of the branch, if there is the branch.
+abbrev pub IsLender : ℕ → History → Option Lender → Type 0
+IsLender branch H (Some lender) = HasBranch H branch × (lender.branch ≡ branch) × Counts lender H
+IsLender branch H None = (picture H).branches branch ≡ None

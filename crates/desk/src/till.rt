@@ -1,0 +1,157 @@
+//! The till report of a day.
+
+ghost use Rattle.std.specs.Prelude.{◌≡◌, ◌++◌, ◌^◌, ◌-◌, ◌+◌, cond, min, List, IfOk, OnErr};
+ghost use Rattle.std.specs.Prelude.{string_bytes};
+ghost use Rattle.terms.specs.declared.row.LineRow.{LineRow as AnyLine};
+ghost use Rattle.model.specs.Reports.{is_sort, till as till_of};
+ghost use Rattle.desk.specs.Answering.{Learns};
+ghost use Rattle.desk.specs.Parts.{IsLast};
+ghost use Rattle.desk.specs.Written.{WritesTill};
+ghost use Rattle.desk.specs.Reporting.{rows_sum, capped_sums, day_sums, AreBelow, till_words};
+
+use crate::reporting::ReportFault;
+use sqlite::Alter;
+use std::alloc::Global;
+use std::io::Write;
+use store::{PAGE_ROWS, Store};
+use terms::{Day, Fault, LineId, LineRow, Memory, Sort, write_bytes};
+
+/// The sums of a day's lines, by their sorts, in cents. A sum that would be above the largest
+/// number stays there.
+#[derive(Clone, Copy, Debug, PartialEq, Eq)]
+struct Sums {
+    fines: u64,
+    prices: u64,
+    payments: u64,
+    waivers: u64,
+}
+
+/// The amount of a line of the sort; of another's nothing.
+fn amount_of(row: &LineRow, sort: Sort) -> u64
+    ensures { result ≡ cond (is_sort row.now.sort sort) row.now.amount 0 }
+{
+    if row.sort == sort {
+        row.amount.number()
+    } else {
+        0
+    }
+}
+
+/// The sum, with the lines of one sort added to it.
+fn added(sum: u64, rows: &[LineRow], sort: Sort) -> u64
+    ensures { result ≡ min (sum + rows_sum sort rows.now) (2 ^ 64 - 1) }
+{
+    let mut total = sum;
+    'rows: for row in rows {
+        total = total.saturating_add(amount_of(row, sort));
+    }
+    total
+}
+
+/// The sums, with a page of lines added to them.
+fn add_lines(sums: Sums, rows: &[LineRow]) -> Sums
+    ensures { (before : List AnyLine) → sums ≡ capped_sums before
+        → result ≡ capped_sums (before ++ rows.now) }
+{
+    Sums {
+        fines: added(sums.fines, rows, Sort::Fine),
+        prices: added(sums.prices, rows, Sort::Price),
+        payments: added(sums.payments, rows, Sort::Payment),
+        waivers: added(sums.waivers, rows, Sort::Waiver),
+    }
+}
+
+/// The number of the last line of a full page, after which more may follow.
+fn last_line(rows: &[LineRow]) -> Option<u32>
+    ensures { IsLast (λ r. r.line) rows.now result }
+{
+    if rows.len() < PAGE_ROWS {
+        return None;
+    }
+    match rows.last() {
+        Some(row) => Some(row.line.number()),
+        None => None,
+    }
+}
+
+/// The sums, as far as none of them is the largest number: 93 where one is, which no history leads
+/// to.
+fn check_sums(sums: Sums) -> Result<Sums, Fault>
+    ensures same { IfOk result (λ same. (same ≡ sums) × AreBelow sums) }
+    ensures over { OnErr result (AreBelow sums → ⊥) }
+{
+    if sums.fines < u64::MAX
+        && sums.prices < u64::MAX
+        && sums.payments < u64::MAX
+        && sums.waivers < u64::MAX
+    {
+        Ok(sums)
+    } else {
+        Err(Fault::Stored)
+    }
+}
+
+/// The sums of a day's lines, which are read page by page. 90, 91; 93, which never comes where the
+/// tables show a history.
+fn sum_day<S: Alter>(store: &mut Store<S>, alloc: Global, day: Day) -> Result<Sums, Fault>
+    ensures { Learns (λ H sums. sums ≡ day_sums H day) S.Store store.old store.new result }
+{
+    let mut sums = Sums {
+        fines: 0,
+        prices: 0,
+        payments: 0,
+        waivers: 0,
+    };
+    let mut after = LineId::new(0);
+    'pages: for _page in 0..u64::MAX {
+        let rows = store.lines(alloc, day, after)?;
+        let page = rows.as_slice();
+        sums = add_lines(sums, page);
+        match last_line(page) {
+            Some(last) => after = LineId::new(last),
+            None => return check_sums(sums),
+        }
+    }
+    Err(Fault::Stored)
+}
+
+/// The lines of the till report.
+fn till_lines(alloc: Global, day: Day, sums: Sums) -> Result<String, Memory>
+    ensures { IfOk result (λ text. string_bytes text ≡ till_words day sums) }
+{
+    let Sums {
+        fines,
+        prices,
+        payments,
+        waivers,
+    } = sums;
+    format!(in alloc;
+        "till {day}\nfines    {fines:>15}\nprices   {prices:>15}\n\
+         payments {payments:>15}\nwaivers  {waivers:>15}\n"
+    )
+}
+
+/// The till report of a day. 90, 91; 93, which never comes where the tables show a history.
+fn till_text<S: Alter>(store: &mut Store<S>, alloc: Global, day: Day) -> Result<String, Fault>
+    ensures { Learns (λ H text. string_bytes text ≡ till_of H day)
+        S.Store store.old store.new result }
+{
+    let sums = sum_day(store, alloc, day)?;
+    Ok(till_lines(alloc, day, sums)?)
+}
+
+/// Writes the till report of a day. 90, 91, 93, or a write failed: then a beginning of it may have
+/// gone out.
+pub(crate) fn till<S: Alter, W: Write>(
+    store: &mut Store<S>,
+    alloc: Global,
+    day: Day,
+    writer: &mut W,
+) -> Result<(), ReportFault>
+    ensures { WritesTill day
+        S.Store store.old store.new (W.contents writer.old) (W.contents writer.new) result }
+{
+    let text = till_text(store, alloc, day)?;
+    write_bytes(writer, text.as_bytes())?;
+    Ok(())
+}

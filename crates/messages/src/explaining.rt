@@ -1,0 +1,54 @@
+//! What a line means.
+
+use crate::meanings::{meaning, saying};
+use crate::noting::Line;
+use crate::usage::write_usage;
+use std::io::Write;
+use terms::{WriteFault, write_pieces};
+
+/// The last number in the line; 0 where there is none.
+fn last_number(line: &[u8]) -> u32 {
+    let mut number = 0u32;
+    let mut inside = false;
+    for byte in line {
+        if byte.is_ascii_digit() {
+            let before = if inside { number } else { 0 };
+            number = before
+                .saturating_mul(10)
+                .saturating_add(u32::from(*byte - b'0'));
+            inside = true;
+        } else {
+            inside = false;
+        }
+    }
+    number
+}
+
+/// What a line means that is no word of the desk's; none where it tells nothing more.
+fn text_of(line: &[u8]) -> Option<&'static str> {
+    if line.ends_with(b" bad") {
+        return Some("the row is not copy,title,text,kind,home,price,end, or no row may follow");
+    }
+    match saying(line) {
+        Some(text) => Some(text),
+        None => meaning(last_number(line)),
+    }
+}
+
+/// Says what the line means, where it tells of a refusal, a fault, or that the words were not understood: in one line, or the usage of the
+/// words. The words are those of the run after the program's name.
+pub fn explain<W: Write>(
+    writer: &mut W,
+    line: &Line,
+    words: &[String],
+    schema: u32,
+) -> Result<(), WriteFault> {
+    let line = line.as_bytes();
+    if line == b"words not understood".as_slice() {
+        return write_usage(writer, words, schema);
+    }
+    match text_of(line) {
+        Some(text) => write_pieces(writer, &[b"circ: ", text.as_bytes(), b"\n"]),
+        None => Ok(()),
+    }
+}

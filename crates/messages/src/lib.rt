@@ -1,0 +1,13 @@
+//! What the program says for a person on standard error, beside the lines that scripts read: what a refusal or a fault means, and
+//! how words are written.
+#![tactic(auto)]
+
+mod explaining;
+mod meanings;
+mod noting;
+mod usage;
+
+pub use explaining::explain;
+pub use meanings::meaning;
+pub use noting::{Line, Noting};
+pub use usage::{VERSION, write_usage};

@@ -1,0 +1,225 @@
+//! What the numbers of refusals and faults mean, and the lines that have none.
+
+/// A number and what it means, for a person.
+#[derive(Clone, Copy)]
+struct Entry {
+    number: u32,
+    text: &'static str,
+}
+
+const MEANINGS: [Entry; 40] = [
+    Entry {
+        number: 10,
+        text: "unknown branch",
+    },
+    Entry {
+        number: 11,
+        text: "unknown patron",
+    },
+    Entry {
+        number: 12,
+        text: "unknown title",
+    },
+    Entry {
+        number: 13,
+        text: "unknown copy",
+    },
+    Entry {
+        number: 14,
+        text: "unknown loan",
+    },
+    Entry {
+        number: 15,
+        text: "unknown hold",
+    },
+    Entry {
+        number: 16,
+        text: "no circulation rule for the kind of the patron and that of the copy",
+    },
+    Entry {
+        number: 17,
+        text: "unknown kind of patron",
+    },
+    Entry {
+        number: 20,
+        text: "there already, with other content",
+    },
+    Entry {
+        number: 21,
+        text: "a number is out of its limits, or 400 days are closed singly",
+    },
+    Entry {
+        number: 22,
+        text: "all seven weekdays would be closed",
+    },
+    Entry {
+        number: 23,
+        text: "the day is not after today, or out of range",
+    },
+    Entry {
+        number: 24,
+        text: "the day is closed singly already",
+    },
+    Entry {
+        number: 25,
+        text: "the day is not closed singly",
+    },
+    Entry {
+        number: 30,
+        text: "the copy is at another branch",
+    },
+    Entry {
+        number: 31,
+        text: "the copy is on loan",
+    },
+    Entry {
+        number: 32,
+        text: "the copy is in transit",
+    },
+    Entry {
+        number: 33,
+        text: "the copy is on the hold shelf",
+    },
+    Entry {
+        number: 34,
+        text: "the copy is missing",
+    },
+    Entry {
+        number: 35,
+        text: "the copy is withdrawn",
+    },
+    Entry {
+        number: 36,
+        text: "another patron stands in line",
+    },
+    Entry {
+        number: 37,
+        text: "the patron has as many loans as the kind may have",
+    },
+    Entry {
+        number: 38,
+        text: "the patron owes more than the kind may owe",
+    },
+    Entry {
+        number: 39,
+        text: "no open day is left in the calendar",
+    },
+    Entry {
+        number: 40,
+        text: "the loan has ended",
+    },
+    Entry {
+        number: 41,
+        text: "the loan is overdue",
+    },
+    Entry {
+        number: 42,
+        text: "no renewals are left",
+    },
+    Entry {
+        number: 50,
+        text: "the patron has an active hold of the title",
+    },
+    Entry {
+        number: 51,
+        text: "the patron has as many holds as the kind may have",
+    },
+    Entry {
+        number: 52,
+        text: "the patron has the title on loan",
+    },
+    Entry {
+        number: 53,
+        text: "the hold is not in the state that is needed",
+    },
+    Entry {
+        number: 54,
+        text: "the limit of the hold has not passed",
+    },
+    Entry {
+        number: 60,
+        text: "the amount is zero or above what is owed",
+    },
+    Entry {
+        number: 70,
+        text: "the numbers of loans, holds or lines are used up",
+    },
+    Entry {
+        number: 80,
+        text: "the key was used for another request",
+    },
+    Entry {
+        number: 81,
+        text: "wrong key, or not allowed to this caller",
+    },
+    Entry {
+        number: 90,
+        text: "no memory was left",
+    },
+    Entry {
+        number: 91,
+        text: "the database refused a call: another process has the file, it can't be written, or the disk is full",
+    },
+    Entry {
+        number: 92,
+        text: "the desk is closed",
+    },
+    Entry {
+        number: 93,
+        text: "no library: the file is absent, empty, of another kind or schema, or has a damaged row",
+    },
+];
+
+/// The beginning of a line that has no number of a refusal or a fault, and what it means.
+#[derive(Clone, Copy)]
+struct Phrase {
+    line: &'static str,
+    text: &'static str,
+}
+
+const SAYINGS: [Phrase; 6] = [
+    Phrase {
+        line: "fault reading",
+        text: "the copies file is absent or can't be read",
+    },
+    Phrase {
+        line: "fault network",
+        text: "nobody listens on the port, no answer came, or the port is taken",
+    },
+    Phrase {
+        line: "fault threads",
+        text: "a thread could not be made, so that fewer connections were answered",
+    },
+    Phrase {
+        line: "unsound claims ",
+        text: "two claims or more are made on the copy of this number, which can be in one place alone",
+    },
+    Phrase {
+        line: "unsound binding ",
+        text: "the hold of this number is not bound to its copy as its state wants",
+    },
+    Phrase {
+        line: "unsound balance ",
+        text: "the patron of this number doesn't owe the charges less payments and waivers",
+    },
+];
+
+/// What a refusal or a fault of this number means; none for another number.
+pub fn meaning(number: u32) -> Option<&'static str> {
+    for it in &MEANINGS {
+        if it.number == number {
+            return Some(it.text);
+        }
+    }
+    None
+}
+
+/// What a line means that has no number of a refusal or a fault; none for another line.
+pub(crate) fn saying(line: &[u8]) -> Option<&'static str> {
+    for it in &SAYINGS {
+        if line.starts_with(it.line.as_bytes()) {
+            return Some(it.text);
+        }
+    }
+    None
+}

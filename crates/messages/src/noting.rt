@@ -1,0 +1,96 @@
+//! The lines on their way out, of which one is kept.
+
+use std::io::{self, Write};
+
+/// How much of a line is kept.
+const KEPT: usize = 40;
+
+/// The beginning of a line.
+#[derive(Clone, Copy)]
+pub struct Line {
+    bytes: [u8; KEPT],
+    length: usize,
+}
+
+impl Line {
+    fn new() -> Line {
+        Line {
+            bytes: [0; KEPT],
+            length: 0,
+        }
+    }
+
+    /// The line, or as much of it as is kept.
+    pub fn as_bytes(&self) -> &[u8] {
+        self.bytes.get(..self.length).unwrap_or(&[])
+    }
+
+    fn push(&mut self, byte: u8) {
+        if let Some(place) = self.bytes.get_mut(self.length) {
+            *place = byte;
+            self.length += 1;
+        }
+    }
+
+    /// Whether it tells more than that something is done.
+    fn tells(&self) -> bool {
+        let line = self.as_bytes();
+        let is_row = line.starts_with(b"row ") && !line.ends_with(b" ok");
+        is_row
+            || line.starts_with(b"refused ")
+            || line.starts_with(b"fault ")
+            || line.starts_with(b"words ")
+            || line.starts_with(b"unsound ")
+            || line.starts_with(b"{\"refusal\":")
+            || line.starts_with(b"{\"fault\":")
+    }
+}
+
+/// A writer that keeps the last line that tells of a refusal or a fault, or that words were not understood.
+#[derive(Drop)]
+pub struct Noting<W> {
+    writer: W,
+    line: Line,
+    told: Line,
+}
+
+impl<W> Noting<W> {
+    /// A writer that has kept nothing.
+    pub fn new(writer: W) -> Noting<W> {
+        Noting {
+            writer,
+            line: Line::new(),
+            told: Line::new(),
+        }
+    }
+
+    /// The line that is kept; an empty one where there is none.
+    pub fn told(&self) -> Line {
+        self.told
+    }
+
+    fn note(&mut self, bytes: &[u8]) {
+        for byte in bytes {
+            if *byte == b'\n' {
+                if self.line.tells() {
+                    self.told = self.line;
+                }
+                self.line = Line::new();
+            } else {
+                self.line.push(*byte);
+            }
+        }
+    }
+}
+
+impl<W: Write> Write for Noting<W> {
+    fn write(&mut self, buf: &[u8]) -> io::Result<usize> {
+        let count = self.writer.write(buf)?;
+        self.note(buf.get(..count).unwrap_or(buf));
+        Ok(count)
+    }
+
+    fn flush(&mut self) -> io::Result<()> {
+        self.writer.flush()
+    }
+}

@@ -1,0 +1,90 @@
+-- What the pages hold, in words of the typed tables.
+use Rattle.std.proofs.Common.{arith, ◌≡◌, ◌<◌, ℕ, Bool, true, List, map, Option, Some, None, inl, inr, refl, ◌∙◌, sym, subst, Less}
+use Rattle.std.specs.List.{All, Contains}
+use Rattle.std.proofs.lemmas.Bool.{and_parts, and_from}
+use Rattle.std.proofs.lemmas.List.{length-map}
+use Rattle.std.proofs.lemmas.List.Elements.{All-contains}
+use Rattle.sqlite.specs.Order.{Row, column}
+use Rattle.sqlite_value.specs.Order.{value_cmp}
+use Rattle.circ_tables.specs.Reading.{Table}
+use Rattle.sqlite_rules.proofs.ListLemmas.{has_contained, contains_had}
+use Rattle.sqlite_rules.proofs.ProbeLemmas.{has_mapped, mapped_has}
+use Rattle.sql_maps.specs.Maps.{Map, Maps}
+use Rattle.sql_maps.specs.Pages.{FirstRows}
+use Rattle.terms.specs.Limits.{InLimits, IsLoan, IsHold, IsLine}
+use Rattle.terms.specs.Pictures.{Picture}
+use Rattle.terms.specs.declared.row.LoanRow.{LoanRow}
+use Rattle.terms.specs.declared.row.HoldRow.{HoldRow}
+use Rattle.terms.specs.declared.row.HoldState.TheVariants.{Ready}
+use Rattle.terms.specs.declared.row.LineRow.{LineRow}
+use Rattle.circ_tables.specs.Cells.{number, number_key, loan_cells, hold_cells, line_cells}
+use Rattle.circ_tables.specs.Encoding.{IsEncoded, Any, Encodes}
+use Rattle.circ_tables.specs.Selections.{is_ready_after, is_overdue_after, is_line_after, is_after}
+use Rattle.circ_tables.specs.Shape.{loans_place, holds_place, lines_place}
+use Rattle.circ_tables.specs.declared.lists.TheConstants.{PAGE_ROWS}
+use Rattle.circ_tables.proofs.CellLemmas.{same_if, if_same, none_if, if_none, ready_if, if_ready, below_if, if_below, above_if, if_above, both, from_both}
+use Rattle.circ_tables.proofs.InverseLemmas.{loan_told, hold_told, line_told}
+use Rattle.circ_tables.proofs.DayLemmas.{below}
+use Rattle.circ_tables.proofs.ShownLemmas.{one_found, stands, rows_rise}
+use Rattle.store.specs.Pages.{AreFirstRows, AreRowsAfter, AreReadyAfter, AreOverdueAfter, AreLinesAfter}
+use Rattle.store.proofs.ListLemmas.{line_number, rise_is}
+use Rattle.store.proofs.RowLemmas.{loan_number, hold_number}
+
+module _ {R : Type 0} (cells : R → Row) (Good : R → Type 0) (number_of : R → ℕ) (told : (a b : R) → Good a → Good b → cells a ≡ cells b → a ≡ b) (key_cell : (r : R) → column (cells r) 0 ≡ number (number_of r)) where
+  are_first : (m : Map) (t : ℕ → Option R) → IsEncoded Any number_key cells m t → ((n : ℕ) (r : R) → t n ≡ Some r → (number_of r ≡ n) × Good r) → (good : Row → Bool) (Passes : R → Type 0)
+      → ((r : R) → good (cells r) ≡ true → Passes r) → ((r : R) → Passes r → good (cells r) ≡ true) → (rows : List R) → All Good rows → FirstRows PAGE_ROWS m good (map cells rows)
+      → AreFirstRows t number_of Passes rows
+  are_first m t is own good Passes to from rows legal first = record {
+    sound = λ r there.
+        let row = first.sound (cells r) (mapped_has cells rows r (has_contained rows r there)) in
+        (one_found cells Good number_of m t is own told r (All-contains Good rows r legal there) row.0 row.1, to r row.2);
+    whole = λ n r e passes. elim (first.whole (number_key n) (cells r) (stands cells Good number_of m t is own n r e) (from r passes)) [
+      | inl has ↦
+          let it = has_mapped cells rows (cells r) has in
+          let there = contains_had rows it.0 it.1 in
+          let same : r ≡ it.0 = told r it.0 (own n r e).1 (All-contains Good rows it.0 legal there) it.2 in
+          inl (subst (Contains rows) (sym same) there)
+      | inr rest ↦ inr (
+        sym (length-map rows cells) ∙ rest.0,
+        λ s there.
+            let less = rest.1 (cells s) (mapped_has cells rows s (has_contained rows s there)) in
+            let under = below (number_of s) (number_of r) (subst (λ v. value_cmp v (number (number_of r)) ≡ Less) (key_cell s) (subst (λ v. value_cmp (column (cells s) 0) v ≡ Less) (key_cell r) less)) in
+            let mine = (own n r e).0 in
+            omega (arith, under, mine),
+      )
+    ];
+    rise = rise_is number_of rows (rows_rise cells Good number_of m t is own key_cell rows first.rises);
+    few = let same = length-map rows cells in let few = first.few in omega (arith, same, few);
+  }
+
+module _ (maps : Maps) (P : Picture) (is : Encodes maps P) (legal : InLimits P) where
+  pub ready_after_are : (branch after : ℕ) (rows : List HoldRow) → All IsHold rows → FirstRows PAGE_ROWS (maps holds_place) (is_ready_after branch after) (map hold_cells rows) → AreReadyAfter P branch after rows
+  ready_after_are branch after =
+      are_first hold_cells IsHold hold_number hold_told (λ r. refl) (maps holds_place) P.holds is.holds legal.holds (is_ready_after branch after) (λ r. (r.branch ≡ branch) × (r.state ≡ Ready) × (after < r.hold))
+      (λ r good. let first = and_parts _ _ good in let tests = both _ _ first.1 in (same_if r.branch branch first.0, ready_if r.state tests.0, above_if r.hold after tests.1))
+      (λ r passes. and_from _ _ (if_same r.branch branch passes.0) (from_both _ _ (if_ready r.state passes.1) (if_above r.hold after passes.2)))
+
+  pub overdue_after_are : (branch day after : ℕ) (rows : List LoanRow) → All IsLoan rows → FirstRows PAGE_ROWS (maps loans_place) (is_overdue_after branch day after) (map loan_cells rows)
+      → AreOverdueAfter P branch day after rows
+  overdue_after_are branch day after =
+      are_first loan_cells IsLoan loan_number loan_told (λ r. refl) (maps loans_place) P.loans is.loans legal.loans (is_overdue_after branch day after)
+      (λ r. (r.branch ≡ branch) × (r.ended ≡ None) × (r.due < day) × (after < r.loan))
+      (λ r good.
+      let first = and_parts _ _ good in
+      let second = and_parts _ _ first.1 in
+      let tests = both _ _ second.1 in
+      (same_if r.branch branch first.0, none_if r.ended second.0, below_if r.due day tests.0, above_if r.loan after tests.1))
+      (λ r passes. and_from _ _ (if_same r.branch branch passes.0) (and_from _ _ (if_none r.ended passes.1) (from_both _ _ (if_below r.due day passes.2) (if_above r.loan after passes.3))))
+
+  pub lines_after_are : (day after : ℕ) (rows : List LineRow) → All IsLine rows → FirstRows PAGE_ROWS (maps lines_place) (is_line_after day after) (map line_cells rows) → AreLinesAfter P day after rows
+  lines_after_are day after =
+      are_first line_cells IsLine line_number line_told (λ r. refl) (maps lines_place) P.lines is.lines legal.lines (is_line_after day after) (λ r. (r.day ≡ day) × (after < r.line))
+      (λ r good. let tests = both _ _ good in (same_if r.day day tests.0, above_if r.line after tests.1)) (λ r passes. from_both _ _ (if_same r.day day passes.0) (if_above r.line after passes.1))
+
+-- a page of all rows of a table that is keyed by one number
+pub rows_after_are : {R : Type 0} (t : Table ℕ R) (number_of : R → ℕ) → ((a b : R) → t.IsLegal a → t.IsLegal b → t.cells a ≡ t.cells b → a ≡ b) → ((r : R) → column (t.cells r) 0 ≡ number (number_of r))
+    → ((maps : Maps) (P : Picture) → Encodes maps P → IsEncoded Any number_key t.cells (maps t.place) (t.rows P)) → ((P : Picture) → InLimits P → (n : ℕ) (r : R) → t.rows P n ≡ Some r → (number_of r ≡ n) × t.IsLegal r)
+    → (after : ℕ) → ((r : R) → is_after after (t.cells r) ≡ true → after < number_of r) → ((r : R) → after < number_of r → is_after after (t.cells r) ≡ true)
+    → (maps : Maps) (P : Picture) → Encodes maps P → InLimits P → (rows : List R) → All t.IsLegal rows → FirstRows PAGE_ROWS (maps t.place) (is_after after) (map t.cells rows) → AreRowsAfter (t.rows P) number_of after rows
+rows_after_are t number_of told key_cell encoded own after to from maps P is legal rows =
+    are_first t.cells t.IsLegal number_of told key_cell (maps t.place) (t.rows P) (encoded maps P is) (own P legal) (is_after after) (λ r. after < number_of r) to from rows

@@ -1,0 +1,10 @@
+//! What tests of the desk and of the hall begin with: a small library, requests by lines, and looks at all rows.
+#![tactic(auto)]
+
+mod calls;
+mod lines;
+mod scripts;
+
+pub use calls::{connection, desk_over, handle, in_memory, open, run};
+pub use lines::{GROUND, check, fill, ground, key, opened, request, rows, runs, words_of};
+pub use scripts::{HOLDS, LATE, LOST, PAID, RENEWED, REOPENED, RETURNED, SCRIPTS};

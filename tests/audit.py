@@ -1,0 +1,286 @@
+#!/usr/bin/env python3
+"""`circ audit` on libraries that the program made, and on the same with rows that stock SQLite wrote past the desk.
+
+    tests/audit.py            all of it
+    tests/audit.py SEED       the random damage by that seed
+
+The three laws stand below once more in plain Python, written from docs/RULES.md (`laws_of`). The damage of `DAMAGE` has answers that were
+worked out by hand, and one damage at least for each case of each law; the random damage is compared with `laws_of` alone.
+"""
+
+import os
+import random
+import shutil
+import sqlite3
+import subprocess
+import sys
+import tempfile
+from concurrent.futures import ThreadPoolExecutor
+from contextlib import closing
+
+from end_to_end import CIRC, GROUND, check, circ, digest, rows, say, whole, write
+import end_to_end
+
+# After the small library: a loan that ended with a fine, which was paid and waived in part, a copy on loan, one that is lost, one that
+# travels for a hold, one that stands ready for another, and a hold that waits. Days: 2026-03-17 is 20529, 2026-03-23 is 20535.
+BUSY = [
+    ("a1", ["check-out", "1", "11", "1"], "loan 1 due 2026-03-09"),
+    ("a2", ["begin-day", "2026-03-17"], "ok"),
+    ("a3", ["check-in", "11", "1"], "fine 100 shelf 1"),
+    ("a4", ["pay", "1", "30"], "owed 70"),
+    ("a5", ["waive", "1", "20"], "owed 50"),
+    ("a6", ["check-out", "1", "10", "1"], "loan 2 due 2026-03-23"),
+    ("a7", ["missing", "11"], "ok"),
+    ("a8", ["place-hold", "2", "200", "1"], "hold 1"),
+    ("a9", ["check-in", "20", "2"], "fine 0 transit 1 for 1"),
+    ("b1", ["place-hold", "3", "300", "1"], "hold 2"),
+    ("b2", ["check-in", "30", "1"], "fine 0 ready 2 at 1 until 2026-03-23"),
+    ("b3", ["place-hold", "2", "300", "2"], "hold 3"),
+    ("b4", ["acquire", "40", "400", "1", "1", "900", "High Pastures"], "ok"),
+]
+
+# What is written into the small library, and the line of its audit.
+ON_THE_GROUND = [
+    ([], "sound"),
+    (["UPDATE copies SET condition = 1 WHERE copy = 20", "INSERT INTO transits VALUES (20, 1, NULL)"], "unsound claims 20"),
+    (["INSERT INTO holds VALUES (1, 2, 100, 1, 1, 10, NULL)", "UPDATE meta SET next_hold = 2"], "unsound binding 1"),
+    (["UPDATE patrons SET owed = 1 WHERE patron = 2"], "unsound balance 2"),
+]
+
+LOAN = "INSERT INTO loans VALUES ({}, {}, 1, 1, 20529, 20535, 6, 1, 20, 100, NULL)"
+
+# What is written into the busy library, and the line of its audit.
+DAMAGE = [
+    ([], "sound"),
+    # two claims on a copy: of two kinds, each two of them, and of one kind
+    (["UPDATE copies SET condition = 1 WHERE copy = 10"], "unsound claims 10"),
+    (["UPDATE copies SET condition = 2 WHERE copy = 10"], "unsound claims 10"),
+    (["INSERT INTO transits VALUES (10, 1, NULL)"], "unsound claims 10"),
+    (["UPDATE holds SET copy = 10 WHERE hold = 2"], "unsound claims 10"),
+    (["UPDATE copies SET condition = 2 WHERE copy = 20"], "unsound claims 20"),
+    (["INSERT INTO transits VALUES (30, 2, NULL)"], "unsound claims 30"),
+    (["UPDATE copies SET condition = 1 WHERE copy = 30"], "unsound claims 30"),
+    ([LOAN.format(3, 10)], "unsound claims 10"),
+    (["UPDATE holds SET state = 1, copy = 30, limit_day = 20535 WHERE hold = 3"], "unsound claims 30"),
+    # an ended loan claims nothing until it is open again
+    (["UPDATE loans SET ended = NULL WHERE loan = 1"], "unsound claims 11"),
+    (["UPDATE loans SET copy = 10 WHERE loan = 1"], "sound"),
+    (["UPDATE copies SET condition = 0 WHERE copy = 11"], "sound"),
+    # the least number is told, on whatever page of numbers it stands, and a copy needs no row for it
+    (["UPDATE copies SET condition = 1 WHERE copy IN (10, 20, 30)"], "unsound claims 10"),
+    ([LOAN.format(3, 9999999), LOAN.format(4, 9999999)], "unsound claims 9999999"),
+    ([LOAN.format(3, 65536), LOAN.format(4, 131071), LOAN.format(5, 131071)], "unsound claims 131071"),
+    ([LOAN.format(3, 65536), LOAN.format(4, 65536), LOAN.format(5, 65535), LOAN.format(6, 65535)], "unsound claims 65535"),
+    ([LOAN.format(3, 65535), LOAN.format(4, 65536), LOAN.format(5, 131072)], "sound"),
+    # a ready hold lacks its copy or its limit
+    (["UPDATE holds SET limit_day = NULL WHERE hold = 2"], "unsound binding 2"),
+    (["UPDATE holds SET copy = NULL WHERE hold = 2"], "unsound binding 2"),
+    # one that isn't ready has either
+    (["UPDATE holds SET copy = 40 WHERE hold = 3"], "unsound binding 3"),
+    (["UPDATE holds SET limit_day = 20535 WHERE hold = 3"], "unsound binding 3"),
+    (["UPDATE holds SET state = 2 WHERE hold = 2"], "unsound binding 2"),
+    (["UPDATE holds SET state = 4, copy = NULL WHERE hold = 2"], "unsound binding 2"),
+    # a transit names a hold that has no row, that isn't waiting, or that is picked up elsewhere
+    (["UPDATE transits SET hold = 9 WHERE copy = 20"], "unsound binding 9"),
+    (["UPDATE holds SET state = 3 WHERE hold = 1"], "unsound binding 1"),
+    (["UPDATE transits SET goal = 2 WHERE copy = 20"], "unsound binding 1"),
+    (["UPDATE holds SET branch = 2 WHERE hold = 1"], "unsound binding 1"),
+    # the copy of a hold has no row, or is of another title
+    (["UPDATE holds SET copy = 99 WHERE hold = 2"], "unsound binding 2"),
+    (["UPDATE holds SET copy = 40 WHERE hold = 2"], "unsound binding 2"),
+    (["UPDATE holds SET title = 400 WHERE hold = 2"], "unsound binding 2"),
+    (["UPDATE transits SET copy = 99 WHERE copy = 20"], "unsound binding 1"),
+    (["UPDATE transits SET copy = 40 WHERE copy = 20"], "unsound binding 1"),
+    (["UPDATE copies SET title = 400 WHERE copy = 20"], "unsound binding 1"),
+    # a transit for no hold is none of its, and a hold that is cancelled may be without any
+    (["UPDATE transits SET hold = NULL WHERE copy = 20"], "sound"),
+    (["UPDATE holds SET state = 3 WHERE hold = 3"], "sound"),
+    # the least hold is told
+    (["UPDATE holds SET limit_day = NULL WHERE hold = 2", "UPDATE transits SET goal = 2 WHERE copy = 20"], "unsound binding 1"),
+    (["UPDATE holds SET limit_day = NULL WHERE hold = 2", "UPDATE holds SET copy = 40 WHERE hold = 3"], "unsound binding 2"),
+    (["INSERT INTO transits VALUES (40, 1, 2147483647)"], "unsound binding 2147483647"),
+    # what is owed isn't the fines and prices less the payments and waivers
+    (["UPDATE patrons SET owed = 51 WHERE patron = 1"], "unsound balance 1"),
+    (["UPDATE patrons SET owed = 70 WHERE patron = 1"], "unsound balance 1"),
+    (["UPDATE patrons SET owed = 1 WHERE patron = 3"], "unsound balance 3"),
+    (["UPDATE lines SET amount = 101 WHERE sort = 0"], "unsound balance 1"),
+    (["UPDATE lines SET amount = 31 WHERE sort = 2"], "unsound balance 1"),
+    (["UPDATE lines SET amount = 19 WHERE sort = 3"], "unsound balance 1"),
+    (["UPDATE lines SET sort = 1 WHERE sort = 0"], "sound"),
+    (["UPDATE lines SET sort = 3 WHERE sort = 2"], "sound"),
+    (["INSERT INTO lines VALUES (4, 3, 20529, 1, 2500, 1)"], "unsound balance 3"),
+    (["INSERT INTO lines VALUES (4, 3, 20529, 2, 5, NULL)"], "unsound balance 3"),
+    (["DELETE FROM lines WHERE sort = 3"], "unsound balance 1"),
+    (["UPDATE lines SET patron = 3 WHERE sort = 2", "UPDATE patrons SET owed = 80 WHERE patron = 1"], "unsound balance 3"),
+    (["UPDATE lines SET patron = 2", "UPDATE patrons SET owed = 0 WHERE patron = 1", "UPDATE patrons SET owed = 50 WHERE patron = 2"], "sound"),
+    (["INSERT INTO lines VALUES (4, 9, 20529, 0, 5, 1)"], "sound"),
+    (["INSERT INTO patrons VALUES (9999999, 1, 'cardkey09999', 'Zed', 7)"], "unsound balance 9999999"),
+    (["INSERT INTO patrons VALUES (65536, 1, 'cardkey65536', 'Yan', 5)", "INSERT INTO lines VALUES (4, 65536, 20529, 0, 5, 1)",
+      "INSERT INTO patrons VALUES (131072, 1, 'cardkey13107', 'Wim', 1)"], "unsound balance 131072"),
+    # claims come before bindings, and these before balances
+    (["UPDATE copies SET condition = 1 WHERE copy = 30", "UPDATE holds SET limit_day = NULL WHERE hold = 2", "UPDATE patrons SET owed = 0"], "unsound claims 30"),
+    (["UPDATE holds SET copy = 40 WHERE hold = 3", "UPDATE patrons SET owed = 0"], "unsound binding 3"),
+]
+
+# A row past its limits, or tables that no library has, are faults and no findings.
+FAULTS = [
+    (["UPDATE copies SET condition = 3 WHERE copy = 10"], "fault 93"),
+    (["UPDATE patrons SET owed = -1 WHERE patron = 1"], "fault 93"),
+    (["UPDATE holds SET state = 5 WHERE hold = 1"], "fault 93"),
+    (["UPDATE meta SET schema = 9"], "fault 93"),
+    (["DROP TABLE transits"], "fault 91"),
+]
+
+WAITING, READY = 0, 1
+FINE, PRICE = 0, 1
+
+
+def laws_of(path):
+    """The line of an audit, by the laws in plain Python."""
+    with closing(sqlite3.connect(path)) as conn:
+        def read(text):
+            return conn.execute(text).fetchall()
+
+        loans, transits = read("SELECT copy, ended FROM loans"), read("SELECT copy, goal, hold FROM transits")
+        copies = {copy: (title, condition) for copy, title, condition in read("SELECT copy, title, condition FROM copies")}
+        holds = {hold: row for hold, *row in read("SELECT hold, title, branch, state, copy, limit_day FROM holds")}
+        owed, lines = dict(read("SELECT patron, owed FROM patrons")), read("SELECT patron, sort, amount FROM lines")
+
+    claims = [copy for copy, ended in loans if ended is None] + [copy for copy, *_ in transits]
+    claims += [copy for _, _, state, copy, _ in holds.values() if state == READY and copy is not None]
+    claims += [copy for copy, (_, condition) in copies.items() if condition != 0]
+    twice = [copy for copy in set(claims) if claims.count(copy) > 1]
+    if twice:
+        return f"unsound claims {min(twice)}"
+
+    def is_of(copy, title):
+        return copy in copies and copies[copy][0] == title
+
+    unbound = set()
+    for hold, (title, _, state, copy, limit) in holds.items():
+        named = copy is not None and limit is not None and is_of(copy, title) if state == READY else copy is None and limit is None
+        if not named:
+            unbound.add(hold)
+    for copy, goal, hold in transits:
+        if hold is not None:
+            title, branch, state, _, _ = holds.get(hold, (None,) * 5)
+            if state != WAITING or branch != goal or not is_of(copy, title) or [it for _, _, it in transits].count(hold) > 1:
+                unbound.add(hold)
+    if unbound:
+        return f"unsound binding {min(unbound)}"
+
+    def due(patron):
+        return sum(amount if sort in (FINE, PRICE) else -amount for who, sort, amount in lines if who == patron)
+
+    unbalanced = [patron for patron, amount in owed.items() if amount != due(patron)]
+    return f"unsound balance {min(unbalanced)}" if unbalanced else "sound"
+
+
+def status_of(line):
+    return 0 if line == "sound" else 3 if line.startswith("fault") else 2
+
+
+def audit(path, line, what):
+    """The audit of the file is this line, with its status, and changes no byte of it."""
+    before = digest(path)
+    check(f"the audit after {what}", circ(["audit", path]), (line, status_of(line)))
+    check(f"the file after {what}", digest(path), before)
+
+
+def damaged(library, folder, at, texts, line):
+    """A copy of the library with these texts run on it."""
+    path = os.path.join(folder, f"damage{at}.db")
+    shutil.copy(library, path)
+    write(path, *texts)
+    if not line.startswith("fault"):
+        check(f"the laws in plain Python after {texts}", laws_of(path), line)
+    audit(path, line, texts)
+    os.remove(path)
+
+
+def no_library(folder):
+    """Where there is no file, or one of no bytes, the answer is a fault, and no file is made."""
+    absent, empty = os.path.join(folder, "absent.db"), os.path.join(folder, "empty.db")
+    open(empty, "w").close()
+    check("no file", circ(["audit", absent]), ("fault 93", 3))
+    check("none is made", os.path.exists(absent), False)
+    check("a file of no bytes", circ(["audit", empty]), ("fault 93", 3))
+    check("it stays", os.path.getsize(empty), 0)
+    garbage = os.path.join(folder, "garbage.db")
+    with open(garbage, "wb") as file:
+        file.write(b"this is no database " * 500)
+    audit(garbage, "fault 91", "garbage")
+    for words in (["audit"], ["audit", absent, "again"], ["audits", absent]):
+        check(f"{words[0]} with {len(words) - 1} words", circ(words), ("words not understood", 4))
+
+
+def lost_output(library):
+    """Where the line can't be written the status is 3."""
+    with open("/dev/full", "wb") as full:
+        check("a full disk", subprocess.run([CIRC, "audit", library], stdout=full, timeout=120).returncode, 3)
+
+
+# Columns with the values that the random damage gives them, most of them within the limits.
+COLUMNS = {
+    "loans": {"copy": (10, 11, 20, 30, 40, 99), "ended": (None, None, 20529), "patron": (1, 2, 3)},
+    "holds": {"state": (0, 1, 2, 3, 4), "copy": (None, 10, 20, 30, 40, 99), "limit_day": (None, 20535), "title": (100, 200, 300, 400), "branch": (1, 2)},
+    "transits": {"goal": (1, 2), "hold": (None, 1, 2, 3, 9), "copy": (10, 11, 20, 30, 40, 99)},
+    "copies": {"condition": (0, 0, 1, 2), "title": (100, 200, 300, 400)},
+    "lines": {"patron": (1, 2, 3, 9), "sort": (0, 1, 2, 3), "amount": (1, 20, 30, 50, 100)},
+    "patrons": {"owed": (0, 20, 50, 70, 100)},
+}
+
+
+def random_damage(library, folder, seed, many):
+    """Rows that are changed at random, one to three at a time: the audit is that of the laws in plain Python."""
+    draw, met = random.Random(seed), {}
+    keys = {name: [key for (key,) in rows(library, f"SELECT rowid FROM {name} ORDER BY rowid")] for name in COLUMNS}
+    jobs = []
+    for at in range(many):
+        texts = []
+        for _ in range(draw.choice((1, 1, 2, 3))):
+            table = draw.choice(sorted(COLUMNS))
+            column = draw.choice(sorted(COLUMNS[table]))
+            value = draw.choice(COLUMNS[table][column])
+            texts.append(f"UPDATE OR IGNORE {table} SET {column} = {'NULL' if value is None else value} WHERE rowid = {draw.choice(keys[table])}")
+        jobs.append((at, texts))
+
+    def one(job):
+        at, texts = job
+        path = os.path.join(folder, f"random{at}.db")
+        shutil.copy(library, path)
+        write(path, *texts)
+        line = laws_of(path)
+        audit(path, line, f"{texts}, seed {seed}")
+        os.remove(path)
+        return " ".join(line.split()[:2])
+
+    with ThreadPoolExecutor(os.cpu_count()) as runs:
+        for line in runs.map(one, jobs):
+            met[line] = met.get(line, 0) + 1
+    print("audit: random damage: " + ", ".join(f"{count} {line}" for line, count in sorted(met.items())) + f", by the seed {seed}")
+    check("each law is broken, and none", sorted(met), ["sound", "unsound balance", "unsound binding", "unsound claims"])
+
+
+def main(arguments):
+    seed = int(arguments[0]) if arguments else 2826
+    with tempfile.TemporaryDirectory() as folder:
+        ground, busy = os.path.join(folder, "ground.db"), os.path.join(folder, "busy.db")
+        say(ground, GROUND)
+        shutil.copy(ground, busy)
+        say(busy, BUSY)
+        kept = whole(busy)
+        jobs = [(ground, at, *it) for at, it in enumerate(ON_THE_GROUND)]
+        jobs += [(busy, len(jobs) + at, *it) for at, it in enumerate(DAMAGE + FAULTS)]
+        with ThreadPoolExecutor(os.cpu_count()) as runs:
+            list(runs.map(lambda job: damaged(job[0], folder, *job[1:]), jobs))
+        no_library(folder)
+        lost_output(busy)
+        random_damage(busy, folder, seed, 400)
+        check("the library is as it was", whole(busy), kept)
+    print(f"audit: {end_to_end.passed} passed")
+    return 0
+
+
+if __name__ == "__main__":
+    sys.exit(main(sys.argv[1:]))

@@ -1,0 +1,160 @@
+#!/usr/bin/env python3
+"""What the program says for a person on standard error, as the manual page has it, compared with what it says.
+
+    tests/messages.py
+
+`message` is what is wanted beside the lines of a run: the other tests ask it of every run. By itself the script goes through each kind of message,
+and through what is known of a library's file when the database told a fault.
+"""
+
+import os
+import re
+import subprocess
+import sys
+import tempfile
+
+TOP = os.path.dirname(os.path.dirname(os.path.abspath(__file__)))
+PROGRAM = f"{TOP}/crates/circ_cli/out/circ_cli"
+
+SAYINGS = {
+    "fault reading": "the copies file is absent or can't be read",
+    "fault network": "nobody listens on the port, no answer came, or the port is taken",
+    "fault threads": "a thread could not be made, so that fewer connections were answered",
+    "unsound claims ": "two claims or more are made on the copy of this number, which can be in one place alone",
+    "unsound binding ": "the hold of this number is not bound to its copy as its state wants",
+    "unsound balance ": "the patron of this number doesn't owe the charges less payments and waivers",
+}
+BAD = "the row is not copy,title,text,kind,home,price,end, or no row may follow"
+UNWRITTEN = b"circ: standard output takes no more\n"
+RUNS = ["file", "import", "report", "report", "report", "audit", "serve", "send"]
+
+
+def read(path):
+    with open(os.path.join(TOP, path), encoding="utf-8") as file:
+        return file.read()
+
+
+def of_manual(manual):
+    """The runs, the commands with their parts, and the meanings of numbers, as the manual page has them."""
+    synopsis = manual[manual.index(".Sh SYNOPSIS") : manual.index(".Sh DESCRIPTION")]
+    runs = []
+    for lines in synopsis.split(".Nm\n")[1:]:
+        words = ["circ"]
+        for macro, rest in re.findall(r"^\.(Cm|Ar) (.+)$", lines, re.M):
+            words += rest.split() if macro == "Cm" else ["..." if it == "..." else it.upper() for it in rest.split()]
+        runs.append(" ".join(words))
+    listed = manual[manual.index(".Sh COMMANDS") : manual.index(".Sh FILES")]
+    commands = {line.split()[0]: line.split()[2:] for line in re.findall(r"^\.It Cm (.+)$", listed, re.M)}
+    meanings = re.findall(r"^\.It (\d+)\n((?:[^.].*\n)+)", manual[manual.index(".Sh DIAGNOSTICS") :], re.M)
+    return runs, commands, {int(number): " ".join(text.split()) for number, text in meanings}
+
+
+USAGES, COMMANDS, MEANINGS = of_manual(read("docs/circ.1"))
+VERSION, SCHEMA = re.search(r"^## (\S+), schema (\d+)$", read("CHANGES.md"), re.M).groups()
+
+
+def form(name):
+    return " ".join([name, *(f"<{part}>" for part in COMMANDS[name])])
+
+
+def usage(words):
+    """How the command of the words is written, where they have one in its place; else all that can be written."""
+    run, at = ("circ send PORT DESKKEY KEY", 4) if words[:1] == ["send"] else ("circ file LIBRARY KEY", 3)
+    if len(words) > at and words[at] in COMMANDS:
+        return f"usage: {run} {form(words[at])}\n"
+    lines = [f"usage: {it}" for it in USAGES] + ["WORD ... is one of"] + [f"  {form(name)}" for name in COMMANDS]
+    return "".join(f"{line}\n" for line in [*lines, f"circ {VERSION}, schema {SCHEMA}"])
+
+
+def cause(path):
+    """What is known of a library's file."""
+    try:
+        if os.path.isdir(path):
+            return "this is a directory"
+        if not os.path.getsize(path):
+            return "the file has no bytes"
+        with open(path, "rb") as file:
+            is_database = file.read(16) == b"SQLite format 3\0"
+        return "the file is there, and begins as a library" if is_database else "the file can't be read, or is no library"
+    except (FileNotFoundError, NotADirectoryError):
+        return "no such file or directory"
+
+
+def is_telling(line):
+    return bool(re.match(r'(row \d+ (refused|bad)|refused |fault |words |unsound |\{"(refusal|fault)":)', line))
+
+
+def message(words, out):
+    """What is said beside the lines of a run of these words."""
+    line = ([it for it in out.split("\n")[:-1] if is_telling(it)] or [""])[-1]
+    if line == "words not understood":
+        return usage(words).encode()
+    sayings = [BAD] if line.endswith(" bad") else [said for it, said in SAYINGS.items() if line.startswith(it)]
+    if sayings:
+        return f"circ: {sayings[0]}\n".encode()
+    numbers = re.findall(r"\d+", line)
+    if not numbers:
+        return b""
+    said = f"circ: {MEANINGS[int(numbers[-1])]}\n"
+    if line in ("fault 91", "fault 93") and words[0] != "send":
+        said += f"circ: {words[1]}: {cause(words[1])}\n"
+    return said.encode()
+
+
+def main():
+    wrong, compared = [], 0
+
+    def asks(words, lines, **how):
+        nonlocal compared
+        compared += 1
+        run = subprocess.run([PROGRAM, *words], capture_output=True, timeout=120, **how)
+        found, wanted = (run.stdout.decode(), run.stderr), (lines, message(words, lines))
+        if found != wanted:
+            wrong.append(f"{words}: {found} is not {wanted}")
+
+    subprocess.run([f"{TOP}/circ"], stdout=subprocess.DEVNULL, stderr=subprocess.DEVNULL, check=False)  # builds the program where it isn't there
+    with tempfile.TemporaryDirectory() as place:
+        path = os.path.join(place, "town.db")
+        not_understood = "words not understood\n"
+        asks([], not_understood)
+        asks(["help"], not_understood)
+        asks(["file", path, "k1"], not_understood)
+        for name in COMMANDS:
+            asks(["file", path, "k1", name, "-"], not_understood)
+            asks(["send", "8080", "desk key", "k1", name], not_understood)
+        asks(["file", path, "k1", "renew"], not_understood)
+        asks(["file", path, "k1", "page", "9"], "refused 11\n")
+        asks(["file", path, "k1", "begin-day", "2026-03-02"], "ok\n")
+        asks(["report", path, "shelf", "1"], "refused 10\n")
+        asks(["report", path, "till", "no day"], not_understood)
+        copies = os.path.join(place, "copies.csv")
+        asks(["import", path, copies], "fault reading\naccepted 0 refused 0\n")
+        with open(copies, "w", encoding="utf-8") as file:
+            file.write("copy,title,text,kind,home,price,end\n50,500,Maps,1,1,1500,end\n51,500,Maps,1,1,1500,END\n")
+        asks(["import", path, copies], "row 1 refused 10\nrow 2 bad\naccepted 0 refused 1\n")
+        asks(["send", "1", "deskkey00001", "k1", "page", "1"], "fault network\n")
+        asks(["serve", path, "1", "9", "1", "deskkey00001"], not_understood)
+        empty, garbage, absent = (os.path.join(place, it) for it in ("empty.db", "garbage.db", "absent.db"))
+        open(empty, "w", encoding="utf-8").close()
+        with open(garbage, "wb") as file:
+            file.write(b"this is no database " * 500)
+        asks(["report", empty, "shelf", "1"], "fault 93\n")
+        asks(["report", absent, "shelf", "1"], "fault 93\n")
+        asks(["report", garbage, "shelf", "1"], "fault 91\n")
+        asks(["file", place, "k1", "page", "1"], "fault 91\n")
+        asks(["file", os.path.join(place, "no", "town.db"), "k1", "page", "1"], "fault 91\n")
+        with open("/dev/full", "wb") as full:
+            run = subprocess.run([PROGRAM, "file", path, "k1", "page", "9"], stdout=full, stderr=subprocess.PIPE, timeout=120, check=False)
+        compared += 1
+        if (run.returncode, run.stderr) != (3, UNWRITTEN):
+            wrong.append(f"no room for a line: {run}")
+        if len(COMMANDS) < 21 or len(MEANINGS) < 40 or len(USAGES) != len(RUNS):
+            wrong.append("the manual page has too little")
+    for line in wrong:
+        print(line)
+    print(f"messages: {compared} compared, {len(wrong)} differ")
+    return 1 if wrong else 0
+
+
+if __name__ == "__main__":
+    sys.exit(main())
