@@ -38,16 +38,16 @@ fn tells<S: Alter>(
 }
 
 /// The desk of the small library after more requests.
-fn busy(rt: &impl Abort, alloc: Global) -> Result<Desk<MemStore>, Fail> {
-    let mut desk = ground(rt, alloc)?;
-    check(rt, alloc, &mut desk, BUSY)?;
+fn busy(alloc: Global) -> Result<Desk<MemStore>, Fail> {
+    let mut desk = ground(alloc)?;
+    check(alloc, &mut desk, BUSY)?;
     Ok(desk)
 }
 
 #[test]
 fn tells_that_tables_are_sound(rt: HostRuntime) -> Result<(), Fail> {
     let alloc = rt.alloc();
-    let mut conn = connection(busy(&rt, alloc)?);
+    let mut conn = connection(busy(alloc)?);
     let before = rows(alloc, &mut conn)?;
     let mut store = open(conn)?;
     tells(&rt, alloc, &mut store, ("sound\n", Exit::Done))?;
@@ -59,7 +59,7 @@ fn tells_that_tables_are_sound(rt: HostRuntime) -> Result<(), Fail> {
 #[test]
 fn tells_what_is_broken(rt: HostRuntime) -> Result<(), Fail> {
     let alloc = rt.alloc();
-    let mut conn = connection(busy(&rt, alloc)?);
+    let mut conn = connection(busy(alloc)?);
     conn.execute("UPDATE copies SET condition = 2 WHERE copy = 30", &[])?;
     let mut store = open(conn)?;
     let line = ("unsound claims 30\n", Exit::Refused);
@@ -69,7 +69,7 @@ fn tells_what_is_broken(rt: HostRuntime) -> Result<(), Fail> {
 #[test]
 fn tells_a_fault_of_the_database(rt: HostRuntime) -> Result<(), Fail> {
     let alloc = rt.alloc();
-    let mut store = store(busy(&rt, alloc)?);
+    let mut store = store(busy(alloc)?);
     store.limit_steps(Some(1));
     tells(&rt, alloc, &mut store, ("fault 91\n", Exit::Faulted))?;
     store.limit_steps(None);
@@ -79,7 +79,7 @@ fn tells_a_fault_of_the_database(rt: HostRuntime) -> Result<(), Fail> {
 #[test]
 fn the_line_of_an_audit_is_cut(rt: HostRuntime) -> Result<(), Fail> {
     let alloc = rt.alloc();
-    let mut store = store(busy(&rt, alloc)?);
+    let mut store = store(busy(alloc)?);
     let line = "sound\n";
     for room in 0..line.len() {
         let mut writer = Narrow::new(alloc, room);
@@ -94,15 +94,15 @@ fn the_line_of_an_audit_is_cut(rt: HostRuntime) -> Result<(), Fail> {
 }
 
 /// The rows of a busy desk.
-fn tables(rt: &impl Abort, alloc: Global) -> Result<Tables, Fail> {
-    let mut store = store(busy(rt, alloc)?);
+fn tables(alloc: Global) -> Result<Tables, Fail> {
+    let mut store = store(busy(alloc)?);
     Ok(store.tables(alloc)?)
 }
 
 #[test]
 fn finds_two_transits_for_one_hold(rt: HostRuntime) -> Result<(), Fail> {
     let alloc = rt.alloc();
-    let mut tables = tables(&rt, alloc)?;
+    let mut tables = tables(alloc)?;
     let mut transits = Vec::new(alloc);
     for copy in [20u32, 21] {
         transits.push(TransitRow {

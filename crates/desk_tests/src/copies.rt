@@ -117,7 +117,7 @@ fn tells_rows<S: Alter>(
 #[test]
 fn a_read_that_fails_ends_a_file(rt: HostRuntime) -> Result<(), Fail> {
     let alloc = rt.alloc();
-    let mut desk = ground(&rt, alloc)?;
+    let mut desk = ground(alloc)?;
     let bytes = BEES.as_bytes();
     for size in 0..bytes.len() + 1 {
         tells_rows(&rt, alloc, &mut desk, &bytes[..size])?;

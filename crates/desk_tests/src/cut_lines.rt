@@ -52,12 +52,12 @@ fn counted(desk: Desk<MemStore>, text: &str) -> Result<(Desk<MemStore>, u32), Fa
 
 /// A check-out whose line is cut is done once, also where it is sent again.
 fn lends(rt: &impl Abort, alloc: Global, line: &str, room: usize) -> Result<(), Fail> {
-    let mut desk = ground(rt, alloc)?;
+    let mut desk = ground(alloc)?;
     cut(rt, alloc, &mut desk, ("check-out 1 10 1", line), room)?;
     let (mut desk, loans) = counted(desk, "SELECT COUNT(*) FROM loans")?;
     assert!(rt; loans == 1, "at {room}");
     let lending = "desk k1 check-out 1 10 1 -> loan 1 due 2026-03-09";
-    check(rt, alloc, &mut desk, lending)?;
+    check(alloc, &mut desk, lending)?;
     let (_, loans) = counted(desk, "SELECT COUNT(*) FROM loans")?;
     assert!(rt; loans == 1, "at {room}");
     Ok(())
@@ -102,7 +102,7 @@ fn cuts<S: Alter>(rt: &impl Abort, alloc: Global, desk: &mut Desk<S>) -> Result<
 
 #[test]
 fn cuts_each_kind_of_line(rt: HostRuntime) -> Result<(), Fail> {
-    let mut desk = ground(&rt, rt.alloc())?;
+    let mut desk = ground(rt.alloc())?;
     cuts(&rt, rt.alloc(), &mut desk)
 }
 
@@ -129,7 +129,7 @@ fn cuts_reports(rt: HostRuntime) -> Result<(), Fail> {
         "till 2026-03-02\nfines                  0\nprices                 0\npayments               0\nwaivers                0\n";
     let shelf = "      hold    copy  patron until      title\nready 0\n";
     let overdue = "      loan  patron    copy due         late title\noverdue 0\n";
-    let mut desk = ground(&rt, alloc)?;
+    let mut desk = ground(alloc)?;
     cuts_report(&rt, alloc, &mut desk, &Report::Overdue(main), overdue);
     cuts_report(&rt, alloc, &mut desk, &Report::Till(day), till);
     cuts_report(&rt, alloc, &mut desk, &Report::Shelf(main), shelf);
@@ -146,8 +146,8 @@ fn cuts_report_after(
     wanted: &Report,
     text: &str,
 ) -> Result<(), Fail> {
-    let mut desk = ground(rt, alloc)?;
-    check(rt, alloc, &mut desk, lines)?;
+    let mut desk = ground(alloc)?;
+    check(alloc, &mut desk, lines)?;
     let mut conn = connection(desk);
     let before = rows(alloc, &mut conn)?;
     let mut desk = opened(conn)?;
@@ -189,7 +189,7 @@ fn cuts_reports_of_rows(rt: HostRuntime) -> Result<(), Fail> {
 /// The lines of a copies file are cut after so many bytes; so many copies are there then.
 fn cuts_rows(rt: &impl Abort, alloc: Global, room: usize, copies: u32) -> Result<(), Fail> {
     let lines = "row 1 ok\nrow 2 ok\nrow 3 ok\naccepted 3 refused 0\n";
-    let mut desk = ground(rt, alloc)?;
+    let mut desk = ground(alloc)?;
     let mut writer = Narrow::new(alloc, room);
     let told = import(&mut desk, alloc, BEES.as_bytes(), &mut writer);
     was_cut(rt, told, &writer, lines, room);
@@ -217,7 +217,7 @@ fn tells<S: Alter>(desk: &mut Desk<S>, alloc: Global, bytes: &mut Vec<u8>) -> Re
 #[test]
 fn tells_what_cannot_be_read(rt: HostRuntime) -> Result<(), Fail> {
     let mut bytes: Vec<u8> = Vec::new(rt.alloc());
-    assert!(rt; tells(&mut ground(&rt, rt.alloc())?, rt.alloc(), &mut bytes)?);
+    assert!(rt; tells(&mut ground(rt.alloc())?, rt.alloc(), &mut bytes)?);
     let lines =
         "row 1 ok\nrow 2 ok\nrow 3 ok\nfault reading\naccepted 3 refused 0\nfault reading\naccepted 0 refused 0\nfault 90\n";
     assert!(rt; bytes.as_slice() == lines.as_bytes());

@@ -15,4 +15,6 @@ mod limits;
 #[cfg(test)]
 mod lists;
 #[cfg(test)]
+mod script_stops;
+#[cfg(test)]
 mod stops;

@@ -17,7 +17,7 @@ desk b3 place-hold 1 100 1 -> hold 1
 desk b4 place-hold 2 100 1 -> hold 2";
 
 /// All rows, with no limit on the steps, and the desk over them.
-fn shown(alloc: Global, mut desk: Desk<MemStore>) -> Result<(Desk<MemStore>, String), Fail> {
+pub fn shown(alloc: Global, mut desk: Desk<MemStore>) -> Result<(Desk<MemStore>, String), Fail> {
     desk.limit_steps(None);
     let mut conn = connection(desk);
     let text = rows(alloc, &mut conn)?;
@@ -40,8 +40,8 @@ fn limited(
 #[test]
 fn a_limit_on_steps_refuses_and_changes_nothing(rt: HostRuntime) -> Result<(), Fail> {
     let alloc = rt.alloc();
-    let mut desk = ground(&rt, alloc)?;
-    check(&rt, alloc, &mut desk, BUSY)?;
+    let mut desk = ground(alloc)?;
+    check(alloc, &mut desk, BUSY)?;
     let (mut desk, before) = shown(alloc, desk)?;
     let mut stops = 0u64;
     for limit in 1..200u64 {
@@ -58,7 +58,7 @@ fn a_limit_on_steps_refuses_and_changes_nothing(rt: HostRuntime) -> Result<(), F
     assert!(rt; stops > 0 && stops < 199, "{stops}");
     let (mut desk, after) = shown(alloc, desk)?;
     let lending = "desk k1 check-out 1 10 1 -> loan 3 due 2026-03-09";
-    check(&rt, alloc, &mut desk, lending)?;
+    check(alloc, &mut desk, lending)?;
     let (_, repeated) = shown(alloc, desk)?;
     assert!(rt; repeated.as_str() == after.as_str());
     Ok(())
@@ -95,13 +95,13 @@ fn is_stopped_once(
     (at, limit): (usize, u64),
     wanted: &str,
 ) -> Result<bool, Fail> {
-    let mut desk = ground(rt, alloc)?;
+    let mut desk = ground(alloc)?;
     let mut stopped = false;
     for (number, line) in script.split('\n').enumerate() {
         if number == at {
             (desk, stopped) = is_stopped(rt, alloc, desk, line, limit)?;
         }
-        check(rt, alloc, &mut desk, line)?;
+        check(alloc, &mut desk, line)?;
     }
     let (_, rows) = shown(alloc, desk)?;
     assert!(rt; rows.as_str() == wanted, "line {at} at {limit}");
@@ -126,8 +126,8 @@ fn stops(
 
 /// Each request of a script: none is answered in one step of the database.
 fn withstands_limits(rt: &impl Abort, alloc: Global, script: &str) -> Result<(), Fail> {
-    let mut desk = ground(rt, alloc)?;
-    check(rt, alloc, &mut desk, script)?;
+    let mut desk = ground(alloc)?;
+    check(alloc, &mut desk, script)?;
     let (_, wanted) = shown(alloc, desk)?;
     for at in 0..script.split('\n').count() {
         let stopped = stops(rt, alloc, script, at, wanted.as_str())?;
@@ -149,7 +149,7 @@ fn each_request_is_refused_under_each_limit_and_answered_after_it(
 #[test]
 fn a_fault_ends_a_copies_file(rt: HostRuntime) -> Result<(), Fail> {
     let alloc = rt.alloc();
-    let mut desk = ground(&rt, alloc)?;
+    let mut desk = ground(alloc)?;
     desk.limit_steps(Some(1));
     let file = "copy,title,text,kind,home,price,end\n50,500,Maps,1,1,1500,end\n";
     let mut bytes: Vec<u8> = Vec::new(alloc);
@@ -188,10 +188,10 @@ overdue 2
 #[test]
 fn a_fault_follows_a_beginning_of_a_report(rt: HostRuntime) -> Result<(), Fail> {
     let alloc = rt.alloc();
-    let mut desk = ground(&rt, alloc)?;
+    let mut desk = ground(alloc)?;
     let lines =
         "desk b1 check-out 1 10 1 -> loan 1 due 2026-03-09\ndesk b2 check-out 2 11 1 -> loan 2 due 2026-03-09\ndesk b3 begin-day 2026-03-17 -> ok";
-    check(&rt, alloc, &mut desk, lines)?;
+    check(alloc, &mut desk, lines)?;
     let mut longest = 0;
     for limit in 1..200u64 {
         let (ended, bytes) = limited_report(alloc, &mut desk, limit)?;

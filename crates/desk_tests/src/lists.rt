@@ -55,7 +55,7 @@ fn shows<S: Alter>(
 
 /// Patrons are answered, and shown their own pages.
 fn serves<S: Alter>(rt: &impl Abort, alloc: Global, desk: &mut Desk<S>) -> Result<(), Fail> {
-    check(rt, alloc, desk, ASKED)?;
+    check(alloc, desk, ASKED)?;
     let own =
         "patron 1 owed 0 name Ann Bell\nloan 1 due 2026-03-16 renewals 0 title 100 Rivers of the North";
     shows(rt, alloc, desk, (1, "cardkey00001", own))?;
@@ -66,7 +66,7 @@ fn serves<S: Alter>(rt: &impl Abort, alloc: Global, desk: &mut Desk<S>) -> Resul
 #[test]
 fn serves_patrons_their_own(rt: HostRuntime) -> Result<(), Fail> {
     let alloc = rt.alloc();
-    let mut desk = ground(&rt, alloc)?;
+    let mut desk = ground(alloc)?;
     serves(&rt, alloc, &mut desk)?;
     let found = counts(&mut store(desk), alloc)?;
     // next loan; branches, closed days, kinds, rules, patrons, titles, copies; loans, holds, transits, lines; kept, and by patrons
@@ -83,7 +83,7 @@ fn counts_with_rows(alloc: Global, mut desk: Desk<MemStore>) -> Result<[usize; 1
 
 #[test]
 fn gives_all_rows_with_the_keys_of_a_copies_file(rt: HostRuntime) -> Result<(), Fail> {
-    let found = counts_with_rows(rt.alloc(), ground(&rt, rt.alloc())?)?;
+    let found = counts_with_rows(rt.alloc(), ground(rt.alloc())?)?;
     assert!(rt; found == [1, 2, 0, 1, 2, 3, 5, 7, 0, 0, 0, 0, 18, 0]);
     Ok(())
 }
@@ -103,8 +103,8 @@ fn damaged(mut conn: Connection<MemStore>) -> Result<Desk<MemStore>, Fail> {
 #[test]
 fn a_list_ends_at_a_fault_after_the_replies_before_it(rt: HostRuntime) -> Result<(), Fail> {
     let alloc = rt.alloc();
-    let mut desk = damaged(connection(ground(&rt, alloc)?))?;
-    let (answered, fault) = runs(&rt, alloc, &mut desk, ENDED)?;
+    let mut desk = damaged(connection(ground(alloc)?))?;
+    let (answered, fault) = runs(alloc, &mut desk, ENDED)?;
     assert!(rt; answered == 2 && fault == Some(Fault::Stored));
     Ok(())
 }
@@ -119,7 +119,7 @@ fn begun(alloc: Global) -> Result<Connection<MemStore>, Fail> {
 #[test]
 fn makes_no_second_library_and_opens_none_that_is_not_there(rt: HostRuntime) -> Result<(), Fail> {
     let alloc = rt.alloc();
-    assert!(rt; create(connection(ground(&rt, alloc)?)).err() == Some(Fault::Database));
+    assert!(rt; create(connection(ground(alloc)?)).err() == Some(Fault::Database));
     assert!(rt; create(begun(alloc)?).err() == Some(Fault::Database));
     assert!(rt; open(begun(alloc)?).err() == Some(Fault::Database));
     assert!(rt; open(Connection::open_in_memory(alloc)?).err() == Some(Fault::Stored));

@@ -11,7 +11,7 @@ use store::Store;
 use test_library::{check, desk_over, fill, handle, opened, request, rows};
 
 /// Little is kept in memory, so that a check-out reads and writes the files early and copies the log at its end.
-fn options() -> Options {
+pub fn options() -> Options {
     Options {
         cache_pages: 4,
         spill_pages: 2,
@@ -29,32 +29,32 @@ fn copy(alloc: Global, bytes: &[u8]) -> io::Result<Memory> {
 }
 
 /// Two empty files, as those of the small library.
-fn filled_in<D: Disk + Drop>(
-    rt: &impl Abort,
-    alloc: Global,
-    files: Files<D>,
-) -> Result<Files<D>, Fail> {
+fn filled_in<D: Disk + Drop>(alloc: Global, files: Files<D>) -> Result<Files<D>, Fail> {
     let mut desk = desk_over(create_files(alloc, files, options())?)?;
-    fill(rt, alloc, &mut desk)?;
+    fill(alloc, &mut desk)?;
     Ok(close(store(desk)).ok_or("a close")?)
 }
 
 /// The two files of the small library.
-fn filled(rt: &impl Abort, alloc: Global) -> Result<Files<Memory>, Fail> {
+pub fn filled(alloc: Global) -> Result<Files<Memory>, Fail> {
     let files = Files {
         log: Memory::new(alloc),
         db: Memory::new(alloc),
     };
-    filled_in(rt, alloc, files)
+    filled_in(alloc, files)
 }
 
-/// Copies of the files, each with a fuse that blows after so many calls.
-fn fused(
+/// Copies of the files, of which one has a fuse that blows after so many calls.
+pub fn fused(
     alloc: Global,
     base: &Files<Memory>,
-    log_calls: u64,
-    db_calls: u64,
+    (is_log, calls): (bool, u64),
 ) -> io::Result<Files<Fuse<Memory>>> {
+    let (log_calls, db_calls) = if is_log {
+        (calls, u64::MAX)
+    } else {
+        (u64::MAX, calls)
+    };
     Ok(Files {
         log: Fuse::new(copy(alloc, base.log.bytes())?, log_calls),
         db: Fuse::new(copy(alloc, base.db.bytes())?, db_calls),
@@ -145,7 +145,7 @@ fn shown_in<D: Disk + Drop>(alloc: Global, files: Files<D>) -> Result<String, Fa
 }
 
 /// The files behind the fuses, of which each may have lost what was not synced.
-fn left(
+pub fn left(
     alloc: Global,
     mut files: Files<Fuse<Memory>>,
     loses: (bool, bool),
@@ -191,7 +191,7 @@ fn repeated<S: Alter + Drop>(
 ) -> Result<(), Fail> {
     let mut desk = opened(conn)?;
     let lending = "desk k1 check-out 1 10 1 -> loan 1 due 2026-03-09";
-    check(rt, alloc, &mut desk, lending)?;
+    check(alloc, &mut desk, lending)?;
     let (found, after) = (shown(alloc, store(desk))?, after(alloc)?);
     assert!(rt; found.as_str() == after.as_str());
     Ok(())
@@ -216,13 +216,12 @@ fn every_end(
     rt: &impl Abort,
     alloc: Global,
     base: &Files<Memory>,
-    log_calls: u64,
-    db_calls: u64,
+    fuse: (bool, u64),
 ) -> Result<bool, Fail> {
     for loses in [(false, false), (true, false), (false, true)] {
-        dropped(rt, alloc, fused(alloc, base, log_calls, db_calls)?, loses)?;
+        dropped(rt, alloc, fused(alloc, base, fuse)?, loses)?;
     }
-    restarted(rt, alloc, fused(alloc, base, log_calls, db_calls)?)
+    restarted(rt, alloc, fused(alloc, base, fuse)?)
 }
 
 /// Whether the files are opened.
@@ -231,16 +230,11 @@ fn opens<D: Disk + Drop>(alloc: Global, files: Files<D>) -> bool {
 }
 
 /// The most calls after which an open of the library is still stopped.
-fn calls_of_open(alloc: Global, base: &Files<Memory>, is_log: bool) -> Result<u64, Fail> {
+pub fn calls_of_open(alloc: Global, base: &Files<Memory>, is_log: bool) -> Result<u64, Fail> {
     let mut calls = 0u64;
     for bit in [512u64, 256, 128, 64, 32, 16, 8, 4, 2, 1] {
         let more = calls | bit;
-        let (log_calls, db_calls) = if is_log {
-            (more, u64::MAX)
-        } else {
-            (u64::MAX, more)
-        };
-        let files = fused(alloc, base, log_calls, db_calls)?;
+        let files = fused(alloc, base, (is_log, more))?;
         if !opens(alloc, files) {
             calls = more;
         }
@@ -250,16 +244,10 @@ fn calls_of_open(alloc: Global, base: &Files<Memory>, is_log: bool) -> Result<u6
 
 /// The fuse blows at each call of the check-out in turn, until the loan is told; how many stops were before it.
 fn stops(rt: &impl Abort, alloc: Global, is_log: bool) -> Result<u64, Fail> {
-    let base = filled(rt, alloc)?;
+    let base = filled(alloc)?;
     let open = calls_of_open(alloc, &base, is_log)?;
     for at in 1..200u64 {
-        let calls = open.saturating_add(at);
-        let (log_calls, db_calls) = if is_log {
-            (calls, u64::MAX)
-        } else {
-            (u64::MAX, calls)
-        };
-        if every_end(rt, alloc, &base, log_calls, db_calls)? {
+        if every_end(rt, alloc, &base, (is_log, open.saturating_add(at)))? {
             return Ok(at);
         }
     }

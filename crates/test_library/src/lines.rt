@@ -6,7 +6,6 @@ use front::read_words;
 use sqlite::types::ValueRef;
 use sqlite::{Alter, Connection, MemStore};
 use std::alloc::Global;
-use std::process::Abort;
 use std::test::Fail;
 use terms::{Caller, CardKey, Fault, Key, PatronId, Reply, Request, read_number};
 
@@ -97,49 +96,48 @@ fn requests(alloc: Global, lines: &str) -> Result<Vec<Request>, Fail> {
 }
 
 /// The text of a reply is the one behind the arrow, where a semicolon stands for the end of a line.
-fn tells(rt: &impl Abort, alloc: Global, reply: &Reply, line: &str) -> Result<(), Fail> {
+fn tells(alloc: Global, reply: &Reply, line: &str) -> Result<(), Fail> {
     let (_, wanted) = line.split_once(" -> ").ok_or("an arrow")?;
     let told = format!(in alloc; "{reply}")?.replace(alloc, '\n', "; ")?;
-    assert!(rt; told.as_str() == wanted, "{line}: {told}");
-    Ok(())
+    if told.as_str() == wanted {
+        Ok(())
+    } else {
+        Err(format!(in alloc; "{line}: {told}")?.into())
+    }
 }
 
 /// The lines are run as one list: each answer that came is the expected one. The fault that ended the list, and how many
 /// answers there were before it.
 pub fn runs<S: Alter>(
-    rt: &impl Abort,
     alloc: Global,
     desk: &mut Desk<S>,
     lines: &str,
 ) -> Result<(usize, Option<Fault>), Fail> {
     let (replies, fault) = run(desk, alloc, &requests(alloc, lines)?);
     for (reply, line) in replies.iter().zip(lines.split('\n')) {
-        tells(rt, alloc, reply, line)?;
+        tells(alloc, reply, line)?;
     }
     Ok((replies.len(), fault))
 }
 
 /// All lines are answered, each by the expected answer.
-pub fn check<S: Alter>(
-    rt: &impl Abort,
-    alloc: Global,
-    desk: &mut Desk<S>,
-    lines: &str,
-) -> Result<(), Fail> {
-    let (answered, fault) = runs(rt, alloc, desk, lines)?;
-    assert!(rt; answered == lines.split('\n').count() && fault == None);
-    Ok(())
+pub fn check<S: Alter>(alloc: Global, desk: &mut Desk<S>, lines: &str) -> Result<(), Fail> {
+    match runs(alloc, desk, lines)? {
+        (answered, None) if answered == lines.split('\n').count() => Ok(()),
+        (_, Some(fault)) => Err(fault.into()),
+        _ => Err("an answer to each line".into()),
+    }
 }
 
 /// Has the small library's requests answered.
-pub fn fill<S: Alter>(rt: &impl Abort, alloc: Global, desk: &mut Desk<S>) -> Result<(), Fail> {
-    check(rt, alloc, desk, GROUND)
+pub fn fill<S: Alter>(alloc: Global, desk: &mut Desk<S>) -> Result<(), Fail> {
+    check(alloc, desk, GROUND)
 }
 
 /// The desk of the small library.
-pub fn ground(rt: &impl Abort, alloc: Global) -> Result<Desk<MemStore>, Fail> {
+pub fn ground(alloc: Global) -> Result<Desk<MemStore>, Fail> {
     let mut desk = in_memory(alloc)?;
-    fill(rt, alloc, &mut desk)?;
+    fill(alloc, &mut desk)?;
     Ok(desk)
 }
 

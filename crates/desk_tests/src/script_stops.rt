@@ -1,0 +1,166 @@
+//! Stops of scripts: a fuse in one of the two files of a library blows at each call in turn.
+
+use crate::calls::{connection_of, into_files, open_files, store};
+use crate::limits::shown;
+use crate::stops::{calls_of_open, filled, fused, left, options};
+use sqlite::{Alter, Connection, Files};
+use sqlite_disk::{Disk, Fuse, Memory};
+use std::alloc::Global;
+use std::process::Abort;
+use std::test::Fail;
+use terms::Fault;
+use test_library::{
+    HOLDS, LATE, LOST, PAID, RENEWED, REOPENED, RETURNED, check, desk_over, ground, opened, rows,
+    runs,
+};
+
+/// The rows of the small library before a script and after each of its requests, over memory.
+fn pictures(alloc: Global, script: &str) -> Result<Vec<String>, Fail> {
+    let mut all = Vec::new(alloc);
+    let (mut desk, first) = shown(alloc, ground(alloc)?)?;
+    all.push(first)?;
+    for line in script.split('\n') {
+        check(alloc, &mut desk, line)?;
+        let (next, text) = shown(alloc, desk)?;
+        desk = next;
+        all.push(text)?;
+    }
+    Ok(all)
+}
+
+/// A script over two files: how many of its requests were answered before the database told a fault, and the files
+/// as they were written.
+fn run_in<D: Disk + Drop>(
+    rt: &impl Abort,
+    alloc: Global,
+    files: Files<D>,
+    script: &str,
+) -> Result<(usize, Files<D>), Fail> {
+    let mut desk = desk_over(open_files(alloc, files, options())?)?;
+    let (answered, fault) = runs(alloc, &mut desk, script)?;
+    let is_whole = answered == script.split('\n').count();
+    assert!(rt; fault == if is_whole { None } else { Some(Fault::Database) });
+    Ok((answered, into_files(store(desk))))
+}
+
+/// The requests of a script from the first that had no answer on are asked again, under the same keys: they are answered
+/// as ever, and the rows are then these.
+fn finished<S: Alter + Drop>(
+    rt: &impl Abort,
+    alloc: Global,
+    conn: Connection<S>,
+    (script, answered): (&str, usize),
+    last: &str,
+) -> Result<(), Fail> {
+    let mut desk = opened(conn)?;
+    for (number, line) in script.split('\n').enumerate() {
+        if number >= answered {
+            check(alloc, &mut desk, line)?;
+        }
+    }
+    let found = rows(alloc, &mut connection_of(store(desk)))?;
+    assert!(rt; found.as_str() == last);
+    Ok(())
+}
+
+/// One stop: the files show what was accepted, or that and the request in work; the rest of the script is answered
+/// afterwards. Whether the script was answered whole.
+fn is_whole(
+    rt: &impl Abort,
+    alloc: Global,
+    files: Files<Fuse<Memory>>,
+    script: &str,
+    pictures: &[String],
+) -> Result<bool, Fail> {
+    let (answered, files) = run_in(rt, alloc, files, script)?;
+    let files = left(alloc, files, (false, false))?;
+    let mut conn = connection_of(open_files(alloc, files, options())?);
+    let found = rows(alloc, &mut conn)?;
+    let before = pictures.get(answered).ok_or("a picture")?;
+    let after = pictures.get(answered.saturating_add(1)).unwrap_or(before);
+    assert!(rt;
+        found.as_str() == before.as_str() || found.as_str() == after.as_str(),
+        "after {answered}"
+    );
+    let last = pictures.last().ok_or("a picture")?;
+    finished(rt, alloc, conn, (script, answered), last)?;
+    Ok(answered.saturating_add(1) == pictures.len())
+}
+
+/// The fuse blows at each call of the script in turn, until it is answered whole; how many stops were before it.
+fn stops_in(
+    rt: &impl Abort,
+    alloc: Global,
+    base: &Files<Memory>,
+    is_log: bool,
+    script: &str,
+    pictures: &[String],
+) -> Result<u64, Fail> {
+    let open = calls_of_open(alloc, base, is_log)?;
+    for at in 1..5_000u64 {
+        let files = fused(alloc, base, (is_log, open.saturating_add(at)))?;
+        if is_whole(rt, alloc, files, script, pictures)? {
+            return Ok(at);
+        }
+    }
+    Err("the script was never answered".into())
+}
+
+/// A script is stopped at each call of the one file, and then at each of the other.
+fn withstands_stops(rt: &impl Abort, alloc: Global, script: &str) -> Result<(), Fail> {
+    let base = filled(alloc)?;
+    let pictures = pictures(alloc, script)?;
+    for is_log in [true, false] {
+        let stops = stops_in(rt, alloc, &base, is_log, script, pictures.as_slice())?;
+        assert!(rt; stops > 1, "{is_log} {stops}");
+    }
+    Ok(())
+}
+
+#[test]
+fn a_stop_of_two_holds(rt: HostRuntime) -> Result<(), Fail> {
+    withstands_stops(&rt, rt.alloc(), HOLDS)
+}
+
+#[test]
+fn a_stop_of_a_lost_copy(rt: HostRuntime) -> Result<(), Fail> {
+    withstands_stops(&rt, rt.alloc(), LOST)
+}
+
+#[test]
+fn a_stop_of_a_payment(rt: HostRuntime) -> Result<(), Fail> {
+    withstands_stops(&rt, rt.alloc(), PAID)
+}
+
+#[test]
+fn a_stop_of_a_day_that_is_opened_again(rt: HostRuntime) -> Result<(), Fail> {
+    withstands_stops(&rt, rt.alloc(), REOPENED)
+}
+
+#[test]
+fn a_stop_of_a_renewal_that_is_refused(rt: HostRuntime) -> Result<(), Fail> {
+    withstands_stops(&rt, rt.alloc(), RENEWED)
+}
+
+#[test]
+fn a_stop_of_a_loan_that_ended(rt: HostRuntime) -> Result<(), Fail> {
+    withstands_stops(&rt, rt.alloc(), RETURNED)
+}
+
+/// The one loan and the one line, if there is one, as the rows of a picture have them, and what the patron owes.
+fn tells(picture: &str, loan: &str, owed: &str) -> bool {
+    picture.contains(loan) && picture.contains(owed)
+}
+
+/// The loan is open and nothing is owed, or it has ended and its fine is owed, by one line.
+#[test]
+fn a_stop_of_a_late_check_in(rt: HostRuntime) -> Result<(), Fail> {
+    let pictures = pictures(rt.alloc(), LATE)?;
+    let open = "\n1|10|1|1|20514|20521|6|1|20|100|none|;\n\n\n\n0|g1|";
+    let before = pictures.get(2).ok_or("a picture")?;
+    assert!(&rt; tells(before, open, "|Ann Bell|0|;"));
+    let ended = "\n1|10|1|1|20514|20521|6|1|20|100|20529|;\n\n\n1|1|20529|0|100|1|;\n0|g1|";
+    let after = pictures.get(3).ok_or("a picture")?;
+    assert!(&rt; tells(after, ended, "|Ann Bell|100|;"));
+    withstands_stops(&rt, rt.alloc(), LATE)
+}
