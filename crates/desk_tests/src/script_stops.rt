@@ -39,7 +39,14 @@ fn run_in<D: Disk + Drop>(
     let mut desk = desk_over(open_files(alloc, files, options())?)?;
     let (answered, fault) = runs(alloc, &mut desk, script)?;
     let is_whole = answered == script.split('\n').count();
-    assert!(rt; fault == if is_whole { None } else { Some(Fault::Database) });
+    assert!(rt;
+        fault
+            == if is_whole {
+                None
+            } else {
+                Some(Fault::Database)
+            }
+    );
     Ok((answered, into_files(store(desk))))
 }
 

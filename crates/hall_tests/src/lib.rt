@@ -15,4 +15,6 @@ mod known;
 #[cfg(test)]
 mod library;
 #[cfg(test)]
+mod reopened;
+#[cfg(test)]
 mod tests;
