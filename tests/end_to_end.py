@@ -780,9 +780,13 @@ def two_at_once(folder):
     with subprocess.Popen([PROGRAM, "import", path, copies], stdout=subprocess.PIPE) as run:
         check("the first row", run.stdout.readline(), b"row 1 ok\n")
         for at in range(5):
-            line, status = circ(["file", path, f"w{at}", "place-hold", "2", "100", "1"])
-            turned_away += (line, status) == ("fault 91", 3)
-            check("the other run", line in ("fault 91", "hold 1", "refused 50"), True)
+            words = ["file", path, f"w{at}", "place-hold", "2", "100", "1"]
+            other = subprocess.run([PROGRAM, *words], capture_output=True, timeout=120)
+            line = other.stdout.decode()
+            turned_away += (line, other.returncode) == ("fault 91\n", 3)
+            check("the other run", line in ("fault 91\n", "hold 1\n", "refused 50\n"), True)
+            # the first may let go of the file just after the other was turned away
+            check("what it says", other.stderr in [message(words, line, held) for held in (True, False)], True)
         rest = run.stdout.read().decode()
         check("the run at work", (run.wait(timeout=120), rest.endswith("accepted 2000 refused 0\n")), (0, True))
     check("another was turned away", turned_away > 0, True)

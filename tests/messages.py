@@ -7,11 +7,14 @@
 and through what is known of a library's file when the database told a fault.
 """
 
+import fcntl
 import os
 import re
+import sqlite3
 import subprocess
 import sys
 import tempfile
+from contextlib import closing
 
 TOP = os.path.dirname(os.path.dirname(os.path.abspath(__file__)))
 PROGRAM = f"{TOP}/crates/circ_cli/out/circ_cli"
@@ -66,16 +69,41 @@ def usage(words):
     return "".join(f"{line}\n" for line in [*lines, f"circ {VERSION}, schema {SCHEMA}"])
 
 
-def cause(path):
-    """What is known of a library's file."""
+def is_held(path):
+    """Whether another process has the locks of a database."""
+    with open(path, "rb+") as file:
+        try:
+            fcntl.lockf(file, fcntl.LOCK_EX | fcntl.LOCK_NB, 512, 1 << 30)
+            return False
+        except BlockingIOError:
+            return True
+
+
+def schema_of(path):
+    """The schema of a library, as stock SQLite reads it; none where it can't."""
+    try:
+        with closing(sqlite3.connect(path)) as conn:
+            return conn.execute("SELECT schema FROM meta").fetchone()[0]
+    except (sqlite3.Error, TypeError):
+        return None
+
+
+def cause(path, line, held=None):
+    """What is known of a library's file after a fault; whether another process has it is looked up where it isn't given."""
     try:
         if os.path.isdir(path):
             return "this is a directory"
         if not os.path.getsize(path):
             return "the file has no bytes"
         with open(path, "rb") as file:
-            is_database = file.read(16) == b"SQLite format 3\0"
-        return "the file is there, and begins as a library" if is_database else "the file can't be read, or is no library"
+            if file.read(16) != b"SQLite format 3\0":
+                return "the file can't be read, or is no library"
+        if line == "fault 91" and (is_held(path) if held is None else held):
+            return "another process has the file"
+        schema = schema_of(path) if line == "fault 93" else None
+        if isinstance(schema, int) and schema > int(SCHEMA):
+            return "the library is of a later schema, for a later version of this program"
+        return "the file is there, and begins as a library"
     except (FileNotFoundError, NotADirectoryError):
         return "no such file or directory"
 
@@ -84,8 +112,8 @@ def is_telling(line):
     return bool(re.match(r'(row \d+ (refused|bad)|refused |fault |words |unsound |\{"(refusal|fault)":)', line))
 
 
-def message(words, out):
-    """What is said beside the lines of a run of these words."""
+def message(words, out, held=None):
+    """What is said beside the lines of a run of these words; `held` is whether another process had the library's file."""
     line = ([it for it in out.split("\n")[:-1] if is_telling(it)] or [""])[-1]
     if line == "words not understood":
         return usage(words).encode()
@@ -97,7 +125,7 @@ def message(words, out):
         return b""
     said = f"circ: {MEANINGS[int(numbers[-1])]}\n"
     if line in ("fault 91", "fault 93") and words[0] != "send":
-        said += f"circ: {words[1]}: {cause(words[1])}\n"
+        said += f"circ: {words[1]}: {cause(words[1], line, held)}\n"
     return said.encode()
 
 
@@ -111,6 +139,13 @@ def main():
         found, wanted = (run.stdout.decode(), run.stderr), (lines, message(words, lines))
         if found != wanted:
             wrong.append(f"{words}: {found} is not {wanted}")
+
+    def are(words, said):
+        nonlocal compared
+        compared += 1
+        run = subprocess.run([PROGRAM, *words], capture_output=True, timeout=120)
+        if (run.returncode, run.stderr) != (3, said.encode()):
+            wrong.append(f"{words}: {run} says not {said}")
 
     subprocess.run([f"{TOP}/circ"], stdout=subprocess.DEVNULL, stderr=subprocess.DEVNULL, check=False)  # builds the program where it isn't there
     with tempfile.TemporaryDirectory() as place:
@@ -143,6 +178,17 @@ def main():
         asks(["report", garbage, "shelf", "1"], "fault 91\n")
         asks(["file", place, "k1", "page", "1"], "fault 91\n")
         asks(["file", os.path.join(place, "no", "town.db"), "k1", "page", "1"], "fault 91\n")
+        later = os.path.join(place, "later.db")
+        asks(["file", later, "k1", "begin-day", "2026-03-02"], "ok\n")
+        for schema, said in ((2, "the library is of a later schema, for a later version of this program"), (0, "the file is there, and begins as a library")):
+            with closing(sqlite3.connect(later)) as conn:
+                conn.execute(f"UPDATE meta SET schema = {schema}")
+                conn.commit()
+            asks(["report", later, "shelf", "1"], "fault 93\n")
+            are(["file", later, "k2", "page", "1"], f"circ: {MEANINGS[93]}\ncirc: {later}: {said}\n")
+        with open(path, "rb+") as file:
+            fcntl.lockf(file, fcntl.LOCK_EX | fcntl.LOCK_NB, 512, 1 << 30)
+            are(["file", path, "k2", "page", "1"], f"circ: {MEANINGS[91]}\ncirc: {path}: another process has the file\n")
         with open("/dev/full", "wb") as full:
             run = subprocess.run([PROGRAM, "file", path, "k1", "page", "9"], stdout=full, stderr=subprocess.PIPE, timeout=120, check=False)
         compared += 1

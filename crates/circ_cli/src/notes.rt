@@ -1,6 +1,8 @@
 //! What the program says for a person on standard error.
 
 use messages::{Line, explain};
+use sqlite::types::ValueRef;
+use sqlite::{Alter, Connection, Error, ErrorCode};
 use std::fs::{self, File};
 use std::io::{ErrorKind, Read, Write};
 use store::SCHEMA;
@@ -18,6 +20,31 @@ fn is_database(rt: &HostRuntime, path: &str) -> bool {
     }
 }
 
+/// The number of the schema that a library has; none where it can't be read.
+fn schema_of<S: Alter>(conn: &mut Connection<S>) -> Option<i64> {
+    let found = conn.query_all("SELECT schema FROM meta", &[]).ok()?;
+    for row in &found {
+        if let Ok(ValueRef::Int(schema)) = row.get_ref(0) {
+            return Some(schema);
+        }
+    }
+    None
+}
+
+/// What is known of a file that begins as a database, by opening it once more: the run has let go of it.
+fn cause_inside(rt: &HostRuntime, path: &str) -> &'static str {
+    match Connection::open(rt, path) {
+        Ok(mut conn) => match schema_of(&mut conn) {
+            Some(schema) if schema > i64::from(SCHEMA) => {
+                "the library is of a later schema, for a later version of this program"
+            }
+            _ => "the file is there, and begins as a library",
+        },
+        Err(Error::SqliteFailure(ErrorCode::DatabaseBusy)) => "another process has the file",
+        Err(_) => "the file is there, and begins as a library",
+    }
+}
+
 /// What is known of the file of a library with which a run met a fault.
 fn cause(rt: &HostRuntime, path: &str) -> &'static str {
     match fs::metadata(rt, path) {
@@ -26,7 +53,7 @@ fn cause(rt: &HostRuntime, path: &str) -> &'static str {
         Ok(file) if file.is_dir() => "this is a directory",
         Ok(file) if file.len() == 0 => "the file has no bytes",
         Ok(_) if !is_database(rt, path) => "the file can't be read, or is no library",
-        Ok(_) => "the file is there, and begins as a library",
+        Ok(_) => cause_inside(rt, path),
     }
 }
 
