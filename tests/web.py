@@ -78,12 +78,14 @@ class Serving:
         self.run.wait()
 
     def ask(self, method, target, fields=None, body=None):
-        """The status, the body and the fields of an answer, by http.client."""
+        """The status, the body and the fields of an answer, by http.client. One that is cut within its head is none."""
         connection = http.client.HTTPConnection("127.0.0.1", self.port, timeout=60)
         connection.request(method, target, body, fields or {})
         answer = connection.getresponse()
         given = answer.status, answer.read(), dict(answer.getheaders())
         connection.close()
+        if "Content-Length" not in given[2]:
+            raise http.client.IncompleteRead(given[1])
         self.heard += [given[1], str(given[2]).encode()]
         return given
 
