@@ -524,11 +524,9 @@ def a_long_line(folder):
 
 def memory_of(words, out):
     """The most memory that a run of the program takes, in KiB, and its status; what it prints goes into a file."""
-    with open(out, "wb") as file:
-        child = subprocess.Popen([PROGRAM, *words], stdout=file)
-        _, status, used = os.wait4(child.pid, 0)
-    child.returncode = os.waitstatus_to_exitcode(status)
-    return used.ru_maxrss, child.returncode
+    run = subprocess.run([os.path.join(TOP, "tests", "measured"), out, PROGRAM, *words], stdout=subprocess.PIPE, check=True)
+    _, most, status = run.stdout.split()
+    return int(most), int(status)
 
 
 LATE = 100_000
