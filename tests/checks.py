@@ -318,11 +318,6 @@ def lists_of(text):
             for part in text.strip().split("\n\n")]
 
 
-def told_to_all(line):
-    """The status and the body of an answer over the web."""
-    return (403, b'{"refusal":81}') if line == "refused 81" else told(line)
-
-
 def are_the_rules(rules, lists):
     """The answers are those of the rules in plain Python, which say nothing of who may ask."""
     for key, words, line in lists:
@@ -346,7 +341,7 @@ def over_the_web(path, asked):
     with Serving(path, len(asked)) as serving:
         for key, words, line in asked:
             how = ("POST", "/desk", {"Desk-Key": DESK_KEY, "Request-Key": key}, json.dumps(words).encode())
-            serving.answers(*(line.by_route(key) if line.patron else how), *told_to_all(line.answer))
+            serving.answers(*(line.by_route(key) if line.patron else how), *told(line.answer))
 
 
 def compared(folder, small, rules, lists):

