@@ -1,18 +1,21 @@
 -- What the pages hold, in words of the typed tables.
-use Rattle.std.proofs.Common.{arith, ◌≡◌, ◌<◌, ℕ, Bool, true, List, map, Option, Some, None, inl, inr, refl, ◌∙◌, sym, subst, Less}
+use Rattle.std.proofs.Common.{arith, ◌≡◌, ◌<◌, ℕ, Bool, true, List, map, Option, Some, None, Result, inl, inr, refl, ◌∙◌, ◌≤◌, sym, subst, Less}
 use Rattle.std.specs.List.{All, Contains}
 use Rattle.std.proofs.lemmas.Bool.{and_parts, and_from}
 use Rattle.std.proofs.lemmas.List.{length-map}
 use Rattle.std.proofs.lemmas.List.Elements.{All-contains}
+use Rattle.sqlite.specs.Held.{Held}
 use Rattle.sqlite.specs.Order.{Row, column}
+use Rattle.sqlite.specs.Store.{Ghosts}
 use Rattle.sqlite_value.specs.Order.{value_cmp}
-use Rattle.circ_tables.specs.Reading.{Table}
+use Rattle.circ_tables.specs.Reading.{Table, Lists, Views}
 use Rattle.sqlite_rules.proofs.ListLemmas.{has_contained, contains_had}
 use Rattle.sqlite_rules.proofs.ProbeLemmas.{has_mapped, mapped_has}
 use Rattle.sql_maps.specs.Maps.{Map, Maps}
 use Rattle.sql_maps.specs.Pages.{FirstRows}
 use Rattle.terms.specs.Limits.{InLimits, IsLoan, IsHold, IsLine}
 use Rattle.terms.specs.Pictures.{Picture}
+use Rattle.terms.specs.declared.fault.Fault.{Fault}
 use Rattle.terms.specs.declared.row.LoanRow.{LoanRow}
 use Rattle.terms.specs.declared.row.HoldRow.{HoldRow}
 use Rattle.terms.specs.declared.row.HoldState.TheVariants.{Ready}
@@ -22,11 +25,12 @@ use Rattle.circ_tables.specs.Encoding.{IsEncoded, Any, Encodes}
 use Rattle.circ_tables.specs.Selections.{is_ready_after, is_overdue_after, is_line_after, is_after}
 use Rattle.circ_tables.specs.Shape.{loans_place, holds_place, lines_place}
 use Rattle.circ_tables.specs.declared.lists.TheConstants.{PAGE_ROWS}
-use Rattle.circ_tables.proofs.CellLemmas.{same_if, if_same, none_if, if_none, ready_if, if_ready, below_if, if_below, above_if, if_above, both, from_both}
+use Rattle.circ_tables.proofs.CellLemmas.{is_above, same_if, if_same, none_if, if_none, ready_if, if_ready, below_if, if_below, above_if, if_above, alone, from_alone, both, from_both}
 use Rattle.circ_tables.proofs.InverseLemmas.{loan_told, hold_told, line_told}
 use Rattle.circ_tables.proofs.DayLemmas.{below}
 use Rattle.circ_tables.proofs.ShownLemmas.{one_found, stands, rows_rise}
-use Rattle.store.specs.Pages.{AreFirstRows, AreRowsAfter, AreReadyAfter, AreOverdueAfter, AreLinesAfter}
+use Rattle.store.specs.Pages.{AreFirstRows, AreRowsAfter, AreNumbered, AreReadyAfter, AreOverdueAfter, AreLinesAfter}
+use Rattle.store.proofs.ViewLemmas.{rows_seen}
 use Rattle.store.proofs.ListLemmas.{line_number, rise_is}
 use Rattle.store.proofs.RowLemmas.{loan_number, hold_number}
 
@@ -81,10 +85,25 @@ module _ (maps : Maps) (P : Picture) (is : Encodes maps P) (legal : InLimits P) 
       are_first line_cells IsLine line_number line_told (λ r. refl) (maps lines_place) P.lines is.lines legal.lines (is_line_after day after) (λ r. (r.day ≡ day) × (after < r.line))
       (λ r good. let tests = both _ _ good in (same_if r.day day tests.0, above_if r.line after tests.1)) (λ r passes. from_both _ _ (if_same r.day day passes.0) (if_above r.line after passes.1))
 
--- a page of all rows of a table that is keyed by one number
-pub rows_after_are : {R : Type 0} (t : Table ℕ R) (number_of : R → ℕ) → ((a b : R) → t.IsLegal a → t.IsLegal b → t.cells a ≡ t.cells b → a ≡ b) → ((r : R) → column (t.cells r) 0 ≡ number (number_of r))
+-- a page of all rows of a table that is keyed by one number, from 1 on
+pub page_seen : {S R L : Type 0} (t : Table ℕ R) {items : L → List R} (number_of : R → ℕ) → ((a b : R) → t.IsLegal a → t.IsLegal b → t.cells a ≡ t.cells b → a ≡ b) → ((r : R) → column (t.cells r) 0 ≡ number (number_of r))
     → ((maps : Maps) (P : Picture) → Encodes maps P → IsEncoded Any number_key t.cells (maps t.place) (t.rows P)) → ((P : Picture) → InLimits P → (n : ℕ) (r : R) → t.rows P n ≡ Some r → (number_of r ≡ n) × t.IsLegal r)
-    → (after : ℕ) → ((r : R) → is_after after (t.cells r) ≡ true → after < number_of r) → ((r : R) → after < number_of r → is_after after (t.cells r) ≡ true)
-    → (maps : Maps) (P : Picture) → Encodes maps P → InLimits P → (rows : List R) → All t.IsLegal rows → FirstRows PAGE_ROWS (maps t.place) (is_after after) (map t.cells rows) → AreRowsAfter (t.rows P) number_of after rows
-rows_after_are t number_of told key_cell encoded own after to from maps P is legal rows =
-    are_first t.cells t.IsLegal number_of told key_cell (maps t.place) (t.rows P) (encoded maps P is) (own P legal) (is_after after) (λ r. after < number_of r) to from rows
+    → ((r : R) → t.IsLegal r → 1 ≤ number_of r) → (after : ℕ) → {g : Ghosts S} {r : Result L Fault} {a b : Held S} → Lists t items (λ m. FirstRows PAGE_ROWS m (is_after after)) g a b r
+    → Views (λ P l. AreNumbered (t.rows P) number_of × AreRowsAfter (t.rows P) number_of after (items l)) g a b r
+page_seen {R = R} t number_of told key_cell encoded own from after is =
+    rows_seen (λ P rows. AreNumbered (t.rows P) number_of × AreRowsAfter (t.rows P) number_of after rows)
+    (λ maps P shown legal rows limits first. (numbered P legal,
+    are_first t.cells t.IsLegal number_of told key_cell (maps t.place) (t.rows P) (encoded maps P shown) (own P legal) (is_after after) (λ r. after < number_of r) above passes rows limits first)) is
+  where
+    numbered : (P : Picture) → InLimits P → AreNumbered (t.rows P) number_of
+    numbered P legal n r e =
+        let it = own P legal n r e in
+        let one : 1 ≤ number_of r = from r it.1 in
+        let same : number_of r ≡ n = it.0 in
+        (same, omega (arith, one, same))
+
+    above : (r : R) → is_after after (t.cells r) ≡ true → after < number_of r
+    above r good = above_if (number_of r) after (subst (λ v. is_above v after ≡ true) (key_cell r) (alone _ good))
+
+    passes : (r : R) → after < number_of r → is_after after (t.cells r) ≡ true
+    passes r more = from_alone _ (subst (λ v. is_above v after ≡ true) (sym (key_cell r)) (if_above (number_of r) after more))

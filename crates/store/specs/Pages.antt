@@ -33,3 +33,7 @@ AreLinesAfter P day after = AreFirstRows P.lines (λ r. r.line) (λ r. (r.day �
 -- A page of all rows of a table, from above a number on.
 abbrev pub AreRowsAfter : {R : Type 0} → (ℕ → Option R) → (R → ℕ) → ℕ → List R → Type 0
 AreRowsAfter t number_of after = AreFirstRows t number_of (λ r. after < number_of r)
+
+-- Each row of a table stands under its own number, and these begin at 1.
+abbrev pub AreNumbered : {R : Type 0} → (ℕ → Option R) → (R → ℕ) → Type 0
+AreNumbered {R} t number_of = (n : ℕ) (r : R) → t n ≡ Some r → (number_of r ≡ n) × (1 ≤ n)

@@ -3,23 +3,18 @@
 ghost use Rattle.terms.specs.Limits.{InLimits};
 ghost use Rattle.store.specs.Lists.{AreRows, AllPass, AreRuleRows, AreClosedDayRows, AreKeptRows};
 ghost use Rattle.store.specs.Lists.{AreRegisters, AreHoldings, AreDealings, AreTables};
-ghost use Rattle.store.specs.Pages.{AreRowsAfter};
+ghost use Rattle.store.specs.Lists.{AreAuditTables};
 ghost use Rattle.store.specs.Reads.{Looked, IsSound};
 ghost use Rattle.circ_tables.specs.Reading.{Views};
 
+use crate::pages::{EachRow, NoRow, OpenLoans, Sift, read_pages};
 use crate::store::Store;
-use circ_tables::{
-    all_branches, all_closed_days, all_copies, all_copies_after, all_holds, all_holds_after,
-    all_kept, all_kinds, all_lines, all_lines_after, all_loans, all_loans_after, all_patrons,
-    all_patrons_after, all_rules, all_titles, all_titles_after, all_transits, all_transits_after,
-    get_meta,
-};
+use circ_tables::{all_branches, all_closed_days, all_kept, all_kinds, all_rules, get_meta};
 use sqlite::{Alter, Connection};
 use std::alloc::Global;
 use terms::{
-    BranchRow, ClosedDayRow, CopyId, CopyRow, Fault, HoldId, HoldRow, KeptRow, KindRow, LineId,
-    LineRow, LoanId, LoanRow, MetaRow, PatronId, PatronRow, Rows, RuleRow, Tables, TitleId,
-    TitleRow, TransitRow,
+    BranchRow, ClosedDayRow, CopyRow, Fault, HoldRow, KeptRow, KindRow, LineRow, LoanRow, MetaRow,
+    PatronRow, Rows, RuleRow, Tables, TitleRow, TransitRow,
 };
 
 /// The tables that the desk sets.
@@ -47,7 +42,6 @@ struct Dealings {
     holds: Rows<HoldRow>,
     transits: Rows<TransitRow>,
     lines: Rows<LineRow>,
-    kept: Rows<KeptRow>,
 }
 
 /// All rows of `branches`. 90, 91, 93.
@@ -65,69 +59,6 @@ fn kinds<S: Alter>(conn: &mut Connection<S>, alloc: Global) -> Result<Rows<KindR
         S.Store conn.old conn.new result }
 {
     let found = all_kinds(conn, alloc)?;
-    Ok(Rows::new(found))
-}
-
-/// All rows of `patrons`. 90, 91, 93.
-fn patrons<S: Alter>(conn: &mut Connection<S>, alloc: Global) -> Result<Rows<PatronRow>, Fault>
-    ensures { Views (λ P rows. AreRows P.patrons (λ r. r.patron) AllPass rows)
-        S.Store conn.old conn.new result }
-{
-    let found = all_patrons(conn, alloc)?;
-    Ok(Rows::new(found))
-}
-
-/// All rows of `titles`. 90, 91, 93.
-fn titles<S: Alter>(conn: &mut Connection<S>, alloc: Global) -> Result<Rows<TitleRow>, Fault>
-    ensures { Views (λ P rows. AreRows P.titles (λ r. r.title) AllPass rows)
-        S.Store conn.old conn.new result }
-{
-    let found = all_titles(conn, alloc)?;
-    Ok(Rows::new(found))
-}
-
-/// All rows of `copies`. 90, 91, 93.
-fn copies<S: Alter>(conn: &mut Connection<S>, alloc: Global) -> Result<Rows<CopyRow>, Fault>
-    ensures { Views (λ P rows. AreRows P.copies (λ r. r.copy) AllPass rows)
-        S.Store conn.old conn.new result }
-{
-    let found = all_copies(conn, alloc)?;
-    Ok(Rows::new(found))
-}
-
-/// All rows of `loans`. 90, 91, 93.
-fn loans<S: Alter>(conn: &mut Connection<S>, alloc: Global) -> Result<Rows<LoanRow>, Fault>
-    ensures { Views (λ P rows. AreRows P.loans (λ r. r.loan) AllPass rows)
-        S.Store conn.old conn.new result }
-{
-    let found = all_loans(conn, alloc)?;
-    Ok(Rows::new(found))
-}
-
-/// All rows of `holds`. 90, 91, 93.
-fn holds<S: Alter>(conn: &mut Connection<S>, alloc: Global) -> Result<Rows<HoldRow>, Fault>
-    ensures { Views (λ P rows. AreRows P.holds (λ r. r.hold) AllPass rows)
-        S.Store conn.old conn.new result }
-{
-    let found = all_holds(conn, alloc)?;
-    Ok(Rows::new(found))
-}
-
-/// All rows of `transits`. 90, 91, 93.
-fn transits<S: Alter>(conn: &mut Connection<S>, alloc: Global) -> Result<Rows<TransitRow>, Fault>
-    ensures { Views (λ P rows. AreRows P.transits (λ r. r.copy) AllPass rows)
-        S.Store conn.old conn.new result }
-{
-    let found = all_transits(conn, alloc)?;
-    Ok(Rows::new(found))
-}
-
-/// All rows of `lines`. 90, 91, 93.
-fn lines<S: Alter>(conn: &mut Connection<S>, alloc: Global) -> Result<Rows<LineRow>, Fault>
-    ensures { Views (λ P rows. AreRows P.lines (λ r. r.line) AllPass rows)
-        S.Store conn.old conn.new result }
-{
-    let found = all_lines(conn, alloc)?;
     Ok(Rows::new(found))
 }
 
@@ -176,13 +107,16 @@ fn read_registers<S: Alter>(conn: &mut Connection<S>, alloc: Global) -> Result<R
     })
 }
 
-/// Patrons, titles and copies. 90, 91, 93.
-fn read_holdings<S: Alter>(conn: &mut Connection<S>, alloc: Global) -> Result<Holdings, Fault>
-    ensures { Views AreHoldings S.Store conn.old conn.new result }
+/// Patrons and copies, and of titles those that are to be kept. 90, 91, 93.
+fn read_holdings<T: Sift<TitleRow>, S: Alter>(
+    conn: &mut Connection<S>,
+    alloc: Global,
+) -> Result<Holdings, Fault>
+    ensures { Views (AreHoldings T.test) S.Store conn.old conn.new result }
 {
-    let patrons = patrons(conn, alloc)?;
-    let titles = titles(conn, alloc)?;
-    let copies = copies(conn, alloc)?;
+    let patrons = read_pages::<PatronRow, EachRow, S>(conn, alloc)?;
+    let titles = read_pages::<TitleRow, T, S>(conn, alloc)?;
+    let copies = read_pages::<CopyRow, EachRow, S>(conn, alloc)?;
     Ok(Holdings {
         patrons,
         titles,
@@ -190,21 +124,22 @@ fn read_holdings<S: Alter>(conn: &mut Connection<S>, alloc: Global) -> Result<Ho
     })
 }
 
-/// Loans, holds, transits, lines, and what is kept. 90, 91, 93.
-fn read_dealings<S: Alter>(conn: &mut Connection<S>, alloc: Global) -> Result<Dealings, Fault>
-    ensures { Views AreDealings S.Store conn.old conn.new result }
+/// Holds, transits and lines, and of loans those that are to be kept. 90, 91, 93.
+fn read_dealings<L: Sift<LoanRow>, S: Alter>(
+    conn: &mut Connection<S>,
+    alloc: Global,
+) -> Result<Dealings, Fault>
+    ensures { Views (AreDealings L.test) S.Store conn.old conn.new result }
 {
-    let loans = loans(conn, alloc)?;
-    let holds = holds(conn, alloc)?;
-    let transits = transits(conn, alloc)?;
-    let lines = lines(conn, alloc)?;
-    let kept = kept(conn, alloc)?;
+    let loans = read_pages::<LoanRow, L, S>(conn, alloc)?;
+    let holds = read_pages::<HoldRow, EachRow, S>(conn, alloc)?;
+    let transits = read_pages::<TransitRow, EachRow, S>(conn, alloc)?;
+    let lines = read_pages::<LineRow, EachRow, S>(conn, alloc)?;
     Ok(Dealings {
         loans,
         holds,
         transits,
         lines,
-        kept,
     })
 }
 
@@ -213,8 +148,9 @@ fn all_tables<S: Alter>(conn: &mut Connection<S>, alloc: Global) -> Result<Table
     ensures { Views AreTables S.Store conn.old conn.new result }
 {
     let set = read_registers(conn, alloc)?;
-    let owned = read_holdings(conn, alloc)?;
-    let done = read_dealings(conn, alloc)?;
+    let owned = read_holdings::<EachRow, S>(conn, alloc)?;
+    let done = read_dealings::<EachRow, S>(conn, alloc)?;
+    let kept = kept(conn, alloc)?;
     Ok(Tables {
         meta: set.meta,
         branches: set.branches,
@@ -228,7 +164,31 @@ fn all_tables<S: Alter>(conn: &mut Connection<S>, alloc: Global) -> Result<Table
         holds: done.holds,
         transits: done.transits,
         lines: done.lines,
-        kept: done.kept,
+        kept,
+    })
+}
+
+/// The rows of which an audit speaks. 90, 91, 93.
+fn audit_tables<S: Alter>(conn: &mut Connection<S>, alloc: Global) -> Result<Tables, Fault>
+    ensures { Views AreAuditTables S.Store conn.old conn.new result }
+{
+    let set = read_registers(conn, alloc)?;
+    let owned = read_holdings::<NoRow, S>(conn, alloc)?;
+    let done = read_dealings::<OpenLoans, S>(conn, alloc)?;
+    Ok(Tables {
+        meta: set.meta,
+        branches: set.branches,
+        closed_days: set.closed_days,
+        kinds: set.kinds,
+        rules: set.rules,
+        patrons: owned.patrons,
+        titles: owned.titles,
+        copies: owned.copies,
+        loans: done.loans,
+        holds: done.holds,
+        transits: done.transits,
+        lines: done.lines,
+        kept: Rows::new(Vec::new(alloc)),
     })
 }
 
@@ -242,6 +202,19 @@ impl<S: Alter> Store<S> {
         all_tables(&mut self.conn, alloc)
     }
 
+    /// The rows of which the laws of sound tables speak: all patrons, copies, holds, transits and
+    /// lines, and the open loans. 90, 91, 93.
+    ///
+    /// The rows of all other tables, and the loans that ended, are read too, but not kept: what
+    /// this takes of memory doesn't grow with them.
+    pub fn audit_tables(&mut self, alloc: Global) -> Result<Tables, Fault>
+        ensures { Looked InLimits AreAuditTables IsSound S.Store self.old self.new result }
+    {
+        let is_idle = self.conn.is_autocommit();
+        prove!(is_idle);
+        audit_tables(&mut self.conn, alloc)
+    }
+
     /// All rows of `patrons`, the least number first. 90, 91, 93.
     pub fn patrons(&mut self, alloc: Global) -> Result<Rows<PatronRow>, Fault>
         ensures { Looked InLimits (λ P rows. AreRows P.patrons (λ r. r.patron) AllPass rows)
@@ -249,83 +222,6 @@ impl<S: Alter> Store<S> {
     {
         let is_idle = self.conn.is_autocommit();
         prove!(is_idle);
-        patrons(&mut self.conn, alloc)
-    }
-
-    /// A page of the rows of `patrons` whose numbers are above this one, the least number first.
-    /// 90, 91, 93.
-    pub fn patrons_after(&mut self, alloc: Global, after: PatronId) -> Result<Vec<PatronRow>, Fault>
-        ensures { Looked InLimits (λ P rows. AreRowsAfter P.patrons (λ r. r.patron) after rows.items)
-            InLimits S.Store self.old self.new result }
-    {
-        let is_idle = self.conn.is_autocommit();
-        prove!(is_idle);
-        all_patrons_after(&mut self.conn, alloc, after)
-    }
-
-    /// A page of the rows of `titles` whose numbers are above this one, the least number first.
-    /// 90, 91, 93.
-    pub fn titles_after(&mut self, alloc: Global, after: TitleId) -> Result<Vec<TitleRow>, Fault>
-        ensures { Looked InLimits (λ P rows. AreRowsAfter P.titles (λ r. r.title) after rows.items)
-            InLimits S.Store self.old self.new result }
-    {
-        let is_idle = self.conn.is_autocommit();
-        prove!(is_idle);
-        all_titles_after(&mut self.conn, alloc, after)
-    }
-
-    /// A page of the rows of `copies` whose numbers are above this one, the least number first.
-    /// 90, 91, 93.
-    pub fn copies_after(&mut self, alloc: Global, after: CopyId) -> Result<Vec<CopyRow>, Fault>
-        ensures { Looked InLimits (λ P rows. AreRowsAfter P.copies (λ r. r.copy) after rows.items)
-            InLimits S.Store self.old self.new result }
-    {
-        let is_idle = self.conn.is_autocommit();
-        prove!(is_idle);
-        all_copies_after(&mut self.conn, alloc, after)
-    }
-
-    /// A page of the rows of `loans` whose numbers are above this one, the least number first.
-    /// 90, 91, 93.
-    pub fn loans_after(&mut self, alloc: Global, after: LoanId) -> Result<Vec<LoanRow>, Fault>
-        ensures { Looked InLimits (λ P rows. AreRowsAfter P.loans (λ r. r.loan) after rows.items)
-            InLimits S.Store self.old self.new result }
-    {
-        let is_idle = self.conn.is_autocommit();
-        prove!(is_idle);
-        all_loans_after(&mut self.conn, alloc, after)
-    }
-
-    /// A page of the rows of `holds` whose numbers are above this one, the least number first.
-    /// 90, 91, 93.
-    pub fn holds_after(&mut self, alloc: Global, after: HoldId) -> Result<Vec<HoldRow>, Fault>
-        ensures { Looked InLimits (λ P rows. AreRowsAfter P.holds (λ r. r.hold) after rows.items)
-            InLimits S.Store self.old self.new result }
-    {
-        let is_idle = self.conn.is_autocommit();
-        prove!(is_idle);
-        all_holds_after(&mut self.conn, alloc, after)
-    }
-
-    /// A page of the rows of `transits` whose numbers are above this one, the least number first.
-    /// 90, 91, 93.
-    pub fn transits_after(&mut self, alloc: Global, after: CopyId) -> Result<Vec<TransitRow>, Fault>
-        ensures { Looked InLimits (λ P rows. AreRowsAfter P.transits (λ r. r.copy) after rows.items)
-            InLimits S.Store self.old self.new result }
-    {
-        let is_idle = self.conn.is_autocommit();
-        prove!(is_idle);
-        all_transits_after(&mut self.conn, alloc, after)
-    }
-
-    /// A page of the rows of `lines` whose numbers are above this one, the least number first.
-    /// 90, 91, 93.
-    pub fn lines_after(&mut self, alloc: Global, after: LineId) -> Result<Vec<LineRow>, Fault>
-        ensures { Looked InLimits (λ P rows. AreRowsAfter P.lines (λ r. r.line) after rows.items)
-            InLimits S.Store self.old self.new result }
-    {
-        let is_idle = self.conn.is_autocommit();
-        prove!(is_idle);
-        all_lines_after(&mut self.conn, alloc, after)
+        read_pages::<PatronRow, EachRow, S>(&mut self.conn, alloc)
     }
 }

@@ -1,0 +1,50 @@
+use Rattle.std.proofs.Common.{◌≡◌, ◌++◌, ◌+◌, ◌<◌, ◌≤◌, ◌^◌, ◌-◌, ℕ, List, filter, option_map, slice_get, length, Some, None, sym, subst, arith, rules}
+use Rattle.terms.specs.declared.fault.Fault.TheVariants.{Memory, Stored}
+use Rattle.store.specs.Lists.{AreTestedRows}
+use Rattle.store.proofs.PagedRows.{AreSoFar, all_so_far, more_so_far, empty_if, last_there}
+use Rattle.store.proofs.ViewLemmas.{◌⨾◌, fails, gives, stops}
+use Rattle.store.proofs.pages.read_pages.Goals as goal
+
+pub returns-in_err-page : goal.returns-in_err-page
+returns-in_err-page g c = fails _ _ c.from_residual.ensures (c.pages.invariant.seen ⨾ c.in_err-page.ensures)
+
+pub returns-in-None : goal.returns-in-None
+returns-in-None g c =
+    let rows = g.R.Numbered.rows in
+    let number_of = g.R.Numbered.number_of in
+    let test = g.F.Sift.test in
+    let page = c.in_ok-page.page.items in
+    let none : None ≡ option_map number_of (slice_get page (length page - 1)) = rw (c.as_slice.ensures.value) at c.in-None.ensures in
+    gives (c.pages.invariant.seen ⨾ c.in_ok-page.ensures) (λ P all.
+    subst (λ (l : List _). AreTestedRows (rows P) number_of test l) (sym c.new.ensures)
+        (all_so_far (rows P) number_of test c.pages.after c.pages._page c.pages.kept.items all.0 page all.1.1 all.1.0 (empty_if number_of page (sym none))))
+
+pub returns-in_err-keep_page : goal.returns-in_err-keep_page
+returns-in_err-keep_page g c =
+    fails _ _ c.from_residual-in_err-keep_page.ensures (stops c.in_err-keep_page.field-0.0 (c.pages.invariant.seen ⨾ c.in_ok-page.ensures) (λ is clean P shown legal few.
+    let memory = c.in_err-keep_page.ensures.fault in
+    let never : ⊥ = cc in
+    never))
+
+pub pages-preserved : goal.pages-preserved
+pages-preserved g c =
+    let rows = g.R.Numbered.rows in
+    let number_of = g.R.Numbered.number_of in
+    let test = g.F.Sift.test in
+    let page = c.in_ok-page.page.items in
+    let end : Some c.in-Some.last ≡ option_map number_of (slice_get page (length page - 1)) = rw (c.as_slice.ensures.value) at c.in-Some.ensures in
+    record {
+      seen = gives (c.pages.invariant.seen ⨾ c.in_ok-page.ensures) (λ P all.
+          let it = last_there number_of page c.in-Some.last (sym end) in
+          subst (λ (n : ℕ). AreSoFar (rows P) number_of test n (c.pages._page + 1) c.keep_page.new.kept.items) it.2
+              (subst (λ (l : List _). AreSoFar (rows P) number_of test (number_of it.0) (c.pages._page + 1) l) (sym c.in_ok-keep_page.ensures.kept)
+              (more_so_far (rows P) number_of test c.pages.after c.pages._page c.pages.kept.items all.0 page all.1.1 it.0 it.1)));
+      low = search;
+    }
+
+pub returns : goal.returns
+returns g c = gives c.pages.invariant.seen (λ P so_far.
+    let few : c.pages._page ≤ c.pages.after = so_far.few in
+    let low : c.pages.after < 2 ^ 32 = c.pages.invariant.low in
+    let past = c.pages-test.false in
+    absurd (omega (arith, few, low, past)))

@@ -1,0 +1,6 @@
+use Rattle.store.specs.Lists.{AreAuditTables}
+use Rattle.store.proofs.ReadLemmas.{looked_view}
+use Rattle.store.proofs.store.Store.audit_tables.Goals as goal
+
+pub returns : goal.returns
+returns g c = looked_view AreAuditTables g.S.Store _ _ _ (rw c.self.view_is at (c.is_autocommit-is_idle.ensures.settled (search))) (rw c.self.view_is at c.audit_tables.ensures)

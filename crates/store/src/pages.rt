@@ -1,0 +1,265 @@
+//! Tables that grow with the library, which are read page by page.
+
+ghost use Rattle.std.specs.Prelude.{◌≡◌, ◌++◌, true, filter, option_map, slice_get, length};
+ghost use Rattle.std.specs.Prelude.{◌-◌, OnOk, IfErr};
+ghost use Rattle.circ_tables.specs.Reading.{Views};
+ghost use Rattle.store.specs.Lists.{AreRows};
+
+use circ_tables::{
+    all_copies_after, all_holds_after, all_lines_after, all_loans_after, all_patrons_after,
+    all_titles_after, all_transits_after,
+};
+use sqlite::{Alter, Connection};
+use std::alloc::Global;
+use terms::{
+    CopyId, CopyRow, Fault, HoldId, HoldRow, LineId, LineRow, LoanId, LoanRow, PatronId, PatronRow,
+    Rows, TitleId, TitleRow, TransitRow,
+};
+
+/// Rows of a table that is keyed by one number.
+pub(crate) trait Numbered: Drop {
+    ghost use Rattle.std.specs.Prelude.{◌≡◌, ℕ, Option};
+    ghost use Rattle.circ_tables.specs.Reading.{Views};
+    ghost use Rattle.terms.specs.Pictures.{Picture};
+    ghost use Rattle.store.specs.Pages.{AreRowsAfter, AreNumbered};
+
+    /// The rows of the table in a picture, by their numbers.
+    ghost rows: { Picture → ℕ → Option Self };
+
+    /// The number of a row.
+    ghost number_of: { Self → ℕ };
+
+    /// The number.
+    fn number(&self) -> u32
+        ensures { result ≡ number_of self.now };
+
+    /// A page: the first rows whose numbers are above this one, the least first. 90, 91, 93.
+    fn page<S: Alter>(
+        conn: &mut Connection<S>,
+        alloc: Global,
+        after: u32,
+    ) -> Result<Vec<Self>, Fault>
+        ensures { Views (λ P page. AreNumbered (rows P) number_of
+            × AreRowsAfter (rows P) number_of after page.items) S.Store conn.old conn.new result };
+}
+
+impl Numbered for PatronRow {
+    ghost rows = { λ P. P.patrons };
+
+    ghost number_of = { λ r. r.patron };
+
+    fn number(&self) -> u32 {
+        self.patron.number()
+    }
+
+    fn page<S: Alter>(
+        conn: &mut Connection<S>,
+        alloc: Global,
+        after: u32,
+    ) -> Result<Vec<PatronRow>, Fault> {
+        all_patrons_after(conn, alloc, PatronId::new(after))
+    }
+}
+
+impl Numbered for TitleRow {
+    ghost rows = { λ P. P.titles };
+
+    ghost number_of = { λ r. r.title };
+
+    fn number(&self) -> u32 {
+        self.title.number()
+    }
+
+    fn page<S: Alter>(
+        conn: &mut Connection<S>,
+        alloc: Global,
+        after: u32,
+    ) -> Result<Vec<TitleRow>, Fault> {
+        all_titles_after(conn, alloc, TitleId::new(after))
+    }
+}
+
+impl Numbered for CopyRow {
+    ghost rows = { λ P. P.copies };
+
+    ghost number_of = { λ r. r.copy };
+
+    fn number(&self) -> u32 {
+        self.copy.number()
+    }
+
+    fn page<S: Alter>(
+        conn: &mut Connection<S>,
+        alloc: Global,
+        after: u32,
+    ) -> Result<Vec<CopyRow>, Fault> {
+        all_copies_after(conn, alloc, CopyId::new(after))
+    }
+}
+
+impl Numbered for LoanRow {
+    ghost rows = { λ P. P.loans };
+
+    ghost number_of = { λ r. r.loan };
+
+    fn number(&self) -> u32 {
+        self.loan.number()
+    }
+
+    fn page<S: Alter>(
+        conn: &mut Connection<S>,
+        alloc: Global,
+        after: u32,
+    ) -> Result<Vec<LoanRow>, Fault> {
+        all_loans_after(conn, alloc, LoanId::new(after))
+    }
+}
+
+impl Numbered for HoldRow {
+    ghost rows = { λ P. P.holds };
+
+    ghost number_of = { λ r. r.hold };
+
+    fn number(&self) -> u32 {
+        self.hold.number()
+    }
+
+    fn page<S: Alter>(
+        conn: &mut Connection<S>,
+        alloc: Global,
+        after: u32,
+    ) -> Result<Vec<HoldRow>, Fault> {
+        all_holds_after(conn, alloc, HoldId::new(after))
+    }
+}
+
+impl Numbered for TransitRow {
+    ghost rows = { λ P. P.transits };
+
+    ghost number_of = { λ r. r.copy };
+
+    fn number(&self) -> u32 {
+        self.copy.number()
+    }
+
+    fn page<S: Alter>(
+        conn: &mut Connection<S>,
+        alloc: Global,
+        after: u32,
+    ) -> Result<Vec<TransitRow>, Fault> {
+        all_transits_after(conn, alloc, CopyId::new(after))
+    }
+}
+
+impl Numbered for LineRow {
+    ghost rows = { λ P. P.lines };
+
+    ghost number_of = { λ r. r.line };
+
+    fn number(&self) -> u32 {
+        self.line.number()
+    }
+
+    fn page<S: Alter>(
+        conn: &mut Connection<S>,
+        alloc: Global,
+        after: u32,
+    ) -> Result<Vec<LineRow>, Fault> {
+        all_lines_after(conn, alloc, LineId::new(after))
+    }
+}
+
+/// Which of the rows that are read are kept.
+pub(crate) trait Sift<R> {
+    ghost use Rattle.std.specs.Prelude.{◌≡◌, Bool};
+
+    ghost test: { R → Bool };
+
+    /// Whether a row is kept.
+    fn keeps(row: &R) -> bool
+        ensures { result ≡ test row.now };
+}
+
+/// Each row is kept.
+pub(crate) struct EachRow;
+
+impl<R> Sift<R> for EachRow {
+    ghost use Rattle.std.specs.Prelude.{true};
+
+    ghost test = { λ _. true };
+
+    fn keeps(_row: &R) -> bool {
+        true
+    }
+}
+
+/// None is: the rows are only read.
+pub(crate) struct NoRow;
+
+impl<R> Sift<R> for NoRow {
+    ghost use Rattle.std.specs.Prelude.{false};
+
+    ghost test = { λ _. false };
+
+    fn keeps(_row: &R) -> bool {
+        false
+    }
+}
+
+/// The open loans are kept.
+pub(crate) struct OpenLoans;
+
+impl Sift<LoanRow> for OpenLoans {
+    ghost use Rattle.std.specs.Prelude.{is_none};
+
+    ghost test = { λ r. is_none r.ended };
+
+    fn keeps(row: &LoanRow) -> bool {
+        row.ended.is_none()
+    }
+}
+
+/// The number of the last row of a page, if it has any.
+fn last_of<R: Numbered>(page: &[R]) -> Option<u32>
+    ensures { result ≡ option_map R.number_of (slice_get page.now (length page.now - 1)) }
+{
+    match page.last() {
+        Some(row) => Some(row.number()),
+        None => None,
+    }
+}
+
+/// Keeps the rows of a page that are to be kept, after those before them. 90.
+fn keep_page<R: Numbered, F: Sift<R>>(kept: &mut Vec<R>, page: Vec<R>) -> Result<(), Fault>
+    ensures kept { OnOk result (kept.new.items ≡ kept.old.items ++ filter F.test page.items) }
+    ensures fault { IfErr result (λ fault. fault ≡ Fault.Memory) }
+{
+    for row in page {
+        if F::keeps(&row) {
+            kept.push(row)?;
+        }
+    }
+    Ok(())
+}
+
+/// The rows of a table that are to be kept, the least number first. All rows are read, page by
+/// page. 90, 91, 93.
+pub(crate) fn read_pages<R: Numbered, F: Sift<R>, S: Alter>(
+    conn: &mut Connection<S>,
+    alloc: Global,
+) -> Result<Rows<R>, Fault>
+    ensures { Views (λ P rows. AreRows (R.rows P) R.number_of (λ r. F.test r ≡ true) rows)
+        S.Store conn.old conn.new result }
+{
+    let mut kept = Vec::new(alloc);
+    let mut after = 0;
+    'pages: for _page in 0..u64::MAX {
+        let page = R::page(conn, alloc, after)?;
+        match last_of(page.as_slice()) {
+            Some(last) => after = last,
+            None => return Ok(Rows::new(kept)),
+        }
+        keep_page::<R, F>(&mut kept, page)?;
+    }
+    Ok(Rows::new(kept))
+}
