@@ -19,13 +19,14 @@ use Rattle.sqlite.specs.Given.{IsPlain}
 use Rattle.sqlite.specs.State.{State, Shown, IsUnchanged}
 use Rattle.sqlite_tied.specs.Compute.{everything}
 use Rattle.sql_maps.specs.Maps.{Map, Maps, Holds}
-use Rattle.sql_maps.specs.Pages.{FirstRows}
+use Rattle.sql_maps.specs.Pages.{FirstRows, AreAmong}
 use Rattle.sqlite_rules.specs.Lists.{Has}
-use Rattle.sql_maps.proofs.PageLemmas.{Pages, page_found}
-use Rattle.circ_tables.specs.Shape.{schema, patrons, titles, copies, loans, holds, transits, lines}
+use Rattle.sql_maps.proofs.PageLemmas.{Pages, page_found, Cuts, some_found}
+use Rattle.circ_tables.specs.Shape.{schema, patrons, titles, copies, loans, holds, transits, lines, kept}
 use Rattle.circ_tables.specs.Selections.{is_ready_after, is_overdue_after, is_line_after, is_after}
 use Rattle.circ_tables.specs.declared.lists.TheConstants.{PAGE_ROWS}
-use Rattle.circ_tables.proofs.KeyedLemmas.{patrons_names, titles_names, copies_names, loans_names, holds_names, transits_names, lines_names}
+use Rattle.circ_tables.proofs.KeyedLemmas.{patrons_names, titles_names, copies_names, loans_names, holds_names, transits_names, lines_names, kept_names}
+use Rattle.circ_tables.proofs.ListLemmas.{by_pair}
 
 -- a row of a page is one of the map
 pub there : (most : ℕ) (m : Map) (good : Row → _) (rows : List Row) → FirstRows most m good rows → (v : Row) → Has rows v → (k : Row) × (m k ≡ Some v)
@@ -216,3 +217,53 @@ lines_after_plain s e = subst (λ z. IsPlain (understood z lines_after_text)) (s
 pub lines_after_found : (a : ℕ) → (old new : State) (rows : List Row) → Shown lines_after_text (Int (pos a) ∷ []) old new rows → (maps : Maps) → Holds schema old.now maps
     → FirstRows PAGE_ROWS (maps 11) (is_after a) rows × IsUnchanged old new
 lines_after_found a = page_found schema 11 lines after_tests by_number PAGE_ROWS lines_names lines_after_text (Int (pos a) ∷ []) (is_after a) (λ r. refl) (λ x y _ _ less. rw less refl) lines_after_pages
+
+-- ---- what is kept, by callers and keys
+
+abbrev first_kept_text : List ℕ
+first_kept_text = codes "SELECT * FROM kept ORDER BY caller, key LIMIT 1000"
+
+abbrev first_kept_tests : List Term
+first_kept_tests = []
+
+first_kept_cuts : Cuts schema 12 kept first_kept_tests by_pair PAGE_ROWS kept_names first_kept_text
+unfolding understood everything
+first_kept_cuts = record { listed = refl; command = refl; bare = (refl, refl); unlisted = refl; as_cells = λ given r. refl; cut = λ given l. refl }
+
+pub first_kept_plain : (s : Schema) → s ≡ schema → IsPlain (understood s first_kept_text)
+first_kept_plain s e = subst (λ z. IsPlain (understood z first_kept_text)) (sym e) first_kept_cuts.bare
+
+pub first_kept_found : (old new : State) (rows : List Row) → Shown first_kept_text ([]) old new rows → (maps : Maps) → Holds schema old.now maps → AreAmong (maps 12) rows × IsUnchanged old new
+first_kept_found = some_found schema 12 kept first_kept_tests by_pair PAGE_ROWS kept_names first_kept_text ([]) first_kept_cuts
+
+abbrev kept_after_text : List ℕ
+kept_after_text = codes "SELECT * FROM kept WHERE caller = ?1 AND key > ?2 ORDER BY caller, key LIMIT 1000"
+
+abbrev kept_after_tests : List Term
+kept_after_tests = op2 (Compare Eq Binary) (col 1 1) (col 0 0) ∷ op2 (Compare Gt Binary) (col 1 2) (col 0 1) ∷ []
+
+kept_after_cuts : Cuts schema 12 kept kept_after_tests by_pair PAGE_ROWS kept_names kept_after_text
+unfolding understood everything
+kept_after_cuts = record { listed = refl; command = refl; bare = (refl, refl); unlisted = refl; as_cells = λ given r. refl; cut = λ given l. refl }
+
+pub kept_after_plain : (s : Schema) → s ≡ schema → IsPlain (understood s kept_after_text)
+kept_after_plain s e = subst (λ z. IsPlain (understood z kept_after_text)) (sym e) kept_after_cuts.bare
+
+pub kept_after_found : (a : ℕ) (b : List ℕ) → (old new : State) (rows : List Row) → Shown kept_after_text (Int (pos a) ∷ Text b ∷ []) old new rows → (maps : Maps) → Holds schema old.now maps → AreAmong (maps 12) rows × IsUnchanged old new
+kept_after_found a b = some_found schema 12 kept kept_after_tests by_pair PAGE_ROWS kept_names kept_after_text (Int (pos a) ∷ Text b ∷ []) kept_after_cuts
+
+abbrev kept_past_text : List ℕ
+kept_past_text = codes "SELECT * FROM kept WHERE caller > ?1 ORDER BY caller, key LIMIT 1000"
+
+abbrev kept_past_tests : List Term
+kept_past_tests = op2 (Compare Gt Binary) (col 1 1) (col 0 0) ∷ []
+
+kept_past_cuts : Cuts schema 12 kept kept_past_tests by_pair PAGE_ROWS kept_names kept_past_text
+unfolding understood everything
+kept_past_cuts = record { listed = refl; command = refl; bare = (refl, refl); unlisted = refl; as_cells = λ given r. refl; cut = λ given l. refl }
+
+pub kept_past_plain : (s : Schema) → s ≡ schema → IsPlain (understood s kept_past_text)
+kept_past_plain s e = subst (λ z. IsPlain (understood z kept_past_text)) (sym e) kept_past_cuts.bare
+
+pub kept_past_found : (a : ℕ) → (old new : State) (rows : List Row) → Shown kept_past_text (Int (pos a) ∷ []) old new rows → (maps : Maps) → Holds schema old.now maps → AreAmong (maps 12) rows × IsUnchanged old new
+kept_past_found a = some_found schema 12 kept kept_past_tests by_pair PAGE_ROWS kept_names kept_past_text (Int (pos a) ∷ []) kept_past_cuts

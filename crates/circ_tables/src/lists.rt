@@ -1,20 +1,22 @@
 //! Lists of the rows that pass a test, in the order of their keys.
 
 ghost use Rattle.sql_maps.specs.Maps.{Listed, ListedBy, PairBelow};
-ghost use Rattle.sql_maps.specs.Pages.{FirstRows};
+ghost use Rattle.sql_maps.specs.Pages.{AreAmong, FirstRows};
 ghost use Rattle.circ_tables.specs.Reading.{Lists, branches, closed_days, kinds, rules, patrons};
 ghost use Rattle.circ_tables.specs.Reading.{titles, copies, loans, holds, transits, lines, kept};
 ghost use Rattle.circ_tables.specs.Selections.{is_open_by, is_active_by, is_ready_after};
 ghost use Rattle.circ_tables.specs.Selections.{is_overdue_after, is_line_after, is_any, is_after};
 ghost use Rattle.circ_tables.specs.declared.lists.TheConstants.{PAGE_ROWS};
 
+use crate::cell::owner_number;
 use crate::list::rows_of;
 use calendar::Day;
 use sqlite::{Alter, Connection, params};
 use std::alloc::Global;
 use terms::{
-    BranchId, BranchRow, ClosedDayRow, CopyId, CopyRow, Fault, HoldId, HoldRow, KeptRow, KindRow,
-    LineId, LineRow, LoanId, LoanRow, PatronId, PatronRow, RuleRow, TitleId, TitleRow, TransitRow,
+    BranchId, BranchRow, ClosedDayRow, CopyId, CopyRow, Fault, HoldId, HoldRow, KeptRow, Key,
+    KindRow, LineId, LineRow, LoanId, LoanRow, Owner, PatronId, PatronRow, RuleRow, TitleId,
+    TitleRow, TransitRow,
 };
 
 /// How many rows a page of a list has, but for its last one. The texts of pages name it too.
@@ -188,6 +190,55 @@ pub fn all_kept<S: Alter>(conn: &mut Connection<S>, alloc: Global) -> Result<Vec
         alloc,
         "SELECT * FROM kept ORDER BY caller, key",
         &[],
+    )
+}
+
+/// As many rows of `kept` as a page has, by whose they are and then by key. 90, 91, 93.
+pub fn first_kept<S: Alter>(conn: &mut Connection<S>, alloc: Global) -> Result<Vec<KeptRow>, Fault>
+    ensures { Lists kept (λ l. l.items) AreAmong S.Store conn.old conn.new result }
+{
+    rows_of(
+        conn,
+        alloc,
+        alloc,
+        "SELECT * FROM kept ORDER BY caller, key LIMIT 1000",
+        &[],
+    )
+}
+
+/// As many more of what is kept for a caller, by key, from above this one on. 90, 91, 93.
+pub fn kept_after<S: Alter>(
+    conn: &mut Connection<S>,
+    alloc: Global,
+    owner: Owner,
+    key: &Key,
+) -> Result<Vec<KeptRow>, Fault>
+    ensures { Lists kept (λ l. l.items) AreAmong S.Store conn.old conn.new result }
+{
+    rows_of(
+        conn,
+        alloc,
+        alloc,
+        "SELECT * FROM kept WHERE caller = ?1 AND key > ?2 ORDER BY caller, key LIMIT 1000",
+        params![owner_number(owner), key.as_str()],
+    )
+}
+
+/// As many of what is kept for the callers after this one, by whose they are and then by key. 90,
+/// 91, 93.
+pub fn kept_past<S: Alter>(
+    conn: &mut Connection<S>,
+    alloc: Global,
+    owner: Owner,
+) -> Result<Vec<KeptRow>, Fault>
+    ensures { Lists kept (λ l. l.items) AreAmong S.Store conn.old conn.new result }
+{
+    rows_of(
+        conn,
+        alloc,
+        alloc,
+        "SELECT * FROM kept WHERE caller > ?1 ORDER BY caller, key LIMIT 1000",
+        params![owner_number(owner)],
     )
 }
 

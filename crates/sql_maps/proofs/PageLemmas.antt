@@ -24,10 +24,11 @@ use Rattle.sqlite_tied.specs.Listing.{each_column}
 use Rattle.sqlite_rules.specs.Lists.{Has}
 use Rattle.sqlite_rules.proofs.ListLemmas.{all_has, all_from, has_filtered}
 use Rattle.sql_maps.specs.Maps.{cells, Map, Maps, Holds, Listed, FirstBelow}
-use Rattle.sql_maps.specs.Pages.{FirstRows}
+use Rattle.sql_maps.specs.Pages.{FirstRows, AreAmong}
 use Rattle.sql_maps.specs.Maps.{key_at}
 use Rattle.sql_maps.proofs.Words.{over}
-use Rattle.sql_maps.proofs.AnswerLemmas.{passes, shown_of, plain_overlay, matched, twice}
+use Rattle.sqlite_rules.proofs.ProbeLemmas.{has_mapped}
+use Rattle.sql_maps.proofs.AnswerLemmas.{passes, shown_of, plain_overlay, matched, twice, has_permuted}
 use Rattle.sql_maps.proofs.ReadLemmas.{shown_unchanged}
 use Rattle.sql_maps.proofs.SelectLemmas.{listed_is}
 
@@ -144,3 +145,41 @@ module _ (schema : Schema) (at : ℕ) (table : Table) (tests : List Term) (order
         subst (FirstRows most (maps at) good) (sym taken) (first_listed most (maps at) good all listed),
         shown_unchanged text given old new schema held.schema_is pages.bare rows h,
       )
+
+-- ---- rows in whatever order, of which no more is asked than that they are there
+
+-- each row that is shown is one that passes
+page_has : (tree : ℕ) (tests shows : List Term) (order : List (Term × Key)) (most : Term) (given : Row) (n : ℕ) → ((l : List Row) → page (in_order_up_to tree tests shows order most) given l ≡ take n l)
+    → (db : Trees) (out : List Row) → IsProgramAnswer [] (in_order_up_to tree tests shows order most) db given out → (x : Row) → Has out x → (r : Row) × Has (db tree) r × (x ≡ shown_of shows given r)
+page_has tree tests shows order most given n cut db out h x there =
+    let q = in_order_up_to tree tests shows order most in
+    let a = h Null in
+    let env = λ (r : Row). given ∷ r ∷ [] in
+    let good = filter (passes tests given) (db tree) in
+    let staged = a.grouped ∙ ap (λ rows. flat_map (λ r. cond (passes tests given r) (env r ∷ []) []) rows) (plain_overlay db tree) ∙ matched (passes tests given) env (db tree) in
+    let kept : a.kept ≡ map (output q) (map env good) = a.distinct ∙ ap (map (output q)) staged in
+    let taken = subst (λ (l : List Row). Has l x) (a.shown ∙ cut (map (λ (o : Output). o.1) a.ordered)) there in
+    let shown = has_mapped (λ (o : Output). o.1) a.ordered x (has_taken (λ (v w : Row). Unit {0}) n (map (λ (o : Output). o.1) a.ordered) x taken) in
+    let made = has_mapped (output q) (map env good) shown.0 (subst (λ (l : List Output). Has l shown.0) kept (has_permuted a.kept a.ordered shown.0 a.same shown.1)) in
+    let from = has_mapped env good made.0 made.1 in
+    (from.0, (has_filtered (passes tests given) (db tree) from.0 from.1).0, shown.2 ∙ ap (λ (o : Output). o.1) made.2 ∙ ap (λ (e : List Row). (output q e).1) from.2)
+
+-- what has to be computed of the text of such a page
+pub record Cuts (schema : Schema) (at : ℕ) (table : Table) (tests : List Term) (order : List (Term × Key)) (most : ℕ) (names : List (List ℕ)) (text : List ℕ) : Type 0 where
+  pub listed : slice_get schema.tables at ≡ Some table
+  pub command : command_of (understood schema text) ≡ Select (record { lets = []; body = in_order_up_to table.tree tests (each_column 1 table) order (lit (Int (pos most))) }) names
+  pub bare : IsPlain (understood schema text)
+  pub unlisted : reads_listing schema text ≡ false
+  pub as_cells : (given : Row) (r : Row) → shown_of (each_column 1 table) given r ≡ cells table r
+  pub cut : (given : Row) (l : List Row) → page (in_order_up_to table.tree tests (each_column 1 table) order (lit (Int (pos most)))) given l ≡ take most l
+
+pub some_found : (schema : Schema) (at : ℕ) (table : Table) (tests : List Term) (order : List (Term × Key)) (most : ℕ) (names : List (List ℕ)) (text : List ℕ) (given : Row) → Cuts schema at table tests order most names text
+    → (old new : State) (rows : List Row) → Shown text given old new rows → (maps : Maps) → Holds schema old.now maps → AreAmong (maps at) rows × IsUnchanged old new
+some_found schema at table tests order most names text given cuts old new rows h maps held =
+    let is = held.tables at table cuts.listed in
+    let read = reads_as text given old new schema held.schema_is _ cuts.command cuts.bare cuts.unlisted rows h in (
+      λ v there.
+          let it = page_has table.tree tests (each_column 1 table) order (lit (Int (pos most))) given most (cuts.cut given) old.now.trees rows read.answer v there in
+          (key_at table it.0, is.sound it.0 it.1 ∙ ap Some (sym (it.2 ∙ cuts.as_cells given it.0))),
+      shown_unchanged text given old new schema held.schema_is cuts.bare rows h,
+    )

@@ -17,6 +17,10 @@ pub record FirstRows (most : ℕ) (m : Map) (good : Row → Bool) (out : List Ro
   pub rises : IsAscending FirstBelow out
   pub few : length out ≤ most
 
+-- each of these rows is one of the map
+abbrev pub AreAmong : Map → List Row → Type 0
+AreAmong m out = (v : Row) → Has out v → (k : Row) × (m k ≡ Some v)
+
 -- what WHERE reads of a row where a column is to be above a number
 abbrev pub above_at : ℕ → ℤ → Row → Bool
 above_at at n v = is_true (binary (Compare Gt Binary) (column v at) (Int n))

@@ -29,7 +29,7 @@ use Rattle.circ_tables.proofs.CellLemmas.{is_above, same_if, if_same, none_if, i
 use Rattle.circ_tables.proofs.InverseLemmas.{loan_told, hold_told, line_told}
 use Rattle.circ_tables.proofs.DayLemmas.{below}
 use Rattle.circ_tables.proofs.ShownLemmas.{one_found, stands, rows_rise}
-use Rattle.store.specs.Pages.{AreFirstRows, AreRowsAfter, AreNumbered, AreReadyAfter, AreOverdueAfter, AreLinesAfter}
+use Rattle.store.specs.Pages.{AreFirstRows, AreRowsAfter, AreNumbered, IsPassedOver, AreReadyAfter, AreOverdueAfter, AreLinesAfter}
 use Rattle.store.proofs.ViewLemmas.{rows_seen}
 use Rattle.store.proofs.ListLemmas.{line_number, rise_is}
 use Rattle.store.proofs.RowLemmas.{loan_number, hold_number}
@@ -107,3 +107,7 @@ page_seen {R = R} t number_of told key_cell encoded own from after is =
 
     passes : (r : R) → after < number_of r → is_after after (t.cells r) ≡ true
     passes r more = from_alone _ (subst (λ v. is_above v after ≡ true) (sym (key_cell r)) (if_above (number_of r) after more))
+
+-- rows of which no more is asked than that they could be read
+pub passed_over : {S R L : Type 0} {K : Type 0} {t : Table K R} {items : L → List R} {Found : Map → List Row → Type 0} {g : Ghosts S} {r : Result L Fault} {a b : Held S} → Lists t items Found g a b r → Views IsPassedOver g a b r
+passed_over is = rows_seen (λ P rows. Unit {0}) (λ maps P shown legal rows limits found. tt) is

@@ -37,3 +37,7 @@ AreRowsAfter t number_of after = AreFirstRows t number_of (λ r. after < number_
 -- Each row of a table stands under its own number, and these begin at 1.
 abbrev pub AreNumbered : {R : Type 0} → (ℕ → Option R) → (R → ℕ) → Type 0
 AreNumbered {R} t number_of = (n : ℕ) (r : R) → t n ≡ Some r → (number_of r ≡ n) × (1 ≤ n)
+
+-- Nothing is said of what was read, but that its rows could be.
+abbrev pub IsPassedOver : {A : Type 0} → Picture → A → Type 0
+IsPassedOver P x = Unit {0}

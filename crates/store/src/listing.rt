@@ -7,7 +7,7 @@ ghost use Rattle.store.specs.Lists.{AreAuditTables};
 ghost use Rattle.store.specs.Reads.{Looked, IsSound};
 ghost use Rattle.circ_tables.specs.Reading.{Views};
 
-use crate::pages::{EachRow, NoRow, OpenLoans, Sift, read_pages};
+use crate::pages::{EachRow, NoRow, OpenLoans, Sift, pass_over_kept, read_pages};
 use crate::store::Store;
 use circ_tables::{all_branches, all_closed_days, all_kept, all_kinds, all_rules, get_meta};
 use sqlite::{Alter, Connection};
@@ -175,6 +175,7 @@ fn audit_tables<S: Alter>(conn: &mut Connection<S>, alloc: Global) -> Result<Tab
     let set = read_registers(conn, alloc)?;
     let owned = read_holdings::<NoRow, S>(conn, alloc)?;
     let done = read_dealings::<OpenLoans, S>(conn, alloc)?;
+    pass_over_kept(conn, alloc)?;
     Ok(Tables {
         meta: set.meta,
         branches: set.branches,

@@ -4,16 +4,17 @@ ghost use Rattle.std.specs.Prelude.{◌≡◌, ◌++◌, true, filter, option_ma
 ghost use Rattle.std.specs.Prelude.{◌-◌, OnOk, IfErr};
 ghost use Rattle.circ_tables.specs.Reading.{Views};
 ghost use Rattle.store.specs.Lists.{AreRows};
+ghost use Rattle.store.specs.Pages.{IsPassedOver};
 
 use circ_tables::{
     all_copies_after, all_holds_after, all_lines_after, all_loans_after, all_patrons_after,
-    all_titles_after, all_transits_after,
+    all_titles_after, all_transits_after, first_kept, kept_after, kept_past,
 };
 use sqlite::{Alter, Connection};
 use std::alloc::Global;
 use terms::{
-    CopyId, CopyRow, Fault, HoldId, HoldRow, LineId, LineRow, LoanId, LoanRow, PatronId, PatronRow,
-    Rows, TitleId, TitleRow, TransitRow,
+    CopyId, CopyRow, Fault, HoldId, HoldRow, KeptRow, LineId, LineRow, LoanId, LoanRow, PatronId,
+    PatronRow, Rows, TitleId, TitleRow, TransitRow,
 };
 
 /// Rows of a table that is keyed by one number.
@@ -262,4 +263,37 @@ pub(crate) fn read_pages<R: Numbered, F: Sift<R>, S: Alter>(
         keep_page::<R, F>(&mut kept, page)?;
     }
     Ok(Rows::new(kept))
+}
+
+/// The page of what is kept after this row. 90, 91, 93.
+fn next_kept<S: Alter>(
+    conn: &mut Connection<S>,
+    alloc: Global,
+    last: &KeptRow,
+) -> Result<Vec<KeptRow>, Fault>
+    ensures { Views IsPassedOver S.Store conn.old conn.new result }
+{
+    let more = kept_after(conn, alloc, last.caller, &last.key)?;
+    if more.is_empty() {
+        kept_past(conn, alloc, last.caller)
+    } else {
+        Ok(more)
+    }
+}
+
+/// Reads all that is kept, page by page, and keeps none of it. 90, 91, 93.
+pub(crate) fn pass_over_kept<S: Alter>(
+    conn: &mut Connection<S>,
+    alloc: Global,
+) -> Result<(), Fault>
+    ensures { Views IsPassedOver S.Store conn.old conn.new result }
+{
+    let mut page = first_kept(conn, alloc)?;
+    'pages: for _page in 0..u64::MAX {
+        let Some(last) = page.last() else {
+            return Ok(());
+        };
+        page = next_kept(conn, alloc, last)?;
+    }
+    Ok(())
 }
