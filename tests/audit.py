@@ -127,8 +127,39 @@ FAULTS = [
     (["UPDATE copies SET condition = 3 WHERE copy = 10"], "fault 93"),
     (["UPDATE patrons SET owed = -1 WHERE patron = 1"], "fault 93"),
     (["UPDATE holds SET state = 5 WHERE hold = 1"], "fault 93"),
+    (["UPDATE loans SET due = 84006 WHERE loan = 1"], "fault 93"),
+    (["UPDATE branches SET name = CAST(x'ff' AS TEXT) WHERE branch = 1"], "fault 93"),
+    (["INSERT INTO closed_days VALUES (1, 84006)"], "fault 93"),
+    (["UPDATE kinds SET loans = -1"], "fault 93"),
+    (["UPDATE rules SET period = 0"], "fault 93"),
+    (["UPDATE titles SET text = CAST(x'ff' AS TEXT) WHERE title = 100"], "fault 93"),
+    (["UPDATE kept SET reply = CAST(x'ff' AS TEXT) WHERE key = 'a1'"], "fault 93"),
     (["UPDATE meta SET schema = 9"], "fault 93"),
     (["DROP TABLE transits"], "fault 91"),
+]
+
+# A library with more rows of each table that grows than are read at once, which the texts of `FAR` damage past the first of them.
+MANY, FIRST = 2_345, 10_000
+LAST = FIRST + MANY - 1
+FAR = [
+    ([], "sound"),
+    ([f"UPDATE copies SET condition = 2 WHERE copy = {LAST}"], f"unsound claims {LAST}"),
+    ([LOAN.format(LAST + 1, LAST)], f"unsound claims {LAST}"),
+    ([f"UPDATE loans SET ended = NULL WHERE loan = {LAST}"], f"unsound claims {LAST}"),
+    ([f"UPDATE holds SET copy = {LAST} WHERE hold = {LAST}"], f"unsound binding {LAST}"),
+    ([f"UPDATE transits SET hold = {LAST} WHERE copy = {LAST}"], f"unsound binding {LAST}"),
+    ([f"UPDATE patrons SET owed = 1 WHERE patron = {LAST}"], f"unsound balance {LAST}"),
+    (["DELETE FROM lines WHERE line = (SELECT max(line) FROM lines)"], f"unsound balance {LAST}"),
+    ([f"UPDATE patrons SET owed = -1 WHERE patron = {LAST}"], "fault 93"),
+    ([f"UPDATE titles SET text = CAST(x'ff' AS TEXT) WHERE title = {LAST}"], "fault 93"),
+    ([f"UPDATE copies SET condition = 3 WHERE copy = {LAST}"], "fault 93"),
+    ([f"UPDATE loans SET due = 84006 WHERE loan = {LAST}"], "fault 93"),
+    ([f"UPDATE holds SET state = 5 WHERE hold = {LAST}"], "fault 93"),
+    ([f"UPDATE transits SET goal = 0 WHERE copy = {LAST}"], "fault 93"),
+    (["UPDATE lines SET sort = 4 WHERE line = (SELECT max(line) FROM lines)"], "fault 93"),
+    ([f"UPDATE kept SET reply = CAST(x'ff' AS TEXT) WHERE caller = 0 AND key = 'k{LAST}'"], "fault 93"),
+    ([f"UPDATE kept SET text = CAST(x'ff' AS TEXT) WHERE caller = 1 AND key = 'p{LAST}'"], "fault 93"),
+    ([f"UPDATE kept SET text = CAST(x'ff' AS TEXT) WHERE caller = {LAST}"], "fault 93"),
 ]
 
 WAITING, READY = 0, 1
@@ -198,6 +229,27 @@ def damaged(library, folder, at, texts, line):
     os.remove(path)
 
 
+def fill(path):
+    """More rows of each table that grows than are read at once, with which the library is sound: each loan ended with a fine that was paid,
+    each hold is cancelled, each copy travels, and much is kept for the desk, for one patron, and for each patron."""
+    numbers = range(FIRST, LAST + 1)
+    lines = [(FIRST + 2 * at + more, n, 20529, sort, 240, n if sort == FINE else None) for at, n in enumerate(numbers) for more, sort in ((0, FINE), (1, 2))]
+    kept = [(owner, f"{letter}{n}", "page 1", "ok") for owner, letter in ((0, "k"), (1, "p")) for n in numbers] + [(n, "own", "page 1", "ok") for n in numbers]
+    tables = {
+        "patrons": [(n, 1, f"cardkey{n}", "Reader", 0) for n in numbers],
+        "titles": [(n, "A title") for n in numbers],
+        "copies": [(n, n, 1, 1, 900, 0) for n in numbers],
+        "loans": [(n, n, n, 1, 20500, 20520, 20, 1, 20, 1000, 20529) for n in numbers],
+        "holds": [(n, n, n, 1, 3, None, None) for n in numbers],
+        "transits": [(n, 1, None) for n in numbers],
+        "lines": lines,
+        "kept": kept,
+    }
+    with closing(sqlite3.connect(path)) as conn, conn:
+        for table, many in tables.items():
+            conn.executemany(f"INSERT INTO {table} VALUES ({', '.join('?' * len(many[0]))})", many)
+
+
 def no_library(folder):
     """Where there is no file, or one of no bytes, the answer is a fault, and no file is made."""
     absent, empty = os.path.join(folder, "absent.db"), os.path.join(folder, "empty.db")
@@ -265,13 +317,16 @@ def random_damage(library, folder, seed, many):
 def main(arguments):
     seed = int(arguments[0]) if arguments else 2826
     with tempfile.TemporaryDirectory() as folder:
-        ground, busy = os.path.join(folder, "ground.db"), os.path.join(folder, "busy.db")
+        ground, busy, large = (os.path.join(folder, name) for name in ("ground.db", "busy.db", "large.db"))
         say(ground, GROUND)
         shutil.copy(ground, busy)
         say(busy, BUSY)
+        shutil.copy(busy, large)
+        fill(large)
         kept = whole(busy)
         jobs = [(ground, at, *it) for at, it in enumerate(ON_THE_GROUND)]
         jobs += [(busy, len(jobs) + at, *it) for at, it in enumerate(DAMAGE + FAULTS)]
+        jobs += [(large, len(jobs) + at, *it) for at, it in enumerate(FAR)]
         with ThreadPoolExecutor(os.cpu_count()) as runs:
             list(runs.map(lambda job: damaged(job[0], folder, *job[1:]), jobs))
         no_library(folder)

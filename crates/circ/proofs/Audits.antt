@@ -2,7 +2,7 @@
 use Rattle.std.proofs.Common.{◌≡◌, ℕ, List, Option, inl, inr, refl, sym, subst}
 use Rattle.std.specs.Prelude.{Result, Ok, Err, IsTrue, ◌↔◌}
 use Rattle.store.specs.Library.{Ghosts, Held, State, state, HasCleanDisk}
-use Rattle.store.specs.Lists.{AreTables}
+use Rattle.store.specs.Lists.{AreAuditTables}
 use Rattle.store.specs.Stops.{KeepsPicture}
 use Rattle.store.specs.Reads.{Reads, Looked, IsSound as AreInLimits}
 use Rattle.terms.specs.Limits.{InLimits}
@@ -22,9 +22,10 @@ use Rattle.circ.specs.declared.lines.Exit.TheVariants.{Done, Refused, Faulted}
 use Rattle.circ.specs.Lines.{sound_line, finding_line, fault_line}
 use Rattle.circ.specs.Auditing.{LegalTablesAreSound, SaysOf}
 use Rattle.circ.proofs.CountedRows.{rises}
+use Rattle.circ.proofs.WholeTables.{like_whole, sound_as, broken_as}
 
 -- Rows that were read stand in the order of their numbers.
-in-order : (P : Picture) (tables : Tables) → AreTables P tables → IsInOrder tables
+in-order : (P : Picture) (tables : Tables) → AreAuditTables P tables → IsInOrder tables
 in-order P tables are = record { holds = rises (λ r. r.hold) tables.holds are.holds.rise; copies = rises (λ r. r.copy) tables.copies are.copies.rise }
 
 -- Sound tables break no law.
@@ -41,17 +42,18 @@ keeps-same old new P reads disk same keeps = record {
 }
 
 module _ {S : Type 0} (g : Ghosts S) (old new : Held S) where
-  pub says-sound : (tables : Tables) → Looked InLimits AreTables AreInLimits g old new (Ok tables) → Audits tables (Ok tt) → SaysOf g old new sound_line Done
+  pub says-sound : (tables : Tables) → Looked InLimits AreAuditTables AreInLimits g old new (Ok tables) → Audits tables (Ok tt) → SaysOf g old new sound_line Done
   says-sound tables looked audits = inl (record {
     tables = tables;
     line_is = refl;
     exit_is = refl;
     read = λ disk P limits keeps.
         let found = looked.shown disk P keeps.now limits in
-        (found.0, (audits.sound (in-order P tables found.0)).0 refl, keeps-same (state g old) (state g new) P looked.reads disk found.1 keeps);
+        let sound = (audits.sound (in-order P tables found.0)).0 refl in
+        (found.0, sound, λ all whole. sound_as tables all (like_whole P all tables whole found.0) sound, keeps-same (state g old) (state g new) P looked.reads disk found.1 keeps);
   })
 
-  pub says-unsound : LegalTablesAreSound → (tables : Tables) (finding : Finding) → Looked InLimits AreTables AreInLimits g old new (Ok tables) → Audits tables (Err finding)
+  pub says-unsound : LegalTablesAreSound → (tables : Tables) (finding : Finding) → Looked InLimits AreAuditTables AreInLimits g old new (Ok tables) → Audits tables (Err finding)
       → SaysOf g old new (finding_line finding) Refused
   says-unsound law tables finding looked audits = inr (inl (record {
     tables = tables;
@@ -60,13 +62,14 @@ module _ {S : Type 0} (g : Ghosts S) (old new : Held S) where
     exit_is = refl;
     read = λ disk P limits keeps.
         let found = looked.shown disk P keeps.now limits in
-        (found.0, (audits.found (in-order P tables found.0) finding).0 refl, keeps-same (state g old) (state g new) P looked.reads disk found.1 keeps);
+        let first = (audits.found (in-order P tables found.0) finding).0 refl in
+        (found.0, first, λ all whole. broken_as tables all (like_whole P all tables whole found.0) finding first, keeps-same (state g old) (state g new) P looked.reads disk found.1 keeps);
     never = λ disk H shows.
         let found = looked.shown disk (picture H) shows.tables.now (legal-rows H shows.legal shows.forms) in
         not-both tables finding (law H tables shows.legal shows.forms found.0) ((audits.found (in-order (picture H) tables found.0) finding).0 refl);
   }))
 
-  pub says-faulted : (fault : Fault) → Looked InLimits AreTables AreInLimits g old new (Err fault) → SaysOf g old new (fault_line fault) Faulted
+  pub says-faulted : (fault : Fault) → Looked InLimits AreAuditTables AreInLimits g old new (Err fault) → SaysOf g old new (fault_line fault) Faulted
   says-faulted fault looked = inr (inr (record {
     fault = fault;
     line_is = refl;

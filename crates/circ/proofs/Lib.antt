@@ -7,4 +7,5 @@ mod CountedRows
 mod SoundClaims
 mod SoundBindings
 mod SoundBalances
+mod WholeTables
 mod Audits

@@ -3,7 +3,7 @@ use Rattle.std.proofs.Common.{◌≡◌, ℕ, zero, suc, ◌+◌, ◌<◌, ◌�
 use Rattle.std.specs.Prelude.{Option, Some, None, option_map, filter, sum_by}
 use Rattle.std.specs.List.{Contains, AllByRecursion}
 use Rattle.std.proofs.lemmas.List.Sums.{sum_by-cons}
-use Rattle.store.specs.Lists.{Rise, AreTables}
+use Rattle.store.specs.Lists.{Rise, AreAuditTables}
 use Rattle.terms.specs.declared.row.LineRow.{LineRow}
 use Rattle.terms.specs.declared.row.PatronRow.{PatronRow}
 use Rattle.terms.specs.declared.row.Sort.{Sort}
@@ -97,7 +97,7 @@ listed-from k (x ∷ xs) rows are =
     let f = first-line k x xs rows are in
     ap (map line_in) f.1 ∙ ap (λ (ys : List Line). x ∷ ys) (listed-from (suc k) xs f.0 f.2)
 
-listed : (H : History) (rows : Tables) → AreTables (picture H) rows → map line_in rows.lines ≡ lines H
+listed : (H : History) (rows : Tables) → AreAuditTables (picture H) rows → map line_in rows.lines ≡ lines H
 listed H rows are = listed-from zero (lines H) rows.lines (record { sound = sound; whole = whole; rise = are.lines.rise })
   where
     sound : (r : LineRow) → Contains rows.lines r → (n : ℕ) × (r.line ≡ zero + n) × (nth_line (lines H) n ≡ Some (line_in r))
@@ -146,7 +146,7 @@ module _ (p : ℕ) where
       go ih true = ap (λ n. g (line_in r) + n) ih ∙ sym (sum_by-cons g (line_in r) (filter (λ x. x.patron == p) (map line_in rows)))
       go ih false = let e = ih in omega (arith, e)
 
-module _ (H : History) (rows : Tables) (legal : IsLegal H) (are : AreTables (picture H) rows) (p : ℕ) where
+module _ (H : History) (rows : Tables) (legal : IsLegal H) (are : AreAuditTables (picture H) rows) (p : ℕ) where
   charged : charges_of rows p ≡ charges (account H p)
   charged = summed p (λ r. charge r p) (λ x. charge_of x.sort x.amount) (charge-is p) rows.lines ∙ ap (λ (xs : List Line). sum_by (λ x. charge_of x.sort x.amount) (filter (λ x. x.patron == p) xs)) (listed H rows are)
 

@@ -3,7 +3,7 @@ use Rattle.std.proofs.Common.{◌≡◌, ℕ, ◌+◌, ◌<◌, ◌≤◌, ◌==
 use Rattle.std.specs.Prelude.{Option, Some, None, is_none, is_some, count_by, option_map, option_and_then, unwrap_or, ◌&&◌}
 use Rattle.std.specs.List.{Contains}
 use Rattle.std.proofs.lemmas.Bool.{eqb-true}
-use Rattle.store.specs.Lists.{AreTables}
+use Rattle.store.specs.Lists.{AreAuditTables}
 use Rattle.terms.specs.declared.row.HoldRow.{HoldRow}
 use Rattle.terms.specs.declared.row.HoldState.{HoldState}
 use Rattle.terms.specs.declared.row.HoldState.TheVariants.{Waiting, Ready, Filled, Cancelled, Expired}
@@ -30,7 +30,7 @@ use Rattle.circ_audit.proofs.Lookups.{row-found}
 use Rattle.circ.proofs.CountedRows.{all-there, rises, counted-once}
 use Rattle.circ.proofs.SoundClaims.{is-named}
 
-module _ (H : History) (rows : Tables) (legal : IsLegal H) (forms : HasForms H) (are : AreTables (picture H) rows) where
+module _ (H : History) (rows : Tables) (legal : IsLegal H) (forms : HasForms H) (are : AreAuditTables (picture H) rows) where
   inv : Invariant H
   inv = legal-Invariant H legal
 

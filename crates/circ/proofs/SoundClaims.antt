@@ -3,7 +3,7 @@ use Rattle.std.proofs.Common.{◌≡◌, ℕ, ◌+◌, ◌<◌, ◌≤◌, ◌�
 use Rattle.std.specs.Prelude.{Option, Some, None, is_none, count_by}
 use Rattle.std.specs.List.{Contains}
 use Rattle.std.proofs.lemmas.Bool.{eqb-true}
-use Rattle.store.specs.Lists.{AreTables}
+use Rattle.store.specs.Lists.{AreAuditTables}
 use Rattle.terms.specs.declared.row.LoanRow.{LoanRow}
 use Rattle.terms.specs.declared.row.HoldRow.{HoldRow}
 use Rattle.terms.specs.declared.row.HoldState.{HoldState}
@@ -55,7 +55,7 @@ absent r c e = go r.condition refl (is-named (absent_copy r) c e)
     go Missing is named = let same : r.copy ≡ c = cc in (same, inl is)
     go Withdrawn is named = let same : r.copy ≡ c = cc in (same, inr is)
 
-module _ (H : History) (rows : Tables) (legal : IsLegal H) (are : AreTables (picture H) rows) (c : ℕ) where
+module _ (H : History) (rows : Tables) (legal : IsLegal H) (are : AreAuditTables (picture H) rows) (c : ℕ) where
   at : IsPlaced H c
   at = placed H c legal
 

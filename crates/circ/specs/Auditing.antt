@@ -2,7 +2,7 @@
 use Rattle.std.specs.Prelude.{◌≡◌, ◌⊎◌, ℕ, List, Option, Result, IfOk, OnErr}
 use Rattle.std.specs.Io.KnownBytes.{Appends}
 use Rattle.store.specs.Library.{Ghosts, Held, state, IsClean, IsOpen}
-use Rattle.store.specs.Lists.{AreTables}
+use Rattle.store.specs.Lists.{AreTables, AreAuditTables}
 use Rattle.store.specs.Stops.{KeepsPicture, LeavesPicture}
 use Rattle.terms.specs.Limits.{InLimits}
 use Rattle.terms.specs.Pictures.{Picture}
@@ -21,18 +21,19 @@ use Rattle.circ.specs.declared.lines.Exit.{Exit}
 use Rattle.circ.specs.declared.lines.Exit.TheVariants.{Done, Refused, Faulted}
 use Rattle.circ.specs.Lines.{sound_line, finding_line, fault_line}
 
--- The rows of the tables that a list of accepted requests leaves keep the three laws.
+-- The rows of which the laws speak, of tables that a list of accepted requests leaves, keep them.
 abbrev pub LegalTablesAreSound : Type 0
 LegalTablesAreSound = (H : History) (tables : Tables) → IsLegal H → HasForms H
-    → AreTables (picture H) tables → IsSound tables
+    → AreAuditTables (picture H) tables → IsSound tables
 
--- All rows of the tables were read, and they are as `Is` says: so it is of each picture within the
--- limits that the tables showed, and they show it still.
+-- The rows of which the laws speak were read, and they are as `Is` says, and so are all rows: of
+-- each picture within the limits that the tables showed, and they show it still.
 abbrev pub Reads : {S : Type 0} → Ghosts S → Held S → Held S → (Tables → Type 0) → Tables
     → Type 0
 Reads g old new Is tables =
     IsClean g new → (P : Picture) → InLimits P → KeepsPicture (state g old) P
-    → AreTables P tables × Is tables × KeepsPicture (state g new) P
+    → AreAuditTables P tables × Is tables × ((all : Tables) → AreTables P all → Is all)
+    × KeepsPicture (state g new) P
 
 -- The line is that the tables are sound: their rows keep the three laws.
 pub record SaysSound {S : Type 0} (g : Ghosts S) (old new : Held S) (line : List ℕ)

@@ -33,15 +33,17 @@ fn schema_of<S: Alter>(conn: &mut Connection<S>) -> Option<i64> {
 
 /// What is known of a file that begins as a database, by opening it once more: the run has let go of it.
 fn cause_inside(rt: &HostRuntime, path: &str) -> &'static str {
-    match Connection::open(rt, path) {
-        Ok(mut conn) => match schema_of(&mut conn) {
-            Some(schema) if schema > i64::from(SCHEMA) => {
-                "the library is of a later schema, for a later version of this program"
-            }
-            _ => "the file is there, and begins as a library",
-        },
-        Err(Error::SqliteFailure(ErrorCode::DatabaseBusy)) => "another process has the file",
-        Err(_) => "the file is there, and begins as a library",
+    let is_later = match Connection::open(rt, path) {
+        Ok(mut conn) => {
+            matches!(schema_of(&mut conn), Some(schema) if schema > i64::from(SCHEMA))
+        }
+        Err(Error::SqliteFailure(ErrorCode::DatabaseBusy)) => return "another process has the file",
+        Err(_) => false,
+    };
+    if is_later {
+        "the library is of a later schema, for a later version of this program"
+    } else {
+        "the file is there, and begins as a library"
     }
 }
 

@@ -39,14 +39,12 @@ fn run_in<D: Disk + Drop>(
     let mut desk = desk_over(open_files(alloc, files, options())?)?;
     let (answered, fault) = runs(alloc, &mut desk, script)?;
     let is_whole = answered == script.split('\n').count();
-    assert!(rt;
-        fault
-            == if is_whole {
-                None
-            } else {
-                Some(Fault::Database)
-            }
-    );
+    let due = if is_whole {
+        None
+    } else {
+        Some(Fault::Database)
+    };
+    assert!(rt; fault == due);
     Ok((answered, into_files(store(desk))))
 }
 

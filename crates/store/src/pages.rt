@@ -289,7 +289,7 @@ pub(crate) fn pass_over_kept<S: Alter>(
     ensures { Views IsPassedOver S.Store conn.old conn.new result }
 {
     let mut page = first_kept(conn, alloc)?;
-    'pages: for _page in 0..u64::MAX {
+    'kept: for _page in 0..u64::MAX {
         let Some(last) = page.last() else {
             return Ok(());
         };

@@ -5,7 +5,10 @@ use calendar::Day;
 use circ_tables as tables;
 use sqlite::{Alter, Connection, Transaction};
 use std::alloc::Global;
-use terms::{BranchId, CopyId, Fault, HoldId, LineId, LoanId, PatronId, TitleId, TransitRow};
+use terms::{
+    BranchId, CopyId, Fault, HoldId, KeptRow, Key, LineId, LoanId, Owner, PatronId, TitleId,
+    TransitRow,
+};
 
 pub fn make_tables<S: Alter>(tx: &mut Transaction<'_, S>) -> Result<(), Fault> {
     tables::make_tables(tx)
@@ -245,4 +248,43 @@ pub fn all_lines_after<S: Alter>(
         numbers.push(row.line.number())?;
     }
     Ok(numbers)
+}
+
+/// The lengths of the keys.
+fn lengths(alloc: Global, rows: &[KeptRow]) -> Result<Vec<u32>, Fault> {
+    let mut lengths = Vec::new(alloc);
+    for row in rows {
+        match u32::try_from(row.key.as_str().len()) {
+            Ok(length) => lengths.push(length)?,
+            Err(_) => return Err(Fault::Stored),
+        }
+    }
+    Ok(lengths)
+}
+
+pub fn first_kept<S: Alter>(conn: &mut Connection<S>, alloc: Global) -> Result<Vec<u32>, Fault> {
+    lengths(alloc, tables::first_kept(conn, alloc)?.as_slice())
+}
+
+pub fn kept_after<S: Alter>(
+    conn: &mut Connection<S>,
+    alloc: Global,
+    owner: Owner,
+    key: &str,
+) -> Result<Vec<u32>, Fault> {
+    let Some(key) = Key::new(alloc, key)? else {
+        return Err(Fault::Stored);
+    };
+    lengths(
+        alloc,
+        tables::kept_after(conn, alloc, owner, &key)?.as_slice(),
+    )
+}
+
+pub fn kept_past<S: Alter>(
+    conn: &mut Connection<S>,
+    alloc: Global,
+    owner: Owner,
+) -> Result<Vec<u32>, Fault> {
+    lengths(alloc, tables::kept_past(conn, alloc, owner)?.as_slice())
 }

@@ -8,7 +8,7 @@ use sqlite::{Alter, Connection, Error, MemStore, Transaction};
 use std::alloc::Global;
 use std::process::Abort;
 use std::test::Fail;
-use terms::{BranchId, CopyId, Fault, HoldId, TransitRow};
+use terms::{BranchId, CopyId, Fault, HoldId, Owner, PatronId, TransitRow};
 
 /// Rows of the tables that are asked, the greatest key first. Of the loans of copy 10 one is over, and two are open; of title 100's line
 /// the first hold's copy travels.
@@ -20,6 +20,7 @@ INSERT INTO holds VALUES (11, 3, 102, 2, 1, 13, 20760), (10, 2, 100, 2, 0, NULL,
 INSERT INTO transits VALUES (19, 1, NULL), (18, 2, 9), (17, 1, NULL), (16, 2, 3);\
 INSERT INTO patrons VALUES (3, 1, 'cardkey00003', 'Cy Dunn', 0), (2, 1, 'cardkey00002', 'Bo Carr', 0), (1, 1, 'cardkey00001', 'Ann Bell', 0);\
 INSERT INTO titles VALUES (102, 'Night Ferries'), (101, 'Salt Roads'), (100, 'Rivers of the North');\
+INSERT INTO kept VALUES (2, 'cccccc', 'page 2', 'ok'), (2, 'bbbbb', 'page 2', 'ok'), (1, 'aaaa', 'page 1', 'ok'), (0, 'eee', 'page 1', 'ok'), (0, 'dd', 'page 1', 'ok'), (0, 'c', 'page 1', 'ok');\
 INSERT INTO lines VALUES (6, 1, 20704, 2, 150, NULL), (5, 1, 20706, 3, 150, NULL), (4, 1, 20705, 3, 150, NULL), (3, 1, 20706, 2, 150, NULL), (2, 1, 20704, 1, 150, 8), (1, 1, 20706, 0, 150, 1)";
 
 fn database(_error: Error) -> Fault {
@@ -119,6 +120,24 @@ fn finds_pages<S: Alter>(
     Ok(())
 }
 
+/// The keys of what is kept, by their lengths.
+fn finds_kept<S: Alter>(
+    rt: &impl Abort,
+    conn: &mut Connection<S>,
+    alloc: Global,
+) -> Result<(), Fail> {
+    let first = Owner::Patron(PatronId::new(1));
+    let second = Owner::Patron(PatronId::new(2));
+    lists(rt, first_kept(conn, alloc)?, &[1, 2, 3, 4, 5, 6]);
+    lists(rt, kept_after(conn, alloc, Owner::Desk, "c")?, &[2, 3]);
+    lists(rt, kept_after(conn, alloc, Owner::Desk, "eee")?, &[]);
+    lists(rt, kept_after(conn, alloc, second, "bbbbb")?, &[6]);
+    lists(rt, kept_past(conn, alloc, Owner::Desk)?, &[4, 5, 6]);
+    lists(rt, kept_past(conn, alloc, first)?, &[5, 6]);
+    lists(rt, kept_past(conn, alloc, second)?, &[]);
+    Ok(())
+}
+
 /// A second transit for the hold of another is refused by the database.
 fn refuses_a_second<S: Alter>(conn: &mut Connection<S>) -> Result<bool, Fault> {
     let second = TransitRow {
@@ -175,6 +194,7 @@ fn looks<S: Alter>(rt: &impl Abort, conn: &mut Connection<S>, alloc: Global) -> 
     finds_holds(rt, conn, alloc)?;
     finds_days(rt, conn, alloc)?;
     finds_pages(rt, conn, alloc)?;
+    finds_kept(rt, conn, alloc)?;
     assert!(rt; refuses_a_second(conn)?);
     assert!(rt; transit_for(conn, 9)? == Some(18));
     tells_damage(rt, conn, alloc)

@@ -8,31 +8,31 @@ use Rattle.circ.proofs.auditing.audit.Goals as goal
 pub returns-in-Err : goal.returns-in-Err
 returns-in-Err g c = record {
   clean = c.in-Err.ensures.reads.clean;
-  written = said-whole (SaysOf g.S.Store c.args.store.now c.tables.new.self) c.tell_fault.result _ _ (fault_line c.in-Err.fault) Faulted
-      (says-faulted g.S.Store c.args.store.now c.tables.new.self c.in-Err.fault c.in-Err.ensures) c.tell_fault.ensures.exit_is c.tell_fault.ensures.writes.all;
+  written = said-whole (SaysOf g.S.Store c.args.store.now c.audit_tables.new.self) c.tell_fault.result _ _ (fault_line c.in-Err.fault) Faulted
+      (says-faulted g.S.Store c.args.store.now c.audit_tables.new.self c.in-Err.fault c.in-Err.ensures) c.tell_fault.ensures.exit_is c.tell_fault.ensures.writes.all;
   left = c.in-Err.ensures.reads.left;
-  cut = said-cut (SaysOf g.S.Store c.args.store.now c.tables.new.self) c.tell_fault.result _ _ (fault_line c.in-Err.fault) Faulted
-      (says-faulted g.S.Store c.args.store.now c.tables.new.self c.in-Err.fault c.in-Err.ensures) c.tell_fault.ensures.writes.front;
+  cut = said-cut (SaysOf g.S.Store c.args.store.now c.audit_tables.new.self) c.tell_fault.result _ _ (fault_line c.in-Err.fault) Faulted
+      (says-faulted g.S.Store c.args.store.now c.audit_tables.new.self c.in-Err.fault c.in-Err.ensures) c.tell_fault.ensures.writes.front;
 }
 
 pub returns-in-Ok-audit : goal.returns-in-Ok-audit
 returns-in-Ok-audit g c = record {
   clean = c.in-Ok.ensures.reads.clean;
-  written = said-whole (SaysOf g.S.Store c.args.store.now c.tables.new.self) c.tell_sound.result _ _ sound_line Done
-      (says-sound g.S.Store c.args.store.now c.tables.new.self c.in-Ok.tables c.in-Ok.ensures c.in-Ok-audit.ensures) c.tell_sound.ensures.exit_is c.tell_sound.ensures.writes.all;
+  written = said-whole (SaysOf g.S.Store c.args.store.now c.audit_tables.new.self) c.tell_sound.result _ _ sound_line Done
+      (says-sound g.S.Store c.args.store.now c.audit_tables.new.self c.in-Ok.tables c.in-Ok.ensures c.in-Ok-audit.ensures) c.tell_sound.ensures.exit_is c.tell_sound.ensures.writes.all;
   left = c.in-Ok.ensures.reads.left;
-  cut = said-cut (SaysOf g.S.Store c.args.store.now c.tables.new.self) c.tell_sound.result _ _ sound_line Done
-      (says-sound g.S.Store c.args.store.now c.tables.new.self c.in-Ok.tables c.in-Ok.ensures c.in-Ok-audit.ensures) c.tell_sound.ensures.writes.front;
+  cut = said-cut (SaysOf g.S.Store c.args.store.now c.audit_tables.new.self) c.tell_sound.result _ _ sound_line Done
+      (says-sound g.S.Store c.args.store.now c.audit_tables.new.self c.in-Ok.tables c.in-Ok.ensures c.in-Ok-audit.ensures) c.tell_sound.ensures.writes.front;
 }
 
 pub returns : goal.returns
 returns g c = record {
   clean = c.in-Ok.ensures.reads.clean;
-  written = said-whole (SaysOf g.S.Store c.args.store.now c.tables.new.self) c.tell_finding.result _ _ (finding_line c.in-Err-audit.finding) Refused
-      (says-unsound g.S.Store c.args.store.now c.tables.new.self c.legal_tables_are_sound.ensures c.in-Ok.tables c.in-Err-audit.finding c.in-Ok.ensures c.in-Err-audit.ensures)
+  written = said-whole (SaysOf g.S.Store c.args.store.now c.audit_tables.new.self) c.tell_finding.result _ _ (finding_line c.in-Err-audit.finding) Refused
+      (says-unsound g.S.Store c.args.store.now c.audit_tables.new.self c.legal_tables_are_sound.ensures c.in-Ok.tables c.in-Err-audit.finding c.in-Ok.ensures c.in-Err-audit.ensures)
       c.tell_finding.ensures.exit_is c.tell_finding.ensures.writes.all;
   left = c.in-Ok.ensures.reads.left;
-  cut = said-cut (SaysOf g.S.Store c.args.store.now c.tables.new.self) c.tell_finding.result _ _ (finding_line c.in-Err-audit.finding) Refused
-      (says-unsound g.S.Store c.args.store.now c.tables.new.self c.legal_tables_are_sound.ensures c.in-Ok.tables c.in-Err-audit.finding c.in-Ok.ensures c.in-Err-audit.ensures)
+  cut = said-cut (SaysOf g.S.Store c.args.store.now c.audit_tables.new.self) c.tell_finding.result _ _ (finding_line c.in-Err-audit.finding) Refused
+      (says-unsound g.S.Store c.args.store.now c.audit_tables.new.self c.legal_tables_are_sound.ensures c.in-Ok.tables c.in-Err-audit.finding c.in-Ok.ensures c.in-Err-audit.ensures)
       c.tell_finding.ensures.writes.front;
 }

@@ -1,0 +1,187 @@
+-- All rows of the tables keep or break a law just as those do of which the laws speak.
+use Rattle.std.proofs.Common.{◌≡◌, ℕ, ◌+◌, ◌<◌, ◌≤◌, ◌⊎◌, inl, inr, Bool, true, false, cond, List, [], ◌∷◌, refl, sym, ◌∙◌, ap, subst, arith}
+use Rattle.std.specs.Prelude.{Option, Some, None, is_none, count_by, sum_by, filter, All}
+use Rattle.std.specs.List.{Contains, AllByRecursion}
+use Rattle.std.proofs.lemmas.List.Sums.{sum_by-cons}
+use Rattle.sqlite_rules.specs.Lists.{Has}
+use Rattle.sqlite_rules.proofs.ListLemmas.{has_contained, contains_had, all_has, has_filtered, has_kept}
+use Rattle.store.specs.Lists.{AreRows, AllPass, AreTables, AreAuditTables, Rise}
+use Rattle.store.proofs.PagedRows.{rises_filtered}
+use Rattle.terms.specs.Pictures.{Picture}
+use Rattle.terms.specs.declared.row.CopyRow.{CopyRow}
+use Rattle.terms.specs.declared.row.HoldRow.{HoldRow}
+use Rattle.terms.specs.declared.row.LineRow.{LineRow}
+use Rattle.terms.specs.declared.row.LoanRow.{LoanRow}
+use Rattle.terms.specs.declared.row.PatronRow.{PatronRow}
+use Rattle.terms.specs.declared.row.TransitRow.{TransitRow}
+use Rattle.terms.specs.declared.tables.Tables.{Tables}
+use Rattle.circ_audit.specs.declared.auditing.Finding.{Finding}
+use Rattle.circ_audit.specs.declared.auditing.Finding.TheVariants.{Claims, Binding, Balance}
+use Rattle.circ_audit.specs.Rows.{names, lent_copy, shelved_copy, travelling_copy, absent_copy, hold_row, is_fit, serves, charge, credit}
+use Rattle.circ_audit.specs.Sound.{claims_on, IsClaimedOnce, IsBound, IsBalanced, IsSound, IsLeastBroken, IsFirstBroken}
+
+-- ---- the rows of a table are one list
+
+module _ {R : Type 0} (number_of : R → ℕ) where
+  -- A row that comes after one that rises to it isn't that one.
+  after : (x r : R) (rows : List R) → AllByRecursion (λ s. number_of x < number_of s) rows → Has rows r → number_of x < number_of r
+  after x r rows above there = all_has (λ s. number_of x < number_of s) rows r above there
+
+  one_list : (xs ys : List R) → Rise number_of xs → Rise number_of ys → ((r : R) → Has xs r → Has ys r) → ((r : R) → Has ys r → Has xs r) → xs ≡ ys
+  one_list [] [] up down to from = refl
+  one_list [] (y ∷ ys) up down to from = absurd (from y (inl refl))
+  one_list (x ∷ xs) [] up down to from = absurd (to x (inl refl))
+  one_list (x ∷ xs) (y ∷ ys) up down to from = go (to x (inl refl)) (from y (inl refl)) (one_list xs ys up.1 down.1)
+    where
+      tail_to : x ≡ y → (r : R) → Has xs r → Has ys r
+      tail_to same r there = at (to r (inr there))
+        where
+          at : Has (y ∷ ys) r → Has ys r
+          at (inr later) = later
+          at (inl is) =
+              let less : number_of x < number_of r = after x r xs up.0 there in
+              let equal : number_of r ≡ number_of x = ap number_of (is ∙ sym same) in
+              absurd (omega (arith, less, equal))
+
+      tail_from : x ≡ y → (r : R) → Has ys r → Has xs r
+      tail_from same r there = at (from r (inr there))
+        where
+          at : Has (x ∷ xs) r → Has xs r
+          at (inr later) = later
+          at (inl is) =
+              let less : number_of y < number_of r = after y r ys down.0 there in
+              let equal : number_of r ≡ number_of y = ap number_of (is ∙ same) in
+              absurd (omega (arith, less, equal))
+
+      go : Has (y ∷ ys) x → Has (x ∷ xs) y → (((r : R) → Has xs r → Has ys r) → ((r : R) → Has ys r → Has xs r) → xs ≡ ys) → x ∷ xs ≡ y ∷ ys
+      go (inl same) there rest = let tails : xs ≡ ys = rest (tail_to same) (tail_from same) in λ i. same i ∷ tails i
+      go (inr later) (inl same) rest =
+          let less : number_of y < number_of x = after y x ys down.0 later in
+          let equal : number_of y ≡ number_of x = ap number_of same in
+          absurd (omega (arith, less, equal))
+      go (inr later) (inr there) rest =
+          let less : number_of y < number_of x = after y x ys down.0 later in
+          let more : number_of x < number_of y = after x y xs up.0 there in
+          absurd (omega (arith, less, more))
+
+  one_rows : (t : ℕ → Option R) (Passes : R → Type 0) (xs ys : List R) → AreRows t number_of Passes xs → AreRows t number_of Passes ys → xs ≡ ys
+  one_rows t Passes xs ys first other =
+      one_list xs ys first.rise other.rise (λ r there. let it = first.sound r (contains_had xs r there) in has_contained ys r (other.whole (number_of r) r it.0 it.1))
+      (λ r there. let it = other.sound r (contains_had ys r there) in has_contained xs r (first.whole (number_of r) r it.0 it.1))
+
+-- ---- a loan that ended claims nothing
+
+open_alone : (rows : List LoanRow) (copy : ℕ) → count_by (λ r. names (lent_copy r) copy) (filter (λ r. is_none r.ended) rows) ≡ count_by (λ r. names (lent_copy r) copy) rows
+open_alone [] copy = refl
+open_alone (x ∷ rows) copy = go (is_none x.ended) refl (open_alone rows copy)
+  where
+    claims : LoanRow → Bool
+    claims r = names (lent_copy r) copy
+
+    go : (b : Bool) → is_none x.ended ≡ b → count_by claims (filter (λ r. is_none r.ended) rows) ≡ count_by claims rows
+        → count_by claims (cond b (x ∷ filter (λ r. is_none r.ended) rows) (filter (λ r. is_none r.ended) rows)) ≡ count_by claims (x ∷ rows)
+    go true is rest =
+        sum_by-cons (λ r. cond (claims r) 1 0) x (filter (λ r. is_none r.ended) rows) ∙ ap (λ (n : ℕ). cond (claims x) 1 0 + n) rest ∙ sym (sum_by-cons (λ r. cond (claims r) 1 0) x rows)
+    go false is rest =
+        let none : claims x ≡ false = ap (λ (b : Bool). names (cond b (Some x.copy) None) copy) is in
+        rest ∙ sym (sum_by-cons (λ r. cond (claims r) 1 0) x rows ∙ ap (λ (b : Bool). cond b 1 0 + count_by claims rows) none)
+
+-- The rows of which the laws speak are the same, but for loans that claim nothing.
+pub record AreLike (a b : Tables) : Type 0 where
+  pub patrons : a.patrons ≡ b.patrons
+  pub copies : a.copies ≡ b.copies
+  pub holds : a.holds ≡ b.holds
+  pub transits : a.transits ≡ b.transits
+  pub lines : a.lines ≡ b.lines
+  pub claims : (copy : ℕ) → claims_on a copy ≡ claims_on b copy
+
+module _ (P : Picture) (all some : Tables) (whole : AreTables P all) (are : AreAuditTables P some) where
+  copies_are : some.copies ≡ all.copies
+  copies_are = one_rows (λ r. r.copy) P.copies AllPass some.copies all.copies are.copies whole.copies
+
+  holds_are : some.holds ≡ all.holds
+  holds_are = one_rows (λ r. r.hold) P.holds AllPass some.holds all.holds are.holds whole.holds
+
+  transits_are : some.transits ≡ all.transits
+  transits_are = one_rows (λ r. r.copy) P.transits AllPass some.transits all.transits are.transits whole.transits
+
+  lines_are : some.lines ≡ all.lines
+  lines_are = one_rows (λ r. r.line) P.lines AllPass some.lines all.lines are.lines whole.lines
+
+  patrons_are : some.patrons ≡ all.patrons
+  patrons_are = one_rows (λ r. r.patron) P.patrons AllPass some.patrons all.patrons are.patrons whole.patrons
+
+  open_loans : List LoanRow
+  open_loans = filter (λ r. is_none r.ended) all.loans
+
+  loans_are : some.loans ≡ open_loans
+  loans_are = one_rows (λ r. r.loan) P.loans (λ r. r.ended ≡ None) some.loans open_loans are.loans (record {
+    sound = λ r there.
+        let it = has_filtered (λ q. is_none q.ended) all.loans r (has_contained open_loans r there) in
+        ((whole.loans.sound r (contains_had all.loans r it.0)).0, ended r.ended it.1);
+    whole = λ n r e open. contains_had open_loans r (has_kept (λ q. is_none q.ended) all.loans r (has_contained all.loans r (whole.loans.whole n r e tt)) (ap is_none open));
+    rise = rises_filtered (λ r. r.loan) (λ q. is_none q.ended) all.loans whole.loans.rise;
+  })
+    where
+      ended : (o : Option ℕ) → is_none o ≡ true → o ≡ None
+      ended None is = refl
+      ended (Some d) is = let never : ⊥ = cc in absurd never
+
+  loans_claim : (copy : ℕ) → count_by (λ r. names (lent_copy r) copy) some.loans ≡ count_by (λ r. names (lent_copy r) copy) all.loans
+  loans_claim copy = ap (count_by (λ r. names (lent_copy r) copy)) loans_are ∙ open_alone all.loans copy
+
+  -- The laws speak of the same rows.
+  pub like_whole : AreLike some all
+  like_whole = record {
+    patrons = patrons_are;
+    copies = copies_are;
+    holds = holds_are;
+    transits = transits_are;
+    lines = lines_are;
+    claims = λ copy i. loans_claim copy i + count_by (λ r. names (shelved_copy r) copy) (holds_are i) + count_by (λ r. names (travelling_copy r) copy) (transits_are i) + count_by (λ r. names (absent_copy r) copy) (copies_are i);
+  }
+
+-- ---- so each law is one
+
+like_back : (a b : Tables) → AreLike a b → AreLike b a
+like_back a b like = record {
+  patrons = sym like.patrons;
+  copies = sym like.copies;
+  holds = sym like.holds;
+  transits = sym like.transits;
+  lines = sym like.lines;
+  claims = λ copy. sym (like.claims copy);
+}
+
+module _ (a b : Tables) (like : AreLike a b) where
+  claimed_as : (copy : ℕ) → IsClaimedOnce a copy → IsClaimedOnce b copy
+  claimed_as copy = subst (λ (n : ℕ). n ≤ 1) (like.claims copy)
+
+  bound_as : (hold : ℕ) → IsBound a hold → IsBound b hold
+  bound_as hold bound = record {
+    fit = subst (λ (t : List CopyRow × List HoldRow). All (λ r. r.hold ≡ hold → is_fit t.0 r ≡ true) t.1) (λ i. (like.copies i, like.holds i)) bound.fit;
+    served = subst (λ (t : List CopyRow × (List HoldRow × List TransitRow)). All (λ r. r.hold ≡ Some hold → serves t.0 r (hold_row t.1.0 hold) ≡ true) t.1.1) (λ i. (like.copies i, (like.holds i, like.transits i))) bound.served;
+    once = subst (λ (rows : List TransitRow). count_by (λ r. names r.hold hold) rows ≤ 1) like.transits bound.once;
+  }
+
+  balanced_as : (patron : ℕ) → IsBalanced a patron → IsBalanced b patron
+  balanced_as patron = subst (λ (t : List PatronRow × List LineRow). All (λ r. r.patron ≡ patron → r.owed + sum_by (λ l. credit l patron) t.1 ≡ sum_by (λ l. charge l patron) t.1) t.0) (λ i. (like.patrons i, like.lines i))
+
+  pub sound_as : IsSound a → IsSound b
+  sound_as sound = record {
+    claims = λ copy. claimed_as copy (sound.claims copy);
+    bindings = λ hold. bound_as hold (sound.bindings hold);
+    balance = λ patron. balanced_as patron (sound.balance patron);
+  }
+
+-- The least number that breaks a law breaks one that says the same.
+least_as : (Law Same : ℕ → Type 0) (n : ℕ) → ((m : ℕ) → Law m → Same m) → (Same n → Law n) → IsLeastBroken Law n → IsLeastBroken Same n
+least_as Law Same n to from least = record { broken = λ law. least.broken (from law); below = λ m less. to m (least.below m less) }
+
+pub broken_as : (a b : Tables) → AreLike a b → (finding : Finding) → IsFirstBroken a finding → IsFirstBroken b finding
+broken_as a b like (Claims copy) first = least_as (IsClaimedOnce a) (IsClaimedOnce b) copy (claimed_as a b like) (claimed_as b a (like_back a b like) copy) first
+broken_as a b like (Binding hold) first = (λ copy. claimed_as a b like copy (first.0 copy), least_as (IsBound a) (IsBound b) hold (bound_as a b like) (bound_as b a (like_back a b like) hold) first.1)
+broken_as a b like (Balance patron) first = (
+  λ copy. claimed_as a b like copy (first.0 copy),
+  (λ hold. bound_as a b like hold (first.1.0 hold), least_as (IsBalanced a) (IsBalanced b) patron (balanced_as a b like) (balanced_as b a (like_back a b like) patron) first.1.1),
+)
