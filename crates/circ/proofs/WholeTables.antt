@@ -1,12 +1,10 @@
 -- All rows of the tables keep or break a law just as those do of which the laws speak.
 use Rattle.std.proofs.Common.{◌≡◌, ℕ, ◌+◌, ◌<◌, ◌≤◌, ◌⊎◌, inl, inr, Bool, true, false, cond, List, [], ◌∷◌, refl, sym, ◌∙◌, ap, subst, arith}
 use Rattle.std.specs.Prelude.{Option, Some, None, is_none, count_by, sum_by, filter, All}
-use Rattle.std.specs.List.{Contains, AllByRecursion}
 use Rattle.std.proofs.lemmas.List.Sums.{sum_by-cons}
-use Rattle.sqlite_rules.specs.Lists.{Has}
-use Rattle.sqlite_rules.proofs.ListLemmas.{has_contained, contains_had, all_has, has_filtered, has_kept}
-use Rattle.store.specs.Lists.{AreRows, AllPass, AreTables, AreAuditTables, Rise}
-use Rattle.store.proofs.PagedRows.{rises_filtered}
+use Rattle.store.specs.Lists.{AllPass, AreTables, AreAuditTables}
+use Rattle.store.proofs.OneList.{one_rows, tested_rows}
+use Rattle.store.proofs.PagedRows.{open_pass}
 use Rattle.terms.specs.Pictures.{Picture}
 use Rattle.terms.specs.declared.row.CopyRow.{CopyRow}
 use Rattle.terms.specs.declared.row.HoldRow.{HoldRow}
@@ -19,55 +17,6 @@ use Rattle.circ_audit.specs.declared.auditing.Finding.{Finding}
 use Rattle.circ_audit.specs.declared.auditing.Finding.TheVariants.{Claims, Binding, Balance}
 use Rattle.circ_audit.specs.Rows.{names, lent_copy, shelved_copy, travelling_copy, absent_copy, hold_row, is_fit, serves, charge, credit}
 use Rattle.circ_audit.specs.Sound.{claims_on, IsClaimedOnce, IsBound, IsBalanced, IsSound, IsLeastBroken, IsFirstBroken}
-
--- ---- the rows of a table are one list
-
-module _ {R : Type 0} (number_of : R → ℕ) where
-  -- A row that comes after one that rises to it isn't that one.
-  after : (x r : R) (rows : List R) → AllByRecursion (λ s. number_of x < number_of s) rows → Has rows r → number_of x < number_of r
-  after x r rows above there = all_has (λ s. number_of x < number_of s) rows r above there
-
-  one_list : (xs ys : List R) → Rise number_of xs → Rise number_of ys → ((r : R) → Has xs r → Has ys r) → ((r : R) → Has ys r → Has xs r) → xs ≡ ys
-  one_list [] [] up down to from = refl
-  one_list [] (y ∷ ys) up down to from = absurd (from y (inl refl))
-  one_list (x ∷ xs) [] up down to from = absurd (to x (inl refl))
-  one_list (x ∷ xs) (y ∷ ys) up down to from = go (to x (inl refl)) (from y (inl refl)) (one_list xs ys up.1 down.1)
-    where
-      tail_to : x ≡ y → (r : R) → Has xs r → Has ys r
-      tail_to same r there = at (to r (inr there))
-        where
-          at : Has (y ∷ ys) r → Has ys r
-          at (inr later) = later
-          at (inl is) =
-              let less : number_of x < number_of r = after x r xs up.0 there in
-              let equal : number_of r ≡ number_of x = ap number_of (is ∙ sym same) in
-              absurd (omega (arith, less, equal))
-
-      tail_from : x ≡ y → (r : R) → Has ys r → Has xs r
-      tail_from same r there = at (from r (inr there))
-        where
-          at : Has (x ∷ xs) r → Has xs r
-          at (inr later) = later
-          at (inl is) =
-              let less : number_of y < number_of r = after y r ys down.0 there in
-              let equal : number_of r ≡ number_of y = ap number_of (is ∙ same) in
-              absurd (omega (arith, less, equal))
-
-      go : Has (y ∷ ys) x → Has (x ∷ xs) y → (((r : R) → Has xs r → Has ys r) → ((r : R) → Has ys r → Has xs r) → xs ≡ ys) → x ∷ xs ≡ y ∷ ys
-      go (inl same) there rest = let tails : xs ≡ ys = rest (tail_to same) (tail_from same) in λ i. same i ∷ tails i
-      go (inr later) (inl same) rest =
-          let less : number_of y < number_of x = after y x ys down.0 later in
-          let equal : number_of y ≡ number_of x = ap number_of same in
-          absurd (omega (arith, less, equal))
-      go (inr later) (inr there) rest =
-          let less : number_of y < number_of x = after y x ys down.0 later in
-          let more : number_of x < number_of y = after x y xs up.0 there in
-          absurd (omega (arith, less, more))
-
-  one_rows : (t : ℕ → Option R) (Passes : R → Type 0) (xs ys : List R) → AreRows t number_of Passes xs → AreRows t number_of Passes ys → xs ≡ ys
-  one_rows t Passes xs ys first other =
-      one_list xs ys first.rise other.rise (λ r there. let it = first.sound r (contains_had xs r there) in has_contained ys r (other.whole (number_of r) r it.0 it.1))
-      (λ r there. let it = other.sound r (contains_had ys r there) in has_contained xs r (first.whole (number_of r) r it.0 it.1))
 
 -- ---- a loan that ended claims nothing
 
@@ -115,17 +64,7 @@ module _ (P : Picture) (all some : Tables) (whole : AreTables P all) (are : AreA
   open_loans = filter (λ r. is_none r.ended) all.loans
 
   loans_are : some.loans ≡ open_loans
-  loans_are = one_rows (λ r. r.loan) P.loans (λ r. r.ended ≡ None) some.loans open_loans are.loans (record {
-    sound = λ r there.
-        let it = has_filtered (λ q. is_none q.ended) all.loans r (has_contained open_loans r there) in
-        ((whole.loans.sound r (contains_had all.loans r it.0)).0, ended r.ended it.1);
-    whole = λ n r e open. contains_had open_loans r (has_kept (λ q. is_none q.ended) all.loans r (has_contained all.loans r (whole.loans.whole n r e tt)) (ap is_none open));
-    rise = rises_filtered (λ r. r.loan) (λ q. is_none q.ended) all.loans whole.loans.rise;
-  })
-    where
-      ended : (o : Option ℕ) → is_none o ≡ true → o ≡ None
-      ended None is = refl
-      ended (Some d) is = let never : ⊥ = cc in absurd never
+  loans_are = one_rows (λ r. r.loan) P.loans (λ r. r.ended ≡ None) some.loans open_loans are.loans (open_pass P.loans open_loans (tested_rows (λ r. r.loan) P.loans (λ r. is_none r.ended) all.loans whole.loans))
 
   loans_claim : (copy : ℕ) → count_by (λ r. names (lent_copy r) copy) some.loans ≡ count_by (λ r. names (lent_copy r) copy) all.loans
   loans_claim copy = ap (count_by (λ r. names (lent_copy r) copy)) loans_are ∙ open_alone all.loans copy

@@ -13,7 +13,7 @@ use Rattle.store.specs.Pages.{AreFirstRows, AreRowsAfter, AreNumbered}
 
 -- ---- rows in order
 
-rises_filtered : {R : Type 0} (number_of : R → ℕ) (test : R → Bool) (rows : List R) → Rise number_of rows → Rise number_of (filter test rows)
+pub rises_filtered : {R : Type 0} (number_of : R → ℕ) (test : R → Bool) (rows : List R) → Rise number_of rows → Rise number_of (filter test rows)
 rises_filtered number_of test [] rise = tt
 rises_filtered number_of test (r ∷ rows) rise = go (test r) (rises_filtered number_of test rows rise.1)
   where
@@ -124,7 +124,7 @@ module _ {R : Type 0} (t : ℕ → Option R) (number_of : R → ℕ) (test : R �
       above_after r there = (is.sound r (contains_had page r there)).1
 
       -- One page more.
-      pub more_so_far : AreSoFar (number_of last) (pages + 1) (kept ++ filter test page)
+      more_so_far : AreSoFar (number_of last) (pages + 1) (kept ++ filter test page)
       more_so_far = record {
         rows_are = λ numbered. record { sound = sound numbered; whole = whole numbered; rise = rise numbered };
         few = let less : after < number_of last = above_after last greatest.0 in let few : pages ≤ after = so_far.few in omega (arith, less, few);
@@ -163,6 +163,12 @@ module _ {R : Type 0} (t : ℕ → Option R) (number_of : R → ℕ) (test : R �
               let low : number_of r ≤ after = ((so_far.rows_are numbered).sound r (contains_had kept r before)).1.1 in
               let high : after < number_of s = above_after s (has_filtered test page s new).0 in
               omega (arith, low, high))
+
+    -- The same, where the number and the rows are named.
+    pub next_so_far : (last : ℕ) → option_map number_of (slice_get page (length page - 1)) ≡ Some last → (more : List R) → more ≡ kept ++ filter test page → AreSoFar last (pages + 1) more
+    next_so_far last end more is =
+        let it = last_there number_of page last end in
+        subst (λ (n : ℕ). AreSoFar n (pages + 1) more) it.2 (subst (λ (l : List R). AreSoFar (number_of it.0) (pages + 1) l) (sym is) (more_so_far it.0 it.1))
 
 -- Rows that a test lets through are all, where it lets each through.
 pub all_pass : {R : Type 0} (t : ℕ → Option R) (number_of : R → ℕ) (rows : List R) → AreTestedRows t number_of (λ _. true) rows → AreRows t number_of AllPass rows

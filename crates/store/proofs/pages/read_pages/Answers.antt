@@ -1,7 +1,6 @@
-use Rattle.std.proofs.Common.{◌≡◌, ◌++◌, ◌+◌, ◌<◌, ◌≤◌, ◌^◌, ◌-◌, ℕ, List, filter, option_map, slice_get, length, Some, None, sym, subst, arith, rules}
-use Rattle.terms.specs.declared.fault.Fault.TheVariants.{Memory, Stored}
+use Rattle.std.proofs.Common.{◌≡◌, ◌<◌, ◌≤◌, ◌^◌, ◌-◌, List, option_map, slice_get, length, Some, None, sym, subst, arith}
 use Rattle.store.specs.Lists.{AreTestedRows}
-use Rattle.store.proofs.PagedRows.{AreSoFar, all_so_far, more_so_far, empty_if, last_there}
+use Rattle.store.proofs.PagedRows.{all_so_far, next_so_far, empty_if}
 use Rattle.store.proofs.ViewLemmas.{◌⨾◌, fails, gives, stops}
 use Rattle.store.proofs.pages.read_pages.Goals as goal
 
@@ -28,17 +27,12 @@ returns-in_err-keep_page g c =
 
 pub pages-preserved : goal.pages-preserved
 pages-preserved g c =
-    let rows = g.R.Numbered.rows in
     let number_of = g.R.Numbered.number_of in
-    let test = g.F.Sift.test in
     let page = c.in_ok-page.page.items in
     let end : Some c.in-Some.last ≡ option_map number_of (slice_get page (length page - 1)) = rw (c.as_slice.ensures.value) at c.in-Some.ensures in
     record {
       seen = gives (c.pages.invariant.seen ⨾ c.in_ok-page.ensures) (λ P all.
-          let it = last_there number_of page c.in-Some.last (sym end) in
-          subst (λ (n : ℕ). AreSoFar (rows P) number_of test n (c.pages._page + 1) c.keep_page.new.kept.items) it.2
-              (subst (λ (l : List _). AreSoFar (rows P) number_of test (number_of it.0) (c.pages._page + 1) l) (sym c.in_ok-keep_page.ensures.kept)
-              (more_so_far (rows P) number_of test c.pages.after c.pages._page c.pages.kept.items all.0 page all.1.1 it.0 it.1)));
+          next_so_far (g.R.Numbered.rows P) number_of g.F.Sift.test c.pages.after c.pages._page c.pages.kept.items all.0 page all.1.1 c.in-Some.last (sym end) c.keep_page.new.kept.items c.in_ok-keep_page.ensures.kept);
       low = search;
     }
 
