@@ -33,11 +33,11 @@ above-first number_of n (y ∷ rows) all r (suc k, lt, is) = above-first number_
 -- ---- counts
 
 -- What a row that passes counts.
-abbrev weight : Bool → ℕ
+abbrev pub weight : Bool → ℕ
 weight b = cond b 1 0
 
 module _ {R : Type 0} (p : R → Bool) where
-  counted-cons : (x : R) (rows : List R) → count_by p (x ∷ rows) ≡ weight (p x) + count_by p rows
+  pub counted-cons : (x : R) (rows : List R) → count_by p (x ∷ rows) ≡ weight (p x) + count_by p rows
   counted-cons x rows = sum_by-cons (λ y. weight (p y)) x rows
 
   -- A row that is counted is there.

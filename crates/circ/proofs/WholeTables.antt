@@ -1,7 +1,6 @@
 -- All rows of the tables keep or break a law just as those do of which the laws speak.
 use Rattle.std.proofs.Common.{◌≡◌, ℕ, ◌+◌, ◌<◌, ◌≤◌, ◌⊎◌, inl, inr, Bool, true, false, cond, List, [], ◌∷◌, refl, sym, ◌∙◌, ap, subst, arith}
 use Rattle.std.specs.Prelude.{Option, Some, None, is_none, count_by, sum_by, filter, All}
-use Rattle.std.proofs.lemmas.List.Sums.{sum_by-cons}
 use Rattle.store.specs.Lists.{AllPass, AreTables, AreAuditTables}
 use Rattle.store.proofs.OneList.{one_rows, tested_rows}
 use Rattle.store.proofs.PagedRows.{open_pass}
@@ -16,24 +15,29 @@ use Rattle.terms.specs.declared.tables.Tables.{Tables}
 use Rattle.circ_audit.specs.declared.auditing.Finding.{Finding}
 use Rattle.circ_audit.specs.declared.auditing.Finding.TheVariants.{Claims, Binding, Balance}
 use Rattle.circ_audit.specs.Rows.{names, lent_copy, shelved_copy, travelling_copy, absent_copy, hold_row, is_fit, serves, charge, credit}
+use Rattle.circ.proofs.CountedRows.{weight, counted-cons}
 use Rattle.circ_audit.specs.Sound.{claims_on, IsClaimedOnce, IsBound, IsBalanced, IsSound, IsLeastBroken, IsFirstBroken}
 
 -- ---- a loan that ended claims nothing
 
-open_alone : (rows : List LoanRow) (copy : ℕ) → count_by (λ r. names (lent_copy r) copy) (filter (λ r. is_none r.ended) rows) ≡ count_by (λ r. names (lent_copy r) copy) rows
+-- The loan claims the copy.
+abbrev lends : ℕ → LoanRow → Bool
+lends copy r = names (lent_copy r) copy
+
+open_alone : (rows : List LoanRow) (copy : ℕ) → count_by (lends copy) (filter (λ r. is_none r.ended) rows) ≡ count_by (lends copy) rows
 open_alone [] copy = refl
 open_alone (x ∷ rows) copy = go (is_none x.ended) refl (open_alone rows copy)
   where
-    claims : LoanRow → Bool
-    claims r = names (lent_copy r) copy
-
-    go : (b : Bool) → is_none x.ended ≡ b → count_by claims (filter (λ r. is_none r.ended) rows) ≡ count_by claims rows
-        → count_by claims (cond b (x ∷ filter (λ r. is_none r.ended) rows) (filter (λ r. is_none r.ended) rows)) ≡ count_by claims (x ∷ rows)
+    go : (b : Bool) → is_none x.ended ≡ b → count_by (lends copy) (filter (λ r. is_none r.ended) rows) ≡ count_by (lends copy) rows
+        → count_by (lends copy) (cond b (x ∷ filter (λ r. is_none r.ended) rows) (filter (λ r. is_none r.ended) rows)) ≡ count_by (lends copy) (x ∷ rows)
     go true is rest =
-        sum_by-cons (λ r. cond (claims r) 1 0) x (filter (λ r. is_none r.ended) rows) ∙ ap (λ (n : ℕ). cond (claims x) 1 0 + n) rest ∙ sym (sum_by-cons (λ r. cond (claims r) 1 0) x rows)
+        let all : count_by (lends copy) (x ∷ rows) ≡ weight (lends copy x) + count_by (lends copy) rows = counted-cons (lends copy) x rows in
+        let some : count_by (lends copy) (x ∷ filter (λ r. is_none r.ended) rows) ≡ weight (lends copy x) + count_by (lends copy) (filter (λ r. is_none r.ended) rows) = counted-cons (lends copy) x (filter (λ r. is_none r.ended) rows) in
+        omega (arith, all, some, rest)
     go false is rest =
-        let none : claims x ≡ false = ap (λ (b : Bool). names (cond b (Some x.copy) None) copy) is in
-        rest ∙ sym (sum_by-cons (λ r. cond (claims r) 1 0) x rows ∙ ap (λ (b : Bool). cond b 1 0 + count_by claims rows) none)
+        let all : count_by (lends copy) (x ∷ rows) ≡ weight (lends copy x) + count_by (lends copy) rows = counted-cons (lends copy) x rows in
+        let none : weight (lends copy x) ≡ 0 = ap (λ (b : Bool). weight (names (cond b (Some x.copy) None) copy)) is in
+        omega (arith, all, none, rest)
 
 -- The rows of which the laws speak are the same, but for loans that claim nothing.
 pub record AreLike (a b : Tables) : Type 0 where
@@ -60,7 +64,7 @@ module _ (P : Picture) (all some : Tables) (whole : AreTables P all) (are : AreA
   patrons_are : some.patrons ≡ all.patrons
   patrons_are = one_rows (λ r. r.patron) P.patrons AllPass some.patrons all.patrons are.patrons whole.patrons
 
-  open_loans : List LoanRow
+  abbrev open_loans : List LoanRow
   open_loans = filter (λ r. is_none r.ended) all.loans
 
   loans_are : some.loans ≡ open_loans
@@ -122,5 +126,6 @@ broken_as a b like (Claims copy) first = least_as (IsClaimedOnce a) (IsClaimedOn
 broken_as a b like (Binding hold) first = (λ copy. claimed_as a b like copy (first.0 copy), least_as (IsBound a) (IsBound b) hold (bound_as a b like) (bound_as b a (like_back a b like) hold) first.1)
 broken_as a b like (Balance patron) first = (
   λ copy. claimed_as a b like copy (first.0 copy),
-  (λ hold. bound_as a b like hold (first.1.0 hold), least_as (IsBalanced a) (IsBalanced b) patron (balanced_as a b like) (balanced_as b a (like_back a b like) patron) first.1.1),
+  λ hold. bound_as a b like hold (first.1 hold),
+  least_as (IsBalanced a) (IsBalanced b) patron (balanced_as a b like) (balanced_as b a (like_back a b like) patron) first.2,
 )
