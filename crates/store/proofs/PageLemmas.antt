@@ -92,8 +92,10 @@ pub page_seen : {S R L : Type 0} (t : Table ℕ R) {items : L → List R} (numbe
     → Views (λ P l. AreNumbered (t.rows P) number_of × AreRowsAfter (t.rows P) number_of after (items l)) g a b r
 page_seen {R = R} t number_of told key_cell encoded own from after is =
     rows_seen (λ P rows. AreNumbered (t.rows P) number_of × AreRowsAfter (t.rows P) number_of after rows)
-    (λ maps P shown legal rows limits first. (numbered P legal,
-    are_first t.cells t.IsLegal number_of told key_cell (maps t.place) (t.rows P) (encoded maps P shown) (own P legal) (is_after after) (λ r. after < number_of r) above passes rows limits first)) is
+    (λ maps P shown legal rows limits first. (
+      numbered P legal,
+      are_first t.cells t.IsLegal number_of told key_cell (maps t.place) (t.rows P) (encoded maps P shown) (own P legal) (is_after after) (λ r. after < number_of r) above passes rows limits first,
+    )) is
   where
     numbered : (P : Picture) → InLimits P → AreNumbered (t.rows P) number_of
     numbered P legal n r e =

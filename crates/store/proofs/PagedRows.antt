@@ -1,5 +1,5 @@
 -- The rows of a table that is read page by page.
-use Rattle.std.proofs.Common.{◌≡◌, ℕ, zero, suc, ◌+◌, ◌-◌, ◌<◌, ◌≤◌, ◌⊎◌, inl, inr, Bool, true, false, cond, List, [], ◌∷◌, ◌++◌, length, refl, sym, ◌∙◌, ap, subst, arith}
+use Rattle.std.proofs.Common.{◌≡◌, ℕ, suc, ◌+◌, ◌-◌, ◌<◌, ◌≤◌, ◌⊎◌, inl, inr, Bool, true, false, cond, List, [], ◌∷◌, ◌++◌, length, refl, sym, ap, subst, arith}
 use Rattle.std.specs.Prelude.{Option, Some, None, is_none, option_map, filter, slice_get}
 use Rattle.std.specs.List.{Contains, AllByRecursion}
 use Rattle.std.proofs.lemmas.Bool.{cases_lt}
@@ -8,8 +8,8 @@ use Rattle.sqlite_rules.specs.Lists.{Has}
 use Rattle.sqlite_rules.proofs.ListLemmas.{has_contained, contains_had, all_has, all_from, has_filtered, has_kept}
 use Rattle.terms.specs.declared.row.LoanRow.{LoanRow}
 use Rattle.circ_tables.specs.declared.lists.TheConstants.{PAGE_ROWS}
-use Rattle.store.specs.Lists.{Rise, IsOrdered, AreRows, AreTestedRows, AllPass}
-use Rattle.store.specs.Pages.{AreFirstRows, AreRowsAfter, AreNumbered}
+use Rattle.store.specs.Lists.{Rise, AreRows, AreTestedRows, AllPass}
+use Rattle.store.specs.Pages.{AreRowsAfter, AreNumbered}
 
 -- ---- rows in order
 

@@ -11,7 +11,7 @@ use Rattle.sql_maps.specs.Maps.{Map, Maps, Holds}
 use Rattle.terms.specs.Limits.{InLimits, ClosesFewDays}
 use Rattle.terms.specs.Pictures.{Picture}
 use Rattle.terms.specs.declared.fault.Fault.{Fault}
-use Rattle.terms.specs.declared.fault.Fault.TheVariants.{Database, Stored}
+use Rattle.terms.specs.declared.fault.Fault.TheVariants.{Stored}
 use Rattle.circ_tables.specs.Encoding.{HasPicture, Encodes}
 use Rattle.circ_tables.specs.Reading.{Table, Gets, Lists, Views, IsSame, IsSameOrUndone, Reading}
 use Rattle.circ_tables.specs.Shape.{schema}

@@ -1,14 +1,14 @@
 -- What a call that only reads leaves.
-use Rattle.std.specs.Prelude.{◌≡◌, Option, Some, None, Ok, Err, Result, IfOk, IfSome, IsTrue}
+use Rattle.std.specs.Prelude.{◌≡◌, Option, Err, Result, IfOk, IfSome, IsTrue}
 use Rattle.sqlite.specs.Held.{Held, state}
 use Rattle.sqlite.specs.State.{State, HasCleanDisk}
 use Rattle.sqlite.specs.Store.{Ghosts}
 use Rattle.terms.specs.Limits.{InLimits, ClosesFewDays}
 use Rattle.terms.specs.Pictures.{Picture}
 use Rattle.terms.specs.declared.fault.Fault.{Fault}
-use Rattle.terms.specs.declared.fault.Fault.TheVariants.{Database, Stored}
+use Rattle.terms.specs.declared.fault.Fault.TheVariants.{Stored}
 use Rattle.circ_tables.specs.Encoding.{HasPicture}
-use Rattle.circ_tables.specs.Reading.{Table, Reading}
+use Rattle.circ_tables.specs.Reading.{Table}
 use Rattle.store.specs.Stops.{Leaves, KeepsPicture}
 
 -- A call that only reads: whatever its outcome, the tables stay as they were.

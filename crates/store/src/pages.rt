@@ -282,10 +282,7 @@ fn next_kept<S: Alter>(
 }
 
 /// Reads all that is kept, page by page, and keeps none of it. 90, 91, 93.
-pub(crate) fn pass_over_kept<S: Alter>(
-    conn: &mut Connection<S>,
-    alloc: Global,
-) -> Result<(), Fault>
+pub(crate) fn pass_over_kept<S: Alter>(conn: &mut Connection<S>, alloc: Global) -> Result<(), Fault>
     ensures { Views IsPassedOver S.Store conn.old conn.new result }
 {
     let mut page = first_kept(conn, alloc)?;

@@ -16,7 +16,7 @@ returns-in-None g c =
     let none : None ≡ option_map number_of (slice_get page (length page - 1)) = rw (c.as_slice.ensures.value) at c.in-None.ensures in
     gives (c.pages.invariant.seen ⨾ c.in_ok-page.ensures) (λ P all.
     subst (λ (l : List _). AreTestedRows (rows P) number_of test l) (sym c.new.ensures)
-        (all_so_far (rows P) number_of test c.pages.after c.pages._page c.pages.kept.items all.0 page all.1.1 all.1.0 (empty_if number_of page (sym none))))
+    (all_so_far (rows P) number_of test c.pages.after c.pages._page c.pages.kept.items all.0 page all.1.1 all.1.0 (empty_if number_of page (sym none))))
 
 pub returns-in_err-keep_page : goal.returns-in_err-keep_page
 returns-in_err-keep_page g c =
