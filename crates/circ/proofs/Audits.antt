@@ -1,6 +1,6 @@
 -- What is said of an audit, by what was read and found.
-use Rattle.std.proofs.Common.{◌≡◌, ℕ, List, Option, inl, inr, refl, sym, subst}
-use Rattle.std.specs.Prelude.{Result, Ok, Err, IsTrue, ◌↔◌}
+use Rattle.std.proofs.Common.{◌≡◌, inl, inr, refl, sym, subst}
+use Rattle.std.specs.Prelude.{Ok, Err}
 use Rattle.store.specs.Library.{Ghosts, Held, State, state, HasCleanDisk}
 use Rattle.store.specs.Lists.{AreAuditTables}
 use Rattle.store.specs.Stops.{KeepsPicture}
@@ -10,10 +10,8 @@ use Rattle.terms.specs.Pictures.{Picture}
 use Rattle.terms.specs.declared.fault.Fault.{Fault}
 use Rattle.terms.specs.declared.fault.Fault.TheVariants.{Stored}
 use Rattle.terms.specs.declared.tables.Tables.{Tables}
-use Rattle.model.specs.History.{History}
 use Rattle.model.specs.Picture.{picture}
 use Rattle.model.proofs.RowRanges.{legal-rows}
-use Rattle.desk.specs.Answering.{Shows}
 use Rattle.desk.proofs.Sound.{is-sound}
 use Rattle.circ_audit.specs.Sound.{IsSound, IsFirstBroken, IsInOrder, Audits}
 use Rattle.circ_audit.specs.declared.auditing.Finding.{Finding}

@@ -1,7 +1,7 @@
 -- By the tables of a legal history each patron owes the charges less payments and waivers.
-use Rattle.std.proofs.Common.{◌≡◌, ℕ, zero, suc, ◌+◌, ◌<◌, ◌≤◌, ◌==◌, ◌⊎◌, inl, inr, Bool, true, false, cond, List, [], ◌∷◌, length, map, refl, sym, ◌∙◌, ap, subst, arith}
-use Rattle.std.specs.Prelude.{Option, Some, None, option_map, filter, sum_by}
-use Rattle.std.specs.List.{Contains, AllByRecursion}
+use Rattle.std.proofs.Common.{◌≡◌, ℕ, zero, suc, ◌+◌, ◌<◌, ◌≤◌, ◌==◌, ◌⊎◌, inl, inr, Bool, true, false, cond, List, [], ◌∷◌, map, refl, sym, ◌∙◌, ap, subst, arith}
+use Rattle.std.specs.Prelude.{Some, None, option_map, filter, sum_by}
+use Rattle.std.specs.List.{Contains}
 use Rattle.std.proofs.lemmas.List.Sums.{sum_by-cons}
 use Rattle.store.specs.Lists.{Rise, AreAuditTables}
 use Rattle.terms.specs.declared.row.LineRow.{LineRow}
@@ -15,7 +15,7 @@ use Rattle.model.specs.Picture.{picture, nth_line, line_columns, patron_columns}
 use Rattle.model.specs.Requests.{IsLegal}
 use Rattle.model.proofs.Balance.{balance}
 use Rattle.model.proofs.ClaimsLaw.{map-some}
-use Rattle.circ_audit.specs.Rows.{is_charge, amount_of, charge, credit}
+use Rattle.circ_audit.specs.Rows.{is_charge, charge, credit}
 use Rattle.circ_audit.specs.Sound.{IsBalanced, charges_of, credits_of}
 use Rattle.circ.proofs.CountedRows.{all-there, in-tail, in-head, above-first}
 

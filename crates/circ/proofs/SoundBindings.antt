@@ -1,8 +1,7 @@
 -- The tables of a legal history bind holds and copies one to one.
-use Rattle.std.proofs.Common.{◌≡◌, ℕ, ◌+◌, ◌<◌, ◌≤◌, ◌==◌, Bool, true, false, List, refl, sym, ◌∙◌, ap, subst, eq-eqb}
-use Rattle.std.specs.Prelude.{Option, Some, None, is_none, is_some, count_by, option_map, option_and_then, unwrap_or, ◌&&◌}
+use Rattle.std.proofs.Common.{◌≡◌, ℕ, ◌==◌, true, refl, sym, ◌∙◌, ap, subst, eq-eqb}
+use Rattle.std.specs.Prelude.{Option, Some, None, is_some, option_map, option_and_then, unwrap_or}
 use Rattle.std.specs.List.{Contains}
-use Rattle.std.proofs.lemmas.Bool.{eqb-true}
 use Rattle.store.specs.Lists.{AreAuditTables}
 use Rattle.terms.specs.declared.row.HoldRow.{HoldRow}
 use Rattle.terms.specs.declared.row.HoldState.{HoldState}
@@ -24,8 +23,8 @@ use Rattle.model.proofs.LimitLaws.{limit-is}
 use Rattle.model.proofs.PlaceSteps.{copy-known}
 use Rattle.model.proofs.Runs.{forms-whole}
 use Rattle.model.proofs.SettingRanges.{some-same}
-use Rattle.circ_audit.specs.Rows.{names, copy_row, hold_row, is_titled, is_copy_of, is_fit, serves, is_waiting}
-use Rattle.circ_audit.specs.Sound.{IsFit, IsServed, IsServedOnce, IsBound}
+use Rattle.circ_audit.specs.Rows.{names, copy_row, hold_row, is_titled, is_copy_of, is_fit, serves}
+use Rattle.circ_audit.specs.Sound.{IsServedOnce, IsBound}
 use Rattle.circ_audit.proofs.Lookups.{row-found}
 use Rattle.circ.proofs.CountedRows.{all-there, rises, counted-once}
 use Rattle.circ.proofs.SoundClaims.{is-named}

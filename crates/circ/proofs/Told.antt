@@ -11,7 +11,6 @@ use Rattle.terms.specs.declared.refusal.Refusal.{Refusal}
 use Rattle.terms.specs.declared.refusal.Refusal.TheVariants.{UnknownBranch}
 use Rattle.terms.specs.declared.reply.Reply.TheVariants.{Refused as Denied}
 use Rattle.model.specs.History.{History}
-use Rattle.model.specs.Picture.{picture}
 use Rattle.desk.specs.Answering.{Shows, Stays}
 use Rattle.desk.specs.Parts.{IsFront}
 use Rattle.desk.specs.Reports.{report_text, IsThere, IsUnknown}

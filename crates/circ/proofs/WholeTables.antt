@@ -1,6 +1,6 @@
 -- All rows of the tables keep or break a law just as those do of which the laws speak.
-use Rattle.std.proofs.Common.{◌≡◌, ℕ, ◌+◌, ◌<◌, ◌≤◌, ◌⊎◌, inl, inr, Bool, true, false, cond, List, [], ◌∷◌, refl, sym, ◌∙◌, ap, subst, arith}
-use Rattle.std.specs.Prelude.{Option, Some, None, is_none, count_by, sum_by, filter, All}
+use Rattle.std.proofs.Common.{◌≡◌, ℕ, ◌+◌, ◌≤◌, Bool, true, false, cond, List, [], ◌∷◌, refl, sym, ◌∙◌, ap, subst, arith}
+use Rattle.std.specs.Prelude.{Some, None, is_none, count_by, sum_by, filter, All}
 use Rattle.store.specs.Lists.{AllPass, AreTables, AreAuditTables}
 use Rattle.store.proofs.OneList.{one_rows, tested_rows}
 use Rattle.store.proofs.PagedRows.{open_pass}
