@@ -18,7 +18,7 @@ import tempfile
 from concurrent.futures import ThreadPoolExecutor
 from contextlib import closing
 
-from end_to_end import CIRC, GROUND, check, circ, digest, rows, say, whole, write
+from end_to_end import CIRC, GROUND, ROOM, check, circ, digest, memory_of, rows, say, whole, write
 import end_to_end
 
 # After the small library: a loan that ended with a fine, which was paid and waived in part, a copy on loan, one that is lost, one that
@@ -250,6 +250,27 @@ def fill(path):
             conn.executemany(f"INSERT INTO {table} VALUES ({', '.join('?' * len(many[0]))})", many)
 
 
+PAST = 100_000
+
+
+def the_past(ground, folder):
+    """An audit takes about the memory of opening the file, however many loans have ended and however much is kept of requests."""
+    path, out = os.path.join(folder, "past.db"), os.path.join(folder, "past.txt")
+    shutil.copy(ground, path)
+    with closing(sqlite3.connect(path)) as conn, conn:
+        each = range(1, PAST + 1)
+        conn.executemany("INSERT INTO loans VALUES (?, 10, 1, 1, 20514, 20521, 6, 1, 20, 100, 20520)", ((n,) for n in each))
+        conn.executemany("INSERT INTO titles VALUES (?, ?)", ((1_000 + n, f"A title of number {n}") for n in each))
+        conn.executemany("INSERT INTO kept VALUES (0, ?, 'check-out 1 10 1', ?)", ((f"k{n}", f"loan {n} due 2026-03-09") for n in each))
+        conn.execute("UPDATE meta SET next_loan = ?", (PAST + 1,))
+    least, status = memory_of(["report", path, "shelf", "2"], out)
+    check("a report of no row", status, 0)
+    most, status = memory_of(["audit", path], out)
+    with open(out, encoding="utf-8") as file:
+        check("an audit of what is past", (file.read(), status), ("sound\n", 0))
+    check(f"{most - least} KiB for the rows, of {ROOM}", most - least < ROOM, True)
+
+
 def no_library(folder):
     """Where there is no file, or one of no bytes, the answer is a fault, and no file is made."""
     absent, empty = os.path.join(folder, "absent.db"), os.path.join(folder, "empty.db")
@@ -329,6 +350,7 @@ def main(arguments):
         jobs += [(large, len(jobs) + at, *it) for at, it in enumerate(FAR)]
         with ThreadPoolExecutor(os.cpu_count()) as runs:
             list(runs.map(lambda job: damaged(job[0], folder, *job[1:]), jobs))
+        the_past(ground, folder)
         no_library(folder)
         lost_output(busy)
         random_damage(busy, folder, seed, 400)
