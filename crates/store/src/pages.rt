@@ -34,7 +34,8 @@ pub(crate) trait Numbered: Drop {
     fn number(&self) -> u32
         ensures { result ≡ number_of self.now };
 
-    /// A page: the first rows whose numbers are above this one, the least first. 90, 91, 93.
+    /// A page: the first rows whose numbers are above this one, the least first. Each row of the
+    /// table stands under its own number. 90, 91, 93.
     fn page<S: Alter>(
         conn: &mut Connection<S>,
         alloc: Global,

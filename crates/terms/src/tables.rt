@@ -1,4 +1,4 @@
-//! All rows of each table.
+//! Rows of each table, as they were read.
 
 ghost use Rattle.std.specs.Prelude.{◌≡◌};
 
@@ -38,7 +38,8 @@ impl<T> Rows<T> {
     }
 }
 
-/// All rows of each of the thirteen tables.
+/// Rows of each of the thirteen tables, as the call that reads them says: all of them, or those of
+/// which something is asked.
 #[derive(Drop)]
 pub struct Tables {
     pub meta: MetaRow,
