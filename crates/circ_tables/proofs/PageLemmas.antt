@@ -1,5 +1,5 @@
 -- What the pages find.
-use Rattle.std.proofs.Common.{◌≡◌, ℕ, Some, pos, true, List, [], ◌∷◌, codes, refl, sym, subst, Equal, true≢false}
+use Rattle.std.proofs.Common.{◌≡◌, ℕ, Some, pos, true, List, [], ◌∷◌, codes, false, refl, sym, subst, Equal, true≢false}
 use Rattle.std.specs.List.{list_all}
 use Rattle.std.proofs.lemmas.Bool.{and_parts}
 use Rattle.sqlite.specs.declared.types.Value.TheVariants.{Null, Int, Real, Text, Blob}
@@ -14,19 +14,24 @@ use Rattle.sqlite.specs.Term.{Term, lit, col, op2, holds as passes_test}
 use Rattle.sqlite_sql.specs.Ops.{binary, is_true}
 use Rattle.sqlite_sql.specs.declared.ops.BinaryOp.TheVariants.{Compare, Is}
 use Rattle.sqlite_sql.specs.declared.ops.CompareOp.TheVariants.{Eq, Lt, Gt}
-use Rattle.sqlite.specs.Listing.{understood}
+use Rattle.sqlite.specs.Listing.{understood, reads_listing}
 use Rattle.sqlite.specs.Given.{IsPlain}
 use Rattle.sqlite.specs.State.{State, Shown, IsUnchanged}
+use Rattle.sqlite.specs.Command.TheVariants.{Select}
+use Rattle.sqlite.proofs.Callers.{command_of}
 use Rattle.sqlite_tied.specs.Compute.{everything}
-use Rattle.sql_maps.specs.Maps.{Map, Maps, Holds}
-use Rattle.sql_maps.specs.Pages.{FirstRows, AreAmong}
+use Rattle.sqlite_tied.specs.Listing.{each_column}
+use Rattle.sql_maps.specs.Maps.{Map, Maps, Holds, PairBelow}
+use Rattle.sql_maps.specs.Pages.{FirstRows, FirstRowsBy}
 use Rattle.sqlite_rules.specs.Lists.{Has}
-use Rattle.sql_maps.proofs.PageLemmas.{Pages, page_found, Cuts, some_found}
+use Rattle.sql_maps.proofs.PageLemmas.{Pages, page_found}
+use Rattle.sql_maps.proofs.OrderLemmas.{page_sorted}
+use Rattle.sql_maps.proofs.Words.{in_order_up_to}
 use Rattle.circ_tables.specs.Shape.{schema, patrons, titles, copies, loans, holds, transits, lines, kept}
-use Rattle.circ_tables.specs.Selections.{is_ready_after, is_overdue_after, is_line_after, is_after}
+use Rattle.circ_tables.specs.Selections.{is_ready_after, is_overdue_after, is_line_after, is_after, is_any, is_kept_after}
 use Rattle.circ_tables.specs.declared.lists.TheConstants.{PAGE_ROWS}
 use Rattle.circ_tables.proofs.KeyedLemmas.{patrons_names, titles_names, copies_names, loans_names, holds_names, transits_names, lines_names, kept_names}
-use Rattle.circ_tables.proofs.ListLemmas.{by_pair}
+use Rattle.circ_tables.proofs.ListLemmas.{by_pair, pair_tells, pair_below}
 
 -- a row of a page is one of the map
 pub there : (most : ℕ) (m : Map) (good : Row → _) (rows : List Row) → FirstRows most m good rows → (v : Row) → Has rows v → (k : Row) × (m k ≡ Some v)
@@ -220,21 +225,27 @@ lines_after_found a = page_found schema 11 lines after_tests by_number PAGE_ROWS
 
 -- ---- what is kept, by callers and keys
 
+-- a row of such a page is one of the map
+pub kept_there : (good : Row → _) (m : Map) (rows : List Row) → FirstRowsBy PairBelow PAGE_ROWS m good rows → (v : Row) → Has rows v → (k : Row) × (m k ≡ Some v)
+kept_there good m rows first v has = let at = first.sound v has in (at.0, at.1)
+
 abbrev first_kept_text : List ℕ
 first_kept_text = codes "SELECT * FROM kept ORDER BY caller, key LIMIT 1000"
 
 abbrev first_kept_tests : List Term
 first_kept_tests = []
 
-first_kept_cuts : Cuts schema 12 kept first_kept_tests by_pair PAGE_ROWS kept_names first_kept_text
+first_kept_is : (command_of (understood schema first_kept_text) ≡ Select (record { lets = []; body = in_order_up_to kept.tree first_kept_tests (each_column 1 kept) by_pair (lit (Int (pos PAGE_ROWS))) }) kept_names) × IsPlain (understood schema first_kept_text) × (reads_listing schema first_kept_text ≡ false)
 unfolding understood everything
-first_kept_cuts = record { listed = refl; command = refl; bare = (refl, refl); unlisted = refl; as_cells = λ given r. refl; cut = λ given l. refl }
+first_kept_is = (refl, (refl, refl), refl)
 
 pub first_kept_plain : (s : Schema) → s ≡ schema → IsPlain (understood s first_kept_text)
-first_kept_plain s e = subst (λ z. IsPlain (understood z first_kept_text)) (sym e) first_kept_cuts.bare
+first_kept_plain s e = subst (λ z. IsPlain (understood z first_kept_text)) (sym e) first_kept_is.1
 
-pub first_kept_found : (old new : State) (rows : List Row) → Shown first_kept_text ([]) old new rows → (maps : Maps) → Holds schema old.now maps → AreAmong (maps 12) rows × IsUnchanged old new
-first_kept_found = some_found schema 12 kept first_kept_tests by_pair PAGE_ROWS kept_names first_kept_text ([]) first_kept_cuts
+pub first_kept_found : (old new : State) (rows : List Row) → Shown first_kept_text ([]) old new rows → (maps : Maps) → Holds schema old.now maps → FirstRowsBy PairBelow PAGE_ROWS (maps 12) is_any rows × IsUnchanged old new
+first_kept_found =
+    page_sorted kept first_kept_tests by_pair ([]) is_any (λ r. refl) (λ r. refl) PairBelow PAGE_ROWS (λ x y p q _ _ tie. pair_tells (column x 1) (column x 2) (column y 1) (column y 2) p q tie)
+    (λ x y less. pair_below (column x 1) (column x 2) (column y 1) (column y 2) less) (λ l. refl) schema 12 kept_names first_kept_text refl first_kept_is.0 first_kept_is.1 first_kept_is.2
 
 abbrev kept_after_text : List ℕ
 kept_after_text = codes "SELECT * FROM kept WHERE caller = ?1 AND key > ?2 ORDER BY caller, key LIMIT 1000"
@@ -242,15 +253,17 @@ kept_after_text = codes "SELECT * FROM kept WHERE caller = ?1 AND key > ?2 ORDER
 abbrev kept_after_tests : List Term
 kept_after_tests = op2 (Compare Eq Binary) (col 1 1) (col 0 0) ∷ op2 (Compare Gt Binary) (col 1 2) (col 0 1) ∷ []
 
-kept_after_cuts : Cuts schema 12 kept kept_after_tests by_pair PAGE_ROWS kept_names kept_after_text
+kept_after_is : (command_of (understood schema kept_after_text) ≡ Select (record { lets = []; body = in_order_up_to kept.tree kept_after_tests (each_column 1 kept) by_pair (lit (Int (pos PAGE_ROWS))) }) kept_names) × IsPlain (understood schema kept_after_text) × (reads_listing schema kept_after_text ≡ false)
 unfolding understood everything
-kept_after_cuts = record { listed = refl; command = refl; bare = (refl, refl); unlisted = refl; as_cells = λ given r. refl; cut = λ given l. refl }
+kept_after_is = (refl, (refl, refl), refl)
 
 pub kept_after_plain : (s : Schema) → s ≡ schema → IsPlain (understood s kept_after_text)
-kept_after_plain s e = subst (λ z. IsPlain (understood z kept_after_text)) (sym e) kept_after_cuts.bare
+kept_after_plain s e = subst (λ z. IsPlain (understood z kept_after_text)) (sym e) kept_after_is.1
 
-pub kept_after_found : (a : ℕ) (b : List ℕ) → (old new : State) (rows : List Row) → Shown kept_after_text (Int (pos a) ∷ Text b ∷ []) old new rows → (maps : Maps) → Holds schema old.now maps → AreAmong (maps 12) rows × IsUnchanged old new
-kept_after_found a b = some_found schema 12 kept kept_after_tests by_pair PAGE_ROWS kept_names kept_after_text (Int (pos a) ∷ Text b ∷ []) kept_after_cuts
+pub kept_after_found : (a : ℕ) (b : List ℕ) → (old new : State) (rows : List Row) → Shown kept_after_text (Int (pos a) ∷ Text b ∷ []) old new rows → (maps : Maps) → Holds schema old.now maps → FirstRowsBy PairBelow PAGE_ROWS (maps 12) (is_kept_after a b) rows × IsUnchanged old new
+kept_after_found a b =
+    page_sorted kept kept_after_tests by_pair (Int (pos a) ∷ Text b ∷ []) (is_kept_after a b) (λ r. refl) (λ r. refl) PairBelow PAGE_ROWS (λ x y p q _ _ tie. pair_tells (column x 1) (column x 2) (column y 1) (column y 2) p q tie)
+    (λ x y less. pair_below (column x 1) (column x 2) (column y 1) (column y 2) less) (λ l. refl) schema 12 kept_names kept_after_text refl kept_after_is.0 kept_after_is.1 kept_after_is.2
 
 abbrev kept_past_text : List ℕ
 kept_past_text = codes "SELECT * FROM kept WHERE caller > ?1 ORDER BY caller, key LIMIT 1000"
@@ -258,12 +271,14 @@ kept_past_text = codes "SELECT * FROM kept WHERE caller > ?1 ORDER BY caller, ke
 abbrev kept_past_tests : List Term
 kept_past_tests = op2 (Compare Gt Binary) (col 1 1) (col 0 0) ∷ []
 
-kept_past_cuts : Cuts schema 12 kept kept_past_tests by_pair PAGE_ROWS kept_names kept_past_text
+kept_past_is : (command_of (understood schema kept_past_text) ≡ Select (record { lets = []; body = in_order_up_to kept.tree kept_past_tests (each_column 1 kept) by_pair (lit (Int (pos PAGE_ROWS))) }) kept_names) × IsPlain (understood schema kept_past_text) × (reads_listing schema kept_past_text ≡ false)
 unfolding understood everything
-kept_past_cuts = record { listed = refl; command = refl; bare = (refl, refl); unlisted = refl; as_cells = λ given r. refl; cut = λ given l. refl }
+kept_past_is = (refl, (refl, refl), refl)
 
 pub kept_past_plain : (s : Schema) → s ≡ schema → IsPlain (understood s kept_past_text)
-kept_past_plain s e = subst (λ z. IsPlain (understood z kept_past_text)) (sym e) kept_past_cuts.bare
+kept_past_plain s e = subst (λ z. IsPlain (understood z kept_past_text)) (sym e) kept_past_is.1
 
-pub kept_past_found : (a : ℕ) → (old new : State) (rows : List Row) → Shown kept_past_text (Int (pos a) ∷ []) old new rows → (maps : Maps) → Holds schema old.now maps → AreAmong (maps 12) rows × IsUnchanged old new
-kept_past_found a = some_found schema 12 kept kept_past_tests by_pair PAGE_ROWS kept_names kept_past_text (Int (pos a) ∷ []) kept_past_cuts
+pub kept_past_found : (a : ℕ) → (old new : State) (rows : List Row) → Shown kept_past_text (Int (pos a) ∷ []) old new rows → (maps : Maps) → Holds schema old.now maps → FirstRowsBy PairBelow PAGE_ROWS (maps 12) (is_after a) rows × IsUnchanged old new
+kept_past_found a =
+    page_sorted kept kept_past_tests by_pair (Int (pos a) ∷ []) (is_after a) (λ r. refl) (λ r. refl) PairBelow PAGE_ROWS (λ x y p q _ _ tie. pair_tells (column x 1) (column x 2) (column y 1) (column y 2) p q tie)
+    (λ x y less. pair_below (column x 1) (column x 2) (column y 1) (column y 2) less) (λ l. refl) schema 12 kept_names kept_past_text refl kept_past_is.0 kept_past_is.1 kept_past_is.2

@@ -1,11 +1,13 @@
 //! Lists of the rows that pass a test, in the order of their keys.
 
 ghost use Rattle.sql_maps.specs.Maps.{Listed, ListedBy, PairBelow};
-ghost use Rattle.sql_maps.specs.Pages.{AreAmong, FirstRows};
+ghost use Rattle.sql_maps.specs.Pages.{FirstRows, FirstRowsBy};
+ghost use Rattle.circ_tables.specs.Cells.{owner_number};
 ghost use Rattle.circ_tables.specs.Reading.{Lists, branches, closed_days, kinds, rules, patrons};
 ghost use Rattle.circ_tables.specs.Reading.{titles, copies, loans, holds, transits, lines, kept};
 ghost use Rattle.circ_tables.specs.Selections.{is_open_by, is_active_by, is_ready_after};
 ghost use Rattle.circ_tables.specs.Selections.{is_overdue_after, is_line_after, is_any, is_after};
+ghost use Rattle.circ_tables.specs.Selections.{is_kept_after};
 ghost use Rattle.circ_tables.specs.declared.lists.TheConstants.{PAGE_ROWS};
 
 use crate::cell::owner_number;
@@ -193,9 +195,11 @@ pub fn all_kept<S: Alter>(conn: &mut Connection<S>, alloc: Global) -> Result<Vec
     )
 }
 
-/// As many rows of `kept` as a page has, by whose they are and then by key. 90, 91, 93.
+/// The first rows of `kept`, by whose they are and then by key: all of them, or as many as a page
+/// has. 90, 91, 93.
 pub fn first_kept<S: Alter>(conn: &mut Connection<S>, alloc: Global) -> Result<Vec<KeptRow>, Fault>
-    ensures { Lists kept (λ l. l.items) AreAmong S.Store conn.old conn.new result }
+    ensures { Lists kept (λ l. l.items) (λ m. FirstRowsBy PairBelow PAGE_ROWS m is_any)
+        S.Store conn.old conn.new result }
 {
     rows_of(
         conn,
@@ -206,14 +210,17 @@ pub fn first_kept<S: Alter>(conn: &mut Connection<S>, alloc: Global) -> Result<V
     )
 }
 
-/// As many more of what is kept for a caller, by key, from above this one on. 90, 91, 93.
+/// The first rows that are kept for a caller by keys after this one, by key: all of them, or as
+/// many as a page has. 90, 91, 93.
 pub fn kept_after<S: Alter>(
     conn: &mut Connection<S>,
     alloc: Global,
     owner: Owner,
     key: &Key,
 ) -> Result<Vec<KeptRow>, Fault>
-    ensures { Lists kept (λ l. l.items) AreAmong S.Store conn.old conn.new result }
+    ensures { Lists kept (λ l. l.items)
+        (λ m. FirstRowsBy PairBelow PAGE_ROWS m (is_kept_after (owner_number owner) key.now))
+        S.Store conn.old conn.new result }
 {
     rows_of(
         conn,
@@ -224,14 +231,16 @@ pub fn kept_after<S: Alter>(
     )
 }
 
-/// As many of what is kept for the callers after this one, by whose they are and then by key. 90,
-/// 91, 93.
+/// The first rows that are kept for the callers after this one, by whose they are and then by key:
+/// all of them, or as many as a page has. 90, 91, 93.
 pub fn kept_past<S: Alter>(
     conn: &mut Connection<S>,
     alloc: Global,
     owner: Owner,
 ) -> Result<Vec<KeptRow>, Fault>
-    ensures { Lists kept (λ l. l.items) AreAmong S.Store conn.old conn.new result }
+    ensures { Lists kept (λ l. l.items)
+        (λ m. FirstRowsBy PairBelow PAGE_ROWS m (is_after (owner_number owner)))
+        S.Store conn.old conn.new result }
 {
     rows_of(
         conn,

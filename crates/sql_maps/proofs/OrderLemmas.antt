@@ -1,19 +1,19 @@
 -- A selection in the order of columns that are no rowid.
-use Rattle.std.proofs.Common.{inl, inr, ◌≡◌, ℕ, Bool, true, false, cond, List, [], ◌∷◌, map, filter, flat_map, IsPermutation, Some, slice_get, refl, sym, ap, subst, ◌∙◌, true≢false, Ordering, Less, Equal, Greater, is_eq, is_gt}
+use Rattle.std.proofs.Common.{inl, inr, ◌≡◌, ℕ, pos, negsuc, take, Bool, true, false, cond, List, [], ◌∷◌, map, filter, flat_map, IsPermutation, Some, slice_get, refl, sym, ap, subst, ◌∙◌, true≢false, Ordering, Less, Equal, Greater, is_eq, is_gt}
 use Rattle.std.specs.List.{AllByRecursion, list_all}
 use Rattle.std.specs.Cmp.{IsTotalOrder}
 use Rattle.std.specs.Ordering.{ordering_reverse}
 use Rattle.std.proofs.lemmas.Bool.{false_from_ne_true}
 use Rattle.std.proofs.lemmas.Cmp.{on_total, tied_itself}
-use Rattle.sqlite.specs.declared.types.Value.TheVariants.{Null}
+use Rattle.sqlite.specs.declared.types.Value.TheVariants.{Null, Int}
 use Rattle.sqlite_value.specs.Order.{value_cmp}
 use Rattle.sqlite_value.specs.declared.keys.Key.{Key}
 use Rattle.sqlite_value.proofs.OrderLemmas.{value_cmp_total}
 use Rattle.sqlite.specs.Order.{Row}
 use Rattle.sqlite.specs.Table.{Table}
 use Rattle.sqlite.specs.Schema.{Schema}
-use Rattle.sqlite.specs.Term.{Term}
-use Rattle.sqlite.specs.Query.{Query, Output, output, output_cmp}
+use Rattle.sqlite.specs.Term.{Term, lit}
+use Rattle.sqlite.specs.Query.{Query, Output, output, output_cmp, page}
 use Rattle.sqlite.specs.Program.{IsProgramAnswer}
 use Rattle.sqlite.specs.Tree.{Trees}
 use Rattle.sqlite.specs.Listing.{understood, reads_listing}
@@ -32,7 +32,9 @@ use Rattle.sqlite_rules.proofs.ListLemmas.{all_has, all_from, has_filtered, has_
 use Rattle.sqlite_rules.proofs.ProbeLemmas.{has_mapped, mapped_has}
 use Rattle.std.proofs.lemmas.List.Sorted.{IsPermutation-sym}
 use Rattle.sql_maps.specs.Maps.{is_plain, key_at, cells, Map, IsMap, Maps, Holds, ListedBy}
-use Rattle.sql_maps.proofs.Words.{in_order_of}
+use Rattle.sql_maps.specs.Pages.{FirstRowsBy}
+use Rattle.sql_maps.proofs.Words.{in_order_of, in_order_up_to}
+use Rattle.sql_maps.proofs.PageLemmas.{first_listed}
 use Rattle.sql_maps.proofs.AnswerLemmas.{passes, shown_of, plain_overlay, matched, has_permuted}
 use Rattle.sql_maps.proofs.ReadLemmas.{shown_unchanged}
 
@@ -72,10 +74,10 @@ same_mapped f g same (x ∷ xs) = λ i. same x i ∷ same_mapped f g same xs i
 
 -- ---- the rows that pass, in the order of ORDER BY
 
-module _ (table : Table) (tests : List Term) (order : List (Term × Key)) (given : Row) (good : Row → Bool) (reads : (r : Row) → passes tests given r ≡ good (cells table r))
+module _ (table : Table) (tests : List Term) (order : List (Term × Key)) (most : Term) (given : Row) (good : Row → Bool) (reads : (r : Row) → passes tests given r ≡ good (cells table r))
     (as_cells : (r : Row) → shown_of (each_column 1 table) given r ≡ cells table r) (Before : Row → Row → Type 0) where
   abbrev pub ordering_query : Query
-  ordering_query = in_order_of table.tree tests (each_column 1 table) order
+  ordering_query = in_order_up_to table.tree tests (each_column 1 table) order most
 
   -- how two stored rows compare
   abbrev pub rows_cmp : Row → Row → Ordering
@@ -108,7 +110,11 @@ module _ (table : Table) (tests : List Term) (order : List (Term × Key)) (given
     total_rows : IsTotalOrder rows_cmp
     total_rows = on_total shown_env (output_cmp_total ordering_query)
 
-    pub ordered_rows : (db : Trees) (m : Map) → IsMap table (db table.tree) m → (out : List Row) → IsProgramAnswer [] ordering_query db given out → out ≡ map (cells table) (sort_by rows_cmp (good_rows db))
+    -- all of them, in this order
+    abbrev pub all_rows : Trees → List Row
+    all_rows db = map (cells table) (sort_by rows_cmp (good_rows db))
+
+    ordered_rows : (db : Trees) (m : Map) → IsMap table (db table.tree) m → (out : List Row) → IsProgramAnswer [] ordering_query db given out → out ≡ page ordering_query given (all_rows db)
     ordered_rows db m is out h =
         let q = ordering_query in
         let a = h Null in
@@ -118,15 +124,15 @@ module _ (table : Table) (tests : List Term) (order : List (Term × Key)) (given
         let apart = no_ties db m is (good_rows db) (λ x there. has_filtered (passes tests given) (db table.tree) x there) (ascending-filter _ (passes tests given) (db table.tree) is.shaped.0) in
         let apart_out = ascending-map (λ a b. is_eq (output_cmp q a b) ≡ false) shown_env (good_rows db) apart in
         let sorted = sorted_is-sort_by (output_cmp q) (output_cmp_total q) (map shown_env (good_rows db)) a.ordered apart_out (subst (λ k. IsPermutation k a.ordered) kept a.same) a.sorted in
-        a.shown ∙ ap (map (λ (o : Output). o.1)) (sorted ∙ sort_by-map (output_cmp q) shown_env (good_rows db)) ∙ mapped_twice shown_env (λ (o : Output). o.1) (sort_by rows_cmp (good_rows db))
-        ∙ same_mapped (λ r. shown_of (each_column 1 table) given r) (cells table) as_cells (sort_by rows_cmp (good_rows db))
+        a.shown ∙ ap (λ l. page q given (map (λ (o : Output). o.1) l)) (sorted ∙ sort_by-map (output_cmp q) shown_env (good_rows db))
+        ∙ ap (page q given) (mapped_twice shown_env (λ (o : Output). o.1) (sort_by rows_cmp (good_rows db)) ∙ same_mapped (λ r. shown_of (each_column 1 table) given r) (cells table) as_cells (sort_by rows_cmp (good_rows db)))
 
-    pub sorted_list : (db : Trees) (m : Map) → IsMap table (db table.tree) m → (out : List Row) → IsProgramAnswer [] ordering_query db given out → ListedBy Before m good out
-    sorted_list db m is out h =
+    sorted_list : (db : Trees) (m : Map) → IsMap table (db table.tree) m → ListedBy Before m good (all_rows db)
+    sorted_list db m is =
         let rows = sort_by rows_cmp (good_rows db) in
         let apart = no_ties db m is (good_rows db) (λ x there. has_filtered (passes tests given) (db table.tree) x there) (ascending-filter _ (passes tests given) (db table.tree) is.shaped.0) in
         let mixed = IsPermutation-sort_by rows_cmp total_rows (good_rows db) in
-        subst (ListedBy Before m good) (sym (ordered_rows db m is out h)) (record {
+        record {
           sound = λ v there.
               let it = has_mapped (cells table) rows v there in
               let r = has_filtered (passes tests given) (db table.tree) it.0 (has_permuted (good_rows db) rows it.0 (IsPermutation-sym _ _ mixed) it.1) in
@@ -136,13 +142,46 @@ module _ (table : Table) (tests : List Term) (order : List (Term × Key)) (given
               let there = has_permuted rows (good_rows db) r.0 mixed (has_kept (passes tests given) (db table.tree) r.0 r.1 (reads r.0 ∙ ap good r.3 ∙ fine)) in
               subst (Has (map (cells table) rows)) r.3 (mapped_has (cells table) rows r.0 there);
           rises = ascending-map Before (cells table) rows (ascending_weaker (λ a b. rows_cmp a b ≡ Less) (λ a b. Before (cells table a) (cells table b)) before rows (rises-sorted rows_cmp total_rows (good_rows db) apart));
-        })
+        }
 
-    -- the rows that a text shows
-    pub sorted_found : (schema : Schema) (at : ℕ) (names : List (List ℕ)) (text : List ℕ) → slice_get schema.tables at ≡ Some table
+    -- of the rows that a text shows: all in this order, and which of them those are
+    pub sorted_shown : (schema : Schema) (at : ℕ) (names : List (List ℕ)) (text : List ℕ) → slice_get schema.tables at ≡ Some table
         → command_of (understood schema text) ≡ Select (record { lets = []; body = ordering_query }) names → IsPlain (understood schema text) → reads_listing schema text ≡ false
-        → (old new : State) (rows : List Row) → Shown text given old new rows → (maps : Maps) → Holds schema old.now maps → ListedBy Before (maps at) good rows × IsUnchanged old new
-    sorted_found schema at names text listed command bare unlisted old new rows h maps held =
+        → (old new : State) (rows : List Row) → Shown text given old new rows → (maps : Maps) → Holds schema old.now maps
+        → (rows ≡ page ordering_query given (all_rows old.now.trees)) × ListedBy Before (maps at) good (all_rows old.now.trees) × IsUnchanged old new
+    sorted_shown schema at names text listed command bare unlisted old new rows h maps held =
         let is = held.tables at table listed in
         let read = reads_as text given old new schema held.schema_is _ command bare unlisted rows h in
-        (sorted_list old.now.trees (maps at) is rows read.answer, shown_unchanged text given old new schema held.schema_is bare rows h)
+        (ordered_rows old.now.trees (maps at) is rows read.answer, sorted_list old.now.trees (maps at) is, shown_unchanged text given old new schema held.schema_is bare rows h)
+
+module _ (table : Table) (tests : List Term) (order : List (Term × Key)) (given : Row) (good : Row → Bool) (reads : (r : Row) → passes tests given r ≡ good (cells table r))
+    (as_cells : (r : Row) → shown_of (each_column 1 table) given r ≡ cells table r) (Before : Row → Row → Type 0) where
+  -- where all of them are shown
+  abbrev whole : Term
+  whole = lit (Int (negsuc 0))
+
+  pub sorted_found : (tells : (x y : Row) → list_all is_plain (key_at table x) ≡ true → list_all is_plain (key_at table y) ≡ true → passes tests given x ≡ true → passes tests given y ≡ true
+      → is_eq (rows_cmp table tests order whole given good reads as_cells Before x y) ≡ true → key_at table x ≡ key_at table y)
+      (before : (x y : Row) → rows_cmp table tests order whole given good reads as_cells Before x y ≡ Less → Before (cells table x) (cells table y))
+      (schema : Schema) (at : ℕ) (names : List (List ℕ)) (text : List ℕ) → slice_get schema.tables at ≡ Some table
+      → command_of (understood schema text) ≡ Select (record { lets = []; body = in_order_of table.tree tests (each_column 1 table) order }) names → IsPlain (understood schema text) → reads_listing schema text ≡ false
+      → (old new : State) (rows : List Row) → Shown text given old new rows → (maps : Maps) → Holds schema old.now maps → ListedBy Before (maps at) good rows × IsUnchanged old new
+  sorted_found tells before schema at names text listed command bare unlisted old new rows h maps held =
+      let it = sorted_shown table tests order whole given good reads as_cells Before tells before schema at names text listed command bare unlisted old new rows h maps held in
+      (subst (ListedBy Before (maps at) good) (sym it.0) it.1, it.2)
+
+  -- where as many are shown as a page has
+  module _ (most : ℕ) where
+    abbrev so_many : Term
+    so_many = lit (Int (pos most))
+
+    pub page_sorted : (tells : (x y : Row) → list_all is_plain (key_at table x) ≡ true → list_all is_plain (key_at table y) ≡ true → passes tests given x ≡ true → passes tests given y ≡ true
+        → is_eq (rows_cmp table tests order so_many given good reads as_cells Before x y) ≡ true → key_at table x ≡ key_at table y)
+        (before : (x y : Row) → rows_cmp table tests order so_many given good reads as_cells Before x y ≡ Less → Before (cells table x) (cells table y))
+        (cut : (l : List Row) → page (in_order_up_to table.tree tests (each_column 1 table) order so_many) given l ≡ take most l)
+        (schema : Schema) (at : ℕ) (names : List (List ℕ)) (text : List ℕ) → slice_get schema.tables at ≡ Some table
+        → command_of (understood schema text) ≡ Select (record { lets = []; body = in_order_up_to table.tree tests (each_column 1 table) order so_many }) names → IsPlain (understood schema text) → reads_listing schema text ≡ false
+        → (old new : State) (rows : List Row) → Shown text given old new rows → (maps : Maps) → Holds schema old.now maps → FirstRowsBy Before most (maps at) good rows × IsUnchanged old new
+    page_sorted tells before cut schema at names text listed command bare unlisted old new rows h maps held =
+        let it = sorted_shown table tests order so_many given good reads as_cells Before tells before schema at names text listed command bare unlisted old new rows h maps held in
+        (subst (FirstRowsBy Before most (maps at) good) (sym (it.0 ∙ cut _)) (first_listed Before most (maps at) good _ it.1), it.2)

@@ -23,12 +23,11 @@ use Rattle.sqlite_keyed.proofs.ListLemmas.{ascending-map, ascending-filter}
 use Rattle.sqlite_tied.specs.Listing.{each_column}
 use Rattle.sqlite_rules.specs.Lists.{Has}
 use Rattle.sqlite_rules.proofs.ListLemmas.{all_has, all_from, has_filtered}
-use Rattle.sql_maps.specs.Maps.{cells, Map, Maps, Holds, Listed, FirstBelow}
-use Rattle.sql_maps.specs.Pages.{FirstRows, AreAmong}
+use Rattle.sql_maps.specs.Maps.{cells, Map, Maps, Holds, ListedBy, FirstBelow}
+use Rattle.sql_maps.specs.Pages.{FirstRows, FirstRowsBy}
 use Rattle.sql_maps.specs.Maps.{key_at}
-use Rattle.sql_maps.proofs.Words.{over}
-use Rattle.sqlite_rules.proofs.ProbeLemmas.{has_mapped}
-use Rattle.sql_maps.proofs.AnswerLemmas.{passes, shown_of, plain_overlay, matched, twice, has_permuted}
+use Rattle.sql_maps.proofs.Words.{in_order_up_to}
+use Rattle.sql_maps.proofs.AnswerLemmas.{passes, shown_of, plain_overlay, matched, twice}
 use Rattle.sql_maps.proofs.ReadLemmas.{shown_unchanged}
 use Rattle.sql_maps.proofs.SelectLemmas.{listed_is}
 
@@ -72,19 +71,15 @@ module _ {X : Type 0} (Before : X → X → Type 0) where
   taken_few (suc n) (x ∷ xs) = let less = taken_few n xs in omega (arith, less)
 
 -- the first rows of all that are listed
-first_listed : (most : ℕ) (m : Map) (good : Row → Bool) (all : List Row) → Listed m good all → FirstRows most m good (take most all)
-first_listed most m good all is = record {
-  sound = λ v there. is.sound v (has_taken FirstBelow most all v there);
-  whole = λ k v e fine. taken_or_after FirstBelow most all is.rises v (is.whole k v e fine);
-  rises = taken_rises FirstBelow most all is.rises;
-  few = taken_few FirstBelow most all;
+pub first_listed : (Before : Row → Row → Type 0) (most : ℕ) (m : Map) (good : Row → Bool) (all : List Row) → ListedBy Before m good all → FirstRowsBy Before most m good (take most all)
+first_listed Before most m good all is = record {
+  sound = λ v there. is.sound v (has_taken Before most all v there);
+  whole = λ k v e fine. taken_or_after Before most all is.rises v (is.whole k v e fine);
+  rises = taken_rises Before most all is.rises;
+  few = taken_few Before most all;
 }
 
 -- ---- the rows that a text shows
-
--- a query on one table, in this order, and no more rows than this
-abbrev pub in_order_up_to : ℕ → List Term → List Term → List (Term × Key) → Term → Query
-in_order_up_to tree tests shows order most = record (over tree tests shows) { order = order; limit = most }
 
 module _ (tree : ℕ) (tests shows : List Term) (order : List (Term × Key)) (most : Term) (given : Row) where
   abbrev pub paged : Query
@@ -142,44 +137,6 @@ module _ (schema : Schema) (at : ℕ) (table : Table) (tests : List Term) (order
       let all = map (cells table) (filter (passes tests given) (old.now.trees table.tree)) in
       let taken : rows ≡ take most all = out ∙ pages.cut given _ ∙ ap (take most) (pages.as_cells given _) in
       let listed = listed_is table (old.now.trees table.tree) (maps at) is (passes tests given) good reads pages.single pages.key_cell all refl in (
-        subst (FirstRows most (maps at) good) (sym taken) (first_listed most (maps at) good all listed),
+        subst (FirstRows most (maps at) good) (sym taken) (first_listed FirstBelow most (maps at) good all listed),
         shown_unchanged text given old new schema held.schema_is pages.bare rows h,
       )
-
--- ---- rows in whatever order, of which no more is asked than that they are there
-
--- each row that is shown is one that passes
-page_has : (tree : ℕ) (tests shows : List Term) (order : List (Term × Key)) (most : Term) (given : Row) (n : ℕ) → ((l : List Row) → page (in_order_up_to tree tests shows order most) given l ≡ take n l)
-    → (db : Trees) (out : List Row) → IsProgramAnswer [] (in_order_up_to tree tests shows order most) db given out → (x : Row) → Has out x → (r : Row) × Has (db tree) r × (x ≡ shown_of shows given r)
-page_has tree tests shows order most given n cut db out h x there =
-    let q = in_order_up_to tree tests shows order most in
-    let a = h Null in
-    let env = λ (r : Row). given ∷ r ∷ [] in
-    let good = filter (passes tests given) (db tree) in
-    let staged = a.grouped ∙ ap (λ rows. flat_map (λ r. cond (passes tests given r) (env r ∷ []) []) rows) (plain_overlay db tree) ∙ matched (passes tests given) env (db tree) in
-    let kept : a.kept ≡ map (output q) (map env good) = a.distinct ∙ ap (map (output q)) staged in
-    let taken = subst (λ (l : List Row). Has l x) (a.shown ∙ cut (map (λ (o : Output). o.1) a.ordered)) there in
-    let shown = has_mapped (λ (o : Output). o.1) a.ordered x (has_taken (λ (v w : Row). Unit {0}) n (map (λ (o : Output). o.1) a.ordered) x taken) in
-    let made = has_mapped (output q) (map env good) shown.0 (subst (λ (l : List Output). Has l shown.0) kept (has_permuted a.kept a.ordered shown.0 a.same shown.1)) in
-    let from = has_mapped env good made.0 made.1 in
-    (from.0, (has_filtered (passes tests given) (db tree) from.0 from.1).0, shown.2 ∙ ap (λ (o : Output). o.1) made.2 ∙ ap (λ (e : List Row). (output q e).1) from.2)
-
--- what has to be computed of the text of such a page
-pub record Cuts (schema : Schema) (at : ℕ) (table : Table) (tests : List Term) (order : List (Term × Key)) (most : ℕ) (names : List (List ℕ)) (text : List ℕ) : Type 0 where
-  pub listed : slice_get schema.tables at ≡ Some table
-  pub command : command_of (understood schema text) ≡ Select (record { lets = []; body = in_order_up_to table.tree tests (each_column 1 table) order (lit (Int (pos most))) }) names
-  pub bare : IsPlain (understood schema text)
-  pub unlisted : reads_listing schema text ≡ false
-  pub as_cells : (given : Row) (r : Row) → shown_of (each_column 1 table) given r ≡ cells table r
-  pub cut : (given : Row) (l : List Row) → page (in_order_up_to table.tree tests (each_column 1 table) order (lit (Int (pos most)))) given l ≡ take most l
-
-pub some_found : (schema : Schema) (at : ℕ) (table : Table) (tests : List Term) (order : List (Term × Key)) (most : ℕ) (names : List (List ℕ)) (text : List ℕ) (given : Row) → Cuts schema at table tests order most names text
-    → (old new : State) (rows : List Row) → Shown text given old new rows → (maps : Maps) → Holds schema old.now maps → AreAmong (maps at) rows × IsUnchanged old new
-some_found schema at table tests order most names text given cuts old new rows h maps held =
-    let is = held.tables at table cuts.listed in
-    let read = reads_as text given old new schema held.schema_is _ cuts.command cuts.bare cuts.unlisted rows h in (
-      λ v there.
-          let it = page_has table.tree tests (each_column 1 table) order (lit (Int (pos most))) given most (cuts.cut given) old.now.trees rows read.answer v there in
-          (key_at table it.0, is.sound it.0 it.1 ∙ ap Some (sym (it.2 ∙ cuts.as_cells given it.0))),
-      shown_unchanged text given old new schema held.schema_is cuts.bare rows h,
-    )

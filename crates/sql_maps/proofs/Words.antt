@@ -36,6 +36,10 @@ in_order tree tests shows most = record (over tree tests shows) { order = (col 1
 abbrev pub in_order_of : ℕ → List Term → List Term → List (Term × Key) → Query
 in_order_of tree tests shows order = record (over tree tests shows) { order = order }
 
+-- the same, and no more rows than this
+abbrev pub in_order_up_to : ℕ → List Term → List Term → List (Term × Key) → Term → Query
+in_order_up_to tree tests shows order most = record (over tree tests shows) { order = order; limit = most }
+
 -- how many rows pass
 abbrev pub counting : ℕ → List Term → Query
 counting tree tests = record (over tree tests (col 1 0 ∷ [])) {
