@@ -134,6 +134,15 @@ FAULTS = [
     (["UPDATE rules SET period = 0"], "fault 93"),
     (["UPDATE titles SET text = CAST(x'ff' AS TEXT) WHERE title = 100"], "fault 93"),
     (["UPDATE kept SET reply = CAST(x'ff' AS TEXT) WHERE key = 'a1'"], "fault 93"),
+    # numbers below those that there are
+    (["INSERT INTO patrons VALUES (0, 1, 'cardkey00000', 'Nil', 0)"], "fault 93"),
+    (["INSERT INTO titles VALUES (-1, 'A title')"], "fault 93"),
+    (["INSERT INTO copies VALUES (-9223372036854775808, 100, 1, 1, 900, 0)"], "fault 93"),
+    ([LOAN.format(0, 99)], "fault 93"),
+    (["INSERT INTO holds VALUES (-1, 1, 100, 1, 3, NULL, NULL)"], "fault 93"),
+    (["INSERT INTO transits VALUES (0, 1, NULL)"], "fault 93"),
+    (["INSERT INTO lines VALUES (-2, 1, 20529, 0, 5, 1)"], "fault 93"),
+    (["INSERT INTO kept VALUES (-1, 'k1', 'page 1', 'ok')"], "fault 93"),
     (["UPDATE meta SET schema = 9"], "fault 93"),
     (["DROP TABLE transits"], "fault 91"),
 ]

@@ -1,5 +1,5 @@
 -- What the pages find.
-use Rattle.std.proofs.Common.{◌≡◌, ℕ, Some, pos, true, List, [], ◌∷◌, codes, false, refl, sym, subst, Equal, true≢false}
+use Rattle.std.proofs.Common.{◌≡◌, ℕ, ℤ, Some, pos, true, List, [], ◌∷◌, codes, false, refl, sym, subst, Equal, true≢false}
 use Rattle.std.specs.List.{list_all}
 use Rattle.std.proofs.lemmas.Bool.{and_parts}
 use Rattle.sqlite.specs.declared.types.Value.TheVariants.{Null, Int, Real, Text, Blob}
@@ -13,7 +13,7 @@ use Rattle.sqlite.specs.Schema.{Schema}
 use Rattle.sqlite.specs.Term.{Term, lit, col, op2, holds as passes_test}
 use Rattle.sqlite_sql.specs.Ops.{binary, is_true}
 use Rattle.sqlite_sql.specs.declared.ops.BinaryOp.TheVariants.{Compare, Is}
-use Rattle.sqlite_sql.specs.declared.ops.CompareOp.TheVariants.{Eq, Lt, Gt}
+use Rattle.sqlite_sql.specs.declared.ops.CompareOp.TheVariants.{Eq, Ge, Gt, Lt}
 use Rattle.sqlite.specs.Listing.{understood, reads_listing}
 use Rattle.sqlite.specs.Given.{IsPlain}
 use Rattle.sqlite.specs.State.{State, Shown, IsUnchanged}
@@ -28,7 +28,7 @@ use Rattle.sql_maps.proofs.PageLemmas.{Pages, page_found}
 use Rattle.sql_maps.proofs.OrderLemmas.{page_sorted}
 use Rattle.sql_maps.proofs.Words.{in_order_up_to}
 use Rattle.circ_tables.specs.Shape.{schema, patrons, titles, copies, loans, holds, transits, lines, kept}
-use Rattle.circ_tables.specs.Selections.{is_ready_after, is_overdue_after, is_line_after, is_after, is_any, is_kept_after}
+use Rattle.circ_tables.specs.Selections.{is_ready_after, is_overdue_after, is_line_after, is_after, is_any, is_from, is_kept_after}
 use Rattle.circ_tables.specs.declared.lists.TheConstants.{PAGE_ROWS}
 use Rattle.circ_tables.proofs.KeyedLemmas.{patrons_names, titles_names, copies_names, loans_names, holds_names, transits_names, lines_names, kept_names}
 use Rattle.circ_tables.proofs.ListLemmas.{by_pair, pair_tells, pair_below}
@@ -122,106 +122,106 @@ overdue_found a b c =
 
 -- ---- all rows of a table
 
-abbrev after_tests : List Term
-after_tests = op2 (Compare Gt Binary) (col 1 0) (col 0 0) ∷ []
+abbrev from_tests : List Term
+from_tests = op2 (Compare Ge Binary) (col 1 0) (col 0 0) ∷ []
 
-abbrev patrons_after_text : List ℕ
-patrons_after_text = codes "SELECT * FROM patrons WHERE patron > ?1 ORDER BY patron LIMIT 1000"
+abbrev next_patrons_text : List ℕ
+next_patrons_text = codes "SELECT * FROM patrons WHERE patron >= ?1 ORDER BY patron LIMIT 1000"
 
-patrons_after_pages : Pages schema 5 patrons after_tests by_number PAGE_ROWS patrons_names patrons_after_text
+next_patrons_pages : Pages schema 5 patrons from_tests by_number PAGE_ROWS patrons_names next_patrons_text
 unfolding understood everything
-patrons_after_pages = record { listed = refl; command = refl; bare = (refl, refl); unlisted = refl; single = λ r. refl; key_cell = λ r. refl; as_cells = λ given l. refl; cut = λ given l. refl }
+next_patrons_pages = record { listed = refl; command = refl; bare = (refl, refl); unlisted = refl; single = λ r. refl; key_cell = λ r. refl; as_cells = λ given l. refl; cut = λ given l. refl }
 
-pub patrons_after_plain : (s : Schema) → s ≡ schema → IsPlain (understood s patrons_after_text)
-patrons_after_plain s e = subst (λ z. IsPlain (understood z patrons_after_text)) (sym e) patrons_after_pages.bare
+pub next_patrons_plain : (s : Schema) → s ≡ schema → IsPlain (understood s next_patrons_text)
+next_patrons_plain s e = subst (λ z. IsPlain (understood z next_patrons_text)) (sym e) next_patrons_pages.bare
 
-pub patrons_after_found : (a : ℕ) → (old new : State) (rows : List Row) → Shown patrons_after_text (Int (pos a) ∷ []) old new rows → (maps : Maps) → Holds schema old.now maps
-    → FirstRows PAGE_ROWS (maps 5) (is_after a) rows × IsUnchanged old new
-patrons_after_found a = page_found schema 5 patrons after_tests by_number PAGE_ROWS patrons_names patrons_after_text (Int (pos a) ∷ []) (is_after a) (λ r. refl) (λ x y _ _ less. rw less refl) patrons_after_pages
+pub next_patrons_found : (a : ℤ) → (old new : State) (rows : List Row) → Shown next_patrons_text (Int a ∷ []) old new rows → (maps : Maps) → Holds schema old.now maps
+    → FirstRows PAGE_ROWS (maps 5) (is_from a) rows × IsUnchanged old new
+next_patrons_found a = page_found schema 5 patrons from_tests by_number PAGE_ROWS patrons_names next_patrons_text (Int a ∷ []) (is_from a) (λ r. refl) (λ x y _ _ less. rw less refl) next_patrons_pages
 
-abbrev titles_after_text : List ℕ
-titles_after_text = codes "SELECT * FROM titles WHERE title > ?1 ORDER BY title LIMIT 1000"
+abbrev next_titles_text : List ℕ
+next_titles_text = codes "SELECT * FROM titles WHERE title >= ?1 ORDER BY title LIMIT 1000"
 
-titles_after_pages : Pages schema 6 titles after_tests by_number PAGE_ROWS titles_names titles_after_text
+next_titles_pages : Pages schema 6 titles from_tests by_number PAGE_ROWS titles_names next_titles_text
 unfolding understood everything
-titles_after_pages = record { listed = refl; command = refl; bare = (refl, refl); unlisted = refl; single = λ r. refl; key_cell = λ r. refl; as_cells = λ given l. refl; cut = λ given l. refl }
+next_titles_pages = record { listed = refl; command = refl; bare = (refl, refl); unlisted = refl; single = λ r. refl; key_cell = λ r. refl; as_cells = λ given l. refl; cut = λ given l. refl }
 
-pub titles_after_plain : (s : Schema) → s ≡ schema → IsPlain (understood s titles_after_text)
-titles_after_plain s e = subst (λ z. IsPlain (understood z titles_after_text)) (sym e) titles_after_pages.bare
+pub next_titles_plain : (s : Schema) → s ≡ schema → IsPlain (understood s next_titles_text)
+next_titles_plain s e = subst (λ z. IsPlain (understood z next_titles_text)) (sym e) next_titles_pages.bare
 
-pub titles_after_found : (a : ℕ) → (old new : State) (rows : List Row) → Shown titles_after_text (Int (pos a) ∷ []) old new rows → (maps : Maps) → Holds schema old.now maps
-    → FirstRows PAGE_ROWS (maps 6) (is_after a) rows × IsUnchanged old new
-titles_after_found a = page_found schema 6 titles after_tests by_number PAGE_ROWS titles_names titles_after_text (Int (pos a) ∷ []) (is_after a) (λ r. refl) (λ x y _ _ less. rw less refl) titles_after_pages
+pub next_titles_found : (a : ℤ) → (old new : State) (rows : List Row) → Shown next_titles_text (Int a ∷ []) old new rows → (maps : Maps) → Holds schema old.now maps
+    → FirstRows PAGE_ROWS (maps 6) (is_from a) rows × IsUnchanged old new
+next_titles_found a = page_found schema 6 titles from_tests by_number PAGE_ROWS titles_names next_titles_text (Int a ∷ []) (is_from a) (λ r. refl) (λ x y _ _ less. rw less refl) next_titles_pages
 
-abbrev copies_after_text : List ℕ
-copies_after_text = codes "SELECT * FROM copies WHERE copy > ?1 ORDER BY copy LIMIT 1000"
+abbrev next_copies_text : List ℕ
+next_copies_text = codes "SELECT * FROM copies WHERE copy >= ?1 ORDER BY copy LIMIT 1000"
 
-copies_after_pages : Pages schema 7 copies after_tests by_number PAGE_ROWS copies_names copies_after_text
+next_copies_pages : Pages schema 7 copies from_tests by_number PAGE_ROWS copies_names next_copies_text
 unfolding understood everything
-copies_after_pages = record { listed = refl; command = refl; bare = (refl, refl); unlisted = refl; single = λ r. refl; key_cell = λ r. refl; as_cells = λ given l. refl; cut = λ given l. refl }
+next_copies_pages = record { listed = refl; command = refl; bare = (refl, refl); unlisted = refl; single = λ r. refl; key_cell = λ r. refl; as_cells = λ given l. refl; cut = λ given l. refl }
 
-pub copies_after_plain : (s : Schema) → s ≡ schema → IsPlain (understood s copies_after_text)
-copies_after_plain s e = subst (λ z. IsPlain (understood z copies_after_text)) (sym e) copies_after_pages.bare
+pub next_copies_plain : (s : Schema) → s ≡ schema → IsPlain (understood s next_copies_text)
+next_copies_plain s e = subst (λ z. IsPlain (understood z next_copies_text)) (sym e) next_copies_pages.bare
 
-pub copies_after_found : (a : ℕ) → (old new : State) (rows : List Row) → Shown copies_after_text (Int (pos a) ∷ []) old new rows → (maps : Maps) → Holds schema old.now maps
-    → FirstRows PAGE_ROWS (maps 7) (is_after a) rows × IsUnchanged old new
-copies_after_found a = page_found schema 7 copies after_tests by_number PAGE_ROWS copies_names copies_after_text (Int (pos a) ∷ []) (is_after a) (λ r. refl) (λ x y _ _ less. rw less refl) copies_after_pages
+pub next_copies_found : (a : ℤ) → (old new : State) (rows : List Row) → Shown next_copies_text (Int a ∷ []) old new rows → (maps : Maps) → Holds schema old.now maps
+    → FirstRows PAGE_ROWS (maps 7) (is_from a) rows × IsUnchanged old new
+next_copies_found a = page_found schema 7 copies from_tests by_number PAGE_ROWS copies_names next_copies_text (Int a ∷ []) (is_from a) (λ r. refl) (λ x y _ _ less. rw less refl) next_copies_pages
 
-abbrev loans_after_text : List ℕ
-loans_after_text = codes "SELECT * FROM loans WHERE loan > ?1 ORDER BY loan LIMIT 1000"
+abbrev next_loans_text : List ℕ
+next_loans_text = codes "SELECT * FROM loans WHERE loan >= ?1 ORDER BY loan LIMIT 1000"
 
-loans_after_pages : Pages schema 8 loans after_tests by_number PAGE_ROWS loans_names loans_after_text
+next_loans_pages : Pages schema 8 loans from_tests by_number PAGE_ROWS loans_names next_loans_text
 unfolding understood everything
-loans_after_pages = record { listed = refl; command = refl; bare = (refl, refl); unlisted = refl; single = λ r. refl; key_cell = λ r. refl; as_cells = λ given l. refl; cut = λ given l. refl }
+next_loans_pages = record { listed = refl; command = refl; bare = (refl, refl); unlisted = refl; single = λ r. refl; key_cell = λ r. refl; as_cells = λ given l. refl; cut = λ given l. refl }
 
-pub loans_after_plain : (s : Schema) → s ≡ schema → IsPlain (understood s loans_after_text)
-loans_after_plain s e = subst (λ z. IsPlain (understood z loans_after_text)) (sym e) loans_after_pages.bare
+pub next_loans_plain : (s : Schema) → s ≡ schema → IsPlain (understood s next_loans_text)
+next_loans_plain s e = subst (λ z. IsPlain (understood z next_loans_text)) (sym e) next_loans_pages.bare
 
-pub loans_after_found : (a : ℕ) → (old new : State) (rows : List Row) → Shown loans_after_text (Int (pos a) ∷ []) old new rows → (maps : Maps) → Holds schema old.now maps
-    → FirstRows PAGE_ROWS (maps 8) (is_after a) rows × IsUnchanged old new
-loans_after_found a = page_found schema 8 loans after_tests by_number PAGE_ROWS loans_names loans_after_text (Int (pos a) ∷ []) (is_after a) (λ r. refl) (λ x y _ _ less. rw less refl) loans_after_pages
+pub next_loans_found : (a : ℤ) → (old new : State) (rows : List Row) → Shown next_loans_text (Int a ∷ []) old new rows → (maps : Maps) → Holds schema old.now maps
+    → FirstRows PAGE_ROWS (maps 8) (is_from a) rows × IsUnchanged old new
+next_loans_found a = page_found schema 8 loans from_tests by_number PAGE_ROWS loans_names next_loans_text (Int a ∷ []) (is_from a) (λ r. refl) (λ x y _ _ less. rw less refl) next_loans_pages
 
-abbrev holds_after_text : List ℕ
-holds_after_text = codes "SELECT * FROM holds WHERE hold > ?1 ORDER BY hold LIMIT 1000"
+abbrev next_holds_text : List ℕ
+next_holds_text = codes "SELECT * FROM holds WHERE hold >= ?1 ORDER BY hold LIMIT 1000"
 
-holds_after_pages : Pages schema 9 holds after_tests by_number PAGE_ROWS holds_names holds_after_text
+next_holds_pages : Pages schema 9 holds from_tests by_number PAGE_ROWS holds_names next_holds_text
 unfolding understood everything
-holds_after_pages = record { listed = refl; command = refl; bare = (refl, refl); unlisted = refl; single = λ r. refl; key_cell = λ r. refl; as_cells = λ given l. refl; cut = λ given l. refl }
+next_holds_pages = record { listed = refl; command = refl; bare = (refl, refl); unlisted = refl; single = λ r. refl; key_cell = λ r. refl; as_cells = λ given l. refl; cut = λ given l. refl }
 
-pub holds_after_plain : (s : Schema) → s ≡ schema → IsPlain (understood s holds_after_text)
-holds_after_plain s e = subst (λ z. IsPlain (understood z holds_after_text)) (sym e) holds_after_pages.bare
+pub next_holds_plain : (s : Schema) → s ≡ schema → IsPlain (understood s next_holds_text)
+next_holds_plain s e = subst (λ z. IsPlain (understood z next_holds_text)) (sym e) next_holds_pages.bare
 
-pub holds_after_found : (a : ℕ) → (old new : State) (rows : List Row) → Shown holds_after_text (Int (pos a) ∷ []) old new rows → (maps : Maps) → Holds schema old.now maps
-    → FirstRows PAGE_ROWS (maps 9) (is_after a) rows × IsUnchanged old new
-holds_after_found a = page_found schema 9 holds after_tests by_number PAGE_ROWS holds_names holds_after_text (Int (pos a) ∷ []) (is_after a) (λ r. refl) (λ x y _ _ less. rw less refl) holds_after_pages
+pub next_holds_found : (a : ℤ) → (old new : State) (rows : List Row) → Shown next_holds_text (Int a ∷ []) old new rows → (maps : Maps) → Holds schema old.now maps
+    → FirstRows PAGE_ROWS (maps 9) (is_from a) rows × IsUnchanged old new
+next_holds_found a = page_found schema 9 holds from_tests by_number PAGE_ROWS holds_names next_holds_text (Int a ∷ []) (is_from a) (λ r. refl) (λ x y _ _ less. rw less refl) next_holds_pages
 
-abbrev transits_after_text : List ℕ
-transits_after_text = codes "SELECT * FROM transits WHERE copy > ?1 ORDER BY copy LIMIT 1000"
+abbrev next_transits_text : List ℕ
+next_transits_text = codes "SELECT * FROM transits WHERE copy >= ?1 ORDER BY copy LIMIT 1000"
 
-transits_after_pages : Pages schema 10 transits after_tests by_number PAGE_ROWS transits_names transits_after_text
+next_transits_pages : Pages schema 10 transits from_tests by_number PAGE_ROWS transits_names next_transits_text
 unfolding understood everything
-transits_after_pages = record { listed = refl; command = refl; bare = (refl, refl); unlisted = refl; single = λ r. refl; key_cell = λ r. refl; as_cells = λ given l. refl; cut = λ given l. refl }
+next_transits_pages = record { listed = refl; command = refl; bare = (refl, refl); unlisted = refl; single = λ r. refl; key_cell = λ r. refl; as_cells = λ given l. refl; cut = λ given l. refl }
 
-pub transits_after_plain : (s : Schema) → s ≡ schema → IsPlain (understood s transits_after_text)
-transits_after_plain s e = subst (λ z. IsPlain (understood z transits_after_text)) (sym e) transits_after_pages.bare
+pub next_transits_plain : (s : Schema) → s ≡ schema → IsPlain (understood s next_transits_text)
+next_transits_plain s e = subst (λ z. IsPlain (understood z next_transits_text)) (sym e) next_transits_pages.bare
 
-pub transits_after_found : (a : ℕ) → (old new : State) (rows : List Row) → Shown transits_after_text (Int (pos a) ∷ []) old new rows → (maps : Maps) → Holds schema old.now maps
-    → FirstRows PAGE_ROWS (maps 10) (is_after a) rows × IsUnchanged old new
-transits_after_found a = page_found schema 10 transits after_tests by_number PAGE_ROWS transits_names transits_after_text (Int (pos a) ∷ []) (is_after a) (λ r. refl) (λ x y _ _ less. rw less refl) transits_after_pages
+pub next_transits_found : (a : ℤ) → (old new : State) (rows : List Row) → Shown next_transits_text (Int a ∷ []) old new rows → (maps : Maps) → Holds schema old.now maps
+    → FirstRows PAGE_ROWS (maps 10) (is_from a) rows × IsUnchanged old new
+next_transits_found a = page_found schema 10 transits from_tests by_number PAGE_ROWS transits_names next_transits_text (Int a ∷ []) (is_from a) (λ r. refl) (λ x y _ _ less. rw less refl) next_transits_pages
 
-abbrev lines_after_text : List ℕ
-lines_after_text = codes "SELECT * FROM lines WHERE line > ?1 ORDER BY line LIMIT 1000"
+abbrev next_lines_text : List ℕ
+next_lines_text = codes "SELECT * FROM lines WHERE line >= ?1 ORDER BY line LIMIT 1000"
 
-lines_after_pages : Pages schema 11 lines after_tests by_number PAGE_ROWS lines_names lines_after_text
+next_lines_pages : Pages schema 11 lines from_tests by_number PAGE_ROWS lines_names next_lines_text
 unfolding understood everything
-lines_after_pages = record { listed = refl; command = refl; bare = (refl, refl); unlisted = refl; single = λ r. refl; key_cell = λ r. refl; as_cells = λ given l. refl; cut = λ given l. refl }
+next_lines_pages = record { listed = refl; command = refl; bare = (refl, refl); unlisted = refl; single = λ r. refl; key_cell = λ r. refl; as_cells = λ given l. refl; cut = λ given l. refl }
 
-pub lines_after_plain : (s : Schema) → s ≡ schema → IsPlain (understood s lines_after_text)
-lines_after_plain s e = subst (λ z. IsPlain (understood z lines_after_text)) (sym e) lines_after_pages.bare
+pub next_lines_plain : (s : Schema) → s ≡ schema → IsPlain (understood s next_lines_text)
+next_lines_plain s e = subst (λ z. IsPlain (understood z next_lines_text)) (sym e) next_lines_pages.bare
 
-pub lines_after_found : (a : ℕ) → (old new : State) (rows : List Row) → Shown lines_after_text (Int (pos a) ∷ []) old new rows → (maps : Maps) → Holds schema old.now maps
-    → FirstRows PAGE_ROWS (maps 11) (is_after a) rows × IsUnchanged old new
-lines_after_found a = page_found schema 11 lines after_tests by_number PAGE_ROWS lines_names lines_after_text (Int (pos a) ∷ []) (is_after a) (λ r. refl) (λ x y _ _ less. rw less refl) lines_after_pages
+pub next_lines_found : (a : ℤ) → (old new : State) (rows : List Row) → Shown next_lines_text (Int a ∷ []) old new rows → (maps : Maps) → Holds schema old.now maps
+    → FirstRows PAGE_ROWS (maps 11) (is_from a) rows × IsUnchanged old new
+next_lines_found a = page_found schema 11 lines from_tests by_number PAGE_ROWS lines_names next_lines_text (Int a ∷ []) (is_from a) (λ r. refl) (λ x y _ _ less. rw less refl) next_lines_pages
 
 -- ---- what is kept, by callers and keys
 

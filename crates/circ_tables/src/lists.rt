@@ -1,5 +1,6 @@
 //! Lists of the rows that pass a test, in the order of their keys.
 
+ghost use Rattle.std.specs.Prelude.{◌≡◌, ◌<◌, ◌^◌, IfSome};
 ghost use Rattle.sql_maps.specs.Maps.{Listed, ListedBy, PairBelow};
 ghost use Rattle.sql_maps.specs.Pages.{FirstRows, FirstRowsBy};
 ghost use Rattle.circ_tables.specs.Cells.{owner_number};
@@ -7,7 +8,7 @@ ghost use Rattle.circ_tables.specs.Reading.{Lists, branches, closed_days, kinds,
 ghost use Rattle.circ_tables.specs.Reading.{titles, copies, loans, holds, transits, lines, kept};
 ghost use Rattle.circ_tables.specs.Selections.{is_open_by, is_active_by, is_ready_after};
 ghost use Rattle.circ_tables.specs.Selections.{is_overdue_after, is_line_after, is_any, is_after};
-ghost use Rattle.circ_tables.specs.Selections.{is_kept_after};
+ghost use Rattle.circ_tables.specs.Selections.{is_from, is_kept_after, least_after};
 ghost use Rattle.circ_tables.specs.declared.lists.TheConstants.{PAGE_ROWS};
 
 use crate::cell::owner_number;
@@ -16,9 +17,8 @@ use calendar::Day;
 use sqlite::{Alter, Connection, params};
 use std::alloc::Global;
 use terms::{
-    BranchId, BranchRow, ClosedDayRow, CopyId, CopyRow, Fault, HoldId, HoldRow, KeptRow, Key,
-    KindRow, LineId, LineRow, LoanId, LoanRow, Owner, PatronId, PatronRow, RuleRow, TitleId,
-    TitleRow, TransitRow,
+    BranchId, BranchRow, ClosedDayRow, CopyRow, Fault, HoldId, HoldRow, KeptRow, Key, KindRow,
+    LineId, LineRow, LoanId, LoanRow, Owner, PatronId, PatronRow, RuleRow, TitleRow, TransitRow,
 };
 
 /// How many rows a page of a list has, but for its last one. The texts of pages name it too.
@@ -251,135 +251,146 @@ pub fn kept_past<S: Alter>(
     )
 }
 
-/// The first rows of `patrons` whose numbers are above this one, the least number first: all of them, or
-/// as many as a page has. 90, 91, 93.
-pub fn all_patrons_after<S: Alter>(
+/// The least number of a row that comes after this one, or of any row.
+fn least_after(after: Option<u32>) -> i64
+    ensures least { result ≡ least_after after }
+    ensures range { IfSome after (λ n. n < 2 ^ 32) }
+{
+    match after {
+        Some(number) => i64::from(number) + 1,
+        None => i64::MIN,
+    }
+}
+
+/// The first rows of `patrons`, or the first with numbers above this one, the least number first: all of
+/// them, or as many as a page has. 90, 91, 93.
+pub fn next_patrons<S: Alter>(
     conn: &mut Connection<S>,
     alloc: Global,
-    after: PatronId,
+    after: Option<u32>,
 ) -> Result<Vec<PatronRow>, Fault>
-    ensures { Lists patrons (λ l. l.items) (λ m. FirstRows PAGE_ROWS m (is_after after))
+    ensures { Lists patrons (λ l. l.items) (λ m. FirstRows PAGE_ROWS m (is_from (least_after after)))
         S.Store conn.old conn.new result }
 {
     rows_of(
         conn,
         alloc,
         alloc,
-        "SELECT * FROM patrons WHERE patron > ?1 ORDER BY patron LIMIT 1000",
-        params![after.number()],
+        "SELECT * FROM patrons WHERE patron >= ?1 ORDER BY patron LIMIT 1000",
+        params![least_after(after)],
     )
 }
 
-/// The first rows of `titles` whose numbers are above this one, the least number first: all of them, or
-/// as many as a page has. 90, 91, 93.
-pub fn all_titles_after<S: Alter>(
+/// The first rows of `titles`, or the first with numbers above this one, the least number first: all of
+/// them, or as many as a page has. 90, 91, 93.
+pub fn next_titles<S: Alter>(
     conn: &mut Connection<S>,
     alloc: Global,
-    after: TitleId,
+    after: Option<u32>,
 ) -> Result<Vec<TitleRow>, Fault>
-    ensures { Lists titles (λ l. l.items) (λ m. FirstRows PAGE_ROWS m (is_after after))
+    ensures { Lists titles (λ l. l.items) (λ m. FirstRows PAGE_ROWS m (is_from (least_after after)))
         S.Store conn.old conn.new result }
 {
     rows_of(
         conn,
         alloc,
         alloc,
-        "SELECT * FROM titles WHERE title > ?1 ORDER BY title LIMIT 1000",
-        params![after.number()],
+        "SELECT * FROM titles WHERE title >= ?1 ORDER BY title LIMIT 1000",
+        params![least_after(after)],
     )
 }
 
-/// The first rows of `copies` whose numbers are above this one, the least number first: all of them, or
-/// as many as a page has. 90, 91, 93.
-pub fn all_copies_after<S: Alter>(
+/// The first rows of `copies`, or the first with numbers above this one, the least number first: all of
+/// them, or as many as a page has. 90, 91, 93.
+pub fn next_copies<S: Alter>(
     conn: &mut Connection<S>,
     alloc: Global,
-    after: CopyId,
+    after: Option<u32>,
 ) -> Result<Vec<CopyRow>, Fault>
-    ensures { Lists copies (λ l. l.items) (λ m. FirstRows PAGE_ROWS m (is_after after))
+    ensures { Lists copies (λ l. l.items) (λ m. FirstRows PAGE_ROWS m (is_from (least_after after)))
         S.Store conn.old conn.new result }
 {
     rows_of(
         conn,
         alloc,
         (),
-        "SELECT * FROM copies WHERE copy > ?1 ORDER BY copy LIMIT 1000",
-        params![after.number()],
+        "SELECT * FROM copies WHERE copy >= ?1 ORDER BY copy LIMIT 1000",
+        params![least_after(after)],
     )
 }
 
-/// The first rows of `loans` whose numbers are above this one, the least number first: all of them, or
-/// as many as a page has. 90, 91, 93.
-pub fn all_loans_after<S: Alter>(
+/// The first rows of `loans`, or the first with numbers above this one, the least number first: all of
+/// them, or as many as a page has. 90, 91, 93.
+pub fn next_loans<S: Alter>(
     conn: &mut Connection<S>,
     alloc: Global,
-    after: LoanId,
+    after: Option<u32>,
 ) -> Result<Vec<LoanRow>, Fault>
-    ensures { Lists loans (λ l. l.items) (λ m. FirstRows PAGE_ROWS m (is_after after))
+    ensures { Lists loans (λ l. l.items) (λ m. FirstRows PAGE_ROWS m (is_from (least_after after)))
         S.Store conn.old conn.new result }
 {
     rows_of(
         conn,
         alloc,
         (),
-        "SELECT * FROM loans WHERE loan > ?1 ORDER BY loan LIMIT 1000",
-        params![after.number()],
+        "SELECT * FROM loans WHERE loan >= ?1 ORDER BY loan LIMIT 1000",
+        params![least_after(after)],
     )
 }
 
-/// The first rows of `holds` whose numbers are above this one, the least number first: all of them, or
-/// as many as a page has. 90, 91, 93.
-pub fn all_holds_after<S: Alter>(
+/// The first rows of `holds`, or the first with numbers above this one, the least number first: all of
+/// them, or as many as a page has. 90, 91, 93.
+pub fn next_holds<S: Alter>(
     conn: &mut Connection<S>,
     alloc: Global,
-    after: HoldId,
+    after: Option<u32>,
 ) -> Result<Vec<HoldRow>, Fault>
-    ensures { Lists holds (λ l. l.items) (λ m. FirstRows PAGE_ROWS m (is_after after))
+    ensures { Lists holds (λ l. l.items) (λ m. FirstRows PAGE_ROWS m (is_from (least_after after)))
         S.Store conn.old conn.new result }
 {
     rows_of(
         conn,
         alloc,
         (),
-        "SELECT * FROM holds WHERE hold > ?1 ORDER BY hold LIMIT 1000",
-        params![after.number()],
+        "SELECT * FROM holds WHERE hold >= ?1 ORDER BY hold LIMIT 1000",
+        params![least_after(after)],
     )
 }
 
-/// The first rows of `transits` whose numbers are above this one, the least number first: all of them, or
-/// as many as a page has. 90, 91, 93.
-pub fn all_transits_after<S: Alter>(
+/// The first rows of `transits`, or the first with numbers above this one, the least number first: all of
+/// them, or as many as a page has. 90, 91, 93.
+pub fn next_transits<S: Alter>(
     conn: &mut Connection<S>,
     alloc: Global,
-    after: CopyId,
+    after: Option<u32>,
 ) -> Result<Vec<TransitRow>, Fault>
-    ensures { Lists transits (λ l. l.items) (λ m. FirstRows PAGE_ROWS m (is_after after))
+    ensures { Lists transits (λ l. l.items) (λ m. FirstRows PAGE_ROWS m (is_from (least_after after)))
         S.Store conn.old conn.new result }
 {
     rows_of(
         conn,
         alloc,
         (),
-        "SELECT * FROM transits WHERE copy > ?1 ORDER BY copy LIMIT 1000",
-        params![after.number()],
+        "SELECT * FROM transits WHERE copy >= ?1 ORDER BY copy LIMIT 1000",
+        params![least_after(after)],
     )
 }
 
-/// The first rows of `lines` whose numbers are above this one, the least number first: all of them, or
-/// as many as a page has. 90, 91, 93.
-pub fn all_lines_after<S: Alter>(
+/// The first rows of `lines`, or the first with numbers above this one, the least number first: all of
+/// them, or as many as a page has. 90, 91, 93.
+pub fn next_lines<S: Alter>(
     conn: &mut Connection<S>,
     alloc: Global,
-    after: LineId,
+    after: Option<u32>,
 ) -> Result<Vec<LineRow>, Fault>
-    ensures { Lists lines (λ l. l.items) (λ m. FirstRows PAGE_ROWS m (is_after after))
+    ensures { Lists lines (λ l. l.items) (λ m. FirstRows PAGE_ROWS m (is_from (least_after after)))
         S.Store conn.old conn.new result }
 {
     rows_of(
         conn,
         alloc,
         (),
-        "SELECT * FROM lines WHERE line > ?1 ORDER BY line LIMIT 1000",
-        params![after.number()],
+        "SELECT * FROM lines WHERE line >= ?1 ORDER BY line LIMIT 1000",
+        params![least_after(after)],
     )
 }

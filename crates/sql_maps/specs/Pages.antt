@@ -7,7 +7,7 @@ use Rattle.sqlite_trees.specs.Tree.{IsAscending}
 use Rattle.sqlite_rules.specs.Lists.{Has}
 use Rattle.sqlite_sql.specs.Ops.{binary, is_true}
 use Rattle.sqlite_sql.specs.declared.ops.BinaryOp.TheVariants.{Compare}
-use Rattle.sqlite_sql.specs.declared.ops.CompareOp.TheVariants.{Gt}
+use Rattle.sqlite_sql.specs.declared.ops.CompareOp.TheVariants.{Ge, Gt}
 use Rattle.sql_maps.specs.Maps.{Map, FirstBelow}
 
 -- the first rows of the map that pass, each once and each before the next: all of them, or as many as this, and then all others come after them
@@ -21,9 +21,12 @@ pub record FirstRowsBy (Before : Row → Row → Type 0) (most : ℕ) (m : Map) 
 abbrev pub FirstRows : ℕ → Map → (Row → Bool) → List Row → Type 0
 FirstRows = FirstRowsBy FirstBelow
 
--- what WHERE reads of a row where a column is to be above a number, or after a text
+-- what WHERE reads of a row where a column is to be above a number, not below it, or after a text
 abbrev pub above_at : ℕ → ℤ → Row → Bool
 above_at at n v = is_true (binary (Compare Gt Binary) (column v at) (Int n))
+
+abbrev pub least_at : ℕ → ℤ → Row → Bool
+least_at at n v = is_true (binary (Compare Ge Binary) (column v at) (Int n))
 
 abbrev pub past_at : ℕ → List ℕ → Row → Bool
 past_at at t v = is_true (binary (Compare Gt Binary) (column v at) (Text t))

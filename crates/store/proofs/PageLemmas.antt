@@ -1,5 +1,6 @@
 -- What the pages hold, in words of the typed tables.
-use Rattle.std.proofs.Common.{arith, ◌≡◌, ◌<◌, ℕ, Bool, true, List, map, Option, Some, None, Result, inl, inr, refl, ◌∙◌, ◌≤◌, sym, subst, Less}
+use Rattle.std.proofs.Common.{arith, ◌≡◌, ◌<◌, ◌+◌, ℕ, pos, negsuc, Bool, true, List, map, Option, Some, None, Result, inl, inr, refl, ◌∙◌, ◌≤◌, sym, subst, Less}
+use Rattle.std.specs.Prelude.{unwrap_or}
 use Rattle.std.specs.List.{All, Contains}
 use Rattle.std.proofs.lemmas.Bool.{and_parts, and_from}
 use Rattle.std.proofs.lemmas.List.{length-map}
@@ -22,10 +23,10 @@ use Rattle.terms.specs.declared.row.HoldState.TheVariants.{Ready}
 use Rattle.terms.specs.declared.row.LineRow.{LineRow}
 use Rattle.circ_tables.specs.Cells.{number, number_key, loan_cells, hold_cells, line_cells}
 use Rattle.circ_tables.specs.Encoding.{IsEncoded, Any, Encodes}
-use Rattle.circ_tables.specs.Selections.{is_ready_after, is_overdue_after, is_line_after, is_after}
+use Rattle.circ_tables.specs.Selections.{is_ready_after, is_overdue_after, is_line_after, is_from, least_after}
 use Rattle.circ_tables.specs.Shape.{loans_place, holds_place, lines_place}
 use Rattle.circ_tables.specs.declared.lists.TheConstants.{PAGE_ROWS}
-use Rattle.circ_tables.proofs.CellLemmas.{is_above, same_if, if_same, none_if, if_none, ready_if, if_ready, below_if, if_below, above_if, if_above, alone, from_alone, both, from_both}
+use Rattle.circ_tables.proofs.CellLemmas.{is_least, least_if, if_least, if_negative, same_if, if_same, none_if, if_none, ready_if, if_ready, below_if, if_below, above_if, if_above, alone, from_alone, both, from_both}
 use Rattle.circ_tables.proofs.InverseLemmas.{loan_told, hold_told, line_told}
 use Rattle.circ_tables.proofs.DayLemmas.{below}
 use Rattle.circ_tables.proofs.ShownLemmas.{one_found, stands, rows_rise}
@@ -36,12 +37,12 @@ use Rattle.store.proofs.RowLemmas.{loan_number, hold_number}
 
 module _ {R : Type 0} (cells : R → Row) (Good : R → Type 0) (number_of : R → ℕ) (told : (a b : R) → Good a → Good b → cells a ≡ cells b → a ≡ b) (key_cell : (r : R) → column (cells r) 0 ≡ number (number_of r)) where
   are_first : (m : Map) (t : ℕ → Option R) → IsEncoded Any number_key cells m t → ((n : ℕ) (r : R) → t n ≡ Some r → (number_of r ≡ n) × Good r) → (good : Row → Bool) (Passes : R → Type 0)
-      → ((r : R) → good (cells r) ≡ true → Passes r) → ((r : R) → Passes r → good (cells r) ≡ true) → (rows : List R) → All Good rows → FirstRows PAGE_ROWS m good (map cells rows)
+      → ((r : R) → Good r → good (cells r) ≡ true → Passes r) → ((r : R) → Passes r → good (cells r) ≡ true) → (rows : List R) → All Good rows → FirstRows PAGE_ROWS m good (map cells rows)
       → AreFirstRows t number_of Passes rows
   are_first m t is own good Passes to from rows legal first = record {
     sound = λ r there.
         let row = first.sound (cells r) (mapped_has cells rows r (has_contained rows r there)) in
-        (one_found cells Good number_of m t is own told r (All-contains Good rows r legal there) row.0 row.1, to r row.2);
+        (one_found cells Good number_of m t is own told r (All-contains Good rows r legal there) row.0 row.1, to r (All-contains Good rows r legal there) row.2);
     whole = λ n r e passes. elim (first.whole (number_key n) (cells r) (stands cells Good number_of m t is own n r e) (from r passes)) [
       | inl has ↦
           let it = has_mapped cells rows (cells r) has in
@@ -65,7 +66,7 @@ module _ (maps : Maps) (P : Picture) (is : Encodes maps P) (legal : InLimits P) 
   pub ready_after_are : (branch after : ℕ) (rows : List HoldRow) → All IsHold rows → FirstRows PAGE_ROWS (maps holds_place) (is_ready_after branch after) (map hold_cells rows) → AreReadyAfter P branch after rows
   ready_after_are branch after =
       are_first hold_cells IsHold hold_number hold_told (λ r. refl) (maps holds_place) P.holds is.holds legal.holds (is_ready_after branch after) (λ r. (r.branch ≡ branch) × (r.state ≡ Ready) × (after < r.hold))
-      (λ r good. let first = and_parts _ _ good in let tests = both _ _ first.1 in (same_if r.branch branch first.0, ready_if r.state tests.0, above_if r.hold after tests.1))
+      (λ r legal good. let first = and_parts _ _ good in let tests = both _ _ first.1 in (same_if r.branch branch first.0, ready_if r.state tests.0, above_if r.hold after tests.1))
       (λ r passes. and_from _ _ (if_same r.branch branch passes.0) (from_both _ _ (if_ready r.state passes.1) (if_above r.hold after passes.2)))
 
   pub overdue_after_are : (branch day after : ℕ) (rows : List LoanRow) → All IsLoan rows → FirstRows PAGE_ROWS (maps loans_place) (is_overdue_after branch day after) (map loan_cells rows)
@@ -73,7 +74,7 @@ module _ (maps : Maps) (P : Picture) (is : Encodes maps P) (legal : InLimits P) 
   overdue_after_are branch day after =
       are_first loan_cells IsLoan loan_number loan_told (λ r. refl) (maps loans_place) P.loans is.loans legal.loans (is_overdue_after branch day after)
       (λ r. (r.branch ≡ branch) × (r.ended ≡ None) × (r.due < day) × (after < r.loan))
-      (λ r good.
+      (λ r legal good.
       let first = and_parts _ _ good in
       let second = and_parts _ _ first.1 in
       let tests = both _ _ second.1 in
@@ -83,18 +84,18 @@ module _ (maps : Maps) (P : Picture) (is : Encodes maps P) (legal : InLimits P) 
   pub lines_after_are : (day after : ℕ) (rows : List LineRow) → All IsLine rows → FirstRows PAGE_ROWS (maps lines_place) (is_line_after day after) (map line_cells rows) → AreLinesAfter P day after rows
   lines_after_are day after =
       are_first line_cells IsLine line_number line_told (λ r. refl) (maps lines_place) P.lines is.lines legal.lines (is_line_after day after) (λ r. (r.day ≡ day) × (after < r.line))
-      (λ r good. let tests = both _ _ good in (same_if r.day day tests.0, above_if r.line after tests.1)) (λ r passes. from_both _ _ (if_same r.day day passes.0) (if_above r.line after passes.1))
+      (λ r legal good. let tests = both _ _ good in (same_if r.day day tests.0, above_if r.line after tests.1)) (λ r passes. from_both _ _ (if_same r.day day passes.0) (if_above r.line after passes.1))
 
 -- a page of all rows of a table that is keyed by one number, from 1 on
 pub page_seen : {S R L : Type 0} (t : Table ℕ R) {items : L → List R} (number_of : R → ℕ) → ((a b : R) → t.IsLegal a → t.IsLegal b → t.cells a ≡ t.cells b → a ≡ b) → ((r : R) → column (t.cells r) 0 ≡ number (number_of r))
     → ((maps : Maps) (P : Picture) → Encodes maps P → IsEncoded Any number_key t.cells (maps t.place) (t.rows P)) → ((P : Picture) → InLimits P → (n : ℕ) (r : R) → t.rows P n ≡ Some r → (number_of r ≡ n) × t.IsLegal r)
-    → ((r : R) → t.IsLegal r → 1 ≤ number_of r) → (after : ℕ) → {g : Ghosts S} {r : Result L Fault} {a b : Held S} → Lists t items (λ m. FirstRows PAGE_ROWS m (is_after after)) g a b r
-    → Views (λ P l. AreNumbered (t.rows P) number_of × AreRowsAfter (t.rows P) number_of after (items l)) g a b r
+    → ((r : R) → t.IsLegal r → 1 ≤ number_of r) → (after : Option ℕ) → {g : Ghosts S} {r : Result L Fault} {a b : Held S} → Lists t items (λ m. FirstRows PAGE_ROWS m (is_from (least_after after))) g a b r
+    → Views (λ P l. AreNumbered (t.rows P) number_of × AreRowsAfter (t.rows P) number_of (unwrap_or after 0) (items l)) g a b r
 page_seen {R = R} t number_of told key_cell encoded own from after is =
-    rows_seen (λ P rows. AreNumbered (t.rows P) number_of × AreRowsAfter (t.rows P) number_of after rows)
+    rows_seen (λ P rows. AreNumbered (t.rows P) number_of × AreRowsAfter (t.rows P) number_of (unwrap_or after 0) rows)
     (λ maps P shown legal rows limits first. (
       numbered P legal,
-      are_first t.cells t.IsLegal number_of told key_cell (maps t.place) (t.rows P) (encoded maps P shown) (own P legal) (is_after after) (λ r. after < number_of r) above passes rows limits first,
+      are_first t.cells t.IsLegal number_of told key_cell (maps t.place) (t.rows P) (encoded maps P shown) (own P legal) (is_from (least_after after)) (λ r. unwrap_or after 0 < number_of r) (above after) (passes after) rows limits first,
     )) is
   where
     numbered : (P : Picture) → InLimits P → AreNumbered (t.rows P) number_of
@@ -104,11 +105,13 @@ page_seen {R = R} t number_of told key_cell encoded own from after is =
         let same : number_of r ≡ n = it.0 in
         (same, omega (arith, one, same))
 
-    above : (r : R) → is_after after (t.cells r) ≡ true → after < number_of r
-    above r good = above_if (number_of r) after (subst (λ v. is_above v after ≡ true) (key_cell r) (alone _ good))
+    above : (after : Option ℕ) (r : R) → t.IsLegal r → is_from (least_after after) (t.cells r) ≡ true → unwrap_or after 0 < number_of r
+    above None r legal good = let one : 1 ≤ number_of r = from r legal in omega (arith, one)
+    above (Some n) r legal good = let least : n + 1 ≤ number_of r = least_if (number_of r) (n + 1) (subst (λ v. is_least v (pos (n + 1)) ≡ true) (key_cell r) (alone _ good)) in omega (arith, least)
 
-    passes : (r : R) → after < number_of r → is_after after (t.cells r) ≡ true
-    passes r more = from_alone _ (subst (λ v. is_above v after ≡ true) (sym (key_cell r)) (if_above (number_of r) after more))
+    passes : (after : Option ℕ) (r : R) → unwrap_or after 0 < number_of r → is_from (least_after after) (t.cells r) ≡ true
+    passes None r more = from_alone _ (subst (λ v. is_least v (negsuc 9223372036854775807) ≡ true) (sym (key_cell r)) (if_negative (number_of r) 9223372036854775807))
+    passes (Some n) r more = from_alone _ (subst (λ v. is_least v (pos (n + 1)) ≡ true) (sym (key_cell r)) (if_least (number_of r) (n + 1) (omega (arith, more))))
 
 -- rows of which no more is asked than that they could be read
 pub passed_over : {S R L : Type 0} {K : Type 0} {t : Table K R} {items : L → List R} {Found : Map → List Row → Type 0} {g : Ghosts S} {r : Result L Fault} {a b : Held S} → Lists t items Found g a b r → Views IsPassedOver g a b r

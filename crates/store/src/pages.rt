@@ -7,19 +7,18 @@ ghost use Rattle.store.specs.Lists.{AreRows};
 ghost use Rattle.store.specs.Pages.{IsPassedOver};
 
 use circ_tables::{
-    all_copies_after, all_holds_after, all_lines_after, all_loans_after, all_patrons_after,
-    all_titles_after, all_transits_after, first_kept, kept_after, kept_past,
+    first_kept, kept_after, kept_past, next_copies, next_holds, next_lines, next_loans,
+    next_patrons, next_titles, next_transits,
 };
 use sqlite::{Alter, Connection};
 use std::alloc::Global;
 use terms::{
-    CopyId, CopyRow, Fault, HoldId, HoldRow, KeptRow, LineId, LineRow, LoanId, LoanRow, PatronId,
-    PatronRow, Rows, TitleId, TitleRow, TransitRow,
+    CopyRow, Fault, HoldRow, KeptRow, LineRow, LoanRow, PatronRow, Rows, TitleRow, TransitRow,
 };
 
 /// Rows of a table that is keyed by one number.
 pub(crate) trait Numbered: Drop {
-    ghost use Rattle.std.specs.Prelude.{◌≡◌, ℕ, Option};
+    ghost use Rattle.std.specs.Prelude.{◌≡◌, ℕ, Option, unwrap_or};
     ghost use Rattle.circ_tables.specs.Reading.{Views};
     ghost use Rattle.terms.specs.Pictures.{Picture};
     ghost use Rattle.store.specs.Pages.{AreRowsAfter, AreNumbered};
@@ -34,15 +33,16 @@ pub(crate) trait Numbered: Drop {
     fn number(&self) -> u32
         ensures { result ≡ number_of self.now };
 
-    /// A page: the first rows whose numbers are above this one, the least first. Each row of the
-    /// table stands under its own number. 90, 91, 93.
+    /// A page: the first rows, or the first whose numbers are above this one, the least first. Each
+    /// row of the table stands under its own number. 90, 91, 93.
     fn page<S: Alter>(
         conn: &mut Connection<S>,
         alloc: Global,
-        after: u32,
+        after: Option<u32>,
     ) -> Result<Vec<Self>, Fault>
         ensures { Views (λ P page. AreNumbered (rows P) number_of
-            × AreRowsAfter (rows P) number_of after page.items) S.Store conn.old conn.new result };
+            × AreRowsAfter (rows P) number_of (unwrap_or after 0) page.items)
+            S.Store conn.old conn.new result };
 }
 
 impl Numbered for PatronRow {
@@ -57,9 +57,9 @@ impl Numbered for PatronRow {
     fn page<S: Alter>(
         conn: &mut Connection<S>,
         alloc: Global,
-        after: u32,
+        after: Option<u32>,
     ) -> Result<Vec<PatronRow>, Fault> {
-        all_patrons_after(conn, alloc, PatronId::new(after))
+        next_patrons(conn, alloc, after)
     }
 }
 
@@ -75,9 +75,9 @@ impl Numbered for TitleRow {
     fn page<S: Alter>(
         conn: &mut Connection<S>,
         alloc: Global,
-        after: u32,
+        after: Option<u32>,
     ) -> Result<Vec<TitleRow>, Fault> {
-        all_titles_after(conn, alloc, TitleId::new(after))
+        next_titles(conn, alloc, after)
     }
 }
 
@@ -93,9 +93,9 @@ impl Numbered for CopyRow {
     fn page<S: Alter>(
         conn: &mut Connection<S>,
         alloc: Global,
-        after: u32,
+        after: Option<u32>,
     ) -> Result<Vec<CopyRow>, Fault> {
-        all_copies_after(conn, alloc, CopyId::new(after))
+        next_copies(conn, alloc, after)
     }
 }
 
@@ -111,9 +111,9 @@ impl Numbered for LoanRow {
     fn page<S: Alter>(
         conn: &mut Connection<S>,
         alloc: Global,
-        after: u32,
+        after: Option<u32>,
     ) -> Result<Vec<LoanRow>, Fault> {
-        all_loans_after(conn, alloc, LoanId::new(after))
+        next_loans(conn, alloc, after)
     }
 }
 
@@ -129,9 +129,9 @@ impl Numbered for HoldRow {
     fn page<S: Alter>(
         conn: &mut Connection<S>,
         alloc: Global,
-        after: u32,
+        after: Option<u32>,
     ) -> Result<Vec<HoldRow>, Fault> {
-        all_holds_after(conn, alloc, HoldId::new(after))
+        next_holds(conn, alloc, after)
     }
 }
 
@@ -147,9 +147,9 @@ impl Numbered for TransitRow {
     fn page<S: Alter>(
         conn: &mut Connection<S>,
         alloc: Global,
-        after: u32,
+        after: Option<u32>,
     ) -> Result<Vec<TransitRow>, Fault> {
-        all_transits_after(conn, alloc, CopyId::new(after))
+        next_transits(conn, alloc, after)
     }
 }
 
@@ -165,9 +165,9 @@ impl Numbered for LineRow {
     fn page<S: Alter>(
         conn: &mut Connection<S>,
         alloc: Global,
-        after: u32,
+        after: Option<u32>,
     ) -> Result<Vec<LineRow>, Fault> {
-        all_lines_after(conn, alloc, LineId::new(after))
+        next_lines(conn, alloc, after)
     }
 }
 
@@ -254,11 +254,11 @@ pub(crate) fn read_pages<R: Numbered, F: Sift<R>, S: Alter>(
         S.Store conn.old conn.new result }
 {
     let mut kept = Vec::new(alloc);
-    let mut after = 0;
+    let mut after = None;
     'pages: for _page in 0..u64::MAX {
         let page = R::page(conn, alloc, after)?;
         match last_of(page.as_slice()) {
-            Some(last) => after = last,
+            Some(last) => after = Some(last),
             None => return Ok(Rows::new(kept)),
         }
         keep_page::<R, F>(&mut kept, page)?;

@@ -166,85 +166,85 @@ pub fn lines_after<S: Alter>(
     Ok(numbers)
 }
 
-pub fn patrons_after<S: Alter>(
+pub fn next_patrons<S: Alter>(
     conn: &mut Connection<S>,
     alloc: Global,
-    after: u32,
+    after: Option<u32>,
 ) -> Result<Vec<u32>, Fault> {
     let mut numbers = Vec::new(alloc);
-    for row in &tables::all_patrons_after(conn, alloc, PatronId::new(after))? {
+    for row in &tables::next_patrons(conn, alloc, after)? {
         numbers.push(row.patron.number())?;
     }
     Ok(numbers)
 }
 
-pub fn titles_after<S: Alter>(
+pub fn next_titles<S: Alter>(
     conn: &mut Connection<S>,
     alloc: Global,
-    after: u32,
+    after: Option<u32>,
 ) -> Result<Vec<u32>, Fault> {
     let mut numbers = Vec::new(alloc);
-    for row in &tables::all_titles_after(conn, alloc, TitleId::new(after))? {
+    for row in &tables::next_titles(conn, alloc, after)? {
         numbers.push(row.title.number())?;
     }
     Ok(numbers)
 }
 
-pub fn copies_after<S: Alter>(
+pub fn next_copies<S: Alter>(
     conn: &mut Connection<S>,
     alloc: Global,
-    after: u32,
+    after: Option<u32>,
 ) -> Result<Vec<u32>, Fault> {
     let mut numbers = Vec::new(alloc);
-    for row in &tables::all_copies_after(conn, alloc, CopyId::new(after))? {
+    for row in &tables::next_copies(conn, alloc, after)? {
         numbers.push(row.copy.number())?;
     }
     Ok(numbers)
 }
 
-pub fn loans_after<S: Alter>(
+pub fn next_loans<S: Alter>(
     conn: &mut Connection<S>,
     alloc: Global,
-    after: u32,
+    after: Option<u32>,
 ) -> Result<Vec<u32>, Fault> {
     let mut numbers = Vec::new(alloc);
-    for row in &tables::all_loans_after(conn, alloc, LoanId::new(after))? {
+    for row in &tables::next_loans(conn, alloc, after)? {
         numbers.push(row.loan.number())?;
     }
     Ok(numbers)
 }
 
-pub fn holds_after<S: Alter>(
+pub fn next_holds<S: Alter>(
     conn: &mut Connection<S>,
     alloc: Global,
-    after: u32,
+    after: Option<u32>,
 ) -> Result<Vec<u32>, Fault> {
     let mut numbers = Vec::new(alloc);
-    for row in &tables::all_holds_after(conn, alloc, HoldId::new(after))? {
+    for row in &tables::next_holds(conn, alloc, after)? {
         numbers.push(row.hold.number())?;
     }
     Ok(numbers)
 }
 
-pub fn transits_after<S: Alter>(
+pub fn next_transits<S: Alter>(
     conn: &mut Connection<S>,
     alloc: Global,
-    after: u32,
+    after: Option<u32>,
 ) -> Result<Vec<u32>, Fault> {
     let mut numbers = Vec::new(alloc);
-    for row in &tables::all_transits_after(conn, alloc, CopyId::new(after))? {
+    for row in &tables::next_transits(conn, alloc, after)? {
         numbers.push(row.copy.number())?;
     }
     Ok(numbers)
 }
 
-pub fn all_lines_after<S: Alter>(
+pub fn next_lines<S: Alter>(
     conn: &mut Connection<S>,
     alloc: Global,
-    after: u32,
+    after: Option<u32>,
 ) -> Result<Vec<u32>, Fault> {
     let mut numbers = Vec::new(alloc);
-    for row in &tables::all_lines_after(conn, alloc, LineId::new(after))? {
+    for row in &tables::next_lines(conn, alloc, after)? {
         numbers.push(row.line.number())?;
     }
     Ok(numbers)

@@ -109,14 +109,16 @@ fn finds_pages<S: Alter>(
     conn: &mut Connection<S>,
     alloc: Global,
 ) -> Result<(), Fail> {
-    lists(rt, patrons_after(conn, alloc, 1)?, &[2, 3]);
-    lists(rt, titles_after(conn, alloc, 100)?, &[101, 102]);
-    lists(rt, copies_after(conn, alloc, 13)?, &[14, 15]);
-    lists(rt, loans_after(conn, alloc, 7)?, &[8, 9]);
-    lists(rt, holds_after(conn, alloc, 9)?, &[10, 11]);
-    lists(rt, transits_after(conn, alloc, 17)?, &[18, 19]);
-    lists(rt, all_lines_after(conn, alloc, 4)?, &[5, 6]);
-    lists(rt, all_lines_after(conn, alloc, 6)?, &[]);
+    lists(rt, next_patrons(conn, alloc, None)?, &[1, 2, 3]);
+    lists(rt, next_patrons(conn, alloc, Some(1))?, &[2, 3]);
+    lists(rt, next_titles(conn, alloc, Some(100))?, &[101, 102]);
+    lists(rt, next_copies(conn, alloc, Some(13))?, &[14, 15]);
+    lists(rt, next_loans(conn, alloc, Some(7))?, &[8, 9]);
+    lists(rt, next_holds(conn, alloc, Some(9))?, &[10, 11]);
+    lists(rt, next_transits(conn, alloc, Some(17))?, &[18, 19]);
+    lists(rt, next_lines(conn, alloc, Some(4))?, &[5, 6]);
+    lists(rt, next_lines(conn, alloc, Some(6))?, &[]);
+    lists(rt, next_lines(conn, alloc, Some(u32::MAX))?, &[]);
     Ok(())
 }
 

@@ -1,4 +1,4 @@
-use Rattle.std.proofs.Common.{◌≡◌, ◌<◌, ◌≤◌, ◌^◌, ◌-◌, List, option_map, slice_get, length, Some, None, sym, subst, arith}
+use Rattle.std.proofs.Common.{◌≡◌, ◌<◌, ◌≤◌, ◌^◌, ◌-◌, List, option_map, slice_get, length, unwrap_or, Some, None, sym, subst, arith}
 use Rattle.store.specs.Lists.{AreTestedRows}
 use Rattle.store.proofs.PagedRows.{all_so_far, next_so_far, empty_if}
 use Rattle.store.proofs.ViewLemmas.{◌⨾◌, fails, gives, stops}
@@ -16,7 +16,7 @@ returns-in-None g c =
     let none : None ≡ option_map number_of (slice_get page (length page - 1)) = rw (c.as_slice.ensures.value) at c.in-None.ensures in
     gives (c.pages.invariant.seen ⨾ c.in_ok-page.ensures) (λ P all.
     subst (λ (l : List _). AreTestedRows (rows P) number_of test l) (sym c.new.ensures)
-    (all_so_far (rows P) number_of test c.pages.after c.pages._page c.pages.kept.items all.0 page all.1.1 all.1.0 (empty_if number_of page (sym none))))
+    (all_so_far (rows P) number_of test (unwrap_or c.pages.after 0) c.pages._page c.pages.kept.items all.0 page all.1.1 all.1.0 (empty_if number_of page (sym none))))
 
 pub returns-in_err-keep_page : goal.returns-in_err-keep_page
 returns-in_err-keep_page g c =
@@ -32,13 +32,13 @@ pages-preserved g c =
     let end : Some c.in-Some.last ≡ option_map number_of (slice_get page (length page - 1)) = rw (c.as_slice.ensures.value) at c.in-Some.ensures in
     record {
       seen = gives (c.pages.invariant.seen ⨾ c.in_ok-page.ensures) (λ P all.
-          next_so_far (g.R.Numbered.rows P) number_of g.F.Sift.test c.pages.after c.pages._page c.pages.kept.items all.0 page all.1.1 c.in-Some.last (sym end) c.keep_page.new.kept.items c.in_ok-keep_page.ensures.kept);
+          next_so_far (g.R.Numbered.rows P) number_of g.F.Sift.test (unwrap_or c.pages.after 0) c.pages._page c.pages.kept.items all.0 page all.1.1 c.in-Some.last (sym end) c.keep_page.new.kept.items c.in_ok-keep_page.ensures.kept);
       low = search;
     }
 
 pub returns : goal.returns
 returns g c = gives c.pages.invariant.seen (λ P so_far.
-    let few : c.pages._page ≤ c.pages.after = so_far.few in
-    let low : c.pages.after < 2 ^ 32 = c.pages.invariant.low in
+    let few : c.pages._page ≤ unwrap_or c.pages.after 0 = so_far.few in
+    let low : unwrap_or c.pages.after 0 < 2 ^ 32 = c.pages.invariant.low in
     let past = c.pages-test.false in
     absurd (omega (arith, few, low, past)))

@@ -5,4 +5,4 @@ use Rattle.store.proofs.PageLemmas.{page_seen}
 use Rattle.store.proofs.pages.LineRowNumbered.page.Goals as goal
 
 pub returns : goal.returns
-returns g c = page_seen lines (λ r. r.line) line_told (λ r. refl) (λ maps P is. is.lines) (λ P legal. legal.lines) (λ r legal. legal.0.0) c.args.after (rw (c.new.ensures) at c.all_lines_after.ensures)
+returns g c = page_seen lines (λ r. r.line) line_told (λ r. refl) (λ maps P is. is.lines) (λ P legal. legal.lines) (λ r legal. legal.0.0) c.args.after c.next_lines.ensures

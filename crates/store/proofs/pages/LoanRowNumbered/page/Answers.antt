@@ -5,4 +5,4 @@ use Rattle.store.proofs.PageLemmas.{page_seen}
 use Rattle.store.proofs.pages.LoanRowNumbered.page.Goals as goal
 
 pub returns : goal.returns
-returns g c = page_seen loans (λ r. r.loan) loan_told (λ r. refl) (λ maps P is. is.loans) (λ P legal. legal.loans) (λ r legal. legal.0.0) c.args.after (rw (c.new.ensures) at c.all_loans_after.ensures)
+returns g c = page_seen loans (λ r. r.loan) loan_told (λ r. refl) (λ maps P is. is.loans) (λ P legal. legal.loans) (λ r legal. legal.0.0) c.args.after c.next_loans.ensures

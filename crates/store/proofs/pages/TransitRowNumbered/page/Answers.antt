@@ -5,4 +5,4 @@ use Rattle.store.proofs.PageLemmas.{page_seen}
 use Rattle.store.proofs.pages.TransitRowNumbered.page.Goals as goal
 
 pub returns : goal.returns
-returns g c = page_seen transits (λ r. r.copy) transit_told (λ r. refl) (λ maps P is. is.transits) (λ P legal. legal.transits) (λ r legal. legal.0.0) c.args.after (rw (c.new.ensures) at c.all_transits_after.ensures)
+returns g c = page_seen transits (λ r. r.copy) transit_told (λ r. refl) (λ maps P is. is.transits) (λ P legal. legal.transits) (λ r legal. legal.0.0) c.args.after c.next_transits.ensures
