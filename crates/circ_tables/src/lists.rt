@@ -251,7 +251,8 @@ pub fn kept_past<S: Alter>(
     )
 }
 
-/// The least number of a row that comes after this one, or of any row.
+/// The least number of a row that comes after this one, or of any row. That this one has 32 bits is
+/// said too, since what is answered fits 64 for it.
 fn least_after(after: Option<u32>) -> i64
     ensures least { result ≡ least_after after }
     ensures range { IfSome after (λ n. n < 2 ^ 32) }

@@ -113,6 +113,6 @@ page_seen {R = R} t number_of told key_cell encoded own from after is =
     passes None r more = from_alone _ (subst (λ v. is_least v (negsuc 9223372036854775807) ≡ true) (sym (key_cell r)) (if_negative (number_of r) 9223372036854775807))
     passes (Some n) r more = from_alone _ (subst (λ v. is_least v (pos (n + 1)) ≡ true) (sym (key_cell r)) (if_least (number_of r) (n + 1) (omega (arith, more))))
 
--- rows of which no more is asked than that they could be read
+-- rows that are read and of which nothing is said
 pub passed_over : {S R L : Type 0} {K : Type 0} {t : Table K R} {items : L → List R} {Found : Map → List Row → Type 0} {g : Ghosts S} {r : Result L Fault} {a b : Held S} → Lists t items Found g a b r → Views IsPassedOver g a b r
 passed_over is = rows_seen (λ P rows. Unit {0}) (λ maps P shown legal rows limits found. tt) is

@@ -38,6 +38,6 @@ AreRowsAfter t number_of after = AreFirstRows t number_of (λ r. after < number_
 abbrev pub AreNumbered : {R : Type 0} → (ℕ → Option R) → (R → ℕ) → Type 0
 AreNumbered {R} t number_of = (n : ℕ) (r : R) → t n ≡ Some r → (number_of r ≡ n) × (1 ≤ n)
 
--- Nothing is said of what was read, but that its rows could be.
+-- Nothing is said of what was read.
 abbrev pub IsPassedOver : {A : Type 0} → Picture → A → Type 0
 IsPassedOver P x = Unit {0}
