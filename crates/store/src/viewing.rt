@@ -8,9 +8,9 @@ ghost use Rattle.circ_core.specs.Views.{IsCalendarOf, IsLenderOf, IsFirstFor, Ar
 ghost use Rattle.circ_core.specs.Views.{IsPatronView, IsAcquireView, IsCopyView, IsCheckOutView};
 ghost use Rattle.circ_core.specs.Views.{IsClosedDayView, IsAccountView, IsRenewView};
 ghost use Rattle.circ_core.specs.Views.{IsPlaceHoldView, IsCancelHoldView, IsBranchView};
-ghost use Rattle.circ_core.specs.Views.{IsPickupView, IsLenderView, IsCheckInView, IsUnshelveView};
+ghost use Rattle.circ_core.specs.Views.{IsPickupView, IsCheckInView, IsUnshelveView};
 ghost use Rattle.circ_core.specs.Views.{IsMissingView, IsViewOf, rule_in, kind_in, copy_in};
-ghost use Rattle.circ_core.specs.Views.{borrower_in, named_copy_in, coming_in};
+ghost use Rattle.circ_core.specs.Views.{borrower_in, named_copy_in, coming_in, IsCount, IsOpenBy};
 ghost use Rattle.circ_tables.specs.Reading.{Views};
 
 use calendar::{Calendar, CloseError, Day, Weekdays};
@@ -277,21 +277,24 @@ fn copy_view<S: Alter>(conn: &mut Connection<S>, number: CopyId) -> Result<View,
     })
 }
 
+/// What the end of a loan asks of it.
+struct Lender {
+    lender: Option<Calendar>,
+    patron: Option<PatronRow>,
+}
+
 /// The calendar of the branch that made the loan, and the borrower.
-fn lender_view<S: Alter>(
+fn lender_of<S: Alter>(
     conn: &mut Connection<S>,
     alloc: Global,
     loan: &Option<LoanRow>,
-) -> Result<View, Fault>
-    ensures { Views (λ P rows. IsLenderView P loan.now rows) S.Store conn.old conn.new result }
+) -> Result<Lender, Fault>
+    ensures { Views (λ P it. IsLenderOf P loan.now it.lender
+        × (it.patron ≡ borrower_in P loan.now)) S.Store conn.old conn.new result }
 {
     let lender = lender_calendar(conn, alloc, loan)?;
     let patron = borrower_of(conn, alloc, loan)?;
-    Ok(View {
-        lender,
-        patron,
-        ..View::empty()
-    })
+    Ok(Lender { lender, patron })
 }
 
 fn patron_view<S: Alter>(
@@ -376,6 +379,37 @@ fn cancel_hold_view<S: Alter>(conn: &mut Connection<S>, number: HoldId) -> Resul
     })
 }
 
+/// What lending a copy asks beside the rows of the patron and of the copy.
+struct Lending {
+    rule: Option<RuleRow>,
+    first: Option<HoldRow>,
+    open_loans: Count,
+    own_holds: Count,
+}
+
+/// The rule for a patron and a copy, the first in line for it, and how much the patron has.
+fn lending_of<S: Alter>(
+    conn: &mut Connection<S>,
+    number: PatronId,
+    patron: &Option<PatronRow>,
+    copy: &Option<CopyRow>,
+) -> Result<Lending, Fault>
+    ensures { Views (λ P it. (it.rule ≡ rule_in P patron.now copy.now)
+        × IsFirstFor P copy.now it.first × IsCount (IsOpenBy P number) it.open_loans
+        × AreHoldsFor P number copy.now it.own_holds) S.Store conn.old conn.new result }
+{
+    let rule = rule_for(conn, patron, copy)?;
+    let first = first_for(conn, copy)?;
+    let open_loans = count_open_loans(conn, number)?;
+    let own_holds = holds_for(conn, number, copy)?;
+    Ok(Lending {
+        rule,
+        first,
+        open_loans,
+        own_holds,
+    })
+}
+
 fn check_out_view<S: Alter>(
     conn: &mut Connection<S>,
     alloc: Global,
@@ -391,10 +425,13 @@ fn check_out_view<S: Alter>(
     let patron = get_patron(conn, alloc, number)?;
     let kind = kind_of(conn, &patron)?;
     let at = copy_view(conn, copy)?;
-    let rule = rule_for(conn, &patron, &at.copy)?;
-    let first = first_for(conn, &at.copy)?;
-    let open_loans = count_open_loans(conn, number)?;
-    let own_holds = holds_for(conn, number, &at.copy)?;
+    let lending = lending_of(conn, number, &patron, &at.copy)?;
+    let Lending {
+        rule,
+        first,
+        open_loans,
+        own_holds,
+    } = lending;
     Ok(View {
         meta,
         calendar,
@@ -469,22 +506,24 @@ fn check_in_view<S: Alter>(
     conn: &mut Connection<S>,
     alloc: Global,
     copy: CopyId,
-    branch: BranchId,
+    number: BranchId,
 ) -> Result<View, Fault>
-    ensures { Views (λ P rows. IsCheckInView P copy branch rows) S.Store conn.old conn.new result }
+    ensures { Views (λ P rows. IsCheckInView P copy number rows) S.Store conn.old conn.new result }
 {
     let meta = get_meta(conn)?;
-    let here = branch_view(conn, alloc, branch)?;
+    let branch = get_branch(conn, alloc, number)?;
+    let calendar = calendar_from(conn, alloc, number, &branch)?;
     let at = copy_view(conn, copy)?;
-    let end = lender_view(conn, alloc, &at.loan)?;
+    let end = lender_of(conn, alloc, &at.loan)?;
+    let Lender { lender, patron } = end;
     let coming = coming_hold(conn, &at.transit)?;
     let first = first_for(conn, &at.copy)?;
     Ok(View {
         meta,
-        branch: here.branch,
-        calendar: here.calendar,
-        lender: end.lender,
-        patron: end.patron,
+        branch,
+        calendar,
+        lender,
+        patron,
         coming,
         first,
         ..at
@@ -521,11 +560,12 @@ fn missing_view<S: Alter>(
 {
     let meta = get_meta(conn)?;
     let at = copy_view(conn, copy)?;
-    let end = lender_view(conn, alloc, &at.loan)?;
+    let end = lender_of(conn, alloc, &at.loan)?;
+    let Lender { lender, patron } = end;
     Ok(View {
         meta,
-        lender: end.lender,
-        patron: end.patron,
+        lender,
+        patron,
         ..at
     })
 }

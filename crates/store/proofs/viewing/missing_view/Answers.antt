@@ -10,4 +10,4 @@ returns-in_err-end g c = fails _ _ c.from_residual-in_err-end.ensures (c.in_ok-m
 pub returns : goal.returns
 returns g c =
     gives (c.in_ok-meta.ensures.view ⨾ c.in_ok-at.ensures ⨾ c.in_ok-end.ensures)
-    (λ P all. record { meta = all.0; at = record { copy = all.1.0.copy; loan = all.1.0.loan; transit = all.1.0.transit; hold = all.1.0.hold }; lender = record { calendar = all.1.1.calendar; patron = all.1.1.patron } })
+    (λ P all. record { meta = all.0; at = record { copy = all.1.0.copy; loan = all.1.0.loan; transit = all.1.0.transit; hold = all.1.0.hold }; lender = record { calendar = all.1.1.0; patron = all.1.1.1 } })
