@@ -11,6 +11,7 @@ ghost use Rattle.circ_core.specs.Views.{IsPlaceHoldView, IsCancelHoldView, IsBra
 ghost use Rattle.circ_core.specs.Views.{IsPickupView, IsCheckInView, IsUnshelveView};
 ghost use Rattle.circ_core.specs.Views.{IsMissingView, IsViewOf, rule_in, kind_in, copy_in};
 ghost use Rattle.circ_core.specs.Views.{borrower_in, named_copy_in, coming_in, IsCount, IsOpenBy};
+ghost use Rattle.circ_core.specs.Views.{IsActiveOn, IsActiveBy, IsLoanOfTitle};
 ghost use Rattle.circ_tables.specs.Reading.{Views};
 
 use calendar::{Calendar, CloseError, Day, Weekdays};
@@ -471,6 +472,33 @@ fn renew_view<S: Alter>(
     })
 }
 
+/// What a patron has that stands against one more hold on a title.
+struct Standing {
+    own_holds: Count,
+    loan: Option<LoanRow>,
+    active_holds: Count,
+}
+
+/// How many holds a patron has on the title and in all, and the loan of it.
+fn standing_of<S: Alter>(
+    conn: &mut Connection<S>,
+    number: PatronId,
+    wanted: TitleId,
+) -> Result<Standing, Fault>
+    ensures { Views (λ P it. IsCount (IsActiveOn P number wanted) it.own_holds
+        × IsLoanOfTitle P number wanted it.loan × IsCount (IsActiveBy P number) it.active_holds)
+        S.Store conn.old conn.new result }
+{
+    let own_holds = count_active_holds_on(conn, number, wanted)?;
+    let loan = open_loan_of_title(conn, number, wanted)?;
+    let active_holds = count_active_holds(conn, number)?;
+    Ok(Standing {
+        own_holds,
+        loan,
+        active_holds,
+    })
+}
+
 fn place_hold_view<S: Alter>(
     conn: &mut Connection<S>,
     alloc: Global,
@@ -486,9 +514,12 @@ fn place_hold_view<S: Alter>(
     let kind = kind_of(conn, &patron)?;
     let title = get_title(conn, alloc, wanted)?;
     let branch = get_branch(conn, alloc, pickup)?;
-    let own_holds = count_active_holds_on(conn, number, wanted)?;
-    let loan = open_loan_of_title(conn, number, wanted)?;
-    let active_holds = count_active_holds(conn, number)?;
+    let standing = standing_of(conn, number, wanted)?;
+    let Standing {
+        own_holds,
+        loan,
+        active_holds,
+    } = standing;
     Ok(View {
         meta,
         patron,

@@ -1,4 +1,4 @@
-use Rattle.store.proofs.ViewLemmas.{◌⨾◌, fails, gives, title_loan_seen, active_holds_on_seen, active_holds_seen}
+use Rattle.store.proofs.ViewLemmas.{◌⨾◌, fails, gives}
 use Rattle.store.proofs.viewing.place_hold_view.Goals as goal
 
 pub returns-in_err-patron : goal.returns-in_err-patron
@@ -13,16 +13,10 @@ returns-in_err-title g c = fails _ _ c.from_residual-in_err-title.ensures (c.in_
 pub returns-in_err-branch : goal.returns-in_err-branch
 returns-in_err-branch g c = fails _ _ c.from_residual-in_err-branch.ensures (c.in_ok-meta.ensures.view ⨾ c.in_ok-patron.ensures.view ⨾ c.in_ok-kind.ensures ⨾ c.in_ok-title.ensures.view ⨾ c.in_err-branch.ensures.view)
 
-pub returns-in_err-own_holds : goal.returns-in_err-own_holds
-returns-in_err-own_holds g c = fails _ _ c.from_residual-in_err-own_holds.ensures (c.in_ok-meta.ensures.view ⨾ c.in_ok-patron.ensures.view ⨾ c.in_ok-kind.ensures ⨾ c.in_ok-title.ensures.view ⨾ c.in_ok-branch.ensures.view ⨾ (active_holds_on_seen c.in_err-own_holds.ensures))
-
-pub returns-in_err-loan : goal.returns-in_err-loan
-returns-in_err-loan g c = fails _ _ c.from_residual-in_err-loan.ensures (c.in_ok-meta.ensures.view ⨾ c.in_ok-patron.ensures.view ⨾ c.in_ok-kind.ensures ⨾ c.in_ok-title.ensures.view ⨾ c.in_ok-branch.ensures.view ⨾ (active_holds_on_seen c.in_ok-own_holds.ensures) ⨾ title_loan_seen c.in_err-loan.ensures)
-
-pub returns-in_err-active_holds : goal.returns-in_err-active_holds
-returns-in_err-active_holds g c = fails _ _ c.from_residual-in_err-active_holds.ensures (c.in_ok-meta.ensures.view ⨾ c.in_ok-patron.ensures.view ⨾ c.in_ok-kind.ensures ⨾ c.in_ok-title.ensures.view ⨾ c.in_ok-branch.ensures.view ⨾ (active_holds_on_seen c.in_ok-own_holds.ensures) ⨾ title_loan_seen c.in_ok-loan.ensures ⨾ (active_holds_seen c.in_err-active_holds.ensures))
+pub returns-in_err-standing : goal.returns-in_err-standing
+returns-in_err-standing g c = fails _ _ c.from_residual-in_err-standing.ensures (c.in_ok-meta.ensures.view ⨾ c.in_ok-patron.ensures.view ⨾ c.in_ok-kind.ensures ⨾ c.in_ok-title.ensures.view ⨾ c.in_ok-branch.ensures.view ⨾ c.in_err-standing.ensures)
 
 pub returns : goal.returns
 returns g c =
-    gives (c.in_ok-meta.ensures.view ⨾ c.in_ok-patron.ensures.view ⨾ c.in_ok-kind.ensures ⨾ c.in_ok-title.ensures.view ⨾ c.in_ok-branch.ensures.view ⨾ (active_holds_on_seen c.in_ok-own_holds.ensures) ⨾ title_loan_seen c.in_ok-loan.ensures ⨾ (active_holds_seen c.in_ok-active_holds.ensures))
-    (λ P all. record { meta = all.0; patron = all.1.0; kind = all.1.1.0; title = all.1.1.1.0; branch = all.1.1.1.1.0; own_holds = all.1.1.1.1.1.0; loan = all.1.1.1.1.1.1.0; active_holds = all.1.1.1.1.1.1.1 })
+    gives (c.in_ok-meta.ensures.view ⨾ c.in_ok-patron.ensures.view ⨾ c.in_ok-kind.ensures ⨾ c.in_ok-title.ensures.view ⨾ c.in_ok-branch.ensures.view ⨾ c.in_ok-standing.ensures)
+    (λ P all. record { meta = all.0; patron = all.1.0; kind = all.1.1.0; title = all.1.1.1.0; branch = all.1.1.1.1.0; own_holds = all.1.1.1.1.1.0; loan = all.1.1.1.1.1.1; active_holds = all.1.1.1.1.1.2 })
