@@ -47,13 +47,16 @@ last_next x e entries w ise long old = by (is_worker w) refl
         ap (λ b. get_or (cond b (set x.last (e.worker - 1) (Some e)) x.last) (w - 1) None) ise
         ∙ (on_next x e w (eqb e.worker w) refl h ise long ∙ (ap (λ o. cond (eqb e.worker w) (Some e) o) was ∙ sym (last_of-snoc w entries e)))
 
-count-cons : (w : ℕ) (e : Entry) (es : List Entry) → count_own w (e ∷ es) ≡ cond (eqb e.worker w) 1 0 + count_own w es
+pub count-cons : (w : ℕ) (e : Entry) (es : List Entry) → count_own w (e ∷ es) ≡ cond (eqb e.worker w) 1 0 + count_own w es
 count-cons w e es = sum_by-cons (λ (d : Entry). cond (eqb d.worker w) 1 0) e es
+
+pub eqb-self : (k w : ℕ) → k ≡ w → eqb k w ≡ true
+eqb-self k w h = grind (arith, nat_tests)
 
 count-append : (w : ℕ) (xs ys : List Entry) → count_own w (xs ++ ys) ≡ count_own w xs + count_own w ys
 count-append w xs ys = sum_by-append (λ (d : Entry). cond (eqb d.worker w) 1 0) xs ys
 
-none_in : (w : ℕ) (es : List Entry) → last_of w es ≡ None → count_own w es ≡ 0
+pub none_in : (w : ℕ) (es : List Entry) → last_of w es ≡ None → count_own w es ≡ 0
 none_in w [] h = refl
 none_in w (x ∷ es) h = by (none_in w es) (last_of w es) (eqb x.worker w) refl refl h
   where

@@ -2,3 +2,4 @@ pub mod Beginnings
 pub mod Keeping
 pub mod Lasts
 pub mod PageLists
+pub mod Telling

@@ -1,34 +1,45 @@
 -- The rule of the board.
-use Rattle.std.specs.Prelude.{◌≡◌, ℕ, Bool, true, false, List, [], ◌∷◌, ◌++◌, length, Some}
+use Rattle.std.specs.Prelude.{◌≡◌, ℕ, Bool, true, false, List, [], ◌∷◌, ◌++◌, length, Option, None, Some}
 use Rattle.std.specs.Arc.{arc_value}
 use mathlib.Core.Option.{some}
 use lib.ListN.{get_elem?}
-use Rattle.model.specs.History.{History}
-use Rattle.model.specs.Requests.{after}
 use Rattle.board.specs.declared.board.Update.{Update}
 use Rattle.board.specs.declared.board.Update.TheVariants as update
 use Rattle.board.specs.declared.entry.Entry.{Entry}
 use Rattle.board.specs.declared.entry.Seen.{Seen}
-use Rattle.desk.specs.Showing.{own_page}
 use Rattle.desk.specs.declared.showing.OwnPage.{OwnPage}
-use Rattle.board.specs.Showing.{Showing, StartsWith, IsBoardOf, IsNextEntry, AreEntries, overlaid, requests}
+use Rattle.board.specs.Showing.{Showing, GoesOn, IsBoardOf, AreEntries}
 
 -- A side that has seen nothing.
 abbrev pub nothing_seen : Seen
-nothing_seen = record { entries = [] }
+nothing_seen = record { entries = []; pages = [] }
+
+-- What was seen, where there is something that knows it.
+abbrev pub seen_by : {A : Type 0} → (A → Seen) → Option A → Seen
+seen_by knows None = nothing_seen
+seen_by knows (Some x) = knows x
 
 -- ---- what the desk's side knows
 
--- The list that is shown, what workers see of it, and the pages that are to be shown with the next
--- entry.
+-- All pages that were shown, by those that its side knows of and those that the board shows now: where it
+-- knows of none they are these alone.
+abbrev pub all_pages : List (List (ℕ × OwnPage)) → List (ℕ × OwnPage) → List (List (ℕ × OwnPage))
+all_pages [] now = now ∷ []
+all_pages (pages ∷ more) now = pages ∷ more
+
+-- All that was shown, by what its side knows and what the board shows now.
+abbrev pub whole_view : Seen → Showing → Seen
+whole_view v x = record { entries = v.entries; pages = all_pages v.pages x.pages }
+
+-- What was shown, what workers see of it, and the pages that are to be shown with the next entry.
 pub record Publishing : Type 0 where
-  pub shown : List Entry
+  pub shown : Seen
   pub board : Showing
   pub pages : List (ℕ × OwnPage)
 
--- The list that is shown, for good, and what workers see of it.
+-- What was shown, for good, and what workers see of it.
 pub record Stopped : Type 0 where
-  pub shown : List Entry
+  pub shown : Seen
   pub board : Showing
 
 -- Nothing more is shown.
@@ -47,38 +58,32 @@ are_pages [] = true
 are_pages (update.Page patron page ∷ us) = are_pages us
 are_pages (update.Entry entry ∷ us) = false
 
-module _ (from : History) (known : Bool) where
-  -- The entry may be shown next, with the pages that are to be shown with it: each page is then what
-  -- the list of accepted requests makes it, where that is known.
-  pub record MayFollow (p : Publishing) (e : Entry) : Type 0 where
-    pub next : IsNextEntry from known p.shown e
-    pub pages : known ≡ true → (q : ℕ) → overlaid p.pages q (own_page (after from (requests p.shown)) q)
-        ≡ own_page (after from (requests (p.shown ++ e ∷ []))) q
+-- ---- the rule
 
-  -- ---- the rule
+-- The board shows what was shown last of these entries and pages, and how many entries there are.
+pub record ShowsAll (all : Seen) (x : Showing) : Type 0 where
+  pub board : IsBoardOf all x
+  pub count : length all.entries ≡ x.version
+  pub places : length x.last ≡ 8
 
-  -- The board shows what these entries come to, and how many there are.
-  pub record ShowsAll (entries : List Entry) (x : Showing) : Type 0 where
-    pub board : IsBoardOf from known entries x
-    pub count : length entries ≡ x.version
-    pub places : length x.last ≡ 8
+-- The board shows what one list of entries comes to, and the last of one list of pages; what each side
+-- has seen is a beginning of them.
+pub record Keeps (x : Showing) (views : List Seen) : Type 0 where
+  pub all : Seen
+  pub shows : ShowsAll all x
+  pub sound : AreEntries [] all.entries
+  pub each : (side : ℕ) (v : Seen) → get_elem? views side ≡ some v → GoesOn all v
 
-  -- The board shows what one list of entries comes to, with which what each side has seen begins.
-  pub record Keeps (x : Showing) (views : List Seen) : Type 0 where
-    pub entries : List Entry
-    pub shows : ShowsAll entries x
-    pub sound : AreEntries from known [] entries
-    pub each : (side : ℕ) (v : Seen) → get_elem? views side ≡ some v → StartsWith entries v.entries
+-- A look: what is seen goes on from what was, and the board shows what it comes to.
+pub record Looks (v : Seen) (x y : Showing) (w : Seen) : Type 0 where
+  pub more : GoesOn w v
+  pub board : IsBoardOf w y
+  pub sound : AreEntries [] w.entries
 
-  -- A look: what is seen goes on from what was, and the board shows what it comes to.
-  pub record Looks (v : Seen) (x y : Showing) (w : Seen) : Type 0 where
-    pub more : StartsWith w.entries v.entries
-    pub board : IsBoardOf from known w.entries y
-    pub sound : AreEntries from known [] w.entries
-
--- One entry more is shown: the last one of all.
+-- One entry more is shown, the last one of all, and the pages of the board with it.
 pub record Publishes (v : Seen) (x y : Showing) (w : Seen) : Type 0 where
   pub entry : Entry
   pub latest : y.latest ≡ Some entry
   pub more : w.entries ≡ v.entries ++ entry ∷ []
+  pub pages : w.pages ≡ all_pages v.pages x.pages ++ y.pages ∷ []
   pub count : length w.entries ≡ y.version

@@ -1,5 +1,5 @@
 -- What the board of a hall shows.
-use Rattle.std.specs.Prelude.{◌≡◌, ℕ, ◌+◌, ◌-◌, ◌==◌, Bool, true, if◌then◌else◌, List, [], ◌∷◌, ◌++◌, map, set, slice_index_or, count_by, Option, None, Some}
+use Rattle.std.specs.Prelude.{◌≡◌, ℕ, ◌+◌, ◌-◌, ◌==◌, true, if◌then◌else◌, List, [], ◌∷◌, ◌++◌, fold, length, map, set, slice_index_or, count_by, Option, None, Some}
 use Rattle.std.specs.Option.{option_or}
 use Rattle.std.specs.Ordering.{nat_cmp}
 use Rattle.std.specs.Map.{lookup}
@@ -12,6 +12,7 @@ use Rattle.model.specs.Requests.{after, reply_to}
 use Rattle.board.specs.declared.board.Update.{Update}
 use Rattle.board.specs.declared.board.Update.TheVariants as update
 use Rattle.board.specs.declared.entry.Entry.{Entry}
+use Rattle.board.specs.declared.entry.Seen.{Seen}
 use Rattle.desk.specs.Showing.{own_page}
 use Rattle.desk.specs.declared.showing.OwnPage.{OwnPage}
 use Rattle.board.specs.Workers.{is_worker}
@@ -47,13 +48,43 @@ last_of w [] = None
 last_of w (e ∷ es) = option_or (last_of w es) (if e.worker == w then Some e else None)
 
 -- The list begins with what was seen.
-abbrev pub StartsWith : List Entry → List Entry → Type 0
-StartsWith entries seen = (rest : List Entry) × (entries ≡ seen ++ rest)
+abbrev pub StartsWith : {A : Type 0} → List A → List A → Type 0
+StartsWith {A} all seen = (rest : List A) × (all ≡ seen ++ rest)
 
--- What was seen, where there is something that knows it.
-abbrev pub seen_by : {A : Type 0} → (A → List Entry) → Option A → List Entry
-seen_by knows None = []
-seen_by knows (Some x) = knows x
+-- Each of these entries may come after those before it: it is as `Is` says.
+abbrev pub EachIs : (List Entry → Entry → Type 0) → List Entry → List Entry → Type 0
+EachIs Is before [] = Unit {0}
+EachIs Is before (e ∷ es) = Is before e × EachIs Is (before ++ e ∷ []) es
+
+-- ---- what is seen
+
+-- No entry, and these pages.
+abbrev pub first_seen : List (ℕ × OwnPage) → Seen
+first_seen pages = record { entries = []; pages = pages ∷ [] }
+
+-- What is seen begins with what was.
+abbrev pub GoesOn : Seen → Seen → Type 0
+GoesOn new old = StartsWith new.entries old.entries × StartsWith new.pages old.pages
+
+-- The pages that were seen are those with none of the entries and with each of them.
+abbrev pub HasLooked : Seen → Type 0
+HasLooked seen = length seen.pages ≡ length seen.entries + 1
+
+-- The last of these pages.
+abbrev pub last_pages : List (List (ℕ × OwnPage)) → List (ℕ × OwnPage)
+last_pages all = fold (λ _ pages. pages) [] all
+
+-- The page of a patron as it was seen last.
+abbrev pub page_of : Seen → ℕ → Option OwnPage
+page_of seen patron = page_at (last_pages seen.pages) patron
+
+-- One entry more is shown, and with it these pages over those that were there.
+pub record ShowsMore (old : Seen) (put : List (ℕ × OwnPage)) (e : Entry) (new : Seen) : Type 0 where
+  pub looked : HasLooked old
+  pub entries : new.entries ≡ old.entries ++ e ∷ []
+  pub now : List (ℕ × OwnPage)
+  pub pages : new.pages ≡ old.pages ++ now ∷ []
+  pub each : (patron : ℕ) → page_at now patron ≡ overlaid put patron (page_of old patron)
 
 -- ---- the board
 
@@ -98,36 +129,44 @@ updated x (update.Entry entry) = with_entry x (arc_value entry)
 
 -- ---- what is said of it
 
-module _ (from : History) (known : Bool) where
-  -- The entry may follow these: it is of a worker, and has the next number of that worker; and its
-  -- reply is the one that the list of accepted requests gives, where that is known.
-  pub record IsNextEntry (before : List Entry) (e : Entry) : Type 0 where
-    pub worker : is_worker e.worker ≡ true
-    pub number : e.number ≡ count_own e.worker before + 1
-    pub reply : known ≡ true → e.reply ≡ reply_to (after from (requests before)) e.request
+-- The entry may follow these: it is of a worker, and has the next number of that worker.
+pub record IsNextEntry (before : List Entry) (e : Entry) : Type 0 where
+  pub worker : is_worker e.worker ≡ true
+  pub number : e.number ≡ count_own e.worker before + 1
 
-  -- Each of these entries may follow those before it.
-  abbrev pub AreEntries : List Entry → List Entry → Type 0
-  AreEntries before [] = Unit {0}
-  AreEntries before (e ∷ es) = IsNextEntry before e × AreEntries (before ++ e ∷ []) es
+-- Each of these entries may follow those before it.
+abbrev pub AreEntries : List Entry → List Entry → Type 0
+AreEntries = EachIs IsNextEntry
 
-  -- The board shows what these entries come to.
-  pub record IsBoardOf (entries : List Entry) (x : Showing) : Type 0 where
-    pub last : (w : ℕ) → last_on w x ≡ (if is_worker w then last_of w entries else None)
-    pub pages : known ≡ true → (p : ℕ) → page_at x.pages p ≡ own_page (after from (requests entries)) p
+-- The board shows what these entries come to, and the last of the pages.
+pub record IsBoardOf (all : Seen) (x : Showing) : Type 0 where
+  pub last : (w : ℕ) → last_on w x ≡ (if is_worker w then last_of w all.entries else None)
+  pub pages : x.pages ≡ last_pages all.pages
+  pub looked : HasLooked all
 
-  -- The worker's submission of this number has this reply: what was seen shows it at its place in the
-  -- list, for this request, and every other one of the worker's own stands before it there. Where
-  -- the list of accepted requests is known, the reply is the one that it gives at that place.
-  pub record IsReply (seen : List Entry) (w n : ℕ) (request : Request) (reply : Reply) : Type 0 where
-    pub front : List Entry
-    pub entry : Entry
-    pub rest : List Entry
-    pub seen_is : seen ≡ front ++ entry ∷ rest
-    pub worker_is : entry.worker ≡ w
-    pub number_is : entry.number ≡ n
-    pub request_is : entry.request ≡ request
-    pub reply_is : entry.reply ≡ reply
-    pub next : n ≡ count_own w front + 1
-    pub all : count_own w seen ≡ n
-    pub given : known ≡ true → reply ≡ reply_to (after from (requests front)) request
+-- The worker's submission of this number has this reply: what was seen shows it at its place in the
+-- list, for this request, and every other one of the worker's own stands before it there.
+pub record IsReply (seen : List Entry) (w n : ℕ) (request : Request) (reply : Reply) : Type 0 where
+  pub front : List Entry
+  pub entry : Entry
+  pub rest : List Entry
+  pub seen_is : seen ≡ front ++ entry ∷ rest
+  pub worker_is : entry.worker ≡ w
+  pub number_is : entry.number ≡ n
+  pub request_is : entry.request ≡ request
+  pub reply_is : entry.reply ≡ reply
+  pub next : n ≡ count_own w front + 1
+  pub all : count_own w seen ≡ n
+
+-- ---- what a list of accepted requests makes of it
+
+-- The reply is the one that the list gives after these entries.
+abbrev pub IsGivenAfter : History → List Entry → Entry → Type 0
+IsGivenAfter H before e = e.reply ≡ reply_to (after H (requests before)) e.request
+
+-- Each reply that was shown is the one that this list of accepted requests gives at its place, and
+-- each page is the one after this list and the beginning with which it was shown.
+pub record IsTold (H : History) (all : Seen) : Type 0 where
+  pub replies : EachIs (IsGivenAfter H) [] all.entries
+  pub pages : (seen : Seen) → GoesOn all seen → HasLooked seen → (patron : ℕ)
+      → page_of seen patron ≡ own_page (after H (requests seen.entries)) patron

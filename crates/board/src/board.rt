@@ -1,6 +1,6 @@
 //! What the board shows.
 
-ghost use Rattle.std.specs.Prelude.{◌≡◌, map, MatchResult, IfOk, IfSome, option_map};
+ghost use Rattle.std.specs.Prelude.{◌≡◌, None, map, IsFalse, MatchResult, IfOk, IfSome, option_map};
 ghost use Rattle.std.specs.Arc.{arc_value};
 ghost use Rattle.board.specs.Showing.{blank, page_at, with_page, with_last, with_entry, last_on, ShowsEntry};
 
@@ -116,6 +116,13 @@ impl Board {
         ensures { option_map (λ entry. arc_value entry.now) result ≡ last_on worker self.now }
     {
         self.last[(worker.number() - 1) as usize].as_ref()
+    }
+
+    /// Whether there is an entry of a worker.
+    pub(crate) fn has_entry(&self, worker: WorkerId) -> bool
+        ensures { IsFalse result → last_on worker self.now ≡ None }
+    {
+        self.last(worker).is_some()
     }
 
     /// The last entry of a worker, where it has this number and is of this request.

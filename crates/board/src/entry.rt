@@ -2,6 +2,7 @@
 
 use crate::request::SharedRequest;
 use crate::worker_id::WorkerId;
+use desk::OwnPage;
 use std::collections::LinkedList;
 use terms::Reply;
 
@@ -14,7 +15,9 @@ pub struct Entry {
     pub reply: Reply,
 }
 
-/// What a side of the board knows: a beginning of the handled list. No value of it is made.
+/// What a side of the board knows: a beginning of the handled list, and the pages that were shown
+/// with it, first with none of its entries and then with each. No value of it is made.
 pub struct Seen {
     pub entries: LinkedList<Entry>,
+    pub pages: LinkedList<LinkedList<(u32, OwnPage)>>,
 }

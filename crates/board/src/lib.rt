@@ -5,20 +5,16 @@
 mod board;
 mod entry;
 mod first;
-mod origin;
 mod publisher;
 mod request;
 mod rule;
 mod stopped;
-#[cfg(test)]
-mod tests;
 mod window;
 mod worker_id;
 
 pub use board::{Board, Update};
 pub use entry::{Entry, Seen};
 pub use first::First;
-pub use origin::Origin;
 pub use publisher::Publisher;
 pub use request::SharedRequest;
 pub use stopped::StoppedBoard;

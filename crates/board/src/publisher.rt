@@ -1,14 +1,12 @@
 //! The desk's side of the board.
 
-ghost use Rattle.std.specs.Prelude.{◌≡◌, ◌++◌, ◌<◌, ◌^◌, [], ◌∷◌, ℕ, true, MatchResult, IfOk};
-ghost use Rattle.desk.specs.Showing.{own_page};
-ghost use Rattle.board.specs.Showing.{blank, page_at};
-ghost use Rattle.board.specs.Rule.{MayFollow, as_stopped};
+ghost use Rattle.std.specs.Prelude.{◌≡◌, ◌++◌, ◌<◌, ◌^◌, [], ◌∷◌, MatchResult, IfOk};
+ghost use Rattle.board.specs.Showing.{blank, first_seen, IsNextEntry, ShowsMore};
+ghost use Rattle.board.specs.Rule.{nothing_seen, as_stopped};
 
 use crate::board::{Board, Update};
 use crate::entry::{Entry, Seen};
 use crate::first::First;
-use crate::origin::Origin;
 use crate::rule::{OneList, Publish};
 use crate::stopped::StoppedBoard;
 use crate::window::Window;
@@ -24,34 +22,34 @@ pub(crate) type BoardWriter<J> = Writer<Board, Update, Seen, OneList<J>>;
 
 /// The desk's side. Contracts see the list that is shown, what workers see of it, and the pages that
 /// are to be shown with the next entry. It is not `Drop`: end it by `close`.
-pub struct Publisher<J: Origin> {
+pub struct Publisher<J> {
     writer: BoardWriter<J>,
 }
 
-impl<J: Origin> Model for Publisher<J> {
+impl<J> Model for Publisher<J> {
     ghost use Rattle.std.specs.Prelude.{◌≡◌, true, drop};
     ghost use Rattle.left_right.specs.Sides.{view as knows};
-    ghost use Rattle.board.specs.Rule.{Publishing, ShowsAll, pages_of, are_pages};
+    ghost use Rattle.board.specs.Rule.{Publishing, ShowsAll, whole_view, pages_of, are_pages};
 
     ghost Value = { Publishing };
 
     ghost view = { λ p. record {
-      shown = (knows p.writer.desk.place).entries;
+      shown = whole_view (knows p.writer.desk.place) p.writer.desk.shown.value;
       board = p.writer.desk.shown.value;
       pages = pages_of (drop p.writer.behind p.writer.log.items);
     } };
 
     ghost invariant = { λ p.
-        ShowsAll J.from J.known (knows p.writer.desk.place).entries p.writer.desk.shown.value
+        ShowsAll (whole_view (knows p.writer.desk.place) p.writer.desk.shown.value)
+        p.writer.desk.shown.value
         × (are_pages (drop p.writer.behind p.writer.log.items) ≡ true) };
 }
 
-impl<J: Origin> Publisher<J> {
+impl<J> Publisher<J> {
     /// A board with these pages, for so many readers.
     pub fn new(alloc: Global, first: First, readers: usize) -> Result<Publisher<J>, Memory>
         requires readers { (0 < readers) × (readers < 2 ^ 32) }
-        requires pages { J.known ≡ true → (patron : ℕ) → page_at first patron ≡ own_page J.from patron }
-        ensures { IfOk result (λ p. (p.shown ≡ []) × (p.pages ≡ [])
+        ensures { IfOk result (λ p. (p.shown ≡ first_seen first) × (p.pages ≡ [])
             × (p.board ≡ record blank { pages = first })) }
     {
         let First { board, copy } = first;
@@ -61,7 +59,7 @@ impl<J: Origin> Publisher<J> {
 
     /// A window that has seen nothing. An error says that no reader's place is left.
     pub fn window(&self) -> Result<Window<J>, Memory>
-        ensures { IfOk result (λ w. w ≡ []) }
+        ensures { IfOk result (λ w. w ≡ nothing_seen) }
     {
         let reader = self.writer.factory().reader()?;
         Ok(Window::over(reader))
@@ -88,9 +86,9 @@ impl<J: Origin> Publisher<J> {
         alloc: Global,
         entry: Entry,
     ) -> Result<Publisher<J>, StoppedBoard<J>>
-        requires { MayFollow J.from J.known self entry }
+        requires { IsNextEntry self.shown.entries entry }
         ensures { MatchResult result
-            (λ p. (p.shown ≡ self.shown ++ entry ∷ []) × (p.pages ≡ []))
+            (λ p. ShowsMore self.shown self.pages entry p.shown × (p.pages ≡ []))
             (λ b. b ≡ as_stopped self) }
     {
         let Publisher { mut writer } = self;

@@ -1,33 +1,31 @@
-//! The rule of the board: what is shown is what a beginning of one growing list comes to.
+//! The rule of the board: what is shown is what a beginning of one growing list comes to, with the
+//! last of the pages that were shown.
 
 use crate::board::Board;
 use crate::entry::Seen;
-use crate::origin::Origin;
 use crossbeam_utils::rule::{Outcome, Protocol};
 use std::marker::PhantomData;
 
-/// The rule.
-pub struct OneList<J: Origin> {
+/// The rule, of the board of one hall.
+pub struct OneList<J> {
     of: PhantomData<J>,
 }
 
-impl<J: Origin> Protocol<Board, Seen> for OneList<J> {
+impl<J> Protocol<Board, Seen> for OneList<J> {
     ghost use Rattle.board.specs.Rule.{Keeps, nothing_seen};
 
-    ghost holds = { Keeps J.from J.known };
+    ghost holds = { Keeps };
 
     ghost first = { nothing_seen };
 }
 
 /// A reader looks at the board.
-pub struct Look<J: Origin> {
-    of: PhantomData<J>,
-}
+pub struct Look;
 
-impl<J: Origin> Outcome<Board, Seen> for Look<J> {
+impl Outcome<Board, Seen> for Look {
     ghost use Rattle.board.specs.Rule.{Looks};
 
-    ghost then = { Looks J.from J.known };
+    ghost then = { Looks };
 }
 
 /// One entry more is shown.

@@ -3,51 +3,51 @@
 ghost use Rattle.std.specs.Prelude.{◌≡◌};
 ghost use Rattle.left_right.specs.Sides.{view as knows};
 ghost use Rattle.board.specs.declared.entry.Seen.{Seen};
-ghost use Rattle.board.specs.Rule.{ShowsAll};
+ghost use Rattle.board.specs.Rule.{ShowsAll, whole_view};
 
-use crate::origin::Origin;
 use crate::publisher::BoardWriter;
 use std::marker::Model;
 use std::sync::Wait;
 
 /// A board that shows nothing more: workers keep what they see. Contracts see the list that it shows,
 /// and what workers see of it. It is not `Drop`: end it by `close`.
-pub struct StoppedBoard<J: Origin> {
+pub struct StoppedBoard<J> {
     writer: BoardWriter<J>,
 }
 
-impl<J: Origin> Model for StoppedBoard<J> {
+impl<J> Model for StoppedBoard<J> {
     ghost use Rattle.left_right.specs.Sides.{view as knows};
-    ghost use Rattle.board.specs.Rule.{Stopped, ShowsAll};
+    ghost use Rattle.board.specs.Rule.{Stopped, ShowsAll, whole_view};
 
     ghost Value = { Stopped };
 
     ghost view = { λ b. record {
-      shown = (knows b.writer.desk.place).entries;
+      shown = whole_view (knows b.writer.desk.place) b.writer.desk.shown.value;
       board = b.writer.desk.shown.value;
     } };
 
     ghost invariant = { λ b.
-        ShowsAll J.from J.known (knows b.writer.desk.place).entries b.writer.desk.shown.value };
+        ShowsAll (whole_view (knows b.writer.desk.place) b.writer.desk.shown.value)
+        b.writer.desk.shown.value };
 }
 
-impl<J: Origin> StoppedBoard<J> {
+impl<J> StoppedBoard<J> {
     /// What this writer has shown.
     pub(crate) fn over(writer: BoardWriter<J>) -> StoppedBoard<J>
-        requires { ShowsAll J.from J.known (knows {V = Seen} writer.desk.place).entries
+        requires { ShowsAll (whole_view (knows {V = Seen} writer.desk.place) writer.desk.shown.value)
             writer.desk.shown.value }
         ensures { result ≡ record {
-          shown = (knows {V = Seen} writer.desk.place).entries;
+          shown = whole_view (knows {V = Seen} writer.desk.place) writer.desk.shown.value;
           board = writer.desk.shown.value;
         } }
     {
         StoppedBoard { writer }
     }
 
-    /// Workers see what the list that is shown comes to: of each worker the last entry, of each
-    /// patron the page after the list.
+    /// Workers see what the list that is shown comes to: of each worker the last entry, and the pages
+    /// that were shown last.
     pub fn shows_its_list(&self)
-        ensures { ShowsAll J.from J.known self.now.shown self.now.board }
+        ensures { ShowsAll self.now.shown self.now.board }
     {
         let _ = &self.writer;
     }

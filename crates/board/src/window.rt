@@ -1,15 +1,12 @@
 //! A worker's side of the board.
 
-ghost use Rattle.std.specs.Prelude.{◌≡◌, true, IfOk, IfSome, option_map};
+ghost use Rattle.std.specs.Prelude.{◌≡◌, IfOk, IfSome, IsTrue, OnOk, option_map};
 ghost use Rattle.std.specs.Arc.{arc_value};
-ghost use Rattle.model.specs.Requests.{after};
 ghost use Rattle.left_right.specs.Sides.{view as knows};
-ghost use Rattle.desk.specs.Showing.{own_page};
-ghost use Rattle.board.specs.Showing.{StartsWith, requests, IsReply};
+ghost use Rattle.board.specs.Showing.{GoesOn, HasLooked, page_of, count_own, IsReply};
 
 use crate::board::Board;
 use crate::entry::{Entry, Seen};
-use crate::origin::Origin;
 use crate::request::SharedRequest;
 use crate::rule::{Look, OneList};
 use crate::worker_id::WorkerId;
@@ -31,28 +28,26 @@ pub enum Unseen {
     Gone,
 }
 
-/// A worker's side. Contracts see what it has seen: a beginning of the handled list.
+/// A worker's side. Contracts see what it has seen: a beginning of the handled list, with its pages.
 #[derive(Drop)]
-pub struct Window<J: Origin> {
+pub struct Window<J> {
     reader: Option<BoardReader<J>>,
 }
 
-impl<J: Origin> Model for Window<J> {
-    ghost use Rattle.std.specs.Prelude.{List};
+impl<J> Model for Window<J> {
     ghost use Rattle.left_right.specs.Sides.{view as knows};
-    ghost use Rattle.board.specs.declared.entry.Entry.{Entry};
     ghost use Rattle.board.specs.declared.entry.Seen.{Seen};
-    ghost use Rattle.board.specs.Showing.{seen_by};
+    ghost use Rattle.board.specs.Rule.{seen_by};
 
-    ghost Value = { List Entry };
+    ghost Value = { Seen };
 
-    ghost view = { λ w. seen_by (λ r. (knows {V = Seen} r.place).entries) w.reader };
+    ghost view = { λ w. seen_by (λ r. knows {V = Seen} r.place) w.reader };
 }
 
-impl<J: Origin> Window<J> {
+impl<J> Window<J> {
     /// A side that has seen nothing.
     pub(crate) fn over(reader: BoardReader<J>) -> Window<J>
-        ensures { result ≡ (knows {V = Seen} reader.place).entries }
+        ensures { result ≡ knows {V = Seen} reader.place }
     {
         Window {
             reader: Some(reader),
@@ -61,18 +56,40 @@ impl<J: Origin> Window<J> {
 
     /// The page of a patron, as the board shows it now, if there is such a patron.
     pub fn page(&mut self, patron: PatronId) -> Result<Option<Arc<OwnPage, Global>>, Unseen>
-        ensures on { StartsWith self.new self.old }
-        ensures page { J.known ≡ true → IfOk result (λ page. option_map arc_value page
-            ≡ own_page (after J.from (requests self.new)) patron) }
+        ensures on { GoesOn self.new self.old }
+        ensures looked { OnOk result (HasLooked self.new) }
+        ensures page { IfOk result (λ page. option_map arc_value page ≡ page_of self.new patron) }
     {
         let Some(reader) = self.reader.take() else {
             return Err(Unseen::Gone);
         };
-        match reader.enter_as::<Look<J>>() {
+        match reader.enter_as::<Look>() {
             Ok(reading) => {
                 let page = reading.get().page(patron);
                 self.reader = Some(reading.leave());
                 page.map_err(|_| Unseen::Memory)
+            }
+            Err(reader) => {
+                self.reader = Some(reader);
+                Err(Unseen::Gone)
+            }
+        }
+    }
+
+    /// Whether the board shows no entry of the worker.
+    pub fn shows_none_of(&mut self, worker: WorkerId) -> Result<bool, Unseen>
+        ensures on { GoesOn self.new self.old }
+        ensures none { IfOk result (λ none. IsTrue none → count_own worker self.new.entries ≡ 0) }
+    {
+        let _in_limits = worker.number();
+        let Some(reader) = self.reader.take() else {
+            return Err(Unseen::Gone);
+        };
+        match reader.enter_as::<Look>() {
+            Ok(reading) => {
+                let none = !reading.get().has_entry(worker);
+                self.reader = Some(reading.leave());
+                Ok(none)
             }
             Err(reader) => {
                 self.reader = Some(reader);
@@ -88,14 +105,14 @@ impl<J: Origin> Window<J> {
         number: u64,
         request: &SharedRequest,
     ) -> Result<Option<Arc<Entry, Global>>, Unseen>
-        ensures on { StartsWith self.new self.old }
-        ensures found { IfOk result (λ found. IfSome found (λ entry. IsReply J.from J.known self.new
+        ensures on { GoesOn self.new self.old }
+        ensures found { IfOk result (λ found. IfSome found (λ entry. IsReply self.new.entries
             worker number request.now (arc_value entry).reply)) }
     {
         let Some(reader) = self.reader.take() else {
             return Err(Unseen::Gone);
         };
-        match reader.enter_as::<Look<J>>() {
+        match reader.enter_as::<Look>() {
             Ok(reading) => {
                 let entry = reading.get().entry(worker, number, request);
                 self.reader = Some(reading.leave());

@@ -2,7 +2,10 @@
 
 ghost use Rattle.std.specs.Prelude.{◌≡◌};
 ghost use Rattle.terms.specs.Writing.{Writes};
-ghost use Rattle.hall.specs.Handling.{KnowsList};
+ghost use Rattle.store.specs.Library.{state};
+ghost use Rattle.model.specs.History.{History};
+ghost use Rattle.desk.specs.Answering.{Shows};
+ghost use Rattle.hall.specs.Openings.{OpensWith};
 ghost use Rattle.circ.specs.Lines.{EndsWith, port_line, threads_line};
 ghost use Rattle.circ.specs.Serving.{HandlesSome, ServesHall, ServesPort};
 ghost use Rattle.circ.specs.Serving.{end_text, exit_after, why_line, exit_of_why};
@@ -178,7 +181,7 @@ fn run<J: Opening + Send + Sync + 'static, S: Alter, R: Threads + Wait + Copy + 
     threads: Vec<JoinHandle<()>>,
     each: u32,
 ) -> Met<S>
-    requires { KnowsList J.known S.Store side.desk J.from }
+    requires { OpensWith J.shows S.Store side.desk side.publisher.shown }
     ensures { HandlesSome S.Store side.desk result.desk result.fault }
 {
     let mut threads = threads;
@@ -233,7 +236,7 @@ fn serve_hall<
     each: u32,
     writer: &mut W,
 ) -> (Desk<S>, Result<Exit, WriteFault>)
-    requires { KnowsList J.known S.Store side.desk J.from }
+    requires { OpensWith J.shows S.Store side.desk side.publisher.shown }
     ensures { ServesHall port S.Store side.desk result.0
         (W.contents writer.old) (W.contents writer.new) result.1 }
 {
@@ -287,7 +290,8 @@ fn open_and_serve<
     writer: &mut W,
 ) -> (Desk<S>, Result<Exit, WriteFault>)
     requires name { opened ≡ J.name }
-    requires known { KnowsList J.known S.Store desk J.from }
+    requires shows { (H : History) → J.shows H → Shows (state S.Store desk) H }
+    requires every { (H : History) → Shows (state S.Store desk) H → J.shows H }
     ensures { ServesPort port S.Store desk result.0
         (W.contents writer.old) (W.contents writer.new) result.1 }
 {

@@ -1,5 +1,5 @@
 -- A hall over the desk of a new library in memory.
-use Rattle.std.proofs.Common.{◌≡◌, ℕ, Bool, true, false, List, [], refl, sym, subst}
+use Rattle.std.proofs.Common.{◌≡◌, ℕ, [], sym, subst}
 use Rattle.std.specs.Prelude.{None, Ok}
 use Rattle.sqlite.proofs.Callers.{memory_is_clean}
 use Rattle.sqlite_trees.specs.declared.memory.MemStore.{MemStore}
@@ -9,12 +9,11 @@ use Rattle.desk.specs.Answering.{Shows}
 use Rattle.board.specs.Rule.{Publishing}
 use Rattle.board.specs.Showing.{page_at}
 use Rattle.hall.specs.declared.hall.Why.{Why}
-use Rattle.hall.specs.Handling.{KnowsList}
 use Rattle.hall.specs.Openings.{LooksOnly, OpensBoard, IsUnopened, IsUnmade}
 
--- its tables are known to show the empty list
-pub knows-none : (known : Bool) (from : History) (desk : Held MemStore) → from ≡ [] → Shows (state over_memory desk) [] → KnowsList known over_memory desk from
-knows-none known from desk is shows k = (memory_is_clean, subst (Shows (state over_memory desk)) (sym is) shows)
+-- its tables show the empty list
+pub shows-none : (desk : Held MemStore) (H : History) → H ≡ [] → Shows (state over_memory desk) [] → Shows (state over_memory desk) H
+shows-none desk H is shows = subst (Shows (state over_memory desk)) (sym is) shows
 
 module _ (old new : Held MemStore) (shows : Shows (state over_memory old) []) where
   -- after a look too

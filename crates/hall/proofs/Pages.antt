@@ -1,7 +1,7 @@
 -- Pages that are looked up for patrons, one after another.
 use Rattle.std.proofs.Common.{◌≡◌, ℕ, ◌+◌, ◌<◌, ◌≤◌, ◌==◌, Bool, true, false, ◌||◌, cond, List, [], ◌∷◌, ◌++◌, length, take, get_or, inl, inr, refl, sym, ◌∙◌, ap, subst, option_map}
 use Rattle.std.specs.Prelude.{Option, Some, None, is_some, Result, Ok, Err, IsErr, IsErrAnd, MatchResult}
-use Rattle.store.specs.Library.{Ghosts, Held}
+use Rattle.store.specs.Library.{Ghosts, Held, state}
 use Rattle.std.specs.Option.{option_or}
 use Rattle.std.specs.List.{list_any}
 use Rattle.std.proofs.lemmas.Bool.{eqb-true}
@@ -14,14 +14,15 @@ use Rattle.terms.specs.declared.fault.Fault.{Fault}
 use Rattle.terms.specs.declared.fault.Fault.TheVariants.{Memory}
 use Rattle.model.specs.History.{History, PatronFacts, patron_of, patron_after}
 use Rattle.model.specs.Requests.{adds, after_one, event_of}
-use Rattle.desk.specs.Answering.{Learns}
+use Rattle.desk.specs.Answering.{Learns, Shows}
 use Rattle.desk.specs.Showing.{own_page, AreEnrolled}
 use Rattle.desk.specs.declared.showing.OwnPage.{OwnPage}
 use Rattle.desk.proofs.Looking.{◌⨾◌, gives, fails}
 use Rattle.board.specs.Rule.{Publishing}
-use Rattle.board.specs.Showing.{Showing, blank, page_at, overlaid}
+use Rattle.board.specs.Showing.{Showing, blank, page_at, overlaid, first_seen, IsTold}
+use Rattle.board.proofs.Telling.{told-first}
 use Rattle.hall.specs.Handling.{PutsPages}
-use Rattle.hall.specs.Openings.{AreFirstPages, MeetsFaultOf, OpensBoard}
+use Rattle.hall.specs.Openings.{AreFirstPages, LooksOnly, MeetsFaultOf, OpensBoard, OpensWith}
 
 -- ---- patrons among others
 
@@ -155,15 +156,23 @@ pub first-all : {S : Type 0} (g : Ghosts S) (a b : Held S) (xs : List ℕ) (i : 
 first-all g a b xs i now long first = gives first (λ _ _ _. tt) (λ H legal _ met. subst (λ (l : List ℕ). AreFirstPages l H now) (take_all i xs long) met)
 
 -- the board that shows them
-pub opens-board : {S : Type 0} (g : Ghosts S) (a b : Held S) (first : List (ℕ × OwnPage)) (p : Publishing) → p.shown ≡ [] → p.pages ≡ [] → p.board ≡ record blank { pages = first }
+pub opens-board : {S : Type 0} (g : Ghosts S) (a b : Held S) (first : List (ℕ × OwnPage)) (p : Publishing) → p.shown ≡ first_seen first → p.pages ≡ [] → p.board ≡ record blank { pages = first }
     → Learns (λ H pages. (q : ℕ) → page_at pages q ≡ own_page H q) g a b (Ok first) → OpensBoard g a b p
 opens-board g a b first p shown none is learnt =
     let same : p.board.pages ≡ first = ap (λ (x : Showing). x.pages) is in
     record {
-      none = (shown, none);
+      none = (shown ∙ ap first_seen (sym same), none);
       alone = is ∙ ap (λ (l : List (ℕ × OwnPage)). record blank { pages = l }) (sym same);
       pages = subst (λ (l : List (ℕ × OwnPage)). Learns (λ H pages. (q : ℕ) → page_at pages q ≡ own_page H q) g a b (Ok l)) (sym same) learnt;
     }
+
+-- what it shows is what each list makes it that the tables show
+pub opens-with : {S : Type 0} (lists : History → Type 0) (g : Ghosts S) (a b : Held S) (p : Publishing) → ((H : History) → lists H → Shows (state g a) H) → LooksOnly g a b (Ok tt) → OpensBoard g a b p
+    → OpensWith lists g b p.shown
+opens-with lists g a b p tables looks opens = record {
+  tables = λ disk H first. looks.looks.stays disk H (tables H first);
+  told = λ disk H first. subst (IsTold H) (sym opens.none.0) (told-first H p.board.pages (opens.pages.shown disk H (tables H first) tt));
+}
 
 -- ---- looks that end in a fault
 

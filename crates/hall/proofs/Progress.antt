@@ -101,7 +101,7 @@ module _ {S : Type 0} (g : Ghosts S) where
     made-shows disk H shows = subst (Shows (state g m)) (sym (after-last first H request)) (d.handled.replied disk (after H first) (h.shown (d.handled.clean disk) refl H shows)).1
 
     -- one more was handled, and shown
-    handled-more : (rest' : List Request) (c : Held S) → LooksOnly g m c (Ok tt) → HandledFirst (first ++ request ∷ []) rest' g a c None
+    pub handled-more : (rest' : List Request) (c : Held S) → LooksOnly g m c (Ok tt) → HandledFirst (first ++ request ∷ []) rest' g a c None
     handled-more rest' c l =
         let now : IsClean g c → (H : History) → Shows (state g a) H → Shows (state g c) (after H (first ++ request ∷ [])) = λ disk H shows. l.looks.stays disk (after H (first ++ request ∷ [])) (made-shows (l.looks.clean disk) H shows) in
         record {

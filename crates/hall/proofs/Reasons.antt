@@ -1,5 +1,5 @@
 -- Why a hall isn't opened.
-use Rattle.std.proofs.Common.{◌≡◌, ◌⊎◌, inl, inr, ℕ, true, false, refl}
+use Rattle.std.proofs.Common.{◌≡◌, ◌⊎◌, inl, inr, ℕ, true, refl}
 use Rattle.std.specs.Prelude.{Ok}
 use Rattle.store.specs.Library.{Ghosts, Held}
 use Rattle.terms.specs.declared.fault.Fault.{Fault}

@@ -1,5 +1,5 @@
 -- Pages as the board shows them are the replies of the desk.
-use Rattle.std.proofs.Common.{◌≡◌, ℕ, Bool, true, false, not, cond, List, [], ◌∷◌, inl, refl, sym, ◌∙◌, ap, subst}
+use Rattle.std.proofs.Common.{◌≡◌, ℕ, true, false, not, cond, List, [], ◌∷◌, ◌++◌, append_assoc, inl, refl, sym, ◌∙◌, ap, subst}
 use Rattle.std.specs.Prelude.{Option, Some, None, option_map, unwrap_or, is_some, bytes_eq, Result, Ok, Err, IfOk}
 use Rattle.terms.specs.declared.command.Caller.{Caller}
 use Rattle.terms.specs.declared.command.Caller.TheVariants.{Desk}
@@ -22,9 +22,12 @@ use Rattle.web.specs.declared.answer.Answer.{Answer}
 use Rattle.web.specs.declared.answer.Answer.TheVariants as answer
 use Rattle.web.specs.declared.asked.Asked.TheVariants.{Nothing}
 use Rattle.web.specs.declared.asked.Asked.TheVariants as asked
-use Rattle.board.specs.Showing.{StartsWith, requests}
-use Rattle.board.proofs.Beginnings.{starts_self}
-use Rattle.hall.specs.Serving.{Working, shown_page, page_by_desk, page_asked, IsOwnPage, IsReplyFor, IsReplyTo, TellsPage, Meets}
+use Rattle.web.specs.declared.asked.Asked.{Asked}
+use Rattle.board.specs.declared.entry.Seen.{Seen}
+use Rattle.board.specs.Showing.{StartsWith, GoesOn, IsTold, requests}
+use Rattle.board.proofs.Beginnings.{goes_self}
+use Rattle.board.proofs.Telling.{told-reply}
+use Rattle.hall.specs.Serving.{Working, shown_page, page_by_desk, page_asked, IsOwnPage, IsPageSeen, IsReplied, IsReplyFor, IsReplyTo, IsGivenReply, IsGivenFor, IsGivenTo, TellsPage, Meets}
 
 abbrev asked_page : Option PatronFacts → List ℕ → Reply
 asked_page row text = elim (first_failing ((UnknownPatron, not (is_some row)) ∷ [])) as (λ _. Reply) [ Some refused ↦ Refused refused | None ↦ Shown text ]
@@ -62,22 +65,48 @@ page-replied H request patron asked = by request.caller request.command asked
 
 -- ---- what is asked for is met
 
-module _ (from : History) (known : Bool) (old : Working) where
-  pub nothing-met : Meets from known Nothing old old (Some (answer.Refused NotAllowed))
-  nothing-met = record { on = starts_self old.seen; once = refl; told = record { outcome = Ok (Refused NotAllowed); answer_is = refl; reply = (refl, refl) } }
+module _ (old : Working) where
+  pub nothing-met : Meets Nothing old old (Some (answer.Refused NotAllowed))
+  nothing-met = record { on = goes_self old.seen; once = refl; told = record { outcome = Ok (Refused NotAllowed); answer_is = refl; reply = (refl, refl) } }
 
-  module _ (new : Working) (told : Answer) (on : StartsWith new.seen old.seen) (same : new.post ≡ old.post) (patron : ℕ) where
-    pub page-met : (card_key : List ℕ) → TellsPage from known patron (Some card_key) new.seen told → Meets from known (asked.Page patron card_key) old new (Some told)
+  module _ (new : Working) (told : Answer) (on : GoesOn new.seen old.seen) (same : new.post ≡ old.post) (patron : ℕ) where
+    pub page-met : (card_key : List ℕ) → TellsPage patron (Some card_key) new.seen told → Meets (asked.Page patron card_key) old new (Some told)
     page-met card_key t = record { on = on; once = same; told = record { outcome = t.outcome; answer_is = t.answer_is; reply = by t.outcome t.reply } }
       where
-        by : (o : Result Reply Fault) → (known ≡ true → IfOk o (λ reply. reply ≡ shown_page (own_page (after from (requests new.seen)) patron) (Some card_key))) → IfOk o (IsReplyTo from known (asked.Page patron card_key) old new)
-        by (Ok reply) h = (same, λ k. own-page (after from (requests new.seen)) patron card_key reply (h k))
+        by : (o : Result Reply Fault) → IfOk o (IsPageSeen patron (Some card_key) new.seen) → IfOk o (IsReplyTo (asked.Page patron card_key) old new)
+        by (Ok reply) h = (same, h)
         by (Err fault) h = tt
 
-    pub desk-page-met : (request : Request) → page_asked request ≡ Some patron → TellsPage from known patron None new.seen told → Meets from known (asked.Request request) old new (Some told)
+    pub desk-page-met : (request : Request) → page_asked request ≡ Some patron → TellsPage patron None new.seen told → Meets (asked.Request request) old new (Some told)
     desk-page-met request asks t = record { on = on; once = inl same; told = record { outcome = t.outcome; answer_is = t.answer_is; reply = by t.outcome t.reply } }
       where
-        by : (o : Result Reply Fault) → (known ≡ true → IfOk o (λ reply. reply ≡ shown_page (own_page (after from (requests new.seen)) patron) None)) → IfOk o (IsReplyTo from known (asked.Request request) old new)
-        by (Ok reply) h =
-            subst (λ (q : Option ℕ). IsReplyFor from known q request old new reply) (sym asks) (same, λ k. h k ∙ page-replied (after from (requests new.seen)) request patron asks)
+        by : (o : Result Reply Fault) → IfOk o (IsPageSeen patron None new.seen) → IfOk o (IsReplyTo (asked.Request request) old new)
+        by (Ok reply) h = subst (λ (q : Option ℕ). IsReplyFor q request old new reply) (sym asks) (same, h)
         by (Err fault) h = tt
+
+-- ---- what a list of accepted requests makes of it
+
+-- What the board showed by its end is what the list makes it, and the worker has seen a beginning of
+-- that: so its reply is the one that the list gives.
+module _ (H : History) (all : Seen) (told : IsTold H all) (old new : Working) (on : GoesOn all new.seen) (reply : Reply) where
+  pub submission-given : (request : Request) → IsReplied request old new reply → IsGivenReply H old new reply request
+  submission-given request r =
+      let e = r.replied.entry in
+      let here : StartsWith all.entries (r.replied.front ++ e ∷ r.replied.rest) = subst (StartsWith all.entries) r.replied.seen_is on.0 in
+      let at : all.entries ≡ r.replied.front ++ e ∷ (r.replied.rest ++ here.0) = here.1 ∙ append_assoc r.replied.front (e ∷ r.replied.rest) here.0 in
+      record {
+        replied = r;
+        given = sym r.replied.reply_is ∙ (told-reply H all r.replied.front e (r.replied.rest ++ here.0) told at ∙ ap (reply_to (after H (requests r.replied.front))) r.replied.request_is);
+      }
+
+  seen-page : (patron : ℕ) (shown : Option (List ℕ)) → IsPageSeen patron shown new.seen reply → reply ≡ shown_page (own_page (after H (requests new.seen.entries)) patron) shown
+  seen-page patron shown p = p.reply_is ∙ ap (λ o. shown_page o shown) (told.pages new.seen on p.looked patron)
+
+  pub given-to : (a : Asked) → IsReplyTo a old new reply → IsGivenTo H old new reply a
+  given-to Nothing r = r.1
+  given-to (asked.Page patron card_key) r = own-page (after H (requests new.seen.entries)) patron card_key reply (seen-page patron (Some card_key) r.1)
+  given-to (asked.Request request) r = by (page_asked request) refl r
+    where
+      by : (o : Option ℕ) → page_asked request ≡ o → IsReplyFor o request old new reply → IsGivenFor H old new reply o request
+      by None e h = submission-given request h
+      by (Some patron) e h = seen-page patron None h.1 ∙ page-replied (after H (requests new.seen.entries)) request patron e

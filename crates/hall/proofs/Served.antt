@@ -1,11 +1,10 @@
 -- What serving a connection comes to, from what its parts came to.
-use Rattle.std.proofs.Common.{◌≡◌, ◌⊎◌, inl, inr, ℕ, ◌+◌, List, refl, sym, ◌∙◌, ap, subst, length}
-use Rattle.std.specs.Prelude.{Bool, Option, Some, None, Result, Ok, Err, IfSome, OnOk, OnErr}
+use Rattle.std.proofs.Common.{◌≡◌, ◌⊎◌, inl, inr, ℕ, List, sym, ap, subst}
+use Rattle.std.specs.Prelude.{Option, Some, None, Result, Ok, Err, IfSome, OnOk, OnErr}
 use Rattle.std.specs.Io.KnownBytes.{Appends, Keeps}
 use Rattle.terms.specs.Writing.{Writes, AppendsFront}
 use Rattle.terms.specs.declared.command.Request.{Request as Requested}
 use Rattle.terms.specs.declared.fault.Fault.TheVariants.{Memory}
-use Rattle.model.specs.History.{History}
 use Rattle.web.specs.Answers.{answer_bytes}
 use Rattle.web.specs.Asked.{asked_of}
 use Rattle.web.specs.Checks.{Reading, UnlessFaulted, ChecksHead}
@@ -16,9 +15,8 @@ use Rattle.web.specs.declared.asked.Asked.TheVariants.{Nothing, Page, Request}
 use Rattle.web.specs.declared.fault.WebFault.TheVariants.{Status}
 use Rattle.web.specs.declared.fault.WebStatus.{WebStatus}
 use Rattle.web.specs.declared.request.WebRequest.{WebRequest}
-use Rattle.board.specs.Showing.{StartsWith}
-use Rattle.board.proofs.Beginnings.{starts_self}
-use Rattle.hall.specs.declared.messages.View.{View}
+use Rattle.board.specs.Showing.{GoesOn}
+use Rattle.board.proofs.Beginnings.{goes_self}
 use Rattle.hall.specs.Serving.{Working, submitted, SubmitsAsked, TellsReply, Meets, Answers, Serves}
 
 -- what was read, by what the reading gave
@@ -27,36 +25,36 @@ pub read-status : (bytes : Option (List ℕ)) (r : Reading) (status : WebStatus)
 read-status None r status e h = tt
 read-status (Some all) r status e h = subst (λ (x : Reading). UnlessFaulted x (ChecksHead all x)) e h
 
-module _ {E : Type 0} (from : History) (known : Bool) (desk_key : List ℕ) (bytes : Option (List ℕ)) (old new : Working) (before after : Option (List ℕ)) (r : Result (Unit {0}) E) (answer : Answer) (sends : Writes (answer_bytes answer) before after r) where
-  served : StartsWith new.seen old.seen → (new.post ≡ old.post) ⊎ ((request : Requested) × (web : WebRequest) × IfSome bytes (λ all. ChecksHead all (Ok web)) × (asked_of desk_key web ≡ Request request) × (new.post ≡ submitted old.post request))
-      → Answers from known desk_key bytes old new answer → Serves from known desk_key bytes old new before after r
+module _ {E : Type 0} (desk_key : List ℕ) (bytes : Option (List ℕ)) (old new : Working) (before after : Option (List ℕ)) (r : Result (Unit {0}) E) (answer : Answer) (sends : Writes (answer_bytes answer) before after r) where
+  served : GoesOn new.seen old.seen → (new.post ≡ old.post) ⊎ ((request : Requested) × (web : WebRequest) × IfSome bytes (λ all. ChecksHead all (Ok web)) × (asked_of desk_key web ≡ Request request) × (new.post ≡ submitted old.post request))
+      → Answers desk_key bytes old new answer → Serves desk_key bytes old new before after r
   served on once answers = record { on = on; once = once; told = whole r sends.all; broken = cut r sends.front }
     where
-      whole : (q : Result (Unit {0}) E) → OnOk q (Appends before after (answer_bytes answer)) → OnOk q ((a : Answer) × Answers from known desk_key bytes old new a × Appends before after (answer_bytes a))
+      whole : (q : Result (Unit {0}) E) → OnOk q (Appends before after (answer_bytes answer)) → OnOk q ((a : Answer) × Answers desk_key bytes old new a × Appends before after (answer_bytes a))
       whole (Ok x) out = (answer, answers, out)
       whole (Err e) out = tt
 
       cut : (q : Result (Unit {0}) E) → OnErr q (AppendsFront before after (answer_bytes answer))
-          → OnErr q (Keeps before after ⊎ ((a : Answer) × Answers from known desk_key bytes old new a × AppendsFront before after (answer_bytes a)))
+          → OnErr q (Keeps before after ⊎ ((a : Answer) × Answers desk_key bytes old new a × AppendsFront before after (answer_bytes a)))
       cut (Ok x) front = tt
       cut (Err e) front = inr (answer, answers, front)
 
   -- nothing was asked of the hall
-  untouched : new ≡ old → Answers from known desk_key bytes old new answer → Serves from known desk_key bytes old new before after r
-  untouched same answers = served (subst (λ (w : Working). StartsWith w.seen old.seen) (sym same) (starts_self old.seen)) (inl (ap (λ (w : Working). w.post) same)) answers
+  untouched : new ≡ old → Answers desk_key bytes old new answer → Serves desk_key bytes old new before after r
+  untouched same answers = served (subst (λ (w : Working). GoesOn w.seen old.seen) (sym same) (goes_self old.seen)) (inl (ap (λ (w : Working). w.post) same)) answers
 
-  pub status-served : (status : WebStatus) → new ≡ old → answer ≡ Failed status → IfSome bytes (λ all. ChecksHead all (Err (Status status))) → Serves from known desk_key bytes old new before after r
+  pub status-served : (status : WebStatus) → new ≡ old → answer ≡ Failed status → IfSome bytes (λ all. ChecksHead all (Err (Status status))) → Serves desk_key bytes old new before after r
   status-served status same is read = untouched same (inl (record { status = status; read = read; answer_is = is }))
 
-  pub want-served : new ≡ old → answer ≡ Faulted Memory → Serves from known desk_key bytes old new before after r
+  pub want-served : new ≡ old → answer ≡ Faulted Memory → Serves desk_key bytes old new before after r
   want-served same is = untouched same (inr (inl is))
 
-  pub request-served : (web : WebRequest) (asked : Asked) (met : Option Answer) → asked ≡ asked_of desk_key web → IfSome bytes (λ all. ChecksHead all (Ok web)) → met ≡ Some answer → Meets from known asked old new met
-      → Serves from known desk_key bytes old new before after r
+  pub request-served : (web : WebRequest) (asked : Asked) (met : Option Answer) → asked ≡ asked_of desk_key web → IfSome bytes (λ all. ChecksHead all (Ok web)) → met ≡ Some answer → Meets asked old new met
+      → Serves desk_key bytes old new before after r
   request-served web asked met is read some meets = served meets.on (once asked is meets.once) (inr (inr (record {
     request = web;
     read = read;
-    tells = subst (λ (a : Asked). TellsReply from known a old new answer) is (subst (λ (o : Option Answer). IfSome o (TellsReply from known asked old new)) some meets.told);
+    tells = subst (λ (a : Asked). TellsReply a old new answer) is (subst (λ (o : Option Answer). IfSome o (TellsReply asked old new)) some meets.told);
   })))
     where
       once : (a : Asked) → a ≡ asked_of desk_key web → SubmitsAsked a old.post new.post

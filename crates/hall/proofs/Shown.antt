@@ -1,13 +1,12 @@
 -- What the board shows of what was handled.
-use Rattle.std.proofs.Common.{◌≡◌, ℕ, ◌+◌, ◌<◌, ◌≤◌, ◌==◌, Bool, true, false, cond, List, [], ◌∷◌, ◌++◌, length, map, Option, None, Some, sym, refl, ap, ◌∙◌, subst, eqb, arith}
-use Rattle.std.specs.List.{list_any, count_by, sum_by}
+use Rattle.std.proofs.Common.{◌≡◌, ℕ, ◌+◌, ◌<◌, true, false, cond, List, [], ◌∷◌, ◌++◌, length, map, Option, None, inl, inr, sym, refl, ap, ◌∙◌, subst, eqb, arith}
 use Rattle.std.proofs.lemmas.List.Sums.{sum_by-cons}
-use Rattle.std.proofs.lemmas.List.{map-append, take-append-drop}
+use Rattle.std.proofs.lemmas.List.{map-append}
 use Rattle.std.specs.Prelude.{Result, Ok, Err, IsSome, IfSome, MatchResult}
 use Rattle.terms.specs.declared.command.Request.{Request}
 use Rattle.terms.specs.declared.fault.Fault.{Fault}
 use Rattle.terms.specs.declared.reply.Reply.{Reply}
-use Rattle.store.specs.Library.{Ghosts, Held, state}
+use Rattle.store.specs.Library.{Ghosts, Held, state, IsClean}
 use Rattle.model.specs.History.{History}
 use Rattle.model.specs.Requests.{after, after_one}
 use Rattle.desk.specs.Answering.{Learns, Shows}
@@ -15,18 +14,21 @@ use Rattle.desk.specs.Running.{HandlesTouching}
 use Rattle.desk.specs.Showing.{own_page}
 use Rattle.desk.specs.declared.showing.OwnPage.{OwnPage}
 use Rattle.board.specs.declared.entry.Entry.{Entry}
-use Rattle.board.specs.Showing.{count_own, overlaid, IsNextEntry, requests as entry_requests}
-use Rattle.board.specs.Rule.{MayFollow, Publishing, Stopped}
+use Rattle.board.specs.declared.entry.Seen.{Seen}
+use Rattle.board.specs.Showing.{count_own, IsNextEntry, ShowsMore, IsTold, requests as entry_requests}
+use Rattle.board.specs.Rule.{Publishing, Stopped}
+use Rattle.board.proofs.Telling.{told-more}
 use Rattle.board.specs.Workers.{is_worker}
 use Rattle.hall.specs.declared.messages.Submission.{Submission}
 use Rattle.hall.specs.declared.messages.Message.{Message}
 use Rattle.hall.specs.declared.messages.Message.TheVariants.{Submit, Leave}
 use Rattle.hall.specs.Queue.{of, is_open, submissions, own, handled, unhandled, requests, IsNext}
-use Rattle.hall.specs.Handling.{submission_of, AreShown, KnowsList, PutsPages, IsDue, HandledFirst, ClosedBy, MayBeNext, MayHandle, MayTake, ShowsNext, TakesMessage, BoardShows, Stands, Finishes, shown_by}
-use Rattle.hall.proofs.HandledLists.{submissions_of, submissions-append, all_of, leave_kept, rest_kept}
+use Rattle.hall.specs.Openings.{ToldBy}
+use Rattle.hall.specs.Handling.{submission_of, AreShown, ShowsAfter, PutsPages, IsDue, HandledFirst, TakesNext, ClosedBy, MayHandle, MayTake, ShowsNext, TakesMessage, BoardShows, Stands, Finishes, shown_by}
+use Rattle.hall.proofs.HandledLists.{submissions_of, submissions-append, all_of, leave_kept, rest_kept, no_rest}
 use Rattle.hall.proofs.Pages.{no-page-before}
 use Rattle.hall.proofs.Progress.{after-last, submission-kept}
-use Rattle.hall.proofs.Causes.{open-shows, cause-left, cause-kept}
+use Rattle.hall.proofs.Causes.{open-shows, closed-shows, cause-left, cause-kept}
 
 own-count : (w : ℕ) (es : List Entry) → count_own w es ≡ length (own w (map submission_of es))
 own-count w [] = refl
@@ -57,115 +59,147 @@ due-number n got s shown next whole is =
     next.1 ∙ ap (λ k. k + 1) long
 
 -- the board after one more submission
-pub board-kept : (n m : ℕ) (before after' : Option Fault) (got got' : List Message) (s : Submission) (old new : Result Publishing Stopped) → got' ≡ got ++ Submit s ∷ []
-    → (before ≡ None → n ≡ length (submissions got)) → (after' ≡ None → m ≡ length (submissions got')) → BoardShows old (handled n got) before → ShowsNext old new s after' → BoardShows new (handled m got') after'
-board-kept n m before after' got got' s (Ok p) (Ok q) e all all' shows next =
+pub board-kept : {S : Type 0} (lists : History → Type 0) (g : Ghosts S) (c : Held S) (n m : ℕ) (before after' : Option Fault) (got got' : List Message) (s : Submission) (old new : Result Publishing Stopped) → got' ≡ got ++ Submit s ∷ []
+    → (before ≡ None → n ≡ length (submissions got)) → (after' ≡ None → m ≡ length (submissions got')) → BoardShows old (handled n got) before → ShowsNext lists g c old new s after' → BoardShows new (handled m got') after'
+board-kept lists g c n m before after' got got' s (Ok p) (Ok q) e all all' shows next =
     let more : submissions got' ≡ submissions got ++ s ∷ [] = ap submissions e ∙ submissions-append got (Submit s ∷ []) in
     (next.0, next.1, next.2 ∙ (ap (λ l. l ++ s ∷ []) (shows.2 ∙ all-handled n got (all shows.0)) ∙ (sym more ∙ sym (all-handled m got' (all' next.0)))))
-board-kept n m before after' got got' s (Err w) (Ok q) e all all' shows next = absurd next
-board-kept n m before after' got got' s (Ok p) (Err v) e all all' shows next = next.0
-board-kept n m before after' got got' s (Err w) (Err v) e all all' shows next = next.0
+board-kept lists g c n m before after' got got' s (Err w) (Ok q) e all all' shows next = absurd next
+board-kept lists g c n m before after' got got' s (Ok p) (Err v) e all all' shows next = next.0
+board-kept lists g c n m before after' got got' s (Err w) (Err v) e all all' shows next = next.0
 
 -- ---- what may be shown next
 
-module _ {S : Type 0} (g : Ghosts S) (known : Bool) (from : History) where
+module _ {S : Type 0} (g : Ghosts S) (lists : History → Type 0) where
   -- a submission that was handled is due to be shown
-  pub is-due : (old made : Held S) (shown : List Entry) (s : Submission) (reply : Reply) (touched : List ℕ) → s.number ≡ count_own s.worker shown + 1
-      → KnowsList known g old (after from (entry_requests shown)) → HandlesTouching s.request g old made (Ok (reply, touched)) → IsDue known from g made shown s reply touched
-  is-due old made shown s reply touched number list handles =
-      let H : History = after from (entry_requests shown) in
+  pub is-due : (old made : Held S) (shown : Seen) (s : Submission) (reply : Reply) (touched : List ℕ) → s.number ≡ count_own s.worker shown.entries + 1
+      → ToldBy lists g old shown → ShowsAfter lists g old (entry_requests shown.entries) → HandlesTouching s.request g old made (Ok (reply, touched)) → IsDue lists g made shown s reply touched
+  is-due old made shown s reply touched number told list handles =
+      let was : IsClean g made → IsClean g old = handles.handles.handled.clean in
       record {
         number = number;
-        reply_is = λ k. let at = list k in (handles.handles.handled.replied (at.0 made) H at.1).0;
-        list = λ k. let at = list k in (at.0, (handles.handles.handled.replied (at.0 made) H at.1).1);
-        kept = λ k p out. let at = list k in handles.kept (at.0 made) H at.1 p out;
+        told = λ disk H first. told (was disk) H first;
+        given = λ disk H first.
+            let K : History = after H (entry_requests shown.entries) in
+            let at : Shows (state g old) K = list (was disk) H first in
+            let replied = handles.handles.handled.replied disk K at in
+            record { reply_is = replied.0; shows = replied.1; kept = λ p out. handles.kept disk K at p out };
       }
 
-  -- one that is due may be shown once its pages are looked up
-  pub may-follow : (desk now : Held S) (shown : List Entry) (s : Submission) (reply : Reply) (touched : List ℕ) (before : List (ℕ × OwnPage)) (p : Publishing)
-      → is_worker s.worker ≡ true → IsDue known from g desk shown s reply touched → before ≡ [] → Learns {A = Unit {0}} (λ H _. PutsPages touched before p.pages H) g desk now (Ok tt) → p.shown ≡ shown
-      → MayFollow from known p (record { worker = s.worker; number = s.number; request = s.request; reply = reply })
-  may-follow desk now shown s reply touched before p worker due blank learnt same =
+  -- one that is due may be shown
+  pub may-follow : (desk : Held S) (shown now : Seen) (s : Submission) (reply : Reply) (touched : List ℕ) → is_worker s.worker ≡ true → IsDue lists g desk shown s reply touched → now ≡ shown
+      → IsNextEntry now.entries (record { worker = s.worker; number = s.number; request = s.request; reply = reply })
+  may-follow desk shown now s reply touched worker due same =
       let e : Entry = record { worker = s.worker; number = s.number; request = s.request; reply = reply } in
-      let K : History = after from (entry_requests shown) in
-      let H : History = after_one K s.request in
-      let next : IsNextEntry from known shown e = record { worker = worker; number = due.number; reply = due.reply_is } in
-      let list-is : after from (entry_requests (shown ++ e ∷ [])) ≡ H =
-      ap (after from) (map-append (λ (d : Entry). d.request) shown (e ∷ [])) ∙ after-last (entry_requests shown) from s.request in
-      record {
-        next = subst (λ (l : List Entry). IsNextEntry from known l e) (sym same) next;
-        pages = λ k q.
-            let list = due.list k in
-            let puts : PutsPages touched [] p.pages H = subst (λ (l : List (ℕ × OwnPage)). PutsPages touched l p.pages H) blank (learnt.shown (list.0 now) H list.1 tt) in
-            subst (λ (l : List Entry). overlaid p.pages q (own_page (after from (entry_requests l)) q) ≡ own_page (after from (entry_requests (l ++ e ∷ []))) q) (sym same)
-            (puts q (own_page K q) (no-page-before K s.request q) (λ out. sym (due.kept k q out)) ∙ ap (λ (J : History). own_page J q) (sym list-is));
-      }
+      let next : IsNextEntry shown.entries e = record { worker = worker; number = due.number } in
+      subst (λ (l : Seen). IsNextEntry l.entries e) (sym same) next
 
-  -- the list of accepted requests, as far as the board shows it
-  pub knows-shown : (old desk : Held S) (shown : List Entry) (all : List Submission) (rest : List Request) (fault : Option Fault) → KnowsList known g old from
-      → HandledFirst (requests all) rest g old desk fault → fault ≡ None → AreShown shown all → KnowsList known g desk (after from (entry_requests shown))
-  knows-shown old desk shown all rest fault list h none is k =
-      let at = list k in
-      (at.0, subst (λ (l : List Request). Shows (state g desk) (after from l)) (sym (same-requests shown ∙ ap requests is)) (h.shown (at.0 desk) none from at.1))
+  -- what is shown with it, once its pages are looked up, is what the list makes it
+  pub told-next : (desk now : Held S) (shown next : Seen) (s : Submission) (reply : Reply) (touched : List ℕ) (before put : List (ℕ × OwnPage)) → IsDue lists g desk shown s reply touched → before ≡ []
+      → Learns {A = Unit {0}} (λ H _. PutsPages touched before put H) g desk now (Ok tt)
+      → ShowsMore shown put (record { worker = s.worker; number = s.number; request = s.request; reply = reply }) next → ToldBy lists g now next
+  told-next desk now shown next s reply touched before put due blank learnt more disk H first =
+      let e : Entry = record { worker = s.worker; number = s.number; request = s.request; reply = reply } in
+      let was : IsClean g desk = learnt.looks.clean disk in
+      let K : History = after H (entry_requests shown.entries) in
+      let J : History = after_one K s.request in
+      let given = due.given was H first in
+      let list-is : after H (entry_requests (shown.entries ++ e ∷ [])) ≡ J =
+      ap (after H) (map-append (λ (d : Entry). d.request) shown.entries (e ∷ [])) ∙ after-last (entry_requests shown.entries) H s.request in
+      let puts : PutsPages touched [] put J = subst (λ (l : List (ℕ × OwnPage)). PutsPages touched l put J) blank (learnt.shown disk J given.shows tt) in
+      told-more H shown next put e (due.told was H first) more given.reply_is
+      (λ q. puts q (own_page K q) (no-page-before K s.request q) (λ out. sym (given.kept q out)) ∙ ap (λ (L : History). own_page L q) (sym list-is))
+
+  -- the tables show each list with the requests, as far as the board shows them
+  pub shows-after : (old desk : Held S) (shown : List Entry) (all : List Submission) (rest : List Request) (fault : Option Fault) → (IsClean g old → (H : History) → lists H → Shows (state g old) H)
+      → HandledFirst (requests all) rest g old desk fault → fault ≡ None → AreShown shown all → ShowsAfter lists g desk (entry_requests shown)
+  shows-after old desk shown all rest fault tables h none is disk H first =
+      subst (λ (l : List Request). Shows (state g desk) (after H l)) (sym (same-requests shown ∙ ap requests is)) (h.shown disk none H (tables (h.clean disk) H first))
 
   -- the next submission may be handled, where the hall isn't closed
-  pub may-be-next : (old desk : Held S) (n : ℕ) (got : List Message) (s : Submission) (fault : Option Fault) (board : Result Publishing Stopped) (rest : List Request) → KnowsList known g old from
-      → IsNext got (Submit s) → (fault ≡ None → n ≡ length (submissions got)) → HandledFirst (requests (handled n got)) rest g old desk fault → BoardShows board (handled n got) fault
-      → MayHandle known from g desk fault board s
-  may-be-next old desk n got s fault (Ok p) rest list next all h shows =
-      (shows.0, record { blank = shows.1; number = due-number n got s p.shown next (all shows.0) shows.2; list = knows-shown old desk p.shown (handled n got) rest fault list h shows.0 shows.2 })
-  may-be-next old desk n got s fault (Err w) rest list next all h shows = shows
+  pub may-be-next : (old desk : Held S) (n : ℕ) (got : List Message) (s : Submission) (fault : Option Fault) (board : Result Publishing Stopped) (rest : List Request)
+      → (IsClean g old → (H : History) → lists H → Shows (state g old) H) → IsNext got (Submit s) → (fault ≡ None → n ≡ length (submissions got)) → HandledFirst (requests (handled n got)) rest g old desk fault
+      → BoardShows board (handled n got) fault → ToldBy lists g desk (shown_by board) → MayHandle lists g desk fault board s
+  may-be-next old desk n got s fault (Ok p) rest tables next all h shows told = (
+    shows.0,
+    record {
+      blank = shows.1;
+      number = due-number n got s p.shown.entries next (all shows.0) shows.2;
+      told = told;
+      list = shows-after old desk p.shown.entries (handled n got) rest fault tables h shows.0 shows.2;
+    },
+  )
+  may-be-next old desk n got s fault (Err w) rest tables next all h shows told = shows
 
--- what is shown next, after a board that shows something
-pub shows-next : (old : Publishing) (new : Result Publishing Stopped) (s : Submission) (fault : Option Fault)
-    → MatchResult new (λ (p : Publishing). (fault ≡ None) × (p.pages ≡ []) × AreShown p.shown (map submission_of old.shown ++ s ∷ [])) (λ (b : Stopped). IsSome fault × (b.shown ≡ old.shown)) → ShowsNext (Ok old) new s fault
-shows-next old (Ok p) s fault h = h
-shows-next old (Err w) s fault h = h
+  -- what is shown next, after a board that shows something
+  pub shows-next : (desk : Held S) (old : Publishing) (new : Result Publishing Stopped) (s : Submission) (fault : Option Fault)
+      → MatchResult new (λ (p : Publishing). (fault ≡ None) × (p.pages ≡ []) × AreShown p.shown.entries (map submission_of old.shown.entries ++ s ∷ []) × ToldBy lists g desk p.shown)
+      (λ (b : Stopped). IsSome fault × (b.shown ≡ old.shown)) → ShowsNext lists g desk (Ok old) new s fault
+  shows-next desk old (Ok p) s fault h = h
+  shows-next desk old (Err w) s fault h = h
+
+  -- a disk that is clean after it was clean before
+  still-clean : (request : Request) (old new : Held S) (n m : ℕ) (before after' : Option Fault) → TakesNext request g old new n m before after' → IsClean g new → IsClean g old
+  still-clean request old new n m before after' (inl t) disk = t.handles.handled.clean (t.looks.looks.clean disk)
+  still-clean request old new n m before after' (inr (inl t)) disk = t.handles.handled.clean (t.looks.looks.looks.clean disk)
+  still-clean request old new n m before after' (inr (inr (inl t))) disk = t.handles.handled.clean disk
+  still-clean request old new n m before after' (inr (inr (inr t))) disk = subst (λ (x : Held S). IsClean g x) t.same disk
+
+  -- what is shown after one submission more is what the lists make it
+  pub told-kept : (old new : Held S) (shown shows : Result Publishing Stopped) (s : Submission) (fault : Option Fault) → (IsClean g new → IsClean g old) → ToldBy lists g old (shown_by shown)
+      → ShowsNext lists g new shown shows s fault → ToldBy lists g new (shown_by shows)
+  told-kept old new (Ok p) (Ok q) s fault clean told next = next.3
+  told-kept old new (Err w) (Ok q) s fault clean told next = absurd next
+  told-kept old new (Ok p) (Err v) s fault clean told next = λ disk H first. subst (IsTold H) (sym next.1) (told (clean disk) H first)
+  told-kept old new (Err w) (Err v) s fault clean told next = λ disk H first. subst (IsTold H) (sym next.1) (told (clean disk) H first)
 
 -- ---- one message more
 
 module _ {S : Type 0} (g : Ghosts S) where
   -- it may be taken
-  pub may-take : (known : Bool) (from : History) (old desk : Held S) (n : ℕ) (fault : Option Fault) (got : List Message) (board : Result Publishing Stopped) (message : Message) → KnowsList known g old from
-      → IsNext got message → Stands g old desk n fault got board → MayTake known from g desk fault board message
-  may-take known from old desk n fault got board (Submit s) list next h = may-be-next g known from old desk n got s fault board (requests (unhandled n got)) list next h.all h.desk h.shown
-  may-take known from old desk n fault got board (Leave w) list next h = tt
+  pub may-take : (lists : History → Type 0) (old desk : Held S) (n : ℕ) (fault : Option Fault) (got : List Message) (board : Result Publishing Stopped) (message : Message)
+      → (IsClean g old → (H : History) → lists H → Shows (state g old) H) → IsNext got message → Stands lists g old desk n fault got board → MayTake lists g desk fault board message
+  may-take lists old desk n fault got board (Submit s) tables next h = may-be-next g lists old desk n got s fault board (requests (unhandled n got)) tables next h.all h.desk h.shown h.told
+  may-take lists old desk n fault got board (Leave w) tables next h = tt
 
   -- how the desk stands once it is taken
-  pub message-kept : (old b c : Held S) (n m : ℕ) (before after' : Option Fault) (got got' : List Message) (board board' : Result Publishing Stopped) (message : Message) → got' ≡ got ++ message ∷ []
-      → TakesMessage message g b c n m before after' board board' → Stands g old b n before got board → Stands g old c m after' got' board'
-  message-kept old b c n m before after' got got' board board' (Submit s) e t h =
+  pub message-kept : (lists : History → Type 0) (old b c : Held S) (n m : ℕ) (before after' : Option Fault) (got got' : List Message) (board board' : Result Publishing Stopped) (message : Message) → got' ≡ got ++ message ∷ []
+      → TakesMessage lists message g b c n m before after' board board' → Stands lists g old b n before got board → Stands lists g old c m after' got' board'
+  message-kept lists old b c n m before after' got got' board board' (Submit s) e t h =
       let k = submission-kept g old b c n m before after' got got' s e t.0 h.counted h.all h.desk in
       record {
         counted = k.0;
         all = k.1;
-        cause = cause-kept g b c n m before after' got got' s board board' e h.counted h.all (λ none. open-shows board (handled n got) before none h.shown) t.1 t.0 h.cause;
+        cause = cause-kept g old b c n m before after' got got' s board board' e h.counted h.all (λ none. open-shows board (handled n got) before none h.shown) (λ f is. closed-shows lists g c board board' s after' f is t.1)
+            (λ none. subst (λ (l : List Request). HandledFirst (requests (handled n got)) l g old b None) (no_rest n got (h.all none)) (subst (HandledFirst (requests (handled n got)) (requests (unhandled n got)) g old b) none h.desk)) t.0 h.cause;
         desk = k.2;
-        shown = board-kept n m before after' got got' s board board' e h.all k.1 h.shown t.1;
+        shown = board-kept lists g c n m before after' got got' s board board' e h.all k.1 h.shown t.1;
+        told = told-kept g lists b c board board' s after' (still-clean g lists s.request b c n m before after' t.0) h.told t.1;
       }
-  message-kept old b c n m before after' got got' board board' (Leave w) e t h =
+  message-kept lists old b c n m before after' got got' board board' (Leave w) e t h =
       let k = leave_kept n got got' w e h.counted in
       let rest = rest_kept n got got' w e in
-      let now : Stands g old b n before got' board = record {
+      let now : Stands lists g old b n before got' board = record {
         counted = omega (arith, k.0, h.counted);
         all = λ f. h.all f ∙ sym k.0;
-        cause = cause-left g n got got' b (shown_by board) before rest k.1 h.cause;
+        cause = cause-left g old n got got' b (shown_by board).entries before rest k.1 h.cause;
         desk = subst (λ (l : List Request). HandledFirst l (requests (unhandled n got')) g old b before) (sym (ap requests k.1))
             (subst (λ (l : List Request). HandledFirst (requests (handled n got)) l g old b before) (sym rest) h.desk);
         shown = subst (λ (l : List Submission). BoardShows board l before) (sym k.1) h.shown;
+        told = h.told;
       } in
-      subst (λ (d : Held S). Stands g old d m after' got' board') (sym t.0)
-      (subst (λ (j : ℕ). Stands g old b j after' got' board') (sym t.1)
-      (subst (λ (f : Option Fault). Stands g old b n f got' board') (sym t.2) (subst (λ (x : Result Publishing Stopped). Stands g old b n before got' x) (sym t.3) now)))
+      subst (λ (d : Held S). Stands lists g old d m after' got' board') (sym t.0)
+      (subst (λ (j : ℕ). Stands lists g old b j after' got' board') (sym t.1)
+      (subst (λ (f : Option Fault). Stands lists g old b n f got' board') (sym t.2) (subst (λ (x : Result Publishing Stopped). Stands lists g old b n before got' x) (sym t.3) now)))
 
   -- what stands once each worker has left
-  pub finishes : (workers n : ℕ) (got : List Message) (entries : List Entry) (old now : Held S) (fault : Option Fault) (board : Result Publishing Stopped) → ((k : ℕ) → k < workers → is_open (of (k + 1) got) ≡ false)
-      → entries ≡ shown_by board → Stands g old now n fault got board → Finishes workers n got entries g old now fault
-  finishes workers n got entries old now fault board gone same h = record {
+  pub finishes : (lists : History → Type 0) (workers n : ℕ) (got : List Message) (entries : List Entry) (old now : Held S) (fault : Option Fault) (board : Result Publishing Stopped) → ((k : ℕ) → k < workers → is_open (of (k + 1) got) ≡ false)
+      → entries ≡ (shown_by board).entries → Stands lists g old now n fault got board → Finishes workers n got entries g old now fault
+  finishes lists workers n got entries old now fault board gone same h = record {
     gone = gone;
     counted = h.counted;
     all = h.all;
     shown = λ none. ap (map submission_of) same ∙ open-shows board (handled n got) fault none h.shown;
-    cause = subst (λ (l : List Entry). IfSome fault (ClosedBy n got g now l)) (sym same) h.cause;
+    cause = subst (λ (l : List Entry). IfSome fault (ClosedBy n got g old now l)) (sym same) h.cause;
     desk = h.desk;
   }

@@ -1,22 +1,23 @@
 -- What the desk of a hall has done, after the submissions that it handled.
-use Rattle.std.specs.Prelude.{◌≡◌, ◌⊎◌, ℕ, ◌+◌, ◌^◌, ◌<◌, ◌≤◌, ◌==◌, Bool, true, false, List, [], ◌∷◌, ◌++◌, length, map, take, Option, None, Some, Result, Ok, Err, IfSome, MatchResult, IsSome}
+use Rattle.std.specs.Prelude.{◌≡◌, ◌⊎◌, ℕ, ◌+◌, ◌^◌, ◌<◌, ◌≤◌, ◌==◌, false, List, [], ◌∷◌, ◌++◌, length, map, take, Option, None, Some, Result, Ok, Err, IfSome, IsSome}
 use Rattle.std.specs.List.{list_any}
 use Rattle.store.specs.Library.{Ghosts, Held, state, IsClean, IsOpen}
 use Rattle.terms.specs.declared.command.Request.{Request}
 use Rattle.terms.specs.declared.fault.Fault.{Fault}
-use Rattle.terms.specs.declared.fault.Fault.TheVariants.{Closed, Memory, Stored}
+use Rattle.terms.specs.declared.fault.Fault.TheVariants.{Closed, Stored}
 use Rattle.terms.specs.declared.reply.Reply.{Reply}
 use Rattle.model.specs.History.{History}
 use Rattle.model.specs.Requests.{after, after_one, reply_to}
-use Rattle.desk.specs.Answering.{Shows, LeavesOneOf, Learns}
+use Rattle.desk.specs.Answering.{Shows, LeavesOneOf}
 use Rattle.desk.specs.Running.{Handles, ShowsHeadline}
 use Rattle.desk.specs.Showing.{own_page}
 use Rattle.desk.specs.declared.showing.OwnPage.{OwnPage}
 use Rattle.board.specs.Rule.{Publishing, Stopped}
 use Rattle.board.specs.declared.entry.Entry.{Entry}
+use Rattle.board.specs.declared.entry.Seen.{Seen}
 use Rattle.board.specs.Showing.{count_own, overlaid, requests as entry_requests}
 use Rattle.hall.specs.declared.messages.Submission.{Submission}
-use Rattle.hall.specs.Openings.{LooksOnly, MeetsFaultOf}
+use Rattle.hall.specs.Openings.{LooksOnly, MeetsFaultOf, ToldBy}
 use Rattle.hall.specs.declared.messages.Message.{Message}
 use Rattle.hall.specs.declared.messages.Message.TheVariants.{Submit, Leave}
 use Rattle.hall.specs.Queue.{of, is_open, submissions, handled, unhandled, requests}
@@ -106,20 +107,22 @@ submission_of e = record { worker = e.worker; number = e.number; request = e.req
 abbrev pub AreShown : List Entry → List Submission → Type 0
 AreShown entries handled = map submission_of entries ≡ handled
 
--- The list that it shows, be it for good.
-abbrev pub shown_by : Result Publishing Stopped → List Entry
+-- What it shows, be it for good.
+abbrev pub shown_by : Result Publishing Stopped → Seen
 shown_by (Ok p) = p.shown
 shown_by (Err b) = b.shown
 
 -- ---- what closes a hall
 
--- `got` is what was received and `n` how many submissions were handled; the board shows these entries,
--- for good.
-module _ {S : Type 0} (n : ℕ) (got : List Message) (g : Ghosts S) (new : Held S)
+-- `got` is what was received and `n` how many submissions were handled, from the desk `old` on; the
+-- board shows these entries, for good.
+module _ {S : Type 0} (n : ℕ) (got : List Message) (g : Ghosts S) (old new : Held S)
     (entries : List Entry) (fault : Fault) where
   -- The desk gave this fault for the first of the requests that weren't handled.
   pub record IsDesksFault : Type 0 where
+    -- the desk after the handled ones
     pub before : Held S
+    pub reached : HandledFirst (requests (handled n got)) [] g old before None
     pub next : Request
     pub later : List Request
     pub rest_is : requests (unhandled n got) ≡ next ∷ later
@@ -128,7 +131,9 @@ module _ {S : Type 0} (n : ℕ) (got : List Message) (g : Ghosts S) (new : Held 
 
   -- The board couldn't show the last submission that was handled.
   pub record IsBoardsFault : Type 0 where
+    -- the desk after the handled ones
     pub made : Held S
+    pub reached : HandledFirst (requests (handled n got)) [] g old made None
     pub looks : MeetsFaultOf g made new fault
     pub last : Submission
     pub shown : handled n got ≡ map submission_of entries ++ last ∷ []
@@ -152,45 +157,58 @@ PutsPages patrons before after H = (p : ℕ) (page : Option OwnPage)
     → (list_any (λ q. q == p) patrons ≡ false → overlaid before p page ≡ own_page H p)
     → overlaid after p page ≡ own_page H p
 
--- What the desk's tables are known to show, with a disk that gives back what is written to it.
-abbrev pub KnowsList : {S : Type 0} → Bool → Ghosts S → Held S → History → Type 0
-KnowsList {S} known g held H = known ≡ true → ((any : Held S) → IsClean g any) × Shows (state g held) H
+-- What the desk's tables show after these requests, where the disk has given back what was written to
+-- it so far: each of these lists with the requests.
+abbrev pub ShowsAfter : {S : Type 0} → (History → Type 0) → Ghosts S → Held S → List Request → Type 0
+ShowsAfter lists g held requests = IsClean g held → (H : History) → lists H
+    → Shows (state g held) (after H requests)
+
+-- What a list of accepted requests makes of a submission: this reply, and the pages of all but these
+-- patrons are what they were; the tables show the list with it.
+pub record IsGivenBy {S : Type 0} (g : Ghosts S) (desk : Held S) (H : History) (request : Request)
+    (reply : Reply) (touched : List ℕ) : Type 0 where
+  pub reply_is : reply ≡ reply_to H request
+  pub shows : Shows (state g desk) (after_one H request)
+  pub kept : (p : ℕ) → list_any (λ q. q == p) touched ≡ false
+      → own_page (after_one H request) p ≡ own_page H p
 
 -- The submission was handled with this reply, and the board shows all before it: it has the next
--- number of its worker. Where the list of accepted requests is known, the reply is the one that it
--- gives, and the pages of all but these patrons are what they were.
-pub record IsDue {S : Type 0} (known : Bool) (from : History) (g : Ghosts S) (desk : Held S)
-    (shown : List Entry) (s : Submission) (reply : Reply) (touched : List ℕ) : Type 0 where
-  pub number : s.number ≡ count_own s.worker shown + 1
-  pub reply_is : known ≡ true → reply ≡ reply_to (after from (entry_requests shown)) s.request
-  pub list : KnowsList known g desk (after_one (after from (entry_requests shown)) s.request)
-  pub kept : known ≡ true → (p : ℕ) → list_any (λ q. q == p) touched ≡ false
-      → own_page (after_one (after from (entry_requests shown)) s.request) p
-      ≡ own_page (after from (entry_requests shown)) p
+-- number of its worker. Where the disk has given back what was written to it, each of these lists
+-- made of what was shown what it is, and gives the reply.
+pub record IsDue {S : Type 0} (lists : History → Type 0) (g : Ghosts S) (desk : Held S)
+    (shown : Seen) (s : Submission) (reply : Reply) (touched : List ℕ) : Type 0 where
+  pub number : s.number ≡ count_own s.worker shown.entries + 1
+  pub told : ToldBy lists g desk shown
+  pub given : IsClean g desk → (H : History) → lists H
+      → IsGivenBy g desk (after H (entry_requests shown.entries)) s.request reply touched
 
 -- The submission may be handled next: the board shows all that were, with nothing that is yet to be
 -- shown, and this one has the next number of its worker.
-pub record MayBeNext {S : Type 0} (known : Bool) (from : History) (g : Ghosts S) (desk : Held S)
+pub record MayBeNext {S : Type 0} (lists : History → Type 0) (g : Ghosts S) (desk : Held S)
     (p : Publishing) (s : Submission) : Type 0 where
   pub blank : p.pages ≡ []
-  pub number : s.number ≡ count_own s.worker p.shown + 1
-  pub list : KnowsList known g desk (after from (entry_requests p.shown))
+  pub number : s.number ≡ count_own s.worker p.shown.entries + 1
+  pub told : ToldBy lists g desk p.shown
+  pub list : ShowsAfter lists g desk (entry_requests p.shown.entries)
 
--- The board shows this submission too, after those before; or a fault has closed the hall, and it shows
--- what it showed, for good.
-abbrev pub ShowsNext : Result Publishing Stopped → Result Publishing Stopped → Submission
-    → Option Fault → Type 0
-ShowsNext (Ok old) (Ok new) s fault =
-    (fault ≡ None) × (new.pages ≡ []) × AreShown new.shown (map submission_of old.shown ++ s ∷ [])
-ShowsNext (Err old) (Ok new) s fault = ⊥
-ShowsNext (Ok old) (Err new) s fault = IsSome fault × (new.shown ≡ old.shown)
-ShowsNext (Err old) (Err new) s fault = IsSome fault × (new.shown ≡ old.shown)
+-- The board shows this submission too, after those before, and what these lists make of it; or a fault
+-- has closed the hall, and it shows what it showed, for good.
+module _ {S : Type 0} (lists : History → Type 0) (g : Ghosts S) (desk : Held S) where
+  abbrev pub ShowsNext : Result Publishing Stopped → Result Publishing Stopped → Submission
+      → Option Fault → Type 0
+  ShowsNext (Ok old) (Ok new) s fault =
+      (fault ≡ None) × (new.pages ≡ [])
+      × AreShown new.shown.entries (map submission_of old.shown.entries ++ s ∷ [])
+      × ToldBy lists g desk new.shown
+  ShowsNext (Err old) (Ok new) s fault = ⊥
+  ShowsNext (Ok old) (Err new) s fault = IsSome fault × (new.shown ≡ old.shown)
+  ShowsNext (Err old) (Err new) s fault = IsSome fault × (new.shown ≡ old.shown)
 
-module _ {S : Type 0} (known : Bool) (from : History) (g : Ghosts S) (desk : Held S)
+module _ {S : Type 0} (lists : History → Type 0) (g : Ghosts S) (desk : Held S)
     (fault : Option Fault) where
   -- The submission may be handled next, unless a fault has closed the hall.
   abbrev pub MayHandle : Result Publishing Stopped → Submission → Type 0
-  MayHandle (Ok p) s = (fault ≡ None) × MayBeNext known from g desk p s
+  MayHandle (Ok p) s = (fault ≡ None) × MayBeNext lists g desk p s
   MayHandle (Err b) s = IsSome fault
 
   -- So may a submission that was sent; a Leave always may.
@@ -200,32 +218,35 @@ module _ {S : Type 0} (known : Bool) (from : History) (g : Ghosts S) (desk : Hel
 
 -- One more message was taken: a submission as above, and where the board may still be written it
 -- shows it; the Leave of a worker changes nothing.
-abbrev pub TakesMessage : {S : Type 0} → Message → Ghosts S → Held S → Held S → ℕ → ℕ
-    → Option Fault → Option Fault → Result Publishing Stopped → Result Publishing Stopped → Type 0
-TakesMessage (Submit s) g old new n m before after shown shows =
-    TakesNext s.request g old new n m before after × ShowsNext shown shows s after
-TakesMessage (Leave worker) g old new n m before after shown shows =
+abbrev pub TakesMessage : {S : Type 0} → (History → Type 0) → Message → Ghosts S → Held S → Held S
+    → ℕ → ℕ → Option Fault → Option Fault
+    → Result Publishing Stopped → Result Publishing Stopped → Type 0
+TakesMessage lists (Submit s) g old new n m before after shown shows =
+    TakesNext s.request g old new n m before after × ShowsNext lists g new shown shows s after
+TakesMessage lists (Leave worker) g old new n m before after shown shows =
     (new ≡ old) × (m ≡ n) × (after ≡ before) × (shows ≡ shown)
 
 -- The board shows these submissions, or a fault has closed the hall.
 abbrev pub BoardShows : Result Publishing Stopped → List Submission → Option Fault → Type 0
-BoardShows (Ok p) handled fault = (fault ≡ None) × (p.pages ≡ []) × AreShown p.shown handled
+BoardShows (Ok p) handled fault = (fault ≡ None) × (p.pages ≡ []) × AreShown p.shown.entries handled
 BoardShows (Err b) handled fault = IsSome fault
 
 -- How the desk of an open hall stands, after these messages: what it handled, what closed it, and
 -- what the board shows.
-pub record Stands {S : Type 0} (g : Ghosts S) (old new : Held S) (n : ℕ) (fault : Option Fault)
-    (got : List Message) (board : Result Publishing Stopped) : Type 0 where
+pub record Stands {S : Type 0} (lists : History → Type 0) (g : Ghosts S) (old new : Held S) (n : ℕ)
+    (fault : Option Fault) (got : List Message) (board : Result Publishing Stopped) : Type 0 where
   -- the handled ones are among those received
   pub counted : n ≤ length (submissions got)
   -- where the hall was not closed, every submission was handled
   pub all : fault ≡ None → n ≡ length (submissions got)
   -- what closed it, and what the board shows since
-  pub cause : IfSome fault (ClosedBy n got g new (shown_by board))
+  pub cause : IfSome fault (ClosedBy n got g old new (shown_by board).entries)
   -- the desk stands where the handled list has brought it
   pub desk : HandledFirst (requests (handled n got)) (requests (unhandled n got)) g old new fault
   -- and the board shows that list
   pub shown : BoardShows board (handled n got) fault
+  -- what it shows is what these lists of accepted requests make it
+  pub told : ToldBy lists g new (shown_by board)
 
 -- ---- until each worker has left
 
@@ -243,6 +264,6 @@ pub record Finishes {S : Type 0} (workers n : ℕ) (got : List Message) (entries
   -- and the board shows just the handled list, in order
   pub shown : fault ≡ None → AreShown entries (handled n got)
   -- what closed it, and what the board shows then: the handled list, or all of it but the last
-  pub cause : IfSome fault (ClosedBy n got g new entries)
+  pub cause : IfSome fault (ClosedBy n got g old new entries)
   -- the desk stands where the handled list has brought it
   pub desk : HandledFirst (requests (handled n got)) (requests (unhandled n got)) g old new fault

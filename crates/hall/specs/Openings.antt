@@ -1,12 +1,13 @@
--- Why a hall isn't opened.
+-- How a hall is opened, or why it isn't.
 use Rattle.std.specs.Prelude.{◌≡◌, ◌⊎◌, ◌==◌, ℕ, true, false, Bool, ◌&&◌, if◌then◌else◌, nat_le, List, [], None, Result, Ok, Err}
 use Rattle.std.specs.List.{list_any}
-use Rattle.store.specs.Library.{Ghosts, Held}
-use Rattle.desk.specs.Answering.{Learns}
+use Rattle.store.specs.Library.{Ghosts, Held, state, IsClean}
+use Rattle.desk.specs.Answering.{Learns, Shows}
 use Rattle.desk.specs.Showing.{own_page}
 use Rattle.desk.specs.declared.showing.OwnPage.{OwnPage}
 use Rattle.board.specs.Rule.{Publishing}
-use Rattle.board.specs.Showing.{blank, page_at}
+use Rattle.board.specs.declared.entry.Seen.{Seen}
+use Rattle.board.specs.Showing.{blank, page_at, first_seen, IsTold}
 use Rattle.model.specs.History.{History}
 use Rattle.terms.specs.declared.fault.Fault.{Fault}
 use Rattle.terms.specs.Texts.{fault_number, refusal_number}
@@ -39,10 +40,22 @@ AreFirstPages patrons H pages = (p : ℕ) → page_at pages p ≡ (if list_any (
 -- of its patrons and of nobody else.
 pub record OpensBoard {S : Type 0} (g : Ghosts S) (old new : Held S) (p : Publishing) : Type 0 where
   -- no entry is shown, and no page waits for one
-  pub none : (p.shown ≡ []) × (p.pages ≡ [])
+  pub none : (p.shown ≡ first_seen p.board.pages) × (p.pages ≡ [])
   pub alone : p.board ≡ record blank { pages = p.board.pages }
   pub pages : Learns (λ H first. (patron : ℕ) → page_at first patron ≡ own_page H patron)
       g old new (Ok p.board.pages)
+
+-- Where the disk has given back what was written to it so far, what was shown is what each of these
+-- lists of accepted requests makes it.
+abbrev pub ToldBy : {S : Type 0} → (History → Type 0) → Ghosts S → Held S → Seen → Type 0
+ToldBy lists g held shown = IsClean g held → (H : History) → lists H → IsTold H shown
+
+-- A hall that is open and has handled nothing: where the disk has given back what was written to it so far,
+-- the tables show each of these lists, and the board shows what it makes.
+pub record OpensWith {S : Type 0} (lists : History → Type 0) (g : Ghosts S) (held : Held S)
+    (shown : Seen) : Type 0 where
+  pub tables : IsClean g held → (H : History) → lists H → Shows (state g held) H
+  pub told : ToldBy lists g held shown
 
 -- ---- a hall that isn't opened
 

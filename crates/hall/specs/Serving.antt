@@ -1,6 +1,7 @@
 -- What a worker knows, submits and answers.
-use Rattle.std.specs.Prelude.{◌≡◌, ◌⊎◌, ℕ, ◌+◌, if◌then◌else◌, bytes_eq, Bool, true, List, [], ◌∷◌, ◌++◌, length, map, Option, Some, None, Result, Ok, Err, IfOk, IfSome, OnOk, OnErr}
+use Rattle.std.specs.Prelude.{◌≡◌, ◌⊎◌, ℕ, ◌+◌, if◌then◌else◌, bytes_eq, List, length, map, Option, Some, None, Result, Ok, Err, IfOk, IfSome, OnOk, OnErr}
 use Rattle.std.specs.Io.KnownBytes.{Appends, Keeps}
+use Rattle.store.specs.Library.{Ghosts, Held, IsClean}
 use Rattle.terms.specs.Writing.{AppendsFront}
 use Rattle.terms.specs.declared.command.Caller.{Caller}
 use Rattle.terms.specs.declared.command.Caller.TheVariants.{Desk}
@@ -15,7 +16,6 @@ use Rattle.terms.specs.declared.reply.Reply.TheVariants.{Refused}
 use Rattle.model.specs.History.{History}
 use Rattle.model.specs.Requests.{after, reply_to}
 use Rattle.desk.specs.Answering.{IsPageFor, IsOwnPageFor}
-use Rattle.desk.specs.Showing.{own_page}
 use Rattle.desk.specs.declared.showing.OwnPage.{OwnPage}
 use Rattle.web.specs.Answers.{answer_bytes, answer_for}
 use Rattle.web.specs.Asked.{asked_of}
@@ -27,18 +27,18 @@ use Rattle.web.specs.declared.asked.Asked.TheVariants.{Nothing, Page, Request}
 use Rattle.web.specs.declared.fault.WebFault.TheVariants.{Status}
 use Rattle.web.specs.declared.fault.WebStatus.{WebStatus}
 use Rattle.web.specs.declared.request.WebRequest.{WebRequest}
-use Rattle.board.specs.declared.entry.Entry.{Entry}
-use Rattle.board.specs.Showing.{StartsWith, IsReply, requests}
+use Rattle.board.specs.declared.entry.Seen.{Seen}
+use Rattle.board.specs.Showing.{StartsWith, GoesOn, HasLooked, IsReply, page_of, requests}
 use Rattle.hall.specs.declared.messages.Message.TheVariants.{Submit}
 use Rattle.hall.specs.declared.messages.View.{View}
 use Rattle.hall.specs.Queue.{sent_more, worker_views}
 
 -- ---- what a worker knows
 
--- What it sent, and what it has seen on the board: a beginning of the handled list.
+-- What it sent, and what it has seen on the board: a beginning of the handled list, with its pages.
 pub record Working : Type 0 where
   pub post : View
-  pub seen : List Entry
+  pub seen : Seen
 
 -- The workers 1 to n, which have sent nothing.
 abbrev pub AreWorkers : ℕ → List Working → Type 0
@@ -64,33 +64,6 @@ page_by_desk _ _ = None
 abbrev pub page_asked : Requested → Option ℕ
 page_asked request = page_by_desk request.caller request.command
 
--- The reply is the page that the card key opens after this list of accepted requests, or that this
--- isn't allowed; and the same after every list that agrees with it on the patron's own rows.
-pub record IsOwnPage (patron : ℕ) (card_key : List ℕ) (H : History) (reply : Reply) : Type 0 where
-  pub page : IsPageFor patron card_key H reply
-  pub own : IsOwnPageFor patron card_key H reply
-
-module _ (from : History) (known : Bool) where
-  -- The reply to a request that was not answered from the board: it was submitted, and this is the
-  -- reply that the board shows for it.
-  pub record IsReplied (request : Requested) (old new : Working) (reply : Reply) : Type 0 where
-    pub submits : new.post ≡ submitted old.post request
-    pub replied : IsReply from known new.seen old.post.worker (length old.post.sent + 1) request reply
-
-  -- The reply to a request of the desk for a page, or of anybody for something else.
-  abbrev pub IsReplyFor : Option ℕ → Requested → Working → Working → Reply → Type 0
-  IsReplyFor (Some patron) request old new reply =
-      (new.post ≡ old.post) × (known ≡ true → reply ≡ reply_to (after from (requests new.seen)) request)
-  IsReplyFor None request old new reply = IsReplied request old new reply
-
-  -- The reply to what is asked for. A page is the one after what the worker has seen, a beginning of
-  -- the handled list; where the list of accepted requests is known, that list after it gives it.
-  abbrev pub IsReplyTo : Asked → Working → Working → Reply → Type 0
-  IsReplyTo Nothing old new reply = (new.post ≡ old.post) × (reply ≡ Refused NotAllowed)
-  IsReplyTo (Page patron card_key) old new reply =
-      (new.post ≡ old.post) × (known ≡ true → IsOwnPage patron card_key (after from (requests new.seen)) reply)
-  IsReplyTo (Request request) old new reply = IsReplyFor (page_asked request) request old new reply
-
 -- What is shown of a page: to the desk the page, or that there is no such patron; to who shows a card
 -- key the page that it opens, or that this isn't allowed.
 abbrev pub shown_page : Option OwnPage → Option (List ℕ) → Reply
@@ -98,6 +71,34 @@ shown_page (Some page) (Some card_key) = if bytes_eq page.card_key card_key then
 shown_page None (Some card_key) = Refused NotAllowed
 shown_page (Some page) None = page.reply
 shown_page None None = Refused UnknownPatron
+
+-- The reply is what was seen last of the patron's page: the page that was shown with the beginning of the
+-- handled list that was seen.
+pub record IsPageSeen (patron : ℕ) (shown : Option (List ℕ)) (seen : Seen) (reply : Reply)
+    : Type 0 where
+  pub looked : HasLooked seen
+  pub reply_is : reply ≡ shown_page (page_of seen patron) shown
+
+-- The reply to a request that was not answered from the board: it was submitted, and this is the
+-- reply that the board shows for it. The beginning of the handled list that it shows, which ends with
+-- the submission, goes on from all that the worker had seen before.
+pub record IsReplied (request : Requested) (old new : Working) (reply : Reply) : Type 0 where
+  pub submits : new.post ≡ submitted old.post request
+  pub replied : IsReply new.seen.entries old.post.worker (length old.post.sent + 1) request reply
+  pub later : StartsWith replied.front old.seen.entries
+
+-- The reply to a request of the desk for a page, or of anybody for something else.
+abbrev pub IsReplyFor : Option ℕ → Requested → Working → Working → Reply → Type 0
+IsReplyFor (Some patron) request old new reply = (new.post ≡ old.post) × IsPageSeen patron None new.seen reply
+IsReplyFor None request old new reply = IsReplied request old new reply
+
+-- The reply to what is asked for. A page is the one that the board shows with what the worker has
+-- seen, a beginning of the handled list.
+abbrev pub IsReplyTo : Asked → Working → Working → Reply → Type 0
+IsReplyTo Nothing old new reply = (new.post ≡ old.post) × (reply ≡ Refused NotAllowed)
+IsReplyTo (Page patron card_key) old new reply =
+    (new.post ≡ old.post) × IsPageSeen patron (Some card_key) new.seen reply
+IsReplyTo (Request request) old new reply = IsReplyFor (page_asked request) request old new reply
 
 -- What is asked for is submitted once, or nothing is.
 abbrev pub SubmitsAsked : Asked → View → View → Type 0
@@ -111,31 +112,30 @@ abbrev pub answer_to : Result Reply Fault → Answer
 answer_to (Ok reply) = answer_for reply
 answer_to (Err fault) = Faulted fault
 
-module _ (from : History) (known : Bool) where
-  -- The answer tells what became of what is asked for.
-  pub record TellsReply (asked : Asked) (old new : Working) (answer : Answer) : Type 0 where
-    pub outcome : Result Reply Fault
-    pub answer_is : answer ≡ answer_to outcome
-    pub reply : IfOk outcome (IsReplyTo from known asked old new)
+-- The answer tells what became of what is asked for.
+pub record TellsReply (asked : Asked) (old new : Working) (answer : Answer) : Type 0 where
+  pub outcome : Result Reply Fault
+  pub answer_is : answer ≡ answer_to outcome
+  pub reply : IfOk outcome (IsReplyTo asked old new)
 
-  -- The same of a request that is submitted.
-  pub record TellsSubmitted (request : Requested) (old new : Working) (answer : Answer) : Type 0 where
-    pub outcome : Result Reply Fault
-    pub answer_is : answer ≡ answer_to outcome
-    pub reply : IfOk outcome (IsReplied from known request old new)
+-- The same of a request that is submitted.
+pub record TellsSubmitted (request : Requested) (old new : Working) (answer : Answer) : Type 0 where
+  pub outcome : Result Reply Fault
+  pub answer_is : answer ≡ answer_to outcome
+  pub reply : IfOk outcome (IsReplied request old new)
 
-  -- The same of a page.
-  pub record TellsPage (patron : ℕ) (shown : Option (List ℕ)) (seen : List Entry) (answer : Answer)
-      : Type 0 where
-    pub outcome : Result Reply Fault
-    pub answer_is : answer ≡ answer_to outcome
-    pub reply : known ≡ true → IfOk outcome (λ reply. reply ≡ shown_page (own_page (after from (requests seen)) patron) shown)
+-- The same of a page.
+pub record TellsPage (patron : ℕ) (shown : Option (List ℕ)) (seen : Seen) (answer : Answer)
+    : Type 0 where
+  pub outcome : Result Reply Fault
+  pub answer_is : answer ≡ answer_to outcome
+  pub reply : IfOk outcome (IsPageSeen patron shown seen)
 
-  -- What is asked for was met with an answer; or there is none, since no memory was left for it.
-  pub record Meets (asked : Asked) (old new : Working) (answer : Option Answer) : Type 0 where
-    pub on : StartsWith new.seen old.seen
-    pub once : SubmitsAsked asked old.post new.post
-    pub told : IfSome answer (TellsReply asked old new)
+-- What is asked for was met with an answer; or there is none, since no memory was left for it.
+pub record Meets (asked : Asked) (old new : Working) (answer : Option Answer) : Type 0 where
+  pub on : GoesOn new.seen old.seen
+  pub once : SubmitsAsked asked old.post new.post
+  pub told : IfSome answer (TellsReply asked old new)
 
 -- What was read fails a check: the answer is its status.
 pub record TellsStatus (bytes : Option (List ℕ)) (answer : Answer) : Type 0 where
@@ -143,35 +143,69 @@ pub record TellsStatus (bytes : Option (List ℕ)) (answer : Answer) : Type 0 wh
   pub read : IfSome bytes (λ all. ChecksHead all (Err (Status status)))
   pub answer_is : answer ≡ Failed status
 
-module _ (from : History) (known : Bool) where
-  -- A request was read: the answer is what became of what it asks for.
-  pub record TellsOutcome (desk_key : List ℕ) (bytes : Option (List ℕ)) (old new : Working)
-      (answer : Answer) : Type 0 where
-    pub request : WebRequest
-    pub read : IfSome bytes (λ all. ChecksHead all (Ok request))
-    pub tells : TellsReply from known (asked_of desk_key request) old new answer
+-- A request was read: the answer is what became of what it asks for.
+pub record TellsOutcome (desk_key : List ℕ) (bytes : Option (List ℕ)) (old new : Working)
+    (answer : Answer) : Type 0 where
+  pub request : WebRequest
+  pub read : IfSome bytes (λ all. ChecksHead all (Ok request))
+  pub tells : TellsReply (asked_of desk_key request) old new answer
 
-  -- The answer to the bytes: a status, fault 90 since there was no memory to read them, or what
-  -- became of what they ask for.
-  abbrev pub Answers : List ℕ → Option (List ℕ) → Working → Working → Answer → Type 0
-  Answers desk_key bytes old new answer =
-      TellsStatus bytes answer
-      ⊎ ((answer ≡ Faulted Memory) ⊎ TellsOutcome desk_key bytes old new answer)
+-- The answer to the bytes: a status, fault 90 since there was no memory to read them, or what
+-- became of what they ask for.
+abbrev pub Answers : List ℕ → Option (List ℕ) → Working → Working → Answer → Type 0
+Answers desk_key bytes old new answer =
+    TellsStatus bytes answer
+    ⊎ ((answer ≡ Faulted Memory) ⊎ TellsOutcome desk_key bytes old new answer)
 
-  -- A connection was served. `bytes` are those that the reader has, where it tells them; `before`
-  -- and `after` are the bytes that the writer showed and shows.
-  pub record Serves {E : Type 0} (desk_key : List ℕ) (bytes : Option (List ℕ)) (old new : Working)
-      (before after : Option (List ℕ)) (result : Result (Unit {0}) E) : Type 0 where
-    -- what the worker has seen never gets shorter
-    pub on : StartsWith new.seen old.seen
-    -- nothing was submitted, or the one request that the bytes ask for
-    pub once : (new.post ≡ old.post)
-        ⊎ ((request : Requested) × (web : WebRequest) × IfSome bytes (λ all. ChecksHead all (Ok web))
-        × (asked_of desk_key web ≡ Request request) × (new.post ≡ submitted old.post request))
-    -- one answer went out, whole
-    pub told : OnOk result ((answer : Answer) × Answers desk_key bytes old new answer
-        × Appends before after (answer_bytes answer))
-    -- or nothing, or a beginning of one
-    pub broken : OnErr result (Keeps before after
-        ⊎ ((answer : Answer) × Answers desk_key bytes old new answer
-        × AppendsFront before after (answer_bytes answer)))
+-- A connection was served. `bytes` are those that the reader has, where it tells them; `before`
+-- and `after` are the bytes that the writer showed and shows.
+pub record Serves {E : Type 0} (desk_key : List ℕ) (bytes : Option (List ℕ)) (old new : Working)
+    (before after : Option (List ℕ)) (result : Result (Unit {0}) E) : Type 0 where
+  -- what the worker has seen never gets shorter
+  pub on : GoesOn new.seen old.seen
+  -- nothing was submitted, or the one request that the bytes ask for
+  pub once : (new.post ≡ old.post)
+      ⊎ ((request : Requested) × (web : WebRequest) × IfSome bytes (λ all. ChecksHead all (Ok web))
+      × (asked_of desk_key web ≡ Request request) × (new.post ≡ submitted old.post request))
+  -- one answer went out, whole
+  pub told : OnOk result ((answer : Answer) × Answers desk_key bytes old new answer
+      × Appends before after (answer_bytes answer))
+  -- or nothing, or a beginning of one
+  pub broken : OnErr result (Keeps before after
+      ⊎ ((answer : Answer) × Answers desk_key bytes old new answer
+      × AppendsFront before after (answer_bytes answer)))
+
+-- ---- what a list of accepted requests makes of it
+
+-- The reply is the page that the card key opens after this list of accepted requests, or that this
+-- isn't allowed; and the same after every list that agrees with it on the patron's own rows.
+pub record IsOwnPage (patron : ℕ) (card_key : List ℕ) (H : History) (reply : Reply) : Type 0 where
+  pub page : IsPageFor patron card_key H reply
+  pub own : IsOwnPageFor patron card_key H reply
+
+-- A reply by the list H of accepted requests, once the worker has seen a beginning of the handled
+-- list: to a submission the reply of the list at its place there, and to a page the page after H and
+-- that beginning.
+module _ (H : History) (old new : Working) (reply : Reply) where
+  -- to a submission: its place comes after all that the worker had seen before it
+  pub record IsGivenReply (request : Requested) : Type 0 where
+    pub replied : IsReplied request old new reply
+    pub given : reply ≡ reply_to (after H (requests replied.replied.front)) request
+
+  -- to a request of the desk for a page, or of anybody for something else
+  abbrev pub IsGivenFor : Option ℕ → Requested → Type 0
+  IsGivenFor (Some patron) request = reply ≡ reply_to (after H (requests new.seen.entries)) request
+  IsGivenFor None request = IsGivenReply request
+
+  -- to what is asked for
+  abbrev pub IsGivenTo : Asked → Type 0
+  IsGivenTo Nothing = reply ≡ Refused NotAllowed
+  IsGivenTo (Page patron card_key) = IsOwnPage patron card_key (after H (requests new.seen.entries)) reply
+  IsGivenTo (Request request) = IsGivenFor (page_asked request) request
+
+-- Where the disk has given back what was written to it so far, each of these lists of accepted requests
+-- gives what a worker answers that has seen a beginning of all that was shown.
+abbrev pub GivesReplies : {S : Type 0} → (History → Type 0) → Ghosts S → Held S → Seen → Type 0
+GivesReplies lists g held all = IsClean g held → (H : History) → lists H
+    → (asked : Asked) (old new : Working) (reply : Reply) → GoesOn all new.seen
+    → IsReplyTo asked old new reply → IsGivenTo H old new reply asked

@@ -7,10 +7,11 @@ ghost use Rattle.hall_schedule.specs.declared.schedule.TheConstants.{WORKERS};
 ghost use Rattle.store.specs.Limits.{limit_of};
 ghost use Rattle.board.specs.Rule.{ShowsAll};
 ghost use Rattle.hall.specs.Queue.{IsHearing};
-ghost use Rattle.hall.specs.Openings.{LooksOnly, MeetsFaultOf};
-ghost use Rattle.hall.specs.Handling.{TakesNext, Finishes, KnowsList, PutsPages, IsDue};
+ghost use Rattle.hall.specs.Openings.{LooksOnly, MeetsFaultOf, ToldBy, OpensWith};
+ghost use Rattle.hall.specs.Handling.{TakesNext, Finishes, PutsPages, IsDue};
 ghost use Rattle.hall.specs.Handling.{MayBeNext, ShowsNext, AreShown, submission_of, shown_by};
 ghost use Rattle.hall.specs.Handling.{MayHandle, MayTake, TakesMessage};
+ghost use Rattle.hall.specs.Serving.{GivesReplies};
 ghost use Rattle.hall.specs.declared.messages.Message.TheVariants.{Leave};
 
 use crate::ended::Ended;
@@ -38,7 +39,7 @@ pub struct DeskSide<J: Opening, S: Alter> {
     pub(crate) ghost few: { workers ≤ WORKERS },
     pub(crate) ghost hearing: { IsHearing inbox },
     pub(crate) ghost fresh: { inbox.got ≡ [] },
-    pub(crate) ghost blank: { (publisher.shown ≡ []) × (publisher.pages ≡ []) },
+    pub(crate) ghost blank: { (publisher.shown.entries ≡ []) × (publisher.pages ≡ []) },
 }
 
 /// The board; once the hall is closed it shows nothing more.
@@ -105,16 +106,16 @@ fn show<J: Opening, S: Alter, R: Wait>(
     touched: &Touched,
 ) -> Result<Publisher<J>, (StoppedBoard<J>, Fault)>
     requires blank { publisher.pages ≡ [] }
-    requires due { IsDue J.known J.from S.Store desk.old publisher.shown submission reply
-        touched.now }
+    requires due { IsDue J.shows S.Store desk.old publisher.shown submission reply touched.now }
     ensures { MatchResult result
-        (λ p. (p.shown ≡ publisher.shown ++ (record {
+        (λ p. (p.shown.entries ≡ publisher.shown.entries ++ (record {
           worker = submission.worker;
           number = submission.number;
           request = submission.request;
           reply = reply;
         }) ∷ [])
-        × (p.pages ≡ []) × LooksOnly S.Store desk.old desk.new (Ok tt))
+        × (p.pages ≡ []) × LooksOnly S.Store desk.old desk.new (Ok tt)
+        × ToldBy J.shows S.Store desk.new p.shown)
         (λ e. (e.0.shown ≡ publisher.shown) × MeetsFaultOf S.Store desk.old desk.new e.1) }
 {
     let mut publisher = publisher;
@@ -151,12 +152,13 @@ fn handle_next<J: Opening, S: Alter, R: Wait>(
     submission: Submission,
 ) -> BoardSide<J>
     requires open { progress.old.fault ≡ None }
-    requires next { MayBeNext J.known J.from S.Store desk.old publisher submission }
+    requires next { MayBeNext J.shows S.Store desk.old publisher submission }
     ensures next { TakesNext submission.request S.Store desk.old desk.new
         progress.old.handled progress.new.handled progress.old.fault progress.new.fault }
     ensures shown { MatchResult result
         (λ p. (progress.new.fault ≡ None) × (p.pages ≡ [])
-        × AreShown p.shown (map submission_of publisher.shown ++ submission ∷ []))
+        × AreShown p.shown.entries (map submission_of publisher.shown.entries ++ submission ∷ [])
+        × ToldBy J.shows S.Store desk.new p.shown)
         (λ b. IsSome progress.new.fault × (b.shown ≡ publisher.shown)) }
 {
     let worker = submission.worker;
@@ -199,10 +201,10 @@ fn take_next<J: Opening, S: Alter, R: Wait>(
     board: BoardSide<J>,
     submission: Submission,
 ) -> BoardSide<J>
-    requires { MayHandle J.known J.from S.Store desk.old progress.old.fault board submission }
+    requires { MayHandle J.shows S.Store desk.old progress.old.fault board submission }
     ensures next { TakesNext submission.request S.Store desk.old desk.new
         progress.old.handled progress.new.handled progress.old.fault progress.new.fault }
-    ensures shown { ShowsNext board result submission progress.new.fault }
+    ensures shown { ShowsNext J.shows S.Store desk.new board result submission progress.new.fault }
 {
     match board {
         Ok(publisher) => handle_next(rt, alloc, desk, progress, notices, publisher, submission),
@@ -224,8 +226,8 @@ fn take_message<J: Opening, S: Alter, R: Wait>(
     board: BoardSide<J>,
     message: Message,
 ) -> BoardSide<J>
-    requires { MayTake J.known J.from S.Store desk.old progress.old.fault board message }
-    ensures next { TakesMessage message S.Store desk.old desk.new
+    requires { MayTake J.shows S.Store desk.old progress.old.fault board message }
+    ensures next { TakesMessage J.shows message S.Store desk.old desk.new
         progress.old.handled progress.new.handled progress.old.fault progress.new.fault
         board result }
     ensures gone { (k : ℕ) → slice_index_or gone.new k false ≡ true
@@ -245,7 +247,7 @@ fn take_message<J: Opening, S: Alter, R: Wait>(
 /// The board, which shows nothing more.
 fn stop<J: Opening>(board: BoardSide<J>) -> StoppedBoard<J>
     ensures same { result.shown ≡ shown_by board }
-    ensures all { ShowsAll J.from J.known result.shown result.board }
+    ensures all { ShowsAll result.shown result.board }
 {
     let stopped = match board {
         Ok(publisher) => publisher.stop(),
@@ -277,12 +279,16 @@ impl<J: Opening, S: Alter> DeskSide<J, S> {
     /// closed exactly where there is a fault; where there is none, every submission was handled. 90,
     /// 91 and 93 as the desk gives them; 92 where 2^64 - 1 submissions were handled and one more
     /// came. Closing takes no memory, and the board stays as it was shown last; it is in what is
-    /// left.
+    /// left. Where the disk gave back what was written to it, all that was shown is what each list of
+    /// accepted requests makes it that the opening names: each reply at its place, and the pages with
+    /// each beginning. So is what a worker answers that has seen a beginning of it.
     pub fn desk_loop<R: Wait>(self, rt: &R, alloc: Global) -> (Desk<S>, Ended<J>, Option<Fault>)
-        requires { KnowsList J.known S.Store self.desk J.from }
-        ensures finishes { Finishes self.workers result.1.handled result.1.heard.got result.1.board.shown
-            S.Store self.desk result.0 result.2 }
-        ensures board { ShowsAll J.from J.known result.1.board.shown result.1.board.board }
+        requires { OpensWith J.shows S.Store self.desk self.publisher.shown }
+        ensures finishes { Finishes self.workers result.1.handled result.1.heard.got
+            result.1.board.shown.entries S.Store self.desk result.0 result.2 }
+        ensures board { ShowsAll result.1.board.shown result.1.board.board }
+        ensures told { ToldBy J.shows S.Store result.0 result.1.board.shown }
+        ensures replies { GivesReplies J.shows S.Store result.0 result.1.board.shown }
     {
         let DeskSide {
             mut inbox,

@@ -4,14 +4,14 @@ ghost use Rattle.std.specs.Prelude.{◌≡◌, ◌+◌, ◌≤◌, ◌⊎◌, �
 ghost use Rattle.std.specs.Prelude.{MatchResult};
 ghost use Rattle.hall_schedule.specs.declared.schedule.TheConstants.{WORKERS as most};
 ghost use Rattle.terms.specs.declared.fault.Fault.TheVariants as Fault;
-ghost use Rattle.store.specs.Library.{over_memory};
-ghost use Rattle.desk.specs.Answering.{Learns};
+ghost use Rattle.model.specs.History.{History};
+ghost use Rattle.store.specs.Library.{over_memory, state};
+ghost use Rattle.desk.specs.Answering.{Learns, Shows};
 ghost use Rattle.desk.specs.Showing.{own_page};
 ghost use Rattle.board.specs.Showing.{page_at};
 ghost use Rattle.hall.specs.Queue.{IsHearing, worker_view};
 ghost use Rattle.hall.specs.Openings.{why_number, can_be_workers, IsUnopened, IsUnmade, LooksOnly};
-ghost use Rattle.hall.specs.Openings.{MeetsFaultOf, AreFirstPages, OpensBoard};
-ghost use Rattle.hall.specs.Handling.{KnowsList};
+ghost use Rattle.hall.specs.Openings.{MeetsFaultOf, AreFirstPages, OpensBoard, OpensWith};
 ghost use Rattle.hall.specs.Serving.{AreWorkers};
 
 use crate::desk_side::DeskSide;
@@ -162,7 +162,6 @@ fn open_board<J: Opening, S: Alter>(
     workers: usize,
 ) -> Result<Publisher<J>, Fault>
     requires limits { (1 ≤ workers) × (workers ≤ most) }
-    requires known { KnowsList J.known S.Store desk.old J.from }
     ensures board { IfOk result (OpensBoard S.Store desk.old desk.new) }
     ensures looks { MatchResult result (λ _. LooksOnly S.Store desk.old desk.new (Ok tt))
         (MeetsFaultOf S.Store desk.old desk.new) }
@@ -186,7 +185,7 @@ impl Hall {
     /// left; 92 where the board gives a worker no reader's place. Then the desk is given back, and
     /// its tables show what they showed. The places where workers are told a fault are made here.
     ///
-    /// Where the opening says that it knows what the tables show, they are to show it.
+    /// The tables are to show each list of accepted requests that the opening names.
     pub fn new<J: Opening, S: Alter, R: Wait>(
         rt: &R,
         alloc: Global,
@@ -195,10 +194,10 @@ impl Hall {
         workers: usize,
     ) -> Result<(DeskSide<J, S>, Vec<Worker<J>>), HallFault<S>>
         requires name { opened ≡ J.name }
-        requires known { KnowsList J.known S.Store desk J.from }
+        requires shows { (H : History) → J.shows H → Shows (state S.Store desk) H }
         ensures side { IfOk result (λ r. LooksOnly S.Store desk r.0.desk (Ok tt)
             × (r.0.workers ≡ workers)) }
-        ensures known { IfOk result (λ r. KnowsList J.known S.Store r.0.desk J.from) }
+        ensures opens { IfOk result (λ r. OpensWith J.shows S.Store r.0.desk r.0.publisher.shown) }
         ensures pages { IfOk result (λ r. OpensBoard S.Store desk r.0.desk r.0.publisher) }
         ensures workers { IfOk result (λ r. AreWorkers workers r.1.items) }
         ensures limits { OnOk result (can_be_workers workers ≡ true) }
@@ -236,8 +235,7 @@ impl Hall {
     }
 
     /// Opens a hall of 1 to 8 workers over the desk of a new library in memory, on a queue that was
-    /// just opened. Its tables show the empty list of accepted requests: so that is known of it,
-    /// where its opening names that list, and nobody has a page.
+    /// just opened. Its tables show the empty list of accepted requests, and nobody has a page.
     ///
     /// 21 for another number of workers; else 90 or 91 where there is no library, and 90 to 92 as
     /// `new` gives them.
@@ -248,9 +246,10 @@ impl Hall {
         workers: usize,
     ) -> Result<(DeskSide<J, MemStore>, Vec<Worker<J>>), Why>
         requires name { opened ≡ J.name }
-        requires from { J.from ≡ [] }
+        requires shows { (H : History) → J.shows H → H ≡ [] }
         ensures side { IfOk result (λ r. r.0.workers ≡ workers) }
-        ensures known { IfOk result (λ r. KnowsList true over_memory r.0.desk J.from) }
+        ensures opens { IfOk result (λ r. Shows (state over_memory r.0.desk) []
+            × OpensWith J.shows over_memory r.0.desk r.0.publisher.shown) }
         ensures pages { IfOk result (λ r. (patron : ℕ)
             → page_at r.0.publisher.board.pages patron ≡ None) }
         ensures workers { IfOk result (λ r. AreWorkers workers r.1.items) }

@@ -1,20 +1,25 @@
 //! Which hall it is.
 
-use board::Origin;
 use std::marker::Brand;
 
 /// Which hall it is: it names the queue of one opening, so that the ends of two halls can't be
-/// mixed. Who opens a hall opens and runs it inside one function generic in this, which is called
-/// with `Brand`.
-pub trait Opening: Origin {
+/// mixed, and the lists of accepted requests that the tables of its desk show at its opening. Who
+/// opens a hall opens and runs it inside one function generic in this, which is called with `Brand`.
+pub trait Opening {
     ghost use Rattle.hall.specs.Names.{Name};
+    ghost use Rattle.model.specs.History.{History};
 
     /// The name of its queue.
     ghost name: { Name };
+
+    /// The tables show this list of accepted requests when the hall is opened.
+    ghost shows: { History → Type 0 };
 }
 
 impl Opening for Brand {
     ghost use Rattle.hall.specs.Names.{no_name};
 
     ghost name = { no_name };
+
+    ghost shows = { λ _. ⊥ };
 }

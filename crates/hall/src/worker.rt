@@ -1,11 +1,11 @@
 //! The side of a worker.
 
-ghost use Rattle.std.specs.Prelude.{◌≡◌, length, MatchResult, MatchBool, IfOk, IfSome, option_map};
+ghost use Rattle.std.specs.Prelude.{◌≡◌, length, MatchResult, MatchBool, IfOk, IfSome, OnOk, option_map};
 ghost use Rattle.std.specs.Arc.{arc_value};
 ghost use Rattle.terms.specs.Writing.{Writes};
 ghost use Rattle.terms.specs.declared.fault.Fault.TheVariants.{Closed};
 ghost use Rattle.web.specs.Answers.{answer_bytes, answer_for};
-ghost use Rattle.board.specs.Showing.{StartsWith, IsReply};
+ghost use Rattle.board.specs.Showing.{GoesOn, IsReply, count_own};
 ghost use Rattle.hall.specs.declared.messages.Message.TheVariants.{Leave};
 ghost use Rattle.hall.specs.Queue.{IsSending, sent_more, worker_view};
 ghost use Rattle.hall.specs.Serving.{submitted, SubmitsOnce, page_asked, Meets, Serves};
@@ -85,8 +85,8 @@ fn await_entry<J: Opening, R: Wait>(
     number: u64,
     request: &SharedRequest,
 ) -> Result<Arc<Entry, Global>, Lost>
-    ensures on { StartsWith window.new window.old }
-    ensures found { IfOk result (λ entry. IsReply J.from J.known window.new worker number request.now
+    ensures on { GoesOn window.new window.old }
+    ensures found { IfOk result (λ entry. IsReply window.new.entries worker number request.now
         (arc_value entry).reply) }
 {
     'looks: for _ in rt.forever() {
@@ -172,13 +172,34 @@ impl<J: Opening> Worker<J> {
         }
     }
 
-    /// Waits until its last submission is on the board. A fault says that it never will be.
+    /// Before its first submission: looks that the board shows nothing of the worker. 92 where it
+    /// does.
+    fn begin(&mut self) -> Result<(), Lost>
+        ensures same { self.new.post ≡ self.old.post }
+        ensures on { GoesOn self.new.seen self.old.seen }
+        ensures none { OnOk result (count_own self.old.post.worker self.new.seen.entries ≡ 0) }
+    {
+        match self.window.shows_none_of(self.worker) {
+            Ok(true) => Ok(()),
+            Ok(false) => Err(Lost::Told(Fault::Closed)),
+            Err(Unseen::Memory) => Err(Lost::Untold),
+            Err(Unseen::Gone) => Err(Lost::Told(Fault::Closed)),
+        }
+    }
+
+    /// Waits until its last submission is on the board: then the worker has seen all that it
+    /// submitted. A fault says that it never will be.
     fn settle<R: Wait>(&mut self, rt: &R) -> Result<(), Lost>
         ensures same { self.new.post ≡ self.old.post }
-        ensures on { StartsWith self.new.seen self.old.seen }
+        ensures on { GoesOn self.new.seen self.old.seen }
+        ensures all { OnOk result
+            (count_own self.old.post.worker self.new.seen.entries ≡ length self.old.post.sent) }
     {
+        if self.number == 0 {
+            return self.begin();
+        }
         let Some(last) = &self.last else {
-            return Ok(());
+            return Err(Lost::Told(Fault::Closed));
         };
         match await_entry(
             rt,
@@ -226,8 +247,8 @@ impl<J: Opening> Worker<J> {
         request: SharedRequest,
     ) -> Result<Arc<Entry, Global>, Lost>
         ensures same { self.new.post ≡ self.old.post }
-        ensures on { StartsWith self.new.seen self.old.seen }
-        ensures found { IfOk result (λ entry. IsReply J.from J.known self.new.seen
+        ensures on { GoesOn self.new.seen self.old.seen }
+        ensures found { IfOk result (λ entry. IsReply self.new.seen.entries
             self.old.post.worker (length self.old.post.sent) request (arc_value entry).reply) }
     {
         let found = await_entry(
@@ -250,9 +271,9 @@ impl<J: Opening> Worker<J> {
         alloc: Global,
         request: Request,
     ) -> Result<Arc<Entry, Global>, Lost>
-        ensures on { StartsWith self.new.seen self.old.seen }
+        ensures on { GoesOn self.new.seen self.old.seen }
         ensures once { SubmitsOnce self.old.post self.new.post request }
-        ensures found { IfOk result (λ entry. IsReplied J.from J.known request self.old self.new
+        ensures found { IfOk result (λ entry. IsReplied request self.old self.new
             (arc_value entry).reply) }
     {
         match self.settle(rt) {
@@ -280,9 +301,9 @@ impl<J: Opening> Worker<J> {
         alloc: Global,
         request: Request,
     ) -> Option<Answer>
-        ensures on { StartsWith self.new.seen self.old.seen }
+        ensures on { GoesOn self.new.seen self.old.seen }
         ensures once { SubmitsOnce self.old.post self.new.post request }
-        ensures told { IfSome result (TellsSubmitted J.from J.known request self.old self.new) }
+        ensures told { IfSome result (TellsSubmitted request self.old self.new) }
     {
         match self.ask(rt, alloc, request) {
             Ok(entry) => match Answer::reply(alloc, &entry.reply) {
@@ -303,8 +324,8 @@ impl<J: Opening> Worker<J> {
         shown: Option<&CardKey>,
     ) -> Answer
         ensures same { self.new.post ≡ self.old.post }
-        ensures on { StartsWith self.new.seen self.old.seen }
-        ensures told { TellsPage J.from J.known patron (option_map (λ k. k.now) shown.entry)
+        ensures on { GoesOn self.new.seen self.old.seen }
+        ensures told { TellsPage patron (option_map (λ k. k.now) shown.entry)
             self.new.seen result }
     {
         match self.window.page(patron) {
@@ -319,7 +340,7 @@ impl<J: Opening> Worker<J> {
 
     /// The answer to what is asked for. None where no memory is left for it.
     fn answer<R: Wait>(&mut self, rt: &R, alloc: Global, asked: Asked) -> Option<Answer>
-        ensures { Meets J.from J.known asked self.old self.new result }
+        ensures { Meets asked self.old self.new result }
     {
         match asked {
             Asked::Nothing => Some(Answer::Refused(Refusal::NotAllowed)),
@@ -350,7 +371,7 @@ impl<J: Opening> Worker<J> {
         reader: &mut I,
         writer: &mut O,
     ) -> Result<(), ServeFault>
-        ensures { Serves J.from J.known desk_key.now (I.remaining reader.old) self.old self.new
+        ensures { Serves desk_key.now (I.remaining reader.old) self.old self.new
             (O.contents writer.old) (O.contents writer.new) result }
     {
         let answer = match read_request(alloc, reader) {

@@ -1,8 +1,9 @@
 //! The calls under test, with no clauses: so a test with many of them is proved fast.
 
-ghost use Rattle.std.specs.Prelude.{◌≡◌, [], true, false, IfOk};
+ghost use Rattle.std.specs.Prelude.{◌≡◌, [], IfOk};
 ghost use Rattle.store.specs.Library.{over_memory};
-ghost use Rattle.hall.specs.Handling.{KnowsList};
+ghost use Rattle.model.specs.History.{History};
+ghost use Rattle.hall.specs.Openings.{OpensWith};
 
 use desk::Desk;
 use hall::{DeskSide, Ended, Hall, HallFault, Left, Opened, Opening, Worker};
@@ -20,7 +21,8 @@ pub fn open_queue(alloc: Global) -> Result<Opened, Memory> {
     Opened::new(alloc)
 }
 
-/// The hall of so many workers; or the number that says why there is none, and the desk.
+/// The hall of so many workers, whose opening names no list of accepted requests; or the number that says why there is none, and
+/// the desk.
 pub fn open_hall<J: Opening, R: Wait>(
     rt: &R,
     alloc: Global,
@@ -29,7 +31,7 @@ pub fn open_hall<J: Opening, R: Wait>(
     workers: usize,
 ) -> Result<Side<J>, (u32, Desk<MemStore>)>
     requires name { opened ≡ J.name }
-    requires known { J.known ≡ false }
+    requires none { (H : History) → J.shows H → ⊥ }
 {
     match Hall::new::<J, MemStore, R>(rt, alloc, opened, desk, workers) {
         Ok(side) => Ok(side),
@@ -46,8 +48,8 @@ pub fn open_in_memory<J: Opening, R: Wait>(
     workers: usize,
 ) -> Result<Side<J>, u32>
     requires name { opened ≡ J.name }
-    requires from { J.from ≡ [] }
-    ensures { IfOk result (λ r. KnowsList true over_memory r.0.desk J.from) }
+    requires shows { (H : History) → J.shows H → H ≡ [] }
+    ensures { IfOk result (λ r. OpensWith J.shows over_memory r.0.desk r.0.publisher.shown) }
 {
     match Hall::in_memory::<J, R>(rt, alloc, opened, workers) {
         Ok(side) => Ok(side),
@@ -60,24 +62,24 @@ pub fn limit_side<J: Opening>(side: &mut DeskSide<J, MemStore>, limit: u64) {
     side.limit_steps(Some(limit));
 }
 
-/// Handles what comes.
+/// Handles what comes, in a hall whose opening names no list of accepted requests.
 pub fn handle_all<J: Opening, R: Wait>(
     rt: &R,
     alloc: Global,
     side: DeskSide<J, MemStore>,
 ) -> (Desk<MemStore>, Ended<J>, Option<Fault>)
-    requires { J.known ≡ false }
+    requires { (H : History) → J.shows H → ⊥ }
 {
     side.desk_loop(rt, alloc)
 }
 
-/// The same where it is known what the tables show.
-pub fn handle_known<J: Opening, R: Wait>(
+/// The same in a hall over a new library in memory.
+pub fn handle_in_memory<J: Opening, R: Wait>(
     rt: &R,
     alloc: Global,
     side: DeskSide<J, MemStore>,
 ) -> (Desk<MemStore>, Ended<J>, Option<Fault>)
-    requires { KnowsList J.known over_memory side.desk J.from }
+    requires { OpensWith J.shows over_memory side.desk side.publisher.shown }
 {
     side.desk_loop(rt, alloc)
 }

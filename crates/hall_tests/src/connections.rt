@@ -1,6 +1,7 @@
 //! Connections of one worker, over readers that fail after some bytes and writers that take some bytes.
 
-ghost use Rattle.std.specs.Prelude.{◌≡◌, false};
+ghost use Rattle.std.specs.Prelude.{◌≡◌};
+ghost use Rattle.model.specs.History.{History};
 
 use crate::bytes::{answer, gets, served};
 use crate::calls::{close, connection, handle_all, leave, open_hall, open_queue, take_in};
@@ -157,7 +158,7 @@ fn meet<J: Opening + Send + Sync + 'static, R: Threads + Wait + Abort + Copy + S
     deed: Deed,
 ) -> Result<(usize, u64, String), Fail>
     requires name { opened ≡ J.name }
-    requires known { J.known ≡ false }
+    requires none { (H : History) → J.shows H → ⊥ }
 {
     let Ok((side, all)) = open_hall::<J, R>(&rt, alloc, opened, library(alloc)?, 1) else {
         return Err("a hall".into());

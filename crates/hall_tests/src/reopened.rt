@@ -1,6 +1,7 @@
 //! A hall that a refused call of the database closed, and another one over its desk.
 
-ghost use Rattle.std.specs.Prelude.{◌≡◌, false};
+ghost use Rattle.std.specs.Prelude.{◌≡◌};
+ghost use Rattle.model.specs.History.{History};
 
 use crate::bytes::gets;
 use crate::calls::{
@@ -119,7 +120,7 @@ fn run_hall<J: Opening + Send + Sync + 'static, R: Threads + Wait + Copy + Send 
     asked: Asked,
 ) -> Result<(Option<usize>, Desk<MemStore>, Option<Fault>), Fail>
     requires name { opened ≡ J.name }
-    requires known { J.known ≡ false }
+    requires none { (H : History) → J.shows H → ⊥ }
 {
     let Ok((mut side, all)) = open_hall::<J, R>(&rt, alloc, opened, desk, 2) else {
         return Err("a hall".into());

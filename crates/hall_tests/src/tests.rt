@@ -1,6 +1,7 @@
 //! Workers and a desk, in threads.
 
-ghost use Rattle.std.specs.Prelude.{◌≡◌, false};
+ghost use Rattle.std.specs.Prelude.{◌≡◌};
+ghost use Rattle.model.specs.History.{History};
 
 use crate::bytes::{answer, gets, told};
 use crate::calls::{
@@ -115,7 +116,7 @@ fn meet<J: Opening + Send + Sync + 'static, R: Threads + Wait + Copy + Send + 's
     workers: Vec<Worker<J>>,
     each: u64,
 ) -> Met
-    requires { J.known ≡ false }
+    requires { (H : History) → J.shows H → ⊥ }
 {
     let started = start_all(rt, alloc, workers, each);
     let (desk, mut ended, fault) = handle_all(&rt, alloc, side);
@@ -186,7 +187,7 @@ fn run_hall<J: Opening + Send + Sync + 'static, R: Threads + Wait + Abort + Copy
     each: u64,
 ) -> Result<(), Fail>
     requires name { opened ≡ J.name }
-    requires known { J.known ≡ false }
+    requires none { (H : History) → J.shows H → ⊥ }
 {
     let desk = library_of(alloc, each)?;
     let Ok((side, all)) = open_hall::<J, R>(&rt, alloc, opened, desk, workers as usize) else {
@@ -356,7 +357,7 @@ fn check_closed<
     R: Threads + Wait + Abort + Copy + Send + 'static,
 >(rt: R, alloc: Global, opened: Opened, limit: u64, wanted: &Wanted) -> Result<(), Fail>
     requires name { opened ≡ J.name }
-    requires known { J.known ≡ false }
+    requires none { (H : History) → J.shows H → ⊥ }
 {
     let desk = library(alloc)?;
     let Ok((mut side, all)) = open_hall::<J, R>(&rt, alloc, opened, desk, 2) else {
@@ -411,7 +412,7 @@ fn refuse<J: Opening, R: Wait + Abort>(
     workers: usize,
 ) -> Result<(), Fail>
     requires name { opened ≡ J.name }
-    requires known { J.known ≡ false }
+    requires none { (H : History) → J.shows H → ⊥ }
 {
     match open_hall::<J, _>(rt, alloc, opened, library(alloc)?, workers) {
         Ok((side, all)) => {

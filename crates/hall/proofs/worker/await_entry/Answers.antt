@@ -1,5 +1,5 @@
-use Rattle.board.proofs.Beginnings.{starts_self}
+use Rattle.board.proofs.Beginnings.{goes_self}
 use Rattle.hall.proofs.worker.await_entry.Goals as goal
 
 pub looks-init : goal.looks-init
-looks-init g c = starts_self c.args.window.now
+looks-init g c = goes_self c.args.window.now

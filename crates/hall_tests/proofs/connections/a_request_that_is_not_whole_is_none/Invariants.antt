@@ -1,9 +1,5 @@
-use Rattle.std.proofs.Common.{[], false}
 use Rattle.hall_tests.proofs.connections.a_request_that_is_not_whole_is_none.Given as goal
 
 -- the queue that was just opened; nothing is said of what the desk shows
-abbrev pub ghosts-meet-J-Opening : goal.ghosts-meet-J-Opening
-ghosts-meet-J-Opening g a = record { name = a.opened }
-
-abbrev pub ghosts-meet-J-Origin : goal.ghosts-meet-J-Origin
-ghosts-meet-J-Origin g a = record { from = []; known = false }
+abbrev pub ghosts-meet : goal.ghosts-meet
+ghosts-meet g a = record { name = a.opened; shows = λ _. ⊥ }

@@ -11,7 +11,7 @@ use Rattle.board.proofs.window.Window.entry.Goals as goal
 use Rattle.board.proofs.window.Window.entry.Goals.{in-Ok-entry, in-Err-entry}
 
 pub enter_as-requires : goal.enter_as-requires
-enter_as-requires g c = looks g.J.Origin.from g.J.Origin.known c.in-Some.reader.place.id (view c.in-Some.reader.place)
+enter_as-requires g c = looks c.in-Some.reader.place.id (view c.in-Some.reader.place)
 
 if_some : {X : Type 0} (o : Option X) (P Q : X → Type 0) → ((x : X) → P x → Q x) → IfSome o P → IfSome o Q
 if_some (Some x) P Q f h = f x h
@@ -19,18 +19,16 @@ if_some None P Q f h = tt
 
 pub returns-after-entry-clause-found : goal.returns-after-entry-clause-found
 returns-after-entry-clause-found g c =
-    let from = g.J.Origin.from in
-    let known = g.J.Origin.known in
-    let seen = (view c.in-Ok.reading.place).entries in
+    let seen = view c.in-Ok.reading.place in
     let now = (view c.leave.result.place).entries in
-    let same : now ≡ seen = ap (λ (s : Seen). s.entries) c.leave.ensures.1 in
+    let same : now ≡ seen.entries = ap (λ (s : Seen). s.entries) c.leave.ensures.1 in
     let looked = c.in-Ok.ensures.1 in
     elim c.match-entry.branch [
       | in-Ok-entry w ↦ rw w.result-is (if_some w.in-Ok-entry.found
           (λ (a : Arc Entry Global). ShowsEntry c.get.result.now c.args.worker c.args.number c.args.request.now (arc_value a))
-          (λ (a : Arc Entry Global). IsReply from known now c.args.worker c.args.number c.args.request.now (arc_value a).reply)
-          (λ a shows. subst (λ (l : List Entry). IsReply from known l c.args.worker c.args.number c.args.request.now (arc_value a).reply) (sym same)
-          (found from known seen c.in-Ok.reading.part.value c.args.worker c.args.number c.args.request.now (arc_value a) looked.board looked.sound
+          (λ (a : Arc Entry Global). IsReply now c.args.worker c.args.number c.args.request.now (arc_value a).reply)
+          (λ a shows. subst (λ (l : List Entry). IsReply l c.args.worker c.args.number c.args.request.now (arc_value a).reply) (sym same)
+          (found seen c.in-Ok.reading.part.value c.args.worker c.args.number c.args.request.now (arc_value a) looked.board looked.sound
           (subst (λ (x : Showing). ShowsEntry x c.args.worker c.args.number c.args.request.now (arc_value a)) c.get.ensures shows)))
           w.in-Ok-entry.ensures)
       | in-Err-entry w ↦ rw w.result-is tt

@@ -1,10 +1,13 @@
 use Rattle.std.proofs.Common.{◌≡◌, ◌+◌, ◌<◌, ◌++◌, ◌∷◌, ℕ, false, List, [], map, refl, sym, ap, subst, ◌∙◌, inl, inr, rules}
+use Rattle.board.specs.declared.entry.Seen.{Seen}
+use Rattle.board.specs.Showing.{IsTold}
 use Rattle.hall.specs.declared.messages.Message.{Message}
 use Rattle.hall.specs.declared.messages.View.{View}
 use Rattle.hall.specs.Queue.{unhandled, requests, of, is_open}
 use Rattle.hall.specs.Handling.{submission_of, Finishes}
 use Rattle.hall.proofs.HandledLists.{stays_gone, goes_now}
 use Rattle.hall.proofs.Progress.{none-handled}
+use Rattle.hall.proofs.Replies.{given-to}
 use Rattle.hall.proofs.Shown.{may-take, message-kept, finishes}
 use Rattle.hall.proofs.desk_side.DeskSide.desk_loop.Goals as goal
 
@@ -18,12 +21,13 @@ work-init g c = record {
     cause = tt;
     desk = none-handled g.S.Store c.args.self.desk (requests (unhandled 0 c.args.self.inbox.got));
     shown = (refl, c.args.self.blank.1, ap (map submission_of) c.args.self.blank.0);
+    told = c.requires.told;
   };
 }
 
 pub take_message-board-requires : goal.take_message-board-requires
 take_message-board-requires g c =
-    may-take g.S.Store g.J.Origin.known g.J.Origin.from c.args.self.desk c.work.desk c.work.progress.handled c.work.progress.fault c.work.inbox.got c.work.board c.in-Ok.message c.requires c.in-Ok.ensures.1 c.work.invariant.stands
+    may-take g.S.Store g.J.Opening.shows c.args.self.desk c.work.desk c.work.progress.handled c.work.progress.fault c.work.inbox.got c.work.board c.in-Ok.message c.requires.tables c.in-Ok.ensures.1 c.work.invariant.stands
 
 pub work-preserved-in-Ok : goal.work-preserved-in-Ok
 work-preserved-in-Ok g c =
@@ -37,12 +41,18 @@ work-preserved-in-Ok g c =
         | inl old ↦ stays_gone c.work.inbox.got c.receive.new.self.got c.in-Ok.message got (j + 1) (i.gone j old)
         | inr now ↦ goes_now c.work.inbox.got c.receive.new.self.got (j + 1) (j + 1) (got ∙ ap (λ (m : Message). c.work.inbox.got ++ m ∷ []) now) refl
       ];
-      stands = message-kept g.S.Store c.args.self.desk c.work.desk t.new.desk c.work.progress.handled t.new.progress.handled c.work.progress.fault t.new.progress.fault c.work.inbox.got c.receive.new.self.got c.work.board t.result c.in-Ok.message got t.ensures.next i.stands;
+      stands = message-kept g.S.Store g.J.Opening.shows c.args.self.desk c.work.desk t.new.desk c.work.progress.handled t.new.progress.handled c.work.progress.fault t.new.progress.fault c.work.inbox.got c.receive.new.self.got c.work.board t.result c.in-Ok.message got t.ensures.next i.stands;
     }
 
 pub returns-clause-finishes : goal.returns-clause-finishes
 returns-clause-finishes g c =
     let got : c.end.result.got ≡ c.work.inbox.got = ap (λ (v : View). v.got) c.end.ensures in
     let gone : (k : ℕ) → k < c.args.self.workers → is_open (of (k + 1) c.work.inbox.got) ≡ false = search rules in
-    subst (λ (l : List Message). Finishes c.args.self.workers c.work.progress.handled l c.stop.result.shown g.S.Store c.args.self.desk c.work.desk c.work.progress.fault) (sym got)
-    (finishes g.S.Store c.args.self.workers c.work.progress.handled c.work.inbox.got c.stop.result.shown c.args.self.desk c.work.desk c.work.progress.fault c.work.board gone c.stop.ensures.same c.work.invariant.stands)
+    subst (λ (l : List Message). Finishes c.args.self.workers c.work.progress.handled l c.stop.result.shown.entries g.S.Store c.args.self.desk c.work.desk c.work.progress.fault) (sym got)
+    (finishes g.S.Store g.J.Opening.shows c.args.self.workers c.work.progress.handled c.work.inbox.got c.stop.result.shown.entries c.args.self.desk c.work.desk c.work.progress.fault c.work.board gone (ap (λ (v : Seen). v.entries) c.stop.ensures.same) c.work.invariant.stands)
+
+pub returns-clause-told : goal.returns-clause-told
+returns-clause-told g c = λ disk H first. subst (IsTold H) (sym c.stop.ensures.same) (c.work.invariant.stands.told disk H first)
+
+pub returns-clause-replies : goal.returns-clause-replies
+returns-clause-replies g c = λ disk H first asked old new reply on is. given-to H c.stop.result.shown (subst (IsTold H) (sym c.stop.ensures.same) (c.work.invariant.stands.told disk H first)) old new on reply asked is

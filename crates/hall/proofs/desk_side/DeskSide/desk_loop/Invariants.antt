@@ -7,5 +7,5 @@ abbrev pub invariant-work : goal.invariant-work
 invariant-work g l = record {
   hearing : IsHearing l.inbox;
   gone : (k : ℕ) → slice_index_or l.gone k false ≡ true → is_open (of (k + 1) l.inbox.got) ≡ false;
-  stands : Stands g.S.Store l.initial.desk l.desk l.progress.handled l.progress.fault l.inbox.got l.board;
+  stands : Stands g.J.Opening.shows g.S.Store l.initial.desk l.desk l.progress.handled l.progress.fault l.inbox.got l.board;
 }

@@ -11,8 +11,8 @@ returns-clause-told g c =
     let shown = option_map (λ k. k.now) c.args.shown in
     elim c.match-page.branch [
       | in-Ok+in-Ok-page_answer w ↦
-          record { outcome = Ok (shown_page (option_map arc_value w.in-Ok.page) shown); answer_is = w.result-is ∙ w.in-Ok-page_answer.ensures; reply = λ k. ap (λ o. shown_page o shown) (w.in-Ok.ensures.page k) }
-      | in-Ok+in-Err w ↦ record { outcome = Err Memory; answer_is = w.result-is; reply = λ _. tt }
-      | in-Err-Memory w ↦ record { outcome = Err Memory; answer_is = w.result-is; reply = λ _. tt }
-      | in-Err-Gone w ↦ record { outcome = Err Closed; answer_is = w.result-is; reply = λ _. tt }
+          record { outcome = Ok (shown_page (option_map arc_value w.in-Ok.page) shown); answer_is = w.result-is ∙ w.in-Ok-page_answer.ensures; reply = record { looked = w.in-Ok.ensures.looked; reply_is = ap (λ o. shown_page o shown) w.in-Ok.ensures.page } }
+      | in-Ok+in-Err w ↦ record { outcome = Err Memory; answer_is = w.result-is; reply = tt }
+      | in-Err-Memory w ↦ record { outcome = Err Memory; answer_is = w.result-is; reply = tt }
+      | in-Err-Gone w ↦ record { outcome = Err Closed; answer_is = w.result-is; reply = tt }
     ]

@@ -3,7 +3,7 @@
 ghost use Rattle.std.specs.Prelude.{◌≡◌, ◌+◌, ◌++◌, [], ◌∷◌, IfOk, IfSome};
 ghost use Rattle.board.specs.Showing.{count_own};
 
-use crate::{Entry, First, Publisher, SharedRequest, Unseen, Window, WorkerId};
+use board::{Entry, First, Publisher, SharedRequest, Unseen, Window, WorkerId};
 use desk::OwnPage;
 use std::alloc::Global;
 use std::marker::Brand;
@@ -152,9 +152,9 @@ fn first_pages(alloc: Global) -> Result<First, Fail> {
     Ok(first)
 }
 
-/// A board for two windows. Nothing is known of the tables at its opening.
+/// A board for two windows.
 fn open_board(alloc: Global) -> Result<Publisher<Brand>, Fail>
-    ensures { IfOk result (λ p. p.shown ≡ []) }
+    ensures { IfOk result (λ p. p.shown.entries ≡ []) }
 {
     let first = first_pages(alloc)?;
     let publisher = Publisher::<Brand>::new(alloc, first, 2)?;
@@ -176,7 +176,7 @@ fn put<R: Wait>(
     patron: PatronId,
     page: OwnPage,
 ) -> Option<Publisher<Brand>>
-    ensures { IfSome result (λ p. p.shown ≡ publisher.shown) }
+    ensures { IfSome result (λ p. p.shown.entries ≡ publisher.shown.entries) }
 {
     let mut publisher = publisher;
     match publisher.put(alloc, patron, page) {
@@ -195,8 +195,8 @@ fn show<R: Wait>(
     publisher: Publisher<Brand>,
     entry: Entry,
 ) -> Option<Publisher<Brand>>
-    requires { entry.number ≡ count_own entry.worker publisher.shown + 1 }
-    ensures { IfSome result (λ p. p.shown ≡ publisher.shown ++ entry ∷ []) }
+    requires { entry.number ≡ count_own entry.worker publisher.shown.entries + 1 }
+    ensures { IfSome result (λ p. p.shown.entries ≡ publisher.shown.entries ++ entry ∷ []) }
 {
     let _in_limits = entry.worker.number();
     match publisher.publish(rt, alloc, entry) {
@@ -222,8 +222,8 @@ fn show_one<R: Wait>(
     publisher: Publisher<Brand>,
     step: Step,
 ) -> Option<Publisher<Brand>>
-    requires { publisher.shown ≡ [] }
-    ensures { IfSome result (λ p. count_own 2 p.shown ≡ 0) }
+    requires { publisher.shown.entries ≡ [] }
+    ensures { IfSome result (λ p. count_own 2 p.shown.entries ≡ 0) }
 {
     let Step { request, page } = step;
     let publisher = put(rt, alloc, publisher, PatronId::new(1), page)?;
@@ -249,7 +249,7 @@ fn show_two<R: Wait>(
     publisher: Publisher<Brand>,
     step: Step,
 ) -> Option<Publisher<Brand>>
-    requires { count_own 2 publisher.shown ≡ 0 }
+    requires { count_own 2 publisher.shown.entries ≡ 0 }
 {
     let Step { request, page } = step;
     let publisher = put(rt, alloc, publisher, PatronId::new(2), page)?;
@@ -458,7 +458,7 @@ fn walk<R: Wait>(
     all: &AllAsked,
     steps: (Step, Step),
 ) -> Option<[bool; 4]>
-    requires { publisher.shown ≡ [] }
+    requires { publisher.shown.entries ≡ [] }
 {
     let (mut one, mut two) = windows;
     let (first, second) = steps;

@@ -3,7 +3,7 @@ use Rattle.std.proofs.lemmas.List.Sums.{sum_by-cons}
 use Rattle.board.specs.declared.entry.Entry.{Entry}
 use Rattle.board.specs.Showing.{count_own}
 use Rattle.board.specs.Rule.{Publishing}
-use Rattle.board.proofs.tests.show_one.Goals as goal
+use Rattle.hall_tests.proofs.boards.show_one.Goals as goal
 
 -- Worker 2 has no entry where there is one of worker 1 alone.
 none_of_two : (shown : List Entry) (e : Entry) → shown ≡ [] → e.worker ≡ 1 → count_own 2 (shown ++ e ∷ []) ≡ 0
@@ -21,5 +21,5 @@ pub show-requires : goal.show-requires
 show-requires g c = ap (λ (l : List Entry). count_own c.in-Some.worker l + 1) (sym (c.in_ok-publisher.ensures ∙ c.requires))
 
 pub returns : goal.returns
-returns g c = if_some c.show.result _ (λ (p : Publishing). count_own 2 p.shown ≡ 0)
+returns g c = if_some c.show.result _ (λ (p : Publishing). count_own 2 p.shown.entries ≡ 0)
     (λ p is. ap (count_own 2) is ∙ none_of_two _ _ (c.in_ok-publisher.ensures ∙ c.requires) c.in-Some.ensures.1) c.show.ensures

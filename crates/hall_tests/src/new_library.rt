@@ -1,9 +1,10 @@
-//! A hall over a new library in memory, of which it is known what its tables show: each reply and each page is the one of the rules.
+//! A hall over a new library in memory, whose tables show the empty list: each reply and each page is the one of the rules.
 
 ghost use Rattle.std.specs.Prelude.{◌≡◌, []};
+ghost use Rattle.model.specs.History.{History};
 
 use crate::bytes::gets;
-use crate::calls::{close, handle_known, leave, open_in_memory, open_queue, take_in};
+use crate::calls::{close, handle_in_memory, leave, open_in_memory, open_queue, take_in};
 use hall::{Left, Opened, Opening, Worker};
 use std::alloc::Global;
 use std::marker::Brand;
@@ -203,13 +204,13 @@ fn meet<J: Opening + Send + Sync + 'static, R: Threads + Wait + Abort + Copy + S
     opened: Opened,
 ) -> Result<(Option<usize>, u64), Fail>
     requires name { opened ≡ J.name }
-    requires from { J.from ≡ [] }
+    requires shows { (H : History) → J.shows H → H ≡ [] }
 {
     let Ok((side, all)) = open_in_memory::<J, R>(&rt, alloc, opened, 2) else {
         return Err("a hall".into());
     };
     let started = thread::spawn(&rt, move || work(&rt, alloc, all)).ok();
-    let (_desk, mut ended, fault) = handle_known(&rt, alloc, side);
+    let (_desk, mut ended, fault) = handle_in_memory(&rt, alloc, side);
     let met = match started {
         Some(thread) => thread.join(&rt),
         None => None,
@@ -243,14 +244,14 @@ fn refuse<J: Opening, R: Wait + Abort>(
     workers: usize,
 ) -> Result<(), Fail>
     requires name { opened ≡ J.name }
-    requires from { J.from ≡ [] }
+    requires shows { (H : History) → J.shows H → H ≡ [] }
 {
     match open_in_memory::<J, _>(rt, alloc, opened, workers) {
         Ok((side, all)) => {
             for worker in all {
                 let _ = leave(rt, worker);
             }
-            let (_, ended, _) = handle_known(rt, alloc, side);
+            let (_, ended, _) = handle_in_memory(rt, alloc, side);
             close(rt, ended);
             Err("no hall".into())
         }
