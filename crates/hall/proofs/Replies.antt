@@ -1,6 +1,6 @@
 -- Pages as the board shows them are the replies of the desk.
 use Rattle.std.proofs.Common.{◌≡◌, ℕ, true, false, not, cond, List, [], ◌∷◌, ◌++◌, append_assoc, inl, refl, sym, ◌∙◌, ap, subst}
-use Rattle.std.specs.Prelude.{Option, Some, None, option_map, unwrap_or, is_some, bytes_eq, Result, Ok, Err, IfOk}
+use Rattle.std.specs.Prelude.{Option, Some, None, option_map, unwrap_or, is_some, bytes_eq, Result, Ok, Err, IfOk, IfErr}
 use Rattle.terms.specs.declared.command.Caller.{Caller}
 use Rattle.terms.specs.declared.command.Caller.TheVariants.{Desk}
 use Rattle.terms.specs.declared.command.Command.{Command}
@@ -27,7 +27,7 @@ use Rattle.board.specs.declared.entry.Seen.{Seen}
 use Rattle.board.specs.Showing.{StartsWith, GoesOn, IsTold, requests}
 use Rattle.board.proofs.Beginnings.{goes_self}
 use Rattle.board.proofs.Telling.{told-reply}
-use Rattle.hall.specs.Serving.{Working, shown_page, page_by_desk, page_asked, IsOwnPage, IsPageSeen, IsReplied, IsReplyFor, IsReplyTo, IsGivenReply, IsGivenFor, IsGivenTo, TellsPage, Meets}
+use Rattle.hall.specs.Serving.{Working, shown_page, page_by_desk, page_asked, IsOwnPage, IsPageSeen, IsReplied, IsReplyFor, IsReplyTo, IsGivenReply, IsGivenFor, IsGivenTo, IsPageFault, IsFaultFor, IsFaultTo, TellsPage, Meets}
 
 abbrev asked_page : Option PatronFacts → List ℕ → Reply
 asked_page row text = elim (first_failing ((UnknownPatron, not (is_some row)) ∷ [])) as (λ _. Reply) [ Some refused ↦ Refused refused | None ↦ Shown text ]
@@ -67,19 +67,23 @@ page-replied H request patron asked = by request.caller request.command asked
 
 module _ (old : Working) where
   pub nothing-met : Meets Nothing old old (Some (answer.Refused NotAllowed))
-  nothing-met = record { on = goes_self old.seen; once = refl; told = record { outcome = Ok (Refused NotAllowed); answer_is = refl; reply = (refl, refl) } }
+  nothing-met = record { on = goes_self old.seen; once = refl; told = record { outcome = Ok (Refused NotAllowed); answer_is = refl; reply = (refl, refl); fault = tt } }
 
   module _ (new : Working) (told : Answer) (on : GoesOn new.seen old.seen) (same : new.post ≡ old.post) (patron : ℕ) where
     pub page-met : (card_key : List ℕ) → TellsPage patron (Some card_key) new.seen told → Meets (asked.Page patron card_key) old new (Some told)
-    page-met card_key t = record { on = on; once = same; told = record { outcome = t.outcome; answer_is = t.answer_is; reply = by t.outcome t.reply } }
+    page-met card_key t = record { on = on; once = same; told = record { outcome = t.outcome; answer_is = t.answer_is; reply = by t.outcome t.reply; fault = t.fault } }
       where
         by : (o : Result Reply Fault) → IfOk o (IsPageSeen patron (Some card_key) new.seen) → IfOk o (IsReplyTo (asked.Page patron card_key) old new)
         by (Ok reply) h = (same, h)
         by (Err fault) h = tt
 
     pub desk-page-met : (request : Request) → page_asked request ≡ Some patron → TellsPage patron None new.seen told → Meets (asked.Request request) old new (Some told)
-    desk-page-met request asks t = record { on = on; once = inl same; told = record { outcome = t.outcome; answer_is = t.answer_is; reply = by t.outcome t.reply } }
+    desk-page-met request asks t = record { on = on; once = inl same; told = record { outcome = t.outcome; answer_is = t.answer_is; reply = by t.outcome t.reply; fault = faulted t.outcome t.fault } }
       where
+        faulted : (o : Result Reply Fault) → IfErr o IsPageFault → IfErr o (IsFaultTo (asked.Request request))
+        faulted (Ok reply) h = tt
+        faulted (Err fault) h = subst (λ (q : Option ℕ). IsFaultFor q fault) (sym asks) h
+
         by : (o : Result Reply Fault) → IfOk o (IsPageSeen patron None new.seen) → IfOk o (IsReplyTo (asked.Request request) old new)
         by (Ok reply) h = subst (λ (q : Option ℕ). IsReplyFor q request old new reply) (sym asks) (same, h)
         by (Err fault) h = tt

@@ -1,5 +1,5 @@
 -- What a worker knows, submits and answers.
-use Rattle.std.specs.Prelude.{◌≡◌, ◌⊎◌, ℕ, ◌+◌, if◌then◌else◌, bytes_eq, List, length, map, Option, Some, None, Result, Ok, Err, IfOk, IfSome, OnOk, OnErr}
+use Rattle.std.specs.Prelude.{◌≡◌, ◌⊎◌, ℕ, ◌+◌, if◌then◌else◌, bytes_eq, List, length, map, Option, Some, None, Result, Ok, Err, IfOk, IfErr, IfSome, OnOk, OnErr}
 use Rattle.std.specs.Io.KnownBytes.{Appends, Keeps}
 use Rattle.store.specs.Library.{Ghosts, Held, IsClean}
 use Rattle.terms.specs.Writing.{AppendsFront}
@@ -9,7 +9,7 @@ use Rattle.terms.specs.declared.command.Command.{Command}
 use Rattle.terms.specs.declared.command.Command.TheVariants.{Page as AsksPage}
 use Rattle.terms.specs.declared.command.Request.{Request as Requested}
 use Rattle.terms.specs.declared.fault.Fault.{Fault}
-use Rattle.terms.specs.declared.fault.Fault.TheVariants.{Memory}
+use Rattle.terms.specs.declared.fault.Fault.TheVariants.{Memory, Closed}
 use Rattle.terms.specs.declared.refusal.Refusal.TheVariants.{NotAllowed, UnknownPatron}
 use Rattle.terms.specs.declared.reply.Reply.{Reply}
 use Rattle.terms.specs.declared.reply.Reply.TheVariants.{Refused}
@@ -112,11 +112,29 @@ abbrev pub answer_to : Result Reply Fault → Answer
 answer_to (Ok reply) = answer_for reply
 answer_to (Err fault) = Faulted fault
 
+-- The faults that may come in the place of a page: no memory is left to look at the board or to take the
+-- page, or the board is gone.
+abbrev pub IsPageFault : Fault → Type 0
+IsPageFault fault = (fault ≡ Memory) ⊎ (fault ≡ Closed)
+
+-- The faults that may come in the place of a reply to a request: for a page of the desk those of a page,
+-- for what is submitted any.
+abbrev pub IsFaultFor : Option ℕ → Fault → Type 0
+IsFaultFor (Some patron) fault = IsPageFault fault
+IsFaultFor None fault = Unit {0}
+
+-- The same by what is asked for; what is not allowed is told so, and no fault comes.
+abbrev pub IsFaultTo : Asked → Fault → Type 0
+IsFaultTo Nothing fault = ⊥
+IsFaultTo (Page patron card_key) fault = IsPageFault fault
+IsFaultTo (Request request) fault = IsFaultFor (page_asked request) fault
+
 -- The answer tells what became of what is asked for.
 pub record TellsReply (asked : Asked) (old new : Working) (answer : Answer) : Type 0 where
   pub outcome : Result Reply Fault
   pub answer_is : answer ≡ answer_to outcome
   pub reply : IfOk outcome (IsReplyTo asked old new)
+  pub fault : IfErr outcome (IsFaultTo asked)
 
 -- The same of a request that is submitted.
 pub record TellsSubmitted (request : Requested) (old new : Working) (answer : Answer) : Type 0 where
@@ -130,6 +148,7 @@ pub record TellsPage (patron : ℕ) (shown : Option (List ℕ)) (seen : Seen) (a
   pub outcome : Result Reply Fault
   pub answer_is : answer ≡ answer_to outcome
   pub reply : IfOk outcome (IsPageSeen patron shown seen)
+  pub fault : IfErr outcome IsPageFault
 
 -- What is asked for was met with an answer; or there is none, since no memory was left for it.
 pub record Meets (asked : Asked) (old new : Working) (answer : Option Answer) : Type 0 where

@@ -357,10 +357,11 @@ impl<J: Opening> Worker<J> {
     /// Serves one connection: reads its request, and writes its answer.
     ///
     /// The answer is that of the request as the bytes make it, or the status of the first check that
-    /// they fail. A page is shown from the board, without waiting for the desk. Every other request
-    /// is submitted, and its reply comes from the board once the desk has handled it; 90, 91, 92 or
-    /// 93 in its place: the fault that it met, or 92 where the hall is closed or the worker's numbers
-    /// are used up. A connection breaks where a read or a write fails, or no memory is left for the
+    /// they fail. A page is shown from the board, without waiting for the desk; 90 in its place where
+    /// no memory is left to look at it, and 92 where the board is gone. Every other request is
+    /// submitted, and its reply comes from the board once the desk has handled it; 90, 91, 92 or 93 in
+    /// its place: the fault that it met, or 92 where the hall is closed or the worker's numbers are
+    /// used up. A connection breaks where a read or a write fails, or no memory is left for the
     /// answer: then nothing or a beginning of the answer went out. Where no memory is left to read
     /// it, the answer is fault 90.
     pub fn serve<I: Read, O: Write, R: Wait>(
