@@ -96,7 +96,7 @@ def crates():
         own = [it for it in names if it in below]
         all_below[name] = set(own).union(*(all_below[it] for it in own))
         below[name] = own
-    shown = {"circ_cli", "circ_bench"} | all_below["circ_cli"]
+    shown = {"circ_cli"} | all_below["circ_cli"]
     lines = ["graph TD"]
     for name in below:
         if name in shown:
