@@ -1,15 +1,9 @@
 //! Tests of the desk that the program on files cannot show, in a crate of their own, so that the crates below are proved once:
-//! lists of requests, callers that are patrons, all rows, limits on steps, stops, and readers and writers that fail.
+//! lists of requests, callers that are patrons, all rows, limits on steps, and stops.
 #![tactic(auto)]
 
 #[cfg(test)]
-mod audits;
-#[cfg(test)]
 mod calls;
-#[cfg(test)]
-mod copies;
-#[cfg(test)]
-mod cut_lines;
 #[cfg(test)]
 mod limits;
 #[cfg(test)]

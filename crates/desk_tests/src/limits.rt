@@ -1,20 +1,21 @@
-//! Limits on the steps of the database, over memory.
+//! Limits on the steps of the database, over memory: one request is refused, and what follows is answered as ever.
 
-use crate::calls::{import, report};
-use circ::{Exit, Report};
 use desk::Desk;
 use sqlite::MemStore;
 use std::alloc::Global;
 use std::process::Abort;
 use std::test::Fail;
-use terms::{BranchId, Fault};
-use test_library::{SCRIPTS, check, connection, ground, handle, opened, request, rows};
+use terms::Fault;
+use test_library::{SCRIPTS, asked, check, connection, ground, handle, opened, rows};
 
 /// Loans and holds that a check-out has to count: patron 1 is the first in line for title 100.
 const BUSY: &str = "desk b1 check-out 1 30 1 -> loan 1 due 2026-03-14
 desk b2 check-out 1 20 2 -> loan 2 due 2026-03-10
 desk b3 place-hold 1 100 1 -> hold 1
 desk b4 place-hold 2 100 1 -> hold 2";
+
+/// The check-out after them.
+const LENDING: &str = "desk k1 check-out 1 10 1 -> loan 3 due 2026-03-09";
 
 /// All rows, with no limit on the steps, and the desk over them.
 pub fn shown(alloc: Global, mut desk: Desk<MemStore>) -> Result<(Desk<MemStore>, String), Fail> {
@@ -24,15 +25,16 @@ pub fn shown(alloc: Global, mut desk: Desk<MemStore>) -> Result<(Desk<MemStore>,
     Ok((opened(conn)?, text))
 }
 
-/// The fault of the check-out under a limit, and the desk and its rows after it.
+/// The fault of a request under a limit, and the desk and its rows after it.
 fn limited(
     alloc: Global,
     mut desk: Desk<MemStore>,
+    line: &str,
     limit: u64,
 ) -> Result<(Desk<MemStore>, Option<Fault>, String), Fail> {
-    let lending = request(alloc, "desk k1 check-out 1 10 1")?;
+    let asked = asked(alloc, line)?;
     desk.limit_steps(Some(limit));
-    let fault = handle(&mut desk, alloc, &lending).err();
+    let fault = handle(&mut desk, alloc, &asked).err();
     let (desk, text) = shown(alloc, desk)?;
     Ok((desk, fault, text))
 }
@@ -45,7 +47,7 @@ fn a_limit_on_steps_refuses_and_changes_nothing(rt: HostRuntime) -> Result<(), F
     let (mut desk, before) = shown(alloc, desk)?;
     let mut stops = 0u64;
     for limit in 1..200u64 {
-        let (next, fault, text) = limited(alloc, desk, limit)?;
+        let (next, fault, text) = limited(alloc, desk, LENDING, limit)?;
         desk = next;
         let is_lent = fault.is_none();
         assert!(rt; is_lent || fault == Some(Fault::Database), "at {limit}");
@@ -57,8 +59,7 @@ fn a_limit_on_steps_refuses_and_changes_nothing(rt: HostRuntime) -> Result<(), F
     }
     assert!(rt; stops > 0 && stops < 199, "{stops}");
     let (mut desk, after) = shown(alloc, desk)?;
-    let lending = "desk k1 check-out 1 10 1 -> loan 3 due 2026-03-09";
-    check(alloc, &mut desk, lending)?;
+    check(alloc, &mut desk, LENDING)?;
     let (_, repeated) = shown(alloc, desk)?;
     assert!(rt; repeated.as_str() == after.as_str());
     Ok(())
@@ -72,12 +73,8 @@ fn is_stopped(
     line: &str,
     limit: u64,
 ) -> Result<(Desk<MemStore>, bool), Fail> {
-    let (said, _) = line.split_once(" -> ").ok_or("an arrow")?;
-    let asked = request(alloc, said)?;
-    let (mut desk, before) = shown(alloc, desk)?;
-    desk.limit_steps(Some(limit));
-    let fault = handle(&mut desk, alloc, &asked).err();
-    let (desk, after) = shown(alloc, desk)?;
+    let (desk, before) = shown(alloc, desk)?;
+    let (desk, fault, after) = limited(alloc, desk, line, limit)?;
     if fault.is_none() {
         return Ok((desk, false));
     }
@@ -143,65 +140,5 @@ fn each_request_is_refused_under_each_limit_and_answered_after_it(
     for script in &SCRIPTS {
         withstands_limits(&rt, rt.alloc(), script)?;
     }
-    Ok(())
-}
-
-#[test]
-fn a_fault_ends_a_copies_file(rt: HostRuntime) -> Result<(), Fail> {
-    let alloc = rt.alloc();
-    let mut desk = ground(alloc)?;
-    desk.limit_steps(Some(1));
-    let file = "copy,title,text,kind,home,price,end\n50,500,Maps,1,1,1500,end\n";
-    let mut bytes: Vec<u8> = Vec::new(alloc);
-    let ended = import(&mut desk, alloc, file.as_bytes(), &mut bytes)?;
-    assert!(rt; ended == Exit::Faulted);
-    assert!(rt; bytes.as_slice() == "fault 91\naccepted 0 refused 0\n".as_bytes());
-    Ok(())
-}
-
-/// The report under a limit on the steps: how it ended, and its bytes.
-fn limited_report(
-    alloc: Global,
-    desk: &mut Desk<MemStore>,
-    limit: u64,
-) -> Result<(Exit, Vec<u8>), Fail> {
-    desk.limit_steps(Some(limit));
-    let mut bytes: Vec<u8> = Vec::new(alloc);
-    let ended = report(desk, alloc, &Report::Overdue(BranchId::new(1)), &mut bytes)?;
-    Ok((ended, bytes))
-}
-
-/// The bytes are a beginning of the report and then the line of the fault. How long the beginning is.
-fn is_cut(rt: &impl Abort, bytes: &[u8], limit: u64) -> usize {
-    let front = bytes.strip_suffix(b"fault 91\n").unwrap_or(b"?");
-    assert!(rt; LATE.as_bytes().starts_with(front), "at {limit}");
-    front.len()
-}
-
-/// Two loans that are overdue, and the report of them.
-const LATE: &str = "      loan  patron    copy due         late title
-         1       1      10 2026-03-09     7 Rivers of the North
-         2       2      11 2026-03-09     7 Rivers of the North
-overdue 2
-";
-
-#[test]
-fn a_fault_follows_a_beginning_of_a_report(rt: HostRuntime) -> Result<(), Fail> {
-    let alloc = rt.alloc();
-    let mut desk = ground(alloc)?;
-    let lines =
-        "desk b1 check-out 1 10 1 -> loan 1 due 2026-03-09\ndesk b2 check-out 2 11 1 -> loan 2 due 2026-03-09\ndesk b3 begin-day 2026-03-17 -> ok";
-    check(alloc, &mut desk, lines)?;
-    let mut longest = 0;
-    for limit in 1..200u64 {
-        let (ended, bytes) = limited_report(alloc, &mut desk, limit)?;
-        if ended == Exit::Done {
-            assert!(rt; bytes.as_slice() == LATE.as_bytes(), "at {limit}");
-            break;
-        }
-        assert!(rt; ended == Exit::Faulted && limit < 199, "at {limit}");
-        longest = is_cut(&rt, &bytes, limit);
-    }
-    assert!(rt; longest > 0);
     Ok(())
 }

@@ -1,14 +1,13 @@
 //! Lists of requests, by the desk and by patrons; a patron's own page; all rows; and what is opened or made.
 
-use crate::calls::{counts, create, import, page, store};
-use crate::cut_lines::BEES;
+use crate::calls::{create, page};
 use desk::Desk;
 use sqlite::{Alter, Connection, MemStore};
 use std::alloc::Global;
 use std::process::Abort;
 use std::test::Fail;
 use terms::{CardKey, Fault, PatronId};
-use test_library::{check, connection, ground, open, opened, runs};
+use test_library::{check, connection, counts, ground, open, opened, runs, store_of};
 
 /// What patrons ask for once copy 10 is lent to patron 1, and copies 20 and 30 are on the shelf.
 const ASKED: &str = "desk a1 check-out 1 10 1 -> loan 1 due 2026-03-09
@@ -68,23 +67,9 @@ fn serves_patrons_their_own(rt: HostRuntime) -> Result<(), Fail> {
     let alloc = rt.alloc();
     let mut desk = ground(alloc)?;
     serves(&rt, alloc, &mut desk)?;
-    let found = counts(&mut store(desk), alloc)?;
+    let found = counts(&mut store_of(desk), alloc)?;
     // next loan; branches, closed days, kinds, rules, patrons, titles, copies; loans, holds, transits, lines; kept, and by patrons
     assert!(rt; found == [3, 2, 1, 1, 2, 3, 3, 4, 2, 1, 1, 1, 24, 3]);
-    Ok(())
-}
-
-/// What the small library has once a copies file was taken in.
-fn counts_with_rows(alloc: Global, mut desk: Desk<MemStore>) -> Result<[usize; 14], Fail> {
-    let mut told: Vec<u8> = Vec::new(alloc);
-    import(&mut desk, alloc, BEES.as_bytes(), &mut told)?;
-    Ok(counts(&mut store(desk), alloc)?)
-}
-
-#[test]
-fn gives_all_rows_with_the_keys_of_a_copies_file(rt: HostRuntime) -> Result<(), Fail> {
-    let found = counts_with_rows(rt.alloc(), ground(rt.alloc())?)?;
-    assert!(rt; found == [1, 2, 0, 1, 2, 3, 5, 7, 0, 0, 0, 0, 18, 0]);
     Ok(())
 }
 

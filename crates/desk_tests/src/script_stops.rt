@@ -1,6 +1,6 @@
 //! Stops of scripts: a fuse in one of the two files of a library blows at each call in turn.
 
-use crate::calls::{connection_of, into_files, open_files, store};
+use crate::calls::{connection_of, into_files, open_files};
 use crate::limits::shown;
 use crate::stops::{calls_of_open, filled, fused, left, options};
 use sqlite::{Alter, Connection, Files};
@@ -8,10 +8,11 @@ use sqlite_disk::{Disk, Fuse, Memory};
 use std::alloc::Global;
 use std::process::Abort;
 use std::test::Fail;
+use store::Store;
 use terms::Fault;
 use test_library::{
     HOLDS, LATE, LOST, PAID, RENEWED, REOPENED, RETURNED, check, desk_over, ground, opened, rows,
-    runs,
+    runs, store_of,
 };
 
 /// The rows of the small library before a script and after each of its requests, over memory.
@@ -28,15 +29,14 @@ fn pictures(alloc: Global, script: &str) -> Result<Vec<String>, Fail> {
     Ok(all)
 }
 
-/// A script over two files: how many of its requests were answered before the database told a fault, and the files
-/// as they were written.
-fn run_in<D: Disk + Drop>(
+/// A script: how many of its requests were answered before the database told a fault, and the store as it is left.
+fn stopped<S: Alter + Drop>(
     rt: &impl Abort,
     alloc: Global,
-    files: Files<D>,
+    store: Store<S>,
     script: &str,
-) -> Result<(usize, Files<D>), Fail> {
-    let mut desk = desk_over(open_files(alloc, files, options())?)?;
+) -> Result<(usize, Store<S>), Fail> {
+    let mut desk = desk_over(store)?;
     let (answered, fault) = runs(alloc, &mut desk, script)?;
     let is_whole = answered == script.split('\n').count();
     let due = if is_whole {
@@ -45,7 +45,18 @@ fn run_in<D: Disk + Drop>(
         Some(Fault::Database)
     };
     assert!(rt; fault == due);
-    Ok((answered, into_files(store(desk))))
+    Ok((answered, store_of(desk)))
+}
+
+/// A script over two files: how many of its requests were answered, and the files as they were written.
+fn stopped_in<D: Disk + Drop>(
+    rt: &impl Abort,
+    alloc: Global,
+    files: Files<D>,
+    script: &str,
+) -> Result<(usize, Files<D>), Fail> {
+    let (answered, store) = stopped(rt, alloc, open_files(alloc, files, options())?, script)?;
+    Ok((answered, into_files(store)))
 }
 
 /// The requests of a script from the first that had no answer on are asked again, under the same keys: they are answered
@@ -63,23 +74,21 @@ fn finished<S: Alter + Drop>(
             check(alloc, &mut desk, line)?;
         }
     }
-    let found = rows(alloc, &mut connection_of(store(desk)))?;
+    let found = rows(alloc, &mut connection_of(store_of(desk)))?;
     assert!(rt; found.as_str() == last);
     Ok(())
 }
 
-/// One stop: the files show what was accepted, or that and the request in work; the rest of the script is answered
-/// afterwards. Whether the script was answered whole.
-fn is_whole(
+/// After a stop the rows are those of what was accepted, or of that and the request in work; the rest of the script is answered
+/// afterwards.
+fn is_finished<S: Alter + Drop>(
     rt: &impl Abort,
     alloc: Global,
-    files: Files<Fuse<Memory>>,
-    script: &str,
+    store: Store<S>,
+    (script, answered): (&str, usize),
     pictures: &[String],
-) -> Result<bool, Fail> {
-    let (answered, files) = run_in(rt, alloc, files, script)?;
-    let files = left(alloc, files, (false, false))?;
-    let mut conn = connection_of(open_files(alloc, files, options())?);
+) -> Result<(), Fail> {
+    let mut conn = connection_of(store);
     let found = rows(alloc, &mut conn)?;
     let before = pictures.get(answered).ok_or("a picture")?;
     let after = pictures.get(answered.saturating_add(1)).unwrap_or(before);
@@ -88,7 +97,21 @@ fn is_whole(
         "after {answered}"
     );
     let last = pictures.last().ok_or("a picture")?;
-    finished(rt, alloc, conn, (script, answered), last)?;
+    finished(rt, alloc, conn, (script, answered), last)
+}
+
+/// One stop; whether the script was answered whole.
+fn is_whole(
+    rt: &impl Abort,
+    alloc: Global,
+    files: Files<Fuse<Memory>>,
+    script: &str,
+    pictures: &[String],
+) -> Result<bool, Fail> {
+    let (answered, files) = stopped_in(rt, alloc, files, script)?;
+    let files = left(alloc, files, (false, false))?;
+    let store = open_files(alloc, files, options())?;
+    is_finished(rt, alloc, store, (script, answered), pictures)?;
     Ok(answered.saturating_add(1) == pictures.len())
 }
 

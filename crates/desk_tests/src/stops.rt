@@ -1,14 +1,15 @@
 //! Stops: a fuse in one of the two files of a library blows in the midst of a check-out.
 
-use crate::calls::{close, connection_of, create_files, into_files, open_files, restart, store};
-use sqlite::{Alter, Connection, FileStore, Files, Options};
+use crate::calls::{close, connection_of, create_files, into_files, open_files, restart};
+use sqlite::{Alter, Connection, Files, Options};
 use sqlite_disk::{Crash, Disk, Fuse, Memory};
 use std::alloc::Global;
 use std::io;
 use std::process::Abort;
 use std::test::Fail;
 use store::Store;
-use test_library::{check, desk_over, fill, handle, opened, request, rows};
+use terms::{Fault, Reply};
+use test_library::{check, desk_over, fill, handle, opened, request, rows, store_of};
 
 /// Little is kept in memory, so that a check-out reads and writes the files early and copies the log at its end.
 pub fn options() -> Options {
@@ -28,11 +29,11 @@ fn copy(alloc: Global, bytes: &[u8]) -> io::Result<Memory> {
     Ok(made)
 }
 
-/// Two empty files, as those of the small library.
-fn filled_in<D: Disk + Drop>(alloc: Global, files: Files<D>) -> Result<Files<D>, Fail> {
-    let mut desk = desk_over(create_files(alloc, files, options())?)?;
+/// A new store, once it has the small library.
+fn with_library<S: Alter + Drop>(alloc: Global, store: Store<S>) -> Result<Store<S>, Fail> {
+    let mut desk = desk_over(store)?;
     fill(alloc, &mut desk)?;
-    Ok(close(store(desk)).ok_or("a close")?)
+    Ok(store_of(desk))
 }
 
 /// The two files of the small library.
@@ -41,7 +42,8 @@ pub fn filled(alloc: Global) -> Result<Files<Memory>, Fail> {
         log: Memory::new(alloc),
         db: Memory::new(alloc),
     };
-    filled_in(alloc, files)
+    let store = with_library(alloc, create_files(alloc, files, options())?)?;
+    Ok(close(store).ok_or("a close")?)
 }
 
 /// Copies of the files, of which one has a fuse that blows after so many calls.
@@ -102,18 +104,20 @@ fn after(alloc: Global) -> Result<String, Fail> {
     )
 }
 
-/// The answer to the check-out, and the store as it is left.
-fn lent<D: Disk + Drop>(
-    alloc: Global,
-    files: Files<D>,
-) -> Result<(String, Store<FileStore<D>>), Fail> {
-    let mut desk = desk_over(open_files(alloc, files, options())?)?;
-    let lending = request(alloc, "desk k1 check-out 1 10 1")?;
-    let told = match handle(&mut desk, alloc, &lending) {
+/// The text of an answer.
+fn text_of(alloc: Global, answer: &Result<Reply, Fault>) -> Result<String, Fail> {
+    Ok(match answer {
         Ok(reply) => format!(in alloc; "{reply}")?,
         Err(fault) => format!(in alloc; "fault {fault}")?,
-    };
-    Ok((told, store(desk)))
+    })
+}
+
+/// The answer to the check-out, and the store as it is left.
+fn lent<S: Alter + Drop>(alloc: Global, store: Store<S>) -> Result<(String, Store<S>), Fail> {
+    let mut desk = desk_over(store)?;
+    let lending = request(alloc, "desk k1 check-out 1 10 1")?;
+    let told = text_of(alloc, &handle(&mut desk, alloc, &lending))?;
+    Ok((told, store_of(desk)))
 }
 
 /// All rows of a store.
@@ -135,7 +139,7 @@ fn judge(rt: &impl Abort, alloc: Global, told: &str, found: &str) -> Result<bool
 
 /// The answer to the check-out, and the files as they were written.
 fn lent_in<D: Disk + Drop>(alloc: Global, files: Files<D>) -> Result<(String, Files<D>), Fail> {
-    let (told, store) = lent(alloc, files)?;
+    let (told, store) = lent(alloc, open_files(alloc, files, options())?)?;
     Ok((told, into_files(store)))
 }
 
@@ -174,15 +178,6 @@ fn dropped(
     judge(rt, alloc, &told, &found)
 }
 
-/// The answer to the check-out, and the store after the machine stopped.
-fn lent_and_restarted<D: Crash + Drop>(
-    alloc: Global,
-    files: Files<D>,
-) -> Result<(String, Store<FileStore<D>>), Fail> {
-    let (told, store) = lent(alloc, files)?;
-    Ok((told, restart(store, alloc, options())?))
-}
-
 /// The same request with the same key is answered with the loan, and is done once.
 fn repeated<S: Alter + Drop>(
     rt: &impl Abort,
@@ -192,23 +187,33 @@ fn repeated<S: Alter + Drop>(
     let mut desk = opened(conn)?;
     let lending = "desk k1 check-out 1 10 1 -> loan 1 due 2026-03-09";
     check(alloc, &mut desk, lending)?;
-    let (found, after) = (shown(alloc, store(desk))?, after(alloc)?);
+    let (found, after) = (shown(alloc, store_of(desk))?, after(alloc)?);
     assert!(rt; found.as_str() == after.as_str());
     Ok(())
 }
 
-/// The machine stops; then the same request with the same key is answered with the loan, and is done once.
+/// The rows are those of what was told; then the same request with the same key is answered with the loan, and is done once.
+fn is_repeated<S: Alter + Drop>(
+    rt: &impl Abort,
+    alloc: Global,
+    told: &str,
+    store: Store<S>,
+) -> Result<bool, Fail> {
+    let mut conn = connection_of(store);
+    let found = rows(alloc, &mut conn)?;
+    let is_lent = judge(rt, alloc, told, &found)?;
+    repeated(rt, alloc, conn)?;
+    Ok(is_lent)
+}
+
+/// The machine stops after the check-out.
 fn restarted<D: Crash + Drop>(
     rt: &impl Abort,
     alloc: Global,
     files: Files<D>,
 ) -> Result<bool, Fail> {
-    let (told, store) = lent_and_restarted(alloc, files)?;
-    let mut conn = connection_of(store);
-    let found = rows(alloc, &mut conn)?;
-    let is_lent = judge(rt, alloc, &told, &found)?;
-    repeated(rt, alloc, conn)?;
-    Ok(is_lent)
+    let (told, store) = lent(alloc, open_files(alloc, files, options())?)?;
+    is_repeated(rt, alloc, &told, restart(store, alloc, options())?)
 }
 
 /// Every way to leave the files at one stop; whether the check-out was told.
@@ -226,7 +231,13 @@ fn every_end(
 
 /// Whether the files are opened.
 fn opens<D: Disk + Drop>(alloc: Global, files: Files<D>) -> bool {
-    open_files(alloc, files, options()).is_ok()
+    match open_files(alloc, files, options()) {
+        Ok(store) => {
+            into_files(store);
+            true
+        }
+        Err(_) => false,
+    }
 }
 
 /// The most calls after which an open of the library is still stopped.

@@ -5,7 +5,7 @@ use desk::Desk;
 use sqlite::{Alter, Connection, MemStore};
 use std::alloc::Global;
 use store::Store;
-use terms::{Fault, Reply, Request};
+use terms::{Fault, Owner, Reply, Request};
 
 /// Has a request handled.
 pub fn handle<S: Alter>(
@@ -28,6 +28,11 @@ pub fn run<S: Alter>(
     }
 }
 
+/// The store under a desk.
+pub fn store_of<S: Alter>(desk: Desk<S>) -> Store<S> {
+    desk.into_store()
+}
+
 /// The database under a desk.
 pub fn connection<S: Alter>(desk: Desk<S>) -> Connection<S> {
     desk.into_store().into_connection()
@@ -46,4 +51,28 @@ pub fn in_memory(alloc: Global) -> Result<Desk<MemStore>, Fault> {
 /// The desk over a store.
 pub fn desk_over<S: Alter + Drop>(store: Store<S>) -> Result<Desk<S>, Fault> {
     Desk::new(store)
+}
+
+/// The next number of a loan, how many rows each other table has, in the order of the schema, and how many of the kept ones are
+/// patrons'.
+pub fn counts<S: Alter>(store: &mut Store<S>, alloc: Global) -> Result<[usize; 14], Fault> {
+    let all = store.tables(alloc)?;
+    let kept = all.kept.as_slice();
+    let by_patrons = kept.iter().filter(|it| it.caller != Owner::Desk).count();
+    Ok([
+        all.meta.next_loan.number() as usize,
+        all.branches.as_slice().len(),
+        all.closed_days.as_slice().len(),
+        all.kinds.as_slice().len(),
+        all.rules.as_slice().len(),
+        all.patrons.as_slice().len(),
+        all.titles.as_slice().len(),
+        all.copies.as_slice().len(),
+        all.loans.as_slice().len(),
+        all.holds.as_slice().len(),
+        all.transits.as_slice().len(),
+        all.lines.as_slice().len(),
+        kept.len(),
+        by_patrons,
+    ])
 }

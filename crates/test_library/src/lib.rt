@@ -5,6 +5,6 @@ mod calls;
 mod lines;
 mod scripts;
 
-pub use calls::{connection, desk_over, handle, in_memory, open, run};
-pub use lines::{GROUND, check, fill, ground, key, opened, request, rows, runs, words_of};
+pub use calls::{connection, counts, desk_over, handle, in_memory, open, run, store_of};
+pub use lines::{GROUND, asked, check, fill, ground, key, opened, request, rows, runs, words_of};
 pub use scripts::{HOLDS, LATE, LOST, PAID, RENEWED, REOPENED, RETURNED, SCRIPTS};

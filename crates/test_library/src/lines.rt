@@ -79,18 +79,17 @@ pub fn request(alloc: Global, text: &str) -> Result<Request, Fail> {
     })
 }
 
-/// Adds the request of a line to a list.
-fn add(alloc: Global, list: &mut Vec<Request>, line: &str) -> Result<(), Fail> {
+/// The request of a line, which stands before the arrow.
+pub fn asked(alloc: Global, line: &str) -> Result<Request, Fail> {
     let (said, _) = line.split_once(" -> ").ok_or("an arrow")?;
-    list.push(request(alloc, said)?)?;
-    Ok(())
+    request(alloc, said)
 }
 
 /// The requests of lines.
 fn requests(alloc: Global, lines: &str) -> Result<Vec<Request>, Fail> {
     let mut list = Vec::new(alloc);
     for line in lines.split('\n') {
-        add(alloc, &mut list, line)?;
+        list.push(asked(alloc, line)?)?;
     }
     Ok(list)
 }

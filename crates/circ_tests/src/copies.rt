@@ -5,12 +5,12 @@ use crate::cut_lines::BEES;
 use circ::Exit;
 use desk::Desk;
 use front::CopyEnd;
-use sqlite::Alter;
+use sqlite::{Alter, MemStore};
 use std::alloc::Global;
 use std::process::Abort;
 use std::test::Fail;
 use test_bytes::Drip;
-use test_library::ground;
+use test_library::{counts, ground, store_of};
 
 /// A header and a good row.
 const BEGUN: &str = "copy,title,text,kind,home,price,end\n50,500,Maps,1,1,1500,end\n";
@@ -122,5 +122,19 @@ fn a_read_that_fails_ends_a_file(rt: HostRuntime) -> Result<(), Fail> {
     for size in 0..bytes.len() + 1 {
         tells_rows(&rt, alloc, &mut desk, &bytes[..size])?;
     }
+    Ok(())
+}
+
+/// What the small library has once a copies file was taken in.
+fn counts_with_rows(alloc: Global, mut desk: Desk<MemStore>) -> Result<[usize; 14], Fail> {
+    let mut told: Vec<u8> = Vec::new(alloc);
+    import(&mut desk, alloc, BEES.as_bytes(), &mut told)?;
+    Ok(counts(&mut store_of(desk), alloc)?)
+}
+
+#[test]
+fn gives_all_rows_with_the_keys_of_a_copies_file(rt: HostRuntime) -> Result<(), Fail> {
+    let found = counts_with_rows(rt.alloc(), ground(rt.alloc())?)?;
+    assert!(rt; found == [1, 2, 0, 1, 2, 3, 5, 7, 0, 0, 0, 0, 18, 0]);
     Ok(())
 }

@@ -1,6 +1,6 @@
 //! Audits of tables in memory: those of a desk, and such as no database would hold.
 
-use crate::calls::{audit, laws, store};
+use crate::calls::{audit, laws, tables_of};
 use circ::{Exit, WriteFault};
 use circ_audit::Finding;
 use desk::Desk;
@@ -11,7 +11,7 @@ use std::test::Fail;
 use store::Store;
 use terms::{BranchId, CopyId, HoldId, Rows, Tables, TransitRow};
 use test_bytes::Narrow;
-use test_library::{check, connection, ground, open, rows};
+use test_library::{check, connection, desk_over, ground, open, rows, store_of};
 
 /// Holds that are ready and coming, a loan, a lost copy and an account.
 const BUSY: &str = "desk b1 check-out 1 11 1 -> loan 1 due 2026-03-09
@@ -51,7 +51,7 @@ fn tells_that_tables_are_sound(rt: HostRuntime) -> Result<(), Fail> {
     let before = rows(alloc, &mut conn)?;
     let mut store = open(conn)?;
     tells(&rt, alloc, &mut store, ("sound\n", Exit::Done))?;
-    let after = rows(alloc, &mut store.into_connection())?;
+    let after = rows(alloc, &mut connection(desk_over(store)?))?;
     assert!(rt; after.as_str() == before.as_str());
     Ok(())
 }
@@ -69,7 +69,7 @@ fn tells_what_is_broken(rt: HostRuntime) -> Result<(), Fail> {
 #[test]
 fn tells_a_fault_of_the_database(rt: HostRuntime) -> Result<(), Fail> {
     let alloc = rt.alloc();
-    let mut store = store(busy(alloc)?);
+    let mut store = store_of(busy(alloc)?);
     store.limit_steps(Some(1));
     tells(&rt, alloc, &mut store, ("fault 91\n", Exit::Faulted))?;
     store.limit_steps(None);
@@ -79,7 +79,7 @@ fn tells_a_fault_of_the_database(rt: HostRuntime) -> Result<(), Fail> {
 #[test]
 fn the_line_of_an_audit_is_cut(rt: HostRuntime) -> Result<(), Fail> {
     let alloc = rt.alloc();
-    let mut store = store(busy(alloc)?);
+    let mut store = store_of(busy(alloc)?);
     let line = "sound\n";
     for room in 0..line.len() {
         let mut writer = Narrow::new(alloc, room);
@@ -95,8 +95,7 @@ fn the_line_of_an_audit_is_cut(rt: HostRuntime) -> Result<(), Fail> {
 
 /// The rows of a busy desk.
 fn tables(alloc: Global) -> Result<Tables, Fail> {
-    let mut store = store(busy(alloc)?);
-    Ok(store.tables(alloc)?)
+    Ok(tables_of(&mut store_of(busy(alloc)?), alloc)?)
 }
 
 #[test]
