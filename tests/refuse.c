@@ -1,14 +1,17 @@
 /* Refuses one request for memory of the program into which it is loaded first (LD_PRELOAD): the one whose number is REFUSE, counted from 1. The count stands in the file
-   COUNT, of eight bytes, where that is set: a program may end in ways that tell nobody. */
+   COUNT, of eight bytes, where that is set: a program may end in ways that tell nobody. So it refuses the thread whose number is THREAD. */
+#define _GNU_SOURCE
+#include <dlfcn.h>
 #include <errno.h>
 #include <fcntl.h>
+#include <pthread.h>
 #include <stdlib.h>
 #include <sys/mman.h>
 
 extern void *__libc_malloc(size_t);
 extern void *__libc_realloc(void *, size_t);
 
-static unsigned long own, refused, *asked = &own;
+static unsigned long own, refused, *asked = &own, threads, refused_thread;
 
 __attribute__((constructor)) static void begin(void) {
   const char *number = getenv("REFUSE"), *name = getenv("COUNT");
@@ -18,6 +21,8 @@ __attribute__((constructor)) static void begin(void) {
     asked = place;
   *asked = 0;
   refused = number ? strtoul(number, NULL, 10) : 0;
+  number = getenv("THREAD");
+  refused_thread = number ? strtoul(number, NULL, 10) : 0;
 }
 
 static int is_refused(void) {
@@ -30,3 +35,8 @@ static int is_refused(void) {
 void *malloc(size_t size) { return is_refused() ? NULL : __libc_malloc(size); }
 
 void *realloc(void *old, size_t size) { return is_refused() ? NULL : __libc_realloc(old, size); }
+
+int pthread_create(pthread_t *thread, const pthread_attr_t *how, void *(*work)(void *), void *with) {
+  int (*next)(pthread_t *, const pthread_attr_t *, void *(*)(void *), void *) = dlsym(RTLD_NEXT, "pthread_create");
+  return __atomic_add_fetch(&threads, 1, __ATOMIC_RELAXED) == refused_thread ? EAGAIN : next(thread, how, work, with);
+}

@@ -5,7 +5,7 @@
     tests/refused.py --all      each of them
 
 One request for memory is refused by a library of C (tests/refuse.c) that is loaded into the program first: of scripts on a library in memory (crates/memory_scripts), of runs on
-files, and of a program that serves. Limits of the system on memory and on the size of files refuse all from some place on.
+files, and of a program that serves; and one thread of that. Limits of the system on memory and on the size of files refuse all from some place on.
 """
 
 import json
@@ -13,9 +13,11 @@ import os
 import resource
 import shutil
 import signal
+import socket
 import subprocess
 import sys
 import tempfile
+import time
 from collections import Counter
 from concurrent.futures import ThreadPoolExecutor
 
@@ -133,9 +135,23 @@ def one_request_in_a_file(folder, refusing, everything):
     print(f"refused: one request for memory of a run: {dict(told)}")
 
 
+def end_of(run, port):
+    """What a program that serves still prints and its status, once its last connections are taken up by clients that ask for nothing."""
+    for _ in range(200):
+        if run.poll() is not None:
+            break
+        try:
+            socket.create_connection(("127.0.0.1", int(port)), timeout=5).close()
+        except OSError:
+            time.sleep(0.05)
+    out, _ = run.communicate(timeout=60)
+    return out.decode().splitlines(), run.returncode
+
+
 def one_request_of_the_web(folder, refusing, everything):
-    """A program that serves, of which one request for memory is refused: what is sent is answered with its reply or a fault, or gets no answer, and what got a reply is in the
-    rows. After a restart each that got none is sent again under its key, and all is there once."""
+    """A program that serves, of which one request for memory is refused: what is sent is answered with its reply or a fault, or one gets no answer, and what got a reply is in the
+    rows. Where a fault closed the web, what is submitted later is told 92, and the program ends with that fault; else it ends as ever. After a restart each that got no reply is
+    sent again under its key, and all is there once."""
     base, path, told = os.path.join(folder, "ground.db"), os.path.join(folder, "web.db"), Counter()
     requests = [("s0", ["check-out", "1", "10", "1"], '{"reply":"loan 2 due 2026-03-09"}\n'), ("s1", ["place-hold", "3", "200", "1"], '{"reply":"hold 2"}\n'),
                 ("s2", ["page", "1"], None), ("s3", ["acquire", "77", "700", "1", "1", "900", "Tall Ships"], '{"reply":"ok"}\n')]
@@ -143,38 +159,66 @@ def one_request_of_the_web(folder, refusing, everything):
     def serve(number):
         copied(base, path)
         port = str(free_port())
-        run = subprocess.Popen([PROGRAM, "serve", path, port, "2", "3", DESK_KEY], env=refusing.how(number), stdout=subprocess.PIPE, stderr=subprocess.PIPE)
+        run = subprocess.Popen([PROGRAM, "serve", path, port, "2", "3", DESK_KEY], env=refusing.how(number), stdout=subprocess.PIPE, stderr=subprocess.PIPE, bufsize=0)
         first = run.stdout.readline().decode()
-        begun = refusing.count()
-        answers = []
+        begun, answers = refusing.count(), []
         if first == f"listening on {port}\n":
             for key, words, _ in requests:
                 answers.append(subprocess.run([PROGRAM, "send", port, DESK_KEY, key, *words], capture_output=True, timeout=60, check=False).stdout.decode())
-        run.kill()
-        run.communicate()
-        return first, answers, begun
+        return first, answers, begun, *end_of(run, port)
 
-    first, plain, begun = serve(0)
+    first, plain, begun, lines, status = serve(0)
     check("what is answered", [wanted in (None, found) for (_, _, wanted), found in zip(requests, plain)], [True] * len(requests))
+    check("the end of the web", (lines, status), ([], 0))
     count = refusing.count()
     after = whole(path)
     for number in [*places(begun, 20, everything), *(begun + it for it in places(count - begun, 60, everything))]:
-        first, answers, _ = serve(number)
+        first, answers, _, lines, status = serve(number)
         where = f"the web, request {number} refused"
         if not answers:
-            check(f"the start of {where}", first in ("fault 90\n", "fault 91\n", "fault 92\n"), True)
+            check(f"the start of {where}", (first in ("fault 90\n", "fault 91\n", "fault 92\n"), lines, status), (True, [], 3))
             told["no web"] += 1
+        elif status:
+            check(f"the end of {where}: {lines}", (lines in (["fault 90"], ["fault 91"], ["fault threads"]), status), (True, 3))
+        else:
+            check(f"the end of {where}", (lines, status), ([], 0))
+        is_closed, is_met = lines in (["fault 90"], ["fault 91"]), False
         for (key, words, _), wanted, found in zip(requests, plain, answers):
+            is_page = words[0] == "page"
+            if is_closed and is_met and not is_page:
+                check(f"{key} {words} after the fault, {where}", found, '{"fault":92}\n')
             faults = [f'{{"fault":{it}}}\n' for it in (90, 91, 92)] + ["fault network\n"]
-            is_page = words[0] == "page" and found.startswith('{"reply":"patron 1 owed 0 name Ann Bell')
-            check(f"{key} {words}, {where}: {found!r}", found == wanted or found in faults or is_page and answers != plain, True)
+            is_other_page = is_page and found.startswith('{"reply":"patron 1 owed 0 name Ann Bell') and answers != plain
+            check(f"{key} {words}, {where}: {found!r}", found == wanted or found in faults or is_other_page, True)
+            is_met = is_met or found in faults and not is_page
             told["replies" if found == wanted else found.strip()] += 1
+        check(f"a fault closed {where}", is_met or not is_closed or not answers, True)
+        check(f"no more than one got no answer, {where}", answers.count("fault network\n") <= 1, True)
         for (key, words, _), wanted in zip(requests, plain):
             again = subprocess.run([PROGRAM, "file", path, key, *words], capture_output=True, timeout=60, check=False).stdout.decode()
             check(f"{key} {words} after {where}", json.dumps({"reply": again[:-1]}, ensure_ascii=False, separators=(",", ":")) + "\n", wanted)
         check(f"the rows after {where}", whole(path), after)
     check("the web was refused memory", sum(many for name, many in told.items() if "fault" in name) > 3, True)
     print(f"refused: one request for memory of the web: {dict(told)}")
+
+
+def missing_threads(folder, refusing):
+    """A program that serves with so many workers, of which one gets no thread: it leaves at once, the others serve their connections, and a line tells it at the end."""
+    base, path = os.path.join(folder, "ground.db"), os.path.join(folder, "threads.db")
+    for workers in (1, 2, 8):
+        for missing in sorted({1, workers}):
+            copied(base, path)
+            port, where = str(free_port()), f"thread {missing} of {workers} missing"
+            how = {**refusing.how(0), "THREAD": str(missing)}
+            run = subprocess.Popen([PROGRAM, "serve", path, port, str(workers), "2", DESK_KEY], env=how, stdout=subprocess.PIPE, stderr=subprocess.PIPE, bufsize=0)
+            check(f"the port, {where}", run.stdout.readline().decode(), f"listening on {port}\n")
+            for at in range(2 * (workers - 1)):
+                words = ["acquire", str(800 + at), "700", "1", "1", "900", "Tall Ships"]
+                sent = subprocess.run([PROGRAM, "send", port, DESK_KEY, f"t{at}", *words], capture_output=True, timeout=60, check=False)
+                check(f"request {at}, {where}", sent.stdout.decode(), '{"reply":"ok"}\n')
+            out, _ = run.communicate(timeout=60)
+            check(f"the end, {where}", (out.decode(), run.returncode), ("fault threads\n", 3))
+            check(f"the rows, {where}", rows(path, "SELECT COUNT(*) FROM copies WHERE copy >= 800"), [(2 * (workers - 1),)])
 
 
 def begins(limit):
@@ -314,6 +358,7 @@ def main():
         scripts_in_memory(refusing, everything)
         one_request_in_a_file(folder, refusing, everything)
         one_request_of_the_web(folder, refusing, everything)
+        missing_threads(folder, refusing)
         memory(folder, everything)
         serving_memory(folder, everything)
         disk(folder, everything)

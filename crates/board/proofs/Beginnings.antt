@@ -1,8 +1,12 @@
 -- Lists that begin with others.
-use Rattle.std.proofs.Common.{◌≡◌, ◌≤◌, ◌⊎◌, inl, inr, List, [], ◌∷◌, ◌++◌, length, fold, sym, refl, ap, ◌∙◌, append_assoc, arith, length-append}
-use Rattle.std.proofs.lemmas.List.{append-nil}
+use Rattle.std.proofs.Common.{◌≡◌, ◌≤◌, ◌⊎◌, inl, inr, ℕ, List, [], ◌∷◌, ◌++◌, length, map, fold, Option, None, Some, sym, refl, ap, ◌∙◌, append_assoc, arith, length-append}
+use Rattle.std.proofs.lemmas.List.{append-nil, map-append}
+use mathlib.Core.List.{IsPrefix}
+use Rattle.desk.specs.declared.showing.OwnPage.{OwnPage}
+use Rattle.board.specs.declared.entry.Entry.{Entry}
+use Rattle.board.specs.declared.entry.Frame.{Frame}
 use Rattle.board.specs.declared.entry.Seen.{Seen}
-use Rattle.board.specs.Showing.{StartsWith, GoesOn}
+use Rattle.board.specs.Showing.{StartsWith, GoesOn, entry_before, entries_of, seen_of}
 
 pub fold-append : {A B : Type 0} (f : B → A → B) (b : B) (xs ys : List A) → fold f b (xs ++ ys) ≡ fold f (fold f b xs) ys
 fold-append f b [] ys = refl
@@ -62,3 +66,21 @@ goes_self v = (starts_self v.entries, starts_self v.pages)
 
 pub goes_on : (a b c : Seen) → GoesOn a b → GoesOn b c → GoesOn a c
 goes_on a b c p q = (starts_on a.entries b.entries c.entries p.0 q.0, starts_on a.pages b.pages c.pages p.1 q.1)
+
+-- ---- frames
+
+pub entries-append : (fs gs : List Frame) → entries_of (fs ++ gs) ≡ entries_of fs ++ entries_of gs
+entries-append [] gs = refl
+entries-append (f ∷ fs) gs = by f.entry (entries-append fs gs)
+  where
+    by : (o : Option Entry) → entries_of (fs ++ gs) ≡ entries_of fs ++ entries_of gs → entry_before o (entries_of (fs ++ gs)) ≡ entry_before o (entries_of fs) ++ entries_of gs
+    by None is = is
+    by (Some e) is = ap (λ l. e ∷ l) is
+
+-- What more frames have shown goes on from what they begin with.
+pub frames_on : (fs gs : List Frame) → IsPrefix fs gs → GoesOn (seen_of gs) (seen_of fs)
+frames_on fs gs p =
+    let table : Frame → List (ℕ × OwnPage) = λ f. f.pages in (
+      (entries_of p.0, ap entries_of (sym p.1) ∙ entries-append fs p.0),
+      (map table p.0, ap (map table) (sym p.1) ∙ map-append table fs p.0),
+    )

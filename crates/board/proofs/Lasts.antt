@@ -5,7 +5,9 @@ use Rattle.std.proofs.lemmas.List.Sums.{sum_by-append, sum_by-cons}
 use Rattle.std.proofs.lemmas.List.{get_or-set_other}
 use Rattle.std.proofs.lemmas.Bool.{eqb-false, eqb-true}
 use Rattle.std.proofs.lemmas.Bool.Decides.{nat_tests}
+use Rattle.chronicle.specs.Growing.{Known}
 use Rattle.board.specs.declared.entry.Entry.{Entry}
+use Rattle.board.specs.declared.entry.Frame.{Frame}
 use Rattle.board.specs.Workers.{is_worker}
 use Rattle.board.specs.Showing.{Showing, last_of, last_on, count_own, with_entry}
 
@@ -33,9 +35,9 @@ on_next x e w false other isw ise long =
     get_or-set_other x.last (e.worker - 1) (w - 1) (Some e) None ne
 
 -- What shows each worker's last entry, once an entry is put.
-pub last_next : (x : Showing) (e : Entry) (entries : List Entry) (w : ℕ) → is_worker e.worker ≡ true → length x.last ≡ 8
-    → last_on w x ≡ cond (is_worker w) (last_of w entries) None → last_on w (with_entry x e) ≡ cond (is_worker w) (last_of w (entries ++ e ∷ [])) None
-last_next x e entries w ise long old = by (is_worker w) refl
+pub last_next : (x : Showing) (e : Entry) (frames : Known Frame) (entries : List Entry) (w : ℕ) → is_worker e.worker ≡ true → length x.last ≡ 8
+    → last_on w x ≡ cond (is_worker w) (last_of w entries) None → last_on w (with_entry x e frames) ≡ cond (is_worker w) (last_of w (entries ++ e ∷ [])) None
+last_next x e frames entries w ise long old = by (is_worker w) refl
   where
     list : List (Option Entry)
     list = cond (is_worker e.worker) (set x.last (e.worker - 1) (Some e)) x.last

@@ -3,3 +3,4 @@ pub mod Keeping
 pub mod Lasts
 pub mod PageLists
 pub mod Telling
+pub mod Turning

@@ -62,7 +62,7 @@ put-all x (update.Page patron page ∷ us) h =
     let next : Showing = record x { pages = put_page x.pages patron (arc_value page) } in
     let rest = put-all next us h in
     (rest.0, λ q. rest.1 q ∙ ap (overlaid (pages_of us) q) (page-put x.pages patron (arc_value page) q))
-put-all x (update.Entry entry ∷ us) h = absurd (cc)
+put-all x (update.Entry entry frames ∷ us) h = absurd (cc)
 
 pub pages-more : (us us' : List Update) (p : ℕ) (a : Arc OwnPage Global) → us' ≡ us ++ update.Page p a ∷ [] → are_pages us ≡ true
     → (are_pages us' ≡ true) × (pages_of us' ≡ pages_of us ++ (p, arc_value a) ∷ [])
@@ -71,4 +71,4 @@ pages-more us us' p a e h = let m = more us h in (ap are_pages e ∙ m.0, ap pag
     more : (vs : List Update) → are_pages vs ≡ true → (are_pages (vs ++ update.Page p a ∷ []) ≡ true) × (pages_of (vs ++ update.Page p a ∷ []) ≡ pages_of vs ++ (p, arc_value a) ∷ [])
     more [] k = (refl, refl)
     more (update.Page q b ∷ vs) k = let m = more vs k in (m.0, ap (λ l. (q, arc_value b) ∷ l) m.1)
-    more (update.Entry b ∷ vs) k = absurd (cc)
+    more (update.Entry b frames ∷ vs) k = absurd (cc)

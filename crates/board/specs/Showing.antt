@@ -12,9 +12,11 @@ use Rattle.model.specs.Requests.{after, reply_to}
 use Rattle.board.specs.declared.board.Update.{Update}
 use Rattle.board.specs.declared.board.Update.TheVariants as update
 use Rattle.board.specs.declared.entry.Entry.{Entry}
+use Rattle.board.specs.declared.entry.Frame.{Frame}
 use Rattle.board.specs.declared.entry.Seen.{Seen}
 use Rattle.desk.specs.Showing.{own_page}
 use Rattle.desk.specs.declared.showing.OwnPage.{OwnPage}
+use Rattle.chronicle.specs.Growing.{Known}
 use Rattle.board.specs.Workers.{is_worker}
 
 -- ---- pages
@@ -86,19 +88,38 @@ pub record ShowsMore (old : Seen) (put : List (ℕ × OwnPage)) (e : Entry) (new
   pub pages : new.pages ≡ old.pages ++ now ∷ []
   pub each : (patron : ℕ) → page_at now patron ≡ overlaid put patron (page_of old patron)
 
+-- ---- what was shown, frame by frame
+
+-- Pages alone.
+abbrev pub first_frame : List (ℕ × OwnPage) → Frame
+first_frame pages = record { entry = None; pages = pages }
+
+-- An entry before others, where there is one.
+abbrev pub entry_before : Option Entry → List Entry → List Entry
+entry_before None es = es
+entry_before (Some e) es = e ∷ es
+
+-- The entries of frames.
+abbrev pub entries_of : List Frame → List Entry
+entries_of [] = []
+entries_of (f ∷ fs) = entry_before f.entry (entries_of fs)
+
+-- What these frames have shown.
+abbrev pub seen_of : List Frame → Seen
+seen_of frames = record { entries = entries_of frames; pages = map (λ (f : Frame). f.pages) frames }
+
 -- ---- the board
 
--- What the board shows: the page of each patron, the last entry of each worker, the last one of all,
--- and how many there were.
+-- What the board shows: the page of each patron, and the last entry of each worker; and all that was
+-- shown up to them.
 pub record Showing : Type 0 where
   pub pages : List (ℕ × OwnPage)
   pub last : List (Option Entry)
-  pub latest : Option Entry
-  pub version : ℕ
+  pub frames : Known Frame
 
--- Nothing.
-abbrev pub blank : Showing
-blank = record { pages = []; last = None ∷ None ∷ None ∷ None ∷ None ∷ None ∷ None ∷ None ∷ []; latest = None; version = 0 }
+-- Pages alone.
+abbrev pub blank : List (ℕ × OwnPage) → Known Frame → Showing
+blank pages frames = record { pages = pages; last = None ∷ None ∷ None ∷ None ∷ None ∷ None ∷ None ∷ None ∷ []; frames = frames }
 
 -- The page of a patron was put.
 abbrev pub with_page : Showing → ℕ → OwnPage → Showing
@@ -108,9 +129,9 @@ with_page x patron page = record x { pages = put_page x.pages patron page }
 abbrev pub with_last : List (Option Entry) → Entry → List (Option Entry)
 with_last last e = if is_worker e.worker then set last (e.worker - 1) (Some e) else last
 
--- An entry was put.
-abbrev pub with_entry : Showing → Entry → Showing
-with_entry x e = record x { last = with_last x.last e; latest = Some e; version = x.version + 1 }
+-- An entry was put, with which all this was shown.
+abbrev pub with_entry : Showing → Entry → Known Frame → Showing
+with_entry x e frames = record x { last = with_last x.last e; frames = frames }
 
 -- What shows the entry of this worker.
 abbrev pub last_on : ℕ → Showing → Option Entry
@@ -125,7 +146,11 @@ pub record ShowsEntry (x : Showing) (w n : ℕ) (request : Request) (e : Entry) 
 -- What is shown after an update.
 abbrev pub updated : Showing → Update → Showing
 updated x (update.Page patron page) = with_page x patron (arc_value page)
-updated x (update.Entry entry) = with_entry x (arc_value entry)
+updated x (update.Entry entry frames) = with_entry x (arc_value entry) frames
+
+-- The frame that is shown next: this entry, with the pages that are there after these updates.
+abbrev pub next_frame : Showing → List Update → Entry → Frame
+next_frame x us e = record { entry = Some e; pages = (fold updated x us).pages }
 
 -- ---- what is said of it
 

@@ -4,13 +4,14 @@ ghost use Rattle.std.specs.Prelude.{◌≡◌, None, map, IsFalse, MatchResult, 
 ghost use Rattle.std.specs.Arc.{arc_value};
 ghost use Rattle.board.specs.Showing.{blank, page_at, with_page, with_last, with_entry, last_on, ShowsEntry};
 
-use crate::entry::Entry;
+use crate::entry::{Entry, Frame};
+use crate::pages::Pages;
 use crate::request::SharedRequest;
 use crate::worker_id::WorkerId;
+use chronicle::Beginning;
 use desk::OwnPage;
 use left_right::Absorb;
 use std::alloc::{AllocError, Global};
-use std::collections::BTreeMap;
 use std::marker::Model;
 use std::sync::Arc;
 use terms::PatronId;
@@ -20,18 +21,17 @@ use terms::PatronId;
 pub enum Update {
     /// The page of the patron of this number.
     Page(u32, Arc<OwnPage, Global>),
-    /// One more submission was handled.
-    Entry(Arc<Entry, Global>),
+    /// One more submission was handled, and this is then all that was shown.
+    Entry(Arc<Entry, Global>, Beginning<Frame>),
 }
 
-/// The page of each patron, the last entry of each worker, the last one of all, and how many there
-/// were.
+/// The page of each patron, and the last entry of each worker; and all that was shown up to them,
+/// which takes no memory.
 #[derive(Drop)]
 pub struct Board {
-    pages: BTreeMap<u32, Arc<OwnPage, Global>, Global>,
+    pages: Pages,
     last: [Option<Arc<Entry, Global>>; 8],
-    latest: Option<Arc<Entry, Global>>,
-    version: u64,
+    frames: Beginning<Frame>,
 }
 
 impl Model for Board {
@@ -42,10 +42,9 @@ impl Model for Board {
     ghost Value = { Showing };
 
     ghost view = { λ b. record {
-      pages = map (λ e. (e.0, arc_value e.1)) b.pages.entries;
+      pages = b.pages;
       last = map (option_map arc_value) b.last;
-      latest = option_map arc_value b.latest;
-      version = b.version;
+      frames = b.frames;
     } };
 }
 
@@ -59,56 +58,54 @@ fn set_last(last: &mut [Option<Arc<Entry, Global>>; 8], entry: Arc<Entry, Global
 }
 
 impl Board {
-    /// A board with nothing on it.
-    pub(crate) fn new(alloc: Global) -> Board
-        ensures { result ≡ blank }
+    /// A board with pages alone, and what was shown with them.
+    pub(crate) fn new(pages: Pages, frames: Beginning<Frame>) -> Board
+        ensures { result ≡ blank pages frames }
     {
         Board {
-            pages: BTreeMap::new(alloc),
+            pages,
             last: [None, None, None, None, None, None, None, None],
-            latest: None,
-            version: 0,
+            frames,
         }
     }
 
     /// Puts the page of a patron, for the one that is there.
-    pub(crate) fn put(&mut self, patron: u32, page: &Arc<OwnPage, Global>) -> Result<(), AllocError>
+    fn put(&mut self, patron: u32, page: &Arc<OwnPage, Global>) -> Result<(), AllocError>
         ensures { MatchResult result
             (λ _. self.new ≡ with_page self.old patron (arc_value page.now))
             (λ _. self.new ≡ self.old) }
     {
-        let page = Arc::try_clone(page)?;
-        match self.pages.insert(patron, page) {
-            Ok(_) => Ok(()),
-            Err(_) => Err(AllocError),
-        }
+        self.pages.put(patron, page)
     }
 
-    /// Puts one entry more.
-    fn add(&mut self, entry: &Arc<Entry, Global>) -> Result<(), AllocError>
+    /// Puts one entry more, with which all this was shown.
+    fn add(
+        &mut self,
+        entry: &Arc<Entry, Global>,
+        frames: &Beginning<Frame>,
+    ) -> Result<(), AllocError>
         ensures { MatchResult result
-            (λ _. self.new ≡ with_entry self.old (arc_value entry.now))
+            (λ _. self.new ≡ with_entry self.old (arc_value entry.now) frames.now)
             (λ _. self.new ≡ self.old) }
     {
-        if self.version == u64::MAX {
-            return Err(AllocError);
-        }
-        let latest = Arc::try_clone(entry)?;
-        let last = Arc::try_clone(entry)?;
-        set_last(&mut self.last, last);
-        self.latest = Some(latest);
-        self.version += 1;
+        let entry = Arc::try_clone(entry)?;
+        set_last(&mut self.last, entry);
+        self.frames = frames.again();
         Ok(())
+    }
+
+    /// All that was shown.
+    pub(crate) fn frames(&self) -> Beginning<Frame>
+        ensures { result ≡ self.now.frames }
+    {
+        self.frames.again()
     }
 
     /// The page of a patron, if there is one.
     pub(crate) fn page(&self, patron: PatronId) -> Result<Option<Arc<OwnPage, Global>>, AllocError>
         ensures { IfOk result (λ page. option_map arc_value page ≡ page_at self.now.pages patron) }
     {
-        match self.pages.get(&patron.number()) {
-            Some(page) => Ok(Some(Arc::try_clone(page)?)),
-            None => Ok(None),
-        }
+        self.pages.page(patron)
     }
 
     /// The last entry of a worker, if there is one.
@@ -157,7 +154,7 @@ impl Absorb<Update> for Board {
     fn absorb_first(&mut self, operation: &Update, _other: &Board) -> Result<(), AllocError> {
         match operation {
             Update::Page(patron, page) => self.put(*patron, page),
-            Update::Entry(entry) => self.add(entry),
+            Update::Entry(entry, frames) => self.add(entry, frames),
         }
     }
 }

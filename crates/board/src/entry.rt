@@ -15,6 +15,13 @@ pub struct Entry {
     pub reply: Reply,
 }
 
+/// What the board shows from one entry to the next: the entry, where it isn't what was shown first,
+/// and all pages. No value of it is made.
+pub struct Frame {
+    pub entry: Option<Entry>,
+    pub pages: LinkedList<(u32, OwnPage)>,
+}
+
 /// What a side of the board knows: a beginning of the handled list, and the pages that were shown
 /// with it, first with none of its entries and then with each. No value of it is made.
 pub struct Seen {

@@ -3,7 +3,7 @@
 ghost use Rattle.std.specs.Prelude.{◌≡◌, [], IfOk};
 ghost use Rattle.board.specs.Showing.{put_page};
 
-use crate::board::Board;
+use crate::pages::Pages;
 use desk::OwnPage;
 use std::alloc::Global;
 use std::marker::Model;
@@ -13,21 +13,19 @@ use terms::{Memory, PatronId};
 /// What the board shows before anything was handled: pages of patrons.
 #[derive(Drop)]
 pub struct First {
-    pub(crate) board: Board,
-    pub(crate) copy: Board,
+    pub(crate) pages: Pages,
+    pub(crate) copy: Pages,
 }
 
 impl Model for First {
     ghost use Rattle.std.specs.Prelude.{◌≡◌, ℕ, List};
-    ghost use Rattle.board.specs.Showing.{blank};
     ghost use Rattle.desk.specs.declared.showing.OwnPage.{OwnPage};
 
     ghost Value = { List (ℕ × OwnPage) };
 
-    ghost view = { λ f. f.board.pages };
+    ghost view = { λ f. f.pages };
 
-    ghost invariant = { λ f. (f.copy ≡ f.board)
-        × (f.board ≡ record blank { pages = f.board.pages }) };
+    ghost invariant = { λ f. f.copy ≡ f.pages };
 }
 
 impl First {
@@ -36,8 +34,8 @@ impl First {
         ensures { result ≡ [] }
     {
         First {
-            board: Board::new(alloc),
-            copy: Board::new(alloc),
+            pages: Pages::new(alloc),
+            copy: Pages::new(alloc),
         }
     }
 
@@ -46,12 +44,12 @@ impl First {
         ensures { IfOk result (λ first. first ≡ put_page self patron page) }
     {
         let First {
-            mut board,
+            mut pages,
             mut copy,
         } = self;
         let page = Arc::new(alloc, page)?;
-        board.put(patron.number(), &page)?;
+        pages.put(patron.number(), &page)?;
         copy.put(patron.number(), &page)?;
-        Ok(First { board, copy })
+        Ok(First { pages, copy })
     }
 }

@@ -5,6 +5,7 @@
 mod board;
 mod entry;
 mod first;
+mod pages;
 mod publisher;
 mod request;
 mod rule;
@@ -13,10 +14,11 @@ mod window;
 mod worker_id;
 
 pub use board::{Board, Update};
-pub use entry::{Entry, Seen};
+pub use entry::{Entry, Frame, Seen};
 pub use first::First;
-pub use publisher::Publisher;
+pub use publisher::{Blank, Publisher};
 pub use request::SharedRequest;
+pub use rule::Naming;
 pub use stopped::StoppedBoard;
-pub use window::{Unseen, Window};
+pub use window::{Sight, Unseen, Window};
 pub use worker_id::WorkerId;

@@ -1,15 +1,16 @@
 //! The desk's side of the board.
 
 ghost use Rattle.std.specs.Prelude.{◌≡◌, ◌++◌, ◌<◌, ◌^◌, [], ◌∷◌, MatchResult, IfOk};
-ghost use Rattle.board.specs.Showing.{blank, first_seen, IsNextEntry, ShowsMore};
-ghost use Rattle.board.specs.Rule.{nothing_seen, as_stopped};
+ghost use Rattle.board.specs.Showing.{first_seen, IsNextEntry, ShowsMore};
+ghost use Rattle.board.specs.Rule.{nothing_seen, as_stopped, opening};
 
 use crate::board::{Board, Update};
-use crate::entry::{Entry, Seen};
+use crate::entry::{Entry, Frame, Seen};
 use crate::first::First;
-use crate::rule::{OneList, Publish};
+use crate::rule::{Naming, OneList, Publish};
 use crate::stopped::StoppedBoard;
 use crate::window::Window;
+use chronicle::{Beginning, Chronicle, Item};
 use desk::OwnPage;
 use left_right::writer::Writer;
 use std::alloc::{AllocError, Global};
@@ -20,41 +21,125 @@ use terms::{Memory, PatronId};
 /// What writes the board.
 pub(crate) type BoardWriter<J> = Writer<Board, Update, Seen, OneList<J>>;
 
-/// The desk's side. Contracts see the list that is shown, what workers see of it, and the pages that
-/// are to be shown with the next entry. It is not `Drop`: end it by `close`.
-pub struct Publisher<J> {
-    writer: BoardWriter<J>,
+/// So many frames are shown at most, so that their count has a place. A hall never comes to as many:
+/// each of its workers submits 2^50 requests at most.
+const MOST_FRAMES: u64 = u64::MAX - 1;
+
+/// What a board begins with: nothing was shown. Contracts see which board it is to be.
+#[derive(Drop)]
+pub struct Blank {
+    chronicle: Chronicle<Frame>,
+    none: Beginning<Frame>,
 }
 
-impl<J> Model for Publisher<J> {
-    ghost use Rattle.std.specs.Prelude.{◌≡◌, true, drop};
-    ghost use Rattle.left_right.specs.Sides.{view as knows};
-    ghost use Rattle.board.specs.Rule.{Publishing, ShowsAll, whole_view, pages_of, are_pages};
+impl Model for Blank {
+    ghost use Rattle.std.specs.Prelude.{◌≡◌, []};
+    ghost use Rattle.logbook.specs.Pages.{Book, book_coded};
+    ghost use Rattle.chronicle.specs.Growing.{known};
+
+    ghost Value = { Book };
+
+    ghost coded = { book_coded };
+
+    ghost view = { λ b. b.chronicle };
+
+    ghost invariant = { λ b. b.none ≡ known b.chronicle [] };
+}
+
+impl Blank {
+    /// Of a new board.
+    pub fn new() -> Blank {
+        let (chronicle, none) = Chronicle::new();
+        Blank { chronicle, none }
+    }
+}
+
+/// What is shown first: pages.
+struct Opens;
+
+impl Item<First, Frame> for Opens {
+    ghost use Rattle.board.specs.Showing.{first_frame};
+
+    ghost item = { first_frame };
+}
+
+/// What is to be shown next: an entry, over what is written.
+#[derive(Clone, Copy)]
+struct Turn<'a, J: Naming> {
+    writer: &'a BoardWriter<J>,
+    entry: &'a Arc<Entry, Global>,
+}
+
+/// It is shown with the pages that are to be shown with it.
+struct Turns;
+
+impl<'a, J: Naming> Item<Turn<'a, J>, Frame> for Turns {
+    ghost use Rattle.std.specs.Prelude.{drop};
+    ghost use Rattle.std.specs.Arc.{arc_value};
+    ghost use Rattle.board.specs.Showing.{next_frame};
+
+    ghost item = { λ t. next_frame t.writer.now.desk.shown.value
+        (drop t.writer.now.behind t.writer.now.log.items) (arc_value t.entry.now) };
+}
+
+/// The desk's side. Contracts see all that was shown, what workers see of it, and the pages that are
+/// to be shown with the next entry. It is not `Drop`: end it by `close`.
+pub struct Publisher<J: Naming> {
+    writer: BoardWriter<J>,
+    chronicle: Chronicle<Frame>,
+    /// All that was shown.
+    frames: Beginning<Frame>,
+    /// Nothing: windows begin with it.
+    none: Beginning<Frame>,
+}
+
+impl<J: Naming> Model for Publisher<J> {
+    ghost use Rattle.std.specs.Prelude.{◌≡◌, true, drop, []};
+    ghost use Rattle.chronicle.specs.Growing.{known};
+    ghost use Rattle.board.specs.Rule.{Publishing, ShowsAll, pages_of, are_pages};
+    ghost use Rattle.board.specs.Showing.{seen_of};
 
     ghost Value = { Publishing };
 
     ghost view = { λ p. record {
-      shown = whole_view (knows p.writer.desk.place) p.writer.desk.shown.value;
+      shown = seen_of p.frames.items;
       board = p.writer.desk.shown.value;
       pages = pages_of (drop p.writer.behind p.writer.log.items);
     } };
 
-    ghost invariant = { λ p.
-        ShowsAll (whole_view (knows p.writer.desk.place) p.writer.desk.shown.value)
-        p.writer.desk.shown.value
-        × (are_pages (drop p.writer.behind p.writer.log.items) ≡ true) };
+    ghost invariant = { λ p. ShowsAll (seen_of p.frames.items) p.writer.desk.shown.value
+        × (p.writer.desk.shown.value.frames ≡ p.frames)
+        × (are_pages (drop p.writer.behind p.writer.log.items) ≡ true)
+        × (p.chronicle ≡ J.book) × (p.frames.book ≡ J.book) × (p.none ≡ known J.book []) };
 }
 
-impl<J> Publisher<J> {
-    /// A board with these pages, for so many readers.
-    pub fn new(alloc: Global, first: First, readers: usize) -> Result<Publisher<J>, Memory>
+impl<J: Naming> Publisher<J> {
+    /// A board with these pages, for so many readers, of which nothing was shown before.
+    pub fn new<R: Wait>(
+        rt: &R,
+        alloc: Global,
+        blank: Blank,
+        first: First,
+        readers: usize,
+    ) -> Result<Publisher<J>, Memory>
+        requires name { blank ≡ J.book }
         requires readers { (0 < readers) × (readers < 2 ^ 32) }
         ensures { IfOk result (λ p. (p.shown ≡ first_seen first) × (p.pages ≡ [])
-            × (p.board ≡ record blank { pages = first })) }
+            × (p.board ≡ opening J.book first)) }
     {
-        let First { board, copy } = first;
+        let Blank { chronicle, none } = blank;
+        let mut frames = none.again();
+        chronicle.add::<First, Opens, R>(rt, &mut frames, &first);
+        let First { pages, copy } = first;
+        let board = Board::new(pages, frames.again());
+        let copy = Board::new(copy, frames.again());
         let writer = BoardWriter::<J>::new(alloc, board, copy, readers)?;
-        Ok(Publisher { writer })
+        Ok(Publisher {
+            writer,
+            chronicle,
+            frames,
+            none,
+        })
     }
 
     /// A window that has seen nothing. An error says that no reader's place is left.
@@ -62,7 +147,7 @@ impl<J> Publisher<J> {
         ensures { IfOk result (λ w. w ≡ nothing_seen) }
     {
         let reader = self.writer.factory().reader()?;
-        Ok(Window::over(reader))
+        Ok(Window::over(reader, self.none.again()))
     }
 
     /// The page of a patron is to be shown with the next entry.
@@ -91,18 +176,37 @@ impl<J> Publisher<J> {
             (λ p. ShowsMore self.shown self.pages entry p.shown × (p.pages ≡ []))
             (λ b. b ≡ as_stopped self) }
     {
-        let Publisher { mut writer } = self;
+        let Publisher {
+            mut writer,
+            chronicle,
+            frames,
+            none,
+        } = self;
+        if frames.len() >= MOST_FRAMES {
+            return Err(StoppedBoard::over(writer, frames));
+        }
         let Ok(entry) = Arc::new(alloc, entry) else {
-            return Err(StoppedBoard::over(writer));
+            return Err(StoppedBoard::over(writer, frames));
         };
-        match writer.append(Update::Entry(entry)) {
+        let mut next = frames.again();
+        let turn = Turn {
+            writer: &writer,
+            entry: &entry,
+        };
+        chronicle.add::<Turn<'_, J>, Turns, R>(rt, &mut next, &turn);
+        match writer.append(Update::Entry(entry, next.again())) {
             Ok(()) => {}
-            Err(_) => return Err(StoppedBoard::over(writer)),
+            Err(_) => return Err(StoppedBoard::over(writer, frames)),
         }
         let (writer, met) = writer.publish_as::<Publish, R>(rt);
         match met {
-            Ok(()) => Ok(Publisher { writer }),
-            Err(_) => Err(StoppedBoard::over(writer)),
+            Ok(()) => Ok(Publisher {
+                writer,
+                chronicle,
+                frames: next,
+                none,
+            }),
+            Err(_) => Err(StoppedBoard::over(writer, frames)),
         }
     }
 
@@ -115,7 +219,12 @@ impl<J> Publisher<J> {
     pub fn stop(self) -> StoppedBoard<J>
         ensures { result ≡ as_stopped self }
     {
-        let Publisher { writer } = self;
-        StoppedBoard::over(writer)
+        let Publisher {
+            writer,
+            chronicle: _,
+            frames,
+            none: _,
+        } = self;
+        StoppedBoard::over(writer, frames)
     }
 }

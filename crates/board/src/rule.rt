@@ -1,34 +1,49 @@
-//! The rule of the board: what is shown is what a beginning of one growing list comes to, with the
-//! last of the pages that were shown.
+//! The rule of the board: it shows what all that was shown comes to, which only grows.
 
 use crate::board::Board;
 use crate::entry::Seen;
 use crossbeam_utils::rule::{Outcome, Protocol};
-use std::marker::PhantomData;
+use std::marker::{Brand, PhantomData};
 
-/// The rule, of the board of one hall.
+/// Which board it is: it names what is shown, so that those of two boards can't be mixed. Who opens a
+/// board uses it inside one function generic in this, which is called with `Brand`.
+pub trait Naming {
+    ghost use Rattle.logbook.specs.Pages.{Book};
+
+    ghost book: { Book };
+}
+
+impl Naming for Brand {
+    ghost use Rattle.board.specs.Rule.{no_book};
+
+    ghost book = { no_book };
+}
+
+/// The rule, of the board of this name.
 pub struct OneList<J> {
     of: PhantomData<J>,
 }
 
-impl<J> Protocol<Board, Seen> for OneList<J> {
+impl<J: Naming> Protocol<Board, Seen> for OneList<J> {
     ghost use Rattle.board.specs.Rule.{Keeps, nothing_seen};
 
-    ghost holds = { Keeps };
+    ghost holds = { Keeps J.book };
 
     ghost first = { nothing_seen };
 }
 
 /// A reader looks at the board.
-pub struct Look;
-
-impl Outcome<Board, Seen> for Look {
-    ghost use Rattle.board.specs.Rule.{Looks};
-
-    ghost then = { Looks };
+pub struct Look<J> {
+    of: PhantomData<J>,
 }
 
-/// One entry more is shown.
+impl<J: Naming> Outcome<Board, Seen> for Look<J> {
+    ghost use Rattle.board.specs.Rule.{Looks};
+
+    ghost then = { Looks J.book };
+}
+
+/// One frame more is shown.
 pub struct Publish;
 
 impl Outcome<Board, Seen> for Publish {

@@ -1,60 +1,72 @@
 //! A board that shows nothing more.
 
-ghost use Rattle.std.specs.Prelude.{◌≡◌};
-ghost use Rattle.left_right.specs.Sides.{view as knows};
-ghost use Rattle.board.specs.declared.entry.Seen.{Seen};
-ghost use Rattle.board.specs.Rule.{ShowsAll, whole_view};
+ghost use Rattle.std.specs.Prelude.{◌≡◌, IsTrue};
+ghost use Rattle.board.specs.Rule.{ShowsAll};
+ghost use Rattle.board.specs.Showing.{GoesOn, seen_of};
 
+use crate::entry::Frame;
 use crate::publisher::BoardWriter;
+use crate::rule::Naming;
+use crate::window::Sight;
+use chronicle::Beginning;
 use std::marker::Model;
 use std::sync::Wait;
 
-/// A board that shows nothing more: workers keep what they see. Contracts see the list that it shows,
-/// and what workers see of it. It is not `Drop`: end it by `close`.
-pub struct StoppedBoard<J> {
+/// A board that shows nothing more: workers keep what they see. Contracts see all that was shown, and
+/// what workers see of it. It is not `Drop`: end it by `close`.
+pub struct StoppedBoard<J: Naming> {
     writer: BoardWriter<J>,
+    frames: Beginning<Frame>,
 }
 
-impl<J> Model for StoppedBoard<J> {
-    ghost use Rattle.left_right.specs.Sides.{view as knows};
-    ghost use Rattle.board.specs.Rule.{Stopped, ShowsAll, whole_view};
+impl<J: Naming> Model for StoppedBoard<J> {
+    ghost use Rattle.std.specs.Prelude.{◌≡◌};
+    ghost use Rattle.board.specs.Rule.{Stopped, ShowsAll};
+    ghost use Rattle.board.specs.Showing.{seen_of};
 
     ghost Value = { Stopped };
 
     ghost view = { λ b. record {
-      shown = whole_view (knows b.writer.desk.place) b.writer.desk.shown.value;
+      shown = seen_of b.frames.items;
       board = b.writer.desk.shown.value;
     } };
 
-    ghost invariant = { λ b.
-        ShowsAll (whole_view (knows b.writer.desk.place) b.writer.desk.shown.value)
-        b.writer.desk.shown.value };
+    ghost invariant = { λ b. (b.frames.book ≡ J.book)
+        × ShowsAll (seen_of b.frames.items) b.writer.desk.shown.value };
 }
 
-impl<J> StoppedBoard<J> {
+impl<J: Naming> StoppedBoard<J> {
     /// What this writer has shown.
-    pub(crate) fn over(writer: BoardWriter<J>) -> StoppedBoard<J>
-        requires { ShowsAll (whole_view (knows {V = Seen} writer.desk.place) writer.desk.shown.value)
-            writer.desk.shown.value }
+    pub(crate) fn over(writer: BoardWriter<J>, frames: Beginning<Frame>) -> StoppedBoard<J>
+        requires name { frames.book ≡ J.book }
+        requires shows { ShowsAll (seen_of frames.items) writer.desk.shown.value }
         ensures { result ≡ record {
-          shown = whole_view (knows {V = Seen} writer.desk.place) writer.desk.shown.value;
+          shown = seen_of frames.items;
           board = writer.desk.shown.value;
         } }
     {
-        StoppedBoard { writer }
+        StoppedBoard { writer, frames }
     }
 
-    /// Workers see what the list that is shown comes to: of each worker the last entry, and the pages
-    /// that were shown last.
+    /// Workers see what all that was shown comes to: of each worker the last entry, and the pages that
+    /// were shown last.
     pub fn shows_its_list(&self)
         ensures { ShowsAll self.now.shown self.now.board }
     {
         let _ = &self.writer;
     }
 
+    /// Whether what a worker had seen is a beginning of what was shown: it is where there is no more
+    /// of it.
+    pub fn has_shown(&self, sight: &Sight<J>) -> bool
+        ensures { IsTrue result → GoesOn self.now.shown sight.now }
+    {
+        sight.frames.begins(&self.frames)
+    }
+
     /// Ends the board, once its readers are done.
     pub fn close<R: Wait>(self, rt: &R) {
-        let StoppedBoard { writer } = self;
+        let StoppedBoard { writer, frames: _ } = self;
         drop(writer.take(rt));
     }
 }

@@ -3,17 +3,19 @@
 ghost use Rattle.std.specs.Prelude.{◌≡◌, IfOk, IfSome, IsTrue, OnOk, option_map};
 ghost use Rattle.std.specs.Arc.{arc_value};
 ghost use Rattle.left_right.specs.Sides.{view as knows};
-ghost use Rattle.board.specs.Showing.{GoesOn, HasLooked, page_of, count_own, IsReply};
+ghost use Rattle.board.specs.declared.entry.Seen.{Seen};
+ghost use Rattle.board.specs.Showing.{GoesOn, HasLooked, page_of, seen_of, count_own, IsReply};
 
 use crate::board::Board;
-use crate::entry::{Entry, Seen};
+use crate::entry::{Entry, Frame, Seen};
 use crate::request::SharedRequest;
-use crate::rule::{Look, OneList};
+use crate::rule::{Look, Naming, OneList};
 use crate::worker_id::WorkerId;
+use chronicle::Beginning;
 use desk::OwnPage;
 use left_right::reader::Reader;
 use std::alloc::Global;
-use std::marker::Model;
+use std::marker::{Model, PhantomData};
 use std::sync::Arc;
 use terms::PatronId;
 
@@ -30,27 +32,65 @@ pub enum Unseen {
 
 /// A worker's side. Contracts see what it has seen: a beginning of the handled list, with its pages.
 #[derive(Drop)]
-pub struct Window<J> {
+pub struct Window<J: Naming> {
     reader: Option<BoardReader<J>>,
+    frames: Beginning<Frame>,
 }
 
-impl<J> Model for Window<J> {
+impl<J: Naming> Model for Window<J> {
+    ghost use Rattle.std.specs.Prelude.{◌≡◌, IfSome};
     ghost use Rattle.left_right.specs.Sides.{view as knows};
     ghost use Rattle.board.specs.declared.entry.Seen.{Seen};
-    ghost use Rattle.board.specs.Rule.{seen_by};
+    ghost use Rattle.board.specs.Showing.{seen_of};
 
     ghost Value = { Seen };
 
-    ghost view = { λ w. seen_by (λ r. knows {V = Seen} r.place) w.reader };
+    ghost view = { λ w. seen_of w.frames.items };
+
+    ghost invariant = { λ w. (w.frames.book ≡ J.book)
+        × IfSome w.reader (λ r. knows {V = Seen} r.place ≡ seen_of w.frames.items) };
 }
 
-impl<J> Window<J> {
-    /// A side that has seen nothing.
-    pub(crate) fn over(reader: BoardReader<J>) -> Window<J>
-        ensures { result ≡ knows {V = Seen} reader.place }
+/// What a worker had seen when it left.
+#[derive(Drop)]
+pub struct Sight<J: Naming> {
+    pub(crate) frames: Beginning<Frame>,
+    of: PhantomData<J>,
+}
+
+impl<J: Naming> Model for Sight<J> {
+    ghost use Rattle.std.specs.Prelude.{◌≡◌};
+    ghost use Rattle.board.specs.declared.entry.Seen.{Seen};
+    ghost use Rattle.board.specs.Showing.{seen_of};
+
+    ghost Value = { Seen };
+
+    ghost view = { λ s. seen_of s.frames.items };
+
+    ghost invariant = { λ s. s.frames.book ≡ J.book };
+}
+
+impl<J: Naming> Window<J> {
+    /// A side that has seen this.
+    pub(crate) fn over(reader: BoardReader<J>, frames: Beginning<Frame>) -> Window<J>
+        requires name { frames.book ≡ J.book }
+        requires seen { knows {V = Seen} reader.place ≡ seen_of frames.items }
+        ensures { result ≡ seen_of frames.items }
     {
         Window {
             reader: Some(reader),
+            frames,
+        }
+    }
+
+    /// Looks no more.
+    pub fn leave(self) -> Sight<J>
+        ensures { result ≡ self }
+    {
+        let Window { reader: _, frames } = self;
+        Sight {
+            frames,
+            of: PhantomData,
         }
     }
 
@@ -63,9 +103,10 @@ impl<J> Window<J> {
         let Some(reader) = self.reader.take() else {
             return Err(Unseen::Gone);
         };
-        match reader.enter_as::<Look>() {
+        match reader.enter_as::<Look<J>>() {
             Ok(reading) => {
                 let page = reading.get().page(patron);
+                self.frames = reading.get().frames();
                 self.reader = Some(reading.leave());
                 page.map_err(|_| Unseen::Memory)
             }
@@ -85,9 +126,10 @@ impl<J> Window<J> {
         let Some(reader) = self.reader.take() else {
             return Err(Unseen::Gone);
         };
-        match reader.enter_as::<Look>() {
+        match reader.enter_as::<Look<J>>() {
             Ok(reading) => {
                 let none = !reading.get().has_entry(worker);
+                self.frames = reading.get().frames();
                 self.reader = Some(reading.leave());
                 Ok(none)
             }
@@ -112,9 +154,10 @@ impl<J> Window<J> {
         let Some(reader) = self.reader.take() else {
             return Err(Unseen::Gone);
         };
-        match reader.enter_as::<Look>() {
+        match reader.enter_as::<Look<J>>() {
             Ok(reading) => {
                 let entry = reading.get().entry(worker, number, request);
+                self.frames = reading.get().frames();
                 self.reader = Some(reading.leave());
                 match entry {
                     Ok(found) => Ok(found),

@@ -7,6 +7,7 @@ use Rattle.store.specs.Stops.{KeepsPicture}
 use Rattle.store.specs.Reads.{Reads, Looked, IsSound as AreInLimits}
 use Rattle.terms.specs.Limits.{InLimits}
 use Rattle.terms.specs.Pictures.{Picture}
+use Rattle.terms.specs.Texts.{fault_number}
 use Rattle.terms.specs.declared.fault.Fault.{Fault}
 use Rattle.terms.specs.declared.fault.Fault.TheVariants.{Stored}
 use Rattle.terms.specs.declared.tables.Tables.{Tables}
@@ -67,7 +68,7 @@ module _ {S : Type 0} (g : Ghosts S) (old new : Held S) where
         not-both tables finding (law H tables shows.legal shows.forms found.0) ((audits.found (in-order (picture H) tables found.0) finding).0 refl);
   }))
 
-  pub says-faulted : (fault : Fault) → Looked InLimits AreAuditTables AreInLimits g old new (Err fault) → SaysOf g old new (fault_line fault) Faulted
+  pub says-faulted : (fault : Fault) → Looked InLimits AreAuditTables AreInLimits g old new (Err fault) → SaysOf g old new (fault_line (fault_number fault)) Faulted
   says-faulted fault looked = inr (inr (record {
     fault = fault;
     line_is = refl;

@@ -9,6 +9,7 @@ use Rattle.std.proofs.lemmas.List.Elements.{filter-append}
 use Rattle.std.specs.Io.KnownBytes.{Appends}
 use Rattle.store.specs.Library.{Ghosts, Held, state, HasCleanDisk}
 use Rattle.terms.specs.Writing.{AppendsFront}
+use Rattle.terms.specs.Texts.{fault_number}
 use Rattle.terms.specs.declared.fault.Fault.{Fault}
 use Rattle.terms.specs.declared.fault.Fault.TheVariants.{Stored}
 use Rattle.terms.specs.declared.reply.Reply.{Reply}
@@ -168,7 +169,7 @@ module _ {S : Type 0} (g : Ghosts S) (old mid new : Held S) (all before : List C
       → (HasCleanDisk (state g new) → fault ≡ Stored → (H : History) → Shows (state g mid) H → ⊥)
       → (HasCleanDisk (state g new) → IsTrue (state g new).is_open → Stays (state g mid) (state g new))
       → (HasCleanDisk (state g new) → (H : History) → Shows (state g mid) H → LeavesOneOf (state g new) H (after_one H (request_of row)))
-      → WentOut (import_lines far.replies (fault_line fault)) → ImportsSome all g old new WentOut Faulted
+      → WentOut (import_lines far.replies (fault_line (fault_number fault))) → ImportsSome all g old new WentOut Faulted
   imports-some fault WentOut clean sound undone left lines = record {
     replies = far.replies;
     fault = fault;

@@ -5,7 +5,7 @@ use Rattle.std.specs.List.{join_with_byte}
 use Rattle.std.specs.Io.KnownBytes.{Appends}
 use Rattle.store.specs.Library.{Ghosts, Held, State, state, HasCleanDisk}
 use Rattle.terms.specs.Laws.{RequestTextsDiffer}
-use Rattle.terms.specs.Texts.{request_text}
+use Rattle.terms.specs.Texts.{request_text, fault_number}
 use Rattle.terms.specs.Writing.{AppendsFront}
 use Rattle.terms.specs.declared.command.Command.{Command}
 use Rattle.terms.specs.declared.fault.Fault.{Fault}
@@ -36,38 +36,31 @@ pub still-left : (s : State) (H K : History) → Shows s H → LeavesOneOf s H K
 still-left s H K shows = λ trees may. let one = shows.tables.left trees may in (one.0, inl one.1, one.2)
 
 module _ {S : Type 0} (g : Ghosts S) (old new : Held S) (key : List ℕ) (words : List (List ℕ)) where
-  pub says-reply : (command : Command) (reply : Reply) → IsUnderstoodAs words command
+  pub says-reply : (command : Command) (reply : Reply) → IsUnderstoodAs words command → ((other : Command) → IsUnderstoodAs words other → other ≡ command)
       → (HasCleanDisk (state g new) → (H : History) → Shows (state g old) H
       → (reply ≡ reply_to H (desk_request key command)) × Shows (state g new) (after_one H (desk_request key command)))
       → Says key words g old new (reply_line reply) (exit_of reply)
-  says-reply command reply understood answered =
-      inl (record { command = command; reply = reply; understood = understood; line_is = refl; exit_is = refl; replied = answered })
+  says-reply command reply understood only answered =
+      inl (record { command = command; reply = reply; understood = understood; only = only; line_is = refl; exit_is = refl; replied = answered })
 
-  pub says-fault : (command : Command) (fault : Fault) → ((other : Command) → IsUnderstoodAs words other → other ≡ command)
+  pub says-fault : (command : Command) (fault : Fault) → IsUnderstoodAs words command
       → (HasCleanDisk (state g new) → fault ≡ Stored → (H : History) → Shows (state g old) H → ⊥)
       → (HasCleanDisk (state g new) → IsTrue (state g new).is_open → Stays (state g old) (state g new))
       → (HasCleanDisk (state g new) → (H : History) → Shows (state g old) H → LeavesOneOf (state g new) H (after_one H (desk_request key command)))
-      → Says key words g old new (fault_line fault) Faulted
-  says-fault command fault only sound undone left = inr (inl (record {
-    fault = fault;
-    line_is = refl;
-    exit_is = refl;
-    sound = sound;
-    undone = undone;
-    left = λ disk other understood H shows.
-        subst (λ (c : Command). LeavesOneOf (state g new) H (after_one H (desk_request key c))) (sym (only other understood)) (left disk H shows);
-  }))
+      → Says key words g old new (fault_line (fault_number fault)) Faulted
+  says-fault command fault understood sound undone left =
+      inr (inl (record { fault = fault; line_is = refl; exit_is = refl; sound = sound; undone = undone; left = λ disk H shows. inr (command, understood, left disk H shows) }))
 
 -- nothing was touched
 module _ {S : Type 0} (g : Ghosts S) (held : Held S) (key : List ℕ) (words : List (List ℕ)) where
-  pub says-no-memory : Says key words g held held (fault_line Memory) Faulted
+  pub says-no-memory : Says key words g held held (fault_line (fault_number Memory)) Faulted
   says-no-memory = inr (inl (record {
     fault = Memory;
     line_is = refl;
     exit_is = refl;
     sound = λ disk stored. let never : ⊥ = cc in absurd never;
     undone = λ disk is_open H shows. shows;
-    left = λ disk command understood H shows. still-left (state g held) H (after_one H (desk_request key command)) shows;
+    left = λ disk H shows. inl (still-left (state g held) H H shows);
   }))
 
   pub says-not-understood : ((command : Command) → IsUnderstoodAs words command → ⊥) → Says key words g held held not_understood_line NotUnderstood

@@ -5,6 +5,7 @@ use Rattle.std.specs.Io.KnownBytes.{Appends}
 use Rattle.std.proofs.KnownBytes.{Appends-trans}
 use Rattle.store.specs.Library.{Ghosts, Held, state, HasCleanDisk}
 use Rattle.terms.specs.Writing.{AppendsFront}
+use Rattle.terms.specs.Texts.{fault_number}
 use Rattle.terms.specs.declared.fault.Fault.{Fault}
 use Rattle.terms.specs.declared.fault.Fault.TheVariants.{Stored}
 use Rattle.terms.specs.declared.refusal.Refusal.{Refusal}
@@ -33,7 +34,7 @@ module _ {S : Type 0} (g : Ghosts S) (old new : Held S) (report : Report) (WentO
 
   pub tells-fault : (sent : List ℕ) → (HasCleanDisk (state g new) → (H : History) → Shows (state g old) H → IsFront sent (report_text H report)) → (fault : Fault)
       → (HasCleanDisk (state g new) → fault ≡ Stored → (H : History) → Shows (state g old) H → ⊥)
-      → (HasCleanDisk (state g new) → IsTrue (state g new).is_open → Stays (state g old) (state g new)) → WentOut (sent ++ fault_line fault) → TellsOf report g old new WentOut Faulted
+      → (HasCleanDisk (state g new) → IsTrue (state g new).is_open → Stays (state g old) (state g new)) → WentOut (sent ++ fault_line (fault_number fault)) → TellsOf report g old new WentOut Faulted
   tells-fault sent front fault sound undone line = inr (inr (record { sent = sent; front = front; fault = fault; exit_is = refl; line = line; sound = sound; undone = undone }))
 
 -- the line went out whole, or a beginning of it, after these bytes

@@ -7,6 +7,7 @@ use Rattle.store.specs.Stops.{KeepsPicture, LeavesPicture}
 use Rattle.terms.specs.Limits.{InLimits}
 use Rattle.terms.specs.Pictures.{Picture}
 use Rattle.terms.specs.Writing.{AppendsFront}
+use Rattle.terms.specs.Texts.{fault_number}
 use Rattle.terms.specs.declared.fault.Fault.{Fault}
 use Rattle.terms.specs.declared.fault.Fault.TheVariants.{Stored}
 use Rattle.terms.specs.declared.tables.Tables.{Tables}
@@ -59,7 +60,7 @@ pub record SaysUnsound {S : Type 0} (g : Ghosts S) (old new : Held S) (line : Li
 pub record SaysFaulted {S : Type 0} (g : Ghosts S) (old new : Held S) (line : List ℕ)
     (exit : Exit) : Type 0 where
   pub fault : Fault
-  pub line_is : line ≡ fault_line fault
+  pub line_is : line ≡ fault_line (fault_number fault)
   pub exit_is : exit ≡ Faulted
   pub sound : IsClean g new → fault ≡ Stored → (H : History) → Shows (state g old) H → ⊥
   pub undone : IsClean g new → IsOpen g new → (P : Picture) → KeepsPicture (state g old) P

@@ -3,7 +3,7 @@
 use Rattle.std.specs.Prelude.{◌≡◌, ◌⊎◌, ◌≤◌, ◌<◌, ◌+◌, ◌==◌, ℕ, Bool, true, false, not, if◌then◌else◌, List, [], ◌∷◌, ◌++◌, length, filter, map, take, Option, Some, None, Result, Ok, IfOk, OnErr, codes, decimal}
 use Rattle.std.specs.Io.KnownBytes.{Appends, Keeps}
 use Rattle.store.specs.Library.{Ghosts, Held, state, IsClean, IsOpen}
-use Rattle.terms.specs.Texts.{refusal_number}
+use Rattle.terms.specs.Texts.{refusal_number, fault_number}
 use Rattle.terms.specs.Writing.{AppendsFront}
 use Rattle.terms.specs.declared.command.Request.{Request}
 use Rattle.terms.specs.declared.fault.Fault.{Fault}
@@ -20,6 +20,7 @@ use Rattle.front.specs.declared.copies.CopyRow.{CopyRow}
 use Rattle.front.specs.declared.copies.CopyEnd.{CopyEnd}
 use Rattle.front.specs.declared.copies.CopyEnd.TheVariants.{Whole, Bad, Read, Memory}
 use Rattle.circ.specs.declared.importing.Counts.{Counts}
+use Rattle.desk.specs.Running.{ShowsHeadline}
 use Rattle.circ.specs.declared.lines.Exit.{Exit}
 use Rattle.circ.specs.declared.lines.Exit.TheVariants.{Done, Refused, Faulted, NotUnderstood}
 use Rattle.circ.specs.Lines.{fault_line}
@@ -55,7 +56,7 @@ abbrev pub end_line : CopyEnd → List ℕ
 end_line Whole = []
 end_line (Bad n) = codes "row " ++ decimal n ++ codes " bad" ++ 10 ∷ []
 end_line Read = codes "fault reading" ++ 10 ∷ []
-end_line Memory = fault_line fault.Memory
+end_line Memory = fault_line (fault_number fault.Memory)
 
 -- The reply is a refusal.
 abbrev pub is_refusal : Reply → Bool
@@ -127,7 +128,7 @@ pub record ImportsSome {S : Type 0} (rows : List CopyRow)
   pub replies : List Reply
   pub fault : Fault
   pub few : length replies < length rows
-  pub lines : WentOut (import_lines replies (fault_line fault))
+  pub lines : WentOut (import_lines replies (fault_line (fault_number fault)))
   pub exit_is : exit ≡ Faulted
   pub sound : IsClean g new → fault ≡ Stored → (H : History) → Shows (state g old) H → ⊥
   pub replied : IsClean g new → (H : History) → Shows (state g old) H
@@ -185,6 +186,8 @@ pub record ImportsRows {S E : Type 0} (rows : List CopyRow) (end : CopyEnd)
     (g : Ghosts S) (old new : Held S) (before after : Option (List ℕ))
     (result : Result Exit E) : Type 0 where
   pub clean : IsClean g new → IsClean g old
+  -- what the tables show, they show with its headline
+  pub headline : (H : History) → Shows (state g new) H → ShowsHeadline g new H
   -- what is to be told went out
   pub written : IfOk result (ImportsOf rows end g old new (Appends before after))
   -- where a write failed, a beginning of it went out, and no later row was handled

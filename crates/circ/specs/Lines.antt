@@ -1,9 +1,8 @@
 -- The lines that the programs write, each with its newline.
 use Rattle.std.specs.Prelude.{◌≡◌, ℕ, List, [], ◌∷◌, ◌++◌, Option, Result, IfOk, codes, decimal}
 use Rattle.terms.specs.Writing.{Writes}
-use Rattle.terms.specs.declared.fault.Fault.{Fault}
 use Rattle.terms.specs.declared.reply.Reply.{Reply}
-use Rattle.terms.specs.Texts.{reply_text, fault_number}
+use Rattle.terms.specs.Texts.{reply_text}
 use Rattle.circ_audit.specs.declared.auditing.Finding.{Finding}
 use Rattle.circ_audit.specs.declared.auditing.Finding.TheVariants.{Claims, Binding, Balance}
 use Rattle.circ.specs.declared.lines.Exit.{Exit}
@@ -13,8 +12,8 @@ abbrev pub reply_line : Reply → List ℕ
 reply_line reply = reply_text reply ++ 10 ∷ []
 
 -- A fault is told by its number.
-abbrev pub fault_line : Fault → List ℕ
-fault_line fault = codes "fault " ++ decimal (fault_number fault) ++ 10 ∷ []
+abbrev pub fault_line : ℕ → List ℕ
+fault_line number = codes "fault " ++ decimal number ++ 10 ∷ []
 
 -- That the words are no command.
 abbrev pub not_understood_line : List ℕ

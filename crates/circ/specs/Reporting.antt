@@ -4,6 +4,7 @@ use Rattle.std.specs.Io.KnownBytes.{Appends}
 use Rattle.store.specs.Stops.{LeavesPicture}
 use Rattle.terms.specs.Writing.{AppendsFront}
 use Rattle.store.specs.Library.{Ghosts, Held, state, IsClean, IsOpen}
+use Rattle.terms.specs.Texts.{fault_number}
 use Rattle.terms.specs.declared.fault.Fault.{Fault}
 use Rattle.terms.specs.declared.fault.Fault.TheVariants.{Stored}
 use Rattle.terms.specs.declared.refusal.Refusal.TheVariants.{UnknownBranch}
@@ -14,6 +15,7 @@ use Rattle.desk.specs.Answering.{Shows, Stays}
 use Rattle.desk.specs.Parts.{IsFront}
 use Rattle.desk.specs.Reports.{report_text, IsThere, IsUnknown}
 use Rattle.desk.specs.declared.reports.Report.{Report}
+use Rattle.desk.specs.Running.{ShowsHeadline}
 use Rattle.circ.specs.declared.lines.Exit.{Exit}
 use Rattle.circ.specs.declared.lines.Exit.TheVariants.{Done, Refused, Faulted}
 use Rattle.circ.specs.Lines.{reply_line, fault_line}
@@ -45,7 +47,7 @@ pub record TellsFault {S : Type 0} (report : Report)
       → IsFront sent (report_text H report)
   pub fault : Fault
   pub exit_is : exit ≡ Faulted
-  pub line : WentOut (sent ++ fault_line fault)
+  pub line : WentOut (sent ++ fault_line (fault_number fault))
   pub sound : IsClean g new → fault ≡ Stored → (H : History) → Shows (state g old) H → ⊥
   pub undone : IsClean g new → IsOpen g new → Stays (state g old) (state g new)
 
@@ -61,6 +63,8 @@ pub record TellsAnyReport {S E : Type 0} (report : Report)
     (g : Ghosts S) (old new : Held S) (before after : Option (List ℕ))
     (result : Result Exit E) : Type 0 where
   pub clean : IsClean g new → IsClean g old
+  -- what the tables show, they show with its headline
+  pub headline : (H : History) → Shows (state g new) H → ShowsHeadline g new H
   -- what is to be told went out
   pub written : IfOk result (TellsOf report g old new (Appends before after))
   -- a stop leaves what was there

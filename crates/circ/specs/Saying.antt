@@ -2,17 +2,19 @@
 -- show.
 use Rattle.std.specs.Prelude.{◌≡◌, ◌⊎◌, ℕ, List, Option, Result, Err, IfOk, OnErr}
 use Rattle.std.specs.Io.KnownBytes.{Appends}
-use Rattle.store.specs.Library.{Ghosts, Held, state, IsClean, IsOpen}
+use Rattle.store.specs.Library.{Ghosts, Held, State, state, IsClean, IsOpen}
 use Rattle.terms.specs.Writing.{AppendsFront}
 use Rattle.terms.specs.declared.command.Caller.TheVariants.{Desk}
 use Rattle.terms.specs.declared.command.Command.{Command}
 use Rattle.terms.specs.declared.command.Request.{Request}
+use Rattle.terms.specs.Texts.{fault_number}
 use Rattle.terms.specs.declared.fault.Fault.{Fault}
 use Rattle.terms.specs.declared.fault.Fault.TheVariants.{Stored}
 use Rattle.terms.specs.declared.reply.Reply.{Reply}
 use Rattle.model.specs.History.{History}
 use Rattle.model.specs.Requests.{reply_to, after_one}
 use Rattle.desk.specs.Answering.{Shows, Stays, LeavesOneOf}
+use Rattle.desk.specs.Running.{ShowsHeadline}
 use Rattle.front.specs.Understood.{IsUnderstoodAs}
 use Rattle.terms.specs.declared.words.WordFault.{WordFault}
 use Rattle.terms.specs.declared.words.WordFault.TheVariants.{NotUnderstood as NoCommand}
@@ -25,33 +27,41 @@ use Rattle.circ.specs.Lines.{reply_line, fault_line, not_understood_line}
 abbrev pub desk_request : List ℕ → Command → Request
 desk_request key command = record { caller = Desk; key = key; command = command }
 
--- The line is the text of a reply. Where the tables showed a list of accepted requests, it is the
--- reply that this list gives to the command of the words, and the tables show the list after that
--- request.
+-- The line is the text of a reply to the one command that the words are. Where the tables showed a list of
+-- accepted requests, it is the reply that this list gives to that command, and the tables show the list
+-- after that request.
 pub record SaysReply {S : Type 0} (key : List ℕ) (words : List (List ℕ))
     (g : Ghosts S) (old new : Held S) (line : List ℕ) (exit : Exit) : Type 0 where
   pub command : Command
   pub reply : Reply
   pub understood : IsUnderstoodAs words command
+  pub only : (other : Command) → IsUnderstoodAs words other → other ≡ command
   pub line_is : line ≡ reply_line reply
   pub exit_is : exit ≡ exit_of reply
   pub replied : IsClean g new → (H : History) → Shows (state g old) H
       → (reply ≡ reply_to H (desk_request key command))
       × Shows (state g new) (after_one H (desk_request key command))
 
--- The line is a fault, which is not 93 where the tables showed a list of accepted requests. They show what they showed, as long as the database is open; whatever
--- may leave of them when the program is stopped is that, or what they would show after the request
--- of the words.
+-- Whatever may be left when the program is stopped shows this list; or that, or the list after the request
+-- that the words are, if they are a command.
+abbrev pub LeavesRequest : List ℕ → List (List ℕ) → State → History → Type 0
+LeavesRequest key words s H =
+    LeavesOneOf s H H
+    ⊎ ((command : Command) × IsUnderstoodAs words command
+    × LeavesOneOf s H (after_one H (desk_request key command)))
+
+-- The line is a fault, which is not 93 where the tables showed a list of accepted requests. They show what
+-- they showed, as long as the database is open; whatever may leave of them when the program is stopped is
+-- that, or what they would show after the request of the words.
 pub record SaysFault {S : Type 0} (key : List ℕ) (words : List (List ℕ))
     (g : Ghosts S) (old new : Held S) (line : List ℕ) (exit : Exit) : Type 0 where
   pub fault : Fault
-  pub line_is : line ≡ fault_line fault
+  pub line_is : line ≡ fault_line (fault_number fault)
   pub exit_is : exit ≡ Faulted
   pub sound : IsClean g new → fault ≡ Stored → (H : History) → Shows (state g old) H → ⊥
   pub undone : IsClean g new → IsOpen g new → Stays (state g old) (state g new)
-  pub left : IsClean g new → (command : Command) → IsUnderstoodAs words command → (H : History)
-      → Shows (state g old) H
-      → LeavesOneOf (state g new) H (after_one H (desk_request key command))
+  pub left : IsClean g new → (H : History) → Shows (state g old) H
+      → LeavesRequest key words (state g new) H
 
 -- The words are no command, and nothing is touched.
 pub record SaysNotUnderstood {S : Type 0} (words : List (List ℕ)) (old new : Held S) (line : List ℕ)
@@ -83,6 +93,8 @@ pub record SaysLine {S E : Type 0} (key : List ℕ) (words : List (List ℕ))
     (g : Ghosts S) (old new : Held S) (before after : Option (List ℕ))
     (result : Result Exit E) : Type 0 where
   pub clean : IsClean g new → IsClean g old
+  -- what the tables show, they show with its headline
+  pub headline : (H : History) → Shows (state g new) H → ShowsHeadline g new H
   -- the line went out
   pub written : IfOk result
       (λ exit. (line : List ℕ) × Says key words g old new line exit × Appends before after line)

@@ -1,9 +1,16 @@
 -- What serving the web comes to: what the tables show after it, and the lines that tell it.
-use Rattle.std.specs.Prelude.{◌≡◌, ◌⊎◌, ℕ, Bool, true, false, if◌then◌else◌, List, [], ◌++◌, Option, Some, None, Result}
-use Rattle.store.specs.Library.{Ghosts, Held}
-use Rattle.terms.specs.declared.command.Request.{Request}
-use Rattle.terms.specs.declared.fault.Fault.{Fault}
-use Rattle.hall.specs.Handling.{HandledFirst}
+use Rattle.std.specs.Prelude.{◌≡◌, ◌⊎◌, ◌≤◌, ℕ, Bool, true, false, if◌then◌else◌, List, [], ◌++◌, length, All, Option, Some, None, Result}
+use Rattle.store.specs.Library.{Ghosts, Held, state}
+use Rattle.model.specs.History.{History}
+use Rattle.desk.specs.Answering.{Shows}
+use Rattle.board.specs.declared.entry.Seen.{Seen}
+use Rattle.terms.specs.Texts.{service_fault_number}
+use Rattle.terms.specs.declared.fault.ServiceFault.{ServiceFault}
+use Rattle.hall.specs.declared.messages.Message.{Message}
+use Rattle.hall.specs.Queue.{handled, unhandled, submissions, requests}
+use Rattle.hall.specs.Openings.{ToldBy}
+use Rattle.hall.specs.Handling.{HandledFirst, AreShown}
+use Rattle.hall.specs.Serving.{Working, TookPart, GivesReplies}
 use Rattle.hall.specs.declared.hall.Why.{Why}
 use Rattle.hall.specs.declared.hall.Why.TheVariants.{Refused, Faulted}
 use Rattle.circ.specs.declared.lines.Exit.{Exit}
@@ -11,27 +18,49 @@ use Rattle.circ.specs.declared.lines.Exit.TheVariants.{Done, NotUnderstood}
 use Rattle.circ.specs.declared.lines.Exit.TheVariants as exit
 use Rattle.circ.specs.Lines.{EndsWith, fault_line, port_line, threads_line, not_understood_line}
 
--- Some requests were handled, one after another, up to the fault where there was one. What the
--- callers asked for is some list: a socket doesn't tell its bytes.
-pub record HandlesSome {S : Type 0} (g : Ghosts S) (old new : Held S) (fault : Option Fault)
-    : Type 0 where
-  pub first : List Request
-  pub rest : List Request
-  pub handled : HandledFirst first rest g old new fault
+-- ---- what the workers did
+
+-- At least so many workers have left that took part in a hall: it received `got`, handled the first n
+-- submissions of it, and showed this.
+pub record TookParts (n : ℕ) (got : List Message) (shown : Seen) (parts : ℕ) : Type 0 where
+  pub workers : List Working
+  pub each : All (TookPart n got shown) workers
+  pub many : parts ≤ length workers
+
+-- So many workers submitted what they were asked for, and the desk handled it, up to the fault where there
+-- was one. What they were asked for, and so what they submitted, nobody says: a socket doesn't tell its
+-- bytes.
+pub record ServesWorkers {S : Type 0} (lists : History → Type 0) (workers : ℕ) (are_whole : Bool) (g : Ghosts S)
+    (old new : Held S) (fault : Option ServiceFault) : Type 0 where
+  -- what the desk received, how many submissions it handled, and what was shown
+  pub got : List Message
+  pub n : ℕ
+  pub shown : Seen
+  -- the desk stands where the handled ones have brought it
+  pub desk : HandledFirst (requests (handled n got)) (requests (unhandled n got)) g old new fault
+  -- without a fault that is all that was received, and what was shown are just these, in order
+  pub all : fault ≡ None → (n ≡ length (submissions got)) × AreShown shown.entries (handled n got)
+  -- what was shown is what these lists of accepted requests make it, and so is what a worker answers that
+  -- has seen a beginning of it
+  pub told : ToldBy lists g new shown
+  pub replies : GivesReplies lists g new shown
+  -- each worker has seen no more, and of each the handled ones are a beginning of what it submitted; where
+  -- it is told that a worker had no thread, fewer may be meant
+  pub parts : are_whole ≡ true → TookParts n got shown workers
 
 -- ---- what is told at the end
 
 -- The line of the fault, if there was one.
-abbrev pub fault_text : Option Fault → List ℕ
+abbrev pub fault_text : Option ServiceFault → List ℕ
 fault_text None = []
-fault_text (Some fault) = fault_line fault
+fault_text (Some fault) = fault_line (service_fault_number fault)
 
 -- That a thread could not be made, and then the fault that closed the hall.
-abbrev pub end_text : Bool → Option Fault → List ℕ
+abbrev pub end_text : Bool → Option ServiceFault → List ℕ
 end_text are_whole fault = (if are_whole then [] else threads_line) ++ fault_text fault
 
 -- It is done where nothing is told.
-abbrev pub exit_after : Bool → Option Fault → Exit
+abbrev pub exit_after : Bool → Option ServiceFault → Exit
 exit_after true None = Done
 exit_after true (Some fault) = exit.Faulted
 exit_after false fault = exit.Faulted
@@ -39,7 +68,7 @@ exit_after false fault = exit.Faulted
 -- Why a hall isn't opened: the fault, or that the words aren't understood.
 abbrev pub why_line : Why → List ℕ
 why_line (Refused refusal) = not_understood_line
-why_line (Faulted fault) = fault_line fault
+why_line (Faulted fault) = fault_line (service_fault_number fault)
 
 abbrev pub exit_of_why : Why → Exit
 exit_of_why (Refused refusal) = NotUnderstood
@@ -49,26 +78,29 @@ exit_of_why (Faulted fault) = exit.Faulted
 
 -- A line told the port, and at the end what went wrong is told, if anything did. `before` and `after`
 -- are the bytes that the writer showed and shows.
-pub record TellsPort {E : Type 0} (port : ℕ) (fault : Option Fault)
-    (before after : Option (List ℕ)) (result : Result Exit E) : Type 0 where
-  -- whether each worker had a thread
-  pub are_whole : Bool
-  pub ends : EndsWith (exit_after are_whole fault) (port_line port ++ end_text are_whole fault) before after result
+abbrev pub TellsPort : {E : Type 0} → ℕ → Bool → Option ServiceFault → Option (List ℕ) → Option (List ℕ) → Result Exit E → Type 0
+TellsPort port are_whole fault = EndsWith (exit_after are_whole fault) (port_line port ++ end_text are_whole fault)
 
 -- The web was served by the workers of a hall, in threads of their own.
-pub record ServesHall {S E : Type 0} (port : ℕ) (g : Ghosts S) (old new : Held S)
+pub record ServesHall {S E : Type 0} (lists : History → Type 0) (port workers : ℕ) (g : Ghosts S) (old new : Held S)
     (before after : Option (List ℕ)) (result : Result Exit E) : Type 0 where
-  pub fault : Option Fault
-  pub serves : HandlesSome g old new fault
-  pub told : TellsPort port fault before after result
+  pub fault : Option ServiceFault
+  -- whether each worker had a thread
+  pub are_whole : Bool
+  pub serves : ServesWorkers lists workers are_whole g old new fault
+  pub told : TellsPort port are_whole fault before after result
 
--- The same, or the hall could not be opened: the fault is told alone; or there can't be so many
--- workers, and nothing was touched.
-pub record ServesPort {S E : Type 0} (port : ℕ) (g : Ghosts S) (old new : Held S)
-    (before after : Option (List ℕ)) (result : Result Exit E) : Type 0 where
-  pub fault : Option Fault
-  pub serves : HandlesSome g old new fault
-  pub told :
-      TellsPort port fault before after result
-      ⊎ (((met : Fault) × (fault ≡ Some met) × EndsWith exit.Faulted (fault_line met) before after result)
-      ⊎ ((new ≡ old) × EndsWith NotUnderstood not_understood_line before after result))
+-- The hall could not be opened: nothing was handled, and the fault is told alone.
+pub record IsNotServed {S E : Type 0} (g : Ghosts S) (old new : Held S) (before after : Option (List ℕ))
+    (result : Result Exit E) : Type 0 where
+  pub fault : ServiceFault
+  pub desk : HandledFirst [] [] g old new (Some fault)
+  pub told : EndsWith exit.Faulted (fault_line (service_fault_number fault)) before after result
+
+-- The web was served, and what was answered is what each list of accepted requests gives that the tables
+-- showed; or the hall could not be opened; or there can't be so many workers, and nothing was touched.
+abbrev pub ServesPort : {S E : Type 0} → ℕ → ℕ → Ghosts S → Held S → Held S → Option (List ℕ) → Option (List ℕ) → Result Exit E → Type 0
+ServesPort port workers g old new before after result =
+    ServesHall (Shows (state g old)) port workers g old new before after result
+    ⊎ (IsNotServed g old new before after result
+    ⊎ ((new ≡ old) × EndsWith NotUnderstood not_understood_line before after result))

@@ -7,6 +7,7 @@ ghost use Rattle.desk.specs.Answering.{Handled};
 ghost use Rattle.circ.specs.Importing.{request_of, row_line, end_line, end_exit, counts_line};
 ghost use Rattle.circ.specs.Importing.{import_lines, with_row, ImportsRow, ImportsRows, Imports};
 ghost use Rattle.terms.specs.Writing.{Writes};
+ghost use Rattle.terms.specs.Texts.{fault_number};
 ghost use Rattle.circ.specs.Lines.{fault_line, EndsWith};
 
 use crate::lines::{Exit, WriteFault, tell_fault};
@@ -137,7 +138,8 @@ fn tell_end<W: Write>(writer: &mut W, end: CopyEnd, counts: Counts) -> Result<Ex
 
 /// Tells a fault, and how many rows were accepted and refused before it. It takes no memory.
 fn tell_stop<W: Write>(writer: &mut W, fault: Fault, counts: Counts) -> Result<Exit, WriteFault>
-    ensures { EndsWith Exit.Faulted (fault_line fault ++ counts_line counts.accepted counts.refused)
+    ensures { EndsWith Exit.Faulted
+        (fault_line (fault_number fault) ++ counts_line counts.accepted counts.refused)
         (W.contents writer.old) (W.contents writer.new) result }
 {
     tell_fault(writer, fault)?;

@@ -1,6 +1,7 @@
 //! The lines that the programs write, and the statuses that they end with.
 
 ghost use Rattle.std.specs.Prelude.{◌≡◌};
+ghost use Rattle.terms.specs.Texts.{fault_number, service_fault_number};
 ghost use Rattle.terms.specs.declared.fault.Fault.TheVariants.{Memory};
 ghost use Rattle.circ.specs.Exits.{status_of, exit_of};
 ghost use Rattle.circ.specs.Lines.{reply_line, fault_line, not_understood_line};
@@ -13,7 +14,7 @@ use circ_audit::Finding;
 use itoa::Buffer;
 use std::io::Write;
 pub use terms::WriteFault;
-use terms::{Fault, Reply, write_bytes, write_pieces};
+use terms::{Fault, Reply, ServiceFault, write_bytes, write_pieces};
 
 /// How a program ends.
 #[derive(Clone, Copy, Debug, PartialEq, Eq)]
@@ -51,25 +52,40 @@ pub fn not_understood<W: Write>(writer: &mut W) -> Result<Exit, WriteFault>
     Ok(Exit::NotUnderstood)
 }
 
-/// Tells a fault by its number. It takes no memory.
-pub fn tell_fault<W: Write>(writer: &mut W, fault: Fault) -> Result<Exit, WriteFault>
+/// Tells the fault of this number. It takes no memory.
+fn tell_number<W: Write>(writer: &mut W, fault: u32) -> Result<Exit, WriteFault>
     ensures { EndsWith Exit.Faulted (fault_line fault)
         (W.contents writer.old) (W.contents writer.new) result }
 {
     write_pieces(
         writer,
-        &[
-            b"fault ",
-            Buffer::new().format(fault.number()).as_bytes(),
-            b"\n",
-        ],
+        &[b"fault ", Buffer::new().format(fault).as_bytes(), b"\n"],
     )?;
     Ok(Exit::Faulted)
 }
 
+/// Tells a fault by its number. It takes no memory.
+pub fn tell_fault<W: Write>(writer: &mut W, fault: Fault) -> Result<Exit, WriteFault>
+    ensures { EndsWith Exit.Faulted (fault_line (fault_number fault))
+        (W.contents writer.old) (W.contents writer.new) result }
+{
+    tell_number(writer, fault.number())
+}
+
+/// Tells a fault of a hall by its number. It takes no memory.
+pub(crate) fn tell_service_fault<W: Write>(
+    writer: &mut W,
+    fault: ServiceFault,
+) -> Result<Exit, WriteFault>
+    ensures { EndsWith Exit.Faulted (fault_line (service_fault_number fault))
+        (W.contents writer.old) (W.contents writer.new) result }
+{
+    tell_number(writer, fault.number())
+}
+
 /// Says that no memory was left: fault 90. It takes none.
 pub fn out_of_memory<W: Write>(writer: &mut W) -> Result<Exit, WriteFault>
-    ensures { EndsWith Exit.Faulted (fault_line Memory)
+    ensures { EndsWith Exit.Faulted (fault_line (fault_number Memory))
         (W.contents writer.old) (W.contents writer.new) result }
 {
     tell_fault(writer, Fault::Memory)

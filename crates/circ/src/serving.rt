@@ -1,20 +1,20 @@
 //! The web: the workers of a hall, each in a thread of its own.
 
-ghost use Rattle.std.specs.Prelude.{◌≡◌};
+ghost use Rattle.std.specs.Prelude.{◌≡◌, length};
 ghost use Rattle.terms.specs.Writing.{Writes};
 ghost use Rattle.store.specs.Library.{state};
 ghost use Rattle.model.specs.History.{History};
 ghost use Rattle.desk.specs.Answering.{Shows};
 ghost use Rattle.hall.specs.Openings.{OpensWith};
 ghost use Rattle.circ.specs.Lines.{EndsWith, port_line, threads_line};
-ghost use Rattle.circ.specs.Serving.{HandlesSome, ServesHall, ServesPort};
+ghost use Rattle.circ.specs.Serving.{TookParts, ServesWorkers, ServesHall, ServesPort};
 ghost use Rattle.circ.specs.Serving.{end_text, exit_after, why_line, exit_of_why};
 
 use crate::lines::{
-    Exit, WriteFault, not_understood, out_of_memory, tell_fault, tell_port, tell_threads,
+    Exit, WriteFault, not_understood, out_of_memory, tell_port, tell_service_fault, tell_threads,
 };
 use desk::Desk;
-use hall::{DeskSide, Hall, HallFault, Opened, Opening, Why, Worker};
+use hall::{DeskSide, Ended, Hall, HallFault, Left, Opened, Opening, Why, Worker};
 use hall_schedule::WORKERS;
 use sqlite::Alter;
 use std::alloc::Global;
@@ -25,7 +25,7 @@ use std::sync::{Arc, Mutex, Wait};
 use std::thread;
 use std::thread::{JoinHandle, Threads};
 use std::time::Duration;
-use terms::{CardKey, Fault, Memory};
+use terms::{CardKey, Memory, ServiceFault};
 
 /// How long a connection may keep a read or a write waiting, in seconds; then it is broken.
 const LONGEST_WAIT: u64 = 30;
@@ -88,24 +88,33 @@ impl<J: Opening> Shared<J> {
     }
 
     /// A worker serves so many connections, and leaves.
-    fn work<R: Wait>(&self, rt: &R, alloc: Global, each: u32) {
-        let Some(mut worker) = self.next(rt) else {
-            return;
-        };
+    fn work<R: Wait>(&self, rt: &R, alloc: Global, each: u32) -> Option<Left<J>> {
+        let mut worker = self.next(rt)?;
         for _ in 0..each {
             self.serve_next(rt, alloc, &mut worker);
         }
-        drop(worker.leave(rt));
+        Some(worker.leave(rt))
     }
 }
 
-/// What all threads share before there are workers, and room for the threads.
+/// The thread of a worker, which gives its end.
+type Working<J> = JoinHandle<Option<Left<J>>>;
+
+/// The workers of a hall: threads, and the ends of those that have none.
+#[derive(Drop)]
+struct Crew<J: Opening> {
+    threads: Vec<Working<J>>,
+    left: Vec<Left<J>>,
+}
+
+/// What all threads share before there are workers, and room for these.
 fn share<J: Opening>(
     alloc: Global,
     listener: TcpListener,
     desk_key: CardKey,
-) -> Result<(Arc<Shared<J>, Global>, Vec<JoinHandle<()>>), Memory> {
+) -> Result<(Arc<Shared<J>, Global>, Crew<J>), Memory> {
     let threads = Vec::with_capacity(alloc, WORKERS as usize)?;
+    let left = Vec::with_capacity(alloc, WORKERS as usize)?;
     let waiting = Mutex::new(Vec::new(alloc));
     let shared = Arc::new(
         alloc,
@@ -115,7 +124,7 @@ fn share<J: Opening>(
             desk_key,
         },
     )?;
-    Ok((shared, threads))
+    Ok((shared, Crew { threads, left }))
 }
 
 /// A thread for a worker that has not begun, if it can be made.
@@ -124,7 +133,7 @@ fn start<J: Opening + Send + Sync + 'static, R: Threads + Wait + Copy + Send + '
     alloc: Global,
     shared: &Arc<Shared<J>, Global>,
     each: u32,
-) -> Option<JoinHandle<()>> {
+) -> Option<Working<J>> {
     let theirs = Arc::try_clone(shared).ok()?;
     thread::spawn(&rt, move || theirs.work(&rt, alloc, each)).ok()
 }
@@ -137,16 +146,18 @@ fn start_all<J: Opening + Send + Sync + 'static, R: Threads + Wait + Copy + Send
     shared: &Arc<Shared<J>, Global>,
     count: usize,
     each: u32,
-    threads: &mut Vec<JoinHandle<()>>,
+    crew: &mut Crew<J>,
 ) -> bool {
     let mut are_whole = true;
     for _ in 0..count {
         match start(rt, alloc, shared, each) {
             Some(handle) => {
-                let _ = threads.push(handle);
+                let _ = crew.threads.push(handle);
             }
             None => {
-                shared.work(&rt, alloc, 0);
+                if let Some(left) = shared.work(&rt, alloc, 0) {
+                    let _ = crew.left.push(left);
+                }
                 are_whole = false;
             }
         }
@@ -154,19 +165,46 @@ fn start_all<J: Opening + Send + Sync + 'static, R: Threads + Wait + Copy + Send
     are_whole
 }
 
-/// Waits until the threads have ended.
-fn join_all<R: Threads>(rt: &R, threads: Vec<JoinHandle<()>>) {
-    for handle in threads {
-        handle.join(rt);
+/// Takes in the end of a worker, and counts it where it took part in the hall.
+fn take_in<J: Opening>(ended: &mut Ended<J>, left: Left<J>, parts: u64) -> u64
+    ensures same { (ended.new.handled ≡ ended.old.handled)
+        × (ended.new.heard.got ≡ ended.old.heard.got) × (ended.new.board ≡ ended.old.board) }
+    ensures parts { TookParts ended.old.handled ended.old.heard.got ended.old.board.shown parts
+        → TookParts ended.old.handled ended.old.heard.got ended.old.board.shown result }
+{
+    if ended.take_in(left) {
+        parts.saturating_add(1)
+    } else {
+        parts
     }
+}
+
+/// Waits until the threads have ended, and takes in the ends of all workers. Tells how many took part
+/// in the hall.
+fn take_in_all<J: Opening, R: Threads>(rt: &R, ended: &mut Ended<J>, crew: Crew<J>) -> u64
+    ensures same { (ended.new.handled ≡ ended.old.handled)
+        × (ended.new.heard.got ≡ ended.old.heard.got) × (ended.new.board ≡ ended.old.board) }
+    ensures parts { TookParts ended.old.handled ended.old.heard.got ended.old.board.shown result }
+{
+    let Crew { threads, left } = crew;
+    let mut parts = 0;
+    'left: for left in left {
+        parts = take_in(ended, left, parts);
+    }
+    'threads: for handle in threads {
+        if let Some(left) = handle.join(rt) {
+            parts = take_in(ended, left, parts);
+        }
+    }
+    parts
 }
 
 /// What came of a hall.
 struct Met<S: Alter> {
     desk: Desk<S>,
     /// The fault that closed it.
-    fault: Option<Fault>,
-    /// Whether each worker had a thread.
+    fault: Option<ServiceFault>,
+    /// Whether each worker had a thread, and took part to the end.
     are_whole: bool,
 }
 
@@ -178,19 +216,21 @@ fn run<J: Opening + Send + Sync + 'static, S: Alter, R: Threads + Wait + Copy + 
     side: DeskSide<J, S>,
     workers: Vec<Worker<J>>,
     shared: &Arc<Shared<J>, Global>,
-    threads: Vec<JoinHandle<()>>,
+    crew: Crew<J>,
     each: u32,
 ) -> Met<S>
     requires { OpensWith J.shows S.Store side.desk side.publisher.shown }
-    ensures { HandlesSome S.Store side.desk result.desk result.fault }
+    ensures { ServesWorkers J.shows (length workers.items) result.are_whole
+        S.Store side.desk result.desk result.fault }
 {
-    let mut threads = threads;
+    let mut crew = crew;
     let count = workers.len();
     shared.put(&rt, workers);
-    let are_whole = start_all(rt, alloc, shared, count, each, &mut threads);
-    let (desk, ended, fault) = side.desk_loop(&rt, alloc);
+    let have_threads = start_all(rt, alloc, shared, count, each, &mut crew);
+    let (desk, mut ended, fault) = side.desk_loop(&rt, alloc);
+    let parts = take_in_all(&rt, &mut ended, crew);
     ended.close(&rt);
-    join_all(&rt, threads);
+    let are_whole = have_threads && parts >= count as u64;
     Met {
         desk,
         fault,
@@ -202,18 +242,18 @@ fn run<J: Opening + Send + Sync + 'static, S: Alter, R: Threads + Wait + Copy + 
 fn tell_end<W: Write>(
     writer: &mut W,
     are_whole: bool,
-    fault: Option<Fault>,
+    fault: Option<ServiceFault>,
 ) -> Result<Exit, WriteFault>
     ensures { EndsWith (exit_after are_whole fault) (end_text are_whole fault)
         (W.contents writer.old) (W.contents writer.new) result }
 {
     match (are_whole, fault) {
         (true, None) => Ok(Exit::Done),
-        (true, Some(fault)) => tell_fault(writer, fault),
+        (true, Some(fault)) => tell_service_fault(writer, fault),
         (false, None) => tell_threads(writer),
         (false, Some(fault)) => {
             tell_threads(writer)?;
-            tell_fault(writer, fault)
+            tell_service_fault(writer, fault)
         }
     }
 }
@@ -231,13 +271,13 @@ fn serve_hall<
     side: DeskSide<J, S>,
     workers: Vec<Worker<J>>,
     shared: &Arc<Shared<J>, Global>,
-    threads: Vec<JoinHandle<()>>,
+    crew: Crew<J>,
     port: u16,
     each: u32,
     writer: &mut W,
 ) -> (Desk<S>, Result<Exit, WriteFault>)
     requires { OpensWith J.shows S.Store side.desk side.publisher.shown }
-    ensures { ServesHall port S.Store side.desk result.0
+    ensures { ServesHall J.shows port (length workers.items) S.Store side.desk result.0
         (W.contents writer.old) (W.contents writer.new) result.1 }
 {
     match tell_port(writer, port) {
@@ -246,7 +286,7 @@ fn serve_hall<
                 desk,
                 fault,
                 are_whole,
-            } = run(rt, alloc, side, workers, shared, threads, each);
+            } = run(rt, alloc, side, workers, shared, crew, each);
             (desk, tell_end(writer, are_whole, fault))
         }
         Err(fault) => {
@@ -254,7 +294,7 @@ fn serve_hall<
                 desk,
                 fault: _,
                 are_whole: _,
-            } = run(rt, alloc, side, workers, shared, threads, 0);
+            } = run(rt, alloc, side, workers, shared, crew, 0);
             (desk, Err(fault))
         }
     }
@@ -267,7 +307,7 @@ fn tell_why<W: Write>(writer: &mut W, why: Why) -> Result<Exit, WriteFault>
 {
     match why {
         Why::Refused(_) => not_understood(writer),
-        Why::Faulted(fault) => tell_fault(writer, fault),
+        Why::Faulted(fault) => tell_service_fault(writer, fault),
     }
 }
 
@@ -289,21 +329,19 @@ fn open_and_serve<
     desk_key: CardKey,
     writer: &mut W,
 ) -> (Desk<S>, Result<Exit, WriteFault>)
-    requires name { opened ≡ J.name }
+    requires name { (opened.queue ≡ J.name) × (opened.blank ≡ J.book) }
     requires shows { (H : History) → J.shows H → Shows (state S.Store desk) H }
     requires every { (H : History) → Shows (state S.Store desk) H → J.shows H }
-    ensures { ServesPort port S.Store desk result.0
+    ensures { ServesPort port workers S.Store desk result.0
         (W.contents writer.old) (W.contents writer.new) result.1 }
 {
-    let (shared, threads) = match share::<J>(alloc, listener, desk_key) {
+    let (shared, crew) = match share::<J>(alloc, listener, desk_key) {
         Ok(all) => all,
         Err(_) => return (desk, out_of_memory(writer)),
     };
     match Hall::new::<J, S, R>(&rt, alloc, opened, desk, workers) {
         Ok((side, workers)) => {
-            serve_hall(
-                rt, alloc, side, workers, &shared, threads, port, each, writer,
-            )
+            serve_hall(rt, alloc, side, workers, &shared, crew, port, each, writer)
         }
         Err(HallFault { why, desk }) => (desk, tell_why(writer, why)),
     }
@@ -313,9 +351,11 @@ fn open_and_serve<
 /// open, has each worker serve so many connections, and hands the desk back. A connection that can't
 /// be had counts as one.
 ///
-/// At the end a line tells that a thread could not be made, whose worker left at once, and the last
-/// one the fault that closed the hall. Where the hall can't be opened that fault stands alone; for
-/// another number of workers the line is that of words that aren't understood.
+/// At the end a line tells that a thread could not be made, whose worker left at once, or that the end
+/// of a worker could not be taken in, and the last one the fault that closed the hall. What was handled
+/// is what the workers submitted, and what they answered is what each list of accepted requests gives
+/// that the tables showed. Where the hall can't be opened that fault stands alone; for another number
+/// of workers the line is that of words that aren't understood.
 pub fn serve<S: Alter, W: Write, R: Threads + Wait + Copy + Send + 'static>(
     rt: R,
     alloc: Global,
@@ -327,7 +367,7 @@ pub fn serve<S: Alter, W: Write, R: Threads + Wait + Copy + Send + 'static>(
     desk_key: CardKey,
     writer: &mut W,
 ) -> (Desk<S>, Result<Exit, WriteFault>)
-    ensures { ServesPort port S.Store desk result.0
+    ensures { ServesPort port workers S.Store desk result.0
         (W.contents writer.old) (W.contents writer.new) result.1 }
 {
     match Opened::new(alloc) {

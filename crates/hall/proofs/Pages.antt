@@ -18,8 +18,9 @@ use Rattle.desk.specs.Answering.{Learns, Shows}
 use Rattle.desk.specs.Showing.{own_page, AreEnrolled}
 use Rattle.desk.specs.declared.showing.OwnPage.{OwnPage}
 use Rattle.desk.proofs.Looking.{◌⨾◌, gives, fails}
-use Rattle.board.specs.Rule.{Publishing}
-use Rattle.board.specs.Showing.{Showing, blank, page_at, overlaid, first_seen, IsTold}
+use Rattle.logbook.specs.Pages.{Book}
+use Rattle.board.specs.Rule.{Publishing, opening}
+use Rattle.board.specs.Showing.{Showing, page_at, overlaid, first_seen, IsTold}
 use Rattle.board.proofs.Telling.{told-first}
 use Rattle.hall.specs.Handling.{PutsPages}
 use Rattle.hall.specs.Openings.{AreFirstPages, LooksOnly, MeetsFaultOf, OpensBoard, OpensWith}
@@ -156,13 +157,13 @@ pub first-all : {S : Type 0} (g : Ghosts S) (a b : Held S) (xs : List ℕ) (i : 
 first-all g a b xs i now long first = gives first (λ _ _ _. tt) (λ H legal _ met. subst (λ (l : List ℕ). AreFirstPages l H now) (take_all i xs long) met)
 
 -- the board that shows them
-pub opens-board : {S : Type 0} (g : Ghosts S) (a b : Held S) (first : List (ℕ × OwnPage)) (p : Publishing) → p.shown ≡ first_seen first → p.pages ≡ [] → p.board ≡ record blank { pages = first }
+pub opens-board : {S : Type 0} (g : Ghosts S) (a b : Held S) (book : Book) (first : List (ℕ × OwnPage)) (p : Publishing) → p.shown ≡ first_seen first → p.pages ≡ [] → p.board ≡ opening book first
     → Learns (λ H pages. (q : ℕ) → page_at pages q ≡ own_page H q) g a b (Ok first) → OpensBoard g a b p
-opens-board g a b first p shown none is learnt =
+opens-board g a b book first p shown none is learnt =
     let same : p.board.pages ≡ first = ap (λ (x : Showing). x.pages) is in
     record {
       none = (shown ∙ ap first_seen (sym same), none);
-      alone = is ∙ ap (λ (l : List (ℕ × OwnPage)). record blank { pages = l }) (sym same);
+      alone = is ∙ ap (λ (x : Showing). opening x.frames.book x.pages) (sym is);
       pages = subst (λ (l : List (ℕ × OwnPage)). Learns (λ H pages. (q : ℕ) → page_at pages q ≡ own_page H q) g a b (Ok l)) (sym same) learnt;
     }
 

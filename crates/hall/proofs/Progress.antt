@@ -6,20 +6,22 @@ use Rattle.std.specs.Prelude.{Result, Ok, Err, IfSome, ◌^◌}
 use Rattle.store.specs.Library.{Ghosts, Held, State, state, IsClean, IsOpen}
 use Rattle.terms.specs.declared.command.Request.{Request}
 use Rattle.terms.specs.declared.fault.Fault.{Fault}
-use Rattle.terms.specs.declared.fault.Fault.TheVariants.{Closed, Memory, Stored}
+use Rattle.terms.specs.declared.fault.ServiceFault.{ServiceFault}
+use Rattle.terms.specs.declared.fault.Fault.TheVariants.{Memory, Stored}
+use Rattle.terms.specs.declared.fault.ServiceFault.TheVariants.{Met, Closed}
 use Rattle.terms.specs.declared.reply.Reply.{Reply}
 use Rattle.model.specs.History.{History}
 use Rattle.model.specs.Requests.{after, after_one}
 use Rattle.desk.specs.Answering.{Shows, Stays, Looks, LeavesOneOf}
 use Rattle.desk.specs.Running.{Handles, ShowsHeadline}
 use Rattle.desk.proofs.Looking.{leaves-first}
-use Rattle.desk.proofs.Shown.{headline}
+use Rattle.desk.proofs.Shown.{shows-headline}
 use Rattle.model.specs.Picture.{picture}
 use Rattle.hall.specs.declared.messages.Submission.{Submission}
 use Rattle.hall.specs.declared.messages.Message.{Message}
 use Rattle.hall.specs.declared.messages.Message.TheVariants.{Submit}
 use Rattle.hall.specs.Queue.{submissions, handled, unhandled, requests}
-use Rattle.hall.specs.Openings.{LooksOnly, MeetsFaultOf}
+use Rattle.hall.specs.Openings.{LooksOnly, MeetsFaultOf, IsMet}
 use Rattle.hall.specs.Handling.{HandledFirst, TakesNext}
 use Rattle.hall.proofs.HandledLists.{submit_same, submit_more, rest_more, no_rest}
 
@@ -27,22 +29,22 @@ pub after-last : (xs : List Request) (H : History) (r : Request) → after H (xs
 after-last [] H r = refl
 after-last (x ∷ xs) H r = after-last xs (after_one H x) r
 
-pub none-some : (o : Option Fault) (f : Fault) → o ≡ None → o ≡ Some f → ⊥
+pub none-some : (o : Option ServiceFault) (f : ServiceFault) → o ≡ None → o ≡ Some f → ⊥
 none-some o f n s = cc
 
-some-is : (e f : Fault) → Some e ≡ Some f → e ≡ f
-some-is e f h = cc
+met-is : (e f : Fault) → ◌≡◌ {A = Option ServiceFault} (Some (Met e)) (Some (Met f)) → e ≡ f
+met-is e f h = cc
+
+own-is-none : (f : Fault) → ◌≡◌ {A = Option ServiceFault} (Some Closed) (Some (Met f)) → ⊥
+own-is-none f h = cc
 
 module _ {S : Type 0} (g : Ghosts S) where
-  shows-headline : (held : Held S) (H : History) → Shows (state g held) H → ShowsHeadline g held H
-  shows-headline held H shows = (picture H, shows.tables.now, headline H shows.legal shows.forms)
-
   -- nothing was handled
   pub none-handled : (held : Held S) (rest : List Request) → HandledFirst [] rest g held held None
   none-handled held rest = record {
     clean = λ disk. disk;
     shown = λ disk e H shows. shows;
-    headline = λ disk e H shows. shows-headline held H shows;
+    headline = λ disk e H shows. shows-headline (state g held) H shows;
     sound = λ disk e. let never : ⊥ = cc in absurd never;
     undone = λ disk is_open H shows. shows;
     left = λ disk. tt;
@@ -53,12 +55,12 @@ module _ {S : Type 0} (g : Ghosts S) where
   stays-any a b (Ok x) looks disk is_open = looks.stays disk
   stays-any a b (Err e) looks disk is_open = looks.undone disk is_open
 
-  if-some : (o : Option Fault) (P Q : Type 0) → (P → Q) → IfSome o (λ _. P) → IfSome o (λ _. Q)
+  if-some : (o : Option ServiceFault) (P Q : Type 0) → (P → Q) → IfSome o (λ _. P) → IfSome o (λ _. Q)
   if-some None P Q f h = tt
   if-some (Some x) P Q f h = f h
 
   -- some were handled after a look at the tables
-  pub handled-after-look : (first rest : List Request) (a b c : Held S) (fault : Option Fault) → LooksOnly g a b (Ok tt) → HandledFirst first rest g b c fault → HandledFirst first rest g a c fault
+  pub handled-after-look : (first rest : List Request) (a b c : Held S) (fault : Option ServiceFault) → LooksOnly g a b (Ok tt) → HandledFirst first rest g b c fault → HandledFirst first rest g a c fault
   handled-after-look first rest a b c fault l h = record {
     clean = λ disk. l.looks.clean (h.clean disk);
     shown = λ disk e H shows. h.shown disk e H (l.looks.stays (h.clean disk) H shows);
@@ -68,15 +70,15 @@ module _ {S : Type 0} (g : Ghosts S) where
     left = λ disk. if-some fault _ _ (λ f H shows. f H (l.looks.stays (h.clean disk) H shows)) (h.left disk);
   }
 
-  -- a look met a fault, or one came after it
-  pub unopened : (a b : Held S) (fault : Fault) → MeetsFaultOf g a b fault ⊎ (LooksOnly g a b (Ok tt) × (fault ≡ Closed)) → HandledFirst [] [] g a b (Some fault)
-  unopened a b fault (inl met) =
+  -- a look met a fault, or no memory was left after it
+  after-look : (a b : Held S) (fault : Fault) → MeetsFaultOf g a b fault → HandledFirst [] [] g a b (Some (Met fault))
+  after-look a b fault met =
       let looks = met.looks.looks in
       record {
         clean = looks.clean;
         shown = λ disk e. let never : ⊥ = cc in absurd never;
         headline = λ disk e. let never : ⊥ = cc in absurd never;
-        sound = λ disk e H shows. stored disk (some-is fault Stored e) H shows met.cause;
+        sound = λ disk e H shows. stored disk (met-is fault Stored e) H shows met.cause;
         undone = λ disk is_open. stays-any a b met.looked looks disk is_open;
         left = λ disk H shows. leaves-first (state g b) (picture H) (picture H) (looks.left disk H shows);
       }
@@ -84,13 +86,17 @@ module _ {S : Type 0} (g : Ghosts S) where
       stored : IsClean g b → fault ≡ Stored → (H : History) → Shows (state g a) H → (met.looked ≡ Err fault) ⊎ (fault ≡ Memory) → ⊥
       stored disk is H shows (inl same) = met.looks.sound disk (same ∙ ap Err is) H shows tt
       stored disk is H shows (inr want) = let never : Memory ≡ Stored = sym want ∙ is in absurd (cc)
+
+  -- and then the hall isn't opened; nor where the board has no place for a reader
+  pub unopened : (a b : Held S) (fault : ServiceFault) → IsMet (MeetsFaultOf g a b) fault ⊎ (LooksOnly g a b (Ok tt) × (fault ≡ Closed)) → HandledFirst [] [] g a b (Some fault)
+  unopened a b fault (inl found) = subst (λ (f : ServiceFault). HandledFirst [] [] g a b (Some f)) (sym found.1) (after-look a b found.0 found.2)
   unopened a b fault (inr met) =
       let looks = met.0.looks in
       record {
         clean = looks.clean;
         shown = λ disk e. let never : ⊥ = cc in absurd never;
         headline = λ disk e. let never : ⊥ = cc in absurd never;
-        sound = λ disk e. let never : Closed ≡ Stored = sym met.1 ∙ some-is fault Stored e in absurd (cc);
+        sound = λ disk e. absurd (own-is-none Stored (ap Some (sym met.1) ∙ e));
         undone = λ disk is_open. looks.stays disk;
         left = λ disk H shows. leaves-first (state g b) (picture H) (picture H) (looks.left disk H shows);
       }
@@ -107,21 +113,21 @@ module _ {S : Type 0} (g : Ghosts S) where
         record {
           clean = λ disk. h.clean (d.handled.clean (l.looks.clean disk));
           shown = λ disk e. now disk;
-          headline = λ disk e H shows. shows-headline c (after H (first ++ request ∷ [])) (now disk H shows);
+          headline = λ disk e H shows. shows-headline (state g c) (after H (first ++ request ∷ [])) (now disk H shows);
           sound = λ disk e. let never : ⊥ = cc in absurd never;
           undone = λ disk is_open. now disk;
           left = λ disk. tt;
         }
 
     -- one more was handled, but the board can't show it
-    handled-unshown : (rest' : List Request) (c : Held S) (fault : Fault) → MeetsFaultOf g m c fault → HandledFirst (first ++ request ∷ []) rest' g a c (Some fault)
+    handled-unshown : (rest' : List Request) (c : Held S) (fault : Fault) → MeetsFaultOf g m c fault → HandledFirst (first ++ request ∷ []) rest' g a c (Some (Met fault))
     handled-unshown rest' c fault l =
         let looks = l.looks.looks in
         record {
           clean = λ disk. h.clean (d.handled.clean (looks.clean disk));
           shown = λ disk e. let never : ⊥ = cc in absurd never;
           headline = λ disk e. let never : ⊥ = cc in absurd never;
-          sound = λ disk e H shows. stored disk (some-is fault Stored e) H (made-shows (looks.clean disk) H shows) l.cause;
+          sound = λ disk e H shows. stored disk (met-is fault Stored e) H (made-shows (looks.clean disk) H shows) l.cause;
           undone = λ disk is_open H shows. stays-any m c l.looked looks disk is_open (after H (first ++ request ∷ [])) (made-shows (looks.clean disk) H shows);
           left = λ disk H shows. leaves-first (state g c) (picture (after H (first ++ request ∷ []))) (picture (after H ((first ++ request ∷ []) ++ take 1 rest')))
               (looks.left disk (after H (first ++ request ∷ [])) (made-shows (looks.clean disk) H shows));
@@ -133,13 +139,13 @@ module _ {S : Type 0} (g : Ghosts S) where
 
   -- a fault came
   fault-met : (first rest : List Request) (request : Request) (a b c : Held S) (fault : Fault) → rest ≡ [] → HandledFirst first rest g a b None → Handles request g b c (Err fault)
-      → HandledFirst first (rest ++ request ∷ []) g a c (Some fault)
+      → HandledFirst first (rest ++ request ∷ []) g a c (Some (Met fault))
   fault-met first rest request a b c fault none h d = record {
     clean = λ disk. h.clean (d.handled.clean disk);
     shown = λ disk e. let never : ⊥ = cc in absurd never;
     headline = λ disk e. let never : ⊥ = cc in absurd never;
     sound = λ disk e H shows.
-        let is : fault ≡ Stored = some-is fault Stored e in
+        let is : fault ≡ Stored = met-is fault Stored e in
         d.handled.sound disk (ap Err is) (after H first) (h.shown (d.handled.clean disk) refl H shows);
     undone = λ disk is_open H shows. d.handled.undone disk is_open (after H first) (h.shown (d.handled.clean disk) refl H shows);
     left = λ disk H shows. subst (LeavesOneOf (state g c) (after H first)) (sym (ap (λ (l : List Request). after H (first ++ take 1 (l ++ request ∷ []))) none ∙ after-last first H request))
@@ -169,7 +175,7 @@ module _ {S : Type 0} (g : Ghosts S) where
   }
 
   -- it was closed before
-  closed-on : (first rest : List Request) (request : Request) (a b : Held S) (fault : Fault) → HandledFirst first rest g a b (Some fault) → HandledFirst first (rest ++ request ∷ []) g a b (Some fault)
+  closed-on : (first rest : List Request) (request : Request) (a b : Held S) (fault : ServiceFault) → HandledFirst first rest g a b (Some fault) → HandledFirst first (rest ++ request ∷ []) g a b (Some fault)
   closed-on first rest request a b fault h = record {
     clean = h.clean;
     shown = h.shown;
@@ -179,14 +185,14 @@ module _ {S : Type 0} (g : Ghosts S) where
     left = λ disk H shows. still-leaves (state g b) H first rest request (h.left disk H shows);
   }
 
-  passed-over : (n : ℕ) (first rest : List Request) (request : Request) (a b : Held S) (before : Option Fault) (fault : Fault) → (before ≡ None → rest ≡ [])
+  passed-over : (n : ℕ) (first rest : List Request) (request : Request) (a b : Held S) (before : Option ServiceFault) (fault : ServiceFault) → (before ≡ None → rest ≡ [])
       → (before ≡ Some fault) ⊎ ((before ≡ None) × (fault ≡ Closed) × (2 ^ 64 ≤ n + 1)) → HandledFirst first rest g a b before → HandledFirst first (rest ++ request ∷ []) g a b (Some fault)
   passed-over n first rest request a b before fault all (inl same) h = closed-on first rest request a b fault (subst (HandledFirst first rest g a b) same h)
   passed-over n first rest request a b before fault all (inr now) h =
-      subst (λ (f : Fault). HandledFirst first (rest ++ request ∷ []) g a b (Some f)) (sym now.1) (closed-now first rest request a b (all now.0) (subst (HandledFirst first rest g a b) now.0 h))
+      subst (λ (f : ServiceFault). HandledFirst first (rest ++ request ∷ []) g a b (Some f)) (sym now.1) (closed-now first rest request a b (all now.0) (subst (HandledFirst first rest g a b) now.0 h))
 
   -- one more submission was received
-  pub submission-kept : (a b c : Held S) (n m : ℕ) (before after' : Option Fault) (got got' : List Message) (s : Submission) → got' ≡ got ++ Submit s ∷ []
+  pub submission-kept : (a b c : Held S) (n m : ℕ) (before after' : Option ServiceFault) (got got' : List Message) (s : Submission) → got' ≡ got ++ Submit s ∷ []
       → TakesNext s.request g b c n m before after' → n ≤ length (submissions got) → (before ≡ None → n ≡ length (submissions got))
       → HandledFirst (requests (handled n got)) (requests (unhandled n got)) g a b before
       → (m ≤ length (submissions got')) × (after' ≡ None → m ≡ length (submissions got')) × HandledFirst (requests (handled m got')) (requests (unhandled m got')) g a c after'
@@ -202,16 +208,16 @@ module _ {S : Type 0} (g : Ghosts S) where
       let rest = requests (unhandled n got) in
       let rest' = requests (unhandled m got') in
       let k = submit_more n m got got' s e t.counted (all t.was) in
-      let done = handled-unshown first rest s.request a b t.made t.reply (subst (HandledFirst first rest g a b) t.was h) t.handles rest' c t.fault t.looks in
+      let done = handled-unshown first rest s.request a b t.made t.reply (subst (HandledFirst first rest g a b) t.was h) t.handles rest' c t.met t.looks in
       (omega (arith, k.0), (λ none. k.0), subst (λ (x : List Request). HandledFirst x rest' g a c after') (sym k.1) (subst (HandledFirst (first ++ s.request ∷ []) rest' g a c) (sym t.is) done))
   submission-kept a b c n m before after' got got' s e (inr (inr (inl t))) le all h =
       let first = requests (handled n got) in
       let rest = requests (unhandled n got) in
       let k = submit_same n m got got' s e t.counted le in
-      let met = fault-met first rest s.request a b c t.fault (no_rest n got (all t.was)) (subst (HandledFirst first rest g a b) t.was h) t.handles in
+      let met = fault-met first rest s.request a b c t.met (no_rest n got (all t.was)) (subst (HandledFirst first rest g a b) t.was h) t.handles in
       let here : HandledFirst first (rest ++ s.request ∷ []) g a c after' = subst (HandledFirst first (rest ++ s.request ∷ []) g a c) (sym t.is) met in
       let more : HandledFirst first (requests (unhandled m got')) g a c after' = subst (λ (x : List Request). HandledFirst first x g a c after') (sym (rest_more n m got got' s e t.counted le)) here in
-      (k.0, (λ none. absurd (none-some after' t.fault none t.is)), subst (λ (x : List Request). HandledFirst x (requests (unhandled m got')) g a c after') (sym k.1) more)
+      (k.0, (λ none. absurd (none-some after' (Met t.met) none t.is)), subst (λ (x : List Request). HandledFirst x (requests (unhandled m got')) g a c after') (sym k.1) more)
   submission-kept a b c n m before after' got got' s e (inr (inr (inr t))) le all h =
       let first = requests (handled n got) in
       let rest = requests (unhandled n got) in

@@ -6,7 +6,7 @@ use Rattle.terms.specs.declared.command.Caller.TheVariants.{Desk}
 use Rattle.terms.specs.declared.command.Command.{Command}
 use Rattle.terms.specs.declared.command.Command.TheVariants.{Page}
 use Rattle.terms.specs.declared.command.Request.{Request}
-use Rattle.terms.specs.declared.fault.Fault.{Fault}
+use Rattle.terms.specs.declared.fault.ServiceFault.{ServiceFault}
 use Rattle.terms.specs.declared.refusal.Refusal.TheVariants.{UnknownPatron, NotAllowed}
 use Rattle.terms.specs.declared.reply.Reply.{Reply}
 use Rattle.terms.specs.declared.reply.Reply.TheVariants.{Shown, Refused}
@@ -73,18 +73,18 @@ module _ (old : Working) where
     pub page-met : (card_key : List ℕ) → TellsPage patron (Some card_key) new.seen told → Meets (asked.Page patron card_key) old new (Some told)
     page-met card_key t = record { on = on; once = same; told = record { outcome = t.outcome; answer_is = t.answer_is; reply = by t.outcome t.reply; fault = t.fault } }
       where
-        by : (o : Result Reply Fault) → IfOk o (IsPageSeen patron (Some card_key) new.seen) → IfOk o (IsReplyTo (asked.Page patron card_key) old new)
+        by : (o : Result Reply ServiceFault) → IfOk o (IsPageSeen patron (Some card_key) new.seen) → IfOk o (IsReplyTo (asked.Page patron card_key) old new)
         by (Ok reply) h = (same, h)
         by (Err fault) h = tt
 
     pub desk-page-met : (request : Request) → page_asked request ≡ Some patron → TellsPage patron None new.seen told → Meets (asked.Request request) old new (Some told)
     desk-page-met request asks t = record { on = on; once = inl same; told = record { outcome = t.outcome; answer_is = t.answer_is; reply = by t.outcome t.reply; fault = faulted t.outcome t.fault } }
       where
-        faulted : (o : Result Reply Fault) → IfErr o IsPageFault → IfErr o (IsFaultTo (asked.Request request))
+        faulted : (o : Result Reply ServiceFault) → IfErr o IsPageFault → IfErr o (IsFaultTo (asked.Request request))
         faulted (Ok reply) h = tt
         faulted (Err fault) h = subst (λ (q : Option ℕ). IsFaultFor q fault) (sym asks) h
 
-        by : (o : Result Reply Fault) → IfOk o (IsPageSeen patron None new.seen) → IfOk o (IsReplyTo (asked.Request request) old new)
+        by : (o : Result Reply ServiceFault) → IfOk o (IsPageSeen patron None new.seen) → IfOk o (IsReplyTo (asked.Request request) old new)
         by (Ok reply) h = subst (λ (q : Option ℕ). IsReplyFor q request old new reply) (sym asks) (same, h)
         by (Err fault) h = tt
 

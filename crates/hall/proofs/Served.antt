@@ -5,6 +5,7 @@ use Rattle.std.specs.Io.KnownBytes.{Appends, Keeps}
 use Rattle.terms.specs.Writing.{Writes, AppendsFront}
 use Rattle.terms.specs.declared.command.Request.{Request as Requested}
 use Rattle.terms.specs.declared.fault.Fault.TheVariants.{Memory}
+use Rattle.terms.specs.declared.fault.ServiceFault.TheVariants.{Met}
 use Rattle.web.specs.Answers.{answer_bytes}
 use Rattle.web.specs.Asked.{asked_of}
 use Rattle.web.specs.Checks.{Reading, UnlessFaulted, ChecksHead}
@@ -46,7 +47,7 @@ module _ {E : Type 0} (desk_key : List ℕ) (bytes : Option (List ℕ)) (old new
   pub status-served : (status : WebStatus) → new ≡ old → answer ≡ Failed status → IfSome bytes (λ all. ChecksHead all (Err (Status status))) → Serves desk_key bytes old new before after r
   status-served status same is read = untouched same (inl (record { status = status; read = read; answer_is = is }))
 
-  pub want-served : new ≡ old → answer ≡ Faulted Memory → Serves desk_key bytes old new before after r
+  pub want-served : new ≡ old → answer ≡ Faulted (Met Memory) → Serves desk_key bytes old new before after r
   want-served same is = untouched same (inr (inl is))
 
   pub request-served : (web : WebRequest) (asked : Asked) (met : Option Answer) → asked ≡ asked_of desk_key web → IfSome bytes (λ all. ChecksHead all (Ok web)) → met ≡ Some answer → Meets asked old new met

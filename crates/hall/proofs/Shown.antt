@@ -4,7 +4,7 @@ use Rattle.std.proofs.lemmas.List.Sums.{sum_by-cons}
 use Rattle.std.proofs.lemmas.List.{map-append}
 use Rattle.std.specs.Prelude.{Result, Ok, Err, IsSome, IfSome, MatchResult}
 use Rattle.terms.specs.declared.command.Request.{Request}
-use Rattle.terms.specs.declared.fault.Fault.{Fault}
+use Rattle.terms.specs.declared.fault.ServiceFault.{ServiceFault}
 use Rattle.terms.specs.declared.reply.Reply.{Reply}
 use Rattle.store.specs.Library.{Ghosts, Held, state, IsClean}
 use Rattle.model.specs.History.{History}
@@ -59,7 +59,7 @@ due-number n got s shown next whole is =
     next.1 ∙ ap (λ k. k + 1) long
 
 -- the board after one more submission
-pub board-kept : {S : Type 0} (lists : History → Type 0) (g : Ghosts S) (c : Held S) (n m : ℕ) (before after' : Option Fault) (got got' : List Message) (s : Submission) (old new : Result Publishing Stopped) → got' ≡ got ++ Submit s ∷ []
+pub board-kept : {S : Type 0} (lists : History → Type 0) (g : Ghosts S) (c : Held S) (n m : ℕ) (before after' : Option ServiceFault) (got got' : List Message) (s : Submission) (old new : Result Publishing Stopped) → got' ≡ got ++ Submit s ∷ []
     → (before ≡ None → n ≡ length (submissions got)) → (after' ≡ None → m ≡ length (submissions got')) → BoardShows old (handled n got) before → ShowsNext lists g c old new s after' → BoardShows new (handled m got') after'
 board-kept lists g c n m before after' got got' s (Ok p) (Ok q) e all all' shows next =
     let more : submissions got' ≡ submissions got ++ s ∷ [] = ap submissions e ∙ submissions-append got (Submit s ∷ []) in
@@ -111,13 +111,13 @@ module _ {S : Type 0} (g : Ghosts S) (lists : History → Type 0) where
       (λ q. puts q (own_page K q) (no-page-before K s.request q) (λ out. sym (given.kept q out)) ∙ ap (λ (L : History). own_page L q) (sym list-is))
 
   -- the tables show each list with the requests, as far as the board shows them
-  pub shows-after : (old desk : Held S) (shown : List Entry) (all : List Submission) (rest : List Request) (fault : Option Fault) → (IsClean g old → (H : History) → lists H → Shows (state g old) H)
+  pub shows-after : (old desk : Held S) (shown : List Entry) (all : List Submission) (rest : List Request) (fault : Option ServiceFault) → (IsClean g old → (H : History) → lists H → Shows (state g old) H)
       → HandledFirst (requests all) rest g old desk fault → fault ≡ None → AreShown shown all → ShowsAfter lists g desk (entry_requests shown)
   shows-after old desk shown all rest fault tables h none is disk H first =
       subst (λ (l : List Request). Shows (state g desk) (after H l)) (sym (same-requests shown ∙ ap requests is)) (h.shown disk none H (tables (h.clean disk) H first))
 
   -- the next submission may be handled, where the hall isn't closed
-  pub may-be-next : (old desk : Held S) (n : ℕ) (got : List Message) (s : Submission) (fault : Option Fault) (board : Result Publishing Stopped) (rest : List Request)
+  pub may-be-next : (old desk : Held S) (n : ℕ) (got : List Message) (s : Submission) (fault : Option ServiceFault) (board : Result Publishing Stopped) (rest : List Request)
       → (IsClean g old → (H : History) → lists H → Shows (state g old) H) → IsNext got (Submit s) → (fault ≡ None → n ≡ length (submissions got)) → HandledFirst (requests (handled n got)) rest g old desk fault
       → BoardShows board (handled n got) fault → ToldBy lists g desk (shown_by board) → MayHandle lists g desk fault board s
   may-be-next old desk n got s fault (Ok p) rest tables next all h shows told = (
@@ -132,21 +132,21 @@ module _ {S : Type 0} (g : Ghosts S) (lists : History → Type 0) where
   may-be-next old desk n got s fault (Err w) rest tables next all h shows told = shows
 
   -- what is shown next, after a board that shows something
-  pub shows-next : (desk : Held S) (old : Publishing) (new : Result Publishing Stopped) (s : Submission) (fault : Option Fault)
+  pub shows-next : (desk : Held S) (old : Publishing) (new : Result Publishing Stopped) (s : Submission) (fault : Option ServiceFault)
       → MatchResult new (λ (p : Publishing). (fault ≡ None) × (p.pages ≡ []) × AreShown p.shown.entries (map submission_of old.shown.entries ++ s ∷ []) × ToldBy lists g desk p.shown)
       (λ (b : Stopped). IsSome fault × (b.shown ≡ old.shown)) → ShowsNext lists g desk (Ok old) new s fault
   shows-next desk old (Ok p) s fault h = h
   shows-next desk old (Err w) s fault h = h
 
   -- a disk that is clean after it was clean before
-  still-clean : (request : Request) (old new : Held S) (n m : ℕ) (before after' : Option Fault) → TakesNext request g old new n m before after' → IsClean g new → IsClean g old
+  still-clean : (request : Request) (old new : Held S) (n m : ℕ) (before after' : Option ServiceFault) → TakesNext request g old new n m before after' → IsClean g new → IsClean g old
   still-clean request old new n m before after' (inl t) disk = t.handles.handled.clean (t.looks.looks.clean disk)
   still-clean request old new n m before after' (inr (inl t)) disk = t.handles.handled.clean (t.looks.looks.looks.clean disk)
   still-clean request old new n m before after' (inr (inr (inl t))) disk = t.handles.handled.clean disk
   still-clean request old new n m before after' (inr (inr (inr t))) disk = subst (λ (x : Held S). IsClean g x) t.same disk
 
   -- what is shown after one submission more is what the lists make it
-  pub told-kept : (old new : Held S) (shown shows : Result Publishing Stopped) (s : Submission) (fault : Option Fault) → (IsClean g new → IsClean g old) → ToldBy lists g old (shown_by shown)
+  pub told-kept : (old new : Held S) (shown shows : Result Publishing Stopped) (s : Submission) (fault : Option ServiceFault) → (IsClean g new → IsClean g old) → ToldBy lists g old (shown_by shown)
       → ShowsNext lists g new shown shows s fault → ToldBy lists g new (shown_by shows)
   told-kept old new (Ok p) (Ok q) s fault clean told next = next.3
   told-kept old new (Err w) (Ok q) s fault clean told next = absurd next
@@ -157,13 +157,13 @@ module _ {S : Type 0} (g : Ghosts S) (lists : History → Type 0) where
 
 module _ {S : Type 0} (g : Ghosts S) where
   -- it may be taken
-  pub may-take : (lists : History → Type 0) (old desk : Held S) (n : ℕ) (fault : Option Fault) (got : List Message) (board : Result Publishing Stopped) (message : Message)
+  pub may-take : (lists : History → Type 0) (old desk : Held S) (n : ℕ) (fault : Option ServiceFault) (got : List Message) (board : Result Publishing Stopped) (message : Message)
       → (IsClean g old → (H : History) → lists H → Shows (state g old) H) → IsNext got message → Stands lists g old desk n fault got board → MayTake lists g desk fault board message
   may-take lists old desk n fault got board (Submit s) tables next h = may-be-next g lists old desk n got s fault board (requests (unhandled n got)) tables next h.all h.desk h.shown h.told
   may-take lists old desk n fault got board (Leave w) tables next h = tt
 
   -- how the desk stands once it is taken
-  pub message-kept : (lists : History → Type 0) (old b c : Held S) (n m : ℕ) (before after' : Option Fault) (got got' : List Message) (board board' : Result Publishing Stopped) (message : Message) → got' ≡ got ++ message ∷ []
+  pub message-kept : (lists : History → Type 0) (old b c : Held S) (n m : ℕ) (before after' : Option ServiceFault) (got got' : List Message) (board board' : Result Publishing Stopped) (message : Message) → got' ≡ got ++ message ∷ []
       → TakesMessage lists message g b c n m before after' board board' → Stands lists g old b n before got board → Stands lists g old c m after' got' board'
   message-kept lists old b c n m before after' got got' board board' (Submit s) e t h =
       let k = submission-kept g old b c n m before after' got got' s e t.0 h.counted h.all h.desk in
@@ -190,10 +190,10 @@ module _ {S : Type 0} (g : Ghosts S) where
       } in
       subst (λ (d : Held S). Stands lists g old d m after' got' board') (sym t.0)
       (subst (λ (j : ℕ). Stands lists g old b j after' got' board') (sym t.1)
-      (subst (λ (f : Option Fault). Stands lists g old b n f got' board') (sym t.2) (subst (λ (x : Result Publishing Stopped). Stands lists g old b n before got' x) (sym t.3) now)))
+      (subst (λ (f : Option ServiceFault). Stands lists g old b n f got' board') (sym t.2) (subst (λ (x : Result Publishing Stopped). Stands lists g old b n before got' x) (sym t.3) now)))
 
   -- what stands once each worker has left
-  pub finishes : (lists : History → Type 0) (workers n : ℕ) (got : List Message) (entries : List Entry) (old now : Held S) (fault : Option Fault) (board : Result Publishing Stopped) → ((k : ℕ) → k < workers → is_open (of (k + 1) got) ≡ false)
+  pub finishes : (lists : History → Type 0) (workers n : ℕ) (got : List Message) (entries : List Entry) (old now : Held S) (fault : Option ServiceFault) (board : Result Publishing Stopped) → ((k : ℕ) → k < workers → is_open (of (k + 1) got) ≡ false)
       → entries ≡ (shown_by board).entries → Stands lists g old now n fault got board → Finishes workers n got entries g old now fault
   finishes lists workers n got entries old now fault board gone same h = record {
     gone = gone;

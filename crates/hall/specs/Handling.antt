@@ -4,7 +4,9 @@ use Rattle.std.specs.List.{list_any}
 use Rattle.store.specs.Library.{Ghosts, Held, state, IsClean, IsOpen}
 use Rattle.terms.specs.declared.command.Request.{Request}
 use Rattle.terms.specs.declared.fault.Fault.{Fault}
-use Rattle.terms.specs.declared.fault.Fault.TheVariants.{Closed, Stored}
+use Rattle.terms.specs.declared.fault.ServiceFault.{ServiceFault}
+use Rattle.terms.specs.declared.fault.Fault.TheVariants.{Stored}
+use Rattle.terms.specs.declared.fault.ServiceFault.TheVariants.{Met, Closed}
 use Rattle.terms.specs.declared.reply.Reply.{Reply}
 use Rattle.model.specs.History.{History}
 use Rattle.model.specs.Requests.{after, after_one, reply_to}
@@ -26,7 +28,7 @@ use Rattle.hall.specs.Queue.{of, is_open, submissions, handled, unhandled, reque
 -- did; `rest` are those that came and weren't handled. As in the records of the desk, the promises are
 -- for a disk that gives back what was written to it; over memory it does, and the database is open.
 pub record HandledFirst {S : Type 0} (first rest : List Request)
-    (g : Ghosts S) (old new : Held S) (fault : Option Fault) : Type 0 where
+    (g : Ghosts S) (old new : Held S) (fault : Option ServiceFault) : Type 0 where
   pub clean : IsClean g new → IsClean g old
   -- the tables show the list of accepted requests after them
   pub shown : IsClean g new → fault ≡ None → (H : History) → Shows (state g old) H
@@ -35,7 +37,7 @@ pub record HandledFirst {S : Type 0} (first rest : List Request)
   pub headline : IsClean g new → fault ≡ None → (H : History) → Shows (state g old) H
       → ShowsHeadline g new (after H first)
   -- fault 93 doesn't come where the tables show a list of accepted requests
-  pub sound : IsClean g new → fault ≡ Some Stored → (H : History) → Shows (state g old) H → ⊥
+  pub sound : IsClean g new → fault ≡ Some (Met Stored) → (H : History) → Shows (state g old) H → ⊥
   -- after a fault the tables show that list too, as long as the database is open
   pub undone : IsClean g new → IsOpen g new → (H : History) → Shows (state g old) H
       → Shows (state g new) (after H first)
@@ -47,7 +49,7 @@ pub record HandledFirst {S : Type 0} (first rest : List Request)
 
 -- It was handled, and then pages were looked up to be shown.
 pub record IsHandled {S : Type 0} (request : Request)
-    (g : Ghosts S) (old new : Held S) (n m : ℕ) (before after : Option Fault) : Type 0 where
+    (g : Ghosts S) (old new : Held S) (n m : ℕ) (before after : Option ServiceFault) : Type 0 where
   pub was : before ≡ None
   pub is : after ≡ None
   pub counted : m ≡ n + 1
@@ -59,30 +61,30 @@ pub record IsHandled {S : Type 0} (request : Request)
 -- It was handled, but the board can't show it, which closes the hall: for want of memory, or because
 -- a page could not be looked up.
 pub record IsUnshown {S : Type 0} (request : Request)
-    (g : Ghosts S) (old new : Held S) (n m : ℕ) (before after : Option Fault) : Type 0 where
+    (g : Ghosts S) (old new : Held S) (n m : ℕ) (before after : Option ServiceFault) : Type 0 where
   pub was : before ≡ None
-  pub fault : Fault
-  pub is : after ≡ Some fault
+  pub met : Fault
+  pub is : after ≡ Some (Met met)
   pub counted : m ≡ n + 1
   pub reply : Reply
   pub made : Held S
   pub handles : Handles request g old made (Ok reply)
-  pub looks : MeetsFaultOf g made new fault
+  pub looks : MeetsFaultOf g made new met
 
 -- It met a fault, which closes the hall.
 pub record MeetsFault {S : Type 0} (request : Request)
-    (g : Ghosts S) (old new : Held S) (n m : ℕ) (before after : Option Fault) : Type 0 where
+    (g : Ghosts S) (old new : Held S) (n m : ℕ) (before after : Option ServiceFault) : Type 0 where
   pub was : before ≡ None
-  pub fault : Fault
-  pub is : after ≡ Some fault
+  pub met : Fault
+  pub is : after ≡ Some (Met met)
   pub counted : m ≡ n
-  pub handles : Handles request g old new (Err fault)
+  pub handles : Handles request g old new (Err met)
 
 -- The hall was closed before, or closes because it can count no further: nothing was asked of the
 -- desk.
 pub record IsPassedOver {S : Type 0}
-    (old new : Held S) (n m : ℕ) (before after : Option Fault) : Type 0 where
-  pub fault : Fault
+    (old new : Held S) (n m : ℕ) (before after : Option ServiceFault) : Type 0 where
+  pub fault : ServiceFault
   pub was : (before ≡ Some fault) ⊎ ((before ≡ None) × (fault ≡ Closed) × (2 ^ 64 ≤ n + 1))
   pub is : after ≡ Some fault
   pub counted : m ≡ n
@@ -91,7 +93,7 @@ pub record IsPassedOver {S : Type 0}
 -- One more submission was received. `n` and `m` are how many were handled before and after it, and
 -- `before` and `after` the fault that had closed the hall.
 abbrev pub TakesNext : {S : Type 0} → Request → Ghosts S → Held S → Held S → ℕ → ℕ
-    → Option Fault → Option Fault → Type 0
+    → Option ServiceFault → Option ServiceFault → Type 0
 TakesNext request g old new n m before after =
     IsHandled request g old new n m before after
     ⊎ (IsUnshown request g old new n m before after
@@ -117,7 +119,7 @@ shown_by (Err b) = b.shown
 -- `got` is what was received and `n` how many submissions were handled, from the desk `old` on; the
 -- board shows these entries, for good.
 module _ {S : Type 0} (n : ℕ) (got : List Message) (g : Ghosts S) (old new : Held S)
-    (entries : List Entry) (fault : Fault) where
+    (entries : List Entry) (fault : ServiceFault) where
   -- The desk gave this fault for the first of the requests that weren't handled.
   pub record IsDesksFault : Type 0 where
     -- the desk after the handled ones
@@ -126,7 +128,9 @@ module _ {S : Type 0} (n : ℕ) (got : List Message) (g : Ghosts S) (old new : H
     pub next : Request
     pub later : List Request
     pub rest_is : requests (unhandled n got) ≡ next ∷ later
-    pub handles : Handles next g before new (Err fault)
+    pub met : Fault
+    pub is : fault ≡ Met met
+    pub handles : Handles next g before new (Err met)
     pub shown : AreShown entries (handled n got)
 
   -- The board couldn't show the last submission that was handled.
@@ -134,7 +138,9 @@ module _ {S : Type 0} (n : ℕ) (got : List Message) (g : Ghosts S) (old new : H
     -- the desk after the handled ones
     pub made : Held S
     pub reached : HandledFirst (requests (handled n got)) [] g old made None
-    pub looks : MeetsFaultOf g made new fault
+    pub met : Fault
+    pub is : fault ≡ Met met
+    pub looks : MeetsFaultOf g made new met
     pub last : Submission
     pub shown : handled n got ≡ map submission_of entries ++ last ∷ []
 
@@ -195,7 +201,7 @@ pub record MayBeNext {S : Type 0} (lists : History → Type 0) (g : Ghosts S) (d
 -- has closed the hall, and it shows what it showed, for good.
 module _ {S : Type 0} (lists : History → Type 0) (g : Ghosts S) (desk : Held S) where
   abbrev pub ShowsNext : Result Publishing Stopped → Result Publishing Stopped → Submission
-      → Option Fault → Type 0
+      → Option ServiceFault → Type 0
   ShowsNext (Ok old) (Ok new) s fault =
       (fault ≡ None) × (new.pages ≡ [])
       × AreShown new.shown.entries (map submission_of old.shown.entries ++ s ∷ [])
@@ -205,7 +211,7 @@ module _ {S : Type 0} (lists : History → Type 0) (g : Ghosts S) (desk : Held S
   ShowsNext (Err old) (Err new) s fault = IsSome fault × (new.shown ≡ old.shown)
 
 module _ {S : Type 0} (lists : History → Type 0) (g : Ghosts S) (desk : Held S)
-    (fault : Option Fault) where
+    (fault : Option ServiceFault) where
   -- The submission may be handled next, unless a fault has closed the hall.
   abbrev pub MayHandle : Result Publishing Stopped → Submission → Type 0
   MayHandle (Ok p) s = (fault ≡ None) × MayBeNext lists g desk p s
@@ -219,7 +225,7 @@ module _ {S : Type 0} (lists : History → Type 0) (g : Ghosts S) (desk : Held S
 -- One more message was taken: a submission as above, and where the board may still be written it
 -- shows it; the Leave of a worker changes nothing.
 abbrev pub TakesMessage : {S : Type 0} → (History → Type 0) → Message → Ghosts S → Held S → Held S
-    → ℕ → ℕ → Option Fault → Option Fault
+    → ℕ → ℕ → Option ServiceFault → Option ServiceFault
     → Result Publishing Stopped → Result Publishing Stopped → Type 0
 TakesMessage lists (Submit s) g old new n m before after shown shows =
     TakesNext s.request g old new n m before after × ShowsNext lists g new shown shows s after
@@ -227,14 +233,14 @@ TakesMessage lists (Leave worker) g old new n m before after shown shows =
     (new ≡ old) × (m ≡ n) × (after ≡ before) × (shows ≡ shown)
 
 -- The board shows these submissions, or a fault has closed the hall.
-abbrev pub BoardShows : Result Publishing Stopped → List Submission → Option Fault → Type 0
+abbrev pub BoardShows : Result Publishing Stopped → List Submission → Option ServiceFault → Type 0
 BoardShows (Ok p) handled fault = (fault ≡ None) × (p.pages ≡ []) × AreShown p.shown.entries handled
 BoardShows (Err b) handled fault = IsSome fault
 
 -- How the desk of an open hall stands, after these messages: what it handled, what closed it, and
 -- what the board shows.
 pub record Stands {S : Type 0} (lists : History → Type 0) (g : Ghosts S) (old new : Held S) (n : ℕ)
-    (fault : Option Fault) (got : List Message) (board : Result Publishing Stopped) : Type 0 where
+    (fault : Option ServiceFault) (got : List Message) (board : Result Publishing Stopped) : Type 0 where
   -- the handled ones are among those received
   pub counted : n ≤ length (submissions got)
   -- where the hall was not closed, every submission was handled
@@ -254,7 +260,7 @@ pub record Stands {S : Type 0} (lists : History → Type 0) (g : Ghosts S) (old 
 -- many submissions it handled; the board shows these entries. The hall was closed exactly where there
 -- is a fault.
 pub record Finishes {S : Type 0} (workers n : ℕ) (got : List Message) (entries : List Entry)
-    (g : Ghosts S) (old new : Held S) (fault : Option Fault) : Type 0 where
+    (g : Ghosts S) (old new : Held S) (fault : Option ServiceFault) : Type 0 where
   -- the Leave of each worker was received
   pub gone : (k : ℕ) → k < workers → is_open (of (k + 1) got) ≡ false
   -- the handled ones are among those received

@@ -5,13 +5,15 @@ use Rattle.store.specs.Library.{Ghosts, Held, state, IsClean}
 use Rattle.desk.specs.Answering.{Learns, Shows}
 use Rattle.desk.specs.Showing.{own_page}
 use Rattle.desk.specs.declared.showing.OwnPage.{OwnPage}
-use Rattle.board.specs.Rule.{Publishing}
+use Rattle.board.specs.Rule.{Publishing, opening}
 use Rattle.board.specs.declared.entry.Seen.{Seen}
-use Rattle.board.specs.Showing.{blank, page_at, first_seen, IsTold}
+use Rattle.board.specs.Showing.{page_at, first_seen, IsTold}
 use Rattle.model.specs.History.{History}
 use Rattle.terms.specs.declared.fault.Fault.{Fault}
-use Rattle.terms.specs.Texts.{fault_number, refusal_number}
-use Rattle.terms.specs.declared.fault.Fault.TheVariants.{Memory, Closed}
+use Rattle.terms.specs.declared.fault.ServiceFault.{ServiceFault}
+use Rattle.terms.specs.Texts.{service_fault_number, refusal_number}
+use Rattle.terms.specs.declared.fault.Fault.TheVariants.{Memory}
+use Rattle.terms.specs.declared.fault.ServiceFault.TheVariants.{Met, Closed}
 use Rattle.terms.specs.declared.refusal.Refusal.TheVariants.{OutOfLimits}
 use Rattle.hall_schedule.specs.declared.schedule.TheConstants.{WORKERS}
 use Rattle.hall.specs.declared.hall.Why.{Why}
@@ -24,11 +26,15 @@ abbrev pub LooksOnly : {S : Type 0} → Ghosts S → Held S → Held S → Resul
 LooksOnly = Learns (λ _ _. Unit {0})
 
 -- The desk only looked at its tables, and then came this fault: that of a look, or 90 because no
--- memory was left.
+-- memory was left. None of these is 92.
 pub record MeetsFaultOf {S : Type 0} (g : Ghosts S) (old new : Held S) (fault : Fault) : Type 0 where
   pub looked : Result (Unit {0}) Fault
   pub looks : LooksOnly g old new looked
   pub cause : (looked ≡ Err fault) ⊎ (fault ≡ Memory)
+
+-- A fault was met, and so is none of the hall's own; this is said of it.
+abbrev pub IsMet : (Fault → Type 0) → ServiceFault → Type 0
+IsMet Is fault = (met : Fault) × (fault ≡ Met met) × Is met
 
 -- Of these patrons the pages are those that the list of accepted requests makes; there are no others.
 abbrev pub AreFirstPages : List ℕ → History → List (ℕ × OwnPage) → Type 0
@@ -41,7 +47,7 @@ AreFirstPages patrons H pages = (p : ℕ) → page_at pages p ≡ (if list_any (
 pub record OpensBoard {S : Type 0} (g : Ghosts S) (old new : Held S) (p : Publishing) : Type 0 where
   -- no entry is shown, and no page waits for one
   pub none : (p.shown ≡ first_seen p.board.pages) × (p.pages ≡ [])
-  pub alone : p.board ≡ record blank { pages = p.board.pages }
+  pub alone : p.board ≡ opening p.board.frames.book p.board.pages
   pub pages : Learns (λ H first. (patron : ℕ) → page_at first patron ≡ own_page H patron)
       g old new (Ok p.board.pages)
 
@@ -70,17 +76,17 @@ pub record IsUnopened {S : Type 0} (workers : ℕ) (g : Ghosts S) (old new : Hel
   -- there are none, or too many
   pub refused : can_be_workers workers ≡ false → (why ≡ Refused OutOfLimits) × (new ≡ old)
   -- a page couldn't be looked up, or no memory was left; or the board has no place for a reader
-  pub faulted : can_be_workers workers ≡ true → (fault : Fault) × (why ≡ Faulted fault)
-      × (MeetsFaultOf g old new fault ⊎ (LooksOnly g old new (Ok tt) × (fault ≡ Closed)))
+  pub faulted : can_be_workers workers ≡ true → (fault : ServiceFault) × (why ≡ Faulted fault)
+      × (IsMet (MeetsFaultOf g old new) fault ⊎ (LooksOnly g old new (Ok tt) × (fault ≡ Closed)))
 
 -- Why a hall of so many workers isn't opened over a new library.
 pub record IsUnmade (workers : ℕ) (why : Why) : Type 0 where
   -- there are none, or too many
   pub refused : can_be_workers workers ≡ false → why ≡ Refused OutOfLimits
   -- the library couldn't be made, or the hall not be opened
-  pub faulted : can_be_workers workers ≡ true → (fault : Fault) × (why ≡ Faulted fault)
+  pub faulted : can_be_workers workers ≡ true → (fault : ServiceFault) × (why ≡ Faulted fault)
 
 -- The number that stands for it.
 abbrev pub why_number : Why → ℕ
 why_number (Refused refusal) = refusal_number refusal
-why_number (Faulted fault) = fault_number fault
+why_number (Faulted fault) = service_fault_number fault

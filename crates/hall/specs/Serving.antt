@@ -8,8 +8,9 @@ use Rattle.terms.specs.declared.command.Caller.TheVariants.{Desk}
 use Rattle.terms.specs.declared.command.Command.{Command}
 use Rattle.terms.specs.declared.command.Command.TheVariants.{Page as AsksPage}
 use Rattle.terms.specs.declared.command.Request.{Request as Requested}
-use Rattle.terms.specs.declared.fault.Fault.{Fault}
-use Rattle.terms.specs.declared.fault.Fault.TheVariants.{Memory, Closed}
+use Rattle.terms.specs.declared.fault.Fault.TheVariants.{Memory}
+use Rattle.terms.specs.declared.fault.ServiceFault.{ServiceFault}
+use Rattle.terms.specs.declared.fault.ServiceFault.TheVariants.{Met, Closed}
 use Rattle.terms.specs.declared.refusal.Refusal.TheVariants.{NotAllowed, UnknownPatron}
 use Rattle.terms.specs.declared.reply.Reply.{Reply}
 use Rattle.terms.specs.declared.reply.Reply.TheVariants.{Refused}
@@ -29,9 +30,10 @@ use Rattle.web.specs.declared.fault.WebStatus.{WebStatus}
 use Rattle.web.specs.declared.request.WebRequest.{WebRequest}
 use Rattle.board.specs.declared.entry.Seen.{Seen}
 use Rattle.board.specs.Showing.{StartsWith, GoesOn, HasLooked, IsReply, page_of, requests}
+use Rattle.hall.specs.declared.messages.Message.{Message}
 use Rattle.hall.specs.declared.messages.Message.TheVariants.{Submit}
 use Rattle.hall.specs.declared.messages.View.{View}
-use Rattle.hall.specs.Queue.{sent_more, worker_views}
+use Rattle.hall.specs.Queue.{AreFirst, sent_more, worker_views}
 
 -- ---- what a worker knows
 
@@ -108,44 +110,44 @@ SubmitsAsked _ old new = new ≡ old
 -- ---- what is answered
 
 -- The answer that tells what became of a request.
-abbrev pub answer_to : Result Reply Fault → Answer
+abbrev pub answer_to : Result Reply ServiceFault → Answer
 answer_to (Ok reply) = answer_for reply
 answer_to (Err fault) = Faulted fault
 
 -- The faults that may come in the place of a page: no memory is left to look at the board or to take the
 -- page, or the board is gone.
-abbrev pub IsPageFault : Fault → Type 0
-IsPageFault fault = (fault ≡ Memory) ⊎ (fault ≡ Closed)
+abbrev pub IsPageFault : ServiceFault → Type 0
+IsPageFault fault = (fault ≡ Met Memory) ⊎ (fault ≡ Closed)
 
 -- The faults that may come in the place of a reply to a request: for a page of the desk those of a page,
 -- for what is submitted any.
-abbrev pub IsFaultFor : Option ℕ → Fault → Type 0
+abbrev pub IsFaultFor : Option ℕ → ServiceFault → Type 0
 IsFaultFor (Some patron) fault = IsPageFault fault
 IsFaultFor None fault = Unit {0}
 
 -- The same by what is asked for; what is not allowed is told so, and no fault comes.
-abbrev pub IsFaultTo : Asked → Fault → Type 0
+abbrev pub IsFaultTo : Asked → ServiceFault → Type 0
 IsFaultTo Nothing fault = ⊥
 IsFaultTo (Page patron card_key) fault = IsPageFault fault
 IsFaultTo (Request request) fault = IsFaultFor (page_asked request) fault
 
 -- The answer tells what became of what is asked for.
 pub record TellsReply (asked : Asked) (old new : Working) (answer : Answer) : Type 0 where
-  pub outcome : Result Reply Fault
+  pub outcome : Result Reply ServiceFault
   pub answer_is : answer ≡ answer_to outcome
   pub reply : IfOk outcome (IsReplyTo asked old new)
   pub fault : IfErr outcome (IsFaultTo asked)
 
 -- The same of a request that is submitted.
 pub record TellsSubmitted (request : Requested) (old new : Working) (answer : Answer) : Type 0 where
-  pub outcome : Result Reply Fault
+  pub outcome : Result Reply ServiceFault
   pub answer_is : answer ≡ answer_to outcome
   pub reply : IfOk outcome (IsReplied request old new)
 
 -- The same of a page.
 pub record TellsPage (patron : ℕ) (shown : Option (List ℕ)) (seen : Seen) (answer : Answer)
     : Type 0 where
-  pub outcome : Result Reply Fault
+  pub outcome : Result Reply ServiceFault
   pub answer_is : answer ≡ answer_to outcome
   pub reply : IfOk outcome (IsPageSeen patron shown seen)
   pub fault : IfErr outcome IsPageFault
@@ -174,7 +176,7 @@ pub record TellsOutcome (desk_key : List ℕ) (bytes : Option (List ℕ)) (old n
 abbrev pub Answers : List ℕ → Option (List ℕ) → Working → Working → Answer → Type 0
 Answers desk_key bytes old new answer =
     TellsStatus bytes answer
-    ⊎ ((answer ≡ Faulted Memory) ⊎ TellsOutcome desk_key bytes old new answer)
+    ⊎ ((answer ≡ Faulted (Met Memory)) ⊎ TellsOutcome desk_key bytes old new answer)
 
 -- A connection was served. `bytes` are those that the reader has, where it tells them; `before`
 -- and `after` are the bytes that the writer showed and shows.
@@ -228,3 +230,10 @@ abbrev pub GivesReplies : {S : Type 0} → (History → Type 0) → Ghosts S →
 GivesReplies lists g held all = IsClean g held → (H : History) → lists H
     → (asked : Asked) (old new : Working) (reply : Reply) → GoesOn all new.seen
     → IsReplyTo asked old new reply → IsGivenTo H old new reply asked
+
+-- The worker, which has left, took part in a hall that received `got` and handled the first n submissions
+-- of it: those of the worker are a beginning of what it submitted, and what it had seen is a beginning of
+-- all that was shown.
+pub record TookPart (n : ℕ) (got : List Message) (shown : Seen) (w : Working) : Type 0 where
+  pub first : AreFirst w.post.worker n got w.post.sent
+  pub seen : GoesOn shown w.seen

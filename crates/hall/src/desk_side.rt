@@ -26,7 +26,7 @@ use sqlite::Alter;
 use std::alloc::Global;
 use std::sync::{Arc, Wait};
 use std::thread;
-use terms::{Fault, PatronId, Reply};
+use terms::{Fault, PatronId, Reply, ServiceFault};
 
 /// The side of the desk in a hall, for the thread that owns the database. It is not `Drop`: end it by
 /// `desk_loop`.
@@ -51,7 +51,7 @@ struct Progress {
     /// How many submissions were handled.
     handled: u64,
     /// What closed the hall.
-    fault: Option<Fault>,
+    fault: Option<ServiceFault>,
 }
 
 /// Whether each worker has left.
@@ -164,8 +164,8 @@ fn handle_next<J: Opening, S: Alter, R: Wait>(
     let worker = submission.worker;
     let number = submission.number;
     if progress.handled == u64::MAX {
-        notices.tell(rt, worker, number, Fault::Closed);
-        progress.fault = Some(Fault::Closed);
+        notices.tell(rt, worker, number, ServiceFault::Closed);
+        progress.fault = Some(ServiceFault::Closed);
         return Err(publisher.stop());
     }
     match desk.handle_touching(alloc, submission.request.get()) {
@@ -177,13 +177,14 @@ fn handle_next<J: Opening, S: Alter, R: Wait>(
                     Ok(publisher)
                 }
                 Err((stopped, fault)) => {
-                    notices.tell(rt, worker, number, Fault::Closed);
-                    progress.fault = Some(fault);
+                    notices.tell(rt, worker, number, ServiceFault::Closed);
+                    progress.fault = Some(ServiceFault::Met(fault));
                     Err(stopped)
                 }
             }
         }
-        Err(fault) => {
+        Err(met) => {
+            let fault = ServiceFault::Met(met);
             notices.tell(rt, worker, number, fault);
             progress.fault = Some(fault);
             Err(publisher.stop())
@@ -209,7 +210,12 @@ fn take_next<J: Opening, S: Alter, R: Wait>(
     match board {
         Ok(publisher) => handle_next(rt, alloc, desk, progress, notices, publisher, submission),
         Err(stopped) => {
-            notices.tell(rt, submission.worker, submission.number, Fault::Closed);
+            notices.tell(
+                rt,
+                submission.worker,
+                submission.number,
+                ServiceFault::Closed,
+            );
             Err(stopped)
         }
     }
@@ -282,7 +288,11 @@ impl<J: Opening, S: Alter> DeskSide<J, S> {
     /// left. Where the disk gave back what was written to it, all that was shown is what each list of
     /// accepted requests makes it that the opening names: each reply at its place, and the pages with
     /// each beginning. So is what a worker answers that has seen a beginning of it.
-    pub fn desk_loop<R: Wait>(self, rt: &R, alloc: Global) -> (Desk<S>, Ended<J>, Option<Fault>)
+    pub fn desk_loop<R: Wait>(
+        self,
+        rt: &R,
+        alloc: Global,
+    ) -> (Desk<S>, Ended<J>, Option<ServiceFault>)
         requires { OpensWith J.shows S.Store self.desk self.publisher.shown }
         ensures finishes { Finishes self.workers result.1.handled result.1.heard.got
             result.1.board.shown.entries S.Store self.desk result.0 result.2 }
@@ -327,6 +337,7 @@ impl<J: Opening, S: Alter> DeskSide<J, S> {
             heard: inbox.end(),
             board: stop(board),
             handled: progress.handled,
+            workers,
         };
         (desk, ended, progress.fault)
     }

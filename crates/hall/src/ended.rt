@@ -1,6 +1,7 @@
 //! What is left of a desk's side.
 
-ghost use Rattle.std.specs.Prelude.{◌≡◌, ◌≤◌, false, length};
+ghost use Rattle.std.specs.Prelude.{◌≡◌, ◌+◌, ◌<◌, ◌≤◌, ℕ, false, length, IsTrue};
+ghost use Rattle.hall.specs.Serving.{TookPart};
 ghost use Rattle.hall.specs.Queue.{AreFirst, IsHearing, of, is_open, submissions};
 
 use crate::ends::Heard;
@@ -16,8 +17,10 @@ pub struct Ended<J: Opening> {
     pub(crate) heard: Heard<J>,
     pub(crate) board: StoppedBoard<J>,
     pub(crate) handled: u64,
+    pub(crate) workers: usize,
     pub(crate) ghost hearing: { IsHearing heard },
     pub(crate) ghost counted: { handled ≤ length (submissions heard.got) },
+    pub(crate) ghost gone: { (k : ℕ) → k < workers → is_open (of (k + 1) heard.got) ≡ false },
 }
 
 impl<J: Opening> Ended<J> {
@@ -31,14 +34,28 @@ impl<J: Opening> Ended<J> {
     /// Takes in the end of a worker that has left. It refuses nothing and waits for nobody. Where
     /// the desk received the worker's Leave, the handled submissions of the worker are a beginning of
     /// what it submitted, and all of it where all that came was handled.
-    pub fn take_in(&mut self, left: Left<J>)
+    ///
+    /// It answers whether the worker took part in this hall, as each of its workers did: then the desk
+    /// received its Leave, and what it had seen is a beginning of what was shown.
+    pub fn take_in(&mut self, left: Left<J>) -> bool
         ensures same { (self.new.handled ≡ self.old.handled)
             × (self.new.heard.got ≡ self.old.heard.got) × (self.new.board ≡ self.old.board) }
         ensures first { is_open (of left.post.worker self.old.heard.got) ≡ false
             → AreFirst left.post.worker self.old.handled self.old.heard.got left.post.sent }
+        ensures part { IsTrue result → TookPart self.old.handled self.old.heard.got
+            self.old.board.shown (record { post = left.post; seen = left.sight }) }
     {
-        let Left { post, is_told: _ } = left;
+        let Left {
+            post,
+            worker,
+            sight,
+            is_told: _,
+        } = left;
         self.heard.take_in(post);
+        if worker.number() > self.workers as u64 {
+            return false;
+        }
+        self.board.has_shown(&sight)
     }
 
     /// Ends it, once no worker looks at the board any more.
@@ -47,6 +64,7 @@ impl<J: Opening> Ended<J> {
             heard: _,
             board,
             handled: _,
+            workers: _,
         } = self;
         board.close(rt);
     }

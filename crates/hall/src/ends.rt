@@ -10,6 +10,7 @@ ghost use Rattle.hall.specs.Queue.{desk_view, worker_view, joined, taken_in, sen
 use crate::messages::{Message, View};
 use crate::opening::Opening;
 use crate::rule::{Gets, Hires, InTurn, Sends, TakesIn, Total};
+use board::Blank;
 use crossbeam_channel::{Pass, RecvError, RuledReceiver, RuledSender, SendError, bounded_with};
 use hall_schedule::PLACES;
 use std::alloc::Global;
@@ -17,15 +18,33 @@ use std::marker::{Model, PhantomData};
 use std::sync::Wait;
 use terms::Memory;
 
-/// A queue of 8 places that belongs to no hall yet.
+/// What a hall begins with, which belongs to none yet: a queue of 8 places, and a board of which
+/// nothing was shown.
 #[derive(Drop)]
 pub struct Opened {
+    pub(crate) queue: Queue,
+    pub(crate) blank: Blank,
+}
+
+impl Opened {
+    /// The queue and the board of a hall, which is opened with them by `Hall::new`.
+    pub fn new(alloc: Global) -> Result<Opened, Memory> {
+        Ok(Opened {
+            queue: Queue::new(alloc)?,
+            blank: Blank::new(),
+        })
+    }
+}
+
+/// A queue of 8 places that belongs to no hall yet.
+#[derive(Drop)]
+pub(crate) struct Queue {
     sender: RuledSender<Message, View, InTurn>,
     receiver: RuledReceiver<Message, View, InTurn>,
     pass: Pass<Message, View>,
 }
 
-impl Model for Opened {
+impl Model for Queue {
     ghost use Rattle.std.specs.Prelude.{◌≡◌};
     ghost use Rattle.crossbeam_channel.specs.Claims.{view as knows, IsSeatAt};
     ghost use Rattle.crossbeam_channel.specs.Ends.{sends_on, receives_on, ruled_capacity};
@@ -43,14 +62,13 @@ impl Model for Opened {
         × (knows o.pass ≡ desk_view) };
 }
 
-impl Opened {
-    /// The queue of a hall, which is opened with it by `Hall::new`. It has 8 places, and nothing was
-    /// sent or received.
-    pub fn new(alloc: Global) -> Result<Opened, Memory> {
+impl Queue {
+    /// It has 8 places, and nothing was sent or received.
+    fn new(alloc: Global) -> Result<Queue, Memory> {
         let (sender, receiver, pass) = bounded_with::<Message, View, InTurn, Global>(
             alloc, PLACES,
         )?;
-        Ok(Opened {
+        Ok(Queue {
             sender,
             receiver,
             pass,
@@ -62,7 +80,7 @@ impl Opened {
         requires { self ≡ J.name }
         ensures { result.1 ≡ desk_view }
     {
-        let Opened {
+        let Queue {
             sender,
             receiver,
             pass,

@@ -3,7 +3,8 @@
 ghost use Rattle.std.specs.Prelude.{◌≡◌, ◌+◌, ◌≤◌, ◌⊎◌, ℕ, true, [], None, Ok, IfErr, IfOk, OnOk};
 ghost use Rattle.std.specs.Prelude.{MatchResult};
 ghost use Rattle.hall_schedule.specs.declared.schedule.TheConstants.{WORKERS as most};
-ghost use Rattle.terms.specs.declared.fault.Fault.TheVariants as Fault;
+ghost use Rattle.terms.specs.declared.fault.Fault.TheVariants.{Memory as NoMemory};
+ghost use Rattle.terms.specs.declared.fault.ServiceFault.TheVariants.{Met, Closed};
 ghost use Rattle.model.specs.History.{History};
 ghost use Rattle.store.specs.Library.{over_memory, state};
 ghost use Rattle.desk.specs.Answering.{Learns, Shows};
@@ -15,18 +16,18 @@ ghost use Rattle.hall.specs.Openings.{MeetsFaultOf, AreFirstPages, OpensBoard, O
 ghost use Rattle.hall.specs.Serving.{AreWorkers};
 
 use crate::desk_side::DeskSide;
-use crate::ends::{Hiring, Inbox, Opened, Post};
+use crate::ends::{Hiring, Inbox, Opened, Post, Queue};
 use crate::notices::Notices;
 use crate::opening::Opening;
 use crate::worker::Worker;
-use board::{First, Publisher, Window, WorkerId};
+use board::{Blank, First, Publisher, Window, WorkerId};
 use crossbeam_utils::sync::Parker;
 use desk::Desk;
 use hall_schedule::WORKERS;
 use sqlite::{Alter, MemStore};
 use std::alloc::Global;
 use std::sync::{Arc, Wait};
-use terms::{Fault, Memory, PatronId, Refusal};
+use terms::{Fault, Memory, PatronId, Refusal, ServiceFault};
 
 /// Why a hall could not be opened.
 #[derive(Clone, Copy, Debug, PartialEq, Eq)]
@@ -35,7 +36,7 @@ pub enum Why {
     Refused(Refusal),
     /// 90, 91 or 93: a page could not be had, or no memory is left; 92: the board has no place for a
     /// reader.
-    Faulted(Fault),
+    Faulted(ServiceFault),
 }
 
 impl Why {
@@ -112,18 +113,18 @@ fn hire_all<J: Opening, R: Wait>(
     publisher: &Publisher<J>,
     notices: &Arc<Notices, Global>,
     workers: usize,
-) -> Result<Vec<Worker<J>>, Fault>
+) -> Result<Vec<Worker<J>>, ServiceFault>
     requires inbox { IsHearing inbox.old × (inbox.old.got ≡ []) × (inbox.old.made ≡ 0) }
     requires limits { workers ≤ most }
     ensures inbox { IsHearing inbox.new × (inbox.new.got ≡ []) }
     ensures workers { IfOk result (λ all. AreWorkers workers all.items) }
-    ensures fault { IfErr result (λ fault. (fault ≡ Fault.Memory) ⊎ (fault ≡ Fault.Closed)) }
+    ensures fault { IfErr result (λ fault. (fault ≡ Met NoMemory) ⊎ (fault ≡ Closed)) }
 {
     let mut all = Vec::with_capacity(alloc, workers)?;
     for k in 0..workers {
         let worker = WorkerId::new(k as u64 + 1).unwrap();
         let Ok(window) = publisher.window() else {
-            return Err(Fault::Closed);
+            return Err(ServiceFault::Closed);
         };
         let post = hiring.hire(inbox)?;
         all.push(hire_one(rt, alloc, post, window, worker, notices)?)?;
@@ -139,35 +140,38 @@ type Hired<J> = (Inbox<J>, Arc<Notices, Global>, Vec<Worker<J>>);
 fn hire<J: Opening, R: Wait>(
     rt: &R,
     alloc: Global,
-    opened: Opened,
+    queue: Queue,
     publisher: &Publisher<J>,
     workers: usize,
-) -> Result<Hired<J>, Fault>
-    requires name { opened ≡ J.name }
+) -> Result<Hired<J>, ServiceFault>
+    requires name { queue ≡ J.name }
     requires limits { workers ≤ most }
     ensures inbox { IfOk result (λ r. IsHearing r.0 × (r.0.got ≡ [])) }
     ensures workers { IfOk result (λ r. AreWorkers workers r.2.items) }
-    ensures fault { IfErr result (λ fault. (fault ≡ Fault.Memory) ⊎ (fault ≡ Fault.Closed)) }
+    ensures fault { IfErr result (λ fault. (fault ≡ Met NoMemory) ⊎ (fault ≡ Closed)) }
 {
-    let (hiring, mut inbox) = opened.ends::<J>();
+    let (hiring, mut inbox) = queue.ends::<J>();
     let notices = Arc::new(alloc, Notices::new())?;
     let all = hire_all(rt, alloc, &hiring, &mut inbox, publisher, &notices, workers)?;
     Ok((inbox, notices, all))
 }
 
 /// A board that shows the pages of all patrons. 90, 91, 93.
-fn open_board<J: Opening, S: Alter>(
+fn open_board<J: Opening, S: Alter, R: Wait>(
+    rt: &R,
     alloc: Global,
+    blank: Blank,
     desk: &mut Desk<S>,
     workers: usize,
 ) -> Result<Publisher<J>, Fault>
+    requires name { blank ≡ J.book }
     requires limits { (1 ≤ workers) × (workers ≤ most) }
     ensures board { IfOk result (OpensBoard S.Store desk.old desk.new) }
     ensures looks { MatchResult result (λ _. LooksOnly S.Store desk.old desk.new (Ok tt))
         (MeetsFaultOf S.Store desk.old desk.new) }
 {
     let first = first_pages(alloc, desk)?;
-    Ok(Publisher::new(alloc, first, workers)?)
+    Ok(Publisher::new(rt, alloc, blank, first, workers)?)
 }
 
 /// Whether there may be so many workers.
@@ -178,8 +182,8 @@ fn can_be(workers: usize) -> bool
 }
 
 impl Hall {
-    /// Opens a hall of 1 to 8 workers on a queue that was just opened: the desk's side, and the
-    /// workers, numbered from 1 on. The board shows the pages of all patrons.
+    /// Opens a hall of 1 to 8 workers on a queue and a board that were just made: the desk's side,
+    /// and the workers, numbered from 1 on. The board shows the pages of all patrons.
     ///
     /// 21 for another number of workers; 90, 91 or 93 where a page can't be had, or no memory is
     /// left; 92 where the board gives a worker no reader's place. Then the desk is given back, and
@@ -193,7 +197,7 @@ impl Hall {
         desk: Desk<S>,
         workers: usize,
     ) -> Result<(DeskSide<J, S>, Vec<Worker<J>>), HallFault<S>>
-        requires name { opened ≡ J.name }
+        requires name { (opened.queue ≡ J.name) × (opened.blank ≡ J.book) }
         requires shows { (H : History) → J.shows H → Shows (state S.Store desk) H }
         ensures side { IfOk result (λ r. LooksOnly S.Store desk r.0.desk (Ok tt)
             × (r.0.workers ≡ workers)) }
@@ -207,15 +211,16 @@ impl Hall {
             let why = Why::Refused(Refusal::OutOfLimits);
             return Err(HallFault { why, desk });
         }
+        let Opened { queue, blank } = opened;
         let mut desk = desk;
-        let publisher = match open_board::<J, S>(alloc, &mut desk, workers) {
+        let publisher = match open_board::<J, S, R>(rt, alloc, blank, &mut desk, workers) {
             Ok(publisher) => publisher,
             Err(fault) => {
-                let why = Why::Faulted(fault);
+                let why = Why::Faulted(ServiceFault::from(fault));
                 return Err(HallFault { why, desk });
             }
         };
-        match hire(rt, alloc, opened, &publisher, workers) {
+        match hire(rt, alloc, queue, &publisher, workers) {
             Ok((inbox, notices, all)) => {
                 let side = DeskSide {
                     inbox,
@@ -234,8 +239,8 @@ impl Hall {
         }
     }
 
-    /// Opens a hall of 1 to 8 workers over the desk of a new library in memory, on a queue that was
-    /// just opened. Its tables show the empty list of accepted requests, and nobody has a page.
+    /// Opens a hall of 1 to 8 workers over the desk of a new library in memory, on a queue and a
+    /// board that were just made. Its tables show the empty list of accepted requests, and nobody has a page.
     ///
     /// 21 for another number of workers; else 90 or 91 where there is no library, and 90 to 92 as
     /// `new` gives them.
@@ -245,7 +250,7 @@ impl Hall {
         opened: Opened,
         workers: usize,
     ) -> Result<(DeskSide<J, MemStore>, Vec<Worker<J>>), Why>
-        requires name { opened ≡ J.name }
+        requires name { (opened.queue ≡ J.name) × (opened.blank ≡ J.book) }
         requires shows { (H : History) → J.shows H → H ≡ [] }
         ensures side { IfOk result (λ r. r.0.workers ≡ workers) }
         ensures opens { IfOk result (λ r. Shows (state over_memory r.0.desk) []
@@ -261,7 +266,7 @@ impl Hall {
         }
         let desk = match Desk::in_memory(alloc) {
             Ok(desk) => desk,
-            Err(fault) => return Err(Why::Faulted(fault)),
+            Err(fault) => return Err(Why::Faulted(ServiceFault::from(fault))),
         };
         match Hall::new::<J, MemStore, R>(rt, alloc, opened, desk, workers) {
             Ok(hall) => Ok(hall),

@@ -4,13 +4,13 @@
 use board::WorkerId;
 use crossbeam_utils::sync::Unparker;
 use std::sync::{OnceLock, Wait};
-use terms::Fault;
+use terms::ServiceFault;
 
 /// Why the first of a worker's submissions that has no reply has none.
 #[derive(Clone, Copy)]
 struct Notice {
     number: u64,
-    fault: Fault,
+    fault: ServiceFault,
 }
 
 /// A worker's place.
@@ -70,21 +70,21 @@ impl Notices {
 
     /// Tells a worker why this submission has no reply, and wakes it. Of one worker's only the first
     /// is told, since each later one isn't handled because the hall is closed.
-    pub(crate) fn tell<R: Wait>(&self, rt: &R, worker: WorkerId, number: u64, fault: Fault) {
+    pub(crate) fn tell<R: Wait>(&self, rt: &R, worker: WorkerId, number: u64, fault: ServiceFault) {
         let _ = self.place(worker).notice.set(rt, Notice { number, fault });
         self.wake(worker);
     }
 
     /// Why this submission of the worker has no reply, if the worker was told: the fault that it
     /// met, or 92 after the first.
-    pub(crate) fn fault_of(&self, worker: WorkerId, number: u64) -> Option<Fault> {
+    pub(crate) fn fault_of(&self, worker: WorkerId, number: u64) -> Option<ServiceFault> {
         let notice = self.place(worker).notice.get()?;
         if number < notice.number {
             None
         } else if number == notice.number {
             Some(notice.fault)
         } else {
-            Some(Fault::Closed)
+            Some(ServiceFault::Closed)
         }
     }
 }

@@ -1,11 +1,13 @@
 //! Which hall it is.
 
+use board::Naming;
 use std::marker::Brand;
 
-/// Which hall it is: it names the queue of one opening, so that the ends of two halls can't be
-/// mixed, and the lists of accepted requests that the tables of its desk show at its opening. Who
-/// opens a hall opens and runs it inside one function generic in this, which is called with `Brand`.
-pub trait Opening {
+/// Which hall it is: it names the queue and the board of one opening, so that what belongs to two
+/// halls can't be mixed, and the lists of accepted requests that the tables of its desk show at its
+/// opening. Who opens a hall opens and runs it inside one function generic in this, which is called
+/// with `Brand`.
+pub trait Opening: Naming {
     ghost use Rattle.hall.specs.Names.{Name};
     ghost use Rattle.model.specs.History.{History};
 

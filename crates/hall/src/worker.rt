@@ -3,7 +3,7 @@
 ghost use Rattle.std.specs.Prelude.{◌≡◌, length, MatchResult, MatchBool, IfOk, IfSome, OnOk, option_map};
 ghost use Rattle.std.specs.Arc.{arc_value};
 ghost use Rattle.terms.specs.Writing.{Writes};
-ghost use Rattle.terms.specs.declared.fault.Fault.TheVariants.{Closed};
+ghost use Rattle.terms.specs.declared.fault.ServiceFault.TheVariants.{Closed};
 ghost use Rattle.web.specs.Answers.{answer_bytes, answer_for};
 ghost use Rattle.board.specs.Showing.{GoesOn, IsReply, count_own};
 ghost use Rattle.hall.specs.declared.messages.Message.TheVariants.{Leave};
@@ -15,14 +15,16 @@ use crate::ends::Post;
 use crate::messages::{LAST_SUBMISSION, Message, Submission};
 use crate::notices::Notices;
 use crate::opening::Opening;
-use board::{Entry, SharedRequest, Unseen, Window, WorkerId};
+use board::{Entry, SharedRequest, Sight, Unseen, Window, WorkerId};
 use crossbeam_utils::sync::Parker;
 use desk::OwnPage;
 use std::alloc::Global;
 use std::io::{Read, Write};
 use std::marker::Model;
 use std::sync::{Arc, Wait};
-use terms::{Caller, CardKey, Command, Fault, Memory, PatronId, Refusal, Reply, Request};
+use terms::{
+    Caller, CardKey, Command, Fault, Memory, PatronId, Refusal, Reply, Request, ServiceFault,
+};
 use web::{Answer, Asked, WebFault, read_request, write_answer};
 
 /// A worker of a hall. Contracts see what it sent, and what it has seen of the handled list.
@@ -57,9 +59,13 @@ impl<J: Opening> Model for Worker<J> {
 #[derive(Drop)]
 pub struct Left<J: Opening> {
     pub(crate) post: Post<J>,
+    pub(crate) worker: WorkerId,
+    /// What it had seen.
+    pub(crate) sight: Sight<J>,
     /// Whether its Leave is in the queue. It isn't where the desk is gone.
     pub is_told: bool,
     pub(crate) ghost sending: { IsSending post },
+    pub(crate) ghost named: { post.worker ≡ worker },
 }
 
 /// No answer went out whole: a read or a write failed, or no memory was left for the answer.
@@ -70,7 +76,7 @@ pub struct ServeFault;
 #[derive(Clone, Copy)]
 enum Lost {
     /// This fault came instead.
-    Told(Fault),
+    Told(ServiceFault),
     /// No memory is left to take the reply.
     Untold,
 }
@@ -94,7 +100,7 @@ fn await_entry<J: Opening, R: Wait>(
             Ok(Some(entry)) => return Ok(entry),
             Ok(None) => {}
             Err(Unseen::Memory) => return Err(Lost::Untold),
-            Err(Unseen::Gone) => return Err(Lost::Told(Fault::Closed)),
+            Err(Unseen::Gone) => return Err(Lost::Told(ServiceFault::Closed)),
         }
         if let Some(fault) = notices.fault_of(worker, number) {
             return Err(Lost::Told(fault));
@@ -181,9 +187,9 @@ impl<J: Opening> Worker<J> {
     {
         match self.window.shows_none_of(self.worker) {
             Ok(true) => Ok(()),
-            Ok(false) => Err(Lost::Told(Fault::Closed)),
+            Ok(false) => Err(Lost::Told(ServiceFault::Closed)),
             Err(Unseen::Memory) => Err(Lost::Untold),
-            Err(Unseen::Gone) => Err(Lost::Told(Fault::Closed)),
+            Err(Unseen::Gone) => Err(Lost::Told(ServiceFault::Closed)),
         }
     }
 
@@ -199,7 +205,7 @@ impl<J: Opening> Worker<J> {
             return self.begin();
         }
         let Some(last) = &self.last else {
-            return Err(Lost::Told(Fault::Closed));
+            return Err(Lost::Told(ServiceFault::Closed));
         };
         match await_entry(
             rt,
@@ -217,13 +223,13 @@ impl<J: Opening> Worker<J> {
 
     /// Submits a request under the worker's next number, from 1 to 2^50, and waits for a free place
     /// in the queue. 92, and nothing is submitted, where the numbers are used up or the desk is gone.
-    fn submit<R: Wait>(&mut self, rt: &R, request: SharedRequest) -> Result<(), Fault>
+    fn submit<R: Wait>(&mut self, rt: &R, request: SharedRequest) -> Result<(), ServiceFault>
         ensures { MatchResult result
             (λ _. self.new ≡ record self.old { post = submitted self.old.post request })
             (λ fault. (fault ≡ Closed) × (self.new ≡ self.old)) }
     {
         if self.number >= LAST_SUBMISSION {
-            return Err(Fault::Closed);
+            return Err(ServiceFault::Closed);
         }
         let number = self.number + 1;
         let submission = Submission {
@@ -236,7 +242,7 @@ impl<J: Opening> Worker<J> {
                 self.number = number;
                 Ok(())
             }
-            Err(_) => Err(Fault::Closed),
+            Err(_) => Err(ServiceFault::Closed),
         }
     }
 
@@ -278,14 +284,14 @@ impl<J: Opening> Worker<J> {
     {
         match self.settle(rt) {
             Ok(()) => {}
-            Err(Lost::Told(_)) => return Err(Lost::Told(Fault::Closed)),
-            Err(Lost::Untold) => return Err(Lost::Told(Fault::Memory)),
+            Err(Lost::Told(_)) => return Err(Lost::Told(ServiceFault::Closed)),
+            Err(Lost::Untold) => return Err(Lost::Told(ServiceFault::Met(Fault::Memory))),
         }
         let Ok(own) = SharedRequest::new(alloc, request) else {
-            return Err(Lost::Told(Fault::Memory));
+            return Err(Lost::Told(ServiceFault::Met(Fault::Memory)));
         };
         let Ok(other) = own.try_clone() else {
-            return Err(Lost::Told(Fault::Memory));
+            return Err(Lost::Told(ServiceFault::Met(Fault::Memory)));
         };
         match self.submit(rt, other) {
             Ok(()) => self.await_reply(rt, own),
@@ -331,10 +337,10 @@ impl<J: Opening> Worker<J> {
         match self.window.page(patron) {
             Ok(page) => match page_answer(alloc, page, shown) {
                 Ok(answer) => answer,
-                Err(_) => Answer::Faulted(Fault::Memory),
+                Err(_) => Answer::Faulted(ServiceFault::Met(Fault::Memory)),
             },
-            Err(Unseen::Memory) => Answer::Faulted(Fault::Memory),
-            Err(Unseen::Gone) => Answer::Faulted(Fault::Closed),
+            Err(Unseen::Memory) => Answer::Faulted(ServiceFault::Met(Fault::Memory)),
+            Err(Unseen::Gone) => Answer::Faulted(ServiceFault::Closed),
         }
     }
 
@@ -378,7 +384,7 @@ impl<J: Opening> Worker<J> {
         let answer = match read_request(alloc, reader) {
             Ok(request) => self.answer(rt, alloc, request.asked(desk_key)),
             Err(WebFault::Status(status)) => Some(Answer::Failed(status)),
-            Err(WebFault::Memory) => Some(Answer::Faulted(Fault::Memory)),
+            Err(WebFault::Memory) => Some(Answer::Faulted(ServiceFault::Met(Fault::Memory))),
             Err(WebFault::Read) => None,
         };
         match answer {
@@ -388,14 +394,15 @@ impl<J: Opening> Worker<J> {
     }
 
     /// Leaves the hall: the desk waits for this of each worker. What comes back is its end of the
-    /// queue, which tells what it had submitted.
+    /// queue, which tells what it had submitted, and what it had seen.
     pub fn leave<R: Wait>(self, rt: &R) -> Left<J>
-        ensures { MatchBool result.is_told
+        ensures seen { result.sight ≡ self.seen }
+        ensures told { MatchBool result.is_told
             (result.post ≡ sent_more self.post (Leave self.post.worker)) (result.post ≡ self.post) }
     {
         let Worker {
             mut post,
-            window: _,
+            window,
             worker,
             number: _,
             last: _,
@@ -406,6 +413,11 @@ impl<J: Opening> Worker<J> {
             Ok(()) => true,
             Err(_) => false,
         };
-        Left { post, is_told }
+        Left {
+            post,
+            worker,
+            sight: window.leave(),
+            is_told,
+        }
     }
 }

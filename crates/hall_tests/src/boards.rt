@@ -3,7 +3,7 @@
 ghost use Rattle.std.specs.Prelude.{◌≡◌, ◌+◌, ◌++◌, [], ◌∷◌, IfOk, IfSome};
 ghost use Rattle.board.specs.Showing.{count_own};
 
-use board::{Entry, First, Publisher, SharedRequest, Unseen, Window, WorkerId};
+use board::{Blank, Entry, First, Naming, Publisher, SharedRequest, Unseen, Window, WorkerId};
 use desk::OwnPage;
 use std::alloc::Global;
 use std::marker::Brand;
@@ -153,29 +153,30 @@ fn first_pages(alloc: Global) -> Result<First, Fail> {
 }
 
 /// A board for two windows.
-fn open_board(alloc: Global) -> Result<Publisher<Brand>, Fail>
+fn open_board<J: Naming, R: Wait>(rt: &R, alloc: Global, blank: Blank) -> Result<Publisher<J>, Fail>
+    requires { blank ≡ J.book }
     ensures { IfOk result (λ p. p.shown.entries ≡ []) }
 {
     let first = first_pages(alloc)?;
-    let publisher = Publisher::<Brand>::new(alloc, first, 2)?;
+    let publisher = Publisher::<J>::new(rt, alloc, blank, first, 2)?;
     Ok(publisher)
 }
 
 /// Two windows, where the board has places for them.
-fn windows(publisher: &Publisher<Brand>) -> Option<(Window<Brand>, Window<Brand>)> {
+fn windows<J: Naming>(publisher: &Publisher<J>) -> Option<(Window<J>, Window<J>)> {
     let one = publisher.window().ok()?;
     let two = publisher.window().ok()?;
     Some((one, two))
 }
 
 /// A page more, for the next entry; where that fails the board is ended.
-fn put<R: Wait>(
+fn put<J: Naming, R: Wait>(
     rt: &R,
     alloc: Global,
-    publisher: Publisher<Brand>,
+    publisher: Publisher<J>,
     patron: PatronId,
     page: OwnPage,
-) -> Option<Publisher<Brand>>
+) -> Option<Publisher<J>>
     ensures { IfSome result (λ p. p.shown.entries ≡ publisher.shown.entries) }
 {
     let mut publisher = publisher;
@@ -189,12 +190,12 @@ fn put<R: Wait>(
 }
 
 /// An entry more; where that fails the board is ended.
-fn show<R: Wait>(
+fn show<J: Naming, R: Wait>(
     rt: &R,
     alloc: Global,
-    publisher: Publisher<Brand>,
+    publisher: Publisher<J>,
     entry: Entry,
-) -> Option<Publisher<Brand>>
+) -> Option<Publisher<J>>
     requires { entry.number ≡ count_own entry.worker publisher.shown.entries + 1 }
     ensures { IfSome result (λ p. p.shown.entries ≡ publisher.shown.entries ++ entry ∷ []) }
 {
@@ -216,12 +217,12 @@ struct Step {
 }
 
 /// The first entry of all: hold 1, by worker 1 for patron 1.
-fn show_one<R: Wait>(
+fn show_one<J: Naming, R: Wait>(
     rt: &R,
     alloc: Global,
-    publisher: Publisher<Brand>,
+    publisher: Publisher<J>,
     step: Step,
-) -> Option<Publisher<Brand>>
+) -> Option<Publisher<J>>
     requires { publisher.shown.entries ≡ [] }
     ensures { IfSome result (λ p. count_own 2 p.shown.entries ≡ 0) }
 {
@@ -243,12 +244,12 @@ fn show_one<R: Wait>(
 }
 
 /// The first entry of worker 2: hold 2, for patron 2.
-fn show_two<R: Wait>(
+fn show_two<J: Naming, R: Wait>(
     rt: &R,
     alloc: Global,
-    publisher: Publisher<Brand>,
+    publisher: Publisher<J>,
     step: Step,
-) -> Option<Publisher<Brand>>
+) -> Option<Publisher<J>>
     requires { count_own 2 publisher.shown.entries ≡ 0 }
 {
     let Step { request, page } = step;
@@ -280,7 +281,7 @@ fn is_page(own: &OwnPage, card_key: &str, text: &str) -> bool {
 }
 
 /// Whether a window shows a patron this text, under this card key.
-fn shows(window: &mut Window<Brand>, patron: u32, card_key: &str, text: &str) -> bool {
+fn shows<J: Naming>(window: &mut Window<J>, patron: u32, card_key: &str, text: &str) -> bool {
     match window.page(PatronId::new(patron)) {
         Ok(Some(own)) => is_page(&own, card_key, text),
         _ => false,
@@ -288,7 +289,7 @@ fn shows(window: &mut Window<Brand>, patron: u32, card_key: &str, text: &str) ->
 }
 
 /// Whether a window shows no page of a patron.
-fn shows_none(window: &mut Window<Brand>, patron: u32) -> bool {
+fn shows_none<J: Naming>(window: &mut Window<J>, patron: u32) -> bool {
     match window.page(PatronId::new(patron)) {
         Ok(None) => true,
         _ => false,
@@ -316,7 +317,7 @@ fn is_entry(entry: &Entry, asked: &Asked, hold: u32) -> bool {
 }
 
 /// Whether a window shows this hold as the reply to a submission.
-fn tells(window: &mut Window<Brand>, asked: &Asked, hold: u32) -> bool {
+fn tells<J: Naming>(window: &mut Window<J>, asked: &Asked, hold: u32) -> bool {
     match window.entry(asked.worker, asked.number, &asked.request) {
         Ok(Some(entry)) => is_entry(&entry, asked, hold),
         _ => false,
@@ -324,7 +325,7 @@ fn tells(window: &mut Window<Brand>, asked: &Asked, hold: u32) -> bool {
 }
 
 /// Whether a window shows no reply to a submission.
-fn tells_none(window: &mut Window<Brand>, asked: &Asked) -> bool {
+fn tells_none<J: Naming>(window: &mut Window<J>, asked: &Asked) -> bool {
     match window.entry(asked.worker, asked.number, &asked.request) {
         Ok(None) => true,
         _ => false,
@@ -332,7 +333,7 @@ fn tells_none(window: &mut Window<Brand>, asked: &Asked) -> bool {
 }
 
 /// Whether a window tells that the desk is gone, whatever is asked.
-fn is_gone(window: &mut Window<Brand>, asked: &Asked) -> bool {
+fn is_gone<J: Naming>(window: &mut Window<J>, asked: &Asked) -> bool {
     let is_page_gone = match window.page(PatronId::new(1)) {
         Err(unseen) => unseen == Unseen::Gone,
         Ok(_) => false,
@@ -392,7 +393,7 @@ fn all_asked(alloc: Global) -> Result<AllAsked, Fail> {
 }
 
 /// Whether a window shows no reply to what wasn't submitted.
-fn tells_no_other(window: &mut Window<Brand>, all: &AllAsked) -> bool {
+fn tells_no_other<J: Naming>(window: &mut Window<J>, all: &AllAsked) -> bool {
     for other in &all.others {
         if !tells_none(window, other) {
             return false;
@@ -402,7 +403,7 @@ fn tells_no_other(window: &mut Window<Brand>, all: &AllAsked) -> bool {
 }
 
 /// Whether a window shows the first pages, and nothing as handled.
-fn is_as_opened(window: &mut Window<Brand>, all: &AllAsked) -> bool {
+fn is_as_opened<J: Naming>(window: &mut Window<J>, all: &AllAsked) -> bool {
     shows(window, 1, "cardkey00001", "page 1")
         && shows(window, 2, "cardkey00002", "page 2")
         && shows_none(window, 3)
@@ -412,7 +413,7 @@ fn is_as_opened(window: &mut Window<Brand>, all: &AllAsked) -> bool {
 }
 
 /// Whether a window shows the first entry alone, with its page.
-fn is_after_one(window: &mut Window<Brand>, all: &AllAsked) -> bool {
+fn is_after_one<J: Naming>(window: &mut Window<J>, all: &AllAsked) -> bool {
     shows(window, 1, "cardkey00001", "page 1 with hold 1")
         && shows(window, 2, "cardkey00002", "page 2")
         && shows_none(window, 3)
@@ -422,7 +423,7 @@ fn is_after_one(window: &mut Window<Brand>, all: &AllAsked) -> bool {
 }
 
 /// Whether a window shows the entry of the second worker too, and the first one's still.
-fn is_after_two(window: &mut Window<Brand>, all: &AllAsked) -> bool {
+fn is_after_two<J: Naming>(window: &mut Window<J>, all: &AllAsked) -> bool {
     shows(window, 1, "cardkey00001", "page 1 with hold 1")
         && shows(window, 2, "cardkey00002", "page 2 with hold 2")
         && shows_none(window, 3)
@@ -450,11 +451,11 @@ fn steps(alloc: Global) -> Result<(Step, Step), Fail> {
 
 /// Whether both windows show what they should: at first, after one entry, after two, and once the
 /// board is closed. None where no memory is left.
-fn walk<R: Wait>(
+fn walk<J: Naming, R: Wait>(
     rt: &R,
     alloc: Global,
-    publisher: Publisher<Brand>,
-    windows: (Window<Brand>, Window<Brand>),
+    publisher: Publisher<J>,
+    windows: (Window<J>, Window<J>),
     all: &AllAsked,
     steps: (Step, Step),
 ) -> Option<[bool; 4]>
@@ -472,72 +473,100 @@ fn walk<R: Wait>(
     Some([opened, shown, both, ended])
 }
 
-#[test]
-fn each_entry_is_shown_with_its_page(rt: HostRuntime) -> Result<(), Fail> {
-    let alloc = rt.alloc();
+/// What two windows show of a board on which two entries are shown.
+fn look_on<J: Naming, R: Wait>(rt: &R, alloc: Global, blank: Blank) -> Result<[bool; 4], Fail>
+    requires { blank ≡ J.book }
+{
     let all = all_asked(alloc)?;
     let steps = steps(alloc)?;
-    let publisher = open_board(alloc)?;
+    let publisher = open_board::<J, R>(rt, alloc, blank)?;
     let Some(windows) = windows(&publisher) else {
-        publisher.close(&rt);
+        publisher.close(rt);
         return Err("two windows".into());
     };
-    let seen = walk(&rt, alloc, publisher, windows, &all, steps).ok_or("memory")?;
+    let seen = walk(rt, alloc, publisher, windows, &all, steps).ok_or("memory")?;
+    Ok(seen)
+}
+
+#[test]
+fn each_entry_is_shown_with_its_page(rt: HostRuntime) -> Result<(), Fail> {
+    let seen = look_on::<Brand, _>(&rt, rt.alloc(), Blank::new())?;
     assert!(rt; seen == [true; 4], "{seen:?}");
     Ok(())
 }
 
 /// Whether a window shows what it should of a board that is stopped with a page to be shown: what it
-/// showed, until it is ended. None where no memory is left.
-fn walk_stopped<R: Wait>(
+/// showed, until it is ended; and whether what two windows saw was shown. None where no memory is left.
+fn walk_stopped<J: Naming, R: Wait>(
     rt: &R,
     alloc: Global,
-    publisher: Publisher<Brand>,
-    windows: (Window<Brand>, Window<Brand>),
+    publisher: Publisher<J>,
+    windows: (Window<J>, Window<J>),
     all: &AllAsked,
     page: OwnPage,
-) -> Option<[bool; 2]> {
-    let (mut one, _two) = windows;
+) -> Option<[bool; 3]> {
+    let (mut one, two) = windows;
     let publisher = put(rt, alloc, publisher, PatronId::new(1), page)?;
     let stopped = publisher.stop();
     let shown = is_as_opened(&mut one, all);
+    let nothing = two.leave();
+    let none = stopped.has_shown(&nothing);
     stopped.close(rt);
-    Some([shown, is_gone(&mut one, &all.one)])
+    Some([shown, none, is_gone(&mut one, &all.one)])
 }
 
-#[test]
-fn a_stopped_board_shows_what_it_showed(rt: HostRuntime) -> Result<(), Fail> {
-    let alloc = rt.alloc();
+/// What windows show of a board that is stopped.
+fn look_on_stopped<J: Naming, R: Wait>(
+    rt: &R,
+    alloc: Global,
+    blank: Blank,
+) -> Result<[bool; 3], Fail>
+    requires { blank ≡ J.book }
+{
     let all = all_asked(alloc)?;
     let (step, _second) = steps(alloc)?;
     let Step {
         request: _request,
         page,
     } = step;
-    let publisher = open_board(alloc)?;
+    let publisher = open_board::<J, R>(rt, alloc, blank)?;
     let Some(windows) = windows(&publisher) else {
-        publisher.close(&rt);
+        publisher.close(rt);
         return Err("two windows".into());
     };
-    let seen = walk_stopped(&rt, alloc, publisher, windows, &all, page).ok_or("memory")?;
-    assert!(rt; seen == [true; 2], "{seen:?}");
+    let seen = walk_stopped(rt, alloc, publisher, windows, &all, page).ok_or("memory")?;
+    Ok(seen)
+}
+
+#[test]
+fn a_stopped_board_shows_what_it_showed(rt: HostRuntime) -> Result<(), Fail> {
+    let seen = look_on_stopped::<Brand, _>(&rt, rt.alloc(), Blank::new())?;
+    assert!(rt; seen == [true; 3], "{seen:?}");
     Ok(())
 }
 
 /// Whether a board for two windows has a place for one more while there are two.
-fn has_third(publisher: &Publisher<Brand>) -> bool {
+fn has_third<J: Naming>(publisher: &Publisher<J>) -> bool {
     match windows(publisher) {
         Some((_one, _two)) => publisher.window().is_ok(),
         None => true,
     }
 }
 
-#[test]
-fn a_window_that_is_left_gives_its_place_back(rt: HostRuntime) -> Result<(), Fail> {
-    let publisher = open_board(rt.alloc())?;
+/// Whether a board for two windows has no third place, and has both again once they are left.
+fn count_places<J: Naming, R: Wait>(rt: &R, alloc: Global, blank: Blank) -> Result<[bool; 2], Fail>
+    requires { blank ≡ J.book }
+{
+    let publisher = open_board::<J, R>(rt, alloc, blank)?;
     let is_full = !has_third(&publisher);
     let is_free = windows(&publisher).is_some();
-    publisher.close(&rt);
-    assert!(rt; is_full && is_free);
+    publisher.close(rt);
+    Ok([is_full, is_free])
+}
+
+#[test]
+fn a_window_that_is_left_gives_its_place_back(rt: HostRuntime) -> Result<(), Fail> {
+    let places = count_places::<Brand, _>(&rt, rt.alloc(), Blank::new())?;
+    assert!(rt; places == [true; 2], "{places:?}");
     Ok(())
 }

@@ -11,7 +11,7 @@ use sqlite::{Connection, MemStore};
 use std::alloc::Global;
 use std::io::{Read, Write};
 use std::sync::Wait;
-use terms::{CardKey, Fault, Memory, PatronId, Request};
+use terms::{CardKey, Fault, Memory, PatronId, Request, ServiceFault};
 
 /// What a hall is opened with or given back as.
 pub type Side<J> = (DeskSide<J, MemStore>, Vec<Worker<J>>);
@@ -30,7 +30,7 @@ pub fn open_hall<J: Opening, R: Wait>(
     desk: Desk<MemStore>,
     workers: usize,
 ) -> Result<Side<J>, (u32, Desk<MemStore>)>
-    requires name { opened ≡ J.name }
+    requires name { (opened.queue ≡ J.name) × (opened.blank ≡ J.book) }
     requires none { (H : History) → J.shows H → ⊥ }
 {
     match Hall::new::<J, MemStore, R>(rt, alloc, opened, desk, workers) {
@@ -47,7 +47,7 @@ pub fn open_in_memory<J: Opening, R: Wait>(
     opened: Opened,
     workers: usize,
 ) -> Result<Side<J>, u32>
-    requires name { opened ≡ J.name }
+    requires name { (opened.queue ≡ J.name) × (opened.blank ≡ J.book) }
     requires shows { (H : History) → J.shows H → H ≡ [] }
     ensures { IfOk result (λ r. OpensWith J.shows over_memory r.0.desk r.0.publisher.shown) }
 {
@@ -67,7 +67,7 @@ pub fn handle_all<J: Opening, R: Wait>(
     rt: &R,
     alloc: Global,
     side: DeskSide<J, MemStore>,
-) -> (Desk<MemStore>, Ended<J>, Option<Fault>)
+) -> (Desk<MemStore>, Ended<J>, Option<ServiceFault>)
     requires { (H : History) → J.shows H → ⊥ }
 {
     side.desk_loop(rt, alloc)
@@ -78,7 +78,7 @@ pub fn handle_in_memory<J: Opening, R: Wait>(
     rt: &R,
     alloc: Global,
     side: DeskSide<J, MemStore>,
-) -> (Desk<MemStore>, Ended<J>, Option<Fault>)
+) -> (Desk<MemStore>, Ended<J>, Option<ServiceFault>)
     requires { OpensWith J.shows over_memory side.desk side.publisher.shown }
 {
     side.desk_loop(rt, alloc)
@@ -104,11 +104,12 @@ pub fn leave<J: Opening, R: Wait>(rt: &R, worker: Worker<J>) -> Left<J> {
     worker.leave(rt)
 }
 
-/// Takes in the end of a worker, and tells whether the desk was told that it left.
+/// Takes in the end of a worker, and tells whether the desk was told that it left, and it took part in
+/// the hall.
 pub fn take_in<J: Opening>(ended: &mut Ended<J>, left: Left<J>) -> bool {
     let is_told = left.is_told;
-    ended.take_in(left);
-    is_told
+    let took_part = ended.take_in(left);
+    is_told && took_part
 }
 
 /// Ends what is left of a desk's side, and tells how many submissions were handled.

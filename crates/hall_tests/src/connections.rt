@@ -157,7 +157,7 @@ fn meet<J: Opening + Send + Sync + 'static, R: Threads + Wait + Abort + Copy + S
     opened: Opened,
     deed: Deed,
 ) -> Result<(usize, u64, String), Fail>
-    requires name { opened ≡ J.name }
+    requires name { (opened.queue ≡ J.name) × (opened.blank ≡ J.book) }
     requires none { (H : History) → J.shows H → ⊥ }
 {
     let Ok((side, all)) = open_hall::<J, R>(&rt, alloc, opened, library(alloc)?, 1) else {

@@ -15,6 +15,8 @@ mod hostile;
 #[cfg(test)]
 mod library;
 #[cfg(test)]
+mod lists;
+#[cfg(test)]
 mod new_library;
 #[cfg(test)]
 mod reopened;

@@ -203,7 +203,7 @@ fn meet<J: Opening + Send + Sync + 'static, R: Threads + Wait + Abort + Copy + S
     alloc: Global,
     opened: Opened,
 ) -> Result<(Option<usize>, u64), Fail>
-    requires name { opened ≡ J.name }
+    requires name { (opened.queue ≡ J.name) × (opened.blank ≡ J.book) }
     requires shows { (H : History) → J.shows H → H ≡ [] }
 {
     let Ok((side, all)) = open_in_memory::<J, R>(&rt, alloc, opened, 2) else {
@@ -243,7 +243,7 @@ fn refuse<J: Opening, R: Wait + Abort>(
     opened: Opened,
     workers: usize,
 ) -> Result<(), Fail>
-    requires name { opened ≡ J.name }
+    requires name { (opened.queue ≡ J.name) × (opened.blank ≡ J.book) }
     requires shows { (H : History) → J.shows H → H ≡ [] }
 {
     match open_in_memory::<J, _>(rt, alloc, opened, workers) {

@@ -17,7 +17,7 @@ use std::sync::Wait;
 use std::test::Fail;
 use std::thread;
 use std::thread::Threads;
-use terms::Fault;
+use terms::{Fault, ServiceFault};
 use test_library::rows;
 
 const LENDING: &str =
@@ -104,9 +104,8 @@ fn work<J: Opening, R: Wait>(
 fn take_both<J: Opening>(ended: &mut Ended<J>, served: Served<J>) -> Option<usize> {
     let Served { lefts, right } = served;
     let (one, two) = lefts;
-    take_in(ended, one);
-    take_in(ended, two);
-    right
+    let took_part = take_in(ended, one) && take_in(ended, two);
+    right.filter(|_| took_part)
 }
 
 /// A hall of two workers over a desk, whose database has a limit on its steps or none: how many answers were right, the
@@ -118,8 +117,8 @@ fn run_hall<J: Opening + Send + Sync + 'static, R: Threads + Wait + Copy + Send 
     desk: Desk<MemStore>,
     limit: Option<u64>,
     asked: Asked,
-) -> Result<(Option<usize>, Desk<MemStore>, Option<Fault>), Fail>
-    requires name { opened ≡ J.name }
+) -> Result<(Option<usize>, Desk<MemStore>, Option<ServiceFault>), Fail>
+    requires name { (opened.queue ≡ J.name) × (opened.blank ≡ J.book) }
     requires none { (H : History) → J.shows H → ⊥ }
 {
     let Ok((mut side, all)) = open_hall::<J, R>(&rt, alloc, opened, desk, 2) else {
@@ -154,7 +153,7 @@ fn a_new_hall_over_the_desk_of_a_closed_one_goes_on(rt: HostRuntime) -> Result<(
         REFUSED,
     )?;
     assert!(&rt;
-        right == Some(3) && fault == Some(Fault::Database),
+        right == Some(3) && fault == Some(ServiceFault::Met(Fault::Database)),
         "{right:?} {fault:?}"
     );
     desk.limit_steps(None);

@@ -19,7 +19,7 @@ use std::sync::Wait;
 use std::test::Fail;
 use std::thread;
 use std::thread::{JoinHandle, Threads};
-use terms::{Fault, PatronId};
+use terms::{PatronId, ServiceFault};
 use test_library::{rows, run};
 
 /// How many holds a page shows.
@@ -90,7 +90,7 @@ struct Met {
     told: Option<Told>,
     desk: Desk<MemStore>,
     handled: u64,
-    fault: Option<Fault>,
+    fault: Option<ServiceFault>,
 }
 
 /// Waits for the threads, and takes in the ends of the workers.
@@ -186,7 +186,7 @@ fn run_hall<J: Opening + Send + Sync + 'static, R: Threads + Wait + Abort + Copy
     workers: u64,
     each: u64,
 ) -> Result<(), Fail>
-    requires name { opened ≡ J.name }
+    requires name { (opened.queue ≡ J.name) × (opened.blank ≡ J.book) }
     requires none { (H : History) → J.shows H → ⊥ }
 {
     let desk = library_of(alloc, each)?;
@@ -214,8 +214,8 @@ fn eight_workers(rt: HostRuntime) -> Result<(), Fail> {
 struct Cut {
     shown: usize,
     handled: u64,
-    told: Fault,
-    fault: Fault,
+    told: ServiceFault,
+    fault: ServiceFault,
 }
 
 /// Where it ends, and all rows after it.
@@ -233,8 +233,13 @@ fn run_limited(alloc: Global, limit: u64) -> Result<Option<Wanted>, Fail> {
     for request in &holds(alloc, 1)? {
         let patron = PatronId::new(1);
         let (is_handled, fault) = handle_and_look(&mut desk, alloc, request, patron, limit);
-        if let Some(fault) = fault {
-            let told = if is_handled { Fault::Closed } else { fault };
+        if let Some(met) = fault {
+            let fault = ServiceFault::Met(met);
+            let told = if is_handled {
+                ServiceFault::Closed
+            } else {
+                fault
+            };
             let handled = (shown as u64).wrapping_add(u64::from(is_handled));
             let text = rows(alloc, &mut connection(desk))?;
             return Ok(Some(Wanted {
@@ -262,7 +267,7 @@ fn is_answered(alloc: Global, cut: Cut, title: u64, text: &str) -> Option<bool> 
     let fault = if title == shown.wrapping_add(1) {
         cut.told
     } else {
-        Fault::Closed
+        ServiceFault::Closed
     };
     let number = fault.number();
     let line = format!(in alloc; "503 Service Unavailable {{\"fault\":{number}}}").ok()?;
@@ -346,9 +351,8 @@ fn take_both<J: Opening>(
         second,
     } = answered;
     let (one, two) = lefts;
-    take_in(ended, one);
-    take_in(ended, two);
-    (first, second)
+    let took_part = take_in(ended, one) && take_in(ended, two);
+    (first.filter(|_| took_part), second.filter(|_| took_part))
 }
 
 /// The hall closes where the list ends, and both workers are told.
@@ -356,7 +360,7 @@ fn check_closed<
     J: Opening + Send + Sync + 'static,
     R: Threads + Wait + Abort + Copy + Send + 'static,
 >(rt: R, alloc: Global, opened: Opened, limit: u64, wanted: &Wanted) -> Result<(), Fail>
-    requires name { opened ≡ J.name }
+    requires name { (opened.queue ≡ J.name) × (opened.blank ≡ J.book) }
     requires none { (H : History) → J.shows H → ⊥ }
 {
     let desk = library(alloc)?;
@@ -411,7 +415,7 @@ fn refuse<J: Opening, R: Wait + Abort>(
     opened: Opened,
     workers: usize,
 ) -> Result<(), Fail>
-    requires name { opened ≡ J.name }
+    requires name { (opened.queue ≡ J.name) × (opened.blank ≡ J.book) }
     requires none { (H : History) → J.shows H → ⊥ }
 {
     match open_hall::<J, _>(rt, alloc, opened, library(alloc)?, workers) {

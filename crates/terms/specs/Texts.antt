@@ -9,6 +9,8 @@ use Rattle.terms.specs.declared.refusal.Refusal.{Refusal}
 use Rattle.terms.specs.declared.refusal.Refusal.TheVariants as refusal
 use Rattle.terms.specs.declared.fault.Fault.{Fault}
 use Rattle.terms.specs.declared.fault.Fault.TheVariants as fault
+use Rattle.terms.specs.declared.fault.ServiceFault.{ServiceFault}
+use Rattle.terms.specs.declared.fault.ServiceFault.TheVariants as service
 use Rattle.terms.specs.declared.reply.Routed.{Routed}
 use Rattle.terms.specs.declared.reply.Routed.TheVariants.{Shelf, HoldShelf, Transit}
 use Rattle.terms.specs.declared.reply.Reply.{Reply}
@@ -125,8 +127,12 @@ refusal_number refusal.NotAllowed = 81
 abbrev pub fault_number : Fault → ℕ
 fault_number fault.Memory = 90
 fault_number fault.Database = 91
-fault_number fault.Closed = 92
 fault_number fault.Stored = 93
+
+-- the number of a fault of a hall
+abbrev pub service_fault_number : ServiceFault → ℕ
+service_fault_number (service.Met met) = fault_number met
+service_fault_number service.Closed = 92
 
 -- the words of a reply that isn't a page
 unfoldable pub reply_words : Reply → List (List ℕ)

@@ -1,8 +1,9 @@
 //! Why a request could not be answered.
 
 ghost use Rattle.std.specs.Prelude.{◌≡◌};
-ghost use Rattle.terms.specs.Texts.{fault_number};
+ghost use Rattle.terms.specs.Texts.{fault_number, service_fault_number};
 ghost use Rattle.terms.specs.declared.fault.Fault.TheVariants.{Memory as NoMemory};
+ghost use Rattle.terms.specs.declared.fault.ServiceFault.TheVariants.{Met};
 
 use std::alloc::{AllocError, AllocFailed};
 use std::fmt;
@@ -14,8 +15,6 @@ pub enum Fault {
     Memory,
     /// 91: the database refused a call, for whatever cause.
     Database,
-    /// 92: the hall is closed or was not opened, or a worker's numbers are used up.
-    Closed,
     /// 93: the schema is unknown, or a stored row is outside its columns or limits.
     Stored,
 }
@@ -28,7 +27,6 @@ impl Fault {
         match self {
             Fault::Memory => 90,
             Fault::Database => 91,
-            Fault::Closed => 92,
             Fault::Stored => 93,
         }
     }
@@ -60,5 +58,50 @@ impl<T: Drop> From<AllocFailed<T>> for Fault {
 
     fn from(_error: AllocFailed<T>) -> Fault {
         Fault::Memory
+    }
+}
+
+/// Why a request to a hall has no reply.
+#[derive(Clone, Copy, Debug, PartialEq, Eq)]
+pub enum ServiceFault {
+    /// 90, 91 or 93: the fault that was met.
+    Met(Fault),
+    /// 92: the hall is closed or was not opened, or a worker's numbers are used up.
+    Closed,
+}
+
+impl ServiceFault {
+    /// The number that stands for the fault in answers.
+    pub fn number(self) -> u32
+        ensures { result ≡ service_fault_number self }
+    {
+        match self {
+            ServiceFault::Met(fault) => fault.number(),
+            ServiceFault::Closed => 92,
+        }
+    }
+}
+
+impl From<Fault> for ServiceFault {
+    ghost from_gives = { λ fault service. service ≡ Met fault };
+
+    fn from(fault: Fault) -> ServiceFault {
+        ServiceFault::Met(fault)
+    }
+}
+
+impl From<AllocError> for ServiceFault {
+    ghost from_gives = { λ _ service. service ≡ Met NoMemory };
+
+    fn from(_error: AllocError) -> ServiceFault {
+        ServiceFault::Met(Fault::Memory)
+    }
+}
+
+impl<T: Drop> From<AllocFailed<T>> for ServiceFault {
+    ghost from_gives = { λ _ service. service ≡ Met NoMemory };
+
+    fn from(_error: AllocFailed<T>) -> ServiceFault {
+        ServiceFault::Met(Fault::Memory)
     }
 }

@@ -22,7 +22,7 @@ mod writing;
 
 pub use calendar::{Day, Memory, Weekdays};
 pub use command::{Caller, Command, Owner, Request, request_text};
-pub use fault::Fault;
+pub use fault::{Fault, ServiceFault};
 pub use form::{CommandForm, PartForm, PartKind, command_forms, parts_for};
 pub use laws::{
     can_be_kept, command_has_forms, commands_are_listed, reply_texts_are_utf8, reply_texts_differ,

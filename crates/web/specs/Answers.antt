@@ -3,7 +3,7 @@ use Rattle.std.specs.Prelude.{ℕ, List, [], ◌∷◌, ◌++◌, length, codes,
 use Rattle.http.specs.StatusCode.{reason_phrase}
 use Rattle.serde_json.specs.Data.{Data, number, unsigned, string, object, member, no_members}
 use Rattle.serde_json.specs.Written.{compact_text}
-use Rattle.terms.specs.Texts.{reply_text, refusal_number, fault_number}
+use Rattle.terms.specs.Texts.{reply_text, refusal_number, service_fault_number}
 use Rattle.terms.specs.declared.refusal.Refusal.{Refusal}
 use Rattle.terms.specs.declared.refusal.Refusal.TheVariants.{NotAllowed}
 use Rattle.terms.specs.declared.reply.Reply.{Reply}
@@ -65,7 +65,7 @@ allow_line PayloadTooLarge = []
 abbrev pub answer_bytes : Answer → List ℕ
 answer_bytes (Accepted json) = answer_text 200 [] json
 answer_bytes (Refused refusal) = answer_text (refusal_status refusal) [] (number_member (codes "refusal") (refusal_number refusal))
-answer_bytes (Faulted fault) = answer_text 503 [] (number_member (codes "fault") (fault_number fault))
+answer_bytes (Faulted fault) = answer_text 503 [] (number_member (codes "fault") (service_fault_number fault))
 answer_bytes (Failed status) = answer_text (status_number status) (allow_line status) (number_member (codes "status") (status_number status))
 
 -- The answer that tells a reply.

@@ -13,7 +13,7 @@ use http::StatusCode;
 use itoa::Buffer;
 use std::alloc::Global;
 use std::io::Write;
-use terms::{Fault, Memory, Refusal, Reply, WriteFault, reply_text, write_pieces};
+use terms::{Memory, Refusal, Reply, ServiceFault, WriteFault, reply_text, write_pieces};
 
 /// What a request is answered.
 #[derive(Drop)]
@@ -23,7 +23,7 @@ pub enum Answer {
     /// 403 for a wrong key or a request that is not allowed, else 409: it is refused.
     Refused(Refusal),
     /// 503: it could not be answered.
-    Faulted(Fault),
+    Faulted(ServiceFault),
     /// 400, 404, 405 or 413: it fails a check.
     Failed(WebStatus),
 }

@@ -7,7 +7,9 @@ use crate::examples::{
 use http::Method;
 use std::alloc::Global;
 use std::test::Fail;
-use terms::{CardKey, Day, Fault, HoldId, Key, LoanId, Refusal, Reply, Text, request_text};
+use terms::{
+    CardKey, Day, Fault, HoldId, Key, LoanId, Refusal, Reply, ServiceFault, Text, request_text,
+};
 use test_bytes::{Drip, Narrow};
 use web::{
     Answer, AnswerFault, WebFault, WebRequest, WebStatus, read_answer, read_request,
@@ -282,7 +284,10 @@ fn answers(alloc: Global) -> Result<[(Answer, &'static str); 11], Fail> {
             FORBIDDEN,
         ),
         (Answer::Refused(Refusal::UnknownBranch), CONFLICT),
-        (Answer::Faulted(Fault::Database), UNAVAILABLE),
+        (
+            Answer::Faulted(ServiceFault::Met(Fault::Database)),
+            UNAVAILABLE,
+        ),
         (
             Answer::Failed(WebStatus::MethodNotAllowed(Method::POST)),
             ONLY_POST,

@@ -1,3 +1,4 @@
+use Rattle.terms.specs.Texts.{fault_number}
 use Rattle.circ.specs.Auditing.{SaysOf}
 use Rattle.circ.specs.Lines.{sound_line, finding_line, fault_line}
 use Rattle.circ.specs.declared.lines.Exit.TheVariants.{Done, Refused, Faulted}
@@ -8,10 +9,10 @@ use Rattle.circ.proofs.auditing.audit.Goals as goal
 pub returns-in-Err : goal.returns-in-Err
 returns-in-Err g c = record {
   clean = c.in-Err.ensures.reads.clean;
-  written = said-whole (SaysOf g.S.Store c.args.store.now c.audit_tables.new.self) c.tell_fault.result _ _ (fault_line c.in-Err.fault) Faulted
+  written = said-whole (SaysOf g.S.Store c.args.store.now c.audit_tables.new.self) c.tell_fault.result _ _ (fault_line (fault_number c.in-Err.fault)) Faulted
       (says-faulted g.S.Store c.args.store.now c.audit_tables.new.self c.in-Err.fault c.in-Err.ensures) c.tell_fault.ensures.exit_is c.tell_fault.ensures.writes.all;
   left = c.in-Err.ensures.reads.left;
-  cut = said-cut (SaysOf g.S.Store c.args.store.now c.audit_tables.new.self) c.tell_fault.result _ _ (fault_line c.in-Err.fault) Faulted
+  cut = said-cut (SaysOf g.S.Store c.args.store.now c.audit_tables.new.self) c.tell_fault.result _ _ (fault_line (fault_number c.in-Err.fault)) Faulted
       (says-faulted g.S.Store c.args.store.now c.audit_tables.new.self c.in-Err.fault c.in-Err.ensures) c.tell_fault.ensures.writes.front;
 }
 

@@ -5,8 +5,10 @@ use Rattle.terms.specs.Writing.{AppendsFront}
 use Rattle.front.specs.declared.copies.CopyRow.{CopyRow}
 use Rattle.std.specs.Io.KnownBytes.{Appends}
 use Rattle.desk.proofs.Looking.{on-err, on-err-any}
+use Rattle.desk.proofs.Shown.{shows-headline}
 use Rattle.circ.specs.Importing.{end_line, end_exit, counts_line, ImportsOf}
 use Rattle.circ.specs.declared.importing.Counts.{Counts}
+use Rattle.terms.specs.Texts.{fault_number}
 use Rattle.circ.specs.Lines.{fault_line}
 use Rattle.circ.specs.declared.lines.Exit.TheVariants.{Faulted}
 use Rattle.terms.proofs.Fronts.{after-nothing, front-after-nothing}
@@ -30,6 +32,7 @@ import_row-requires g c = let far = c.rows.invariant.so_far in
 pub returns-in_err-fault : goal.returns-in_err-fault
 returns-in_err-fault g c = record {
   clean = λ disk. c.rows.invariant.so_far.handled.clean (c.in_err-fault.ensures.clean disk);
+  headline = shows-headline _;
   written = search rules;
   cut = let far = c.rows.invariant.so_far in
       let all : List CopyRow = c.args.rows.items in
@@ -43,6 +46,7 @@ returns-in_err-fault g c = record {
 pub returns-in-Some-2 : goal.returns-in-Some-2
 returns-in-Some-2 g c = record {
   clean = λ disk. c.rows.invariant.so_far.handled.clean (c.in_ok-fault.ensures.clean disk);
+  headline = shows-headline _;
   written = let far = c.rows.invariant.so_far in
       let all : List CopyRow = c.args.rows.items in
       let at = within all c.rows.yielded (into_iter_items c.rows.row-iterator) (into_iter_items c.next.new.self) c.in-Some.row (c.rows.invariant.parted ∙ c.into_iter-row-iterator.ensures.into_iter_gives.0) c.in-Some.ensures.steps.0 in
@@ -55,9 +59,9 @@ returns-in-Some-2 g c = record {
       ends-as (λ exit. ImportsOf all c.args.end g.S.Store c.args.desk.now c.import_row.new.desk (Appends a d) exit) c.tell_stop.result Faulted c.tell_stop.ensures.exit_is c.tell_stop.ensures.writes.all
       (λ wrote. inr (imports-some g.S.Store c.args.desk.now c.rows.desk c.import_row.new.desk all c.rows.yielded c.rows.counts a b c.in-Some.row far at fault (Appends a d)
       c.in_ok-fault.ensures.clean (c.in_ok-fault.ensures.sound fault is) (c.in_ok-fault.ensures.undone fault is) c.in_ok-fault.ensures.left
-      (lines-whole g.S.Store c.args.desk.now c.rows.desk c.rows.yielded c.rows.counts a b far (fault_line fault) d
-      (after-nothing b (g.W.Write.contents c.import_row.new.writer) d (fault_line fault ++ counts_line c.rows.counts.accepted c.rows.counts.refused) kept.0
-      (subst (λ (n : Counts). Appends (g.W.Write.contents c.import_row.new.writer) d (fault_line fault ++ counts_line n.accepted n.refused)) kept.1 wrote)))));
+      (lines-whole g.S.Store c.args.desk.now c.rows.desk c.rows.yielded c.rows.counts a b far (fault_line (fault_number fault)) d
+      (after-nothing b (g.W.Write.contents c.import_row.new.writer) d (fault_line (fault_number fault) ++ counts_line c.rows.counts.accepted c.rows.counts.refused) kept.0
+      (subst (λ (n : Counts). Appends (g.W.Write.contents c.import_row.new.writer) d (fault_line (fault_number fault) ++ counts_line n.accepted n.refused)) kept.1 wrote)))));
   cut = let far = c.rows.invariant.so_far in
       let all : List CopyRow = c.args.rows.items in
       let at = within all c.rows.yielded (into_iter_items c.rows.row-iterator) (into_iter_items c.next.new.self) c.in-Some.row (c.rows.invariant.parted ∙ c.into_iter-row-iterator.ensures.into_iter_gives.0) c.in-Some.ensures.steps.0 in
@@ -72,9 +76,9 @@ returns-in-Some-2 g c = record {
         Faulted,
         inr (imports-some g.S.Store c.args.desk.now c.rows.desk c.import_row.new.desk all c.rows.yielded c.rows.counts a b c.in-Some.row far at fault (AppendsFront a d)
             c.in_ok-fault.ensures.clean (c.in_ok-fault.ensures.sound fault is) (c.in_ok-fault.ensures.undone fault is) c.in_ok-fault.ensures.left
-            (lines-front g.S.Store c.args.desk.now c.rows.desk c.rows.yielded c.rows.counts a b far (fault_line fault) d
-            (front-after-nothing b (g.W.Write.contents c.import_row.new.writer) d (fault_line fault ++ counts_line c.rows.counts.accepted c.rows.counts.refused) kept.0
-            (subst (λ (n : Counts). AppendsFront (g.W.Write.contents c.import_row.new.writer) d (fault_line fault ++ counts_line n.accepted n.refused)) kept.1 front)))),
+            (lines-front g.S.Store c.args.desk.now c.rows.desk c.rows.yielded c.rows.counts a b far (fault_line (fault_number fault)) d
+            (front-after-nothing b (g.W.Write.contents c.import_row.new.writer) d (fault_line (fault_number fault) ++ counts_line c.rows.counts.accepted c.rows.counts.refused) kept.0
+            (subst (λ (n : Counts). AppendsFront (g.W.Write.contents c.import_row.new.writer) d (fault_line (fault_number fault) ++ counts_line n.accepted n.refused)) kept.1 front)))),
       ))
       c.tell_stop.ensures.writes.front;
 }
@@ -94,6 +98,7 @@ rows-preserved g c = let far = c.rows.invariant.so_far in
 pub returns : goal.returns
 returns g c = record {
   clean = λ disk. c.rows.invariant.so_far.handled.clean disk;
+  headline = shows-headline _;
   written = let far = c.rows.invariant.so_far in
       let all : List CopyRow = c.args.rows.items in
       let none = nothing-left (into_iter_items c.rows.row-iterator) (sym c.rows.invariant.many ∙ c.in-None.ensures.steps.0) in

@@ -1,6 +1,7 @@
 use Rattle.std.proofs.Common.{rules, ap, Err, [], ◌∙◌}
 use Rattle.std.proofs.KnownBytes.{Appends-kept, Appends-nil}
 use Rattle.desk.specs.declared.reporting.ReportFault.TheVariants.{Faulted as Met}
+use Rattle.desk.proofs.Shown.{shows-headline}
 use Rattle.circ.specs.Reporting.{TellsOf}
 use Rattle.circ.specs.declared.lines.Exit.TheVariants.{Done, Refused, Faulted}
 use Rattle.circ.proofs.Told.{tells-report, tells-unknown, tells-fault, told-whole, told-cut}
@@ -9,6 +10,7 @@ use Rattle.circ.proofs.reports.report.Goals as goal
 pub returns-in-Ok : goal.returns-in-Ok
 returns-in-Ok g c = record {
   clean = search rules;
+  headline = shows-headline _;
   written = tells-report g.S.Store c.args.desk.now c.report.new.self c.args.report.now _
       (λ disk H shows. let out = c.in-Ok.ensures.written disk H shows in (out.0, out.1, c.in-Ok.ensures.looks.stays disk H shows));
   left = search rules;
@@ -18,6 +20,7 @@ returns-in-Ok g c = record {
 pub returns-in-Err-Refused : goal.returns-in-Err-Refused
 returns-in-Err-Refused g c = record {
   clean = search rules;
+  headline = shows-headline _;
   written = let is = ap Err c.in-Err-Refused.field-0-is in
       let refused = c.in-Err-Refused.ensures.refused c.in-Err-Refused.refusal is in
       told-whole (TellsOf c.args.report.now g.S.Store c.args.desk.now c.report.new.self) c.tell_reply.result _ _ _ [] _ Refused
@@ -36,6 +39,7 @@ returns-in-Err-Refused g c = record {
 pub returns-in-Err-Faulted : goal.returns-in-Err-Faulted
 returns-in-Err-Faulted g c = record {
   clean = search rules;
+  headline = shows-headline _;
   written =
       told-whole (TellsOf c.args.report.now g.S.Store c.args.desk.now c.report.new.self) c.tell_fault.result _ _ _ c.in-Err-Faulted.ensures.cut.sent _ Faulted
       (λ WentOut line. tells-fault g.S.Store c.args.desk.now c.report.new.self c.args.report.now WentOut c.in-Err-Faulted.ensures.cut.sent c.in-Err-Faulted.ensures.cut.front c.in-Err-Faulted.fault
@@ -52,6 +56,7 @@ returns-in-Err-Faulted g c = record {
 pub returns-in-Err-NotWritten : goal.returns-in-Err-NotWritten
 returns-in-Err-NotWritten g c = record {
   clean = search rules;
+  headline = shows-headline _;
   written = search rules;
   left = search rules;
   cut = (

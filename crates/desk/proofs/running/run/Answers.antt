@@ -9,7 +9,7 @@ use Rattle.model.specs.Requests.{after, replies, after_one}
 use Rattle.model.specs.Picture.{picture}
 use Rattle.desk.specs.Answering.{Shows, LeavesOneOf}
 use Rattle.desk.proofs.Afterwards.{after-last, replies-last}
-use Rattle.desk.proofs.Shown.{headline}
+use Rattle.desk.proofs.Shown.{shows-headline}
 use Rattle.desk.proofs.running.run.Goals as goal
 
 pub returns-in-Err : goal.returns-in-Err
@@ -49,7 +49,7 @@ returns g c =
       ran = λ disk H shows. rw whole at (c.requests.invariant.so_far disk H shows);
       headline = λ disk H shows.
           let done = rw whole at (c.requests.invariant.so_far disk H shows) in
-          (picture (after H xs), done.1.tables.now, headline (after H xs) done.1.legal done.1.forms);
+          shows-headline _ (after H xs) done.1;
       sound = search rules;
       stopped = search rules;
     }

@@ -1,5 +1,9 @@
 use Rattle.hall_tests.proofs.reopened.a_new_hall_over_the_desk_of_a_closed_one_goes_on.Given as goal
 
 -- the queue that was just opened; nothing is said of what the desk shows
-abbrev pub ghosts-run_hall : goal.ghosts-run_hall
-ghosts-run_hall g a = record { name = a.opened; shows = λ _. ⊥ }
+abbrev pub ghosts-run_hall-J-Opening : goal.ghosts-run_hall-J-Opening
+ghosts-run_hall-J-Opening g a = record { name = a.opened.queue; shows = λ _. ⊥ }
+
+-- the board that was just made
+abbrev pub ghosts-run_hall-J-Naming : goal.ghosts-run_hall-J-Naming
+ghosts-run_hall-J-Naming g a = record { book = a.opened.blank }

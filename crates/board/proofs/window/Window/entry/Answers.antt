@@ -1,17 +1,17 @@
-use Rattle.std.proofs.Common.{◌≡◌, List, Option, None, Some, Global, sym, ap, subst}
+use Rattle.std.proofs.Common.{◌≡◌, List, Option, None, Some, Global, sym, ap, ◌∙◌, subst}
 use Rattle.std.specs.Prelude.{IfSome}
 use Rattle.left_right.specs.Sides.{view}
 use Rattle.std.specs.Arc.{arc_value}
 use Rattle.std.specs.declared.sync.Arc.{Arc}
 use Rattle.board.specs.declared.entry.Entry.{Entry}
 use Rattle.board.specs.declared.entry.Seen.{Seen}
-use Rattle.board.specs.Showing.{Showing, ShowsEntry, IsReply}
-use Rattle.board.proofs.Keeping.{looks, found}
+use Rattle.board.specs.Showing.{Showing, ShowsEntry, IsReply, entries_of}
+use Rattle.board.proofs.Keeping.{looks, seen-now, found}
 use Rattle.board.proofs.window.Window.entry.Goals as goal
 use Rattle.board.proofs.window.Window.entry.Goals.{in-Ok-entry, in-Err-entry}
 
 pub enter_as-requires : goal.enter_as-requires
-enter_as-requires g c = looks c.in-Some.reader.place.id (view c.in-Some.reader.place)
+enter_as-requires g c = looks g.J.Naming.book c.in-Some.reader.place.id (view c.in-Some.reader.place)
 
 if_some : {X : Type 0} (o : Option X) (P Q : X → Type 0) → ((x : X) → P x → Q x) → IfSome o P → IfSome o Q
 if_some (Some x) P Q f h = f x h
@@ -20,9 +20,9 @@ if_some None P Q f h = tt
 pub returns-after-entry-clause-found : goal.returns-after-entry-clause-found
 returns-after-entry-clause-found g c =
     let seen = view c.in-Ok.reading.place in
-    let now = (view c.leave.result.place).entries in
-    let same : now ≡ seen.entries = ap (λ (s : Seen). s.entries) c.leave.ensures.1 in
     let looked = c.in-Ok.ensures.1 in
+    let now = entries_of c.frames.result.items in
+    let same : now ≡ seen.entries = ap (λ (s : Seen). s.entries) (seen-now c.in-Ok.reading.part.value c.frames.result seen looked.is (c.frames.ensures ∙ ap (λ x. x.frames) c.get-in-Ok.ensures)) in
     elim c.match-entry.branch [
       | in-Ok-entry w ↦ rw w.result-is (if_some w.in-Ok-entry.found
           (λ (a : Arc Entry Global). ShowsEntry c.get.result.now c.args.worker c.args.number c.args.request.now (arc_value a))

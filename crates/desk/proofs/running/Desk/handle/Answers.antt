@@ -2,7 +2,7 @@ use Rattle.model.specs.History.{History}
 use Rattle.model.specs.Picture.{picture}
 use Rattle.model.specs.Requests.{after_one}
 use Rattle.desk.proofs.Looking.{if-ok-is, if-ok-given}
-use Rattle.desk.proofs.Shown.{headline}
+use Rattle.desk.proofs.Shown.{shows-headline}
 use Rattle.desk.proofs.running.Desk.handle.Goals as goal
 
 pub returns : goal.returns
@@ -13,5 +13,5 @@ returns g c =
       headline = λ disk. if-ok-is _ c.handle.result (λ reply told H shows.
           let K : History = after_one H c.args.request.now in
           let done = if-ok-given {G = Unit {0}} _ c.handle.result (λ _. is.replied disk) reply told tt H shows in
-          (picture K, done.1.tables.now, headline K done.1.legal done.1.forms));
+          shows-headline _ K done.1);
     }

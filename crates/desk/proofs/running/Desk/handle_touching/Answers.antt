@@ -1,7 +1,7 @@
 use Rattle.model.specs.History.{History}
 use Rattle.model.specs.Picture.{picture}
 use Rattle.model.specs.Requests.{after_one}
-use Rattle.desk.proofs.Shown.{headline}
+use Rattle.desk.proofs.Shown.{shows-headline}
 use Rattle.desk.proofs.Untouched.{page-kept}
 use Rattle.desk.proofs.running.Desk.handle_touching.Goals as goal
 
@@ -15,7 +15,7 @@ returns g c =
         headline = λ disk H shows.
             let K : History = after_one H c.args.request.now in
             let done = is.replied disk H shows in
-            (picture K, done.1.tables.now, headline K done.1.legal done.1.forms);
+            shows-headline _ K done.1;
       };
       kept = λ disk H shows p out. page-kept H c.args.request.now c.handle_touching.new.touched shows.legal (touches disk H shows) p out;
     }

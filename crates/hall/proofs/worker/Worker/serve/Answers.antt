@@ -3,6 +3,7 @@ use Rattle.std.specs.Prelude.{Option, Some, None, Err}
 use Rattle.web.specs.declared.answer.Answer.{Answer}
 use Rattle.web.specs.declared.answer.Answer.TheVariants.{Faulted, Failed}
 use Rattle.terms.specs.declared.fault.Fault.TheVariants.{Memory}
+use Rattle.terms.specs.declared.fault.ServiceFault.TheVariants.{Met}
 use Rattle.hall.specs.Serving.{Working, Meets}
 use Rattle.hall.proofs.Served.{read-status, status-served, want-served, request-served}
 use Rattle.hall.proofs.worker.Worker.serve.Goals.{in-Ok, in-Err-Status, in-Err-Memory, in-Err-Read}
@@ -26,7 +27,7 @@ returns-in-Some g c =
           (read-status bytes c.read_request.result w.in-Err-Status.status (w.in-Err-Status.is ∙ ap Err w.in-Err-Status.field-0-is) c.read_request.ensures)
       | in-Err-Memory w ↦
           want-served c.args.desk_key.now bytes old m.self (g.O.Write.contents c.args.writer.now) (g.O.Write.contents c.send.new.writer) c.send.result told c.send.ensures
-          w.self-is (some-is told (Faulted Memory) (sym c.in-Some.is ∙ w.answer-is))
+          w.self-is (some-is told (Faulted (Met Memory)) (sym c.in-Some.is ∙ w.answer-is))
       | in-Err-Read w ↦ let never : Some told ≡ None = sym c.in-Some.is ∙ w.answer-is in absurd (cc)
     ]
   where
