@@ -31,7 +31,7 @@ fn begin<S: Alter>(conn: &mut Connection<S>) -> Result<Transaction<'_, S>, Fault
     if conn.is_autocommit() {
         Ok(conn.transaction())
     } else {
-        Err(Fault::Closed)
+        Err(Fault::Database)
     }
 }
 
