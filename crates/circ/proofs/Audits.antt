@@ -73,6 +73,7 @@ module _ {S : Type 0} (g : Ghosts S) (old new : Held S) where
     fault = fault;
     line_is = refl;
     exit_is = refl;
+    limits = λ disk stored P keeps. looked.sound disk (let same : Err fault ≡ Err Stored = cc in same) P keeps.now;
     sound = λ disk stored H shows. looked.sound disk (let same : Err fault ≡ Err Stored = cc in same) (picture H) shows.tables.now (is-sound H shows.legal shows.forms);
     undone = λ disk is_open P keeps. keeps-same (state g old) (state g new) P looked.reads disk (looked.reads.same disk is_open P keeps.now) keeps;
   }))

@@ -3,6 +3,7 @@ use Rattle.std.specs.Prelude.{◌≡◌, ◌⊎◌, ℕ, List, Option, Result, I
 use Rattle.std.specs.Io.KnownBytes.{Appends}
 use Rattle.store.specs.Library.{Ghosts, Held, state, IsClean, IsOpen}
 use Rattle.store.specs.Lists.{AreTables, AreAuditTables}
+use Rattle.store.specs.Reads.{IsSound as AreInLimits}
 use Rattle.store.specs.Stops.{KeepsPicture, LeavesPicture}
 use Rattle.terms.specs.Limits.{InLimits}
 use Rattle.terms.specs.Pictures.{Picture}
@@ -55,13 +56,16 @@ pub record SaysUnsound {S : Type 0} (g : Ghosts S) (old new : Held S) (line : Li
   pub read : Reads g old new (λ rows. IsFirstBroken rows finding) tables
   pub never : IsClean g new → (H : History) → Shows (state g old) H → ⊥
 
--- The line is a fault, which is not 93 where the tables showed a list of accepted requests. They
--- show what they showed, as long as the database is open.
+-- The line is a fault, which is not 93 where the rows of the tables lay within their limits, and so
+-- not where the tables showed a list of accepted requests. They show what they showed, as long as
+-- the database is open.
 pub record SaysFaulted {S : Type 0} (g : Ghosts S) (old new : Held S) (line : List ℕ)
     (exit : Exit) : Type 0 where
   pub fault : Fault
   pub line_is : line ≡ fault_line (fault_number fault)
   pub exit_is : exit ≡ Faulted
+  pub limits : IsClean g new → fault ≡ Stored → (P : Picture) → KeepsPicture (state g old) P
+      → AreInLimits P → ⊥
   pub sound : IsClean g new → fault ≡ Stored → (H : History) → Shows (state g old) H → ⊥
   pub undone : IsClean g new → IsOpen g new → (P : Picture) → KeepsPicture (state g old) P
       → KeepsPicture (state g new) P
