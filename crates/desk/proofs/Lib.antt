@@ -1,9 +1,13 @@
+pub mod Results
+pub mod Unchanged
+pub mod Accepted
 pub mod Looking
 pub mod Settling
 pub mod Owning
 pub mod Leads
 pub mod Handled
 pub mod Afterwards
+pub mod Chains
 pub mod Shown
 pub mod Sound
 pub mod PageFor

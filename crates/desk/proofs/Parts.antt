@@ -13,6 +13,7 @@ use Rattle.desk.specs.Answering.{Shows, Looks, LearnsIf}
 use Rattle.desk.specs.Parts.{IsFront, WritesPart, WritesText}
 use Rattle.desk.specs.declared.reporting.ReportFault.{ReportFault}
 use Rattle.desk.specs.declared.reporting.ReportFault.TheVariants.{Refused, Faulted, NotWritten}
+use Rattle.desk.proofs.Unchanged.{nothing-then, nothing-as, nothing-failed, nothing-asked}
 use Rattle.desk.proofs.Looking.{IsAnyList, if-ok, on-ok, on-err, on-ok-any, on-err-any, err-is}
 
 -- ---- what is a beginning of what
@@ -34,6 +35,7 @@ looks-on old mid new x r first next = record {
   stays = λ disk. on-ok r (λ stays H shows. stays H (first.stays (next.clean disk) H shows)) (next.stays disk);
   undone = λ disk is_open. on-err r (λ stays H shows. stays H (first.stays (next.clean disk) H shows)) (next.undone disk is_open);
   left = λ disk H shows. next.left disk H (first.stays (next.clean disk) H shows);
+  nothing = nothing-then old mid new x r next.clean first.nothing next.nothing;
 }
 
 pub looks-so : {T U E F : Type 0} (old new : State) (x : T) (r : Result U F) → Looks {T = T} {E = E} old new (Ok x) → Looks {T = U} {E = F} old new r
@@ -42,10 +44,11 @@ looks-so old new x r looks = record {
   stays = λ disk. on-ok-any r (looks.stays disk);
   undone = λ disk is_open. on-err-any r (looks.stays disk);
   left = looks.left;
+  nothing = nothing-as old new x r looks.nothing;
 }
 
 looks-failed : {T U E F : Type 0} (old new : State) (e : E) (f : F) → Looks {T = T} {E = E} old new (Err e) → Looks {T = U} {E = F} old new (Err f)
-looks-failed old new e f looks = record { clean = looks.clean; stays = λ disk. tt; undone = looks.undone; left = looks.left }
+looks-failed old new e f looks = record { clean = looks.clean; stays = λ disk. tt; undone = looks.undone; left = looks.left; nothing = nothing-failed old new e f looks.nothing }
 
 looks-still : {T E : Type 0} (s : State) (r : Result T E) → Looks {T = T} {E = E} s s r
 looks-still s r = record {
@@ -53,6 +56,7 @@ looks-still s r = record {
   stays = λ disk. on-ok-any r (λ H shows. shows);
   undone = λ disk is_open. on-err-any r (λ H shows. shows);
   left = λ disk H shows. shows.tables.left;
+  nothing = nothing-asked s r;
 }
 
 -- ---- one part after another

@@ -1,6 +1,6 @@
 -- How the desk answers a request, over tables that show a history.
 use Rattle.std.specs.Prelude.{◌≡◌, Bool, true, false, List, ◌∷◌, ℕ, Option, Some, None, is_none, Result, Err, IfOk, OnOk, OnErr, IsTrue}
-use Rattle.store.specs.Library.{Ghosts, Held, State, state, IsClean, IsOpen, HasCleanDisk}
+use Rattle.store.specs.Library.{Ghosts, Held, State, state, IsClean, IsOpen, HasCleanDisk, HasTables, IsAsItWas}
 use Rattle.store.specs.Stops.{KeepsPicture, LeavesPicture, LeavesEither}
 use Rattle.circ_core.specs.Decides.{event}
 use Rattle.circ_core.specs.Views.{IsViewOf}
@@ -48,6 +48,13 @@ Stays old new = (H : History) → Shows old H → Shows new H
 abbrev pub LeavesOneOf : State → History → History → Type 0
 LeavesOneOf s H K = LeavesEither s (picture H) (picture K)
 
+-- Nothing is changed, whatever rows the tables have: neither after an answer, nor after an error, as
+-- long as the database is open.
+pub record ChangesNothing {T E : Type 0} (old new : State) (result : Result T E) : Type 0 where
+  pub answered : HasCleanDisk new → HasTables old.now → OnOk result (IsAsItWas old new)
+  pub failed : HasCleanDisk new → IsTrue new.is_open → HasTables old.now
+      → OnErr result (IsAsItWas old new)
+
 -- A call that only looks at the tables. As in the records below, the promises are for a disk that
 -- gives back what was written to it, up to the end of the call.
 pub record Looks {T E : Type 0} (old new : State) (result : Result T E) : Type 0 where
@@ -59,6 +66,8 @@ pub record Looks {T E : Type 0} (old new : State) (result : Result T E) : Type 0
   pub undone : HasCleanDisk new → IsTrue new.is_open → OnErr result (Stays old new)
   -- whenever the program is stopped, that is what is left
   pub left : HasCleanDisk new → (H : History) → Shows old H → LeavesPicture new (picture H)
+  -- and so of tables that show no such list
+  pub nothing : ChangesNothing old new result
 
 -- A call that only looks at the tables, and what it answers after a list of accepted requests that
 -- is as `If` says.
@@ -127,11 +136,18 @@ abbrev pub Undoes : {S A : Type 0} → Ghosts S → Held S → Held S → Result
 Undoes g old new result = IsClean g new → IsOpen g new
     → OnErr result (Stays (state g old) (state g new))
 
--- The same of any picture that the tables showed, be it of a list of accepted requests or not.
-abbrev pub UndoesPictures : {S A : Type 0} → Ghosts S → Held S → Held S → Result A Fault → Type 0
-UndoesPictures g old new result =
-    IsClean g new → IsOpen g new
-    → OnErr result ((P : Picture) → KeepsPicture (state g old) P → KeepsPicture (state g new) P)
+-- What a request does to tables of whatever rows, be they those of a list of accepted requests or
+-- damaged ones.
+pub record HandlesAny {S : Type 0} (g : Ghosts S) (old new : Held S) (result : Result Reply Fault)
+    : Type 0 where
+  -- the tables are there still
+  pub tables : IsClean g new → HasTables (state g old).now → OnOk result (HasTables (state g new).now)
+  -- a request that is refused changes nothing
+  pub refused : IsClean g new → HasTables (state g old).now
+      → IfOk result (λ reply. (r : Refusal) → reply ≡ Refused r → IsAsItWas (state g old) (state g new))
+  -- neither does one that meets a fault, 93 too, as long as the database is open
+  pub failed : IsClean g new → IsOpen g new → HasTables (state g old).now
+      → OnErr result (IsAsItWas (state g old) (state g new))
 
 -- The changes of an accepted command were made and its reply was kept, in one step: `made` is the
 -- picture after it.
@@ -144,8 +160,10 @@ pub record Records {S A : Type 0} (owner : Owner) (made : Picture → Picture)
   pub done : IsClean g new → IsOwner owner
       → OnOk result ((P : Picture) → HasPicture (state g old).now P
       → KeepsPicture (state g new) (made P))
-  -- after a fault they show the picture before it, as long as the database is open
-  pub undone : UndoesPictures g old new result
+  -- whatever rows the tables have, they are there still
+  pub tables : IsClean g new → HasTables (state g old).now → OnOk result (HasTables (state g new).now)
+  -- after a fault nothing is changed, as long as the database is open
+  pub failed : IsClean g new → IsOpen g new → OnErr result (IsAsItWas (state g old) (state g new))
   -- a stop leaves the picture before it or the one after it
   pub left : IsClean g new → IsOwner owner → (P : Picture) → KeepsPicture (state g old) P
       → LeavesEither (state g new) P (made P)
@@ -199,6 +217,8 @@ pub record Handled {S : Type 0} (request : Request)
   pub sound : IsClean g new → result ≡ Err Stored → (H : History) → Shows (state g old) H → ⊥
   -- after a fault the tables show what they showed, as long as the database is open
   pub undone : Undoes g old new result
+  -- and so of tables that show no such list, after a refusal too
+  pub any : HandlesAny g old new result
   -- a stop leaves what was there or what is there after the request
   pub left : IsClean g new → (H : History) → Shows (state g old) H
       → LeavesOneOf (state g new) H (after_one H request)

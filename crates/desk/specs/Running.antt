@@ -1,7 +1,7 @@
 -- What a desk shows when it is made, and after many requests.
-use Rattle.std.specs.Prelude.{◌≡◌, ◌≤◌, ◌+◌, ◌==◌, ℕ, false, List, [], length, take, Vec, vec_len, Result, Ok, Err, IfOk, IfErr, OnErr}
+use Rattle.std.specs.Prelude.{◌≡◌, ◌≤◌, ◌+◌, ◌==◌, ℕ, false, List, [], ◌∷◌, length, take, Vec, vec_len, Result, Ok, Err, IfOk, IfErr, OnErr}
 use Rattle.std.specs.List.{list_any}
-use Rattle.store.specs.Library.{Ghosts, Held, state, IsClean, IsOpen}
+use Rattle.store.specs.Library.{Ghosts, Held, state, IsClean, IsOpen, HasTables, IsAsItWas}
 use Rattle.store.specs.Commit.{empty_library}
 use Rattle.store.specs.Stops.{KeepsPicture}
 use Rattle.circ_tables.specs.Encoding.{HasPicture}
@@ -62,6 +62,24 @@ pub record ShowsPage {S : Type 0} (patron : ℕ) (card_key : List ℕ)
   pub own : IsClean g new → IfOk result (λ reply. (H : History) → Shows (state g old) H
       → IsOwnPageFor patron card_key H reply)
 
+-- The requests were handled one after another, and these were their replies.
+abbrev pub HandledAll : {S : Type 0} → Ghosts S → List Request → List Reply → Held S → Held S → Type 0
+HandledAll g [] [] old new = new ≡ old
+HandledAll {S} g (r ∷ rs) (a ∷ as) old new =
+    (mid : Held S) × Handled r g old mid (Ok a) × HandledAll g rs as mid new
+HandledAll g [] (a ∷ as) old new = ⊥
+HandledAll g (r ∷ rs) [] old new = ⊥
+
+-- The requests before the one that met a fault stand, and that one changed nothing, whatever rows the
+-- tables have, as long as the database is open.
+pub record Stands {S : Type 0} (requests : List Request) (replies : List Reply)
+    (g : Ghosts S) (old new : Held S) : Type 0 where
+  pub before : ℕ
+  pub mid : Held S
+  pub handled : HandledAll g (take before requests) replies old mid
+  pub nothing : IsClean g new → IsOpen g new → HasTables (state g old).now
+      → IsAsItWas (state g mid) (state g new)
+
 -- The requests were handled one after another: all of them, or those before a fault.
 pub record Ran {S Z : Type 0} (requests : List Request)
     (g : Ghosts S) (old new : Held S)
@@ -88,3 +106,5 @@ pub record Ran {S Z : Type 0} (requests : List Request)
       → (n : ℕ) × (n ≤ length requests) × (end.0.items ≡ replies_to H (take n requests))
       × (IsOpen g new → Shows (state g new) (after H (take n requests)))
       × LeavesOneOf (state g new) (after H (take n requests)) (after H (take (n + 1) requests)))
+  -- so it is of tables that show no such list
+  pub stands : IfErr result (λ end. Stands requests end.0.items g old new)

@@ -4,13 +4,12 @@ ghost use Rattle.std.specs.Prelude.{◌≡◌, true, false, Ok, bytes_eq};
 ghost use Rattle.terms.specs.Callers.{owner_of};
 ghost use Rattle.terms.specs.Forms.{IsKey};
 ghost use Rattle.terms.specs.Laws.{IsCommand, IsKept};
-ghost use Rattle.terms.specs.Limits.{IsOwner};
 ghost use Rattle.terms.specs.Texts.{request_text as request_text_of, reply_text as reply_text_of};
 ghost use Rattle.terms.specs.declared.reply.Reply.{Reply as ReplyOf};
 ghost use Rattle.store.specs.Commit.{command_made};
 ghost use Rattle.model.specs.Requests.{may_send as may_send_command, is_page};
 ghost use Rattle.desk.specs.Answering.{Handled, repeated, Records, AnswersCommand, AnswersByKey};
-ghost use Rattle.desk.specs.Answering.{IsViewFor, Undoes, UndoesPictures, TouchesOnly};
+ghost use Rattle.desk.specs.Answering.{HandlesAny, IsViewFor, TouchesOnly};
 
 use crate::callers::{is_known, may_send, settle};
 use crate::paging::show;
@@ -62,7 +61,7 @@ fn carry_out<'a, S: Alter>(
     ensures answered { AnswersCommand owner key.now command.now
         (IsViewFor owner command.now view.now) touched.new
         S.Store store.old store.new result }
-    ensures undone { UndoesPictures S.Store store.old store.new result }
+    ensures any { HandlesAny S.Store store.old store.new result }
 {
     match decide(view, command) {
         Err(refusal) => Ok(Reply::Refused(refusal)),
@@ -89,7 +88,7 @@ fn answer<S: Alter>(
     ensures answered { AnswersCommand owner key.now command.now
         (λ _. may_send_command owner command.now ≡ true) touched.new
         S.Store store.old store.new result }
-    ensures undone { Undoes S.Store store.old store.new result }
+    ensures any { HandlesAny S.Store store.old store.new result }
 {
     if let Some(refusal) = settle(store, &owner, command)? {
         return Ok(Reply::Refused(refusal));
@@ -122,8 +121,7 @@ fn respond<S: Alter>(
 ) -> Result<Reply, Fault>
     requires { is_page request.now.command ≡ false }
     ensures answered { AnswersByKey request.now touched.new S.Store store.old store.new result }
-    ensures undone { IsOwner (owner_of request.now.caller)
-        → Undoes S.Store store.old store.new result }
+    ensures any { HandlesAny S.Store store.old store.new result }
 {
     let text = request_text(alloc, &request.command)?;
     match store.kept(request.caller.owner(), &request.key)? {

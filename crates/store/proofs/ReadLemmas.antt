@@ -1,5 +1,5 @@
 -- One read after another.
-use Rattle.std.proofs.Common.{◌≡◌, inl, inr, List, map, Option, None, Some, Ok, Err, Result, IfOk, IsTrue, refl, sym, subst, ap, ◌∙◌}
+use Rattle.std.proofs.Common.{◌≡◌, inl, inr, List, map, Option, None, Some, Ok, Err, Result, IfOk, OnOk, IsTrue, refl, sym, subst, ap, ◌∙◌}
 use Rattle.std.specs.Prelude.{IfSome}
 use Rattle.std.specs.List.{All}
 use Rattle.std.specs.Result.{result_err, IsErr, IsErrAnd}
@@ -15,6 +15,7 @@ use Rattle.terms.specs.declared.fault.Fault.TheVariants.{Stored}
 use Rattle.circ_tables.specs.Encoding.{HasPicture, Encodes}
 use Rattle.circ_tables.specs.Reading.{Table, Gets, Lists, Views, IsSame, IsSameOrUndone, Reading}
 use Rattle.circ_tables.specs.Shape.{schema}
+use Rattle.store.specs.Library.{HasTables}
 use Rattle.store.specs.Reads.{Reads, Looked, Finds, IsSound}
 
 same_then : (a b c : State) → IsSame a b → IsSame b c → IsSame a c
@@ -57,11 +58,16 @@ pub picture_then : (a b : State) → Reading None a b → HasCleanDisk b → (P 
 picture_then a b one clean P shown = shown_still a b P (one.same refl clean shown.maps shown.holds) shown
 
 -- what a store says of a read
-pub reads_of : {fault : Option Fault} (a b : State) → (IsTrue a.is_open → a.now ≡ a.committed) → Reading fault a b → Reads a b
-reads_of a b settled one = record {
+answered_of : {A : Type 0} (r : Result A Fault) (a b : State) → Reading (result_err r) a b → HasCleanDisk b → HasTables a.now → OnOk r (b.now ≡ a.now)
+answered_of (Ok x) a b one h tables = (one.same refl h tables.0 tables.1).now
+answered_of (Err e) a b one h tables = tt
+
+pub reads_of : {A : Type 0} (r : Result A Fault) (a b : State) → (IsTrue a.is_open → a.now ≡ a.committed) → Reading (result_err r) a b → Reads a b r
+reads_of r a b settled one = record {
   clean = one.clean;
-  same = λ h is P shown. elim (one.leaves h is shown.maps shown.holds) [ inl kept ↦ kept | inr undone ↦ undone.1 ∙ sym (settled undone.0) ];
-  left = λ h P keeps trees may. keeps.left trees (one.crash h keeps.now.maps keeps.now.holds trees may);
+  answered = λ h tables. answered_of r a b one h tables;
+  same = λ h is tables. elim (one.leaves h is tables.0 tables.1) [ inl kept ↦ kept | inr undone ↦ undone.1 ∙ sym (settled undone.0) ];
+  left = λ h tables. one.crash h tables.0 tables.1;
 }
 
 pub legal_if : {R : Type 0} (Good : R → Type 0) (o : Option R) → ((r : R) → o ≡ Some r → Good r) → IfSome o Good
@@ -96,7 +102,7 @@ ok_then (Err e) f h = tt
 pub looked_of : {K R S : Type 0} (t : Table K R) (key : K) (g : Ghosts S) (legal : (P : Picture) → InLimits P → (r : R) → t.rows P key ≡ Some r → t.IsLegal r) (old new : Held S) (result : Result (Option R) Fault)
     → (IsTrue (state g old).is_open → (state g old).now ≡ (state g old).committed) → Gets t key g old new result → Finds t key g old new result
 looked_of t key g legal old new result settled is = record {
-  reads = reads_of (state g old) (state g new) settled is.view.read;
+  reads = reads_of result (state g old) (state g new) settled is.view.read;
   shown = λ clean. ok_then result (λ row got P shown within. let both = got P shown within in (both.0, both.1.0.now_is)) (is.shows clean);
   sound = λ clean err P shown within. is.sound clean P shown (legal_if t.IsLegal (t.rows P key) (legal P within)) err;
 }
@@ -116,7 +122,7 @@ looked_row t key g legal old new result settled is =
 pub looked_view : {A S : Type 0} (Is : Picture → A → Type 0) (g : Ghosts S) (old new : Held S) (result : Result A Fault)
     → (IsTrue (state g old).is_open → (state g old).now ≡ (state g old).committed) → Views Is g old new result → Looked InLimits Is IsSound g old new result
 looked_view Is g old new result settled is = record {
-  reads = reads_of (state g old) (state g new) settled is.read;
+  reads = reads_of result (state g old) (state g new) settled is.read;
   shown = λ clean. shown_same (λ x P. Is P x) result (state g old) (state g new) clean is.read is.shown;
   sound = λ clean err P shown good. is.read.sound (ap result_err err) clean P shown good.0 good.1;
 }
@@ -133,7 +139,7 @@ pub looked_list : {K R L S : Type 0} (t : Table K R) (items : L → List R) (Fou
     → (g : Ghosts S) (old new : Held S) (result : Result L Fault)
     → (IsTrue (state g old).is_open → (state g old).now ≡ (state g old).committed) → Lists t items Found g old new result → Looked InLimits (λ P l. Are P (items l)) InLimits g old new result
 looked_list t items Found Are are g old new result settled is = record {
-  reads = reads_of (state g old) (state g new) settled is.read;
+  reads = reads_of result (state g old) (state g new) settled is.read;
   shown = λ clean. list_same items t.IsLegal (λ maps rows. Found (maps t.place) (map t.cells rows)) Are are result (state g old) (state g new) (is.lists clean) is.limits;
   sound = λ clean err P shown legal. is.sound clean P shown legal err;
 }

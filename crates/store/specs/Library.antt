@@ -1,9 +1,22 @@
 -- The words for a library that the crates above speak of.
-use Rattle.std.specs.Prelude.{IsTrue}
+use Rattle.std.specs.Prelude.{◌≡◌, ◌⊎◌, IsTrue}
+use Rattle.sqlite.specs.Effect.{Database}
+use Rattle.sqlite.specs.Tree.{Trees}
+use Rattle.sql_maps.specs.Maps.{Maps, Holds}
+use Rattle.circ_tables.specs.Shape.{schema}
 pub use Rattle.sqlite.specs.Held.{Held, held_code, state}
 pub use Rattle.sqlite.specs.State.{State, HasCleanDisk}
 pub use Rattle.sqlite.specs.Store.{Ghosts}
 pub use Rattle.sqlite.specs.Steps.{over_memory}
+
+-- The thirteen tables are there, whatever rows they have.
+abbrev pub HasTables : Database → Type 0
+HasTables db = (maps : Maps) × Holds schema db maps
+
+-- The database holds what it held, and a stop leaves that, or what it would have left before.
+pub record IsAsItWas (old new : State) : Type 0 where
+  pub now : new.now ≡ old.now
+  pub left : (trees : Trees) → new.may_leave trees → old.may_leave trees ⊎ (trees ≡ old.now.trees)
 
 -- So far the disk has given back what was written to it.
 abbrev pub IsClean : {S : Type 0} → Ghosts S → Held S → Type 0

@@ -1,21 +1,26 @@
 -- What a call that only reads leaves.
-use Rattle.std.specs.Prelude.{◌≡◌, Option, Err, Result, IfOk, IfSome, IsTrue}
+use Rattle.std.specs.Prelude.{◌≡◌, Option, Err, Result, IfOk, OnOk, IfSome, IsTrue}
 use Rattle.sqlite.specs.Held.{Held, state}
 use Rattle.sqlite.specs.State.{State, HasCleanDisk}
 use Rattle.sqlite.specs.Store.{Ghosts}
+use Rattle.sqlite.specs.Tree.{Trees}
 use Rattle.terms.specs.Limits.{InLimits, ClosesFewDays}
 use Rattle.terms.specs.Pictures.{Picture}
 use Rattle.terms.specs.declared.fault.Fault.{Fault}
 use Rattle.terms.specs.declared.fault.Fault.TheVariants.{Stored}
 use Rattle.circ_tables.specs.Encoding.{HasPicture}
 use Rattle.circ_tables.specs.Reading.{Table}
-use Rattle.store.specs.Stops.{Leaves, KeepsPicture}
+use Rattle.store.specs.Library.{HasTables}
 
--- A call that only reads: whatever its outcome, the tables stay as they were.
-pub record Reads (old new : State) : Type 0 where
+-- A call that only reads, whatever rows the tables have.
+pub record Reads {A : Type 0} (old new : State) (result : Result A Fault) : Type 0 where
   pub clean : HasCleanDisk new → HasCleanDisk old
-  pub same : HasCleanDisk new → IsTrue new.is_open → (P : Picture) → HasPicture old.now P → new.now ≡ old.now
-  pub left : HasCleanDisk new → (P : Picture) → KeepsPicture old P → Leaves new (λ db. HasPicture db P)
+  -- after an answer the database holds what it held
+  pub answered : HasCleanDisk new → HasTables old.now → OnOk result (new.now ≡ old.now)
+  -- and after a fault too, as long as it is open
+  pub same : HasCleanDisk new → IsTrue new.is_open → HasTables old.now → new.now ≡ old.now
+  -- a stop leaves nothing that it would not have left before
+  pub left : HasCleanDisk new → HasTables old.now → (trees : Trees) → new.may_leave trees → old.may_leave trees
 
 -- The rows lie within their limits, and no branch is closed singly on more days than it can be.
 abbrev pub IsSound : Picture → Type 0
@@ -24,7 +29,7 @@ IsSound P = InLimits P × ClosesFewDays P
 -- What a call of a store that only reads says: where the picture of the tables is as the call needs it, what was found is so in it; no fault of a stored row comes where the picture is sound.
 pub record Looked {S A : Type 0} (Needs : Picture → Type 0) (Is : Picture → A → Type 0) (Sound : Picture → Type 0)
     (g : Ghosts S) (old new : Held S) (result : Result A Fault) : Type 0 where
-  pub reads : Reads (state g old) (state g new)
+  pub reads : Reads (state g old) (state g new) result
   pub shown : HasCleanDisk (state g new) → IfOk result (λ x. (P : Picture) → HasPicture (state g old).now P
       → Needs P → Is P x × ((state g new).now ≡ (state g old).now))
   pub sound : HasCleanDisk (state g new) → result ≡ Err Stored

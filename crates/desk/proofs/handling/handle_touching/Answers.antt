@@ -9,7 +9,8 @@ use Rattle.model.proofs.Runs.{after_one-legal, after-forms}
 use Rattle.desk.specs.Answering.{LeavesOneOf, Shows, Stays, after_key}
 use Rattle.model.specs.Answers.{answer}
 use Rattle.desk.proofs.Handled.{allowed-both, not-page, reply-key, after-key, reply-page, after-page}
-use Rattle.desk.proofs.Looking.{if-ok-is, if-ok-given, on-err, on-err-given, on-ok-is, leaves-first}
+use Rattle.desk.proofs.Looking.{if-ok-is, if-ok-given, on-err, on-ok-is, leaves-first}
+use Rattle.desk.proofs.Unchanged.{any-nothing, any-after, any-undone, nothing-then}
 use Rattle.desk.proofs.Owning.{known-owner}
 use Rattle.desk.proofs.Untouched.{others-as}
 use Rattle.desk.proofs.handling.handle_touching.Goals as goal
@@ -43,12 +44,8 @@ returns-clause-handled g c = record {
       let known : is_known H r.caller ≡ true = sym (c.in_ok-is_known.ensures.shown first H shows tt) ∙ c.if-not-branch.false in
       let may : may_send (owner_of r.caller) r.command ≡ true = rw c.owner.ensures at (sym c.may_send.ensures ∙ c.if-not-may_send.false) in
       c.respond.ensures.answered.sound disk (known-owner H shows.legal shows.forms r.caller known) stored H (c.in_ok-is_known.ensures.looks.stays first H shows) may;
-  undone = λ disk is_open. on-err-given {P = Stays (state g.S.Store c.is_known.new.store) (state g.S.Store c.respond.new.store)} c.respond.result
-      (λ owner. c.respond.ensures.undone owner disk is_open)
-      (λ stays H shows.
-      let first = c.respond.ensures.answered.clean disk in
-      let known : is_known H c.args.request.now.caller ≡ true = sym (c.in_ok-is_known.ensures.shown first H shows tt) ∙ c.if-not-branch.false in
-      stays (known-owner H shows.legal shows.forms c.args.request.now.caller known) H (c.in_ok-is_known.ensures.looks.stays first H shows));
+  undone = any-undone g.S.Store _ _ c.respond.result (any-after g.S.Store _ _ _ _ c.respond.result c.respond.ensures.answered.clean c.in_ok-is_known.ensures.looks.nothing c.respond.ensures.any);
+  any = any-after g.S.Store _ _ _ _ c.respond.result c.respond.ensures.answered.clean c.in_ok-is_known.ensures.looks.nothing c.respond.ensures.any;
   left = λ disk H shows.
       let r = c.args.request.now in
       let first = c.respond.ensures.answered.clean disk in
@@ -92,6 +89,9 @@ returns-in-Page-clause-handled g c = record {
   undone = λ disk is_open. on-err c.show.result
       (λ stays H shows. stays H (c.in_ok-is_known.ensures.looks.stays (c.show.ensures.looks.clean disk) H shows))
       (c.show.ensures.looks.undone disk is_open);
+  any = any-nothing g.S.Store _ _ c.show.result
+      (nothing-then (state g.S.Store c.args.store.now) (state g.S.Store c.is_known.new.store) (state g.S.Store c.show.new.store) _ c.show.result c.show.ensures.looks.clean
+      c.in_ok-is_known.ensures.looks.nothing c.show.ensures.looks.nothing);
   left = λ disk H shows.
       leaves-first (state g.S.Store c.show.new.store) (picture H) _ (c.show.ensures.looks.left disk H (c.in_ok-is_known.ensures.looks.stays (c.show.ensures.looks.clean disk) H shows));
 }

@@ -10,6 +10,7 @@ use Rattle.model.specs.Picture.{picture}
 use Rattle.desk.specs.Answering.{Shows, LeavesOneOf}
 use Rattle.desk.proofs.Afterwards.{after-last, replies-last}
 use Rattle.desk.proofs.Shown.{shows-headline}
+use Rattle.desk.proofs.Chains.{handled-last}
 use Rattle.desk.proofs.running.run.Goals as goal
 
 pub returns-in-Err : goal.returns-in-Err
@@ -36,6 +37,12 @@ returns-in-Err g c = record {
         λ is_open. c.in-Err.ensures.handled.undone disk is_open (after H (take i xs)) before.1,
         subst (λ (K : History). LeavesOneOf (state g.S.Store c.handle.new.store) (after H (take i xs)) K) (sym next) (c.handle.ensures.handled.left disk (after H (take i xs)) before.1),
       );
+  stands = record {
+    before = c.requests.request-index;
+    mid = c.requests.store;
+    handled = c.requests.invariant.chain;
+    nothing = λ disk is_open tables. c.in-Err.ensures.handled.any.failed disk is_open (c.requests.invariant.tables (c.handle.ensures.handled.clean disk) tables);
+  };
 }
 
 pub returns : goal.returns
@@ -52,6 +59,7 @@ returns g c =
           shows-headline _ (after H xs) done.1;
       sound = search rules;
       stopped = search rules;
+      stands = search rules;
     }
 
 pub requests-preserved : goal.requests-preserved
@@ -62,6 +70,16 @@ requests-preserved g c = record {
       let len = rw pushed at c.push.ensures.len in
       len ∙ ap (λ n. n + 1) c.requests.invariant.count;
   clean = λ disk. c.requests.invariant.clean (c.handle.ensures.handled.clean disk);
+  tables = λ disk tables. c.in-Ok-handle.ensures.handled.any.tables disk (c.requests.invariant.tables (c.handle.ensures.handled.clean disk) tables);
+  chain =
+      let xs : List Request = c.args.requests.now in
+      let i : ℕ = c.requests.request-index in
+      let r : Request = c.request-item.result in
+      let within : i < length xs = omega (arith, c.requests-test.true) in
+      let more : take (i + 1) xs ≡ take i xs ++ r ∷ [] = take_more xs i r within ∙ ap (λ x. take i xs ++ x ∷ []) (sym c.request-item.is) in
+      let pushed : is_ok c.push.result ≡ true = sym c.is_ok-pushed.ensures.value ∙ c.if-prove.false in
+      let items = rw pushed at c.push.ensures.items in
+      rw (more, items) (handled-last g.S.Store (take i xs) c.requests.replies.items r c.in-Ok-handle.reply c.args.store.now c.requests.store c.handle.new.store c.requests.invariant.chain c.in-Ok-handle.ensures.handled);
   so_far = λ disk H shows.
       let xs : List Request = c.args.requests.now in
       let i : ℕ = c.requests.request-index in

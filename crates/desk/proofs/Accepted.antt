@@ -1,0 +1,56 @@
+-- The reply of a decision is no refusal, whatever rows it is made on.
+use Rattle.std.proofs.Common.{◌≡◌, ℕ, Bool, true, false, List, refl, sym, ◌∙◌, ap, Some, None}
+use Rattle.std.specs.Prelude.{Option, Ok}
+use Rattle.terms.specs.declared.refusal.Refusal.{Refusal}
+use Rattle.terms.specs.declared.reply.Reply.{Reply}
+use Rattle.terms.specs.declared.reply.Reply.TheVariants.{Refused, Done}
+use Rattle.terms.specs.declared.row.LoanRow.{LoanRow}
+use Rattle.terms.specs.declared.command.Command.{Command}
+use Rattle.terms.specs.declared.command.Command.TheVariants.{BeginDay, Branch, Week, Kind, Rule, Patron, Acquire, CheckOut, CheckIn, Renew, PlaceHold, CancelHold, Unshelve, UnshelveCancelled, Missing, Withdraw, CloseDay, OpenDay, Pay, Waive, Page}
+use Rattle.model.specs.Checks.{Check}
+use Rattle.circ_core.specs.declared.changes.Decision.{Decision}
+use Rattle.circ_core.specs.declared.changes.RowChange.{RowChange}
+use Rattle.circ_core.specs.declared.views.View.{View}
+use Rattle.circ_core.specs.Decided.{Decided}
+use Rattle.circ_core.specs.Deciding.{DecidesOn}
+use Rattle.circ_core.specs.Missing.{lost_reply}
+
+is_refusal : Reply → Bool
+is_refusal (Refused refusal) = true
+is_refusal _ = false
+
+plain : {checks : List Check} (reply : Reply) {rows : List RowChange} (d : Decision) → is_refusal reply ≡ false → Decided checks reply rows (Ok d) → is_refusal d.reply ≡ false
+plain reply d none is = ap is_refusal is.1.0 ∙ none
+
+lost-plain : (loan : Option LoanRow) (fine price : ℕ) → is_refusal (lost_reply loan fine price) ≡ false
+lost-plain (Some loan) fine price = refl
+lost-plain None fine price = refl
+
+accepted-plain : (v : View) (c : Command) (d : Decision) → DecidesOn v c (Ok d) → is_refusal d.reply ≡ false
+accepted-plain v (BeginDay day) d is = plain _ d refl is
+accepted-plain v (Branch branch pickup name) d is = plain _ d refl is
+accepted-plain v (Week branch week) d is = plain _ d refl is
+accepted-plain v (CloseDay branch day) d is = plain _ d refl is
+accepted-plain v (OpenDay branch day) d is = plain _ d refl is
+accepted-plain v (Kind kind loans holds debt) d is = plain _ d refl is
+accepted-plain v (Rule kind copy_kind period renewals rate cap) d is = plain _ d refl is
+accepted-plain v (Patron patron kind card_key name) d is = plain _ d refl is
+accepted-plain v (Acquire copy title kind home price text) d is = plain _ d refl is
+accepted-plain v (CheckOut patron copy branch) d is = plain _ d refl is
+accepted-plain v (CheckIn copy branch) d is = plain _ d refl is
+accepted-plain v (Renew loan) d is = plain _ d refl is
+accepted-plain v (PlaceHold patron title branch) d is = plain _ d refl is
+accepted-plain v (CancelHold hold) d is = plain _ d refl is
+accepted-plain v (Unshelve hold) d is = plain _ d refl is
+accepted-plain v (UnshelveCancelled hold) d is = plain _ d refl is
+accepted-plain v (Missing copy) d is = plain _ d (lost-plain v.loan _ _) is
+accepted-plain v (Withdraw copy) d is = plain _ d refl is
+accepted-plain v (Pay patron amount) d is = plain _ d refl is
+accepted-plain v (Waive patron amount) d is = plain _ d refl is
+accepted-plain v (Page patron) d is = plain _ d refl is
+
+pub accepted-unrefused : (v : View) (c : Command) (d : Decision) (refusal : Refusal) → DecidesOn v c (Ok d) → d.reply ≡ Refused refusal → ⊥
+accepted-unrefused v c d refusal is refused =
+    let none = accepted-plain v c d is in
+    let some : is_refusal d.reply ≡ true = ap is_refusal refused in
+    let never : ⊥ = cc in never
