@@ -3,12 +3,12 @@ use Rattle.std.proofs.Common.{◌≡◌, ℕ, ◌==◌, Bool, true, false, cond,
 use Rattle.std.specs.Prelude.{Option, Some, None, is_some}
 use Rattle.std.specs.Option.{option_or}
 use Rattle.terms.specs.declared.command.Command.{Command}
-use Rattle.terms.specs.declared.command.Command.TheVariants.{Branch, PlaceHold}
+use Rattle.terms.specs.declared.command.Command.TheVariants.{Branch}
 use Rattle.terms.specs.declared.command.Owner.{Owner}
-use Rattle.model.specs.History.{History, BranchFacts, branch_of, branch_after, HoldFacts, hold_of, hold_after, next_hold}
-use Rattle.model.specs.Refusals.{checks, refusal, has_branch}
+use Rattle.model.specs.History.{History, BranchFacts, branch_of, branch_after, HoldFacts, hold_made, hold_of, hold_after, next_hold}
+use Rattle.model.specs.Refusals.{refusal, has_branch}
 use Rattle.model.specs.Requests.{IsLegal}
-use Rattle.model.proofs.Passing.{passed}
+use Rattle.model.proofs.MadeHolds.{placeable}
 
 -- A branch that is there stays.
 branch_stays : (H : History) (x : Command) (b : ℕ) → not (has_branch H b) ≡ false → not (is_some (branch_after x b (branch_of H b))) ≡ false
@@ -19,18 +19,18 @@ branch_stays H (Branch n pickup name) b known = go (branch_of H b) _ known
     go None new e = let never : ⊥ = cc in absurd never
 branch_stays H _ b known = known
 
-hold_step : (H : History) (o : Owner) (x : Command) (h : ℕ) (r : HoldFacts) → refusal H o x ≡ None → ((q : HoldFacts) → hold_of H h ≡ Some q → not (has_branch H q.branch) ≡ false)
-    → hold_after H x h (hold_of H h) ≡ Some r → not (has_branch H r.branch) ≡ false
-hold_step H o (PlaceHold p t b) h r ok before made = go (next_hold H == h) made
+hold_step : (H : History) (o : Owner) (x : Command) (made : Option HoldFacts) (h : ℕ) (r : HoldFacts) → hold_made x ≡ made → refusal H o x ≡ None
+    → ((q : HoldFacts) → hold_of H h ≡ Some q → not (has_branch H q.branch) ≡ false) → hold_after H made h (hold_of H h) ≡ Some r → not (has_branch H r.branch) ≡ false
+hold_step H o x (Some made) h r is ok before at = go (next_hold H == h) at
   where
-    go : (x : Bool) → cond x (Some (record { patron = p; title = t; branch = b })) (hold_of H h) ≡ Some r → not (has_branch H r.branch) ≡ false
+    go : (b : Bool) → cond b (Some made) (hold_of H h) ≡ Some r → not (has_branch H r.branch) ≡ false
     go true e =
-        let same : ◌≡◌ {A = HoldFacts} (record { patron = p; title = t; branch = b }) r = cc in
-        ap (λ q. not (has_branch H q.branch)) (sym same) ∙ (passed (checks H o (PlaceHold p t b)) ok).1.1.0
+        let same : made ≡ r = cc in
+        ap (λ q. not (has_branch H q.branch)) (sym same) ∙ (placeable H o x made ok is).branch
     go false e = before r e
-hold_step H o _ h r ok before made = before r made
+hold_step H o x None h r is ok before at = before r at
 
 pub hold-branch : (H : History) → IsLegal H → (h : ℕ) (r : HoldFacts) → hold_of H h ≡ Some r → not (has_branch H r.branch) ≡ false
 hold-branch [] legal h r made = let never : ⊥ = cc in absurd never
 hold-branch (e ∷ H) legal h r made =
-    branch_stays H e.command r.branch (hold_step H e.owner e.command h r legal.0.unrefused (λ q was. hold-branch H legal.1 h q was) made)
+    branch_stays H e.command r.branch (hold_step H e.owner e.command (hold_made e.command) h r refl legal.0.unrefused (λ q was. hold-branch H legal.1 h q was) made)

@@ -8,11 +8,12 @@ use Rattle.terms.specs.declared.command.Owner.{Owner}
 use Rattle.terms.specs.declared.row.HoldState.{HoldState}
 use Rattle.terms.specs.declared.row.HoldState.TheVariants.{Waiting, Ready, Filled, Cancelled, Expired}
 use Rattle.terms.specs.declared.command.Command.{Command}
-use Rattle.terms.specs.declared.command.Command.TheVariants.{Acquire, CheckOut, CheckIn, PlaceHold, CancelHold, Unshelve, UnshelveCancelled, Missing, Withdraw}
-use Rattle.model.specs.History.{Event, History, copy_of, CopyFacts, copies, copies_after, copy_after, holds, holds_after, next_hold, hold_of, hold_after, numbers_to}
-use Rattle.model.specs.Places.{Place, Nowhere, Shelf, HoldShelf, Transit, Loan, MissingCopy, WithdrawnCopy, place, state, line, route, route_from, route_to, state_at, is_kept_for, is_bound_for, is_waiting, is_ready, is_coming_by, title_of_hold, title_of_copy, goal_of, home_of, fills_from, fills_by, fills_first, kept_for_by, place_let_go, place_unshelved, state_unshelved}
+use Rattle.terms.specs.declared.command.Command.TheVariants.{Acquire, CheckOut, CheckIn, CancelHold, Unshelve, UnshelveCancelled, Missing, Withdraw}
+use Rattle.model.specs.History.{Event, History, copy_of, CopyFacts, copies, copies_after, copy_after, holds, holds_after, next_hold, HoldFacts, hold_made, hold_of, hold_after, numbers_to}
+use Rattle.model.specs.Places.{Place, Nowhere, Shelf, HoldShelf, Transit, Loan, MissingCopy, WithdrawnCopy, place, state, place_after, state_made, line, route, route_from, route_to, state_at, is_kept_for, is_bound_for, is_waiting, is_ready, is_coming_by, title_of_hold, title_of_copy, goal_of, home_of, fills_from, fills_by, fills_first, kept_for_by, place_let_go, place_unshelved, state_unshelved}
 use Rattle.model.specs.Refusals.{refusal, checks, is_on_hold_shelf}
 use Rattle.model.proofs.Passing.{passed}
+use Rattle.model.proofs.MadeHolds.{moves-nothing}
 use Rattle.model.specs.Invariant.{Serves, Fits, Bound}
 use Rattle.model.proofs.Moves.{moved, move-bound, ne-eqb, false-ne}
 
@@ -45,18 +46,18 @@ pub record IsBound (H : History) : Type 0 where
   pub nowhere : (c : ℕ) → is_none (copy_of H c) ≡ true → place H c ≡ Nowhere
   pub unplaced : (h : ℕ) → hold_of H h ≡ None → state H h ≡ None
 
-unheld_at : (H : History) (c : Command) (h : ℕ) → (holds H < h → hold_of H h ≡ None) → holds_after c (holds H) < h → hold_after H c h (hold_of H h) ≡ None
-unheld_at H (PlaceHold p t b) h rest late = go (next_hold H == h) refl
+unheld_at : (H : History) (made : Option HoldFacts) (h : ℕ) → (holds H < h → hold_of H h ≡ None) → holds_after made (holds H) < h → hold_after H made h (hold_of H h) ≡ None
+unheld_at H (Some made) h rest late = go (next_hold H == h) refl
   where
-    go : (x : Bool) → (next_hold H == h) ≡ x → cond x (Some (record { patron = p; title = t; branch = b })) (hold_of H h) ≡ None
+    go : (x : Bool) → (next_hold H == h) ≡ x → cond x (Some made) (hold_of H h) ≡ None
     go true e = let same : next_hold H ≡ h = eqb-true (next_hold H) h e in let never : ⊥ = omega (arith, same, late) in absurd never
     go false e = rest (omega (arith, late))
-unheld_at H _ h rest late = rest late
+unheld_at H None h rest late = rest late
 
 -- No hold beyond the last number was placed.
 pub unheld : (H : History) (h : ℕ) → holds H < h → hold_of H h ≡ None
 unheld [] h late = refl
-unheld (e ∷ H) h late = unheld_at H e.command h (unheld H h) late
+unheld (e ∷ H) h late = unheld_at H (hold_made e.command) h (unheld H h) late
 
 filter_head_at : (test : ℕ → Bool) (x : ℕ) (xs : List ℕ) (h : ℕ) (hs : List ℕ) (b : Bool) → test x ≡ b → (filter test xs ≡ h ∷ hs → test h ≡ true)
     → cond b (x ∷ filter test xs) (filter test xs) ≡ h ∷ hs → test h ≡ true
@@ -307,8 +308,14 @@ served_old H c h inv serves = ne-eqb (next_hold H) h (λ same. go (place H c) se
     go (Transit b (Some g)) s f none = let waits : state H h ≡ Some Waiting = f.0 in let never : ⊥ = cc in never
     go _ s f none = s
 
-place_hold-bound : (H : History) (o : Owner) (k : List ℕ) (p t b : ℕ) → IsBound H → BoundAfter H o k (PlaceHold p t b)
-place_hold-bound H o k p t b inv = record {
+-- What is bound after a command and the hold that it makes.
+abbrev BoundBy : History → Command → Option HoldFacts → Type 0
+BoundBy H c made =
+    Bound (λ h. unwrap_or (option_map (λ r. r.branch) (hold_after H made h (hold_of H h))) 0) (place_after H (place H) (state H) c) (λ h. state_made H (place H) (state H) made c h)
+
+new_hold-bound : (H : History) (c : Command) (made : HoldFacts) → IsBound H
+    → Bound (λ h. unwrap_or (option_map (λ r. r.branch) (hold_after H (Some made) h (hold_of H h))) 0) (place H) (λ h. state_made H (place H) (state H) (Some made) c h)
+new_hold-bound H c made inv = record {
   once = inv.bound.once;
   fits = λ c h serves. fits (place H c) h (served_old H c h inv serves) serves (inv.bound.fits c h serves);
   kept = λ h. kept h (next_hold H == h);
@@ -319,12 +326,12 @@ place_hold-bound H o k p t b inv = record {
     state_new h false e = refl
 
     goal_new : (h : ℕ) (x : Bool) → x ≡ false
-        → unwrap_or (option_map (λ r. r.branch) (cond x (Some (record { patron = p; title = t; branch = b })) (hold_of H h))) 0 ≡ goal_of H h
+        → unwrap_or (option_map (λ r. r.branch) (cond x (Some made) (hold_of H h))) 0 ≡ goal_of H h
     goal_new h true e = let never : ⊥ = cc in absurd never
     goal_new h false e = refl
 
     fits : (at : Place) (h : ℕ) → (next_hold H == h) ≡ false → Serves at h → Fits (goal_of H) at h (state H h)
-        → Fits (goal_of (event o k (PlaceHold p t b) ∷ H)) at h (state (event o k (PlaceHold p t b) ∷ H) h)
+        → Fits (λ g. unwrap_or (option_map (λ r. r.branch) (hold_after H (Some made) g (hold_of H g))) 0) at h (state_made H (place H) (state H) (Some made) c h)
     fits (HoldShelf g) h old serves f = state_new h (next_hold H == h) old ∙ f
     fits (Transit d (Some g)) h old serves f = (state_new h (next_hold H == h) old ∙ f.0, goal_new h (next_hold H == h) old ∙ f.1)
     fits _ h old serves f = absurd serves
@@ -515,15 +522,21 @@ unshelve_cancelled-bound H o k g inv ok =
     let on : (c : ℕ) × (place H c ≡ HoldShelf g) = inv.bound.kept g (ready-is _ (not-false _ (passed (checks H o (UnshelveCancelled g)) ok).1.0)) in
     unshelved-bound H g on.0 Cancelled inv on.1 (λ e. cc)
 
+moved-bound : (H : History) (o : Owner) (k : List ℕ) (c : Command) → IsBound H → refusal H o c ≡ None → BoundBy H c None
+moved-bound H o k (Acquire n t kind home price text) inv ok = acquire-bound H o k n t kind home price text inv
+moved-bound H o k (CheckOut p n b) inv ok = check_out-bound H o k p n b inv
+moved-bound H o k (CheckIn n b) inv ok = check_in-bound H o k n b inv ok
+moved-bound H o k (CancelHold g) inv ok = cancel-bound H o k g inv ok
+moved-bound H o k (Unshelve g) inv ok = unshelve-bound H o k g inv ok
+moved-bound H o k (UnshelveCancelled g) inv ok = unshelve_cancelled-bound H o k g inv ok
+moved-bound H o k (Missing n) inv ok = missing-bound H o k n inv
+moved-bound H o k (Withdraw n) inv ok = withdraw-bound H o k n inv ok
+moved-bound H o k _ inv ok = inv.bound
+
+made-bound : (H : History) (o : Owner) (k : List ℕ) (c : Command) (made : Option HoldFacts) → hold_made c ≡ made → IsBound H → refusal H o c ≡ None → BoundBy H c made
+made-bound H o k c (Some made) e inv ok = along _ _ _ _ _ (λ x. sym ((moves-nothing H c made e).places x)) (λ h. refl) (new_hold-bound H c made inv)
+made-bound H o k c None e inv ok = moved-bound H o k c inv ok
+
 -- Each accepted event keeps the bindings.
 pub event-bound : (H : History) (o : Owner) (k : List ℕ) (c : Command) → IsBound H → refusal H o c ≡ None → BoundAfter H o k c
-event-bound H o k (Acquire n t kind home price text) inv ok = acquire-bound H o k n t kind home price text inv
-event-bound H o k (CheckOut p n b) inv ok = check_out-bound H o k p n b inv
-event-bound H o k (CheckIn n b) inv ok = check_in-bound H o k n b inv ok
-event-bound H o k (PlaceHold p t b) inv ok = place_hold-bound H o k p t b inv
-event-bound H o k (CancelHold g) inv ok = cancel-bound H o k g inv ok
-event-bound H o k (Unshelve g) inv ok = unshelve-bound H o k g inv ok
-event-bound H o k (UnshelveCancelled g) inv ok = unshelve_cancelled-bound H o k g inv ok
-event-bound H o k (Missing n) inv ok = missing-bound H o k n inv
-event-bound H o k (Withdraw n) inv ok = withdraw-bound H o k n inv ok
-event-bound H o k _ inv ok = inv.bound
+event-bound H o k c inv ok = made-bound H o k c (hold_made c) refl inv ok

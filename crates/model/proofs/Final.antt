@@ -6,9 +6,9 @@ use Rattle.terms.specs.declared.command.Owner.{Owner}
 use Rattle.terms.specs.declared.row.HoldState.{HoldState}
 use Rattle.terms.specs.declared.row.HoldState.TheVariants.{Waiting, Ready, Filled, Cancelled, Expired}
 use Rattle.terms.specs.declared.command.Command.{Command}
-use Rattle.terms.specs.declared.command.Command.TheVariants.{CheckOut, CheckIn, PlaceHold, CancelHold, Unshelve, UnshelveCancelled, Missing}
-use Rattle.model.specs.History.{History, next_hold}
-use Rattle.model.specs.Places.{Place, HoldShelf, Shelf, place, state, line, route, is_kept_for, title_of_copy, goal_of, fills_from, fills_by, fills_first, kept_for_by, state_unshelved}
+use Rattle.terms.specs.declared.command.Command.TheVariants.{CheckOut, CheckIn, CancelHold, Unshelve, UnshelveCancelled, Missing}
+use Rattle.model.specs.History.{History, HoldFacts, hold_made, next_hold}
+use Rattle.model.specs.Places.{Place, HoldShelf, Shelf, place, state, line, route, is_kept_for, title_of_copy, goal_of, fills_from, fills_by, fills_first, kept_for_by, state_unshelved, state_moved, state_made}
 use Rattle.model.specs.Refusals.{refusal, checks}
 use Rattle.model.proofs.Passing.{passed}
 use Rattle.model.specs.Invariant.{Fits}
@@ -73,20 +73,26 @@ module _ (H : History) (h : ℕ) (s : HoldState) (inv : IsBound H) (settled : Is
       go None false e = rw (e, state_unshelved) is
       go (Some c) false e = rw (e, state_unshelved) (arrived-stays c (goal_of H g))
 
-  pub event-stays : (o : Owner) (k : List ℕ) (c : Command) → refusal H o c ≡ None → state (event o k c ∷ H) h ≡ Some s
-  event-stays o k (CheckOut p n b) ok = left-stays Filled (fills_by H (place H) (state H) p n h) (λ e. fills-not n p (place H n) refl e)
-  event-stays o k (CheckIn n b) ok = arrived-stays n b
-  event-stays o k (PlaceHold p t b) ok =
-      left-stays Waiting (next_hold H == h) (λ e. some-none _ s is (inv.unplaced h (unheld H h (omega (arith, eqb-true (next_hold H) h e)))))
-  event-stays o k (CancelHold g) ok =
+  moved-stays : (o : Owner) (c : Command) → refusal H o c ≡ None → state_moved H (place H) (state H) c h ≡ Some s
+  moved-stays o (CheckOut p n b) ok = left-stays Filled (fills_by H (place H) (state H) p n h) (λ e. fills-not n p (place H n) refl e)
+  moved-stays o (CheckIn n b) ok = arrived-stays n b
+  moved-stays o (CancelHold g) ok =
       left-stays Cancelled (g == h) (λ e. not_waiting (rw (← eqb-true g h e) (waiting-is _ (not-false _ (passed (checks H o (CancelHold g)) ok).1.0))))
-  event-stays o k (Unshelve g) ok = unshelved-stays g Expired (kept_for_by H (place H) (state H) g) (ready-is _ (not-false _ (passed (checks H o (Unshelve g)) ok).1.0))
-  event-stays o k (UnshelveCancelled g) ok =
+  moved-stays o (Unshelve g) ok = unshelved-stays g Expired (kept_for_by H (place H) (state H) g) (ready-is _ (not-false _ (passed (checks H o (Unshelve g)) ok).1.0))
+  moved-stays o (UnshelveCancelled g) ok =
       unshelved-stays g Cancelled (kept_for_by H (place H) (state H) g) (ready-is _ (not-false _ (passed (checks H o (UnshelveCancelled g)) ok).1.0))
-  event-stays o k (Missing n) ok =
+  moved-stays o (Missing n) ok =
       left-stays Waiting (is_kept_for (place H n) h)
       (λ e. let f : Fits (goal_of H) (HoldShelf h) h (state H h) = rw (kept-is (place H n) h e) at (inv.bound.fits n h (rw (kept-is (place H n) h e) refl)) in not_ready f)
-  event-stays o k _ ok = is
+  moved-stays o _ ok = is
+
+  made-stays : (o : Owner) (c : Command) (made : Option HoldFacts) → refusal H o c ≡ None → state_made H (place H) (state H) made c h ≡ Some s
+  made-stays o c (Some made) ok =
+      left-stays Waiting (next_hold H == h) (λ e. some-none _ s is (inv.unplaced h (unheld H h (omega (arith, eqb-true (next_hold H) h e)))))
+  made-stays o c None ok = moved-stays o c ok
+
+  pub event-stays : (o : Owner) (k : List ℕ) (c : Command) → refusal H o c ≡ None → state (event o k c ∷ H) h ≡ Some s
+  event-stays o k c ok = made-stays o c (hold_made c) ok
 
 one-stays : (H : History) (r : Request) (h : ℕ) (s : HoldState) → IsLegal H → is_final s ≡ true → state H h ≡ Some s → state (after_one H r) h ≡ Some s
 one-stays H r h s legal final is = go (adds H r) refl

@@ -3,12 +3,12 @@ use Rattle.std.proofs.Common.{◌≡◌, ℕ, ◌≤◌, ◌==◌, Bool, true, f
 use Rattle.std.specs.Prelude.{Option, Some, None, option_map, option_and_then, unwrap_or, is_some, nat_le}
 use Rattle.std.proofs.lemmas.Bool.{leb-true, and_parts}
 use Rattle.terms.specs.declared.command.Command.{Command}
-use Rattle.terms.specs.declared.command.Command.TheVariants.{CheckOut, CheckIn, PlaceHold, CancelHold, Unshelve, UnshelveCancelled, Missing}
+use Rattle.terms.specs.declared.command.Command.TheVariants.{CheckOut, CheckIn, CancelHold, Unshelve, UnshelveCancelled, Missing}
 use Rattle.terms.specs.declared.row.HoldState.{HoldState}
 use Rattle.terms.specs.declared.row.HoldState.TheVariants.{Waiting, Ready, Filled, Cancelled, Expired}
 use Rattle.model.specs.Checks.{is_within}
-use Rattle.model.specs.History.{History, today, loans, loans_after, next_loan, HoldFacts, hold_of, hold_after, holds, holds_after, next_hold}
-use Rattle.model.specs.Places.{place, state, state_after, state_at, state_unshelved, route, route_by, kept_for_by, is_kept_for, goal_of, fills_by}
+use Rattle.model.specs.History.{History, today, loans, loans_after, next_loan, HoldFacts, hold_made, hold_of, hold_after, holds, holds_after, next_hold}
+use Rattle.model.specs.Places.{place, state, state_moved, state_made, state_at, state_unshelved, route, route_by, kept_for_by, is_kept_for, goal_of, fills_by}
 use Rattle.model.specs.Loans.{LoanFacts, loan_of, loan_after, terms_for, no_terms}
 use Rattle.model.specs.Picture.{hold_row, hold_columns}
 use Rattle.model.specs.Requests.{IsLegal}
@@ -19,18 +19,18 @@ use Rattle.model.proofs.LoanLaws.{legal-LoanLaws}
 
 -- ---- numbers
 
-hold-step : (H : History) (x : Command) (h : ℕ) → 1 ≤ h → h ≤ holds_after x (holds H) → (h ≤ holds H → (r : HoldFacts) × (hold_of H h ≡ Some r)) → (r : HoldFacts) × (hold_after H x h (hold_of H h) ≡ Some r)
-hold-step H (PlaceHold p t b) h low high before = go (next_hold H == h) refl
+hold-step : (H : History) (made : Option HoldFacts) (h : ℕ) → 1 ≤ h → h ≤ holds_after made (holds H) → (h ≤ holds H → (r : HoldFacts) × (hold_of H h ≡ Some r)) → (r : HoldFacts) × (hold_after H made h (hold_of H h) ≡ Some r)
+hold-step H (Some made) h low high before = go (next_hold H == h) refl
   where
-    go : (x : Bool) → (next_hold H == h) ≡ x → (r : HoldFacts) × (cond x (Some (record { patron = p; title = t; branch = b })) (hold_of H h) ≡ Some r)
-    go true e = (record { patron = p; title = t; branch = b }, refl)
+    go : (x : Bool) → (next_hold H == h) ≡ x → (r : HoldFacts) × (cond x (Some made) (hold_of H h) ≡ Some r)
+    go true e = (made, refl)
     go false e = before (omega (arith, high, false-ne (next_hold H) h e))
-hold-step H _ h low high before = before high
+hold-step H None h low high before = before high
 
 -- Each number from 1 to the last is that of a hold.
 pub hold-numbered : (H : History) (h : ℕ) → 1 ≤ h → h ≤ holds H → (r : HoldFacts) × (hold_of H h ≡ Some r)
 hold-numbered [] h low high = let never : ⊥ = omega (arith, low, high) in absurd never
-hold-numbered (e ∷ H) h low high = hold-step H e.command h low high (λ le. hold-numbered H h low le)
+hold-numbered (e ∷ H) h low high = hold-step H (hold_made e.command) h low high (λ le. hold-numbered H h low le)
 
 loan-step : (H : History) (x : Command) (l : ℕ) → 1 ≤ l → l ≤ loans_after x (loans H) → (l ≤ loans H → (r : LoanFacts) × (loan_of H l ≡ Some r)) → (r : LoanFacts) × (loan_after H x l (loan_of H l) ≡ Some r)
 loan-step H (CheckOut p c b) l low high before = go (next_loan H == l) refl
@@ -62,25 +62,28 @@ unshelved-stated H g ends (Some c) h there =
     left-stated (state_at H (place H) (state H) (route_by H (place H) (state H) c (goal_of H g)) h) ends (g == h)
     (left-stated (state H h) Ready (is_kept_for (route_by H (place H) (state H) c (goal_of H g)) h) there)
 
-state-step : (H : History) (x : Command) (h : ℕ) (r : HoldFacts) → hold_after H x h (hold_of H h) ≡ Some r → ((q : HoldFacts) → hold_of H h ≡ Some q → IsStated (state H h))
-    → IsStated (state_after H (place H) (state H) x h)
-state-step H (PlaceHold p t b) h r e before = go (next_hold H == h) e
+moved-state : (H : History) (x : Command) (h : ℕ) → IsStated (state H h) → IsStated (state_moved H (place H) (state H) x h)
+moved-state H (CheckOut p c b) h before = left-stated (state H h) Filled (fills_by H (place H) (state H) p c h) before
+moved-state H (CheckIn c b) h before = left-stated (state H h) Ready (is_kept_for (route H c b) h) before
+moved-state H (CancelHold g) h before = left-stated (state H h) Cancelled (g == h) before
+moved-state H (Unshelve g) h before = unshelved-stated H g Expired (kept_for_by H (place H) (state H) g) h before
+moved-state H (UnshelveCancelled g) h before = unshelved-stated H g Cancelled (kept_for_by H (place H) (state H) g) h before
+moved-state H (Missing c) h before = left-stated (state H h) Waiting (is_kept_for (place H c) h) before
+moved-state H _ h before = before
+
+state-step : (H : History) (x : Command) (made : Option HoldFacts) (h : ℕ) (r : HoldFacts) → hold_after H made h (hold_of H h) ≡ Some r → ((q : HoldFacts) → hold_of H h ≡ Some q → IsStated (state H h))
+    → IsStated (state_made H (place H) (state H) made x h)
+state-step H x (Some made) h r e before = go (next_hold H == h) e
   where
-    go : (x : Bool) → cond x (Some (record { patron = p; title = t; branch = b })) (hold_of H h) ≡ Some r → IsStated (left (state H h) Waiting x)
+    go : (b : Bool) → cond b (Some made) (hold_of H h) ≡ Some r → IsStated (left (state H h) Waiting b)
     go true f = (Waiting, refl)
     go false f = before r f
-state-step H (CheckOut p c b) h r e before = left-stated (state H h) Filled (fills_by H (place H) (state H) p c h) (before r e)
-state-step H (CheckIn c b) h r e before = left-stated (state H h) Ready (is_kept_for (route H c b) h) (before r e)
-state-step H (CancelHold g) h r e before = left-stated (state H h) Cancelled (g == h) (before r e)
-state-step H (Unshelve g) h r e before = unshelved-stated H g Expired (kept_for_by H (place H) (state H) g) h (before r e)
-state-step H (UnshelveCancelled g) h r e before = unshelved-stated H g Cancelled (kept_for_by H (place H) (state H) g) h (before r e)
-state-step H (Missing c) h r e before = left-stated (state H h) Waiting (is_kept_for (place H c) h) (before r e)
-state-step H _ h r e before = before r e
+state-step H x None h r e before = moved-state H x h (before r e)
 
 -- Each hold that was placed has a state.
 pub hold-stated : (H : History) (h : ℕ) (r : HoldFacts) → hold_of H h ≡ Some r → (s : HoldState) × (state H h ≡ Some s)
 hold-stated [] h r e = let never : ⊥ = cc in absurd never
-hold-stated (e ∷ H) h r made = state-step H e.command h r made (λ q was. hold-stated H h q was)
+hold-stated (e ∷ H) h r made = state-step H e.command (hold_made e.command) h r made (λ q was. hold-stated H h q was)
 
 -- ---- rows
 

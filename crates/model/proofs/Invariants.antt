@@ -4,7 +4,7 @@ use Rattle.std.specs.Prelude.{Option, Some, None, is_none}
 use Rattle.std.specs.List.{list_any}
 use Rattle.std.proofs.lemmas.Bool.{true_from_ne_false, eq-eqb}
 use Rattle.terms.specs.declared.row.HoldState.{HoldState}
-use Rattle.model.specs.History.{History, HoldFacts, hold_of, CopyFacts, copy_of, copies}
+use Rattle.model.specs.History.{History, HoldFacts, hold_made, hold_of, CopyFacts, copy_of, copies}
 use Rattle.model.specs.Places.{place, state, goal_of}
 use Rattle.model.specs.Requests.{IsLegal}
 use Rattle.model.proofs.Bindings.{IsBound, listed}
@@ -25,7 +25,7 @@ pub legal-PlaceLaws : (H : History) → IsLegal H → PlaceLaws H
 legal-PlaceLaws [] legal = record { somewhere = λ c e. refl; at_home = λ c b e. let never : ⊥ = cc in absurd never; of_title = λ c h s. absurd s }
 legal-PlaceLaws (e ∷ H) legal =
     let b : IsBound H = legal-bound H legal.1 in
-    let step = place-step H (legal-PlaceLaws H legal.1) (legal-LoanLaws H legal.1) (bound-of H b) e.owner b.unplaced e.command in
+    let step = place-step H (legal-PlaceLaws H legal.1) (legal-LoanLaws H legal.1) (bound-of H b) e.owner b.unplaced e.command (hold_made e.command) refl in
     record { somewhere = λ c. (step c).0; at_home = λ c. (step c).1; of_title = λ c. (step c).2 }
 
 placed-of : (H : History) → IsBound H → (h : ℕ) (s : HoldState) → state H h ≡ Some s → (r : HoldFacts) × (hold_of H h ≡ Some r)

@@ -7,10 +7,10 @@ use Rattle.std.proofs.lemmas.Bool.{eqb-true, and_parts}
 use Rattle.std.proofs.lemmas.List.{append-nil}
 use Rattle.std.proofs.lemmas.List.Elements.{filter-append, filter_agree}
 use Rattle.terms.specs.declared.command.Command.{Command}
-use Rattle.terms.specs.declared.command.Command.TheVariants.{Patron, Acquire, CheckOut, PlaceHold}
+use Rattle.terms.specs.declared.command.Command.TheVariants.{Patron, Acquire, CheckOut}
 use Rattle.terms.specs.declared.row.PatronRow.{PatronRow}
 use Rattle.terms.specs.declared.row.HoldState.{HoldState}
-use Rattle.model.specs.History.{Event, History, numbers_to, PatronFacts, patron_of, patron_after, title_of, title_after, CopyFacts, copy_of, copy_after, loans, loans_after, next_loan, HoldFacts, hold_of, hold_after, holds, holds_after, next_hold, today}
+use Rattle.model.specs.History.{Event, History, numbers_to, PatronFacts, patron_of, patron_after, title_of, title_after, CopyFacts, copy_of, copy_after, loans, loans_after, next_loan, HoldFacts, hold_made, hold_of, hold_after, holds, holds_after, next_hold, today}
 use Rattle.model.specs.Places.{state, is_waiting, is_ready, title_of_copy, title_of_hold}
 use Rattle.model.specs.Loans.{LoanFacts, loan_of, loan_after, terms_for, no_terms, ended, due, renewals_left, open_loans, title_of_loan}
 use Rattle.model.specs.Accounts.{account, charges, credits, owed}
@@ -57,10 +57,9 @@ loan-stays (CheckOut p c b) H inv l r e =
     set-stays (next_loan H) l (loans H) (record { copy = c; patron = p; branch = b; made = today H; terms = unwrap_or (terms_for H p c) no_terms }) (loan_of H l) r refl (inv.made_loan l r e).1 e
 loan-stays _ H inv l r e = e
 
-hold-stays : (x : Command) (H : History) → Invariant H → (h : ℕ) (r : HoldFacts) → hold_of H h ≡ Some r → hold_after H x h (hold_of H h) ≡ Some r
-hold-stays (PlaceHold p t b) H inv h r e =
-    set-stays (next_hold H) h (holds H) (record { patron = p; title = t; branch = b }) (hold_of H h) r refl (inv.made_hold h r e).1 e
-hold-stays _ H inv h r e = e
+hold-stays : (made : Option HoldFacts) (H : History) → Invariant H → (h : ℕ) (r : HoldFacts) → hold_of H h ≡ Some r → hold_after H made h (hold_of H h) ≡ Some r
+hold-stays (Some made) H inv h r e = set-stays (next_hold H) h (holds H) made (hold_of H h) r refl (inv.made_hold h r e).1 e
+hold-stays None H inv h r e = e
 
 -- ---- one number more
 
@@ -77,9 +76,9 @@ loans-more : (x : Command) (n : ℕ) (test : ℕ → Bool) → test (n + 1) ≡ 
 loans-more (CheckOut p c b) n test off = one-more test n off
 loans-more _ n test off = refl
 
-holds-more : (x : Command) (n : ℕ) (test : ℕ → Bool) → test (n + 1) ≡ false → filter test (numbers_to (holds_after x n)) ≡ filter test (numbers_to n)
-holds-more (PlaceHold p t b) n test off = one-more test n off
-holds-more _ n test off = refl
+holds-more : (made : Option HoldFacts) (n : ℕ) (test : ℕ → Bool) → test (n + 1) ≡ false → filter test (numbers_to (holds_after made n)) ≡ filter test (numbers_to n)
+holds-more (Some made) n test off = one-more test n off
+holds-more None n test off = refl
 
 -- ---- tests of loans and holds
 
@@ -247,7 +246,7 @@ module _ (e : Event) (H : History) (p : ℕ) (legal : IsLegal (e ∷ H)) (keeps 
       let s = new.stated h f at in
       let row : hold_row (e ∷ H) h ≡ Some (hold_columns (e ∷ H) h s.0 f) = rw (s.1, at) refl in
       let was = hold-facts H h (hold_columns (e ∷ H) h s.0 f) (keeps.holds h (hold_columns (e ∷ H) h s.0 f) row own) in
-      let facts : was.1 ≡ f = some-same was.1 f (sym (hold-stays e.command H old h was.1 was.3) ∙ at) in
+      let facts : was.1 ≡ f = some-same was.1 f (sym (hold-stays (hold_made e.command) H old h was.1 was.3) ∙ at) in
       record {
         before = was.3 ∙ ap Some facts;
         later = at;
@@ -258,7 +257,7 @@ module _ (e : Event) (H : History) (p : ℕ) (legal : IsLegal (e ∷ H)) (keeps 
   hold-test h = go (hold_of (e ∷ H) h) refl
     where
       none-before : hold_of (e ∷ H) h ≡ None → (o : Option HoldFacts) → hold_of H h ≡ o → hold_of H h ≡ None
-      none-before at (Some f) was = absurd (none-some f (sym at ∙ hold-stays e.command H old h f was))
+      none-before at (Some f) was = absurd (none-some f (sym at ∙ hold-stays (hold_made e.command) H old h f was))
       none-before at None was = was
 
       idle : (K : History) → Invariant K → hold_of K h ≡ None → own_active p (hold_of K h) (state K h) ≡ false
@@ -266,7 +265,7 @@ module _ (e : Event) (H : History) (p : ℕ) (legal : IsLegal (e ∷ H)) (keeps 
 
       others : (f : HoldFacts) → hold_of (e ∷ H) h ≡ Some f → (f.patron == p) ≡ false → (o : Option HoldFacts) → hold_of H h ≡ o → own_active p (hold_of H h) (state H h) ≡ false
       others f at d (Some g) was =
-          let same : g ≡ f = some-same g f (sym (hold-stays e.command H old h g was) ∙ at) in
+          let same : g ≡ f = some-same g f (sym (hold-stays (hold_made e.command) H old h g was) ∙ at) in
           ap (λ o. own_active p o (state H h)) (was ∙ ap Some same) ∙ ap (λ b. b && (is_waiting (state H h) || is_ready (state H h))) d
       others f at d None was = idle H old was
 
@@ -283,7 +282,7 @@ module _ (e : Event) (H : History) (p : ℕ) (legal : IsLegal (e ∷ H)) (keeps 
   holds-same : active_holds H p ≡ active_holds (e ∷ H) p
   holds-same =
       let none = no-hold H old (holds H + 1) refl in
-      sym (holds-more e.command (holds H) (λ h. own_active p (hold_of H h) (state H h)) (ap (own_active p (hold_of H (holds H + 1))) (no-state H old (holds H + 1) none) ∙ and-false _))
+      sym (holds-more (hold_made e.command) (holds H) (λ h. own_active p (hold_of H h) (state H h)) (ap (own_active p (hold_of H (holds H + 1))) (no-state H old (holds H + 1) none) ∙ and-false _))
       ∙ filter_agree (λ h. own_active p (hold_of H h) (state H h)) (λ h. own_active p (hold_of (e ∷ H) h) (state (e ∷ H) h)) hold-test (numbers_to (holds (e ∷ H)))
 
   held : (h : ℕ) → list_any (λ k. k == h) (active_holds H p) ≡ true → (f : HoldFacts) × SameHold H (e ∷ H) h f
@@ -296,7 +295,7 @@ module _ (e : Event) (H : History) (p : ℕ) (legal : IsLegal (e ∷ H)) (keeps 
       go : (o : Option HoldFacts) → hold_of H h ≡ o → (f : HoldFacts) × SameHold H (e ∷ H) h f
       go (Some f) at =
           let is : (f.patron == p) ≡ true = sym (ap (λ o. unwrap_or (option_map (λ r. r.patron) o) 0 == p) at) ∙ test.0 in
-          (f, own-hold h f (hold-stays e.command H old h f at) (eqb-true f.patron p is))
+          (f, own-hold h f (hold-stays (hold_made e.command) H old h f at) (eqb-true f.patron p is))
       go None at =
           let no : false ≡ true = sym (ap (λ s. is_waiting s || is_ready s) (no-state H old h at)) ∙ test.1 in let never : ⊥ = cc in absurd never
 

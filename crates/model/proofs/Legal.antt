@@ -7,9 +7,9 @@ use Rattle.terms.specs.declared.command.Owner.{Owner}
 use Rattle.terms.specs.declared.row.HoldState.{HoldState}
 use Rattle.terms.specs.declared.row.HoldState.TheVariants.{Waiting, Ready, Filled, Cancelled, Expired}
 use Rattle.terms.specs.declared.command.Command.{Command}
-use Rattle.terms.specs.declared.command.Command.TheVariants.{Acquire, CheckOut, CheckIn, PlaceHold, CancelHold, Unshelve, UnshelveCancelled, Missing, Withdraw}
-use Rattle.model.specs.History.{History, copy_of, CopyFacts, hold_of, hold_after, next_hold}
-use Rattle.model.specs.Places.{Place, Nowhere, Shelf, HoldShelf, Transit, place, state, line, route, is_kept_for, title_of_copy, goal_of, fills_from, fills_by, fills_first, kept_for_by, place_let_go, place_unshelved, state_unshelved}
+use Rattle.terms.specs.declared.command.Command.TheVariants.{Acquire, CheckOut, CheckIn, CancelHold, Unshelve, UnshelveCancelled, Missing, Withdraw}
+use Rattle.model.specs.History.{History, copy_of, CopyFacts, HoldFacts, hold_made, hold_of, hold_after, next_hold}
+use Rattle.model.specs.Places.{Place, Nowhere, Shelf, HoldShelf, Transit, place, state, line, route, is_kept_for, title_of_copy, goal_of, fills_from, fills_by, fills_first, kept_for_by, place_let_go, place_unshelved, state_unshelved, state_moved, state_made}
 use Rattle.model.specs.Refusals.{refusal, checks}
 use Rattle.model.specs.Laws.{IsBinding}
 use Rattle.model.specs.Requests.{IsLegal}
@@ -93,30 +93,32 @@ module _ (H : History) (h : ℕ) (none : state H h ≡ None) where
       go None false e = rw (e, state_unshelved) none
       go (Some c) false e = rw (e, state_unshelved) (arrived-unplaced c (goal_of H g) inv)
 
-event-unplaced : (H : History) (o : Owner) (k : List ℕ) (c : Command) → IsBound H → refusal H o c ≡ None
-    → (h : ℕ) → hold_after H c h (hold_of H h) ≡ None → state (event o k c ∷ H) h ≡ None
-event-unplaced H o k (CheckOut p n b) inv ok h late =
+moved-unplaced : (H : History) (o : Owner) (c : Command) → IsBound H → refusal H o c ≡ None → (h : ℕ) → hold_of H h ≡ None → state_moved H (place H) (state H) c h ≡ None
+moved-unplaced H o (CheckOut p n b) inv ok h late =
     left-unplaced H h (inv.unplaced h late) Filled (fills_by H (place H) (state H) p n h) (λ e. fills-placed H n p h (place H n) refl inv e (inv.unplaced h late))
-event-unplaced H o k (CheckIn n b) inv ok h late = arrived-unplaced H h (inv.unplaced h late) n b inv
-event-unplaced H o k (PlaceHold p t b) inv ok h late =
+moved-unplaced H o (CheckIn n b) inv ok h late = arrived-unplaced H h (inv.unplaced h late) n b inv
+moved-unplaced H o (CancelHold g) inv ok h late =
+    left-unplaced H h (inv.unplaced h late) Cancelled (g == h)
+    (λ e. some-none _ Waiting (rw (← eqb-true g h e) (waiting-is _ (not-false _ (passed (checks H o (CancelHold g)) ok).1.0))) (inv.unplaced h late))
+moved-unplaced H o (Unshelve g) inv ok h late =
+    unshelved-unplaced H h (inv.unplaced h late) g Expired (kept_for_by H (place H) (state H) g) inv (ready-is _ (not-false _ (passed (checks H o (Unshelve g)) ok).1.0))
+moved-unplaced H o (UnshelveCancelled g) inv ok h late =
+    unshelved-unplaced H h (inv.unplaced h late) g Cancelled (kept_for_by H (place H) (state H) g) inv (ready-is _ (not-false _ (passed (checks H o (UnshelveCancelled g)) ok).1.0))
+moved-unplaced H o (Missing n) inv ok h late =
+    left-unplaced H h (inv.unplaced h late) Waiting (is_kept_for (place H n) h)
+    (λ e. let f : Fits (goal_of H) (HoldShelf h) h (state H h) = rw (kept-is (place H n) h e) at (inv.bound.fits n h (rw (kept-is (place H n) h e) refl)) in some-none _ Ready f (inv.unplaced h late))
+moved-unplaced H o _ inv ok h late = inv.unplaced h late
+
+event-unplaced : (H : History) (o : Owner) (c : Command) (made : Option HoldFacts) → IsBound H → refusal H o c ≡ None
+    → (h : ℕ) → hold_after H made h (hold_of H h) ≡ None → state_made H (place H) (state H) made c h ≡ None
+event-unplaced H o c (Some made) inv ok h late =
     let parts : ((next_hold H == h) ≡ false) × (hold_of H h ≡ None) = go (next_hold H == h) refl late in
     left-unplaced H h (inv.unplaced h parts.1) Waiting (next_hold H == h) (λ e. clash _ e parts.0)
   where
-    go : (x : Bool) → (next_hold H == h) ≡ x → cond x (Some (record { patron = p; title = t; branch = b })) (hold_of H h) ≡ None
-        → ((next_hold H == h) ≡ false) × (hold_of H h ≡ None)
+    go : (x : Bool) → (next_hold H == h) ≡ x → cond x (Some made) (hold_of H h) ≡ None → ((next_hold H == h) ≡ false) × (hold_of H h ≡ None)
     go true e none = let never : ⊥ = some-none _ _ refl none in absurd never
     go false e none = (e, none)
-event-unplaced H o k (CancelHold g) inv ok h late =
-    left-unplaced H h (inv.unplaced h late) Cancelled (g == h)
-    (λ e. some-none _ Waiting (rw (← eqb-true g h e) (waiting-is _ (not-false _ (passed (checks H o (CancelHold g)) ok).1.0))) (inv.unplaced h late))
-event-unplaced H o k (Unshelve g) inv ok h late =
-    unshelved-unplaced H h (inv.unplaced h late) g Expired (kept_for_by H (place H) (state H) g) inv (ready-is _ (not-false _ (passed (checks H o (Unshelve g)) ok).1.0))
-event-unplaced H o k (UnshelveCancelled g) inv ok h late =
-    unshelved-unplaced H h (inv.unplaced h late) g Cancelled (kept_for_by H (place H) (state H) g) inv (ready-is _ (not-false _ (passed (checks H o (UnshelveCancelled g)) ok).1.0))
-event-unplaced H o k (Missing n) inv ok h late =
-    left-unplaced H h (inv.unplaced h late) Waiting (is_kept_for (place H n) h)
-    (λ e. let f : Fits (goal_of H) (HoldShelf h) h (state H h) = rw (kept-is (place H n) h e) at (inv.bound.fits n h (rw (kept-is (place H n) h e) refl)) in some-none _ Ready f (inv.unplaced h late))
-event-unplaced H o k _ inv ok h late = inv.unplaced h late
+event-unplaced H o c None inv ok h late = moved-unplaced H o c inv ok h late
 
 -- ---- every legal history
 
@@ -131,7 +133,7 @@ legal-bound (e ∷ H) legal =
     record {
       bound = event-bound H e.owner e.key e.command inv legal.0.unrefused;
       nowhere = event-nowhere H e.owner e.key e.command inv legal.0.unrefused;
-      unplaced = event-unplaced H e.owner e.key e.command inv legal.0.unrefused;
+      unplaced = event-unplaced H e.owner e.command (hold_made e.command) inv legal.0.unrefused;
     }
 
 -- ---- the law

@@ -6,8 +6,8 @@ use Rattle.calendar.specs.Days.{IsDayNumber}
 use Rattle.terms.specs.Limits.{IsSmall, IsLarge, IsGiven}
 use Rattle.terms.specs.declared.command.Owner.{Owner}
 use Rattle.terms.specs.declared.command.Command.{Command}
-use Rattle.terms.specs.declared.command.Command.TheVariants.{CheckOut, CheckIn, PlaceHold, Missing}
-use Rattle.model.specs.History.{History, today, Terms, rule_of, PatronFacts, patron_of, title_of, CopyFacts, copy_of, next_loan, HoldFacts, hold_of, hold_after, next_hold}
+use Rattle.terms.specs.declared.command.Command.TheVariants.{CheckOut, CheckIn, Missing}
+use Rattle.model.specs.History.{History, today, Terms, rule_of, PatronFacts, patron_of, title_of, CopyFacts, copy_of, next_loan, HoldFacts, hold_made, hold_of, hold_after, next_hold}
 use Rattle.model.specs.Places.{Place, Shelf, HoldShelf, Transit, Loan, place, state, route_by, goal_of, home_of}
 use Rattle.model.specs.Loans.{LoanFacts, loan_of, loan_after, ended, ended_after, is_loan_of_copy, terms_for, no_terms}
 use Rattle.model.specs.Invariant.{Invariant}
@@ -15,6 +15,7 @@ use Rattle.model.specs.Refusals.{refusal, checks}
 use Rattle.model.specs.Requests.{IsLegal}
 use Rattle.model.specs.Forms.{HasForms}
 use Rattle.model.proofs.Passing.{passed}
+use Rattle.model.proofs.MadeHolds.{placeable}
 use Rattle.model.proofs.Bindings.{not-false}
 use Rattle.model.proofs.DueDayLaws.{checked_out-terms}
 use Rattle.model.proofs.Invariants.{legal-Invariant}
@@ -87,19 +88,19 @@ module _ (H : History) (inv : Invariant H) (settings : SettingRanges H) (before 
   ends-step (Missing c) l d e = ended-now l c d e
   ends-step _ l d e = before.ends l d e
 
-  holds-step : (x : Command) → refusal H o x ≡ None → (h : ℕ) (r : HoldFacts) → hold_after H x h (hold_of H h) ≡ Some r → HoldIn r
-  holds-step (PlaceHold p t b) ok h r e =
-      let pass = passed (checks H o (PlaceHold p t b)) ok in
-      let patron = there (patron_of H p) (not-false _ pass.0) in
-      let title = there-not (title_of H t) pass.1.0 in
-      let branch = there _ (not-false _ pass.1.1.0) in
-      set-if HoldIn (next_hold H == h) (record { patron = p; title = t; branch = b }) (hold_of H h)
-      (λ _. ((settings.patrons p patron.0 patron.1).0, (settings.titles t title.0 title.1).0, (settings.branches b branch.0 branch.1).0)) (before.holds h) r e
+  holds-step : (x : Command) (made : Option HoldFacts) → hold_made x ≡ made → refusal H o x ≡ None → (h : ℕ) (r : HoldFacts) → hold_after H made h (hold_of H h) ≡ Some r → HoldIn r
+  holds-step x (Some made) is ok h r e =
+      let pass = placeable H o x made ok is in
+      let patron = there (patron_of H made.patron) (not-false _ pass.patron) in
+      let title = there-not (title_of H made.title) pass.title in
+      let branch = there _ (not-false _ pass.branch) in
+      set-if HoldIn (next_hold H == h) made (hold_of H h)
+      (λ _. ((settings.patrons made.patron patron.0 patron.1).0, (settings.titles made.title title.0 title.1).0, (settings.branches made.branch branch.0 branch.1).0)) (before.holds h) r e
     where
       there-not : {A : Type 0} (y : Option A) → is_none y ≡ false → (x : A) × (y ≡ Some x)
       there-not (Some x) f = (x, refl)
       there-not None f = let never : ⊥ = cc in absurd never
-  holds-step _ ok h r e = before.holds h r e
+  holds-step x None is ok h r e = before.holds h r e
 
   -- ---- where copies go
 
@@ -137,7 +138,7 @@ legal-LendingRanges (e ∷ H) legal forms =
     record {
       loans = loans-step H inv settings before e.owner e.command ok;
       ends = ends-step H inv settings before e.owner e.command;
-      holds = holds-step H inv settings before e.owner e.command ok;
+      holds = holds-step H inv settings before e.owner e.command (hold_made e.command) refl ok;
       places = place_after-keeps H inv PlaceIn
           (places-keep H inv settings before e.owner) e.owner e.command ok;
     }

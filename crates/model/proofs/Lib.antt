@@ -4,6 +4,7 @@ mod RowsLending
 mod RowsHolds
 mod RowsReports
 pub mod Passing
+pub mod MadeHolds
 pub mod Least
 pub mod Runs
 pub mod Balance

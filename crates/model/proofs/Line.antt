@@ -7,11 +7,12 @@ use Rattle.terms.specs.declared.command.Owner.{Owner}
 use Rattle.terms.specs.declared.row.HoldState.{HoldState}
 use Rattle.terms.specs.declared.row.HoldState.TheVariants.{Waiting, Ready, Filled, Cancelled, Expired}
 use Rattle.terms.specs.declared.command.Command.{Command}
-use Rattle.terms.specs.declared.command.Command.TheVariants.{Acquire, CheckOut, CheckIn, PlaceHold, CancelHold, Unshelve, UnshelveCancelled, Missing, Withdraw}
-use Rattle.model.specs.History.{Event, History, copies, copy_of, next_hold, HoldFacts, hold_of, hold_after, holds, holds_after, numbers_to}
-use Rattle.model.specs.Places.{Place, Nowhere, Shelf, HoldShelf, Transit, Loan, MissingCopy, WithdrawnCopy, place, state, line, route, route_to, route_from, is_kept_for, is_bound_for, is_coming, is_waiting, title_of_hold, title_of_copy, goal_of, home_of, fills_from, fills_by, fills_first, kept_for_by, place_let_go, place_unshelved, state_unshelved}
+use Rattle.terms.specs.declared.command.Command.TheVariants.{Acquire, CheckOut, CheckIn, CancelHold, Unshelve, UnshelveCancelled, Missing, Withdraw}
+use Rattle.model.specs.History.{Event, History, copies, copies_after, copy_of, next_hold, HoldFacts, hold_made, hold_of, hold_after, holds, holds_after, numbers_to}
+use Rattle.model.specs.Places.{Place, Nowhere, Shelf, HoldShelf, Transit, Loan, MissingCopy, WithdrawnCopy, place, state, line, route, route_to, route_from, is_kept_for, is_bound_for, is_coming, is_waiting, title_of_hold, title_of_copy, goal_of, home_of, fills_from, fills_by, fills_first, kept_for_by, place_let_go, place_unshelved, place_after, state_unshelved, state_made}
 use Rattle.model.specs.Refusals.{refusal, checks}
 use Rattle.model.proofs.Passing.{passed}
+use Rattle.model.proofs.MadeHolds.{moves-nothing}
 use Rattle.model.specs.Invariant.{Serves}
 use Rattle.model.proofs.Moves.{moved, ne-eqb}
 use Rattle.model.specs.Laws.{stands_in_line}
@@ -100,6 +101,15 @@ module _ (H : History) (h : ℕ) (inv : IsBound H) (stands : StandsInLine H h) w
   abbrev Next : Owner → List ℕ → Command → Type 0
   Next o k c = StandsInLine (event o k c ∷ H) h ⊎ IsFirstInLine H h
 
+  -- h stands in line after a command and the hold that it makes.
+  abbrev StandsAfter : Command → Option HoldFacts → Type 0
+  StandsAfter c made =
+      (state_made H (place H) (state H) made c h ≡ Some Waiting) × (list_any (λ x. is_bound_for (place_after H (place H) (state H) c x) h) (copies_after H c (copies H)) ≡ false)
+
+  next-after : (o : Owner) (k : List ℕ) (c : Command) → Next o k c → StandsAfter c (hold_made c) ⊎ IsFirstInLine H h
+  next-after o k c (inl still) = inl (still.waits, still.uncoming)
+  next-after o k c (inr first) = inr first
+
   check_out-line : (o : Owner) (k : List ℕ) (p n b : ℕ) → Next o k (CheckOut p n b)
   check_out-line o k p n b = go (fills_by H (place H) (state H) p n h) refl
     where
@@ -156,8 +166,13 @@ module _ (H : History) (h : ℕ) (inv : IsBound H) (stands : StandsInLine H h) w
       none c true s = move-quiet n (Shelf home) (λ r. r) c s
       none c false s = nobody c s
 
-  place_hold-line : (o : Owner) (k : List ℕ) (p t b : ℕ) → StandsInLine (event o k (PlaceHold p t b) ∷ H) h
-  place_hold-line o k p t b = record { waits = stays (next_hold H == h); uncoming = stands.uncoming }
+  -- A new hold goes behind h.
+  new_hold-line : (c : Command) (made : HoldFacts) → hold_made c ≡ Some made → StandsAfter c (Some made)
+  new_hold-line c made e =
+      let still = moves-nothing H c made e in (
+        stays (next_hold H == h),
+        ap (list_any (λ x. is_bound_for (place_after H (place H) (state H) c x) h)) still.copies ∙ quiet (copies H) _ (λ x s. nobody x (subst (λ p. Serves p h) (still.places x) s)),
+      )
     where
       stays : (x : Bool) → left (state H h) Waiting x ≡ Some Waiting
       stays true = refl
@@ -230,32 +245,38 @@ module _ (H : History) (h : ℕ) (inv : IsBound H) (stands : StandsInLine H h) w
       go (inl off) = inl (record { waits = unshelved-waits g on.0 Cancelled on.1 ready off; uncoming = quiet (copies H) _ (unshelved-quiet g on.0 Cancelled on.1 ready off) })
       go (inr first) = inr first
 
+  moved-line : (o : Owner) (k : List ℕ) (c : Command) → refusal H o c ≡ None → c ≢ CancelHold h → StandsAfter c None ⊎ IsFirstInLine H h
+  moved-line o k (CheckOut p n b) ok ne = next-after o k (CheckOut p n b) (check_out-line o k p n b)
+  moved-line o k (CheckIn n b) ok ne = next-after o k (CheckIn n b) (check_in-line o k n b)
+  moved-line o k (Missing n) ok ne = next-after o k (Missing n) (inl (missing-line o k n))
+  moved-line o k (Withdraw n) ok ne = inl (stands.waits, quiet (copies H) _ (move-quiet n WithdrawnCopy (λ s. s)))
+  moved-line o k (Acquire n t kind home price text) ok ne = next-after o k (Acquire n t kind home price text) (inl (acquire-line o k n t kind home price text))
+  moved-line o k (CancelHold g) ok ne = next-after o k (CancelHold g) (inl (cancel-line o k g (ne-eqb g h (λ same. ne (ap CancelHold same)))))
+  moved-line o k (Unshelve g) ok ne = next-after o k (Unshelve g) (unshelve-line o k g ok)
+  moved-line o k (UnshelveCancelled g) ok ne = next-after o k (UnshelveCancelled g) (unshelve_cancelled-line o k g ok)
+  moved-line o k _ ok ne = inl (stands.waits, stands.uncoming)
+
+  made-line : (o : Owner) (k : List ℕ) (c : Command) (made : Option HoldFacts) → hold_made c ≡ made → refusal H o c ≡ None → c ≢ CancelHold h → StandsAfter c made ⊎ IsFirstInLine H h
+  made-line o k c (Some made) e ok ne = inl (new_hold-line c made e)
+  made-line o k c None e ok ne = moved-line o k c ok ne
+
   -- After an accepted command h stands in line still, or it was the first, or the command cancelled it.
   pub event-line : (o : Owner) (k : List ℕ) (c : Command) → refusal H o c ≡ None → c ≢ CancelHold h → Next o k c
-  event-line o k (CheckOut p n b) ok ne = check_out-line o k p n b
-  event-line o k (CheckIn n b) ok ne = check_in-line o k n b
-  event-line o k (Missing n) ok ne = inl (missing-line o k n)
-  event-line o k (Withdraw n) ok ne = inl (record { waits = stands.waits; uncoming = quiet (copies H) _ (move-quiet n WithdrawnCopy (λ s. s)) })
-  event-line o k (Acquire n t kind home price text) ok ne = inl (acquire-line o k n t kind home price text)
-  event-line o k (PlaceHold p t b) ok ne = inl (place_hold-line o k p t b)
-  event-line o k (CancelHold g) ok ne = inl (cancel-line o k g (ne-eqb g h (λ same. ne (ap CancelHold same))))
-  event-line o k (Unshelve g) ok ne = unshelve-line o k g ok
-  event-line o k (UnshelveCancelled g) ok ne = unshelve_cancelled-line o k g ok
-  event-line o k _ ok ne = inl (record { waits = stands.waits; uncoming = stands.uncoming })
+  event-line o k c ok ne = elim (made-line o k c (hold_made c) refl ok ne) [ inl still ↦ inl (record { waits = still.0; uncoming = still.1 }) | inr first ↦ inr first ]
 
 -- ---- the law
 
-title-kept : (H : History) (c : Command) (h : ℕ) → h ≤ holds H → hold_after H c h (hold_of H h) ≡ hold_of H h
-title-kept H (PlaceHold p t b) h old = go (next_hold H == h) refl
+title-kept : (H : History) (made : Option HoldFacts) (h : ℕ) → h ≤ holds H → hold_after H made h (hold_of H h) ≡ hold_of H h
+title-kept H (Some made) h old = go (next_hold H == h) refl
   where
-    go : (x : Bool) → (next_hold H == h) ≡ x → cond x (Some (record { patron = p; title = t; branch = b })) (hold_of H h) ≡ hold_of H h
+    go : (x : Bool) → (next_hold H == h) ≡ x → cond x (Some made) (hold_of H h) ≡ hold_of H h
     go true e = let same : next_hold H ≡ h = eqb-true (next_hold H) h e in let never : ⊥ = omega (arith, same, old) in absurd never
     go false e = refl
-title-kept H _ h old = refl
+title-kept H None h old = refl
 
-holds-grow : (c : Command) (n : ℕ) → n ≤ holds_after c n
-holds-grow (PlaceHold p t b) n = omega arith
-holds-grow _ n = omega arith
+holds-grow : (made : Option HoldFacts) (n : ℕ) → n ≤ holds_after made n
+holds-grow (Some made) n = omega arith
+holds-grow None n = omega arith
 
 in-line : (H : History) (t h : ℕ) → stands_in_line H t h ≡ true → (title_of_hold H h ≡ t) × StandsInLine H h
 in-line H t h e =
@@ -290,8 +311,8 @@ served-first e H t h legal other before gone = go (event-line H h bound was.1 e.
 
     go : StandsInLine (e ∷ H) h ⊎ IsFirstInLine H h → (hs : List ℕ) × (line H t ≡ h ∷ hs)
     go (inl still) =
-        let title : title_of_hold (e ∷ H) h ≡ t = ap (λ o. unwrap_or (option_map (λ r. r.title) o) 0) (title-kept H e.command h made.1) ∙ was.0 in
-        let grow : holds H ≤ holds_after e.command (holds H) = holds-grow e.command (holds H) in
+        let title : title_of_hold (e ∷ H) h ≡ t = ap (λ o. unwrap_or (option_map (λ r. r.title) o) 0) (title-kept H (hold_made e.command) h made.1) ∙ was.0 in
+        let grow : holds H ≤ holds_after (hold_made e.command) (holds H) = holds-grow (hold_made e.command) (holds H) in
         let stays : stands_in_line (e ∷ H) t h ≡ true = line-in (e ∷ H) t h made.0 (omega (arith, made.1, grow)) title still in
         absurd (clash _ stays gone)
     go (inr first) =

@@ -6,8 +6,8 @@ use Rattle.std.proofs.lemmas.Bool.{eqb-true, eq-eqb, and_parts}
 use Rattle.terms.specs.declared.command.Owner.{Owner}
 use Rattle.terms.specs.declared.row.HoldState.{HoldState}
 use Rattle.terms.specs.declared.command.Command.{Command}
-use Rattle.terms.specs.declared.command.Command.TheVariants.{BeginDay, Acquire, CheckOut, CheckIn, Renew, PlaceHold, CancelHold, Unshelve, UnshelveCancelled, Missing, Withdraw}
-use Rattle.model.specs.History.{History, today, CopyFacts, copy_of, copy_after, loans, loans_after, next_loan, HoldFacts, hold_of, hold_after, holds, holds_after, next_hold}
+use Rattle.terms.specs.declared.command.Command.TheVariants.{BeginDay, Acquire, CheckOut, CheckIn, Renew, CancelHold, Unshelve, UnshelveCancelled, Missing, Withdraw}
+use Rattle.model.specs.History.{History, today, CopyFacts, copy_of, copy_after, loans, loans_after, next_loan, HoldFacts, hold_made, hold_of, hold_after, holds, holds_after, next_hold}
 use Rattle.model.specs.Places.{Place, Nowhere, Shelf, HoldShelf, Transit, Loan, MissingCopy, WithdrawnCopy, place, state, place_after, place_let_go, place_unshelved, is_kept_for, route_by, route_from, route_to, line_by, goal_of, home_of, title_of_copy}
 use Rattle.model.specs.Loans.{LoanFacts, loan_of, loan_after, ended, ended_after, is_loan_of_copy, renewals, renewals_after, terms_for, no_terms}
 use Rattle.model.specs.Refusals.{checks, refusal, is_own, is_on_loan, has_copy}
@@ -67,13 +67,13 @@ module _ (H : History) (inv : LoanLaws H) (o : Owner) where
       go false d f = let m : (1 ≤ l) × (l ≤ loans H) = inv.made_loan l r f in (m.0, omega (arith, m.1))
   made_loan-step _ l r e = inv.made_loan l r e
 
-  made_hold-step : (x : Command) (h : ℕ) (r : HoldFacts) → hold_after H x h (hold_of H h) ≡ Some r → (1 ≤ h) × (h ≤ holds_after x (holds H))
-  made_hold-step (PlaceHold p t b) h r e = go (next_hold H == h) refl e
+  made_hold-step : (made : Option HoldFacts) (h : ℕ) (r : HoldFacts) → hold_after H made h (hold_of H h) ≡ Some r → (1 ≤ h) × (h ≤ holds_after made (holds H))
+  made_hold-step (Some made) h r e = go (next_hold H == h) refl e
     where
-      go : (x : Bool) → (next_hold H == h) ≡ x → cond x (Some (record { patron = p; title = t; branch = b })) (hold_of H h) ≡ Some r → (1 ≤ h) × (h ≤ holds H + 1)
+      go : (x : Bool) → (next_hold H == h) ≡ x → cond x (Some made) (hold_of H h) ≡ Some r → (1 ≤ h) × (h ≤ holds H + 1)
       go true d f = let same : next_hold H ≡ h = eqb-true _ _ d in (omega (arith, same), omega (arith, same))
       go false d f = let m : (1 ≤ h) × (h ≤ holds H) = inv.made_hold h r f in (m.0, omega (arith, m.1))
-  made_hold-step _ h r e = inv.made_hold h r e
+  made_hold-step None h r e = inv.made_hold h r e
 
   no_loan : (l : ℕ) → loans H < l → loan_of H l ≡ None
   no_loan l lt = go (loan_of H l) refl
@@ -325,7 +325,7 @@ legal-LoanLaws (e ∷ H) legal =
     let inv : LoanLaws H = legal-LoanLaws H legal.1 in
     record {
       made_loan = made_loan-step H inv e.owner e.command;
-      made_hold = made_hold-step H inv e.owner e.command;
+      made_hold = made_hold-step H inv e.owner (hold_made e.command);
       fresh_loan = fresh_loan-step H inv e.owner e.command legal.0.unrefused;
       unknown = unknown-step H inv e.owner e.command legal.0.unrefused;
       on_loan = on_loan-step H inv e.owner e.command legal.0.unrefused;

@@ -7,17 +7,18 @@ use Rattle.std.proofs.lemmas.Bool.{ltb-false, leb-false}
 use Rattle.terms.specs.Money.{fine_for}
 use Rattle.terms.specs.declared.command.Owner.{Owner}
 use Rattle.terms.specs.declared.command.Command.{Command}
-use Rattle.terms.specs.declared.command.Command.TheVariants.{CheckOut, CheckIn, PlaceHold, Missing, Pay, Waive}
+use Rattle.terms.specs.declared.command.Command.TheVariants.{CheckOut, CheckIn, Missing, Pay, Waive}
 use Rattle.terms.specs.declared.row.Sort.{Sort}
 use Rattle.terms.specs.declared.row.Sort.TheVariants.{Fine, Price, Payment, Waiver}
 use Rattle.model.specs.Calendar.{late}
-use Rattle.model.specs.History.{History, today, is_open, loans, loans_after, next_loan, holds, holds_after, CopyFacts, copy_of}
+use Rattle.model.specs.History.{History, today, is_open, loans, loans_after, next_loan, HoldFacts, hold_made, holds, holds_after, CopyFacts, copy_of}
 use Rattle.model.specs.Places.{Place, Loan, place}
 use Rattle.model.specs.Loans.{LoanFacts, loan_of, loan_after, due, terms_for, no_terms}
 use Rattle.model.specs.Accounts.{Line, fine_now, price_of, borrower, line_of, fine_line, price_line, lines_by, lines_after, lines, charge, charges, owed}
 use Rattle.model.specs.Refusals.{refusal, checks}
 use Rattle.model.specs.Requests.{IsLegal}
 use Rattle.model.proofs.Passing.{passed}
+use Rattle.model.proofs.MadeHolds.{placeable}
 use Rattle.model.proofs.Balance.{lines-event}
 use Rattle.model.proofs.SettingLaws.{SettingLaws, legal-SettingLaws}
 use Rattle.model.proofs.DueDayLaws.{checked_out-terms, rule-of_terms}
@@ -100,10 +101,9 @@ module _ (H : History) (inv : MoneyLaws H) (settings : SettingLaws H) where
       let room : loans H < LAST_NUMBER = leb-false _ _ (passed (checks H o (CheckOut p c b)) ok).1.1.1.1.1.1.1.1.1.1.1.1.1.1.0 in omega (arith, room)
   loans-step o _ ok = inv.loans_left
 
-  holds-step : (o : Owner) (x : Command) → refusal H o x ≡ None → holds_after x (holds H) ≤ LAST_NUMBER
-  holds-step o (PlaceHold p t b) ok =
-      let room : holds H < LAST_NUMBER = leb-false _ _ (passed (checks H o (PlaceHold p t b)) ok).1.1.1.1.1.1.0 in omega (arith, room)
-  holds-step o _ ok = inv.holds_left
+  holds-step : (o : Owner) (x : Command) (made : Option HoldFacts) → hold_made x ≡ made → refusal H o x ≡ None → holds_after made (holds H) ≤ LAST_NUMBER
+  holds-step o x (Some made) e ok = let room : holds H < LAST_NUMBER = leb-false _ _ (placeable H o x made ok e).room in omega (arith, room)
+  holds-step o x None e ok = inv.holds_left
 
   caps-step : (o : Owner) (x : Command) → refusal H o x ≡ None → (l : ℕ) (r : LoanFacts) → loan_after H x l (loan_of H l) ≡ Some r → r.terms.cap ≤ 100000
   caps-step o (CheckOut p c b) ok l r e = go (next_loan H == l) e
@@ -137,7 +137,7 @@ legal-MoneyLaws (e ∷ H) legal =
       charged = charged-step H inv settings e.command;
       lines_left = left-step H inv settings e.owner e.command ok;
       loans_left = loans-step H inv settings e.owner e.command ok;
-      holds_left = holds-step H inv settings e.owner e.command ok;
+      holds_left = holds-step H inv settings e.owner e.command (hold_made e.command) refl ok;
     }
 
 -- ---- what is owed

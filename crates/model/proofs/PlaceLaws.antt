@@ -6,11 +6,12 @@ use Rattle.std.proofs.lemmas.Bool.{eqb-true}
 use Rattle.terms.specs.declared.command.Owner.{Owner}
 use Rattle.terms.specs.declared.row.HoldState.TheVariants.{Waiting}
 use Rattle.terms.specs.declared.command.Command.{Command}
-use Rattle.terms.specs.declared.command.Command.TheVariants.{Acquire, CheckOut, CheckIn, PlaceHold, CancelHold, Unshelve, UnshelveCancelled, Missing, Withdraw}
-use Rattle.model.specs.History.{History, numbers_to, CopyFacts, copy_of, copy_after, next_loan, HoldFacts, hold_of, hold_after, holds, next_hold}
+use Rattle.terms.specs.declared.command.Command.TheVariants.{Acquire, CheckOut, CheckIn, CancelHold, Unshelve, UnshelveCancelled, Missing, Withdraw}
+use Rattle.model.specs.History.{History, numbers_to, CopyFacts, copy_of, copy_after, next_loan, HoldFacts, hold_made, hold_of, hold_after, holds, next_hold}
 use Rattle.model.specs.Places.{Place, Nowhere, Shelf, HoldShelf, Transit, Loan, MissingCopy, WithdrawnCopy, place, state, place_after, place_let_go, place_unshelved, is_kept_for, route_by, route_from, route_to, line_by, goal_of, home_of, title_of_copy, title_of_hold}
 use Rattle.model.specs.Invariant.{Serves, Fits, Bound}
 use Rattle.model.proofs.Bindings.{filter-head, both}
+use Rattle.model.proofs.MadeHolds.{moves-nothing}
 use Rattle.model.proofs.LoanLaws.{LoanLaws}
 
 pub record PlaceLaws (H : History) : Type 0 where
@@ -163,24 +164,30 @@ module _ (H : History) (inv : PlaceLaws H) (loans_ok : LoanLaws H) (bound : Boun
       go (Some f) e = (loans_ok.made_hold h f e).1
       go None e = absurd (stated (place H c) s (bound.fits c h s) (unplaced h e))
 
-  place_hold_ok : (unplaced : (h : ℕ) → hold_of H h ≡ None → state H h ≡ None) (p t b c : ℕ) → OkAs (copy_of H c) (λ h. hold_after H (PlaceHold p t b) h (hold_of H h)) (place H c)
-  place_hold_ok unplaced p t b c = (inv.somewhere c, inv.at_home c, (λ h s. title_at h s ∙ inv.of_title c h s))
+  new_hold_ok : (unplaced : (h : ℕ) → hold_of H h ≡ None → state H h ≡ None) (made : HoldFacts) (c : ℕ) → OkAs (copy_of H c) (λ h. hold_after H (Some made) h (hold_of H h)) (place H c)
+  new_hold_ok unplaced made c = (inv.somewhere c, inv.at_home c, (λ h s. title_at h s ∙ inv.of_title c h s))
     where
       old : (h : ℕ) → h ≤ holds H → (x : Bool) → (next_hold H == h) ≡ x → x ≡ false
       old h le true d = let same : next_hold H ≡ h = eqb-true _ _ d in absurd (omega (arith, le, same))
       old h le false d = refl
 
-      title_at : (h : ℕ) → Serves (place H c) h → unwrap_or (option_map (λ r. r.title) (hold_after H (PlaceHold p t b) h (hold_of H h))) 0 ≡ title_of_hold H h
-      title_at h s = ap (λ x. unwrap_or (option_map (λ r. r.title) (cond x (Some (record { patron = p; title = t; branch = b })) (hold_of H h))) 0) (old h (served_placed unplaced c h s) (next_hold H == h) refl)
+      title_at : (h : ℕ) → Serves (place H c) h → unwrap_or (option_map (λ r. r.title) (hold_after H (Some made) h (hold_of H h))) 0 ≡ title_of_hold H h
+      title_at h s = ap (λ x. unwrap_or (option_map (λ r. r.title) (cond x (Some made) (hold_of H h))) 0) (old h (served_placed unplaced c h s) (next_hold H == h) refl)
 
-  pub place-step : ((h : ℕ) → hold_of H h ≡ None → state H h ≡ None) → (x : Command) (c : ℕ) → OkAs (copy_after x c (copy_of H c)) (λ h. hold_after H x h (hold_of H h)) (after x c)
-  place-step unplaced (Acquire n t k home price text) c = acquire_ok n t k home price c text
-  place-step unplaced (PlaceHold p t b) c = place_hold_ok unplaced p t b c
-  place-step unplaced (CheckOut p n b) c = step_ok (CheckOut p n b) c (λ m t k home price text e. let never : ⊥ = cc in never)
-  place-step unplaced (CheckIn n b) c = step_ok (CheckIn n b) c (λ m t k home price text e. let never : ⊥ = cc in never)
-  place-step unplaced (Missing n) c = step_ok (Missing n) c (λ m t k home price text e. let never : ⊥ = cc in never)
-  place-step unplaced (Withdraw n) c = step_ok (Withdraw n) c (λ m t k home price text e. let never : ⊥ = cc in never)
-  place-step unplaced (CancelHold h) c = step_ok (CancelHold h) c (λ m t k home price text e. let never : ⊥ = cc in never)
-  place-step unplaced (Unshelve g) c = step_ok (Unshelve g) c (λ m t k home price text e. let never : ⊥ = cc in never)
-  place-step unplaced (UnshelveCancelled g) c = step_ok (UnshelveCancelled g) c (λ m t k home price text e. let never : ⊥ = cc in never)
-  place-step unplaced _ c = was_ok c
+  moved-step : (x : Command) (c : ℕ) → OkAs (copy_after x c (copy_of H c)) (hold_of H) (after x c)
+  moved-step (Acquire n t k home price text) c = acquire_ok n t k home price c text
+  moved-step (CheckOut p n b) c = step_ok (CheckOut p n b) c (λ m t k home price text e. let never : ⊥ = cc in never)
+  moved-step (CheckIn n b) c = step_ok (CheckIn n b) c (λ m t k home price text e. let never : ⊥ = cc in never)
+  moved-step (Missing n) c = step_ok (Missing n) c (λ m t k home price text e. let never : ⊥ = cc in never)
+  moved-step (Withdraw n) c = step_ok (Withdraw n) c (λ m t k home price text e. let never : ⊥ = cc in never)
+  moved-step (CancelHold h) c = step_ok (CancelHold h) c (λ m t k home price text e. let never : ⊥ = cc in never)
+  moved-step (Unshelve g) c = step_ok (Unshelve g) c (λ m t k home price text e. let never : ⊥ = cc in never)
+  moved-step (UnshelveCancelled g) c = step_ok (UnshelveCancelled g) c (λ m t k home price text e. let never : ⊥ = cc in never)
+  moved-step _ c = was_ok c
+
+  pub place-step : ((h : ℕ) → hold_of H h ≡ None → state H h ≡ None) → (x : Command) (made : Option HoldFacts) → hold_made x ≡ made → (c : ℕ)
+      → OkAs (copy_after x c (copy_of H c)) (λ h. hold_after H made h (hold_of H h)) (after x c)
+  place-step unplaced x (Some made) e c =
+      let still = moves-nothing H x made e in
+      rw (still.facts c, still.places c) (new_hold_ok unplaced made c)
+  place-step unplaced x None e c = moved-step x c

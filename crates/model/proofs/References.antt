@@ -9,13 +9,13 @@ use Rattle.terms.specs.Texts.{request_text}
 use Rattle.terms.specs.declared.command.Owner.{Owner}
 use Rattle.terms.specs.declared.command.Owner.TheVariants.{Patron as Reader}
 use Rattle.terms.specs.declared.command.Command.{Command}
-use Rattle.terms.specs.declared.command.Command.TheVariants.{Branch, Kind, Rule, Patron, Acquire, CheckOut, CheckIn, PlaceHold, Missing, Pay, Waive}
+use Rattle.terms.specs.declared.command.Command.TheVariants.{Branch, Kind, Rule, Patron, Acquire, CheckOut, CheckIn, Missing, Pay, Waive}
 use Rattle.terms.specs.declared.row.Sort.{Sort}
 use Rattle.terms.specs.declared.row.Sort.TheVariants.{Fine, Price, Payment, Waiver}
 use Rattle.terms.specs.declared.row.HoldState.{HoldState}
 use Rattle.terms.specs.declared.row.HoldState.TheVariants.{Waiting, Ready, Filled, Cancelled, Expired}
 use Rattle.model.specs.Calendar.{is_single}
-use Rattle.model.specs.History.{History, today, singles_of, BranchFacts, branch_of, branch_after, KindFacts, kind_of, kind_after, Terms, rule_of, rule_after, PatronFacts, patron_of, patron_after, title_of, title_after, CopyFacts, copy_of, copy_after, copies, next_loan, HoldFacts, hold_of, hold_after, next_hold}
+use Rattle.model.specs.History.{History, today, singles_of, BranchFacts, branch_of, branch_after, KindFacts, kind_of, kind_after, Terms, rule_of, rule_after, PatronFacts, patron_of, patron_after, title_of, title_after, CopyFacts, copy_of, copy_after, copies, next_loan, HoldFacts, hold_made, hold_of, hold_after, next_hold}
 use Rattle.model.specs.Places.{Place, Nowhere, HoldShelf, Transit, Loan, place, state, is_kept_for, kept_for, goal_of, home_of}
 use Rattle.model.specs.Loans.{LoanFacts, loan_of, loan_after, terms_for, no_terms}
 use Rattle.model.specs.Accounts.{Line, line_of, lines, lines_after, fine_line, price_line, fine_now, price_of, borrower}
@@ -26,6 +26,7 @@ use Rattle.model.specs.Refusals.{refusal, checks}
 use Rattle.model.specs.Requests.{IsLegal, is_enrolled, Kept, kept_of}
 use Rattle.model.specs.References.{HasReferences}
 use Rattle.model.proofs.Passing.{passed}
+use Rattle.model.proofs.MadeHolds.{placeable}
 use Rattle.model.proofs.Bindings.{not-false, kept-is, find-some}
 use Rattle.model.proofs.ClaimsLaw.{map-some, hold-facts, transit-place}
 use Rattle.model.proofs.Invariants.{legal-Invariant}
@@ -210,21 +211,24 @@ module _ (H : History) (inv : Invariant H) (before : ReferenceLaws H) (o : Owner
       × IsThere (title_after x r.title (title_of H r.title))
       × IsThere (branch_after x r.branch (branch_of H r.branch))
 
-  holds-step : (x : Command) → refusal H o x ≡ None → (h : ℕ) (r : HoldFacts)
-      → hold_after H x h (hold_of H h) ≡ Some r → HoldThere x r
-  holds-step (PlaceHold p t b) ok h r e =
-      let pass = passed (checks H o (PlaceHold p t b)) ok in
-      let patron : IsThere (patron_of H p) = not-false _ pass.0 in
-      let title : IsThere (title_of H t) = is_none-there (title_of H t) pass.1.0 in
-      let branch : IsThere (branch_of H b) = not-false _ pass.1.1.0 in
-      set-if (HoldThere (PlaceHold p t b)) (next_hold H == h)
-      (record { patron = p; title = t; branch = b }) (hold_of H h)
-      (λ _. (patron, title, branch)) (before.holds h) r e
-  holds-step x ok h r e =
+  holds-step : (x : Command) (made : Option HoldFacts) → hold_made x ≡ made → refusal H o x ≡ None → (h : ℕ) (r : HoldFacts)
+      → hold_after H made h (hold_of H h) ≡ Some r → HoldThere x r
+  holds-step x (Some made) is ok h r e =
+      let pass = placeable H o x made ok is in
+      set-if (HoldThere x) (next_hold H == h) made (hold_of H h)
+      (λ _. stays made (not-false _ pass.patron, is_none-there (title_of H made.title) pass.title, not-false _ pass.branch))
+      (λ q at. stays q (before.holds h q at)) r e
+    where
+      stays : (q : HoldFacts) → IsThere (patron_of H q.patron) × IsThere (title_of H q.title) × IsThere (branch_of H q.branch) → HoldThere x q
+      stays q old = (
+        patron-stays x q.patron (patron_of H q.patron) old.0,
+        title-stays x q.title (title_of H q.title) old.1,
+        branch-stays x q.branch (branch_of H q.branch) old.2,
+      )
+  holds-step x None is ok h r e =
       let old = before.holds h r e in (
         patron-stays x r.patron (patron_of H r.patron) old.0,
-        title-stays x r.title
-            (title_of H r.title) old.1,
+        title-stays x r.title (title_of H r.title) old.1,
         branch-stays x r.branch (branch_of H r.branch) old.2,
       )
 
@@ -364,7 +368,7 @@ legal-ReferenceLaws (e ∷ H) legal =
       patrons = patrons-step H inv before e.owner e.command ok;
       copies = copies-step H inv before e.owner e.command ok;
       loans = loans-step H inv before e.owner e.command ok;
-      holds = holds-step H inv before e.owner e.command ok;
+      holds = holds-step H inv before e.owner e.command (hold_made e.command) refl ok;
       places = λ c. goes-stays H inv before e.owner e.command (place (e ∷ H) c)
           (place_after-keeps H inv (GoesThere (branch_of H))
           (places-keep H inv before e.owner) e.owner e.command ok c);

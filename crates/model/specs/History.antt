@@ -181,32 +181,37 @@ loans (e ∷ H) = loans_after e.command (loans H)
 abbrev pub next_loan : History → ℕ
 next_loan H = loans H + 1
 
--- A place-hold makes one hold more.
-abbrev pub holds_after : Command → ℕ → ℕ
-holds_after (PlaceHold patron title branch) before = before + 1
-holds_after _ before = before
-
--- How many holds were placed.
-abbrev pub holds : History → ℕ
-holds [] = 0
-holds (e ∷ H) = holds_after e.command (holds H)
-
--- The number of the next hold.
-abbrev pub next_hold : History → ℕ
-next_hold H = holds H + 1
-
 -- A hold: who placed it, on which title, and where it is to be picked up.
 pub record HoldFacts : Type 0 where
   pub patron : ℕ
   pub title : ℕ
   pub branch : ℕ
 
--- A place-hold makes the hold of the next number.
-abbrev pub hold_after : History → Command → ℕ → Option HoldFacts → Option HoldFacts
-hold_after H (PlaceHold p t b) h before = if next_hold H == h then Some (record { patron = p; title = t; branch = b }) else before
-hold_after H _ h before = before
+-- The hold that a command makes.
+abbrev pub hold_made : Command → Option HoldFacts
+hold_made (PlaceHold p t b) = Some (record { patron = p; title = t; branch = b })
+hold_made _ = None
 
--- The n-th place-hold makes hold n.
+-- One hold more, where one is made.
+abbrev pub holds_after : Option HoldFacts → ℕ → ℕ
+holds_after (Some made) before = before + 1
+holds_after None before = before
+
+-- How many holds were placed.
+abbrev pub holds : History → ℕ
+holds [] = 0
+holds (e ∷ H) = holds_after (hold_made e.command) (holds H)
+
+-- The number of the next hold.
+abbrev pub next_hold : History → ℕ
+next_hold H = holds H + 1
+
+-- A hold that is made has the next number.
+abbrev pub hold_after : History → Option HoldFacts → ℕ → Option HoldFacts → Option HoldFacts
+hold_after H (Some made) h before = if next_hold H == h then Some made else before
+hold_after H None h before = before
+
+-- Hold n is the n-th that was made.
 abbrev pub hold_of : History → ℕ → Option HoldFacts
 hold_of [] h = None
-hold_of (e ∷ H) h = hold_after H e.command h (hold_of H h)
+hold_of (e ∷ H) h = hold_after H (hold_made e.command) h (hold_of H h)

@@ -2,11 +2,11 @@
 use Rattle.std.specs.Prelude.{ℕ, ◌+◌, ◌==◌, Bool, true, false, ◌&&◌, not, List, [], ◌∷◌, filter, find, Option, Some, None, is_none, option_map, unwrap_or}
 use Rattle.std.specs.List.{list_any}
 use Rattle.terms.specs.declared.command.Command.{Command}
-use Rattle.terms.specs.declared.command.Command.TheVariants.{Acquire, CheckOut, CheckIn, PlaceHold, CancelHold, Unshelve, UnshelveCancelled, Missing, Withdraw}
+use Rattle.terms.specs.declared.command.Command.TheVariants.{Acquire, CheckOut, CheckIn, CancelHold, Unshelve, UnshelveCancelled, Missing, Withdraw}
 use Rattle.terms.specs.declared.row.HoldState.{HoldState}
 use Rattle.terms.specs.declared.row.HoldState.TheVariants.{Waiting, Ready, Filled, Cancelled, Expired}
 use Rattle.model.specs.Calendar.{least}
-use Rattle.model.specs.History.{History, numbers_to, today, is_open, branch_of, copy_of, copies, next_loan, holds, next_hold, hold_of}
+use Rattle.model.specs.History.{History, numbers_to, today, is_open, branch_of, copy_of, copies, next_loan, HoldFacts, hold_made, holds, next_hold, hold_of}
 
 -- The one place that a copy is in: on the shelf of a branch, on the hold shelf for a hold, in transit to a branch
 -- for a hold or for none, on a loan, missing or withdrawn. A copy never acquired is nowhere.
@@ -138,16 +138,24 @@ module _ (H : History) (places : ℕ → Place) (states : ℕ → Option HoldSta
   state_unshelved g ends None h = elim (g == h) [ true ↦ Some ends | false ↦ states h ]
   state_unshelved g ends (Some c) h = elim (g == h) [ true ↦ Some ends | false ↦ state_at (route_by c (goal_of H g)) h ]
 
+  -- How a command that makes no hold leaves one.
+  abbrev pub state_moved : Command → ℕ → Option HoldState
+  state_moved (CheckOut p c b) h = elim (fills_by p c h) [ true ↦ Some Filled | false ↦ states h ]
+  state_moved (CheckIn c b) h = state_at (route_by c b) h
+  state_moved (CancelHold g) h = elim (g == h) [ true ↦ Some Cancelled | false ↦ states h ]
+  state_moved (Unshelve g) h = state_unshelved g Expired (kept_for_by g) h
+  state_moved (UnshelveCancelled g) h = state_unshelved g Cancelled (kept_for_by g) h
+  state_moved (Missing c) h = elim (is_kept_for (places c) h) [ true ↦ Some Waiting | false ↦ states h ]
+  state_moved _ h = states h
+
+  -- A hold that is made waits.
+  abbrev pub state_made : Option HoldFacts → Command → ℕ → Option HoldState
+  state_made (Some made) c h = elim (next_hold H == h) [ true ↦ Some Waiting | false ↦ states h ]
+  state_made None c h = state_moved c h
+
   -- How a command leaves a hold.
   abbrev pub state_after : Command → ℕ → Option HoldState
-  state_after (PlaceHold p t b) h = elim (next_hold H == h) [ true ↦ Some Waiting | false ↦ states h ]
-  state_after (CheckOut p c b) h = elim (fills_by p c h) [ true ↦ Some Filled | false ↦ states h ]
-  state_after (CheckIn c b) h = state_at (route_by c b) h
-  state_after (CancelHold g) h = elim (g == h) [ true ↦ Some Cancelled | false ↦ states h ]
-  state_after (Unshelve g) h = state_unshelved g Expired (kept_for_by g) h
-  state_after (UnshelveCancelled g) h = state_unshelved g Cancelled (kept_for_by g) h
-  state_after (Missing c) h = elim (is_kept_for (places c) h) [ true ↦ Some Waiting | false ↦ states h ]
-  state_after _ h = states h
+  state_after c h = state_made (hold_made c) c h
 
 -- ---- the definitions
 
