@@ -1,5 +1,5 @@
 -- The text that asks for the rows of `meta` is understood where there is that table.
-use Rattle.std.proofs.Common.{◌≡◌, ◌⊎◌, inl, inr, arith, ℕ, List, [], ◌∷◌, length, Option, codes, refl, sym, ap, subst, ◌∙◌, ◌<◌}
+use Rattle.std.proofs.Common.{◌≡◌, ◌⊎◌, inl, inr, arith, ℕ, List, [], ◌∷◌, length, Option, refl, sym, ap, subst, ◌∙◌, ◌<◌}
 use Rattle.sqlite.specs.Clock.{timed}
 use Rattle.sqlite.specs.Command.TheVariants.{Select}
 use Rattle.sqlite.specs.Effect.{Database, RefusesToRead, RefusesQuery}
@@ -16,10 +16,11 @@ use Rattle.sqlite_trees.specs.declared.error.StoreError.TheVariants.{OutOfMemory
 use Rattle.sql_maps.specs.Maps.{Maps, Holds}
 use Rattle.circ_tables.specs.SchemaNumber.{NamesSchema}
 use Rattle.circ_tables.specs.Shape.{schema, meta}
+use Rattle.circ_tables.specs.declared.get.TheConstants.{ALL_META}
 use Rattle.circ_tables.proofs.FoundLemmas.{all_meta_plain, only_meta}
 
 abbrev all_meta_text : List ℕ
-all_meta_text = codes "SELECT * FROM meta ORDER BY id"
+all_meta_text = ALL_META.now
 
 meta_selects : (q : _) × (names : _) × (command_of (understood schema all_meta_text) ≡ Select q names)
 unfolding understood everything

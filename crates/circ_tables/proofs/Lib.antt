@@ -22,3 +22,4 @@ pub mod PutLemmas
 pub mod TableLemmas
 pub mod SingleLemmas
 pub mod KnownLemmas
+pub mod NumberedLemmas

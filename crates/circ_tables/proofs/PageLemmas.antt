@@ -1,5 +1,5 @@
 -- What the pages find.
-use Rattle.std.proofs.Common.{◌≡◌, ℕ, ℤ, Some, pos, true, List, [], ◌∷◌, codes, false, refl, sym, subst, Equal, true≢false}
+use Rattle.std.proofs.Common.{◌≡◌, ℕ, Some, pos, true, List, [], ◌∷◌, false, refl, sym, subst, Equal, true≢false}
 use Rattle.std.specs.List.{list_all}
 use Rattle.std.proofs.lemmas.Bool.{and_parts}
 use Rattle.sqlite.specs.declared.types.Value.TheVariants.{Null, Int, Real, Text, Blob}
@@ -13,7 +13,7 @@ use Rattle.sqlite.specs.Schema.{Schema}
 use Rattle.sqlite.specs.Term.{Term, lit, col, op2, holds as passes_test}
 use Rattle.sqlite_sql.specs.Ops.{binary, is_true}
 use Rattle.sqlite_sql.specs.declared.ops.BinaryOp.TheVariants.{Compare, Is}
-use Rattle.sqlite_sql.specs.declared.ops.CompareOp.TheVariants.{Eq, Ge, Gt, Lt}
+use Rattle.sqlite_sql.specs.declared.ops.CompareOp.TheVariants.{Eq, Gt, Lt}
 use Rattle.sqlite.specs.Listing.{understood, reads_listing}
 use Rattle.sqlite.specs.Given.{IsPlain}
 use Rattle.sqlite.specs.State.{State, Shown, IsUnchanged}
@@ -27,10 +27,10 @@ use Rattle.sqlite_rules.specs.Lists.{Has}
 use Rattle.sql_maps.proofs.PageLemmas.{Pages, page_found}
 use Rattle.sql_maps.proofs.OrderLemmas.{page_sorted}
 use Rattle.sql_maps.proofs.Words.{in_order_up_to}
-use Rattle.circ_tables.specs.Shape.{schema, patrons, titles, copies, loans, holds, transits, lines, kept}
-use Rattle.circ_tables.specs.Selections.{is_ready_after, is_overdue_after, is_line_after, is_after, is_any, is_from, is_kept_after}
-use Rattle.circ_tables.specs.declared.lists.TheConstants.{PAGE_ROWS}
-use Rattle.circ_tables.proofs.KeyedLemmas.{patrons_names, titles_names, copies_names, loans_names, holds_names, transits_names, lines_names, kept_names}
+use Rattle.circ_tables.specs.Shape.{schema, loans, holds, lines, kept}
+use Rattle.circ_tables.specs.Selections.{is_ready_after, is_overdue_after, is_line_after, is_after, is_any, is_kept_after}
+use Rattle.circ_tables.specs.declared.lists.TheConstants.{PAGE_ROWS, FIRST_KEPT_TEXT, KEPT_AFTER_TEXT, KEPT_PAST_TEXT, LINES_AFTER_TEXT, OVERDUE_LOANS_AFTER_TEXT, READY_HOLDS_AFTER_TEXT}
+use Rattle.circ_tables.proofs.KeyedLemmas.{loans_names, holds_names, lines_names, kept_names}
 use Rattle.circ_tables.proofs.ListLemmas.{by_pair, pair_tells, pair_below}
 
 -- a row of a page is one of the map
@@ -43,7 +43,7 @@ by_number = (col 1 0, ascending Binary) ∷ []
 -- ---- ready holds
 
 abbrev ready_text : List ℕ
-ready_text = codes "SELECT * FROM holds WHERE branch = ?1 AND state = 1 AND hold > ?2 ORDER BY hold LIMIT 1000"
+ready_text = READY_HOLDS_AFTER_TEXT.now
 
 abbrev ready_tests : List Term
 ready_tests = op2 (Compare Eq Binary) (col 1 4) (col 0 0) ∷ op2 (Compare Eq Binary) (col 1 5) (lit (Int (pos 1))) ∷ op2 (Compare Gt Binary) (col 1 0) (col 0 1) ∷ []
@@ -62,7 +62,7 @@ ready_found a b = page_found schema 9 holds ready_tests by_number PAGE_ROWS hold
 -- ---- lines of a day
 
 abbrev lines_text : List ℕ
-lines_text = codes "SELECT * FROM lines WHERE day = ?1 AND line > ?2 ORDER BY line LIMIT 1000"
+lines_text = LINES_AFTER_TEXT.now
 
 abbrev lines_tests : List Term
 lines_tests = op2 (Compare Eq Binary) (col 1 3) (col 0 0) ∷ op2 (Compare Gt Binary) (col 1 0) (col 0 1) ∷ []
@@ -81,7 +81,7 @@ lines_found a b = page_found schema 11 lines lines_tests by_number PAGE_ROWS lin
 -- ---- overdue loans, whose order names `ended` first
 
 abbrev overdue_text : List ℕ
-overdue_text = codes "SELECT * FROM loans WHERE branch = ?1 AND ended IS NULL AND due < ?2 AND loan > ?3 ORDER BY ended, loan LIMIT 1000"
+overdue_text = OVERDUE_LOANS_AFTER_TEXT.now
 
 abbrev overdue_tests : List Term
 overdue_tests = op2 (Compare Eq Binary) (col 1 4) (col 0 0) ∷ op2 (Is Binary) (col 1 11) (lit Null) ∷ op2 (Compare Lt Binary) (col 1 6) (col 0 1) ∷ op2 (Compare Gt Binary) (col 1 0) (col 0 2) ∷ []
@@ -120,109 +120,6 @@ overdue_found a b c =
     page_found schema 8 loans overdue_tests by_ended PAGE_ROWS loans_names overdue_text given (is_overdue_after a b c) (λ r. refl)
     (λ x y p q less. rw (no_end given x p, no_end given y q, less, nothing_tied) refl) overdue_pages
 
--- ---- all rows of a table
-
-abbrev from_tests : List Term
-from_tests = op2 (Compare Ge Binary) (col 1 0) (col 0 0) ∷ []
-
-abbrev next_patrons_text : List ℕ
-next_patrons_text = codes "SELECT * FROM patrons WHERE patron >= ?1 ORDER BY patron LIMIT 1000"
-
-next_patrons_pages : Pages schema 5 patrons from_tests by_number PAGE_ROWS patrons_names next_patrons_text
-unfolding understood everything
-next_patrons_pages = record { listed = refl; command = refl; bare = (refl, refl); unlisted = refl; single = λ r. refl; key_cell = λ r. refl; as_cells = λ given l. refl; cut = λ given l. refl }
-
-pub next_patrons_plain : (s : Schema) → s ≡ schema → IsPlain (understood s next_patrons_text)
-next_patrons_plain s e = subst (λ z. IsPlain (understood z next_patrons_text)) (sym e) next_patrons_pages.bare
-
-pub next_patrons_found : (a : ℤ) → (old new : State) (rows : List Row) → Shown next_patrons_text (Int a ∷ []) old new rows → (maps : Maps) → Holds schema old.now maps
-    → FirstRows PAGE_ROWS (maps 5) (is_from a) rows × IsUnchanged old new
-next_patrons_found a = page_found schema 5 patrons from_tests by_number PAGE_ROWS patrons_names next_patrons_text (Int a ∷ []) (is_from a) (λ r. refl) (λ x y _ _ less. rw less refl) next_patrons_pages
-
-abbrev next_titles_text : List ℕ
-next_titles_text = codes "SELECT * FROM titles WHERE title >= ?1 ORDER BY title LIMIT 1000"
-
-next_titles_pages : Pages schema 6 titles from_tests by_number PAGE_ROWS titles_names next_titles_text
-unfolding understood everything
-next_titles_pages = record { listed = refl; command = refl; bare = (refl, refl); unlisted = refl; single = λ r. refl; key_cell = λ r. refl; as_cells = λ given l. refl; cut = λ given l. refl }
-
-pub next_titles_plain : (s : Schema) → s ≡ schema → IsPlain (understood s next_titles_text)
-next_titles_plain s e = subst (λ z. IsPlain (understood z next_titles_text)) (sym e) next_titles_pages.bare
-
-pub next_titles_found : (a : ℤ) → (old new : State) (rows : List Row) → Shown next_titles_text (Int a ∷ []) old new rows → (maps : Maps) → Holds schema old.now maps
-    → FirstRows PAGE_ROWS (maps 6) (is_from a) rows × IsUnchanged old new
-next_titles_found a = page_found schema 6 titles from_tests by_number PAGE_ROWS titles_names next_titles_text (Int a ∷ []) (is_from a) (λ r. refl) (λ x y _ _ less. rw less refl) next_titles_pages
-
-abbrev next_copies_text : List ℕ
-next_copies_text = codes "SELECT * FROM copies WHERE copy >= ?1 ORDER BY copy LIMIT 1000"
-
-next_copies_pages : Pages schema 7 copies from_tests by_number PAGE_ROWS copies_names next_copies_text
-unfolding understood everything
-next_copies_pages = record { listed = refl; command = refl; bare = (refl, refl); unlisted = refl; single = λ r. refl; key_cell = λ r. refl; as_cells = λ given l. refl; cut = λ given l. refl }
-
-pub next_copies_plain : (s : Schema) → s ≡ schema → IsPlain (understood s next_copies_text)
-next_copies_plain s e = subst (λ z. IsPlain (understood z next_copies_text)) (sym e) next_copies_pages.bare
-
-pub next_copies_found : (a : ℤ) → (old new : State) (rows : List Row) → Shown next_copies_text (Int a ∷ []) old new rows → (maps : Maps) → Holds schema old.now maps
-    → FirstRows PAGE_ROWS (maps 7) (is_from a) rows × IsUnchanged old new
-next_copies_found a = page_found schema 7 copies from_tests by_number PAGE_ROWS copies_names next_copies_text (Int a ∷ []) (is_from a) (λ r. refl) (λ x y _ _ less. rw less refl) next_copies_pages
-
-abbrev next_loans_text : List ℕ
-next_loans_text = codes "SELECT * FROM loans WHERE loan >= ?1 ORDER BY loan LIMIT 1000"
-
-next_loans_pages : Pages schema 8 loans from_tests by_number PAGE_ROWS loans_names next_loans_text
-unfolding understood everything
-next_loans_pages = record { listed = refl; command = refl; bare = (refl, refl); unlisted = refl; single = λ r. refl; key_cell = λ r. refl; as_cells = λ given l. refl; cut = λ given l. refl }
-
-pub next_loans_plain : (s : Schema) → s ≡ schema → IsPlain (understood s next_loans_text)
-next_loans_plain s e = subst (λ z. IsPlain (understood z next_loans_text)) (sym e) next_loans_pages.bare
-
-pub next_loans_found : (a : ℤ) → (old new : State) (rows : List Row) → Shown next_loans_text (Int a ∷ []) old new rows → (maps : Maps) → Holds schema old.now maps
-    → FirstRows PAGE_ROWS (maps 8) (is_from a) rows × IsUnchanged old new
-next_loans_found a = page_found schema 8 loans from_tests by_number PAGE_ROWS loans_names next_loans_text (Int a ∷ []) (is_from a) (λ r. refl) (λ x y _ _ less. rw less refl) next_loans_pages
-
-abbrev next_holds_text : List ℕ
-next_holds_text = codes "SELECT * FROM holds WHERE hold >= ?1 ORDER BY hold LIMIT 1000"
-
-next_holds_pages : Pages schema 9 holds from_tests by_number PAGE_ROWS holds_names next_holds_text
-unfolding understood everything
-next_holds_pages = record { listed = refl; command = refl; bare = (refl, refl); unlisted = refl; single = λ r. refl; key_cell = λ r. refl; as_cells = λ given l. refl; cut = λ given l. refl }
-
-pub next_holds_plain : (s : Schema) → s ≡ schema → IsPlain (understood s next_holds_text)
-next_holds_plain s e = subst (λ z. IsPlain (understood z next_holds_text)) (sym e) next_holds_pages.bare
-
-pub next_holds_found : (a : ℤ) → (old new : State) (rows : List Row) → Shown next_holds_text (Int a ∷ []) old new rows → (maps : Maps) → Holds schema old.now maps
-    → FirstRows PAGE_ROWS (maps 9) (is_from a) rows × IsUnchanged old new
-next_holds_found a = page_found schema 9 holds from_tests by_number PAGE_ROWS holds_names next_holds_text (Int a ∷ []) (is_from a) (λ r. refl) (λ x y _ _ less. rw less refl) next_holds_pages
-
-abbrev next_transits_text : List ℕ
-next_transits_text = codes "SELECT * FROM transits WHERE copy >= ?1 ORDER BY copy LIMIT 1000"
-
-next_transits_pages : Pages schema 10 transits from_tests by_number PAGE_ROWS transits_names next_transits_text
-unfolding understood everything
-next_transits_pages = record { listed = refl; command = refl; bare = (refl, refl); unlisted = refl; single = λ r. refl; key_cell = λ r. refl; as_cells = λ given l. refl; cut = λ given l. refl }
-
-pub next_transits_plain : (s : Schema) → s ≡ schema → IsPlain (understood s next_transits_text)
-next_transits_plain s e = subst (λ z. IsPlain (understood z next_transits_text)) (sym e) next_transits_pages.bare
-
-pub next_transits_found : (a : ℤ) → (old new : State) (rows : List Row) → Shown next_transits_text (Int a ∷ []) old new rows → (maps : Maps) → Holds schema old.now maps
-    → FirstRows PAGE_ROWS (maps 10) (is_from a) rows × IsUnchanged old new
-next_transits_found a = page_found schema 10 transits from_tests by_number PAGE_ROWS transits_names next_transits_text (Int a ∷ []) (is_from a) (λ r. refl) (λ x y _ _ less. rw less refl) next_transits_pages
-
-abbrev next_lines_text : List ℕ
-next_lines_text = codes "SELECT * FROM lines WHERE line >= ?1 ORDER BY line LIMIT 1000"
-
-next_lines_pages : Pages schema 11 lines from_tests by_number PAGE_ROWS lines_names next_lines_text
-unfolding understood everything
-next_lines_pages = record { listed = refl; command = refl; bare = (refl, refl); unlisted = refl; single = λ r. refl; key_cell = λ r. refl; as_cells = λ given l. refl; cut = λ given l. refl }
-
-pub next_lines_plain : (s : Schema) → s ≡ schema → IsPlain (understood s next_lines_text)
-next_lines_plain s e = subst (λ z. IsPlain (understood z next_lines_text)) (sym e) next_lines_pages.bare
-
-pub next_lines_found : (a : ℤ) → (old new : State) (rows : List Row) → Shown next_lines_text (Int a ∷ []) old new rows → (maps : Maps) → Holds schema old.now maps
-    → FirstRows PAGE_ROWS (maps 11) (is_from a) rows × IsUnchanged old new
-next_lines_found a = page_found schema 11 lines from_tests by_number PAGE_ROWS lines_names next_lines_text (Int a ∷ []) (is_from a) (λ r. refl) (λ x y _ _ less. rw less refl) next_lines_pages
-
 -- ---- what is kept, by callers and keys
 
 -- a row of such a page is one of the map
@@ -230,7 +127,7 @@ pub kept_there : (good : Row → _) (m : Map) (rows : List Row) → FirstRowsBy 
 kept_there good m rows first v has = let at = first.sound v has in (at.0, at.1)
 
 abbrev first_kept_text : List ℕ
-first_kept_text = codes "SELECT * FROM kept ORDER BY caller, key LIMIT 1000"
+first_kept_text = FIRST_KEPT_TEXT.now
 
 abbrev first_kept_tests : List Term
 first_kept_tests = []
@@ -248,7 +145,7 @@ first_kept_found =
     (λ x y less. pair_below (column x 1) (column x 2) (column y 1) (column y 2) less) (λ l. refl) schema 12 kept_names first_kept_text refl first_kept_is.0 first_kept_is.1 first_kept_is.2
 
 abbrev kept_after_text : List ℕ
-kept_after_text = codes "SELECT * FROM kept WHERE caller = ?1 AND key > ?2 ORDER BY caller, key LIMIT 1000"
+kept_after_text = KEPT_AFTER_TEXT.now
 
 abbrev kept_after_tests : List Term
 kept_after_tests = op2 (Compare Eq Binary) (col 1 1) (col 0 0) ∷ op2 (Compare Gt Binary) (col 1 2) (col 0 1) ∷ []
@@ -266,7 +163,7 @@ kept_after_found a b =
     (λ x y less. pair_below (column x 1) (column x 2) (column y 1) (column y 2) less) (λ l. refl) schema 12 kept_names kept_after_text refl kept_after_is.0 kept_after_is.1 kept_after_is.2
 
 abbrev kept_past_text : List ℕ
-kept_past_text = codes "SELECT * FROM kept WHERE caller > ?1 ORDER BY caller, key LIMIT 1000"
+kept_past_text = KEPT_PAST_TEXT.now
 
 abbrev kept_past_tests : List Term
 kept_past_tests = op2 (Compare Gt Binary) (col 1 1) (col 0 0) ∷ []

@@ -5,11 +5,6 @@ use Rattle.sqlite.specs.Order.{Row}
 use Rattle.sql_maps.specs.Maps.{Maps}
 use Rattle.terms.specs.Limits.{InLimits, IsKeptRow}
 use Rattle.terms.specs.Pictures.{Picture}
-use Rattle.terms.specs.declared.row.BranchRow.{BranchRow}
-use Rattle.terms.specs.declared.row.KindRow.{KindRow}
-use Rattle.terms.specs.declared.row.PatronRow.{PatronRow}
-use Rattle.terms.specs.declared.row.TitleRow.{TitleRow}
-use Rattle.terms.specs.declared.row.CopyRow.{CopyRow}
 use Rattle.terms.specs.declared.row.LoanRow.{LoanRow}
 use Rattle.terms.specs.declared.row.HoldRow.{HoldRow}
 use Rattle.terms.specs.declared.row.TransitRow.{TransitRow}
@@ -18,27 +13,12 @@ use Rattle.terms.specs.declared.row.KeptRow.{KeptRow}
 use Rattle.circ_tables.specs.Cells.{kept_cells}
 use Rattle.terms.proofs.Utf8Lemmas.{reply_text-IsUtf8}
 use Rattle.circ_tables.specs.Encoding.{Encodes, AreEncoded, HasTexts}
-use Rattle.circ_tables.specs.Reading.{Table, branches, closed_days, kinds, rules, patrons, titles, copies, loans, holds, transits, lines, kept}
+use Rattle.circ_tables.specs.Reading.{Table, closed_days, rules, loans, holds, transits, lines, kept}
 use Rattle.circ_tables.proofs.ShownLemmas.{are_encoded, days_encoded}
 
 -- Of a table it is so under each picture within its limits.
 abbrev IsWithin : {K R : Type 0} → Table K R → Type 0
 IsWithin t = (maps : Maps) (P : Picture) → Encodes maps P → InLimits P → AreEncoded t.cells t.IsLegal (maps t.place)
-
-pub branches_within : IsWithin branches
-branches_within maps P is legal = are_encoded branches.cells branches.IsLegal (λ (r : BranchRow). r.branch) (maps branches.place) P.branches is.branches legal.branches
-
-pub kinds_within : IsWithin kinds
-kinds_within maps P is legal = are_encoded kinds.cells kinds.IsLegal (λ (r : KindRow). r.kind) (maps kinds.place) P.kinds is.kinds legal.kinds
-
-pub patrons_within : IsWithin patrons
-patrons_within maps P is legal = are_encoded patrons.cells patrons.IsLegal (λ (r : PatronRow). r.patron) (maps patrons.place) P.patrons is.patrons legal.patrons
-
-pub titles_within : IsWithin titles
-titles_within maps P is legal = are_encoded titles.cells titles.IsLegal (λ (r : TitleRow). r.title) (maps titles.place) P.titles is.titles legal.titles
-
-pub copies_within : IsWithin copies
-copies_within maps P is legal = are_encoded copies.cells copies.IsLegal (λ (r : CopyRow). r.copy) (maps copies.place) P.copies is.copies legal.copies
 
 pub loans_within : IsWithin loans
 loans_within maps P is legal = are_encoded loans.cells loans.IsLegal (λ (r : LoanRow). r.loan) (maps loans.place) P.loans is.loans legal.loans

@@ -7,3 +7,5 @@ pub mod Encoding
 pub mod SchemaNumber
 pub mod Puts
 pub mod Reading
+pub mod Numbered
+pub mod Singles

@@ -37,10 +37,13 @@ use Rattle.terms.specs.declared.row.ClosedDayRow.{ClosedDayRow}
 use Rattle.circ_tables.specs.Cells.{number, number_key, pair_key, kept_key, meta_cells, kept_cells, branch_cells, kind_cells, rule_cells, patron_cells, title_cells, copy_cells, loan_cells, hold_cells, transit_cells, line_cells}
 use Rattle.circ_tables.specs.Encoding.{HasPicture, AreEncoded, Pair, reply_of, HasTexts, day_cells, IsClosedDay, IsReadableKept}
 use Rattle.circ_tables.specs.Selections.{AreClosedDays}
+use Rattle.sqlite.specs.Table.{Table as Shape}
+use Rattle.circ_tables.specs.Shape as shape
 use Rattle.circ_tables.specs.Shape.{schema, meta_place, branches_place, closed_days_place, kinds_place, rules_place, patrons_place, titles_place, copies_place, loans_place, holds_place, transits_place, lines_place, kept_place}
 
--- A table of typed rows: its place, the key of a row, its columns, its limits, its rows in a picture, and the picture with another row, or none, under a key.
+-- A table of typed rows: its shape and place, the key of a row, its columns, its limits, its rows in a picture, and the picture with another row, or none, under a key.
 pub record Table (K R : Type 0) : Type 1 where
+  pub shape : Shape
   pub place : ℕ
   pub key : K → Row
   pub cells : R → Row
@@ -50,6 +53,7 @@ pub record Table (K R : Type 0) : Type 1 where
 
 abbrev pub branches : Table ℕ BranchRow
 branches = record {
+  shape = shape.branches;
   place = branches_place;
   key = number_key;
   cells = branch_cells;
@@ -60,6 +64,7 @@ branches = record {
 
 abbrev pub patrons : Table ℕ PatronRow
 patrons = record {
+  shape = shape.patrons;
   place = patrons_place;
   key = number_key;
   cells = patron_cells;
@@ -70,6 +75,7 @@ patrons = record {
 
 abbrev pub copies : Table ℕ CopyRow
 copies = record {
+  shape = shape.copies;
   place = copies_place;
   key = number_key;
   cells = copy_cells;
@@ -80,6 +86,7 @@ copies = record {
 
 abbrev pub loans : Table ℕ LoanRow
 loans = record {
+  shape = shape.loans;
   place = loans_place;
   key = number_key;
   cells = loan_cells;
@@ -90,6 +97,7 @@ loans = record {
 
 abbrev pub kinds : Table ℕ KindRow
 kinds = record {
+  shape = shape.kinds;
   place = kinds_place;
   key = number_key;
   cells = kind_cells;
@@ -100,6 +108,7 @@ kinds = record {
 
 abbrev pub titles : Table ℕ TitleRow
 titles = record {
+  shape = shape.titles;
   place = titles_place;
   key = number_key;
   cells = title_cells;
@@ -110,6 +119,7 @@ titles = record {
 
 abbrev pub holds : Table ℕ HoldRow
 holds = record {
+  shape = shape.holds;
   place = holds_place;
   key = number_key;
   cells = hold_cells;
@@ -120,6 +130,7 @@ holds = record {
 
 abbrev pub transits : Table ℕ TransitRow
 transits = record {
+  shape = shape.transits;
   place = transits_place;
   key = number_key;
   cells = transit_cells;
@@ -130,6 +141,7 @@ transits = record {
 
 abbrev pub lines : Table ℕ LineRow
 lines = record {
+  shape = shape.lines;
   place = lines_place;
   key = number_key;
   cells = line_cells;
@@ -140,6 +152,7 @@ lines = record {
 
 abbrev pub rules : Table Pair RuleRow
 rules = record {
+  shape = shape.rules;
   place = rules_place;
   key = λ k. pair_key k.0 k.1;
   cells = rule_cells;
@@ -150,6 +163,7 @@ rules = record {
 
 abbrev pub closed_days : Table Pair ClosedDayRow
 closed_days = record {
+  shape = shape.closed_days;
   place = closed_days_place;
   key = λ k. pair_key k.0 k.1;
   cells = day_cells;
@@ -160,6 +174,7 @@ closed_days = record {
 
 abbrev pub kept : Table (Owner × List ℕ) KeptRow
 kept = record {
+  shape = shape.kept;
   place = kept_place;
   key = λ k. kept_key k.0 k.1;
   cells = kept_cells;

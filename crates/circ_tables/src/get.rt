@@ -9,6 +9,7 @@ ghost use Rattle.circ_tables.specs.Reading.{rules, patrons, titles, copies, loan
 ghost use Rattle.circ_tables.specs.Reading.{lines};
 ghost use Rattle.circ_tables.specs.Cells.{kept_cells};
 
+use crate::by_number::get_row;
 use crate::call::{all_rows, first_row};
 use crate::cell::{has_width, owner_number, text_at};
 use crate::entry::meta_row;
@@ -60,12 +61,7 @@ pub fn get_branch<S: Alter>(
 ) -> Result<Option<BranchRow>, Fault>
     ensures { Gets branches branch S.Store conn.old conn.new result }
 {
-    row_of(
-        conn,
-        alloc,
-        "SELECT * FROM branches WHERE branch = ?1",
-        params![branch.number()],
-    )
+    get_row(conn, alloc, branch.number())
 }
 
 /// Whether the branch is closed singly on the day. 91.
@@ -91,12 +87,7 @@ pub fn get_kind<S: Alter>(
 ) -> Result<Option<KindRow>, Fault>
     ensures { Gets kinds kind S.Store conn.old conn.new result }
 {
-    row_of(
-        conn,
-        (),
-        "SELECT * FROM kinds WHERE kind = ?1",
-        params![kind.number()],
-    )
+    get_row(conn, (), kind.number())
 }
 
 /// The circulation rule of a kind of patron and a kind of copy, if there is one. 91, 93.
@@ -123,12 +114,7 @@ pub fn get_patron<S: Alter>(
 ) -> Result<Option<PatronRow>, Fault>
     ensures { Gets patrons patron S.Store conn.old conn.new result }
 {
-    row_of(
-        conn,
-        alloc,
-        "SELECT * FROM patrons WHERE patron = ?1",
-        params![patron.number()],
-    )
+    get_row(conn, alloc, patron.number())
 }
 
 /// The row of a title, if there is one. 90, 91, 93.
@@ -139,48 +125,28 @@ pub fn get_title<S: Alter>(
 ) -> Result<Option<TitleRow>, Fault>
     ensures { Gets titles title S.Store conn.old conn.new result }
 {
-    row_of(
-        conn,
-        alloc,
-        "SELECT * FROM titles WHERE title = ?1",
-        params![title.number()],
-    )
+    get_row(conn, alloc, title.number())
 }
 
 /// The row of a copy, if there is one. 91, 93.
 pub fn get_copy<S: Alter>(conn: &mut Connection<S>, copy: CopyId) -> Result<Option<CopyRow>, Fault>
     ensures { Gets copies copy S.Store conn.old conn.new result }
 {
-    row_of(
-        conn,
-        (),
-        "SELECT * FROM copies WHERE copy = ?1",
-        params![copy.number()],
-    )
+    get_row(conn, (), copy.number())
 }
 
 /// The row of a loan, if there is one. 91, 93.
 pub fn get_loan<S: Alter>(conn: &mut Connection<S>, loan: LoanId) -> Result<Option<LoanRow>, Fault>
     ensures { Gets loans loan S.Store conn.old conn.new result }
 {
-    row_of(
-        conn,
-        (),
-        "SELECT * FROM loans WHERE loan = ?1",
-        params![loan.number()],
-    )
+    get_row(conn, (), loan.number())
 }
 
 /// The row of a hold, if there is one. 91, 93.
 pub fn get_hold<S: Alter>(conn: &mut Connection<S>, hold: HoldId) -> Result<Option<HoldRow>, Fault>
     ensures { Gets holds hold S.Store conn.old conn.new result }
 {
-    row_of(
-        conn,
-        (),
-        "SELECT * FROM holds WHERE hold = ?1",
-        params![hold.number()],
-    )
+    get_row(conn, (), hold.number())
 }
 
 /// The row of a copy's travel, if it travels. 91, 93.
@@ -190,24 +156,14 @@ pub fn get_transit<S: Alter>(
 ) -> Result<Option<TransitRow>, Fault>
     ensures { Gets transits copy S.Store conn.old conn.new result }
 {
-    row_of(
-        conn,
-        (),
-        "SELECT * FROM transits WHERE copy = ?1",
-        params![copy.number()],
-    )
+    get_row(conn, (), copy.number())
 }
 
 /// The row of a line, if there is one. 91, 93.
 pub fn get_line<S: Alter>(conn: &mut Connection<S>, line: LineId) -> Result<Option<LineRow>, Fault>
     ensures { Gets lines line S.Store conn.old conn.new result }
 {
-    row_of(
-        conn,
-        (),
-        "SELECT * FROM lines WHERE line = ?1",
-        params![line.number()],
-    )
+    get_row(conn, (), line.number())
 }
 
 fn kept_reply(row: &Row) -> Result<KeptReply, Fault>

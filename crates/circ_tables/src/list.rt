@@ -6,12 +6,9 @@ ghost use Rattle.circ_tables.specs.Reading.{AllEntries, FirstEntry};
 ghost use Rattle.std.specs.List.{All};
 ghost use Rattle.sqlite.specs.Order.{Row as SqlRow};
 ghost use Rattle.sqlite_rules.specs.Lists.{Has};
-ghost use Rattle.circ_tables.specs.Cells.{branch_cells, kind_cells, rule_cells, patron_cells};
-ghost use Rattle.circ_tables.specs.Cells.{title_cells, copy_cells, loan_cells, hold_cells};
-ghost use Rattle.circ_tables.specs.Cells.{transit_cells, line_cells, kept_cells};
-ghost use Rattle.circ_tables.specs.Encoding.{day_cells, IsClosedDay, IsReadableKept};
-ghost use Rattle.terms.specs.Limits.{IsBranch, IsKind, IsRule, IsPatron, IsTitle, IsCopy, IsLoan};
-ghost use Rattle.terms.specs.Limits.{IsHold, IsTransit, IsLine};
+ghost use Rattle.circ_tables.specs.Reading.{Table as Typed, branches, closed_days, kinds, rules};
+ghost use Rattle.circ_tables.specs.Reading.{patrons, titles, copies, loans, holds, transits, lines};
+ghost use Rattle.circ_tables.specs.Reading.{kept};
 
 use crate::call::{all_rows, first_row};
 use crate::entry::{
@@ -22,164 +19,166 @@ use sqlite::{Alter, Connection, Row};
 use sqlite_value::value::ValueRef;
 use std::alloc::Global;
 use terms::{
-    BranchRow, ClosedDayRow, CopyRow, Fault, HoldRow, KeptRow, KindRow, LineRow, LoanRow,
-    PatronRow, RuleRow, TitleRow, TransitRow,
+    BranchRow, ClosedDayRow, CopyRow, Fault, HoldRow, KeptRow, Key, KindRow, LineRow, LoanRow,
+    Owner, PatronRow, RuleRow, TitleRow, TransitRow,
 };
 
-/// A row of one table, which is read column by column.
-pub trait Entry: Drop {
+/// A row of one table.
+pub trait Table: Drop {
+    /// The key of a row.
+    type Key: Drop;
+
     /// What reading a row takes: the allocator for one with texts, else nothing.
     type Memory: Copy;
 
-    ghost cells: { Self → SqlRow };
-
-    ghost is_legal: { Self → Type 0 };
+    ghost table: { Typed Self.Key Self };
 
     /// The row, within its limits. 90, 91, 93.
     fn read(row: &Row, memory: Self::Memory) -> Result<Self, Fault>
-        ensures cells { IfOk result (λ r. row.now ≡ cells r) }
-        ensures limits { IfOk result (λ r. is_legal r) }
-        ensures stored { result ≡ Err Fault.Stored → (r : Self) → is_legal r → row.now ≢ cells r };
+        ensures cells { IfOk result (λ r. row.now ≡ table.cells r) }
+        ensures limits { IfOk result (λ r. table.IsLegal r) }
+        ensures stored { result ≡ Err Fault.Stored → (r : Self) → table.IsLegal r
+            → row.now ≢ table.cells r };
 }
 
-impl Entry for BranchRow {
+impl Table for BranchRow {
+    type Key = u32;
+
     type Memory = Global;
 
-    ghost cells = { branch_cells };
-
-    ghost is_legal = { IsBranch };
+    ghost table = { branches };
 
     fn read(row: &Row, alloc: Global) -> Result<BranchRow, Fault> {
         branch_row(row, alloc)
     }
 }
 
-impl Entry for ClosedDayRow {
+impl Table for ClosedDayRow {
+    type Key = (u32, u32);
+
     type Memory = ();
 
-    ghost cells = { day_cells };
-
-    ghost is_legal = { IsClosedDay };
+    ghost table = { closed_days };
 
     fn read(row: &Row, _memory: ()) -> Result<ClosedDayRow, Fault> {
         closed_day_row(row)
     }
 }
 
-impl Entry for KindRow {
+impl Table for KindRow {
+    type Key = u32;
+
     type Memory = ();
 
-    ghost cells = { kind_cells };
-
-    ghost is_legal = { IsKind };
+    ghost table = { kinds };
 
     fn read(row: &Row, _memory: ()) -> Result<KindRow, Fault> {
         kind_row(row)
     }
 }
 
-impl Entry for RuleRow {
+impl Table for RuleRow {
+    type Key = (u32, u32);
+
     type Memory = ();
 
-    ghost cells = { rule_cells };
-
-    ghost is_legal = { IsRule };
+    ghost table = { rules };
 
     fn read(row: &Row, _memory: ()) -> Result<RuleRow, Fault> {
         rule_row(row)
     }
 }
 
-impl Entry for PatronRow {
+impl Table for PatronRow {
+    type Key = u32;
+
     type Memory = Global;
 
-    ghost cells = { patron_cells };
-
-    ghost is_legal = { IsPatron };
+    ghost table = { patrons };
 
     fn read(row: &Row, alloc: Global) -> Result<PatronRow, Fault> {
         patron_row(row, alloc)
     }
 }
 
-impl Entry for TitleRow {
+impl Table for TitleRow {
+    type Key = u32;
+
     type Memory = Global;
 
-    ghost cells = { title_cells };
-
-    ghost is_legal = { IsTitle };
+    ghost table = { titles };
 
     fn read(row: &Row, alloc: Global) -> Result<TitleRow, Fault> {
         title_row(row, alloc)
     }
 }
 
-impl Entry for CopyRow {
+impl Table for CopyRow {
+    type Key = u32;
+
     type Memory = ();
 
-    ghost cells = { copy_cells };
-
-    ghost is_legal = { IsCopy };
+    ghost table = { copies };
 
     fn read(row: &Row, _memory: ()) -> Result<CopyRow, Fault> {
         copy_row(row)
     }
 }
 
-impl Entry for LoanRow {
+impl Table for LoanRow {
+    type Key = u32;
+
     type Memory = ();
 
-    ghost cells = { loan_cells };
-
-    ghost is_legal = { IsLoan };
+    ghost table = { loans };
 
     fn read(row: &Row, _memory: ()) -> Result<LoanRow, Fault> {
         loan_row(row)
     }
 }
 
-impl Entry for HoldRow {
+impl Table for HoldRow {
+    type Key = u32;
+
     type Memory = ();
 
-    ghost cells = { hold_cells };
-
-    ghost is_legal = { IsHold };
+    ghost table = { holds };
 
     fn read(row: &Row, _memory: ()) -> Result<HoldRow, Fault> {
         hold_row(row)
     }
 }
 
-impl Entry for TransitRow {
+impl Table for TransitRow {
+    type Key = u32;
+
     type Memory = ();
 
-    ghost cells = { transit_cells };
-
-    ghost is_legal = { IsTransit };
+    ghost table = { transits };
 
     fn read(row: &Row, _memory: ()) -> Result<TransitRow, Fault> {
         transit_row(row)
     }
 }
 
-impl Entry for LineRow {
+impl Table for LineRow {
+    type Key = u32;
+
     type Memory = ();
 
-    ghost cells = { line_cells };
-
-    ghost is_legal = { IsLine };
+    ghost table = { lines };
 
     fn read(row: &Row, _memory: ()) -> Result<LineRow, Fault> {
         line_row(row)
     }
 }
 
-impl Entry for KeptRow {
+impl Table for KeptRow {
+    type Key = (Owner, Key);
+
     type Memory = Global;
 
-    ghost cells = { kept_cells };
-
-    ghost is_legal = { IsReadableKept };
+    ghost table = { kept };
 
     fn read(row: &Row, alloc: Global) -> Result<KeptRow, Fault> {
         kept_row(row, alloc)
@@ -187,11 +186,11 @@ impl Entry for KeptRow {
 }
 
 /// The rows, each within its limits. 90, 91, 93.
-pub fn entries<T: Entry>(alloc: Global, memory: T::Memory, rows: &[Row]) -> Result<Vec<T>, Fault>
-    ensures cells { IfOk result (λ list. map T.cells list.items ≡ rows.now) }
-    ensures limits { IfOk result (λ list. All T.is_legal list.items) }
+pub fn entries<T: Table>(alloc: Global, memory: T::Memory, rows: &[Row]) -> Result<Vec<T>, Fault>
+    ensures cells { IfOk result (λ list. map T.table.cells list.items ≡ rows.now) }
+    ensures limits { IfOk result (λ list. All T.table.IsLegal list.items) }
     ensures stored { result ≡ Err Fault.Stored
-        → ¬ ((v : SqlRow) → Has rows.now v → (r : T) × T.is_legal r × (v ≡ T.cells r)) }
+        → ¬ ((v : SqlRow) → Has rows.now v → (r : T) × T.table.IsLegal r × (v ≡ T.table.cells r)) }
 {
     let mut list = Vec::new(alloc);
     'rows: for row in rows {
@@ -202,13 +201,13 @@ pub fn entries<T: Entry>(alloc: Global, memory: T::Memory, rows: &[Row]) -> Resu
 }
 
 /// The first row that a text shows, within its limits, if it shows any. 90, 91, 93.
-pub fn row_of<T: Entry, S: Alter>(
+pub fn row_of<T: Table, S: Alter>(
     conn: &mut Connection<S>,
     memory: T::Memory,
     sql: &str,
     params: &[ValueRef<'_>],
 ) -> Result<Option<T>, Fault>
-    ensures { FirstEntry T.cells T.is_legal sql.now (bound params.now)
+    ensures { FirstEntry T.table.cells T.table.IsLegal sql.now (bound params.now)
         S.Store conn.old conn.new result }
 {
     match &first_row(conn, sql, params)? {
@@ -218,14 +217,14 @@ pub fn row_of<T: Entry, S: Alter>(
 }
 
 /// All rows that a text shows, each within its limits. 90, 91, 93.
-pub fn rows_of<T: Entry, S: Alter>(
+pub fn rows_of<T: Table, S: Alter>(
     conn: &mut Connection<S>,
     alloc: Global,
     memory: T::Memory,
     sql: &str,
     params: &[ValueRef<'_>],
 ) -> Result<Vec<T>, Fault>
-    ensures { AllEntries (λ l. l.items) T.cells T.is_legal sql.now (bound params.now)
+    ensures { AllEntries (λ l. l.items) T.table.cells T.table.IsLegal sql.now (bound params.now)
         S.Store conn.old conn.new result }
 {
     let rows = all_rows(conn, sql, params)?;

@@ -11,6 +11,7 @@ ghost use Rattle.circ_tables.specs.Selections.{is_overdue_after, is_line_after, 
 ghost use Rattle.circ_tables.specs.Selections.{is_from, is_kept_after, least_after};
 ghost use Rattle.circ_tables.specs.declared.lists.TheConstants.{PAGE_ROWS};
 
+use crate::by_number::{every_row, next_rows};
 use crate::cell::owner_number;
 use crate::list::rows_of;
 use calendar::Day;
@@ -23,6 +24,10 @@ use terms::{
 
 /// How many rows a page of a list has, but for its last one. The texts of pages name it too.
 pub const PAGE_ROWS: usize = 1000;
+
+/// The text of `open_loans_by`.
+pub const OPEN_LOANS_BY_TEXT: &str =
+    "SELECT * FROM loans WHERE patron = ?1 AND ended IS NULL ORDER BY loan";
 
 /// The open loans of a patron, the least number first. 90, 91, 93.
 pub fn open_loans_by<S: Alter>(
@@ -37,10 +42,14 @@ pub fn open_loans_by<S: Alter>(
         conn,
         alloc,
         (),
-        "SELECT * FROM loans WHERE patron = ?1 AND ended IS NULL ORDER BY loan",
+        OPEN_LOANS_BY_TEXT,
         params![patron.number()],
     )
 }
+
+/// The text of `active_holds_by`.
+pub const ACTIVE_HOLDS_BY_TEXT: &str =
+    "SELECT * FROM holds WHERE patron = ?1 AND state <= 1 ORDER BY hold";
 
 /// The waiting and the ready holds of a patron, the least number first. 90, 91, 93.
 pub fn active_holds_by<S: Alter>(
@@ -55,10 +64,14 @@ pub fn active_holds_by<S: Alter>(
         conn,
         alloc,
         (),
-        "SELECT * FROM holds WHERE patron = ?1 AND state <= 1 ORDER BY hold",
+        ACTIVE_HOLDS_BY_TEXT,
         params![patron.number()],
     )
 }
+
+/// The text of `ready_holds_after`.
+pub const READY_HOLDS_AFTER_TEXT: &str =
+    "SELECT * FROM holds WHERE branch = ?1 AND state = 1 AND hold > ?2 ORDER BY hold LIMIT 1000";
 
 /// The first ready holds with this pick-up branch whose numbers are above this one, the least
 /// number first: all of them, or as many as a page has. 90, 91, 93.
@@ -76,10 +89,14 @@ pub fn ready_holds_after<S: Alter>(
         conn,
         alloc,
         (),
-        "SELECT * FROM holds WHERE branch = ?1 AND state = 1 AND hold > ?2 ORDER BY hold LIMIT 1000",
+        READY_HOLDS_AFTER_TEXT,
         params![branch.number(), after.number()],
     )
 }
+
+/// The text of `overdue_loans_after`.
+pub const OVERDUE_LOANS_AFTER_TEXT: &str =
+    "SELECT * FROM loans WHERE branch = ?1 AND ended IS NULL AND due < ?2 AND loan > ?3 ORDER BY ended, loan LIMIT 1000";
 
 /// The first open loans that the branch made, that were due before the day and whose numbers are
 /// above this one, the least number first: all of them, or as many as a page has. 90, 91, 93.
@@ -101,10 +118,14 @@ pub fn overdue_loans_after<S: Alter>(
         conn,
         alloc,
         (),
-        "SELECT * FROM loans WHERE branch = ?1 AND ended IS NULL AND due < ?2 AND loan > ?3 ORDER BY ended, loan LIMIT 1000",
+        OVERDUE_LOANS_AFTER_TEXT,
         params![branch.number(), day.number(), after.number()],
     )
 }
+
+/// The text of `lines_after`.
+pub const LINES_AFTER_TEXT: &str =
+    "SELECT * FROM lines WHERE day = ?1 AND line > ?2 ORDER BY line LIMIT 1000";
 
 /// The first lines of a day, of all sorts, whose numbers are above this one, the least number
 /// first: all of them, or as many as a page has. 90, 91, 93.
@@ -121,7 +142,7 @@ pub fn lines_after<S: Alter>(
         conn,
         alloc,
         (),
-        "SELECT * FROM lines WHERE day = ?1 AND line > ?2 ORDER BY line LIMIT 1000",
+        LINES_AFTER_TEXT,
         params![day.number(), after.number()],
     )
 }
@@ -134,14 +155,11 @@ pub fn all_branches<S: Alter>(
     ensures { Lists branches (λ l. l.items) (λ m. Listed m is_any)
         S.Store conn.old conn.new result }
 {
-    rows_of(
-        conn,
-        alloc,
-        alloc,
-        "SELECT * FROM branches ORDER BY branch",
-        &[],
-    )
+    every_row(conn, alloc, alloc)
 }
+
+/// The text of `all_closed_days`.
+pub const ALL_CLOSED_DAYS_TEXT: &str = "SELECT * FROM closed_days ORDER BY branch, day";
 
 /// All rows of `closed_days`, by branch and then by day. 90, 91, 93.
 pub fn all_closed_days<S: Alter>(
@@ -151,49 +169,40 @@ pub fn all_closed_days<S: Alter>(
     ensures { Lists closed_days (λ l. l.items) (λ m. ListedBy PairBelow m is_any)
         S.Store conn.old conn.new result }
 {
-    rows_of(
-        conn,
-        alloc,
-        (),
-        "SELECT * FROM closed_days ORDER BY branch, day",
-        &[],
-    )
+    rows_of(conn, alloc, (), ALL_CLOSED_DAYS_TEXT, &[])
 }
 
 /// All rows of `kinds`, the least number first. 90, 91, 93.
 pub fn all_kinds<S: Alter>(conn: &mut Connection<S>, alloc: Global) -> Result<Vec<KindRow>, Fault>
     ensures { Lists kinds (λ l. l.items) (λ m. Listed m is_any) S.Store conn.old conn.new result }
 {
-    rows_of(conn, alloc, (), "SELECT * FROM kinds ORDER BY kind", &[])
+    every_row(conn, alloc, ())
 }
+
+/// The text of `all_rules`.
+pub const ALL_RULES_TEXT: &str = "SELECT * FROM rules ORDER BY kind, copy_kind";
 
 /// All rows of `rules`, by the kind of patron and then by the kind of copy. 90, 91, 93.
 pub fn all_rules<S: Alter>(conn: &mut Connection<S>, alloc: Global) -> Result<Vec<RuleRow>, Fault>
     ensures { Lists rules (λ l. l.items) (λ m. ListedBy PairBelow m is_any)
         S.Store conn.old conn.new result }
 {
-    rows_of(
-        conn,
-        alloc,
-        (),
-        "SELECT * FROM rules ORDER BY kind, copy_kind",
-        &[],
-    )
+    rows_of(conn, alloc, (), ALL_RULES_TEXT, &[])
 }
+
+/// The text of `all_kept`.
+pub const ALL_KEPT_TEXT: &str = "SELECT * FROM kept ORDER BY caller, key";
 
 /// All rows of `kept`, by whose they are and then by key. 90, 91, 93.
 pub fn all_kept<S: Alter>(conn: &mut Connection<S>, alloc: Global) -> Result<Vec<KeptRow>, Fault>
     ensures { Lists kept (λ l. l.items) (λ m. ListedBy PairBelow m is_any)
         S.Store conn.old conn.new result }
 {
-    rows_of(
-        conn,
-        alloc,
-        alloc,
-        "SELECT * FROM kept ORDER BY caller, key",
-        &[],
-    )
+    rows_of(conn, alloc, alloc, ALL_KEPT_TEXT, &[])
 }
+
+/// The text of `first_kept`.
+pub const FIRST_KEPT_TEXT: &str = "SELECT * FROM kept ORDER BY caller, key LIMIT 1000";
 
 /// The first rows of `kept`, by whose they are and then by key: all of them, or as many as a page
 /// has. 90, 91, 93.
@@ -201,14 +210,12 @@ pub fn first_kept<S: Alter>(conn: &mut Connection<S>, alloc: Global) -> Result<V
     ensures { Lists kept (λ l. l.items) (λ m. FirstRowsBy PairBelow PAGE_ROWS m is_any)
         S.Store conn.old conn.new result }
 {
-    rows_of(
-        conn,
-        alloc,
-        alloc,
-        "SELECT * FROM kept ORDER BY caller, key LIMIT 1000",
-        &[],
-    )
+    rows_of(conn, alloc, alloc, FIRST_KEPT_TEXT, &[])
 }
+
+/// The text of `kept_after`.
+pub const KEPT_AFTER_TEXT: &str =
+    "SELECT * FROM kept WHERE caller = ?1 AND key > ?2 ORDER BY caller, key LIMIT 1000";
 
 /// The first rows that are kept for a caller by keys after this one, by key: all of them, or as
 /// many as a page has. 90, 91, 93.
@@ -226,10 +233,14 @@ pub fn kept_after<S: Alter>(
         conn,
         alloc,
         alloc,
-        "SELECT * FROM kept WHERE caller = ?1 AND key > ?2 ORDER BY caller, key LIMIT 1000",
+        KEPT_AFTER_TEXT,
         params![owner_number(owner), key.as_str()],
     )
 }
+
+/// The text of `kept_past`.
+pub const KEPT_PAST_TEXT: &str =
+    "SELECT * FROM kept WHERE caller > ?1 ORDER BY caller, key LIMIT 1000";
 
 /// The first rows that are kept for the callers after this one, by whose they are and then by key:
 /// all of them, or as many as a page has. 90, 91, 93.
@@ -246,14 +257,14 @@ pub fn kept_past<S: Alter>(
         conn,
         alloc,
         alloc,
-        "SELECT * FROM kept WHERE caller > ?1 ORDER BY caller, key LIMIT 1000",
+        KEPT_PAST_TEXT,
         params![owner_number(owner)],
     )
 }
 
 /// The least number of a row that comes after this one, or of any row. That this one has 32 bits is
 /// said too, since what is answered fits 64 for it.
-fn least_after(after: Option<u32>) -> i64
+pub fn least_after(after: Option<u32>) -> i64
     ensures least { result ≡ least_after after }
     ensures range { IfSome after (λ n. n < 2 ^ 32) }
 {
@@ -273,13 +284,7 @@ pub fn next_patrons<S: Alter>(
     ensures { Lists patrons (λ l. l.items) (λ m. FirstRows PAGE_ROWS m (is_from (least_after after)))
         S.Store conn.old conn.new result }
 {
-    rows_of(
-        conn,
-        alloc,
-        alloc,
-        "SELECT * FROM patrons WHERE patron >= ?1 ORDER BY patron LIMIT 1000",
-        params![least_after(after)],
-    )
+    next_rows(conn, alloc, alloc, after)
 }
 
 /// The first rows of `titles`, or the first with numbers above this one, the least number first: all of
@@ -292,13 +297,7 @@ pub fn next_titles<S: Alter>(
     ensures { Lists titles (λ l. l.items) (λ m. FirstRows PAGE_ROWS m (is_from (least_after after)))
         S.Store conn.old conn.new result }
 {
-    rows_of(
-        conn,
-        alloc,
-        alloc,
-        "SELECT * FROM titles WHERE title >= ?1 ORDER BY title LIMIT 1000",
-        params![least_after(after)],
-    )
+    next_rows(conn, alloc, alloc, after)
 }
 
 /// The first rows of `copies`, or the first with numbers above this one, the least number first: all of
@@ -311,13 +310,7 @@ pub fn next_copies<S: Alter>(
     ensures { Lists copies (λ l. l.items) (λ m. FirstRows PAGE_ROWS m (is_from (least_after after)))
         S.Store conn.old conn.new result }
 {
-    rows_of(
-        conn,
-        alloc,
-        (),
-        "SELECT * FROM copies WHERE copy >= ?1 ORDER BY copy LIMIT 1000",
-        params![least_after(after)],
-    )
+    next_rows(conn, alloc, (), after)
 }
 
 /// The first rows of `loans`, or the first with numbers above this one, the least number first: all of
@@ -330,13 +323,7 @@ pub fn next_loans<S: Alter>(
     ensures { Lists loans (λ l. l.items) (λ m. FirstRows PAGE_ROWS m (is_from (least_after after)))
         S.Store conn.old conn.new result }
 {
-    rows_of(
-        conn,
-        alloc,
-        (),
-        "SELECT * FROM loans WHERE loan >= ?1 ORDER BY loan LIMIT 1000",
-        params![least_after(after)],
-    )
+    next_rows(conn, alloc, (), after)
 }
 
 /// The first rows of `holds`, or the first with numbers above this one, the least number first: all of
@@ -349,13 +336,7 @@ pub fn next_holds<S: Alter>(
     ensures { Lists holds (λ l. l.items) (λ m. FirstRows PAGE_ROWS m (is_from (least_after after)))
         S.Store conn.old conn.new result }
 {
-    rows_of(
-        conn,
-        alloc,
-        (),
-        "SELECT * FROM holds WHERE hold >= ?1 ORDER BY hold LIMIT 1000",
-        params![least_after(after)],
-    )
+    next_rows(conn, alloc, (), after)
 }
 
 /// The first rows of `transits`, or the first with numbers above this one, the least number first: all of
@@ -368,13 +349,7 @@ pub fn next_transits<S: Alter>(
     ensures { Lists transits (λ l. l.items) (λ m. FirstRows PAGE_ROWS m (is_from (least_after after)))
         S.Store conn.old conn.new result }
 {
-    rows_of(
-        conn,
-        alloc,
-        (),
-        "SELECT * FROM transits WHERE copy >= ?1 ORDER BY copy LIMIT 1000",
-        params![least_after(after)],
-    )
+    next_rows(conn, alloc, (), after)
 }
 
 /// The first rows of `lines`, or the first with numbers above this one, the least number first: all of
@@ -387,11 +362,5 @@ pub fn next_lines<S: Alter>(
     ensures { Lists lines (λ l. l.items) (λ m. FirstRows PAGE_ROWS m (is_from (least_after after)))
         S.Store conn.old conn.new result }
 {
-    rows_of(
-        conn,
-        alloc,
-        (),
-        "SELECT * FROM lines WHERE line >= ?1 ORDER BY line LIMIT 1000",
-        params![least_after(after)],
-    )
+    next_rows(conn, alloc, (), after)
 }

@@ -21,6 +21,10 @@ use terms::{
     TransitRow,
 };
 
+/// The text of `open_loan_of`.
+pub const OPEN_LOAN_OF_TEXT: &str =
+    "SELECT * FROM loans WHERE copy = ?1 AND ended IS NULL ORDER BY loan LIMIT 1";
+
 /// The open loan of a copy, if it is on loan. 91, 93.
 pub fn open_loan_of<S: Alter>(
     conn: &mut Connection<S>,
@@ -29,13 +33,11 @@ pub fn open_loan_of<S: Alter>(
     ensures { Selects loans (λ maps. First (maps loans_place) (is_open_of copy))
         S.Store conn.old conn.new result }
 {
-    row_of(
-        conn,
-        (),
-        "SELECT * FROM loans WHERE copy = ?1 AND ended IS NULL ORDER BY loan LIMIT 1",
-        params![copy.number()],
-    )
+    row_of(conn, (), OPEN_LOAN_OF_TEXT, params![copy.number()])
 }
+
+/// The text of `ready_hold_of`.
+pub const READY_HOLD_OF_TEXT: &str = "SELECT * FROM holds WHERE copy = ?1 ORDER BY hold LIMIT 1";
 
 /// The hold that names the copy, if one does. 91, 93.
 pub fn ready_hold_of<S: Alter>(
@@ -45,13 +47,11 @@ pub fn ready_hold_of<S: Alter>(
     ensures { Selects holds (λ maps. First (maps holds_place) (names_copy copy))
         S.Store conn.old conn.new result }
 {
-    row_of(
-        conn,
-        (),
-        "SELECT * FROM holds WHERE copy = ?1 ORDER BY hold LIMIT 1",
-        params![copy.number()],
-    )
+    row_of(conn, (), READY_HOLD_OF_TEXT, params![copy.number()])
 }
+
+/// The text of `transit_for`.
+pub const TRANSIT_FOR_TEXT: &str = "SELECT * FROM transits WHERE hold = ?1 ORDER BY copy LIMIT 1";
 
 /// The travel of a copy for the hold, if one travels for it. 91, 93.
 pub fn transit_for<S: Alter>(
@@ -61,13 +61,12 @@ pub fn transit_for<S: Alter>(
     ensures { Selects transits (λ maps. First (maps transits_place) (travels_for hold))
         S.Store conn.old conn.new result }
 {
-    row_of(
-        conn,
-        (),
-        "SELECT * FROM transits WHERE hold = ?1 ORDER BY copy LIMIT 1",
-        params![hold.number()],
-    )
+    row_of(conn, (), TRANSIT_FOR_TEXT, params![hold.number()])
 }
+
+/// The text of `first_in_line`.
+pub const FIRST_IN_LINE_TEXT: &str =
+    "SELECT * FROM holds WHERE title = ?1 AND state = 0 AND NOT EXISTS (SELECT * FROM transits WHERE transits.hold = holds.hold) ORDER BY hold LIMIT 1";
 
 /// The first in line for a title: the waiting hold of the least number that no copy travels for.
 /// 91, 93.
@@ -79,13 +78,12 @@ pub fn first_in_line<S: Alter>(
         (λ maps. FirstOf (maps holds_place) (Waits (maps transits_place) title))
         S.Store conn.old conn.new result }
 {
-    row_of(
-        conn,
-        (),
-        "SELECT * FROM holds WHERE title = ?1 AND state = 0 AND NOT EXISTS (SELECT * FROM transits WHERE transits.hold = holds.hold) ORDER BY hold LIMIT 1",
-        params![title.number()],
-    )
+    row_of(conn, (), FIRST_IN_LINE_TEXT, params![title.number()])
 }
+
+/// The text of `open_loan_of_title`.
+pub const OPEN_LOAN_OF_TITLE_TEXT: &str =
+    "SELECT * FROM loans WHERE patron = ?1 AND ended IS NULL AND EXISTS (SELECT * FROM copies WHERE copies.copy = loans.copy AND copies.title = ?2) ORDER BY loan LIMIT 1";
 
 /// The open loan of a patron of some copy of the title, the least number first, if there is one.
 /// 91, 93.
@@ -101,7 +99,7 @@ pub fn open_loan_of_title<S: Alter>(
     row_of(
         conn,
         (),
-        "SELECT * FROM loans WHERE patron = ?1 AND ended IS NULL AND EXISTS (SELECT * FROM copies WHERE copies.copy = loans.copy AND copies.title = ?2) ORDER BY loan LIMIT 1",
+        OPEN_LOAN_OF_TITLE_TEXT,
         params![patron.number(), title.number()],
     )
 }
@@ -120,6 +118,10 @@ fn counted<S: Alter>(
     }
 }
 
+/// The text of `count_open_loans`.
+pub const COUNT_OPEN_LOANS_TEXT: &str =
+    "SELECT COUNT(*) FROM loans WHERE patron = ?1 AND ended IS NULL";
+
 /// How many open loans the patron has. 91; 93 from 2^32 on.
 pub fn count_open_loans<S: Alter>(
     conn: &mut Connection<S>,
@@ -127,12 +129,12 @@ pub fn count_open_loans<S: Alter>(
 ) -> Result<Count, Fault>
     ensures { Counts loans (is_open_by patron) S.Store conn.old conn.new result }
 {
-    counted(
-        conn,
-        "SELECT COUNT(*) FROM loans WHERE patron = ?1 AND ended IS NULL",
-        params![patron.number()],
-    )
+    counted(conn, COUNT_OPEN_LOANS_TEXT, params![patron.number()])
 }
+
+/// The text of `count_active_holds`.
+pub const COUNT_ACTIVE_HOLDS_TEXT: &str =
+    "SELECT COUNT(*) FROM holds WHERE patron = ?1 AND state <= 1";
 
 /// How many waiting and ready holds the patron has. 91; 93 from 2^32 on.
 pub fn count_active_holds<S: Alter>(
@@ -141,12 +143,12 @@ pub fn count_active_holds<S: Alter>(
 ) -> Result<Count, Fault>
     ensures { Counts holds (is_active_by patron) S.Store conn.old conn.new result }
 {
-    counted(
-        conn,
-        "SELECT COUNT(*) FROM holds WHERE patron = ?1 AND state <= 1",
-        params![patron.number()],
-    )
+    counted(conn, COUNT_ACTIVE_HOLDS_TEXT, params![patron.number()])
 }
+
+/// The text of `count_active_holds_on`.
+pub const COUNT_ACTIVE_HOLDS_ON_TEXT: &str =
+    "SELECT COUNT(*) FROM holds WHERE patron = ?1 AND title = ?2 AND state <= 1";
 
 /// How many waiting and ready holds the patron has on the title. 91; 93 from 2^32 on.
 pub fn count_active_holds_on<S: Alter>(
@@ -158,7 +160,7 @@ pub fn count_active_holds_on<S: Alter>(
 {
     counted(
         conn,
-        "SELECT COUNT(*) FROM holds WHERE patron = ?1 AND title = ?2 AND state <= 1",
+        COUNT_ACTIVE_HOLDS_ON_TEXT,
         params![patron.number(), title.number()],
     )
 }
@@ -170,6 +172,9 @@ fn days_of(alloc: Global, rows: &[ClosedDayRow]) -> Result<Vec<Day>, Fault>
 {
     Ok(rows.iter().map(|row| row.day).collect(alloc)?)
 }
+
+/// The text of `closed_days_of`.
+pub const CLOSED_DAYS_OF_TEXT: &str = "SELECT * FROM closed_days WHERE branch = ?1 ORDER BY day";
 
 /// The days on which a branch is closed singly, the first one first. 90, 91, 93.
 pub fn closed_days_of<S: Alter>(
@@ -183,7 +188,7 @@ pub fn closed_days_of<S: Alter>(
         conn,
         alloc,
         (),
-        "SELECT * FROM closed_days WHERE branch = ?1 ORDER BY day",
+        CLOSED_DAYS_OF_TEXT,
         params![branch.number()],
     )?;
     days_of(alloc, closed.as_slice())

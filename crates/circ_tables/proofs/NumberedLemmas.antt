@@ -1,0 +1,222 @@
+-- What follows of a table that is keyed by one number, whichever it is.
+use Rattle.std.proofs.Common.{◌≡◌, inl, inr, ℕ, ℤ, pos, Bool, true, false, not, ◌==◌, ◌&&◌, ◌||◌, zero, suc, ◌≢◌, ◌+◌, length, cond, List, [], ◌∷◌, ◌++◌, map, Option, Some, None, Result, refl, sym, ap, subst, ◌∙◌, true≢false}
+use Rattle.std.specs.Prelude.{bytes_eq, option_map}
+use Rattle.std.specs.List.{list_all, list_any, flat_map, filter_map}
+use Rattle.std.proofs.lemmas.Bool.{cases_Bool, and_parts}
+use Rattle.std.proofs.lemmas.Bool.Decides.{Decides-eqb}
+use Rattle.sqlite.specs.Held.{Held}
+use Rattle.sqlite.specs.Store.{Ghosts}
+use Rattle.sqlite.specs.declared.transaction.Transaction.{Transaction}
+use Rattle.sqlite.specs.declared.types.Value.TheVariants.{Int}
+use Rattle.sqlite.specs.Given.{IsPlain}
+use Rattle.sqlite.specs.Listing.{understood}
+use Rattle.sqlite.specs.Order.{Row, column}
+use Rattle.sqlite.specs.Schema.{Schema}
+use Rattle.sqlite.specs.State.{State, IsUnchanged}
+use Rattle.sqlite.specs.Table as sql
+use Rattle.sqlite_schema.specs.declared.schema.Index.{Index}
+use Rattle.sqlite_schema.specs.declared.schema.Reference.{Reference}
+use Rattle.sqlite_schema.specs.declared.schema.Keys.{Keys}
+use Rattle.sqlite_schema.specs.Rules.{agree, guards}
+use Rattle.sqlite_value.specs.Keys.{plain}
+use Rattle.sqlite_rules.specs.Action.{work_for}
+use Rattle.sqlite_rules.specs.Keys.{conflicts, shares}
+use Rattle.sqlite_tied.specs.Listing.{each_column}
+use Rattle.sql_maps.specs.Calls.{FindsRow}
+use Rattle.sql_maps.specs.Maps.{Map, Maps, Holds, Steps, Listed, cells, key_at, put as put_map, put_at, take_at, take_out}
+use Rattle.sql_maps.specs.Pages.{FirstRows}
+use Rattle.sql_maps.proofs.AnswerLemmas.{shown_of}
+use Rattle.sql_maps.proofs.CallLemmas.{put_steps, take_steps}
+use Rattle.sql_maps.proofs.FindLemmas.{finds_one}
+use Rattle.sql_maps.proofs.LookLemmas.{list_found}
+use Rattle.sql_maps.proofs.MapLemmas.{are_apart}
+use Rattle.sql_maps.proofs.PageLemmas.{page_found}
+use Rattle.sql_maps.proofs.ReadLemmas.{get_row}
+use Rattle.sql_maps.proofs.UniqueLemmas.{or_false, alone_by_rowid}
+use Rattle.sql_maps.proofs.WriteLemmas.{Fixed}
+use Rattle.terms.specs.Limits.{InLimits}
+use Rattle.terms.specs.Pictures.{Picture, put as put_in}
+use Rattle.terms.specs.declared.fault.Fault.{Fault}
+use Rattle.circ_tables.specs.Cells.{number_key}
+use Rattle.circ_tables.specs.Encoding.{Any, AreEncoded, IsEncoded, Draws, Encodes, with_map}
+use Rattle.circ_tables.specs.Numbered.{IsNumbered, IsNumberTable, by_key, from_key, by_number, put_terms, put_shows}
+use Rattle.circ_tables.specs.Puts.{Runs, PutsRow, TakesRow}
+use Rattle.circ_tables.specs.Reading.{Table, FirstEntry, AllEntries, Gets, Lists}
+use Rattle.circ_tables.specs.Selections.{is_any, is_from}
+use Rattle.circ_tables.specs.Shape.{schema}
+use Rattle.circ_tables.specs.Texts.{names_of, put_text, take_text, get_text, all_text, page_text}
+use Rattle.circ_tables.specs.declared.lists.TheConstants.{PAGE_ROWS}
+use Rattle.circ_tables.proofs.EncodingLemmas.{put_encoded, take_encoded, number_same}
+use Rattle.circ_tables.proofs.InverseLemmas.{told_by}
+use Rattle.circ_tables.proofs.PageLemmas.{there}
+use Rattle.circ_tables.proofs.PutLemmas.{puts_of}
+use Rattle.circ_tables.proofs.ReadingLemmas.{gets_of, lists_of}
+use Rattle.circ_tables.proofs.ShownLemmas.{are_encoded}
+
+-- ---- a schema with no foreign key, and no index on a rowid
+
+abbrev has_none : List Reference → Bool
+has_none [] = true
+has_none (ref ∷ more) = false
+
+abbrev is_free : sql.Table → Bool
+is_free t = has_none t.references
+
+abbrev aims_past : Index → Bool
+aims_past i = not (bytes_eq (0 ∷ []) i.columns)
+
+none_set_off : (s : Schema) (keys : Keys) (depth tree : ℕ) (olds news : List Row) (tables : List sql.Table) → list_all is_free tables ≡ true
+    → flat_map (λ (child : sql.Table). filter_map (work_for s keys depth tree olds news child) child.references) tables ≡ []
+none_set_off s keys depth tree olds news [] h = refl
+none_set_off s keys depth tree olds news (t ∷ more) h =
+    let parts = and_parts (is_free t) (list_all is_free more) h in
+    ap (λ l. l ++ flat_map (λ (child : sql.Table). filter_map (work_for s keys depth tree olds news child) child.references) more) (none (t.references) parts.0) ∙ none_set_off s keys depth tree olds news more parts.1
+  where
+    none : (refs : List Reference) → has_none refs ≡ true → filter_map (work_for s keys depth tree olds news t) refs ≡ []
+    none [] h = refl
+    none (r ∷ rs) h = absurd (true≢false (sym h))
+
+none_shared : (t : sql.Table) (new r : Row) (indexes : List Index) → list_all aims_past indexes ≡ true → list_any (shares (Some (0 ∷ [])) t new r) indexes ≡ false
+none_shared t new r [] h = refl
+none_shared t new r (i ∷ more) h =
+    let parts = and_parts (aims_past i) (list_all aims_past more) h in
+    ap (λ b. b || list_any (shares (Some (0 ∷ [])) t new r) more) (off (guards i t) (bytes_eq (0 ∷ []) i.columns) (agree i.order i.columns r i.columns new) parts.0) ∙ none_shared t new r more parts.1
+  where
+    off : (a b c : Bool) → not b ≡ true → (a && b && c) ≡ false
+    off true true c h = absurd (true≢false (sym h))
+    off true false c h = refl
+    off false true c h = refl
+    off false false c h = refl
+
+fixed_of : (s : Schema) (at : ℕ) (t : sql.Table) → list_all is_free s.tables ≡ true → list_all aims_past s.indexes ≡ true → IsNumbered s at t → Fixed s at t
+fixed_of s at t free past is = record {
+  listed = is.listed;
+  uncounted = is.uncounted;
+  calm = λ keys depth tree olds news. none_set_off s keys depth tree olds news s.tables free;
+  target = λ r new. subst (λ p. conflicts (Some p) s.indexes t new r ≡ agree plain p r p new) (sym is.primary)
+      (ap (λ b. agree plain (0 ∷ []) r (0 ∷ []) new || b) (none_shared t new r s.indexes past) ∙ or_false _);
+  alone = λ db fits x y hx hy same. alone_by_rowid x y (subst (λ p. agree plain p x p y ≡ true) is.primary same);
+}
+
+apart : are_apart schema.tables ≡ true
+apart = refl
+
+free_all : list_all is_free schema.tables ≡ true
+free_all = refl
+
+past_all : list_all aims_past schema.indexes ≡ true
+past_all = refl
+
+-- ---- a table of typed rows
+
+-- the map at the place is this one, and all others are as they were
+same_map : (maps : Maps) (at : ℕ) (m : Map) → with_map maps at m at ≡ m
+same_map maps zero m = refl
+same_map maps (suc at) m = same_map (λ j. maps (suc j)) at m
+
+other_map : (maps : Maps) (at : ℕ) (m : Map) (i : ℕ) → i ≢ at → with_map maps at m i ≡ maps i
+other_map maps zero m zero h = absurd (h refl)
+other_map maps zero m (suc i) h = refl
+other_map maps (suc at) m zero h = refl
+other_map maps (suc at) m (suc i) h = other_map (λ j. maps (suc j)) at m i (λ e. h (ap suc e))
+
+changed_at : (maps : Maps) (at : ℕ) (m : Map) (i : ℕ) (j : Row) → cond (i == at) (m j) (maps i j) ≡ with_map maps at m i j
+changed_at maps at m i j = elim (cases_Bool (i == at)) [
+  | inl hit ↦ ap (λ b. cond b (m j) (maps i j)) hit ∙ sym (ap (λ (w : Map). w j) (subst (λ n. with_map maps at m n ≡ m) (sym ((Decides-eqb i at).0 hit)) (same_map maps at m)))
+  | inr miss ↦ ap (λ b. cond b (m j) (maps i j)) miss ∙ sym (ap (λ (w : Map). w j) (other_map maps at m i (λ e. true≢false (sym ((Decides-eqb i at).1 e) ∙ miss))))
+]
+
+set_one : {A : Type 0} (t : ℕ → A) (at : ℕ) (x : A) (k : ℕ) → put_in t at x k ≡ cond (at == k) x (t k)
+set_one t at x k = elim (cases_Bool (at == k)) [ inl hit ↦ rw (hit, put_in) refl | inr miss ↦ rw (miss, put_in) refl ]
+
+module _ {R : Type 0} (t : Table ℕ R) (number_of : R → ℕ) (back : Row → R) (with_rows : Picture → (ℕ → Option R) → Picture) (is : IsNumberTable t number_of back with_rows) where
+  told : (a b : R) → t.IsLegal a → t.IsLegal b → t.cells a ≡ t.cells b → a ≡ b
+  told = told_by t.cells t.IsLegal back is.back_is
+
+  within : (maps : Maps) (P : Picture) → Encodes maps P → InLimits P → AreEncoded t.cells t.IsLegal (maps t.place)
+  within maps P encodes legal = are_encoded t.cells t.IsLegal number_of (maps t.place) (t.rows P) (is.rows_are maps P encodes) (is.legal P legal)
+
+  fixed : Fixed schema t.place t.shape
+  fixed = fixed_of schema t.place t.shape free_all past_all is.texts
+
+  get_plain : (s : Schema) → s ≡ schema → IsPlain (understood s (get_text t.shape))
+  get_plain s e = subst (λ z. IsPlain (understood z (get_text t.shape))) (sym e) is.texts.get.bare
+
+  all_plain : (s : Schema) → s ≡ schema → IsPlain (understood s (all_text t.shape))
+  all_plain s e = subst (λ z. IsPlain (understood z (all_text t.shape))) (sym e) is.texts.all.bare
+
+  page_plain : (s : Schema) → s ≡ schema → IsPlain (understood s (page_text t.shape))
+  page_plain s e = subst (λ z. IsPlain (understood z (page_text t.shape))) (sym e) is.texts.page.bare
+
+  as_cells : (given : Row) (l : List Row) → map (shown_of (each_column 1 t.shape) given) l ≡ map (cells t.shape) l
+  as_cells given l i = map (λ r. is.texts.shows given r i) l
+
+  single : (r : Row) → key_at t.shape r ≡ column r 0 ∷ []
+  single r = ap (map (column r)) is.texts.primary
+
+  got : (k : ℕ) (old new : State) (o : Option Row) → FindsRow (get_text t.shape) (number_key k) old new o → (maps : Maps) → Holds schema old.now maps → (maps t.place (t.key k) ≡ o) × IsUnchanged old new
+  got k old new o finds maps holds =
+      subst (λ j. (maps t.place j ≡ o) × IsUnchanged old new) (sym (is.keyed k))
+      (get_row schema t.place t.shape is.texts.listed by_key (each_column 1 t.shape) (number_key k) (number_key k) (finds_one t.shape (Int (pos k)) is.texts.primary refl) (is.texts.shows (number_key k)) (names_of t.shape) (get_text t.shape)
+      is.texts.get.command_is is.texts.get.bare is.texts.get.unlisted old new o finds maps holds)
+
+  -- the row of a number
+  pub gets_row : (k : ℕ) → {S : Type 0} (g : Ghosts S) (old new : Held S) (result : Result (Option R) Fault) → FirstEntry t.cells t.IsLegal (get_text t.shape) (number_key k) g old new result → Gets t k g old new result
+  gets_row k g old new result entry =
+      gets_of t told (get_text t.shape) get_plain k (number_key k) (got k) (λ maps P encodes. subst (λ j. maps t.place j ≡ option_map t.cells (t.rows P k)) (sym (is.keyed k)) ((is.rows_are maps P encodes).there k tt))
+      (λ P legal r there. (is.legal P legal k r there).1) g old new result entry
+
+  -- all rows
+  pub lists_all : {S L : Type 0} (items : L → List R) (g : Ghosts S) (old new : Held S) (result : Result L Fault) → AllEntries items t.cells t.IsLegal (all_text t.shape) [] g old new result → Lists t items (λ m. Listed m is_any) g old new result
+  lists_all items g old new result entries =
+      lists_of t items (all_text t.shape) all_plain [] (λ m. Listed m is_any)
+      (list_found schema t.place t.shape [] (names_of t.shape) (all_text t.shape) [] is_any (λ r. refl)
+      (record { listed = is.texts.listed; command = is.texts.all.command_is; bare = is.texts.all.bare; unlisted = is.texts.all.unlisted; single = single; key_cell = is.texts.key_cell; as_cells = as_cells }))
+      (λ m rows listed v there. let at = listed.sound v there in (at.0, at.1)) within g old new result entries
+
+  -- a page
+  pub lists_page : (a : ℤ) → {S L : Type 0} (items : L → List R) (g : Ghosts S) (old new : Held S) (result : Result L Fault) → AllEntries items t.cells t.IsLegal (page_text t.shape) (Int a ∷ []) g old new result
+      → Lists t items (λ m. FirstRows PAGE_ROWS m (is_from a)) g old new result
+  lists_page a items g old new result entries =
+      lists_of t items (page_text t.shape) page_plain (Int a ∷ []) (λ m. FirstRows PAGE_ROWS m (is_from a))
+      (page_found schema t.place t.shape from_key by_number PAGE_ROWS (names_of t.shape) (page_text t.shape) (Int a ∷ []) (is_from a) (λ r. rw (is.texts.key_cell r) refl) (λ x y _ _ less. rw less refl)
+      (record { listed = is.texts.listed; command = is.texts.page.command_is; bare = is.texts.page.bare; unlisted = is.texts.page.unlisted; single = single; key_cell = is.texts.key_cell; as_cells = as_cells; cut = λ given l. refl }))
+      (λ m rows first v has. there PAGE_ROWS m (is_from a) rows first v has) within g old new result entries
+
+  -- the picture after a change of the map at the place
+  drawn : (old new : State) (change : Maps → Maps) (m : Map → Map) (u : Picture → ℕ → Option R)
+      → ((maps : Maps) → change maps ≡ with_map maps t.place (m (maps t.place)))
+      → ((maps : Maps) (P : Picture) → Encodes maps P → IsEncoded Any number_key t.cells (m (maps t.place)) (u P)) → Steps schema old new change → Draws old new (λ P. with_rows P (u P))
+  drawn old new change m u same encoded steps = record {
+    picture = λ P p. record { maps = change p.maps; holds = steps.maps p.maps p.holds; encodes = subst (λ maps. Encodes maps (with_rows P (u P))) (sym (same p.maps)) (is.framed p.maps P (m (p.maps t.place)) (u P) p.encodes (encoded p.maps P p.encodes)) };
+    is_inside = steps.is_inside;
+    committed = steps.committed;
+  }
+
+  -- a row is put
+  pub puts_row : (row : R) → {S T : Type 0} (g : Ghosts S) (old new : Transaction S) (result : Result T Fault) → Runs (put_text t.shape) (t.cells row) g old new result → PutsRow t (number_of row) row g old new result
+  puts_row row g old new result runs =
+      let n = number_of row in
+      puts_of _ _ _
+      (λ a b done. subst (λ k. Steps schema a b (λ maps. put_at maps t.place k (t.cells row))) (sym (is.keyed n))
+      (put_steps schema apart t.place t.shape fixed (t.cells row) (put_terms t.shape) (put_shows t.shape) (length t.shape.columns + 1) (length t.shape.columns) (number_key n) (t.cells row) (is.fills row) (put_text t.shape)
+      is.texts.put.command_is is.texts.put.bare a b done.0 done.1))
+      (λ a b any st. subst (Draws a b) (λ i P. sym (is.set_is P n (Some row)) i)
+      (drawn a b (λ maps. put_at maps t.place (number_key n) (t.cells row)) (λ w. put_map w (number_key n) (t.cells row)) (λ P. put_in (t.rows P) n (Some row))
+      (λ maps p i j. changed_at maps t.place (put_map (maps t.place) (number_key n) (t.cells row)) i j p)
+      (λ maps P encodes. put_encoded Any number_key t.cells (maps t.place) (t.rows P) n tt row (put_in (t.rows P) n (Some row)) (λ k. n == k) (λ k _. number_same n k) (set_one (t.rows P) n (Some row)) (is.rows_are maps P encodes))
+      (subst (λ k. Steps schema a b (λ maps. put_at maps t.place k (t.cells row))) (is.keyed n) st)))
+      runs
+
+  -- a row is taken
+  pub takes_row : (n : ℕ) → {S T : Type 0} (g : Ghosts S) (old new : Transaction S) (result : Result T Fault) → Runs (take_text t.shape) (number_key n) g old new result → TakesRow t n g old new result
+  takes_row n g old new result runs =
+      puts_of _ _ _
+      (λ a b done. subst (λ k. Steps schema a b (λ maps. take_at maps t.place k)) (sym (is.keyed n))
+      (take_steps schema t.place t.shape fixed by_key (number_key n) (number_key n) (finds_one t.shape (Int (pos n)) is.texts.primary refl) apart (take_text t.shape) is.texts.take.command_is is.texts.take.bare a b done.0 done.1))
+      (λ a b any st. subst (Draws a b) (λ i P. sym (is.set_is P n None) i)
+      (drawn a b (λ maps. take_at maps t.place (number_key n)) (λ w. take_out w (number_key n)) (λ P. put_in (t.rows P) n None)
+      (λ maps p i j. changed_at maps t.place (take_out (maps t.place) (number_key n)) i j p)
+      (λ maps P encodes. take_encoded Any number_key t.cells (maps t.place) (t.rows P) n tt (put_in (t.rows P) n None) (λ k. n == k) (λ k _. number_same n k) (set_one (t.rows P) n None) (is.rows_are maps P encodes))
+      (subst (λ k. Steps schema a b (λ maps. take_at maps t.place k)) (is.keyed n) st)))
+      runs

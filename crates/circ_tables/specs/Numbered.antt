@@ -1,0 +1,101 @@
+-- What has to be computed of the texts of a table that is keyed by one number. It is the same list of `refl` for each table, and holds of each schema that begins with the tables up to its own.
+use Rattle.std.specs.Prelude.{◌≡◌, ◌+◌, ◌-◌, ℕ, pos, negsuc, false, List, [], ◌∷◌, ◌++◌, length, map, slice_get, Option, Some}
+use Rattle.std.specs.List.{range_with_len}
+use Rattle.sqlite.specs.Order.{Row, column}
+use Rattle.sqlite.specs.Table.{Table}
+use Rattle.sqlite.specs.Schema.{Schema}
+use Rattle.sqlite.specs.declared.types.Value.TheVariants.{Null, Int}
+use Rattle.sqlite.specs.Term.{Term, lit, col, op2}
+use Rattle.sqlite.specs.Command.{Command}
+use Rattle.sqlite.specs.Command.TheVariants.{Select, Delete, InsertOr}
+use Rattle.sqlite.specs.Source.TheVariants.{Values}
+use Rattle.sqlite.specs.Given.{IsPlain}
+use Rattle.sqlite.specs.Listing.{understood, reads_listing}
+use Rattle.sqlite_schema.specs.declared.command.Conflict.TheVariants.{Abort}
+use Rattle.sqlite_schema.specs.declared.schema.Index.{Index}
+use Rattle.sqlite_sql.specs.declared.ops.BinaryOp.TheVariants.{Compare}
+use Rattle.sqlite_sql.specs.declared.ops.CompareOp.TheVariants.{Eq, Ge}
+use Rattle.sqlite_value.specs.declared.keys.Collation.TheVariants.{Binary}
+use Rattle.sqlite_value.specs.declared.keys.Key.{Key}
+use Rattle.sqlite_value.specs.Keys.{ascending}
+use Rattle.sqlite_tied.specs.Listing.{each_column}
+use Rattle.sqlite.proofs.Callers.{command_of}
+use Rattle.sql_maps.specs.Maps.{Map, Maps, cells}
+use Rattle.sql_maps.proofs.Words.{over, in_order, in_order_up_to}
+use Rattle.sql_maps.proofs.AnswerLemmas.{shown_of}
+use Rattle.sql_maps.proofs.WriteLemmas.{Fills, id_test}
+use Rattle.circ_tables.specs.Texts.{names_of, put_text, take_text, get_text, all_text, page_text}
+use Rattle.terms.specs.Limits.{InLimits}
+use Rattle.terms.specs.Pictures.{Picture, put as put_in}
+use Rattle.circ_tables.specs.Cells.{number_key}
+use Rattle.circ_tables.specs.Encoding.{Encodes, IsEncoded, Any, with_map}
+use Rattle.circ_tables.specs.Reading as typed
+use Rattle.circ_tables.specs.declared.by_number.Texts.{Texts}
+use Rattle.circ_tables.specs.Shape.{schema, first}
+
+-- The key is the first parameter; or is not below it.
+abbrev pub by_key : List Term
+by_key = op2 (Compare Eq Binary) (col 1 0) (col 0 0) ∷ []
+
+abbrev pub from_key : List Term
+from_key = op2 (Compare Ge Binary) (col 1 0) (col 0 0) ∷ []
+
+abbrev pub by_number : List (Term × Key)
+by_number = (col 1 0, ascending Binary) ∷ []
+
+-- The values that a put stores, and those that it shows of a row that is there.
+abbrev pub put_terms : Table → List Term
+put_terms t = col 0 0 ∷ lit Null ∷ map (col 0) (range_with_len 1 (length t.columns - 1))
+
+abbrev pub put_shows : Table → List Term
+put_shows t = col 1 0 ∷ col 1 0 ∷ lit Null ∷ map (col 0) (range_with_len 1 (length t.columns - 1))
+
+abbrev pub put_of : ℕ → Table → Command
+put_of at t =
+    InsertOr at Abort (Values (put_terms t) (length t.columns + 1))
+    (record { target = Some t.primary; update = Some (record { lets = []; body = over t.tree (id_test (length t.columns)) (put_shows t) }) } ∷ [])
+
+-- A text is understood as this command.
+pub record IsRun (s : Schema) (text : List ℕ) (command : Command) : Type 0 where
+  pub command_is : command_of (understood s text) ≡ command
+  pub bare : IsPlain (understood s text)
+
+pub record IsRead (s : Schema) (text : List ℕ) (command : Command) : Type 0 where
+  pub command_is : command_of (understood s text) ≡ command
+  pub bare : IsPlain (understood s text)
+  pub unlisted : reads_listing s text ≡ false
+
+pub record IsNumbered (s : Schema) (at : ℕ) (t : Table) : Type 0 where
+  pub listed : slice_get s.tables at ≡ Some t
+  pub primary : t.primary ≡ 0 ∷ []
+  pub uncounted : t.is_counted ≡ false
+  pub key_cell : (r : Row) → column (cells t r) 0 ≡ column r 0
+  pub shows : (given r : Row) → shown_of (each_column 1 t) given r ≡ cells t r
+  pub put : IsRun s (put_text t) (put_of at t)
+  pub take : IsRun s (take_text t) (Delete at (record { lets = []; body = over t.tree by_key (col 1 0 ∷ []) }))
+  pub get : IsRead s (get_text t) (Select (record { lets = []; body = over t.tree by_key (each_column 1 t) }) (names_of t))
+  pub all : IsRead s (all_text t) (Select (record { lets = []; body = in_order t.tree [] (each_column 1 t) (lit (Int (negsuc 0))) }) (names_of t))
+  pub page : IsRead s (page_text t) (Select (record { lets = []; body = in_order_up_to t.tree from_key (each_column 1 t) by_number (lit (Int (pos 1000))) }) (names_of t))
+
+-- The five texts are those of the table.
+pub record AreTexts (t : Table) (texts : Texts) : Type 0 where
+  pub put : texts.put.now ≡ put_text t
+  pub take : texts.take.now ≡ take_text t
+  pub get : texts.get.now ≡ get_text t
+  pub all : texts.all.now ≡ all_text t
+  pub page : texts.page.now ≡ page_text t
+
+-- A table of typed rows that is keyed by one number: its texts, and what ties the rows to SQL and to the picture.
+pub record IsNumberTable {R : Type 0} (t : typed.Table ℕ R) (number_of : R → ℕ) (back : Row → R) (with_rows : Picture → (ℕ → Option R) → Picture) : Type 0 where
+  pub texts : IsNumbered schema t.place t.shape
+  pub keyed : (k : ℕ) → t.key k ≡ number_key k
+  pub fills : (r : R) → Fills t.shape (t.cells r) (put_terms t.shape) (put_shows t.shape) (length t.shape.columns + 1) (length t.shape.columns) (number_key (number_of r)) (t.cells r)
+  pub back_is : (r : R) → t.IsLegal r → back (t.cells r) ≡ r
+  pub rows_are : (maps : Maps) (P : Picture) → Encodes maps P → IsEncoded Any number_key t.cells (maps t.place) (t.rows P)
+  pub legal : (P : Picture) → InLimits P → (k : ℕ) (r : R) → t.rows P k ≡ Some r → (number_of r ≡ k) × t.IsLegal r
+  pub set_is : (P : Picture) (k : ℕ) (row : Option R) → t.set P k row ≡ with_rows P (put_in (t.rows P) k row)
+  pub framed : (maps : Maps) (P : Picture) (m : Map) (u : ℕ → Option R) → Encodes maps P → IsEncoded Any number_key t.cells m u → Encodes (with_map maps t.place m) (with_rows P u)
+
+-- A schema that begins with these tables and indexes.
+abbrev pub grown : List Table → List Index → Schema
+grown more others = record { tables = first.tables ++ more; indexes = first.indexes ++ others; views = [] }

@@ -1,0 +1,117 @@
+//! A table that is keyed by one number: what it has to say of itself, and the calls that follow from
+//! that.
+
+ghost use Rattle.std.specs.Prelude.{◌≡◌, ℕ, Option};
+ghost use Rattle.sqlite.specs.Order.{Row as SqlRow};
+ghost use Rattle.sql_maps.specs.Maps.{Listed};
+ghost use Rattle.sql_maps.specs.Pages.{FirstRows};
+ghost use Rattle.terms.specs.Pictures.{Picture};
+ghost use Rattle.circ_tables.specs.Numbered.{AreTexts, IsNumberTable};
+ghost use Rattle.circ_tables.specs.Puts.{Runs, PutsRow, TakesRow};
+ghost use Rattle.circ_tables.specs.Reading.{Gets, Lists};
+ghost use Rattle.circ_tables.specs.Selections.{is_any, is_from, least_after};
+ghost use Rattle.circ_tables.specs.declared.lists.TheConstants.{PAGE_ROWS};
+
+use crate::call::run;
+use crate::list::{Table, row_of, rows_of};
+use crate::lists::least_after;
+use sqlite::{Alter, Connection, Transaction, params};
+use std::alloc::Global;
+use terms::Fault;
+
+/// The texts of a table by its key: one row put, taken and got; all rows; the first rows from a key
+/// on.
+#[derive(Clone, Copy, Debug)]
+pub struct Texts {
+    pub put: &'static str,
+    pub take: &'static str,
+    pub get: &'static str,
+    pub all: &'static str,
+    pub page: &'static str,
+}
+
+/// A table that is keyed by one number, which is its first column.
+pub trait Numbered: Table<Key = u32> {
+    ghost number_of: { Self → ℕ };
+
+    ghost back: { SqlRow → Self };
+
+    ghost with_rows: { Picture → (ℕ → Option Self) → Picture };
+
+    fn texts() -> Texts
+        ensures { AreTexts Self.table.shape result };
+
+    ghost sound: { IsNumberTable Self.table number_of back with_rows };
+}
+
+/// A row of such a table, as it is put.
+pub trait Put {
+    type Row: Numbered;
+
+    ghost entry: { Self → Self.Row };
+
+    /// Runs a text on the columns of the row. 91.
+    fn run_with<S: Alter>(&self, tx: &mut Transaction<'_, S>, sql: &str) -> Result<(), Fault>
+        ensures { Runs sql.now (Self.Row.table.cells (entry self.now)) S.Store tx.old tx.new result };
+}
+
+/// Puts a row. 91.
+pub fn put_row<P: Put, S: Alter>(tx: &mut Transaction<'_, S>, row: &P) -> Result<(), Fault>
+    ensures { PutsRow P.Row.table (P.Row.number_of (P.entry row.now)) (P.entry row.now)
+        S.Store tx.old tx.new result }
+{
+    row.run_with(tx, P::Row::texts().put)
+}
+
+/// Takes out the row of a number; where there is none, nothing changes. 91.
+pub fn take_row<T: Numbered, S: Alter>(
+    tx: &mut Transaction<'_, S>,
+    number: u32,
+) -> Result<(), Fault>
+    ensures { TakesRow T.table number S.Store tx.old tx.new result }
+{
+    run(tx, T::texts().take, params![number])
+}
+
+/// The row of a number, if there is one. 90, 91, 93.
+pub fn get_row<T: Numbered, S: Alter>(
+    conn: &mut Connection<S>,
+    memory: T::Memory,
+    number: u32,
+) -> Result<Option<T>, Fault>
+    ensures { Gets T.table number S.Store conn.old conn.new result }
+{
+    row_of(conn, memory, T::texts().get, params![number])
+}
+
+/// All rows, the least number first. 90, 91, 93.
+pub fn every_row<T: Numbered, S: Alter>(
+    conn: &mut Connection<S>,
+    alloc: Global,
+    memory: T::Memory,
+) -> Result<Vec<T>, Fault>
+    ensures { Lists T.table (λ l. l.items) (λ m. Listed m is_any) S.Store conn.old conn.new result }
+{
+    rows_of(conn, alloc, memory, T::texts().all, &[])
+}
+
+/// The first rows, or the first whose numbers are above this one, the least number first: all of
+/// them, or as many as a page has. 90, 91, 93.
+pub fn next_rows<T: Numbered, S: Alter>(
+    conn: &mut Connection<S>,
+    alloc: Global,
+    memory: T::Memory,
+    after: Option<u32>,
+) -> Result<Vec<T>, Fault>
+    ensures { Lists T.table (λ l. l.items)
+        (λ m. FirstRows PAGE_ROWS m (is_from (least_after after)))
+        S.Store conn.old conn.new result }
+{
+    rows_of(
+        conn,
+        alloc,
+        memory,
+        T::texts().page,
+        params![least_after(after)],
+    )
+}
