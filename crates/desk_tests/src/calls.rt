@@ -2,8 +2,8 @@
 //! store, so that what it is proved from stays small.
 
 use desk::Desk;
-use sqlite::{Alter, Connection, FileStore, Files, Options};
-use sqlite_disk::{Crash, Disk};
+use sqlite::{Alter, Connection, FileStore, Options};
+use sqlite_disk::Crash;
 use std::alloc::Global;
 use store::Store;
 use terms::{CardKey, Fault, PatronId, Reply};
@@ -26,34 +26,6 @@ pub fn create<S: Alter + Drop>(conn: Connection<S>) -> Result<Store<S>, Fault> {
 /// The database under a store.
 pub fn connection_of<S: Alter>(store: Store<S>) -> Connection<S> {
     store.into_connection()
-}
-
-/// The store over two files.
-pub fn open_files<D: Disk + Drop>(
-    alloc: Global,
-    files: Files<D>,
-    options: Options,
-) -> Result<Store<FileStore<D>>, Fault> {
-    Store::open_files(alloc, files, options)
-}
-
-/// The store over new tables in two files.
-pub fn create_files<D: Disk + Drop>(
-    alloc: Global,
-    files: Files<D>,
-    options: Options,
-) -> Result<Store<FileStore<D>>, Fault> {
-    Store::create_files(alloc, files, options)
-}
-
-/// The two files of a store, as they were written.
-pub fn into_files<D: Disk + Drop>(store: Store<FileStore<D>>) -> Files<D> {
-    store.into_files()
-}
-
-/// The two files of a store, with the log of its database copied into the other; none where that fails.
-pub fn close<D: Disk + Drop>(store: Store<FileStore<D>>) -> Option<Files<D>> {
-    store.close()
 }
 
 /// The store over two files that lost what was not synced.

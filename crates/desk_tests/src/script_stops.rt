@@ -1,8 +1,7 @@
 //! Stops of scripts: a fuse in one of the two files of a library blows at each call in turn.
 
-use crate::calls::{connection_of, into_files, open_files};
+use crate::calls::connection_of;
 use crate::limits::shown;
-use crate::stops::{calls_of_open, filled, fused, left, options};
 use sqlite::{Alter, Connection, Files};
 use sqlite_disk::{Disk, Fuse, Memory};
 use std::alloc::Global;
@@ -11,8 +10,8 @@ use std::test::Fail;
 use store::Store;
 use terms::Fault;
 use test_library::{
-    HOLDS, LATE, LOST, PAID, RENEWED, REOPENED, RETURNED, check, desk_over, ground, opened, rows,
-    runs, store_of,
+    HOLDS, LATE, LOST, PAID, RENEWED, REOPENED, RETURNED, calls_of_open, check, desk_over, filled,
+    fused, ground, into_files, left, open_files, opened, options, rows, runs, store_of,
 };
 
 /// The rows of the small library before a script and after each of its requests, over memory.

@@ -7,14 +7,14 @@ ghost use Rattle.hall.specs.Openings.{OpensWith};
 
 use desk::Desk;
 use hall::{DeskSide, Ended, Hall, HallFault, Left, Opened, Opening, Worker};
-use sqlite::{Connection, MemStore};
+use sqlite::{Alter, Connection, MemStore};
 use std::alloc::Global;
 use std::io::{Read, Write};
 use std::sync::Wait;
 use terms::{CardKey, Fault, Memory, PatronId, Request, ServiceFault};
 
 /// What a hall is opened with or given back as.
-pub type Side<J> = (DeskSide<J, MemStore>, Vec<Worker<J>>);
+pub type Side<J, S> = (DeskSide<J, S>, Vec<Worker<J>>);
 
 /// A queue.
 pub fn open_queue(alloc: Global) -> Result<Opened, Memory> {
@@ -23,17 +23,17 @@ pub fn open_queue(alloc: Global) -> Result<Opened, Memory> {
 
 /// The hall of so many workers, whose opening names no list of accepted requests; or the number that says why there is none, and
 /// the desk.
-pub fn open_hall<J: Opening, R: Wait>(
+pub fn open_hall<J: Opening, S: Alter, R: Wait>(
     rt: &R,
     alloc: Global,
     opened: Opened,
-    desk: Desk<MemStore>,
+    desk: Desk<S>,
     workers: usize,
-) -> Result<Side<J>, (u32, Desk<MemStore>)>
+) -> Result<Side<J, S>, (u32, Desk<S>)>
     requires name { (opened.queue ≡ J.name) × (opened.blank ≡ J.book) }
     requires none { (H : History) → J.shows H → ⊥ }
 {
-    match Hall::new::<J, MemStore, R>(rt, alloc, opened, desk, workers) {
+    match Hall::new::<J, S, R>(rt, alloc, opened, desk, workers) {
         Ok(side) => Ok(side),
         Err(HallFault { why, desk }) => Err((why.number(), desk)),
     }
@@ -46,7 +46,7 @@ pub fn open_in_memory<J: Opening, R: Wait>(
     alloc: Global,
     opened: Opened,
     workers: usize,
-) -> Result<Side<J>, u32>
+) -> Result<Side<J, MemStore>, u32>
     requires name { (opened.queue ≡ J.name) × (opened.blank ≡ J.book) }
     requires shows { (H : History) → J.shows H → H ≡ [] }
     ensures { IfOk result (λ r. OpensWith J.shows over_memory r.0.desk r.0.publisher.shown) }
@@ -58,16 +58,16 @@ pub fn open_in_memory<J: Opening, R: Wait>(
 }
 
 /// Limits the steps of each call of the database.
-pub fn limit_side<J: Opening>(side: &mut DeskSide<J, MemStore>, limit: u64) {
+pub fn limit_side<J: Opening, S: Alter>(side: &mut DeskSide<J, S>, limit: u64) {
     side.limit_steps(Some(limit));
 }
 
 /// Handles what comes, in a hall whose opening names no list of accepted requests.
-pub fn handle_all<J: Opening, R: Wait>(
+pub fn handle_all<J: Opening, S: Alter, R: Wait>(
     rt: &R,
     alloc: Global,
-    side: DeskSide<J, MemStore>,
-) -> (Desk<MemStore>, Ended<J>, Option<ServiceFault>)
+    side: DeskSide<J, S>,
+) -> (Desk<S>, Ended<J>, Option<ServiceFault>)
     requires { (H : History) → J.shows H → ⊥ }
 {
     side.desk_loop(rt, alloc)
@@ -141,7 +141,7 @@ pub fn handle_and_look(
 }
 
 /// The database under a desk, with no limit.
-pub fn connection(mut desk: Desk<MemStore>) -> Connection<MemStore> {
+pub fn connection<S: Alter>(mut desk: Desk<S>) -> Connection<S> {
     desk.limit_steps(None);
     desk.into_store().into_connection()
 }

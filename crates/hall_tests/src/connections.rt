@@ -160,7 +160,7 @@ fn meet<J: Opening + Send + Sync + 'static, R: Threads + Wait + Abort + Copy + S
     requires name { (opened.queue ≡ J.name) × (opened.blank ≡ J.book) }
     requires none { (H : History) → J.shows H → ⊥ }
 {
-    let Ok((side, all)) = open_hall::<J, R>(&rt, alloc, opened, library(alloc)?, 1) else {
+    let Ok((side, all)) = open_hall::<J, _, R>(&rt, alloc, opened, library(alloc)?, 1) else {
         return Err("a hall".into());
     };
     let started = thread::spawn(&rt, move || work(&rt, alloc, all, deed)).ok();

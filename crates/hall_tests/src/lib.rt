@@ -11,6 +11,8 @@ mod calls;
 #[cfg(test)]
 mod connections;
 #[cfg(test)]
+mod files;
+#[cfg(test)]
 mod hostile;
 #[cfg(test)]
 mod library;

@@ -190,7 +190,7 @@ fn run_hall<J: Opening + Send + Sync + 'static, R: Threads + Wait + Abort + Copy
     requires none { (H : History) → J.shows H → ⊥ }
 {
     let desk = library_of(alloc, each)?;
-    let Ok((side, all)) = open_hall::<J, R>(&rt, alloc, opened, desk, workers as usize) else {
+    let Ok((side, all)) = open_hall::<J, _, R>(&rt, alloc, opened, desk, workers as usize) else {
         return Err("a hall".into());
     };
     let met = meet(rt, alloc, side, all, each);
@@ -364,7 +364,7 @@ fn check_closed<
     requires none { (H : History) → J.shows H → ⊥ }
 {
     let desk = library(alloc)?;
-    let Ok((mut side, all)) = open_hall::<J, R>(&rt, alloc, opened, desk, 2) else {
+    let Ok((mut side, all)) = open_hall::<J, _, R>(&rt, alloc, opened, desk, 2) else {
         return Err("a hall".into());
     };
     limit_side(&mut side, limit);
@@ -418,7 +418,7 @@ fn refuse<J: Opening, R: Wait + Abort>(
     requires name { (opened.queue ≡ J.name) × (opened.blank ≡ J.book) }
     requires none { (H : History) → J.shows H → ⊥ }
 {
-    match open_hall::<J, _>(rt, alloc, opened, library(alloc)?, workers) {
+    match open_hall::<J, _, _>(rt, alloc, opened, library(alloc)?, workers) {
         Ok((side, all)) => {
             for worker in all {
                 let _ = leave(rt, worker);

@@ -2,7 +2,8 @@
 //! store, so that what it is proved from stays small.
 
 use desk::Desk;
-use sqlite::{Alter, Connection, MemStore};
+use sqlite::{Alter, Connection, FileStore, Files, MemStore, Options};
+use sqlite_disk::Disk;
 use std::alloc::Global;
 use store::Store;
 use terms::{Fault, Owner, Reply, Request};
@@ -41,6 +42,34 @@ pub fn connection<S: Alter>(desk: Desk<S>) -> Connection<S> {
 /// The store over tables that were made.
 pub fn open<S: Alter + Drop>(conn: Connection<S>) -> Result<Store<S>, Fault> {
     Store::open(conn)
+}
+
+/// The store over two files.
+pub fn open_files<D: Disk + Drop>(
+    alloc: Global,
+    files: Files<D>,
+    options: Options,
+) -> Result<Store<FileStore<D>>, Fault> {
+    Store::open_files(alloc, files, options)
+}
+
+/// The store over new tables in two files.
+pub fn create_files<D: Disk + Drop>(
+    alloc: Global,
+    files: Files<D>,
+    options: Options,
+) -> Result<Store<FileStore<D>>, Fault> {
+    Store::create_files(alloc, files, options)
+}
+
+/// The two files of a store, as they were written.
+pub fn into_files<D: Disk + Drop>(store: Store<FileStore<D>>) -> Files<D> {
+    store.into_files()
+}
+
+/// The two files of a store, with the log of its database copied into the other; none where that fails.
+pub fn close<D: Disk + Drop>(store: Store<FileStore<D>>) -> Option<Files<D>> {
+    store.close()
 }
 
 /// The desk of a new library in memory.

@@ -1,0 +1,160 @@
+//! Halls over a library in two files, which are opened again afterwards: nothing stops them, or a fuse in one of the files blows
+//! at each call in turn.
+
+use crate::calls::connection;
+use crate::reopened::{Closed, Faults, run_over};
+use sqlite::{FileStore, Files};
+use sqlite_disk::{Disk, Fuse, Memory};
+use std::alloc::Global;
+use std::process::Abort;
+use std::sync::Wait;
+use std::test::Fail;
+use std::thread::Threads;
+use terms::{Fault, ServiceFault};
+use test_library::{
+    calls_of_open, check, desk_over, filled, fused, ground, into_files, left, open_files, opened,
+    options, rows, store_of,
+};
+
+/// What the hall's desk is asked for, one after the other, by lines.
+const LINES: [&str; 2] = [
+    "desk k1 check-out 1 10 1 -> loan 1 due 2026-03-09",
+    "desk k2 renew 1 -> loan 1 due 2026-03-16",
+];
+
+/// The rows of the small library before the two requests and after each of them, over memory and with no hall.
+fn pictures(alloc: Global) -> Result<[String; 3], Fail> {
+    let mut conn = connection(ground(alloc)?);
+    let ground = rows(alloc, &mut conn)?;
+    let mut desk = opened(conn)?;
+    check(alloc, &mut desk, LINES[0])?;
+    let mut conn = connection(desk);
+    let lent = rows(alloc, &mut conn)?;
+    let mut desk = opened(conn)?;
+    check(alloc, &mut desk, LINES[1])?;
+    Ok([ground, lent, rows(alloc, &mut connection(desk))?])
+}
+
+/// A hall of two workers over two files.
+fn run_in<D: Disk + Drop, R: Threads + Wait + Copy + Send + 'static>(
+    rt: R,
+    alloc: Global,
+    files: Files<D>,
+) -> Result<Closed<FileStore<D>>, Fail> {
+    let desk = desk_over(open_files(alloc, files, options())?)?;
+    run_over(rt, alloc, desk, None)
+}
+
+/// How many of the two requests were answered: once the files have stopped there is a fault for each, 92 for those after the first,
+/// and what the board shows is a page still.
+fn answered(rt: &impl Abort, faults: Option<Faults>) -> Result<usize, Fail> {
+    let (lending, renewing, page) = faults.ok_or("an answer")?;
+    assert!(rt; page == None, "{page:?}");
+    if lending == None {
+        return Ok(if renewing == None { 2 } else { 1 });
+    }
+    assert!(rt; renewing == Some(92), "{renewing:?}");
+    Ok(0)
+}
+
+/// The rows in the files are those of what was answered, or of that and the request in work; and a hall over them that nothing
+/// stops answers both requests, each of which is done once.
+fn goes_on<R: Threads + Wait + Abort + Copy + Send + 'static>(
+    rt: R,
+    alloc: Global,
+    files: Files<Memory>,
+    count: usize,
+    pictures: &[String; 3],
+) -> Result<(), Fail> {
+    let mut conn = connection(desk_over(open_files(alloc, files, options())?)?);
+    let found = rows(alloc, &mut conn)?;
+    let before = pictures.get(count).ok_or("a picture")?;
+    let after = pictures.get(count.saturating_add(1)).unwrap_or(before);
+    assert!(&rt;
+        found.as_str() == before.as_str() || found.as_str() == after.as_str(),
+        "after {count}"
+    );
+    let (faults, desk, fault) = run_over(rt, alloc, opened(conn)?, None)?;
+    assert!(&rt;
+        faults == Some((None, None, None)) && fault == None,
+        "{faults:?} {fault:?}"
+    );
+    let last = rows(alloc, &mut connection(desk))?;
+    assert!(&rt; last.as_str() == pictures[2].as_str());
+    Ok(())
+}
+
+/// One stop, after which the files may have lost what was not synced: how many requests were answered.
+fn stopped<R: Threads + Wait + Abort + Copy + Send + 'static>(
+    rt: R,
+    alloc: Global,
+    files: Files<Fuse<Memory>>,
+    loses: bool,
+    pictures: &[String; 3],
+) -> Result<usize, Fail> {
+    let (faults, desk, fault) = run_in(rt, alloc, files)?;
+    let count = answered(&rt, faults)?;
+    let due = if count == 2 {
+        None
+    } else {
+        Some(ServiceFault::Met(Fault::Database))
+    };
+    assert!(&rt; fault == due, "{fault:?}");
+    let files = left(alloc, into_files(store_of(desk)), (loses, loses))?;
+    goes_on(rt, alloc, files, count, pictures)?;
+    Ok(count)
+}
+
+/// The fuse blows at each call of the hall in turn, until all is answered: how many stops left each number of requests
+/// answered.
+fn stops_in<R: Threads + Wait + Abort + Copy + Send + 'static>(
+    rt: R,
+    alloc: Global,
+    base: &Files<Memory>,
+    is_log: bool,
+    pictures: &[String; 3],
+) -> Result<[u64; 3], Fail> {
+    let mut counts = [0u64; 3];
+    let open = calls_of_open(alloc, base, is_log)?;
+    for at in 1..2_000u64 {
+        let fuse = (is_log, open.saturating_add(at));
+        for loses in [false, true] {
+            let count = stopped(rt, alloc, fused(alloc, base, fuse)?, loses, pictures)?;
+            let place = counts.get_mut(count).ok_or("a count")?;
+            *place = place.wrapping_add(1);
+        }
+        if counts[2] == 2 {
+            return Ok(counts);
+        }
+    }
+    Err("the hall was always stopped".into())
+}
+
+#[test]
+fn a_hall_over_files_leaves_its_rows_there(rt: HostRuntime) -> Result<(), Fail> {
+    let alloc = rt.alloc();
+    let (faults, desk, fault) = run_in(rt, alloc, filled(alloc)?)?;
+    assert!(&rt;
+        faults == Some((None, None, None)) && fault == None,
+        "{faults:?} {fault:?}"
+    );
+    let files = into_files(store_of(desk));
+    let found = rows(
+        alloc,
+        &mut connection(desk_over(open_files(alloc, files, options())?)?),
+    )?;
+    assert!(&rt; found.as_str() == pictures(alloc)?[2].as_str(), "{found}");
+    Ok(())
+}
+
+#[test]
+fn a_stopped_hall_leaves_what_it_answered(rt: HostRuntime) -> Result<(), Fail> {
+    let alloc = rt.alloc();
+    let base = filled(alloc)?;
+    let pictures = pictures(alloc)?;
+    for is_log in [true, false] {
+        let counts = stops_in(rt, alloc, &base, is_log, &pictures)?;
+        assert!(&rt; counts[0] > 0 && counts[1] > 0, "{is_log} {counts:?}");
+    }
+    Ok(())
+}
