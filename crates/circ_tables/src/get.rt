@@ -4,9 +4,8 @@ ghost use Rattle.std.specs.Prelude.{◌≡◌, ◌≢◌, ◌∷◌, [], OnErr, 
 ghost use Rattle.sqlite.specs.Order.{column};
 ghost use Rattle.sqlite.specs.declared.types.Value.TheVariants.{Text as SqlText};
 ghost use Rattle.terms.specs.declared.row.KeptRow.{KeptRow as KeptRecord};
-ghost use Rattle.circ_tables.specs.Reading.{Gets, GetsMeta, GetsDay, GetsKept, branches, kinds};
-ghost use Rattle.circ_tables.specs.Reading.{rules, patrons, titles, copies, loans, holds, transits};
-ghost use Rattle.circ_tables.specs.Reading.{lines};
+ghost use Rattle.circ_tables.specs.Reading.{Gets, GetsMeta, GetsDay, GetsKept};
+ghost use Rattle.circ_tables.specs.Reading.{rules};
 ghost use Rattle.circ_tables.specs.Cells.{kept_cells};
 
 use crate::by_number::get_row;
@@ -17,11 +16,7 @@ use crate::list::row_of;
 use calendar::Day;
 use sqlite::{Alter, Connection, Row, params};
 use std::alloc::Global;
-use terms::{
-    BranchId, BranchRow, CopyId, CopyKind, CopyRow, Fault, HoldId, HoldRow, Key, KindRow, LineId,
-    LineRow, LoanId, LoanRow, MetaRow, Owner, PatronId, PatronKind, PatronRow, RuleRow, Text,
-    TitleId, TitleRow, TransitRow,
-};
+use terms::{BranchId, CopyKind, Fault, Key, MetaRow, Owner, PatronKind, RuleRow, Text};
 
 /// What is kept under a key: the request text and its reply.
 #[derive(Drop)]
@@ -53,17 +48,6 @@ pub fn get_meta<S: Alter>(conn: &mut Connection<S>) -> Result<MetaRow, Fault>
     meta_row(one_of(rows.as_slice())?)
 }
 
-/// The row of a branch, if there is one. 90, 91, 93.
-pub fn get_branch<S: Alter>(
-    conn: &mut Connection<S>,
-    alloc: Global,
-    branch: BranchId,
-) -> Result<Option<BranchRow>, Fault>
-    ensures { Gets branches branch S.Store conn.old conn.new result }
-{
-    get_row(conn, alloc, branch.number())
-}
-
 /// Whether the branch is closed singly on the day. 91.
 pub fn has_closed_day<S: Alter>(
     conn: &mut Connection<S>,
@@ -80,16 +64,6 @@ pub fn has_closed_day<S: Alter>(
     Ok(row.is_some())
 }
 
-/// The row of a kind of patron, if there is one. 91, 93.
-pub fn get_kind<S: Alter>(
-    conn: &mut Connection<S>,
-    kind: PatronKind,
-) -> Result<Option<KindRow>, Fault>
-    ensures { Gets kinds kind S.Store conn.old conn.new result }
-{
-    get_row(conn, (), kind.number())
-}
-
 /// The circulation rule of a kind of patron and a kind of copy, if there is one. 91, 93.
 pub fn get_rule<S: Alter>(
     conn: &mut Connection<S>,
@@ -104,66 +78,6 @@ pub fn get_rule<S: Alter>(
         "SELECT * FROM rules WHERE kind = ?1 AND copy_kind = ?2",
         params![kind.number(), copy_kind.number()],
     )
-}
-
-/// The row of a patron, if there is one. 90, 91, 93.
-pub fn get_patron<S: Alter>(
-    conn: &mut Connection<S>,
-    alloc: Global,
-    patron: PatronId,
-) -> Result<Option<PatronRow>, Fault>
-    ensures { Gets patrons patron S.Store conn.old conn.new result }
-{
-    get_row(conn, alloc, patron.number())
-}
-
-/// The row of a title, if there is one. 90, 91, 93.
-pub fn get_title<S: Alter>(
-    conn: &mut Connection<S>,
-    alloc: Global,
-    title: TitleId,
-) -> Result<Option<TitleRow>, Fault>
-    ensures { Gets titles title S.Store conn.old conn.new result }
-{
-    get_row(conn, alloc, title.number())
-}
-
-/// The row of a copy, if there is one. 91, 93.
-pub fn get_copy<S: Alter>(conn: &mut Connection<S>, copy: CopyId) -> Result<Option<CopyRow>, Fault>
-    ensures { Gets copies copy S.Store conn.old conn.new result }
-{
-    get_row(conn, (), copy.number())
-}
-
-/// The row of a loan, if there is one. 91, 93.
-pub fn get_loan<S: Alter>(conn: &mut Connection<S>, loan: LoanId) -> Result<Option<LoanRow>, Fault>
-    ensures { Gets loans loan S.Store conn.old conn.new result }
-{
-    get_row(conn, (), loan.number())
-}
-
-/// The row of a hold, if there is one. 91, 93.
-pub fn get_hold<S: Alter>(conn: &mut Connection<S>, hold: HoldId) -> Result<Option<HoldRow>, Fault>
-    ensures { Gets holds hold S.Store conn.old conn.new result }
-{
-    get_row(conn, (), hold.number())
-}
-
-/// The row of a copy's travel, if it travels. 91, 93.
-pub fn get_transit<S: Alter>(
-    conn: &mut Connection<S>,
-    copy: CopyId,
-) -> Result<Option<TransitRow>, Fault>
-    ensures { Gets transits copy S.Store conn.old conn.new result }
-{
-    get_row(conn, (), copy.number())
-}
-
-/// The row of a line, if there is one. 91, 93.
-pub fn get_line<S: Alter>(conn: &mut Connection<S>, line: LineId) -> Result<Option<LineRow>, Fault>
-    ensures { Gets lines line S.Store conn.old conn.new result }
-{
-    get_row(conn, (), line.number())
 }
 
 fn kept_reply(row: &Row) -> Result<KeptReply, Fault>

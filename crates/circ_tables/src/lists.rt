@@ -4,22 +4,21 @@ ghost use Rattle.std.specs.Prelude.{◌≡◌, ◌<◌, ◌^◌, IfSome};
 ghost use Rattle.sql_maps.specs.Maps.{Listed, ListedBy, PairBelow};
 ghost use Rattle.sql_maps.specs.Pages.{FirstRows, FirstRowsBy};
 ghost use Rattle.circ_tables.specs.Cells.{owner_number};
-ghost use Rattle.circ_tables.specs.Reading.{Lists, branches, closed_days, kinds, rules, patrons};
-ghost use Rattle.circ_tables.specs.Reading.{titles, copies, loans, holds, transits, lines, kept};
+ghost use Rattle.circ_tables.specs.Reading.{Lists, closed_days, rules};
+ghost use Rattle.circ_tables.specs.Reading.{loans, holds, lines, kept};
 ghost use Rattle.circ_tables.specs.Selections.{is_open_by, is_active_by, is_ready_after};
 ghost use Rattle.circ_tables.specs.Selections.{is_overdue_after, is_line_after, is_any, is_after};
-ghost use Rattle.circ_tables.specs.Selections.{is_from, is_kept_after, least_after};
+ghost use Rattle.circ_tables.specs.Selections.{is_kept_after, least_after};
 ghost use Rattle.circ_tables.specs.declared.lists.TheConstants.{PAGE_ROWS};
 
-use crate::by_number::{every_row, next_rows};
 use crate::cell::owner_number;
 use crate::list::rows_of;
 use calendar::Day;
 use sqlite::{Alter, Connection, params};
 use std::alloc::Global;
 use terms::{
-    BranchId, BranchRow, ClosedDayRow, CopyRow, Fault, HoldId, HoldRow, KeptRow, Key, KindRow,
-    LineId, LineRow, LoanId, LoanRow, Owner, PatronId, PatronRow, RuleRow, TitleRow, TransitRow,
+    BranchId, ClosedDayRow, Fault, HoldId, HoldRow, KeptRow, Key, LineId, LineRow, LoanId, LoanRow,
+    Owner, PatronId, RuleRow,
 };
 
 /// How many rows a page of a list has, but for its last one. The texts of pages name it too.
@@ -147,17 +146,6 @@ pub fn lines_after<S: Alter>(
     )
 }
 
-/// All rows of `branches`, the least number first. 90, 91, 93.
-pub fn all_branches<S: Alter>(
-    conn: &mut Connection<S>,
-    alloc: Global,
-) -> Result<Vec<BranchRow>, Fault>
-    ensures { Lists branches (λ l. l.items) (λ m. Listed m is_any)
-        S.Store conn.old conn.new result }
-{
-    every_row(conn, alloc, alloc)
-}
-
 /// The text of `all_closed_days`.
 pub const ALL_CLOSED_DAYS_TEXT: &str = "SELECT * FROM closed_days ORDER BY branch, day";
 
@@ -170,13 +158,6 @@ pub fn all_closed_days<S: Alter>(
         S.Store conn.old conn.new result }
 {
     rows_of(conn, alloc, (), ALL_CLOSED_DAYS_TEXT, &[])
-}
-
-/// All rows of `kinds`, the least number first. 90, 91, 93.
-pub fn all_kinds<S: Alter>(conn: &mut Connection<S>, alloc: Global) -> Result<Vec<KindRow>, Fault>
-    ensures { Lists kinds (λ l. l.items) (λ m. Listed m is_any) S.Store conn.old conn.new result }
-{
-    every_row(conn, alloc, ())
 }
 
 /// The text of `all_rules`.
@@ -272,95 +253,4 @@ pub fn least_after(after: Option<u32>) -> i64
         Some(number) => i64::from(number) + 1,
         None => i64::MIN,
     }
-}
-
-/// The first rows of `patrons`, or the first with numbers above this one, the least number first: all of
-/// them, or as many as a page has. 90, 91, 93.
-pub fn next_patrons<S: Alter>(
-    conn: &mut Connection<S>,
-    alloc: Global,
-    after: Option<u32>,
-) -> Result<Vec<PatronRow>, Fault>
-    ensures { Lists patrons (λ l. l.items) (λ m. FirstRows PAGE_ROWS m (is_from (least_after after)))
-        S.Store conn.old conn.new result }
-{
-    next_rows(conn, alloc, alloc, after)
-}
-
-/// The first rows of `titles`, or the first with numbers above this one, the least number first: all of
-/// them, or as many as a page has. 90, 91, 93.
-pub fn next_titles<S: Alter>(
-    conn: &mut Connection<S>,
-    alloc: Global,
-    after: Option<u32>,
-) -> Result<Vec<TitleRow>, Fault>
-    ensures { Lists titles (λ l. l.items) (λ m. FirstRows PAGE_ROWS m (is_from (least_after after)))
-        S.Store conn.old conn.new result }
-{
-    next_rows(conn, alloc, alloc, after)
-}
-
-/// The first rows of `copies`, or the first with numbers above this one, the least number first: all of
-/// them, or as many as a page has. 90, 91, 93.
-pub fn next_copies<S: Alter>(
-    conn: &mut Connection<S>,
-    alloc: Global,
-    after: Option<u32>,
-) -> Result<Vec<CopyRow>, Fault>
-    ensures { Lists copies (λ l. l.items) (λ m. FirstRows PAGE_ROWS m (is_from (least_after after)))
-        S.Store conn.old conn.new result }
-{
-    next_rows(conn, alloc, (), after)
-}
-
-/// The first rows of `loans`, or the first with numbers above this one, the least number first: all of
-/// them, or as many as a page has. 90, 91, 93.
-pub fn next_loans<S: Alter>(
-    conn: &mut Connection<S>,
-    alloc: Global,
-    after: Option<u32>,
-) -> Result<Vec<LoanRow>, Fault>
-    ensures { Lists loans (λ l. l.items) (λ m. FirstRows PAGE_ROWS m (is_from (least_after after)))
-        S.Store conn.old conn.new result }
-{
-    next_rows(conn, alloc, (), after)
-}
-
-/// The first rows of `holds`, or the first with numbers above this one, the least number first: all of
-/// them, or as many as a page has. 90, 91, 93.
-pub fn next_holds<S: Alter>(
-    conn: &mut Connection<S>,
-    alloc: Global,
-    after: Option<u32>,
-) -> Result<Vec<HoldRow>, Fault>
-    ensures { Lists holds (λ l. l.items) (λ m. FirstRows PAGE_ROWS m (is_from (least_after after)))
-        S.Store conn.old conn.new result }
-{
-    next_rows(conn, alloc, (), after)
-}
-
-/// The first rows of `transits`, or the first with numbers above this one, the least number first: all of
-/// them, or as many as a page has. 90, 91, 93.
-pub fn next_transits<S: Alter>(
-    conn: &mut Connection<S>,
-    alloc: Global,
-    after: Option<u32>,
-) -> Result<Vec<TransitRow>, Fault>
-    ensures { Lists transits (λ l. l.items) (λ m. FirstRows PAGE_ROWS m (is_from (least_after after)))
-        S.Store conn.old conn.new result }
-{
-    next_rows(conn, alloc, (), after)
-}
-
-/// The first rows of `lines`, or the first with numbers above this one, the least number first: all of
-/// them, or as many as a page has. 90, 91, 93.
-pub fn next_lines<S: Alter>(
-    conn: &mut Connection<S>,
-    alloc: Global,
-    after: Option<u32>,
-) -> Result<Vec<LineRow>, Fault>
-    ensures { Lists lines (λ l. l.items) (λ m. FirstRows PAGE_ROWS m (is_from (least_after after)))
-        S.Store conn.old conn.new result }
-{
-    next_rows(conn, alloc, (), after)
 }

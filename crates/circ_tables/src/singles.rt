@@ -1,12 +1,8 @@
 //! The tables that are keyed by one number: their texts, and the columns of a row that is put.
 
-ghost use Rattle.circ_tables.specs.Singles.{branch_back, with_branches, branches_are, kind_back};
-ghost use Rattle.circ_tables.specs.Singles.{with_kinds, kinds_are, patron_back, with_patrons};
-ghost use Rattle.circ_tables.specs.Singles.{patrons_are, title_back, with_titles, titles_are};
-ghost use Rattle.circ_tables.specs.Singles.{copy_back, with_copies, copies_are, loan_back};
-ghost use Rattle.circ_tables.specs.Singles.{with_loans, loans_are, hold_back, with_holds, holds_are};
-ghost use Rattle.circ_tables.specs.Singles.{transit_back, with_transits, transits_are, line_back};
-ghost use Rattle.circ_tables.specs.Singles.{with_lines, lines_are};
+ghost use Rattle.circ_tables.specs.Singles.{branches_are, kinds_are, patrons_are, titles_are};
+ghost use Rattle.circ_tables.specs.Singles.{copies_are, loans_are, holds_are, transits_are};
+ghost use Rattle.circ_tables.specs.Singles.{lines_are};
 
 use crate::by_number::{Numbered, Put, Texts};
 use crate::call::run;
@@ -16,16 +12,19 @@ use crate::cell::{
 };
 use sqlite::{Alter, Transaction, params};
 use terms::{
-    BranchPut, BranchRow, CopyRow, Fault, HoldRow, KindRow, LineRow, LoanRow, PatronPut, PatronRow,
-    TitlePut, TitleRow, TransitRow,
+    BranchId, BranchPut, BranchRow, CopyId, CopyRow, Fault, HoldId, HoldRow, KindRow, LineId,
+    LineRow, LoanId, LoanRow, PatronId, PatronKind, PatronPut, PatronRow, TitleId, TitlePut,
+    TitleRow, TransitRow,
 };
 
 impl Numbered for BranchRow {
+    type Id = BranchId;
+
     ghost number_of = { λ r. r.branch };
 
-    ghost back = { branch_back };
-
-    ghost with_rows = { with_branches };
+    fn number(&self) -> u32 {
+        self.branch.number()
+    }
 
     fn texts() -> Texts {
         Texts {
@@ -62,11 +61,13 @@ impl<'a> Put for BranchPut<'a> {
 }
 
 impl Numbered for KindRow {
+    type Id = PatronKind;
+
     ghost number_of = { λ r. r.kind };
 
-    ghost back = { kind_back };
-
-    ghost with_rows = { with_kinds };
+    fn number(&self) -> u32 {
+        self.kind.number()
+    }
 
     fn texts() -> Texts {
         Texts {
@@ -102,11 +103,13 @@ impl Put for KindRow {
 }
 
 impl Numbered for PatronRow {
+    type Id = PatronId;
+
     ghost number_of = { λ r. r.patron };
 
-    ghost back = { patron_back };
-
-    ghost with_rows = { with_patrons };
+    fn number(&self) -> u32 {
+        self.patron.number()
+    }
 
     fn texts() -> Texts {
         Texts {
@@ -143,11 +146,13 @@ impl<'a> Put for PatronPut<'a> {
 }
 
 impl Numbered for TitleRow {
+    type Id = TitleId;
+
     ghost number_of = { λ r. r.title };
 
-    ghost back = { title_back };
-
-    ghost with_rows = { with_titles };
+    fn number(&self) -> u32 {
+        self.title.number()
+    }
 
     fn texts() -> Texts {
         Texts {
@@ -173,11 +178,13 @@ impl<'a> Put for TitlePut<'a> {
 }
 
 impl Numbered for CopyRow {
+    type Id = CopyId;
+
     ghost number_of = { λ r. r.copy };
 
-    ghost back = { copy_back };
-
-    ghost with_rows = { with_copies };
+    fn number(&self) -> u32 {
+        self.copy.number()
+    }
 
     fn texts() -> Texts {
         Texts {
@@ -215,11 +222,13 @@ impl Put for CopyRow {
 }
 
 impl Numbered for LoanRow {
+    type Id = LoanId;
+
     ghost number_of = { λ r. r.loan };
 
-    ghost back = { loan_back };
-
-    ghost with_rows = { with_loans };
+    fn number(&self) -> u32 {
+        self.loan.number()
+    }
 
     fn texts() -> Texts {
         Texts {
@@ -263,11 +272,13 @@ impl Put for LoanRow {
 }
 
 impl Numbered for HoldRow {
+    type Id = HoldId;
+
     ghost number_of = { λ r. r.hold };
 
-    ghost back = { hold_back };
-
-    ghost with_rows = { with_holds };
+    fn number(&self) -> u32 {
+        self.hold.number()
+    }
 
     fn texts() -> Texts {
         Texts {
@@ -305,11 +316,13 @@ impl Put for HoldRow {
 }
 
 impl Numbered for TransitRow {
+    type Id = CopyId;
+
     ghost number_of = { λ r. r.copy };
 
-    ghost back = { transit_back };
-
-    ghost with_rows = { with_transits };
+    fn number(&self) -> u32 {
+        self.copy.number()
+    }
 
     fn texts() -> Texts {
         Texts {
@@ -343,11 +356,13 @@ impl Put for TransitRow {
 }
 
 impl Numbered for LineRow {
+    type Id = LineId;
+
     ghost number_of = { λ r. r.line };
 
-    ghost back = { line_back };
-
-    ghost with_rows = { with_lines };
+    fn number(&self) -> u32 {
+        self.line.number()
+    }
 
     fn texts() -> Texts {
         Texts {

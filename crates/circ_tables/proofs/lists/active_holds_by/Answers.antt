@@ -3,8 +3,9 @@ use Rattle.circ_tables.specs.Reading.{holds}
 use Rattle.circ_tables.specs.Selections.{is_active_by}
 use Rattle.circ_tables.proofs.ListLemmas.{active_holds_by_found, active_holds_by_plain}
 use Rattle.circ_tables.proofs.ReadingLemmas.{lists_of}
-use Rattle.circ_tables.proofs.TableLemmas.{holds_within}
+use Rattle.circ_tables.specs.Singles.{holds_are}
+use Rattle.circ_tables.proofs.ShownLemmas.{are_encoded}
 use Rattle.circ_tables.proofs.lists.active_holds_by.Goals as goal
 
 pub returns : goal.returns
-returns g c = lists_of holds _ _ active_holds_by_plain _ (λ m. Listed m (is_active_by c.args.patron)) (active_holds_by_found c.args.patron) (λ m rows listed v there. let at = listed.sound v there in (at.0, at.1)) holds_within _ _ _ _ (rw (c.params-to_sql.ensures, c.number.ensures.value) at c.rows_of.ensures)
+returns g c = lists_of holds _ _ active_holds_by_plain _ (λ m. Listed m (is_active_by c.args.patron)) (active_holds_by_found c.args.patron) (λ m rows listed v there. let at = listed.sound v there in (at.0, at.1)) (are_encoded holds_are) _ _ _ _ (rw (c.params-to_sql.ensures, c.number.ensures.value) at c.rows_of.ensures)

@@ -3,10 +3,11 @@ use Rattle.circ_tables.specs.Reading.{loans}
 use Rattle.circ_tables.specs.Selections.{is_open_of}
 use Rattle.circ_tables.proofs.FoundLemmas.{open_loan_found, open_loan_plain}
 use Rattle.circ_tables.proofs.ReadingLemmas.{selects_of}
-use Rattle.circ_tables.proofs.TableLemmas.{loans_within}
+use Rattle.circ_tables.specs.Singles.{loans_are}
+use Rattle.circ_tables.proofs.ShownLemmas.{are_encoded}
 use Rattle.circ_tables.proofs.select.open_loan_of.Goals as goal
 
 pub returns : goal.returns
 returns g c =
     selects_of loans _ open_loan_plain _ (λ maps. First (maps loans.place) (is_open_of c.args.copy)) (open_loan_found c.args.copy) (λ maps v found. found.0)
-    loans_within _ _ _ _ (rw (c.params-to_sql.ensures, c.number.ensures.value) at c.row_of.ensures)
+    (are_encoded loans_are) _ _ _ _ (rw (c.params-to_sql.ensures, c.number.ensures.value) at c.row_of.ensures)
