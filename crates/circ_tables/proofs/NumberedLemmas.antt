@@ -34,20 +34,19 @@ use Rattle.sql_maps.proofs.PageLemmas.{page_found}
 use Rattle.sql_maps.proofs.ReadLemmas.{get_row}
 use Rattle.sql_maps.proofs.UniqueLemmas.{or_false, alone_by_rowid}
 use Rattle.sql_maps.proofs.WriteLemmas.{Fixed}
-use Rattle.terms.specs.Limits.{InLimits}
 use Rattle.terms.specs.Pictures.{Picture, put as put_in}
 use Rattle.terms.specs.declared.fault.Fault.{Fault}
 use Rattle.circ_tables.specs.Cells.{number_key}
-use Rattle.circ_tables.specs.Encoding.{Any, AreEncoded, IsEncoded, Draws, Encodes, with_map}
+use Rattle.circ_tables.specs.Encoding.{Any, IsEncoded, Draws, Encodes, with_map}
 use Rattle.circ_tables.specs.Numbered.{IsNumbered, IsNumberTable, by_key, from_key, by_number, put_terms, put_shows}
 use Rattle.circ_tables.specs.Puts.{Runs, PutsRow, TakesRow}
 use Rattle.circ_tables.specs.Reading.{Table, FirstEntry, AllEntries, Gets, Lists}
 use Rattle.circ_tables.specs.Selections.{is_any, is_from}
 use Rattle.circ_tables.specs.Shape.{schema}
 use Rattle.circ_tables.specs.Texts.{names_of, put_text, take_text, get_text, all_text, page_text}
-use Rattle.circ_tables.specs.declared.lists.TheConstants.{PAGE_ROWS}
+use Rattle.circ_tables.specs.declared.by_number.TheConstants.{PAGE_ROWS}
 use Rattle.circ_tables.proofs.EncodingLemmas.{put_encoded, take_encoded, number_same}
-use Rattle.circ_tables.proofs.InverseLemmas.{told_by}
+use Rattle.circ_tables.proofs.InverseLemmas.{told}
 use Rattle.circ_tables.proofs.PageLemmas.{there}
 use Rattle.circ_tables.proofs.PutLemmas.{puts_of}
 use Rattle.circ_tables.proofs.ReadingLemmas.{gets_of, lists_of}
@@ -129,13 +128,7 @@ changed_at maps at m i j = elim (cases_Bool (i == at)) [
 set_one : {A : Type 0} (t : ℕ → A) (at : ℕ) (x : A) (k : ℕ) → put_in t at x k ≡ cond (at == k) x (t k)
 set_one t at x k = elim (cases_Bool (at == k)) [ inl hit ↦ rw (hit, put_in) refl | inr miss ↦ rw (miss, put_in) refl ]
 
-module _ {R : Type 0} (t : Table ℕ R) (number_of : R → ℕ) (back : Row → R) (with_rows : Picture → (ℕ → Option R) → Picture) (is : IsNumberTable t number_of back with_rows) where
-  told : (a b : R) → t.IsLegal a → t.IsLegal b → t.cells a ≡ t.cells b → a ≡ b
-  told = told_by t.cells t.IsLegal back is.back_is
-
-  within : (maps : Maps) (P : Picture) → Encodes maps P → InLimits P → AreEncoded t.cells t.IsLegal (maps t.place)
-  within maps P encodes legal = are_encoded t.cells t.IsLegal number_of (maps t.place) (t.rows P) (is.rows_are maps P encodes) (is.legal P legal)
-
+module _ {R : Type 0} {t : Table ℕ R} {number_of : R → ℕ} (is : IsNumberTable t number_of) where
   fixed : Fixed schema t.place t.shape
   fixed = fixed_of schema t.place t.shape free_all past_all is.texts
 
@@ -163,7 +156,7 @@ module _ {R : Type 0} (t : Table ℕ R) (number_of : R → ℕ) (back : Row → 
   -- the row of a number
   pub gets_row : (k : ℕ) → {S : Type 0} (g : Ghosts S) (old new : Held S) (result : Result (Option R) Fault) → FirstEntry t.cells t.IsLegal (get_text t.shape) (number_key k) g old new result → Gets t k g old new result
   gets_row k g old new result entry =
-      gets_of t told (get_text t.shape) get_plain k (number_key k) (got k) (λ maps P encodes. subst (λ j. maps t.place j ≡ option_map t.cells (t.rows P k)) (sym (is.keyed k)) ((is.rows_are maps P encodes).there k tt))
+      gets_of t (told is) (get_text t.shape) get_plain k (number_key k) (got k) (λ maps P encodes. subst (λ j. maps t.place j ≡ option_map t.cells (t.rows P k)) (sym (is.keyed k)) ((is.rows_are maps P encodes).there k tt))
       (λ P legal r there. (is.legal P legal k r there).1) g old new result entry
 
   -- all rows
@@ -172,7 +165,7 @@ module _ {R : Type 0} (t : Table ℕ R) (number_of : R → ℕ) (back : Row → 
       lists_of t items (all_text t.shape) all_plain [] (λ m. Listed m is_any)
       (list_found schema t.place t.shape [] (names_of t.shape) (all_text t.shape) [] is_any (λ r. refl)
       (record { listed = is.texts.listed; command = is.texts.all.command_is; bare = is.texts.all.bare; unlisted = is.texts.all.unlisted; single = single; key_cell = is.texts.key_cell; as_cells = as_cells }))
-      (λ m rows listed v there. let at = listed.sound v there in (at.0, at.1)) within g old new result entries
+      (λ m rows listed v there. let at = listed.sound v there in (at.0, at.1)) (are_encoded is) g old new result entries
 
   -- a page
   pub lists_page : (a : ℤ) → {S L : Type 0} (items : L → List R) (g : Ghosts S) (old new : Held S) (result : Result L Fault) → AllEntries items t.cells t.IsLegal (page_text t.shape) (Int a ∷ []) g old new result
@@ -181,14 +174,14 @@ module _ {R : Type 0} (t : Table ℕ R) (number_of : R → ℕ) (back : Row → 
       lists_of t items (page_text t.shape) page_plain (Int a ∷ []) (λ m. FirstRows PAGE_ROWS m (is_from a))
       (page_found schema t.place t.shape from_key by_number PAGE_ROWS (names_of t.shape) (page_text t.shape) (Int a ∷ []) (is_from a) (λ r. rw (is.texts.key_cell r) refl) (λ x y _ _ less. rw less refl)
       (record { listed = is.texts.listed; command = is.texts.page.command_is; bare = is.texts.page.bare; unlisted = is.texts.page.unlisted; single = single; key_cell = is.texts.key_cell; as_cells = as_cells; cut = λ given l. refl }))
-      (λ m rows first v has. there PAGE_ROWS m (is_from a) rows first v has) within g old new result entries
+      (λ m rows first v has. there PAGE_ROWS m (is_from a) rows first v has) (are_encoded is) g old new result entries
 
   -- the picture after a change of the map at the place
   drawn : (old new : State) (change : Maps → Maps) (m : Map → Map) (u : Picture → ℕ → Option R)
       → ((maps : Maps) → change maps ≡ with_map maps t.place (m (maps t.place)))
-      → ((maps : Maps) (P : Picture) → Encodes maps P → IsEncoded Any number_key t.cells (m (maps t.place)) (u P)) → Steps schema old new change → Draws old new (λ P. with_rows P (u P))
+      → ((maps : Maps) (P : Picture) → Encodes maps P → IsEncoded Any number_key t.cells (m (maps t.place)) (u P)) → Steps schema old new change → Draws old new (λ P. is.with_rows P (u P))
   drawn old new change m u same encoded steps = record {
-    picture = λ P p. record { maps = change p.maps; holds = steps.maps p.maps p.holds; encodes = subst (λ maps. Encodes maps (with_rows P (u P))) (sym (same p.maps)) (is.framed p.maps P (m (p.maps t.place)) (u P) p.encodes (encoded p.maps P p.encodes)) };
+    picture = λ P p. record { maps = change p.maps; holds = steps.maps p.maps p.holds; encodes = subst (λ maps. Encodes maps (is.with_rows P (u P))) (sym (same p.maps)) (is.framed p.maps P (m (p.maps t.place)) (u P) p.encodes (encoded p.maps P p.encodes)) };
     is_inside = steps.is_inside;
     committed = steps.committed;
   }

@@ -5,32 +5,19 @@ use Rattle.sqlite.specs.Order.{Row}
 use Rattle.sql_maps.specs.Maps.{Maps}
 use Rattle.terms.specs.Limits.{InLimits, IsKeptRow}
 use Rattle.terms.specs.Pictures.{Picture}
-use Rattle.terms.specs.declared.row.LoanRow.{LoanRow}
-use Rattle.terms.specs.declared.row.HoldRow.{HoldRow}
-use Rattle.terms.specs.declared.row.TransitRow.{TransitRow}
-use Rattle.terms.specs.declared.row.LineRow.{LineRow}
 use Rattle.terms.specs.declared.row.KeptRow.{KeptRow}
 use Rattle.circ_tables.specs.Cells.{kept_cells}
 use Rattle.terms.proofs.Utf8Lemmas.{reply_text-IsUtf8}
 use Rattle.circ_tables.specs.Encoding.{Encodes, AreEncoded, HasTexts}
-use Rattle.circ_tables.specs.Reading.{Table, closed_days, rules, loans, holds, transits, lines, kept}
-use Rattle.circ_tables.proofs.ShownLemmas.{are_encoded, days_encoded}
+use Rattle.circ_tables.specs.Reading.{Table}
+use Rattle.circ_tables.specs.ClosedDays.{closed_days}
+use Rattle.circ_tables.specs.Rules.{rules}
+use Rattle.circ_tables.specs.Kept.{kept}
+use Rattle.circ_tables.proofs.ShownLemmas.{days_encoded}
 
 -- Of a table it is so under each picture within its limits.
 abbrev IsWithin : {K R : Type 0} → Table K R → Type 0
 IsWithin t = (maps : Maps) (P : Picture) → Encodes maps P → InLimits P → AreEncoded t.cells t.IsLegal (maps t.place)
-
-pub loans_within : IsWithin loans
-loans_within maps P is legal = are_encoded loans.cells loans.IsLegal (λ (r : LoanRow). r.loan) (maps loans.place) P.loans is.loans legal.loans
-
-pub holds_within : IsWithin holds
-holds_within maps P is legal = are_encoded holds.cells holds.IsLegal (λ (r : HoldRow). r.hold) (maps holds.place) P.holds is.holds legal.holds
-
-pub transits_within : IsWithin transits
-transits_within maps P is legal = are_encoded transits.cells transits.IsLegal (λ (r : TransitRow). r.copy) (maps transits.place) P.transits is.transits legal.transits
-
-pub lines_within : IsWithin lines
-lines_within maps P is legal = are_encoded lines.cells lines.IsLegal (λ (r : LineRow). r.line) (maps lines.place) P.lines is.lines legal.lines
 
 pub closed_days_within : IsWithin closed_days
 closed_days_within maps P is legal = days_encoded (maps closed_days.place) P is.closed_days legal

@@ -1,23 +1,37 @@
 //! A table that is keyed by one number: what it has to say of itself, and the calls that follow from
 //! that.
 
-ghost use Rattle.std.specs.Prelude.{◌≡◌, ℕ, Option};
-ghost use Rattle.sqlite.specs.Order.{Row as SqlRow};
+ghost use Rattle.std.specs.Prelude.{◌≡◌, ◌<◌, ◌^◌, ℕ, IfSome};
 ghost use Rattle.sql_maps.specs.Maps.{Listed};
 ghost use Rattle.sql_maps.specs.Pages.{FirstRows};
-ghost use Rattle.terms.specs.Pictures.{Picture};
 ghost use Rattle.circ_tables.specs.Numbered.{AreTexts, IsNumberTable};
 ghost use Rattle.circ_tables.specs.Puts.{Runs, PutsRow, TakesRow};
 ghost use Rattle.circ_tables.specs.Reading.{Gets, Lists};
 ghost use Rattle.circ_tables.specs.Selections.{is_any, is_from, least_after};
-ghost use Rattle.circ_tables.specs.declared.lists.TheConstants.{PAGE_ROWS};
+ghost use Rattle.circ_tables.specs.declared.by_number.TheConstants.{PAGE_ROWS};
 
 use crate::call::run;
 use crate::list::{Table, row_of, rows_of};
-use crate::lists::least_after;
 use sqlite::{Alter, Connection, Transaction, params};
 use std::alloc::Global;
-use terms::Fault;
+use terms::{Fault, Number};
+
+/// What names a row of such a table: a number, whose type says whose it is.
+pub trait RowNumber: Copy {
+    ghost value: { Self → ℕ };
+
+    /// The number as it stands.
+    fn row_number(self) -> u32
+        ensures { result ≡ value self };
+}
+
+impl<T> RowNumber for Number<T> {
+    ghost value = { λ n. n };
+
+    fn row_number(self) -> u32 {
+        self.number()
+    }
+}
 
 /// The texts of a table by its key: one row put, taken and got; all rows; the first rows from a key
 /// on.
@@ -32,16 +46,20 @@ pub struct Texts {
 
 /// A table that is keyed by one number, which is its first column.
 pub trait Numbered: Table<Key = u32> {
+    /// What names a row.
+    type Id: RowNumber;
+
     ghost number_of: { Self → ℕ };
 
-    ghost back: { SqlRow → Self };
+    /// The number of the row.
+    fn number(&self) -> u32
+        ensures { result ≡ number_of self.now };
 
-    ghost with_rows: { Picture → (ℕ → Option Self) → Picture };
-
+    /// The texts of the table.
     fn texts() -> Texts
         ensures { AreTexts Self.table.shape result };
 
-    ghost sound: { IsNumberTable Self.table number_of back with_rows };
+    ghost sound: { IsNumberTable Self.table number_of };
 }
 
 /// A row of such a table, as it is put.
@@ -55,7 +73,8 @@ pub trait Put {
         ensures { Runs sql.now (Self.Row.table.cells (entry self.now)) S.Store tx.old tx.new result };
 }
 
-/// Puts a row. 91.
+/// Puts a row. 91, also where it breaks what the table has to keep, or a sum of it is 2^63 cents or
+/// more.
 pub fn put_row<P: Put, S: Alter>(tx: &mut Transaction<'_, S>, row: &P) -> Result<(), Fault>
     ensures { PutsRow P.Row.table (P.Row.number_of (P.entry row.now)) (P.entry row.now)
         S.Store tx.old tx.new result }
@@ -63,25 +82,25 @@ pub fn put_row<P: Put, S: Alter>(tx: &mut Transaction<'_, S>, row: &P) -> Result
     row.run_with(tx, P::Row::texts().put)
 }
 
-/// Takes out the row of a number; where there is none, nothing changes. 91.
+/// Takes out a row; where there is none, nothing changes. 91.
 pub fn take_row<T: Numbered, S: Alter>(
     tx: &mut Transaction<'_, S>,
-    number: u32,
+    number: T::Id,
 ) -> Result<(), Fault>
-    ensures { TakesRow T.table number S.Store tx.old tx.new result }
+    ensures { TakesRow T.table (T.Id.value number) S.Store tx.old tx.new result }
 {
-    run(tx, T::texts().take, params![number])
+    run(tx, T::texts().take, params![number.row_number()])
 }
 
-/// The row of a number, if there is one. 90, 91, 93.
+/// A row, if there is one of the number. 90 for one with texts, 91, 93.
 pub fn get_row<T: Numbered, S: Alter>(
     conn: &mut Connection<S>,
     memory: T::Memory,
-    number: u32,
+    number: T::Id,
 ) -> Result<Option<T>, Fault>
-    ensures { Gets T.table number S.Store conn.old conn.new result }
+    ensures { Gets T.table (T.Id.value number) S.Store conn.old conn.new result }
 {
-    row_of(conn, memory, T::texts().get, params![number])
+    row_of(conn, memory, T::texts().get, params![number.row_number()])
 }
 
 /// All rows, the least number first. 90, 91, 93.
@@ -93,6 +112,21 @@ pub fn every_row<T: Numbered, S: Alter>(
     ensures { Lists T.table (λ l. l.items) (λ m. Listed m is_any) S.Store conn.old conn.new result }
 {
     rows_of(conn, alloc, memory, T::texts().all, &[])
+}
+
+/// How many rows a page of a list has, but for its last one. The texts of pages name it too.
+pub const PAGE_ROWS: usize = 1000;
+
+/// The least number of a row that comes after this one, or of any row. That this one has 32 bits is
+/// said too, since what is answered fits 64 for it.
+fn least_after(after: Option<u32>) -> i64
+    ensures least { result ≡ least_after after }
+    ensures range { IfSome after (λ n. n < 2 ^ 32) }
+{
+    match after {
+        Some(number) => i64::from(number) + 1,
+        None => i64::MIN,
+    }
 }
 
 /// The first rows, or the first whose numbers are above this one, the least number first: all of

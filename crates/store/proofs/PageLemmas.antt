@@ -1,5 +1,5 @@
 -- What the pages hold, in words of the typed tables.
-use Rattle.std.proofs.Common.{arith, ◌≡◌, ◌<◌, ◌+◌, ℕ, pos, negsuc, Bool, true, List, map, Option, Some, None, Result, inl, inr, refl, ◌∙◌, ◌≤◌, sym, subst, Less}
+use Rattle.std.proofs.Common.{arith, ◌≡◌, ◌<◌, ◌+◌, ℕ, pos, negsuc, Bool, true, List, map, Option, Some, None, Result, inl, inr, ◌∙◌, ◌≤◌, sym, subst, Less}
 use Rattle.std.specs.Prelude.{unwrap_or}
 use Rattle.std.specs.List.{All, Contains}
 use Rattle.std.proofs.lemmas.Bool.{and_parts, and_from}
@@ -22,57 +22,60 @@ use Rattle.terms.specs.declared.row.HoldRow.{HoldRow}
 use Rattle.terms.specs.declared.row.HoldState.TheVariants.{Ready}
 use Rattle.terms.specs.declared.row.LineRow.{LineRow}
 use Rattle.circ_tables.specs.Cells.{number, number_key, loan_cells, hold_cells, line_cells}
-use Rattle.circ_tables.specs.Encoding.{IsEncoded, Any, Encodes}
+use Rattle.circ_tables.specs.Encoding.{Encodes}
+use Rattle.circ_tables.specs.Numbered.{IsNumberTable}
 use Rattle.circ_tables.specs.Selections.{is_ready_after, is_overdue_after, is_line_after, is_from, least_after}
 use Rattle.circ_tables.specs.Shape.{loans_place, holds_place, lines_place}
-use Rattle.circ_tables.specs.declared.lists.TheConstants.{PAGE_ROWS}
+use Rattle.circ_tables.specs.Loans.{loans_are}
+use Rattle.circ_tables.specs.Holds.{holds_are}
+use Rattle.circ_tables.specs.Lines.{lines_are}
+use Rattle.circ_tables.specs.declared.by_number.TheConstants.{PAGE_ROWS}
 use Rattle.circ_tables.proofs.CellLemmas.{is_least, least_if, if_least, if_negative, same_if, if_same, none_if, if_none, ready_if, if_ready, below_if, if_below, above_if, if_above, alone, from_alone, both, from_both}
-use Rattle.circ_tables.proofs.InverseLemmas.{loan_told, hold_told, line_told}
+use Rattle.circ_tables.proofs.InverseLemmas.{told}
 use Rattle.circ_tables.proofs.DayLemmas.{below}
 use Rattle.circ_tables.proofs.ShownLemmas.{one_found, stands, rows_rise}
 use Rattle.store.specs.Pages.{AreFirstRows, AreRowsAfter, AreNumbered, IsPassedOver, AreReadyAfter, AreOverdueAfter, AreLinesAfter}
 use Rattle.store.proofs.ViewLemmas.{rows_seen}
-use Rattle.store.proofs.ListLemmas.{line_number, rise_is}
-use Rattle.store.proofs.RowLemmas.{loan_number, hold_number}
+use Rattle.store.proofs.ListLemmas.{rise_is}
 
-module _ {R : Type 0} (cells : R → Row) (Good : R → Type 0) (number_of : R → ℕ) (told : (a b : R) → Good a → Good b → cells a ≡ cells b → a ≡ b) (key_cell : (r : R) → column (cells r) 0 ≡ number (number_of r)) where
-  are_first : (m : Map) (t : ℕ → Option R) → IsEncoded Any number_key cells m t → ((n : ℕ) (r : R) → t n ≡ Some r → (number_of r ≡ n) × Good r) → (good : Row → Bool) (Passes : R → Type 0)
-      → ((r : R) → Good r → good (cells r) ≡ true → Passes r) → ((r : R) → Passes r → good (cells r) ≡ true) → (rows : List R) → All Good rows → FirstRows PAGE_ROWS m good (map cells rows)
-      → AreFirstRows t number_of Passes rows
-  are_first m t is own good Passes to from rows legal first = record {
+module _ {R : Type 0} {t : Table ℕ R} {number_of : R → ℕ} (table : IsNumberTable t number_of) where
+  are_first : (maps : Maps) (P : Picture) → Encodes maps P → InLimits P → (good : Row → Bool) (Passes : R → Type 0)
+      → ((r : R) → t.IsLegal r → good (t.cells r) ≡ true → Passes r) → ((r : R) → Passes r → good (t.cells r) ≡ true) → (rows : List R) → All t.IsLegal rows → FirstRows PAGE_ROWS (maps t.place) good (map t.cells rows)
+      → AreFirstRows (t.rows P) number_of Passes rows
+  are_first maps P is legal good Passes to from rows limits first = record {
     sound = λ r there.
-        let row = first.sound (cells r) (mapped_has cells rows r (has_contained rows r there)) in
-        (one_found cells Good number_of m t is own told r (All-contains Good rows r legal there) row.0 row.1, to r (All-contains Good rows r legal there) row.2);
-    whole = λ n r e passes. elim (first.whole (number_key n) (cells r) (stands cells Good number_of m t is own n r e) (from r passes)) [
+        let row = first.sound (t.cells r) (mapped_has t.cells rows r (has_contained rows r there)) in
+        (one_found table maps P is legal r (All-contains t.IsLegal rows r limits there) row.0 row.1, to r (All-contains t.IsLegal rows r limits there) row.2);
+    whole = λ n r e passes. elim (first.whole (number_key n) (t.cells r) (stands table maps P is legal n r e) (from r passes)) [
       | inl has ↦
-          let it = has_mapped cells rows (cells r) has in
+          let it = has_mapped t.cells rows (t.cells r) has in
           let there = contains_had rows it.0 it.1 in
-          let same : r ≡ it.0 = told r it.0 (own n r e).1 (All-contains Good rows it.0 legal there) it.2 in
+          let same : r ≡ it.0 = told table r it.0 (table.legal P legal n r e).1 (All-contains t.IsLegal rows it.0 limits there) it.2 in
           inl (subst (Contains rows) (sym same) there)
       | inr rest ↦ inr (
-        sym (length-map rows cells) ∙ rest.0,
+        sym (length-map rows t.cells) ∙ rest.0,
         λ s there.
-            let less = rest.1 (cells s) (mapped_has cells rows s (has_contained rows s there)) in
-            let under = below (number_of s) (number_of r) (subst (λ v. value_cmp v (number (number_of r)) ≡ Less) (key_cell s) (subst (λ v. value_cmp (column (cells s) 0) v ≡ Less) (key_cell r) less)) in
-            let mine = (own n r e).0 in
+            let less = rest.1 (t.cells s) (mapped_has t.cells rows s (has_contained rows s there)) in
+            let under = below (number_of s) (number_of r) (subst (λ v. value_cmp v (number (number_of r)) ≡ Less) (table.first_cell s) (subst (λ v. value_cmp (column (t.cells s) 0) v ≡ Less) (table.first_cell r) less)) in
+            let mine = (table.legal P legal n r e).0 in
             omega (arith, under, mine),
       )
     ];
-    rise = rise_is number_of rows (rows_rise cells Good number_of m t is own key_cell rows first.rises);
-    few = let same = length-map rows cells in let few = first.few in omega (arith, same, few);
+    rise = rise_is number_of rows (rows_rise table maps P is legal rows first.rises);
+    few = let same = length-map rows t.cells in let few = first.few in omega (arith, same, few);
   }
 
 module _ (maps : Maps) (P : Picture) (is : Encodes maps P) (legal : InLimits P) where
   pub ready_after_are : (branch after : ℕ) (rows : List HoldRow) → All IsHold rows → FirstRows PAGE_ROWS (maps holds_place) (is_ready_after branch after) (map hold_cells rows) → AreReadyAfter P branch after rows
   ready_after_are branch after =
-      are_first hold_cells IsHold hold_number hold_told (λ r. refl) (maps holds_place) P.holds is.holds legal.holds (is_ready_after branch after) (λ r. (r.branch ≡ branch) × (r.state ≡ Ready) × (after < r.hold))
+      are_first holds_are maps P is legal (is_ready_after branch after) (λ r. (r.branch ≡ branch) × (r.state ≡ Ready) × (after < r.hold))
       (λ r legal good. let first = and_parts _ _ good in let tests = both _ _ first.1 in (same_if r.branch branch first.0, ready_if r.state tests.0, above_if r.hold after tests.1))
       (λ r passes. and_from _ _ (if_same r.branch branch passes.0) (from_both _ _ (if_ready r.state passes.1) (if_above r.hold after passes.2)))
 
   pub overdue_after_are : (branch day after : ℕ) (rows : List LoanRow) → All IsLoan rows → FirstRows PAGE_ROWS (maps loans_place) (is_overdue_after branch day after) (map loan_cells rows)
       → AreOverdueAfter P branch day after rows
   overdue_after_are branch day after =
-      are_first loan_cells IsLoan loan_number loan_told (λ r. refl) (maps loans_place) P.loans is.loans legal.loans (is_overdue_after branch day after)
+      are_first loans_are maps P is legal (is_overdue_after branch day after)
       (λ r. (r.branch ≡ branch) × (r.ended ≡ None) × (r.due < day) × (after < r.loan))
       (λ r legal good.
       let first = and_parts _ _ good in
@@ -83,35 +86,31 @@ module _ (maps : Maps) (P : Picture) (is : Encodes maps P) (legal : InLimits P) 
 
   pub lines_after_are : (day after : ℕ) (rows : List LineRow) → All IsLine rows → FirstRows PAGE_ROWS (maps lines_place) (is_line_after day after) (map line_cells rows) → AreLinesAfter P day after rows
   lines_after_are day after =
-      are_first line_cells IsLine line_number line_told (λ r. refl) (maps lines_place) P.lines is.lines legal.lines (is_line_after day after) (λ r. (r.day ≡ day) × (after < r.line))
+      are_first lines_are maps P is legal (is_line_after day after) (λ r. (r.day ≡ day) × (after < r.line))
       (λ r legal good. let tests = both _ _ good in (same_if r.day day tests.0, above_if r.line after tests.1)) (λ r passes. from_both _ _ (if_same r.day day passes.0) (if_above r.line after passes.1))
 
--- a page of all rows of a table that is keyed by one number, from 1 on
-pub page_seen : {S R L : Type 0} (t : Table ℕ R) {items : L → List R} (number_of : R → ℕ) → ((a b : R) → t.IsLegal a → t.IsLegal b → t.cells a ≡ t.cells b → a ≡ b) → ((r : R) → column (t.cells r) 0 ≡ number (number_of r))
-    → ((maps : Maps) (P : Picture) → Encodes maps P → IsEncoded Any number_key t.cells (maps t.place) (t.rows P)) → ((P : Picture) → InLimits P → (n : ℕ) (r : R) → t.rows P n ≡ Some r → (number_of r ≡ n) × t.IsLegal r)
-    → ((r : R) → t.IsLegal r → 1 ≤ number_of r) → (after : Option ℕ) → {g : Ghosts S} {r : Result L Fault} {a b : Held S} → Lists t items (λ m. FirstRows PAGE_ROWS m (is_from (least_after after))) g a b r
-    → Views (λ P l. AreNumbered (t.rows P) number_of × AreRowsAfter (t.rows P) number_of (unwrap_or after 0) (items l)) g a b r
-page_seen {R = R} t number_of told key_cell encoded own from after is =
-    rows_seen (λ P rows. AreNumbered (t.rows P) number_of × AreRowsAfter (t.rows P) number_of (unwrap_or after 0) rows)
-    (λ maps P shown legal rows limits first. (
-      numbered P legal,
-      are_first t.cells t.IsLegal number_of told key_cell (maps t.place) (t.rows P) (encoded maps P shown) (own P legal) (is_from (least_after after)) (λ r. unwrap_or after 0 < number_of r) (above after) (passes after) rows limits first,
-    )) is
-  where
-    numbered : (P : Picture) → InLimits P → AreNumbered (t.rows P) number_of
-    numbered P legal n r e =
-        let it = own P legal n r e in
-        let one : 1 ≤ number_of r = from r it.1 in
-        let same : number_of r ≡ n = it.0 in
-        (same, omega (arith, one, same))
+-- a page of all rows of a table, from 1 on
+module _ {R : Type 0} {t : Table ℕ R} {number_of : R → ℕ} (table : IsNumberTable t number_of) where
+  numbered : (P : Picture) → InLimits P → AreNumbered (t.rows P) number_of
+  numbered P legal n r e =
+      let it = table.legal P legal n r e in
+      let one : 1 ≤ number_of r = table.from_one r it.1 in
+      let same : number_of r ≡ n = it.0 in
+      (same, omega (arith, one, same))
 
-    above : (after : Option ℕ) (r : R) → t.IsLegal r → is_from (least_after after) (t.cells r) ≡ true → unwrap_or after 0 < number_of r
-    above None r legal good = let one : 1 ≤ number_of r = from r legal in omega (arith, one)
-    above (Some n) r legal good = let least : n + 1 ≤ number_of r = least_if (number_of r) (n + 1) (subst (λ v. is_least v (pos (n + 1)) ≡ true) (key_cell r) (alone _ good)) in omega (arith, least)
+  above : (after : Option ℕ) (r : R) → t.IsLegal r → is_from (least_after after) (t.cells r) ≡ true → unwrap_or after 0 < number_of r
+  above None r legal good = let one : 1 ≤ number_of r = table.from_one r legal in omega (arith, one)
+  above (Some n) r legal good = let least : n + 1 ≤ number_of r = least_if (number_of r) (n + 1) (subst (λ v. is_least v (pos (n + 1)) ≡ true) (table.first_cell r) (alone _ good)) in omega (arith, least)
 
-    passes : (after : Option ℕ) (r : R) → unwrap_or after 0 < number_of r → is_from (least_after after) (t.cells r) ≡ true
-    passes None r more = from_alone _ (subst (λ v. is_least v (negsuc 9223372036854775807) ≡ true) (sym (key_cell r)) (if_negative (number_of r) 9223372036854775807))
-    passes (Some n) r more = from_alone _ (subst (λ v. is_least v (pos (n + 1)) ≡ true) (sym (key_cell r)) (if_least (number_of r) (n + 1) (omega (arith, more))))
+  passes : (after : Option ℕ) (r : R) → unwrap_or after 0 < number_of r → is_from (least_after after) (t.cells r) ≡ true
+  passes None r more = from_alone _ (subst (λ v. is_least v (negsuc 9223372036854775807) ≡ true) (sym (table.first_cell r)) (if_negative (number_of r) 9223372036854775807))
+  passes (Some n) r more = from_alone _ (subst (λ v. is_least v (pos (n + 1)) ≡ true) (sym (table.first_cell r)) (if_least (number_of r) (n + 1) (omega (arith, more))))
+
+  pub page_seen : (after : Option ℕ) → {S L : Type 0} {items : L → List R} {g : Ghosts S} {r : Result L Fault} {a b : Held S} → Lists t items (λ m. FirstRows PAGE_ROWS m (is_from (least_after after))) g a b r
+      → Views (λ P l. AreNumbered (t.rows P) number_of × AreRowsAfter (t.rows P) number_of (unwrap_or after 0) (items l)) g a b r
+  page_seen after is =
+      rows_seen (λ P rows. AreNumbered (t.rows P) number_of × AreRowsAfter (t.rows P) number_of (unwrap_or after 0) rows)
+      (λ maps P shown legal rows limits first. (numbered P legal, are_first table maps P shown legal (is_from (least_after after)) (λ r. unwrap_or after 0 < number_of r) (above after) (passes after) rows limits first)) is
 
 -- rows that are read and of which nothing is said
 pub passed_over : {S R L : Type 0} {K : Type 0} {t : Table K R} {items : L → List R} {Found : Map → List Row → Type 0} {g : Ghosts S} {r : Result L Fault} {a b : Held S} → Lists t items Found g a b r → Views IsPassedOver g a b r

@@ -9,7 +9,7 @@ ghost use Rattle.circ_tables.specs.Reading.{Views};
 
 use crate::pages::{EachRow, NoRow, OpenLoans, Sift, pass_over_kept, read_pages};
 use crate::store::Store;
-use circ_tables::{all_branches, all_closed_days, all_kept, all_kinds, all_rules, get_meta};
+use circ_tables::{all_closed_days, all_kept, all_rules, every_row, get_meta};
 use sqlite::{Alter, Connection};
 use std::alloc::Global;
 use terms::{
@@ -49,7 +49,7 @@ fn branches<S: Alter>(conn: &mut Connection<S>, alloc: Global) -> Result<Rows<Br
     ensures { Views (λ P rows. AreRows P.branches (λ r. r.branch) AllPass rows)
         S.Store conn.old conn.new result }
 {
-    let found = all_branches(conn, alloc)?;
+    let found = every_row::<BranchRow, S>(conn, alloc, alloc)?;
     Ok(Rows::new(found))
 }
 
@@ -58,7 +58,7 @@ fn kinds<S: Alter>(conn: &mut Connection<S>, alloc: Global) -> Result<Rows<KindR
     ensures { Views (λ P rows. AreRows P.kinds (λ r. r.kind) AllPass rows)
         S.Store conn.old conn.new result }
 {
-    let found = all_kinds(conn, alloc)?;
+    let found = every_row::<KindRow, S>(conn, alloc, ())?;
     Ok(Rows::new(found))
 }
 
@@ -114,9 +114,9 @@ fn read_holdings<T: Sift<TitleRow>, S: Alter>(
 ) -> Result<Holdings, Fault>
     ensures { Views (AreHoldings T.test) S.Store conn.old conn.new result }
 {
-    let patrons = read_pages::<PatronRow, EachRow, S>(conn, alloc)?;
-    let titles = read_pages::<TitleRow, T, S>(conn, alloc)?;
-    let copies = read_pages::<CopyRow, EachRow, S>(conn, alloc)?;
+    let patrons = read_pages::<PatronRow, EachRow, S>(conn, alloc, alloc)?;
+    let titles = read_pages::<TitleRow, T, S>(conn, alloc, alloc)?;
+    let copies = read_pages::<CopyRow, EachRow, S>(conn, alloc, ())?;
     Ok(Holdings {
         patrons,
         titles,
@@ -131,10 +131,10 @@ fn read_dealings<L: Sift<LoanRow>, S: Alter>(
 ) -> Result<Dealings, Fault>
     ensures { Views (AreDealings L.test) S.Store conn.old conn.new result }
 {
-    let loans = read_pages::<LoanRow, L, S>(conn, alloc)?;
-    let holds = read_pages::<HoldRow, EachRow, S>(conn, alloc)?;
-    let transits = read_pages::<TransitRow, EachRow, S>(conn, alloc)?;
-    let lines = read_pages::<LineRow, EachRow, S>(conn, alloc)?;
+    let loans = read_pages::<LoanRow, L, S>(conn, alloc, ())?;
+    let holds = read_pages::<HoldRow, EachRow, S>(conn, alloc, ())?;
+    let transits = read_pages::<TransitRow, EachRow, S>(conn, alloc, ())?;
+    let lines = read_pages::<LineRow, EachRow, S>(conn, alloc, ())?;
     Ok(Dealings {
         loans,
         holds,
@@ -223,6 +223,6 @@ impl<S: Alter> Store<S> {
     {
         let is_idle = self.conn.is_autocommit();
         prove!(is_idle);
-        read_pages::<PatronRow, EachRow, S>(&mut self.conn, alloc)
+        read_pages::<PatronRow, EachRow, S>(&mut self.conn, alloc, alloc)
     }
 }

@@ -6,170 +6,10 @@ ghost use Rattle.circ_tables.specs.Reading.{Views};
 ghost use Rattle.store.specs.Lists.{AreRows};
 ghost use Rattle.store.specs.Pages.{IsPassedOver};
 
-use circ_tables::{
-    first_kept, kept_after, kept_past, next_copies, next_holds, next_lines, next_loans,
-    next_patrons, next_titles, next_transits,
-};
+use circ_tables::{Numbered, first_kept, kept_after, kept_past, next_rows};
 use sqlite::{Alter, Connection};
 use std::alloc::Global;
-use terms::{
-    CopyRow, Fault, HoldRow, KeptRow, LineRow, LoanRow, PatronRow, Rows, TitleRow, TransitRow,
-};
-
-/// Rows of a table that is keyed by one number.
-pub(crate) trait Numbered: Drop {
-    ghost use Rattle.std.specs.Prelude.{◌≡◌, ℕ, Option, unwrap_or};
-    ghost use Rattle.circ_tables.specs.Reading.{Views};
-    ghost use Rattle.terms.specs.Pictures.{Picture};
-    ghost use Rattle.store.specs.Pages.{AreRowsAfter, AreNumbered};
-
-    /// The rows of the table in a picture, by their numbers.
-    ghost rows: { Picture → ℕ → Option Self };
-
-    /// The number of a row.
-    ghost number_of: { Self → ℕ };
-
-    /// The number.
-    fn number(&self) -> u32
-        ensures { result ≡ number_of self.now };
-
-    /// A page: the first rows, or the first whose numbers are above this one, the least first. Each
-    /// row of the table stands under its own number. 90, 91, 93.
-    fn page<S: Alter>(
-        conn: &mut Connection<S>,
-        alloc: Global,
-        after: Option<u32>,
-    ) -> Result<Vec<Self>, Fault>
-        ensures { Views (λ P page. AreNumbered (rows P) number_of
-            × AreRowsAfter (rows P) number_of (unwrap_or after 0) page.items)
-            S.Store conn.old conn.new result };
-}
-
-impl Numbered for PatronRow {
-    ghost rows = { λ P. P.patrons };
-
-    ghost number_of = { λ r. r.patron };
-
-    fn number(&self) -> u32 {
-        self.patron.number()
-    }
-
-    fn page<S: Alter>(
-        conn: &mut Connection<S>,
-        alloc: Global,
-        after: Option<u32>,
-    ) -> Result<Vec<PatronRow>, Fault> {
-        next_patrons(conn, alloc, after)
-    }
-}
-
-impl Numbered for TitleRow {
-    ghost rows = { λ P. P.titles };
-
-    ghost number_of = { λ r. r.title };
-
-    fn number(&self) -> u32 {
-        self.title.number()
-    }
-
-    fn page<S: Alter>(
-        conn: &mut Connection<S>,
-        alloc: Global,
-        after: Option<u32>,
-    ) -> Result<Vec<TitleRow>, Fault> {
-        next_titles(conn, alloc, after)
-    }
-}
-
-impl Numbered for CopyRow {
-    ghost rows = { λ P. P.copies };
-
-    ghost number_of = { λ r. r.copy };
-
-    fn number(&self) -> u32 {
-        self.copy.number()
-    }
-
-    fn page<S: Alter>(
-        conn: &mut Connection<S>,
-        alloc: Global,
-        after: Option<u32>,
-    ) -> Result<Vec<CopyRow>, Fault> {
-        next_copies(conn, alloc, after)
-    }
-}
-
-impl Numbered for LoanRow {
-    ghost rows = { λ P. P.loans };
-
-    ghost number_of = { λ r. r.loan };
-
-    fn number(&self) -> u32 {
-        self.loan.number()
-    }
-
-    fn page<S: Alter>(
-        conn: &mut Connection<S>,
-        alloc: Global,
-        after: Option<u32>,
-    ) -> Result<Vec<LoanRow>, Fault> {
-        next_loans(conn, alloc, after)
-    }
-}
-
-impl Numbered for HoldRow {
-    ghost rows = { λ P. P.holds };
-
-    ghost number_of = { λ r. r.hold };
-
-    fn number(&self) -> u32 {
-        self.hold.number()
-    }
-
-    fn page<S: Alter>(
-        conn: &mut Connection<S>,
-        alloc: Global,
-        after: Option<u32>,
-    ) -> Result<Vec<HoldRow>, Fault> {
-        next_holds(conn, alloc, after)
-    }
-}
-
-impl Numbered for TransitRow {
-    ghost rows = { λ P. P.transits };
-
-    ghost number_of = { λ r. r.copy };
-
-    fn number(&self) -> u32 {
-        self.copy.number()
-    }
-
-    fn page<S: Alter>(
-        conn: &mut Connection<S>,
-        alloc: Global,
-        after: Option<u32>,
-    ) -> Result<Vec<TransitRow>, Fault> {
-        next_transits(conn, alloc, after)
-    }
-}
-
-impl Numbered for LineRow {
-    ghost rows = { λ P. P.lines };
-
-    ghost number_of = { λ r. r.line };
-
-    fn number(&self) -> u32 {
-        self.line.number()
-    }
-
-    fn page<S: Alter>(
-        conn: &mut Connection<S>,
-        alloc: Global,
-        after: Option<u32>,
-    ) -> Result<Vec<LineRow>, Fault> {
-        next_lines(conn, alloc, after)
-    }
-}
+use terms::{Fault, KeptRow, LoanRow, Rows};
 
 /// Which of the rows that are read are kept.
 pub(crate) trait Sift<R> {
@@ -249,14 +89,15 @@ fn keep_page<R: Numbered, F: Sift<R>>(kept: &mut Vec<R>, page: Vec<R>) -> Result
 pub(crate) fn read_pages<R: Numbered, F: Sift<R>, S: Alter>(
     conn: &mut Connection<S>,
     alloc: Global,
+    memory: R::Memory,
 ) -> Result<Rows<R>, Fault>
-    ensures { Views (λ P rows. AreRows (R.rows P) R.number_of (λ r. F.test r ≡ true) rows)
+    ensures { Views (λ P rows. AreRows (R.table.rows P) R.number_of (λ r. F.test r ≡ true) rows)
         S.Store conn.old conn.new result }
 {
     let mut kept = Vec::new(alloc);
     let mut after = None;
     'pages: for _page in 0..u64::MAX {
-        let page = R::page(conn, alloc, after)?;
+        let page = next_rows::<R, S>(conn, alloc, memory, after)?;
         match last_of(page.as_slice()) {
             Some(last) => after = Some(last),
             None => return Ok(Rows::new(kept)),

@@ -11,8 +11,8 @@ use crate::store::Store;
 use crate::viewing::calendar_of;
 use calendar::{Calendar, Day};
 use circ_tables::{
-    active_holds_by, get_branch, get_copy, get_meta, get_title, lines_after, open_loans_by,
-    overdue_loans_after, ready_holds_after,
+    active_holds_by, get_meta, get_row, lines_after, open_loans_by, overdue_loans_after,
+    ready_holds_after,
 };
 use sqlite::Alter;
 use std::alloc::Global;
@@ -103,7 +103,7 @@ impl<S: Alter> Store<S> {
     {
         let is_idle = self.conn.is_autocommit();
         prove!(is_idle);
-        get_branch(&mut self.conn, alloc, branch)
+        get_row::<BranchRow, S>(&mut self.conn, alloc, branch)
     }
 
     /// The row of a title. 90, 91, 93.
@@ -113,7 +113,7 @@ impl<S: Alter> Store<S> {
     {
         let is_idle = self.conn.is_autocommit();
         prove!(is_idle);
-        get_title(&mut self.conn, alloc, title)
+        get_row::<TitleRow, S>(&mut self.conn, alloc, title)
     }
 
     /// The row of a copy. 91, 93.
@@ -123,7 +123,7 @@ impl<S: Alter> Store<S> {
     {
         let is_idle = self.conn.is_autocommit();
         prove!(is_idle);
-        get_copy(&mut self.conn, copy)
+        get_row::<CopyRow, S>(&mut self.conn, (), copy)
     }
 
     /// The calendar of a branch, if there is the branch. 90, 91, 93.

@@ -9,12 +9,14 @@ ghost use Rattle.store.specs.Commit.{Commits, CreatesLibrary, OpensLibrary, Refu
 ghost use Rattle.store.specs.Commit.{LetsGo};
 ghost use Rattle.store.specs.Limits.{limit_of};
 ghost use Rattle.store.specs.Reads.{Looked, Finds, IsSound};
-ghost use Rattle.circ_tables.specs.Reading.{patrons, loans, holds};
+ghost use Rattle.circ_tables.specs.Patrons.{patrons};
+ghost use Rattle.circ_tables.specs.Loans.{loans};
+ghost use Rattle.circ_tables.specs.Holds.{holds};
 
 use crate::changing::{self, SCHEMA};
 use crate::viewing;
 use circ_core::{Changes, View};
-use circ_tables::{KeptReply, get_hold, get_kept, get_loan, get_patron, schema_of, second_begin};
+use circ_tables::{KeptReply, get_kept, get_row, schema_of, second_begin};
 use sqlite::{Alter, Connection};
 use std::alloc::Global;
 use std::marker::Model;
@@ -117,7 +119,7 @@ impl<S: Alter> Store<S> {
     {
         let is_idle = self.conn.is_autocommit();
         prove!(is_idle);
-        get_patron(&mut self.conn, alloc, patron)
+        get_row::<PatronRow, S>(&mut self.conn, alloc, patron)
     }
 
     /// The row of a loan. 91, 93.
@@ -126,7 +128,7 @@ impl<S: Alter> Store<S> {
     {
         let is_idle = self.conn.is_autocommit();
         prove!(is_idle);
-        get_loan(&mut self.conn, loan)
+        get_row::<LoanRow, S>(&mut self.conn, (), loan)
     }
 
     /// The row of a hold. 91, 93.
@@ -135,7 +137,7 @@ impl<S: Alter> Store<S> {
     {
         let is_idle = self.conn.is_autocommit();
         prove!(is_idle);
-        get_hold(&mut self.conn, hold)
+        get_row::<HoldRow, S>(&mut self.conn, (), hold)
     }
 
     /// Sets how many steps each later call of the database may take; with none there is no limit,

@@ -18,14 +18,13 @@ use calendar::{Calendar, CloseError, Day, Weekdays};
 use circ_core::View;
 use circ_tables::{
     closed_days_of, count_active_holds, count_active_holds_on, count_open_loans, first_in_line,
-    get_branch, get_copy, get_hold, get_kind, get_loan, get_meta, get_patron, get_rule, get_title,
-    get_transit, open_loan_of, open_loan_of_title, ready_hold_of, transit_for,
+    get_meta, get_row, get_rule, open_loan_of, open_loan_of_title, ready_hold_of, transit_for,
 };
 use sqlite::{Alter, Connection};
 use std::alloc::Global;
 use terms::{
     BranchId, BranchRow, Command, CopyId, CopyRow, Count, Fault, HoldId, HoldRow, KindRow, LoanId,
-    LoanRow, PatronId, PatronKind, PatronRow, RuleRow, TitleId, TransitRow,
+    LoanRow, PatronId, PatronKind, PatronRow, RuleRow, TitleId, TitleRow, TransitRow,
 };
 
 /// The calendar with these closed weekdays and these single closed days. 90; 93 where a day stands
@@ -72,7 +71,7 @@ pub(crate) fn calendar_of<S: Alter>(
     ensures { Views (λ P calendar. IsCalendarOf P branch calendar
         × IfSome calendar (λ c. has_repeat c.single ≡ false)) S.Store conn.old conn.new result }
 {
-    let row = get_branch(conn, alloc, branch)?;
+    let row = get_row::<BranchRow, S>(conn, alloc, branch)?;
     let calendar = calendar_from(conn, alloc, branch, &row)?;
     Ok(calendar)
 }
@@ -85,7 +84,7 @@ fn branch_view<S: Alter>(
 ) -> Result<View, Fault>
     ensures { Views (λ P rows. IsBranchView P number rows.branch rows.calendar) S.Store conn.old conn.new result }
 {
-    let branch = get_branch(conn, alloc, number)?;
+    let branch = get_row::<BranchRow, S>(conn, alloc, number)?;
     let calendar = calendar_from(conn, alloc, number, &branch)?;
     Ok(View {
         branch,
@@ -131,7 +130,7 @@ fn kind_of<S: Alter>(
     ensures { Views (λ P row. row ≡ kind_in P patron.now) S.Store conn.old conn.new result }
 {
     match patron {
-        Some(row) => get_kind(conn, row.kind),
+        Some(row) => get_row::<KindRow, S>(conn, (), row.kind),
         None => Ok(None),
     }
 }
@@ -189,7 +188,7 @@ fn lent_copy<S: Alter>(
     ensures { Views (λ P row. row ≡ copy_in P loan.now) S.Store conn.old conn.new result }
 {
     match loan {
-        Some(row) => get_copy(conn, row.copy),
+        Some(row) => get_row::<CopyRow, S>(conn, (), row.copy),
         None => Ok(None),
     }
 }
@@ -203,7 +202,7 @@ fn borrower_of<S: Alter>(
     ensures { Views (λ P row. row ≡ borrower_in P loan.now) S.Store conn.old conn.new result }
 {
     match loan {
-        Some(row) => get_patron(conn, alloc, row.patron),
+        Some(row) => get_row::<PatronRow, S>(conn, alloc, row.patron),
         None => Ok(None),
     }
 }
@@ -217,7 +216,7 @@ fn copy_if<S: Alter>(
         S.Store conn.old conn.new result }
 {
     match copy {
-        Some(number) => get_copy(conn, number),
+        Some(number) => get_row::<CopyRow, S>(conn, (), number),
         None => Ok(None),
     }
 }
@@ -230,7 +229,7 @@ fn hold_if<S: Alter>(
     ensures { Views (λ P row. row ≡ option_and_then P.holds hold) S.Store conn.old conn.new result }
 {
     match hold {
-        Some(number) => get_hold(conn, number),
+        Some(number) => get_row::<HoldRow, S>(conn, (), number),
         None => Ok(None),
     }
 }
@@ -265,9 +264,9 @@ fn coming_hold<S: Alter>(
 fn copy_view<S: Alter>(conn: &mut Connection<S>, number: CopyId) -> Result<View, Fault>
     ensures { Views (λ P rows. IsCopyView P number rows) S.Store conn.old conn.new result }
 {
-    let copy = get_copy(conn, number)?;
+    let copy = get_row::<CopyRow, S>(conn, (), number)?;
     let loan = open_loan_of(conn, number)?;
-    let transit = get_transit(conn, number)?;
+    let transit = get_row::<TransitRow, S>(conn, (), number)?;
     let hold = ready_hold_of(conn, number)?;
     Ok(View {
         copy,
@@ -306,8 +305,8 @@ fn patron_view<S: Alter>(
 ) -> Result<View, Fault>
     ensures { Views (λ P rows. IsPatronView P number kind rows) S.Store conn.old conn.new result }
 {
-    let kind = get_kind(conn, kind)?;
-    let patron = get_patron(conn, alloc, number)?;
+    let kind = get_row::<KindRow, S>(conn, (), kind)?;
+    let patron = get_row::<PatronRow, S>(conn, alloc, number)?;
     Ok(View {
         kind,
         patron,
@@ -325,9 +324,9 @@ fn acquire_view<S: Alter>(
     ensures { Views (λ P rows. IsAcquireView P number of home rows)
         S.Store conn.old conn.new result }
 {
-    let branch = get_branch(conn, alloc, home)?;
-    let title = get_title(conn, alloc, of)?;
-    let copy = get_copy(conn, number)?;
+    let branch = get_row::<BranchRow, S>(conn, alloc, home)?;
+    let title = get_row::<TitleRow, S>(conn, alloc, of)?;
+    let copy = get_row::<CopyRow, S>(conn, (), number)?;
     Ok(View {
         branch,
         title,
@@ -360,7 +359,7 @@ fn account_view<S: Alter>(
     ensures { Views (λ P rows. IsAccountView P number rows) S.Store conn.old conn.new result }
 {
     let meta = get_meta(conn)?;
-    let patron = get_patron(conn, alloc, number)?;
+    let patron = get_row::<PatronRow, S>(conn, alloc, number)?;
     Ok(View {
         meta,
         patron,
@@ -371,7 +370,7 @@ fn account_view<S: Alter>(
 fn cancel_hold_view<S: Alter>(conn: &mut Connection<S>, number: HoldId) -> Result<View, Fault>
     ensures { Views (λ P rows. IsCancelHoldView P number rows) S.Store conn.old conn.new result }
 {
-    let hold = get_hold(conn, number)?;
+    let hold = get_row::<HoldRow, S>(conn, (), number)?;
     let transit = transit_for(conn, number)?;
     Ok(View {
         hold,
@@ -423,7 +422,7 @@ fn check_out_view<S: Alter>(
 {
     let meta = get_meta(conn)?;
     let calendar = calendar_of(conn, alloc, branch)?;
-    let patron = get_patron(conn, alloc, number)?;
+    let patron = get_row::<PatronRow, S>(conn, alloc, number)?;
     let kind = kind_of(conn, &patron)?;
     let at = copy_view(conn, copy)?;
     let lending = lending_of(conn, number, &patron, &at.copy)?;
@@ -454,7 +453,7 @@ fn renew_view<S: Alter>(
     ensures { Views (λ P rows. IsRenewView P number rows) S.Store conn.old conn.new result }
 {
     let meta = get_meta(conn)?;
-    let loan = get_loan(conn, number)?;
+    let loan = get_row::<LoanRow, S>(conn, (), number)?;
     let copy = lent_copy(conn, &loan)?;
     let first = first_for(conn, &copy)?;
     let patron = borrower_of(conn, alloc, &loan)?;
@@ -510,10 +509,10 @@ fn place_hold_view<S: Alter>(
         S.Store conn.old conn.new result }
 {
     let meta = get_meta(conn)?;
-    let patron = get_patron(conn, alloc, number)?;
+    let patron = get_row::<PatronRow, S>(conn, alloc, number)?;
     let kind = kind_of(conn, &patron)?;
-    let title = get_title(conn, alloc, wanted)?;
-    let branch = get_branch(conn, alloc, pickup)?;
+    let title = get_row::<TitleRow, S>(conn, alloc, wanted)?;
+    let branch = get_row::<BranchRow, S>(conn, alloc, pickup)?;
     let standing = standing_of(conn, number, wanted)?;
     let Standing {
         own_holds,
@@ -542,7 +541,7 @@ fn check_in_view<S: Alter>(
     ensures { Views (λ P rows. IsCheckInView P copy number rows) S.Store conn.old conn.new result }
 {
     let meta = get_meta(conn)?;
-    let branch = get_branch(conn, alloc, number)?;
+    let branch = get_row::<BranchRow, S>(conn, alloc, number)?;
     let calendar = calendar_from(conn, alloc, number, &branch)?;
     let at = copy_view(conn, copy)?;
     let end = lender_of(conn, alloc, &at.loan)?;
@@ -569,7 +568,7 @@ fn unshelve_view<S: Alter>(
     ensures { Views (λ P rows. IsUnshelveView P number rows) S.Store conn.old conn.new result }
 {
     let meta = get_meta(conn)?;
-    let hold = get_hold(conn, number)?;
+    let hold = get_row::<HoldRow, S>(conn, (), number)?;
     let copy = named_copy(conn, &hold)?;
     let here = pickup_view(conn, alloc, &hold)?;
     let first = first_for(conn, &copy)?;
@@ -620,7 +619,7 @@ fn branch_row_view<S: Alter>(
 ) -> Result<View, Fault>
     ensures { Views (λ P rows. rows.branch ≡ P.branches number) S.Store conn.old conn.new result }
 {
-    let branch = get_branch(conn, alloc, number)?;
+    let branch = get_row::<BranchRow, S>(conn, alloc, number)?;
     Ok(View {
         branch,
         ..View::empty()
@@ -631,7 +630,7 @@ fn branch_row_view<S: Alter>(
 fn kind_view<S: Alter>(conn: &mut Connection<S>, number: PatronKind) -> Result<View, Fault>
     ensures { Views (λ P rows. rows.kind ≡ P.kinds number) S.Store conn.old conn.new result }
 {
-    let kind = get_kind(conn, number)?;
+    let kind = get_row::<KindRow, S>(conn, (), number)?;
     Ok(View {
         kind,
         ..View::empty()
@@ -646,7 +645,7 @@ fn page_view<S: Alter>(
 ) -> Result<View, Fault>
     ensures { Views (λ P rows. rows.patron ≡ P.patrons number) S.Store conn.old conn.new result }
 {
-    let patron = get_patron(conn, alloc, number)?;
+    let patron = get_row::<PatronRow, S>(conn, alloc, number)?;
     Ok(View {
         patron,
         ..View::empty()

@@ -3,11 +3,12 @@
 
 use calendar::Day;
 use circ_tables as tables;
+use circ_tables::Numbered;
 use sqlite::{Alter, Connection, Transaction};
 use std::alloc::Global;
 use terms::{
-    BranchId, CopyId, Fault, HoldId, KeptRow, Key, LineId, LoanId, Owner, PatronId, TitleId,
-    TransitRow,
+    BranchId, CopyId, Fault, HoldId, KeptRow, Key, LineId, LineRow, LoanId, Owner, PatronId,
+    TitleId, TransitRow,
 };
 
 pub fn make_tables<S: Alter>(tx: &mut Transaction<'_, S>) -> Result<(), Fault> {
@@ -15,11 +16,11 @@ pub fn make_tables<S: Alter>(tx: &mut Transaction<'_, S>) -> Result<(), Fault> {
 }
 
 pub fn put_transit<S: Alter>(tx: &mut Transaction<'_, S>, row: &TransitRow) -> Result<(), Fault> {
-    tables::put_transit(tx, row)
+    tables::put_row(tx, row)
 }
 
 pub fn get_line<S: Alter>(conn: &mut Connection<S>, line: u32) -> Result<Option<u32>, Fault> {
-    match tables::get_line(conn, LineId::new(line))? {
+    match tables::get_row::<LineRow, S>(conn, (), LineId::new(line))? {
         Some(row) => Ok(Some(row.line.number())),
         None => Ok(None),
     }
@@ -166,86 +167,16 @@ pub fn lines_after<S: Alter>(
     Ok(numbers)
 }
 
-pub fn next_patrons<S: Alter>(
+/// The numbers of a page.
+pub fn next_rows<T: Numbered, S: Alter>(
     conn: &mut Connection<S>,
     alloc: Global,
+    memory: T::Memory,
     after: Option<u32>,
 ) -> Result<Vec<u32>, Fault> {
     let mut numbers = Vec::new(alloc);
-    for row in &tables::next_patrons(conn, alloc, after)? {
-        numbers.push(row.patron.number())?;
-    }
-    Ok(numbers)
-}
-
-pub fn next_titles<S: Alter>(
-    conn: &mut Connection<S>,
-    alloc: Global,
-    after: Option<u32>,
-) -> Result<Vec<u32>, Fault> {
-    let mut numbers = Vec::new(alloc);
-    for row in &tables::next_titles(conn, alloc, after)? {
-        numbers.push(row.title.number())?;
-    }
-    Ok(numbers)
-}
-
-pub fn next_copies<S: Alter>(
-    conn: &mut Connection<S>,
-    alloc: Global,
-    after: Option<u32>,
-) -> Result<Vec<u32>, Fault> {
-    let mut numbers = Vec::new(alloc);
-    for row in &tables::next_copies(conn, alloc, after)? {
-        numbers.push(row.copy.number())?;
-    }
-    Ok(numbers)
-}
-
-pub fn next_loans<S: Alter>(
-    conn: &mut Connection<S>,
-    alloc: Global,
-    after: Option<u32>,
-) -> Result<Vec<u32>, Fault> {
-    let mut numbers = Vec::new(alloc);
-    for row in &tables::next_loans(conn, alloc, after)? {
-        numbers.push(row.loan.number())?;
-    }
-    Ok(numbers)
-}
-
-pub fn next_holds<S: Alter>(
-    conn: &mut Connection<S>,
-    alloc: Global,
-    after: Option<u32>,
-) -> Result<Vec<u32>, Fault> {
-    let mut numbers = Vec::new(alloc);
-    for row in &tables::next_holds(conn, alloc, after)? {
-        numbers.push(row.hold.number())?;
-    }
-    Ok(numbers)
-}
-
-pub fn next_transits<S: Alter>(
-    conn: &mut Connection<S>,
-    alloc: Global,
-    after: Option<u32>,
-) -> Result<Vec<u32>, Fault> {
-    let mut numbers = Vec::new(alloc);
-    for row in &tables::next_transits(conn, alloc, after)? {
-        numbers.push(row.copy.number())?;
-    }
-    Ok(numbers)
-}
-
-pub fn next_lines<S: Alter>(
-    conn: &mut Connection<S>,
-    alloc: Global,
-    after: Option<u32>,
-) -> Result<Vec<u32>, Fault> {
-    let mut numbers = Vec::new(alloc);
-    for row in &tables::next_lines(conn, alloc, after)? {
-        numbers.push(row.line.number())?;
+    for row in &tables::next_rows::<T, S>(conn, alloc, memory, after)? {
+        numbers.push(row.number())?;
     }
     Ok(numbers)
 }

@@ -8,7 +8,10 @@ use sqlite::{Alter, Connection, Error, MemStore, Transaction};
 use std::alloc::Global;
 use std::process::Abort;
 use std::test::Fail;
-use terms::{BranchId, CopyId, Fault, HoldId, Owner, PatronId, TransitRow};
+use terms::{
+    BranchId, CopyId, CopyRow, Fault, HoldId, HoldRow, LineRow, LoanRow, Owner, PatronId,
+    PatronRow, TitleRow, TransitRow,
+};
 
 /// Rows of the tables that are asked, the greatest key first. Of the loans of copy 10 one is over, and two are open; of title 100's line
 /// the first hold's copy travels.
@@ -109,16 +112,26 @@ fn finds_pages<S: Alter>(
     conn: &mut Connection<S>,
     alloc: Global,
 ) -> Result<(), Fail> {
-    lists(rt, next_patrons(conn, alloc, None)?, &[1, 2, 3]);
-    lists(rt, next_patrons(conn, alloc, Some(1))?, &[2, 3]);
-    lists(rt, next_titles(conn, alloc, Some(100))?, &[101, 102]);
-    lists(rt, next_copies(conn, alloc, Some(13))?, &[14, 15]);
-    lists(rt, next_loans(conn, alloc, Some(7))?, &[8, 9]);
-    lists(rt, next_holds(conn, alloc, Some(9))?, &[10, 11]);
-    lists(rt, next_transits(conn, alloc, Some(17))?, &[18, 19]);
-    lists(rt, next_lines(conn, alloc, Some(4))?, &[5, 6]);
-    lists(rt, next_lines(conn, alloc, Some(6))?, &[]);
-    lists(rt, next_lines(conn, alloc, Some(u32::MAX))?, &[]);
+    let all = next_rows::<PatronRow, S>(conn, alloc, alloc, None)?;
+    lists(rt, all, &[1, 2, 3]);
+    let patrons = next_rows::<PatronRow, S>(conn, alloc, alloc, Some(1))?;
+    lists(rt, patrons, &[2, 3]);
+    let titles = next_rows::<TitleRow, S>(conn, alloc, alloc, Some(100))?;
+    lists(rt, titles, &[101, 102]);
+    let copies = next_rows::<CopyRow, S>(conn, alloc, (), Some(13))?;
+    lists(rt, copies, &[14, 15]);
+    let loans = next_rows::<LoanRow, S>(conn, alloc, (), Some(7))?;
+    lists(rt, loans, &[8, 9]);
+    let holds = next_rows::<HoldRow, S>(conn, alloc, (), Some(9))?;
+    lists(rt, holds, &[10, 11]);
+    let transits = next_rows::<TransitRow, S>(conn, alloc, (), Some(17))?;
+    lists(rt, transits, &[18, 19]);
+    let lines = next_rows::<LineRow, S>(conn, alloc, (), Some(4))?;
+    lists(rt, lines, &[5, 6]);
+    let none = next_rows::<LineRow, S>(conn, alloc, (), Some(6))?;
+    lists(rt, none, &[]);
+    let past = next_rows::<LineRow, S>(conn, alloc, (), Some(u32::MAX))?;
+    lists(rt, past, &[]);
     Ok(())
 }
 

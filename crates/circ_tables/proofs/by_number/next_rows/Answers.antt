@@ -4,4 +4,4 @@ use Rattle.circ_tables.proofs.NumberedLemmas.{lists_page}
 use Rattle.circ_tables.proofs.by_number.next_rows.Goals as goal
 
 pub returns : goal.returns
-returns g c = lists_page g.T.Table.table g.T.Numbered.number_of g.T.Numbered.back g.T.Numbered.with_rows g.met.T.Numbered.sound (least_after c.args.after) _ _ _ _ _ (rw (c.texts.ensures.page, c.params-to_sql.ensures, least_back c.least_after.result c.args.after c.least_after.ensures.least c.least_after.ensures.range) at c.rows_of.ensures)
+returns g c = lists_page g.met.T.Numbered.sound (least_after c.args.after) _ _ _ _ _ (rw (c.texts.ensures.page, c.params-to_sql.ensures, least_back c.least_after.result c.args.after c.least_after.ensures.least c.least_after.ensures.range) at c.rows_of.ensures)

@@ -6,6 +6,6 @@ use Rattle.store.proofs.pages.read_pages.Given as goal
 
 abbrev pub invariant-pages : goal.invariant-pages
 invariant-pages g l = record {
-  seen : Views {A = Unit {0}} (λ P _. AreSoFar (g.R.Numbered.rows P) g.R.Numbered.number_of g.F.Sift.test (unwrap_or l.after 0) l._page l.kept.items) g.S.Store l.fn.conn l.conn (Ok tt);
+  seen : Views {A = Unit {0}} (λ P _. AreSoFar (g.R.Table.table.rows P) g.R.Numbered.number_of g.F.Sift.test (unwrap_or l.after 0) l._page l.kept.items) g.S.Store l.fn.conn l.conn (Ok tt);
   low : unwrap_or l.after 0 < 2 ^ 32;
 }

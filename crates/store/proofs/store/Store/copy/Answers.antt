@@ -1,7 +1,7 @@
-use Rattle.circ_tables.specs.Reading.{copies}
+use Rattle.circ_tables.specs.Copies.{copies}
 use Rattle.store.proofs.ReadLemmas.{looked_row}
 use Rattle.store.proofs.store.Store.copy.Goals as goal
 
 pub returns : goal.returns
 returns g c =
-    looked_row copies c.args.copy g.S.Store (λ P legal r there. (legal.copies c.args.copy r there).1) _ _ _ (rw c.self.view_is at (c.is_autocommit-is_idle.ensures.settled (search))) (rw c.self.view_is at c.get_copy.ensures)
+    looked_row copies c.args.copy g.S.Store (λ P legal r there. (legal.copies c.args.copy r there).1) _ _ _ (rw c.self.view_is at (c.is_autocommit-is_idle.ensures.settled (search))) (rw c.self.view_is at c.get_row.ensures)
