@@ -9,8 +9,8 @@ use Rattle.desk.specs.Running.{HandledAll}
 
 module _ {S : Type 0} (g : Ghosts S) where
   -- One request more.
-  pub handled-last : (rs : List Request) (as : List Reply) (r : Request) (a : Reply) (old mid new : Held S) → HandledAll g rs as old mid → Handled r g mid new (Ok a)
-      → HandledAll g (rs ++ r ∷ []) (as ++ a ∷ []) old new
+  pub handled-last : (rs : List Request) (told : List Reply) (r : Request) (a : Reply) (old mid new : Held S) → HandledAll g rs told old mid → Handled r g mid new (Ok a)
+      → HandledAll g (rs ++ r ∷ []) (told ++ a ∷ []) old new
   handled-last [] [] r a old mid new done last = (new, subst (λ was. Handled r g was new (Ok a)) done last, refl)
   handled-last [] (b ∷ bs) r a old mid new done last = absurd done
   handled-last (q ∷ qs) [] r a old mid new done last = absurd done

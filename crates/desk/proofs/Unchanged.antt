@@ -33,20 +33,20 @@ pub as-left : (old new : State) → new.now ≡ old.now → Leaves new (λ db. d
 as-left old new now leaves = record { now = now; left = λ trees may. let one = leaves trees may in inr (one.2 ∙ ap (λ (db : Database). db.trees) one.1) }
 
 tables-as : (a b : State) → IsAsItWas a b → HasTables a.now → HasTables b.now
-tables-as a b as tables = subst HasTables (sym as.now) tables
+tables-as a b same tables = subst HasTables (sym same.now) tables
 
 -- The tables of a picture are there.
 pub tables-of : (s : State) (P : Picture) → HasPicture s.now P → HasTables s.now
 tables-of s P shown = (shown.maps, shown.holds)
 
 keeps-as : (a b : State) (P : Picture) → IsAsItWas a b → KeepsPicture a P → KeepsPicture b P
-keeps-as a b P as keeps = record {
-  now = subst (λ db. HasPicture db P) (sym as.now) keeps.now;
-  left = λ trees may. elim (as.left trees may) [ inl was ↦ keeps.left trees was | inr is ↦ (a.now, keeps.now, is) ];
+keeps-as a b P same keeps = record {
+  now = subst (λ db. HasPicture db P) (sym same.now) keeps.now;
+  left = λ trees may. elim (same.left trees may) [ inl was ↦ keeps.left trees was | inr is ↦ (a.now, keeps.now, is) ];
 }
 
 pub stays-as : (a b : State) → IsAsItWas a b → Stays a b
-stays-as a b as H shows = record { legal = shows.legal; forms = shows.forms; tables = keeps-as a b (picture H) as shows.tables }
+stays-as a b same H shows = record { legal = shows.legal; forms = shows.forms; tables = keeps-as a b (picture H) same shows.tables }
 
 -- ---- calls that change nothing
 
@@ -86,8 +86,8 @@ module _ {S : Type 0} (g : Ghosts S) where
   -- A request that changed nothing.
   pub any-nothing : (a b : Held S) (r : Result Reply Fault) → ChangesNothing (state g a) (state g b) r → HandlesAny g a b r
   any-nothing a b r nothing = record {
-    tables = λ disk tables. on-ok r (λ as. tables-as (state g a) (state g b) as tables) (nothing.answered disk tables);
-    refused = λ disk tables. if-ok-any r (λ as reply refusal is. as) (nothing.answered disk tables);
+    tables = λ disk tables. on-ok r (λ same. tables-as (state g a) (state g b) same tables) (nothing.answered disk tables);
+    refused = λ disk tables. if-ok-any r (λ same reply refusal is. same) (nothing.answered disk tables);
     failed = nothing.failed;
   }
 
@@ -105,8 +105,8 @@ module _ {S : Type 0} (g : Ghosts S) where
   }
     where
       refused-then : {P Q : Type 0} (q : Result Reply Fault) → (P → Q) → IfOk q (λ reply. (refusal : Refusal) → reply ≡ Refused refusal → P) → IfOk q (λ reply. (refusal : Refusal) → reply ≡ Refused refusal → Q)
-      refused-then (Ok reply) f as = λ refusal is. f (as refusal is)
-      refused-then (Err fault) f as = tt
+      refused-then (Ok reply) f same = λ refusal is. f (same refusal is)
+      refused-then (Err fault) f same = tt
 
   -- A fault of a call before it is the fault of the request.
   pub any-fault : {T : Type 0} (a b : Held S) (fault : Fault) (r : Result Reply Fault) → IsErr r × IsErrAnd r (λ e. e ≡ fault) → ChangesNothing {T = T} {E = Fault} (state g a) (state g b) (Err fault)
@@ -116,8 +116,8 @@ module _ {S : Type 0} (g : Ghosts S) where
 
   -- A fault after which nothing is changed.
   pub any-failed : (a b : Held S) (fault : Fault) (r : Result Reply Fault) → IsErr r × IsErrAnd r (λ e. e ≡ fault) → (IsClean g b → IsOpen g b → IsAsItWas (state g a) (state g b)) → HandlesAny g a b r
-  any-failed a b fault (Ok reply) is as = let never : ⊥ = cc (is.0) in absurd never
-  any-failed a b fault (Err e) is as = record { tables = λ disk tables. tt; refused = λ disk tables. tt; failed = λ disk is_open tables. as disk is_open }
+  any-failed a b fault (Ok reply) is same = let never : ⊥ = cc (is.0) in absurd never
+  any-failed a b fault (Err e) is same = record { tables = λ disk tables. tt; refused = λ disk tables. tt; failed = λ disk is_open tables. same disk is_open }
 
   -- After a fault a history is shown still.
   pub any-undone : (a b : Held S) (r : Result Reply Fault) → HandlesAny g a b r → IsClean g b → IsOpen g b → OnErr r (Stays (state g a) (state g b))

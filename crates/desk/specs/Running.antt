@@ -65,9 +65,9 @@ pub record ShowsPage {S : Type 0} (patron : ℕ) (card_key : List ℕ)
 -- The requests were handled one after another, and these were their replies.
 abbrev pub HandledAll : {S : Type 0} → Ghosts S → List Request → List Reply → Held S → Held S → Type 0
 HandledAll g [] [] old new = new ≡ old
-HandledAll {S} g (r ∷ rs) (a ∷ as) old new =
-    (mid : Held S) × Handled r g old mid (Ok a) × HandledAll g rs as mid new
-HandledAll g [] (a ∷ as) old new = ⊥
+HandledAll {S} g (r ∷ rs) (a ∷ more) old new =
+    (mid : Held S) × Handled r g old mid (Ok a) × HandledAll g rs more mid new
+HandledAll g [] (a ∷ more) old new = ⊥
 HandledAll g (r ∷ rs) [] old new = ⊥
 
 -- The requests before the one that met a fault stand, and that one changed nothing, whatever rows the
