@@ -29,7 +29,7 @@ function tell(text, isWrong = false) {
 
 const needsPatron = () => ["check-out", "pay", "place-hold"].includes(mode());
 
-function ask() {
+function ask(isFocused = true) {
   const asked = {
     "check-in": TEXTS.askCopyIn,
     "renew": TEXTS.askLoan,
@@ -38,7 +38,7 @@ function ask() {
     "place-hold": TEXTS.askTitle,
   }[mode()];
   it("asked").textContent = needsPatron() && patron === null ? TEXTS.askPatron : say(asked, { patron });
-  it("scan").focus();
+  if (isFocused) it("scan").focus();
 }
 
 function nobody() {
@@ -161,7 +161,13 @@ it("words").addEventListener("input", () => {
   it("parts").textContent = name ? say(TEXTS.wordsFollow, { name, parts: COMMANDS[name].join(" ").toUpperCase() }) : "";
 });
 
-it("modes").addEventListener("change", nobody);
+// By the arrows one goes on among the modes; a click or Enter leads to the line.
+it("modes").addEventListener("change", () => {
+  patron = null;
+  ask(false);
+});
+it("modes").addEventListener("click", (event) => event.detail > 0 && it("scan").focus());
+it("modes").addEventListener("keydown", (event) => event.key === "Enter" && it("scan").focus());
 it("again").addEventListener("click", () => failed && finish(failed));
 it("print").addEventListener("click", () => window.print());
 

@@ -19,6 +19,7 @@ import time
 from importlib.machinery import SourceFileLoader
 
 from selenium import webdriver
+from selenium.webdriver.chrome.service import Service
 from selenium.webdriver.common.action_chains import ActionChains
 from selenium.webdriver.common.by import By
 from selenium.webdriver.common.keys import Keys
@@ -104,7 +105,7 @@ def browser():
     for it in ("--headless=new", "--no-sandbox", "--disable-gpu", "--ignore-certificate-errors", "--window-size=900,1000"):
         options.add_argument(it)
     options.set_capability("goog:loggingPrefs", {"browser": "ALL"})
-    return webdriver.Chrome(service=webdriver.ChromeService("/usr/bin/chromedriver"), options=options)
+    return webdriver.Chrome(service=Service("/usr/bin/chromedriver"), options=options)
 
 
 class Page:
@@ -148,23 +149,25 @@ class Desk(Page):
         self.it("branch").send_keys(Keys.ENTER)
         until("the desk is open", lambda: self.it("desk").is_displayed())
 
-    def answer(self, before):
-        """What is told once the answer came, which is noted below too."""
-        until("an answer", lambda: self.it("last").get_attribute("childElementCount") != before or not self.told().startswith(("Sending", "Not known")))
-        return self.told()
+    def mark(self):
+        """Marks what was noted last, so that the next note is told from it."""
+        self.driver.execute_script("const it = document.getElementById('last').firstElementChild; if (it) it.dataset.seen = 'yes'")
+
+    def is_noted(self):
+        return self.driver.execute_script("const it = document.getElementById('last').firstElementChild; return Boolean(it && !it.dataset.seen)")
 
     def words(self, line):
-        before = self.driver.execute_script("return document.getElementById('last').firstElementChild?.textContent")
+        self.mark()
         self.type("words", line)
         self.it("words").send_keys(Keys.ENTER)
-        until(line, lambda: self.driver.execute_script("return document.getElementById('last').firstElementChild?.textContent") != before or self.told().startswith("These are not"))
+        until(line, lambda: self.is_noted() or self.told().startswith("These are not"))
         return self.told()
 
     def scan(self, text):
-        before = self.driver.execute_script("return document.getElementById('last').firstElementChild?.textContent")
+        self.mark()
         self.driver.switch_to.active_element.send_keys(text, Keys.ENTER)
         if text:
-            until(text, lambda: self.driver.execute_script("return document.getElementById('last').firstElementChild?.textContent") != before)
+            until(text, self.is_noted)
         return self.told()
 
     def mode(self, value):
@@ -308,7 +311,7 @@ def look(driver, name):
 
 def header(base):
     told = outside.run("curl", "-s", "-k", "-D", "-", "-o", os.devnull, f"{base}/pages/desk.js").stdout.lower()
-    need("what a page may load", "content-security-policy: default-src 'self'\r\n" in told, True)
+    need("what a page may load", "content-security-policy: default-src 'self'\n" in told, True)
     need("a module's type", "javascript" in told, True)
     begin = outside.run("curl", "-s", "-k", "-o", os.devnull, "-w", "%{http_code} %{redirect_url}", f"{base}/").stdout
     need("the first page", begin.startswith("302 ") and begin.endswith("/pages/patron.html"), True)
