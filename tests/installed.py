@@ -10,7 +10,8 @@ import sys
 import tempfile
 
 TOP = os.path.dirname(os.path.dirname(os.path.abspath(__file__)))
-FILES = ["bin/circ", "share/man/man1/circ.1", "share/bash-completion/completions/circ"]
+FILES = ["bin/circ", "share/man/man1/circ.1", "share/bash-completion/completions/circ",
+         *(f"share/circ/pages/{name}" for name in sorted(os.listdir(os.path.join(TOP, "pages"))))]
 
 
 def run(*words, **more):

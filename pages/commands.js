@@ -1,0 +1,61 @@
+// The commands of the desk with the names of their parts, as the program has them: tests/pages.py compares them.
+
+export const COMMANDS = {
+  "begin-day": ["day"],
+  "branch": ["branch", "pickup", "name"],
+  "week": ["branch", "mask"],
+  "close-day": ["branch", "day"],
+  "open-day": ["branch", "day"],
+  "kind": ["kind", "loans", "holds", "debt"],
+  "rule": ["kind", "copy-kind", "period", "renewals", "rate", "cap"],
+  "patron": ["patron", "kind", "card-key", "name"],
+  "acquire": ["copy", "title", "kind", "home", "price", "text"],
+  "check-out": ["patron", "copy", "branch"],
+  "check-in": ["copy", "branch"],
+  "renew": ["loan"],
+  "place-hold": ["patron", "title", "branch"],
+  "cancel-hold": ["hold"],
+  "unshelve": ["hold"],
+  "unshelve-cancelled": ["hold"],
+  "missing": ["copy"],
+  "withdraw": ["copy"],
+  "pay": ["patron", "amount"],
+  "waive": ["patron", "amount"],
+  "page": ["patron"],
+};
+
+// The words of a line: parted by blanks, and what stands in quotes of one kind is one word. Null where a quote isn't closed.
+export function wordsOf(line) {
+  const words = [];
+  const form = /\s*(?:'([^']*)'|"([^"]*)"|([^\s'"]+))(?=\s|$)/y;
+  let at = 0;
+  while (at < line.length) {
+    form.lastIndex = at;
+    const found = form.exec(line);
+    if (!found) return line.slice(at).trim() === "" ? words : null;
+    words.push(found[1] ?? found[2] ?? found[3]);
+    at = form.lastIndex;
+  }
+  return words;
+}
+
+// Whether the words are a command's name and as many words as it has parts.
+export function isCommand(words) {
+  return words !== null && words.length > 0 && Object.hasOwn(COMMANDS, words[0]) && words.length === COMMANDS[words[0]].length + 1;
+}
+
+// The command whose name begins the line, for a hint.
+export function commandBegun(line) {
+  const name = line.trimStart().split(/\s/, 1)[0];
+  return Object.hasOwn(COMMANDS, name) ? name : null;
+}
+
+export function isNumber(text) {
+  return /^(0|[1-9][0-9]{0,9})$/.test(text) && Number(text) <= 4_294_967_295;
+}
+
+// Cents of an amount such as 2.50, 2,50 or 2; null where it is none.
+export function centsOf(text) {
+  const found = /^(0|[1-9][0-9]{0,8})(?:[.,]([0-9]{2}))?$/.exec(text);
+  return found ? Number(found[1]) * 100 + Number(found[2] ?? 0) : null;
+}

@@ -1,0 +1,93 @@
+// What the desk answers, read from its lines. tests/pages.mjs tries every form.
+
+const NUMBER = "(0|[1-9][0-9]{0,15})";
+const DAY = "([0-9]{4}-[0-9]{2}-[0-9]{2})";
+
+const PLACES = [
+  [`shelf ${NUMBER}`, ([branch]) => ({ to: "shelf", branch: Number(branch) })],
+  [`ready ${NUMBER} at ${NUMBER} until ${DAY}`, ([hold, branch, until]) => ({ to: "hold shelf", hold: Number(hold), branch: Number(branch), until })],
+  [`transit ${NUMBER} for ${NUMBER}`, ([branch, hold]) => ({ to: "branch", branch: Number(branch), hold: Number(hold) })],
+  [`transit ${NUMBER}`, ([branch]) => ({ to: "branch", branch: Number(branch), hold: null })],
+];
+
+// The first of these forms that the whole text has.
+function firstOf(forms, text) {
+  for (const [form, made] of forms) {
+    const found = new RegExp(`^${form}$`).exec(text);
+    if (found) return made(found.slice(1));
+  }
+  return null;
+}
+
+export function readPlace(text) {
+  return firstOf(PLACES, text);
+}
+
+const REPLIES = [
+  ["ok", () => ({ kind: "done" })],
+  [`loan ${NUMBER} due ${DAY}`, ([loan, due]) => ({ kind: "lent", loan: Number(loan), due })],
+  [`hold ${NUMBER}`, ([hold]) => ({ kind: "held", hold: Number(hold) })],
+  [`fine ${NUMBER} price ${NUMBER}`, ([fine, price]) => ({ kind: "lost", fine: Number(fine), price: Number(price) })],
+  [`fine ${NUMBER} (.+)`, ([fine, place]) => ({ kind: "checked in", fine: Number(fine), place: readPlace(place) })],
+  [`owed ${NUMBER}`, ([owed]) => ({ kind: "owed", owed: Number(owed) })],
+];
+
+const LINES = [
+  [`loan ${NUMBER} due ${DAY} renewals ${NUMBER} title ${NUMBER} (.+)`,
+    ([loan, due, renewals, title, text]) => ({ line: "loan", loan: Number(loan), due, renewals: Number(renewals), title: Number(title), text })],
+  [`hold ${NUMBER} at ${NUMBER} waiting title ${NUMBER} (.+)`,
+    ([hold, branch, title, text]) => ({ line: "hold", hold: Number(hold), branch: Number(branch), state: "waiting", from: null, title: Number(title), text })],
+  [`hold ${NUMBER} at ${NUMBER} waiting from ${DAY} title ${NUMBER} (.+)`,
+    ([hold, branch, from, title, text]) => ({ line: "hold", hold: Number(hold), branch: Number(branch), state: "waiting", from, title: Number(title), text })],
+  [`hold ${NUMBER} at ${NUMBER} ready title ${NUMBER} (.+)`,
+    ([hold, branch, title, text]) => ({ line: "hold", hold: Number(hold), branch: Number(branch), state: "ready", from: null, title: Number(title), text })],
+];
+
+// A patron's page, or null where the text is none.
+export function readPage(text) {
+  const [first, ...rest] = text.split("\n");
+  const patron = new RegExp(`^patron ${NUMBER} owed ${NUMBER} name (.+)$`).exec(first);
+  const lines = rest.map((line) => firstOf(LINES, line));
+  if (!patron || lines.includes(null)) return null;
+  return {
+    kind: "page",
+    patron: Number(patron[1]),
+    owed: Number(patron[2]),
+    name: patron[3],
+    loans: lines.filter((it) => it.line === "loan"),
+    holds: lines.filter((it) => it.line === "hold"),
+  };
+}
+
+// The text of a reply, or null where it has no form of one.
+export function readReply(text) {
+  const place = readPlace(text);
+  if (place) return { kind: "moved", place };
+  const reply = firstOf(REPLIES, text);
+  if (reply && reply.kind === "checked in" && !reply.place) return null;
+  return reply || readPage(text);
+}
+
+// A whole answer by its status and body: a reply, a refusal, a fault or a status of the web; null where it is none of the desk's.
+export function readAnswer(status, body) {
+  let told;
+  try {
+    told = JSON.parse(body);
+  } catch {
+    return null;
+  }
+  if (told === null || typeof told !== "object") return null;
+  if (status === 200 && typeof told.reply === "string") {
+    const reply = readReply(told.reply);
+    return reply && { reply, text: told.reply };
+  }
+  if ((status === 403 || status === 409) && Number.isInteger(told.refusal)) return { refusal: told.refusal };
+  if (status === 503 && Number.isInteger(told.fault)) return { fault: told.fault };
+  if ([400, 404, 405, 413].includes(status) && told.status === status) return { status };
+  return null;
+}
+
+// The days from one day to another, each written as 2026-03-09.
+export function daysBetween(from, to) {
+  return Math.round((Date.parse(`${to}T00:00:00Z`) - Date.parse(`${from}T00:00:00Z`)) / 86_400_000);
+}

@@ -1,0 +1,148 @@
+// Every text that the pages show, so that a town can have them in its own language. {braces} are filled in.
+// The meanings of the numbers are those that the program says: tests/pages.py compares them.
+
+export const MEANINGS = {
+  10: "unknown branch",
+  11: "unknown patron",
+  12: "unknown title",
+  13: "unknown copy",
+  14: "unknown loan",
+  15: "unknown hold",
+  16: "no circulation rule for the kind of the patron and that of the copy",
+  17: "unknown kind of patron",
+  20: "there already, with other content",
+  21: "a number is out of its limits, or 400 days are closed singly",
+  22: "all seven weekdays would be closed",
+  23: "the day is not after today, or out of range",
+  24: "the day is closed singly already",
+  25: "the day is not closed singly",
+  30: "the copy is at another branch",
+  31: "the copy is on loan",
+  32: "the copy is in transit",
+  33: "the copy is on the hold shelf",
+  34: "the copy is missing",
+  35: "the copy is withdrawn",
+  36: "another patron stands in line",
+  37: "the patron has as many loans as the kind may have",
+  38: "the patron owes more than the kind may owe",
+  39: "no open day is left in the calendar",
+  40: "the loan has ended",
+  41: "the loan is overdue",
+  42: "no renewals are left",
+  50: "the patron has an active hold of the title",
+  51: "the patron has as many holds as the kind may have",
+  52: "the patron has the title on loan",
+  53: "the hold is not in the state that is needed",
+  54: "the limit of the hold has not passed",
+  60: "the amount is zero or above what is owed",
+  70: "the numbers of loans, holds or lines are used up",
+  80: "the key was used for another request",
+  81: "wrong key, or not allowed to this caller",
+  90: "no memory was left",
+  91: "the database refused a call: another process has the file, it can't be written, or the disk is full",
+  92: "the desk is closed",
+  93: "no library: the file is absent, empty, of another kind or schema, or has a damaged row",
+};
+
+// The language of these texts, as HTML names it.
+export const LANGUAGE = "en";
+
+export const TEXTS = {
+  patronTitle: "My library card",
+  cardNumber: "Card number",
+  cardKey: "Card key",
+  showPage: "Show my page",
+  onLoan: "On loan",
+  onHold: "Holds",
+  placeHold: "Place a hold",
+  titleNumber: "Number of the title",
+  pickUpBranch: "Branch where I pick it up",
+  placeTheHold: "Place the hold",
+  signOut: "Sign out",
+
+  deskTitle: "Circulation desk",
+  deskKey: "Desk's key",
+  branch: "Branch",
+  openDesk: "Open the desk",
+  modes: "What is scanned",
+  checkOut: "Check-out",
+  checkIn: "Check-in",
+  pay: "Pay",
+  hold: "Hold",
+  enter: "Enter",
+  anyWords: "Any words",
+  sendWords: "Send",
+  receipt: "Receipt",
+  lastTwenty: "The last twenty",
+  printReceipt: "Print the receipt",
+  closeDesk: "Close the desk",
+
+  refused: "Refused ({number}): {meaning}.",
+  faulted: "The desk met a fault ({number}): {meaning}. Send it again later: it acts once.",
+  notTaken: "The desk did not take this (status {number}).",
+  unknown: "Not known yet: no answer came. It is sent again under the same key, and acts once.",
+  sending: "Sending …",
+  sendAgain: "Send again",
+  signedOut: "Signed out. This tab knows no key any more.",
+  wrongForm: "This is not as it has to be: {what}.",
+  numberForm: "a number from 0 to 4294967295, without leading zeros",
+  cardKeyForm: "8 to 32 letters and digits",
+  amountForm: "an amount such as 2.50",
+
+  done: "Done.",
+  lent: "Loan {loan}, due on {due}.",
+  heldNow: "Hold {hold} is placed.",
+  owedNow: "Still owed: {owed}.",
+  fine: "Fine: {fine}.",
+  noFine: "No fine.",
+  lost: "Fine {fine}, price {price}.",
+  toShelf: "To the shelf, branch {branch}.",
+  toHoldShelf: "Ready for hold {hold} at branch {branch} until {until}.",
+  toBranch: "In transit to branch {branch}.",
+  toBranchFor: "In transit to branch {branch}, for hold {hold}.",
+  pageOf: "Patron {patron}, {name}: {loans} on loan, {holds} on hold, owes {owed}.",
+
+  noLoans: "Nothing on loan.",
+  noHolds: "No holds.",
+  owesNothing: "Nothing is owed.",
+  owes: "Owed: {owed}.",
+  daysLeft: "{days} days left",
+  oneDayLeft: "1 day left",
+  dueToday: "due today",
+  late: "late since {due}",
+  renewalsLeft: "{renewals} renewals left",
+  oneRenewalLeft: "1 renewal left",
+  noRenewalLeft: "no renewal left",
+  renew: "Renew",
+  renewOf: "Renew {text}",
+  cancel: "Cancel",
+  cancelOf: "Cancel the hold on {text}",
+  waiting: "waiting, to be picked up at branch {branch}",
+  waitingFrom: "waiting from {from}, to be picked up at branch {branch}",
+  ready: "ready at branch {branch}",
+
+  askPatron: "Scan or type the patron's number.",
+  askCopy: "Patron {patron}: scan a copy. An empty line begins the next patron.",
+  askCopyIn: "Scan a copy that comes in.",
+  askLoan: "Type the number of the loan.",
+  askAmount: "Patron {patron}: type the amount that is paid, such as 2.50.",
+  askTitle: "Patron {patron}: type the number of the title.",
+  noSuchWords: "These are not the words of a command: {words}.",
+  wordsFollow: "{name} {parts}",
+};
+
+// A text with its braces filled in.
+export function say(text, values = {}) {
+  return text.replace(/\{(\w+)\}/g, (_, name) => String(values[name]));
+}
+
+// Puts the texts that the page names into their places.
+export function fillIn(page = document) {
+  page.documentElement.lang = LANGUAGE;
+  for (const place of page.querySelectorAll("[data-text]")) place.textContent = TEXTS[place.dataset.text];
+}
+
+// Cents as an amount.
+export function amount(cents) {
+  return `${Math.floor(cents / 100)}.${String(cents % 100).padStart(2, "0")}`;
+}

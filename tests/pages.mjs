@@ -1,0 +1,116 @@
+// The modules of the pages that read replies and words, on every form: run by tests/pages.py.
+import { deepStrictEqual as same } from "node:assert";
+import { readAnswer, readReply, readPage, daysBetween } from "../pages/replies.js";
+import { centsOf, isCommand, isNumber, wordsOf } from "../pages/commands.js";
+import { Door, newKey } from "../pages/asking.js";
+import { TEXTS, amount, say } from "../pages/texts.js";
+
+let tried = 0;
+function is(one, other) {
+  same(one, other);
+  tried += 1;
+}
+
+// ---- each form of a reply
+is(readReply("ok"), { kind: "done" });
+is(readReply("loan 1 due 2026-03-09"), { kind: "lent", loan: 1, due: "2026-03-09" });
+is(readReply("hold 7"), { kind: "held", hold: 7 });
+is(readReply("owed 0"), { kind: "owed", owed: 0 });
+is(readReply("owed 4503599627370495"), { kind: "owed", owed: 4503599627370495 });
+is(readReply("fine 100 price 1200"), { kind: "lost", fine: 100, price: 1200 });
+const places = [
+  ["shelf 2", { to: "shelf", branch: 2 }],
+  ["ready 1 at 2 until 2026-03-05", { to: "hold shelf", hold: 1, branch: 2, until: "2026-03-05" }],
+  ["transit 2 for 9", { to: "branch", branch: 2, hold: 9 }],
+  ["transit 2", { to: "branch", branch: 2, hold: null }],
+];
+for (const [text, place] of places) {
+  is(readReply(text), { kind: "moved", place });
+  is(readReply(`fine 0 ${text}`), { kind: "checked in", fine: 0, place });
+}
+
+// ---- pages, of which each line is one of five
+const page = [
+  "patron 2 owed 40 name Bo Carr",
+  "loan 1 due 2026-03-09 renewals 0 title 100 Rivers of the North",
+  "hold 1 at 1 waiting title 200 Salt Roads",
+  "hold 2 at 2 waiting from 2026-04-01 title 300 due 2026-03-09 renewals 1 title 5",
+  "hold 3 at 2 ready title 400 Winter Bees",
+];
+is(readReply(page.join("\n")), {
+  kind: "page",
+  patron: 2,
+  owed: 40,
+  name: "Bo Carr",
+  loans: [{ line: "loan", loan: 1, due: "2026-03-09", renewals: 0, title: 100, text: "Rivers of the North" }],
+  holds: [
+    { line: "hold", hold: 1, branch: 1, state: "waiting", from: null, title: 200, text: "Salt Roads" },
+    { line: "hold", hold: 2, branch: 2, state: "waiting", from: "2026-04-01", title: 300, text: "due 2026-03-09 renewals 1 title 5" },
+    { line: "hold", hold: 3, branch: 2, state: "ready", from: null, title: 400, text: "Winter Bees" },
+  ],
+});
+is(readPage("patron 1 owed 0 name Ann Bell").loans, []);
+// a title may have a form of a line in it
+is(readPage("patron 1 owed 0 name X\nhold 1 at 1 waiting title 2 from 2026-01-01 title 3 Y").holds[0].text, "from 2026-01-01 title 3 Y");
+
+// ---- what is none
+for (const text of ["", "okay", "ok\n", "loan 01 due 2026-03-09", "loan 1 due 2026-3-9", "hold", "fine 0 nowhere 1", "fine 0", "transit 1 for", "page",
+  "patron 1 owed 0 name", "patron 1 owed 0 name A\nloan 1", "patron 1 owed 0 name A\n", "refused 10"]) {
+  is(readReply(text), null);
+}
+
+// ---- whole answers
+is(readAnswer(200, '{"reply":"hold 7"}'), { reply: { kind: "held", hold: 7 }, text: "hold 7" });
+is(readAnswer(403, '{"refusal":81}'), { refusal: 81 });
+is(readAnswer(409, '{"refusal":36}'), { refusal: 36 });
+is(readAnswer(503, '{"fault":92}'), { fault: 92 });
+for (const status of [400, 404, 405, 413]) is(readAnswer(status, `{"status":${status}}`), { status });
+for (const [status, body] of [[200, "ok"], [200, '{"reply":"what"}'], [502, "<html>"], [503, "<html>"], [503, '{"reply":"ok"}'], [200, "null"], [400, '{"status":404}'], [500, '{"fault":91}']]) {
+  is(readAnswer(status, body), null);
+}
+
+// ---- words and amounts
+is(wordsOf("acquire 10 100 1 1 2500 'Rivers of the North'"), ["acquire", "10", "100", "1", "1", "2500", "Rivers of the North"]);
+is(wordsOf('patron 1 1 cardkey00001 "Ann O\'Hara" '), ["patron", "1", "1", "cardkey00001", "Ann O'Hara"]);
+is(wordsOf("patron 1 'Ann"), null);
+is(wordsOf("  "), []);
+is(isCommand(wordsOf("renew 1")), true);
+is(isCommand(wordsOf("renew")), false);
+is(isCommand(wordsOf("renew 1 2")), false);
+is(isCommand(wordsOf("toString 1")), false);
+is(isCommand(null), false);
+is(["0", "1", "4294967295", "4294967296", "01", "-1", "1.0", ""].map(isNumber), [true, true, true, false, false, false, false, false]);
+is(["2", "2.50", "0,05", "12.5", "1.005", ".5", "-1"].map(centsOf), [200, 250, 5, null, null, null, null]);
+is([0, 5, 250, 100000].map(amount), ["0.00", "0.05", "2.50", "1000.00"]);
+is(daysBetween("2026-03-28", "2026-03-30"), 2);
+is(daysBetween("2026-03-09", "2026-03-02"), -7);
+is(say(TEXTS.lent, { loan: 3, due: "2026-03-09" }), "Loan 3, due on 2026-03-09.");
+
+// ---- a request goes out under one key until an answer comes, and a second one waits
+class Kept {
+  constructor() { this.all = new Map(); }
+  getItem(name) { return this.all.get(name) ?? null; }
+  setItem(name, text) { this.all.set(name, text); }
+  removeItem(name) { this.all.delete(name); }
+}
+const sent = [];
+const answers = [null, { status: 502, text: "<html>" }, { status: 200, text: '{"reply":"loan 1 due 2026-03-09"}' }];
+globalThis.fetch = async (path, { headers, body }) => {
+  sent.push([path, headers["Request-Key"], headers["Desk-Key"], body]);
+  const answer = answers[sent.length - 1];
+  if (!answer) throw new TypeError("no network");
+  return { status: answer.status, text: async () => answer.text };
+};
+const kept = new Kept();
+const door = new Door("desk", kept);
+const request = { method: "POST", path: "/desk", keyField: "Desk-Key", keyValue: "deskkey00001", requestKey: newKey(), body: '["renew","1"]' };
+let unknown = 0;
+const first = door.ask(request, () => { unknown += 1; }, [1]);
+is(await door.ask({ ...request, requestKey: newKey() }, () => {}, [1]), null);
+is(door.left(), request);
+is((await first).reply, { kind: "lent", loan: 1, due: "2026-03-09" });
+is(unknown, 2);
+is(sent, Array(3).fill(["/desk", request.requestKey, "deskkey00001", '["renew","1"]']));
+is(door.left(), null);
+is(/^[a-z0-9]{24}$/.test(newKey()) && newKey() !== newKey(), true);
+console.log(`pages: ${tried} tried`);

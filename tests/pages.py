@@ -1,0 +1,83 @@
+#!/usr/bin/env python3
+"""Compares the pages for browsers with the program: the meanings of numbers and the table of commands stand in both, the pages name nothing that
+isn't theirs, and the modules that read replies are run on every form.
+
+    tests/pages.py
+"""
+
+import os
+import re
+import subprocess
+import sys
+
+TOP = os.path.dirname(os.path.dirname(os.path.abspath(__file__)))
+MODULES = 69  # how many comparisons tests/pages.mjs makes
+
+
+def read(path):
+    with open(os.path.join(TOP, path), encoding="utf-8") as file:
+        return file.read()
+
+
+def meanings():
+    """The numbers with their meanings, of the program and of the pages."""
+    program = re.findall(r'number: (\d+),\s*text: "([^"]*)"', read("crates/messages/src/meanings.rt"))
+    page = re.findall(r'^  (\d+): "([^"]*)",$', read("pages/texts.js"), re.MULTILINE)
+    return program, page
+
+
+def commands():
+    """The commands with the names of their parts, of the program and of the pages."""
+    form = read("crates/terms/src/form.rt")
+    parts = dict(re.findall(r'const (\w+): PartForm = PartForm \{\s*name: "([^"]*)"', form))
+    program = [(name, [parts[it] for it in re.findall(r"\w+", inside)]) for name, inside in re.findall(r'name: "([^"]*)",\s*parts: &\[([^]]*)\]', form)]
+    page = [(name, re.findall(r'"([^"]*)"', inside)) for name, inside in re.findall(r'^  "([^"]*)": \[([^]]*)\],$', read("pages/commands.js"), re.MULTILINE)]
+    return program, page
+
+
+def main():
+    wrong, compared = [], 0
+
+    def same(what, one, other):
+        nonlocal compared
+        compared += 1
+        if one != other:
+            wrong.append(f"{what}: {one!r} is not {other!r}")
+
+    program, page = meanings()
+    same("how many meanings there are", len(program) >= 40, True)
+    same("the meanings", page, program)
+    program, page = commands()
+    same("how many commands there are", len(program) >= 21, True)
+    same("the commands", page, program)
+
+    for name in sorted(os.listdir(os.path.join(TOP, "pages"))):
+        text = read(f"pages/{name}")
+        # with the header that the servers before it send, a browser runs and loads nothing else
+        same(f"{name} names another origin", re.findall(r"(?:https?:)?//[a-z][^\s]*\.[a-z]+", text), [])
+        if name.endswith(".html"):
+            same(f"{name} has a script or a style of its own within", re.findall(r"<style|<script(?! type=\"module\" src=)|\son\w+=|\sstyle=", text), [])
+            for file in re.findall(r'(?:src|href)="([^"]*)"', text):
+                same(f"{name} names {file}", os.path.exists(os.path.join(TOP, "pages", file)), True)
+            ids = re.findall(r'\sid="([^"]*)"', text)
+            same(f"{name} has an id twice", len(ids), len(set(ids)))
+            script = read(f"pages/{name[:-5]}.js")
+            same(f"the ids that {name[:-5]}.js names", sorted(set(re.findall(r'\bit\("([^"]*)"\)', script)) - set(ids)), [])
+        if name.endswith(".js"):
+            known = set(re.findall(r"^  (\w+):", read("pages/texts.js"), re.MULTILINE))
+            same(f"the texts that {name} names", sorted(set(re.findall(r"TEXTS\.(\w+)", text)) - known), [])
+    used = set(re.findall(r'TEXTS\.(\w+)|data-text="(\w+)"', "".join(read(f"pages/{name}") for name in ("patron.html", "patron.js", "desk.html", "desk.js"))))
+    used = {name for names in used for name in names if name}
+    texts = set(re.findall(r'^  ([a-zA-Z]\w*): "', read("pages/texts.js"), re.MULTILINE))
+    same("the texts that pages show", sorted(used), sorted(texts))
+
+    done = subprocess.run(["node", os.path.join(TOP, "tests", "pages.mjs")], capture_output=True, text=True, timeout=60, check=False)
+    same("the modules", (done.returncode, done.stdout, done.stderr[-2000:]), (0, f"pages: {MODULES} tried\n", ""))
+    for line in wrong:
+        print(line)
+    print(f"pages: {compared} compared, {MODULES} tried by the modules, {len(wrong)} differ")
+    return 1 if wrong else 0
+
+
+if __name__ == "__main__":
+    sys.exit(main())
