@@ -15,39 +15,36 @@ use Rattle.circ_core.specs.Decided.{Decided}
 use Rattle.circ_core.specs.Deciding.{DecidesOn}
 use Rattle.circ_core.specs.Missing.{lost_reply}
 
-is_refusal : Reply → Bool
+abbrev is_refusal : Reply → Bool
 is_refusal (Refused refusal) = true
 is_refusal _ = false
-
-plain : {checks : List Check} (reply : Reply) {rows : List RowChange} (d : Decision) → is_refusal reply ≡ false → Decided checks reply rows (Ok d) → is_refusal d.reply ≡ false
-plain reply d none is = ap is_refusal is.1.0 ∙ none
 
 lost-plain : (loan : Option LoanRow) (fine price : ℕ) → is_refusal (lost_reply loan fine price) ≡ false
 lost-plain (Some loan) fine price = refl
 lost-plain None fine price = refl
 
 accepted-plain : (v : View) (c : Command) (d : Decision) → DecidesOn v c (Ok d) → is_refusal d.reply ≡ false
-accepted-plain v (BeginDay day) d is = plain _ d refl is
-accepted-plain v (Branch branch pickup name) d is = plain _ d refl is
-accepted-plain v (Week branch week) d is = plain _ d refl is
-accepted-plain v (CloseDay branch day) d is = plain _ d refl is
-accepted-plain v (OpenDay branch day) d is = plain _ d refl is
-accepted-plain v (Kind kind loans holds debt) d is = plain _ d refl is
-accepted-plain v (Rule kind copy_kind period renewals rate cap) d is = plain _ d refl is
-accepted-plain v (Patron patron kind card_key name) d is = plain _ d refl is
-accepted-plain v (Acquire copy title kind home price text) d is = plain _ d refl is
-accepted-plain v (CheckOut patron copy branch) d is = plain _ d refl is
-accepted-plain v (CheckIn copy branch) d is = plain _ d refl is
-accepted-plain v (Renew loan) d is = plain _ d refl is
-accepted-plain v (PlaceHold patron title branch) d is = plain _ d refl is
-accepted-plain v (CancelHold hold) d is = plain _ d refl is
-accepted-plain v (Unshelve hold) d is = plain _ d refl is
-accepted-plain v (UnshelveCancelled hold) d is = plain _ d refl is
-accepted-plain v (Missing copy) d is = plain _ d (lost-plain v.loan _ _) is
-accepted-plain v (Withdraw copy) d is = plain _ d refl is
-accepted-plain v (Pay patron amount) d is = plain _ d refl is
-accepted-plain v (Waive patron amount) d is = plain _ d refl is
-accepted-plain v (Page patron) d is = plain _ d refl is
+accepted-plain v (BeginDay day) d is = ap is_refusal is.1
+accepted-plain v (Branch branch pickup name) d is = ap is_refusal is.1
+accepted-plain v (Week branch week) d is = ap is_refusal is.1
+accepted-plain v (CloseDay branch day) d is = ap is_refusal is.1
+accepted-plain v (OpenDay branch day) d is = ap is_refusal is.1
+accepted-plain v (Kind kind loans holds debt) d is = ap is_refusal is.1
+accepted-plain v (Rule kind copy_kind period renewals rate cap) d is = ap is_refusal is.1
+accepted-plain v (Patron patron kind card_key name) d is = ap is_refusal is.1
+accepted-plain v (Acquire copy title kind home price text) d is = ap is_refusal is.1
+accepted-plain v (CheckOut patron copy branch) d is = ap is_refusal is.1
+accepted-plain v (CheckIn copy branch) d is = ap is_refusal is.1
+accepted-plain v (Renew loan) d is = ap is_refusal is.1
+accepted-plain v (PlaceHold patron title branch) d is = ap is_refusal is.1
+accepted-plain v (CancelHold hold) d is = ap is_refusal is.1
+accepted-plain v (Unshelve hold) d is = ap is_refusal is.1
+accepted-plain v (UnshelveCancelled hold) d is = ap is_refusal is.1
+accepted-plain v (Missing copy) d is = ap is_refusal is.1 ∙ lost-plain v.loan _ _
+accepted-plain v (Withdraw copy) d is = ap is_refusal is.1
+accepted-plain v (Pay patron amount) d is = ap is_refusal is.1
+accepted-plain v (Waive patron amount) d is = ap is_refusal is.1
+accepted-plain v (Page patron) d is = ap is_refusal is.1
 
 pub accepted-unrefused : (v : View) (c : Command) (d : Decision) (refusal : Refusal) → DecidesOn v c (Ok d) → d.reply ≡ Refused refusal → ⊥
 accepted-unrefused v c d refusal is refused =
