@@ -8,6 +8,11 @@ use Rattle.desk.specs.Answering.{Handled}
 use Rattle.desk.specs.Running.{HandledAll}
 
 module _ {S : Type 0} (g : Ghosts S) where
+  -- None was handled.
+  pub handled-none : (told : List Reply) (old : Held S) → told ≡ [] → HandledAll g [] told old old
+  handled-none [] old none = refl
+  handled-none (a ∷ more) old none = let never : ⊥ = cc in never
+
   -- One request more.
   pub handled-last : (rs : List Request) (told : List Reply) (r : Request) (a : Reply) (old mid new : Held S) → HandledAll g rs told old mid → Handled r g mid new (Ok a)
       → HandledAll g (rs ++ r ∷ []) (told ++ a ∷ []) old new

@@ -44,8 +44,9 @@ returns-clause-handled g c = record {
       let known : is_known H r.caller ≡ true = sym (c.in_ok-is_known.ensures.shown first H shows tt) ∙ c.if-not-branch.false in
       let may : may_send (owner_of r.caller) r.command ≡ true = rw c.owner.ensures at (sym c.may_send.ensures ∙ c.if-not-may_send.false) in
       c.respond.ensures.answered.sound disk (known-owner H shows.legal shows.forms r.caller known) stored H (c.in_ok-is_known.ensures.looks.stays first H shows) may;
-  undone = any-undone g.S.Store _ _ c.respond.result (any-after g.S.Store _ _ _ _ c.respond.result c.respond.ensures.answered.clean c.in_ok-is_known.ensures.looks.nothing c.respond.ensures.any);
-  any = any-after g.S.Store _ _ _ _ c.respond.result c.respond.ensures.answered.clean c.in_ok-is_known.ensures.looks.nothing c.respond.ensures.any;
+  undone = any-undone g.S.Store c.args.store.now c.respond.new.store c.respond.result
+      (any-after g.S.Store c.args.store.now c.is_known.new.store c.respond.new.store _ c.respond.result c.respond.ensures.answered.clean c.in_ok-is_known.ensures.looks.nothing c.respond.ensures.any);
+  any = any-after g.S.Store c.args.store.now c.is_known.new.store c.respond.new.store _ c.respond.result c.respond.ensures.answered.clean c.in_ok-is_known.ensures.looks.nothing c.respond.ensures.any;
   left = λ disk H shows.
       let r = c.args.request.now in
       let first = c.respond.ensures.answered.clean disk in
@@ -89,7 +90,7 @@ returns-in-Page-clause-handled g c = record {
   undone = λ disk is_open. on-err c.show.result
       (λ stays H shows. stays H (c.in_ok-is_known.ensures.looks.stays (c.show.ensures.looks.clean disk) H shows))
       (c.show.ensures.looks.undone disk is_open);
-  any = any-nothing g.S.Store _ _ c.show.result
+  any = any-nothing g.S.Store c.args.store.now c.show.new.store c.show.result
       (nothing-then (state g.S.Store c.args.store.now) (state g.S.Store c.is_known.new.store) (state g.S.Store c.show.new.store) _ c.show.result c.show.ensures.looks.clean
       c.in_ok-is_known.ensures.looks.nothing c.show.ensures.looks.nothing);
   left = λ disk H shows.

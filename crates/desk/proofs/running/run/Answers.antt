@@ -10,8 +10,26 @@ use Rattle.model.specs.Picture.{picture}
 use Rattle.desk.specs.Answering.{Shows, LeavesOneOf}
 use Rattle.desk.proofs.Afterwards.{after-last, replies-last}
 use Rattle.desk.proofs.Shown.{shows-headline}
-use Rattle.desk.proofs.Chains.{handled-last}
+use Rattle.desk.proofs.Chains.{handled-last, handled-none}
+use Rattle.desk.proofs.Unchanged.{as-it-was}
 use Rattle.desk.proofs.running.run.Goals as goal
+
+pub returns-in_default : goal.returns-in_default
+returns-in_default g c = record {
+  many = search rules;
+  few = search rules;
+  clean = search rules;
+  ran = search rules;
+  headline = search rules;
+  sound = search rules;
+  stopped = search rules;
+  stands = record {
+    before = 0;
+    mid = c.args.store.now;
+    handled = handled-none g.S.Store _ c.args.store.now (search rules);
+    nothing = λ disk is_open tables. as-it-was (state g.S.Store c.args.store.now);
+  };
+}
 
 pub returns-in-Err : goal.returns-in-Err
 returns-in-Err g c = record {
