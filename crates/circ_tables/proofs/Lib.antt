@@ -1,7 +1,6 @@
-pub mod Statements
 pub mod MakeLemmas
 pub mod RowLemmas
-pub mod KeyedLemmas
+pub mod PairedLemmas
 pub mod NumberLemmas
 pub mod ColumnLemmas
 pub mod FoundLemmas

@@ -34,18 +34,17 @@ use Rattle.sql_maps.proofs.PageLemmas.{page_found}
 use Rattle.sql_maps.proofs.ReadLemmas.{get_row}
 use Rattle.sql_maps.proofs.UniqueLemmas.{or_false, alone_by_rowid}
 use Rattle.sql_maps.proofs.WriteLemmas.{Fixed}
-use Rattle.terms.specs.Limits.{InLimits}
 use Rattle.terms.specs.Pictures.{Picture, put as put_in}
 use Rattle.terms.specs.declared.fault.Fault.{Fault}
 use Rattle.circ_tables.specs.Cells.{number_key}
-use Rattle.circ_tables.specs.Encoding.{Any, AreEncoded, IsEncoded, Draws, Encodes, with_map}
+use Rattle.circ_tables.specs.Encoding.{Any, IsEncoded, Draws, Encodes, with_map}
 use Rattle.circ_tables.specs.Numbered.{IsNumbered, IsNumberTable, by_key, from_key, by_number, put_terms, put_shows}
 use Rattle.circ_tables.specs.Puts.{Runs, PutsRow, TakesRow}
 use Rattle.circ_tables.specs.Reading.{Table, FirstEntry, AllEntries, Gets, Lists}
 use Rattle.circ_tables.specs.Selections.{is_any, is_from}
 use Rattle.circ_tables.specs.Shape.{schema}
 use Rattle.circ_tables.specs.Texts.{names_of, put_text, take_text, get_text, all_text, page_text}
-use Rattle.circ_tables.specs.declared.lists.TheConstants.{PAGE_ROWS}
+use Rattle.circ_tables.specs.declared.by_number.TheConstants.{PAGE_ROWS}
 use Rattle.circ_tables.proofs.EncodingLemmas.{put_encoded, take_encoded, number_same}
 use Rattle.circ_tables.proofs.InverseLemmas.{told}
 use Rattle.circ_tables.proofs.PageLemmas.{there}

@@ -27,11 +27,16 @@ use Rattle.sqlite_rules.specs.Lists.{Has}
 use Rattle.sql_maps.proofs.PageLemmas.{Pages, page_found}
 use Rattle.sql_maps.proofs.OrderLemmas.{page_sorted}
 use Rattle.sql_maps.proofs.Words.{in_order_up_to}
-use Rattle.circ_tables.specs.Shape.{schema, loans, holds, lines, kept}
+use Rattle.circ_tables.specs.Paired.{by_pair}
+use Rattle.circ_tables.specs.Shape.{schema, loans, holds, lines, kept, loans_place, holds_place, lines_place, kept_place}
+use Rattle.circ_tables.specs.Texts.{names_of}
 use Rattle.circ_tables.specs.Selections.{is_ready_after, is_overdue_after, is_line_after, is_after, is_any, is_kept_after}
-use Rattle.circ_tables.specs.declared.lists.TheConstants.{PAGE_ROWS, FIRST_KEPT_TEXT, KEPT_AFTER_TEXT, KEPT_PAST_TEXT, LINES_AFTER_TEXT, OVERDUE_LOANS_AFTER_TEXT, READY_HOLDS_AFTER_TEXT}
-use Rattle.circ_tables.proofs.KeyedLemmas.{loans_names, holds_names, lines_names, kept_names}
-use Rattle.circ_tables.proofs.ListLemmas.{by_pair, pair_tells, pair_below}
+use Rattle.circ_tables.specs.declared.by_number.TheConstants.{PAGE_ROWS}
+use Rattle.circ_tables.specs.declared.holds.TheConstants.{READY_HOLDS_AFTER_TEXT}
+use Rattle.circ_tables.specs.declared.kept.TheConstants.{FIRST_KEPT_TEXT, KEPT_AFTER_TEXT, KEPT_PAST_TEXT}
+use Rattle.circ_tables.specs.declared.lines.TheConstants.{LINES_AFTER_TEXT}
+use Rattle.circ_tables.specs.declared.loans.TheConstants.{OVERDUE_LOANS_AFTER_TEXT}
+use Rattle.circ_tables.proofs.ListLemmas.{pair_tells, pair_below}
 
 -- a row of a page is one of the map
 pub there : (most : ℕ) (m : Map) (good : Row → _) (rows : List Row) → FirstRows most m good rows → (v : Row) → Has rows v → (k : Row) × (m k ≡ Some v)
@@ -48,7 +53,7 @@ ready_text = READY_HOLDS_AFTER_TEXT.now
 abbrev ready_tests : List Term
 ready_tests = op2 (Compare Eq Binary) (col 1 4) (col 0 0) ∷ op2 (Compare Eq Binary) (col 1 5) (lit (Int (pos 1))) ∷ op2 (Compare Gt Binary) (col 1 0) (col 0 1) ∷ []
 
-ready_pages : Pages schema 9 holds ready_tests by_number PAGE_ROWS holds_names ready_text
+ready_pages : Pages schema holds_place holds ready_tests by_number PAGE_ROWS (names_of holds) ready_text
 unfolding understood everything
 ready_pages = record { listed = refl; command = refl; bare = (refl, refl); unlisted = refl; single = λ r. refl; key_cell = λ r. refl; as_cells = λ given l. refl; cut = λ given l. refl }
 
@@ -56,8 +61,8 @@ pub ready_plain : (s : Schema) → s ≡ schema → IsPlain (understood s ready_
 ready_plain s e = subst (λ z. IsPlain (understood z ready_text)) (sym e) ready_pages.bare
 
 pub ready_found : (a b : ℕ) → (old new : State) (rows : List Row) → Shown ready_text (Int (pos a) ∷ Int (pos b) ∷ []) old new rows → (maps : Maps) → Holds schema old.now maps
-    → FirstRows PAGE_ROWS (maps 9) (is_ready_after a b) rows × IsUnchanged old new
-ready_found a b = page_found schema 9 holds ready_tests by_number PAGE_ROWS holds_names ready_text (Int (pos a) ∷ Int (pos b) ∷ []) (is_ready_after a b) (λ r. refl) (λ x y _ _ less. rw less refl) ready_pages
+    → FirstRows PAGE_ROWS (maps holds_place) (is_ready_after a b) rows × IsUnchanged old new
+ready_found a b = page_found schema holds_place holds ready_tests by_number PAGE_ROWS (names_of holds) ready_text (Int (pos a) ∷ Int (pos b) ∷ []) (is_ready_after a b) (λ r. refl) (λ x y _ _ less. rw less refl) ready_pages
 
 -- ---- lines of a day
 
@@ -67,7 +72,7 @@ lines_text = LINES_AFTER_TEXT.now
 abbrev lines_tests : List Term
 lines_tests = op2 (Compare Eq Binary) (col 1 3) (col 0 0) ∷ op2 (Compare Gt Binary) (col 1 0) (col 0 1) ∷ []
 
-lines_pages : Pages schema 11 lines lines_tests by_number PAGE_ROWS lines_names lines_text
+lines_pages : Pages schema lines_place lines lines_tests by_number PAGE_ROWS (names_of lines) lines_text
 unfolding understood everything
 lines_pages = record { listed = refl; command = refl; bare = (refl, refl); unlisted = refl; single = λ r. refl; key_cell = λ r. refl; as_cells = λ given l. refl; cut = λ given l. refl }
 
@@ -75,8 +80,8 @@ pub lines_plain : (s : Schema) → s ≡ schema → IsPlain (understood s lines_
 lines_plain s e = subst (λ z. IsPlain (understood z lines_text)) (sym e) lines_pages.bare
 
 pub lines_found : (a b : ℕ) → (old new : State) (rows : List Row) → Shown lines_text (Int (pos a) ∷ Int (pos b) ∷ []) old new rows → (maps : Maps) → Holds schema old.now maps
-    → FirstRows PAGE_ROWS (maps 11) (is_line_after a b) rows × IsUnchanged old new
-lines_found a b = page_found schema 11 lines lines_tests by_number PAGE_ROWS lines_names lines_text (Int (pos a) ∷ Int (pos b) ∷ []) (is_line_after a b) (λ r. refl) (λ x y _ _ less. rw less refl) lines_pages
+    → FirstRows PAGE_ROWS (maps lines_place) (is_line_after a b) rows × IsUnchanged old new
+lines_found a b = page_found schema lines_place lines lines_tests by_number PAGE_ROWS (names_of lines) lines_text (Int (pos a) ∷ Int (pos b) ∷ []) (is_line_after a b) (λ r. refl) (λ x y _ _ less. rw less refl) lines_pages
 
 -- ---- overdue loans, whose order names `ended` first
 
@@ -89,7 +94,7 @@ overdue_tests = op2 (Compare Eq Binary) (col 1 4) (col 0 0) ∷ op2 (Is Binary) 
 abbrev by_ended : List (Term × Key)
 by_ended = (col 1 11, ascending Binary) ∷ (col 1 0, ascending Binary) ∷ []
 
-overdue_pages : Pages schema 8 loans overdue_tests by_ended PAGE_ROWS loans_names overdue_text
+overdue_pages : Pages schema loans_place loans overdue_tests by_ended PAGE_ROWS (names_of loans) overdue_text
 unfolding understood everything
 overdue_pages = record { listed = refl; command = refl; bare = (refl, refl); unlisted = refl; single = λ r. refl; key_cell = λ r. refl; as_cells = λ given l. refl; cut = λ given l. refl }
 
@@ -114,10 +119,10 @@ no_end : (given : Row) (x : Row) → list_all (passes_test (given ∷ x ∷ []))
 no_end given x pass = absent_is (column x 11) (and_parts _ _ (and_parts _ _ pass).1).0
 
 pub overdue_found : (a b c : ℕ) → (old new : State) (rows : List Row) → Shown overdue_text (Int (pos a) ∷ Int (pos b) ∷ Int (pos c) ∷ []) old new rows → (maps : Maps) → Holds schema old.now maps
-    → FirstRows PAGE_ROWS (maps 8) (is_overdue_after a b c) rows × IsUnchanged old new
+    → FirstRows PAGE_ROWS (maps loans_place) (is_overdue_after a b c) rows × IsUnchanged old new
 overdue_found a b c =
     let given : Row = Int (pos a) ∷ Int (pos b) ∷ Int (pos c) ∷ [] in
-    page_found schema 8 loans overdue_tests by_ended PAGE_ROWS loans_names overdue_text given (is_overdue_after a b c) (λ r. refl)
+    page_found schema loans_place loans overdue_tests by_ended PAGE_ROWS (names_of loans) overdue_text given (is_overdue_after a b c) (λ r. refl)
     (λ x y p q less. rw (no_end given x p, no_end given y q, less, nothing_tied) refl) overdue_pages
 
 -- ---- what is kept, by callers and keys
@@ -132,17 +137,17 @@ first_kept_text = FIRST_KEPT_TEXT.now
 abbrev first_kept_tests : List Term
 first_kept_tests = []
 
-first_kept_is : (command_of (understood schema first_kept_text) ≡ Select (record { lets = []; body = in_order_up_to kept.tree first_kept_tests (each_column 1 kept) by_pair (lit (Int (pos PAGE_ROWS))) }) kept_names) × IsPlain (understood schema first_kept_text) × (reads_listing schema first_kept_text ≡ false)
+first_kept_is : (command_of (understood schema first_kept_text) ≡ Select (record { lets = []; body = in_order_up_to kept.tree first_kept_tests (each_column 1 kept) by_pair (lit (Int (pos PAGE_ROWS))) }) (names_of kept)) × IsPlain (understood schema first_kept_text) × (reads_listing schema first_kept_text ≡ false)
 unfolding understood everything
 first_kept_is = (refl, (refl, refl), refl)
 
 pub first_kept_plain : (s : Schema) → s ≡ schema → IsPlain (understood s first_kept_text)
 first_kept_plain s e = subst (λ z. IsPlain (understood z first_kept_text)) (sym e) first_kept_is.1
 
-pub first_kept_found : (old new : State) (rows : List Row) → Shown first_kept_text ([]) old new rows → (maps : Maps) → Holds schema old.now maps → FirstRowsBy PairBelow PAGE_ROWS (maps 12) is_any rows × IsUnchanged old new
+pub first_kept_found : (old new : State) (rows : List Row) → Shown first_kept_text ([]) old new rows → (maps : Maps) → Holds schema old.now maps → FirstRowsBy PairBelow PAGE_ROWS (maps kept_place) is_any rows × IsUnchanged old new
 first_kept_found =
     page_sorted kept first_kept_tests by_pair ([]) is_any (λ r. refl) (λ r. refl) PairBelow PAGE_ROWS (λ x y p q _ _ tie. pair_tells (column x 1) (column x 2) (column y 1) (column y 2) p q tie)
-    (λ x y less. pair_below (column x 1) (column x 2) (column y 1) (column y 2) less) (λ l. refl) schema 12 kept_names first_kept_text refl first_kept_is.0 first_kept_is.1 first_kept_is.2
+    (λ x y less. pair_below (column x 1) (column x 2) (column y 1) (column y 2) less) (λ l. refl) schema kept_place (names_of kept) first_kept_text refl first_kept_is.0 first_kept_is.1 first_kept_is.2
 
 abbrev kept_after_text : List ℕ
 kept_after_text = KEPT_AFTER_TEXT.now
@@ -150,17 +155,17 @@ kept_after_text = KEPT_AFTER_TEXT.now
 abbrev kept_after_tests : List Term
 kept_after_tests = op2 (Compare Eq Binary) (col 1 1) (col 0 0) ∷ op2 (Compare Gt Binary) (col 1 2) (col 0 1) ∷ []
 
-kept_after_is : (command_of (understood schema kept_after_text) ≡ Select (record { lets = []; body = in_order_up_to kept.tree kept_after_tests (each_column 1 kept) by_pair (lit (Int (pos PAGE_ROWS))) }) kept_names) × IsPlain (understood schema kept_after_text) × (reads_listing schema kept_after_text ≡ false)
+kept_after_is : (command_of (understood schema kept_after_text) ≡ Select (record { lets = []; body = in_order_up_to kept.tree kept_after_tests (each_column 1 kept) by_pair (lit (Int (pos PAGE_ROWS))) }) (names_of kept)) × IsPlain (understood schema kept_after_text) × (reads_listing schema kept_after_text ≡ false)
 unfolding understood everything
 kept_after_is = (refl, (refl, refl), refl)
 
 pub kept_after_plain : (s : Schema) → s ≡ schema → IsPlain (understood s kept_after_text)
 kept_after_plain s e = subst (λ z. IsPlain (understood z kept_after_text)) (sym e) kept_after_is.1
 
-pub kept_after_found : (a : ℕ) (b : List ℕ) → (old new : State) (rows : List Row) → Shown kept_after_text (Int (pos a) ∷ Text b ∷ []) old new rows → (maps : Maps) → Holds schema old.now maps → FirstRowsBy PairBelow PAGE_ROWS (maps 12) (is_kept_after a b) rows × IsUnchanged old new
+pub kept_after_found : (a : ℕ) (b : List ℕ) → (old new : State) (rows : List Row) → Shown kept_after_text (Int (pos a) ∷ Text b ∷ []) old new rows → (maps : Maps) → Holds schema old.now maps → FirstRowsBy PairBelow PAGE_ROWS (maps kept_place) (is_kept_after a b) rows × IsUnchanged old new
 kept_after_found a b =
     page_sorted kept kept_after_tests by_pair (Int (pos a) ∷ Text b ∷ []) (is_kept_after a b) (λ r. refl) (λ r. refl) PairBelow PAGE_ROWS (λ x y p q _ _ tie. pair_tells (column x 1) (column x 2) (column y 1) (column y 2) p q tie)
-    (λ x y less. pair_below (column x 1) (column x 2) (column y 1) (column y 2) less) (λ l. refl) schema 12 kept_names kept_after_text refl kept_after_is.0 kept_after_is.1 kept_after_is.2
+    (λ x y less. pair_below (column x 1) (column x 2) (column y 1) (column y 2) less) (λ l. refl) schema kept_place (names_of kept) kept_after_text refl kept_after_is.0 kept_after_is.1 kept_after_is.2
 
 abbrev kept_past_text : List ℕ
 kept_past_text = KEPT_PAST_TEXT.now
@@ -168,14 +173,14 @@ kept_past_text = KEPT_PAST_TEXT.now
 abbrev kept_past_tests : List Term
 kept_past_tests = op2 (Compare Gt Binary) (col 1 1) (col 0 0) ∷ []
 
-kept_past_is : (command_of (understood schema kept_past_text) ≡ Select (record { lets = []; body = in_order_up_to kept.tree kept_past_tests (each_column 1 kept) by_pair (lit (Int (pos PAGE_ROWS))) }) kept_names) × IsPlain (understood schema kept_past_text) × (reads_listing schema kept_past_text ≡ false)
+kept_past_is : (command_of (understood schema kept_past_text) ≡ Select (record { lets = []; body = in_order_up_to kept.tree kept_past_tests (each_column 1 kept) by_pair (lit (Int (pos PAGE_ROWS))) }) (names_of kept)) × IsPlain (understood schema kept_past_text) × (reads_listing schema kept_past_text ≡ false)
 unfolding understood everything
 kept_past_is = (refl, (refl, refl), refl)
 
 pub kept_past_plain : (s : Schema) → s ≡ schema → IsPlain (understood s kept_past_text)
 kept_past_plain s e = subst (λ z. IsPlain (understood z kept_past_text)) (sym e) kept_past_is.1
 
-pub kept_past_found : (a : ℕ) → (old new : State) (rows : List Row) → Shown kept_past_text (Int (pos a) ∷ []) old new rows → (maps : Maps) → Holds schema old.now maps → FirstRowsBy PairBelow PAGE_ROWS (maps 12) (is_after a) rows × IsUnchanged old new
+pub kept_past_found : (a : ℕ) → (old new : State) (rows : List Row) → Shown kept_past_text (Int (pos a) ∷ []) old new rows → (maps : Maps) → Holds schema old.now maps → FirstRowsBy PairBelow PAGE_ROWS (maps kept_place) (is_after a) rows × IsUnchanged old new
 kept_past_found a =
     page_sorted kept kept_past_tests by_pair (Int (pos a) ∷ []) (is_after a) (λ r. refl) (λ r. refl) PairBelow PAGE_ROWS (λ x y p q _ _ tie. pair_tells (column x 1) (column x 2) (column y 1) (column y 2) p q tie)
-    (λ x y less. pair_below (column x 1) (column x 2) (column y 1) (column y 2) less) (λ l. refl) schema 12 kept_names kept_past_text refl kept_past_is.0 kept_past_is.1 kept_past_is.2
+    (λ x y less. pair_below (column x 1) (column x 2) (column y 1) (column y 2) less) (λ l. refl) schema kept_place (names_of kept) kept_past_text refl kept_past_is.0 kept_past_is.1 kept_past_is.2

@@ -20,10 +20,11 @@ use Rattle.terms.specs.declared.fault.Fault.TheVariants.{Stored}
 use Rattle.terms.specs.declared.row.MetaRow.{MetaRow}
 use Rattle.terms.specs.declared.row.KeptRow.{KeptRow}
 use Rattle.terms.specs.declared.row.ClosedDayRow.{ClosedDayRow}
-use Rattle.circ_tables.specs.declared.get.KeptReply.{KeptReply}
+use Rattle.circ_tables.specs.declared.kept.KeptReply.{KeptReply}
 use Rattle.circ_tables.specs.Cells.{number_key, pair_key, kept_key, kept_cells, meta_cells}
 use Rattle.circ_tables.specs.Encoding.{HasPicture, HasTexts, IsClosedDay, reply_of}
-use Rattle.circ_tables.specs.Reading.{Asks, OfMaps, OfPicture, IsStoredIn, IsLone, GetsMeta, GetsDay, GetsKept, kept_with, Lists, ListsDays, closed_days, AreSuch}
+use Rattle.circ_tables.specs.Reading.{Asks, OfMaps, OfPicture, IsStoredIn, IsLone, GetsMeta, GetsDay, GetsKept, kept_with, Lists, ListsDays, AreSuch}
+use Rattle.circ_tables.specs.ClosedDays.{closed_days}
 use Rattle.circ_tables.specs.Selections.{is_closed_at, AreClosedDays}
 use Rattle.circ_tables.specs.Shape.{schema, meta_place, closed_days_place, kept_place}
 use Rattle.circ_tables.proofs.DayLemmas.{day_of, days_are, days_shown}

@@ -9,7 +9,10 @@ use Rattle.terms.specs.declared.row.KeptRow.{KeptRow}
 use Rattle.circ_tables.specs.Cells.{kept_cells}
 use Rattle.terms.proofs.Utf8Lemmas.{reply_text-IsUtf8}
 use Rattle.circ_tables.specs.Encoding.{Encodes, AreEncoded, HasTexts}
-use Rattle.circ_tables.specs.Reading.{Table, closed_days, rules, kept}
+use Rattle.circ_tables.specs.Reading.{Table}
+use Rattle.circ_tables.specs.ClosedDays.{closed_days}
+use Rattle.circ_tables.specs.Rules.{rules}
+use Rattle.circ_tables.specs.Kept.{kept}
 use Rattle.circ_tables.proofs.ShownLemmas.{days_encoded}
 
 -- Of a table it is so under each picture within its limits.

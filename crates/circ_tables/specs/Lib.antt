@@ -8,4 +8,16 @@ pub mod SchemaNumber
 pub mod Puts
 pub mod Reading
 pub mod Numbered
-pub mod Singles
+pub mod Paired
+pub mod Branches
+pub mod ClosedDays
+pub mod Kinds
+pub mod Rules
+pub mod Patrons
+pub mod Titles
+pub mod Copies
+pub mod Loans
+pub mod Holds
+pub mod Transits
+pub mod Lines
+pub mod Kept

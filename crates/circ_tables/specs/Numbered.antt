@@ -1,10 +1,10 @@
 -- What has to be computed of the texts of a table that is keyed by one number. It is the same list of `refl` for each table, and holds of each schema that begins with the tables up to its own.
-use Rattle.std.specs.Prelude.{◌≡◌, ◌+◌, ◌-◌, ◌≤◌, ℕ, pos, negsuc, false, List, [], ◌∷◌, ◌++◌, length, map, slice_get, Option, Some}
+use Rattle.std.specs.Prelude.{true, refl, None, ◌≡◌, ◌+◌, ◌-◌, ◌≤◌, ℕ, pos, negsuc, false, List, [], ◌∷◌, ◌++◌, length, map, slice_get, Option, Some}
 use Rattle.std.specs.List.{range_with_len}
 use Rattle.sqlite.specs.Order.{Row, column}
 use Rattle.sqlite.specs.Table.{Table}
 use Rattle.sqlite.specs.Schema.{Schema}
-use Rattle.sqlite.specs.declared.types.Value.TheVariants.{Null, Int}
+use Rattle.sqlite.specs.declared.types.Value.TheVariants.{Null, Int, Text}
 use Rattle.sqlite.specs.Term.{Term, lit, col, op2}
 use Rattle.sqlite.specs.Command.{Command}
 use Rattle.sqlite.specs.Command.TheVariants.{Select, Delete, InsertOr}
@@ -15,6 +15,8 @@ use Rattle.sqlite_schema.specs.declared.command.Conflict.TheVariants.{Abort}
 use Rattle.sqlite_schema.specs.declared.schema.Index.{Index}
 use Rattle.sqlite_sql.specs.declared.ops.BinaryOp.TheVariants.{Compare}
 use Rattle.sqlite_sql.specs.declared.ops.CompareOp.TheVariants.{Eq, Ge}
+use Rattle.sqlite.specs.Kind.TheVariants.{Integer}
+use Rattle.sqlite_value.specs.declared.value.Value.{Value}
 use Rattle.sqlite_value.specs.declared.keys.Collation.TheVariants.{Binary}
 use Rattle.sqlite_value.specs.declared.keys.Key.{Key}
 use Rattle.sqlite_value.specs.Keys.{ascending}
@@ -23,11 +25,12 @@ use Rattle.sqlite.proofs.Callers.{command_of}
 use Rattle.sql_maps.specs.Maps.{Map, Maps, cells}
 use Rattle.sql_maps.proofs.Words.{over, in_order, in_order_up_to}
 use Rattle.sql_maps.proofs.AnswerLemmas.{shown_of}
+use Rattle.sql_maps.proofs.FillLemmas.{suits_kind}
 use Rattle.sql_maps.proofs.WriteLemmas.{Fills, id_test}
 use Rattle.circ_tables.specs.Texts.{names_of, put_text, take_text, get_text, all_text, page_text}
 use Rattle.terms.specs.Limits.{InLimits}
 use Rattle.terms.specs.Pictures.{Picture, put as put_in}
-use Rattle.circ_tables.specs.Cells.{number, number_key}
+use Rattle.circ_tables.specs.Cells.{number, optional, number_key}
 use Rattle.circ_tables.specs.Encoding.{Encodes, IsEncoded, Any, with_map}
 use Rattle.circ_tables.specs.Reading as typed
 use Rattle.circ_tables.specs.declared.by_number.Texts.{Texts}
@@ -103,3 +106,24 @@ pub record IsNumberTable {R : Type 0} (t : typed.Table ℕ R) (number_of : R →
 -- A schema that begins with these tables and indexes.
 abbrev pub grown : List Table → List Index → Schema
 grown more others = record { tables = first.tables ++ more; indexes = first.indexes ++ others; views = [] }
+
+-- What a column holds, as it is read back.
+abbrev pub nat_of : Value → ℕ
+nat_of (Int (pos n)) = n
+nat_of _ = 0
+
+abbrev pub text_of : Value → List ℕ
+text_of (Text t) = t
+text_of _ = []
+
+abbrev pub option_of : Value → Option ℕ
+option_of (Int (pos n)) = Some n
+option_of _ = None
+
+pub option_back : (o : Option ℕ) → option_of (optional o) ≡ o
+option_back None = refl
+option_back (Some n) = refl
+
+pub optional_suits : (o : Option ℕ) → suits_kind Integer (optional o) ≡ true
+optional_suits None = refl
+optional_suits (Some n) = refl

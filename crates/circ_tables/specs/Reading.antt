@@ -1,5 +1,5 @@
 -- What a call that reads leaves, and what it says of a row.
-use Rattle.std.specs.Prelude.{◌≡◌, ◌≢◌, ◌⊎◌, ◌≤◌, ◌<◌, ℕ, Bool, false, List, map, length, Option, Some, None, is_some, option_map, Err, Result, IfOk, IfErr, IfSome, IsTrue, IsUtf8, if◌then◌else◌}
+use Rattle.std.specs.Prelude.{◌≡◌, ◌≢◌, ◌⊎◌, ◌≤◌, ◌<◌, ℕ, Bool, false, List, map, length, Option, Some, None, is_some, option_map, Err, Result, IfOk, IfErr, IfSome, IsTrue, IsUtf8}
 use Rattle.std.specs.List.{All}
 use Rattle.std.specs.Option.{option_to_list}
 use Rattle.std.specs.Result.{result_err}
@@ -15,31 +15,19 @@ use Rattle.sqlite.specs.Tree.{Trees}
 use Rattle.sqlite_rules.specs.Lists.{Has}
 use Rattle.sql_maps.specs.Calls.{FindsRow, IsKeptOrUndone}
 use Rattle.sql_maps.specs.Maps.{Map, Maps, Holds, Count}
-use Rattle.terms.specs.Limits.{InLimits, ClosesFewDays, IsOwner, IsMeta, IsBranch, IsKind, IsRule, IsPatron, IsTitle, IsCopy, IsLoan, IsHold, IsTransit, IsLine}
-use Rattle.terms.specs.Pictures.{Picture, put, put_pair, put_kept}
+use Rattle.terms.specs.Limits.{InLimits, ClosesFewDays, IsOwner, IsMeta}
+use Rattle.terms.specs.Pictures.{Picture}
 use Rattle.terms.specs.declared.command.Owner.{Owner}
 use Rattle.terms.specs.declared.fault.Fault.{Fault}
 use Rattle.terms.specs.declared.fault.Fault.TheVariants.{Database, Stored}
 use Rattle.terms.specs.declared.row.MetaRow.{MetaRow}
-use Rattle.terms.specs.declared.row.BranchRow.{BranchRow}
-use Rattle.terms.specs.declared.row.PatronRow.{PatronRow}
-use Rattle.terms.specs.declared.row.CopyRow.{CopyRow}
-use Rattle.terms.specs.declared.row.LoanRow.{LoanRow}
-use Rattle.terms.specs.declared.row.KindRow.{KindRow}
-use Rattle.terms.specs.declared.row.RuleRow.{RuleRow}
-use Rattle.terms.specs.declared.row.TitleRow.{TitleRow}
-use Rattle.terms.specs.declared.row.HoldRow.{HoldRow}
-use Rattle.terms.specs.declared.row.TransitRow.{TransitRow}
-use Rattle.terms.specs.declared.row.LineRow.{LineRow}
 use Rattle.terms.specs.declared.row.KeptRow.{KeptRow}
-use Rattle.circ_tables.specs.declared.get.KeptReply.{KeptReply}
-use Rattle.terms.specs.declared.row.ClosedDayRow.{ClosedDayRow}
-use Rattle.circ_tables.specs.Cells.{number, number_key, pair_key, kept_key, meta_cells, kept_cells, branch_cells, kind_cells, rule_cells, patron_cells, title_cells, copy_cells, loan_cells, hold_cells, transit_cells, line_cells}
-use Rattle.circ_tables.specs.Encoding.{HasPicture, AreEncoded, Pair, reply_of, HasTexts, day_cells, IsClosedDay, IsReadableKept}
+use Rattle.circ_tables.specs.declared.kept.KeptReply.{KeptReply}
+use Rattle.circ_tables.specs.Cells.{number, number_key, pair_key, kept_key, meta_cells, kept_cells}
+use Rattle.circ_tables.specs.Encoding.{HasPicture, AreEncoded, reply_of, HasTexts, day_cells, IsClosedDay}
 use Rattle.circ_tables.specs.Selections.{AreClosedDays}
 use Rattle.sqlite.specs.Table.{Table as Shape}
-use Rattle.circ_tables.specs.Shape as shape
-use Rattle.circ_tables.specs.Shape.{schema, meta_place, branches_place, closed_days_place, kinds_place, rules_place, patrons_place, titles_place, copies_place, loans_place, holds_place, transits_place, lines_place, kept_place}
+use Rattle.circ_tables.specs.Shape.{schema, meta_place, closed_days_place, kept_place}
 
 -- A table of typed rows: its shape and place, the key of a row, its columns, its limits, its rows in a picture, and the picture with another row, or none, under a key.
 pub record Table (K R : Type 0) : Type 1 where
@@ -50,138 +38,6 @@ pub record Table (K R : Type 0) : Type 1 where
   pub IsLegal : R → Type 0
   pub rows : Picture → K → Option R
   pub set : Picture → K → Option R → Picture
-
-abbrev pub branches : Table ℕ BranchRow
-branches = record {
-  shape = shape.branches;
-  place = branches_place;
-  key = number_key;
-  cells = branch_cells;
-  IsLegal = IsBranch;
-  rows = λ P. P.branches;
-  set = λ P k row. record P { branches = put P.branches k row };
-}
-
-abbrev pub patrons : Table ℕ PatronRow
-patrons = record {
-  shape = shape.patrons;
-  place = patrons_place;
-  key = number_key;
-  cells = patron_cells;
-  IsLegal = IsPatron;
-  rows = λ P. P.patrons;
-  set = λ P k row. record P { patrons = put P.patrons k row };
-}
-
-abbrev pub copies : Table ℕ CopyRow
-copies = record {
-  shape = shape.copies;
-  place = copies_place;
-  key = number_key;
-  cells = copy_cells;
-  IsLegal = IsCopy;
-  rows = λ P. P.copies;
-  set = λ P k row. record P { copies = put P.copies k row };
-}
-
-abbrev pub loans : Table ℕ LoanRow
-loans = record {
-  shape = shape.loans;
-  place = loans_place;
-  key = number_key;
-  cells = loan_cells;
-  IsLegal = IsLoan;
-  rows = λ P. P.loans;
-  set = λ P k row. record P { loans = put P.loans k row };
-}
-
-abbrev pub kinds : Table ℕ KindRow
-kinds = record {
-  shape = shape.kinds;
-  place = kinds_place;
-  key = number_key;
-  cells = kind_cells;
-  IsLegal = IsKind;
-  rows = λ P. P.kinds;
-  set = λ P k row. record P { kinds = put P.kinds k row };
-}
-
-abbrev pub titles : Table ℕ TitleRow
-titles = record {
-  shape = shape.titles;
-  place = titles_place;
-  key = number_key;
-  cells = title_cells;
-  IsLegal = IsTitle;
-  rows = λ P. P.titles;
-  set = λ P k row. record P { titles = put P.titles k row };
-}
-
-abbrev pub holds : Table ℕ HoldRow
-holds = record {
-  shape = shape.holds;
-  place = holds_place;
-  key = number_key;
-  cells = hold_cells;
-  IsLegal = IsHold;
-  rows = λ P. P.holds;
-  set = λ P k row. record P { holds = put P.holds k row };
-}
-
-abbrev pub transits : Table ℕ TransitRow
-transits = record {
-  shape = shape.transits;
-  place = transits_place;
-  key = number_key;
-  cells = transit_cells;
-  IsLegal = IsTransit;
-  rows = λ P. P.transits;
-  set = λ P k row. record P { transits = put P.transits k row };
-}
-
-abbrev pub lines : Table ℕ LineRow
-lines = record {
-  shape = shape.lines;
-  place = lines_place;
-  key = number_key;
-  cells = line_cells;
-  IsLegal = IsLine;
-  rows = λ P. P.lines;
-  set = λ P k row. record P { lines = put P.lines k row };
-}
-
-abbrev pub rules : Table Pair RuleRow
-rules = record {
-  shape = shape.rules;
-  place = rules_place;
-  key = λ k. pair_key k.0 k.1;
-  cells = rule_cells;
-  IsLegal = IsRule;
-  rows = λ P k. P.rules k.0 k.1;
-  set = λ P k row. record P { rules = put_pair P.rules k.0 k.1 row };
-}
-
-abbrev pub closed_days : Table Pair ClosedDayRow
-closed_days = record {
-  shape = shape.closed_days;
-  place = closed_days_place;
-  key = λ k. pair_key k.0 k.1;
-  cells = day_cells;
-  IsLegal = IsClosedDay;
-  rows = λ P k. if P.closed_days k.0 k.1 then Some (record { branch = k.0; day = k.1 }) else None;
-  set = λ P k row. record P { closed_days = put_pair P.closed_days k.0 k.1 (is_some row) };
-}
-
-abbrev pub kept : Table (Owner × List ℕ) KeptRow
-kept = record {
-  shape = shape.kept;
-  place = kept_place;
-  key = λ k. kept_key k.0 k.1;
-  cells = kept_cells;
-  IsLegal = IsReadableKept;
-  rows = λ P k. P.kept k.0 k.1;
-  set = λ P k row. record P { kept = put_kept P.kept k.0 k.1 row };
-}
 
 -- Every row of the map is this row of `meta`.
 abbrev pub IsLone : Map → MetaRow → Type 0

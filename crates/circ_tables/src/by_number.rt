@@ -1,18 +1,17 @@
 //! A table that is keyed by one number: what it has to say of itself, and the calls that follow from
 //! that.
 
-ghost use Rattle.std.specs.Prelude.{◌≡◌, ℕ};
+ghost use Rattle.std.specs.Prelude.{◌≡◌, ◌<◌, ◌^◌, ℕ, IfSome};
 ghost use Rattle.sql_maps.specs.Maps.{Listed};
 ghost use Rattle.sql_maps.specs.Pages.{FirstRows};
 ghost use Rattle.circ_tables.specs.Numbered.{AreTexts, IsNumberTable};
 ghost use Rattle.circ_tables.specs.Puts.{Runs, PutsRow, TakesRow};
 ghost use Rattle.circ_tables.specs.Reading.{Gets, Lists};
 ghost use Rattle.circ_tables.specs.Selections.{is_any, is_from, least_after};
-ghost use Rattle.circ_tables.specs.declared.lists.TheConstants.{PAGE_ROWS};
+ghost use Rattle.circ_tables.specs.declared.by_number.TheConstants.{PAGE_ROWS};
 
 use crate::call::run;
 use crate::list::{Table, row_of, rows_of};
-use crate::lists::least_after;
 use sqlite::{Alter, Connection, Transaction, params};
 use std::alloc::Global;
 use terms::{Fault, Number};
@@ -113,6 +112,21 @@ pub fn every_row<T: Numbered, S: Alter>(
     ensures { Lists T.table (λ l. l.items) (λ m. Listed m is_any) S.Store conn.old conn.new result }
 {
     rows_of(conn, alloc, memory, T::texts().all, &[])
+}
+
+/// How many rows a page of a list has, but for its last one. The texts of pages name it too.
+pub const PAGE_ROWS: usize = 1000;
+
+/// The least number of a row that comes after this one, or of any row. That this one has 32 bits is
+/// said too, since what is answered fits 64 for it.
+fn least_after(after: Option<u32>) -> i64
+    ensures least { result ≡ least_after after }
+    ensures range { IfSome after (λ n. n < 2 ^ 32) }
+{
+    match after {
+        Some(number) => i64::from(number) + 1,
+        None => i64::MIN,
+    }
 }
 
 /// The first rows, or the first whose numbers are above this one, the least number first: all of

@@ -2,26 +2,18 @@
 
 ghost use Rattle.std.specs.Prelude.{◌≡◌, ◌≢◌, map, Err, IfOk};
 ghost use Rattle.sqlite.specs.Values.{bound};
-ghost use Rattle.circ_tables.specs.Reading.{AllEntries, FirstEntry};
+ghost use Rattle.circ_tables.specs.Reading.{AllEntries, FirstEntry, CountShown};
 ghost use Rattle.std.specs.List.{All};
 ghost use Rattle.sqlite.specs.Order.{Row as SqlRow};
 ghost use Rattle.sqlite_rules.specs.Lists.{Has};
-ghost use Rattle.circ_tables.specs.Reading.{Table as Typed, branches, closed_days, kinds, rules};
-ghost use Rattle.circ_tables.specs.Reading.{patrons, titles, copies, loans, holds, transits, lines};
-ghost use Rattle.circ_tables.specs.Reading.{kept};
+ghost use Rattle.circ_tables.specs.Reading.{Table as Typed};
 
 use crate::call::{all_rows, first_row};
-use crate::entry::{
-    branch_row, closed_day_row, copy_row, hold_row, kept_row, kind_row, line_row, loan_row,
-    patron_row, rule_row, title_row, transit_row,
-};
+use crate::cell::number_at;
 use sqlite::{Alter, Connection, Row};
 use sqlite_value::value::ValueRef;
 use std::alloc::Global;
-use terms::{
-    BranchRow, ClosedDayRow, CopyRow, Fault, HoldRow, KeptRow, Key, KindRow, LineRow, LoanRow,
-    Owner, PatronRow, RuleRow, TitleRow, TransitRow,
-};
+use terms::{Count, Fault, Key};
 
 /// A row of one table.
 pub trait Table: Drop {
@@ -39,150 +31,6 @@ pub trait Table: Drop {
         ensures limits { IfOk result (λ r. table.IsLegal r) }
         ensures stored { result ≡ Err Fault.Stored → (r : Self) → table.IsLegal r
             → row.now ≢ table.cells r };
-}
-
-impl Table for BranchRow {
-    type Key = u32;
-
-    type Memory = Global;
-
-    ghost table = { branches };
-
-    fn read(row: &Row, alloc: Global) -> Result<BranchRow, Fault> {
-        branch_row(row, alloc)
-    }
-}
-
-impl Table for ClosedDayRow {
-    type Key = (u32, u32);
-
-    type Memory = ();
-
-    ghost table = { closed_days };
-
-    fn read(row: &Row, _memory: ()) -> Result<ClosedDayRow, Fault> {
-        closed_day_row(row)
-    }
-}
-
-impl Table for KindRow {
-    type Key = u32;
-
-    type Memory = ();
-
-    ghost table = { kinds };
-
-    fn read(row: &Row, _memory: ()) -> Result<KindRow, Fault> {
-        kind_row(row)
-    }
-}
-
-impl Table for RuleRow {
-    type Key = (u32, u32);
-
-    type Memory = ();
-
-    ghost table = { rules };
-
-    fn read(row: &Row, _memory: ()) -> Result<RuleRow, Fault> {
-        rule_row(row)
-    }
-}
-
-impl Table for PatronRow {
-    type Key = u32;
-
-    type Memory = Global;
-
-    ghost table = { patrons };
-
-    fn read(row: &Row, alloc: Global) -> Result<PatronRow, Fault> {
-        patron_row(row, alloc)
-    }
-}
-
-impl Table for TitleRow {
-    type Key = u32;
-
-    type Memory = Global;
-
-    ghost table = { titles };
-
-    fn read(row: &Row, alloc: Global) -> Result<TitleRow, Fault> {
-        title_row(row, alloc)
-    }
-}
-
-impl Table for CopyRow {
-    type Key = u32;
-
-    type Memory = ();
-
-    ghost table = { copies };
-
-    fn read(row: &Row, _memory: ()) -> Result<CopyRow, Fault> {
-        copy_row(row)
-    }
-}
-
-impl Table for LoanRow {
-    type Key = u32;
-
-    type Memory = ();
-
-    ghost table = { loans };
-
-    fn read(row: &Row, _memory: ()) -> Result<LoanRow, Fault> {
-        loan_row(row)
-    }
-}
-
-impl Table for HoldRow {
-    type Key = u32;
-
-    type Memory = ();
-
-    ghost table = { holds };
-
-    fn read(row: &Row, _memory: ()) -> Result<HoldRow, Fault> {
-        hold_row(row)
-    }
-}
-
-impl Table for TransitRow {
-    type Key = u32;
-
-    type Memory = ();
-
-    ghost table = { transits };
-
-    fn read(row: &Row, _memory: ()) -> Result<TransitRow, Fault> {
-        transit_row(row)
-    }
-}
-
-impl Table for LineRow {
-    type Key = u32;
-
-    type Memory = ();
-
-    ghost table = { lines };
-
-    fn read(row: &Row, _memory: ()) -> Result<LineRow, Fault> {
-        line_row(row)
-    }
-}
-
-impl Table for KeptRow {
-    type Key = (Owner, Key);
-
-    type Memory = Global;
-
-    ghost table = { kept };
-
-    fn read(row: &Row, alloc: Global) -> Result<KeptRow, Fault> {
-        kept_row(row, alloc)
-    }
 }
 
 /// The rows, each within its limits. 90, 91, 93.
@@ -229,4 +77,18 @@ pub fn rows_of<T: Table, S: Alter>(
 {
     let rows = all_rows(conn, sql, params)?;
     entries(alloc, memory, rows.as_slice())
+}
+
+/// The number that a text counts. 91; 93 from 2^32 on.
+pub fn counted<S: Alter>(
+    conn: &mut Connection<S>,
+    sql: &str,
+    params: &[ValueRef<'_>],
+) -> Result<Count, Fault>
+    ensures { CountShown sql.now (bound params.now) S.Store conn.old conn.new result }
+{
+    match &first_row(conn, sql, params)? {
+        Some(row) => Ok(Count::new(number_at(row, 0, 0, u32::MAX)?)),
+        None => Err(Fault::Database),
+    }
 }

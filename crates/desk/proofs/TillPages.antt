@@ -3,7 +3,7 @@ use Rattle.std.proofs.Common.{◌≡◌, ℕ, suc, ◌≤◌, ◌<◌, ◌+◌, 
 use Rattle.std.specs.Prelude.{Some, None}
 use Rattle.std.specs.List.{Contains, AllByRecursion}
 use Rattle.std.proofs.lemmas.Bool.{cases_lt}
-use Rattle.circ_tables.specs.declared.lists.TheConstants.{PAGE_ROWS}
+use Rattle.circ_tables.specs.declared.by_number.TheConstants.{PAGE_ROWS}
 use Rattle.store.specs.Lists.{Rise, AreRows}
 use Rattle.store.specs.Pages.{AreLinesAfter}
 use Rattle.terms.specs.Limits.{InLimits}

@@ -2,7 +2,7 @@
 use Rattle.std.specs.Prelude.{◌≡◌, ◌<◌, ◌-◌, ℕ, nat_lt, List, [], ◌++◌, map, filter, length, slice_get, Option, Some, None, option_map, Result, Err, IfOk, OnErr}
 use Rattle.std.specs.Io.KnownBytes.{Appends}
 use Rattle.store.specs.Library.{Ghosts, Held, state, IsClean}
-use Rattle.circ_tables.specs.declared.lists.TheConstants.{PAGE_ROWS}
+use Rattle.circ_tables.specs.declared.by_number.TheConstants.{PAGE_ROWS}
 use Rattle.terms.specs.declared.fault.Fault.TheVariants.{Stored}
 use Rattle.terms.specs.declared.refusal.Refusal.{Refusal}
 use Rattle.model.specs.History.{History}

@@ -26,8 +26,10 @@ use Rattle.circ_tables.specs.Encoding.{Encodes}
 use Rattle.circ_tables.specs.Numbered.{IsNumberTable}
 use Rattle.circ_tables.specs.Selections.{is_ready_after, is_overdue_after, is_line_after, is_from, least_after}
 use Rattle.circ_tables.specs.Shape.{loans_place, holds_place, lines_place}
-use Rattle.circ_tables.specs.Singles.{loans_are, holds_are, lines_are}
-use Rattle.circ_tables.specs.declared.lists.TheConstants.{PAGE_ROWS}
+use Rattle.circ_tables.specs.Loans.{loans_are}
+use Rattle.circ_tables.specs.Holds.{holds_are}
+use Rattle.circ_tables.specs.Lines.{lines_are}
+use Rattle.circ_tables.specs.declared.by_number.TheConstants.{PAGE_ROWS}
 use Rattle.circ_tables.proofs.CellLemmas.{is_least, least_if, if_least, if_negative, same_if, if_same, none_if, if_none, ready_if, if_ready, below_if, if_below, above_if, if_above, alone, from_alone, both, from_both}
 use Rattle.circ_tables.proofs.InverseLemmas.{told}
 use Rattle.circ_tables.proofs.DayLemmas.{below}

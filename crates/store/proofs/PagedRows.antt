@@ -7,7 +7,7 @@ use Rattle.std.proofs.lemmas.List.Elements.{Contains-append_left, Contains-appen
 use Rattle.sqlite_rules.specs.Lists.{Has}
 use Rattle.sqlite_rules.proofs.ListLemmas.{has_contained, contains_had, all_has, all_from, has_filtered, has_kept}
 use Rattle.terms.specs.declared.row.LoanRow.{LoanRow}
-use Rattle.circ_tables.specs.declared.lists.TheConstants.{PAGE_ROWS}
+use Rattle.circ_tables.specs.declared.by_number.TheConstants.{PAGE_ROWS}
 use Rattle.store.specs.Lists.{Rise, AreRows, AreTestedRows, AllPass}
 use Rattle.store.specs.Pages.{AreRowsAfter, AreNumbered}
 

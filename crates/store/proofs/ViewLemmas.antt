@@ -16,7 +16,10 @@ use Rattle.terms.specs.declared.row.HoldRow.{HoldRow}
 use Rattle.terms.specs.declared.row.TransitRow.{TransitRow}
 use Rattle.circ_core.specs.Views.{IsLoanOf, IsHoldOf, IsTravelFor, IsFirstOf, IsLoanOfTitle, IsCount, IsOpenBy, IsActiveBy, IsActiveOn}
 use Rattle.circ_tables.specs.Encoding.{HasPicture, Encodes}
-use Rattle.circ_tables.specs.Reading.{Table, Views, Selects, Counts, Lists, loans, holds, transits}
+use Rattle.circ_tables.specs.Reading.{Table, Views, Selects, Counts, Lists}
+use Rattle.circ_tables.specs.Loans.{loans}
+use Rattle.circ_tables.specs.Holds.{holds}
+use Rattle.circ_tables.specs.Transits.{transits}
 use Rattle.circ_tables.specs.Selections.{is_open_of, is_open_by, is_active_by, is_active_on, names_copy, travels_for, Waits, LendsTitle}
 use Rattle.circ_tables.specs.Shape.{copies_place, loans_place, holds_place, transits_place}
 use Rattle.circ_tables.proofs.ReadingLemmas.{read_of}

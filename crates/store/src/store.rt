@@ -8,7 +8,9 @@ ghost use Rattle.circ_tables.specs.Encoding.{reply_of};
 ghost use Rattle.store.specs.Commit.{Commits, CreatesLibrary, OpensLibrary, RefusesLibrary};
 ghost use Rattle.store.specs.Limits.{limit_of};
 ghost use Rattle.store.specs.Reads.{Looked, Finds, IsSound};
-ghost use Rattle.circ_tables.specs.Reading.{patrons, loans, holds};
+ghost use Rattle.circ_tables.specs.Patrons.{patrons};
+ghost use Rattle.circ_tables.specs.Loans.{loans};
+ghost use Rattle.circ_tables.specs.Holds.{holds};
 
 use crate::changing::{self, SCHEMA};
 use crate::viewing;

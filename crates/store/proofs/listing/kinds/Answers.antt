@@ -1,6 +1,6 @@
 use Rattle.std.proofs.Common.{List, sym, subst}
 use Rattle.terms.specs.declared.row.KindRow.{KindRow}
-use Rattle.circ_tables.specs.Singles.{kinds_are}
+use Rattle.circ_tables.specs.Kinds.{kinds_are}
 use Rattle.store.specs.Lists.{AreRows, AllPass}
 use Rattle.store.proofs.ListLemmas.{table_seen}
 use Rattle.store.proofs.ViewLemmas.{fails, gives}

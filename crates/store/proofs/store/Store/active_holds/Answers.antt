@@ -1,5 +1,5 @@
 use Rattle.sql_maps.specs.Maps.{Listed}
-use Rattle.circ_tables.specs.Reading.{holds}
+use Rattle.circ_tables.specs.Holds.{holds}
 use Rattle.circ_tables.specs.Selections.{is_active_by}
 use Rattle.store.specs.Lists.{AreHoldsBy}
 use Rattle.store.proofs.ListLemmas.{holds_by_are}

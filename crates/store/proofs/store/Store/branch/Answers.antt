@@ -1,4 +1,4 @@
-use Rattle.circ_tables.specs.Reading.{branches}
+use Rattle.circ_tables.specs.Branches.{branches}
 use Rattle.store.proofs.ReadLemmas.{looked_row}
 use Rattle.store.proofs.store.Store.branch.Goals as goal
 

@@ -1,4 +1,4 @@
-use Rattle.circ_tables.specs.Reading.{copies}
+use Rattle.circ_tables.specs.Copies.{copies}
 use Rattle.store.proofs.ReadLemmas.{looked_row}
 use Rattle.store.proofs.store.Store.copy.Goals as goal
 

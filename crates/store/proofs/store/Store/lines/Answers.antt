@@ -1,7 +1,7 @@
 use Rattle.sql_maps.specs.Pages.{FirstRows}
-use Rattle.circ_tables.specs.Reading.{lines}
+use Rattle.circ_tables.specs.Lines.{lines}
 use Rattle.circ_tables.specs.Selections.{is_line_after}
-use Rattle.circ_tables.specs.declared.lists.TheConstants.{PAGE_ROWS}
+use Rattle.circ_tables.specs.declared.by_number.TheConstants.{PAGE_ROWS}
 use Rattle.store.specs.Pages.{AreLinesAfter}
 use Rattle.store.proofs.PageLemmas.{lines_after_are}
 use Rattle.store.proofs.ReadLemmas.{looked_list}

@@ -1,5 +1,5 @@
 use Rattle.sql_maps.specs.Maps.{Listed}
-use Rattle.circ_tables.specs.Reading.{loans}
+use Rattle.circ_tables.specs.Loans.{loans}
 use Rattle.circ_tables.specs.Selections.{is_open_by}
 use Rattle.store.specs.Lists.{AreLoansBy}
 use Rattle.store.proofs.ListLemmas.{loans_by_are}

@@ -1,7 +1,7 @@
 use Rattle.sql_maps.specs.Pages.{FirstRows}
-use Rattle.circ_tables.specs.Reading.{loans}
+use Rattle.circ_tables.specs.Loans.{loans}
 use Rattle.circ_tables.specs.Selections.{is_overdue_after}
-use Rattle.circ_tables.specs.declared.lists.TheConstants.{PAGE_ROWS}
+use Rattle.circ_tables.specs.declared.by_number.TheConstants.{PAGE_ROWS}
 use Rattle.store.specs.Pages.{AreOverdueAfter}
 use Rattle.store.proofs.PageLemmas.{overdue_after_are}
 use Rattle.store.proofs.ReadLemmas.{looked_list}

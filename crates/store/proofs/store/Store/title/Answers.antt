@@ -1,4 +1,4 @@
-use Rattle.circ_tables.specs.Reading.{titles}
+use Rattle.circ_tables.specs.Titles.{titles}
 use Rattle.store.proofs.ReadLemmas.{looked_row}
 use Rattle.store.proofs.store.Store.title.Goals as goal
 

@@ -1,0 +1,44 @@
+-- The table of days on which a branch is closed singly.
+use Rattle.std.proofs.Common.{inl, refl}
+use Rattle.std.specs.Prelude.{Some, None, is_some, if◌then◌else◌}
+use Rattle.sqlite.specs.Listing.{understood}
+use Rattle.sqlite_tied.specs.Compute.{everything}
+use Rattle.sql_maps.proofs.UniqueLemmas.{or_false, alone_by_index}
+use Rattle.terms.specs.Pictures.{put_pair}
+use Rattle.terms.specs.declared.row.ClosedDayRow.{ClosedDayRow}
+use Rattle.circ_tables.specs.Cells.{pair_key}
+use Rattle.circ_tables.specs.Encoding.{Pair, day_cells, IsClosedDay}
+use Rattle.circ_tables.specs.Paired.{IsPaired}
+use Rattle.circ_tables.specs.Reading.{Table}
+use Rattle.circ_tables.specs.Shape as shape
+
+abbrev pub closed_days : Table Pair ClosedDayRow
+closed_days = record {
+  shape = shape.closed_days;
+  place = shape.closed_days_place;
+  key = λ k. pair_key k.0 k.1;
+  cells = day_cells;
+  IsLegal = IsClosedDay;
+  rows = λ P k. if P.closed_days k.0 k.1 then Some (record { branch = k.0; day = k.1 }) else None;
+  set = λ P k row. record P { closed_days = put_pair P.closed_days k.0 k.1 (is_some row) };
+}
+
+pub closed_days_are : IsPaired shape.schema shape.closed_days_place shape.closed_days
+unfolding understood everything
+closed_days_are = record {
+  fixed = record {
+    listed = refl;
+    uncounted = refl;
+    calm = λ keys depth tree olds news. refl;
+    target = λ r new. or_false _;
+    alone = alone_by_index shape.schema shape.closed_days_place shape.closed_days _ refl (inl refl) refl refl refl;
+  };
+  primary = refl;
+  first_cell = λ r. refl;
+  second_cell = λ r. refl;
+  shows = λ given r. refl;
+  put = record { command_is = refl; bare = (refl, refl) };
+  take = record { command_is = refl; bare = (refl, refl) };
+  get = record { command_is = refl; bare = (refl, refl); unlisted = refl };
+  all = record { command_is = refl; bare = (refl, refl); unlisted = refl };
+}

@@ -1,0 +1,126 @@
+//! The table of days on which a branch is closed singly.
+
+ghost use Rattle.std.specs.Prelude.{◌≡◌, ◌≢◌, Err, IfOk, [], map};
+ghost use Rattle.sql_maps.specs.Maps.{ListedBy, PairBelow};
+ghost use Rattle.circ_tables.specs.ClosedDays.{closed_days};
+ghost use Rattle.circ_tables.specs.Puts.{PutsRow, TakesRow};
+ghost use Rattle.circ_tables.specs.Reading.{GetsDay, Lists, ListsDays};
+ghost use Rattle.circ_tables.specs.Selections.{is_any};
+
+use crate::call::{first_row, run};
+use crate::cell::{branch_at, day_at, has_width};
+use crate::list::{Table, rows_of};
+use calendar::Day;
+use sqlite::{Alter, Connection, Row, Transaction, params};
+use std::alloc::Global;
+use terms::{BranchId, ClosedDayRow, Fault};
+
+impl Table for ClosedDayRow {
+    type Key = (u32, u32);
+
+    type Memory = ();
+
+    ghost table = { closed_days };
+
+    /// A row of `closed_days`. 91, 93.
+    fn read(row: &Row, _memory: ()) -> Result<ClosedDayRow, Fault> {
+        has_width(row, 2)?;
+        Ok(ClosedDayRow {
+            branch: branch_at(row, 0)?,
+            day: day_at(row, 1)?,
+        })
+    }
+}
+
+/// Puts a row of `closed_days`. 91.
+pub fn put_closed_day<S: Alter>(
+    tx: &mut Transaction<'_, S>,
+    branch: BranchId,
+    day: Day,
+) -> Result<(), Fault>
+    ensures { PutsRow closed_days (branch, day) (record { branch = branch; day = day })
+        S.Store tx.old tx.new result }
+{
+    run(
+        tx,
+        "INSERT INTO closed_days VALUES (?1, ?2) ON CONFLICT (branch, day) DO UPDATE SET day = ?2",
+        params![branch.number(), day.number()],
+    )
+}
+
+/// Takes out the row of a branch's closed day; where there is none, nothing changes. 91.
+pub fn take_closed_day<S: Alter>(
+    tx: &mut Transaction<'_, S>,
+    branch: BranchId,
+    day: Day,
+) -> Result<(), Fault>
+    ensures { TakesRow closed_days (branch, day) S.Store tx.old tx.new result }
+{
+    run(
+        tx,
+        "DELETE FROM closed_days WHERE branch = ?1 AND day = ?2",
+        params![branch.number(), day.number()],
+    )
+}
+
+/// Whether the branch is closed singly on the day. 91.
+pub fn has_closed_day<S: Alter>(
+    conn: &mut Connection<S>,
+    branch: BranchId,
+    day: Day,
+) -> Result<bool, Fault>
+    ensures { GetsDay branch day S.Store conn.old conn.new result }
+{
+    let row = first_row(
+        conn,
+        "SELECT * FROM closed_days WHERE branch = ?1 AND day = ?2",
+        params![branch.number(), day.number()],
+    )?;
+    Ok(row.is_some())
+}
+
+/// All rows of `closed_days`, by branch and then by day. 90, 91, 93.
+pub fn all_closed_days<S: Alter>(
+    conn: &mut Connection<S>,
+    alloc: Global,
+) -> Result<Vec<ClosedDayRow>, Fault>
+    ensures { Lists closed_days (λ l. l.items) (λ m. ListedBy PairBelow m is_any)
+        S.Store conn.old conn.new result }
+{
+    rows_of(
+        conn,
+        alloc,
+        (),
+        "SELECT * FROM closed_days ORDER BY branch, day",
+        &[],
+    )
+}
+
+/// The days of the rows. 90.
+fn days_of(alloc: Global, rows: &[ClosedDayRow]) -> Result<Vec<Day>, Fault>
+    ensures days { IfOk result (λ days. days.items ≡ map (λ c. c.day) rows.now) }
+    ensures fault { result ≢ Err Fault.Stored }
+{
+    Ok(rows.iter().map(|row| row.day).collect(alloc)?)
+}
+
+/// The text of `closed_days_of`.
+pub const CLOSED_DAYS_OF_TEXT: &str = "SELECT * FROM closed_days WHERE branch = ?1 ORDER BY day";
+
+/// The days on which a branch is closed singly, the first one first. 90, 91, 93.
+pub fn closed_days_of<S: Alter>(
+    conn: &mut Connection<S>,
+    alloc: Global,
+    branch: BranchId,
+) -> Result<Vec<Day>, Fault>
+    ensures { ListsDays (λ l. l.items) branch S.Store conn.old conn.new result }
+{
+    let closed: Vec<ClosedDayRow> = rows_of(
+        conn,
+        alloc,
+        (),
+        CLOSED_DAYS_OF_TEXT,
+        params![branch.number()],
+    )?;
+    days_of(alloc, closed.as_slice())
+}

@@ -1,0 +1,78 @@
+//! The table of copies.
+
+ghost use Rattle.circ_tables.specs.Copies.{copies, copies_are};
+
+use crate::by_number::{Numbered, Put, Texts};
+use crate::call::run;
+use crate::cell::{
+    branch_at, cents_at, condition_at, condition_number, copy_at, copy_kind_at, has_width, money,
+    title_at,
+};
+use crate::list::Table;
+use sqlite::{Alter, Row, Transaction, params};
+use terms::{CopyId, CopyRow, Fault, HIGHEST_PRICE};
+
+impl Table for CopyRow {
+    type Key = u32;
+
+    type Memory = ();
+
+    ghost table = { copies };
+
+    /// A row of `copies`: a price up to 1,000,000 cents. 91, 93.
+    fn read(row: &Row, _memory: ()) -> Result<CopyRow, Fault> {
+        has_width(row, 6)?;
+        Ok(CopyRow {
+            copy: copy_at(row, 0)?,
+            title: title_at(row, 1)?,
+            kind: copy_kind_at(row, 2)?,
+            home: branch_at(row, 3)?,
+            price: cents_at(row, 4, HIGHEST_PRICE)?,
+            condition: condition_at(row, 5)?,
+        })
+    }
+}
+
+impl Numbered for CopyRow {
+    type Id = CopyId;
+
+    ghost number_of = { λ r. r.copy };
+
+    fn number(&self) -> u32 {
+        self.copy.number()
+    }
+
+    fn texts() -> Texts {
+        Texts {
+            put: "INSERT INTO copies VALUES (?1, ?2, ?3, ?4, ?5, ?6) ON CONFLICT (copy) DO UPDATE SET title = ?2, kind = ?3, home = ?4, price = ?5, condition = ?6",
+            take: "DELETE FROM copies WHERE copy = ?1",
+            get: "SELECT * FROM copies WHERE copy = ?1",
+            all: "SELECT * FROM copies ORDER BY copy",
+            page: "SELECT * FROM copies WHERE copy >= ?1 ORDER BY copy LIMIT 1000",
+        }
+    }
+
+    ghost sound = { copies_are };
+}
+
+impl Put for CopyRow {
+    type Row = CopyRow;
+
+    ghost entry = { λ r. r };
+
+    fn run_with<S: Alter>(&self, tx: &mut Transaction<'_, S>, sql: &str) -> Result<(), Fault> {
+        let price = money(self.price)?;
+        run(
+            tx,
+            sql,
+            params![
+                self.copy.number(),
+                self.title.number(),
+                self.kind.number(),
+                self.home.number(),
+                price,
+                condition_number(self.condition),
+            ],
+        )
+    }
+}

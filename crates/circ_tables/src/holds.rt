@@ -1,0 +1,199 @@
+//! The table of holds.
+
+ghost use Rattle.sql_maps.specs.Maps.{First, FirstOf, Listed};
+ghost use Rattle.sql_maps.specs.Pages.{FirstRows};
+ghost use Rattle.circ_tables.specs.Holds.{holds, holds_are};
+ghost use Rattle.circ_tables.specs.Reading.{Counts, Lists, Selects};
+ghost use Rattle.circ_tables.specs.Selections.{Waits, is_active_by, is_active_on};
+ghost use Rattle.circ_tables.specs.Selections.{is_ready_after, names_copy};
+ghost use Rattle.circ_tables.specs.Shape.{holds_place, transits_place};
+ghost use Rattle.circ_tables.specs.Transits.{transits};
+ghost use Rattle.circ_tables.specs.declared.by_number.TheConstants.{PAGE_ROWS};
+
+use crate::by_number::{Numbered, Put, Texts};
+use crate::call::run;
+use crate::cell::{
+    branch_at, copy_or_none_at, copy_or_null, day_or_none_at, day_or_null, has_width, hold_at,
+    patron_at, state_at, state_number, title_at,
+};
+use crate::list::{Table, counted, row_of, rows_of};
+use sqlite::{Alter, Connection, Row, Transaction, params};
+use std::alloc::Global;
+use terms::{BranchId, CopyId, Count, Fault, HoldId, HoldRow, LAST_NUMBER, PatronId, TitleId};
+
+impl Table for HoldRow {
+    type Key = u32;
+
+    type Memory = ();
+
+    ghost table = { holds };
+
+    /// A row of `holds`. 91, 93.
+    fn read(row: &Row, _memory: ()) -> Result<HoldRow, Fault> {
+        has_width(row, 7)?;
+        Ok(HoldRow {
+            hold: hold_at(row, 0, LAST_NUMBER)?,
+            patron: patron_at(row, 1)?,
+            title: title_at(row, 2)?,
+            branch: branch_at(row, 3)?,
+            state: state_at(row, 4)?,
+            copy: copy_or_none_at(row, 5)?,
+            limit_day: day_or_none_at(row, 6)?,
+        })
+    }
+}
+
+impl Numbered for HoldRow {
+    type Id = HoldId;
+
+    ghost number_of = { λ r. r.hold };
+
+    fn number(&self) -> u32 {
+        self.hold.number()
+    }
+
+    fn texts() -> Texts {
+        Texts {
+            put: "INSERT INTO holds VALUES (?1, ?2, ?3, ?4, ?5, ?6, ?7) ON CONFLICT (hold) DO UPDATE SET patron = ?2, title = ?3, branch = ?4, state = ?5, copy = ?6, limit_day = ?7",
+            take: "DELETE FROM holds WHERE hold = ?1",
+            get: "SELECT * FROM holds WHERE hold = ?1",
+            all: "SELECT * FROM holds ORDER BY hold",
+            page: "SELECT * FROM holds WHERE hold >= ?1 ORDER BY hold LIMIT 1000",
+        }
+    }
+
+    ghost sound = { holds_are };
+}
+
+impl Put for HoldRow {
+    type Row = HoldRow;
+
+    ghost entry = { λ r. r };
+
+    fn run_with<S: Alter>(&self, tx: &mut Transaction<'_, S>, sql: &str) -> Result<(), Fault> {
+        run(
+            tx,
+            sql,
+            params![
+                self.hold.number(),
+                self.patron.number(),
+                self.title.number(),
+                self.branch.number(),
+                state_number(self.state),
+                copy_or_null(self.copy),
+                day_or_null(self.limit_day),
+            ],
+        )
+    }
+}
+
+/// The text of `ready_hold_of`.
+pub const READY_HOLD_OF_TEXT: &str = "SELECT * FROM holds WHERE copy = ?1 ORDER BY hold LIMIT 1";
+
+/// The hold that names the copy, if one does. 91, 93.
+pub fn ready_hold_of<S: Alter>(
+    conn: &mut Connection<S>,
+    copy: CopyId,
+) -> Result<Option<HoldRow>, Fault>
+    ensures { Selects holds (λ maps. First (maps holds_place) (names_copy copy))
+        S.Store conn.old conn.new result }
+{
+    row_of(conn, (), READY_HOLD_OF_TEXT, params![copy.number()])
+}
+
+/// The text of `first_in_line`.
+pub const FIRST_IN_LINE_TEXT: &str =
+    "SELECT * FROM holds WHERE title = ?1 AND state = 0 AND NOT EXISTS (SELECT * FROM transits WHERE transits.hold = holds.hold) ORDER BY hold LIMIT 1";
+
+/// The first in line for a title: the waiting hold of the least number that no copy travels for.
+/// 91, 93.
+pub fn first_in_line<S: Alter>(
+    conn: &mut Connection<S>,
+    title: TitleId,
+) -> Result<Option<HoldRow>, Fault>
+    ensures { Selects holds
+        (λ maps. FirstOf (maps holds_place) (Waits (maps transits_place) title))
+        S.Store conn.old conn.new result }
+{
+    row_of(conn, (), FIRST_IN_LINE_TEXT, params![title.number()])
+}
+
+/// The text of `count_active_holds`.
+pub const COUNT_ACTIVE_HOLDS_TEXT: &str =
+    "SELECT COUNT(*) FROM holds WHERE patron = ?1 AND state <= 1";
+
+/// How many waiting and ready holds the patron has. 91; 93 from 2^32 on.
+pub fn count_active_holds<S: Alter>(
+    conn: &mut Connection<S>,
+    patron: PatronId,
+) -> Result<Count, Fault>
+    ensures { Counts holds (is_active_by patron) S.Store conn.old conn.new result }
+{
+    counted(conn, COUNT_ACTIVE_HOLDS_TEXT, params![patron.number()])
+}
+
+/// The text of `count_active_holds_on`.
+pub const COUNT_ACTIVE_HOLDS_ON_TEXT: &str =
+    "SELECT COUNT(*) FROM holds WHERE patron = ?1 AND title = ?2 AND state <= 1";
+
+/// How many waiting and ready holds the patron has on the title. 91; 93 from 2^32 on.
+pub fn count_active_holds_on<S: Alter>(
+    conn: &mut Connection<S>,
+    patron: PatronId,
+    title: TitleId,
+) -> Result<Count, Fault>
+    ensures { Counts holds (is_active_on patron title) S.Store conn.old conn.new result }
+{
+    counted(
+        conn,
+        COUNT_ACTIVE_HOLDS_ON_TEXT,
+        params![patron.number(), title.number()],
+    )
+}
+
+/// The text of `active_holds_by`.
+pub const ACTIVE_HOLDS_BY_TEXT: &str =
+    "SELECT * FROM holds WHERE patron = ?1 AND state <= 1 ORDER BY hold";
+
+/// The waiting and the ready holds of a patron, the least number first. 90, 91, 93.
+pub fn active_holds_by<S: Alter>(
+    conn: &mut Connection<S>,
+    alloc: Global,
+    patron: PatronId,
+) -> Result<Vec<HoldRow>, Fault>
+    ensures { Lists holds (λ l. l.items) (λ m. Listed m (is_active_by patron))
+        S.Store conn.old conn.new result }
+{
+    rows_of(
+        conn,
+        alloc,
+        (),
+        ACTIVE_HOLDS_BY_TEXT,
+        params![patron.number()],
+    )
+}
+
+/// The text of `ready_holds_after`.
+pub const READY_HOLDS_AFTER_TEXT: &str =
+    "SELECT * FROM holds WHERE branch = ?1 AND state = 1 AND hold > ?2 ORDER BY hold LIMIT 1000";
+
+/// The first ready holds with this pick-up branch whose numbers are above this one, the least
+/// number first: all of them, or as many as a page has. 90, 91, 93.
+pub fn ready_holds_after<S: Alter>(
+    conn: &mut Connection<S>,
+    alloc: Global,
+    branch: BranchId,
+    after: HoldId,
+) -> Result<Vec<HoldRow>, Fault>
+    ensures { Lists holds (λ l. l.items)
+        (λ m. FirstRows PAGE_ROWS m (is_ready_after branch after))
+        S.Store conn.old conn.new result }
+{
+    rows_of(
+        conn,
+        alloc,
+        (),
+        READY_HOLDS_AFTER_TEXT,
+        params![branch.number(), after.number()],
+    )
+}

@@ -1,0 +1,87 @@
+//! The table of copies that travel.
+
+ghost use Rattle.sql_maps.specs.Maps.{First};
+ghost use Rattle.circ_tables.specs.Copies.{copies};
+ghost use Rattle.circ_tables.specs.Reading.{Selects};
+ghost use Rattle.circ_tables.specs.Selections.{travels_for};
+ghost use Rattle.circ_tables.specs.Shape.{transits_place};
+ghost use Rattle.circ_tables.specs.Transits.{transits, transits_are};
+
+use crate::by_number::{Numbered, Put, Texts};
+use crate::call::run;
+use crate::cell::{branch_at, copy_at, has_width, hold_or_none_at, hold_or_null};
+use crate::list::{Table, row_of};
+use sqlite::{Alter, Connection, Row, Transaction, params};
+use terms::{CopyId, Fault, HoldId, TransitRow};
+
+impl Table for TransitRow {
+    type Key = u32;
+
+    type Memory = ();
+
+    ghost table = { transits };
+
+    /// A row of `transits`. 91, 93.
+    fn read(row: &Row, _memory: ()) -> Result<TransitRow, Fault> {
+        has_width(row, 3)?;
+        Ok(TransitRow {
+            copy: copy_at(row, 0)?,
+            goal: branch_at(row, 1)?,
+            hold: hold_or_none_at(row, 2)?,
+        })
+    }
+}
+
+impl Numbered for TransitRow {
+    type Id = CopyId;
+
+    ghost number_of = { λ r. r.copy };
+
+    fn number(&self) -> u32 {
+        self.copy.number()
+    }
+
+    fn texts() -> Texts {
+        Texts {
+            put: "INSERT INTO transits VALUES (?1, ?2, ?3) ON CONFLICT (copy) DO UPDATE SET goal = ?2, hold = ?3",
+            take: "DELETE FROM transits WHERE copy = ?1",
+            get: "SELECT * FROM transits WHERE copy = ?1",
+            all: "SELECT * FROM transits ORDER BY copy",
+            page: "SELECT * FROM transits WHERE copy >= ?1 ORDER BY copy LIMIT 1000",
+        }
+    }
+
+    ghost sound = { transits_are };
+}
+
+impl Put for TransitRow {
+    type Row = TransitRow;
+
+    ghost entry = { λ r. r };
+
+    fn run_with<S: Alter>(&self, tx: &mut Transaction<'_, S>, sql: &str) -> Result<(), Fault> {
+        run(
+            tx,
+            sql,
+            params![
+                self.copy.number(),
+                self.goal.number(),
+                hold_or_null(self.hold),
+            ],
+        )
+    }
+}
+
+/// The text of `transit_for`.
+pub const TRANSIT_FOR_TEXT: &str = "SELECT * FROM transits WHERE hold = ?1 ORDER BY copy LIMIT 1";
+
+/// The travel of a copy for the hold, if one travels for it. 91, 93.
+pub fn transit_for<S: Alter>(
+    conn: &mut Connection<S>,
+    hold: HoldId,
+) -> Result<Option<TransitRow>, Fault>
+    ensures { Selects transits (λ maps. First (maps transits_place) (travels_for hold))
+        S.Store conn.old conn.new result }
+{
+    row_of(conn, (), TRANSIT_FOR_TEXT, params![hold.number()])
+}
