@@ -1,5 +1,5 @@
 -- What follows of a table that is keyed by one number, whichever it is.
-use Rattle.std.proofs.Common.{◌≡◌, inl, inr, ℕ, ℤ, pos, Bool, true, false, not, ◌==◌, ◌&&◌, ◌||◌, zero, suc, ◌≢◌, ◌+◌, length, cond, List, [], ◌∷◌, ◌++◌, map, Option, Some, None, Result, refl, sym, ap, subst, ◌∙◌, true≢false}
+use Rattle.std.proofs.Common.{arith, negsuc, min, Ok, ◌≤◌, ◌<◌, ◌≡◌, inl, inr, ℕ, ℤ, pos, Bool, true, false, not, ◌==◌, ◌&&◌, ◌||◌, zero, suc, ◌≢◌, ◌+◌, length, cond, List, [], ◌∷◌, ◌++◌, map, Option, Some, None, Result, refl, sym, ap, subst, ◌∙◌, true≢false}
 use Rattle.std.specs.Prelude.{bytes_eq, option_map}
 use Rattle.std.specs.List.{list_all, list_any, flat_map, filter_map}
 use Rattle.std.proofs.lemmas.Bool.{cases_Bool, and_parts}
@@ -13,6 +13,8 @@ use Rattle.sqlite.specs.Listing.{understood}
 use Rattle.sqlite.specs.Order.{Row, column}
 use Rattle.sqlite.specs.Schema.{Schema}
 use Rattle.sqlite.specs.State.{State, IsUnchanged}
+use Rattle.sqlite.specs.Command.{Command}
+use Rattle.sqlite.specs.Term.{Term, lit}
 use Rattle.sqlite.specs.Table as sql
 use Rattle.sqlite_schema.specs.declared.schema.Index.{Index}
 use Rattle.sqlite_schema.specs.declared.schema.Reference.{Reference}
@@ -23,12 +25,12 @@ use Rattle.sqlite_rules.specs.Action.{work_for}
 use Rattle.sqlite_rules.specs.Keys.{conflicts, shares}
 use Rattle.sqlite_tied.specs.Listing.{each_column}
 use Rattle.sql_maps.specs.Calls.{FindsRow}
-use Rattle.sql_maps.specs.Maps.{Map, Maps, Holds, Steps, Listed, cells, key_at, put as put_map, put_at, take_at, take_out}
+use Rattle.sql_maps.specs.Maps.{Map, Maps, Holds, Steps, First, Count, Listed, cells, key_at, put as put_map, put_at, take_at, take_out}
 use Rattle.sql_maps.specs.Pages.{FirstRows}
-use Rattle.sql_maps.proofs.AnswerLemmas.{shown_of}
+use Rattle.sql_maps.proofs.AnswerLemmas.{shown_of, passes}
 use Rattle.sql_maps.proofs.CallLemmas.{put_steps, take_steps}
 use Rattle.sql_maps.proofs.FindLemmas.{finds_one}
-use Rattle.sql_maps.proofs.LookLemmas.{list_found}
+use Rattle.sql_maps.proofs.LookLemmas.{Looks, look, first_found, list_found, count_found, count_gives}
 use Rattle.sql_maps.proofs.MapLemmas.{are_apart}
 use Rattle.sql_maps.proofs.PageLemmas.{page_found}
 use Rattle.sql_maps.proofs.ReadLemmas.{get_row}
@@ -38,9 +40,9 @@ use Rattle.terms.specs.Pictures.{Picture, put as put_in}
 use Rattle.terms.specs.declared.fault.Fault.{Fault}
 use Rattle.circ_tables.specs.Cells.{number_key}
 use Rattle.circ_tables.specs.Encoding.{Any, IsEncoded, Draws, Encodes, with_map}
-use Rattle.circ_tables.specs.Numbered.{IsNumbered, IsNumberTable, by_key, from_key, by_number, put_terms, put_shows}
+use Rattle.circ_tables.specs.Numbered.{IsNumbered, IsNumberTable, IsRead, page_of, count_of, by_key, from_key, by_number, put_terms, put_shows}
 use Rattle.circ_tables.specs.Puts.{Runs, PutsRow, TakesRow}
-use Rattle.circ_tables.specs.Reading.{Table, FirstEntry, AllEntries, Gets, Lists}
+use Rattle.circ_tables.specs.Reading.{Table, FirstEntry, AllEntries, CountShown, Gets, Selects, Counts, Lists}
 use Rattle.circ_tables.specs.Selections.{is_any, is_from}
 use Rattle.circ_tables.specs.Shape.{schema}
 use Rattle.circ_tables.specs.Texts.{names_of, put_text, take_text, get_text, all_text, page_text}
@@ -49,7 +51,7 @@ use Rattle.circ_tables.proofs.EncodingLemmas.{put_encoded, take_encoded, number_
 use Rattle.circ_tables.proofs.InverseLemmas.{told}
 use Rattle.circ_tables.proofs.PageLemmas.{there}
 use Rattle.circ_tables.proofs.PutLemmas.{puts_of}
-use Rattle.circ_tables.proofs.ReadingLemmas.{gets_of, lists_of}
+use Rattle.circ_tables.proofs.ReadingLemmas.{gets_of, selects_of, counts_of, lists_of}
 use Rattle.circ_tables.proofs.ShownLemmas.{are_encoded}
 
 -- ---- a schema with no foreign key, and no index on a rowid
@@ -132,14 +134,8 @@ module _ {R : Type 0} {t : Table ℕ R} {number_of : R → ℕ} (is : IsNumberTa
   fixed : Fixed schema t.place t.shape
   fixed = fixed_of schema t.place t.shape free_all past_all is.texts
 
-  get_plain : (s : Schema) → s ≡ schema → IsPlain (understood s (get_text t.shape))
-  get_plain s e = subst (λ z. IsPlain (understood z (get_text t.shape))) (sym e) is.texts.get.bare
-
-  all_plain : (s : Schema) → s ≡ schema → IsPlain (understood s (all_text t.shape))
-  all_plain s e = subst (λ z. IsPlain (understood z (all_text t.shape))) (sym e) is.texts.all.bare
-
-  page_plain : (s : Schema) → s ≡ schema → IsPlain (understood s (page_text t.shape))
-  page_plain s e = subst (λ z. IsPlain (understood z (page_text t.shape))) (sym e) is.texts.page.bare
+  plain_of : {text : List ℕ} {command : Command} → IsRead schema text command → (s : Schema) → s ≡ schema → IsPlain (understood s text)
+  plain_of {text} read s e = subst (λ z. IsPlain (understood z text)) (sym e) read.bare
 
   as_cells : (given : Row) (l : List Row) → map (shown_of (each_column 1 t.shape) given) l ≡ map (cells t.shape) l
   as_cells given l i = map (λ r. is.texts.shows given r i) l
@@ -156,25 +152,58 @@ module _ {R : Type 0} {t : Table ℕ R} {number_of : R → ℕ} (is : IsNumberTa
   -- the row of a number
   pub gets_row : (k : ℕ) → {S : Type 0} (g : Ghosts S) (old new : Held S) (result : Result (Option R) Fault) → FirstEntry t.cells t.IsLegal (get_text t.shape) (number_key k) g old new result → Gets t k g old new result
   gets_row k g old new result entry =
-      gets_of t (told is) (get_text t.shape) get_plain k (number_key k) (got k) (λ maps P encodes. subst (λ j. maps t.place j ≡ option_map t.cells (t.rows P k)) (sym (is.keyed k)) ((is.rows_are maps P encodes).there k tt))
+      gets_of t (told is) (get_text t.shape) (plain_of is.texts.get) k (number_key k) (got k) (λ maps P encodes. subst (λ j. maps t.place j ≡ option_map t.cells (t.rows P k)) (sym (is.keyed k)) ((is.rows_are maps P encodes).there k tt))
       (λ P legal r there. (is.legal P legal k r there).1) g old new result entry
+
+  -- ---- rows that pass a test: the first one, all of them, a page of them, and how many they are
+  module _ (tests : List Term) (text : List ℕ) (given : Row) (good : Row → Bool) (reads : (r : Row) → passes tests given r ≡ good (cells t.shape r)) where
+    looks : (most : Term) → IsRead schema text (look t.shape tests most (names_of t.shape)) → Looks schema t.place t.shape tests most (names_of t.shape) text
+    looks most read = record { listed = is.texts.listed; command = read.command_is; bare = read.bare; unlisted = read.unlisted; single = single; key_cell = is.texts.key_cell; as_cells = as_cells }
+
+    pub selects_by : IsRead schema text (look t.shape tests (lit (Int (pos 1))) (names_of t.shape)) → {S : Type 0} (g : Ghosts S) (old new : Held S) (result : Result (Option R) Fault) → FirstEntry t.cells t.IsLegal text given g old new result
+        → Selects t (λ maps. First (maps t.place) good) g old new result
+    selects_by read =
+        selects_of t text (plain_of read) given (λ maps. First (maps t.place) good) (first_found schema t.place t.shape tests (names_of t.shape) text given good reads (looks (lit (Int (pos 1))) read)) (λ maps v found. found.0) (are_encoded is)
+
+    pub lists_by : IsRead schema text (look t.shape tests (lit (Int (negsuc 0))) (names_of t.shape)) → {S L : Type 0} (items : L → List R) (g : Ghosts S) (old new : Held S) (result : Result L Fault) → AllEntries items t.cells t.IsLegal text given g old new result
+        → Lists t items (λ m. Listed m good) g old new result
+    lists_by read items =
+        lists_of t items text (plain_of read) given (λ m. Listed m good) (list_found schema t.place t.shape tests (names_of t.shape) text given good reads (looks (lit (Int (negsuc 0))) read))
+        (λ m rows listed v there. let at = listed.sound v there in (at.0, at.1)) (are_encoded is)
+
+    pub pages_by : IsRead schema text (page_of t.shape tests) → {S L : Type 0} (items : L → List R) (g : Ghosts S) (old new : Held S) (result : Result L Fault) → AllEntries items t.cells t.IsLegal text given g old new result
+        → Lists t items (λ m. FirstRows PAGE_ROWS m good) g old new result
+    pages_by read items =
+        lists_of t items text (plain_of read) given (λ m. FirstRows PAGE_ROWS m good)
+        (page_found schema t.place t.shape tests by_number PAGE_ROWS (names_of t.shape) text given good reads (λ x y _ _ less. rw less refl)
+        (record { listed = is.texts.listed; command = read.command_is; bare = read.bare; unlisted = read.unlisted; single = single; key_cell = is.texts.key_cell; as_cells = as_cells; cut = λ given l. refl }))
+        (λ m rows first v has. there PAGE_ROWS m good rows first v has) (are_encoded is)
+
+    -- a count that is no number of 32 bits is greater
+    count_many : IsRead schema text (count_of t.shape tests) → (old new : State) → (row : Row) × FindsRow text given old new (Some row) × (0 < length row → (n : ℕ) → n ≤ 4294967295 → column row 0 ≢ Int (pos n)) → (maps : Maps) → Holds schema old.now maps
+        → (n : ℕ) × Count (maps t.place) good n × (4294967295 < n)
+    count_many read old new found maps held =
+        let all = count_gives schema t.place t.shape tests [] text given good reads is.texts.listed read.command_is read.bare read.unlisted single is.texts.key_cell old new (Ok found.0) found.1 maps held in
+        let many : all.0 ≤ 4294967295 → ⊥ = λ few.
+        let same : min all.0 9223372036854775807 ≡ all.0 = omega arith in
+        let is : column found.0 0 ≡ Int (pos all.0) = ap (λ r. column r 0) all.2 ∙ ap (λ n. Int (pos n)) same in
+        let wide : length found.0 ≡ 1 = ap length all.2 in
+        found.2 (omega arith) all.0 few is in
+        (all.0, all.1, omega arith)
+
+    pub counts_by : IsRead schema text (count_of t.shape tests) → {S : Type 0} (g : Ghosts S) (old new : Held S) (result : Result ℕ Fault) → CountShown text given g old new result → Counts t good g old new result
+    counts_by read =
+        counts_of t text (plain_of read) given good
+        (count_found schema t.place t.shape tests [] text given good reads is.texts.listed read.command_is read.bare read.unlisted single is.texts.key_cell) (count_many read)
 
   -- all rows
   pub lists_all : {S L : Type 0} (items : L → List R) (g : Ghosts S) (old new : Held S) (result : Result L Fault) → AllEntries items t.cells t.IsLegal (all_text t.shape) [] g old new result → Lists t items (λ m. Listed m is_any) g old new result
-  lists_all items g old new result entries =
-      lists_of t items (all_text t.shape) all_plain [] (λ m. Listed m is_any)
-      (list_found schema t.place t.shape [] (names_of t.shape) (all_text t.shape) [] is_any (λ r. refl)
-      (record { listed = is.texts.listed; command = is.texts.all.command_is; bare = is.texts.all.bare; unlisted = is.texts.all.unlisted; single = single; key_cell = is.texts.key_cell; as_cells = as_cells }))
-      (λ m rows listed v there. let at = listed.sound v there in (at.0, at.1)) (are_encoded is) g old new result entries
+  lists_all = lists_by [] (all_text t.shape) [] is_any (λ r. refl) is.texts.all
 
   -- a page
   pub lists_page : (a : ℤ) → {S L : Type 0} (items : L → List R) (g : Ghosts S) (old new : Held S) (result : Result L Fault) → AllEntries items t.cells t.IsLegal (page_text t.shape) (Int a ∷ []) g old new result
       → Lists t items (λ m. FirstRows PAGE_ROWS m (is_from a)) g old new result
-  lists_page a items g old new result entries =
-      lists_of t items (page_text t.shape) page_plain (Int a ∷ []) (λ m. FirstRows PAGE_ROWS m (is_from a))
-      (page_found schema t.place t.shape from_key by_number PAGE_ROWS (names_of t.shape) (page_text t.shape) (Int a ∷ []) (is_from a) (λ r. rw (is.texts.key_cell r) refl) (λ x y _ _ less. rw less refl)
-      (record { listed = is.texts.listed; command = is.texts.page.command_is; bare = is.texts.page.bare; unlisted = is.texts.page.unlisted; single = single; key_cell = is.texts.key_cell; as_cells = as_cells; cut = λ given l. refl }))
-      (λ m rows first v has. there PAGE_ROWS m (is_from a) rows first v has) (are_encoded is) g old new result entries
+  lists_page a = pages_by from_key (page_text t.shape) (Int a ∷ []) (is_from a) (λ r. rw (is.texts.key_cell r) refl) is.texts.page
 
   -- the picture after a change of the map at the place
   drawn : (old new : State) (change : Maps → Maps) (m : Map → Map) (u : Picture → ℕ → Option R)

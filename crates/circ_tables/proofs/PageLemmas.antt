@@ -28,60 +28,17 @@ use Rattle.sql_maps.proofs.PageLemmas.{Pages, page_found}
 use Rattle.sql_maps.proofs.OrderLemmas.{page_sorted}
 use Rattle.sql_maps.proofs.Words.{in_order_up_to}
 use Rattle.circ_tables.specs.Paired.{by_pair}
-use Rattle.circ_tables.specs.Shape.{schema, loans, holds, lines, kept, loans_place, holds_place, lines_place, kept_place}
+use Rattle.circ_tables.specs.Shape.{schema, loans, kept, loans_place, kept_place}
 use Rattle.circ_tables.specs.Texts.{names_of}
-use Rattle.circ_tables.specs.Selections.{is_ready_after, is_overdue_after, is_line_after, is_after, is_any, is_kept_after}
+use Rattle.circ_tables.specs.Selections.{is_overdue_after, is_after, is_any, is_kept_after}
 use Rattle.circ_tables.specs.declared.by_number.TheConstants.{PAGE_ROWS}
-use Rattle.circ_tables.specs.declared.holds.TheConstants.{READY_HOLDS_AFTER_TEXT}
 use Rattle.circ_tables.specs.declared.kept.TheConstants.{FIRST_KEPT_TEXT, KEPT_AFTER_TEXT, KEPT_PAST_TEXT}
-use Rattle.circ_tables.specs.declared.lines.TheConstants.{LINES_AFTER_TEXT}
 use Rattle.circ_tables.specs.declared.loans.TheConstants.{OVERDUE_LOANS_AFTER_TEXT}
 use Rattle.circ_tables.proofs.ListLemmas.{pair_tells, pair_below}
 
 -- a row of a page is one of the map
 pub there : (most : ℕ) (m : Map) (good : Row → _) (rows : List Row) → FirstRows most m good rows → (v : Row) → Has rows v → (k : Row) × (m k ≡ Some v)
 there most m good rows first v has = let at = first.sound v has in (at.0, at.1)
-
-abbrev by_number : List (Term × Key)
-by_number = (col 1 0, ascending Binary) ∷ []
-
--- ---- ready holds
-
-abbrev ready_text : List ℕ
-ready_text = READY_HOLDS_AFTER_TEXT.now
-
-abbrev ready_tests : List Term
-ready_tests = op2 (Compare Eq Binary) (col 1 4) (col 0 0) ∷ op2 (Compare Eq Binary) (col 1 5) (lit (Int (pos 1))) ∷ op2 (Compare Gt Binary) (col 1 0) (col 0 1) ∷ []
-
-ready_pages : Pages schema holds_place holds ready_tests by_number PAGE_ROWS (names_of holds) ready_text
-unfolding understood everything
-ready_pages = record { listed = refl; command = refl; bare = (refl, refl); unlisted = refl; single = λ r. refl; key_cell = λ r. refl; as_cells = λ given l. refl; cut = λ given l. refl }
-
-pub ready_plain : (s : Schema) → s ≡ schema → IsPlain (understood s ready_text)
-ready_plain s e = subst (λ z. IsPlain (understood z ready_text)) (sym e) ready_pages.bare
-
-pub ready_found : (a b : ℕ) → (old new : State) (rows : List Row) → Shown ready_text (Int (pos a) ∷ Int (pos b) ∷ []) old new rows → (maps : Maps) → Holds schema old.now maps
-    → FirstRows PAGE_ROWS (maps holds_place) (is_ready_after a b) rows × IsUnchanged old new
-ready_found a b = page_found schema holds_place holds ready_tests by_number PAGE_ROWS (names_of holds) ready_text (Int (pos a) ∷ Int (pos b) ∷ []) (is_ready_after a b) (λ r. refl) (λ x y _ _ less. rw less refl) ready_pages
-
--- ---- lines of a day
-
-abbrev lines_text : List ℕ
-lines_text = LINES_AFTER_TEXT.now
-
-abbrev lines_tests : List Term
-lines_tests = op2 (Compare Eq Binary) (col 1 3) (col 0 0) ∷ op2 (Compare Gt Binary) (col 1 0) (col 0 1) ∷ []
-
-lines_pages : Pages schema lines_place lines lines_tests by_number PAGE_ROWS (names_of lines) lines_text
-unfolding understood everything
-lines_pages = record { listed = refl; command = refl; bare = (refl, refl); unlisted = refl; single = λ r. refl; key_cell = λ r. refl; as_cells = λ given l. refl; cut = λ given l. refl }
-
-pub lines_plain : (s : Schema) → s ≡ schema → IsPlain (understood s lines_text)
-lines_plain s e = subst (λ z. IsPlain (understood z lines_text)) (sym e) lines_pages.bare
-
-pub lines_found : (a b : ℕ) → (old new : State) (rows : List Row) → Shown lines_text (Int (pos a) ∷ Int (pos b) ∷ []) old new rows → (maps : Maps) → Holds schema old.now maps
-    → FirstRows PAGE_ROWS (maps lines_place) (is_line_after a b) rows × IsUnchanged old new
-lines_found a b = page_found schema lines_place lines lines_tests by_number PAGE_ROWS (names_of lines) lines_text (Int (pos a) ∷ Int (pos b) ∷ []) (is_line_after a b) (λ r. refl) (λ x y _ _ less. rw less refl) lines_pages
 
 -- ---- overdue loans, whose order names `ended` first
 

@@ -1,5 +1,5 @@
 -- What has to be computed of the texts of a table that is keyed by one number. It is the same list of `refl` for each table, and holds of each schema that begins with the tables up to its own.
-use Rattle.std.specs.Prelude.{true, refl, None, ◌≡◌, ◌+◌, ◌-◌, ◌≤◌, ℕ, pos, negsuc, false, List, [], ◌∷◌, ◌++◌, length, map, slice_get, Option, Some}
+use Rattle.std.specs.Prelude.{codes, true, refl, None, ◌≡◌, ◌+◌, ◌-◌, ◌≤◌, ℕ, pos, negsuc, false, List, [], ◌∷◌, ◌++◌, length, map, slice_get, Option, Some}
 use Rattle.std.specs.List.{range_with_len}
 use Rattle.sqlite.specs.Order.{Row, column}
 use Rattle.sqlite.specs.Table.{Table}
@@ -23,7 +23,7 @@ use Rattle.sqlite_value.specs.Keys.{ascending}
 use Rattle.sqlite_tied.specs.Listing.{each_column}
 use Rattle.sqlite.proofs.Callers.{command_of}
 use Rattle.sql_maps.specs.Maps.{Map, Maps, cells}
-use Rattle.sql_maps.proofs.Words.{over, in_order, in_order_up_to}
+use Rattle.sql_maps.proofs.Words.{over, in_order, in_order_up_to, counting}
 use Rattle.sql_maps.proofs.AnswerLemmas.{shown_of}
 use Rattle.sql_maps.proofs.FillLemmas.{suits_kind}
 use Rattle.sql_maps.proofs.WriteLemmas.{Fills, id_test}
@@ -34,6 +34,7 @@ use Rattle.circ_tables.specs.Cells.{number, optional, number_key}
 use Rattle.circ_tables.specs.Encoding.{Encodes, IsEncoded, Any, with_map}
 use Rattle.circ_tables.specs.Reading as typed
 use Rattle.circ_tables.specs.declared.by_number.Texts.{Texts}
+use Rattle.circ_tables.specs.declared.by_number.TheConstants.{PAGE_ROWS}
 use Rattle.circ_tables.specs.Shape.{schema, first}
 
 -- The key is the first parameter; or is not below it.
@@ -58,6 +59,13 @@ put_of at t =
     InsertOr at Abort (Values (put_terms t) (length t.columns + 1))
     (record { target = Some t.primary; update = Some (record { lets = []; body = over t.tree (id_test (length t.columns)) (put_shows t) }) } ∷ [])
 
+-- A page of the rows that pass; how many pass.
+abbrev pub page_of : Table → List Term → Command
+page_of t tests = Select (record { lets = []; body = in_order_up_to t.tree tests (each_column 1 t) by_number (lit (Int (pos PAGE_ROWS))) }) (names_of t)
+
+abbrev pub count_of : Table → List Term → Command
+count_of t tests = Select (record { lets = []; body = counting t.tree tests }) (codes "COUNT(*)" ∷ [])
+
 -- A text is understood as this command.
 pub record IsRun (s : Schema) (text : List ℕ) (command : Command) : Type 0 where
   pub command_is : command_of (understood s text) ≡ command
@@ -78,7 +86,7 @@ pub record IsNumbered (s : Schema) (at : ℕ) (t : Table) : Type 0 where
   pub take : IsRun s (take_text t) (Delete at (record { lets = []; body = over t.tree by_key (col 1 0 ∷ []) }))
   pub get : IsRead s (get_text t) (Select (record { lets = []; body = over t.tree by_key (each_column 1 t) }) (names_of t))
   pub all : IsRead s (all_text t) (Select (record { lets = []; body = in_order t.tree [] (each_column 1 t) (lit (Int (negsuc 0))) }) (names_of t))
-  pub page : IsRead s (page_text t) (Select (record { lets = []; body = in_order_up_to t.tree from_key (each_column 1 t) by_number (lit (Int (pos 1000))) }) (names_of t))
+  pub page : IsRead s (page_text t) (page_of t from_key)
 
 -- The five texts are those of the table.
 pub record AreTexts (t : Table) (texts : Texts) : Type 0 where

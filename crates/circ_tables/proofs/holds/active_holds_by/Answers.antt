@@ -1,10 +1,10 @@
-use Rattle.sql_maps.specs.Maps.{Listed}
-use Rattle.circ_tables.specs.Holds.{holds, holds_are}
+use Rattle.std.proofs.Common.{◌∷◌, [], refl}
+use Rattle.circ_tables.specs.Cells.{number}
+use Rattle.circ_tables.specs.Holds.{holds_are}
 use Rattle.circ_tables.specs.Selections.{is_active_by}
-use Rattle.circ_tables.proofs.ListLemmas.{active_holds_by_found, active_holds_by_plain}
-use Rattle.circ_tables.proofs.ReadingLemmas.{lists_of}
-use Rattle.circ_tables.proofs.ShownLemmas.{are_encoded}
+use Rattle.circ_tables.proofs.FoundLemmas.{active_holds_by_tests, active_holds_by_is}
+use Rattle.circ_tables.proofs.NumberedLemmas.{lists_by}
 use Rattle.circ_tables.proofs.holds.active_holds_by.Goals as goal
 
 pub returns : goal.returns
-returns g c = lists_of holds _ _ active_holds_by_plain _ (λ m. Listed m (is_active_by c.args.patron)) (active_holds_by_found c.args.patron) (λ m rows listed v there. let at = listed.sound v there in (at.0, at.1)) (are_encoded holds_are) _ _ _ _ (rw (c.params-to_sql.ensures, c.number.ensures.value) at c.rows_of.ensures)
+returns g c = lists_by holds_are active_holds_by_tests _ (number c.args.patron ∷ []) (is_active_by c.args.patron) (λ r. refl) active_holds_by_is _ _ _ _ _ (rw (c.params-to_sql.ensures, c.number.ensures.value) at c.rows_of.ensures)

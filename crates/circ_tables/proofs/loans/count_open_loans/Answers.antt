@@ -1,8 +1,10 @@
-use Rattle.circ_tables.specs.Loans.{loans}
+use Rattle.std.proofs.Common.{◌∷◌, [], refl}
+use Rattle.circ_tables.specs.Cells.{number}
+use Rattle.circ_tables.specs.Loans.{loans_are}
 use Rattle.circ_tables.specs.Selections.{is_open_by}
-use Rattle.circ_tables.proofs.FoundLemmas.{open_loans_found, open_loans_many, open_loans_plain}
-use Rattle.circ_tables.proofs.ReadingLemmas.{counts_of}
+use Rattle.circ_tables.proofs.FoundLemmas.{count_open_loans_tests, count_open_loans_is}
+use Rattle.circ_tables.proofs.NumberedLemmas.{counts_by}
 use Rattle.circ_tables.proofs.loans.count_open_loans.Goals as goal
 
 pub returns : goal.returns
-returns g c = counts_of loans _ open_loans_plain _ (is_open_by c.args.patron) (open_loans_found c.args.patron) (open_loans_many c.args.patron) _ _ _ _ (rw (c.params-to_sql.ensures, c.number.ensures.value) at c.counted.ensures)
+returns g c = counts_by loans_are count_open_loans_tests _ (number c.args.patron ∷ []) (is_open_by c.args.patron) (λ r. refl) count_open_loans_is _ _ _ _ (rw (c.params-to_sql.ensures, c.number.ensures.value) at c.counted.ensures)
