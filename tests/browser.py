@@ -256,7 +256,34 @@ def clerk(driver, base):
     need("words that are none", desk.words("check-out 1"), "These are not the words of a command: check-out 1.")
     need("no name is empty", [it for it in desk.names() if not it[1]], [])
     need("320 pixels", desk.fits(320), True)
-    return desk
+    every_number(driver, desk)
+
+
+def every_number(driver, desk):
+    """Each refusal and each fault is shown in the words of the rules; here the answers are made in the browser."""
+    numbers = re.findall(r"^\| (\d+) \| ([^|]*?) \|", outside.document("RULES.md"), re.M)
+    need("how many numbers", len(numbers), 40)
+    for number, meant in numbers:
+        name, status = ("fault", 503) if int(number) >= 90 else ("refusal", 403 if number == "81" else 409)
+        driver.execute_script(f"window.fetch = async () => new Response(JSON.stringify({{{name}: {number}}}), {{status: {status}}})")
+        text = f"The desk met a fault ({number}): {meant}. Send it again later: it acts once." if name == "fault" else f"Refused ({number}): {meant}."
+        need(f"number {number}", desk.words("renew 1"), text)
+        need(f"whether {number} can be sent again", desk.it("again").is_displayed(), name == "fault")
+    driver.refresh()
+
+
+def killed(driver, base, serving):
+    """The program is killed before a check-out reaches it, and started again: there is one loan."""
+    desk = Desk(driver, base, 2)
+    desk.scan("3")
+    serving.kill()
+    desk.mark()
+    driver.switch_to.active_element.send_keys("20", Keys.ENTER)
+    until("not known", lambda: desk.told().startswith("Not known yet"))
+    driver.switch_to.active_element.send_keys("20", Keys.ENTER)
+    serving.start()
+    until("an answer", desk.is_noted, 60)
+    need("the loan", desk.told()[:7], "Loan 5,")
 
 
 def patron(driver, base, serving):
@@ -335,18 +362,21 @@ def tried(behind, pictures):
                 if pictures:
                     look(driver, "desk-page.png")
                 page = patron(driver, base, serving)
+                need("a look at the page", page.it("page").is_displayed(), True)
                 if pictures:
                     page.type("title", "300")
                     page.type("branch", "2")
                     driver.switch_to.active_element.send_keys(Keys.ENTER)
                     until("a hold", lambda: page.told().startswith("Hold "))
                     look(driver, "patron-page.png")
+                killed(driver, base, serving)
                 wrong = [it["message"] for it in driver.get_log("browser") if "Content Security" in it["message"] or "Uncaught" in it["message"]]
                 need("what the browser complains of", wrong, [])
         finally:
             driver.quit()
             serving.kill()
         need("the hold was cancelled once", serving.rows("SELECT count(*) FROM kept WHERE text = 'cancel-hold 3'"), [(1,)])
+        need("there is one loan of the copy", serving.rows("SELECT count(*) FROM loans WHERE copy = 20 AND ended IS NULL"), [(1,)])
         need("an audit", outside.run(outside.PROGRAM, "audit", serving.path).stdout, "sound\n")
 
 
