@@ -6,7 +6,8 @@ Each list of requests has a new library: a copy of the small one that the fiftee
 of docs/RULES.md, worked out by hand; the rules in plain Python (`desk_rules`) say them once more, as far as they reach. The
 desk's lists are run by words on one library and by POST /desk on another, and end in the same rows. In the patrons' lists a line
 that begins with a number and a card key is what that patron asks by the routes. Which checks there are, and which forms, is read
-from the table of commands in docs/RULES.md, so that none is left out.
+from the table of commands in docs/RULES.md, so that none is left out. So a program that tells a fault to each renewal, or to any
+other kind of request, fails here: no clause can say that there is memory.
 """
 
 import copy

@@ -655,6 +655,9 @@ def take_in(path, copies):
     return run.stdout.decode(), run.returncode
 
 
+MADE = 600  # so many creations are killed at most, until they hit
+
+
 def a_creation(folder):
     """A run that makes a library is killed at random moments: nothing was told, or the library is whole."""
     seed = random.randrange(10**9)
@@ -662,15 +665,17 @@ def a_creation(folder):
     print(f"end to end: libraries that are made, moments of kills by the seed {seed}")
     words = ["g1", "begin-day", "2026-03-02"]
     took = max(timed(lambda: circ(["file", os.path.join(folder, f"calm{at}.db"), *words]))[1] for at in range(3))
-    for at in range(60):
+    for at in range(MADE):
+        if at >= 60 and hits["no file"] and hits["a library"]:
+            break
         path = os.path.join(folder, f"made{at}.db")
-        printed, _ = kill_at_work(["file", path, *words], moments.uniform(0, (0.2 if at % 2 else 1.2) * took))
+        printed, hit = kill_at_work(["file", path, *words], moments.uniform(0, (0.2 if at % 2 else 1.2) * took))
         there = os.path.exists(path) and os.path.getsize(path) > 0
-        line, status = circ(["file", path, *words])
-        if printed:
-            check(f"the library that was told is there, seed {seed}", (printed, line, status), ("ok\n", "ok", 0))
-        hits["no file" if not there else "fault 93" if line == "fault 93" else "a library"] += 1
-        check(f"a library, or none, seed {seed}", (line, status) in (("ok", 0), ("fault 93", 3)), True)
+        found = circ(["file", path, *words])
+        # what was told is there; of what wasn't told a part may be, which is told as no library
+        wanted = [("ok\n", ("ok", 0)), ("", ("ok", 0)), ("", ("fault 93", 3))]
+        check(f"a library, or none, seed {seed}: {printed} {found}", (printed, found) in wanted, True)
+        hits["no file" if not there else "fault 93" if found[1] else "a library"] += hit
     print("end to end: creations killed: " + ", ".join(f"{many} left {what}" for what, many in hits.items()))
     check(f"kills left no file and libraries, seed {seed}", (hits["no file"] > 0, hits["a library"] > 0), (True, True))
 
@@ -688,21 +693,21 @@ def lost_output(folder):
         with open("/dev/full", "wb") as full:
             check(f"a full disk at {words[0]}", subprocess.run([CIRC, *words], stdout=full, timeout=120).returncode, 3)
     with open(copies, "w", encoding="utf-8") as file:
-        file.write(HEADER + "".join(f"{1000 + n},{700 + n},Volume {n},1,1,100,end\n" for n in range(200)))
+        file.write(HEADER + "".join(f"{1000 + n},{700 + n},Volume {n},1,1,100,end\n" for n in range(2000)))
     with open("/dev/full", "wb") as full:
         run = subprocess.run([CIRC, "import", path, copies], stdout=full, timeout=120)
     check("a full disk at the first row", run.returncode, 3)
     check("one row was handled", rows(path, "SELECT copy FROM copies WHERE copy >= 1000"), [(1000,)])
-    # the reader goes after three lines; what ignores the signal sees the write fail
-    with subprocess.Popen([PROGRAM, "import", path, copies], stdout=subprocess.PIPE, restore_signals=False) as run:
+    # the reader goes after three lines; what ignores the signal sees the write fail. The pipe holds a part of the lines, so some are written after that
+    with subprocess.Popen([PROGRAM, "import", path, copies], stdout=subprocess.PIPE, bufsize=0, pipesize=4096, restore_signals=False) as run:
         lines = [run.stdout.readline() for _ in range(3)]
         run.stdout.close()
         status = run.wait(timeout=120)
     check("lines before the reader went", lines, [b"row 1 ok\n", b"row 2 ok\n", b"row 3 ok\n"])
     check("a pipe that is closed", status, 3)
     found = [copy for (copy,) in rows(path, "SELECT copy FROM copies WHERE copy >= 1000 ORDER BY copy")]
-    check("a beginning of the rows", (found, 3 <= len(found) < 200), (list(range(1000, 1000 + len(found))), True))
-    check("the rest is taken in", take_in(path, copies), ("".join(f"row {n} ok\n" for n in range(1, 201)) + "accepted 200 refused 0\n", 0))
+    check("a beginning of the rows", (found, 3 <= len(found) < 2000), (list(range(1000, 1000 + len(found))), True))
+    check("the rest is taken in", take_in(path, copies), ("".join(f"row {n} ok\n" for n in range(1, 2001)) + "accepted 2000 refused 0\n", 0))
 
 
 # A library with loans, one of them overdue, a hold that waits, two that are ready, a lost copy and an account.
@@ -764,8 +769,8 @@ def the_readme(folder):
         check(f"the example of {word}", words[0], word)
         line = library.handle(f"e{at}", words)
         check(f"{example}", answers(path, f"e{at}", words), (line + "\n", status_of(line)))
-        known = line.split()[1] in re.findall(r"\d+", refusals) if line.startswith("refused") else True
-        check(f"the refusal of {example} is in its row", known, True)
+        refused = re.findall(r"^refused (\d+)$", line)
+        check(f"the refusal of {example} is in its row", [it for it in refused if it not in re.findall(r"\d+", refusals)], [])
 
 
 def two_at_once(folder):
@@ -774,20 +779,19 @@ def two_at_once(folder):
     say(path, GROUND)
     with open(copies, "w", encoding="utf-8") as file:
         file.write(HEADER + "".join(f"{1000 + n},{700 + n},Volume {n},1,1,100,end\n" for n in range(2000)))
-    turned_away = 0
     with subprocess.Popen([PROGRAM, "import", path, copies], stdout=subprocess.PIPE) as run:
         check("the first row", run.stdout.readline(), b"row 1 ok\n")
-        for at in range(5):
-            words = ["file", path, f"w{at}", "place-hold", "2", "100", "1"]
-            other = subprocess.run([PROGRAM, *words], capture_output=True, timeout=120)
-            line = other.stdout.decode()
-            turned_away += (line, other.returncode) == ("fault 91\n", 3)
-            check("the other run", line in ("fault 91\n", "hold 1\n", "refused 50\n"), True)
-            # the first may let go of the file just after the other was turned away
-            check("what it says", other.stderr in [message(words, line, held) for held in (True, False)], True)
+        # it stands still meanwhile, so that it isn't at its end
+        run.send_signal(signal.SIGSTOP)
+        try:
+            for at in range(5):
+                words = ["file", path, f"w{at}", "place-hold", "2", "100", "1"]
+                other = subprocess.run([PROGRAM, *words], capture_output=True, timeout=120)
+                check("the other run", (other.stdout, other.stderr, other.returncode), (b"fault 91\n", message(words, "fault 91\n", True), 3))
+        finally:
+            run.send_signal(signal.SIGCONT)
         rest = run.stdout.read().decode()
         check("the run at work", (run.wait(timeout=120), rest.endswith("accepted 2000 refused 0\n")), (0, True))
-    check("another was turned away", turned_away > 0, True)
     check("nothing is lost", rows(path, "SELECT COUNT(*) FROM copies"), [(2004,)])
 
 

@@ -19,9 +19,11 @@ def run(*words, **more):
 
 
 def main():
-    wrong = []
+    compared, wrong = 0, []
 
     def same(what, one, other):
+        nonlocal compared
+        compared += 1
         if one != other:
             wrong.append(f"{what}: {one!r} is not {other!r}")
 
@@ -44,7 +46,7 @@ def main():
     same("no place", run(install).returncode, 4)
     for line in wrong:
         print(line)
-    print(f"installed: 7 compared, {len(wrong)} differ")
+    print(f"installed: {compared} compared, {len(wrong)} differ")
     return 1 if wrong else 0
 
 

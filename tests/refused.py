@@ -8,6 +8,7 @@ One request for memory is refused by a library of C (tests/refuse.c) that is loa
 files, and of a program that serves; and one thread of that. Limits of the system on memory and on the size of files refuse all from some place on.
 """
 
+import http.client
 import json
 import os
 import resource
@@ -25,7 +26,7 @@ import end_to_end as desk
 from desk_rules import Library
 from end_to_end import CIRC, GROUND, HEADER, PROGRAM, TOP, check, rows, say, the_rows_are, whole
 from messages import message
-from web import DESK_KEY, free_port
+from web import DESK_KEY, everything, started
 
 STEP = 64 * 1024
 SAMPLE = 24  # how many limits of the system are tried where not each is
@@ -85,24 +86,21 @@ def scripts_in_memory(refusing, everything):
         subprocess.run(["rt", "run"], cwd=f"{TOP}/crates/memory_scripts", stdin=subprocess.DEVNULL, stdout=subprocess.DEVNULL, stderr=subprocess.DEVNULL, check=False)
     plain = refusing.run([SCRIPTS, "play"], 0)
     check("the scripts, with memory", (plain.returncode, plain.stdout.count(b"|ok|") > 80, plain.stderr), (0, True, b"refused: 0\n"))
-    count = refusing.count()
-    met, own = 0, 0
+    count, told = refusing.count(), Counter()
 
     def one(number):
         return number, subprocess.run([SCRIPTS, "play"], env={**os.environ, "LD_PRELOAD": refusing.library, "REFUSE": str(number)}, capture_output=True, timeout=300, check=False)
 
     with ThreadPoolExecutor(os.cpu_count()) as pool:
         for number, run in pool.map(one, places(count, 300, everything)):
-            if run.returncode:
-                # the program's own work had no memory
-                check(f"the end of the scripts, request {number} refused: {run}", run.returncode == 1 and plain.stdout.startswith(run.stdout), True)
-                own += 1
-            else:
-                check(f"the rows of the scripts, request {number} refused", run.stdout, plain.stdout)
-                check(f"what was refused, request {number}", run.stderr in (b"refused: 0\n", b"refused: 1\n"), True)
-                met += run.stderr == b"refused: 1\n"
-    check("requests of the desk were refused memory", met > 50, True)
-    print(f"refused: of {count} requests for memory of the scripts {met} were a request's of the desk, each refused and asked again; {own} were the scripts' own")
+            # the program's own work had no memory, or the rows are the same, be it a request's of the desk that was refused or nobody's who noticed
+            own = "the scripts' own" if run.returncode == 1 and plain.stdout.startswith(run.stdout) else ""
+            ends = {(0, plain.stdout, b"refused: 1\n"): "a request's of the desk, asked again", (0, plain.stdout, b"refused: 0\n"): "nobody's"}
+            what = own or ends.get((run.returncode, run.stdout, run.stderr), "")
+            check(f"the end of the scripts, request {number} refused: {what or run}", what != "", True)
+            told[what] += 1
+    check("requests of the desk were refused memory", told["a request's of the desk, asked again"] > 50, True)
+    print(f"refused: {told.total()} of {count} requests for memory of the scripts: {dict(told)}")
 
 
 def one_request_in_a_file(folder, refusing, everything):
@@ -119,15 +117,11 @@ def one_request_in_a_file(folder, refusing, everything):
         for number in places(refusing.count(), 40, everything):
             copied(base, path)
             run = refusing.run([PROGRAM, *run_words], number)
-            out, where = run.stdout.decode(), f"{words}, request {number} refused"
-            found = whole(path)
-            if run.returncode:
-                check(f"the fault of {where}: {run}", (out in ("fault 90\n", "fault 91\n"), run.returncode), (True, 3))
-                check(f"the rows after {where}", found in (before, after), True)
-                told[out.strip()] += 1
-            else:
-                check(f"the answer to {where}", (run.stdout, found == after), (plain.stdout, True))
-                told["none"] += 1
+            where, found = f"{words}, request {number} refused", (run.stdout, run.returncode, whole(path))
+            # a fault leaves the rows before the request, or with it where it came at the end
+            ends = [(plain.stdout, 0, after), *((f"fault {fault}\n".encode(), 3, left) for fault in (90, 91) for left in (before, after))]
+            check(f"the end of {where}: {found[:2]}", found in ends, True)
+            told[run.stdout.decode().strip() if run.returncode else "none"] += 1
             again = subprocess.run([PROGRAM, *run_words], capture_output=True, timeout=300, check=False)
             check(f"again after {where}", (again.returncode, again.stdout), (0, plain.stdout))
             check(f"the rows then, {where}", whole(path), after)
@@ -137,69 +131,100 @@ def one_request_in_a_file(folder, refusing, everything):
 
 def end_of(run, port):
     """What a program that serves still prints and its status, once its last connections are taken up by clients that ask for nothing."""
-    for _ in range(200):
-        if run.poll() is not None:
-            break
+    began = time.monotonic()
+    while run.poll() is None and time.monotonic() - began < 120:
         try:
-            socket.create_connection(("127.0.0.1", int(port)), timeout=5).close()
+            socket.create_connection(("127.0.0.1", port), timeout=60).close()
         except OSError:
             time.sleep(0.05)
     out, _ = run.communicate(timeout=60)
     return out.decode().splitlines(), run.returncode
 
 
+NO_ANSWER = "fault network\n"
+
+
+def fault_answers(*numbers):
+    return [f'{{"fault":{it}}}\n' for it in numbers]
+
+
+class RefusedWeb:
+    """A program that serves two workers with three connections each, of which one request for memory is refused, and what it answered to the requests."""
+
+    def __init__(self, refusing, base, path, number, requests):
+        self.number, self.requests, self.answers, self.met = number, requests, [], None
+
+        def words_for(port):
+            copied(base, path)
+            return ["serve", path, str(port), "2", "3", DESK_KEY]
+
+        run, port, self.first = started(words_for, env=refusing.how(number))
+        self.begun = before = refusing.count()
+        if self.first == f"listening on {port}\n":
+            for key, words, _ in requests:
+                sent = subprocess.run([PROGRAM, "send", str(port), DESK_KEY, key, *words], capture_output=True, timeout=120, check=False)
+                now = refusing.count()
+                if before < number <= now:
+                    self.met = len(self.answers)
+                self.answers.append(sent.stdout.decode())
+                before = now
+        self.lines, self.status = end_of(run, port)
+        self.is_closed = self.lines in (["fault 90"], ["fault 91"])
+
+    def ends(self):
+        """How it may end: its first line, whether it answered, the lines after that, and the status."""
+        answered, printed = bool(self.answers), (self.lines, self.status)
+        if not answered:
+            return self.first in ("fault 90\n", "fault 91\n", "fault 92\n") and printed == ([], 3)
+        return printed in (([], 0), (["fault 90"], 3), (["fault 91"], 3), (["fault threads"], 3))
+
+    def due(self, plain, page_before):
+        """What each request may be answered: its reply, save the one at which memory was refused, and those after it where that closed the web, or a thread less has none for
+        the last. A page is the one with the first request's row, if that got its reply."""
+        found = []
+        for at, ((_, words, _), wanted) in enumerate(zip(self.requests, plain)):
+            is_page, is_met = words[0] == "page", at == self.met
+            pages = [wanted] if self.answers[:1] == plain[:1] else [wanted, page_before]
+            right = pages if is_page else [wanted]
+            if self.lines == ["fault threads"]:
+                found.append([NO_ANSWER] if at == 3 else right)
+            elif is_met:
+                found.append(right + fault_answers(90, 91, 92) + [NO_ANSWER])
+            elif self.is_closed and (self.met is None or at > self.met) and not is_page:
+                found.append(fault_answers(92))
+            else:
+                found.append(right)
+        return found
+
+
 def one_request_of_the_web(folder, refusing, everything):
-    """A program that serves, of which one request for memory is refused: what is sent is answered with its reply or a fault, or one gets no answer, and what got a reply is in the
-    rows. Where a fault closed the web, what is submitted later is told 92, and the program ends with that fault; else it ends as ever. After a restart each that got no reply is
-    sent again under its key, and all is there once."""
+    """A program that serves, of which one request for memory is refused: what is sent is answered with its reply. Only the request at which that memory was wanted is told a fault,
+    or gets no answer; where the fault closed the web, what is submitted later is told 92, and the program ends with that fault; else it ends as ever. After a restart each is sent again
+    under its key, and all is there once."""
     base, path, told = os.path.join(folder, "ground.db"), os.path.join(folder, "web.db"), Counter()
     requests = [("s0", ["check-out", "1", "10", "1"], '{"reply":"loan 2 due 2026-03-09"}\n'), ("s1", ["place-hold", "3", "200", "1"], '{"reply":"hold 2"}\n'),
                 ("s2", ["page", "1"], None), ("s3", ["acquire", "77", "700", "1", "1", "900", "Tall Ships"], '{"reply":"ok"}\n')]
-
-    def serve(number):
-        copied(base, path)
-        port = str(free_port())
-        run = subprocess.Popen([PROGRAM, "serve", path, port, "2", "3", DESK_KEY], env=refusing.how(number), stdout=subprocess.PIPE, stderr=subprocess.PIPE, bufsize=0)
-        first = run.stdout.readline().decode()
-        begun, answers = refusing.count(), []
-        if first == f"listening on {port}\n":
-            for key, words, _ in requests:
-                answers.append(subprocess.run([PROGRAM, "send", port, DESK_KEY, key, *words], capture_output=True, timeout=60, check=False).stdout.decode())
-        return first, answers, begun, *end_of(run, port)
-
-    first, plain, begun, lines, status = serve(0)
+    page_before = '{"reply":"patron 1 owed 0 name Ann Bell"}\n'
+    calm = RefusedWeb(refusing, base, path, 0, requests)
+    plain, count = calm.answers, refusing.count()
     check("what is answered", [wanted in (None, found) for (_, _, wanted), found in zip(requests, plain)], [True] * len(requests))
-    check("the end of the web", (lines, status), ([], 0))
-    count = refusing.count()
+    check("the end of the web", (calm.lines, calm.status), ([], 0))
     after = whole(path)
-    for number in [*places(begun, 20, everything), *(begun + it for it in places(count - begun, 60, everything))]:
-        first, answers, _, lines, status = serve(number)
-        where = f"the web, request {number} refused"
-        if not answers:
-            check(f"the start of {where}", (first in ("fault 90\n", "fault 91\n", "fault 92\n"), lines, status), (True, [], 3))
-            told["no web"] += 1
-        elif status:
-            check(f"the end of {where}: {lines}", (lines in (["fault 90"], ["fault 91"], ["fault threads"]), status), (True, 3))
-        else:
-            check(f"the end of {where}", (lines, status), ([], 0))
-        is_closed, is_met = lines in (["fault 90"], ["fault 91"]), False
-        for (key, words, _), wanted, found in zip(requests, plain, answers):
-            is_page = words[0] == "page"
-            if is_closed and is_met and not is_page:
-                check(f"{key} {words} after the fault, {where}", found, '{"fault":92}\n')
-            faults = [f'{{"fault":{it}}}\n' for it in (90, 91, 92)] + ["fault network\n"]
-            is_other_page = is_page and found.startswith('{"reply":"patron 1 owed 0 name Ann Bell') and answers != plain
-            check(f"{key} {words}, {where}: {found!r}", found == wanted or found in faults or is_other_page, True)
-            is_met = is_met or found in faults and not is_page
-            told["replies" if found == wanted else found.strip()] += 1
-        check(f"a fault closed {where}", is_met or not is_closed or not answers, True)
-        check(f"no more than one got no answer, {where}", answers.count("fault network\n") <= 1, True)
+    for number in [*places(calm.begun, 20, everything), *(calm.begun + it for it in places(count - calm.begun, 60, everything))]:
+        web, where = RefusedWeb(refusing, base, path, number, requests), f"the web, request {number} refused"
+        check(f"the end of {where}: {web.first} {web.lines} {web.status}", web.ends(), True)
+        told["no web" if not web.answers else " ".join(web.lines) or "the web went on"] += 1
+        for (key, words, _), found, due in zip(requests, web.answers, web.due(plain, page_before)):
+            check(f"{key} {words}, {where}, {web.met} {web.lines}: {found!r} is not of {due}", found in due, True)
+            told["replies" if found.startswith('{"reply":') else found.strip()] += 1
         for (key, words, _), wanted in zip(requests, plain):
             again = subprocess.run([PROGRAM, "file", path, key, *words], capture_output=True, timeout=60, check=False).stdout.decode()
             check(f"{key} {words} after {where}", json.dumps({"reply": again[:-1]}, ensure_ascii=False, separators=(",", ":")) + "\n", wanted)
         check(f"the rows after {where}", whole(path), after)
-    check("the web was refused memory", sum(many for name, many in told.items() if "fault" in name) > 3, True)
     print(f"refused: one request for memory of the web: {dict(told)}")
+    closed = told["fault 90"] + told["fault 91"]
+    check("the web wasn't opened, was closed and went on", min(told["no web"], closed, told["the web went on"]) > 0, True)
+    check("requests were told 90 or 91, and later ones 92", (told['{"fault":90}'] + told['{"fault":91}'] > 0, told['{"fault":92}'] > 0), (True, True))
 
 
 def missing_threads(folder, refusing):
@@ -208,13 +233,12 @@ def missing_threads(folder, refusing):
     for workers in (1, 2, 8):
         for missing in sorted({1, workers}):
             copied(base, path)
-            port, where = str(free_port()), f"thread {missing} of {workers} missing"
-            how = {**refusing.how(0), "THREAD": str(missing)}
-            run = subprocess.Popen([PROGRAM, "serve", path, port, str(workers), "2", DESK_KEY], env=how, stdout=subprocess.PIPE, stderr=subprocess.PIPE, bufsize=0)
-            check(f"the port, {where}", run.stdout.readline().decode(), f"listening on {port}\n")
+            where, how = f"thread {missing} of {workers} missing", {**refusing.how(0), "THREAD": str(missing)}
+            run, port, first = started(lambda port: ["serve", path, str(port), str(workers), "2", DESK_KEY], env=how)
+            check(f"the port, {where}", first, f"listening on {port}\n")
             for at in range(2 * (workers - 1)):
                 words = ["acquire", str(800 + at), "700", "1", "1", "900", "Tall Ships"]
-                sent = subprocess.run([PROGRAM, "send", port, DESK_KEY, f"t{at}", *words], capture_output=True, timeout=60, check=False)
+                sent = subprocess.run([PROGRAM, "send", str(port), DESK_KEY, f"t{at}", *words], capture_output=True, timeout=60, check=False)
                 check(f"request {at}, {where}", sent.stdout.decode(), '{"reply":"ok"}\n')
             out, _ = run.communicate(timeout=60)
             check(f"the end, {where}", (out.decode(), run.returncode), ("fault threads\n", 3))
@@ -260,65 +284,147 @@ def memory(folder, everything):
         for limit in chosen(range(lowest, enough + 4 * STEP, STEP), everything):
             copied(base, path)
             run = under(words, resource.RLIMIT_AS, limit)
-            out = run.stdout.decode()
-            where = f"{name} under {limit} bytes of memory"
-            check(f"the end of {where}: {run}", (run.returncode, "fault 90" in out or "fault 91" in out) in ((status, False), (3, True)), True)
-            if run.returncode:
-                told[out.split("\n")[-2 if name == "file" or out.count("\n") == 1 else -3]] += 1
-                if name == "file":
-                    check(f"the rows after {where}", whole(path), before)
-                else:
-                    ended = out.count(" ok\n")
-                    check(f"the rows after {where}", rows(path, "SELECT COUNT(*) FROM copies WHERE copy >= 1000"), [(ended,)])
+            out, where = run.stdout.decode(), f"{name} under {limit} bytes of memory"
+            done = out.count(" ok\n")
+            # the whole, or the lines of some rows and a fault; nothing is there but what was told
+            front = "".join(f"row {n} ok\n" for n in range(1, done + 1))
+            faults = {text: fault for fault in ("fault 90", "fault 91") for text in (f"{fault}\n", f"{front}{fault}\naccepted {done} refused 0\n")}
+            check(f"the end of {where}: {run}", (out, run.returncode) in [(lines, status), *((text, 3) for text in faults)], True)
+            found = whole(path)
+            others = {**found, **{table: before[table] for table in ("copies", "titles", "kept", "loans", "meta")}}
+            check(f"the other rows after {where}", others, before)
+            is_lent = out == lines and name == "file"
+            more = [len(found[table]) - len(before[table]) for table in ("copies", "titles", "kept", "loans")]
+            check(f"the rows after {where}", (more, found["meta"] != before["meta"]), ([done, int(done > 0), done + is_lent, int(is_lent)], is_lent))
+            told[faults.get(out, "the whole")] += 1
             again = subprocess.run([PROGRAM, *words], capture_output=True, timeout=300, check=False)
             check(f"again after {where}", (again.stdout.decode(), again.returncode), (lines, status))
     check("runs were refused memory", told["fault 90"] + told["fault 91"] > 4, True)
     print(f"refused: memory: {dict(told)}")
 
 
+def acquiring(n):
+    """The words that acquire a copy, of a title of its own with nearly as many letters as one may have."""
+    return ["acquire", str(2000 + n), str(2000 + n), "1", "1", "900", f"A title of number {n}" + " and so on" * 8]
+
+
+def acquired(port, numbers):
+    """What is answered to requests that acquire copies."""
+    answers = []
+    for n in numbers:
+        connection = http.client.HTTPConnection("127.0.0.1", port, timeout=120)
+        try:
+            connection.request("POST", "/desk", json.dumps(acquiring(n)), {"Desk-Key": DESK_KEY, "Request-Key": f"s{n}"})
+            answers.append(connection.getresponse().read().decode() + "\n")
+        except (OSError, http.client.HTTPException):
+            answers.append(NO_ANSWER)
+        finally:
+            connection.close()
+    return answers
+
+
+def acquired_by_two(port, number):
+    """What two workers answer, which have to take one each: a request and the next, which comes while the first is on its way."""
+    body = json.dumps(acquiring(number)).encode()
+    head = f"POST /desk HTTP/1.1\r\nDesk-Key: {DESK_KEY}\r\nRequest-Key: s{number}\r\nContent-Length: {len(body)}\r\n\r\n".encode()
+    with socket.create_connection(("127.0.0.1", port), timeout=120) as first:
+        first.sendall(head)
+        others = acquired(port, [number + 1])
+        first.sendall(body)
+        return [everything(first).decode().partition("\r\n\r\n")[2] + "\n", *others]
+
+
+OK = '{"reply":"ok"}\n'
+
+
+def are_right(answers, lines, status, where):
+    """Each answer is the one that is due or a fault, or there is none; once a fault closed the web all are told 92; and the program ends with that fault, or as ever."""
+    told = [it for it in lines if it != "fault threads"]
+    check(f"the end of {where}: {lines}", (told in ([], ["fault 90"], ["fault 91"]), lines.count("fault threads") < 2, status), (True, True, 3 if lines else 0))
+    others = [it for it in answers if it not in (OK, NO_ANSWER, *fault_answers(90, 91, 92))]
+    check(f"other answers of {where}", others, [])
+    first = next((at for at, it in enumerate(answers) if it in fault_answers(92)), len(answers))
+    check(f"what comes after 92, {where}", [it for it in answers[first:] if it not in (NO_ANSWER, *fault_answers(92))], [])
+
+
+def are_repeated(path, answers, where):
+    """What got a reply is there, and nothing that wasn't asked for; and all is answered under the same keys, by a program with memory, and is there once."""
+    copies = [copy for (copy,) in rows(path, "SELECT copy FROM copies WHERE copy >= 2000 ORDER BY copy")]
+    told = [2000 + n for n, it in enumerate(answers) if it == OK]
+    check(f"what was told is there, {where}", [it for it in told if it not in copies], [])
+    run, port, first = started(lambda port: ["serve", path, str(port), "1", str(len(answers)), DESK_KEY])
+    check(f"the port after {where}", first, f"listening on {port}\n")
+    check(f"the same keys after {where}", acquired(port, range(len(answers))), [OK] * len(answers))
+    check(f"the end after {where}", end_of(run, port), ([], 0))
+    copies = [copy for (copy,) in rows(path, "SELECT copy FROM copies WHERE copy >= 2000 ORDER BY copy")]
+    check(f"each is there once after {where}", copies, [2000 + n for n in range(len(answers))])
+
+
 def serving_memory(folder, everything):
-    """`serve` under falling limits of memory: it listens, or ends with a fault; where it listens each answer is the one that is due, or a fault, and the rows are those
-    of the requests that got a reply."""
+    """`serve` under falling limits of memory: it listens, or ends with a fault; where it listens each answer is the one that is due, or a fault. What got a reply is there, and all is
+    answered afterwards under the same keys."""
     base, path = os.path.join(folder, "base.db"), os.path.join(folder, "served.db")
     lowest, told = least(begins, STEP, 2**31), Counter()
 
     def serve(limit):
-        copied(base, path)
-        port = str(free_port())
+        def words_for(port):
+            copied(base, path)
+            return ["serve", path, str(port), "2", "4", DESK_KEY]
 
-        def before():
-            resource.setrlimit(resource.RLIMIT_AS, (limit, limit))
+        run, port, first = started(words_for, preexec_fn=lambda: resource.setrlimit(resource.RLIMIT_AS, (limit, limit)))
+        answers = acquired(port, range(8)) if first == f"listening on {port}\n" else None
+        return first, answers, *end_of(run, port)
 
-        run = subprocess.Popen([PROGRAM, "serve", path, port, "2", "4", DESK_KEY], preexec_fn=before, stdout=subprocess.PIPE, stderr=subprocess.PIPE)
-        first = run.stdout.readline().decode()
-        if first != f"listening on {port}\n":
-            out, _ = run.communicate(timeout=60)
-            return first + out.decode(), run.returncode, None
-        answers = []
-        for n in range(8):
-            sent = subprocess.run([PROGRAM, "send", port, DESK_KEY, f"s{n}", "acquire", str(2000 + n), "600", "1", "1", "900", "Tall Ships"], capture_output=True, timeout=60, check=False)
-            answers.append(sent.stdout.decode())
-            if run.poll() is not None:
-                break
-        out, _ = run.communicate(timeout=120)
-        return out.decode(), run.returncode, answers
-
-    enough = least(lambda limit: serve(limit)[1:] == (0, ['{"reply":"ok"}\n'] * 8), lowest, 2**31)
+    enough = least(lambda limit: serve(limit)[1:] == ([OK] * 8, [], 0), lowest, 2**31)
     for limit in chosen(range(lowest, enough + 4 * STEP, STEP), everything):
-        out, status, answers = serve(limit)
+        first, answers, lines, status = serve(limit)
         where = f"serve under {limit} bytes of memory"
-        last = (out.split("\n")[:-1] or [""])[-1]
         if answers is None:
-            check(f"the end of {where}", (last in ("fault 90", "fault 91", "fault 92"), status), (True, 3))
-            told[f"no web, {last}"] += 1
-            continue
-        replied = answers.count('{"reply":"ok"}\n')
-        kept = rows(path, "SELECT COUNT(*) FROM copies WHERE copy >= 2000")[0][0]
-        check(f"what was answered under {limit}: {answers}", {it.split(":")[0] for it in answers} <= {'{"reply"', '{"fault"', "fault network\n"}, True)
-        check(f"what was kept under {limit}: {answers}", replied <= kept <= len(answers), True)
-        check(f"the end of {where}: {out}", status in (0, 3), True)
-        told["whole" if replied == 8 else "in part"] += 1
+            check(f"the end of {where}: {first}", (first in ("fault 90\n", "fault 91\n", "fault 92\n"), lines, status), (True, [], 3))
+        else:
+            are_right(answers, lines, status, where)
+        told.update([f"no web, {first.strip()}"] if answers is None else map(str.strip, answers))
+        are_repeated(path, answers or [NO_ANSWER] * 8, where)
+    check("the web was not opened, and was opened", (any(it.startswith("no web") for it in told), told[OK.strip()] > 0), (True, True))
     print(f"refused: memory of the web: {dict(told)}")
+
+
+def data_of(run):
+    """How much memory for data a program has, in bytes."""
+    with open(f"/proc/{run.pid}/status", encoding="utf-8") as file:
+        return next(int(line.split()[1]) * 1024 for line in file if line.startswith("VmData:"))
+
+
+MOST = 4_000  # so many copies at most are acquired of a program that gets no more memory, until it wants more
+
+
+def refused_after_listening(folder):
+    """A program that serves, and gets no more memory from some time on: it answers, until the desk wants more. That request is told the fault and each later one 92, pages stay, and the
+    program ends with the fault; afterwards all is answered under the same keys."""
+    base, path = os.path.join(folder, "base.db"), os.path.join(folder, "grown.db")
+
+    def words_for(port):
+        copied(base, path)
+        return ["serve", path, str(port), "2", str(MOST // 2), DESK_KEY]
+
+    for more in (0, STEP):
+        run, port, first = started(words_for)
+        where = f"a web that gets {more} bytes more"
+        check(f"the port of {where}", first, f"listening on {port}\n")
+        # both workers have what they need once they have answered
+        answers = [it for n in range(0, 16, 2) for it in acquired_by_two(port, n)]
+        check(f"what comes before the limit of {where}", answers, [OK] * 16)
+        resource.prlimit(run.pid, resource.RLIMIT_DATA, (data_of(run) + more,) * 2)
+        while answers[-1] == OK and len(answers) < MOST - 40:
+            answers += acquired(port, [len(answers)])
+        check(f"the fault of {where}, after {len(answers)}", answers[-1] in fault_answers(90, 91), True)
+        check(f"what comes after {where}", acquired(port, range(len(answers), len(answers) + 24)), fault_answers(92) * 24)
+        page = subprocess.run([PROGRAM, "send", str(port), DESK_KEY, "p1", "page", "1"], capture_output=True, timeout=120, check=False)
+        check(f"a page after {where}", page.stdout, b'{"reply":"patron 1 owed 0 name Ann Bell"}\n')
+        lines, status = end_of(run, port)
+        check(f"the end of {where}", ([f'{{"fault":{it.split()[-1]}}}\n' for it in lines], status), (answers[-1:], 3))
+        are_repeated(path, answers + fault_answers(92) * 24, where)
+        print(f"refused: memory of {where}: {len(answers) - 1} answered before {answers[-1].strip()}")
 
 
 def disk(folder, everything):
@@ -336,13 +442,13 @@ def disk(folder, everything):
         run = under(["import", path, copies], resource.RLIMIT_FSIZE, limit)
         out = run.stdout.decode()
         check(f"what is said at {limit}", run.stderr, message(["import", path, copies], out))
-        if run.returncode:
-            done = out.count(" ok\n")
-            check(f"the end at {limit}", (out, run.returncode), ("".join(f"row {n} ok\n" for n in range(1, done + 1)) + f"fault 91\naccepted {done} refused 0\n", 3)
-                  if out != "fault 91\n" else ("fault 91\n", 3))
-            hits += 0 < done < 200
-            found = rows(path, "SELECT copy FROM copies WHERE copy >= 3000 ORDER BY copy")
-            check(f"the rows at {limit}", [it for (it,) in found], [it[0] for it in books[:done]])
+        done = out.count(" ok\n")
+        front = "".join(f"row {n} ok\n" for n in range(1, done + 1))
+        ends = [(lines, 0), (f"{front}fault 91\naccepted {done} refused 0\n", 3), ("fault 91\n", 3)]
+        check(f"the end at {limit}", (out, run.returncode) in ends, True)
+        hits += 0 < done < 200
+        found = rows(path, "SELECT copy FROM copies WHERE copy >= 3000 ORDER BY copy")
+        check(f"the rows at {limit}", [it for (it,) in found], [it[0] for it in books[:done]])
         again = subprocess.run([PROGRAM, "import", path, copies], capture_output=True, timeout=300, check=False)
         check(f"again at {limit}", (again.stdout.decode(), again.returncode), (lines, 0))
         the_rows_are(path, library)
@@ -361,6 +467,7 @@ def main():
         missing_threads(folder, refusing)
         memory(folder, everything)
         serving_memory(folder, everything)
+        refused_after_listening(folder)
         disk(folder, everything)
     print(f"refused: {desk.passed} passed, 0 failed")
 

@@ -10,6 +10,7 @@ import os
 import random
 import shlex
 import shutil
+import signal
 import socket
 import struct
 import subprocess
@@ -17,6 +18,7 @@ import tempfile
 import threading
 import time
 from concurrent.futures import ThreadPoolExecutor
+from contextlib import contextmanager
 
 import end_to_end as desk
 from desk_rules import Library
@@ -41,21 +43,46 @@ def free_port():
                 pass
 
 
+PORTS = 20  # so many are tried, since another process may take one before the program does
+
+
+def started(words_for, **how):
+    """The program run by the words for a port, the port, and the first line that it printed. Where another process took that port meanwhile, the next one is tried."""
+    for _ in range(PORTS):
+        port = free_port()
+        # not buffered here, so that what follows the first line is still there to be read
+        run = subprocess.Popen([PROGRAM, *words_for(port)], stdout=subprocess.PIPE, stderr=subprocess.PIPE, bufsize=0, **how)
+        first = run.stdout.readline().decode()
+        if first != "fault network\n":
+            break
+        run.communicate(timeout=60)
+    return run, port, first
+
+
+@contextmanager
+def deaf_port():
+    """A port on which nobody listens, and that nobody else can take meanwhile."""
+    with socket.socket() as taken:
+        taken.bind(("127.0.0.1", 0))
+        yield taken.getsockname()[1]
+
+
 class Serving:
     """The program serving a file for so many connections; at the end it has printed just these lines and has this status.
     Its workers serve as many each, so at the end the spare ones ask for nowhere: were they fewer or more, that would fail.
     No answer tells the desk's key or a card key."""
 
     def __init__(self, path, connections, after="", status=0, workers=1, **how):
-        self.port, self.after, self.status, self.how, self.heard = free_port(), after, status, how, []
+        self.after, self.status, self.how, self.heard = after, status, how, []
         each = -(-connections // workers)
         self.spare = each * workers - connections
-        self.words = ["serve", path, str(self.port), str(workers), str(each), DESK_KEY]
+        self.words_for = lambda port: ["serve", path, str(port), str(workers), str(each), DESK_KEY]
 
     def __enter__(self):
-        self.run = subprocess.Popen([PROGRAM, *self.words], stdout=subprocess.PIPE, stderr=subprocess.PIPE, **self.how)
+        self.run, self.port, first = started(self.words_for, **self.how)
+        self.words = self.words_for(self.port)
         try:
-            check("the first line", self.run.stdout.readline(), f"listening on {self.port}\n".encode())
+            check("the first line", first, f"listening on {self.port}\n")
         except BaseException:
             self.end()
             raise
@@ -84,7 +111,8 @@ class Serving:
         answer = connection.getresponse()
         given = answer.status, answer.read(), dict(answer.getheaders())
         connection.close()
-        if "Content-Length" not in given[2]:
+        # a head that is cut has no such field, or one with nothing in it
+        if given[2].get("Content-Length") != str(len(given[1])):
             raise http.client.IncompleteRead(given[1])
         self.heard += [given[1], str(given[2]).encode()]
         return given
@@ -114,7 +142,7 @@ class Serving:
 
     def raw(self, *pieces, pause=0.002):
         """All the bytes that pieces of a request are answered."""
-        with socket.create_connection(("127.0.0.1", self.port), timeout=60) as peer:
+        with socket.create_connection(("127.0.0.1", self.port), timeout=120) as peer:
             peer.setsockopt(socket.IPPROTO_TCP, socket.TCP_NODELAY, 1)
             for piece in pieces:
                 peer.sendall(piece)
@@ -153,7 +181,7 @@ def a_library(folder, name):
 
 
 def each_route(folder, workers):
-    """Each route with its command, and each status."""
+    """Each route with its command, and each status. A program that tells a fault to all renewals, or breaks every connection, fails here: that there is memory no clause can say."""
     path = a_library(folder, "routes.db")
     hold = b'{"branch":1,"title":100}'
     posted = [
@@ -304,6 +332,36 @@ HOSTILE = [
 ]
 
 
+def is_let_go(peer):
+    """Whether the other end of a connection has let go of it, and sent nothing."""
+    peer.setblocking(False)
+    try:
+        return peer.recv(1, socket.MSG_PEEK) == b""
+    except BlockingIOError:
+        return False
+    finally:
+        peer.settimeout(120)
+
+
+@contextmanager
+def held(run):
+    """The program stands still meanwhile: each of its threads is stopped."""
+    run.send_signal(signal.SIGSTOP)
+    try:
+        tasks = f"/proc/{run.pid}/task"
+        while run.poll() is None and any(state_of(f"{tasks}/{it}/stat") != "T" for it in os.listdir(tasks)):
+            time.sleep(0.001)
+        yield
+    finally:
+        run.send_signal(signal.SIGCONT)
+
+
+def state_of(path):
+    """The state of a thread, a letter behind its name."""
+    with open(path, encoding="utf-8") as file:
+        return file.read().rpartition(")")[2].split()[0]
+
+
 def reset(port, bytes_, pause=0.0):
     """Sends these bytes and breaks the connection, so that reads and writes at its other end fail."""
     with socket.create_connection(("127.0.0.1", port), timeout=60) as peer:
@@ -314,16 +372,18 @@ def reset(port, bytes_, pause=0.0):
 
 def hostile_bytes(folder, workers):
     """What a hostile client sends gets its answer, or none where the connection breaks; then Ann's page is answered as ever, and the rows stay."""
-    path = a_library(folder, "hostile.db")
+    path, long, longer = a_library(folder, "hostile.db"), page_with(2, 8_136), page_with(2, 8_137)
     before, broken = whole(path), [page_with(32)[:30], hold_with(HOLD)[:-1], hold_with(HOLD, key=b"h0")[:40], desk_with(b'["withdraw","10"]')[:-2]]
-    check("the limits of a head", (len(page_with(2, 8_136)), len(page_with(2, 8_137)), page_with(33).count(b": ")), (8_192, 8_193, 33))
+    # reads fail in heads at the limit too, also in the last byte, and past it
+    broken += [head[:at] for head in (long, longer) for at in (4_096, 8_190, 8_191)] + [longer[:8_192]]
+    check("the limits of a head", (len(long), len(longer), page_with(33).count(b": ")), (8_192, 8_193, 33))
 
     def all_is_well(what):
         check(f"the next one after {what}", serving.raw(PAGE_OF_ANN, pause=0), answer("200 OK", ANNS_PAGE))
         with desk.as_it_is(path) as left:
             check(f"the rows after {what}", whole(left), before)
 
-    with Serving(path, 2 * (len(HOSTILE) + len(broken)) + 2 * len(PAUSES) + 2, workers=workers) as serving:
+    with Serving(path, 2 * (len(HOSTILE) + len(broken)) + 2 * len(PAUSES) + 2 + 3 * LOST, workers=workers) as serving:
         for what, request, wanted in HOSTILE:
             check(what, serving.raw(request, pause=0), wanted)
             all_is_well(what)
@@ -336,12 +396,38 @@ def hostile_bytes(folder, workers):
             check("the next one after a cut answer", serving.raw(PAGE_OF_ANN, pause=0), answer("200 OK", ANNS_PAGE))
         check("the same key again", serving.raw(hold_with(HOLD)), answer("200 OK", b'{"reply":"hold 1"}'))
         check("Ann's page", serving.raw(PAGE_OF_ANN), answer("200 OK", ANNS_PAGE))
+        check("writes that failed", sum(is_lost(serving, path, number) for number in range(LOST)), LOST)
     after = whole(path)
-    check("one hold", (len(after["holds"]), after["kept"].pop(), after["meta"]), (1, (2, "h1", "place-hold 2 100 1", "hold 1"), [(1, 1, 20514, 1, 2, 1)]))
-    check("all else stays", {**after, "holds": [], "meta": before["meta"]}, before)
+    kept = [(2, f"l{number}", *it) for number in range(LOST) for it in LOST_HOLDS[number : number + 1]]
+    check("the holds", ([hold[:4] for hold in after["holds"]], after["meta"]), ([(1, 2, 100, 1), (2, 2, 200, 1), (3, 2, 300, 2)], [(1, 1, 20514, 1, 4, 1)]))
+    check("what is kept of them", [it for it in after["kept"] if it not in before["kept"]], sorted([(2, "h1", "place-hold 2 100 1", "hold 1"), *kept]))
+    check("all else stays", {**after, "holds": [], "kept": before["kept"], "meta": before["meta"]}, before)
 
 
 PAUSES = [n / 4000 for n in range(12)]  # in seconds, until a connection is broken whose answer is on its way
+# Holds whose answers are lost, each with what is kept of it.
+LOST_HOLDS = [("place-hold 2 200 1", "hold 2"), ("place-hold 2 300 2", "hold 3")]
+LOST = len(LOST_HOLDS)
+
+
+def is_lost(serving, path, number):
+    """Whether the write of an answer to a hold fails: the connection is broken while the program stands still, before it has read the request; what was sent is read all the
+    same, and acted on. The same request again gets the kept reply."""
+    text, reply = LOST_HOLDS[number]
+    _, _, title, branch = text.split()
+    request = hold_with(f'{{"branch":{branch},"title":{title}}}'.encode(), key=f"l{number}".encode())
+    with held(serving.run):
+        reset(serving.port, request)
+    check("the next one after a lost answer", serving.raw(PAGE_OF_ANN), answer("200 OK", ANNS_PAGE))
+    # another worker may still be at it
+    for _ in range(5_000):
+        with desk.as_it_is(path) as left:
+            is_kept = (2, f"l{number}", text, reply) in whole(left)["kept"]
+        if is_kept:
+            break
+        time.sleep(0.01)
+    check("the same key after a lost answer", serving.raw(request), answer("200 OK", f'{{"reply":"{reply}"}}'.encode()))
+    return is_kept
 
 
 def no_key_is_told(folder):
@@ -362,32 +448,33 @@ def no_key_is_told(folder):
         runs("file", path, f"{own}-{words[0]}", *words)
     check("the patron is there", rows(path, "SELECT card_key FROM patrons WHERE patron = 4"), [(card,)])
     for words in (["file", path, card + "_", "page", "4"], ["import", path, copies], ["import", path, own], ["report", path, "shelf", card],
-                  ["serve", path, "0", "1", "1", desk_key], ["serve", folder, str(free_port()), "1", "1", desk_key],
-                  ["send", str(free_port()), desk_key, own, "page", "4"], [desk_key]):
+                  ["serve", path, "0", "1", "1", desk_key], ["serve", folder, str(free_port()), "1", "1", desk_key], [desk_key]):
         runs(*words)
-    port = str(free_port())
-    words, asked = ["serve", path, port, "2", "30", desk_key], 0
-    with subprocess.Popen([PROGRAM, *words], stdout=subprocess.PIPE, stderr=subprocess.PIPE) as serving:
+    with deaf_port() as port:
+        runs("send", str(port), desk_key, own, "page", "4")
+    serving, port, first = started(lambda port: ["serve", path, str(port), "2", "30", desk_key])
+    asked = 0
+    with serving:
         try:
-            check("the first line", serving.stdout.readline(), f"listening on {port}\n".encode())
+            check("the first line", first, f"listening on {port}\n")
             for shown in (card, wrong, desk_key, own):
                 for target, body in (("/patrons/4", b""), ("/patrons/4/holds", HOLD), ("/patrons/4/holds/1/cancel", b""), ("/patrons/4/loans/1/renew", b""),
                                      ("/desk", json.dumps(["patron", "6", "1", card, "Ed"]).encode()), ("/desk", json.dumps([shown]).encode()),
                                      (f"/{shown}", b"")):
                     method = b"GET" if target == "/patrons/4" else b"POST"
                     lines = [f"{target} HTTP/1.1", f"Card-Key: {shown}", f"Desk-Key: {shown}", f"Request-Key: {own}-{asked}", f"Content-Length: {len(body)}"]
-                    with socket.create_connection(("127.0.0.1", int(port)), timeout=60) as peer:
+                    with socket.create_connection(("127.0.0.1", port), timeout=60) as peer:
                         peer.sendall(method + b" " + "\r\n".join([*lines, "", ""]).encode() + body)
                         peer.shutdown(socket.SHUT_WR)
                         heard.append(everything(peer))
                     asked += 1
             for _ in range(60 - asked - 2):
-                with socket.create_connection(("127.0.0.1", int(port)), timeout=60) as peer:
+                with socket.create_connection(("127.0.0.1", port), timeout=60) as peer:
                     peer.sendall(f"GET /{card}\x00 {desk_key}\r\nCard-Key: {card}".encode())
                     peer.shutdown(socket.SHUT_WR)
                     heard.append(everything(peer))
             for shown in (desk_key, wrong):
-                runs("send", port, shown, own + "-s", "patron", "7", "1", card, "Flo")
+                runs("send", str(port), shown, own + "-s", "patron", "7", "1", card, "Flo")
             heard.extend(serving.communicate(timeout=60))
         finally:
             serving.kill()
@@ -415,13 +502,12 @@ def a_silent_client(folder, workers):
     """A client that sends nothing is let go after half a minute; it keeps one worker waiting and no other."""
     path = a_library(folder, f"silent{workers}.db")
     with Serving(path, 2, workers=workers) as serving:
-        with socket.create_connection(("127.0.0.1", serving.port), timeout=90) as silent:
+        with socket.create_connection(("127.0.0.1", serving.port), timeout=120) as silent:
             began = time.monotonic()
             check("the next one", serving.raw(PAGE_OF_ANN), answer("200 OK", ANNS_PAGE))
-            waited = time.monotonic() - began
-            check("it had waited, if there is one worker", 29 < waited < 45 if workers == 1 else waited < 15, True)
+            check("it came once the silent one was let go, if there is one worker", is_let_go(silent), workers == 1)
             check("the silent one gets nothing", everything(silent), b"")
-            check("it was let go", 29 < time.monotonic() - began < 45, True)
+            check("it was let go after half a minute", time.monotonic() - began > 29, True)
 
 
 def a_damaged_patron(folder, workers):
@@ -429,7 +515,10 @@ def a_damaged_patron(folder, workers):
     path = a_library(folder, "patron.db")
     desk.write(path, "UPDATE patrons SET card_key = 'short' WHERE patron = 2")
     before = whole(path)
-    check("a damaged patron", circ(["serve", path, str(free_port()), str(workers), "1", DESK_KEY]), ("fault 93", 3))
+    words_for = lambda port: ["serve", path, str(port), str(workers), "1", DESK_KEY]
+    run, port, first = started(words_for)
+    out, err = run.communicate(timeout=60)
+    check("a damaged patron", (first + out.decode(), err, run.returncode), ("fault 93\n", message(words_for(port), "fault 93\n"), 3))
     check("the rows stay", whole(path), before)
 
 
@@ -466,7 +555,8 @@ def no_network(folder):
         check("a port that is taken", circ(["serve", os.path.join(folder, "new.db"), str(serving.port), "1", "1", DESK_KEY]),
               ("fault network", 3))
         serving.answers("GET", "/patrons/1", ANN, None, 200, ANNS_PAGE)
-    check("nobody listens", circ(["send", str(free_port()), DESK_KEY, "s1", "page", "1"]), ("fault network", 3))
+    with deaf_port() as port:
+        check("nobody listens", circ(["send", str(port), DESK_KEY, "s1", "page", "1"]), ("fault network", 3))
     # an answer that doesn't come
     with socket.socket() as listener:
         listener.bind(("127.0.0.1", 0))

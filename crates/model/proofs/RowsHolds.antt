@@ -43,6 +43,13 @@ holds_are_filled_by_their_patrons : Gives ground
 unfolding digits reply_text reply_words routed_words
 holds_are_filled_by_their_patrons = gives refl
 
+-- Whose hold is ready takes the copy on the hold shelf, and no other of the title.
+ready_hold_is_filled_by_its_copy_alone : Gives ground
+    (desk (PlaceHold 2 100 1 ∷ CheckIn 10 1 ∷ CheckOut 2 11 1 ∷ CheckOut 1 11 1 ∷ CheckOut 2 10 1 ∷ []))
+    ("hold 1" ∷ "fine 0 ready 1 at 1 until 2026-03-07" ∷ "refused 50" ∷ "loan 1 due 2026-03-09" ∷ "loan 2 due 2026-03-09" ∷ [])
+unfolding digits reply_text reply_words routed_words
+ready_hold_is_filled_by_its_copy_alone = gives refl
+
 -- A ready hold is cancelled at once, and its copy serves the next in line.
 ready_hold_is_cancelled : Gives ground
     (desk (PlaceHold 2 100 1 ∷ PlaceHold 3 100 1 ∷ CheckIn 10 1 ∷ UnshelveCancelled 1 ∷ []))

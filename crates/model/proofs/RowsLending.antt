@@ -1,7 +1,7 @@
 -- Worked examples of lending: due days, renewals, fines, accounts and keys.
 use Rattle.std.specs.Prelude.{◌≡◌, List, [], ◌∷◌, ◌++◌, length, codes, refl}
 use Rattle.std.specs.Fmt.{digits}
-use Rattle.terms.specs.declared.command.Command.TheVariants.{BeginDay, Branch, Week, CloseDay, OpenDay, Kind, Rule, Acquire, CheckOut, CheckIn, Renew, PlaceHold, CancelHold, Missing, Pay, Waive, Page}
+use Rattle.terms.specs.declared.command.Command.TheVariants.{BeginDay, Branch, Week, CloseDay, OpenDay, Kind, Rule, Acquire, CheckOut, CheckIn, Renew, PlaceHold, CancelHold, Missing, Withdraw, Pay, Waive, Page}
 use Rattle.terms.specs.declared.command.Request.{Request}
 use Rattle.terms.specs.Texts.{request_text, command_words, reply_text, reply_words, routed_words}
 use Rattle.model.specs.History.{loans}
@@ -72,6 +72,20 @@ missing_copy_is_charged : Gives ground
     ("loan 1 due 2026-03-09" ∷ "ok" ∷ "fine 100 price 2500" ∷ "fine 0 shelf 1" ∷ "patron 1 owed 2600 name Ann Bell" ∷ "refused 38" ∷ [])
 unfolding digits reply_text reply_words routed_words
 missing_copy_is_charged = gives refl
+
+-- Who owes more than the limit of the kind may not renew; who owes just that may.
+debt_stops_renewals : Gives ground
+    (desk (CheckOut 1 10 1 ∷ CheckOut 1 11 1 ∷ Missing 11 ∷ Renew 1 ∷ Pay 1 1999 ∷ Renew 1 ∷ Pay 1 1 ∷ Renew 1 ∷ []))
+    ("loan 1 due 2026-03-09" ∷ "loan 2 due 2026-03-09" ∷ "fine 0 price 2500" ∷ "refused 38" ∷ "owed 501" ∷ "refused 38" ∷ "owed 500" ∷ "loan 1 due 2026-03-16" ∷ [])
+unfolding digits reply_text reply_words routed_words
+debt_stops_renewals = gives refl
+
+-- A copy that was withdrawn is lent to nobody.
+withdrawn_copy_is_not_lent : Gives ground
+    (desk (Withdraw 10 ∷ CheckOut 1 10 1 ∷ CheckOut 1 11 1 ∷ []))
+    ("ok" ∷ "refused 35" ∷ "loan 1 due 2026-03-09" ∷ [])
+unfolding digits reply_text reply_words routed_words
+withdrawn_copy_is_not_lent = gives refl
 
 -- A payment that is sent twice with one key is booked once; the key is refused to another payment.
 payment_is_booked_once : Gives (after ground (desk (CheckOut 1 10 1 ∷ BeginDay 20529 ∷ Missing 10 ∷ CheckIn 10 1 ∷ [])))
