@@ -367,7 +367,7 @@ def tried(behind, pictures):
                     page.type("title", "300")
                     page.type("branch", "2")
                     driver.switch_to.active_element.send_keys(Keys.ENTER)
-                    until("a hold", lambda: page.told().startswith("Hold "))
+                    until("the hold is shown", lambda: "Maps, Old and New" in page.it("holds").text)
                     look(driver, "patron-page.png")
                 killed(driver, base, serving)
                 wrong = [it["message"] for it in driver.get_log("browser") if "Content Security" in it["message"] or "Uncaught" in it["message"]]
