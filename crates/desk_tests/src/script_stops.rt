@@ -1,4 +1,5 @@
-//! Stops of scripts: a fuse in one of the two files of a library blows at each call in turn.
+//! Stops of scripts: a fuse in one of the two files of a library blows at each call in turn, and what was not synced is lost, or
+//! not.
 
 use crate::calls::connection_of;
 use crate::limits::shown;
@@ -99,19 +100,60 @@ fn is_finished<S: Alter + Drop>(
     finished(rt, alloc, conn, (script, answered), last)
 }
 
-/// One stop; whether the script was answered whole.
-fn is_whole(
+/// How often the script was stopped before it was answered whole, and how often something was lost then that was not synced.
+#[derive(Clone, Copy)]
+struct Hits {
+    stops: u64,
+    losses: u64,
+}
+
+/// One stop, after which each of the files may lose what was not synced; whether the script was answered whole, and whether something was lost.
+fn is_left_right(
     rt: &impl Abort,
     alloc: Global,
     files: Files<Fuse<Memory>>,
-    script: &str,
-    pictures: &[String],
-) -> Result<bool, Fail> {
+    loses: (bool, bool),
+    (script, pictures): (&str, &[String]),
+) -> Result<(bool, bool), Fail> {
     let (answered, files) = stopped_in(rt, alloc, files, script)?;
-    let files = left(alloc, files, (false, false))?;
+    let log = files.log.inner().bytes().len();
+    let db = files.db.inner().bytes().len();
+    let files = left(alloc, files, loses)?;
+    let is_lost = files.log.bytes().len() != log || files.db.bytes().len() != db;
     let store = open_files(alloc, files, options())?;
     is_finished(rt, alloc, store, (script, answered), pictures)?;
-    Ok(answered.saturating_add(1) == pictures.len())
+    Ok((answered.saturating_add(1) == pictures.len(), is_lost))
+}
+
+/// The machine stops, and both files may lose what was not synced.
+fn is_restarted(
+    rt: &impl Abort,
+    alloc: Global,
+    files: Files<Fuse<Memory>>,
+    (script, pictures): (&str, &[String]),
+) -> Result<(), Fail> {
+    let (answered, store) = stopped(rt, alloc, open_files(alloc, files, options())?, script)?;
+    let store = crate::calls::restart(store, alloc, options())?;
+    is_finished(rt, alloc, store, (script, answered), pictures)
+}
+
+/// Every way to leave the files at one stop; whether the script was answered whole, and how often something was lost.
+fn every_end(
+    rt: &impl Abort,
+    alloc: Global,
+    base: &Files<Memory>,
+    fuse: (bool, u64),
+    script: (&str, &[String]),
+) -> Result<(bool, u64), Fail> {
+    let (mut is_whole, mut losses) = (true, 0u64);
+    for loses in [(false, false), (true, false), (false, true)] {
+        let files = fused(alloc, base, fuse)?;
+        let (answered, is_lost) = is_left_right(rt, alloc, files, loses, script)?;
+        is_whole = is_whole && answered;
+        losses = losses.saturating_add(u64::from(is_lost));
+    }
+    is_restarted(rt, alloc, fused(alloc, base, fuse)?, script)?;
+    Ok((is_whole, losses))
 }
 
 /// The fuse blows at each call of the script in turn, until it is answered whole; how many stops were before it.
@@ -120,14 +162,16 @@ fn stops_in(
     alloc: Global,
     base: &Files<Memory>,
     is_log: bool,
-    script: &str,
-    pictures: &[String],
-) -> Result<u64, Fail> {
+    script: (&str, &[String]),
+) -> Result<Hits, Fail> {
     let open = calls_of_open(alloc, base, is_log)?;
+    let mut losses = 0u64;
     for at in 1..5_000u64 {
-        let files = fused(alloc, base, (is_log, open.saturating_add(at)))?;
-        if is_whole(rt, alloc, files, script, pictures)? {
-            return Ok(at);
+        let fuse = (is_log, open.saturating_add(at));
+        let (is_whole, lost) = every_end(rt, alloc, base, fuse, script)?;
+        losses = losses.saturating_add(lost);
+        if is_whole {
+            return Ok(Hits { stops: at, losses });
         }
     }
     Err("the script was never answered".into())
@@ -137,10 +181,14 @@ fn stops_in(
 fn withstands_stops(rt: &impl Abort, alloc: Global, script: &str) -> Result<(), Fail> {
     let base = filled(alloc)?;
     let pictures = pictures(alloc, script)?;
+    let mut losses = 0u64;
     for is_log in [true, false] {
-        let stops = stops_in(rt, alloc, &base, is_log, script, pictures.as_slice())?;
+        let hits = stops_in(rt, alloc, &base, is_log, (script, pictures.as_slice()))?;
+        let stops = hits.stops;
         assert!(rt; stops > 1, "{is_log} {stops}");
+        losses = losses.saturating_add(hits.losses);
     }
+    assert!(rt; losses > 0, "nothing was lost");
     Ok(())
 }
 
