@@ -327,7 +327,7 @@ def patron(driver, base, serving):
     until("not known after it was loaded anew", lambda: page.told().startswith("Not known yet"))
     serving.start()
     until("cancelled", lambda: page.told() == "Done.", 60)
-    need("no hold", page.it("holds").text, "No holds.")
+    until("no hold", lambda: page.it("holds").text == "No holds.")
     return page
 
 
