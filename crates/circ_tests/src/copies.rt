@@ -72,12 +72,15 @@ fn bad_rows_end_a_file(rt: HostRuntime) -> Result<(), Fail> {
     is_bad(&rt, alloc, b"51,501,\"Maps,1,1,1500,end\n", 4)
 }
 
+/// A good row.
+const GOOD: &[u8] = b"50,500,Maps,1,1,1500,end\n";
+
 /// A file of so many good rows.
 fn rows_of(alloc: Global, count: u32) -> Result<Vec<u8>, Fail> {
     let mut bytes: Vec<u8> = Vec::new(alloc);
     bytes.extend_from_slice(b"copy,title,text,kind,home,price,end\n")?;
     for _ in 0..count {
-        bytes.extend_from_slice(b"50,500,Maps,1,1,1500,end\n")?;
+        bytes.extend_from_slice(GOOD)?;
     }
     Ok(bytes)
 }
@@ -91,6 +94,26 @@ fn a_file_has_100_000_rows(rt: HostRuntime) -> Result<(), Fail> {
     let bytes = rows_of(alloc, 100_001)?;
     let told = copies(alloc, bytes.as_slice());
     assert!(&rt; told == (100_000, CopyEnd::Bad(100_001)), "{told:?}");
+    Ok(())
+}
+
+/// A reader that fails within row 100,001, or before it, tells that it failed after 100,000 rows;
+/// once that row's line has ended, it is a row too many.
+#[test]
+fn a_read_that_fails_in_row_100_001(rt: HostRuntime) -> Result<(), Fail> {
+    let alloc = rt.alloc();
+    let bytes = rows_of(alloc, 100_001)?;
+    let (mut failed, mut bad) = (0usize, 0usize);
+    for size in bytes.len().saturating_sub(GOOD.len())..bytes.len() + 1 {
+        let told = copies(alloc, Drip::failing(&bytes[..size]));
+        if told == (100_000, CopyEnd::Read) {
+            failed = failed.wrapping_add(1);
+        }
+        if told == (100_000, CopyEnd::Bad(100_001)) && size == bytes.len() {
+            bad = bad.wrapping_add(1);
+        }
+    }
+    assert!(&rt; (failed, bad) == (GOOD.len(), 1), "{failed} {bad}");
     Ok(())
 }
 

@@ -11,8 +11,20 @@ const FAILED: &str = "400 Bad Request {\"status\":400}";
 
 const ANN: &str = "GET /patrons/1 HTTP/1.1\r\nCard-Key: cardkey00001\r\n\r\n";
 
+/// Heads at the limits: how many fields, how many letters the last of them has, and the answer. The
+/// first two have 8,192 bytes and 8,193, the others 32 fields and 33.
+const HEADS: [(usize, usize, &str); 4] = [
+    (2, 8136, ANNS_PAGE),
+    (2, 8137, FAILED),
+    (32, 0, ANNS_PAGE),
+    (33, 0, FAILED),
+];
+
+/// How many requests are tried: the malformed ones, one more that is no UTF-8, and the heads.
+pub const TRIED: usize = HOSTILE.len() + 1 + HEADS.len();
+
 /// Requests that are answered as malformed.
-pub const HOSTILE: [&str; 15] = [
+const HOSTILE: [&str; 15] = [
     "GET /patrons/1 HTTP/1.1\r\nCard-Key: cardkey00001\r\nContent-Length: 0\r\nContent-Length: 0\r\n\r\n",
     "GET /patrons/1 HTTP/1.1\r\nCard-Key: cardkey00001\r\nContent-Length: +5\r\n\r\n12345",
     "GET /patrons/1 HTTP/1.1\r\nCard-Key: cardkey00001\r\nContent-Length: 00000000000\r\n\r\n",
@@ -30,8 +42,11 @@ pub const HOSTILE: [&str; 15] = [
     "POST /desk HTTP/1.1\r\nDesk-Key: deskkey00001\r\nRequest-Key: d1\r\nContent-Length: 10\r\n\r\n[\"page\",1]",
 ];
 
-/// Whether a request gets this answer, whole, or none where the read after some of its bytes fails,
-/// and this answer where no read fails.
+/// How many bytes before its end a request with too much in it may be known to be malformed.
+const SOONER: usize = 6;
+
+/// Whether a request gets no answer where the read after some of its bytes fails, or this one where they
+/// are too many already; and this answer where no read fails.
 fn is_broken_anywhere<J: Opening, R: Wait>(
     rt: &R,
     alloc: Global,
@@ -39,17 +54,19 @@ fn is_broken_anywhere<J: Opening, R: Wait>(
     bytes: &[u8],
     text: &str,
 ) -> Option<bool> {
+    let mut unanswered = 0usize;
     for size in 0..bytes.len() {
         let reader = Drip::failing(&bytes[..size]);
         let (taken, is_whole) = served(rt, alloc, worker, reader, 100_000)?;
-        let is_answer = is_whole && taken.as_slice() == text.as_bytes();
-        let is_none = !is_whole && taken.is_empty();
-        if !is_answer && !is_none {
+        if !is_whole && taken.is_empty() {
+            unanswered = unanswered.wrapping_add(1);
+        } else if !is_whole || taken.as_slice() != text.as_bytes() {
             return Some(false);
         }
     }
     let (taken, is_whole) = served(rt, alloc, worker, bytes, 100_000)?;
-    Some(is_whole && taken.as_slice() == text.as_bytes())
+    let is_answered = is_whole && taken.as_slice() == text.as_bytes();
+    Some(is_answered && unanswered.saturating_add(SOONER) >= bytes.len())
 }
 
 /// Whether its answer is cut after as many bytes as the writer takes.
@@ -70,24 +87,8 @@ fn is_cut_anywhere<J: Opening, R: Wait>(
     Some(true)
 }
 
-/// Whether a request gets its answer, however writes fail, and Ann's page is shown as ever after it.
-fn withstands_cuts<J: Opening, R: Wait>(
-    rt: &R,
-    alloc: Global,
-    worker: &mut Worker<J>,
-    bytes: &[u8],
-    text: &str,
-) -> Option<bool> {
-    let text = answer(alloc, text)?;
-    let (taken, is_whole) = served(rt, alloc, worker, bytes, 100_000)?;
-    let is_answered = is_whole && taken.as_slice() == text.as_bytes();
-    let is_cut = is_cut_anywhere(rt, alloc, worker, bytes, text.as_str())?;
-    let is_next = gets(rt, alloc, worker, ANN, ANNS_PAGE)?;
-    Some(is_answered && is_cut && is_next)
-}
-
-/// Whether it gets its answer or none also where reads fail, at each byte, and Ann's page is shown as
-/// ever after it.
+/// Whether a request gets its answer, or none where reads fail, at each byte, and writes; and Ann's page
+/// is shown as ever after it.
 fn withstands<J: Opening, R: Wait>(
     rt: &R,
     alloc: Global,
@@ -97,8 +98,9 @@ fn withstands<J: Opening, R: Wait>(
 ) -> Option<bool> {
     let wanted = answer(alloc, text)?;
     let is_broken = is_broken_anywhere(rt, alloc, worker, bytes, wanted.as_str())?;
-    let is_cut = withstands_cuts(rt, alloc, worker, bytes, text)?;
-    Some(is_broken && is_cut)
+    let is_cut = is_cut_anywhere(rt, alloc, worker, bytes, wanted.as_str())?;
+    let is_next = gets(rt, alloc, worker, ANN, ANNS_PAGE)?;
+    Some(is_broken && is_cut && is_next)
 }
 
 /// The request for Ann's page with so many fields, the last of which has so many letters.
@@ -116,22 +118,15 @@ fn page_with(alloc: Global, fields: usize, length: usize) -> Option<String> {
     Some(text)
 }
 
-/// How many of the heads at the limits are withstood, of 8,192 bytes and 8,193, of 32 fields and 33.
-/// Reads of the long ones that fail are tested with those of requests alone.
+/// How many of the heads at the limits are withstood.
 fn withstands_heads<J: Opening, R: Wait>(
     rt: &R,
     alloc: Global,
     worker: &mut Worker<J>,
 ) -> Option<usize> {
     let mut count = 0usize;
-    for (length, text) in [(8136, ANNS_PAGE), (8137, FAILED)] {
-        let page = page_with(alloc, 2, length)?;
-        if withstands_cuts(rt, alloc, worker, page.as_bytes(), text)? {
-            count = count.wrapping_add(1);
-        }
-    }
-    for (fields, text) in [(32, ANNS_PAGE), (33, FAILED)] {
-        let page = page_with(alloc, fields, 0)?;
+    for (fields, length, text) in HEADS {
+        let page = page_with(alloc, fields, length)?;
         if withstands(rt, alloc, worker, page.as_bytes(), text)? {
             count = count.wrapping_add(1);
         }

@@ -210,6 +210,7 @@ fn meet<J: Opening + Send + Sync + 'static, R: Threads + Wait + Abort + Copy + S
         return Err("a hall".into());
     };
     let started = thread::spawn(&rt, move || work(&rt, alloc, all)).ok();
+    assert!(&rt; started.is_some(), "no thread");
     let (_desk, mut ended, fault) = handle_in_memory(&rt, alloc, side);
     let met = match started {
         Some(thread) => thread.join(&rt),

@@ -64,7 +64,7 @@ fn work<J: Opening, R: Wait>(
 type Working<J> = JoinHandle<(Left<J>, Option<u64>)>;
 
 /// Each worker in a thread of its own, with the patron of its number.
-fn start_all<J: Opening + Send + Sync + 'static, R: Threads + Wait + Copy + Send + 'static>(
+fn start_all<J: Opening + Send + Sync + 'static, R: Threads + Wait + Abort + Copy + Send + 'static>(
     rt: R,
     alloc: Global,
     workers: Vec<Worker<J>>,
@@ -74,8 +74,10 @@ fn start_all<J: Opening + Send + Sync + 'static, R: Threads + Wait + Copy + Send
     let mut patron = 0u64;
     for worker in workers {
         patron = patron.wrapping_add(1);
-        let thread = thread::spawn(&rt, move || work(&rt, alloc, worker, patron, each)).ok()?;
-        threads.push(thread).ok()?;
+        let thread = thread::spawn(&rt, move || work(&rt, alloc, worker, patron, each)).ok();
+        // the desk would wait for a worker that has no thread for ever
+        assert!(&rt; thread.is_some(), "no thread");
+        threads.push(thread?).ok()?;
     }
     Some(threads)
 }
@@ -109,7 +111,7 @@ fn join_all<J: Opening, R: Threads>(
 }
 
 /// The workers in threads, and the desk in this one.
-fn meet<J: Opening + Send + Sync + 'static, R: Threads + Wait + Copy + Send + 'static>(
+fn meet<J: Opening + Send + Sync + 'static, R: Threads + Wait + Abort + Copy + Send + 'static>(
     rt: R,
     alloc: Global,
     side: DeskSide<J, MemStore>,
@@ -370,6 +372,7 @@ fn check_closed<
     limit_side(&mut side, limit);
     let cut = wanted.cut;
     let started = thread::spawn(&rt, move || work_closed(&rt, alloc, all, cut)).ok();
+    assert!(&rt; started.is_some(), "no thread");
     let (desk, mut ended, fault) = handle_all(&rt, alloc, side);
     let met = match started {
         Some(thread) => thread.join(&rt),
