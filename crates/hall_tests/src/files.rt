@@ -36,7 +36,7 @@ fn pictures(alloc: Global) -> Result<[String; 3], Fail> {
 }
 
 /// A hall of two workers over two files.
-fn run_in<D: Disk + Drop, R: Threads + Wait + Copy + Send + 'static>(
+fn run_in<D: Disk + Drop, R: Threads + Wait + Abort + Copy + Send + 'static>(
     rt: R,
     alloc: Global,
     files: Files<D>,

@@ -13,6 +13,7 @@ use hall::{Ended, Left, Opened, Opening, Worker};
 use sqlite::Alter;
 use std::alloc::Global;
 use std::marker::Brand;
+use std::process::Abort;
 use std::sync::Wait;
 use std::test::Fail;
 use std::thread;
@@ -104,7 +105,7 @@ pub type Closed<S> = (Option<Faults>, Desk<S>, Option<ServiceFault>);
 fn run_hall<
     J: Opening + Send + Sync + 'static,
     S: Alter + Drop,
-    R: Threads + Wait + Copy + Send + 'static,
+    R: Threads + Wait + Abort + Copy + Send + 'static,
 >(
     rt: R,
     alloc: Global,
@@ -122,6 +123,8 @@ fn run_hall<
         limit_side(&mut side, steps);
     }
     let started = thread::spawn(&rt, move || work(&rt, alloc, all)).ok();
+    // the desk would wait for workers that have no thread for ever
+    assert!(&rt; started.is_some(), "no thread");
     let (desk, mut ended, fault) = handle_all(&rt, alloc, side);
     let met = match started {
         Some(thread) => thread.join(&rt),
@@ -136,7 +139,7 @@ fn run_hall<
 }
 
 /// The same on a queue of its own.
-pub fn run_over<S: Alter + Drop, R: Threads + Wait + Copy + Send + 'static>(
+pub fn run_over<S: Alter + Drop, R: Threads + Wait + Abort + Copy + Send + 'static>(
     rt: R,
     alloc: Global,
     desk: Desk<S>,
