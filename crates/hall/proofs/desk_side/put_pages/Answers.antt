@@ -1,5 +1,6 @@
 use Rattle.std.proofs.Common.{◌<◌, ℕ, List, ap, ◌∙◌, arith, length}
 use Rattle.board.specs.Rule.{Publishing}
+use Rattle.desk.proofs.Looking.{◌⨾◌, stops}
 use Rattle.hall.proofs.Pages.{taken-more, put-page, put-none}
 use Rattle.hall.proofs.desk_side.put_pages.Goals.{in-Some+in_ok-put, in_default}
 use Rattle.hall.proofs.desk_side.put_pages.Goals as goal
@@ -25,3 +26,6 @@ patrons-preserved g c =
             pages = put-none g.S.Store c.args.desk.now c.patrons.desk c.own_page.new.self xs k q more c.in_ok-page.field-0 c.in_ok-page.ensures c.args.publisher.now.pages c.patrons.publisher.pages c.match-branch-2.publisher.pages i.pages w.in_default.is (ap (λ (p : Publishing). p.pages) w.publisher-is);
           }
     ]
+
+pub returns-in_err-put-clause-pages : goal.returns-in_err-put-clause-pages
+returns-in_err-put-clause-pages g c = stops _ c.from_residual-in_err-put.ensures (c.patrons.invariant.pages ⨾ c.in_ok-page.ensures)
