@@ -6,13 +6,14 @@
 The table of commands (`crates/terms/src/form.rt`): each command and its parts stand so in the manual page, its name in the completion for bash
 and in the table of the rules. The numbers of refusals and faults (`crates/terms/src/refusal.rt`, `fault.rt`): what each means stands in one way in the
 program's messages (`crates/messages/src/meanings.rt`), the manual page and the rules. The runs of the usage are those of the manual page, and the newest
-version of CHANGES.md and its schema are the program's.
+version of CHANGES.md and its schema are the program's. Each edit that the tables of wrong bodies name (`docs/PROOFS.md`) is there, in the crate that they name.
 """
 
+import os
 import re
 import sys
 
-from messages import SCHEMA, VERSION, of_manual, read
+from messages import SCHEMA, TOP, VERSION, of_manual, read
 
 
 def commands():
@@ -37,6 +38,20 @@ def meanings():
 def rules():
     """What the page of rules says that each number means."""
     return {int(number): text for number, text in re.findall(r"^\| (\d+) \| ([^|]*) \|", read("docs/RULES.md"), re.M)}
+
+
+def wrong_bodies():
+    """The edits that the tables of wrong bodies name, each as its crate and its name. A row that names no crate goes on with that of the row before; the fields are of circ_core."""
+    text = read("docs/PROOFS.md").partition("\n## Wrong bodies\n")[2].partition("\n## ")[0]
+    bodies, _, fields = text.partition("\n| field of `Headline` |")
+    for table, crate in ((bodies, None), (fields, "circ_core")):
+        for row in re.findall(r"^\| .* \|$", table, re.M):
+            crate = "circ_core" if table is fields else crate
+            for word in re.findall(r"`(\w+)`", row.split(" | ")[1]):
+                if os.path.isdir(f"{TOP}/crates/{word}"):
+                    crate = word
+                else:
+                    yield crate, word
 
 
 def main():
@@ -64,9 +79,13 @@ def main():
     version = re.search(r'VERSION: &str = "([^"]*)"', read("crates/messages/src/usage.rt")).group(1)
     schema = re.search(r"SCHEMA: u32 = (\d+)", read("crates/store/src/changing.rt")).group(1)
     same("the newest version and its schema", (VERSION, SCHEMA), (version, schema))
+    bodies = list(wrong_bodies())
+    if len(bodies) < 60:
+        wrong.append(f"only {len(bodies)} edits were found in the tables of wrong bodies")
+    same("the edits that the tables of wrong bodies name", [it for it in bodies if not os.path.isfile(f"{TOP}/crates/{it[0]}/must-fail/{it[1]}.edit")], [])
     for line in wrong:
         print(line)
-    print(f"words: {len(table)} commands and {len(told)} numbers compared, {len(wrong)} differ")
+    print(f"words: {len(table)} commands, {len(told)} numbers and {len(bodies)} edits compared, {len(wrong)} differ")
     return 1 if wrong else 0
 
 
