@@ -4,6 +4,7 @@
 Expected answers are those of docs/RULES.md, worked out by hand; those of the month's commands come from `desk_rules`.
 """
 
+import atexit
 import http.client
 import json
 import os
@@ -52,6 +53,8 @@ def started(words_for, **how):
         port = free_port()
         # not buffered here, so that what follows the first line is still there to be read
         run = subprocess.Popen([PROGRAM, *words_for(port)], stdout=subprocess.PIPE, stderr=subprocess.PIPE, bufsize=0, **how)
+        # none is left behind where a test fails
+        atexit.register(run.kill)
         first = run.stdout.readline().decode()
         if first != "fault network\n":
             break
