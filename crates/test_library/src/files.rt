@@ -3,7 +3,7 @@
 use crate::calls::{close, create_files, desk_over, into_files, open_files, store_of};
 use crate::lines::fill;
 use sqlite::{Alter, Files, Options};
-use sqlite_disk::{Disk, Fuse, Memory};
+use sqlite_disk::{Crash, Disk, Fuse, Memory};
 use std::alloc::Global;
 use std::io;
 use std::test::Fail;
