@@ -1,9 +1,9 @@
 -- What is said of an audit, by what was read and found.
 use Rattle.std.proofs.Common.{◌≡◌, inl, inr, refl, sym, subst}
-use Rattle.std.specs.Prelude.{Ok, Err}
+use Rattle.std.specs.Prelude.{Result, Ok, Err}
 use Rattle.store.specs.Library.{Ghosts, Held, State, state, HasCleanDisk}
 use Rattle.store.specs.Lists.{AreAuditTables}
-use Rattle.store.specs.Stops.{KeepsPicture}
+use Rattle.store.specs.Stops.{KeepsPicture, LeavesPicture}
 use Rattle.store.specs.Reads.{Reads, Looked, IsSound as AreInLimits}
 use Rattle.terms.specs.Limits.{InLimits}
 use Rattle.terms.specs.Pictures.{Picture}
@@ -33,11 +33,15 @@ not-both tables (Claims copy) sound first = first.broken (sound.claims copy)
 not-both tables (Binding hold) sound first = first.1.broken (sound.bindings hold)
 not-both tables (Balance patron) sound first = first.2.broken (sound.balance patron)
 
+-- A stop leaves what it would have left before a read.
+pub read-left : {A : Type 0} {r : Result A Fault} (old new : State) → Reads old new r → HasCleanDisk new → (P : Picture) → KeepsPicture old P → LeavesPicture new P
+read-left old new reads disk P keeps = λ trees may. keeps.left trees (reads.left disk (keeps.now.maps, keeps.now.holds) trees may)
+
 -- The tables show a picture after a read that changed nothing of them.
-keeps-same : (old new : State) (P : Picture) → Reads old new → HasCleanDisk new → new.now ≡ old.now → KeepsPicture old P → KeepsPicture new P
+keeps-same : {A : Type 0} {r : Result A Fault} (old new : State) (P : Picture) → Reads old new r → HasCleanDisk new → new.now ≡ old.now → KeepsPicture old P → KeepsPicture new P
 keeps-same old new P reads disk same keeps = record {
   now = (subst (λ db. KeepsPicture (record old { now = db }) P) (sym same) (record { now = keeps.now; left = keeps.left })).now;
-  left = reads.left disk P keeps;
+  left = read-left old new reads disk P keeps;
 }
 
 module _ {S : Type 0} (g : Ghosts S) (old new : Held S) where
@@ -75,5 +79,5 @@ module _ {S : Type 0} (g : Ghosts S) (old new : Held S) where
     exit_is = refl;
     limits = λ disk stored P keeps. looked.sound disk (let same : Err fault ≡ Err Stored = cc in same) P keeps.now;
     sound = λ disk stored H shows. looked.sound disk (let same : Err fault ≡ Err Stored = cc in same) (picture H) shows.tables.now (is-sound H shows.legal shows.forms);
-    undone = λ disk is_open P keeps. keeps-same (state g old) (state g new) P looked.reads disk (looked.reads.same disk is_open P keeps.now) keeps;
+    undone = λ disk is_open P keeps. keeps-same (state g old) (state g new) P looked.reads disk (looked.reads.same disk is_open (keeps.now.maps, keeps.now.holds)) keeps;
   }))

@@ -3,7 +3,8 @@ use Rattle.circ.specs.Auditing.{SaysOf}
 use Rattle.circ.specs.Lines.{sound_line, finding_line, fault_line}
 use Rattle.circ.specs.declared.lines.Exit.TheVariants.{Done, Refused, Faulted}
 use Rattle.circ.proofs.Said.{said-whole, said-cut}
-use Rattle.circ.proofs.Audits.{says-sound, says-unsound, says-faulted}
+use Rattle.circ.proofs.Audits.{says-sound, says-unsound, says-faulted, read-left}
+use Rattle.store.specs.Library.{state}
 use Rattle.circ.proofs.auditing.audit.Goals as goal
 
 pub returns-in-Err : goal.returns-in-Err
@@ -11,7 +12,7 @@ returns-in-Err g c = record {
   clean = c.in-Err.ensures.reads.clean;
   written = said-whole (SaysOf g.S.Store c.args.store.now c.audit_tables.new.self) c.tell_fault.result _ _ (fault_line (fault_number c.in-Err.fault)) Faulted
       (says-faulted g.S.Store c.args.store.now c.audit_tables.new.self c.in-Err.fault c.in-Err.ensures) c.tell_fault.ensures.exit_is c.tell_fault.ensures.writes.all;
-  left = c.in-Err.ensures.reads.left;
+  left = read-left (state g.S.Store c.args.store.now) (state g.S.Store c.audit_tables.new.self) c.in-Err.ensures.reads;
   cut = said-cut (SaysOf g.S.Store c.args.store.now c.audit_tables.new.self) c.tell_fault.result _ _ (fault_line (fault_number c.in-Err.fault)) Faulted
       (says-faulted g.S.Store c.args.store.now c.audit_tables.new.self c.in-Err.fault c.in-Err.ensures) c.tell_fault.ensures.writes.front;
 }
@@ -21,7 +22,7 @@ returns-in-Ok-audit g c = record {
   clean = c.in-Ok.ensures.reads.clean;
   written = said-whole (SaysOf g.S.Store c.args.store.now c.audit_tables.new.self) c.tell_sound.result _ _ sound_line Done
       (says-sound g.S.Store c.args.store.now c.audit_tables.new.self c.in-Ok.tables c.in-Ok.ensures c.in-Ok-audit.ensures) c.tell_sound.ensures.exit_is c.tell_sound.ensures.writes.all;
-  left = c.in-Ok.ensures.reads.left;
+  left = read-left (state g.S.Store c.args.store.now) (state g.S.Store c.audit_tables.new.self) c.in-Ok.ensures.reads;
   cut = said-cut (SaysOf g.S.Store c.args.store.now c.audit_tables.new.self) c.tell_sound.result _ _ sound_line Done
       (says-sound g.S.Store c.args.store.now c.audit_tables.new.self c.in-Ok.tables c.in-Ok.ensures c.in-Ok-audit.ensures) c.tell_sound.ensures.writes.front;
 }
@@ -32,7 +33,7 @@ returns g c = record {
   written = said-whole (SaysOf g.S.Store c.args.store.now c.audit_tables.new.self) c.tell_finding.result _ _ (finding_line c.in-Err-audit.finding) Refused
       (says-unsound g.S.Store c.args.store.now c.audit_tables.new.self c.legal_tables_are_sound.ensures c.in-Ok.tables c.in-Err-audit.finding c.in-Ok.ensures c.in-Err-audit.ensures)
       c.tell_finding.ensures.exit_is c.tell_finding.ensures.writes.all;
-  left = c.in-Ok.ensures.reads.left;
+  left = read-left (state g.S.Store c.args.store.now) (state g.S.Store c.audit_tables.new.self) c.in-Ok.ensures.reads;
   cut = said-cut (SaysOf g.S.Store c.args.store.now c.audit_tables.new.self) c.tell_finding.result _ _ (finding_line c.in-Err-audit.finding) Refused
       (says-unsound g.S.Store c.args.store.now c.audit_tables.new.self c.legal_tables_are_sound.ensures c.in-Ok.tables c.in-Err-audit.finding c.in-Ok.ensures c.in-Err-audit.ensures)
       c.tell_finding.ensures.writes.front;
