@@ -6,7 +6,6 @@ ghost use Rattle.terms.specs.Limits.{InLimits, IsOwner};
 ghost use Rattle.circ_core.specs.Views.{IsViewOf};
 ghost use Rattle.circ_tables.specs.Encoding.{reply_of};
 ghost use Rattle.store.specs.Commit.{Commits, CreatesLibrary, OpensLibrary, RefusesLibrary};
-ghost use Rattle.store.specs.Commit.{LetsGo};
 ghost use Rattle.store.specs.Limits.{limit_of};
 ghost use Rattle.store.specs.Reads.{Looked, Finds, IsSound};
 ghost use Rattle.circ_tables.specs.Patrons.{patrons};
@@ -65,12 +64,9 @@ impl<S: Alter + Drop> Store<S> {
 
     /// Takes tables that were made. 91, also where a transaction is under way; 93 where there is no
     /// table `meta` of one row, or its schema is not known, and never on tables of the known one.
-    /// After either, where no transaction was under way, a stop leaves what it would have left
-    /// before.
     pub fn open(mut conn: Connection<S>) -> Result<Store<S>, Fault>
         ensures opened { IfOk result (OpensLibrary S.Store conn) }
         ensures stored { result ≡ Err Fault.Stored → RefusesLibrary S.Store conn }
-        ensures left { IfErr result (λ _. conn.in_transaction ≡ false → LetsGo S.Store conn) }
         ensures begun { IsTrue conn.in_transaction → result ≡ Err Fault.Database }
     {
         if !conn.is_autocommit() {
