@@ -50,12 +50,12 @@ fn fault_of<J: Opening, R: Wait>(
     (request, text): Asked,
 ) -> Option<Option<u32>> {
     let met = told(rt, alloc, worker, request)?;
-    if met == answer(alloc, text)?.as_str() {
+    if met.as_str() == answer(alloc, text)?.as_str() {
         return Some(None);
     }
     for number in [91u32, 92] {
         let line = format!(in alloc; "503 Service Unavailable {{\"fault\":{number}}}").ok()?;
-        if met == answer(alloc, &line)?.as_str() {
+        if met.as_str() == answer(alloc, &line)?.as_str() {
             return Some(Some(number));
         }
     }
