@@ -2,7 +2,7 @@
 //! at each call in turn.
 
 use crate::calls::connection;
-use crate::reopened::{Closed, Faults, run_over};
+use crate::reopened::{Faults, Tried, run_over};
 use sqlite::{FileStore, Files};
 use sqlite_disk::{Disk, Fuse, Memory};
 use std::alloc::Global;
@@ -40,7 +40,7 @@ fn run_in<D: Disk + Drop, R: Threads + Wait + Abort + Copy + Send + 'static>(
     rt: R,
     alloc: Global,
     files: Files<D>,
-) -> Result<Closed<FileStore<D>>, Fail> {
+) -> Result<Tried<FileStore<D>>, Fail> {
     let desk = desk_over(open_files(alloc, files, options())?)?;
     run_over(rt, alloc, desk, None)
 }
@@ -74,7 +74,9 @@ fn goes_on<R: Threads + Wait + Abort + Copy + Send + 'static>(
         found.as_str() == before.as_str() || found.as_str() == after.as_str(),
         "after {count}"
     );
-    let (faults, desk, fault) = run_over(rt, alloc, opened(conn)?, None)?;
+    let Ok((faults, desk, fault)) = run_over(rt, alloc, opened(conn)?, None)? else {
+        return Err("a hall".into());
+    };
     assert!(&rt;
         faults == Some((None, None, None)) && fault == None,
         "{faults:?} {fault:?}"
@@ -84,7 +86,17 @@ fn goes_on<R: Threads + Wait + Abort + Copy + Send + 'static>(
     Ok(())
 }
 
-/// One stop, after which the files may have lost what was not synced: how many requests were answered.
+/// The fault that closes a hall that answered so many of the two requests.
+fn fault_after(count: usize) -> Option<ServiceFault> {
+    if count == 2 {
+        None
+    } else {
+        Some(ServiceFault::Met(Fault::Database))
+    }
+}
+
+/// One stop, after which the files may have lost what was not synced: how many requests were answered. A hall whose pages can't be read
+/// for it isn't opened.
 fn stopped<R: Threads + Wait + Abort + Copy + Send + 'static>(
     rt: R,
     alloc: Global,
@@ -92,14 +104,17 @@ fn stopped<R: Threads + Wait + Abort + Copy + Send + 'static>(
     loses: bool,
     pictures: &[String; 3],
 ) -> Result<usize, Fail> {
-    let (faults, desk, fault) = run_in(rt, alloc, files)?;
-    let count = answered(&rt, faults)?;
-    let due = if count == 2 {
-        None
-    } else {
-        Some(ServiceFault::Met(Fault::Database))
+    let (count, desk) = match run_in(rt, alloc, files)? {
+        Ok((faults, desk, fault)) => {
+            let count = answered(&rt, faults)?;
+            assert!(&rt; fault == fault_after(count), "{fault:?}");
+            (count, desk)
+        }
+        Err((number, desk)) => {
+            assert!(&rt; number == 91, "{number}");
+            (0, desk)
+        }
     };
-    assert!(&rt; fault == due, "{fault:?}");
     let files = left(alloc, into_files(store_of(desk)), (loses, loses))?;
     goes_on(rt, alloc, files, count, pictures)?;
     Ok(count)
@@ -133,7 +148,9 @@ fn stops_in<R: Threads + Wait + Abort + Copy + Send + 'static>(
 #[test]
 fn a_hall_over_files_leaves_its_rows_there(rt: HostRuntime) -> Result<(), Fail> {
     let alloc = rt.alloc();
-    let (faults, desk, fault) = run_in(rt, alloc, filled(alloc)?)?;
+    let Ok((faults, desk, fault)) = run_in(rt, alloc, filled(alloc)?)? else {
+        return Err("a hall".into());
+    };
     assert!(&rt;
         faults == Some((None, None, None)) && fault == None,
         "{faults:?} {fault:?}"
@@ -152,9 +169,12 @@ fn a_stopped_hall_leaves_what_it_answered(rt: HostRuntime) -> Result<(), Fail> {
     let alloc = rt.alloc();
     let base = filled(alloc)?;
     let pictures = pictures(alloc)?;
+    let mut between = 0u64;
     for is_log in [true, false] {
         let counts = stops_in(rt, alloc, &base, is_log, &pictures)?;
-        assert!(&rt; counts[0] > 0 && counts[1] > 0, "{is_log} {counts:?}");
+        assert!(&rt; counts[0] > 0, "{is_log} {counts:?}");
+        between = between.wrapping_add(counts[1]);
     }
+    assert!(&rt; between > 0);
     Ok(())
 }

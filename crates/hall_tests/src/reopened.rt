@@ -98,26 +98,22 @@ fn take_both<J: Opening>(ended: &mut Ended<J>, served: Served<J>) -> Option<Faul
     faults.filter(|_| took_part)
 }
 
-/// What the workers of a hall were told, its desk, and the fault that closed it.
-pub type Closed<S> = (Option<Faults>, Desk<S>, Option<ServiceFault>);
+/// What the workers of a hall were told, its desk, and the fault that closed it; or the number for which it was not opened, and the
+/// desk.
+pub type Tried<S> = Result<(Option<Faults>, Desk<S>, Option<ServiceFault>), (u32, Desk<S>)>;
 
 /// A hall of two workers over a desk, whose database has a limit on its steps or none.
 fn run_hall<
     J: Opening + Send + Sync + 'static,
     S: Alter + Drop,
     R: Threads + Wait + Abort + Copy + Send + 'static,
->(
-    rt: R,
-    alloc: Global,
-    opened: Opened,
-    desk: Desk<S>,
-    limit: Option<u64>,
-) -> Result<Closed<S>, Fail>
+>(rt: R, alloc: Global, opened: Opened, desk: Desk<S>, limit: Option<u64>) -> Result<Tried<S>, Fail>
     requires name { (opened.queue ≡ J.name) × (opened.blank ≡ J.book) }
     requires none { (H : History) → J.shows H → ⊥ }
 {
-    let Ok((mut side, all)) = open_hall::<J, S, R>(&rt, alloc, opened, desk, 2) else {
-        return Err("a hall".into());
+    let (mut side, all) = match open_hall::<J, S, R>(&rt, alloc, opened, desk, 2) {
+        Ok(hall) => hall,
+        Err(unopened) => return Ok(Err(unopened)),
     };
     if let Some(steps) = limit {
         limit_side(&mut side, steps);
@@ -135,7 +131,7 @@ fn run_hall<
         None => None,
     };
     close(&rt, ended);
-    Ok((faults, desk, fault))
+    Ok(Ok((faults, desk, fault)))
 }
 
 /// The same on a queue of its own.
@@ -144,21 +140,25 @@ pub fn run_over<S: Alter + Drop, R: Threads + Wait + Abort + Copy + Send + 'stat
     alloc: Global,
     desk: Desk<S>,
     limit: Option<u64>,
-) -> Result<Closed<S>, Fail> {
+) -> Result<Tried<S>, Fail> {
     run_hall::<Brand, S, R>(rt, alloc, open_queue(alloc)?, desk, limit)
 }
 
 #[test]
 fn a_new_hall_over_the_desk_of_a_closed_one_goes_on(rt: HostRuntime) -> Result<(), Fail> {
     let alloc = rt.alloc();
-    let (faults, mut desk, fault) = run_over(rt, alloc, library(alloc)?, Some(1))?;
+    let Ok((faults, mut desk, fault)) = run_over(rt, alloc, library(alloc)?, Some(1))? else {
+        return Err("a hall".into());
+    };
     assert!(&rt;
         faults == Some((Some(91), Some(92), None))
             && fault == Some(ServiceFault::Met(Fault::Database)),
         "{faults:?} {fault:?}"
     );
     desk.limit_steps(None);
-    let (faults, desk, fault) = run_over(rt, alloc, desk, None)?;
+    let Ok((faults, desk, fault)) = run_over(rt, alloc, desk, None)? else {
+        return Err("a hall".into());
+    };
     assert!(&rt;
         faults == Some((None, None, None)) && fault == None,
         "{faults:?} {fault:?}"
