@@ -227,6 +227,32 @@ def one_request_of_the_web(folder, refusing, everything):
     check("requests were told 90 or 91, and later ones 92", (told['{"fault":90}'] + told['{"fault":91}'] > 0, told['{"fault":92}'] > 0), (True, True))
 
 
+def a_board_that_cannot_grow(folder, refusing):
+    """A check-out that is committed while the board finds no memory for it: it is told 92, and so is what is submitted later; a page is as before; and a new program answers its key
+    with the kept reply, of one loan. Each request for memory of the check-out is refused, the last one first, until that is met."""
+    base, path = os.path.join(folder, "ground.db"), os.path.join(folder, "board.db")
+    say(base, GROUND)
+    lent, page = '{"reply":"loan 1 due 2026-03-09"}\n', '{"reply":"patron 2 owed 0 name Bo Carr"}\n'
+    requests = [("c1", ["check-out", "1", "10", "1"], lent), ("c2", ["acquire", "77", "700", "1", "1", "900", "Tall Ships"], None), ("c3", ["page", "2"], page)]
+    calm = RefusedWeb(refusing, base, path, 0, requests[:1])
+    check("the check-out, with memory", calm.answers, [lent])
+    met = 0
+    for number in range(refusing.count(), calm.begun, -1):
+        web = RefusedWeb(refusing, base, path, number, requests)
+        if web.met != 0 or web.answers[0] != fault_answers(92)[0]:
+            continue
+        met += 1
+        where = f"the board, request {number} refused"
+        check(f"what is told, {where}", web.answers, [*fault_answers(92, 92), page])
+        check(f"the end, {where}", (web.is_closed, web.status), (True, 3))
+        again = RefusedWeb(refusing, path, path + ".new", 0, requests)
+        check(f"what a new program answers, {where}", again.answers, [lent, '{"reply":"ok"}\n', page])
+        check(f"the loans, {where}", rows(path + ".new", "SELECT COUNT(*) FROM loans"), [(1,)])
+        if met == 3:
+            break
+    check("the board could not grow after a commit", met > 0, True)
+
+
 def missing_threads(folder, refusing):
     """A program that serves with so many workers, of which one gets no thread: it leaves at once, the others serve their connections, and a line tells it at the end."""
     base, path = os.path.join(folder, "ground.db"), os.path.join(folder, "threads.db")
@@ -464,6 +490,7 @@ def main():
         scripts_in_memory(refusing, everything)
         one_request_in_a_file(folder, refusing, everything)
         one_request_of_the_web(folder, refusing, everything)
+        a_board_that_cannot_grow(folder, refusing)
         missing_threads(folder, refusing)
         memory(folder, everything)
         serving_memory(folder, everything)

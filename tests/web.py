@@ -267,9 +267,11 @@ def in_pieces(folder, workers):
     pieces += [[PAGE_OF_ANN[:at], PAGE_OF_ANN[at:]] for at in range(1, len(PAGE_OF_ANN))]
     body = b'{"branch":1,"title":100}'
     head = f"POST /patrons/2/holds HTTP/1.1\r\nCard-Key: cardkey00002\r\nRequest-Key: h1\r\nContent-Length: {len(body)}\r\n\r\n".encode()
-    with Serving(path, len(pieces) + 7, workers=workers) as serving:
+    with Serving(path, len(pieces) + 9, workers=workers) as serving:
         for cut in pieces:
             check("a page in pieces", serving.raw(*cut), whole_page)
+        for target in (b"/patrons/2", b"/patrons/8"):
+            check(f"the page of another, or of nobody: {target}", serving.raw(page_fields(target=target)), answer("403 Forbidden", b'{"refusal":81}'))
         held = answer("200 OK", b'{"reply":"hold 1"}')
         check("a body that comes late", serving.raw(head, body, pause=0.3), held)
         check("a body in pieces", serving.raw(head, *[body[at:at + 5] for at in range(0, len(body), 5)]), held)

@@ -6,7 +6,8 @@
 The table of commands (`crates/terms/src/form.rt`): each command and its parts stand so in the manual page, its name in the completion for bash
 and in the table of the rules. The numbers of refusals and faults (`crates/terms/src/refusal.rt`, `fault.rt`): what each means stands in one way in the
 program's messages (`crates/messages/src/meanings.rt`), the manual page and the rules. The runs of the usage are those of the manual page, and the newest
-version of CHANGES.md and its schema are the program's. Each edit that the tables of wrong bodies name (`docs/PROOFS.md`) is there, in the crate that they name.
+version of CHANGES.md and its schema are the program's. Each edit that the tables of wrong bodies name (`docs/PROOFS.md`) is there, in the crate that they name. Each name in backquotes that only code
+can have (with an underscore, or capitals within) in README.md, PROOFS.md, RULES.md and ARCHITECTURE.md stands in a source, or is that of a file.
 """
 
 import os
@@ -54,6 +55,28 @@ def wrong_bodies():
                     yield crate, word
 
 
+def named():
+    """The names of code in backquotes, each with the document that has it."""
+    for path in ("README.md", "docs/PROOFS.md", "docs/RULES.md", "docs/ARCHITECTURE.md"):
+        for quoted in re.findall(r"`([^`\n]+)`", read(path)):
+            for name in re.findall(r"[A-Za-z]\w*", quoted):
+                if "_" in name or re.search(r"[a-z][A-Z]", name):
+                    yield path, name
+
+
+def sources():
+    """All words of the sources, and the names of files."""
+    words = set()
+    for at, folders, files in os.walk(TOP):
+        folders[:] = [it for it in folders if it not in (".git", "out", "__pycache__")]
+        for name in files:
+            words.update(part for part in re.split(r"[/.]", os.path.relpath(f"{at}/{name}", TOP)))
+            if not name.endswith((".md", ".png", ".xlsx", ".ods")):
+                with open(f"{at}/{name}", encoding="utf-8", errors="replace") as file:
+                    words.update(re.findall(r"[A-Za-z]\w*", file.read()))
+    return words
+
+
 def main():
     wrong = []
 
@@ -83,9 +106,13 @@ def main():
     if len(bodies) < 60:
         wrong.append(f"only {len(bodies)} edits were found in the tables of wrong bodies")
     same("the edits that the tables of wrong bodies name", [it for it in bodies if not os.path.isfile(f"{TOP}/crates/{it[0]}/must-fail/{it[1]}.edit")], [])
+    names, words_there = list(named()), sources()
+    if len(names) < 500:
+        wrong.append(f"only {len(names)} names of code were found in the documents")
+    same("the names of code in the documents", sorted({it for it in names if it[1] not in words_there}), [])
     for line in wrong:
         print(line)
-    print(f"words: {len(table)} commands, {len(told)} numbers and {len(bodies)} edits compared, {len(wrong)} differ")
+    print(f"words: {len(table)} commands, {len(told)} numbers, {len(bodies)} edits and {len(names)} names of code compared, {len(wrong)} differ")
     return 1 if wrong else 0
 
 

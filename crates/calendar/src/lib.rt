@@ -7,6 +7,7 @@ mod opening;
 mod search;
 mod singles;
 mod steps;
+mod uncounted;
 mod weekdays;
 
 pub use day::Day;

@@ -11,9 +11,10 @@ ghost use Rattle.calendar.specs.Openings.{open_days_after};
 
 use crate::day::Day;
 use crate::limits::MOST_CLOSED_DAYS;
-use crate::search::{count_between, first_open, place_of};
+use crate::search::{count_between, first_open};
 use crate::singles::Singles;
 use crate::steps::Steps;
+use crate::uncounted::{uncounted_least_open, uncounted_open_days, uncounted_place};
 use crate::weekdays::Weekdays;
 use std::alloc::Global;
 use std::marker::{Brand, Model};
@@ -107,7 +108,7 @@ impl Calendar {
     pub fn is_closed_singly(&self, day: Day) -> bool
         ensures { result ≡ is_single self.now day }
     {
-        place_of::<Brand>(&self.single, day, Blank::new(1)).is_ok()
+        uncounted_place::<Brand>(&self.single, day, Blank::new(1)).is_ok()
     }
 
     /// Whether 400 single days are closed, so that no more can be.
@@ -126,7 +127,7 @@ impl Calendar {
         ensures near { IfSome result (λ e. e ≤ day + 2806) }
         ensures found { day + 2806 ≤ LAST_DAY → IsSome result }
     {
-        self.least_open_in::<Brand>(day, Blank::new(1))
+        uncounted_least_open::<Brand>(self, day, Blank::new(1))
     }
 
     /// The same as `least_open`, and `steps` tells how many single closed days were looked at: at
@@ -140,27 +141,15 @@ impl Calendar {
     {
         // The number shows the proof that the day lies in the calendar.
         let _number = day.number();
-        let open = first_open(self.weekly, &self.single, day, steps);
+        let open = first_open(self.weekly, &self.single.counted(), day, steps);
         Day::new(open)
-    }
-
-    fn least_open_in<L: Ledger>(&self, day: Day, blank: Blank) -> Option<Day>
-        requires name { blank.name ≡ L.name }
-        requires parts { blank.parts ≡ L.parts }
-        requires some { 0 < blank.parts }
-        ensures some { IfSome result (IsLeastOpen self.now day) }
-        ensures none { IfNone result ((k : ℕ) → day ≤ k → is_open self.now k ≡ false) }
-        ensures near { IfSome result (λ e. e ≤ day + 2806) }
-        ensures found { day + 2806 ≤ LAST_DAY → IsSome result }
-    {
-        self.counted_least_open(day, &mut Steps::<L>::new(blank))
     }
 
     /// How many days after `due`, up to `today`, are open.
     pub fn open_days_after(&self, due: Day, today: Day) -> u32
         ensures { result ≡ open_days_after self.now due today }
     {
-        self.open_days_in::<Brand>(due, today, Blank::new(1))
+        uncounted_open_days::<Brand>(self, due, today, Blank::new(1))
     }
 
     /// The same as `open_days_after`, and `steps` tells how many single closed days were looked at:
@@ -178,17 +167,8 @@ impl Calendar {
         let days = today.number().saturating_sub(first);
         let week = self.weekly.open_among(first, 7);
         let rest = self.weekly.open_among(first, days % 7);
-        let closed = count_between(self.weekly, &self.single, due, today, steps);
+        let closed = count_between(self.weekly, &self.single.counted(), due, today, steps);
         days / 7 * week + rest - closed
-    }
-
-    fn open_days_in<L: Ledger>(&self, due: Day, today: Day, blank: Blank) -> u32
-        requires name { blank.name ≡ L.name }
-        requires parts { blank.parts ≡ L.parts }
-        requires some { 0 < blank.parts }
-        ensures { result ≡ open_days_after self.now due today }
-    {
-        self.counted_open_days_after(due, today, &mut Steps::<L>::new(blank))
     }
 
     /// Closes a single day. Nothing changes where it is refused or memory runs out.
@@ -203,7 +183,7 @@ impl Calendar {
     {
         // The number shows the proof that the day lies in the calendar.
         let _number = day.number();
-        let Err(place) = place_of::<Brand>(&self.single, day, Blank::new(1)) else {
+        let Err(place) = uncounted_place::<Brand>(&self.single, day, Blank::new(1)) else {
             return Err(CloseError::AlreadyClosed);
         };
         if self.is_full() {
@@ -222,7 +202,7 @@ impl Calendar {
         ensures err { OnErr result (self.new ≡ self.old) }
         ensures closings { AreClosings self.new }
     {
-        let Ok(place) = place_of::<Brand>(&self.single, day, Blank::new(1)) else {
+        let Ok(place) = uncounted_place::<Brand>(&self.single, day, Blank::new(1)) else {
             return Err(ReopenError::NotClosed);
         };
         self.single.remove(place);

@@ -1,4 +1,4 @@
-//! Single closed days looked up, each look a step.
+//! Single closed days looked up, each look a step of the counter that is passed.
 ghost use Rattle.std.specs.Prelude.{◌≡◌, ◌+◌, ◌-◌, ◌<◌, ◌≤◌, true, false, length, IfOk, IfErr};
 ghost use Rattle.calendar.specs.Openings.{has_day};
 ghost use Rattle.calendar.specs.declared.limits.TheConstants.{MOST_CLOSED_DAYS};
@@ -6,13 +6,17 @@ ghost use Rattle.calendar.specs.Weeks.{IsCountBelow, IsOpenFrom, IsPlaceFor, IsP
 ghost use Rattle.calendar.specs.Weeks.{singles_among};
 
 use crate::day::Day;
-use crate::singles::Singles;
+use crate::singles::CountedSingles;
 use crate::steps::Steps;
 use crate::weekdays::Weekdays;
-use std::sync::ledger::{Blank, Ledger};
+use std::sync::ledger::Ledger;
 
 /// How many of the single closed days lie before a day number.
-pub fn count_below<L: Ledger>(singles: &Singles, number: u32, steps: &mut Steps<L>) -> usize
+pub fn count_below<L: Ledger>(
+    singles: &CountedSingles<'_, L>,
+    number: u32,
+    steps: &mut Steps<L>,
+) -> usize
     requires rising { IsRising singles.now }
     requires few { length singles.now ≤ MOST_CLOSED_DAYS }
     ensures below { IsCountBelow singles.now number result }
@@ -32,20 +36,21 @@ pub fn count_below<L: Ledger>(singles: &Singles, number: u32, steps: &mut Steps<
 }
 
 /// Where a day stands among the single closed days, or else the place where it would stand.
-pub fn place_of<L: Ledger>(singles: &Singles, day: Day, blank: Blank) -> Result<usize, usize>
+pub fn place_of<L: Ledger>(
+    singles: &CountedSingles<'_, L>,
+    day: Day,
+    steps: &mut Steps<L>,
+) -> Result<usize, usize>
     requires rising { IsRising singles.now }
     requires few { length singles.now ≤ MOST_CLOSED_DAYS }
-    requires name { blank.name ≡ L.name }
-    requires parts { blank.parts ≡ L.parts }
-    requires some { 0 < blank.parts }
     ensures ok { IfOk result (IsPlaceOf singles.now day) }
     ensures found { IfOk result (λ _. has_day singles.now day ≡ true) }
     ensures err { IfErr result (IsPlaceFor singles.now day) }
     ensures missing { IfErr result (λ _. has_day singles.now day ≡ false) }
+    ensures cost { steps.new ≤ steps.old + 10 }
 {
-    let mut steps = Steps::<L>::new(blank);
-    let place = count_below(singles, day.number(), &mut steps);
-    if place < singles.len() && singles.at(place, &mut steps) == day {
+    let place = count_below(singles, day.number(), steps);
+    if place < singles.len() && singles.at(place, steps) == day {
         Ok(place)
     } else {
         Err(place)
@@ -55,7 +60,7 @@ pub fn place_of<L: Ledger>(singles: &Singles, day: Day, blank: Blank) -> Result<
 /// How many single closed days after `due`, up to `today`, fall on open weekdays.
 pub fn count_between<L: Ledger>(
     weekly: Weekdays,
-    singles: &Singles,
+    singles: &CountedSingles<'_, L>,
     due: Day,
     today: Day,
     steps: &mut Steps<L>,
@@ -79,7 +84,7 @@ pub fn count_between<L: Ledger>(
 /// The first day number from `day` on that no weekday and no single day closes.
 pub fn first_open<L: Ledger>(
     weekly: Weekdays,
-    singles: &Singles,
+    singles: &CountedSingles<'_, L>,
     day: Day,
     steps: &mut Steps<L>,
 ) -> u32

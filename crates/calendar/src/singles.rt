@@ -1,14 +1,15 @@
 //! The single closed days of a branch.
-ghost use Rattle.std.specs.Prelude.{◌≡◌, ◌+◌, ◌<◌, ◌≤◌, [], length, OnOk, OnErr, slice_index, insert, remove};
+ghost use Rattle.std.specs.Prelude.{◌≡◌, ◌+◌, ◌<◌, ◌≤◌, [], length, OnOk, OnErr};
+ghost use Rattle.std.specs.Prelude.{slice_index, insert, remove};
 
 use crate::Memory;
 use crate::day::Day;
 use crate::steps::Steps;
 use std::alloc::Global;
-use std::marker::Model;
+use std::marker::{Model, PhantomData};
 use std::sync::ledger::Ledger;
 
-/// The single closed days, the earliest first. A look at one of them is a step.
+/// The single closed days, the earliest first. They are looked at by way of `counted` alone.
 #[derive(Drop)]
 pub struct Singles {
     days: Vec<Day>,
@@ -39,14 +40,14 @@ impl Singles {
         self.days.len()
     }
 
-    /// The day at a place, in one step.
-    pub fn at<L: Ledger>(&self, index: usize, steps: &mut Steps<L>) -> Day
-        requires { index < length self.now }
-        ensures day { result ≡ slice_index self.now index }
-        ensures ticked { steps.new ≡ steps.old + 1 }
+    /// The same days for a call that is counted.
+    pub fn counted<L: Ledger>(&self) -> CountedSingles<'_, L>
+        ensures { result ≡ self.now }
     {
-        steps.tick();
-        self.days[index]
+        CountedSingles {
+            singles: self,
+            ledger: PhantomData,
+        }
     }
 
     /// Puts a day to a place, before the days from there on. Nothing changes where memory runs out.
@@ -65,5 +66,42 @@ impl Singles {
         ensures { self.new ≡ remove self.old index }
     {
         self.days.remove(index);
+    }
+}
+
+/// The single closed days as a call sees them that is counted by the ledger `L`. A look at one of
+/// them is a step of that ledger, and a call that is generic in the ledger can make no counter of
+/// it.
+#[derive(Drop)]
+pub struct CountedSingles<'a, L: Ledger> {
+    singles: &'a Singles,
+    ledger: PhantomData<L>,
+}
+
+impl<'a, L: Ledger> Model for CountedSingles<'a, L> {
+    ghost use Rattle.std.specs.Prelude.{List, ℕ};
+
+    ghost Value = { List ℕ };
+
+    ghost view = { λ a. a.singles.now };
+}
+
+impl<L: Ledger> CountedSingles<'_, L> {
+    /// How many there are.
+    pub fn len(&self) -> usize
+        ensures { result ≡ length self.now }
+    {
+        self.singles.len()
+    }
+
+    /// The day at a place, in one step.
+    pub fn at(&self, index: usize, steps: &mut Steps<L>) -> Day
+        requires { index < length self.now }
+        ensures day { result ≡ slice_index self.now index }
+        ensures ticked { steps.new ≡ steps.old + 1 }
+    {
+        steps.tick();
+        let singles = self.singles;
+        singles.days[index]
     }
 }

@@ -2,9 +2,10 @@
 use Rattle.std.proofs.Common.{◌≡◌, inl, inr, refl, sym, subst}
 use Rattle.std.specs.Prelude.{Result, Ok, Err}
 use Rattle.store.specs.Library.{Ghosts, Held, State, state, HasCleanDisk}
+use Rattle.store.specs.Legal.{AnswersLegal}
 use Rattle.store.specs.Lists.{AreAuditTables}
 use Rattle.store.specs.Stops.{KeepsPicture, LeavesPicture}
-use Rattle.store.specs.Reads.{Reads, Looked, IsSound as AreInLimits}
+use Rattle.store.specs.Reads.{Reads, Looked, IsReadable}
 use Rattle.terms.specs.Limits.{InLimits}
 use Rattle.terms.specs.Pictures.{Picture}
 use Rattle.terms.specs.Texts.{fault_number}
@@ -13,19 +14,14 @@ use Rattle.terms.specs.declared.fault.Fault.TheVariants.{Stored}
 use Rattle.terms.specs.declared.tables.Tables.{Tables}
 use Rattle.model.specs.Picture.{picture}
 use Rattle.model.proofs.RowRanges.{legal-rows}
-use Rattle.desk.proofs.Sound.{is-sound}
-use Rattle.circ_audit.specs.Sound.{IsSound, IsFirstBroken, IsInOrder, Audits}
+use Rattle.desk.proofs.Sound.{is-readable}
+use Rattle.circ_audit.specs.Sound.{IsSound, IsFirstBroken, Audits}
 use Rattle.circ_audit.specs.declared.auditing.Finding.{Finding}
 use Rattle.circ_audit.specs.declared.auditing.Finding.TheVariants.{Claims, Binding, Balance}
 use Rattle.circ.specs.declared.lines.Exit.TheVariants.{Done, Refused, Faulted}
 use Rattle.circ.specs.Lines.{sound_line, finding_line, fault_line}
 use Rattle.circ.specs.Auditing.{LegalTablesAreSound, SaysOf}
-use Rattle.circ.proofs.CountedRows.{rises}
 use Rattle.circ.proofs.WholeTables.{like_whole, sound_as, broken_as}
-
--- Rows that were read stand in the order of their numbers.
-in-order : (P : Picture) (tables : Tables) → AreAuditTables P tables → IsInOrder tables
-in-order P tables are = record { holds = rises (λ r. r.hold) tables.holds are.holds.rise; copies = rises (λ r. r.copy) tables.copies are.copies.rise }
 
 -- Sound tables break no law.
 not-both : (tables : Tables) (finding : Finding) → IsSound tables → IsFirstBroken tables finding → ⊥
@@ -45,39 +41,41 @@ keeps-same old new P reads disk same keeps = record {
 }
 
 module _ {S : Type 0} (g : Ghosts S) (old new : Held S) where
-  pub says-sound : (tables : Tables) → Looked InLimits AreAuditTables AreInLimits g old new (Ok tables) → Audits tables (Ok tt) → SaysOf g old new sound_line Done
-  says-sound tables looked audits = inl (record {
+  pub says-sound : (tables : Tables) → Looked InLimits AreAuditTables IsReadable g old new (Ok tables) → AnswersLegal g old new (Ok tables) → Audits tables (Ok tt) → SaysOf g old new sound_line Done
+  says-sound tables looked legal audits = inl (record {
     tables = tables;
     line_is = refl;
     exit_is = refl;
+    legal = legal;
     read = λ disk P limits keeps.
         let found = looked.shown disk P keeps.now limits in
-        let sound = (audits.sound (in-order P tables found.0)).0 refl in
+        let sound = audits.sound.0 refl in
         (found.0, sound, λ all whole. sound_as tables all (like_whole P all tables whole found.0) sound, keeps-same (state g old) (state g new) P looked.reads disk found.1 keeps);
   })
 
-  pub says-unsound : LegalTablesAreSound → (tables : Tables) (finding : Finding) → Looked InLimits AreAuditTables AreInLimits g old new (Ok tables) → Audits tables (Err finding)
+  pub says-unsound : LegalTablesAreSound → (tables : Tables) (finding : Finding) → Looked InLimits AreAuditTables IsReadable g old new (Ok tables) → AnswersLegal g old new (Ok tables) → Audits tables (Err finding)
       → SaysOf g old new (finding_line finding) Refused
-  says-unsound law tables finding looked audits = inr (inl (record {
+  says-unsound law tables finding looked legal audits = inr (inl (record {
     tables = tables;
     finding = finding;
     line_is = refl;
     exit_is = refl;
+    legal = legal;
     read = λ disk P limits keeps.
         let found = looked.shown disk P keeps.now limits in
-        let first = (audits.found (in-order P tables found.0) finding).0 refl in
+        let first = (audits.found finding).0 refl in
         (found.0, first, λ all whole. broken_as tables all (like_whole P all tables whole found.0) finding first, keeps-same (state g old) (state g new) P looked.reads disk found.1 keeps);
     never = λ disk H shows.
         let found = looked.shown disk (picture H) shows.tables.now (legal-rows H shows.legal shows.forms) in
-        not-both tables finding (law H tables shows.legal shows.forms found.0) ((audits.found (in-order (picture H) tables found.0) finding).0 refl);
+        not-both tables finding (law H tables shows.legal shows.forms found.0) ((audits.found finding).0 refl);
   }))
 
-  pub says-faulted : (fault : Fault) → Looked InLimits AreAuditTables AreInLimits g old new (Err fault) → SaysOf g old new (fault_line (fault_number fault)) Faulted
+  pub says-faulted : (fault : Fault) → Looked InLimits AreAuditTables IsReadable g old new (Err fault) → SaysOf g old new (fault_line (fault_number fault)) Faulted
   says-faulted fault looked = inr (inr (record {
     fault = fault;
     line_is = refl;
     exit_is = refl;
     limits = λ disk stored P keeps. looked.sound disk (let same : Err fault ≡ Err Stored = cc in same) P keeps.now;
-    sound = λ disk stored H shows. looked.sound disk (let same : Err fault ≡ Err Stored = cc in same) (picture H) shows.tables.now (is-sound H shows.legal shows.forms);
+    sound = λ disk stored H shows. looked.sound disk (let same : Err fault ≡ Err Stored = cc in same) (picture H) shows.tables.now (is-readable H shows.legal shows.forms);
     undone = λ disk is_open P keeps. keeps-same (state g old) (state g new) P looked.reads disk (looked.reads.same disk is_open (keeps.now.maps, keeps.now.holds)) keeps;
   }))

@@ -5,8 +5,7 @@ use Rattle.std.specs.List.{Contains, AllByRecursion}
 use Rattle.std.proofs.lemmas.Bool.{cases_lt}
 use Rattle.std.proofs.lemmas.List.Sums.{sum_by-cons}
 use Rattle.std.proofs.lemmas.List.Elements.{Contains-get_or}
-use Rattle.store.specs.Lists.{Rise}
-use Rattle.circ_audit.specs.Sound.{Rises}
+use Rattle.terms.specs.Orders.{Rise}
 
 -- ---- what is in a list
 
@@ -19,11 +18,6 @@ in-head x rows = (0, omega arith, refl)
 -- What holds of each row that is there.
 pub all-there : {R : Type 0} (P : R → Type 0) (rows : List R) → ((r : R) → Contains rows r → P r) → All P rows
 all-there P rows f k d lt = f (get_or rows k d) (Contains-get_or rows k d lt)
-
--- The rows rise in the words of the audit.
-pub rises : {R : Type 0} (number_of : R → ℕ) (rows : List R) → Rise number_of rows → Rises number_of rows
-rises number_of [] rise = tt
-rises number_of (r ∷ rows) rise = (rise.0, rises number_of rows rise.1)
 
 pub above-first : {R : Type 0} (number_of : R → ℕ) (n : ℕ) (rows : List R) → AllByRecursion (λ s. n < number_of s) rows → (r : R) → Contains rows r → n < number_of r
 above-first number_of n [] all r at = let lt : at.0 < 0 = at.1 in absurd (omega (arith, lt))

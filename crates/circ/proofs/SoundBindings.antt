@@ -26,7 +26,7 @@ use Rattle.model.proofs.SettingRanges.{some-same}
 use Rattle.circ_audit.specs.Rows.{names, copy_row, hold_row, is_titled, is_copy_of, is_fit, serves}
 use Rattle.circ_audit.specs.Sound.{IsServedOnce, IsBound}
 use Rattle.circ_audit.proofs.Lookups.{row-found}
-use Rattle.circ.proofs.CountedRows.{all-there, rises, counted-once}
+use Rattle.circ.proofs.CountedRows.{all-there, counted-once}
 use Rattle.circ.proofs.SoundClaims.{is-named}
 
 module _ (H : History) (rows : Tables) (legal : IsLegal H) (forms : HasForms H) (are : AreAuditTables (picture H) rows) where
@@ -44,7 +44,7 @@ module _ (H : History) (rows : Tables) (legal : IsLegal H) (forms : HasForms H) 
       let f = copy-known H inv c somewhere in
       let row = copy_columns H c f.0 in
       let there : Contains rows.copies row = are.copies.whole c row (ap (option_map (copy_columns H c)) f.1) tt in
-      (f.0, f.1, row-found (λ (r : CopyRow). r.copy) rows.copies (rises (λ r. r.copy) rows.copies are.copies.rise) c there.0 row there.1 there.2 refl)
+      (f.0, f.1, row-found (λ (r : CopyRow). r.copy) rows.copies are.copies.rise c there.0 row there.1 there.2 refl)
 
   -- A copy that serves a hold is of its title.
   of-title : (c h : ℕ) → Serves (place H c) h → (place H c ≡ Nowhere → ⊥) → is_copy_of rows.copies (Some c) (title_of_hold H h) ≡ true
@@ -124,7 +124,7 @@ module _ (H : History) (rows : Tables) (legal : IsLegal H) (forms : HasForms H) 
       there' = are.holds.whole h row drawn tt
 
       found : hold_row rows.holds h ≡ Some row
-      found = row-found (λ (q : HoldRow). q.hold) rows.holds (rises (λ q. q.hold) rows.holds are.holds.rise) h there'.0 row there'.1 there'.2 refl
+      found = row-found (λ (q : HoldRow). q.hold) rows.holds are.holds.rise h there'.0 row there'.1 there'.2 refl
 
       goal : (facts.0.branch == r.goal) ≡ true
       goal = eq-eqb facts.0.branch r.goal (sym (ap (λ (o : Option HoldFacts). unwrap_or (option_map (λ q. q.branch) o) 0) facts.1) ∙ travels.0)

@@ -3,7 +3,8 @@ use Rattle.std.specs.Prelude.{◌≡◌, ◌⊎◌, ℕ, List, Option, Result, I
 use Rattle.std.specs.Io.KnownBytes.{Appends}
 use Rattle.store.specs.Library.{Ghosts, Held, state, IsClean, IsOpen}
 use Rattle.store.specs.Lists.{AreTables, AreAuditTables}
-use Rattle.store.specs.Reads.{IsSound as AreInLimits}
+use Rattle.store.specs.Legal.{HasLegalRows}
+use Rattle.store.specs.Reads.{IsReadable}
 use Rattle.store.specs.Stops.{KeepsPicture, LeavesPicture}
 use Rattle.terms.specs.Limits.{InLimits}
 use Rattle.terms.specs.Pictures.{Picture}
@@ -37,22 +38,25 @@ Reads g old new Is tables =
     → AreAuditTables P tables × Is tables × ((all : Tables) → AreTables P all → Is all)
     × KeepsPicture (state g new) P
 
--- The line is that the tables are sound: their rows keep the three laws.
+-- The line is that the tables are sound: their rows keep the three laws. Whatever they show, none
+-- of the rows of the thirteen tables is damaged.
 pub record SaysSound {S : Type 0} (g : Ghosts S) (old new : Held S) (line : List ℕ)
     (exit : Exit) : Type 0 where
   pub tables : Tables
   pub line_is : line ≡ sound_line
   pub exit_is : exit ≡ Done
+  pub legal : IsClean g new → HasLegalRows (state g old).now
   pub read : Reads g old new IsSound tables
 
--- The line is a finding: it is the first law that their rows break. That never comes where the
--- tables showed a list of accepted requests.
+-- The line is a finding: it is the first law that their rows break, and none of the rows of the
+-- thirteen tables is damaged. That never comes where the tables showed a list of accepted requests.
 pub record SaysUnsound {S : Type 0} (g : Ghosts S) (old new : Held S) (line : List ℕ)
     (exit : Exit) : Type 0 where
   pub tables : Tables
   pub finding : Finding
   pub line_is : line ≡ finding_line finding
   pub exit_is : exit ≡ Refused
+  pub legal : IsClean g new → HasLegalRows (state g old).now
   pub read : Reads g old new (λ rows. IsFirstBroken rows finding) tables
   pub never : IsClean g new → (H : History) → Shows (state g old) H → ⊥
 
@@ -65,7 +69,7 @@ pub record SaysFaulted {S : Type 0} (g : Ghosts S) (old new : Held S) (line : Li
   pub line_is : line ≡ fault_line (fault_number fault)
   pub exit_is : exit ≡ Faulted
   pub limits : IsClean g new → fault ≡ Stored → (P : Picture) → KeepsPicture (state g old) P
-      → AreInLimits P → ⊥
+      → IsReadable P → ⊥
   pub sound : IsClean g new → fault ≡ Stored → (H : History) → Shows (state g old) H → ⊥
   pub undone : IsClean g new → IsOpen g new → (P : Picture) → KeepsPicture (state g old) P
       → KeepsPicture (state g new) P

@@ -3,7 +3,7 @@ use Rattle.std.proofs.Common.{◌≡◌, ℕ, Result, Ok, Err, refl, ap, subst}
 use Rattle.terms.specs.declared.tables.Tables.{Tables}
 use Rattle.circ_audit.specs.declared.auditing.Finding.{Finding}
 use Rattle.circ_audit.specs.declared.auditing.Finding.TheVariants.{Claims, Binding, Balance}
-use Rattle.circ_audit.specs.Sound.{IsClaimedOnce, IsBound, IsBalanced, IsLeastBroken, IsFirstBroken, IsInOrder, Audits}
+use Rattle.circ_audit.specs.Sound.{IsClaimedOnce, IsBound, IsBalanced, IsLeastBroken, IsFirstBroken, Audits}
 use Rattle.circ_audit.proofs.Firsts.{least-unique}
 
 -- A finding is one value.
@@ -13,10 +13,8 @@ same-finding a b e = cc
 module _ (t : Tables) where
   pub audits-claims : (n : ℕ) → IsLeastBroken (IsClaimedOnce t) n → Audits t (Err (Claims n))
   audits-claims n least = record {
-    sound = λ order. (λ e. let never : ⊥ = cc in absurd never, λ sound. absurd (least.broken (sound.claims n)));
-    found = λ order finding. (λ e. subst (IsFirstBroken t) (same-finding (Claims n) finding e) least, told finding);
-    claimed = λ copy. (λ e. subst (IsFirstBroken t) (same-finding (Claims n) (Claims copy) e) least, told (Claims copy));
-    balanced = λ e. let never : ⊥ = cc in absurd never;
+    sound = (λ e. let never : ⊥ = cc in absurd never, λ sound. absurd (least.broken (sound.claims n)));
+    found = λ finding. (λ e. subst (IsFirstBroken t) (same-finding (Claims n) finding e) least, told finding);
   }
     where
       told : (finding : Finding) → IsFirstBroken t finding → ◌≡◌ {A = Result (Unit {0}) Finding} (Err (Claims n)) (Err finding)
@@ -25,42 +23,36 @@ module _ (t : Tables) where
       told (Balance p) first = absurd (least.broken (first.0 n))
 
   module _ (claims : (copy : ℕ) → IsClaimedOnce t copy) where
-    pub audits-binding : (n : ℕ) → (IsInOrder t → IsLeastBroken (IsBound t) n) → Audits t (Err (Binding n))
+    pub audits-binding : (n : ℕ) → IsLeastBroken (IsBound t) n → Audits t (Err (Binding n))
     audits-binding n least = record {
-      sound = λ order. (λ e. let never : ⊥ = cc in absurd never, λ sound. absurd ((least order).broken (sound.bindings n)));
-      found = λ order finding. (λ e. subst (IsFirstBroken t) (same-finding (Binding n) finding e) (claims, least order), told order finding);
-      claimed = λ copy. (λ e. let never : ⊥ = cc in absurd never, λ first. absurd (first.broken (claims copy)));
-      balanced = λ e. let never : ⊥ = cc in absurd never;
+      sound = (λ e. let never : ⊥ = cc in absurd never, λ sound. absurd (least.broken (sound.bindings n)));
+      found = λ finding. (λ e. subst (IsFirstBroken t) (same-finding (Binding n) finding e) (claims, least), told finding);
     }
       where
-        told : IsInOrder t → (finding : Finding) → IsFirstBroken t finding → ◌≡◌ {A = Result (Unit {0}) Finding} (Err (Binding n)) (Err finding)
-        told order (Claims m) first = absurd (first.broken (claims m))
-        told order (Binding h) first = ap (λ k. Err (Binding k)) (least-unique (IsBound t) n h (least order) first.1)
-        told order (Balance p) first = absurd ((least order).broken (first.1 n))
+        told : (finding : Finding) → IsFirstBroken t finding → ◌≡◌ {A = Result (Unit {0}) Finding} (Err (Binding n)) (Err finding)
+        told (Claims m) first = absurd (first.broken (claims m))
+        told (Binding h) first = ap (λ k. Err (Binding k)) (least-unique (IsBound t) n h least first.1)
+        told (Balance p) first = absurd (least.broken (first.1 n))
 
-    module _ (bindings : IsInOrder t → (hold : ℕ) → IsBound t hold) where
+    module _ (bindings : (hold : ℕ) → IsBound t hold) where
       pub audits-balance : (n : ℕ) → IsLeastBroken (IsBalanced t) n → Audits t (Err (Balance n))
       audits-balance n least = record {
-        sound = λ order. (λ e. let never : ⊥ = cc in absurd never, λ sound. absurd (least.broken (sound.balance n)));
-        found = λ order finding. (λ e. subst (IsFirstBroken t) (same-finding (Balance n) finding e) (claims, bindings order, least), told order finding);
-        claimed = λ copy. (λ e. let never : ⊥ = cc in absurd never, λ first. absurd (first.broken (claims copy)));
-        balanced = λ e. let never : ⊥ = cc in absurd never;
+        sound = (λ e. let never : ⊥ = cc in absurd never, λ sound. absurd (least.broken (sound.balance n)));
+        found = λ finding. (λ e. subst (IsFirstBroken t) (same-finding (Balance n) finding e) (claims, bindings, least), told finding);
       }
         where
-          told : IsInOrder t → (finding : Finding) → IsFirstBroken t finding → ◌≡◌ {A = Result (Unit {0}) Finding} (Err (Balance n)) (Err finding)
-          told order (Claims m) first = absurd (first.broken (claims m))
-          told order (Binding h) first = absurd (first.1.broken (bindings order h))
-          told order (Balance p) first = ap (λ k. Err (Balance k)) (least-unique (IsBalanced t) n p least first.2)
+          told : (finding : Finding) → IsFirstBroken t finding → ◌≡◌ {A = Result (Unit {0}) Finding} (Err (Balance n)) (Err finding)
+          told (Claims m) first = absurd (first.broken (claims m))
+          told (Binding h) first = absurd (first.1.broken (bindings h))
+          told (Balance p) first = ap (λ k. Err (Balance k)) (least-unique (IsBalanced t) n p least first.2)
 
       pub audits-sound : ((patron : ℕ) → IsBalanced t patron) → Audits t (Ok tt)
       audits-sound balance = record {
-        sound = λ order. (λ e. record { claims = claims; bindings = bindings order; balance = balance }, λ sound. refl);
-        found = λ order finding. (λ e. let never : ⊥ = cc in absurd never, λ first. absurd (none order finding first));
-        claimed = λ copy. (λ e. let never : ⊥ = cc in absurd never, λ first. absurd (first.broken (claims copy)));
-        balanced = λ e. balance;
+        sound = (λ e. record { claims = claims; bindings = bindings; balance = balance }, λ sound. refl);
+        found = λ finding. (λ e. let never : ⊥ = cc in absurd never, λ first. absurd (none finding first));
       }
         where
-          none : IsInOrder t → (finding : Finding) → IsFirstBroken t finding → ⊥
-          none order (Claims m) first = first.broken (claims m)
-          none order (Binding h) first = first.1.broken (bindings order h)
-          none order (Balance p) first = first.2.broken (balance p)
+          none : (finding : Finding) → IsFirstBroken t finding → ⊥
+          none (Claims m) first = first.broken (claims m)
+          none (Binding h) first = first.1.broken (bindings h)
+          none (Balance p) first = first.2.broken (balance p)

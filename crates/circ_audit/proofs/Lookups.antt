@@ -7,7 +7,8 @@ use Rattle.std.specs.Ordering.{nat_cmp, ordering_index}
 use Rattle.std.proofs.lemmas.Cmp.{ranked}
 use Rattle.std.proofs.lemmas.Bool.{cases_eq, cases_lt, eqb-true, eq-eqb}
 use Rattle.std.proofs.lemmas.Bool.Decides.{nat_tests}
-use Rattle.circ_audit.specs.Sound.{Rises}
+use Rattle.terms.specs.Orders.{Rise}
+use Rattle.terms.proofs.OrderLemmas.{ordered-at}
 
 -- The first row that passes is found, where no earlier one does.
 find-at : {R : Type 0} (p : R → Bool) (rows : List R) (i : ℕ) (x : R) → i < length rows → get_or rows i x ≡ x → p x ≡ true
@@ -23,18 +24,6 @@ find-none : {R : Type 0} (p : R → Bool) (rows : List R) → ((k : ℕ) (d : R)
 find-none p [] none = refl
 find-none p (y ∷ rows) none = let no : p y ≡ false = none 0 y (omega arith) in rw no (find-none p rows (λ k d below. none (suc k) d (omega (arith, below))))
 
--- The numbers of rows rise from place to place.
-above-all : {R : Type 0} (number_of : R → ℕ) (n : ℕ) (rows : List R) → AllByRecursion (λ s. n < number_of s) rows → (j : ℕ) (d : R) → j < length rows → n < number_of (get_or rows j d)
-above-all number_of n [] all j d lt = absurd (omega (arith, lt))
-above-all number_of n (y ∷ rows) all zero d lt = all.0
-above-all number_of n (y ∷ rows) all (suc j) d lt = above-all number_of n rows all.1 j d (omega (arith, lt))
-
-rises-at : {R : Type 0} (number_of : R → ℕ) (rows : List R) → Rises number_of rows → (i j : ℕ) (d : R) → i < j → j < length rows → number_of (get_or rows i d) < number_of (get_or rows j d)
-rises-at number_of [] rises i j d lt within = absurd (omega (arith, within))
-rises-at number_of (y ∷ rows) rises i zero d lt within = absurd (omega (arith, lt))
-rises-at number_of (y ∷ rows) rises zero (suc j) d lt within = above-all number_of (number_of y) rows rises.0 j d (omega (arith, within))
-rises-at number_of (y ∷ rows) rises (suc i) (suc j) d lt within = rises-at number_of rows rises.1 i j d (omega (arith, lt)) (omega (arith, within))
-
 not-eqb : (m n : ℕ) → m ≢ n → eqb m n ≡ false
 not-eqb m n differ = go (eqb m n) refl
   where
@@ -42,14 +31,14 @@ not-eqb m n differ = go (eqb m n) refl
     go true e = absurd (differ (eqb-true m n e))
     go false e = refl
 
-module _ {R : Type 0} (number_of : R → ℕ) (rows : List R) (rises : Rises number_of rows) (n : ℕ) where
+module _ {R : Type 0} (number_of : R → ℕ) (rows : List R) (rise : Rise number_of rows) (n : ℕ) where
   -- A row with the number is the one that is found.
   pub row-found : (place : ℕ) (x : R) → place < length rows → get_or rows place x ≡ x → number_of x ≡ n → find (λ r. eqb (number_of r) n) rows ≡ Some x
   row-found place x within is has = find-at (λ r. eqb (number_of r) n) rows place x within is (eq-eqb (number_of x) n has) (λ k below. not-eqb (number_of (get_or rows k x)) n (differs k below))
     where
       differs : (k : ℕ) → k < place → number_of (get_or rows k x) ≢ n
       differs k below same =
-          let less : number_of (get_or rows k x) < number_of (get_or rows place x) = rises-at number_of rows rises k place x below within in
+          let less : number_of (get_or rows k x) < number_of (get_or rows place x) = ordered-at (λ r s. number_of r < number_of s) rows k place x below within rise in
           let at : number_of (get_or rows place x) ≡ number_of x = ap number_of is in
           omega (arith, less, at, has, same)
 
@@ -60,7 +49,7 @@ module _ {R : Type 0} (number_of : R → ℕ) (rows : List R) (rises : Rises num
       go : (i ≡ j) ⊎ (i ≢ j) → ordering_index (nat_cmp (number_of (get_or rows i d)) n) ≤ ordering_index (nat_cmp (number_of (get_or rows j d)) n)
       go (inl same) = subst (λ (k : ℕ). ordering_index (nat_cmp (number_of (get_or rows i d)) n) ≤ ordering_index (nat_cmp (number_of (get_or rows k d)) n)) same (omega arith)
       go (inr other) =
-          let less : number_of (get_or rows i d) < number_of (get_or rows j d) = rises-at number_of rows rises i j d (omega (arith, le, other)) within in
+          let less : number_of (get_or rows i d) < number_of (get_or rows j d) = ordered-at (λ r s. number_of r < number_of s) rows i j d (omega (arith, le, other)) within rise in
           compared (number_of (get_or rows i d)) (number_of (get_or rows j d)) less
         where
           compared : (a b : ℕ) → a < b → ordering_index (nat_cmp a n) ≤ ordering_index (nat_cmp b n)

@@ -1,6 +1,5 @@
 -- The three laws of sound tables, and the first of them that is broken.
 use Rattle.std.specs.Prelude.{◌≡◌, ◌↔◌, ℕ, ◌+◌, ◌<◌, ◌≤◌, true, List, [], ◌∷◌, All, count_by, sum_by, Option, Some, Result, Ok, Err, MatchOption}
-use Rattle.std.specs.List.{AllByRecursion}
 use Rattle.terms.specs.declared.tables.Tables.{Tables}
 use Rattle.circ_audit.specs.declared.auditing.Finding.{Finding}
 use Rattle.circ_audit.specs.declared.auditing.Finding.TheVariants.{Claims, Binding, Balance}
@@ -77,24 +76,9 @@ IsFirstBroken t (Balance patron) =
 abbrev pub FailsFirst : (ℕ → Type 0) → Option ℕ → Type 0
 FailsFirst Law found = MatchOption found ((n : ℕ) → Law n) (λ n. IsLeastBroken Law n)
 
--- Each number is below all later ones.
-abbrev pub Rises : {R : Type 0} → (R → ℕ) → List R → Type 0
-Rises number_of [] = Unit {0}
-Rises number_of (r ∷ rows) =
-    AllByRecursion (λ s. number_of r < number_of s) rows × Rises number_of rows
-
--- The rows of holds and copies stand in the order of their numbers, as those of a library are read.
-pub record IsInOrder (t : Tables) : Type 0 where
-  pub holds : Rises (λ r. r.hold) t.holds
-  pub copies : Rises (λ r. r.copy) t.copies
-
 -- The tables were audited.
 pub record Audits (t : Tables) (result : Result (Unit {0}) Finding) : Type 0 where
   -- they are told to be sound exactly if they keep the three laws
-  pub sound : IsInOrder t → (result ≡ Ok tt) ↔ IsSound t
+  pub sound : (result ≡ Ok tt) ↔ IsSound t
   -- a finding is told exactly if it is the first law that is broken
-  pub found : IsInOrder t → (finding : Finding) → (result ≡ Err finding) ↔ IsFirstBroken t finding
-  -- so it is of claims whatever the order of the rows
-  pub claimed : (copy : ℕ) → (result ≡ Err (Claims copy)) ↔ IsFirstBroken t (Claims copy)
-  -- and whatever the order, each patron's balance is right in tables that are told to be sound
-  pub balanced : result ≡ Ok tt → (patron : ℕ) → IsBalanced t patron
+  pub found : (finding : Finding) → (result ≡ Err finding) ↔ IsFirstBroken t finding

@@ -23,9 +23,6 @@ pub enum Finding {
 /// one claim on each copy, ready and coming holds bound to copies one to one, and the balance of
 /// each patron. Else the first law that is broken, with its least number. It takes no memory; its
 /// time is linear in the rows, for every 65,536 numbers of copies, holds and patrons once.
-///
-/// What is said of bindings is said of rows of holds and copies in the order of their numbers, as
-/// the rows of a library's tables are.
 pub fn audit(tables: &Tables) -> Result<(), Finding>
     ensures { Audits tables.now result }
 {

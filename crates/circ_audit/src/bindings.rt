@@ -3,37 +3,38 @@
 ghost use Rattle.std.specs.Prelude.{◌≡◌};
 ghost use Rattle.circ_audit.specs.Rows.{copy_row, hold_row, is_titled, is_copy_of, is_fit, serves};
 ghost use Rattle.circ_audit.specs.Pages.{first_after, first_named, earlier_of};
-ghost use Rattle.circ_audit.specs.Sound.{Rises, IsInOrder, IsServedOnce, IsBound, FailsFirst};
-ghost use Rattle.circ_audit.specs.Sound.{IsFit, IsServed};
+ghost use Rattle.circ_audit.specs.Sound.{IsServedOnce, IsBound, FailsFirst, IsFit, IsServed};
 
 use crate::pages::{Law, Look, first_broken, lesser};
 use crate::rows::{is_ready, is_waiting};
 use crate::window::{Names, Window};
-use terms::{CopyId, CopyRow, HoldId, HoldRow, Tables, TitleId, TransitRow};
+use terms::{CopyId, CopyRow, HoldId, HoldRow, Rows, Tables, TitleId, TransitRow};
 
-/// The row of a copy, among rows in the order of their numbers.
-fn copy_row(copies: &[CopyRow], copy: CopyId) -> Option<CopyRow>
-    ensures { Rises (λ r. r.copy) copies.now → result ≡ copy_row copies.now copy }
+/// The row of a copy.
+fn copy_row(copies: &Rows<CopyRow>, copy: CopyId) -> Option<CopyRow>
+    ensures { result ≡ copy_row copies.now copy }
 {
-    match copies.binary_search_by_key(&copy.number(), |row| row.copy.number()) {
-        Ok(place) => Some(copies[place]),
+    let rows = copies.as_slice();
+    match rows.binary_search_by_key(&copy.number(), |row| row.copy.number()) {
+        Ok(place) => Some(rows[place]),
         Err(_) => None,
     }
 }
 
-/// The row of a hold, among rows in the order of their numbers.
-fn hold_row(holds: &[HoldRow], hold: HoldId) -> Option<HoldRow>
-    ensures { Rises (λ r. r.hold) holds.now → result ≡ hold_row holds.now hold }
+/// The row of a hold.
+fn hold_row(holds: &Rows<HoldRow>, hold: HoldId) -> Option<HoldRow>
+    ensures { result ≡ hold_row holds.now hold }
 {
-    match holds.binary_search_by_key(&hold.number(), |row| row.hold.number()) {
-        Ok(place) => Some(holds[place]),
+    let rows = holds.as_slice();
+    match rows.binary_search_by_key(&hold.number(), |row| row.hold.number()) {
+        Ok(place) => Some(rows[place]),
         Err(_) => None,
     }
 }
 
 /// Whether a copy is named whose row is of the title.
-fn is_copy_of(copies: &[CopyRow], copy: Option<CopyId>, title: TitleId) -> bool
-    ensures { Rises (λ r. r.copy) copies.now → result ≡ is_copy_of copies.now copy title }
+fn is_copy_of(copies: &Rows<CopyRow>, copy: Option<CopyId>, title: TitleId) -> bool
+    ensures { result ≡ is_copy_of copies.now copy title }
 {
     let Some(copy) = copy else {
         return false;
@@ -46,8 +47,8 @@ fn is_copy_of(copies: &[CopyRow], copy: Option<CopyId>, title: TitleId) -> bool
 
 /// Whether the row names a shelf limit and a copy of its title, if the hold is ready, and neither
 /// if it isn't.
-fn is_fit(copies: &[CopyRow], row: &HoldRow) -> bool
-    ensures { Rises (λ r. r.copy) copies.now → result ≡ is_fit copies.now row.now }
+fn is_fit(copies: &Rows<CopyRow>, row: &HoldRow) -> bool
+    ensures { result ≡ is_fit copies.now row.now }
 {
     if is_ready(row.state) {
         row.limit_day.is_some() && is_copy_of(copies, row.copy, row.title)
@@ -58,8 +59,8 @@ fn is_fit(copies: &[CopyRow], row: &HoldRow) -> bool
 
 /// Whether the transit serves the hold: it waits, the goal is its pick-up branch, and the copy is
 /// of its title.
-fn serves(copies: &[CopyRow], row: &TransitRow, hold: Option<HoldRow>) -> bool
-    ensures { Rises (λ r. r.copy) copies.now → result ≡ serves copies.now row.now hold }
+fn serves(copies: &Rows<CopyRow>, row: &TransitRow, hold: Option<HoldRow>) -> bool
+    ensures { result ≡ serves copies.now row.now hold }
 {
     let Some(hold) = hold else {
         return false;
@@ -71,10 +72,9 @@ fn serves(copies: &[CopyRow], row: &TransitRow, hold: Option<HoldRow>) -> bool
 
 /// The least number of a hold whose row doesn't fit its state, after one row more.
 fn unfit_after(tables: &Tables, row: &HoldRow, first: Option<u32>) -> Option<u32>
-    ensures { IsInOrder tables.now
-        → result ≡ first_after (is_fit tables.now.copies row.now) row.now.hold first }
+    ensures { result ≡ first_after (is_fit tables.now.copies row.now) row.now.hold first }
 {
-    if is_fit(tables.copies.as_slice(), row) {
+    if is_fit(&tables.copies, row) {
         first
     } else {
         lesser(first, row.hold.number())
@@ -83,7 +83,7 @@ fn unfit_after(tables: &Tables, row: &HoldRow, first: Option<u32>) -> Option<u32
 
 /// The least number of a hold whose row doesn't fit its state.
 fn first_unfit(tables: &Tables) -> Option<u32>
-    ensures { IsInOrder tables.now → FailsFirst (IsFit tables.now) result }
+    ensures { FailsFirst (IsFit tables.now) result }
 {
     let mut first = None;
     for row in tables.holds.as_slice() {
@@ -94,16 +94,15 @@ fn first_unfit(tables: &Tables) -> Option<u32>
 
 /// The least number of a hold that a transit names without serving it, after one row more.
 fn unserved_after(tables: &Tables, row: &TransitRow, first: Option<u32>) -> Option<u32>
-    ensures { IsInOrder tables.now
-        → result ≡ first_named
+    ensures { result ≡ first_named
         (λ h. serves tables.now.copies row.now (hold_row tables.now.holds h))
         row.now.hold first }
 {
     let Some(hold) = row.hold else {
         return first;
     };
-    let found = hold_row(tables.holds.as_slice(), hold);
-    if serves(tables.copies.as_slice(), row, found) {
+    let found = hold_row(&tables.holds, hold);
+    if serves(&tables.copies, row, found) {
         first
     } else {
         lesser(first, hold.number())
@@ -112,7 +111,7 @@ fn unserved_after(tables: &Tables, row: &TransitRow, first: Option<u32>) -> Opti
 
 /// The least number of a hold that a transit names without serving it.
 fn first_unserved(tables: &Tables) -> Option<u32>
-    ensures { IsInOrder tables.now → FailsFirst (IsServed tables.now) result }
+    ensures { FailsFirst (IsServed tables.now) result }
 {
     let mut first = None;
     for row in tables.transits.as_slice() {
@@ -153,10 +152,9 @@ fn earlier(first: Option<u32>, other: Option<u32>) -> Option<u32>
     }
 }
 
-/// The least number of a hold that isn't rightly bound. Its clause is for rows in the order of
-/// their numbers.
+/// The least number of a hold that isn't rightly bound.
 pub fn first_unbound(tables: &Tables) -> Option<u32>
-    ensures { IsInOrder tables.now → FailsFirst (IsBound tables.now) result }
+    ensures { FailsFirst (IsBound tables.now) result }
 {
     let alone = earlier(first_unfit(tables), first_unserved(tables));
     earlier(alone, first_broken::<ServedOnce>(tables))

@@ -1,6 +1,6 @@
 -- Acquire meets the history.
 use Rattle.std.proofs.Common.{◌≡◌, ℕ, ◌==◌, Bool, true, false, cond, not, ◌&&◌, ◌||◌, List, [], ◌∷◌, ◌++◌, refl, sym, ◌∙◌, ap}
-use Rattle.std.specs.Prelude.{Option, Some, None, option_map, option_and_then, unwrap_or, is_none, bytes_eq, find}
+use Rattle.std.specs.Prelude.{Option, Some, None, option_map, unwrap_or, is_none, bytes_eq, find}
 use Rattle.std.specs.Option.{option_or}
 use Rattle.std.proofs.lemmas.Bool.{eqb-true}
 use Rattle.terms.specs.declared.row.TitleRow.{TitleRow}
@@ -11,7 +11,7 @@ use Rattle.terms.specs.declared.reply.Reply.TheVariants.{Done}
 use Rattle.model.specs.Invariant.{Invariant}
 use Rattle.model.specs.History.{History, branch_of, title_of, CopyFacts, copy_of, copies, hold_of}
 use Rattle.model.specs.Places.{Place, Nowhere, Shelf, place, state, place_after, is_kept_for, kept_for, limit}
-use Rattle.model.specs.Picture.{picture, branch_columns, title_row, copy_columns, copy_row, hold_row, condition_at, transit_at, if_ready}
+use Rattle.model.specs.Picture.{picture, branch_columns, title_row, copy_columns, copy_row, hold_row, condition_at, transit_at, hold_by}
 use Rattle.circ_core.specs.declared.changes.RowChange.{RowChange}
 use Rattle.circ_core.specs.declared.changes.RowChange.TheVariants.{PutTitle, PutCopy}
 use Rattle.circ_core.specs.declared.views.View.{View}
@@ -103,19 +103,8 @@ module _ (H : History) (inv : Invariant H) (c t k home price : ℕ) (text : List
       (ap (λ x. record { copy = c; title = t; kind = k; home = home; price = price; condition = x }) (sym (ap condition_at (inv.unknown c e))))
       ∙ columns_now n (option_or (copy_of H n) (cond (c == n) (Some facts_now) None))
 
-  holds_keep : (n : ℕ) → hold_row H n ≡ option_and_then
-      (λ s. option_map (λ r. record {
-        hold = n;
-        patron = r.patron;
-        title = r.title;
-        branch = r.branch;
-        state = s;
-        copy = if_ready (Some s) (find (λ x. is_kept_for (place_now x) n) (cond (is_none (copy_of H c)) (c ∷ copies H) (copies H)));
-        limit_day = if_ready (Some s) (limit H n);
-      }) (hold_of H n)) (state H n)
-  holds_keep n = ap (λ z. option_and_then
-      (λ s. option_map (λ r. record { hold = n; patron = r.patron; title = r.title; branch = r.branch; state = s; copy = if_ready (Some s) z; limit_day = if_ready (Some s) (limit H n) })
-      (hold_of H n)) (state H n)) (kept_same n)
+  holds_keep : (n : ℕ) → hold_row H n ≡ hold_by n (hold_of H n) (state H n) (find (λ x. is_kept_for (place_now x) n) (cond (is_none (copy_of H c)) (c ∷ copies H) (copies H))) (limit H n)
+  holds_keep n = ap (λ z. hold_by n (hold_of H n) (state H n) z (limit H n)) (kept_same n)
 
   transits_keep : (n : ℕ) → transit_at n (place H n) ≡ transit_at n (place_now n)
   transits_keep n = place_same transit_at (λ _. refl) n

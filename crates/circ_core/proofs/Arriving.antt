@@ -1,6 +1,6 @@
 -- A copy that moves: how the rows of holds, transits and copies stand then.
 use Rattle.std.proofs.Common.{◌≡◌, ℕ, ◌==◌, Bool, true, false, refl, sym, ◌∙◌, ap, subst}
-use Rattle.std.specs.Prelude.{Option, Some, None, option_map, option_and_then, find}
+use Rattle.std.specs.Prelude.{Option, Some, None, find}
 use Rattle.std.proofs.lemmas.Bool.{eqb-true, eq-eqb}
 use Rattle.terms.specs.declared.row.Condition.TheVariants.{Present}
 use Rattle.terms.specs.declared.row.HoldRow.{HoldRow}
@@ -8,10 +8,10 @@ use Rattle.terms.specs.declared.row.HoldState.{HoldState}
 use Rattle.terms.specs.declared.row.HoldState.TheVariants.{Waiting, Ready}
 use Rattle.terms.specs.declared.row.TransitRow.{TransitRow}
 use Rattle.terms.specs.Pictures.{Picture}
-use Rattle.model.specs.History.{History, HoldFacts, hold_of, CopyFacts, copy_of, copies}
+use Rattle.model.specs.History.{History, hold_of, CopyFacts, copy_of, copies}
 use Rattle.model.specs.Places.{Place, HoldShelf, place, state, is_kept_for, kept_for, limit, limit_now}
 use Rattle.model.specs.Invariant.{Invariant, Serves}
-use Rattle.model.specs.Picture.{hold_row, transit_at, condition_at, if_ready}
+use Rattle.model.specs.Picture.{hold_row, transit_at, condition_at, hold_by}
 use Rattle.model.proofs.Moves.{moved}
 use Rattle.circ_core.specs.declared.routing.Course.{Course}
 use Rattle.circ_core.specs.declared.routing.Course.TheVariants as course
@@ -44,23 +44,6 @@ arrival_changed (course.Transit g k) copy until P = refl
 
 -- ---- the rows of holds
 
--- The row of a hold from its facts, its state, its copy and its limit.
-abbrev pub row_of : ℕ → Option HoldFacts → Option HoldState → Option ℕ → Option ℕ → Option HoldRow
-row_of h facts state kept until =
-    option_and_then
-    (λ s. option_map
-    (λ x. record {
-      hold = h;
-      patron = x.patron;
-      title = x.title;
-      branch = x.branch;
-      state = s;
-      copy = if_ready (Some s) kept;
-      limit_day = if_ready (Some s) until;
-    })
-    facts)
-    state
-
 module _ (H : History) (inv : Invariant H) (n : ℕ) (f : CopyFacts) (there : copy_of H n ≡ Some f) (q : Place) where
   -- A hold that the copy neither leaves nor reaches has the copy that it had.
   pub kept-other : (k : ℕ) → is_kept_for (place H n) k ≡ false → is_kept_for q k ≡ false → find (λ x. is_kept_for (moved n q (place H) x) k) (copies H) ≡ kept_for H k
@@ -89,30 +72,30 @@ module _ (H : History) (inv : Invariant H) (n : ℕ) (f : CopyFacts) (there : co
   -- The row of a hold after the copy came to a place.
   abbrev pub arrived_row : Place → ℕ → Option HoldRow
   arrived_row q h =
-      row_of h (hold_of H h) (elim (is_kept_for q h) as (λ _. Option HoldState) [ true ↦ Some Ready | false ↦ state H h ])
+      hold_by h (hold_of H h) (elim (is_kept_for q h) as (λ _. Option HoldState) [ true ↦ Some Ready | false ↦ state H h ])
       (find (λ x. is_kept_for (moved n q (place H) x) h) (copies H)) (elim (is_kept_for q h) as (λ _. Option ℕ) [ true ↦ limit_now H h | false ↦ limit H h ])
 
   -- The hold that the copy reaches becomes ready, and every other that it doesn't leave stays as it was.
   pub arrive : (way : Course) → Suits H b way → Limits H way until → (h : ℕ) → is_kept_for (place H n) h ≡ false → ready_put way n until (hold_row H h) h ≡ arrived_row (place_by way b) h
   arrive (course.HoldShelf r) s l h off = go (r.hold == h) refl
     where
-      here : Some (readied r n until) ≡ row_of r.hold (hold_of H r.hold) (Some Ready) (find (λ x. is_kept_for (moved n (HoldShelf r.hold) (place H) x) r.hold) (copies H)) (limit_now H r.hold)
+      here : Some (readied r n until) ≡ hold_by r.hold (hold_of H r.hold) (Some Ready) (find (λ x. is_kept_for (moved n (HoldShelf r.hold) (place H) x) r.hold) (copies H)) (limit_now H r.hold)
       here =
           ap (λ x. Some (readied x n until)) (sym s.2)
-          ∙ sym (ap (λ o. row_of r.hold o (Some Ready) (Some n) (Some until)) s.1)
-          ∙ sym (ap (λ d. row_of r.hold (hold_of H r.hold) (Some Ready) (Some n) d) l)
-          ∙ sym (ap (λ k. row_of r.hold (hold_of H r.hold) (Some Ready) k (limit_now H r.hold)) (kept-here H inv n f there (HoldShelf r.hold) r.hold refl s.3))
+          ∙ sym (ap (λ o. hold_by r.hold o (Some Ready) (Some n) (Some until)) s.1)
+          ∙ sym (ap (λ d. hold_by r.hold (hold_of H r.hold) (Some Ready) (Some n) d) l)
+          ∙ sym (ap (λ k. hold_by r.hold (hold_of H r.hold) (Some Ready) k (limit_now H r.hold)) (kept-here H inv n f there (HoldShelf r.hold) r.hold refl s.3))
 
       go : (x : Bool) → (r.hold == h) ≡ x
           → (elim x as (λ _. Option HoldRow) [ true ↦ Some (readied r n until) | false ↦ hold_row H h ])
-          ≡ row_of h (hold_of H h) (elim x as (λ _. Option HoldState) [ true ↦ Some Ready | false ↦ state H h ])
+          ≡ hold_by h (hold_of H h) (elim x as (λ _. Option HoldState) [ true ↦ Some Ready | false ↦ state H h ])
           (find (λ y. is_kept_for (moved n (HoldShelf r.hold) (place H) y) h) (copies H)) (elim x as (λ _. Option ℕ) [ true ↦ limit_now H h | false ↦ limit H h ])
       go true e =
-          subst (λ m. Some (readied r n until) ≡ row_of m (hold_of H m) (Some Ready) (find (λ y. is_kept_for (moved n (HoldShelf r.hold) (place H) y) m) (copies H)) (limit_now H m))
+          subst (λ m. Some (readied r n until) ≡ hold_by m (hold_of H m) (Some Ready) (find (λ y. is_kept_for (moved n (HoldShelf r.hold) (place H) y) m) (copies H)) (limit_now H m))
           (eqb-true r.hold h e) here
-      go false e = ap (λ k. row_of h (hold_of H h) (state H h) k (limit H h)) (sym (kept-other H inv n f there (HoldShelf r.hold) h off e))
-  arrive course.Shelf s l h off = ap (λ k. row_of h (hold_of H h) (state H h) k (limit H h)) (sym (kept-other H inv n f there (place_by course.Shelf b) h off refl))
-  arrive (course.Transit g k) s l h off = ap (λ x. row_of h (hold_of H h) (state H h) x (limit H h)) (sym (kept-other H inv n f there (place_by (course.Transit g k) b) h off refl))
+      go false e = ap (λ k. hold_by h (hold_of H h) (state H h) k (limit H h)) (sym (kept-other H inv n f there (HoldShelf r.hold) h off e))
+  arrive course.Shelf s l h off = ap (λ k. hold_by h (hold_of H h) (state H h) k (limit H h)) (sym (kept-other H inv n f there (place_by course.Shelf b) h off refl))
+  arrive (course.Transit g k) s l h off = ap (λ x. hold_by h (hold_of H h) (state H h) x (limit H h)) (sym (kept-other H inv n f there (place_by (course.Transit g k) b) h off refl))
 
 -- ---- the rows of transits and copies
 

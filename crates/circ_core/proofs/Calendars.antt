@@ -1,6 +1,6 @@
 -- The calendar of a view is that of the history.
 use Rattle.calendar.specs.declared.limits.TheConstants.{FIRST_DAY, LAST_DAY}
-use Rattle.std.proofs.Common.{◌≡◌, ℕ, suc, ◌+◌, ◌≤◌, ◌<◌, Bool, true, false, not, List, [], ◌∷◌, length, refl, sym, ◌∙◌, ap, subst, arith}
+use Rattle.std.proofs.Common.{◌≡◌, ℕ, suc, ◌+◌, ◌≤◌, ◌<◌, Bool, true, false, not, List, [], ◌∷◌, length, refl, sym, ◌∙◌, ap, arith}
 use Rattle.std.specs.Prelude.{Option, Some, None, is_none, unwrap_or, nat_le, ◌&&◌, slice_index_or}
 use Rattle.std.specs.List.{list_any}
 use Rattle.calendar.specs.Openings.{Closings, weekday, open_days_after}

@@ -15,7 +15,7 @@ use Rattle.model.specs.History.{History, copy_of, copies, HoldFacts, hold_of}
 use Rattle.model.specs.Places.{Place, Transit, place, state, is_kept_for, is_bound_for, is_waiting, place_let_go, limit}
 use Rattle.model.specs.Refusals.{checks, has_hold}
 use Rattle.model.specs.Invariant.{Invariant, Serves}
-use Rattle.model.specs.Picture.{picture, copy_columns, hold_row, hold_columns, transit_row, transit_at, condition_at, if_ready}
+use Rattle.model.specs.Picture.{picture, copy_columns, hold_row, hold_columns, transit_row, transit_at, condition_at, hold_by, hold_with}
 use Rattle.model.proofs.Bindings.{not-false}
 use Rattle.model.proofs.Passing.{passed}
 use Rattle.circ_core.specs.declared.views.View.{View}
@@ -134,36 +134,20 @@ module _ (H : History) (inv : Invariant H) (h : ℕ) where
           let never : ⊥ = cc in never))))
 
   abbrev hold_after_it : ℕ → Bool → Option HoldRow
-  hold_after_it n gone = option_and_then
-      (λ s. option_map (λ x. record {
-        hold = n;
-        patron = x.patron;
-        title = x.title;
-        branch = x.branch;
-        state = s;
-        copy = if_ready (Some s) (find (λ y. is_kept_for (goes_on H h (place H y)) n) (copies H));
-        limit_day = if_ready (Some s) (limit H n);
-      }) (hold_of H n))
-      (elim gone as (λ _. Option HoldState) [ true ↦ Some Cancelled | false ↦ state H n ])
+  hold_after_it n gone =
+      hold_by n (hold_of H n) (elim gone as (λ _. Option HoldState) [ true ↦ Some Cancelled | false ↦ state H n ])
+      (find (λ y. is_kept_for (goes_on H h (place H y)) n) (copies H)) (limit H n)
 
   one_cancelled : (f : HoldFacts) → hold_of H h ≡ Some f → (n : ℕ) → put (hold_row H) h (Some (finished (hold_columns H h Waiting f) Cancelled)) n ≡ hold_after_it n (h == n)
   one_cancelled f e n = go (h == n) refl
     where
       here : Some (finished (hold_columns H h Waiting f) Cancelled) ≡ hold_after_it h true
-      here = sym (ap (option_map (λ x. record { hold = h; patron = x.patron; title = x.title; branch = x.branch; state = Cancelled; copy = None; limit_day = None })) e)
+      here = sym (ap (option_map (hold_with h Cancelled None None)) e)
 
       go : (x : Bool) → (h == n) ≡ x → (elim x as (λ _. Option HoldRow) [ true ↦ Some (finished (hold_columns H h Waiting f) Cancelled) | false ↦ hold_row H n ]) ≡ hold_after_it n x
       go true d = subst (λ m. Some (finished (hold_columns H h Waiting f) Cancelled) ≡ hold_after_it m true) (eqb-true _ _ d) here
       go false d =
-          ap (λ k. option_and_then (λ s. option_map (λ x. record {
-            hold = n;
-            patron = x.patron;
-            title = x.title;
-            branch = x.branch;
-            state = s;
-            copy = if_ready (Some s) k;
-            limit_day = if_ready (Some s) (limit H n);
-          }) (hold_of H n)) (state H n)) (sym (find-same _ _ (λ y. same_kept H h (place H y) n) (copies H)))
+          ap (λ k. hold_by n (hold_of H n) (state H n) k (limit H n)) (sym (find-same _ _ (λ y. same_kept H h (place H y) n) (copies H)))
 
   copies_same : (n : ℕ) → (picture H).copies n ≡ option_map (λ x. record (copy_columns H n x) { condition = condition_at (goes_on H h (place H n)) }) (copy_of H n)
   copies_same n = ap (λ k. option_map (λ x. record (copy_columns H n x) { condition = k }) (copy_of H n)) (same_condition H h (place H n))

@@ -11,12 +11,13 @@ use Rattle.terms.specs.declared.row.LineRow.{LineRow}
 use Rattle.terms.specs.declared.row.Sort.{Sort}
 use Rattle.terms.specs.declared.row.Sort.TheVariants.{Fine, Price}
 use Rattle.terms.specs.Pictures.{Picture, put}
+use Rattle.terms.specs.declared.limits.TheConstants.{LARGEST_SUM}
 use Rattle.model.specs.History.{History, today, PatronFacts, patron_of}
 use Rattle.model.specs.Accounts.{Line, line_of, lines, next_line, charge, credit, charges, credits, owed}
 use Rattle.model.specs.Invariant.{Invariant}
 use Rattle.model.specs.Picture.{meta_row, patron_row, patron_columns, nth_line, line_row, line_columns}
 use Rattle.model.proofs.Moves.{false-ne}
-use Rattle.circ_core.specs.Ending.{most_cents, charged, account_rows}
+use Rattle.circ_core.specs.Ending.{charged, account_rows}
 use Rattle.circ_core.specs.declared.changes.RowChange.{RowChange}
 use Rattle.circ_core.specs.declared.changes.RowChange.TheVariants.{PutMeta, PutPatron, PutLine}
 use Rattle.circ_core.specs.Tables.{changed}
@@ -106,7 +107,7 @@ module _ (H : History) (inv : Invariant H) (p l : ℕ) (f : PatronFacts) (enroll
     (fine price : ℕ) (small_fine : fine ≤ 100000) (small_price : price ≤ 1000000) (P : Picture) (meta_is : P.meta ≡ meta_row H)
     (patrons_are : (k : ℕ) → P.patrons k ≡ patron_row H k) (lines_are : (k : ℕ) → P.lines k ≡ line_row H k) where
   -- No debt comes near the most that a column holds.
-  owed-fits : owed H p + fine + price ≤ most_cents
+  owed-fits : owed H p + fine + price ≤ LARGEST_SUM
   owed-fits = omega (arith, inv.debts p, inv.lines_left, small_fine, small_price)
 
   new_debt : (charged (patron_columns H p f) fine price).owed ≡ owed H p + fine + price

@@ -1,11 +1,10 @@
 -- Check-in meets the history.
 use Rattle.std.proofs.Common.{◌≡◌, ℕ, ◌+◌, ◌==◌, Bool, true, false, not, List, [], ◌∷◌, ◌++◌, length, refl, sym, ◌∙◌, ap, subst, arith}
-use Rattle.std.specs.Prelude.{Option, Some, None, option_map, unwrap_or, is_none, is_some, Result}
+use Rattle.std.specs.Prelude.{Option, Some, None, option_map, unwrap_or, is_none, is_some}
 use Rattle.std.proofs.lemmas.Bool.{eqb-true, eq-eqb}
 use Rattle.std.proofs.lemmas.List.{append-nil}
 use Rattle.terms.specs.declared.command.Command.TheVariants.{CheckIn}
 use Rattle.terms.specs.declared.command.Owner.TheVariants.{Desk}
-use Rattle.terms.specs.declared.refusal.Refusal.{Refusal}
 use Rattle.terms.specs.declared.reply.Reply.TheVariants.{CheckedIn}
 use Rattle.terms.specs.declared.row.Condition.{Condition}
 use Rattle.terms.specs.declared.row.Condition.TheVariants.{Present, Missing, Withdrawn}

@@ -1,7 +1,7 @@
 -- Check-out meets the history.
 use Rattle.terms.specs.declared.limits.TheConstants.{LAST_NUMBER}
 use Rattle.std.proofs.Common.{◌≡◌, ℕ, ◌+◌, ◌-◌, ◌≤◌, ◌<◌, ◌==◌, nat_lt, nat_le, Bool, true, false, cond, not, ◌⊎◌, inl, inr, List, [], ◌∷◌, refl, sym, ◌∙◌, ap, subst, arith}
-use Rattle.std.specs.Prelude.{Option, Some, None, option_map, option_and_then, unwrap_or, is_none, find, Result, Ok, Err}
+use Rattle.std.specs.Prelude.{Option, Some, None, option_map, option_and_then, unwrap_or, is_none, find}
 use Rattle.std.proofs.lemmas.Bool.{eqb-true, cases_lt, lt-ltb, le-ltb, le-leb, lt-leb}
 use Rattle.terms.specs.declared.row.MetaRow.{MetaRow}
 use Rattle.terms.specs.declared.row.RuleRow.{RuleRow}
@@ -13,7 +13,6 @@ use Rattle.terms.specs.declared.command.Owner.{Owner}
 use Rattle.terms.specs.declared.command.Owner.TheVariants.{Desk}
 use Rattle.terms.specs.declared.command.Command.TheVariants.{CheckOut}
 use Rattle.terms.specs.declared.reply.Reply.TheVariants.{Lent}
-use Rattle.calendar.specs.Openings.{Closings}
 use Rattle.circ_core.specs.declared.changes.RowChange.TheVariants.{PutMeta, PutLoan}
 use Rattle.circ_core.specs.declared.views.View.{View}
 use Rattle.circ_core.specs.Condition.{is_missing as is_missing_row, is_withdrawn as is_withdrawn_row}
@@ -22,13 +21,11 @@ use Rattle.circ_core.specs.Debt.{debt_allowed, owed_by}
 use Rattle.circ_core.specs.Holds.{finished}
 use Rattle.terms.specs.Pictures.{put}
 use Rattle.circ_core.specs.Tables.{changed, SameRows}
-use Rattle.circ_core.specs.Views.{IsCalendarOf, IsFirstOf, IsFirstFor, IsCount, IsActiveOn, AreHoldsFor, IsCheckOutView, rule_in}
-use Rattle.circ_core.specs.declared.changes.Decision.{Decision}
-use Rattle.circ_core.specs.Decides.{Decides, event}
+use Rattle.circ_core.specs.Views.{IsFirstOf, IsFirstFor, IsCount, IsActiveOn, AreHoldsFor, IsCheckOutView, rule_in}
+use Rattle.circ_core.specs.Decides.{event}
 use Rattle.circ_core.proofs.Meets.{Meets, Leads, SameChecks}
 use Rattle.circ_core.proofs.Calendars.{calendar_there, due_from-is, due_from-there, same_day}
 use Rattle.model.proofs.DueDayLaws.{checked_out-terms}
-use Rattle.terms.specs.declared.refusal.Refusal.{Refusal}
 use Rattle.model.specs.Invariant.{Invariant}
 use Rattle.circ_core.proofs.Rows.{is_none-map, none-map, some-is, there-is}
 use Rattle.circ_core.proofs.Claims.{loan_claims, transit_claims, hold_row-is}
@@ -43,7 +40,7 @@ use Rattle.model.specs.Loans.{LoanFacts, loan_of, terms_for, no_terms, first_due
 use Rattle.model.specs.Accounts.{owed}
 use Rattle.model.specs.Checks.{Check}
 use Rattle.model.specs.Refusals.{checks, refusal, has_branch, is_withdrawn, is_missing, is_on_loan, is_in_transit, has_other_hold, kind_now}
-use Rattle.model.specs.Picture.{picture, meta_row, rule_row, loan_row, hold_row, transit_at, condition_at, if_ready, rule_columns, patron_columns, copy_columns, hold_columns}
+use Rattle.model.specs.Picture.{picture, meta_row, rule_row, loan_row, hold_row, transit_at, condition_at, rule_columns, patron_columns, copy_columns, hold_columns, hold_by, hold_with, loan_with}
 use Rattle.model.proofs.Passing.{passed}
 
 -- ---- small facts
@@ -131,20 +128,11 @@ module _ (H : History) (inv : Invariant H) (p c b : ℕ) (v : View) (w : IsCheck
   abbrev due_now : ℕ
   due_now = unwrap_or (first_due H p c b) 0
 
+  abbrev facts_now : LoanFacts
+  facts_now = record { copy = c; patron = p; branch = b; made = today H; terms = terms_now }
+
   abbrev loan_now : LoanRow
-  loan_now = record {
-    loan = next_loan H;
-    copy = c;
-    patron = p;
-    branch = b;
-    made = today H;
-    due = due_now;
-    period = terms_now.period;
-    renewals_left = terms_now.renewals;
-    rate = terms_now.rate;
-    cap = terms_now.cap;
-    ended = None;
-  }
+  loan_now = loan_with (next_loan H) due_now terms_now.renewals None facts_now
 
   module _ (q : PatronFacts) (enrolled : patron_of H p ≡ Some q) (r : CopyFacts) (there : copy_of H c ≡ Some r) (has : not (has_branch H b) ≡ false) where
     terms_same : (A : Type 0) (f : Option RuleRow → A) (g : Terms → A) → ((o : Option Terms) → f (option_map (rule_columns H q.kind r.kind) o) ≡ g (unwrap_or o no_terms)) → f v.rule ≡ g terms_now
@@ -267,25 +255,12 @@ module _ (H : History) (inv : Invariant H) (p c b : ℕ) (v : View) (w : IsCheck
 
   -- ---- the rows
 
-  abbrev facts_now : LoanFacts
-  facts_now = record { copy = c; patron = p; branch = b; made = today H; terms = terms_now }
-
   -- The loan's row after the check-out, by whether it is the new one.
   abbrev loan_at : ℕ → Bool → Option LoanRow
-  loan_at n new = option_map
-      (λ x. record {
-        loan = n;
-        copy = x.copy;
-        patron = x.patron;
-        branch = x.branch;
-        made = x.made;
-        due = elim new as (λ _. ℕ) [ true ↦ due_now | false ↦ due H n ];
-        period = x.terms.period;
-        renewals_left = unwrap_or (option_map (λ y. y.terms.renewals) (cond new (Some facts_now) (loan_of H n))) 0 - renewals H n;
-        rate = x.terms.rate;
-        cap = x.terms.cap;
-        ended = ended H n;
-      }) (cond new (Some facts_now) (loan_of H n))
+  loan_at n new =
+      option_map (loan_with n (elim new as (λ _. ℕ) [ true ↦ due_now | false ↦ due H n ])
+      (unwrap_or (option_map (λ y. y.terms.renewals) (cond new (Some facts_now) (loan_of H n))) 0 - renewals H n) (ended H n))
+      (cond new (Some facts_now) (loan_of H n))
 
   loans_lead : (n : ℕ) → put (loan_row H) (next_loan H) (Some loan_now) n ≡ loan_at n (next_loan H == n)
   loans_lead n = go (next_loan H == n) refl
@@ -333,35 +308,19 @@ module _ (H : History) (inv : Invariant H) (p c b : ℕ) (v : View) (w : IsCheck
       go x false d = refl
 
   abbrev hold_at : ℕ → Bool → Option HoldRow
-  hold_at n filled = option_and_then
-      (λ s. option_map (λ x. record {
-        hold = n;
-        patron = x.patron;
-        title = x.title;
-        branch = x.branch;
-        state = s;
-        copy = if_ready (Some s) (find (λ y. is_kept_for (moved_to (c == y) y) n) (copies H));
-        limit_day = if_ready (Some s) (limit H n);
-      }) (hold_of H n))
-      (elim filled as (λ _. Option HoldState) [ true ↦ Some Filled | false ↦ state H n ])
+  hold_at n filled =
+      hold_by n (hold_of H n) (elim filled as (λ _. Option HoldState) [ true ↦ Some Filled | false ↦ state H n ])
+      (find (λ y. is_kept_for (moved_to (c == y) y) n) (copies H)) (limit H n)
 
   unfilled_lead : (n : ℕ) → fills H p c n ≡ false → hold_row H n ≡ hold_at n false
   unfilled_lead n e =
-      ap (λ k. option_and_then (λ s. option_map (λ x. record {
-        hold = n;
-        patron = x.patron;
-        title = x.title;
-        branch = x.branch;
-        state = s;
-        copy = if_ready (Some s) k;
-        limit_day = if_ready (Some s) (limit H n);
-      }) (hold_of H n)) (state H n)) (sym (kept_same n e))
+      ap (λ k. hold_by n (hold_of H n) (state H n) k (limit H n)) (sym (kept_same n e))
 
   filled_lead : (q : HoldRow) → hold_row H q.hold ≡ Some q → (n : ℕ) → q.hold ≡ n → Some (finished q Filled) ≡ hold_at n true
   filled_lead q row n e =
       let is : (s : HoldState) × (f : HoldFacts) × (state H q.hold ≡ Some s) × (hold_of H q.hold ≡ Some f) × (hold_columns H q.hold s f ≡ q) = hold_row-is H q.hold q row in
       ap (λ x. Some (finished x Filled)) (sym is.4)
-      ∙ sym (ap (λ o. option_map (λ x. record { hold = q.hold; patron = x.patron; title = x.title; branch = x.branch; state = Filled; copy = None; limit_day = None }) o) is.3)
+      ∙ sym (ap (option_map (hold_with q.hold Filled None None)) is.3)
       ∙ ap (λ m. hold_at m true) e
 
   holds_none : FillsAs H p c None → (n : ℕ) → hold_row H n ≡ hold_at n (fills H p c n)

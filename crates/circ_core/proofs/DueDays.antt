@@ -1,6 +1,5 @@
 -- What the search for a due day finds is the least open day.
-use Rattle.calendar.specs.declared.limits.TheConstants.{LAST_DAY}
-use Rattle.std.proofs.Common.{◌≡◌, ℕ, Bool, true, false, refl, sym, ◌∙◌, ap, subst}
+use Rattle.std.proofs.Common.{◌≡◌, ℕ, Bool, true, false, refl, sym, subst}
 use Rattle.std.specs.Prelude.{Option, Some, None, IfSome, IfNone}
 use Rattle.calendar.specs.Openings.{Closings, IsLeastOpen, is_open}
 use Rattle.model.specs.Calendar.{IsLeast, least, opens}

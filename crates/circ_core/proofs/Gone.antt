@@ -1,6 +1,6 @@
 -- The tables after a copy has gone to a place that is neither a hold shelf nor in transit.
 use Rattle.std.proofs.Common.{◌≡◌, ℕ, ◌==◌, Bool, true, false, refl, sym, ◌∙◌, ap, subst}
-use Rattle.std.specs.Prelude.{Option, Some, None, option_map, option_and_then, is_some, find}
+use Rattle.std.specs.Prelude.{Option, Some, None, option_map, is_some, find}
 use Rattle.std.proofs.lemmas.Bool.{eqb-true}
 use Rattle.terms.specs.declared.row.CopyRow.{CopyRow}
 use Rattle.terms.specs.declared.row.HoldRow.{HoldRow}
@@ -12,7 +12,7 @@ use Rattle.model.specs.History.{History, CopyFacts, copy_of, copies, hold_of}
 use Rattle.model.specs.Places.{Place, Nowhere, Shelf, HoldShelf, Transit, Loan, MissingCopy, WithdrawnCopy, place, state, is_kept_for, kept_for, limit}
 use Rattle.model.specs.Invariant.{Invariant}
 use Rattle.model.specs.Refusals.{is_on_hold_shelf, is_in_transit}
-use Rattle.model.specs.Picture.{picture, copy_row, copy_columns, hold_row, transit_row, transit_at, condition_at, if_ready}
+use Rattle.model.specs.Picture.{picture, copy_row, copy_columns, hold_row, transit_row, transit_at, condition_at, hold_by, hold_with}
 use Rattle.circ_core.specs.Missing.{waiting_again}
 use Rattle.circ_core.specs.Views.{IsHoldOf}
 use Rattle.circ_core.proofs.Rising.{find-same}
@@ -97,29 +97,13 @@ module _ (H : History) (c : ℕ) (to : Place) (no_shelf : is_on_hold_shelf to �
 
   -- A hold's row after it, by whether the hold waits again.
   abbrev pub hold_gone : ℕ → Bool → Option HoldRow
-  hold_gone n again = option_and_then
-      (λ s. option_map (λ x. record {
-        hold = n;
-        patron = x.patron;
-        title = x.title;
-        branch = x.branch;
-        state = s;
-        copy = if_ready (Some s) (find (λ y. is_kept_for (gone_to (c == y) y) n) (copies H));
-        limit_day = if_ready (Some s) (limit H n);
-      }) (hold_of H n))
-      (elim again as (λ _. Option HoldState) [ true ↦ Some Waiting | false ↦ state H n ])
+  hold_gone n again =
+      hold_by n (hold_of H n) (elim again as (λ _. Option HoldState) [ true ↦ Some Waiting | false ↦ state H n ])
+      (find (λ y. is_kept_for (gone_to (c == y) y) n) (copies H)) (limit H n)
 
   pub holds_stay : (n : ℕ) → is_kept_for (place H c) n ≡ false → hold_row H n ≡ hold_gone n false
   holds_stay n off =
-      ap (λ k. option_and_then (λ s. option_map (λ x. record {
-        hold = n;
-        patron = x.patron;
-        title = x.title;
-        branch = x.branch;
-        state = s;
-        copy = if_ready (Some s) k;
-        limit_day = if_ready (Some s) (limit H n);
-      }) (hold_of H n)) (state H n)) (sym (kept_same n off))
+      ap (λ k. hold_by n (hold_of H n) (state H n) k (limit H n)) (sym (kept_same n off))
 
   -- No hold is touched by a copy that stood on no hold shelf.
   pub holds_all_stay : is_on_hold_shelf (place H c) ≡ false → (n : ℕ) → hold_row H n ≡ hold_gone n (is_kept_for (place H c) n)
@@ -132,7 +116,7 @@ module _ (H : History) (c : ℕ) (to : Place) (no_shelf : is_on_hold_shelf to �
       here : Some (waiting_again q) ≡ hold_gone q.hold true
       here =
           ap (λ (x : HoldRow). Some (waiting_again x)) (sym k.facts.2)
-          ∙ sym (ap (option_map (λ x. record { hold = q.hold; patron = x.patron; title = x.title; branch = x.branch; state = Waiting; copy = None; limit_day = None })) k.facts.1)
+          ∙ sym (ap (option_map (hold_with q.hold Waiting None None)) k.facts.1)
 
       go : (x : Bool) → (q.hold == n) ≡ x → (elim x as (λ _. Option HoldRow) [ true ↦ Some (waiting_again q) | false ↦ hold_row H n ]) ≡ hold_gone n x
       go true d = subst (λ m. Some (waiting_again q) ≡ hold_gone m true) (eqb-true _ _ d) here

@@ -1,11 +1,10 @@
 -- Page meets the history.
-use Rattle.std.proofs.Common.{◌≡◌, ℕ, ◌-◌, [], refl, ◌∙◌, ap}
+use Rattle.std.proofs.Common.{◌≡◌, ℕ, [], refl, ◌∙◌, ap}
 use Rattle.std.specs.Prelude.{Option, is_none}
 use Rattle.terms.specs.declared.row.PatronRow.{PatronRow}
 use Rattle.terms.specs.declared.command.Command.TheVariants.{Page}
 use Rattle.terms.specs.declared.reply.Reply.TheVariants.{Done}
 use Rattle.model.specs.History.{History, patron_of}
-use Rattle.model.specs.Accounts.{lines}
 use Rattle.model.specs.Picture.{patron_row, patron_columns}
 use Rattle.circ_core.specs.Page.{page_checks}
 use Rattle.circ_core.proofs.Meets.{Meets}

@@ -1,7 +1,7 @@
 -- Place-hold meets the history.
 use Rattle.terms.specs.declared.limits.TheConstants.{LAST_NUMBER}
 use Rattle.std.proofs.Common.{◌≡◌, ℕ, ◌==◌, nat_lt, nat_le, Bool, true, false, cond, refl, ◌∙◌, ap}
-use Rattle.std.specs.Prelude.{Option, Some, option_map, option_and_then, is_none}
+use Rattle.std.specs.Prelude.{Option, Some, is_none}
 use Rattle.std.proofs.lemmas.Bool.{eqb-true}
 use Rattle.terms.specs.declared.command.Owner.TheVariants.{Desk}
 use Rattle.terms.specs.declared.command.Command.TheVariants.{PlaceHold}
@@ -14,7 +14,7 @@ use Rattle.model.specs.History.{History, PatronFacts, patron_of, branch_of, titl
 use Rattle.model.specs.Places.{state, kept_for, limit}
 use Rattle.model.specs.Refusals.{checks, kind_now}
 use Rattle.model.specs.Invariant.{Invariant}
-use Rattle.model.specs.Picture.{picture, patron_columns, branch_columns, hold_row, if_ready}
+use Rattle.model.specs.Picture.{picture, patron_columns, branch_columns, hold_row, hold_by}
 use Rattle.circ_core.specs.declared.views.View.{View}
 use Rattle.circ_core.specs.PlaceHold.{place_hold_checks, new_hold, place_hold_rows}
 use Rattle.circ_core.specs.Views.{IsPlaceHoldView}
@@ -56,17 +56,9 @@ module _ (H : History) (inv : Invariant H) (p t b : ℕ) (v : View) (w : IsPlace
 
   -- A hold's row after it, by whether it is the new one.
   abbrev hold_at : ℕ → Bool → Option HoldRow
-  hold_at n new = option_and_then
-      (λ s. option_map (λ x. record {
-        hold = n;
-        patron = x.patron;
-        title = x.title;
-        branch = x.branch;
-        state = s;
-        copy = if_ready (Some s) (kept_for H n);
-        limit_day = if_ready (Some s) (limit H n);
-      }) (cond new (Some (record { patron = p; title = t; branch = b })) (hold_of H n)))
-      (elim new as (λ _. Option HoldState) [ true ↦ Some Waiting | false ↦ state H n ])
+  hold_at n new =
+      hold_by n (cond new (Some (record { patron = p; title = t; branch = b })) (hold_of H n))
+      (elim new as (λ _. Option HoldState) [ true ↦ Some Waiting | false ↦ state H n ]) (kept_for H n) (limit H n)
 
   holds_lead : (n : ℕ) → put (hold_row H) (next_hold H) (Some (new_hold (next_hold H) p t b)) n ≡ hold_at n (next_hold H == n)
   holds_lead n = go (next_hold H == n) refl

@@ -1,19 +1,15 @@
 -- Renewal meets the history.
-use Rattle.std.proofs.Common.{◌≡◌, ℕ, ◌+◌, ◌-◌, ◌==◌, nat_lt, Bool, true, false, cond, not, inl, inr, List, [], ◌∷◌, ◌++◌, refl, sym, ◌∙◌, ap, subst, arith}
-use Rattle.std.specs.Prelude.{Option, Some, None, option_map, option_and_then, unwrap_or, is_none, is_some, Result, Ok, Err}
+use Rattle.std.proofs.Common.{◌≡◌, ℕ, ◌+◌, ◌-◌, ◌==◌, nat_lt, Bool, true, false, cond, not, List, ◌∷◌, refl, sym, ◌∙◌, ap, subst, arith}
+use Rattle.std.specs.Prelude.{Option, Some, None, option_map, option_and_then, unwrap_or, is_none, is_some}
 use Rattle.std.proofs.lemmas.Bool.{eqb-true}
-use Rattle.calendar.specs.Openings.{Closings}
 use Rattle.terms.specs.declared.command.Owner.TheVariants.{Desk}
 use Rattle.terms.specs.declared.command.Command.TheVariants.{Renew}
-use Rattle.terms.specs.declared.refusal.Refusal.{Refusal}
-use Rattle.terms.specs.declared.refusal.Refusal.TheVariants.{PastCalendar}
 use Rattle.terms.specs.declared.reply.Reply.TheVariants.{Lent}
 use Rattle.terms.specs.declared.row.LoanRow.{LoanRow}
 use Rattle.terms.specs.declared.row.HoldRow.{HoldRow}
 use Rattle.terms.specs.declared.row.HoldState.TheVariants.{Waiting}
 use Rattle.terms.specs.Pictures.{put}
 use Rattle.model.specs.Calendar.{least}
-use Rattle.model.specs.Checks.{Check}
 use Rattle.model.specs.History.{History, today, is_open, BranchFacts, branch_of, CopyFacts, copy_of, PatronFacts, patron_of, HoldFacts, hold_of}
 use Rattle.model.specs.Places.{line, title_of_copy}
 use Rattle.model.specs.Loans.{LoanFacts, loan_of, due, ended, renewals, renewals_left, renewed_due, title_of_loan}
@@ -21,7 +17,7 @@ use Rattle.model.specs.Accounts.{borrower}
 use Rattle.model.specs.Refusals.{checks, refusal, has_branch, has_loan, is_empty, kind_now, owes_too_much}
 use Rattle.model.specs.Requests.{IsLegal}
 use Rattle.model.specs.Invariant.{Invariant}
-use Rattle.model.specs.Picture.{picture, branch_columns, copy_columns, loan_row, loan_columns, hold_columns}
+use Rattle.model.specs.Picture.{picture, copy_columns, loan_row, loan_columns, hold_columns}
 use Rattle.model.proofs.Passing.{passed}
 use Rattle.circ_core.specs.declared.views.View.{View}
 use Rattle.circ_core.specs.Debt.{debt_allowed, owed_by}

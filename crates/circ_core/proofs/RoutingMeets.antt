@@ -1,22 +1,16 @@
 -- Routing by the rows is that of the history.
-use Rattle.std.proofs.Common.{◌≡◌, ℕ, ◌+◌, ◌≤◌, ◌==◌, Bool, true, false, not, List, ◌∷◌, inl, inr, refl, sym, ◌∙◌, ap, subst, arith}
+use Rattle.std.proofs.Common.{◌≡◌, ℕ, ◌+◌, ◌≤◌, ◌==◌, Bool, true, false, not, List, ◌∷◌, refl, sym, ◌∙◌, ap, subst, arith}
 use Rattle.std.specs.Prelude.{Option, Some, None, option_map, unwrap_or, is_none}
 use Rattle.std.proofs.lemmas.Bool.{eqb-true}
-use Rattle.terms.specs.declared.command.Command.{Command}
-use Rattle.terms.specs.declared.command.Owner.TheVariants.{Desk}
-use Rattle.terms.specs.declared.refusal.Refusal.{Refusal}
-use Rattle.terms.specs.declared.reply.Reply.{Reply}
 use Rattle.terms.specs.declared.reply.Routed.{Routed}
 use Rattle.terms.specs.declared.row.HoldRow.{HoldRow}
 use Rattle.terms.specs.declared.row.HoldState.TheVariants.{Waiting}
 use Rattle.terms.specs.declared.row.TransitRow.{TransitRow}
-use Rattle.calendar.specs.Openings.{Closings}
 use Rattle.model.specs.Calendar.{least}
-use Rattle.model.specs.Checks.{Check}
 use Rattle.model.specs.History.{History, today, is_open, BranchFacts, branch_of, HoldFacts, hold_of}
 use Rattle.model.specs.Places.{Place, Nowhere, Shelf, HoldShelf, Transit, Loan, MissingCopy, WithdrawnCopy, place, state, line, route, route_from, route_to, limit_now, home_of, goal_of, title_of_copy}
 use Rattle.model.specs.Invariant.{Invariant, Serves}
-use Rattle.model.specs.Refusals.{checks, refusal, has_branch}
+use Rattle.model.specs.Refusals.{has_branch}
 use Rattle.model.specs.Answers.{routed}
 use Rattle.model.specs.Picture.{picture, branch_columns, hold_columns, transit_row, transit_at}
 use Rattle.model.proofs.Bindings.{line-head}

@@ -1,10 +1,9 @@
 -- Unshelving meets the history.
 use Rattle.std.proofs.Common.{◌≡◌, ℕ, ◌==◌, nat_le, Bool, true, false, not, ◌&&◌, List, ◌∷◌, ◌++◌, refl, sym, ◌∙◌, ap, subst}
-use Rattle.std.specs.Prelude.{Option, Some, None, option_map, option_and_then, unwrap_or, is_none, is_some, find, Result}
+use Rattle.std.specs.Prelude.{Option, Some, None, option_map, option_and_then, unwrap_or, is_none, is_some, find}
 use Rattle.std.proofs.lemmas.Bool.{eqb-true, eq-eqb}
 use Rattle.terms.specs.declared.command.Owner.TheVariants.{Desk}
 use Rattle.terms.specs.declared.command.Command.TheVariants.{Unshelve, UnshelveCancelled}
-use Rattle.terms.specs.declared.refusal.Refusal.{Refusal}
 use Rattle.terms.specs.declared.reply.Reply.TheVariants.{Moved}
 use Rattle.terms.specs.declared.row.HoldRow.{HoldRow}
 use Rattle.terms.specs.declared.row.HoldState.{HoldState}
@@ -18,7 +17,7 @@ use Rattle.model.specs.Invariant.{Invariant, Serves}
 use Rattle.model.specs.Requests.{IsLegal}
 use Rattle.model.specs.Refusals.{checks, has_branch, has_hold}
 use Rattle.model.specs.Answers.{routed}
-use Rattle.model.specs.Picture.{picture, hold_row, hold_columns, copy_row, copy_columns, transit_row, transit_at, condition_at}
+use Rattle.model.specs.Picture.{picture, hold_row, hold_columns, copy_row, copy_columns, transit_row, transit_at, condition_at, hold_by}
 use Rattle.model.proofs.Invariants.{legal-Invariant}
 use Rattle.model.proofs.Moves.{moved}
 use Rattle.model.proofs.Passing.{passed}
@@ -32,7 +31,7 @@ use Rattle.circ_core.specs.Routing.{home_in, number_in, readied, arrival_rows, s
 use Rattle.circ_core.specs.Tables.{change, changed, SameRows}
 use Rattle.circ_core.specs.Unshelve.{is_ready_row, limit_in, pickup_branch, unshelve_checks, unshelve_cancelled_checks, course_unshelved, ended_hold, next_limit, unshelve_rows, unshelve_reply}
 use Rattle.circ_core.specs.Views.{IsFirstOf, IsFirstFor, IsBranchView, IsPickupView, IsUnshelveView}
-use Rattle.circ_core.proofs.Arriving.{ready_put, sent_put, arrival_changed, row_of, arrive, over, sends, stays_present}
+use Rattle.circ_core.proofs.Arriving.{ready_put, sent_put, arrival_changed, arrive, over, sends, stays_present}
 use Rattle.circ_core.proofs.Claims.{kept-is, hold_row-from, shelf_row}
 use Rattle.circ_core.proofs.HoldBranches.{hold-branch}
 use Rattle.circ_core.proofs.Meets.{Meets, SameChecks, Leads}
@@ -68,22 +67,17 @@ module _ (H : History) (inv : Invariant H) (g c : ℕ) (f : CopyFacts) (there : 
 
     abbrev row_at : Bool → Place → ℕ → Option HoldRow
     row_at x q h =
-        row_of h (hold_of H h) (elim x as (λ _. Option HoldState) [ true ↦ Some ends | false ↦ elim (is_kept_for q h) as (λ _. Option HoldState) [ true ↦ Some Ready | false ↦ state H h ] ])
+        hold_by h (hold_of H h) (elim x as (λ _. Option HoldState) [ true ↦ Some ends | false ↦ elim (is_kept_for q h) as (λ _. Option HoldState) [ true ↦ Some Ready | false ↦ state H h ] ])
         (find (λ y. is_kept_for (moved c q (place H) y) h) (copies H)) (elim (is_kept_for q h) as (λ _. Option ℕ) [ true ↦ limit_now H h | false ↦ limit H h ])
 
     -- A hold that ends has neither copy nor limit.
-    ended_at : (kept lim : Option ℕ) → Some ended_row ≡ row_of g (hold_of H g) (Some ends) kept lim
+    ended_at : (kept lim : Option ℕ) → Some ended_row ≡ hold_by g (hold_of H g) (Some ends) kept lim
     ended_at kept lim =
-        ap (λ (x : Bool). Some (record {
-          hold = g;
-          patron = h_facts.patron;
-          title = h_facts.title;
-          branch = h_facts.branch;
-          state = ends;
+        ap (λ (x : Bool). Some (record ended_row {
           copy = elim x as (λ _. Option ℕ) [ true ↦ kept | false ↦ None ];
           limit_day = elim x as (λ _. Option ℕ) [ true ↦ lim | false ↦ None ];
         })) (sym final)
-        ∙ sym (ap (λ o. row_of g o (Some ends) kept lim) made)
+        ∙ sym (ap (λ o. hold_by g o (Some ends) kept lim) made)
 
     -- The hold that ends isn't the one that becomes ready.
     other_hold : (way : Course) → Suits H b way → (x : Option HoldRow) → ready_put way c until x g ≡ x
@@ -110,14 +104,14 @@ module _ (H : History) (inv : Invariant H) (g c : ℕ) (f : CopyFacts) (there : 
     -- The rows of the holds are those that the history has, once the hold has ended.
     pub holds_lead : (way : Course) → LeadsTo H b way (route H c (goal_of H g)) → Limits H way until → (h : ℕ)
         → ready_put way c until (put (hold_row H) g (Some ended_row) h) h
-        ≡ row_of h (hold_of H h) (state_unshelved H (place H) (state H) g ends (kept_for H g) h) (find (λ y. is_kept_for (place_unshelved H (place H) (state H) g y) h) (copies H))
+        ≡ hold_by h (hold_of H h) (state_unshelved H (place H) (state H) g ends (kept_for H g) h) (find (λ y. is_kept_for (place_unshelved H (place H) (state H) g y) h) (copies H))
         (limit_at H (unshelved_to H g (kept_for H g)) h (limit H h))
     holds_lead way to l h =
         holds_moved way to.1 l h
         ∙ ap (λ q. row_at (g == h) q h) to.0
-        ∙ ap (λ k. row_of h (hold_of H h) (state_unshelved H (place H) (state H) g ends (Some c) h) k (limit_at H (route H c (goal_of H g)) h (limit H h)))
+        ∙ ap (λ k. hold_by h (hold_of H h) (state_unshelved H (place H) (state H) g ends (Some c) h) k (limit_at H (route H c (goal_of H g)) h (limit H h)))
         (sym (find-same _ _ (λ y. ap (λ p. is_kept_for p h) (unshelved_moved y)) (copies H)))
-        ∙ ap (λ o. row_of h (hold_of H h) (state_unshelved H (place H) (state H) g ends o h) (find (λ y. is_kept_for (place_unshelved H (place H) (state H) g y) h) (copies H))
+        ∙ ap (λ o. hold_by h (hold_of H h) (state_unshelved H (place H) (state H) g ends o h) (find (λ y. is_kept_for (place_unshelved H (place H) (state H) g y) h) (copies H))
         (limit_at H (unshelved_to H g o) h (limit H h))) (sym (shelf_row H inv c f there g at).3)
 
     pub transits_lead : (way : Course) → LeadsTo H b way (route H c (goal_of H g)) → (x : ℕ) → sent_put way c (transit_row H x) x ≡ transit_at x (place_unshelved H (place H) (state H) g x)
@@ -285,7 +279,7 @@ module _ (H : History) (legal : IsLegal H) (g : ℕ) (v : View) (w : IsUnshelveV
         copies = λ n. option_map
             (λ r. record { copy = n; title = r.title; kind = r.kind; home = r.home; price = r.price; condition = condition_at (place_unshelved H (place H) (state H) g n) })
             (copy_of H n);
-        holds = λ h. row_of h (hold_of H h) (state_unshelved H (place H) (state H) g ends (kept_for H g) h)
+        holds = λ h. hold_by h (hold_of H h) (state_unshelved H (place H) (state H) g ends (kept_for H g) h)
             (find (λ y. is_kept_for (place_unshelved H (place H) (state H) g y) h) (copies H)) (limit_at H (unshelved_to H g (kept_for H g)) h (limit H h));
         transits = λ n. transit_at n (place_unshelved H (place H) (state H) g n);
         kept = kept;

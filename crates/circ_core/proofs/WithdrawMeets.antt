@@ -6,7 +6,6 @@ use Rattle.terms.specs.declared.command.Command.TheVariants.{Withdraw}
 use Rattle.terms.specs.declared.reply.Reply.TheVariants.{Done}
 use Rattle.model.specs.History.{History, CopyFacts, copy_of}
 use Rattle.model.specs.Places.{WithdrawnCopy, place}
-use Rattle.model.specs.Accounts.{lines}
 use Rattle.model.specs.Refusals.{checks}
 use Rattle.model.specs.Invariant.{Invariant}
 use Rattle.model.specs.Picture.{picture, copy_columns}

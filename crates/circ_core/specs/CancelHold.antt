@@ -1,5 +1,5 @@
 -- The checks and row changes of `cancel-hold`, on the rows of a view.
-use Rattle.std.specs.Prelude.{◌+◌, not, Bool, true, false, List, [], ◌∷◌, ◌++◌, Option, Some, None, is_none}
+use Rattle.std.specs.Prelude.{not, Bool, true, false, List, [], ◌∷◌, ◌++◌, Option, Some, None, is_none}
 use Rattle.terms.specs.declared.refusal.Refusal.TheVariants as refusal
 use Rattle.terms.specs.declared.row.HoldRow.{HoldRow}
 use Rattle.terms.specs.declared.row.HoldState.TheVariants.{Waiting, Cancelled}

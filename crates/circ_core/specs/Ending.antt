@@ -1,5 +1,5 @@
 -- The end of a copy's loan: its fine, and what is charged for it, on the rows of a view.
-use Rattle.terms.specs.declared.limits.TheConstants.{LAST_NUMBER}
+use Rattle.terms.specs.declared.limits.TheConstants.{LARGEST_SUM, LAST_NUMBER}
 use Rattle.std.specs.Prelude.{ℕ, ◌+◌, ◌==◌, nat_lt, ◌&&◌, min, Bool, true, false, List, [], ◌∷◌, ◌++◌, Option, Some, None}
 use Rattle.calendar.specs.Openings.{Closings, open_days_after}
 use Rattle.terms.specs.Money.{fine_for}
@@ -36,13 +36,9 @@ abbrev pub end_rows : Option LoanRow → ℕ → List RowChange
 end_rows (Some loan) today = PutLoan (ended_loan loan today) ∷ []
 end_rows None today = []
 
--- The most cents that an amount of money can be.
-abbrev pub most_cents : ℕ
-most_cents = 18446744073709551615
-
--- The patron owes so much more, up to that most.
+-- The patron owes so much more, up to the greatest amount that can be.
 abbrev pub charged : PatronRow → ℕ → ℕ → PatronRow
-charged patron fine price = record patron { owed = min (min (patron.owed + fine) most_cents + price) most_cents }
+charged patron fine price = record patron { owed = min (patron.owed + fine + price) LARGEST_SUM }
 
 -- The line of a charge for the loan; none for a charge of zero.
 abbrev pub line_rows : MetaRow → ℕ → LoanRow → Sort → ℕ → List RowChange

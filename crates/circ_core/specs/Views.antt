@@ -1,6 +1,7 @@
 -- Which rows of the tables a view holds for a command.
 use Rattle.std.specs.Prelude.{◌≡◌, ◌⊎◌, ℕ, ◌≤◌, ◌==◌, true, List, length, Option, Some, None, option_and_then, false, IfSome}
 use Rattle.std.specs.List.{list_any, IsDistinct}
+use Rattle.calendar.specs.declared.limits.TheConstants.{FIRST_DAY}
 use Rattle.calendar.specs.Openings.{Closings, AreWeekdays, has_day, has_repeat}
 use Rattle.terms.specs.declared.row.BranchRow.{BranchRow}
 use Rattle.terms.specs.declared.row.PatronRow.{PatronRow}
@@ -138,24 +139,27 @@ IsLenderOf P None calendar = calendar ≡ None
 
 -- ---- the views
 
--- The view has no row and counts nothing.
-pub record IsEmpty (rows : View) : Type 0 where
-  pub branch : rows.branch ≡ None
-  pub calendar : rows.calendar ≡ None
-  pub kind : rows.kind ≡ None
-  pub rule : rows.rule ≡ None
-  pub patron : rows.patron ≡ None
-  pub title : rows.title ≡ None
-  pub copy : rows.copy ≡ None
-  pub loan : rows.loan ≡ None
-  pub lender : rows.lender ≡ None
-  pub transit : rows.transit ≡ None
-  pub hold : rows.hold ≡ None
-  pub coming : rows.coming ≡ None
-  pub first : rows.first ≡ None
-  pub open_loans : rows.open_loans ≡ 0
-  pub own_holds : rows.own_holds ≡ 0
-  pub active_holds : rows.active_holds ≡ 0
+-- The view of no row, in which nothing is counted.
+unfoldable pub empty_view : View
+empty_view = record {
+  meta = record { schema = 0; today = FIRST_DAY; next_loan = 0; next_hold = 0; next_line = 0 };
+  branch = None;
+  calendar = None;
+  kind = None;
+  rule = None;
+  patron = None;
+  title = None;
+  copy = None;
+  loan = None;
+  lender = None;
+  transit = None;
+  hold = None;
+  coming = None;
+  first = None;
+  open_loans = 0;
+  own_holds = 0;
+  active_holds = 0;
+}
 
 -- The kind that is named, and the patron.
 pub record IsPatronView (P : Picture) (p k : ℕ) (rows : View) : Type 0 where
@@ -285,3 +289,91 @@ IsViewOf P (Withdraw copy) rows = IsCopyView P copy rows
 IsViewOf P (Pay patron amount) rows = IsAccountView P patron rows
 IsViewOf P (Waive patron amount) rows = IsAccountView P patron rows
 IsViewOf P (Page patron) rows = rows.patron ≡ P.patrons patron
+
+-- The view holds nothing but what the command needs, whatever the tables are: every place that isn't named here is as in the view of no row.
+abbrev pub HasOnly : Command → View → Type 0
+HasOnly (BeginDay day) rows = rows ≡ record empty_view { meta = rows.meta }
+HasOnly (Branch branch pickup name) rows = rows ≡ record empty_view { branch = rows.branch }
+HasOnly (Week branch week) rows = rows ≡ record empty_view { branch = rows.branch }
+HasOnly (CloseDay branch day) rows = rows ≡ record empty_view { meta = rows.meta; calendar = rows.calendar }
+HasOnly (OpenDay branch day) rows = rows ≡ record empty_view { meta = rows.meta; calendar = rows.calendar }
+HasOnly (Kind kind loans holds debt) rows = rows ≡ empty_view
+HasOnly (Rule kind copy_kind period renewals rate cap) rows = rows ≡ record empty_view { kind = rows.kind }
+HasOnly (Patron patron kind card_key name) rows = rows ≡ record empty_view { kind = rows.kind; patron = rows.patron }
+HasOnly (Acquire copy title kind home price text) rows = rows ≡ record empty_view { branch = rows.branch; title = rows.title; copy = rows.copy }
+HasOnly (CheckOut patron copy branch) rows = rows ≡ record empty_view {
+  meta = rows.meta;
+  calendar = rows.calendar;
+  patron = rows.patron;
+  kind = rows.kind;
+  rule = rows.rule;
+  copy = rows.copy;
+  loan = rows.loan;
+  transit = rows.transit;
+  hold = rows.hold;
+  first = rows.first;
+  open_loans = rows.open_loans;
+  own_holds = rows.own_holds;
+}
+HasOnly (CheckIn copy branch) rows = rows ≡ record empty_view {
+  meta = rows.meta;
+  branch = rows.branch;
+  calendar = rows.calendar;
+  copy = rows.copy;
+  loan = rows.loan;
+  transit = rows.transit;
+  hold = rows.hold;
+  lender = rows.lender;
+  patron = rows.patron;
+  coming = rows.coming;
+  first = rows.first;
+}
+HasOnly (Renew loan) rows = rows ≡ record empty_view {
+  meta = rows.meta;
+  loan = rows.loan;
+  copy = rows.copy;
+  first = rows.first;
+  patron = rows.patron;
+  kind = rows.kind;
+  lender = rows.lender;
+}
+HasOnly (PlaceHold patron title branch) rows = rows ≡ record empty_view {
+  meta = rows.meta;
+  patron = rows.patron;
+  kind = rows.kind;
+  title = rows.title;
+  branch = rows.branch;
+  own_holds = rows.own_holds;
+  loan = rows.loan;
+  active_holds = rows.active_holds;
+}
+HasOnly (CancelHold hold) rows = rows ≡ record empty_view { hold = rows.hold; transit = rows.transit }
+HasOnly (Unshelve hold) rows = rows ≡ record empty_view {
+  meta = rows.meta;
+  hold = rows.hold;
+  copy = rows.copy;
+  branch = rows.branch;
+  calendar = rows.calendar;
+  first = rows.first;
+}
+HasOnly (UnshelveCancelled hold) rows = rows ≡ record empty_view {
+  meta = rows.meta;
+  hold = rows.hold;
+  copy = rows.copy;
+  branch = rows.branch;
+  calendar = rows.calendar;
+  first = rows.first;
+}
+HasOnly (Missing copy) rows = rows ≡ record empty_view {
+  meta = rows.meta;
+  copy = rows.copy;
+  loan = rows.loan;
+  transit = rows.transit;
+  hold = rows.hold;
+  lender = rows.lender;
+  patron = rows.patron;
+}
+HasOnly (Withdraw copy) rows = rows ≡ record empty_view { copy = rows.copy; loan = rows.loan; transit = rows.transit; hold = rows.hold }
+HasOnly (Pay patron amount) rows = rows ≡ record empty_view { meta = rows.meta; patron = rows.patron }
+HasOnly (Waive patron amount) rows = rows ≡ record empty_view { meta = rows.meta; patron = rows.patron }
+HasOnly (Page patron) rows = rows ≡ record empty_view { patron = rows.patron }

@@ -6,7 +6,9 @@ ghost use Rattle.circ_core.specs.Ending.{line_rows, account_rows, charge_rows};
 
 use crate::changes::{Changes, RowChange};
 use calendar::{Calendar, Day};
-use terms::{Cents, LAST_NUMBER, LineId, LineRow, LoanRow, MetaRow, PatronPut, PatronRow, Sort};
+use terms::{
+    Cents, LARGEST_SUM, LAST_NUMBER, LineId, LineRow, LoanRow, MetaRow, PatronPut, PatronRow, Sort,
+};
 
 /// The fine of the loan if it ends today, in cents; nothing where the copy is not on loan.
 pub(crate) fn fine_of(loan: &Option<LoanRow>, calendar: &Option<Calendar>, today: Day) -> Cents
@@ -82,13 +84,13 @@ fn with_line<'a>(
 fn charge<'a>(patron: &'a PatronRow, fine: Cents, price: Cents) -> PatronPut<'a>
     ensures { result ≡ charged patron.now fine price }
 {
-    let owed = patron.owed.number().saturating_add(fine.number());
+    let owed = patron.owed.number() + fine.number() + price.number();
     PatronPut {
         patron: patron.patron,
         kind: patron.kind,
         card_key: &patron.card_key,
         name: &patron.name,
-        owed: Cents::new(owed.saturating_add(price.number())),
+        owed: Cents::new(owed.min(LARGEST_SUM)),
     }
 }
 

@@ -1,6 +1,7 @@
 //! The rows that a command needs.
 
-ghost use Rattle.circ_core.specs.Views.{IsEmpty};
+ghost use Rattle.std.specs.Prelude.{◌≡◌};
+ghost use Rattle.circ_core.specs.Views.{empty_view};
 
 use calendar::Calendar;
 use terms::{
@@ -9,8 +10,7 @@ use terms::{
 };
 
 /// The rows that a command needs: two calendars, twelve rows and three counts at most, and never a
-/// whole line of holds. A row that the command does not need is not there, and a count that it does
-/// not need is 0.
+/// whole line of holds. A place that the command does not need is as in `View::empty`.
 #[derive(Drop)]
 pub struct View {
     /// Today and the next numbers.
@@ -52,7 +52,7 @@ pub struct View {
 impl View {
     /// A view of no row, whose numbers are 0 and whose day is the calendar's first.
     pub fn empty() -> View
-        ensures { IsEmpty result }
+        ensures { result ≡ empty_view }
     {
         View {
             meta: MetaRow {

@@ -45,7 +45,7 @@ use Rattle.circ_tables.specs.Puts.{Runs, PutsRow, TakesRow}
 use Rattle.circ_tables.specs.Reading.{Table, FirstEntry, AllEntries, CountShown, Gets, Selects, Counts, Lists}
 use Rattle.circ_tables.specs.Selections.{is_any, is_from}
 use Rattle.circ_tables.specs.Shape.{schema}
-use Rattle.circ_tables.specs.Texts.{names_of, put_text, take_text, get_text, all_text, page_text}
+use Rattle.circ_tables.specs.Texts.{names_of, put_text, take_text, get_text, all_text, first_text, page_text}
 use Rattle.circ_tables.specs.declared.by_number.TheConstants.{PAGE_ROWS}
 use Rattle.circ_tables.proofs.EncodingLemmas.{put_encoded, take_encoded, number_same}
 use Rattle.circ_tables.proofs.InverseLemmas.{told}
@@ -200,7 +200,11 @@ module _ {R : Type 0} {t : Table ℕ R} {number_of : R → ℕ} (is : IsNumberTa
   pub lists_all : {S L : Type 0} (items : L → List R) (g : Ghosts S) (old new : Held S) (result : Result L Fault) → AllEntries items t.cells t.IsLegal (all_text t.shape) [] g old new result → Lists t items (λ m. Listed m is_any) g old new result
   lists_all = lists_by [] (all_text t.shape) [] is_any (λ r. refl) is.texts.all
 
-  -- a page
+  -- the first page, and a later one
+  pub lists_first : {S L : Type 0} (items : L → List R) (g : Ghosts S) (old new : Held S) (result : Result L Fault) → AllEntries items t.cells t.IsLegal (first_text t.shape) [] g old new result
+      → Lists t items (λ m. FirstRows PAGE_ROWS m is_any) g old new result
+  lists_first = pages_by [] (first_text t.shape) [] is_any (λ r. refl) is.texts.first
+
   pub lists_page : (a : ℤ) → {S L : Type 0} (items : L → List R) (g : Ghosts S) (old new : Held S) (result : Result L Fault) → AllEntries items t.cells t.IsLegal (page_text t.shape) (Int a ∷ []) g old new result
       → Lists t items (λ m. FirstRows PAGE_ROWS m (is_from a)) g old new result
   lists_page a = pages_by from_key (page_text t.shape) (Int a ∷ []) (is_from a) (λ r. rw (is.texts.key_cell r) refl) is.texts.page

@@ -27,7 +27,7 @@ use Rattle.sql_maps.proofs.Words.{over, in_order, in_order_up_to, counting}
 use Rattle.sql_maps.proofs.AnswerLemmas.{shown_of}
 use Rattle.sql_maps.proofs.FillLemmas.{suits_kind}
 use Rattle.sql_maps.proofs.WriteLemmas.{Fills, id_test}
-use Rattle.circ_tables.specs.Texts.{names_of, put_text, take_text, get_text, all_text, page_text}
+use Rattle.circ_tables.specs.Texts.{names_of, put_text, take_text, get_text, all_text, first_text, page_text}
 use Rattle.terms.specs.Limits.{InLimits}
 use Rattle.terms.specs.Pictures.{Picture, put as put_in}
 use Rattle.circ_tables.specs.Cells.{number, optional, number_key}
@@ -86,14 +86,16 @@ pub record IsNumbered (s : Schema) (at : ℕ) (t : Table) : Type 0 where
   pub take : IsRun s (take_text t) (Delete at (record { lets = []; body = over t.tree by_key (col 1 0 ∷ []) }))
   pub get : IsRead s (get_text t) (Select (record { lets = []; body = over t.tree by_key (each_column 1 t) }) (names_of t))
   pub all : IsRead s (all_text t) (Select (record { lets = []; body = in_order t.tree [] (each_column 1 t) (lit (Int (negsuc 0))) }) (names_of t))
+  pub first : IsRead s (first_text t) (page_of t [])
   pub page : IsRead s (page_text t) (page_of t from_key)
 
--- The five texts are those of the table.
+-- The six texts are those of the table.
 pub record AreTexts (t : Table) (texts : Texts) : Type 0 where
   pub put : texts.put.now ≡ put_text t
   pub take : texts.take.now ≡ take_text t
   pub get : texts.get.now ≡ get_text t
   pub all : texts.all.now ≡ all_text t
+  pub first : texts.first.now ≡ first_text t
   pub page : texts.page.now ≡ page_text t
 
 -- A table of typed rows that is keyed by one number: its texts, and what ties the rows to SQL and to the picture. A row can be read back from its columns, and it has a place in the picture.

@@ -39,6 +39,7 @@ texts_are more others = record {
   take = record { command_is = refl; bare = (refl, refl) };
   get = record { command_is = refl; bare = (refl, refl); unlisted = refl };
   all = record { command_is = refl; bare = (refl, refl); unlisted = refl };
+  first = record { command_is = refl; bare = (refl, refl); unlisted = refl };
   page = record { command_is = refl; bare = (refl, refl); unlisted = refl };
 }
 

@@ -44,11 +44,14 @@ impl Numbered for BranchRow {
             take: "DELETE FROM branches WHERE branch = ?1",
             get: "SELECT * FROM branches WHERE branch = ?1",
             all: "SELECT * FROM branches ORDER BY branch",
+            first: "SELECT * FROM branches ORDER BY branch LIMIT 1000",
             page: "SELECT * FROM branches WHERE branch >= ?1 ORDER BY branch LIMIT 1000",
         }
     }
 
     ghost sound = { branches_are };
+
+    ghost by_number = { λ r s less. less };
 }
 
 impl<'a> Put for BranchPut<'a> {

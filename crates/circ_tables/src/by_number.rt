@@ -1,20 +1,20 @@
 //! A table that is keyed by one number: what it has to say of itself, and the calls that follow from
 //! that.
 
-ghost use Rattle.std.specs.Prelude.{◌≡◌, ◌<◌, ◌^◌, ℕ, IfSome};
+ghost use Rattle.std.specs.Prelude.{◌≡◌, ◌<◌, ◌^◌, ℕ};
 ghost use Rattle.sql_maps.specs.Maps.{Listed};
 ghost use Rattle.sql_maps.specs.Pages.{FirstRows};
 ghost use Rattle.circ_tables.specs.Numbered.{AreTexts, IsNumberTable};
 ghost use Rattle.circ_tables.specs.Puts.{Runs, PutsRow, TakesRow};
 ghost use Rattle.circ_tables.specs.Reading.{Gets, Lists};
-ghost use Rattle.circ_tables.specs.Selections.{is_any, is_from, least_after};
+ghost use Rattle.circ_tables.specs.Selections.{is_any, is_next, least_after};
 ghost use Rattle.circ_tables.specs.declared.by_number.TheConstants.{PAGE_ROWS};
 
 use crate::call::run;
 use crate::list::{Table, row_of, rows_of};
 use sqlite::{Alter, Connection, Transaction, params};
 use std::alloc::Global;
-use terms::{Fault, Number};
+use terms::{Fault, Number, Ordered};
 
 /// What names a row of such a table: a number, whose type says whose it is.
 pub trait RowNumber: Copy {
@@ -33,19 +33,20 @@ impl<T> RowNumber for Number<T> {
     }
 }
 
-/// The texts of a table by its key: one row put, taken and got; all rows; the first rows from a key
-/// on.
+/// The texts of a table by its key: one row put, taken and got; all rows; the first rows, and those
+/// from a key on.
 #[derive(Clone, Copy, Debug)]
 pub struct Texts {
     pub put: &'static str,
     pub take: &'static str,
     pub get: &'static str,
     pub all: &'static str,
+    pub first: &'static str,
     pub page: &'static str,
 }
 
 /// A table that is keyed by one number, which is its first column.
-pub trait Numbered: Table<Key = u32> {
+pub trait Numbered: Table<Key = u32> + Ordered {
     /// What names a row.
     type Id: RowNumber;
 
@@ -60,6 +61,8 @@ pub trait Numbered: Table<Key = u32> {
         ensures { AreTexts Self.table.shape result };
 
     ghost sound: { IsNumberTable Self.table number_of };
+
+    ghost by_number: { (r s : Self) → number_of r < number_of s → Self.comes_before r s };
 }
 
 /// A row of such a table, as it is put.
@@ -73,8 +76,7 @@ pub trait Put {
         ensures { Runs sql.now (Self.Row.table.cells (entry self.now)) S.Store tx.old tx.new result };
 }
 
-/// Puts a row. 91, also where it breaks what the table has to keep, or a sum of it is 2^63 cents or
-/// more.
+/// Puts a row. 91, also where it breaks what the table has to keep.
 pub fn put_row<P: Put, S: Alter>(tx: &mut Transaction<'_, S>, row: &P) -> Result<(), Fault>
     ensures { PutsRow P.Row.table (P.Row.number_of (P.entry row.now)) (P.entry row.now)
         S.Store tx.old tx.new result }
@@ -117,35 +119,34 @@ pub fn every_row<T: Numbered, S: Alter>(
 /// How many rows a page of a list has, but for its last one. The texts of pages name it too.
 pub const PAGE_ROWS: usize = 1000;
 
-/// The least number of a row that comes after this one, or of any row. That this one has 32 bits is
-/// said too, since what is answered fits 64 for it.
-fn least_after(after: Option<u32>) -> i64
+/// The least number of a row that comes after this one. That this one has 32 bits is said too, since
+/// what is answered fits 64 for it.
+fn least_after(after: u32) -> i64
     ensures least { result ≡ least_after after }
-    ensures range { IfSome after (λ n. n < 2 ^ 32) }
+    ensures range { after < 2 ^ 32 }
 {
-    match after {
-        Some(number) => i64::from(number) + 1,
-        None => i64::MIN,
-    }
+    i64::from(after) + 1
 }
 
 /// The first rows, or the first whose numbers are above this one, the least number first: all of
 /// them, or as many as a page has. 90, 91, 93.
+///
+/// The first page is asked for without a number, so that no row is passed over whatever its number
+/// is.
 pub fn next_rows<T: Numbered, S: Alter>(
     conn: &mut Connection<S>,
     alloc: Global,
     memory: T::Memory,
     after: Option<u32>,
 ) -> Result<Vec<T>, Fault>
-    ensures { Lists T.table (λ l. l.items)
-        (λ m. FirstRows PAGE_ROWS m (is_from (least_after after)))
+    ensures { Lists T.table (λ l. l.items) (λ m. FirstRows PAGE_ROWS m (is_next after))
         S.Store conn.old conn.new result }
 {
-    rows_of(
-        conn,
-        alloc,
-        memory,
-        T::texts().page,
-        params![least_after(after)],
-    )
+    match after {
+        Some(number) => {
+            let least = params![least_after(number)];
+            rows_of(conn, alloc, memory, T::texts().page, least)
+        },
+        None => rows_of(conn, alloc, memory, T::texts().first, &[]),
+    }
 }

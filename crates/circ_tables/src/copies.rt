@@ -48,11 +48,14 @@ impl Numbered for CopyRow {
             take: "DELETE FROM copies WHERE copy = ?1",
             get: "SELECT * FROM copies WHERE copy = ?1",
             all: "SELECT * FROM copies ORDER BY copy",
+            first: "SELECT * FROM copies ORDER BY copy LIMIT 1000",
             page: "SELECT * FROM copies WHERE copy >= ?1 ORDER BY copy LIMIT 1000",
         }
     }
 
     ghost sound = { copies_are };
+
+    ghost by_number = { λ r s less. less };
 }
 
 impl Put for CopyRow {
@@ -61,7 +64,7 @@ impl Put for CopyRow {
     ghost entry = { λ r. r };
 
     fn run_with<S: Alter>(&self, tx: &mut Transaction<'_, S>, sql: &str) -> Result<(), Fault> {
-        let price = money(self.price)?;
+        let price = money(self.price);
         run(
             tx,
             sql,

@@ -58,11 +58,14 @@ impl Numbered for HoldRow {
             take: "DELETE FROM holds WHERE hold = ?1",
             get: "SELECT * FROM holds WHERE hold = ?1",
             all: "SELECT * FROM holds ORDER BY hold",
+            first: "SELECT * FROM holds ORDER BY hold LIMIT 1000",
             page: "SELECT * FROM holds WHERE hold >= ?1 ORDER BY hold LIMIT 1000",
         }
     }
 
     ghost sound = { holds_are };
+
+    ghost by_number = { λ r s less. less };
 }
 
 impl Put for HoldRow {

@@ -14,11 +14,11 @@ ghost use Rattle.circ_tables.specs.Selections.{is_after, is_any, is_kept_after};
 ghost use Rattle.circ_tables.specs.declared.by_number.TheConstants.{PAGE_ROWS};
 
 use crate::call::{first_row, run};
-use crate::cell::{has_width, key_at, owner_at, owner_number, text_at};
+use crate::cell::{has_width, key_at, owner_at, text_at};
 use crate::list::{Table, rows_of};
 use sqlite::{Alter, Connection, Row, Transaction, params};
 use std::alloc::Global;
-use terms::{Fault, KeptPut, KeptRow, Key, Owner, Text};
+use terms::{Fault, KeptPut, KeptRow, Key, Owner, Text, owner_number};
 
 /// What is kept under a key: the request text and its reply.
 #[derive(Drop)]

@@ -46,11 +46,14 @@ impl Numbered for KindRow {
             take: "DELETE FROM kinds WHERE kind = ?1",
             get: "SELECT * FROM kinds WHERE kind = ?1",
             all: "SELECT * FROM kinds ORDER BY kind",
+            first: "SELECT * FROM kinds ORDER BY kind LIMIT 1000",
             page: "SELECT * FROM kinds WHERE kind >= ?1 ORDER BY kind LIMIT 1000",
         }
     }
 
     ghost sound = { kinds_are };
+
+    ghost by_number = { λ r s less. less };
 }
 
 impl Put for KindRow {
@@ -59,7 +62,7 @@ impl Put for KindRow {
     ghost entry = { λ r. r };
 
     fn run_with<S: Alter>(&self, tx: &mut Transaction<'_, S>, sql: &str) -> Result<(), Fault> {
-        let debt = money(self.debt)?;
+        let debt = money(self.debt);
         run(
             tx,
             sql,

@@ -55,11 +55,14 @@ impl Numbered for LineRow {
             take: "DELETE FROM lines WHERE line = ?1",
             get: "SELECT * FROM lines WHERE line = ?1",
             all: "SELECT * FROM lines ORDER BY line",
+            first: "SELECT * FROM lines ORDER BY line LIMIT 1000",
             page: "SELECT * FROM lines WHERE line >= ?1 ORDER BY line LIMIT 1000",
         }
     }
 
     ghost sound = { lines_are };
+
+    ghost by_number = { λ r s less. less };
 }
 
 impl Put for LineRow {
@@ -68,7 +71,7 @@ impl Put for LineRow {
     ghost entry = { λ r. r };
 
     fn run_with<S: Alter>(&self, tx: &mut Transaction<'_, S>, sql: &str) -> Result<(), Fault> {
-        let amount = money(self.amount)?;
+        let amount = money(self.amount);
         run(
             tx,
             sql,

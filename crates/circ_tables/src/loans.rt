@@ -65,11 +65,14 @@ impl Numbered for LoanRow {
             take: "DELETE FROM loans WHERE loan = ?1",
             get: "SELECT * FROM loans WHERE loan = ?1",
             all: "SELECT * FROM loans ORDER BY loan",
+            first: "SELECT * FROM loans ORDER BY loan LIMIT 1000",
             page: "SELECT * FROM loans WHERE loan >= ?1 ORDER BY loan LIMIT 1000",
         }
     }
 
     ghost sound = { loans_are };
+
+    ghost by_number = { λ r s less. less };
 }
 
 impl Put for LoanRow {
@@ -78,8 +81,8 @@ impl Put for LoanRow {
     ghost entry = { λ r. r };
 
     fn run_with<S: Alter>(&self, tx: &mut Transaction<'_, S>, sql: &str) -> Result<(), Fault> {
-        let rate = money(self.rate)?;
-        let cap = money(self.cap)?;
+        let rate = money(self.rate);
+        let cap = money(self.cap);
         run(
             tx,
             sql,

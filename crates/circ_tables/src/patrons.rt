@@ -46,11 +46,14 @@ impl Numbered for PatronRow {
             take: "DELETE FROM patrons WHERE patron = ?1",
             get: "SELECT * FROM patrons WHERE patron = ?1",
             all: "SELECT * FROM patrons ORDER BY patron",
+            first: "SELECT * FROM patrons ORDER BY patron LIMIT 1000",
             page: "SELECT * FROM patrons WHERE patron >= ?1 ORDER BY patron LIMIT 1000",
         }
     }
 
     ghost sound = { patrons_are };
+
+    ghost by_number = { λ r s less. less };
 }
 
 impl<'a> Put for PatronPut<'a> {
@@ -59,7 +62,7 @@ impl<'a> Put for PatronPut<'a> {
     ghost entry = { λ r. r };
 
     fn run_with<S: Alter>(&self, tx: &mut Transaction<'_, S>, sql: &str) -> Result<(), Fault> {
-        let owed = money(self.owed)?;
+        let owed = money(self.owed);
         run(
             tx,
             sql,

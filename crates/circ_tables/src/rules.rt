@@ -39,12 +39,12 @@ impl Table for RuleRow {
     }
 }
 
-/// Puts a row of `rules`. 91, also where the rate or the cap is 2^63 cents or more.
+/// Puts a row of `rules`. 91.
 pub fn put_rule<S: Alter>(tx: &mut Transaction<'_, S>, row: &RuleRow) -> Result<(), Fault>
     ensures { PutsRow rules (row.now.kind, row.now.copy_kind) row.now S.Store tx.old tx.new result }
 {
-    let rate = money(row.rate)?;
-    let cap = money(row.cap)?;
+    let rate = money(row.rate);
+    let cap = money(row.cap);
     run(
         tx,
         "INSERT INTO rules VALUES (?1, ?2, ?3, ?4, ?5, ?6) ON CONFLICT (kind, copy_kind) DO UPDATE SET period = ?3, renewals = ?4, rate = ?5, cap = ?6",

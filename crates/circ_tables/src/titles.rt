@@ -42,11 +42,14 @@ impl Numbered for TitleRow {
             take: "DELETE FROM titles WHERE title = ?1",
             get: "SELECT * FROM titles WHERE title = ?1",
             all: "SELECT * FROM titles ORDER BY title",
+            first: "SELECT * FROM titles ORDER BY title LIMIT 1000",
             page: "SELECT * FROM titles WHERE title >= ?1 ORDER BY title LIMIT 1000",
         }
     }
 
     ghost sound = { titles_are };
+
+    ghost by_number = { λ r s less. less };
 }
 
 impl<'a> Put for TitlePut<'a> {

@@ -9,7 +9,7 @@ use std::alloc::Global;
 use std::process::Abort;
 use std::test::Fail;
 use store::Store;
-use terms::{BranchId, CopyId, HoldId, Rows, Tables, TransitRow};
+use terms::{BranchId, CopyId, Fault, HoldId, Rows, Tables, TransitRow};
 use test_bytes::Narrow;
 use test_library::{check, connection, desk_over, ground, open, rows, store_of};
 
@@ -120,8 +120,30 @@ fn finds_two_transits_for_one_hold(rt: HostRuntime) -> Result<(), Fail> {
         }
     }
     assert!(rt; laws(&tables) == Ok(()));
-    tables.transits = Rows::new(transits);
-    tables.copies = Rows::new(copies);
+    tables.transits = Rows::new(transits)?;
+    tables.copies = Rows::new(copies)?;
     assert!(rt; laws(&tables) == Err(Finding::Binding(HoldId::new(1))));
+    Ok(())
+}
+
+/// The transits of two copies, in this order.
+fn transits(alloc: Global, copies: [u32; 2]) -> Result<Vec<TransitRow>, Fail> {
+    let mut rows = Vec::new(alloc);
+    for copy in copies {
+        rows.push(TransitRow {
+            copy: CopyId::new(copy),
+            goal: BranchId::new(1),
+            hold: None,
+        })?;
+    }
+    Ok(rows)
+}
+
+#[test]
+fn refuses_rows_out_of_order(rt: HostRuntime) -> Result<(), Fail> {
+    let alloc = rt.alloc();
+    assert!(rt; Rows::new(transits(alloc, [20, 21])?).is_ok());
+    assert!(rt; Rows::new(transits(alloc, [21, 20])?).err() == Some(Fault::Stored));
+    assert!(rt; Rows::new(transits(alloc, [20, 20])?).err() == Some(Fault::Stored));
     Ok(())
 }

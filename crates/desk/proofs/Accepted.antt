@@ -6,7 +6,7 @@ use Rattle.terms.specs.declared.reply.Reply.{Reply}
 use Rattle.terms.specs.declared.reply.Reply.TheVariants.{Refused, Done}
 use Rattle.terms.specs.declared.row.LoanRow.{LoanRow}
 use Rattle.terms.specs.declared.command.Command.{Command}
-use Rattle.terms.specs.declared.command.Command.TheVariants.{BeginDay, Branch, Week, Kind, Rule, Patron, Acquire, CheckOut, CheckIn, Renew, PlaceHold, CancelHold, Unshelve, UnshelveCancelled, Missing, Withdraw, CloseDay, OpenDay, Pay, Waive, Page}
+use Rattle.terms.specs.declared.command.Command.TheVariants.{Missing}
 use Rattle.model.specs.Checks.{Check}
 use Rattle.circ_core.specs.declared.changes.Decision.{Decision}
 use Rattle.circ_core.specs.declared.changes.RowChange.{RowChange}
@@ -24,27 +24,8 @@ lost-plain (Some loan) fine price = refl
 lost-plain None fine price = refl
 
 accepted-plain : (v : View) (c : Command) (d : Decision) → DecidesOn v c (Ok d) → is_refusal d.reply ≡ false
-accepted-plain v (BeginDay day) d is = ap is_refusal is.1
-accepted-plain v (Branch branch pickup name) d is = ap is_refusal is.1
-accepted-plain v (Week branch week) d is = ap is_refusal is.1
-accepted-plain v (CloseDay branch day) d is = ap is_refusal is.1
-accepted-plain v (OpenDay branch day) d is = ap is_refusal is.1
-accepted-plain v (Kind kind loans holds debt) d is = ap is_refusal is.1
-accepted-plain v (Rule kind copy_kind period renewals rate cap) d is = ap is_refusal is.1
-accepted-plain v (Patron patron kind card_key name) d is = ap is_refusal is.1
-accepted-plain v (Acquire copy title kind home price text) d is = ap is_refusal is.1
-accepted-plain v (CheckOut patron copy branch) d is = ap is_refusal is.1
-accepted-plain v (CheckIn copy branch) d is = ap is_refusal is.1
-accepted-plain v (Renew loan) d is = ap is_refusal is.1
-accepted-plain v (PlaceHold patron title branch) d is = ap is_refusal is.1
-accepted-plain v (CancelHold hold) d is = ap is_refusal is.1
-accepted-plain v (Unshelve hold) d is = ap is_refusal is.1
-accepted-plain v (UnshelveCancelled hold) d is = ap is_refusal is.1
 accepted-plain v (Missing copy) d is = ap is_refusal is.1 ∙ lost-plain v.loan _ _
-accepted-plain v (Withdraw copy) d is = ap is_refusal is.1
-accepted-plain v (Pay patron amount) d is = ap is_refusal is.1
-accepted-plain v (Waive patron amount) d is = ap is_refusal is.1
-accepted-plain v (Page patron) d is = ap is_refusal is.1
+accepted-plain v _ d is = ap is_refusal is.1
 
 pub accepted-unrefused : (v : View) (c : Command) (d : Decision) (refusal : Refusal) → DecidesOn v c (Ok d) → d.reply ≡ Refused refusal → ⊥
 accepted-unrefused v c d refusal is refused =

@@ -2,6 +2,7 @@ pub mod Results
 pub mod Unchanged
 pub mod Accepted
 pub mod Looking
+pub mod Founds
 pub mod Settling
 pub mod Owning
 pub mod Leads
@@ -20,7 +21,6 @@ pub mod PageWhole
 pub mod ReportRows
 pub mod TillSums
 pub mod TillLines
-pub mod TillBound
 pub mod ReportLines
 pub mod ShelfLists
 pub mod ShelfRows

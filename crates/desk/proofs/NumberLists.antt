@@ -5,11 +5,11 @@ use Rattle.std.proofs.lemmas.Bool.{eq-eqb, or_cases, ltb-true, lt-ltb}
 use Rattle.std.proofs.lemmas.List.{length-append}
 use Rattle.std.proofs.lemmas.List.Elements.{filter-append}
 use Rattle.std.proofs.lemmas.List.Folds.{list_any-append}
-use Rattle.store.specs.Lists.{Rise}
+use Rattle.terms.specs.Orders.{Rise}
 use Rattle.circ_core.proofs.Counts.{any_filter-from}
 use Rattle.model.specs.History.{numbers_to}
 use Rattle.desk.specs.Parts.{above}
-use Rattle.desk.proofs.RowLists.{has, Rises, has-first, has-later, has-cases, all-above}
+use Rattle.desk.proofs.RowLists.{has, has-first, has-later, has-cases, below-each, each-below, all-above}
 
 -- ---- what is in a list
 
@@ -47,23 +47,23 @@ has-right xs ys k e = list_any-append (λ y. k == y) xs ys ∙ or-right (has k x
 
 -- ---- what rises
 
-pub rises-filter : (f : ℕ → Bool) (xs : List ℕ) → Rises xs → Rises (filter f xs)
+pub rises-filter : (f : ℕ → Bool) (xs : List ℕ) → Rise (λ (k : ℕ). k) xs → Rise (λ (k : ℕ). k) (filter f xs)
 rises-filter f [] up = tt
 rises-filter f (x ∷ xs) up = go (rises-filter f xs up.1) (f x)
   where
-    go : Rises (filter f xs) → (b : Bool) → Rises (cond b (x ∷ filter f xs) (filter f xs))
-    go ih true = (λ k e. up.0 k (has-filter f xs k e).0, ih)
+    go : Rise (λ (k : ℕ). k) (filter f xs) → (b : Bool) → Rise (λ (k : ℕ). k) (cond b (x ∷ filter f xs) (filter f xs))
+    go ih true = (each-below x (filter f xs) (λ k e. below-each x xs up.0 k (has-filter f xs k e).0), ih)
     go ih false = ih
 
-pub rises-append : (xs ys : List ℕ) → Rises xs → Rises ys → ((j k : ℕ) → has j xs ≡ true → has k ys ≡ true → j < k) → Rises (xs ++ ys)
+pub rises-append : (xs ys : List ℕ) → Rise (λ (k : ℕ). k) xs → Rise (λ (k : ℕ). k) ys → ((j k : ℕ) → has j xs ≡ true → has k ys ≡ true → j < k) → Rise (λ (k : ℕ). k) (xs ++ ys)
 rises-append [] ys up also below = also
 rises-append (x ∷ xs) ys up also below = (
-  λ k e. later k (has-either xs ys k e),
+  each-below x (xs ++ ys) (λ k e. later k (has-either xs ys k e)),
   rises-append xs ys up.1 also (λ j k in_xs in_ys. below j k (has-later j x xs in_xs) in_ys),
 )
   where
     later : (k : ℕ) → (has k xs ≡ true) ⊎ (has k ys ≡ true) → x < k
-    later k (inl e) = up.0 k e
+    later k (inl e) = below-each x xs up.0 k e
     later k (inr e) = below x k (has-first x xs) e
 
 -- ---- what is above a number

@@ -10,7 +10,8 @@ use Rattle.model.specs.History.{numbers_to}
 use Rattle.model.specs.Reports.{report_lines}
 use Rattle.desk.specs.Parts.{above, left_after, IsLast, IsPage, AreAllRows}
 use Rattle.desk.specs.declared.reporting.Told.{Told}
-use Rattle.desk.proofs.RowLists.{has, Rises, one-list, passing-below, passing-rises, rise-rises, contains-has, has-contains}
+use Rattle.terms.specs.Orders.{Rise}
+use Rattle.desk.proofs.RowLists.{has, one-list, passing-below, passing-rises, rise-rises, contains-has, has-contains}
 use Rattle.desk.proofs.NumberLists.{filter-has, has-either, has-left, has-right, rises-filter, rises-append, has-above, above-has, above-zero, last-is}
 use Rattle.desk.proofs.ReportLines.{report-more}
 
@@ -54,7 +55,7 @@ module _ {R : Type 0} (t : ℕ → Option R) (number_of : R → ℕ) (Passes : R
           | inr rest ↦ inr rest
         ]
 
-    rows-rise : Rises (map number_of rows)
+    rows-rise : Rise (λ (k : ℕ). k) (map number_of rows)
     rows-rise = rise-rises number_of rows page.rise
 
     pub page-splits : (last : Option ℕ) → IsLast number_of rows last → above after numbers ≡ map number_of rows ++ left_after last numbers

@@ -15,14 +15,15 @@ use Rattle.desk.specs.declared.reports.Report.{Report}
 use Rattle.desk.specs.declared.reports.Report.TheVariants.{Till}
 
 pub of-branch : {S T : Type 0} {g : Ghosts S} {old new : Held S} {a b : Option (List ℕ)} {r : Result T ReportFault} (report : Report) (text : History → List ℕ) (branch : ℕ)
-    → ((H : History) → HasBranch H branch → IsThere H report) → ((H : History) → text H ≡ report_text H report) → ((H : History) → (picture H).branches branch ≡ None → IsUnknown H report)
+    → ((H : History) → HasBranch H branch → IsThere H report) → ((H : History) → text H ≡ report_text H report) → ((H : History) → (picture H).branches branch ≡ None → IsUnknown H report) → ((day : ℕ) → report ≡ Till day → ⊥)
     → WritesReport text branch g old new a b r → WritesAnyReport report g old new a b r
-of-branch {T = T} {g = g} {old = old} {new = new} {a = a} {b = b} {r = r} report text branch there same unknown wrote = record {
+of-branch {T = T} {g = g} {old = old} {new = new} {a = a} {b = b} {r = r} report text branch there same unknown apart wrote = record {
   written = λ disk. go r (wrote.known disk) (wrote.written disk);
   refused = wrote.refused;
   unknown = λ disk refusal e H shows. let none = wrote.unknown disk refusal e H shows in (unknown H none.0, none.1);
   cut = front r wrote.cut;
   sound = wrote.sound;
+  stored = λ day is. absurd (apart day is);
   stays = λ disk e H shows. let was = wrote.stays disk e H shows in (there H was.0, was.1);
   looks = wrote.looks;
 }
@@ -43,6 +44,7 @@ of-day {T = T} {g = g} {old = old} {a = a} {b = b} {r = r} day wrote = record {
   unknown = λ disk refusal e. absurd (wrote.refused refusal e);
   cut = wrote.cut;
   sound = wrote.sound;
+  stored = λ _ _. wrote.stored;
   stays = λ disk e H shows. (tt, wrote.stays disk e H shows);
   looks = wrote.looks;
 }

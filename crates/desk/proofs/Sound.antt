@@ -4,7 +4,7 @@ use Rattle.std.specs.Prelude.{Some, is_some}
 use Rattle.terms.specs.declared.row.CopyRow.{CopyRow}
 use Rattle.terms.specs.declared.row.LoanRow.{LoanRow}
 use Rattle.terms.specs.declared.row.HoldRow.{HoldRow}
-use Rattle.store.specs.Reads.{IsSound}
+use Rattle.store.specs.Reads.{IsReadable}
 use Rattle.model.specs.History.{History}
 use Rattle.model.specs.Forms.{HasForms}
 use Rattle.model.specs.Picture.{picture}
@@ -23,8 +23,8 @@ use Rattle.model.specs.History.{HoldFacts, hold_of}
 use Rattle.model.specs.Places.{state, limit}
 use Rattle.model.specs.Picture.{hold_columns, if_ready}
 
-pub is-sound : (H : History) → IsLegal H → HasForms H → IsSound (picture H)
-is-sound H legal forms = (legal-rows H legal forms, closes-few H legal)
+pub is-readable : (H : History) → IsLegal H → HasForms H → IsReadable (picture H)
+is-readable H legal forms = (legal-rows H legal forms, closes-few H legal)
 
 module _ (H : History) (legal : IsLegal H) where
   pub copy-title : (c : ℕ) (r : CopyRow) → (picture H).copies c ≡ Some r → is_some ((picture H).titles r.title) ≡ true

@@ -1,34 +1,35 @@
 -- The lines of a day, page by page.
-use Rattle.std.proofs.Common.{◌≡◌, ℕ, suc, ◌≤◌, ◌<◌, ◌+◌, ◌-◌, ◌^◌, min, true, ◌⊎◌, inl, inr, List, [], ◌∷◌, ◌++◌, length, map, refl, sym, ◌∙◌, ap, subst, arith}
+use Rattle.std.proofs.Common.{◌≡◌, ℕ, suc, ◌≤◌, ◌<◌, ◌+◌, ◌-◌, ◌*◌, ◌^◌, min, true, ◌⊎◌, inl, inr, List, [], ◌∷◌, ◌++◌, length, map, refl, sym, ◌∙◌, ap, subst, arith}
 use Rattle.std.specs.Prelude.{Some, None}
 use Rattle.std.specs.List.{Contains, AllByRecursion}
 use Rattle.std.proofs.lemmas.Bool.{cases_lt}
 use Rattle.circ_tables.specs.declared.by_number.TheConstants.{PAGE_ROWS}
-use Rattle.store.specs.Lists.{Rise, AreRows}
+use Rattle.store.specs.Lists.{AreRows}
+use Rattle.terms.specs.Orders.{Rise}
 use Rattle.store.specs.Pages.{AreLinesAfter}
 use Rattle.terms.specs.Limits.{InLimits}
+use Rattle.terms.specs.declared.limits.TheConstants.{LAST_NUMBER}
 use Rattle.terms.specs.Pictures.{Picture}
 use Rattle.terms.specs.declared.row.LineRow.{LineRow}
 use Rattle.terms.specs.declared.row.Sort.{Sort}
 use Rattle.terms.specs.declared.row.Sort.TheVariants.{Fine, Price, Payment, Waiver}
 use Rattle.model.specs.History.{History}
 use Rattle.model.specs.Picture.{picture}
-use Rattle.model.specs.Reports.{till_sum}
-use Rattle.model.specs.Requests.{IsLegal}
-use Rattle.model.proofs.RowRanges.{legal-rows}
 use Rattle.desk.specs.Parts.{IsLast}
-use Rattle.desk.specs.Reporting.{rows_sum, capped_sum, capped_sums, day_sums, AreBelow}
+use Rattle.desk.specs.Reporting.{rows_sum, capped_sum, capped_sums, day_sums, AreLinesOf, AreSumsOf, IsTillText, till_words}
 use Rattle.desk.specs.declared.till.Sums.{Sums}
-use Rattle.std.specs.Prelude.{Result, Ok, Err, IfOk, OnErr}
+use Rattle.std.specs.Prelude.{Result}
 use Rattle.store.specs.Library.{Ghosts, Held}
 use Rattle.terms.specs.declared.fault.Fault.{Fault}
-use Rattle.desk.specs.Answering.{Learns, LearnsIf}
-use Rattle.desk.proofs.Looking.{gives, never-fails}
+use Rattle.model.specs.Reports.{till}
+use Rattle.model.proofs.RowRanges.{legal-rows}
+use Rattle.desk.specs.Answering.{Learns}
+use Rattle.desk.proofs.Founds.{Found}
+use Rattle.desk.proofs.Looking.{looked, learns-on}
 use Rattle.desk.proofs.NumberLists.{last-is}
 use Rattle.desk.proofs.RowLists.{has, contains-has, has-contains}
-use Rattle.desk.proofs.TillBound.{till-below}
-use Rattle.desk.proofs.TillLines.{AreLinesOf, in-cases, in-none, till-sum}
-use Rattle.desk.proofs.TillSums.{sum-append}
+use Rattle.desk.proofs.TillLines.{in-cases, in-none, above-first, till-sum}
+use Rattle.desk.proofs.TillSums.{sum-append, sum-cons}
 
 -- ---- rows after rows
 
@@ -160,14 +161,14 @@ pub record AreSumsTo (P : Picture) (d after : ℕ) (sums : Sums) (pages : ℕ) :
   pub few : pages ≤ after
 
 -- Sums that stay at the largest number, added one after another.
-pub capped-then : (s : Sort) (before rows : List LineRow) (sum : ℕ) → sum ≡ capped_sum s before → min (sum + rows_sum s rows) (2 ^ 64 - 1) ≡ capped_sum s (before ++ rows)
+pub capped-then : (s : Sort) (before rows : List LineRow) (sum : ℕ) → sum ≡ capped_sum s before → min (sum + rows_sum s rows) (2 ^ 128 - 1) ≡ capped_sum s (before ++ rows)
 capped-then s before rows sum is =
     let all : rows_sum s (before ++ rows) ≡ rows_sum s before + rows_sum s rows = sum-append s before rows in
     omega (arith, is, all)
 
 -- What the sums of a page add.
-pub sums-then : (before rows : List LineRow) (sums : Sums) → sums ≡ capped_sums before → (f p q w : ℕ) → f ≡ min (sums.fines + rows_sum Fine rows) (2 ^ 64 - 1) → p ≡ min (sums.prices + rows_sum Price rows) (2 ^ 64 - 1)
-    → q ≡ min (sums.payments + rows_sum Payment rows) (2 ^ 64 - 1) → w ≡ min (sums.waivers + rows_sum Waiver rows) (2 ^ 64 - 1)
+pub sums-then : (before rows : List LineRow) (sums : Sums) → sums ≡ capped_sums before → (f p q w : ℕ) → f ≡ min (sums.fines + rows_sum Fine rows) (2 ^ 128 - 1) → p ≡ min (sums.prices + rows_sum Price rows) (2 ^ 128 - 1)
+    → q ≡ min (sums.payments + rows_sum Payment rows) (2 ^ 128 - 1) → w ≡ min (sums.waivers + rows_sum Waiver rows) (2 ^ 128 - 1)
     → record { fines = f; prices = p; payments = q; waivers = w } ≡ capped_sums (before ++ rows)
 sums-then before rows sums is f p q w one two three four = λ i. record {
   fines = (one ∙ capped-then Fine before rows sums.fines (ap (λ (x : Sums). x.fines) is)) i;
@@ -176,19 +177,48 @@ sums-then before rows sums is f p q w one two three four = λ i. record {
   waivers = (four ∙ capped-then Waiver before rows sums.waivers (ap (λ (x : Sums). x.waivers) is)) i;
 }
 
--- The sums of all lines of a day are those of the history, and none is the largest number.
-module _ (H : History) (legal : IsLegal H) (d : ℕ) (rows : List LineRow) (all : AreLinesOf (picture H) d rows) where
-  one-sum : (s : Sort) → capped_sum s rows ≡ till_sum H d s
-  one-sum s = let sum : rows_sum s rows ≡ till_sum H d s = till-sum H d rows all s in let low : till_sum H d s < 2 ^ 64 - 1 = till-below H legal d s in omega (arith, sum, low)
+-- ---- no sum is too large
 
-  pub sums-are-days : capped_sums rows ≡ day_sums H d
-  sums-are-days = λ i. record { fines = one-sum Fine i; prices = one-sum Price i; payments = one-sum Payment i; waivers = one-sum Waiver i }
+-- Rows of rising numbers above one, each of less than 2^52 cents, have less than that for each number.
+few-cents : (s : Sort) (low high : ℕ) (rows : List LineRow) → low ≤ high → Rise (λ r. r.line) rows → ((r : LineRow) → Contains rows r → (low < r.line) × (r.line ≤ high) × (r.amount ≤ 4503599627370495))
+    → rows_sum s rows + low * 4503599627370495 ≤ high * 4503599627370495
+few-cents s low high [] le up within = let none : rows_sum s [] ≡ 0 = refl in omega (arith, le, none)
+few-cents s low high (x ∷ rows) le up within =
+    let first = within x (contains-first x rows) in
+    let on : low < x.line = first.0 in
+    let up_to : x.line ≤ high = first.1 in
+    let cents : x.amount ≤ 4503599627370495 = first.2 in
+    let rest : rows_sum s rows + x.line * 4503599627370495 ≤ high * 4503599627370495 =
+    few-cents s x.line high rows up_to up.1 (λ r at. let it = within r (contains-later x r rows at) in (above-first (λ (q : LineRow). q.line) x rows up.0 r at, it.1, it.2)) in
+    omega (arith, on, cents, rest, sum-cons s x rows)
 
-  pub sums-are-below : (sums : Sums) → sums ≡ capped_sums rows → AreBelow sums
-  sums-are-below sums is = subst AreBelow (sym (is ∙ sums-are-days)) (till-below H legal d Fine, till-below H legal d Price, till-below H legal d Payment, till-below H legal d Waiver)
+-- The sums of all lines of a day are those of the picture: 2^32 lines of 2^52 cents stay far below 2^128.
+pub sums-of : (P : Picture) (d : ℕ) → InLimits P → (rows : List LineRow) → AreLinesOf P d rows → (sums : Sums) → sums ≡ capped_sums rows → AreSumsOf P d sums
+sums-of P d legal rows all sums is = record {
+  rows = rows;
+  all = all;
+  fines = exact Fine sums.fines (ap (λ (x : Sums). x.fines) is);
+  prices = exact Price sums.prices (ap (λ (x : Sums). x.prices) is);
+  payments = exact Payment sums.payments (ap (λ (x : Sums). x.payments) is);
+  waivers = exact Waiver sums.waivers (ap (λ (x : Sums). x.waivers) is);
+}
+  where
+    exact : (s : Sort) (n : ℕ) → n ≡ capped_sum s rows → n ≡ rows_sum s rows
+    exact s n same =
+        let few : rows_sum s rows + 0 * 4503599627370495 ≤ LAST_NUMBER * 4503599627370495 =
+        few-cents s 0 LAST_NUMBER rows (omega arith) all.rise (λ r at. let it = (legal.lines r.line r (all.sound r at).0).1 in let one : 1 ≤ r.line = it.0.0 in (omega (arith, one), it.0.1, it.3)) in
+        omega (arith, same, few)
 
--- The sums of all lines, once they were looked at.
-module _ {S : Type 0} {g : Ghosts S} {a b : Held S} {d : ℕ} {sums : Sums} (learnt : LearnsIf {A = Unit {0}} (λ H. InLimits (picture H)) (λ H _. (rows : List LineRow) × AreLinesOf (picture H) d rows × (sums ≡ capped_sums rows)) g a b (Ok tt)) where
-  pub checked : (r : Result Sums Fault) → IfOk r (λ same. (same ≡ sums) × AreBelow sums) → OnErr r (AreBelow sums → ⊥) → Learns (λ H x. x ≡ day_sums H d) g a b r
-  checked (Ok x) same over = gives learnt (λ H list _. legal-rows H list.0 list.1) (λ H legal _ is. same.0 ∙ is.2 ∙ sums-are-days H legal d is.0 is.1)
-  checked (Err e) same over = never-fails (Err e) refl learnt (λ H list _. legal-rows H list.0 list.1) (λ H list _ is. over (sums-are-below H list.0 d is.0 is.1 sums is.2))
+-- After a history they are its sums.
+pub days-sums : (H : History) (d : ℕ) (sums : Sums) → AreSumsOf (picture H) d sums → sums ≡ day_sums H d
+days-sums H d sums of = λ i. record {
+  fines = (of.fines ∙ till-sum H d of.rows of.all Fine) i;
+  prices = (of.prices ∙ till-sum H d of.rows of.all Price) i;
+  payments = (of.payments ∙ till-sum H d of.rows of.all Payment) i;
+  waivers = (of.waivers ∙ till-sum H d of.rows of.all Waiver) i;
+}
+
+-- What was found of the day's lines is the report of every history that the tables show.
+pub till-learnt : {S T : Type 0} {g : Ghosts S} {a b : Held S} {d : ℕ} {r : Result T Fault} (bytes : T → List ℕ) → Found (λ P text. IsTillText P d (bytes text)) g a b r → Learns (λ H text. bytes text ≡ till H d) g a b r
+till-learnt {d = d} bytes found =
+    learns-on (looked found legal-rows legal-rows) (λ _ _ _. tt) (λ H legal _ text is. is.2 ∙ ap (till_words d) (days-sums H d is.0 is.1))

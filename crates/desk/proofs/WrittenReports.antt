@@ -5,7 +5,11 @@ use Rattle.std.specs.Result.{IsErr, IsErrAnd}
 use Rattle.std.specs.Io.KnownBytes.{Appends}
 use Rattle.std.proofs.KnownBytes.{Appends-nil, Keeps-refl}
 use Rattle.store.specs.Library.{Ghosts, Held, state, HasCleanDisk}
+use Rattle.terms.specs.Limits.{InLimits}
+use Rattle.terms.specs.Pictures.{Picture}
+use Rattle.circ_tables.specs.Encoding.{HasPicture}
 use Rattle.terms.specs.declared.fault.Fault.{Fault}
+use Rattle.terms.specs.declared.fault.Fault.TheVariants.{Stored}
 use Rattle.terms.specs.declared.refusal.Refusal.TheVariants.{UnknownBranch}
 use Rattle.model.specs.History.{History}
 use Rattle.model.specs.Picture.{picture}
@@ -14,7 +18,8 @@ use Rattle.desk.specs.Answering.{Shows, Learns}
 use Rattle.desk.specs.Parts.{IsAny, IsFront, WritesText}
 use Rattle.desk.specs.Written.{HasBranch, SendsFront, WritesReport, WritesTill}
 use Rattle.desk.specs.declared.reporting.ReportFault.{ReportFault}
-use Rattle.desk.specs.declared.reporting.ReportFault.TheVariants.{Refused, Faulted}
+use Rattle.desk.specs.declared.reporting.ReportFault.TheVariants.{Refused, Faulted, NotWritten}
+use Rattle.desk.proofs.Founds.{Found}
 use Rattle.desk.proofs.Looking.{IsAnyList}
 use Rattle.desk.proofs.Parts.{nothing-front, fault-part, learnt-part, then-part, looks-so}
 
@@ -56,12 +61,14 @@ module _ {S T : Type 0} {g : Ghosts S} {o n : Held S} {a b : Option (List ℕ)} 
   }
 
   -- The till report.
-  pub till-of : {day : ℕ} → ((H : History) → text H ≡ till H day) → WritesTill day g o n a b r
-  till-of {day} same = record {
+  pub till-of : {day : ℕ} → ((H : History) → text H ≡ till H day) → (HasCleanDisk (state g n) → r ≡ Err (Faulted Stored) → (P : Picture) → HasPicture (state g o).now P → InLimits P → ⊥)
+      → WritesTill day g o n a b r
+  till-of {day} same stored = record {
     written = λ disk. same_out (out disk);
     refused = part.refused;
     cut = same_front front;
     sound = λ disk e H shows. part.sound disk e H shows tt;
+    stored = stored;
     stays = λ disk e H shows. part.stays disk e H shows;
     looks = part.looks;
   }
@@ -120,3 +127,19 @@ module _ {S A : Type 0} {g : Ghosts S} {o m : Held S} {Is : History → A → Ty
         stays = λ disk q. let never : ⊥ = cc in absurd never;
         looks = part.looks;
       }
+
+-- ---- when a till report is told as damaged
+
+-- The fault of a read is the read's.
+pub stored-read : {S A T : Type 0} {g : Ghosts S} {o n : Held S} {Is : Picture → A → Type 0} {fault : Fault} (r : Result T ReportFault) → IsErr r × IsErrAnd r (λ e. e ≡ Faulted fault) → Found Is g o n (Err fault)
+    → HasCleanDisk (state g n) → r ≡ Err (Faulted Stored) → (P : Picture) → HasPicture (state g o).now P → InLimits P → ⊥
+stored-read (Ok x) is read = λ disk told. let never : ⊥ = cc (is.0) in absurd never
+stored-read {fault = fault} (Err e) is read = λ disk told.
+    let same : e ≡ Faulted fault = is.1 in
+    let stored : Err fault ≡ Err Stored = cc in
+    read.sound disk stored
+
+-- A write that failed is no damage.
+pub stored-unwritten : {T : Type 0} (r : Result T ReportFault) → IsErr r × IsErrAnd r (λ e. e ≡ NotWritten) → r ≡ Err (Faulted Stored) → ⊥
+stored-unwritten (Ok x) is told = let never : ⊥ = cc (is.0) in never
+stored-unwritten (Err e) is told = let same : e ≡ NotWritten = is.1 in let never : ⊥ = cc in never

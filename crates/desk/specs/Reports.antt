@@ -2,6 +2,9 @@
 use Rattle.std.specs.Prelude.{◌≡◌, ℕ, List, Option, None, Result, Err, OnOk, OnErr}
 use Rattle.std.specs.Io.KnownBytes.{Appends, Keeps}
 use Rattle.store.specs.Library.{Ghosts, Held, state, IsClean}
+use Rattle.circ_tables.specs.Encoding.{HasPicture}
+use Rattle.terms.specs.Limits.{InLimits}
+use Rattle.terms.specs.Pictures.{Picture}
 use Rattle.terms.specs.declared.fault.Fault.TheVariants.{Stored}
 use Rattle.terms.specs.declared.refusal.Refusal.{Refusal}
 use Rattle.terms.specs.declared.refusal.Refusal.TheVariants.{UnknownBranch}
@@ -53,6 +56,9 @@ pub record WritesAnyReport {S T : Type 0} (report : Report)
   -- fault 93 doesn't come where the tables show a list of accepted requests
   pub sound : IsClean g new → result ≡ Err (Faulted Stored) → (H : History) → Shows (state g old) H
       → ⊥
+  -- that of a till report comes only where a row lies out of its limits, whatever rows the tables have
+  pub stored : (day : ℕ) → report ≡ Till day → IsClean g new → result ≡ Err (Faulted Stored)
+      → (P : Picture) → HasPicture (state g old).now P → InLimits P → ⊥
   -- where a write failed, the report is there, and the tables show what they showed
   pub stays : IsClean g new → result ≡ Err NotWritten → (H : History) → Shows (state g old) H
       → IsThere H report × Shows (state g new) H

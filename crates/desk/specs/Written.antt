@@ -2,6 +2,9 @@
 use Rattle.std.specs.Prelude.{◌≡◌, ℕ, List, Option, Some, None, Err, Result, OnOk, OnErr}
 use Rattle.std.specs.Io.KnownBytes.{Appends, Keeps}
 use Rattle.store.specs.Library.{Ghosts, Held, state, IsClean}
+use Rattle.circ_tables.specs.Encoding.{HasPicture}
+use Rattle.terms.specs.Limits.{InLimits}
+use Rattle.terms.specs.Pictures.{Picture}
 use Rattle.terms.specs.declared.fault.Fault.TheVariants.{Stored}
 use Rattle.terms.specs.declared.refusal.Refusal.{Refusal}
 use Rattle.terms.specs.declared.refusal.Refusal.TheVariants.{UnknownBranch}
@@ -69,6 +72,10 @@ pub record WritesTill {S T : Type 0} (day : ℕ)
   -- fault 93 doesn't come where the tables show a list of accepted requests
   pub sound : IsClean g new → result ≡ Err (Faulted Stored) → (H : History) → Shows (state g old) H
       → ⊥
+  -- it doesn't come but where a row lies out of its limits, whatever rows the tables have: no sum of
+  -- lines is too large to be told
+  pub stored : IsClean g new → result ≡ Err (Faulted Stored) → (P : Picture)
+      → HasPicture (state g old).now P → InLimits P → ⊥
   -- where a write failed, the tables show what they showed
   pub stays : IsClean g new → result ≡ Err NotWritten → (H : History) → Shows (state g old) H
       → Shows (state g new) H

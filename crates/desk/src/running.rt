@@ -130,7 +130,7 @@ impl<S: Alter> Desk<S> {
 
     /// Writes the till report of a day: the sums of its fines, prices, payments and waivers, in
     /// cents. It is never refused. 90, 91, or a write failed, and then a beginning of it may have
-    /// gone out; 93 doesn't come where the tables show a list of accepted requests.
+    /// gone out; 93 comes only where a row lies out of its limits.
     pub fn till<W: Write>(
         &mut self,
         alloc: Global,

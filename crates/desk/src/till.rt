@@ -1,13 +1,14 @@
 //! The till report of a day.
 
-ghost use Rattle.std.specs.Prelude.{◌≡◌, ◌++◌, ◌^◌, ◌-◌, ◌+◌, cond, min, List, IfOk, OnErr};
+ghost use Rattle.std.specs.Prelude.{◌≡◌, ◌++◌, ◌^◌, ◌-◌, ◌+◌, cond, min, List, IfOk};
 ghost use Rattle.std.specs.Prelude.{string_bytes};
 ghost use Rattle.terms.specs.declared.row.LineRow.{LineRow as AnyLine};
-ghost use Rattle.model.specs.Reports.{is_sort, till as till_of};
-ghost use Rattle.desk.specs.Answering.{Learns};
+ghost use Rattle.terms.specs.Limits.{InLimits};
+ghost use Rattle.store.specs.Reads.{Looked};
+ghost use Rattle.model.specs.Reports.{is_sort};
 ghost use Rattle.desk.specs.Parts.{IsLast};
 ghost use Rattle.desk.specs.Written.{WritesTill};
-ghost use Rattle.desk.specs.Reporting.{rows_sum, capped_sums, day_sums, AreBelow, till_words};
+ghost use Rattle.desk.specs.Reporting.{rows_sum, capped_sums, AreSumsOf, till_words, IsTillText};
 
 use crate::reporting::ReportFault;
 use sqlite::Alter;
@@ -16,30 +17,30 @@ use std::io::Write;
 use store::{PAGE_ROWS, Store};
 use terms::{Day, Fault, LineId, LineRow, Memory, Sort, write_bytes};
 
-/// The sums of a day's lines, by their sorts, in cents. A sum that would be above the largest
-/// number stays there.
+/// The sums of a day's lines, by their sorts, in cents. There are fewer than 2^32 lines, of less
+/// than 2^52 cents each, so no sum comes near 2^128.
 #[derive(Clone, Copy, Debug, PartialEq, Eq)]
 struct Sums {
-    fines: u64,
-    prices: u64,
-    payments: u64,
-    waivers: u64,
+    fines: u128,
+    prices: u128,
+    payments: u128,
+    waivers: u128,
 }
 
 /// The amount of a line of the sort; of another's nothing.
-fn amount_of(row: &LineRow, sort: Sort) -> u64
+fn amount_of(row: &LineRow, sort: Sort) -> u128
     ensures { result ≡ cond (is_sort row.now.sort sort) row.now.amount 0 }
 {
     if row.sort == sort {
-        row.amount.number()
+        u128::from(row.amount.number())
     } else {
         0
     }
 }
 
 /// The sum, with the lines of one sort added to it.
-fn added(sum: u64, rows: &[LineRow], sort: Sort) -> u64
-    ensures { result ≡ min (sum + rows_sum sort rows.now) (2 ^ 64 - 1) }
+fn added(sum: u128, rows: &[LineRow], sort: Sort) -> u128
+    ensures { result ≡ min (sum + rows_sum sort rows.now) (2 ^ 128 - 1) }
 {
     let mut total = sum;
     'rows: for row in rows {
@@ -74,27 +75,11 @@ fn last_line(rows: &[LineRow]) -> Option<u32>
     }
 }
 
-/// The sums, as far as none of them is the largest number: 93 where one is, which no history leads
-/// to.
-fn check_sums(sums: Sums) -> Result<Sums, Fault>
-    ensures same { IfOk result (λ same. (same ≡ sums) × AreBelow sums) }
-    ensures over { OnErr result (AreBelow sums → ⊥) }
-{
-    if sums.fines < u64::MAX
-        && sums.prices < u64::MAX
-        && sums.payments < u64::MAX
-        && sums.waivers < u64::MAX
-    {
-        Ok(sums)
-    } else {
-        Err(Fault::Stored)
-    }
-}
-
-/// The sums of a day's lines, which are read page by page. 90, 91; 93, which never comes where the
-/// tables show a history.
+/// The sums of a day's lines, which are read page by page. 90, 91; 93, which never comes where all
+/// rows lie in their limits.
 fn sum_day<S: Alter>(store: &mut Store<S>, alloc: Global, day: Day) -> Result<Sums, Fault>
-    ensures { Learns (λ H sums. sums ≡ day_sums H day) S.Store store.old store.new result }
+    ensures { Looked InLimits (λ P sums. AreSumsOf P day sums) InLimits
+        S.Store store.old store.new result }
 {
     let mut sums = Sums {
         fines: 0,
@@ -109,7 +94,7 @@ fn sum_day<S: Alter>(store: &mut Store<S>, alloc: Global, day: Day) -> Result<Su
         sums = add_lines(sums, page);
         match last_line(page) {
             Some(last) => after = LineId::new(last),
-            None => return check_sums(sums),
+            None => return Ok(sums),
         }
     }
     Err(Fault::Stored)
@@ -131,9 +116,9 @@ fn till_lines(alloc: Global, day: Day, sums: Sums) -> Result<String, Memory>
     )
 }
 
-/// The till report of a day. 90, 91; 93, which never comes where the tables show a history.
+/// The till report of a day. 90, 91; 93, which never comes where all rows lie in their limits.
 fn till_text<S: Alter>(store: &mut Store<S>, alloc: Global, day: Day) -> Result<String, Fault>
-    ensures { Learns (λ H text. string_bytes text ≡ till_of H day)
+    ensures { Looked InLimits (λ P text. IsTillText P day (string_bytes text)) InLimits
         S.Store store.old store.new result }
 {
     let sums = sum_day(store, alloc, day)?;

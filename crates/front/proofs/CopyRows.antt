@@ -9,6 +9,7 @@ use Rattle.std.proofs.lemmas.Bool.{cases_lt}
 use Rattle.csv.specs.Records.{field_at}
 use Rattle.terms.specs.Forms.{IsName, is_name}
 use Rattle.terms.specs.Commands.{texts}
+use Rattle.terms.specs.Laws.{IsAmount}
 use Rattle.front.specs.Copies.{Fields, IsRow, IsNoRow, row_fields}
 use Rattle.front.specs.CopyReading.{HasNumbers}
 use Rattle.front.specs.declared.copies.CopyRow.{CopyRow}
@@ -94,7 +95,7 @@ row_is : (fields : Fields) (row : CopyRow) (text : List ℕ) → length fields �
 row_is fields row text long closed there good same numbers =
     let name : IsName row.text = subst IsName (sym same) good in
     let found : field_at fields 2 ≡ Some row.text = there ∙ ap Some (sym same) in
-    let price : row.price < 2 ^ 64 = let p = numbers.price.0 in omega (arith, p) in (
+    let price : IsAmount row.price = let p = numbers.price.0 in omega (arith, p) in (
       ((numbers.copy.0, (numbers.title.0, (numbers.kind.0, (numbers.home.0, (price, (name, tt)))))), (tt, (tt, (tt, (tt, (numbers.price.0, (tt, tt))))))),
       seven fields _ _ _ _ _ _ _ long numbers.copy.1 numbers.title.1 found numbers.kind.1 numbers.home.1 numbers.price.1 closed,
     )

@@ -1,6 +1,6 @@
 -- What the command line of the desk makes of the words of a command.
 use Rattle.std.proofs.Common.{◌≡◌, ◌∙◌, ◌&&◌, ℕ, Bool, true, false, refl, sym, subst, ap, ap₂, List, [], ◌∷◌, ◌++◌, ◌<◌, map, length, drop, get_or, zero, suc, arith, Option, Some, None}
-use Rattle.std.specs.Prelude.{find, fold, codes, option_map}
+use Rattle.std.specs.Prelude.{find, fold, option_map}
 use Rattle.std.specs.List.{list_any}
 use Rattle.clap.proofs.OnLiterals.{clap_on_literals}
 use Rattle.clap.proofs.WalkLemmas.{walk_stopped, first_value-rows}
@@ -46,100 +46,13 @@ record IsMet (form : Form) : Type 0 where
   named : (leaf form).name ≡ form.0
   takes : Takes (leaf form) form.1
 
--- the commands of the table, by their places
-abbrev at : ℕ → Form
-at k = let form = get_or commands k ([], []) in (form.0, names_in form.1)
-
-met_0 : IsMet (at 0)
-unfolding clap_on_literals
-met_0 = record { walk = refl; passes = refl; found = refl; named = refl; takes = record { placed = (refl, refl, refl, tt); fits = refl } }
-
-met_1 : IsMet (at 1)
-unfolding clap_on_literals
-met_1 = record { walk = refl; passes = refl; found = refl; named = refl; takes = record { placed = (refl, refl, refl, (refl, refl, refl, (refl, refl, refl, tt))); fits = refl } }
-
-met_2 : IsMet (at 2)
-unfolding clap_on_literals
-met_2 = record { walk = refl; passes = refl; found = refl; named = refl; takes = record { placed = (refl, refl, refl, (refl, refl, refl, tt)); fits = refl } }
-
-met_3 : IsMet (at 3)
-unfolding clap_on_literals
-met_3 = record { walk = refl; passes = refl; found = refl; named = refl; takes = record { placed = (refl, refl, refl, (refl, refl, refl, tt)); fits = refl } }
-
-met_4 : IsMet (at 4)
-unfolding clap_on_literals
-met_4 = record { walk = refl; passes = refl; found = refl; named = refl; takes = record { placed = (refl, refl, refl, (refl, refl, refl, tt)); fits = refl } }
-
-met_5 : IsMet (at 5)
-unfolding clap_on_literals
-met_5 = record { walk = refl; passes = refl; found = refl; named = refl; takes = record { placed = (refl, refl, refl, (refl, refl, refl, (refl, refl, refl, (refl, refl, refl, tt)))); fits = refl } }
-
-met_6 : IsMet (at 6)
-unfolding clap_on_literals
-met_6 = record { walk = refl; passes = refl; found = refl; named = refl; takes = record { placed = (refl, refl, refl, (refl, refl, refl, (refl, refl, refl, (refl, refl, refl, (refl, refl, refl, (refl, refl, refl, tt)))))); fits = refl } }
-
-met_7 : IsMet (at 7)
-unfolding clap_on_literals
-met_7 = record { walk = refl; passes = refl; found = refl; named = refl; takes = record { placed = (refl, refl, refl, (refl, refl, refl, (refl, refl, refl, (refl, refl, refl, tt)))); fits = refl } }
-
-met_8 : IsMet (at 8)
-unfolding clap_on_literals
-met_8 = record { walk = refl; passes = refl; found = refl; named = refl; takes = record { placed = (refl, refl, refl, (refl, refl, refl, (refl, refl, refl, (refl, refl, refl, (refl, refl, refl, (refl, refl, refl, tt)))))); fits = refl } }
-
-met_9 : IsMet (at 9)
-unfolding clap_on_literals
-met_9 = record { walk = refl; passes = refl; found = refl; named = refl; takes = record { placed = (refl, refl, refl, (refl, refl, refl, (refl, refl, refl, tt))); fits = refl } }
-
-met_10 : IsMet (at 10)
-unfolding clap_on_literals
-met_10 = record { walk = refl; passes = refl; found = refl; named = refl; takes = record { placed = (refl, refl, refl, (refl, refl, refl, tt)); fits = refl } }
-
-met_11 : IsMet (at 11)
-unfolding clap_on_literals
-met_11 = record { walk = refl; passes = refl; found = refl; named = refl; takes = record { placed = (refl, refl, refl, tt); fits = refl } }
-
-met_12 : IsMet (at 12)
-unfolding clap_on_literals
-met_12 = record { walk = refl; passes = refl; found = refl; named = refl; takes = record { placed = (refl, refl, refl, (refl, refl, refl, (refl, refl, refl, tt))); fits = refl } }
-
-met_13 : IsMet (at 13)
-unfolding clap_on_literals
-met_13 = record { walk = refl; passes = refl; found = refl; named = refl; takes = record { placed = (refl, refl, refl, tt); fits = refl } }
-
-met_14 : IsMet (at 14)
-unfolding clap_on_literals
-met_14 = record { walk = refl; passes = refl; found = refl; named = refl; takes = record { placed = (refl, refl, refl, tt); fits = refl } }
-
-met_15 : IsMet (at 15)
-unfolding clap_on_literals
-met_15 = record { walk = refl; passes = refl; found = refl; named = refl; takes = record { placed = (refl, refl, refl, tt); fits = refl } }
-
-met_16 : IsMet (at 16)
-unfolding clap_on_literals
-met_16 = record { walk = refl; passes = refl; found = refl; named = refl; takes = record { placed = (refl, refl, refl, tt); fits = refl } }
-
-met_17 : IsMet (at 17)
-unfolding clap_on_literals
-met_17 = record { walk = refl; passes = refl; found = refl; named = refl; takes = record { placed = (refl, refl, refl, tt); fits = refl } }
-
-met_18 : IsMet (at 18)
-unfolding clap_on_literals
-met_18 = record { walk = refl; passes = refl; found = refl; named = refl; takes = record { placed = (refl, refl, refl, (refl, refl, refl, tt)); fits = refl } }
-
-met_19 : IsMet (at 19)
-unfolding clap_on_literals
-met_19 = record { walk = refl; passes = refl; found = refl; named = refl; takes = record { placed = (refl, refl, refl, (refl, refl, refl, tt)); fits = refl } }
-
-met_20 : IsMet (at 20)
-unfolding clap_on_literals
-met_20 = record { walk = refl; passes = refl; found = refl; named = refl; takes = record { placed = (refl, refl, refl, tt); fits = refl } }
-
 abbrev AreMet : List Line → Type 0
 AreMet [] = Unit {0}
 AreMet (form ∷ rest) = IsMet (form.0, names_in form.1) × AreMet rest
 
 are_met : AreMet commands
-are_met = (met_0, (met_1, (met_2, (met_3, (met_4, (met_5, (met_6, (met_7, (met_8, (met_9, (met_10, (met_11, (met_12, (met_13, (met_14, (met_15, (met_16, (met_17, (met_18, (met_19, (met_20, tt)))))))))))))))))))))
+unfolding clap_on_literals
+are_met = search
 
 pub is_simple_desk : is_simple desk ≡ true
 unfolding clap_on_literals

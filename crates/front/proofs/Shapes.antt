@@ -4,10 +4,9 @@ use Rattle.std.proofs.lemmas.List.{length-map}
 use Rattle.std.specs.Prelude.{String, string_bytes}
 use Rattle.std.specs.List.{list_any}
 use Rattle.clap.specs.Words.{Text}
-use Rattle.terms.specs.Texts.{Part, said, word_of, command_words}
+use Rattle.terms.specs.Texts.{said, word_of, command_words}
 use Rattle.terms.specs.Commands.{Column, CommandsAreListed, commands, kind_of, parts_in}
 use Rattle.terms.specs.declared.command.Command.{Command}
-use Rattle.terms.specs.declared.form.PartKind.{PartKind}
 use Rattle.front.specs.Line.{HasShape}
 use Rattle.front.specs.Understood.{IsUnderstoodAs, begins_with_hyphen, texts_of}
 

@@ -1,5 +1,5 @@
 -- What the loops over the table of commands keep.
-use Rattle.std.proofs.Common.{◌≡◌, ◌∙◌, ◌<◌, ◌≤◌, ◌+◌, ℕ, true, false, refl, ap, List, [], ◌∷◌, map, length, take, drop, get_or, zero, suc, Some, None, arith, add-one, drop-cons, drop_of_length-le}
+use Rattle.std.proofs.Common.{◌≡◌, ◌∙◌, ◌<◌, ◌≤◌, ◌+◌, ℕ, true, false, refl, ap, List, [], ◌∷◌, map, length, take, drop, get_or, add-one, drop-cons, drop_of_length-le}
 use Rattle.std.specs.Prelude.{fold, String, string_bytes}
 use Rattle.std.specs.List.{list_any}
 use Rattle.front.specs.Understood.{begins_with_hyphen, texts_of}

@@ -8,8 +8,8 @@ use Rattle.std.proofs.lemmas.Slice.Eq.{bytes_eq-Decides}
 use Rattle.calendar.specs.Days.{IsDayNumber}
 use Rattle.calendar.specs.Openings.{weekday}
 use Rattle.terms.specs.Forms.{IsKey}
-use Rattle.terms.specs.Laws.{IsNumber, IsRouted, IsKept}
-use Rattle.terms.specs.Limits.{IsLarge, IsGiven, IsSum, IsOwner}
+use Rattle.terms.specs.Laws.{IsAmount, IsNumber, IsRouted, IsKept}
+use Rattle.terms.specs.Limits.{IsLarge, IsGiven, IsOwner}
 use Rattle.terms.specs.Texts.{request_text}
 use Rattle.terms.specs.Pictures.{same_owner}
 use Rattle.terms.proofs.Utf8Lemmas.{request_text-IsUtf8}
@@ -72,7 +72,7 @@ due-in (e ∷ H) l r d is = go (sets_due H e.command l) (due-in H l r d) is
 -- ---- lines
 
 abbrev LineIn : Line → Type 0
-LineIn x = IsLarge x.patron × IsDayNumber x.day × IsSum x.amount × IfSome x.loan IsGiven
+LineIn x = IsLarge x.patron × IsDayNumber x.day × IsAmount x.amount × IfSome x.loan IsGiven
 
 abbrev AreIn : List Line → Type 0
 AreIn [] = Unit {0}
@@ -102,7 +102,7 @@ module _ (H : History) (legal : IsLegal H) (forms : HasForms H) where
   whole : HasWholeWeeks H
   whole = forms-whole H forms
 
-  line-in : (p : ℕ) (s : Sort) (loan : Option ℕ) (n : ℕ) → IsLarge p → IsSum n → IfSome loan IsGiven → AreIn (line_of H p s loan n)
+  line-in : (p : ℕ) (s : Sort) (loan : Option ℕ) (n : ℕ) → IsLarge p → IsAmount n → IfSome loan IsGiven → AreIn (line_of H p s loan n)
   line-in p s loan zero a b c = tt
   line-in p s loan (suc n) a b c = ((a, today-in H inv settings, b, c), tt)
 
@@ -131,7 +131,7 @@ module _ (H : History) (legal : IsLegal H) (forms : HasForms H) where
   price-in c _ at = tt
 
   -- What is paid or waived is at most what is owed, and the patron is there.
-  paid-in : (o : Owner) (p n : ℕ) → not (is_some (patron_of H p)) ≡ false → is_bad_amount H p n ≡ false → IsLarge p × IsSum n
+  paid-in : (o : Owner) (p n : ℕ) → not (is_some (patron_of H p)) ≡ false → is_bad_amount H p n ≡ false → IsLarge p × IsAmount n
   paid-in o p n has good =
       let patron = there (patron_of H p) (not-false _ has) in
       let low : n ≤ owed H p = ltb-false _ _ (or_parts (n == 0) (nat_lt (owed H p) n) good).1 in

@@ -1,5 +1,5 @@
 -- A legal history agrees with the one before its last event on each patron whose own rows its picture keeps.
-use Rattle.std.proofs.Common.{◌≡◌, ℕ, zero, suc, ◌+◌, ◌-◌, ◌≤◌, ◌==◌, Bool, true, false, cond, ◌&&◌, ◌||◌, List, [], ◌∷◌, ◌++◌, refl, sym, ◌∙◌, ap, arith}
+use Rattle.std.proofs.Common.{◌≡◌, ℕ, suc, ◌+◌, ◌-◌, ◌≤◌, ◌==◌, Bool, true, false, cond, ◌&&◌, ◌||◌, List, [], ◌∷◌, ◌++◌, refl, sym, ◌∙◌, ap, arith}
 use Rattle.std.specs.Prelude.{Option, Some, None, option_map, unwrap_or, is_some, is_none, filter}
 use Rattle.std.specs.Option.{option_or}
 use Rattle.std.specs.List.{list_any}
@@ -8,14 +8,13 @@ use Rattle.std.proofs.lemmas.List.{append-nil}
 use Rattle.std.proofs.lemmas.List.Elements.{filter-append, filter_agree}
 use Rattle.terms.specs.declared.command.Command.{Command}
 use Rattle.terms.specs.declared.command.Command.TheVariants.{Patron, Acquire, CheckOut}
-use Rattle.terms.specs.declared.row.PatronRow.{PatronRow}
 use Rattle.terms.specs.declared.row.HoldState.{HoldState}
 use Rattle.model.specs.History.{Event, History, numbers_to, PatronFacts, patron_of, patron_after, title_of, title_after, CopyFacts, copy_of, copy_after, loans, loans_after, next_loan, HoldFacts, hold_made, hold_of, hold_after, holds, holds_after, next_hold, today}
 use Rattle.model.specs.Places.{state, is_waiting, is_ready, title_of_copy, title_of_hold}
 use Rattle.model.specs.Loans.{LoanFacts, loan_of, loan_after, terms_for, no_terms, ended, due, renewals_left, open_loans, title_of_loan}
-use Rattle.model.specs.Accounts.{account, charges, credits, owed}
+use Rattle.model.specs.Accounts.{charges, credits, owed}
 use Rattle.model.specs.Refusals.{active_holds}
-use Rattle.model.specs.Picture.{picture, patron_columns, title_row, copy_columns, loan_columns, hold_columns, hold_row}
+use Rattle.model.specs.Picture.{picture, patron_columns, copy_columns, loan_columns, hold_columns, hold_row}
 use Rattle.model.specs.Invariant.{Invariant}
 use Rattle.model.specs.References.{HasReferences}
 use Rattle.model.specs.Requests.{IsLegal}

@@ -1,5 +1,5 @@
 -- A command that makes a hold: what it passed, and that it does nothing else.
-use Rattle.std.proofs.Common.{◌≡◌, ℕ, Bool, true, false, List, not, refl, subst}
+use Rattle.std.proofs.Common.{◌≡◌, ℕ, false, not, refl, subst}
 use Rattle.std.specs.Prelude.{Option, Some, None, is_none, nat_le}
 use Rattle.terms.specs.declared.limits.TheConstants.{LAST_NUMBER}
 use Rattle.terms.specs.declared.command.Owner.{Owner}

@@ -51,6 +51,40 @@ nth_line (x ∷ xs) (suc (suc n)) = nth_line xs (suc n)
 abbrev pub if_ready : {A : Type 0} → Option HoldState → Option A → Option A
 if_ready s x = elim (is_ready s) [ true ↦ x | false ↦ None ]
 
+-- The columns of a loan, by what it was made with, its due day, the renewals that are left, and its end.
+abbrev pub loan_with : ℕ → ℕ → ℕ → Option ℕ → LoanFacts → LoanRow
+loan_with l until left end r =
+    record {
+      loan = l;
+      copy = r.copy;
+      patron = r.patron;
+      branch = r.branch;
+      made = r.made;
+      due = until;
+      period = r.terms.period;
+      renewals_left = left;
+      rate = r.terms.rate;
+      cap = r.terms.cap;
+      ended = end;
+    }
+
+-- The columns of a hold, by its state, the copy and the limit that it has while it is ready, and what was asked for.
+abbrev pub hold_with : ℕ → HoldState → Option ℕ → Option ℕ → HoldFacts → HoldRow
+hold_with h s kept until r =
+    record {
+      hold = h;
+      patron = r.patron;
+      title = r.title;
+      branch = r.branch;
+      state = s;
+      copy = if_ready (Some s) kept;
+      limit_day = if_ready (Some s) until;
+    }
+
+-- The row of a hold, which there is where the hold has a state.
+abbrev pub hold_by : ℕ → Option HoldFacts → Option HoldState → Option ℕ → Option ℕ → Option HoldRow
+hold_by h facts state kept until = option_and_then (λ s. option_map (hold_with h s kept until) facts) state
+
 module _ (H : History) where
   -- The one row of `meta`: the schema, today and the next numbers.
   abbrev pub meta_row : MetaRow
@@ -106,20 +140,7 @@ module _ (H : History) where
 
   -- The columns of a loan.
   abbrev pub loan_columns : ℕ → LoanFacts → LoanRow
-  loan_columns l r =
-      record {
-        loan = l;
-        copy = r.copy;
-        patron = r.patron;
-        branch = r.branch;
-        made = r.made;
-        due = due H l;
-        period = r.terms.period;
-        renewals_left = renewals_left H l;
-        rate = r.terms.rate;
-        cap = r.terms.cap;
-        ended = ended H l;
-      }
+  loan_columns l r = loan_with l (due H l) (renewals_left H l) (ended H l) r
 
   -- The row of a loan.
   abbrev pub loan_row : ℕ → Option LoanRow
@@ -127,20 +148,11 @@ module _ (H : History) where
 
   -- The columns of a hold.
   abbrev pub hold_columns : ℕ → HoldState → HoldFacts → HoldRow
-  hold_columns h s r =
-      record {
-        hold = h;
-        patron = r.patron;
-        title = r.title;
-        branch = r.branch;
-        state = s;
-        copy = if_ready (Some s) (kept_for H h);
-        limit_day = if_ready (Some s) (limit H h);
-      }
+  hold_columns h s r = hold_with h s (kept_for H h) (limit H h) r
 
   -- The row of a hold.
   abbrev pub hold_row : ℕ → Option HoldRow
-  hold_row h = option_and_then (λ s. option_map (hold_columns h s) (hold_of H h)) (state H h)
+  hold_row h = hold_by h (hold_of H h) (state H h) (kept_for H h) (limit H h)
 
   -- The transit row of a copy.
   abbrev pub transit_row : ℕ → Option TransitRow

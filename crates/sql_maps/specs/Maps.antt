@@ -1,5 +1,5 @@
 -- A table of a database as a map from its key to its row.
-use Rattle.std.specs.Prelude.{◌≡◌, ◌≢◌, ◌⊎◌, ℕ, ℤ, List, [], ◌∷◌, length, map, Bool, true, false, None, Some, Option, bytes_eq, ◌&&◌, ◌==◌, if◌then◌else◌, slice_get, IsTrue}
+use Rattle.std.specs.Prelude.{◌≡◌, ◌≢◌, ◌⊎◌, ◌≤◌, ℕ, ℤ, List, [], ◌∷◌, length, map, Bool, true, false, None, Some, Option, bytes_eq, ◌&&◌, ◌==◌, if◌then◌else◌, slice_get, IsTrue}
 use Rattle.std.specs.List.{list_all, range_with_len}
 use Rattle.std.specs.Ordering.{int_eq, ordering_then}
 use Rattle.std.specs.declared.cmp.Ordering.TheVariants.{Less}
@@ -78,6 +78,10 @@ take_at maps at k i j = if i == at then take_out (maps at) k j else maps i j
 abbrev pub no_maps : Maps
 no_maps i j = None
 
+-- no table has one from this place on
+abbrev pub IsFreeFrom : ℕ → Maps → Type 0
+IsFreeFrom place maps = (at : ℕ) → place ≤ at → (k : Row) → maps at k ≡ None
+
 -- the database is sound and has this schema, and its tables hold the maps
 pub record Holds (schema : Schema) (db : Database) (maps : Maps) : Type 0 where
   pub sound : IsDatabase db
@@ -90,9 +94,9 @@ pub record Steps (schema : Schema) (old new : State) (change : Maps → Maps) : 
   pub is_inside : IsTrue new.in_transaction
   pub committed : new.committed ≡ old.committed
 
--- the same where the schema changes and no table has a row
+-- the same where the schema changes: each table keeps its rows, and those that are made have none
 pub record Moves (before after : Schema) (old new : State) : Type 0 where
-  pub maps : Holds before old.now no_maps → Holds after new.now no_maps
+  pub maps : (maps : Maps) → IsFreeFrom (length before.tables) maps → Holds before old.now maps → Holds after new.now maps
   pub is_inside : IsTrue new.in_transaction
   pub committed : new.committed ≡ old.committed
 

@@ -4,7 +4,8 @@ use Rattle.std.specs.Prelude.{Option, filter}
 use Rattle.std.specs.List.{AllByRecursion}
 use Rattle.sqlite_rules.specs.Lists.{Has}
 use Rattle.sqlite_rules.proofs.ListLemmas.{has_contained, contains_had, all_has, has_filtered, has_kept}
-use Rattle.store.specs.Lists.{AreRows, AreTestedRows, AllPass, Rise}
+use Rattle.store.specs.Lists.{AreRows, AreTestedRows, AllPass}
+use Rattle.terms.specs.Orders.{Rise}
 use Rattle.store.proofs.PagedRows.{rises_filtered}
 
 module _ {R : Type 0} (number_of : R → ℕ) where

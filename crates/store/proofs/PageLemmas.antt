@@ -1,5 +1,5 @@
 -- What the pages hold, in words of the typed tables.
-use Rattle.std.proofs.Common.{arith, ◌≡◌, ◌<◌, ◌+◌, ℕ, pos, negsuc, Bool, true, List, map, Option, Some, None, Result, inl, inr, ◌∙◌, ◌≤◌, sym, subst, Less}
+use Rattle.std.proofs.Common.{arith, ◌≡◌, ◌<◌, ◌+◌, ℕ, pos, Bool, true, List, map, Option, Some, None, Result, inl, inr, ◌∙◌, ◌≤◌, refl, sym, subst, Less}
 use Rattle.std.specs.Prelude.{unwrap_or}
 use Rattle.std.specs.List.{All, Contains}
 use Rattle.std.proofs.lemmas.Bool.{and_parts, and_from}
@@ -24,13 +24,13 @@ use Rattle.terms.specs.declared.row.LineRow.{LineRow}
 use Rattle.circ_tables.specs.Cells.{number, number_key, loan_cells, hold_cells, line_cells}
 use Rattle.circ_tables.specs.Encoding.{Encodes}
 use Rattle.circ_tables.specs.Numbered.{IsNumberTable}
-use Rattle.circ_tables.specs.Selections.{is_ready_after, is_overdue_after, is_line_after, is_from, least_after}
+use Rattle.circ_tables.specs.Selections.{is_ready_after, is_overdue_after, is_line_after, is_next}
 use Rattle.circ_tables.specs.Shape.{loans_place, holds_place, lines_place}
 use Rattle.circ_tables.specs.Loans.{loans_are}
 use Rattle.circ_tables.specs.Holds.{holds_are}
 use Rattle.circ_tables.specs.Lines.{lines_are}
 use Rattle.circ_tables.specs.declared.by_number.TheConstants.{PAGE_ROWS}
-use Rattle.circ_tables.proofs.CellLemmas.{is_least, least_if, if_least, if_negative, same_if, if_same, none_if, if_none, ready_if, if_ready, below_if, if_below, above_if, if_above, alone, from_alone, both, from_both}
+use Rattle.circ_tables.proofs.CellLemmas.{is_least, least_if, if_least, same_if, if_same, none_if, if_none, ready_if, if_ready, below_if, if_below, above_if, if_above, alone, from_alone, both, from_both}
 use Rattle.circ_tables.proofs.InverseLemmas.{told}
 use Rattle.circ_tables.proofs.DayLemmas.{below}
 use Rattle.circ_tables.proofs.ShownLemmas.{one_found, stands, rows_rise}
@@ -98,19 +98,19 @@ module _ {R : Type 0} {t : Table ℕ R} {number_of : R → ℕ} (table : IsNumbe
       let same : number_of r ≡ n = it.0 in
       (same, omega (arith, one, same))
 
-  above : (after : Option ℕ) (r : R) → t.IsLegal r → is_from (least_after after) (t.cells r) ≡ true → unwrap_or after 0 < number_of r
+  pub above : (after : Option ℕ) (r : R) → t.IsLegal r → is_next after (t.cells r) ≡ true → unwrap_or after 0 < number_of r
   above None r legal good = let one : 1 ≤ number_of r = table.from_one r legal in omega (arith, one)
   above (Some n) r legal good = let least : n + 1 ≤ number_of r = least_if (number_of r) (n + 1) (subst (λ v. is_least v (pos (n + 1)) ≡ true) (table.first_cell r) (alone _ good)) in omega (arith, least)
 
-  passes : (after : Option ℕ) (r : R) → unwrap_or after 0 < number_of r → is_from (least_after after) (t.cells r) ≡ true
-  passes None r more = from_alone _ (subst (λ v. is_least v (negsuc 9223372036854775807) ≡ true) (sym (table.first_cell r)) (if_negative (number_of r) 9223372036854775807))
+  passes : (after : Option ℕ) (r : R) → unwrap_or after 0 < number_of r → is_next after (t.cells r) ≡ true
+  passes None r more = refl
   passes (Some n) r more = from_alone _ (subst (λ v. is_least v (pos (n + 1)) ≡ true) (sym (table.first_cell r)) (if_least (number_of r) (n + 1) (omega (arith, more))))
 
-  pub page_seen : (after : Option ℕ) → {S L : Type 0} {items : L → List R} {g : Ghosts S} {r : Result L Fault} {a b : Held S} → Lists t items (λ m. FirstRows PAGE_ROWS m (is_from (least_after after))) g a b r
+  pub page_seen : (after : Option ℕ) → {S L : Type 0} {items : L → List R} {g : Ghosts S} {r : Result L Fault} {a b : Held S} → Lists t items (λ m. FirstRows PAGE_ROWS m (is_next after)) g a b r
       → Views (λ P l. AreNumbered (t.rows P) number_of × AreRowsAfter (t.rows P) number_of (unwrap_or after 0) (items l)) g a b r
   page_seen after is =
       rows_seen (λ P rows. AreNumbered (t.rows P) number_of × AreRowsAfter (t.rows P) number_of (unwrap_or after 0) rows)
-      (λ maps P shown legal rows limits first. (numbered P legal, are_first table maps P shown legal (is_from (least_after after)) (λ r. unwrap_or after 0 < number_of r) (above after) (passes after) rows limits first)) is
+      (λ maps P shown legal rows limits first. (numbered P legal, are_first table maps P shown legal (is_next after) (λ r. unwrap_or after 0 < number_of r) (above after) (passes after) rows limits first)) is
 
 -- rows that are read and of which nothing is said
 pub passed_over : {S R L : Type 0} {K : Type 0} {t : Table K R} {items : L → List R} {Found : Map → List Row → Type 0} {g : Ghosts S} {r : Result L Fault} {a b : Held S} → Lists t items Found g a b r → Views IsPassedOver g a b r

@@ -8,7 +8,8 @@ use Rattle.sqlite_rules.specs.Lists.{Has}
 use Rattle.sqlite_rules.proofs.ListLemmas.{has_contained, contains_had, all_has, all_from, has_filtered, has_kept}
 use Rattle.terms.specs.declared.row.LoanRow.{LoanRow}
 use Rattle.circ_tables.specs.declared.by_number.TheConstants.{PAGE_ROWS}
-use Rattle.store.specs.Lists.{Rise, AreRows, AreTestedRows, AllPass}
+use Rattle.store.specs.Lists.{AreRows, AreTestedRows, AllPass}
+use Rattle.terms.specs.Orders.{Rise}
 use Rattle.store.specs.Pages.{AreRowsAfter, AreNumbered}
 
 -- ---- rows in order

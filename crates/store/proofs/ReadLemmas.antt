@@ -16,7 +16,7 @@ use Rattle.circ_tables.specs.Encoding.{HasPicture, Encodes}
 use Rattle.circ_tables.specs.Reading.{Table, Gets, Lists, Views, IsSame, IsSameOrUndone, Reading}
 use Rattle.circ_tables.specs.Shape.{schema}
 use Rattle.store.specs.Library.{HasTables}
-use Rattle.store.specs.Reads.{Reads, Looked, Finds, IsSound}
+use Rattle.store.specs.Reads.{Reads, Looked, Finds, IsReadable}
 
 same_then : (a b c : State) → IsSame a b → IsSame b c → IsSame a c
 same_then a b c one two = record { now = two.now ∙ one.now; committed = two.committed ∙ one.committed; was_open = λ is. one.was_open (two.was_open is) }
@@ -25,7 +25,7 @@ undone_then : (a b c : State) → IsSame a b → IsSameOrUndone b c → IsSameOr
 undone_then a b c one (inl two) = inl (two ∙ one.now)
 undone_then a b c one (inr two) = inr (one.was_open two.0, two.1 ∙ one.committed)
 
-held_still : (a b : State) (maps : Maps) → IsSame a b → Holds schema a.now maps → Holds schema b.now maps
+pub held_still : (a b : State) (maps : Maps) → IsSame a b → Holds schema a.now maps → Holds schema b.now maps
 held_still a b maps one holds = subst (λ d. Holds schema d maps) (sym one.now) holds
 
 shown_still : (a b : State) (P : Picture) → IsSame a b → HasPicture a.now P → HasPicture b.now P
@@ -120,7 +120,7 @@ looked_row t key g legal old new result settled is =
 
 -- of a view
 pub looked_view : {A S : Type 0} (Is : Picture → A → Type 0) (g : Ghosts S) (old new : Held S) (result : Result A Fault)
-    → (IsTrue (state g old).is_open → (state g old).now ≡ (state g old).committed) → Views Is g old new result → Looked InLimits Is IsSound g old new result
+    → (IsTrue (state g old).is_open → (state g old).now ≡ (state g old).committed) → Views Is g old new result → Looked InLimits Is IsReadable g old new result
 looked_view Is g old new result settled is = record {
   reads = reads_of result (state g old) (state g new) settled is.read;
   shown = λ clean. shown_same (λ x P. Is P x) result (state g old) (state g new) clean is.read is.shown;

@@ -1,5 +1,5 @@
 -- One read after another, each from where the last one left the tables.
-use Rattle.std.proofs.Common.{◌≡◌, ℕ, List, map, Option, Ok, Err, Result, IfOk}
+use Rattle.std.proofs.Common.{◌≡◌, ℕ, List, map, Option, Ok, Err, Result, IfOk, IfErr, sym, subst}
 use Rattle.std.specs.List.{All}
 use Rattle.std.specs.Result.{IsErr, IsErrAnd}
 use Rattle.sqlite.specs.Held.{Held, state}
@@ -8,6 +8,7 @@ use Rattle.sqlite.specs.State.{HasCleanDisk}
 use Rattle.sqlite.specs.Store.{Ghosts}
 use Rattle.sql_maps.specs.Maps.{Map, Maps, First, FirstOf}
 use Rattle.terms.specs.Limits.{InLimits, ClosesFewDays}
+use Rattle.terms.specs.Orders.{IsOrdered}
 use Rattle.terms.specs.Pictures.{Picture}
 use Rattle.terms.specs.declared.fault.Fault.{Fault}
 use Rattle.terms.specs.declared.fault.Fault.TheVariants.{Stored}
@@ -61,6 +62,16 @@ fails {B = B} {g = g} (Err e) fault {a} {b} is seen = record { read = read_err {
 -- a read that ended well, and then a step of memory alone that failed
 pub stops : {S A : Type 0} {g : Ghosts S} {Is : Picture → A → Type 0} {x : A} {a b : Held S} (fault : Fault) → Views Is g a b (Ok x) → (fault ≡ Stored → HasCleanDisk (state g b) → (P : Picture) → HasPicture (state g a).now P → InLimits P → ClosesFewDays P → ⊥) → Views Is g a b (Err fault)
 stops {g = g} {a = a} {b = b} fault seen sound = record { read = read_fails (state g a) (state g b) seen.read (λ is. sound (let same : fault ≡ Stored = cc in same)); shown = λ clean. tt }
+
+-- rows that were read, and are taken where they are in order
+pub taken : {S A R : Type 0} {g : Ghosts S} {Is : Picture → A → Type 0} {Wanted : Picture → List R → Type 0} {x : A} {a b : Held S} (Before : R → R → Type 0) (rows : List R) (r : Result (List R) Fault)
+    → IfOk r (λ taken. (taken ≡ rows) × IsOrdered Before rows) → IfErr r (λ fault. (fault ≡ Stored) × ¬ IsOrdered Before rows)
+    → Views Is g a b (Ok x) → ((P : Picture) → Is P x → Wanted P rows × IsOrdered Before rows) → Views Wanted g a b r
+taken {Wanted = Wanted} Before rows (Ok l) ok err seen are = gives seen (λ P is. subst (Wanted P) (sym ok.0) (are P is).0)
+taken {g = g} {x = x} {a = a} {b = b} Before rows (Err fault) ok err seen are = record {
+  read = read_fails (state g a) (state g b) seen.read (λ is clean P shown legal few. err.1 (are P (seen.shown clean P shown legal)).1);
+  shown = λ clean. tt;
+}
 
 -- ---- selections, counts and lists in words of the picture
 

@@ -7,7 +7,7 @@ use Rattle.terms.specs.declared.row.HoldRow.{HoldRow}
 use Rattle.terms.specs.declared.row.HoldState.TheVariants.{Ready}
 use Rattle.terms.specs.declared.row.LineRow.{LineRow}
 use Rattle.terms.specs.Pictures.{Picture}
-use Rattle.store.specs.Lists.{Rise}
+use Rattle.terms.specs.Orders.{Rise}
 
 -- The first rows of the table that pass, each once, the least number first: all of them, or as many as a page has, and then all others come after them.
 pub record AreFirstRows {R : Type 0} (t : ℕ → Option R) (number_of : R → ℕ) (Passes : R → Type 0) (rows : List R) : Type 0 where

@@ -22,18 +22,18 @@ pub record Reads {A : Type 0} (old new : State) (result : Result A Fault) : Type
   -- a stop leaves nothing that it would not have left before
   pub left : HasCleanDisk new → HasTables old.now → (trees : Trees) → new.may_leave trees → old.may_leave trees
 
--- The rows lie within their limits, and no branch is closed singly on more days than it can be.
-abbrev pub IsSound : Picture → Type 0
-IsSound P = InLimits P × ClosesFewDays P
+-- All rows can be read: they lie within their limits, and no branch is closed singly on more days than it can be.
+abbrev pub IsReadable : Picture → Type 0
+IsReadable P = InLimits P × ClosesFewDays P
 
--- What a call of a store that only reads says: where the picture of the tables is as the call needs it, what was found is so in it; no fault of a stored row comes where the picture is sound.
-pub record Looked {S A : Type 0} (Needs : Picture → Type 0) (Is : Picture → A → Type 0) (Sound : Picture → Type 0)
+-- What a call of a store that only reads says: where the picture of the tables is as the call needs it, what was found is so in it; no fault of a stored row comes where all rows of the picture can be read.
+pub record Looked {S A : Type 0} (Needs : Picture → Type 0) (Is : Picture → A → Type 0) (Readable : Picture → Type 0)
     (g : Ghosts S) (old new : Held S) (result : Result A Fault) : Type 0 where
   pub reads : Reads (state g old) (state g new) result
   pub shown : HasCleanDisk (state g new) → IfOk result (λ x. (P : Picture) → HasPicture (state g old).now P
       → Needs P → Is P x × ((state g new).now ≡ (state g old).now))
   pub sound : HasCleanDisk (state g new) → result ≡ Err Stored
-      → (P : Picture) → HasPicture (state g old).now P → Sound P → ⊥
+      → (P : Picture) → HasPicture (state g old).now P → Readable P → ⊥
 
 -- The row of a key was looked for.
 abbrev pub Finds : {K R S : Type 0} → Table K R → K → Ghosts S → Held S → Held S → Result (Option R) Fault → Type 0

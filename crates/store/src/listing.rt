@@ -4,8 +4,14 @@ ghost use Rattle.terms.specs.Limits.{InLimits};
 ghost use Rattle.store.specs.Lists.{AreRows, AllPass, AreRuleRows, AreClosedDayRows, AreKeptRows};
 ghost use Rattle.store.specs.Lists.{AreRegisters, AreHoldings, AreDealings, AreTables};
 ghost use Rattle.store.specs.Lists.{AreAuditTables};
-ghost use Rattle.store.specs.Reads.{Looked, IsSound};
-ghost use Rattle.circ_tables.specs.Reading.{Views};
+ghost use Rattle.store.specs.Reads.{Looked, IsReadable};
+ghost use Rattle.store.specs.Legal.{HasLegal, HasLegalRegisters, HasLegalHoldings};
+ghost use Rattle.store.specs.Legal.{HasLegalDealings, HasLegalTables, Reviews, AnswersLegal};
+ghost use Rattle.circ_tables.specs.Branches.{branches};
+ghost use Rattle.circ_tables.specs.ClosedDays.{closed_days};
+ghost use Rattle.circ_tables.specs.Kept.{kept};
+ghost use Rattle.circ_tables.specs.Kinds.{kinds};
+ghost use Rattle.circ_tables.specs.Rules.{rules};
 
 use crate::pages::{EachRow, NoRow, OpenLoans, Sift, pass_over_kept, read_pages};
 use crate::store::Store;
@@ -46,28 +52,29 @@ struct Dealings {
 
 /// All rows of `branches`. 90, 91, 93.
 fn branches<S: Alter>(conn: &mut Connection<S>, alloc: Global) -> Result<Rows<BranchRow>, Fault>
-    ensures { Views (λ P rows. AreRows P.branches (λ r. r.branch) AllPass rows)
+    ensures { Reviews (λ P rows. AreRows P.branches (λ r. r.branch) AllPass rows) (HasLegal branches)
         S.Store conn.old conn.new result }
 {
     let found = every_row::<BranchRow, S>(conn, alloc, alloc)?;
-    Ok(Rows::new(found))
+    Rows::new(found)
 }
 
 /// All rows of `kinds`. 90, 91, 93.
 fn kinds<S: Alter>(conn: &mut Connection<S>, alloc: Global) -> Result<Rows<KindRow>, Fault>
-    ensures { Views (λ P rows. AreRows P.kinds (λ r. r.kind) AllPass rows)
+    ensures { Reviews (λ P rows. AreRows P.kinds (λ r. r.kind) AllPass rows) (HasLegal kinds)
         S.Store conn.old conn.new result }
 {
     let found = every_row::<KindRow, S>(conn, alloc, ())?;
-    Ok(Rows::new(found))
+    Rows::new(found)
 }
 
 /// All rows of `rules`. 90, 91, 93.
 fn rules<S: Alter>(conn: &mut Connection<S>, alloc: Global) -> Result<Rows<RuleRow>, Fault>
-    ensures { Views (λ P rows. AreRuleRows P rows) S.Store conn.old conn.new result }
+    ensures { Reviews (λ P rows. AreRuleRows P rows) (HasLegal rules)
+        S.Store conn.old conn.new result }
 {
     let found = all_rules(conn, alloc)?;
-    Ok(Rows::new(found))
+    Rows::new(found)
 }
 
 /// All rows of `closed_days`. 90, 91, 93.
@@ -75,23 +82,25 @@ fn closed_days<S: Alter>(
     conn: &mut Connection<S>,
     alloc: Global,
 ) -> Result<Rows<ClosedDayRow>, Fault>
-    ensures { Views (λ P rows. AreClosedDayRows P rows) S.Store conn.old conn.new result }
+    ensures { Reviews (λ P rows. AreClosedDayRows P rows) (HasLegal closed_days)
+        S.Store conn.old conn.new result }
 {
     let found = all_closed_days(conn, alloc)?;
-    Ok(Rows::new(found))
+    Rows::new(found)
 }
 
 /// All rows of `kept`. 90, 91, 93.
 fn kept<S: Alter>(conn: &mut Connection<S>, alloc: Global) -> Result<Rows<KeptRow>, Fault>
-    ensures { Views (λ P rows. AreKeptRows P rows) S.Store conn.old conn.new result }
+    ensures { Reviews (λ P rows. AreKeptRows P rows) (HasLegal kept)
+        S.Store conn.old conn.new result }
 {
     let found = all_kept(conn, alloc)?;
-    Ok(Rows::new(found))
+    Rows::new(found)
 }
 
 /// The tables that the desk sets. 90, 91, 93.
 fn read_registers<S: Alter>(conn: &mut Connection<S>, alloc: Global) -> Result<Registers, Fault>
-    ensures { Views AreRegisters S.Store conn.old conn.new result }
+    ensures { Reviews AreRegisters HasLegalRegisters S.Store conn.old conn.new result }
 {
     let meta = get_meta(conn)?;
     let branches = branches(conn, alloc)?;
@@ -112,7 +121,7 @@ fn read_holdings<T: Sift<TitleRow>, S: Alter>(
     conn: &mut Connection<S>,
     alloc: Global,
 ) -> Result<Holdings, Fault>
-    ensures { Views (AreHoldings T.test) S.Store conn.old conn.new result }
+    ensures { Reviews (AreHoldings T.test) HasLegalHoldings S.Store conn.old conn.new result }
 {
     let patrons = read_pages::<PatronRow, EachRow, S>(conn, alloc, alloc)?;
     let titles = read_pages::<TitleRow, T, S>(conn, alloc, alloc)?;
@@ -129,7 +138,7 @@ fn read_dealings<L: Sift<LoanRow>, S: Alter>(
     conn: &mut Connection<S>,
     alloc: Global,
 ) -> Result<Dealings, Fault>
-    ensures { Views (AreDealings L.test) S.Store conn.old conn.new result }
+    ensures { Reviews (AreDealings L.test) HasLegalDealings S.Store conn.old conn.new result }
 {
     let loans = read_pages::<LoanRow, L, S>(conn, alloc, ())?;
     let holds = read_pages::<HoldRow, EachRow, S>(conn, alloc, ())?;
@@ -145,7 +154,7 @@ fn read_dealings<L: Sift<LoanRow>, S: Alter>(
 
 /// All rows of each table. 90, 91, 93.
 fn all_tables<S: Alter>(conn: &mut Connection<S>, alloc: Global) -> Result<Tables, Fault>
-    ensures { Views AreTables S.Store conn.old conn.new result }
+    ensures { Reviews AreTables HasLegalTables S.Store conn.old conn.new result }
 {
     let set = read_registers(conn, alloc)?;
     let owned = read_holdings::<EachRow, S>(conn, alloc)?;
@@ -170,7 +179,7 @@ fn all_tables<S: Alter>(conn: &mut Connection<S>, alloc: Global) -> Result<Table
 
 /// The rows of which an audit speaks. 90, 91, 93.
 fn audit_tables<S: Alter>(conn: &mut Connection<S>, alloc: Global) -> Result<Tables, Fault>
-    ensures { Views AreAuditTables S.Store conn.old conn.new result }
+    ensures { Reviews AreAuditTables HasLegalTables S.Store conn.old conn.new result }
 {
     let set = read_registers(conn, alloc)?;
     let owned = read_holdings::<NoRow, S>(conn, alloc)?;
@@ -189,14 +198,15 @@ fn audit_tables<S: Alter>(conn: &mut Connection<S>, alloc: Global) -> Result<Tab
         holds: done.holds,
         transits: done.transits,
         lines: done.lines,
-        kept: Rows::new(Vec::new(alloc)),
+        kept: Rows::empty(alloc),
     })
 }
 
 impl<S: Alter> Store<S> {
     /// All rows of each table, in rising order of their keys. 90, 91, 93.
     pub fn tables(&mut self, alloc: Global) -> Result<Tables, Fault>
-        ensures { Looked InLimits AreTables IsSound S.Store self.old self.new result }
+        ensures looked { Looked InLimits AreTables IsReadable S.Store self.old self.new result }
+        ensures legal { AnswersLegal S.Store self.old self.new result }
     {
         let is_idle = self.conn.is_autocommit();
         prove!(is_idle);
@@ -209,7 +219,9 @@ impl<S: Alter> Store<S> {
     /// The rows of all other tables, and the loans that ended, are read too, but not kept: what
     /// this takes of memory doesn't grow with them.
     pub fn audit_tables(&mut self, alloc: Global) -> Result<Tables, Fault>
-        ensures { Looked InLimits AreAuditTables IsSound S.Store self.old self.new result }
+        ensures looked { Looked InLimits AreAuditTables IsReadable
+            S.Store self.old self.new result }
+        ensures legal { AnswersLegal S.Store self.old self.new result }
     {
         let is_idle = self.conn.is_autocommit();
         prove!(is_idle);
@@ -219,7 +231,7 @@ impl<S: Alter> Store<S> {
     /// All rows of `patrons`, the least number first. 90, 91, 93.
     pub fn patrons(&mut self, alloc: Global) -> Result<Rows<PatronRow>, Fault>
         ensures { Looked InLimits (λ P rows. AreRows P.patrons (λ r. r.patron) AllPass rows)
-            IsSound S.Store self.old self.new result }
+            IsReadable S.Store self.old self.new result }
     {
         let is_idle = self.conn.is_autocommit();
         prove!(is_idle);

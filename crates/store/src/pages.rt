@@ -2,8 +2,12 @@
 
 ghost use Rattle.std.specs.Prelude.{◌≡◌, ◌++◌, true, filter, option_map, slice_get, length};
 ghost use Rattle.std.specs.Prelude.{◌-◌, OnOk, IfErr};
+ghost use Rattle.sql_maps.specs.Maps.{PairBelow};
+ghost use Rattle.circ_tables.specs.Cells.{kept_cells};
+ghost use Rattle.circ_tables.specs.Kept.{kept};
 ghost use Rattle.circ_tables.specs.Reading.{Views};
 ghost use Rattle.store.specs.Lists.{AreRows};
+ghost use Rattle.store.specs.Legal.{HasLegal, Reviews, OverMaps, IsKeptPage};
 ghost use Rattle.store.specs.Pages.{IsPassedOver};
 
 use circ_tables::{Numbered, first_kept, kept_after, kept_past, next_rows};
@@ -91,8 +95,9 @@ pub(crate) fn read_pages<R: Numbered, F: Sift<R>, S: Alter>(
     alloc: Global,
     memory: R::Memory,
 ) -> Result<Rows<R>, Fault>
-    ensures { Views (λ P rows. AreRows (R.table.rows P) R.number_of (λ r. F.test r ≡ true) rows)
-        S.Store conn.old conn.new result }
+    ensures { Reviews
+        (λ P rows. AreRows (R.table.rows P) R.number_of (λ r. F.test r ≡ true) rows)
+        (HasLegal R.table) S.Store conn.old conn.new result }
 {
     let mut kept = Vec::new(alloc);
     let mut after = None;
@@ -100,11 +105,11 @@ pub(crate) fn read_pages<R: Numbered, F: Sift<R>, S: Alter>(
         let page = next_rows::<R, S>(conn, alloc, memory, after)?;
         match last_of(page.as_slice()) {
             Some(last) => after = Some(last),
-            None => return Ok(Rows::new(kept)),
+            None => return Rows::new(kept),
         }
         keep_page::<R, F>(&mut kept, page)?;
     }
-    Ok(Rows::new(kept))
+    Rows::new(kept)
 }
 
 /// The page of what is kept after this row. 90, 91, 93.
@@ -113,7 +118,9 @@ fn next_kept<S: Alter>(
     alloc: Global,
     last: &KeptRow,
 ) -> Result<Vec<KeptRow>, Fault>
-    ensures { Views IsPassedOver S.Store conn.old conn.new result }
+    ensures view { Views IsPassedOver S.Store conn.old conn.new result }
+    ensures page { OverMaps (λ page. IsKeptPage (PairBelow (kept_cells last.now)) page.items)
+        S.Store conn.old conn.new result }
 {
     let more = kept_after(conn, alloc, last.caller, &last.key)?;
     if more.is_empty() {
@@ -123,9 +130,10 @@ fn next_kept<S: Alter>(
     }
 }
 
-/// Reads all that is kept, page by page, and keeps none of it. 90, 91, 93.
+/// Reads all that is kept, page by page, and keeps none of it. 90, 91, 93. After 2^64 - 1 pages it
+/// gives up with 91: nothing says that no table has as many.
 pub(crate) fn pass_over_kept<S: Alter>(conn: &mut Connection<S>, alloc: Global) -> Result<(), Fault>
-    ensures { Views IsPassedOver S.Store conn.old conn.new result }
+    ensures { Reviews IsPassedOver (HasLegal kept) S.Store conn.old conn.new result }
 {
     let mut page = first_kept(conn, alloc)?;
     'kept: for _page in 0..u64::MAX {
@@ -134,5 +142,5 @@ pub(crate) fn pass_over_kept<S: Alter>(conn: &mut Connection<S>, alloc: Global) 
         };
         page = next_kept(conn, alloc, last)?;
     }
-    Ok(())
+    Err(Fault::Database)
 }

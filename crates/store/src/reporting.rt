@@ -5,7 +5,7 @@ ghost use Rattle.terms.specs.Limits.{InLimits};
 ghost use Rattle.circ_core.specs.Views.{IsCalendarOf};
 ghost use Rattle.store.specs.Lists.{AreLoansBy, AreHoldsBy};
 ghost use Rattle.store.specs.Pages.{AreReadyAfter, AreOverdueAfter, AreLinesAfter};
-ghost use Rattle.store.specs.Reads.{Looked, IsSound};
+ghost use Rattle.store.specs.Reads.{Looked, IsReadable};
 
 use crate::store::Store;
 use crate::viewing::calendar_of;
@@ -128,7 +128,7 @@ impl<S: Alter> Store<S> {
 
     /// The calendar of a branch, if there is the branch. 90, 91, 93.
     pub fn calendar(&mut self, alloc: Global, branch: BranchId) -> Result<Option<Calendar>, Fault>
-        ensures { Looked InLimits (λ P calendar. IsCalendarOf P branch calendar) IsSound
+        ensures { Looked InLimits (λ P calendar. IsCalendarOf P branch calendar) IsReadable
             S.Store self.old self.new result }
     {
         let is_idle = self.conn.is_autocommit();

@@ -3,11 +3,11 @@
 ghost use Rattle.std.specs.Prelude.{◌≡◌, Err, IsTrue, false, IfOk, IfErr};
 ghost use Rattle.std.specs.Prelude.{option_map};
 ghost use Rattle.terms.specs.Limits.{InLimits, IsOwner};
-ghost use Rattle.circ_core.specs.Views.{IsViewOf};
+ghost use Rattle.circ_core.specs.Views.{IsViewOf, HasOnly};
 ghost use Rattle.circ_tables.specs.Encoding.{reply_of};
 ghost use Rattle.store.specs.Commit.{Commits, CreatesLibrary, OpensLibrary, RefusesLibrary};
 ghost use Rattle.store.specs.Limits.{limit_of};
-ghost use Rattle.store.specs.Reads.{Looked, Finds, IsSound};
+ghost use Rattle.store.specs.Reads.{Looked, Finds, IsReadable};
 ghost use Rattle.circ_tables.specs.Patrons.{patrons};
 ghost use Rattle.circ_tables.specs.Loans.{loans};
 ghost use Rattle.circ_tables.specs.Holds.{holds};
@@ -82,8 +82,9 @@ impl<S: Alter + Drop> Store<S> {
 impl<S: Alter> Store<S> {
     /// The rows that the command needs, and no others. 90, 91, 93.
     pub fn view_for(&mut self, alloc: Global, command: &Command) -> Result<View, Fault>
-        ensures { Looked InLimits (λ P view. IsViewOf P command.now view) IsSound
+        ensures view { Looked InLimits (λ P view. IsViewOf P command.now view) IsReadable
             S.Store self.old self.new result }
+        ensures only { IfOk result (HasOnly command.now) }
     {
         let is_idle = self.conn.is_autocommit();
         prove!(is_idle);

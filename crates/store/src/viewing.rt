@@ -1,18 +1,23 @@
 //! The rows that a command needs.
 
 ghost use Rattle.calendar.specs.declared.limits.TheConstants.{MOST_CLOSED_DAYS};
-ghost use Rattle.std.specs.Prelude.{◌≡◌, ◌≢◌, ◌≤◌, ℕ, false, Err, length, option_and_then, IfOk};
-ghost use Rattle.std.specs.Prelude.{IfSome};
+ghost use Rattle.std.specs.Prelude.{◌≡◌, ◌≢◌, ◌≤◌, ℕ, Bool, false, List, Err, length, IfOk, IfSome};
+ghost use Rattle.std.specs.Prelude.{option_and_then};
 ghost use Rattle.calendar.specs.Openings.{AreWeekdays, has_day, has_repeat};
 ghost use Rattle.circ_core.specs.Views.{IsCalendarOf, IsLenderOf, IsFirstFor, AreHoldsFor};
 ghost use Rattle.circ_core.specs.Views.{IsPatronView, IsAcquireView, IsCopyView, IsCheckOutView};
 ghost use Rattle.circ_core.specs.Views.{IsClosedDayView, IsAccountView, IsRenewView};
 ghost use Rattle.circ_core.specs.Views.{IsPlaceHoldView, IsCancelHoldView, IsBranchView};
 ghost use Rattle.circ_core.specs.Views.{IsPickupView, IsCheckInView, IsUnshelveView};
-ghost use Rattle.circ_core.specs.Views.{IsMissingView, IsViewOf, rule_in, kind_in, copy_in};
+ghost use Rattle.circ_core.specs.Views.{IsMissingView, IsViewOf, HasOnly, rule_in, kind_in};
 ghost use Rattle.circ_core.specs.Views.{borrower_in, named_copy_in, coming_in, IsCount, IsOpenBy};
-ghost use Rattle.circ_core.specs.Views.{IsActiveOn, IsActiveBy, IsLoanOfTitle};
+ghost use Rattle.circ_core.specs.Views.{IsActiveOn, IsActiveBy, IsLoanOfTitle, copy_in};
 ghost use Rattle.circ_tables.specs.Reading.{Views};
+ghost use Rattle.terms.specs.declared.command.Command.TheVariants.{BeginDay, Week, CloseDay, Rule};
+ghost use Rattle.terms.specs.declared.command.Command.TheVariants.{Patron, Acquire, CheckOut};
+ghost use Rattle.terms.specs.declared.command.Command.TheVariants.{CheckIn, Renew, PlaceHold};
+ghost use Rattle.terms.specs.declared.command.Command.TheVariants.{CancelHold, Unshelve, Missing};
+ghost use Rattle.terms.specs.declared.command.Command.TheVariants.{Withdraw, Pay, Page};
 
 use calendar::{Calendar, CloseError, Day, Weekdays};
 use circ_core::View;
@@ -76,21 +81,24 @@ pub(crate) fn calendar_of<S: Alter>(
     Ok(calendar)
 }
 
+/// The branch at which a copy is shelved.
+struct Shelf {
+    branch: Option<BranchRow>,
+    calendar: Option<Calendar>,
+}
+
 /// A branch, and its calendar.
-fn branch_view<S: Alter>(
+fn shelf_at<S: Alter>(
     conn: &mut Connection<S>,
     alloc: Global,
     number: BranchId,
-) -> Result<View, Fault>
-    ensures { Views (λ P rows. IsBranchView P number rows.branch rows.calendar) S.Store conn.old conn.new result }
+) -> Result<Shelf, Fault>
+    ensures { Views (λ P it. IsBranchView P number it.branch it.calendar)
+        S.Store conn.old conn.new result }
 {
     let branch = get_row::<BranchRow, S>(conn, alloc, number)?;
     let calendar = calendar_from(conn, alloc, number, &branch)?;
-    Ok(View {
-        branch,
-        calendar,
-        ..View::empty()
-    })
+    Ok(Shelf { branch, calendar })
 }
 
 /// The calendar of the branch that made the loan.
@@ -109,16 +117,20 @@ fn lender_calendar<S: Alter>(
 }
 
 /// The pick-up branch of a hold, and its calendar.
-fn pickup_view<S: Alter>(
+fn shelf_of<S: Alter>(
     conn: &mut Connection<S>,
     alloc: Global,
     hold: &Option<HoldRow>,
-) -> Result<View, Fault>
-    ensures { Views (λ P rows. IsPickupView P hold.now rows.branch rows.calendar) S.Store conn.old conn.new result }
+) -> Result<Shelf, Fault>
+    ensures { Views (λ P it. IsPickupView P hold.now it.branch it.calendar)
+        S.Store conn.old conn.new result }
 {
     match hold {
-        Some(row) => branch_view(conn, alloc, row.branch),
-        None => Ok(View::empty()),
+        Some(row) => shelf_at(conn, alloc, row.branch),
+        None => Ok(Shelf {
+            branch: None,
+            calendar: None,
+        }),
     }
 }
 
@@ -262,7 +274,8 @@ fn coming_hold<S: Alter>(
 
 /// A copy, and the rows that claim it.
 fn copy_view<S: Alter>(conn: &mut Connection<S>, number: CopyId) -> Result<View, Fault>
-    ensures { Views (λ P rows. IsCopyView P number rows) S.Store conn.old conn.new result }
+    ensures view { Views (λ P rows. IsCopyView P number rows) S.Store conn.old conn.new result }
+    ensures only { IfOk result (HasOnly (Withdraw number)) }
 {
     let copy = get_row::<CopyRow, S>(conn, (), number)?;
     let loan = open_loan_of(conn, number)?;
@@ -303,7 +316,10 @@ fn patron_view<S: Alter>(
     number: PatronId,
     kind: PatronKind,
 ) -> Result<View, Fault>
-    ensures { Views (λ P rows. IsPatronView P number kind rows) S.Store conn.old conn.new result }
+    ensures view { Views (λ P rows. IsPatronView P number kind rows)
+        S.Store conn.old conn.new result }
+    ensures only { (card_key name : List ℕ)
+        → IfOk result (HasOnly (Patron number kind card_key name)) }
 {
     let kind = get_row::<KindRow, S>(conn, (), kind)?;
     let patron = get_row::<PatronRow, S>(conn, alloc, number)?;
@@ -321,8 +337,10 @@ fn acquire_view<S: Alter>(
     of: TitleId,
     home: BranchId,
 ) -> Result<View, Fault>
-    ensures { Views (λ P rows. IsAcquireView P number of home rows)
+    ensures view { Views (λ P rows. IsAcquireView P number of home rows)
         S.Store conn.old conn.new result }
+    ensures only { (kind price : ℕ) (text : List ℕ)
+        → IfOk result (HasOnly (Acquire number of kind home price text)) }
 {
     let branch = get_row::<BranchRow, S>(conn, alloc, home)?;
     let title = get_row::<TitleRow, S>(conn, alloc, of)?;
@@ -340,7 +358,9 @@ fn closed_day_view<S: Alter>(
     alloc: Global,
     branch: BranchId,
 ) -> Result<View, Fault>
-    ensures { Views (λ P rows. IsClosedDayView P branch rows) S.Store conn.old conn.new result }
+    ensures view { Views (λ P rows. IsClosedDayView P branch rows)
+        S.Store conn.old conn.new result }
+    ensures only { (day : ℕ) → IfOk result (HasOnly (CloseDay branch day)) }
 {
     let meta = get_meta(conn)?;
     let calendar = calendar_of(conn, alloc, branch)?;
@@ -356,7 +376,8 @@ fn account_view<S: Alter>(
     alloc: Global,
     number: PatronId,
 ) -> Result<View, Fault>
-    ensures { Views (λ P rows. IsAccountView P number rows) S.Store conn.old conn.new result }
+    ensures view { Views (λ P rows. IsAccountView P number rows) S.Store conn.old conn.new result }
+    ensures only { (amount : ℕ) → IfOk result (HasOnly (Pay number amount)) }
 {
     let meta = get_meta(conn)?;
     let patron = get_row::<PatronRow, S>(conn, alloc, number)?;
@@ -368,7 +389,9 @@ fn account_view<S: Alter>(
 }
 
 fn cancel_hold_view<S: Alter>(conn: &mut Connection<S>, number: HoldId) -> Result<View, Fault>
-    ensures { Views (λ P rows. IsCancelHoldView P number rows) S.Store conn.old conn.new result }
+    ensures view { Views (λ P rows. IsCancelHoldView P number rows)
+        S.Store conn.old conn.new result }
+    ensures only { IfOk result (HasOnly (CancelHold number)) }
 {
     let hold = get_row::<HoldRow, S>(conn, (), number)?;
     let transit = transit_for(conn, number)?;
@@ -417,8 +440,9 @@ fn check_out_view<S: Alter>(
     copy: CopyId,
     branch: BranchId,
 ) -> Result<View, Fault>
-    ensures { Views (λ P rows. IsCheckOutView P number copy branch rows)
+    ensures view { Views (λ P rows. IsCheckOutView P number copy branch rows)
         S.Store conn.old conn.new result }
+    ensures only { IfOk result (HasOnly (CheckOut number copy branch)) }
 {
     let meta = get_meta(conn)?;
     let calendar = calendar_of(conn, alloc, branch)?;
@@ -450,7 +474,8 @@ fn renew_view<S: Alter>(
     alloc: Global,
     number: LoanId,
 ) -> Result<View, Fault>
-    ensures { Views (λ P rows. IsRenewView P number rows) S.Store conn.old conn.new result }
+    ensures view { Views (λ P rows. IsRenewView P number rows) S.Store conn.old conn.new result }
+    ensures only { IfOk result (HasOnly (Renew number)) }
 {
     let meta = get_meta(conn)?;
     let loan = get_row::<LoanRow, S>(conn, (), number)?;
@@ -505,8 +530,9 @@ fn place_hold_view<S: Alter>(
     wanted: TitleId,
     pickup: BranchId,
 ) -> Result<View, Fault>
-    ensures { Views (λ P rows. IsPlaceHoldView P number wanted pickup rows)
+    ensures view { Views (λ P rows. IsPlaceHoldView P number wanted pickup rows)
         S.Store conn.old conn.new result }
+    ensures only { IfOk result (HasOnly (PlaceHold number wanted pickup)) }
 {
     let meta = get_meta(conn)?;
     let patron = get_row::<PatronRow, S>(conn, alloc, number)?;
@@ -538,7 +564,9 @@ fn check_in_view<S: Alter>(
     copy: CopyId,
     number: BranchId,
 ) -> Result<View, Fault>
-    ensures { Views (λ P rows. IsCheckInView P copy number rows) S.Store conn.old conn.new result }
+    ensures view { Views (λ P rows. IsCheckInView P copy number rows)
+        S.Store conn.old conn.new result }
+    ensures only { IfOk result (HasOnly (CheckIn copy number)) }
 {
     let meta = get_meta(conn)?;
     let branch = get_row::<BranchRow, S>(conn, alloc, number)?;
@@ -565,19 +593,23 @@ fn unshelve_view<S: Alter>(
     alloc: Global,
     number: HoldId,
 ) -> Result<View, Fault>
-    ensures { Views (λ P rows. IsUnshelveView P number rows) S.Store conn.old conn.new result }
+    ensures view { Views (λ P rows. IsUnshelveView P number rows) S.Store conn.old conn.new result }
+    ensures only { IfOk result (HasOnly (Unshelve number)) }
 {
     let meta = get_meta(conn)?;
     let hold = get_row::<HoldRow, S>(conn, (), number)?;
     let copy = named_copy(conn, &hold)?;
-    let here = pickup_view(conn, alloc, &hold)?;
+    let here = shelf_of(conn, alloc, &hold)?;
+    let Shelf { branch, calendar } = here;
     let first = first_for(conn, &copy)?;
     Ok(View {
         meta,
         hold,
         copy,
+        branch,
+        calendar,
         first,
-        ..here
+        ..View::empty()
     })
 }
 
@@ -586,7 +618,8 @@ fn missing_view<S: Alter>(
     alloc: Global,
     copy: CopyId,
 ) -> Result<View, Fault>
-    ensures { Views (λ P rows. IsMissingView P copy rows) S.Store conn.old conn.new result }
+    ensures view { Views (λ P rows. IsMissingView P copy rows) S.Store conn.old conn.new result }
+    ensures only { IfOk result (HasOnly (Missing copy)) }
 {
     let meta = get_meta(conn)?;
     let at = copy_view(conn, copy)?;
@@ -602,7 +635,8 @@ fn missing_view<S: Alter>(
 
 /// Today and the next numbers.
 fn meta_view<S: Alter>(conn: &mut Connection<S>) -> Result<View, Fault>
-    ensures { Views (λ P rows. rows.meta ≡ P.meta) S.Store conn.old conn.new result }
+    ensures view { Views (λ P rows. rows.meta ≡ P.meta) S.Store conn.old conn.new result }
+    ensures only { (day : ℕ) → IfOk result (HasOnly (BeginDay day)) }
 {
     let meta = get_meta(conn)?;
     Ok(View {
@@ -617,7 +651,9 @@ fn branch_row_view<S: Alter>(
     alloc: Global,
     number: BranchId,
 ) -> Result<View, Fault>
-    ensures { Views (λ P rows. rows.branch ≡ P.branches number) S.Store conn.old conn.new result }
+    ensures view { Views (λ P rows. rows.branch ≡ P.branches number)
+        S.Store conn.old conn.new result }
+    ensures only { (week : List Bool) → IfOk result (HasOnly (Week number week)) }
 {
     let branch = get_row::<BranchRow, S>(conn, alloc, number)?;
     Ok(View {
@@ -628,7 +664,9 @@ fn branch_row_view<S: Alter>(
 
 /// The row of a kind of patron alone.
 fn kind_view<S: Alter>(conn: &mut Connection<S>, number: PatronKind) -> Result<View, Fault>
-    ensures { Views (λ P rows. rows.kind ≡ P.kinds number) S.Store conn.old conn.new result }
+    ensures view { Views (λ P rows. rows.kind ≡ P.kinds number) S.Store conn.old conn.new result }
+    ensures only { (copy_kind period renewals rate cap : ℕ)
+        → IfOk result (HasOnly (Rule number copy_kind period renewals rate cap)) }
 {
     let kind = get_row::<KindRow, S>(conn, (), number)?;
     Ok(View {
@@ -643,7 +681,9 @@ fn page_view<S: Alter>(
     alloc: Global,
     number: PatronId,
 ) -> Result<View, Fault>
-    ensures { Views (λ P rows. rows.patron ≡ P.patrons number) S.Store conn.old conn.new result }
+    ensures view { Views (λ P rows. rows.patron ≡ P.patrons number)
+        S.Store conn.old conn.new result }
+    ensures only { IfOk result (HasOnly (Page number)) }
 {
     let patron = get_row::<PatronRow, S>(conn, alloc, number)?;
     Ok(View {
@@ -658,7 +698,8 @@ pub(crate) fn view_for<S: Alter>(
     alloc: Global,
     command: &Command,
 ) -> Result<View, Fault>
-    ensures { Views (λ P view. IsViewOf P command.now view) S.Store conn.old conn.new result }
+    ensures view { Views (λ P view. IsViewOf P command.now view) S.Store conn.old conn.new result }
+    ensures only { IfOk result (HasOnly command.now) }
 {
     match command {
         Command::BeginDay { .. } => meta_view(conn),

@@ -1,6 +1,6 @@
 -- What the words after a name have to be, by the kinds that the table has under it.
 use Rattle.std.proofs.Common.{◌≡◌, ◌∙◌, ◌<◌, ◌≤◌, ◌+◌, ◌^◌, ℕ, Bool, true, refl, sym, ap, subst, List, [], ◌∷◌, length, map, get_or, Option, Some, None, zero, suc, drop, drop-cons, drop_of_length-le, arith}
-use Rattle.std.specs.Prelude.{codes, slice_get}
+use Rattle.std.specs.Prelude.{slice_get}
 use Rattle.std.specs.Borrow.{Bor}
 use Rattle.std.specs.Fmt.{decimal}
 use Rattle.calendar.specs.Days.{IsDayNumber, day_text}

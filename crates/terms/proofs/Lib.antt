@@ -8,3 +8,4 @@ pub mod ReadingLemmas
 pub mod Utf8Lemmas
 pub mod KeyLemmas
 pub mod Fronts
+pub mod OrderLemmas

@@ -1,5 +1,5 @@
 -- What is seen of each command in turn: how it stands in the table, that its words can be told apart, and that it is made again from its name and parts.
-use Rattle.std.proofs.Common.{◌≡◌, ◌<◌, ◌≤◌, ◌+◌, ℕ, List, [], ◌∷◌, Bool, true, false, not, ◌&&◌, map, get_or, length, drop, add-one, drop-cons, drop_of_length-le, refl, Some, None}
+use Rattle.std.proofs.Common.{◌≡◌, ◌<◌, ◌≤◌, ◌+◌, ℕ, List, [], ◌∷◌, Bool, true, false, ◌&&◌, map, get_or, length, drop, add-one, drop-cons, drop_of_length-le, refl, Some, None}
 use Rattle.std.specs.Prelude.{if◌then◌else◌, codes, nat_lt}
 use Rattle.std.specs.List.{list_all}
 use Rattle.std.specs.Str.{bytes_eq}
@@ -92,26 +92,7 @@ pub record IsTold (command : Command) : Type 0 where
 pub told : (command : Command) → IsTold command
 unfolding command_from parts_in
 told (BeginDay a) = record { parts = _; found = refl; kinds = refl; named = refl; apart = refl; back = refl }
-told (Branch a b c) = record { parts = _; found = refl; kinds = refl; named = refl; apart = refl; back = refl }
-told (Week a b) = record { parts = _; found = refl; kinds = refl; named = refl; apart = refl; back = refl }
-told (CloseDay a b) = record { parts = _; found = refl; kinds = refl; named = refl; apart = refl; back = refl }
-told (OpenDay a b) = record { parts = _; found = refl; kinds = refl; named = refl; apart = refl; back = refl }
-told (Kind a b c d) = record { parts = _; found = refl; kinds = refl; named = refl; apart = refl; back = refl }
-told (Rule a b c d e f) = record { parts = _; found = refl; kinds = refl; named = refl; apart = refl; back = refl }
-told (Patron a b c d) = record { parts = _; found = refl; kinds = refl; named = refl; apart = refl; back = refl }
-told (Acquire a b c d e f) = record { parts = _; found = refl; kinds = refl; named = refl; apart = refl; back = refl }
-told (CheckOut a b c) = record { parts = _; found = refl; kinds = refl; named = refl; apart = refl; back = refl }
-told (CheckIn a b) = record { parts = _; found = refl; kinds = refl; named = refl; apart = refl; back = refl }
-told (Renew a) = record { parts = _; found = refl; kinds = refl; named = refl; apart = refl; back = refl }
-told (PlaceHold a b c) = record { parts = _; found = refl; kinds = refl; named = refl; apart = refl; back = refl }
-told (CancelHold a) = record { parts = _; found = refl; kinds = refl; named = refl; apart = refl; back = refl }
-told (Unshelve a) = record { parts = _; found = refl; kinds = refl; named = refl; apart = refl; back = refl }
-told (UnshelveCancelled a) = record { parts = _; found = refl; kinds = refl; named = refl; apart = refl; back = refl }
-told (Missing a) = record { parts = _; found = refl; kinds = refl; named = refl; apart = refl; back = refl }
-told (Withdraw a) = record { parts = _; found = refl; kinds = refl; named = refl; apart = refl; back = refl }
-told (Pay a b) = record { parts = _; found = refl; kinds = refl; named = refl; apart = refl; back = refl }
-told (Waive a b) = record { parts = _; found = refl; kinds = refl; named = refl; apart = refl; back = refl }
-told (Page a) = record { parts = _; found = refl; kinds = refl; named = refl; apart = refl; back = refl }
+told _ = record { parts = _; found = refl; kinds = refl; named = refl; apart = refl; back = refl }
 
 pub listed : (command : Command) → IsListed command
 listed command = let told_is = told command in record { parts = told_is.parts; found = told_is.found; kinds = told_is.kinds }

@@ -33,7 +33,7 @@ number-IsUtf8 : (n : ℕ) → IsNumber n → IsUtf8 (decimal n)
 number-IsUtf8 n h = IsUtf8-from_ascii (decimal n) (IsAscii-decimal n (omega (arith, h)))
 
 amount-IsUtf8 : (n : ℕ) → IsAmount n → IsUtf8 (decimal n)
-amount-IsUtf8 n h = IsUtf8-from_ascii (decimal n) (IsAscii-decimal n h)
+amount-IsUtf8 n h = IsUtf8-from_ascii (decimal n) (IsAscii-decimal n (omega (arith, h)))
 
 below : (b : ℕ) → b < 128 → nat_lt b 128 ≡ true
 below b h = grind (arith, nat_tests)

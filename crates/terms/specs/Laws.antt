@@ -1,7 +1,8 @@
 -- The laws of request texts and reply texts.
-use Rattle.std.specs.Prelude.{◌≡◌, ◌<◌, ◌^◌, ℕ, true, Some, None, List, [], ◌∷◌, length, IsUtf8}
+use Rattle.std.specs.Prelude.{◌≡◌, ◌<◌, ◌≤◌, ◌^◌, ℕ, true, Some, None, List, [], ◌∷◌, length, IsUtf8}
 use Rattle.calendar.specs.Days.{IsDayNumber}
 use Rattle.terms.specs.Forms.{IsName, is_card_key}
+use Rattle.terms.specs.declared.limits.TheConstants.{LARGEST_SUM}
 use Rattle.terms.specs.Texts.{Part, Number, Amount, Day, Mask, CardKey, Name, said, request_text, reply_text}
 use Rattle.terms.specs.declared.command.Command.{Command}
 use Rattle.terms.specs.declared.reply.Routed.{Routed}
@@ -9,12 +10,13 @@ use Rattle.terms.specs.declared.reply.Routed.TheVariants.{Shelf, HoldShelf, Tran
 use Rattle.terms.specs.declared.reply.Reply.{Reply}
 use Rattle.terms.specs.declared.reply.Reply.TheVariants.{Done, Lent, CheckedIn, Held, Moved, Lost, Owed, Shown, Refused}
 
--- A number of 32 bits, and an amount of 64.
+-- A number of 32 bits.
 abbrev pub IsNumber : ℕ → Type 0
 IsNumber n = n < 2 ^ 32
 
+-- An amount of money: cents below 2^52.
 abbrev pub IsAmount : ℕ → Type 0
-IsAmount n = n < 2 ^ 64
+IsAmount n = n ≤ LARGEST_SUM
 
 -- A part has its form.
 abbrev pub IsPart : Part → Type 0

@@ -5,5 +5,6 @@ pub mod Callers
 pub mod Laws
 pub mod Commands
 pub mod Pictures
+pub mod Orders
 pub mod Limits
 pub mod Writing

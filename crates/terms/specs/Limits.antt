@@ -5,9 +5,9 @@ use Rattle.calendar.specs.Openings.{AreWeekdays, has_day, has_repeat}
 use Rattle.calendar.specs.declared.limits.TheConstants.{MOST_CLOSED_DAYS}
 use Rattle.terms.specs.Forms.{IsName, is_card_key, IsKey}
 use Rattle.terms.specs.Texts.{reply_text}
-use Rattle.terms.specs.Laws.{IsKept}
+use Rattle.terms.specs.Laws.{IsAmount, IsKept}
 use Rattle.terms.specs.Pictures.{Picture}
-use Rattle.terms.specs.declared.limits.TheConstants.{LAST_SMALL_NUMBER, LAST_LARGE_NUMBER, LAST_NUMBER, LAST_NEXT_NUMBER, LONGEST_PERIOD, LONGEST_PICKUP, MOST_RENEWALS, MOST_ALLOWED, HIGHEST_RATE, HIGHEST_CAP, HIGHEST_PRICE, HIGHEST_DEBT, LARGEST_SUM}
+use Rattle.terms.specs.declared.limits.TheConstants.{LAST_SMALL_NUMBER, LAST_LARGE_NUMBER, LAST_NUMBER, LAST_NEXT_NUMBER, LONGEST_PERIOD, LONGEST_PICKUP, MOST_RENEWALS, MOST_ALLOWED, HIGHEST_RATE, HIGHEST_CAP, HIGHEST_PRICE, HIGHEST_DEBT}
 use Rattle.terms.specs.declared.reply.Reply.{Reply}
 use Rattle.terms.specs.declared.command.Owner.{Owner}
 use Rattle.terms.specs.declared.command.Owner.TheVariants.{Desk, Patron}
@@ -41,10 +41,6 @@ IsNext n = (1 ≤ n) × (n ≤ LAST_NEXT_NUMBER)
 abbrev pub IsPeriod : ℕ → Type 0
 IsPeriod n = (1 ≤ n) × (n ≤ LONGEST_PERIOD)
 
--- cents below 2^52
-abbrev pub IsSum : ℕ → Type 0
-IsSum n = n ≤ LARGEST_SUM
-
 -- the desk, or a patron
 abbrev pub IsOwner : Owner → Type 0
 IsOwner Desk = Unit {0}
@@ -63,7 +59,7 @@ abbrev pub IsRule : RuleRow → Type 0
 IsRule r = IsSmall r.kind × IsSmall r.copy_kind × IsPeriod r.period × (r.renewals ≤ MOST_RENEWALS) × (r.rate ≤ HIGHEST_RATE) × (r.cap ≤ HIGHEST_CAP)
 
 abbrev pub IsPatron : PatronRow → Type 0
-IsPatron r = IsLarge r.patron × IsSmall r.kind × (is_card_key r.card_key ≡ true) × IsName r.name × IsSum r.owed
+IsPatron r = IsLarge r.patron × IsSmall r.kind × (is_card_key r.card_key ≡ true) × IsName r.name × IsAmount r.owed
 
 abbrev pub IsTitle : TitleRow → Type 0
 IsTitle r = IsLarge r.title × IsName r.text
@@ -83,7 +79,7 @@ abbrev pub IsTransit : TransitRow → Type 0
 IsTransit r = IsLarge r.copy × IsSmall r.goal × IfSome r.hold IsGiven
 
 abbrev pub IsLine : LineRow → Type 0
-IsLine r = IsGiven r.line × IsLarge r.patron × IsDayNumber r.day × IsSum r.amount × IfSome r.loan IsGiven
+IsLine r = IsGiven r.line × IsLarge r.patron × IsDayNumber r.day × IsAmount r.amount × IfSome r.loan IsGiven
 
 -- the text of a request, and that of a reply that can be kept
 abbrev pub IsKeptRow : KeptRow → Type 0

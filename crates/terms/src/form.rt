@@ -155,7 +155,7 @@ const AMOUNT: PartForm = PartForm {
 };
 
 /// The commands.
-const COMMANDS: [CommandForm; 21] = [
+const COMMANDS: &[CommandForm] = &[
     CommandForm {
         name: "begin-day",
         parts: &[DAY],
@@ -246,7 +246,7 @@ const COMMANDS: [CommandForm; 21] = [
 pub fn command_forms() -> &'static [CommandForm]
     ensures { map line result.now ≡ commands }
 {
-    &COMMANDS
+    COMMANDS
 }
 
 /// The form of the command with this name among these, if there is one.

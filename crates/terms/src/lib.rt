@@ -8,6 +8,7 @@ mod laws;
 mod limits;
 mod money;
 mod number;
+mod order;
 mod put;
 mod reading;
 mod refusal;
@@ -38,6 +39,7 @@ pub use number::{
     BranchId, Cents, CopyId, CopyKind, Count, Days, HoldId, LineId, LoanId, Number, PatronId,
     PatronKind, TitleId,
 };
+pub use order::{Ordered, owner_number};
 pub use put::{BranchPut, KeptPut, PatronPut, TitlePut};
 pub use reading::{read_number, read_reply};
 pub use refusal::Refusal;

@@ -40,7 +40,7 @@ pub const HIGHEST_PRICE: u64 = 1_000_000;
 /// The most that a kind of patron can be allowed to owe at a check-out, in cents.
 pub const HIGHEST_DEBT: u64 = 1_000_000;
 
-/// The greatest sum of money, in cents: 2^52 - 1.
+/// The greatest amount of money, and the greatest sum of amounts, in cents: 2^52 - 1.
 pub const LARGEST_SUM: u64 = 4_503_599_627_370_495;
 
 /// The longest name or title's text, in bytes.

@@ -1,6 +1,7 @@
 //! Numbers: whose they are is their type.
 
-ghost use Rattle.std.specs.Prelude.{◌≡◌, ◌<◌, ◌^◌, ℕ};
+ghost use Rattle.std.specs.Prelude.{◌≡◌, ◌<◌, ◌≤◌, ◌^◌, ℕ};
+ghost use Rattle.terms.specs.declared.limits.TheConstants.{LARGEST_SUM};
 
 use crate::thing;
 use std::fmt;
@@ -87,21 +88,27 @@ pub type Days = Number<thing::Day>;
 /// How many loans, holds or renewals are allowed or left.
 pub type Count = Number<thing::Counted>;
 
-/// An amount of money, in whole cents.
+/// An amount of money, in whole cents. None is so large that a column of the tables couldn't hold it.
 #[derive(Clone, Copy, Debug, PartialEq, Eq)]
 pub struct Cents(u64);
 
 impl Model for Cents {
+    ghost use Rattle.std.specs.Prelude.{◌≤◌, ℕ};
+    ghost use Rattle.terms.specs.declared.limits.TheConstants.{LARGEST_SUM};
+
     ghost Value = { ℕ };
 
     ghost view = { λ x. x.0 };
+
+    ghost invariant = { λ x. x.0 ≤ LARGEST_SUM };
 
     ghost inverse = { λ n. record { 0 = n } };
 }
 
 impl Cents {
-    /// The amount as it stands, within its limits or not.
+    /// The amount of so many cents, which is within the limits of its kind or not.
     pub const fn new(number: u64) -> Self
+        requires { number ≤ LARGEST_SUM }
         ensures { result ≡ number }
     {
         Cents(number)
@@ -110,7 +117,7 @@ impl Cents {
     /// The number.
     pub const fn number(self) -> u64
         ensures value { result ≡ self }
-        ensures fits { self < 2 ^ 64 }
+        ensures fits { self ≤ LARGEST_SUM }
     {
         let Cents(number) = self;
         number

@@ -11,6 +11,7 @@ ghost use Rattle.terms.specs.declared.reply.Reply.{Reply};
 ghost use Rattle.terms.specs.declared.reply.Routed.TheVariants as routed;
 ghost use Rattle.terms.specs.declared.reply.Reply.TheVariants as reply;
 
+use crate::limits::LARGEST_SUM;
 use crate::number::{BranchId, Cents, HoldId, LoanId};
 use crate::reply::{Reply, Routed};
 use calendar::Day;
@@ -57,7 +58,11 @@ fn read_amount(text: &str) -> Option<u64>
     ensures whole { (n : ℕ) → IsAmount n → text.now ≡ decimal n → result ≡ Some n }
 {
     let number = read_large(text)?;
-    Some(number)
+    if number <= LARGEST_SUM {
+        Some(number)
+    } else {
+        None
+    }
 }
 
 /// What follows a word and a space.

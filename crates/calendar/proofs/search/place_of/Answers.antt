@@ -8,8 +8,8 @@ use Rattle.calendar.proofs.search.place_of.Goals as goal
 differs : (x d : ℕ) (r : Bool) → r ≡ (x == d) → r ≡ false → x ≡ d → ⊥
 differs x d r e f same = let t = (Decides-eqb x d).1 same in cc
 
-pub returns-clause-missing : goal.returns-clause-missing
-returns-clause-missing g c =
+pub returns-else-place-len-clause-missing : goal.returns-else-place-len-clause-missing
+returns-else-place-len-clause-missing g c =
     let p = rw c.number.ensures.value at c.count_below-place.ensures.below in
     has_day-IsPlaceFor c.args.singles.now c.args.day c.count_below-place.result (IsPlaceFor-apart c.args.singles.now c.args.day c.count_below-place.result c.requires.rising p
     (λ lt same. elim c.else-place-len.branch [

@@ -9,4 +9,4 @@ use Rattle.circ_tables.proofs.rules.put_rule.Goals as goal
 
 pub returns : goal.returns
 returns g c = puts_of _ _ _ (pair_puts rules_are (number c.args.row.now.kind) (number c.args.row.now.copy_kind) (rule_cells c.args.row.now)
-    (rule_fills (pos c.args.row.now.kind) (pos c.args.row.now.copy_kind) (pos c.args.row.now.period) (pos c.args.row.now.renewals) (pos c.args.row.now.rate) (pos c.args.row.now.cap))) (λ a b any. rule_drawn a b c.args.row.now) (rw (c.params-to_sql.ensures, c.number.ensures.value, c.params-to_sql-2.ensures, c.number-2.ensures.value, c.params-to_sql-3.ensures, c.number-3.ensures.value, c.params-to_sql-4.ensures, c.number-4.ensures.value, c.params-to_sql-5.ensures, amount_back _ _ c.in_ok-rate.ensures.amount, c.params-to_sql-6.ensures, amount_back _ _ c.in_ok-cap.ensures.amount) at c.run.ensures)
+    (rule_fills (pos c.args.row.now.kind) (pos c.args.row.now.copy_kind) (pos c.args.row.now.period) (pos c.args.row.now.renewals) (pos c.args.row.now.rate) (pos c.args.row.now.cap))) (λ a b any. rule_drawn a b c.args.row.now) (rw (c.params-to_sql.ensures, c.number.ensures.value, c.params-to_sql-2.ensures, c.number-2.ensures.value, c.params-to_sql-3.ensures, c.number-3.ensures.value, c.params-to_sql-4.ensures, c.number-4.ensures.value, c.params-to_sql-5.ensures, amount_back _ _ c.money-rate.ensures, c.params-to_sql-6.ensures, amount_back _ _ c.money-cap.ensures) at c.run.ensures)

@@ -12,7 +12,7 @@ use Rattle.desk.proofs.Handled.{allowed-both, not-page, reply-key, after-key, re
 use Rattle.desk.proofs.Looking.{if-ok-is, if-ok-given, on-err, on-ok-is, leaves-first}
 use Rattle.desk.proofs.Unchanged.{any-nothing, any-after, any-undone, nothing-then}
 use Rattle.desk.proofs.Owning.{known-owner}
-use Rattle.desk.proofs.Untouched.{others-as}
+use Rattle.desk.proofs.Untouched.{others-as, others-same}
 use Rattle.desk.proofs.handling.handle_touching.Goals as goal
 
 pub respond-requires : goal.respond-requires
@@ -96,3 +96,13 @@ returns-in-Page-clause-handled g c = record {
   left = λ disk H shows.
       leaves-first (state g.S.Store c.show.new.store) (picture H) _ (c.show.ensures.looks.left disk H (c.in_ok-is_known.ensures.looks.stays (c.show.ensures.looks.clean disk) H shows));
 }
+
+pub returns-in-Page-clause-touches : goal.returns-in-Page-clause-touches
+returns-in-Page-clause-touches g c = λ disk. if-ok-is _ c.show.result (λ reply is H shows.
+    let r = c.args.request.now in
+    let first = c.show.ensures.looks.clean disk in
+    let known : is_known H r.caller ≡ true = sym (c.in_ok-is_known.ensures.shown first H shows tt) ∙ c.if-not-branch.false in
+    let may : may_send (owner_of r.caller) r.command ≡ true = rw c.owner.ensures at (sym c.may_send.ensures ∙ c.if-not-may_send.false) in
+    let allowed : is_allowed H r.caller r.command ≡ true = allowed-both H r.caller r.command known may in
+    let page : is_page r.command ≡ true = ap is_page c.in-Page.is in
+    others-same _ H (after_one H r) (after-page H r allowed page))

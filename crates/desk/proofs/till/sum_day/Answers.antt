@@ -1,19 +1,17 @@
 use Rattle.std.proofs.Common.{◌≡◌, ◌^◌, ◌≤◌, ◌<◌, ◌++◌, ℕ, [], refl, sym, subst, arith, rules}
-use Rattle.model.proofs.RowRanges.{legal-rows}
-use Rattle.model.specs.History.{History}
-use Rattle.model.specs.Picture.{picture}
 use Rattle.store.specs.Pages.{AreLinesAfter}
-use Rattle.desk.proofs.Looking.{idle, looked, ◌⨾◌, gives, fails, damaged}
-use Rattle.desk.specs.Parts.{IsLast}
+use Rattle.terms.specs.Pictures.{Picture}
 use Rattle.terms.specs.declared.row.LineRow.{LineRow}
-use Rattle.desk.proofs.TillPages.{AreLinesTo, no-lines, lines-all, lines-more, lines-go-on, checked}
+use Rattle.desk.specs.Parts.{IsLast}
+use Rattle.desk.proofs.Founds.{found-nothing, found-then, found-fault, found-never}
+use Rattle.desk.proofs.TillPages.{AreLinesTo, no-lines, lines-all, lines-more, lines-go-on, sums-of}
 use Rattle.desk.proofs.till.sum_day.Goals as goal
 
 pub pages-init : goal.pages-init
 pages-init g c = record {
-  learnt = gives idle (λ _ _ _. tt) (λ H legal limits _. record {
+  found = found-nothing (λ P legal. record {
     done = [];
-    lines = no-lines (picture H) c.args.day c.new-after.result limits c.new-after.ensures;
+    lines = no-lines P c.args.day c.new-after.result legal c.new-after.ensures;
     sums_are = refl;
     few = omega arith;
   });
@@ -21,35 +19,31 @@ pages-init g c = record {
 }
 
 pub returns-in_err-rows : goal.returns-in_err-rows
-returns-in_err-rows g c = fails _ c.from_residual.ensures (c.pages.invariant.learnt ⨾ looked c.in_err-rows.ensures legal-rows legal-rows) (λ H list _. (legal-rows H list.0 list.1, λ _. tt))
+returns-in_err-rows g c = found-fault c.pages.invariant.found _ c.from_residual.ensures c.in_err-rows.ensures
 
 pub returns-in-None : goal.returns-in-None
 returns-in-None g c =
-    let page : (H : History) → AreLinesAfter (picture H) c.args.day c.pages.after c.in_ok-rows.rows.items → AreLinesAfter (picture H) c.args.day c.pages.after c.as_slice-page.result.now =
-    λ H is. subst (AreLinesAfter (picture H) c.args.day c.pages.after) (sym c.as_slice-page.ensures.value) is in
+    let page : (P : Picture) → AreLinesAfter P c.args.day c.pages.after c.in_ok-rows.rows.items → AreLinesAfter P c.args.day c.pages.after c.as_slice-page.result.now =
+    λ P is. subst (AreLinesAfter P c.args.day c.pages.after) (sym c.as_slice-page.ensures.value) is in
     let short = subst (IsLast (λ (r : LineRow). r.line) c.as_slice-page.result.now) c.in-None.is c.last_line.ensures in
-    checked
-    (gives (c.pages.invariant.learnt ⨾ looked c.in_ok-rows.ensures legal-rows legal-rows) (λ H list limits. (limits, λ _. tt)) (λ H legal limits is. (
-      is.0.done ++ c.as_slice-page.result.now,
-      lines-all (picture H) c.args.day c.pages.after limits is.0.done c.as_slice-page.result.now is.0.lines (page H is.1) short,
-      c.add_lines-sums.ensures is.0.done is.0.sums_are,
-    )))
-    c.check_sums.result c.check_sums.ensures.same c.check_sums.ensures.over
+    found-then c.pages.invariant.found c.in_ok-rows.ensures (λ P legal so_far rows. sums-of P c.args.day legal (so_far.done ++ c.as_slice-page.result.now)
+    (lines-all P c.args.day c.pages.after legal so_far.done c.as_slice-page.result.now so_far.lines (page P rows) short)
+    c.add_lines-sums.result (c.add_lines-sums.ensures so_far.done so_far.sums_are))
 
 pub pages-preserved : goal.pages-preserved
 pages-preserved g c =
-    let page : (H : History) → AreLinesAfter (picture H) c.args.day c.pages.after c.in_ok-rows.rows.items → AreLinesAfter (picture H) c.args.day c.pages.after c.as_slice-page.result.now =
-    λ H is. subst (AreLinesAfter (picture H) c.args.day c.pages.after) (sym c.as_slice-page.ensures.value) is in
+    let page : (P : Picture) → AreLinesAfter P c.args.day c.pages.after c.in_ok-rows.rows.items → AreLinesAfter P c.args.day c.pages.after c.as_slice-page.result.now =
+    λ P is. subst (AreLinesAfter P c.args.day c.pages.after) (sym c.as_slice-page.ensures.value) is in
     let last = subst (IsLast (λ (r : LineRow). r.line) c.as_slice-page.result.now) c.in-Some.is c.last_line.ensures in
     record {
-      learnt = gives (c.pages.invariant.learnt ⨾ looked c.in_ok-rows.ensures legal-rows legal-rows) (λ H list limits. (limits, λ _. tt)) (λ H legal limits is. record {
-        done = is.0.done ++ c.as_slice-page.result.now;
-        lines = subst (λ (n : ℕ). AreLinesTo (picture H) c.args.day n (is.0.done ++ c.as_slice-page.result.now)) (sym c.new-after-in-Some.ensures)
-            (lines-more (picture H) c.args.day c.pages.after limits is.0.done c.as_slice-page.result.now is.0.lines (page H is.1) c.in-Some.last last);
-        sums_are = c.add_lines-sums.ensures is.0.done is.0.sums_are;
+      found = found-then c.pages.invariant.found c.in_ok-rows.ensures (λ P legal so_far rows. record {
+        done = so_far.done ++ c.as_slice-page.result.now;
+        lines = subst (λ (n : ℕ). AreLinesTo P c.args.day n (so_far.done ++ c.as_slice-page.result.now)) (sym c.new-after-in-Some.ensures)
+            (lines-more P c.args.day c.pages.after legal so_far.done c.as_slice-page.result.now so_far.lines (page P rows) c.in-Some.last last);
+        sums_are = c.add_lines-sums.ensures so_far.done so_far.sums_are;
         few =
-            let so : c.pages._page ≤ c.pages.after = is.0.few in
-            let on : c.pages.after < c.in-Some.last = lines-go-on (picture H) c.args.day c.pages.after limits is.0.done c.as_slice-page.result.now is.0.lines (page H is.1) c.in-Some.last last in
+            let so : c.pages._page ≤ c.pages.after = so_far.few in
+            let on : c.pages.after < c.in-Some.last = lines-go-on P c.args.day c.pages.after legal so_far.done c.as_slice-page.result.now so_far.lines (page P rows) c.in-Some.last last in
             let same : c.new-after-in-Some.result ≡ c.in-Some.last = c.new-after-in-Some.ensures in
             omega (arith, so, on, same);
       });
@@ -57,7 +51,7 @@ pages-preserved g c =
     }
 
 pub returns : goal.returns
-returns g c = damaged c.pages.invariant.learnt (λ H list _. legal-rows H list.0 list.1) (λ H list _ so_far.
+returns g c = found-never c.pages.invariant.found (λ P legal so_far.
     let few : c.pages._page ≤ c.pages.after = so_far.few in
     let low : c.pages.after < 2 ^ 32 = c.pages.invariant.low in
     omega (arith, few, low, c.pages-test.false))

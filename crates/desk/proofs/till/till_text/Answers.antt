@@ -1,13 +1,11 @@
-use Rattle.std.proofs.Common.{◌∙◌, ap}
-use Rattle.desk.specs.Reporting.{till_words}
-use Rattle.desk.proofs.Looking.{gives, stops, fails}
+use Rattle.desk.proofs.Founds.{found-as, found-err, found-stops}
 use Rattle.desk.proofs.till.till_text.Goals as goal
 
 pub returns-in_err-sums : goal.returns-in_err-sums
-returns-in_err-sums g c = fails _ c.from_residual.ensures c.in_err-sums.ensures (λ _ _ any. any)
+returns-in_err-sums g c = found-err _ c.from_residual.ensures c.in_err-sums.ensures
 
 pub returns-in_err-till_lines : goal.returns-in_err-till_lines
-returns-in_err-till_lines g c = stops _ c.from_residual-in_err-till_lines.ensures c.in_ok-sums.ensures
+returns-in_err-till_lines g c = found-stops c.in_ok-sums.ensures _ c.from_residual-in_err-till_lines.ensures
 
 pub returns : goal.returns
-returns g c = gives c.in_ok-sums.ensures (λ _ _ any. any) (λ H legal _ found. c.in_ok-till_lines.ensures ∙ ap (till_words c.args.day) found)
+returns g c = found-as c.in_ok-sums.ensures (λ P legal of. (_, of, c.in_ok-till_lines.ensures))

@@ -1,19 +1,19 @@
 use Rattle.store.proofs.PagedRows.{open_pass}
-use Rattle.store.proofs.ViewLemmas.{◌⨾◌, fails, gives}
+use Rattle.store.proofs.ReviewLemmas.{◌⨟◌, faults, tells}
 use Rattle.store.proofs.listing.audit_tables.Goals as goal
 
 pub returns-in_err-owned : goal.returns-in_err-owned
-returns-in_err-owned g c = fails _ _ c.from_residual-in_err-owned.ensures (c.in_ok-set.ensures ⨾ c.in_err-owned.ensures)
+returns-in_err-owned g c = faults _ _ c.from_residual-in_err-owned.ensures (c.in_ok-set.ensures ⨟ c.in_err-owned.ensures).view
 
 pub returns-in_err-done : goal.returns-in_err-done
-returns-in_err-done g c = fails _ _ c.from_residual-in_err-done.ensures (c.in_ok-set.ensures ⨾ c.in_ok-owned.ensures ⨾ c.in_err-done.ensures)
+returns-in_err-done g c = faults _ _ c.from_residual-in_err-done.ensures (c.in_ok-set.ensures ⨟ c.in_ok-owned.ensures ⨟ c.in_err-done.ensures).view
 
 pub returns-in_err-pass_over_kept : goal.returns-in_err-pass_over_kept
-returns-in_err-pass_over_kept g c = fails _ _ c.from_residual-in_err-pass_over_kept.ensures (c.in_ok-set.ensures ⨾ c.in_ok-owned.ensures ⨾ c.in_ok-done.ensures ⨾ c.in_err-pass_over_kept.ensures)
+returns-in_err-pass_over_kept g c = faults _ _ c.from_residual-in_err-pass_over_kept.ensures (c.in_ok-set.ensures ⨟ c.in_ok-owned.ensures ⨟ c.in_ok-done.ensures ⨟ c.in_err-pass_over_kept.ensures).view
 
 pub returns : goal.returns
 returns g c =
-    gives (c.in_ok-set.ensures ⨾ c.in_ok-owned.ensures ⨾ c.in_ok-done.ensures ⨾ c.in_ok-pass_over_kept.ensures)
+    tells (c.in_ok-set.ensures ⨟ c.in_ok-owned.ensures ⨟ c.in_ok-done.ensures ⨟ c.in_ok-pass_over_kept.ensures)
     (λ P all. record {
       patrons = all.1.0.patrons;
       copies = all.1.0.copies;
@@ -22,3 +22,4 @@ returns g c =
       transits = all.1.1.0.transits;
       lines = all.1.1.0.lines;
     })
+    (λ maps all. record { registers = all.0; holdings = all.1.0; dealings = all.1.1.0; kept = all.1.1.1 })

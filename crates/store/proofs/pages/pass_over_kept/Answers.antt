@@ -1,15 +1,30 @@
+use Rattle.std.proofs.Common.{◌≡◌, ◌-◌, List, length, Some, None, sym, subst}
+use Rattle.std.specs.Prelude.{slice_get}
+use Rattle.terms.specs.declared.row.KeptRow.{KeptRow}
+use Rattle.store.proofs.KeptRows.{all_kept_met, none_last}
 use Rattle.store.proofs.PageLemmas.{passed_over}
-use Rattle.store.proofs.ViewLemmas.{◌⨾◌, fails, gives}
+use Rattle.store.proofs.ReviewLemmas.{faults, tells, begun, gone_on, given_up}
+use Rattle.store.proofs.ViewLemmas.{◌⨾◌}
 use Rattle.store.proofs.pages.pass_over_kept.Goals as goal
 
 pub returns-in_err-page : goal.returns-in_err-page
-returns-in_err-page g c = fails _ _ c.from_residual.ensures (passed_over c.in_err-page.ensures)
+returns-in_err-page g c = faults _ _ c.from_residual.ensures (passed_over c.in_err-page.ensures)
 
 pub kept-init : goal.kept-init
-kept-init g c = gives (passed_over c.in_ok-page.ensures) (λ P all. tt)
+kept-init g c = begun c.in_ok-page.ensures
 
 pub returns-in_err-page-2 : goal.returns-in_err-page-2
-returns-in_err-page-2 g c = fails _ _ c.from_residual-in_err-page-2.ensures (c.kept.invariant ⨾ c.in_err-page-2.ensures)
+returns-in_err-page-2 g c = faults _ _ c.from_residual-in_err-page-2.ensures (c.kept.invariant.view ⨾ c.in_err-page-2.ensures.view)
 
 pub kept-preserved : goal.kept-preserved
-kept-preserved g c = gives (c.kept.invariant ⨾ c.in_ok-page-2.ensures) (λ P all. tt)
+kept-preserved g c =
+    gone_on (λ p. p.items) c.kept.page.items c.in-Some.last.now
+    (subst (λ (rows : List KeptRow). slice_get rows (length rows - 1) ≡ Some c.in-Some.last.now) c.deref.ensures.value (sym c.in-Some.ensures.value)) c.kept.invariant c.in_ok-page-2.ensures.view c.in_ok-page-2.ensures.page
+
+pub returns-in_default : goal.returns-in_default
+returns-in_default g c =
+    tells c.kept.invariant (λ P all. tt) (λ maps met. all_kept_met maps c.kept.page.items
+    (none_last c.kept.page.items (subst (λ (rows : List KeptRow). slice_get rows (length rows - 1) ≡ None) c.deref.ensures.value (sym c.in_default.ensures.value))) met)
+
+pub returns : goal.returns
+returns g c = given_up c.kept.invariant

@@ -1,4 +1,4 @@
 use Rattle.calendar.proofs.opening.Calendar.reopen.Given as goal
 
-abbrev pub ghosts-place_of : goal.ghosts-place_of
-ghosts-place_of a = record { name = a.blank.name; parts = a.blank.parts }
+abbrev pub ghosts-uncounted_place : goal.ghosts-uncounted_place
+ghosts-uncounted_place a = record { name = a.blank.name; parts = a.blank.parts }

@@ -11,16 +11,16 @@ pub returns : goal.returns
 returns c =
     subst (λ (page : ℕ). LooksAt (IsBalanced c.args.tables.now) page c.look_at_patrons.result) (c.add_lines.ensures.charges.page ∙ c.new-charges.ensures.page)
     (subst (λ (rows : List PatronRow). LooksAt (λ n. All (λ r. r.patron ≡ n → r.owed + credits_of c.args.tables.now n ≡ charges_of c.args.tables.now n) rows) c.add_lines.new.charges.page c.look_at_patrons.result)
-    c.as_slice-2.ensures
+    c.as_slice-2.ensures.rows
     (c.look_at_patrons.ensures (charges_of c.args.tables.now) (credits_of c.args.tables.now) charges credits
     (c.add_lines.ensures.credits.page ∙ c.new-credits.ensures.page ∙ sym (c.add_lines.ensures.charges.page ∙ c.new-charges.ensures.page))))
   where
     charges : Sums c.add_lines.new.charges (charges_of c.args.tables.now)
     charges n on =
         c.add_lines.ensures.charges.sums (λ m. 0) c.new-charges.ensures.sums n on
-        ∙ (let lines = ap (λ (xs : List LineRow). sum_by (λ r. charge r n) xs) c.as_slice.ensures in omega (arith, lines))
+        ∙ (let lines = ap (λ (xs : List LineRow). sum_by (λ r. charge r n) xs) c.as_slice.ensures.rows in omega (arith, lines))
 
     credits : Sums c.add_lines.new.credits (credits_of c.args.tables.now)
     credits n on =
         c.add_lines.ensures.credits.sums (λ m. 0) c.new-credits.ensures.sums n on
-        ∙ (let lines = ap (λ (xs : List LineRow). sum_by (λ r. credit r n) xs) c.as_slice.ensures in omega (arith, lines))
+        ∙ (let lines = ap (λ (xs : List LineRow). sum_by (λ r. credit r n) xs) c.as_slice.ensures.rows in omega (arith, lines))

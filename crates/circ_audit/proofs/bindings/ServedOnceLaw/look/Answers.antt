@@ -12,5 +12,5 @@ returns c =
     subst (λ (page : ℕ). LooksAt (IsServedOnce c.args.tables.now) page c.look.result) (c.tally.ensures.page ∙ c.new-window.ensures.page)
     (c.look.ensures (λ n. count_by (λ r. names r.hold n) c.args.tables.now.transits)
     (shows-same c.tally.new.self _ (λ n. count_by (λ r. names r.hold n) c.args.tables.now.transits)
-    (λ n. let transits = ap (λ (xs : List TransitRow). count_by (λ r. names r.hold n) xs) c.as_slice.ensures in omega (arith, transits))
+    (λ n. let transits = ap (λ (xs : List TransitRow). count_by (λ r. names r.hold n) xs) c.as_slice.ensures.rows in omega (arith, transits))
     (c.tally.ensures.shows (λ n. 0) c.new-window.ensures.shows)))

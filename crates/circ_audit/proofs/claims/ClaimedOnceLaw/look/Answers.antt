@@ -22,8 +22,8 @@ returns c =
         → 0 + count_by (λ r. names (lent_copy r) n) c.as_slice.result.now + count_by (λ r. names (shelved_copy r) n) c.as_slice-2.result.now
         + count_by (λ r. names (travelling_copy r) n) c.as_slice-3.result.now + count_by (λ r. names (absent_copy r) n) c.as_slice-4.result.now ≡ claims_on c.args.tables.now n
     same n =
-        let loans = ap (λ (xs : List LoanRow). count_by (λ r. names (lent_copy r) n) xs) c.as_slice.ensures in
-        let holds = ap (λ (xs : List HoldRow). count_by (λ r. names (shelved_copy r) n) xs) c.as_slice-2.ensures in
-        let transits = ap (λ (xs : List TransitRow). count_by (λ r. names (travelling_copy r) n) xs) c.as_slice-3.ensures in
-        let copies = ap (λ (xs : List CopyRow). count_by (λ r. names (absent_copy r) n) xs) c.as_slice-4.ensures in
+        let loans = ap (λ (xs : List LoanRow). count_by (λ r. names (lent_copy r) n) xs) c.as_slice.ensures.rows in
+        let holds = ap (λ (xs : List HoldRow). count_by (λ r. names (shelved_copy r) n) xs) c.as_slice-2.ensures.rows in
+        let transits = ap (λ (xs : List TransitRow). count_by (λ r. names (travelling_copy r) n) xs) c.as_slice-3.ensures.rows in
+        let copies = ap (λ (xs : List CopyRow). count_by (λ r. names (absent_copy r) n) xs) c.as_slice-4.ensures.rows in
         omega (arith, loans, holds, transits, copies)

@@ -1,10 +1,11 @@
 use Rattle.store.specs.Lists.{AreRows, AllPass}
 use Rattle.store.proofs.PagedRows.{all_pass}
 use Rattle.store.proofs.ReadLemmas.{looked_view}
+use Rattle.store.proofs.ReviewLemmas.{viewed}
 use Rattle.store.proofs.ViewLemmas.{seen_as}
 use Rattle.store.proofs.store.Store.patrons.Goals as goal
 
 pub returns : goal.returns
 returns g c =
     looked_view (λ P. AreRows P.patrons (λ r. r.patron) AllPass) g.S.Store _ _ _ (rw c.self.view_is at (c.is_autocommit-is_idle.ensures.settled (search)))
-    (seen_as (rw c.self.view_is at c.read_pages.ensures) (λ P rows are. all_pass P.patrons (λ r. r.patron) rows are))
+    (seen_as (viewed (rw c.self.view_is at c.read_pages.ensures)) (λ P rows are. all_pass P.patrons (λ r. r.patron) rows are))

@@ -1,4 +1,4 @@
-use Rattle.std.proofs.Common.{◌≡◌, List, ℕ, sym, subst, true}
+use Rattle.std.proofs.Common.{◌≡◌, sym, subst, true}
 use Rattle.terms.specs.Forms.{is_key}
 use Rattle.terms.proofs.KeyLemmas.{request_text-is_key}
 use Rattle.terms.proofs.text.Key.of_row.Goals as goal

@@ -1,0 +1,187 @@
+//! The orders in which the rows of tables stand.
+
+ghost use Rattle.std.specs.Prelude.{◌≡◌, ◌↔◌, ◌<◌, IsTrue};
+ghost use Rattle.terms.specs.Callers.{owner_number};
+ghost use Rattle.terms.specs.Orders.{IsPairBefore, IsKeptBefore};
+ghost use Rattle.terms.specs.Orders.{rise-on, pair-on, kept-on};
+
+use crate::command::Owner;
+use crate::row::{
+    BranchRow, ClosedDayRow, CopyRow, HoldRow, KeptRow, KindRow, LineRow, LoanRow, PatronRow,
+    RuleRow, TitleRow, TransitRow,
+};
+
+/// Rows of a table, which stand in an order of their keys.
+pub trait Ordered: Drop {
+    ghost use Rattle.std.specs.Prelude.{◌↔◌, IsTrue};
+
+    ghost comes_before: { Self → Self → Type 0 };
+
+    /// Whether the row comes before another.
+    fn comes_before(&self, other: &Self) -> bool
+        ensures { IsTrue result ↔ comes_before self.now other.now };
+
+    ghost goes_on: { (r s t : Self) → comes_before r s → comes_before s t → comes_before r t };
+}
+
+/// 0 for the desk, else the patron's number.
+pub fn owner_number(owner: Owner) -> u32
+    ensures { result ≡ owner_number owner }
+{
+    match owner {
+        Owner::Desk => 0,
+        Owner::Patron(patron) => patron.number(),
+    }
+}
+
+/// Whether a pair of numbers comes before another.
+fn is_pair_before(a: u32, b: u32, next_a: u32, next_b: u32) -> bool
+    ensures { IsTrue result ↔ IsPairBefore (a, b) (next_a, next_b) }
+{
+    a < next_a || (a == next_a && b < next_b)
+}
+
+/// Branches stand by number.
+impl Ordered for BranchRow {
+    ghost comes_before = { λ r s. r.branch < s.branch };
+
+    fn comes_before(&self, other: &BranchRow) -> bool {
+        self.branch.number() < other.branch.number()
+    }
+
+    ghost goes_on = { rise-on (λ r. r.branch) };
+}
+
+/// Kinds of patrons stand by number.
+impl Ordered for KindRow {
+    ghost comes_before = { λ r s. r.kind < s.kind };
+
+    fn comes_before(&self, other: &KindRow) -> bool {
+        self.kind.number() < other.kind.number()
+    }
+
+    ghost goes_on = { rise-on (λ r. r.kind) };
+}
+
+/// Patrons stand by number.
+impl Ordered for PatronRow {
+    ghost comes_before = { λ r s. r.patron < s.patron };
+
+    fn comes_before(&self, other: &PatronRow) -> bool {
+        self.patron.number() < other.patron.number()
+    }
+
+    ghost goes_on = { rise-on (λ r. r.patron) };
+}
+
+/// Titles stand by number.
+impl Ordered for TitleRow {
+    ghost comes_before = { λ r s. r.title < s.title };
+
+    fn comes_before(&self, other: &TitleRow) -> bool {
+        self.title.number() < other.title.number()
+    }
+
+    ghost goes_on = { rise-on (λ r. r.title) };
+}
+
+/// Copies stand by number.
+impl Ordered for CopyRow {
+    ghost comes_before = { λ r s. r.copy < s.copy };
+
+    fn comes_before(&self, other: &CopyRow) -> bool {
+        self.copy.number() < other.copy.number()
+    }
+
+    ghost goes_on = { rise-on (λ r. r.copy) };
+}
+
+/// Loans stand by number.
+impl Ordered for LoanRow {
+    ghost comes_before = { λ r s. r.loan < s.loan };
+
+    fn comes_before(&self, other: &LoanRow) -> bool {
+        self.loan.number() < other.loan.number()
+    }
+
+    ghost goes_on = { rise-on (λ r. r.loan) };
+}
+
+/// Holds stand by number.
+impl Ordered for HoldRow {
+    ghost comes_before = { λ r s. r.hold < s.hold };
+
+    fn comes_before(&self, other: &HoldRow) -> bool {
+        self.hold.number() < other.hold.number()
+    }
+
+    ghost goes_on = { rise-on (λ r. r.hold) };
+}
+
+/// Transits stand by the number of the copy.
+impl Ordered for TransitRow {
+    ghost comes_before = { λ r s. r.copy < s.copy };
+
+    fn comes_before(&self, other: &TransitRow) -> bool {
+        self.copy.number() < other.copy.number()
+    }
+
+    ghost goes_on = { rise-on (λ r. r.copy) };
+}
+
+/// Lines stand by number.
+impl Ordered for LineRow {
+    ghost comes_before = { λ r s. r.line < s.line };
+
+    fn comes_before(&self, other: &LineRow) -> bool {
+        self.line.number() < other.line.number()
+    }
+
+    ghost goes_on = { rise-on (λ r. r.line) };
+}
+
+/// Circulation rules stand by the kind of patron and then by the kind of copy.
+impl Ordered for RuleRow {
+    ghost comes_before = { λ r s. IsPairBefore (r.kind, r.copy_kind) (s.kind, s.copy_kind) };
+
+    fn comes_before(&self, other: &RuleRow) -> bool {
+        is_pair_before(
+            self.kind.number(),
+            self.copy_kind.number(),
+            other.kind.number(),
+            other.copy_kind.number(),
+        )
+    }
+
+    ghost goes_on = { pair-on (λ r. (r.kind, r.copy_kind)) };
+}
+
+/// Closed days stand by branch and then by day.
+impl Ordered for ClosedDayRow {
+    ghost comes_before = { λ r s. IsPairBefore (r.branch, r.day) (s.branch, s.day) };
+
+    fn comes_before(&self, other: &ClosedDayRow) -> bool {
+        is_pair_before(
+            self.branch.number(),
+            self.day.number(),
+            other.branch.number(),
+            other.day.number(),
+        )
+    }
+
+    ghost goes_on = { pair-on (λ r. (r.branch, r.day)) };
+}
+
+/// What is kept stands by whose it is, the desk's first, and then by key, byte by byte.
+impl Ordered for KeptRow {
+    ghost comes_before = { IsKeptBefore };
+
+    fn comes_before(&self, other: &KeptRow) -> bool {
+        let number = owner_number(self.caller);
+        let other_number = owner_number(other.caller);
+        let is_next_key = self.key.as_str() < other.key.as_str();
+        number < other_number || (self.caller == other.caller && is_next_key)
+    }
+
+    ghost goes_on = { kept-on };
+}
