@@ -230,7 +230,7 @@ def one_request_of_the_web(folder, refusing, everything):
 def a_board_that_cannot_grow(folder, refusing):
     """A check-out that is committed while the board finds no memory for it: it is told 92, and so is what is submitted later; a page is as before; and a new program answers its key
     with the kept reply, of one loan. Each request for memory of the check-out is refused, the last one first, until that is met."""
-    base, path = os.path.join(folder, "ground.db"), os.path.join(folder, "board.db")
+    base, path = os.path.join(folder, "board_ground.db"), os.path.join(folder, "board.db")
     say(base, GROUND)
     lent, page = '{"reply":"loan 1 due 2026-03-09"}\n', '{"reply":"patron 2 owed 0 name Bo Carr"}\n'
     requests = [("c1", ["check-out", "1", "10", "1"], lent), ("c2", ["acquire", "77", "700", "1", "1", "900", "Tall Ships"], None), ("c3", ["page", "2"], page)]
