@@ -5,6 +5,7 @@ pub mod Callers
 pub mod Laws
 pub mod Commands
 pub mod Pictures
+pub mod Schemas
 pub mod Orders
 pub mod Limits
 pub mod Writing

@@ -20,6 +20,7 @@ use Rattle.terms.specs.declared.row.TitleRow.{TitleRow}
 use Rattle.terms.specs.declared.row.CopyRow.{CopyRow}
 use Rattle.terms.specs.declared.row.LoanRow.{LoanRow}
 use Rattle.terms.specs.declared.row.HoldRow.{HoldRow}
+use Rattle.terms.specs.declared.row.HoldRow1.{HoldRow1}
 use Rattle.terms.specs.declared.row.TransitRow.{TransitRow}
 use Rattle.terms.specs.declared.row.LineRow.{LineRow}
 use Rattle.terms.specs.declared.row.KeptRow.{KeptRow}
@@ -73,7 +74,10 @@ IsLoan r =
     × (r.renewals_left ≤ MOST_RENEWALS) × (r.rate ≤ HIGHEST_RATE) × (r.cap ≤ HIGHEST_CAP) × IfSome r.ended IsDayNumber
 
 abbrev pub IsHold : HoldRow → Type 0
-IsHold r = IsGiven r.hold × IsLarge r.patron × IsLarge r.title × IsSmall r.branch × IfSome r.copy IsLarge × IfSome r.limit_day IsDayNumber
+IsHold r = IsGiven r.hold × IsLarge r.patron × IsLarge r.title × IsSmall r.branch × IfSome r.copy IsLarge × IfSome r.limit_day IsDayNumber × IfSome r.first_day IsDayNumber
+
+abbrev pub IsHold1 : HoldRow1 → Type 0
+IsHold1 r = IsGiven r.hold × IsLarge r.patron × IsLarge r.title × IsSmall r.branch × IfSome r.copy IsLarge × IfSome r.limit_day IsDayNumber
 
 abbrev pub IsTransit : TransitRow → Type 0
 IsTransit r = IsLarge r.copy × IsSmall r.goal × IfSome r.hold IsGiven
@@ -97,6 +101,7 @@ pub record InLimits (P : Picture) : Type 0 where
   pub copies : (c : ℕ) (r : CopyRow) → P.copies c ≡ Some r → (r.copy ≡ c) × IsCopy r
   pub loans : (l : ℕ) (r : LoanRow) → P.loans l ≡ Some r → (r.loan ≡ l) × IsLoan r
   pub holds : (h : ℕ) (r : HoldRow) → P.holds h ≡ Some r → (r.hold ≡ h) × IsHold r
+  pub holds1 : (h : ℕ) (r : HoldRow1) → P.holds1 h ≡ Some r → (r.hold ≡ h) × IsHold1 r
   pub transits : (c : ℕ) (r : TransitRow) → P.transits c ≡ Some r → (r.copy ≡ c) × IsTransit r
   pub lines : (n : ℕ) (r : LineRow) → P.lines n ≡ Some r → (r.line ≡ n) × IsLine r
   pub kept : (o : Owner) (k : List ℕ) (r : KeptRow) → P.kept o k ≡ Some r → (r.caller ≡ o) × (r.key ≡ k) × IsKeptRow r

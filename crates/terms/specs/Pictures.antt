@@ -1,4 +1,4 @@
--- The rows of the thirteen tables, as maps from their keys.
+-- The rows of the fourteen tables, as maps from their keys.
 use Rattle.std.specs.Prelude.{ℕ, ◌==◌, Bool, true, false, ◌&&◌, List, Option, bytes_eq}
 use Rattle.terms.specs.declared.command.Owner.{Owner}
 use Rattle.terms.specs.declared.command.Owner.TheVariants.{Desk, Patron as Reader}
@@ -11,11 +11,12 @@ use Rattle.terms.specs.declared.row.TitleRow.{TitleRow}
 use Rattle.terms.specs.declared.row.CopyRow.{CopyRow}
 use Rattle.terms.specs.declared.row.LoanRow.{LoanRow}
 use Rattle.terms.specs.declared.row.HoldRow.{HoldRow}
+use Rattle.terms.specs.declared.row.HoldRow1.{HoldRow1}
 use Rattle.terms.specs.declared.row.TransitRow.{TransitRow}
 use Rattle.terms.specs.declared.row.LineRow.{LineRow}
 use Rattle.terms.specs.declared.row.KeptRow.{KeptRow}
 
--- The tables: for each key, the row or none. A single closed day is there or not.
+-- The tables: for each key, the row or none. A single closed day is there or not. `holds` are those of the table of schema 2, and `holds1` those of the table that schema 1 has and that is empty from then on.
 pub record Picture : Type 0 where
   pub meta : MetaRow
   pub branches : ℕ → Option BranchRow
@@ -27,6 +28,7 @@ pub record Picture : Type 0 where
   pub copies : ℕ → Option CopyRow
   pub loans : ℕ → Option LoanRow
   pub holds : ℕ → Option HoldRow
+  pub holds1 : ℕ → Option HoldRow1
   pub transits : ℕ → Option TransitRow
   pub lines : ℕ → Option LineRow
   pub kept : Owner → List ℕ → Option KeptRow

@@ -32,7 +32,8 @@ pub use laws::{
 pub use limits::{
     HIGHEST_CAP, HIGHEST_DEBT, HIGHEST_PRICE, HIGHEST_RATE, LARGEST_SUM, LAST_LARGE_NUMBER,
     LAST_NEXT_NUMBER, LAST_NUMBER, LAST_SMALL_NUMBER, LAST_TODAY, LONGEST_CARD_KEY, LONGEST_KEY,
-    LONGEST_NAME, LONGEST_PERIOD, LONGEST_PICKUP, MOST_ALLOWED, MOST_RENEWALS, SHORTEST_CARD_KEY,
+    LONGEST_NAME, LONGEST_PERIOD, LONGEST_PICKUP, MOST_ALLOWED, MOST_RENEWALS, SCHEMA,
+    SHORTEST_CARD_KEY,
 };
 pub use money::fine;
 pub use number::{
@@ -45,7 +46,7 @@ pub use reading::{read_number, read_reply};
 pub use refusal::Refusal;
 pub use reply::{Reply, Routed, reply_text};
 pub use row::{
-    BranchRow, ClosedDayRow, Condition, CopyRow, HoldRow, HoldState, KeptRow, KindRow, LineRow,
+    BranchRow, ClosedDayRow, Condition, CopyRow, HoldRow, HoldRow1, HoldState, KeptRow, KindRow, LineRow,
     LoanRow, MetaRow, PatronRow, RuleRow, Sort, TitleRow, TransitRow,
 };
 pub use tables::{Rows, Tables};

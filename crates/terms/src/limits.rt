@@ -1,5 +1,8 @@
 //! The limits of numbers, amounts and texts, each under one name for the code and the definitions.
 
+/// The number of the newest schema of a library: that of the tables that are made.
+pub const SCHEMA: u32 = 2;
+
 /// The greatest number of a branch, a kind of patron or a kind of copy. The least is 1, as of every
 /// number below.
 pub const LAST_SMALL_NUMBER: u32 = 99;

@@ -7,8 +7,8 @@ ghost use Rattle.terms.specs.Orders.{rise-on, pair-on, kept-on};
 
 use crate::command::Owner;
 use crate::row::{
-    BranchRow, ClosedDayRow, CopyRow, HoldRow, KeptRow, KindRow, LineRow, LoanRow, PatronRow,
-    RuleRow, TitleRow, TransitRow,
+    BranchRow, ClosedDayRow, CopyRow, HoldRow, HoldRow1, KeptRow, KindRow, LineRow, LoanRow,
+    PatronRow, RuleRow, TitleRow, TransitRow,
 };
 
 /// Rows of a table, which stand in an order of their keys.
@@ -112,6 +112,17 @@ impl Ordered for HoldRow {
     ghost comes_before = { λ r s. r.hold < s.hold };
 
     fn comes_before(&self, other: &HoldRow) -> bool {
+        self.hold.number() < other.hold.number()
+    }
+
+    ghost goes_on = { rise-on (λ r. r.hold) };
+}
+
+/// Holds of schema 1 stand by number.
+impl Ordered for HoldRow1 {
+    ghost comes_before = { λ r s. r.hold < s.hold };
+
+    fn comes_before(&self, other: &HoldRow1) -> bool {
         self.hold.number() < other.hold.number()
     }
 

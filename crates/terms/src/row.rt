@@ -117,9 +117,22 @@ pub enum HoldState {
     Expired,
 }
 
-/// A row of `holds`. It names a copy and a shelf limit exactly while the hold is ready.
+/// A row of `holds2`. It names a copy and a shelf limit exactly while the hold is ready.
 #[derive(Clone, Copy, Debug, PartialEq, Eq)]
 pub struct HoldRow {
+    pub hold: HoldId,
+    pub patron: PatronId,
+    pub title: TitleId,
+    pub branch: BranchId,
+    pub state: HoldState,
+    pub copy: Option<CopyId>,
+    pub limit_day: Option<Day>,
+    pub first_day: Option<Day>,
+}
+
+/// A row of `holds`: a hold as a library of schema 1 has it. From schema 2 on there is none.
+#[derive(Clone, Copy, Debug, PartialEq, Eq)]
+pub struct HoldRow1 {
     pub hold: HoldId,
     pub patron: PatronId,
     pub title: TitleId,
