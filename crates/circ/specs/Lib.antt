@@ -5,3 +5,4 @@ pub mod Reporting
 pub mod Importing
 pub mod Serving
 pub mod Auditing
+pub mod Migrating

@@ -3,6 +3,7 @@ use Rattle.std.specs.Prelude.{◌≡◌, ℕ, List, [], ◌∷◌, ◌++◌, Opt
 use Rattle.terms.specs.Writing.{Writes}
 use Rattle.terms.specs.declared.reply.Reply.{Reply}
 use Rattle.terms.specs.Texts.{reply_text}
+use Rattle.terms.specs.declared.limits.TheConstants.{SCHEMA}
 use Rattle.circ_audit.specs.declared.auditing.Finding.{Finding}
 use Rattle.circ_audit.specs.declared.auditing.Finding.TheVariants.{Claims, Binding, Balance}
 use Rattle.circ.specs.declared.lines.Exit.{Exit}
@@ -34,6 +35,10 @@ threads_line = codes "fault threads" ++ 10 ∷ []
 -- That the tables keep the three laws of sound tables.
 abbrev pub sound_line : List ℕ
 sound_line = codes "sound" ++ 10 ∷ []
+
+-- Which schema a library has once it is led to the newest.
+abbrev pub schema_line : List ℕ
+schema_line = codes "schema " ++ decimal SCHEMA ++ 10 ∷ []
 
 -- That a law is broken, and the number of which it is.
 abbrev pub unsound_line : List ℕ → ℕ → List ℕ

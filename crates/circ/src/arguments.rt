@@ -29,6 +29,10 @@ pub enum Run<'a> {
     Audit {
         path: &'a str,
     },
+    /// `migrate FILE`: the library in a file, which is brought to the newest schema.
+    Migrate {
+        path: &'a str,
+    },
     /// `serve FILE PORT WORKERS EACH DESKKEY`: the web, over the library in a file, with so many
     /// workers, each of which serves so many connections.
     Serve {
@@ -104,6 +108,16 @@ fn read_audit_run<'a>(words: &'a [String]) -> Option<Run<'a>> {
         return None;
     };
     Some(Run::Audit {
+        path: path.as_str(),
+    })
+}
+
+/// The migration of a file: exactly its path follows.
+fn read_migrate_run<'a>(words: &'a [String]) -> Option<Run<'a>> {
+    let [path] = words else {
+        return None;
+    };
+    Some(Run::Migrate {
         path: path.as_str(),
     })
 }
@@ -197,6 +211,7 @@ pub fn read_run<'a>(alloc: Global, words: &'a [String]) -> Result<Option<Run<'a>
         "import" => Ok(read_import_run(words)),
         "report" => Ok(read_report_run(words)),
         "audit" => Ok(read_audit_run(words)),
+        "migrate" => Ok(read_migrate_run(words)),
         "serve" => read_serve(alloc, words),
         "send" => read_send(alloc, words),
         _ => Ok(None),

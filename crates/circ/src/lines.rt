@@ -6,7 +6,7 @@ ghost use Rattle.terms.specs.declared.fault.Fault.TheVariants.{Memory};
 ghost use Rattle.circ.specs.Exits.{status_of, exit_of};
 ghost use Rattle.circ.specs.Lines.{reply_line, fault_line, not_understood_line};
 ghost use Rattle.circ.specs.Lines.{no_network_line, port_line, threads_line, EndsWith};
-ghost use Rattle.circ.specs.Lines.{sound_line, unsound_line, finding_line};
+ghost use Rattle.circ.specs.Lines.{schema_line, sound_line, unsound_line, finding_line};
 ghost use Rattle.terms.specs.Writing.{Writes};
 
 use crate::writing::write_reply;
@@ -14,7 +14,7 @@ use circ_audit::Finding;
 use itoa::Buffer;
 use std::io::Write;
 pub use terms::WriteFault;
-use terms::{Fault, Reply, ServiceFault, write_bytes, write_pieces};
+use terms::{Fault, Reply, SCHEMA, ServiceFault, write_bytes, write_pieces};
 
 /// How a program ends.
 #[derive(Clone, Copy, Debug, PartialEq, Eq)]
@@ -142,6 +142,18 @@ pub(crate) fn tell_sound<W: Write>(writer: &mut W) -> Result<Exit, WriteFault>
         (W.contents writer.old) (W.contents writer.new) result }
 {
     write_bytes(writer, b"sound\n")?;
+    Ok(Exit::Done)
+}
+
+/// Tells the newest schema, which the library has. It takes no memory.
+pub(crate) fn tell_schema<W: Write>(writer: &mut W) -> Result<Exit, WriteFault>
+    ensures { EndsWith Exit.Done schema_line
+        (W.contents writer.old) (W.contents writer.new) result }
+{
+    write_pieces(
+        writer,
+        &[b"schema ", Buffer::new().format(SCHEMA).as_bytes(), b"\n"],
+    )?;
     Ok(Exit::Done)
 }
 

@@ -25,8 +25,8 @@ pub fn create<S: Start>(rt: &HostRuntime, path: &str, start: S) -> Result<FileDe
     Desk::new(Store::create_from(rt, path, start)?)
 }
 
-/// The tables of the library in the file.
-pub fn open_tables<S: Start>(
+/// The tables of the library in the file, of whichever schema they are.
+pub fn open_any<S: Start>(
     rt: &HostRuntime,
     path: &str,
     start: S,
@@ -36,7 +36,16 @@ pub fn open_tables<S: Start>(
 
 /// The desk over the library in the file.
 pub fn open<S: Start>(rt: &HostRuntime, path: &str, start: S) -> Result<FileDesk<S>, Fault> {
-    Desk::new(open_tables(rt, path, start)?)
+    Desk::new(open_any(rt, path, start)?)
+}
+
+/// The tables of the library in the file, where they are of the newest schema.
+pub fn open_tables<S: Start>(
+    rt: &HostRuntime,
+    path: &str,
+    start: S,
+) -> Result<FileTables<S>, Fault> {
+    Ok(open(rt, path, start)?.into_store())
 }
 
 /// Copies the database's log into the file, so that the file alone is the library; where that fails, the log stays beside it and
@@ -88,6 +97,15 @@ pub fn audit<S: Alter, W: Write>(
     writer: &mut W,
 ) -> Result<Exit, WriteFault> {
     circ::audit(store, alloc, writer)
+}
+
+/// Brings a library to the newest schema, and writes one line.
+pub fn migrate<S: Alter, W: Write>(
+    store: &mut Store<S>,
+    alloc: Global,
+    writer: &mut W,
+) -> Result<Exit, WriteFault> {
+    circ::migrate(store, alloc, writer)
 }
 
 /// Serves the web with so many workers, each of which serves so many connections. It gives the desk back.

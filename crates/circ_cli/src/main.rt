@@ -6,8 +6,8 @@ mod calls;
 mod notes;
 
 use calls::{
-    FileDesk, audit, close, close_tables, create, import, no_network, not_understood, one, open,
-    open_tables, out_of_memory, report, send, serve, tell_fault, unreadable,
+    FileDesk, audit, close, close_tables, create, import, migrate, no_network, not_understood, one,
+    open, open_any, open_tables, out_of_memory, report, send, serve, tell_fault, unreadable,
 };
 use circ::{Exit, Report, Run, WriteFault, read_run};
 use messages::{Line, Noting};
@@ -125,6 +125,26 @@ fn audit_on<S: Start, W: Write>(
     }
 }
 
+/// Brings the library in the file to the newest schema. Where there is no file, or one with no bytes, there is no library: 93, and no file is made.
+fn migrate_in<S: Start, W: Write>(
+    rt: &HostRuntime,
+    start: S,
+    path: &str,
+    writer: &mut W,
+) -> Result<Exit, WriteFault> {
+    if is_new(rt, path) {
+        return tell_fault(writer, Fault::Stored);
+    }
+    match open_any(rt, path, start) {
+        Ok(mut store) => {
+            let told = migrate(&mut store, rt.alloc(), writer);
+            close_tables(store);
+            told
+        }
+        Err(fault) => tell_fault(writer, fault),
+    }
+}
+
 /// The web over the library in the file, on the port of this machine alone.
 fn serve_on<S: Start, W: Write, R: Threads + Wait + Copy + Send + 'static>(
     rt: &HostRuntime,
@@ -210,6 +230,7 @@ fn do_run<S: Start, W: Write, R: Threads + Wait + Copy + Send + 'static>(
         Run::Import { path, copies } => import_into(rt, start, path, copies, writer),
         Run::Report { path, report } => report_on(rt, start, path, &report, writer),
         Run::Audit { path } => audit_on(rt, start, path, writer),
+        Run::Migrate { path } => migrate_in(rt, start, path, writer),
         Run::Serve {
             path,
             port,

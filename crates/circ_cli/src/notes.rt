@@ -5,8 +5,7 @@ use sqlite::types::ValueRef;
 use sqlite::{Alter, Connection, Error, ErrorCode};
 use std::fs::{self, File};
 use std::io::{ErrorKind, Read, Write};
-use store::SCHEMA;
-use terms::{WriteFault, write_bytes};
+use terms::{SCHEMA, WriteFault, write_bytes};
 
 /// How the file of a database begins.
 const HEADER: [u8; 16] = *b"SQLite format 3\0";
@@ -33,17 +32,19 @@ fn schema_of<S: Alter>(conn: &mut Connection<S>) -> Option<i64> {
 
 /// What is known of a file that begins as a database, by opening it once more: the run has let go of it.
 fn cause_inside(rt: &HostRuntime, path: &str) -> &'static str {
-    let is_later = match Connection::open(rt, path) {
-        Ok(mut conn) => {
-            matches!(schema_of(&mut conn), Some(schema) if schema > i64::from(SCHEMA))
-        }
+    let schema = match Connection::open(rt, path) {
+        Ok(mut conn) => schema_of(&mut conn),
         Err(Error::SqliteFailure(ErrorCode::DatabaseBusy)) => return "another process has the file",
-        Err(_) => false,
+        Err(_) => None,
     };
-    if is_later {
-        "the library is of a later schema, for a later version of this program"
-    } else {
-        "the file is there, and begins as a library"
+    match schema {
+        Some(schema) if schema > i64::from(SCHEMA) => {
+            "the library is of a later schema, for a later version of this program"
+        }
+        Some(schema) if schema >= 1 && schema < i64::from(SCHEMA) => {
+            "the library is of an older schema: make a backup of it, and then bring it forward by circ migrate FILE"
+        }
+        _ => "the file is there, and begins as a library",
     }
 }
 

@@ -3,12 +3,14 @@ use Rattle.std.specs.Prelude.{◌≡◌, ◌≤◌, ◌+◌, ◌==◌, ℕ, fals
 use Rattle.std.specs.List.{list_any}
 use Rattle.store.specs.Library.{Ghosts, Held, state, IsClean, IsOpen, HasTables, IsAsItWas}
 use Rattle.store.specs.Commit.{empty_library}
-use Rattle.store.specs.Stops.{KeepsPicture}
-use Rattle.circ_tables.specs.Encoding.{HasPicture}
+use Rattle.store.specs.Schemas.{IsKnown}
+use Rattle.store.specs.Stops.{KeepsPicture, LeavesPicture}
+use Rattle.circ_tables.specs.Encoding.{HasPicture, HasPictureAt}
 use Rattle.terms.specs.Pictures.{Picture}
 use Rattle.terms.specs.declared.command.Request.{Request}
 use Rattle.terms.specs.declared.fault.Fault.{Fault}
 use Rattle.terms.specs.declared.fault.Fault.TheVariants.{Stored}
+use Rattle.terms.specs.declared.limits.TheConstants.{SCHEMA}
 use Rattle.terms.specs.declared.reply.Reply.{Reply}
 use Rattle.model.specs.History.{History}
 use Rattle.model.specs.Requests.{after, after_one, replies as replies_to}
@@ -17,15 +19,24 @@ use Rattle.desk.specs.Headline.{Headline}
 use Rattle.desk.specs.Showing.{own_page}
 
 -- A desk was made over the tables of a store.
-pub record Begins {S E : Type 0}
-    (g : Ghosts S) (store : Held S) (result : Result (Held S) E) : Type 0 where
-  -- it holds these tables
-  pub same : IfOk result (λ desk. desk ≡ store)
+pub record Begins {S : Type 0}
+    (g : Ghosts S) (store : Held S) (result : Result (Held S) Fault) : Type 0 where
+  pub clean : IfOk result (λ desk. IsClean g desk → IsClean g store)
+  -- it holds these tables: what they showed they show
+  pub same : IfOk result (λ desk. IsClean g desk → IsOpen g desk → (P : Picture)
+      → KeepsPicture (state g store) P → KeepsPicture (state g desk) P)
+  -- a stop leaves what it would have left
+  pub left : IfOk result (λ desk. IsClean g desk → (P : Picture)
+      → KeepsPicture (state g store) P → LeavesPicture (state g desk) P)
   -- the tables of a new library show the empty list of accepted requests
-  pub begins : IfOk result
-      (λ desk. KeepsPicture (state g store) empty_library → Shows (state g desk) [])
-  -- there is a desk for tables that show a list of accepted requests
-  pub made : (H : History) → Shows (state g store) H → OnErr result ⊥
+  pub begins : IfOk result (λ desk. IsClean g desk → IsOpen g desk
+      → KeepsPicture (state g store) empty_library → Shows (state g desk) [])
+  -- there is none for tables of an older schema
+  pub older : IfOk result (λ desk. IsClean g desk → (n : ℕ) → IsKnown n → (P : Picture)
+      → HasPictureAt n (state g store).now P → P.meta.schema ≡ SCHEMA)
+  -- and no fault of a stored row for tables that show a list of accepted requests
+  pub made : IfErr result (λ fault. fault ≡ Stored → (last : Held S)
+      × (IsClean g last → (H : History) → Shows (state g store) H → ⊥))
 
 -- The tables show the headline of the list of accepted requests.
 abbrev pub ShowsHeadline : {S : Type 0} → Ghosts S → Held S → History → Type 0

@@ -21,7 +21,7 @@ use std::alloc::Global;
 use std::io::Write;
 use std::marker::Model;
 use store::Store;
-use terms::{BranchId, CardKey, Day, Fault, PatronId, Reply, Request};
+use terms::{BranchId, CardKey, Day, Fault, PatronId, Reply, Request, SCHEMA};
 
 /// The desk over the tables of a store.
 pub struct Desk<S: Alter> {
@@ -44,15 +44,20 @@ impl<S: Alter + Drop> Drop for Desk<S> {
     }
 }
 
-impl<S: Alter> Desk<S> {
-    /// The desk over these tables. It has no fault to tell as long as there is one schema. Tables
-    /// as `Store::create` makes them show the empty list of accepted requests.
-    pub fn new(store: Store<S>) -> Result<Desk<S>, Fault>
+impl<S: Alter + Drop> Desk<S> {
+    /// The desk over these tables. 91; 93 where they are of an older schema, and never where they
+    /// show a list of accepted requests. Tables as `Store::create` makes them show the empty one.
+    pub fn new(mut store: Store<S>) -> Result<Desk<S>, Fault>
         ensures { Begins S.Store store result }
     {
+        if store.schema()? != SCHEMA {
+            return Err(Fault::Stored);
+        }
         Ok(Desk { store })
     }
+}
 
+impl<S: Alter> Desk<S> {
     /// The reply to a request. 90, 91 or 93 in its place; over a file a desk that gave 90 or 91 is
     /// to be dropped and opened again.
     ///

@@ -10,13 +10,14 @@ use terms::{
 pub const VERSION: &str = "0.9.0";
 
 /// The runs of the program, by their first words.
-const RUNS: [&str; 8] = [
+const RUNS: [&str; 9] = [
     "circ file LIBRARY KEY WORD ...",
     "circ import LIBRARY COPIES",
     "circ report LIBRARY overdue BRANCH",
     "circ report LIBRARY till DAY",
     "circ report LIBRARY shelf BRANCH",
     "circ audit LIBRARY",
+    "circ migrate LIBRARY",
     "circ serve LIBRARY PORT WORKERS EACH DESKKEY",
     "circ send PORT DESKKEY KEY WORD ...",
 ];

@@ -1,5 +1,5 @@
 -- What a store over two files finds in them, from what the database finds.
-use Rattle.std.proofs.Common.{◌≡◌, ◌<◌, inl, inr, [], length, sym, ap, subst, ◌∙◌, arith}
+use Rattle.std.proofs.Common.{◌≡◌, ◌<◌, ℕ, inl, inr, [], length, sym, ap, subst, ◌∙◌, arith}
 use Rattle.std.proofs.Math.Logic.{∥∥₁_map}
 use Rattle.sqlite_catalog.proofs.ReadLemmas.{lists_once}
 use Rattle.sqlite.proofs.ListingLemmas.{empty_is_sound}
@@ -14,8 +14,10 @@ use Rattle.sqlite_trees.specs.Objects.{catalog_tree}
 use Rattle.sql_maps.specs.Maps.{Holds, no_maps}
 use Rattle.sql_maps.specs.Shapes.{no_schema}
 use Rattle.terms.specs.Pictures.{Picture}
-use Rattle.circ_tables.specs.Encoding.{HasPicture}
+use Rattle.terms.specs.declared.limits.TheConstants.{SCHEMA}
+use Rattle.circ_tables.specs.Encoding.{HasPictureAt}
 use Rattle.store.specs.Commit.{CreatesLibrary, OpensLibrary}
+use Rattle.store.specs.Schemas.{IsKnown}
 use Rattle.store.specs.Files.{HoldsEither, Connects, OpensOver, CreatesOver}
 use Rattle.store.specs.Stops.{LeavesEither, StandsFor}
 use Rattle.store.proofs.StopLemmas.{finds_same, same_database}
@@ -43,16 +45,17 @@ opened_over g image conn it connects opens clean is =
     let same = opens.same clean is in
     let found = finds_same image (state g conn) (state g it) same.1 from.found in
     let sound : IsDatabase (state g it).committed = subst IsDatabase (sym same.1) (from.live from.opens.is_open).1 in
-    let known = λ (P : Picture) (h : HasPicture (state g it).committed P). opens.found clean is P (subst (λ d. HasPicture d P) same.1 h) in
-    let shown = λ (db : Database) (P : Picture) (held : HoldsDatabase image db.trees) (shows : HasPicture db P).
-    (known P (subst (λ d. HasPicture d P) (sym (same_database (state g it).committed db sound shows.holds.sound (found.holds db.trees held))) shows)).0 in
+    let known = λ (n : ℕ) (at : IsKnown n) (P : Picture) (h : HasPictureAt n (state g it).committed P). opens.found clean is n at P (subst (λ d. HasPictureAt n d P) same.1 h) in
+    let shown = λ (n : ℕ) (at : IsKnown n) (db : Database) (P : Picture) (held : HoldsDatabase image db.trees) (shows : HasPictureAt n db P).
+    (known n at P (subst (λ d. HasPictureAt n d P) (sym (same_database (state g it).committed db sound shows.holds.sound (found.holds db.trees held))) shows)).0 in
+    let newest : IsKnown SCHEMA = (omega arith, omega arith) in
     record {
       found = found;
       sound = sound;
       settled = same.0 ∙ sym same.1;
       known = known;
       shown = shown;
-      either = λ P Q held. ∥∥₁_map held (λ one. elim one.1 [ inl h ↦ inl (shown one.0 P one.2 h) | inr h ↦ inr (shown one.0 Q one.2 h) ]);
+      either = λ P Q held. ∥∥₁_map held (λ one. elim one.1 [ inl h ↦ inl (shown SCHEMA newest one.0 P one.2 h) | inr h ↦ inr (shown SCHEMA newest one.0 Q one.2 h) ]);
     }
 
 pub created_over : {S : Type 0} (g : Ghosts S) (image : Image) (conn it : Held S) → Connects image (state g conn) → CreatesLibrary g conn it → CreatesOver image (state g it)

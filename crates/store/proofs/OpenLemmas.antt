@@ -1,21 +1,38 @@
--- When an opening finds no library of the known schema.
-use Rattle.std.proofs.Common.{◌≡◌, ℕ, ap, sym, ◌∙◌}
+-- What an opening finds of a library, and when it finds none of a known schema.
+use Rattle.std.proofs.Common.{◌≡◌, ◌≤◌, ℕ, zero, suc, List, [], refl, ap, sym, subst, ◌∙◌, arith}
+use Rattle.sqlite.specs.Effect.{Database}
 use Rattle.sqlite.specs.Held.{Held, state}
 use Rattle.sqlite.specs.Order.{Row, column}
+use Rattle.sqlite.specs.Schema.{Schema}
 use Rattle.sqlite.specs.State.{HasCleanDisk, Survives}
 use Rattle.sqlite.specs.Store.{Ghosts}
+use Rattle.sqlite.specs.Table.{Table}
+use Rattle.sqlite_schema.specs.declared.schema.Index.{Index}
 use Rattle.sql_maps.specs.Maps.{Maps, Holds}
 use Rattle.circ_tables.specs.Cells.{number, number_key, meta_cells}
 use Rattle.circ_tables.specs.Encoding.{Encodes}
+use Rattle.circ_tables.specs.Numbered.{grown}
 use Rattle.circ_tables.specs.SchemaNumber.{NamesSchema}
-use Rattle.circ_tables.specs.Shape.{schema}
+use Rattle.circ_tables.specs.Shape.{schema_at, later_tables, later_indexes}
 use Rattle.circ_tables.proofs.InverseLemmas.{meta_alone}
 use Rattle.terms.specs.Pictures.{Picture}
 use Rattle.store.specs.Commit.{RefusesLibrary}
+use Rattle.store.specs.Schemas.{IsKnown}
+
+-- a known schema begins with the tables of the first
+grown_at : (n : ℕ) → IsKnown n → (more : List Table) × (others : List Index) × (schema_at n ≡ grown more others)
+grown_at zero known = let low : 1 ≤ 0 = known.0 in absurd (omega (arith, low))
+grown_at (suc zero) known = ([], [], refl)
+grown_at (suc (suc zero)) known = (later_tables, later_indexes, refl)
+grown_at (suc (suc (suc n))) known = let most : suc (suc (suc n)) ≤ 2 = known.1 in absurd (omega (arith, most))
+
+-- so what is said of all schemas that do is said of it
+pub of_known : (Is : Maps → Type 0) (db : Database) → ((more : List Table) (others : List Index) (maps : Maps) → Holds (grown more others) db maps → Is maps) → (n : ℕ) → IsKnown n → (maps : Maps) → Holds (schema_at n) db maps → Is maps
+of_known Is db all n known maps holds = let it = grown_at n known in all it.0 it.1 maps (subst (λ (s : Schema). Holds s db maps) it.2 holds)
 
 -- the tables of a picture name its schema
-picture_names : (maps : Maps) (P : Picture) (n : ℕ) → Encodes maps P → P.meta.schema ≡ n → NamesSchema maps n
-picture_names maps P n is same = record { key = number_key 1; row = meta_cells P.meta; there = is.meta.there 1 tt; alone = meta_alone maps P is; schema = ap number same }
+picture_names : (maps : Maps) (P : Picture) → Encodes maps P → NamesSchema maps P.meta.schema
+picture_names maps P is = record { key = number_key 1; row = meta_cells P.meta; there = is.meta.there 1 tt; alone = meta_alone maps P is; schema = refl }
 
 -- one row names one schema
 pub names_once : (maps : Maps) (m n : ℕ) → NamesSchema maps m → NamesSchema maps n → m ≡ n
@@ -24,10 +41,11 @@ names_once maps m n one other =
     cc
 
 pub refuses : {S : Type 0} (g : Ghosts S) (conn last : Held S) → Survives (state g conn) (state g last) (λ _. ⊥)
-    → (HasCleanDisk (state g last) → (maps : Maps) → Holds schema (state g conn).now maps → ¬ NamesSchema maps 1) → RefusesLibrary g conn
+    → (HasCleanDisk (state g last) → (more : List Table) (others : List Index) (maps : Maps) → Holds (grown more others) (state g conn).now maps → (named : ℕ) → IsKnown named → ¬ NamesSchema maps named) → RefusesLibrary g conn
 refuses g conn last survives unnamed = record {
   last = last;
   survives = survives;
-  unnamed = unnamed;
-  unknown = λ clean P shown known. unnamed clean shown.maps shown.holds (picture_names shown.maps P 1 shown.encodes known);
+  unnamed = λ clean. of_known (λ maps. (named : ℕ) → IsKnown named → ¬ NamesSchema maps named) (state g conn).now (unnamed clean);
+  unknown = λ clean n at P shown known.
+      of_known (λ maps. (named : ℕ) → IsKnown named → ¬ NamesSchema maps named) (state g conn).now (unnamed clean) n at shown.maps shown.holds P.meta.schema known (picture_names shown.maps P shown.encodes);
 }

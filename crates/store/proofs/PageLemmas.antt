@@ -91,7 +91,7 @@ module _ (maps : Maps) (P : Picture) (is : Encodes maps P) (legal : InLimits P) 
 
 -- a page of all rows of a table, from 1 on
 module _ {R : Type 0} {t : Table ℕ R} {number_of : R → ℕ} (table : IsNumberTable t number_of) where
-  numbered : (P : Picture) → InLimits P → AreNumbered (t.rows P) number_of
+  pub numbered : (P : Picture) → InLimits P → AreNumbered (t.rows P) number_of
   numbered P legal n r e =
       let it = table.legal P legal n r e in
       let one : 1 ≤ number_of r = table.from_one r it.1 in
@@ -106,11 +106,16 @@ module _ {R : Type 0} {t : Table ℕ R} {number_of : R → ℕ} (table : IsNumbe
   passes None r more = refl
   passes (Some n) r more = from_alone _ (subst (λ v. is_least v (pos (n + 1)) ≡ true) (sym (table.first_cell r)) (if_least (number_of r) (n + 1) (omega (arith, more))))
 
+  -- a page of them, where the maps encode the picture
+  pub page_are : (maps : Maps) (P : Picture) → Encodes maps P → InLimits P → (after : Option ℕ) (rows : List R) → All t.IsLegal rows → FirstRows PAGE_ROWS (maps t.place) (is_next after) (map t.cells rows)
+      → AreNumbered (t.rows P) number_of × AreRowsAfter (t.rows P) number_of (unwrap_or after 0) rows
+  page_are maps P shown legal after rows limits first = (numbered P legal, are_first table maps P shown legal (is_next after) (λ r. unwrap_or after 0 < number_of r) (above after) (passes after) rows limits first)
+
   pub page_seen : (after : Option ℕ) → {S L : Type 0} {items : L → List R} {g : Ghosts S} {r : Result L Fault} {a b : Held S} → Lists t items (λ m. FirstRows PAGE_ROWS m (is_next after)) g a b r
       → Views (λ P l. AreNumbered (t.rows P) number_of × AreRowsAfter (t.rows P) number_of (unwrap_or after 0) (items l)) g a b r
   page_seen after is =
       rows_seen (λ P rows. AreNumbered (t.rows P) number_of × AreRowsAfter (t.rows P) number_of (unwrap_or after 0) rows)
-      (λ maps P shown legal rows limits first. (numbered P legal, are_first table maps P shown legal (is_next after) (λ r. unwrap_or after 0 < number_of r) (above after) (passes after) rows limits first)) is
+      (λ maps P shown legal. page_are maps P shown legal after) is
 
 -- rows that are read and of which nothing is said
 pub passed_over : {S R L : Type 0} {K : Type 0} {t : Table K R} {items : L → List R} {Found : Map → List Row → Type 0} {g : Ghosts S} {r : Result L Fault} {a b : Held S} → Lists t items Found g a b r → Views IsPassedOver g a b r

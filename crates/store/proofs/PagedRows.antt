@@ -37,7 +37,7 @@ rises_joined number_of (r ∷ rows) more rise next less = (above, rises_joined n
     above = joined rows rise.0
 
 -- The last of rows in order is there, and has the greatest number.
-last_is : {R : Type 0} (number_of : R → ℕ) (rows : List R) → Rise number_of rows → (r : R) → slice_get rows (length rows - 1) ≡ Some r → Has rows r × ((s : R) → Has rows s → number_of s ≤ number_of r)
+pub last_is : {R : Type 0} (number_of : R → ℕ) (rows : List R) → Rise number_of rows → (r : R) → slice_get rows (length rows - 1) ≡ Some r → Has rows r × ((s : R) → Has rows s → number_of s ≤ number_of r)
 last_is number_of [] rise r e = let never : ⊥ = cc in absurd never
 last_is number_of (x ∷ []) rise r e = let same : x ≡ r = cc in (inl (sym same), at same)
   where

@@ -1,14 +1,15 @@
 -- What a store over two files finds in them.
-use Rattle.std.specs.Prelude.{◌≡◌, ◌⊎◌, [], IsTrue}
+use Rattle.std.specs.Prelude.{◌≡◌, ◌⊎◌, ℕ, [], IsTrue}
 use Rattle.sqlite.specs.Effect.{Database, IsDatabase}
 use Rattle.sqlite.specs.State.{State, HasCleanDisk, IsLive, Opens}
 use Rattle.sqlite.specs.Recovery.{Image}
 use Rattle.sqlite.specs.Files.{HoldsDatabase}
 use Rattle.sqlite.specs.Start.{FindsIn}
 use Rattle.terms.specs.Pictures.{Picture}
-use Rattle.circ_tables.specs.Encoding.{HasPicture}
+use Rattle.circ_tables.specs.Encoding.{HasPicture, HasPictureAt}
 use Rattle.store.specs.Commit.{empty_library}
-use Rattle.store.specs.Stops.{KeepsPicture}
+use Rattle.store.specs.Schemas.{IsKnown}
+use Rattle.store.specs.Stops.{KeepsPicture, KeepsPictureAt}
 
 -- The files hold a database that shows the picture.
 abbrev pub HoldsPicture : Image → Picture → Type 0
@@ -33,10 +34,10 @@ pub record OpensImage (image : Image) (it : State) : Type 0 where
   pub sound : IsDatabase it.committed
   pub settled : it.now ≡ it.committed
   -- the schema is known, and what was committed is shown now and after a stop
-  pub known : (P : Picture) → HasPicture it.committed P → KeepsPicture it P × (P.meta.schema ≡ 1)
+  pub known : (n : ℕ) → IsKnown n → (P : Picture) → HasPictureAt n it.committed P → KeepsPictureAt n it P × IsKnown P.meta.schema
   -- that is the database that the files hold
-  pub shown : (db : Database) (P : Picture) → HoldsDatabase image db.trees → HasPicture db P → KeepsPicture it P
-  -- and where a stop left one of two, it is one of them
+  pub shown : (n : ℕ) → IsKnown n → (db : Database) (P : Picture) → HoldsDatabase image db.trees → HasPictureAt n db P → KeepsPictureAt n it P
+  -- and where a stop left one of two of the newest schema, it is one of them
   pub either : (P Q : Picture) → HoldsEither image P Q → ∥ KeepsPicture it P ⊎ KeepsPicture it Q ∥₁
 
 abbrev pub OpensOver : Image → State → Type 0

@@ -66,7 +66,7 @@ impl Sift<LoanRow> for OpenLoans {
 }
 
 /// The number of the last row of a page, if it has any.
-fn last_of<R: Numbered>(page: &[R]) -> Option<u32>
+pub(crate) fn last_of<R: Numbered>(page: &[R]) -> Option<u32>
     ensures { result ≡ option_map R.number_of (slice_get page.now (length page.now - 1)) }
 {
     match page.last() {

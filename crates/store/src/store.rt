@@ -1,18 +1,21 @@
 //! The tables, with no transaction under way between two calls.
 
-ghost use Rattle.std.specs.Prelude.{◌≡◌, Err, IsTrue, false, IfOk, IfErr};
+ghost use Rattle.std.specs.Prelude.{◌≡◌, ◌↔◌, Err, IsTrue, false, IfOk, IfErr};
 ghost use Rattle.std.specs.Prelude.{option_map};
 ghost use Rattle.terms.specs.Limits.{InLimits, IsOwner};
 ghost use Rattle.circ_core.specs.Views.{IsViewOf, HasOnly};
 ghost use Rattle.circ_tables.specs.Encoding.{reply_of};
 ghost use Rattle.store.specs.Commit.{Commits, CreatesLibrary, OpensLibrary, RefusesLibrary};
 ghost use Rattle.store.specs.Limits.{limit_of};
+ghost use Rattle.store.specs.Migrating.{Migrates, TellsSchema};
+ghost use Rattle.store.specs.Schemas.{IsKnown};
 ghost use Rattle.store.specs.Reads.{Looked, Finds, IsReadable};
 ghost use Rattle.circ_tables.specs.Patrons.{patrons};
 ghost use Rattle.circ_tables.specs.Loans.{loans};
 ghost use Rattle.circ_tables.specs.Holds.{holds};
 
-use crate::changing::{self, SCHEMA};
+use crate::changing;
+use crate::migrating;
 use crate::viewing;
 use circ_core::{Changes, View};
 use circ_tables::{KeptReply, get_kept, get_row, schema_of, second_begin};
@@ -21,6 +24,7 @@ use std::alloc::Global;
 use std::marker::Model;
 use terms::{
     Command, Fault, HoldId, HoldRow, KeptPut, Key, LoanId, LoanRow, Owner, PatronId, PatronRow,
+    SCHEMA,
 };
 
 /// The tables of the desk, with no transaction under way between two calls.
@@ -47,8 +51,16 @@ impl<S: Alter + Drop> Drop for Store<S> {
     }
 }
 
+/// Whether a library of this schema can be opened: one of the newest, or of those before it, which
+/// can be led on.
+fn is_known(schema: u32) -> bool
+    ensures { IsTrue result ↔ IsKnown schema }
+{
+    1 <= schema && schema <= SCHEMA
+}
+
 impl<S: Alter + Drop> Store<S> {
-    /// Makes the thirteen tables of a new library in one transaction: all of them empty, but for
+    /// Makes the fourteen tables of a new library in one transaction: all of them empty, but for
     /// the first row of `meta`. 91, also where a name is taken or a transaction is under way.
     pub fn create(mut conn: Connection<S>) -> Result<Store<S>, Fault>
         ensures created { IfOk result (CreatesLibrary S.Store conn) }
@@ -62,8 +74,9 @@ impl<S: Alter + Drop> Store<S> {
         Ok(Store { conn })
     }
 
-    /// Takes tables that were made. 91, also where a transaction is under way; 93 where there is no
-    /// table `meta` of one row, or its schema is not known, and never on tables of the known one.
+    /// Takes tables that were made, of the newest schema or of an older one. 91, also where a
+    /// transaction is under way; 93 where there is no table `meta` of one row, or its schema is not
+    /// known, and never on tables of one that is.
     pub fn open(mut conn: Connection<S>) -> Result<Store<S>, Fault>
         ensures opened { IfOk result (OpensLibrary S.Store conn) }
         ensures stored { result ≡ Err Fault.Stored → RefusesLibrary S.Store conn }
@@ -72,7 +85,7 @@ impl<S: Alter + Drop> Store<S> {
         if !conn.is_autocommit() {
             return Err(second_begin(&mut conn));
         }
-        if schema_of(&mut conn)? != SCHEMA {
+        if !is_known(schema_of(&mut conn)?) {
             return Err(Fault::Stored);
         }
         Ok(Store { conn })
@@ -97,6 +110,28 @@ impl<S: Alter> Store<S> {
         ensures { Commits changes.now kept.now S.Store self.old self.new result }
     {
         changing::commit(&mut self.conn, changes, kept)
+    }
+
+    /// The number of the schema that the tables have. 91; 93 where there is no table `meta` of one
+    /// row, or its number is none of 32 bits.
+    pub fn schema(&mut self) -> Result<u32, Fault>
+        ensures { TellsSchema S.Store self.old self.new result }
+    {
+        migrating::schema(&mut self.conn)
+    }
+
+    /// Leads a library of an older schema to the newest one, in one transaction for each schema
+    /// between; one of the newest stays as it is. 90, 91; 93 where the schema is not known, or a
+    /// stored row lies out of its limits. Memory doesn't grow with the library, beyond what the
+    /// database takes for the changes of a transaction.
+    pub fn migrate(&mut self, alloc: Global) -> Result<(), Fault>
+        ensures { Migrates S.Store self.old self.new result }
+    {
+        match migrating::schema(&mut self.conn)? {
+            1 => migrating::step_to_2(&mut self.conn, alloc),
+            SCHEMA => Ok(()),
+            _ => Err(Fault::Stored),
+        }
     }
 
     /// What is kept under a caller's key. 91, 93.

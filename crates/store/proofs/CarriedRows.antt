@@ -1,0 +1,211 @@
+-- Rows that are carried over from one table to another, page by page.
+use Rattle.std.proofs.Common.{◌≡◌, ◌≢◌, ℕ, ◌<◌, ◌≤◌, ◌⊎◌, inl, inr, leb, true, false, cond, List, [], ◌∷◌, length, refl, sym, ap, subst, ◌∙◌, arith}
+use Rattle.std.specs.Prelude.{Option, Some, None, option_map}
+use Rattle.std.specs.List.{Contains}
+use Rattle.std.proofs.Math.Path.{fun_ext}
+use Rattle.std.proofs.lemmas.Bool.{cases_lt, cases_eq, le-leb, lt-leb, eq-eqb, ne_eqb}
+use Rattle.sqlite_rules.specs.Lists.{Has}
+use Rattle.sqlite_rules.proofs.ListLemmas.{has_contained, contains_had}
+use Rattle.terms.specs.Pictures.{put}
+use Rattle.circ_tables.specs.declared.by_number.TheConstants.{PAGE_ROWS}
+use Rattle.store.specs.Pages.{AreRowsAfter, AreNumbered}
+
+-- An entry under its key, and under another.
+put_here : {A : Type 0} (t : ℕ → A) (k : ℕ) (x : A) (n : ℕ) → k ≡ n → put t k x n ≡ x
+put_here t k x n same = ap (λ b. elim b [ true ↦ x | false ↦ t n ]) (eq-eqb k n same)
+
+put_elsewhere : {A : Type 0} (t : ℕ → A) (k : ℕ) (x : A) (n : ℕ) → k ≢ n → put t k x n ≡ t n
+put_elsewhere t k x n other = ap (λ b. elim b [ true ↦ x | false ↦ t n ]) (ne_eqb k n other)
+
+-- The rows that are left above a number, and those that were carried over up to it.
+abbrev pub left_above : {R : Type 0} → ℕ → (ℕ → Option R) → ℕ → Option R
+left_above after f k = cond (leb k after) None (f k)
+
+abbrev pub carried_to : {R N : Type 0} → (R → N) → ℕ → (ℕ → Option R) → ℕ → Option N
+carried_to carried after f k = cond (leb k after) (option_map carried (f k)) None
+
+module _ {R : Type 0} (f : ℕ → Option R) (after k : ℕ) where
+  left_low : k ≤ after → left_above after f k ≡ None
+  left_low low = ap (λ b. cond b None (f k)) (le-leb k after low)
+
+  left_high : after < k → left_above after f k ≡ f k
+  left_high high = ap (λ b. cond b None (f k)) (lt-leb k after high)
+
+module _ {R N : Type 0} (carried : R → N) (f : ℕ → Option R) (after k : ℕ) where
+  carried_low : k ≤ after → carried_to carried after f k ≡ option_map carried (f k)
+  carried_low low = ap (λ b. cond b (option_map carried (f k)) None) (le-leb k after low)
+
+  carried_high : after < k → carried_to carried after f k ≡ None
+  carried_high high = ap (λ b. cond b (option_map carried (f k)) None) (lt-leb k after high)
+
+-- The rows of a page are taken out of the one table, and what they become is put into the other.
+module _ {R N : Type 0} (number_of : R → ℕ) (carried : R → N) where
+  abbrev pub all_taken : List R → (ℕ → Option R) → ℕ → Option R
+  all_taken [] f = f
+  all_taken (r ∷ more) f = all_taken more (put f (number_of r) None)
+
+  abbrev pub all_put : List R → (ℕ → Option N) → ℕ → Option N
+  all_put [] g = g
+  all_put (r ∷ more) g = all_put more (put g (number_of r) (Some (carried r)))
+
+  taken_none : (page : List R) (f : ℕ → Option R) (k : ℕ) → f k ≡ None → all_taken page f k ≡ None
+  taken_none [] f k none = none
+  taken_none (r ∷ more) f k none = taken_none more (put f (number_of r) None) k (elim (cases_eq (number_of r) k) [ inl same ↦ put_here f (number_of r) None k same | inr other ↦ put_elsewhere f (number_of r) None k other ∙ none ])
+
+  taken_there : (page : List R) (f : ℕ → Option R) (r : R) → Has page r → all_taken page f (number_of r) ≡ None
+  taken_there [] f r never = absurd never
+  taken_there (x ∷ more) f r (inl same) = taken_none more (put f (number_of x) None) (number_of r) (put_here f (number_of x) None (number_of r) (ap number_of (sym same)))
+  taken_there (x ∷ more) f r (inr there) = taken_there more (put f (number_of x) None) r there
+
+  taken_elsewhere : (page : List R) (f : ℕ → Option R) (k : ℕ) → ((r : R) → Has page r → number_of r ≢ k) → all_taken page f k ≡ f k
+  taken_elsewhere [] f k other = refl
+  taken_elsewhere (x ∷ more) f k other = taken_elsewhere more (put f (number_of x) None) k (λ r there. other r (inr there)) ∙ put_elsewhere f (number_of x) None k (other x (inl refl))
+
+  put_nowhere : (page : List R) (g : ℕ → Option N) (k : ℕ) → ((r : R) → Has page r → number_of r ≢ k) → all_put page g k ≡ g k
+  put_nowhere [] g k other = refl
+  put_nowhere (x ∷ more) g k other = put_nowhere more (put g (number_of x) (Some (carried x))) k (λ r there. other r (inr there)) ∙ put_elsewhere g (number_of x) (Some (carried x)) k (other x (inl refl))
+
+  put_stays : (page : List R) (g : ℕ → Option N) (k : ℕ) (n : N) → ((r : R) → Has page r → number_of r ≡ k → carried r ≡ n) → g k ≡ Some n → all_put page g k ≡ Some n
+  put_stays [] g k n each is = is
+  put_stays (x ∷ more) g k n each is =
+      put_stays more (put g (number_of x) (Some (carried x))) k n (λ r there. each r (inr there)) (elim (cases_eq (number_of x) k) [
+        | inl same ↦ put_here g (number_of x) (Some (carried x)) k same ∙ ap Some (each x (inl refl) same)
+        | inr other ↦ put_elsewhere g (number_of x) (Some (carried x)) k other ∙ is
+      ])
+
+  put_there : (page : List R) (g : ℕ → Option N) (k : ℕ) (n : N) → ((r : R) → Has page r → number_of r ≡ k → carried r ≡ n) → (r : R) → Has page r → number_of r ≡ k → all_put page g k ≡ Some n
+  put_there [] g k n each r never same = absurd never
+  put_there (x ∷ more) g k n each r (inl is) same =
+      let here : number_of x ≡ k = ap number_of (sym is) ∙ same in
+      put_stays more (put g (number_of x) (Some (carried x))) k n (λ s there. each s (inr there)) (put_here g (number_of x) (Some (carried x)) k here ∙ ap Some (each x (inl refl) here))
+  put_there (x ∷ more) g k n each r (inr there) same = put_there more (put g (number_of x) (Some (carried x))) k n (λ s before. each s (inr before)) r there same
+
+  module _ (f : ℕ → Option R) (numbered : AreNumbered f number_of) where
+    -- Nothing is carried over yet.
+    pub none_left : left_above 0 f ≡ f
+    none_left = fun_ext at
+      where
+        first : (o : Option R) → f 0 ≡ o → o ≡ None
+        first None is = refl
+        first (Some r) is = let from : 1 ≤ 0 = (numbered 0 r is).1 in absurd (omega (arith, from))
+
+        at : (k : ℕ) → left_above 0 f k ≡ f k
+        at k = elim (cases_lt 0 k) [
+          | inl high ↦ left_high f 0 k high
+          | inr low ↦
+              let zero : k ≡ 0 = omega (arith, low) in
+              left_low f 0 k low ∙ sym (subst (λ n. f n ≡ None) (sym zero) (first (f 0) refl))
+        ]
+
+    pub none_carried : carried_to carried 0 f ≡ λ _. None
+    none_carried = fun_ext at
+      where
+        first : (o : Option R) → f 0 ≡ o → o ≡ None
+        first None is = refl
+        first (Some r) is = let from : 1 ≤ 0 = (numbered 0 r is).1 in absurd (omega (arith, from))
+
+        at : (k : ℕ) → carried_to carried 0 f k ≡ None
+        at k = elim (cases_lt 0 k) [
+          | inl high ↦ carried_high carried f 0 k high
+          | inr low ↦
+              let zero : k ≡ 0 = omega (arith, low) in
+              carried_low carried f 0 k low ∙ ap (option_map carried) (subst (λ n. f n ≡ None) (sym zero) (first (f 0) refl))
+        ]
+
+    module _ (after : ℕ) (page : List R) (is : AreRowsAfter (left_above after f) number_of after page) where
+      row_is : (r : R) → Has page r → (f (number_of r) ≡ Some r) × (after < number_of r)
+      row_is r there =
+          let it = is.sound r (contains_had page r there) in
+          (sym (left_high f after (number_of r) it.1) ∙ it.0, it.1)
+
+      -- Nothing is left above the number where the page is empty.
+      last_none : length page ≡ 0 → (k : ℕ) → after < k → f k ≡ None
+      last_none empty k high = go (f k) refl
+        where
+          go : (o : Option R) → f k ≡ o → o ≡ None
+          go None e = refl
+          go (Some r) e =
+              let own : number_of r ≡ k = (numbered k r e).0 in
+              elim (is.whole k r (left_high f after k high ∙ e) (omega (arith, own, high))) [
+                | inl there ↦ (let lt : there.0 < length page = there.1 in absurd (omega (arith, lt, empty)))
+                | inr rest ↦ (let full : length page ≡ PAGE_ROWS = rest.0 in absurd (omega (arith, full, empty)))
+              ]
+
+      pub all_left : length page ≡ 0 → left_above after f ≡ λ _. None
+      all_left empty = fun_ext (λ k. elim (cases_lt after k) [
+        | inl high ↦ left_high f after k high ∙ last_none empty k high
+        | inr low ↦ left_low f after k low
+      ])
+
+      pub all_carried : length page ≡ 0 → carried_to carried after f ≡ λ k. option_map carried (f k)
+      all_carried empty = fun_ext (λ k. elim (cases_lt after k) [
+        | inl high ↦ carried_high carried f after k high ∙ sym (ap (option_map carried) (last_none empty k high))
+        | inr low ↦ carried_low carried f after k low
+      ])
+
+      module _ (last : R) (there : Has page last) (greatest : (s : R) → Has page s → number_of s ≤ number_of last) where
+        -- A row between the two numbers is one of the page.
+        met : (k : ℕ) (r : R) → f k ≡ Some r → after < k → k ≤ number_of last → Has page r
+        met k r e high low =
+            let own : number_of r ≡ k = (numbered k r e).0 in
+            elim (is.whole k r (left_high f after k high ∙ e) (omega (arith, own, high))) [
+              | inl has ↦ has_contained page r has
+              | inr rest ↦ (let under : number_of last < k = rest.1 last (contains_had page last there) in absurd (omega (arith, under, low)))
+            ]
+
+        low_elsewhere : (k : ℕ) → k ≤ after → (r : R) → Has page r → number_of r ≢ k
+        low_elsewhere k low r has same = let more : after < number_of r = (row_is r has).1 in absurd (omega (arith, more, same, low))
+
+        high_elsewhere : (k : ℕ) → number_of last < k → (r : R) → Has page r → number_of r ≢ k
+        high_elsewhere k high r has same = let most : number_of r ≤ number_of last = greatest r has in absurd (omega (arith, most, same, high))
+
+        none_elsewhere : (k : ℕ) → f k ≡ None → (r : R) → Has page r → number_of r ≢ k
+        none_elsewhere k none r has same =
+            let e : f (number_of r) ≡ Some r = (row_is r has).0 in
+            let never : ⊥ = let both : None ≡ Some r = sym none ∙ ap f (sym same) ∙ e in cc in
+            never
+
+        more : after < number_of last
+        more = (row_is last there).1
+
+        pub next_left : all_taken page (left_above after f) ≡ left_above (number_of last) f
+        next_left = fun_ext at
+          where
+            between : (k : ℕ) → after < k → k ≤ number_of last → (o : Option R) → f k ≡ o → all_taken page (left_above after f) k ≡ None
+            between k high low None e = taken_none page (left_above after f) k (left_high f after k high ∙ e)
+            between k high low (Some r) e =
+                subst (λ n. all_taken page (left_above after f) n ≡ None) (numbered k r e).0 (taken_there page (left_above after f) r (met k r e high low))
+
+            at : (k : ℕ) → all_taken page (left_above after f) k ≡ left_above (number_of last) f k
+            at k = elim (cases_lt after k) [
+              | inr low ↦ taken_none page (left_above after f) k (left_low f after k low) ∙ sym (left_low f (number_of last) k (omega (arith, low, more)))
+              | inl high ↦ elim (cases_lt (number_of last) k) [
+                | inl past ↦ taken_elsewhere page (left_above after f) k (high_elsewhere k past) ∙ left_high f after k high ∙ sym (left_high f (number_of last) k past)
+                | inr within ↦ between k high within (f k) refl ∙ sym (left_low f (number_of last) k within)
+              ]
+            ]
+
+        pub next_carried : all_put page (carried_to carried after f) ≡ carried_to carried (number_of last) f
+        next_carried = fun_ext at
+          where
+            same_row : (k : ℕ) (r : R) → f k ≡ Some r → (s : R) → Has page s → number_of s ≡ k → carried s ≡ carried r
+            same_row k r e s has same =
+                let own : f (number_of s) ≡ Some s = (row_is s has).0 in
+                let both : Some s ≡ Some r = sym own ∙ ap f same ∙ e in
+                let one : s ≡ r = cc in
+                ap carried one
+
+            between : (k : ℕ) → after < k → k ≤ number_of last → (o : Option R) → f k ≡ o → all_put page (carried_to carried after f) k ≡ option_map carried o
+            between k high low None e = put_nowhere page (carried_to carried after f) k (none_elsewhere k e) ∙ carried_high carried f after k high
+            between k high low (Some r) e = put_there page (carried_to carried after f) k (carried r) (same_row k r e) r (met k r e high low) (numbered k r e).0
+
+            at : (k : ℕ) → all_put page (carried_to carried after f) k ≡ carried_to carried (number_of last) f k
+            at k = elim (cases_lt after k) [
+              | inr low ↦
+                  put_nowhere page (carried_to carried after f) k (low_elsewhere k low) ∙ carried_low carried f after k low
+                  ∙ sym (carried_low carried f (number_of last) k (omega (arith, low, more)))
+              | inl high ↦ elim (cases_lt (number_of last) k) [
+                | inl past ↦ put_nowhere page (carried_to carried after f) k (high_elsewhere k past) ∙ carried_high carried f after k high ∙ sym (carried_high carried f (number_of last) k past)
+                | inr within ↦ between k high within (f k) refl ∙ sym (carried_low carried f (number_of last) k within)
+              ]
+            ]

@@ -1,0 +1,130 @@
+-- What the steps from schema to schema make of a picture.
+use Rattle.std.proofs.Common.{◌≡◌, ◌<◌, ℕ, zero, suc, List, [], ◌∷◌, length, inl, inr, ltb, cond, Option, Some, None, true, false, refl, sym, ap, ap₂, subst, ◌∙◌, arith}
+use Rattle.std.specs.Prelude.{option_map, slice_get, ◌-◌}
+use Rattle.std.proofs.Math.Path.{fun_ext}
+use Rattle.sqlite_rules.proofs.ListLemmas.{contains_had}
+use Rattle.std.proofs.lemmas.Bool.{lt-ltb, le-ltb}
+use Rattle.sqlite.specs.Effect.{Database}
+use Rattle.sqlite.specs.Order.{Row}
+use Rattle.sqlite.specs.Table.{Table as SqlTable}
+use Rattle.sql_maps.specs.Maps.{Map, Maps, IsMap, IsFreeFrom, Holds}
+use Rattle.terms.specs.Limits.{InLimits}
+use Rattle.terms.specs.Pictures.{Picture, put}
+use Rattle.terms.specs.Schemas.{IsOfSchema1}
+use Rattle.circ_tables.specs.Cells.{number_key, hold_cells}
+use Rattle.circ_tables.specs.Encoding.{HasPicture, HasPictureAt, IsEncoded, Any}
+use Rattle.circ_tables.specs.Numbered.{IsNumberTable}
+use Rattle.circ_tables.specs.Reading.{Table}
+use Rattle.circ_tables.specs.Shape.{schema_at, holds_place}
+use Rattle.store.specs.Migrating.{IsCarriedOver, move_one, move_all, all_over}
+use Rattle.store.specs.Pages.{AreRowsAfter, AreNumbered}
+use Rattle.store.proofs.CarriedRows.{left_above, carried_to, all_taken, all_put, none_left, none_carried, all_left, all_carried, next_left, next_carried}
+use Rattle.store.proofs.PagedRows.{last_is, last_there, empty_if}
+
+module _ {R N : Type 0} {old : Table ℕ R} {new : Table ℕ N} {number_of : R → ℕ} {new_number : N → ℕ} {carried : R → N} (over : IsCarriedOver old new number_of new_number carried) where
+  one_moved : (r : R) (P : Picture) (f : ℕ → Option R) (g : ℕ → Option N)
+      → move_one old new number_of new_number carried r (over.with_both P f g) ≡ over.with_both P (put f (number_of r) None) (put g (number_of r) (Some (carried r)))
+  one_moved r P f g =
+      ap (λ k. old.set (new.set (over.with_both P f g) k (Some (carried r))) (number_of r) None) (over.number_is r)
+      ∙ ap (λ Q. old.set Q (number_of r) None) (over.put_in P f g (number_of r) (carried r)) ∙ over.taken P f (put g (number_of r) (Some (carried r))) (number_of r)
+
+  all_moved : (page : List R) (P : Picture) (f : ℕ → Option R) (g : ℕ → Option N)
+      → move_all old new number_of new_number carried page (over.with_both P f g) ≡ over.with_both P (all_taken number_of carried page f) (all_put number_of carried page g)
+  all_moved [] P f g = refl
+  all_moved (r ∷ more) P f g =
+      ap (move_all old new number_of new_number carried more) (one_moved r P f g) ∙ all_moved more P (put f (number_of r) None) (put g (number_of r) (Some (carried r)))
+
+  -- The picture once the rows up to a number are carried over.
+  abbrev pub over_to : ℕ → Picture → Picture
+  over_to after P = over.with_both P (left_above after (old.rows P)) (carried_to carried after (old.rows P))
+
+  module _ (P : Picture) (numbered : AreNumbered (old.rows P) number_of) where
+    pub over_none : ((k : ℕ) → new.rows P k ≡ None) → over_to 0 P ≡ P
+    over_none none =
+        ap₂ (over.with_both P) (none_left number_of carried (old.rows P) numbered) (none_carried number_of carried (old.rows P) numbered ∙ sym (fun_ext none)) ∙ over.same P
+
+    module _ (after : ℕ) (page : List R) (are : AreRowsAfter (old.rows (over_to after P)) number_of after page) where
+      left : AreRowsAfter (left_above after (old.rows P)) number_of after page
+      left = subst (λ (f : ℕ → Option R). AreRowsAfter f number_of after page) (over.old_rows P (left_above after (old.rows P)) (carried_to carried after (old.rows P))) are
+
+      -- An empty page is the last.
+      pub over_all : length page ≡ 0 → over_to after P ≡ all_over over P
+      over_all empty = ap₂ (over.with_both P) (all_left number_of carried (old.rows P) numbered after page left empty) (all_carried number_of carried (old.rows P) numbered after page left empty)
+
+      -- A page more.
+      pub over_next : (last : ℕ) → option_map number_of (slice_get page (length page - 1)) ≡ Some last
+          → (move_all old new number_of new_number carried page (over_to after P) ≡ over_to last P) × (after < last)
+      over_next last end =
+          let it = last_there number_of page last end in
+          let most = last_is number_of page left.rise it.0 it.1 in
+          let moved : move_all old new number_of new_number carried page (over_to after P) ≡ over_to (number_of it.0) P =
+          all_moved page P (left_above after (old.rows P)) (carried_to carried after (old.rows P))
+          ∙ ap₂ (over.with_both P) (next_left number_of carried (old.rows P) numbered after page left it.0 most.0 most.1) (next_carried number_of carried (old.rows P) numbered after page left it.0 most.0 most.1) in
+          (subst (λ n. move_all old new number_of new_number carried page (over_to after P) ≡ over_to n P) it.2 moved,
+          subst (λ n. after < n) it.2 (left.sound it.0 (contains_had page it.0 most.0)).1)
+
+  -- Its rows lie within their limits.
+  pub over_limits : (P : Picture) → InLimits P → (table : IsNumberTable old number_of) → (after : ℕ) → InLimits (over_to after P)
+  over_limits P legal table after = over.limits P (left_above after (old.rows P)) (carried_to carried after (old.rows P)) legal
+      (λ k r e. table.legal P legal k r (left_there k r (leb k after) e))
+      (λ k n e. new_there k n (leb k after) (old.rows P k) refl e)
+    where
+      left_there : (k : ℕ) (r : R) (b : _) → cond b None (old.rows P k) ≡ Some r → old.rows P k ≡ Some r
+      left_there k r true e = let never : ⊥ = cc in absurd never
+      left_there k r false e = e
+
+      new_there : (k : ℕ) (n : N) (b : _) (o : Option R) → old.rows P k ≡ o → cond b (option_map carried o) None ≡ Some n → (new_number n ≡ k) × new.IsLegal n
+      new_there k n true None is e = let never : ⊥ = cc in absurd never
+      new_there k n true (Some r) is e =
+          let it = table.legal P legal k r is in
+          let same : carried r ≡ n = cc in
+          (sym (ap new_number same) ∙ over.number_is r ∙ it.0, subst new.IsLegal same (over.legal r it.1))
+      new_there k n false o is e = let never : ⊥ = cc in absurd never
+
+-- ---- tables that are made beside those of a library of schema 1
+
+-- The maps with no row from a place on.
+abbrev pub cut : ℕ → Maps → Maps
+cut place maps at k = cond (ltb at place) (maps at k) None
+
+cut_free : (place : ℕ) (maps : Maps) → IsFreeFrom place (cut place maps)
+cut_free place maps at from k = ap (λ b. cond b (maps at k) None) (le-ltb at place from)
+
+-- The tables of schema 1 hold the maps of the first thirteen.
+cut_same : (place : ℕ) (maps : Maps) (at : ℕ) → at < place → maps at ≡ cut place maps at
+cut_same place maps at less = fun_ext (λ k. sym (ap (λ b. cond b (maps at k) None) (lt-ltb at place less)))
+
+got_below : {A : Type 0} (list : List A) (at : ℕ) (x : A) → slice_get list at ≡ Some x → at < length list
+got_below [] at x e = let never : ⊥ = cc in absurd never
+got_below (y ∷ list) zero x e = omega arith
+got_below (y ∷ list) (suc at) x e = let less = got_below list at x e in omega (arith, less)
+
+cut_holds : (db : Database) (maps : Maps) → Holds (schema_at 1) db maps → Holds (schema_at 1) db (cut 13 maps)
+cut_holds db maps holds = record {
+  sound = holds.sound;
+  schema_is = holds.schema_is;
+  tables = λ at table there. subst (λ (m : Map). IsMap table (db.trees table.tree) m) (cut_same 13 maps at (got_below (schema_at 1).tables at table there)) (holds.tables at table there);
+}
+
+-- They show the picture still, and no later table has a row.
+pub grows : (old new : Database) → ((maps : Maps) → IsFreeFrom 13 maps → Holds (schema_at 1) old maps → Holds (schema_at 2) new maps) → (P : Picture) → HasPictureAt 1 old P → IsOfSchema1 P → HasPicture new P
+grows old new moves P shown is = record {
+  maps = cut 13 shown.maps;
+  holds = moves (cut 13 shown.maps) (cut_free 13 shown.maps) (cut_holds old shown.maps shown.holds);
+  encodes = record {
+    meta = shown.encodes.meta;
+    branches = shown.encodes.branches;
+    closed_days = shown.encodes.closed_days;
+    kinds = shown.encodes.kinds;
+    rules = shown.encodes.rules;
+    patrons = shown.encodes.patrons;
+    titles = shown.encodes.titles;
+    copies = shown.encodes.copies;
+    loans = shown.encodes.loans;
+    holds = record { there = λ k any. sym (ap (option_map hold_cells) (is.later k)); only = λ j v e. absurd (let never : ⊥ = cc in never) };
+    holds1 = shown.encodes.holds1;
+    transits = shown.encodes.transits;
+    lines = shown.encodes.lines;
+    kept = shown.encodes.kept;
+  };
+}

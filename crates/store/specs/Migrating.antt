@@ -1,0 +1,144 @@
+-- How a library of an older schema is led to the newest one.
+use Rattle.std.specs.Prelude.{◌≡◌, ◌⊎◌, ◌<◌, ◌^◌, ℕ, List, [], ◌∷◌, Option, Some, None, option_map, Err, Result, IfOk, IfErr, OnOk, OnErr, IsTrue, refl}
+use Rattle.sqlite.specs.Effect.{Database}
+use Rattle.sqlite.specs.Held.{Held, state}
+use Rattle.sqlite.specs.State.{State, HasCleanDisk}
+use Rattle.sqlite.specs.Store.{Ghosts}
+use Rattle.sqlite.specs.declared.transaction.Transaction.{Transaction}
+use Rattle.terms.specs.Limits.{InLimits}
+use Rattle.terms.specs.Pictures.{Picture, put}
+use Rattle.terms.specs.Schemas.{IsOfSchema1, carried, led_to_2}
+use Rattle.terms.specs.declared.fault.Fault.{Fault}
+use Rattle.terms.specs.declared.fault.Fault.TheVariants.{Stored}
+use Rattle.terms.specs.declared.limits.TheConstants.{SCHEMA}
+use Rattle.circ_tables.specs.Encoding.{HasPicture, HasPictureAt, Draws}
+use Rattle.circ_tables.specs.Holds.{holds}
+use Rattle.circ_tables.specs.Holds1.{holds1}
+use Rattle.circ_tables.specs.Puts.{Works}
+use Rattle.circ_tables.specs.Reading.{Table}
+use Rattle.store.specs.Commit.{IsRefused}
+use Rattle.store.specs.Schemas.{IsKnown}
+use Rattle.store.specs.Stops.{Leaves, KeepsPicture, KeepsPictureAt}
+
+-- ---- rows that are carried over
+
+-- What ties a table to that of the next schema: the picture with these rows in the two of them.
+pub record IsCarriedOver {R N : Type 0} (old : Table ℕ R) (new : Table ℕ N) (number_of : R → ℕ) (new_number : N → ℕ) (carried : R → N) : Type 0 where
+  pub with_both : Picture → (ℕ → Option R) → (ℕ → Option N) → Picture
+  pub same : (P : Picture) → with_both P (old.rows P) (new.rows P) ≡ P
+  pub old_rows : (P : Picture) (f : ℕ → Option R) (g : ℕ → Option N) → old.rows (with_both P f g) ≡ f
+  pub taken : (P : Picture) (f : ℕ → Option R) (g : ℕ → Option N) (k : ℕ) → old.set (with_both P f g) k None ≡ with_both P (put f k None) g
+  pub put_in : (P : Picture) (f : ℕ → Option R) (g : ℕ → Option N) (k : ℕ) (n : N) → new.set (with_both P f g) k (Some n) ≡ with_both P f (put g k (Some n))
+  pub number_is : (r : R) → new_number (carried r) ≡ number_of r
+  pub legal : (r : R) → old.IsLegal r → new.IsLegal (carried r)
+  pub limits : (P : Picture) (f : ℕ → Option R) (g : ℕ → Option N) → InLimits P → ((k : ℕ) (r : R) → f k ≡ Some r → (number_of r ≡ k) × old.IsLegal r)
+      → ((k : ℕ) (n : N) → g k ≡ Some n → (new_number n ≡ k) × new.IsLegal n) → InLimits (with_both P f g)
+
+-- The holds of schema 1 and those of schema 2.
+pub holds_carried : IsCarriedOver holds1 holds (λ r. r.hold) (λ r. r.hold) carried
+holds_carried = record {
+  with_both = λ P f g. record P { holds = g; holds1 = f };
+  same = λ P. refl;
+  old_rows = λ P f g. refl;
+  taken = λ P f g k. refl;
+  put_in = λ P f g k n. refl;
+  number_is = λ r. refl;
+  legal = λ r is. (is.0, is.1, is.2, is.3, is.4, is.5, tt);
+  limits = λ P f g is old new. record {
+    meta = is.meta;
+    branches = is.branches;
+    closed_days = is.closed_days;
+    kinds = is.kinds;
+    rules = is.rules;
+    patrons = is.patrons;
+    titles = is.titles;
+    copies = is.copies;
+    loans = is.loans;
+    holds = new;
+    holds1 = old;
+    transits = is.transits;
+    lines = is.lines;
+    kept = is.kept;
+  };
+}
+
+-- One row is put into the new table, and taken out of the old one; so each of a list.
+module _ {R N : Type 0} (old : Table ℕ R) (new : Table ℕ N) (number_of : R → ℕ) (new_number : N → ℕ) (carried : R → N) where
+  abbrev pub move_one : R → Picture → Picture
+  move_one r P = old.set (new.set P (new_number (carried r)) (Some (carried r))) (number_of r) None
+
+  abbrev pub move_all : List R → Picture → Picture
+  move_all [] P = P
+  move_all (r ∷ more) P = move_all more (move_one r P)
+
+-- The picture is changed so in the transaction. Its one fault is 91.
+pub record DrawsInside {S T : Type 0} (change : Picture → Picture)
+    (g : Ghosts S) (old new : Transaction S) (result : Result T Fault) : Type 0 where
+  pub works : Works g old new
+  pub draws : HasCleanDisk (state g new.conn.now) → IsTrue (state g old.conn.now).in_transaction
+      → OnOk result (Draws (state g old.conn.now) (state g new.conn.now) change)
+  pub fault : IfErr result IsRefused
+
+-- A library is led on in the transaction: where the database shows a picture that is ready for it, it shows the other afterwards; and then no fault of a stored row comes.
+pub record LeadsInside {S T : Type 0} (IsReady : Database → Picture → Type 0) (change : Picture → Picture)
+    (g : Ghosts S) (old new : Transaction S) (result : Result T Fault) : Type 0 where
+  pub works : Works g old new
+  pub inside : HasCleanDisk (state g new.conn.now) → IsTrue (state g old.conn.now).in_transaction
+      → OnOk result (IsTrue (state g new.conn.now).in_transaction)
+  pub leads : HasCleanDisk (state g new.conn.now) → IsTrue (state g old.conn.now).in_transaction
+      → OnOk result ((P : Picture) → IsReady (state g old.conn.now).now P → HasPicture (state g new.conn.now).now (change P))
+  pub sound : HasCleanDisk (state g new.conn.now) → IsTrue (state g old.conn.now).in_transaction → result ≡ Err Stored
+      → (P : Picture) → ¬ IsReady (state g old.conn.now).now P
+
+-- The tables of the newest schema show the picture, its rows lie within their limits, and the new table has none yet.
+abbrev pub IsToCarry : {N : Type 0} → Table ℕ N → Database → Picture → Type 0
+IsToCarry new db P = HasPicture db P × InLimits P × ((k : ℕ) → new.rows P k ≡ None)
+
+-- All rows stand in the new table, and none in the old one.
+abbrev pub all_over : {R N : Type 0} {old : Table ℕ R} {new : Table ℕ N} {number_of : R → ℕ} {new_number : N → ℕ} {carried : R → N}
+    → IsCarriedOver old new number_of new_number carried → Picture → Picture
+all_over {old = old} {carried = carried} over P = over.with_both P (λ _. None) (λ k. option_map carried (old.rows P k))
+
+-- ---- from schema to schema
+
+-- The tables of schema 1 show the picture of a library of schema 1, with rows within their limits.
+abbrev pub IsLibrary1 : Database → Picture → Type 0
+IsLibrary1 db P = HasPictureAt 1 db P × IsOfSchema1 P × InLimits P
+
+-- Those of the newest schema show one that names it.
+abbrev pub IsNewest : Database → Picture → Type 0
+IsNewest db P = HasPicture db P × (P.meta.schema ≡ SCHEMA) × InLimits P
+
+-- Where the one shows a library of schema 1, the other shows what it is led to.
+abbrev pub LeadsTo2 : Database → Database → Type 0
+LeadsTo2 old new = (P : Picture) → IsLibrary1 old P → HasPicture new (led_to_2 P)
+
+-- A fault of a stored row comes where the database showed no picture that was ready.
+abbrev pub IsNotReady : {S : Type 0} → (Database → Picture → Type 0) → Ghosts S → Held S → Held S → Fault → Type 0
+IsNotReady IsReady g old new fault = HasCleanDisk (state g new) → fault ≡ Stored → (P : Picture) → ¬ IsReady (state g old).now P
+
+-- The number of the schema was asked for, and nothing is changed: it is the one that the picture names. No fault of a stored row comes where it names one of 32 bits.
+pub record TellsSchema {S : Type 0} (g : Ghosts S) (old new : Held S) (result : Result ℕ Fault) : Type 0 where
+  pub clean : HasCleanDisk (state g new) → HasCleanDisk (state g old)
+  pub idle : new.in_transaction ≡ false
+  pub now : HasCleanDisk (state g new) → IsTrue (state g new).is_open → (state g new).now ≡ (state g old).now
+  pub committed : HasCleanDisk (state g new) → IsTrue (state g new).is_open → (state g new).committed ≡ (state g old).now
+  pub left : HasCleanDisk (state g new) → (P : Database → Type 0) → Leaves (state g old) P → Leaves (state g new) P
+  pub told : HasCleanDisk (state g new) → IfOk result (λ named. (n : ℕ) → IsKnown n → (P : Picture)
+      → HasPictureAt n (state g old).now P → P.meta.schema ≡ named)
+  pub sound : HasCleanDisk (state g new) → result ≡ Err Stored → (n : ℕ) → IsKnown n → (P : Picture)
+      → HasPictureAt n (state g old).now P → P.meta.schema < 2 ^ 32 → ⊥
+
+-- A library was led to the newest schema, or it was of that already and is as it was; after a fault it is as it was, as long as the database is open; and a stop leaves what was there or what it is led to.
+pub record Migrates {S T : Type 0} (g : Ghosts S) (old new : Held S) (result : Result T Fault) : Type 0 where
+  pub clean : HasCleanDisk (state g new) → HasCleanDisk (state g old)
+  pub led : HasCleanDisk (state g new) → OnOk result ((P : Picture) → IsLibrary1 (state g old).now P → KeepsPicture (state g new) (led_to_2 P))
+  pub same : HasCleanDisk (state g new) → IsTrue (state g new).is_open → OnOk result ((P : Picture) → IsNewest (state g old).now P → KeepsPicture (state g new) P)
+  pub undone : HasCleanDisk (state g new) → IsTrue (state g new).is_open → OnErr result ((n : ℕ) → IsKnown n → (P : Picture)
+      → HasPictureAt n (state g old).now P → KeepsPictureAt n (state g new) P)
+  pub stop : HasCleanDisk (state g new) → (P : Picture) → KeepsPictureAt 1 (state g old) P → IsOfSchema1 P → InLimits P
+      → Leaves (state g new) (λ db. HasPictureAt 1 db P ⊎ HasPicture db (led_to_2 P))
+  pub stop_same : HasCleanDisk (state g new) → (P : Picture) → KeepsPicture (state g old) P → P.meta.schema ≡ SCHEMA
+      → Leaves (state g new) (λ db. HasPicture db P)
+  pub sound : HasCleanDisk (state g new) → result ≡ Err Stored → (P : Picture)
+      → ¬ (IsLibrary1 (state g old).now P ⊎ IsNewest (state g old).now P)
