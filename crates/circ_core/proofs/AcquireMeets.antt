@@ -123,6 +123,7 @@ module _ (H : History) (inv : Invariant H) (c t k home price : ℕ) (text : List
     copies = copies_keep r f;
     loans = λ _. refl;
     holds = holds_keep;
+    holds1 = λ _. refl;
     transits = transits_keep;
     lines = λ _. refl;
   }
@@ -137,6 +138,7 @@ module _ (H : History) (inv : Invariant H) (c t k home price : ℕ) (text : List
     copies = copies_put f;
     loans = λ _. refl;
     holds = holds_keep;
+    holds1 = λ _. refl;
     transits = transits_keep;
     lines = λ _. refl;
   }
@@ -151,6 +153,7 @@ module _ (H : History) (inv : Invariant H) (c t k home price : ℕ) (text : List
     copies = copies_keep r f;
     loans = λ _. refl;
     holds = holds_keep;
+    holds1 = λ _. refl;
     transits = transits_keep;
     lines = λ _. refl;
   }
@@ -165,6 +168,7 @@ module _ (H : History) (inv : Invariant H) (c t k home price : ℕ) (text : List
     copies = copies_put f;
     loans = λ _. refl;
     holds = holds_keep;
+    holds1 = λ _. refl;
     transits = transits_keep;
     lines = λ _. refl;
   }

@@ -23,6 +23,7 @@ begin_day_at H day = record {
     copies = λ _. refl;
     loans = λ _. refl;
     holds = λ _. refl;
+    holds1 = λ _. refl;
     transits = λ _. refl;
     lines = λ _. refl;
   };

@@ -40,6 +40,7 @@ module _ (H : History) (inv : Invariant H) (b pickup : ℕ) (name : List ℕ) wh
     copies = λ _. refl;
     loans = λ _. refl;
     holds = λ _. refl;
+    holds1 = λ _. refl;
     transits = λ _. refl;
     lines = λ _. refl;
   }
@@ -55,6 +56,7 @@ module _ (H : History) (inv : Invariant H) (b pickup : ℕ) (name : List ℕ) wh
     copies = λ _. refl;
     loans = λ _. refl;
     holds = λ _. refl;
+    holds1 = λ _. refl;
     transits = λ _. refl;
     lines = λ _. refl;
   }

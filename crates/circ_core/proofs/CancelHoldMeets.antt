@@ -165,6 +165,7 @@ module _ (H : History) (inv : Invariant H) (h : ℕ) where
     copies = copies_same;
     loans = λ _. refl;
     holds = one_cancelled f e;
+    holds1 = λ _. refl;
     transits = one_goes_on t w;
     lines = λ _. refl;
   }
@@ -179,6 +180,7 @@ module _ (H : History) (inv : Invariant H) (h : ℕ) where
     copies = copies_same;
     loans = λ _. refl;
     holds = one_cancelled f e;
+    holds1 = λ _. refl;
     transits = transits_stay w;
     lines = λ _. refl;
   }

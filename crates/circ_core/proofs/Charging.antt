@@ -101,6 +101,7 @@ pub record ShowsLines (H : History) (xs : List Line) (P Q : Picture) : Type 0 wh
   pub copies : Q.copies ≡ P.copies
   pub loans : Q.loans ≡ P.loans
   pub holds : Q.holds ≡ P.holds
+  pub holds1 : Q.holds1 ≡ P.holds1
   pub transits : Q.transits ≡ P.transits
 
 module _ (H : History) (inv : Invariant H) (p l : ℕ) (f : PatronFacts) (enrolled : patron_of H p ≡ Some f) (q : LoanRow) (by : q.patron ≡ p) (number : q.loan ≡ l)
@@ -196,6 +197,7 @@ module _ (H : History) (p l : ℕ) where
       copies = refl;
       loans = refl;
       holds = refl;
+      holds1 = refl;
       transits = refl;
     }
     shows (suc m) zero a b =
@@ -214,6 +216,7 @@ module _ (H : History) (p l : ℕ) where
           copies = refl;
           loans = refl;
           holds = refl;
+          holds1 = refl;
           transits = refl;
         })
     shows zero (suc n) a b =
@@ -234,6 +237,7 @@ module _ (H : History) (p l : ℕ) where
           copies = refl;
           loans = refl;
           holds = refl;
+          holds1 = refl;
           transits = refl;
         })
     shows (suc m) (suc n) a b =
@@ -263,5 +267,6 @@ module _ (H : History) (p l : ℕ) where
           copies = refl;
           loans = refl;
           holds = refl;
+          holds1 = refl;
           transits = refl;
         })

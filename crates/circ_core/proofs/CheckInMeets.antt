@@ -101,6 +101,7 @@ pub record HasLeft (H : History) (c b : ℕ) (way : Course) (P : Picture) : Type
   pub copies : (n : ℕ) → P.copies n ≡ option_map (λ r. record (copy_columns H n r) { condition = condition_at (moved c (place_by way b) (place H) n) }) (copy_of H n)
   pub loans : (n : ℕ) → P.loans n ≡ loan_ended H c n
   pub holds : P.holds ≡ hold_row H
+  pub holds1 : P.holds1 ≡ (λ _. None)
   pub free : IsOver way (P.transits c)
   pub transits : (n : ℕ) → (c == n) ≡ false → P.transits n ≡ transit_at n (place H n)
   pub lines : P.lines ≡ line_row H
@@ -123,6 +124,7 @@ module _ (H : History) (inv : Invariant H) (c b : ℕ) (f : CopyFacts) (there : 
     copies = copies_stay way (ap condition_at l.here);
     loans = one_ends H inv c q l;
     holds = refl;
+    holds1 = refl;
     free = over way (transit_row H c) (ap (λ p. transit_at c p) l.here);
     transits = λ n e. refl;
     lines = refl;
@@ -141,6 +143,7 @@ module _ (H : History) (inv : Invariant H) (c b : ℕ) (f : CopyFacts) (there : 
     copies = copies_stay (course.Transit g k) present;
     loans = none_ends H inv c off;
     holds = refl;
+    holds1 = refl;
     free = tt;
     transits = λ n e. refl;
     lines = refl;
@@ -156,6 +159,7 @@ module _ (H : History) (inv : Invariant H) (c b : ℕ) (f : CopyFacts) (there : 
     copies = copies_stay (course.HoldShelf r) present;
     loans = none_ends H inv c off;
     holds = refl;
+    holds1 = refl;
     free = ap (λ x. elim x as (λ _. Option TransitRow) [ true ↦ None | false ↦ transit_row H c ]) (eq-eqb c c refl);
     transits = λ n e. ap (λ x. elim x as (λ _. Option TransitRow) [ true ↦ None | false ↦ transit_row H n ]) e;
     lines = refl;
@@ -171,6 +175,7 @@ module _ (H : History) (inv : Invariant H) (c b : ℕ) (f : CopyFacts) (there : 
     copies = copies_stay course.Shelf present;
     loans = none_ends H inv c off;
     holds = refl;
+    holds1 = refl;
     free = ap (λ x. elim x as (λ _. Option TransitRow) [ true ↦ None | false ↦ transit_row H c ]) (eq-eqb c c refl);
     transits = λ n e. ap (λ x. elim x as (λ _. Option TransitRow) [ true ↦ None | false ↦ transit_row H n ]) e;
     lines = refl;
@@ -208,6 +213,7 @@ module _ (H : History) (inv : Invariant H) (c b : ℕ) (f : CopyFacts) (there : 
         copies = found way;
         loans = none_ends H inv c off;
         holds = refl;
+        holds1 = refl;
         free = over way (transit_row H c) still;
         transits = λ n e. refl;
         lines = refl;
@@ -223,6 +229,7 @@ module _ (H : History) (inv : Invariant H) (c b : ℕ) (f : CopyFacts) (there : 
         copies = copies_stay way e;
         loans = none_ends H inv c off;
         holds = refl;
+        holds1 = refl;
         free = over way (transit_row H c) still;
         transits = λ n e. refl;
         lines = refl;
@@ -286,6 +293,7 @@ module _ (H : History) (legal : IsLegal H) (inv : Invariant H) (c : ℕ) (rows :
         copies = refl;
         loans = refl;
         holds = refl;
+        holds1 = refl;
         transits = refl;
       }))
     where
@@ -401,6 +409,7 @@ module _ (H : History) (legal : IsLegal H) (c b : ℕ) (v : View) (w : IsCheckIn
           holds = λ h. ap (λ t. t h) shown.holds ∙ ap (λ t. ready_put way c until (t h) h) left.holds
               ∙ arrive H inv c f there b until way to_there.1 l h (unkept (place H c) h off)
               ∙ ap (λ q. arrived_row H inv c f there b until q h) to_there.0;
+          holds1 = λ n. ap (λ t. t n) (shown.holds1 ∙ left.holds1);
           transits = λ n. ap (λ t. t n) shown.transits ∙ sends H c b way gone.transits left.free left.transits n
               ∙ ap (λ q. transit_at n (moved c q (place H) n)) to_there.0;
           lines = shown.lines;

@@ -350,6 +350,7 @@ module _ (H : History) (inv : Invariant H) (p c b : ℕ) (v : View) (w : IsCheck
     copies = λ n. ap (λ x. option_map (λ r. record { copy = n; title = r.title; kind = r.kind; home = r.home; price = r.price; condition = x }) (copy_of H n)) (copies_lead present n);
     loans = loans_lead;
     holds = holds_none f;
+    holds1 = λ _. refl;
     transits = transits_lead still;
     lines = λ _. refl;
   }
@@ -364,6 +365,7 @@ module _ (H : History) (inv : Invariant H) (p c b : ℕ) (v : View) (w : IsCheck
     copies = λ n. ap (λ x. option_map (λ r. record { copy = n; title = r.title; kind = r.kind; home = r.home; price = r.price; condition = x }) (copy_of H n)) (copies_lead present n);
     loans = loans_lead;
     holds = holds_some q f;
+    holds1 = λ _. refl;
     transits = transits_lead still;
     lines = λ _. refl;
   }

@@ -96,6 +96,7 @@ module _ (H : History) (inv : Invariant H) (b d : ℕ) (rows : View) (w : IsClos
       copies = λ _. refl;
       loans = λ _. refl;
       holds = λ _. refl;
+      holds1 = λ _. refl;
       transits = λ _. refl;
       lines = λ _. refl;
     };
@@ -136,6 +137,7 @@ module _ (H : History) (inv : Invariant H) (b d : ℕ) (rows : View) (w : IsClos
       copies = λ _. refl;
       loans = λ _. refl;
       holds = λ _. refl;
+      holds1 = λ _. refl;
       transits = λ _. refl;
       lines = λ _. refl;
     };

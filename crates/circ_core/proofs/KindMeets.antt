@@ -24,6 +24,7 @@ kind_meets H k loans holds debt = record {
     copies = λ _. refl;
     loans = λ _. refl;
     holds = λ _. refl;
+    holds1 = λ _. refl;
     transits = λ _. refl;
     lines = λ _. refl;
   };

@@ -106,6 +106,7 @@ module _ (H : History) (legal : IsLegal H) (inv : Invariant H) (c : ℕ) (r : Co
         copies = λ n. ap (λ t. t n) s.copies ∙ copies_gone H c MissingCopy refl refl r there n;
         loans = λ n. ap (λ t. t n) s.loans ∙ one_ends H inv c q l n;
         holds = λ n. ap (λ t. t n) s.holds ∙ holds_all_stay H c MissingCopy refl refl off n;
+        holds1 = λ n. ap (λ t. t n) s.holds1;
         transits = λ n. ap (λ t. t n) s.transits ∙ transits_still H c MissingCopy refl refl still n;
         lines = λ n. s.lines n ∙ ap (λ xs. option_map (line_columns H n) (nth_line xs n)) same;
       }
@@ -113,11 +114,11 @@ module _ (H : History) (legal : IsLegal H) (inv : Invariant H) (c : ℕ) (r : Co
   -- Off loan only the copy's row changes, and those of a hold or a transit.
   lead_off : is_on_loan (place H c) ≡ false → (P : Picture) → P.meta ≡ meta_row H → P.branches ≡ (picture H).branches → P.closed_days ≡ (picture H).closed_days
       → P.kinds ≡ (picture H).kinds → P.rules ≡ (picture H).rules → P.patrons ≡ (picture H).patrons → P.titles ≡ (picture H).titles
-      → ((n : ℕ) → P.copies n ≡ (freed None None None).copies n) → P.loans ≡ (picture H).loans → P.lines ≡ (picture H).lines
+      → ((n : ℕ) → P.copies n ≡ (freed None None None).copies n) → P.loans ≡ (picture H).loans → P.holds1 ≡ (picture H).holds1 → P.lines ≡ (picture H).lines
       → (owner : Owner) (key : List ℕ)
       → ((n : ℕ) → P.holds n ≡ (picture (event owner key (Missing c) ∷ H)).holds n) → ((n : ℕ) → P.transits n ≡ (picture (event owner key (Missing c) ∷ H)).transits n)
       → SameRows P (picture (event owner key (Missing c) ∷ H))
-  lead_off off P m b d k u p t copies_p loans_p lines_p owner key holds_p transits_p =
+  lead_off off P m b d k u p t copies_p loans_p holds1_p lines_p owner key holds_p transits_p =
       let same : lines H ≡ lines H ++ lines_by H (Missing c) = sym (ap (λ xs. lines H ++ xs) (no_lines off) ∙ append-nil (lines H)) in
       record {
         meta = m ∙ ap (λ xs. record (meta_row H) { next_line = length xs + 1 }) same;
@@ -130,6 +131,7 @@ module _ (H : History) (legal : IsLegal H) (inv : Invariant H) (c : ℕ) (r : Co
         copies = λ n. copies_p n ∙ copies_gone H c MissingCopy refl refl r there n;
         loans = λ n. ap (λ f. f n) loans_p ∙ none_ends H inv c off n;
         holds = holds_p;
+        holds1 = λ n. ap (λ f. f n) holds1_p;
         transits = transits_p;
         lines = λ n. ap (λ f. f n) lines_p ∙ ap (λ xs. option_map (line_columns H n) (nth_line xs n)) same;
       }
@@ -140,12 +142,12 @@ module _ (H : History) (legal : IsLegal H) (inv : Invariant H) (c : ℕ) (r : Co
   lead_by (Some q) w hold x transit y rows v owner key = lead_on q (lent H inv c q w) hold transit rows v owner key
   lead_by None w (Some q) x transit y rows v owner key =
       let k = kept_by H inv c r there q x in
-      rw v.patron (lead_off (off_loan None w refl) (freed None (Some q) transit) refl refl refl refl refl refl refl (λ _. refl) refl refl owner key
+      rw v.patron (lead_off (off_loan None w refl) (freed None (Some q) transit) refl refl refl refl refl refl refl (λ _. refl) refl refl refl owner key
       (holds_again H c MissingCopy refl refl q k) (transits_still H c MissingCopy refl refl (ap is_in_transit k.here)))
   lead_by None w None x (Some t) y rows v owner key =
       let off : is_on_hold_shelf (place H c) ≡ false = sym (shelf_claims H inv c r there None x) in
       let copy : t.copy ≡ c = travels (place H c) t y in
-      rw (v.patron, copy) (lead_off (off_loan None w refl) (changed (condition_rows (Some row) condition.Missing ++ TakeTransit c ∷ []) (picture H)) refl refl refl refl refl refl refl (λ _. refl) refl refl owner key
+      rw (v.patron, copy) (lead_off (off_loan None w refl) (changed (condition_rows (Some row) condition.Missing ++ TakeTransit c ∷ []) (picture H)) refl refl refl refl refl refl refl (λ _. refl) refl refl refl owner key
       (holds_all_stay H c MissingCopy refl refl off) (transits_over H c MissingCopy refl refl))
     where
       travels : (p : Place) (t : TransitRow) → Some t ≡ transit_at c p → t.copy ≡ c
@@ -159,7 +161,7 @@ module _ (H : History) (legal : IsLegal H) (inv : Invariant H) (c : ℕ) (r : Co
   lead_by None w None x None y rows v owner key =
       let off : is_on_hold_shelf (place H c) ≡ false = sym (shelf_claims H inv c r there None x) in
       let still : is_in_transit (place H c) ≡ false = sym (transit_claims H inv c None y) in
-      rw v.patron (lead_off (off_loan None w refl) (freed None None None) refl refl refl refl refl refl refl (λ _. refl) refl refl owner key
+      rw v.patron (lead_off (off_loan None w refl) (freed None None None) refl refl refl refl refl refl refl (λ _. refl) refl refl refl owner key
       (holds_all_stay H c MissingCopy refl refl off) (transits_still H c MissingCopy refl refl still))
 
 module _ (H : History) (legal : IsLegal H) (inv : Invariant H) (c : ℕ) (v : View) (w : IsMissingView (picture H) c v) where

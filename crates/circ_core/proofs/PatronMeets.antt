@@ -45,6 +45,7 @@ module _ (H : History) (inv : Invariant H) (p k : ℕ) (card_key name : List ℕ
     copies = λ _. refl;
     loans = λ _. refl;
     holds = λ _. refl;
+    holds1 = λ _. refl;
     transits = λ _. refl;
     lines = λ _. refl;
   }
@@ -60,6 +61,7 @@ module _ (H : History) (inv : Invariant H) (p k : ℕ) (card_key name : List ℕ
     copies = λ _. refl;
     loans = λ _. refl;
     holds = λ _. refl;
+    holds1 = λ _. refl;
     transits = λ _. refl;
     lines = λ _. refl;
   }

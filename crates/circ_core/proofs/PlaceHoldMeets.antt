@@ -83,6 +83,7 @@ module _ (H : History) (inv : Invariant H) (p t b : ℕ) (v : View) (w : IsPlace
           copies = λ _. refl;
           loans = λ _. refl;
           holds = holds_lead;
+          holds1 = λ _. refl;
           transits = λ _. refl;
           lines = λ _. refl;
         });

@@ -177,6 +177,7 @@ module _ (H : History) (legal : IsLegal H) (inv : Invariant H) (l : ℕ) (v : Vi
           copies = λ _. refl;
           loans = loans_lead;
           holds = λ _. refl;
+          holds1 = λ _. refl;
           transits = λ _. refl;
           lines = λ _. refl;
         })

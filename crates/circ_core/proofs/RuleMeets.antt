@@ -26,6 +26,7 @@ rule_meets H k c period renewals rate cap row w = record {
     copies = λ _. refl;
     loans = λ _. refl;
     holds = λ _. refl;
+    holds1 = λ _. refl;
     transits = λ _. refl;
     lines = λ _. refl;
   };

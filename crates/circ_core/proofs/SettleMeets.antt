@@ -140,6 +140,7 @@ module _ (H : History) (p : ℕ) (rows : View) (w : IsAccountView (picture H) p 
     copies = λ _. refl;
     loans = λ _. refl;
     holds = λ _. refl;
+    holds1 = λ _. refl;
     transits = λ _. refl;
     lines = lines_lead H p m Payment refl refl;
   }
@@ -157,6 +158,7 @@ module _ (H : History) (p : ℕ) (rows : View) (w : IsAccountView (picture H) p 
     copies = λ _. refl;
     loans = λ _. refl;
     holds = λ _. refl;
+    holds1 = λ _. refl;
     transits = λ _. refl;
     lines = lines_lead H p m Waiver refl refl;
   }

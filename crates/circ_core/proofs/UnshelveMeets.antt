@@ -301,6 +301,7 @@ module _ (H : History) (legal : IsLegal H) (g : ℕ) (v : View) (w : IsUnshelveV
                 (copies_lead H inv g s.0 s.1 s.3 s.2 k.0 k.2 k.1 ends final branch until way to_there n);
             loans = λ _. refl;
             holds = holds_lead H inv g s.0 s.1 s.3 s.2 k.0 k.2 k.1 ends final branch until way to_there l;
+            holds1 = λ _. refl;
             transits = transits_lead H inv g s.0 s.1 s.3 s.2 k.0 k.2 k.1 ends final branch until way to_there;
             lines = λ _. refl;
           })

@@ -46,6 +46,7 @@ module _ (H : History) (b : ℕ) (closed : List Bool) where
     copies = λ _. refl;
     loans = λ _. refl;
     holds = λ _. refl;
+    holds1 = λ _. refl;
     transits = λ _. refl;
     lines = λ _. refl;
   }

@@ -55,6 +55,7 @@ module _ (H : History) (inv : Invariant H) (c : ℕ) (v : View) (w : IsCopyView 
           copies = copies_gone H c WithdrawnCopy refl refl r.0 r.1;
           loans = λ _. refl;
           holds = λ n. holds_stay H c WithdrawnCopy refl refl n (unkept (place H c) n k.1.1.1.1.0);
+          holds1 = λ _. refl;
           transits = transits_still H c WithdrawnCopy refl refl k.1.1.1.0;
           lines = λ _. refl;
         });

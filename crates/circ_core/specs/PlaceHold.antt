@@ -26,7 +26,7 @@ place_hold_checks view =
     ∷ (refusal.NumbersUsedUp, nat_lt LAST_NUMBER view.meta.next_hold)
     ∷ []
 
--- The hold that is made: it waits, and no copy is for it yet.
+-- The hold that is made: it waits from now on, and no copy is for it yet.
 abbrev pub new_hold : ℕ → ℕ → ℕ → ℕ → HoldRow
 new_hold number patron title branch = record {
   hold = number;
@@ -36,6 +36,7 @@ new_hold number patron title branch = record {
   state = Waiting;
   copy = None;
   limit_day = None;
+  first_day = None;
 }
 
 -- The next number is given, and the hold is made.

@@ -38,6 +38,7 @@ pub record SameRows (P Q : Picture) : Type 0 where
   pub copies : (c : ℕ) → P.copies c ≡ Q.copies c
   pub loans : (l : ℕ) → P.loans l ≡ Q.loans l
   pub holds : (h : ℕ) → P.holds h ≡ Q.holds h
+  pub holds1 : (h : ℕ) → P.holds1 h ≡ Q.holds1 h
   pub transits : (c : ℕ) → P.transits c ≡ Q.transits c
   pub lines : (n : ℕ) → P.lines n ≡ Q.lines n
 

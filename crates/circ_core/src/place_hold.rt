@@ -70,6 +70,7 @@ pub(crate) fn place_hold<'a>(
         state: HoldState::Waiting,
         copy: None,
         limit_day: None,
+        first_day: None,
     };
     Ok(Decision {
         reply: Reply::Held { hold },

@@ -38,3 +38,4 @@ pub mod References
 pub mod ClosedDays
 pub mod RepeatedLists
 pub mod KeptRows
+pub mod Schemas

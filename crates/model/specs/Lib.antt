@@ -10,6 +10,7 @@ pub mod Answers
 pub mod Requests
 pub mod Reports
 pub mod Picture
+pub mod Schemas
 pub mod Claims
 pub mod Invariant
 pub mod DueDays

@@ -1,5 +1,6 @@
--- The rows that the tables hold after a history.
+-- The rows that the tables of the newest schema hold after a history.
 use Rattle.std.specs.Prelude.{ℕ, zero, suc, Bool, true, false, List, [], ◌∷◌, Option, Some, None, option_map, option_and_then}
+use Rattle.terms.specs.declared.limits.TheConstants.{SCHEMA}
 use Rattle.terms.specs.declared.command.Owner.{Owner}
 use Rattle.terms.specs.declared.row.MetaRow.{MetaRow}
 use Rattle.terms.specs.declared.row.BranchRow.{BranchRow}
@@ -24,10 +25,6 @@ use Rattle.model.specs.Places.{Place, Transit, MissingCopy, WithdrawnCopy, place
 use Rattle.model.specs.Loans.{LoanFacts, loan_of, due, ended, renewals_left}
 use Rattle.model.specs.Accounts.{Line, lines, next_line, owed}
 use Rattle.model.specs.Requests.{Kept, kept_of}
-
--- The newest schema.
-abbrev pub newest_schema : ℕ
-newest_schema = 1
 
 -- The condition of a copy in this place.
 abbrev pub condition_at : Place → Condition
@@ -68,7 +65,7 @@ loan_with l until left end r =
       ended = end;
     }
 
--- The columns of a hold, by its state, the copy and the limit that it has while it is ready, and what was asked for.
+-- The columns of a hold, by its state, the copy and the limit that it has while it is ready, and what was asked for. No hold has a first day.
 abbrev pub hold_with : ℕ → HoldState → Option ℕ → Option ℕ → HoldFacts → HoldRow
 hold_with h s kept until r =
     record {
@@ -79,6 +76,7 @@ hold_with h s kept until r =
       state = s;
       copy = if_ready (Some s) kept;
       limit_day = if_ready (Some s) until;
+      first_day = None;
     }
 
 -- The row of a hold, which there is where the hold has a state.
@@ -86,9 +84,9 @@ abbrev pub hold_by : ℕ → Option HoldFacts → Option HoldState → Option �
 hold_by h facts state kept until = option_and_then (λ s. option_map (hold_with h s kept until) facts) state
 
 module _ (H : History) where
-  -- The one row of `meta`: the schema, today and the next numbers.
+  -- The one row of `meta`: the newest schema, today and the next numbers.
   abbrev pub meta_row : MetaRow
-  meta_row = record { schema = newest_schema; today = today H; next_loan = next_loan H; next_hold = next_hold H; next_line = next_line H }
+  meta_row = record { schema = SCHEMA; today = today H; next_loan = next_loan H; next_hold = next_hold H; next_line = next_line H }
 
   -- The columns of a branch.
   abbrev pub branch_columns : ℕ → BranchFacts → BranchRow
@@ -174,7 +172,7 @@ module _ (H : History) where
   abbrev pub kept_row : Owner → List ℕ → Option KeptRow
   kept_row o k = option_map (kept_columns o k) (kept_of H o k)
 
-  -- What the tables hold.
+  -- What the tables hold. The holds are in the table of schema 2, and that of schema 1 is empty.
   abbrev pub picture : Picture
   picture = record {
     meta = meta_row;
@@ -187,6 +185,7 @@ module _ (H : History) where
     copies = copy_row;
     loans = loan_row;
     holds = hold_row;
+    holds1 = λ _. None;
     transits = transit_row;
     lines = line_row;
     kept = kept_row;

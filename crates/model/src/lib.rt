@@ -10,6 +10,7 @@ ghost use Rattle.model.specs.Laws.{Invariants};
 ghost use Rattle.model.specs.Calendars.{CalendarsAgree};
 ghost use Rattle.model.specs.Forms.{FormsStay, FormsAreWhole, RowsInLimits, FewClosedDays};
 ghost use Rattle.model.specs.References.{References};
+ghost use Rattle.model.specs.Schemas.{OldTablesAreLed};
 ghost use Rattle.model.specs.Repeats.{RepeatsLeaveNothing, RepeatsGetTheKeptReply, RowsActOnce};
 ghost use Rattle.model.specs.DueDays.{WholeWeeksStay, DueDays, DueDaysExist, ShelfLimits};
 ghost use Rattle.model.specs.DueDays.{LimitsExist};
@@ -155,4 +156,11 @@ pub fn references_law()
 /// After a legal history no branch is closed singly on more days than it can be.
 pub fn few_closed_days_law()
     ensures { FewClosedDays }
+{}
+
+/// The tables that a library of schema 1 holds after a history are led to those that a library of
+/// the newest schema holds after the same history, every hold with the state, the copy and the
+/// limit that it had; and they keep to the same limits.
+pub fn schema_1_law()
+    ensures { OldTablesAreLed }
 {}
