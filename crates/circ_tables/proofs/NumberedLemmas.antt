@@ -12,7 +12,7 @@ use Rattle.sqlite.specs.Given.{IsPlain}
 use Rattle.sqlite.specs.Listing.{understood}
 use Rattle.sqlite.specs.Order.{Row, column}
 use Rattle.sqlite.specs.Schema.{Schema}
-use Rattle.sqlite.specs.State.{State, IsUnchanged}
+use Rattle.sqlite.specs.State.{State, IsUnchanged, Shown}
 use Rattle.sqlite.specs.Command.{Command}
 use Rattle.sqlite.specs.Term.{Term, lit}
 use Rattle.sqlite.specs.Table as sql
@@ -42,7 +42,7 @@ use Rattle.circ_tables.specs.Cells.{number_key}
 use Rattle.circ_tables.specs.Encoding.{Any, IsEncoded, Draws, Encodes, with_map}
 use Rattle.circ_tables.specs.Numbered.{IsNumbered, IsNumberTable, IsRead, page_of, count_of, by_key, from_key, by_number, put_terms, put_shows}
 use Rattle.circ_tables.specs.Puts.{Runs, PutsRow, TakesRow}
-use Rattle.circ_tables.specs.Reading.{Table, FirstEntry, AllEntries, CountShown, Gets, Selects, Counts, Lists}
+use Rattle.circ_tables.specs.Reading.{Table, FirstEntry, AllEntries, EntriesInside, CountShown, Gets, Selects, Counts, Lists, ListsInside}
 use Rattle.circ_tables.specs.Selections.{is_any, is_from}
 use Rattle.circ_tables.specs.Shape.{schema}
 use Rattle.circ_tables.specs.Texts.{names_of, put_text, take_text, get_text, all_text, first_text, page_text}
@@ -51,7 +51,7 @@ use Rattle.circ_tables.proofs.EncodingLemmas.{put_encoded, take_encoded, number_
 use Rattle.circ_tables.proofs.InverseLemmas.{told}
 use Rattle.circ_tables.proofs.PageLemmas.{there}
 use Rattle.circ_tables.proofs.PutLemmas.{puts_of}
-use Rattle.circ_tables.proofs.ReadingLemmas.{gets_of, selects_of, counts_of, lists_of}
+use Rattle.circ_tables.proofs.ReadingLemmas.{gets_of, selects_of, counts_of, lists_of, lists_inside}
 use Rattle.circ_tables.proofs.ShownLemmas.{are_encoded}
 
 -- ---- a schema with no foreign key, and no index on a rowid
@@ -171,13 +171,19 @@ module _ {R : Type 0} {t : Table ℕ R} {number_of : R → ℕ} (is : IsNumberTa
         lists_of t items text (plain_of read) given (λ m. Listed m good) (list_found schema t.place t.shape tests (names_of t.shape) text given good reads (looks (lit (Int (negsuc 0))) read))
         (λ m rows listed v there. let at = listed.sound v there in (at.0, at.1)) (are_encoded is)
 
+    found_by : IsRead schema text (page_of t.shape tests) → (old new : State) (rows : List Row) → Shown text given old new rows → (maps : Maps) → Holds schema old.now maps → FirstRows PAGE_ROWS (maps t.place) good rows × IsUnchanged old new
+    found_by read =
+        page_found schema t.place t.shape tests by_number PAGE_ROWS (names_of t.shape) text given good reads (λ x y _ _ less. rw less refl)
+        (record { listed = is.texts.listed; command = read.command_is; bare = read.bare; unlisted = read.unlisted; single = single; key_cell = is.texts.key_cell; as_cells = as_cells; cut = λ given l. refl })
+
     pub pages_by : IsRead schema text (page_of t.shape tests) → {S L : Type 0} (items : L → List R) (g : Ghosts S) (old new : Held S) (result : Result L Fault) → AllEntries items t.cells t.IsLegal text given g old new result
         → Lists t items (λ m. FirstRows PAGE_ROWS m good) g old new result
     pages_by read items =
-        lists_of t items text (plain_of read) given (λ m. FirstRows PAGE_ROWS m good)
-        (page_found schema t.place t.shape tests by_number PAGE_ROWS (names_of t.shape) text given good reads (λ x y _ _ less. rw less refl)
-        (record { listed = is.texts.listed; command = read.command_is; bare = read.bare; unlisted = read.unlisted; single = single; key_cell = is.texts.key_cell; as_cells = as_cells; cut = λ given l. refl }))
-        (λ m rows first v has. there PAGE_ROWS m good rows first v has) (are_encoded is)
+        lists_of t items text (plain_of read) given (λ m. FirstRows PAGE_ROWS m good) (found_by read) (λ m rows first v has. there PAGE_ROWS m good rows first v has) (are_encoded is)
+
+    pages_inside : IsRead schema text (page_of t.shape tests) → {S L : Type 0} (items : L → List R) (g : Ghosts S) (old new : Transaction S) (result : Result L Fault) → EntriesInside items t.cells t.IsLegal text given g old new result
+        → ListsInside t items (λ m. FirstRows PAGE_ROWS m good) g old new result
+    pages_inside read items = lists_inside t items text given (λ m. FirstRows PAGE_ROWS m good) (found_by read) (λ m rows first v has. there PAGE_ROWS m good rows first v has)
 
     -- a count that is no number of 32 bits is greater
     count_many : IsRead schema text (count_of t.shape tests) → (old new : State) → (row : Row) × FindsRow text given old new (Some row) × (0 < length row → (n : ℕ) → n ≤ 4294967295 → column row 0 ≢ Int (pos n)) → (maps : Maps) → Holds schema old.now maps
@@ -208,6 +214,15 @@ module _ {R : Type 0} {t : Table ℕ R} {number_of : R → ℕ} (is : IsNumberTa
   pub lists_page : (a : ℤ) → {S L : Type 0} (items : L → List R) (g : Ghosts S) (old new : Held S) (result : Result L Fault) → AllEntries items t.cells t.IsLegal (page_text t.shape) (Int a ∷ []) g old new result
       → Lists t items (λ m. FirstRows PAGE_ROWS m (is_from a)) g old new result
   lists_page a = pages_by from_key (page_text t.shape) (Int a ∷ []) (is_from a) (λ r. rw (is.texts.key_cell r) refl) is.texts.page
+
+  -- the same inside a transaction
+  pub inside_first : {S L : Type 0} (items : L → List R) (g : Ghosts S) (old new : Transaction S) (result : Result L Fault) → EntriesInside items t.cells t.IsLegal (first_text t.shape) [] g old new result
+      → ListsInside t items (λ m. FirstRows PAGE_ROWS m is_any) g old new result
+  inside_first = pages_inside [] (first_text t.shape) [] is_any (λ r. refl) is.texts.first
+
+  pub inside_page : (a : ℤ) → {S L : Type 0} (items : L → List R) (g : Ghosts S) (old new : Transaction S) (result : Result L Fault) → EntriesInside items t.cells t.IsLegal (page_text t.shape) (Int a ∷ []) g old new result
+      → ListsInside t items (λ m. FirstRows PAGE_ROWS m (is_from a)) g old new result
+  inside_page a = pages_inside from_key (page_text t.shape) (Int a ∷ []) (is_from a) (λ r. rw (is.texts.key_cell r) refl) is.texts.page
 
   -- the picture after a change of the map at the place
   drawn : (old new : State) (change : Maps → Maps) (m : Map → Map) (u : Picture → ℕ → Option R)

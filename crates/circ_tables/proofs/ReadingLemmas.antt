@@ -10,6 +10,7 @@ use Rattle.sqlite.specs.Order.{Row, column}
 use Rattle.sqlite.specs.Schema.{Schema}
 use Rattle.sqlite.specs.State.{State, HasCleanDisk, IsUnchanged, Shown}
 use Rattle.sqlite.specs.Store.{Ghosts}
+use Rattle.sqlite.specs.declared.transaction.Transaction.{Transaction}
 use Rattle.sqlite_rules.specs.Lists.{Has}
 use Rattle.sql_maps.specs.Calls.{FindsRow}
 use Rattle.sql_maps.specs.Maps.{Map, Maps, Holds, Count}
@@ -19,7 +20,7 @@ use Rattle.terms.specs.Pictures.{Picture}
 use Rattle.terms.specs.declared.fault.Fault.{Fault}
 use Rattle.terms.specs.declared.fault.Fault.TheVariants.{Stored}
 use Rattle.circ_tables.specs.Encoding.{Encodes, HasPicture, AreEncoded}
-use Rattle.circ_tables.specs.Reading.{Table, Reading, Asks, Looks, FirstEntry, OfMaps, IsStoredIn, Gets, Selects, AllEntries, Lists, Counts, CountShown}
+use Rattle.circ_tables.specs.Reading.{Table, Reading, Asks, Looks, FirstEntry, OfMaps, IsStoredIn, Gets, Selects, Entries, AllEntries, EntriesInside, Lists, ListsInside, Counts, CountShown}
 use Rattle.circ_tables.specs.Cells.{number}
 use Rattle.circ_tables.specs.Shape.{schema}
 use Rattle.circ_tables.proofs.ColumnLemmas.{same_row}
@@ -131,11 +132,10 @@ module _ {S K R : Type 0} (t : Table K R) (text : List ℕ) (plain : (s : Schema
       }
 
 -- the rows that a list takes
-module _ {S K R L : Type 0} (t : Table K R) (items : L → List R) (text : List ℕ) (plain : (s : Schema) → s ≡ schema → IsPlain (understood s text)) (given : Row) (Found : Map → List Row → Type 0)
+module _ {S K R L : Type 0} (t : Table K R) (items : L → List R) (text : List ℕ) (given : Row) (Found : Map → List Row → Type 0)
     (found : (old new : State) (rows : List Row) → Shown text given old new rows → (maps : Maps) → Holds schema old.now maps → Found (maps t.place) rows × IsUnchanged old new)
     (has : (m : Map) (rows : List Row) → Found m rows → (v : Row) → Has rows v → (k : Row) × (m k ≡ Some v))
-    (encoded : (maps : Maps) (P : Picture) → Encodes maps P → InLimits P → AreEncoded t.cells t.IsLegal (maps t.place))
-    (g : Ghosts S) (old new : Held S) (result : Result L Fault) (is : AllEntries items t.cells t.IsLegal text given g old new result) where
+    (g : Ghosts S) (old new : Held S) (result : Result L Fault) (is : Entries items t.cells t.IsLegal text given g old new result) where
   listed_in : OfMaps (λ maps l. Found (maps t.place) (map t.cells (items l))) g old new result
   listed_in clean = if_ok result (λ l shown maps holds. found (state g old) (state g new) (map t.cells (items l)) shown maps holds) (is.shown clean)
 
@@ -144,17 +144,37 @@ module _ {S K R L : Type 0} (t : Table K R) (items : L → List R) (text : List 
       let bad = is.stored clean err in
       bad.2 (λ v there. let at = has (maps t.place) bad.0 (found (state g old) (state g new) bad.0 bad.1 maps holds).0 v there in all at.0 v at.1)
 
+module _ {S K R L : Type 0} (t : Table K R) (items : L → List R) (text : List ℕ) (plain : (s : Schema) → s ≡ schema → IsPlain (understood s text)) (given : Row) (Found : Map → List Row → Type 0)
+    (found : (old new : State) (rows : List Row) → Shown text given old new rows → (maps : Maps) → Holds schema old.now maps → Found (maps t.place) rows × IsUnchanged old new)
+    (has : (m : Map) (rows : List Row) → Found m rows → (v : Row) → Has rows v → (k : Row) × (m k ≡ Some v))
+    (encoded : (maps : Maps) (P : Picture) → Encodes maps P → InLimits P → AreEncoded t.cells t.IsLegal (maps t.place))
+    (g : Ghosts S) (old new : Held S) (result : Result L Fault) (is : AllEntries items t.cells t.IsLegal text given g old new result) where
   pub lists_of : Lists t items Found g old new result
   lists_of =
       let looked = looks_of text given g old new plain is.asks in
+      let listed = listed_in t items text given Found found has g old new result is.entries in
+      let outside = outside_of t items text given Found found has g old new result is.entries in
       record {
         looks = looked;
-        lists = listed_in;
-        limits = is.limits;
-        stored = outside_of;
-        sound = λ clean P shows legal err. outside_of clean err shows.maps shows.holds (encoded shows.maps P shows.encodes legal);
-        read = read_of result g old new looked (λ clean. if_ok result (λ l lists maps holds. (lists maps holds).1) (listed_in clean)) (λ clean P shows within err. outside_of clean err shows.maps shows.holds (encoded shows.maps P shows.encodes within));
+        lists = listed;
+        limits = is.entries.limits;
+        stored = outside;
+        sound = λ clean P shows legal err. outside clean err shows.maps shows.holds (encoded shows.maps P shows.encodes legal);
+        read = read_of result g old new looked (λ clean. if_ok result (λ l lists maps holds. (lists maps holds).1) (listed clean)) (λ clean P shows within err. outside clean err shows.maps shows.holds (encoded shows.maps P shows.encodes within));
       }
+
+-- inside a transaction
+module _ {S K R L : Type 0} (t : Table K R) (items : L → List R) (text : List ℕ) (given : Row) (Found : Map → List Row → Type 0)
+    (found : (old new : State) (rows : List Row) → Shown text given old new rows → (maps : Maps) → Holds schema old.now maps → Found (maps t.place) rows × IsUnchanged old new)
+    (has : (m : Map) (rows : List Row) → Found m rows → (v : Row) → Has rows v → (k : Row) × (m k ≡ Some v))
+    (g : Ghosts S) (old new : Transaction S) (result : Result L Fault) (is : EntriesInside items t.cells t.IsLegal text given g old new result) where
+  pub lists_inside : ListsInside t items Found g old new result
+  lists_inside = record {
+    works = is.works;
+    lists = listed_in t items text given Found found has g old.conn.now new.conn.now result is.entries;
+    limits = is.entries.limits;
+    stored = outside_of t items text given Found found has g old.conn.now new.conn.now result is.entries;
+  }
 
 -- how many rows a text counts
 module _ {S K R : Type 0} (t : Table K R) (text : List ℕ) (plain : (s : Schema) → s ≡ schema → IsPlain (understood s text)) (given : Row) (passes : Row → Bool)

@@ -1,5 +1,5 @@
 -- What is read in a form of its own: the row of `meta`, a closed day, what is kept, and the closed days of a branch.
-use Rattle.std.proofs.Common.{◌≡◌, ◌≢◌, ◌∙◌, ℕ, Bool, List, [], map, Option, Some, Ok, Err, Result, IfOk, sym, subst}
+use Rattle.std.proofs.Common.{◌≡◌, ◌≢◌, ◌∙◌, ℕ, Bool, List, [], ◌∷◌, map, Option, Some, Ok, Err, Result, IfOk, refl, sym, subst}
 use Rattle.std.specs.Prelude.{IfSome, IsUtf8, is_some, option_map}
 use Rattle.std.specs.List.{All}
 use Rattle.std.proofs.lemmas.List.Elements.{All-map, All-weaker}
@@ -9,8 +9,9 @@ use Rattle.sqlite.specs.Held.{Held, state}
 use Rattle.sqlite.specs.Listing.{understood}
 use Rattle.sqlite.specs.Order.{Row}
 use Rattle.sqlite.specs.Schema.{Schema}
-use Rattle.sqlite.specs.State.{HasCleanDisk, IsUnchanged}
+use Rattle.sqlite.specs.State.{HasCleanDisk, IsUnchanged, Shown}
 use Rattle.sqlite.specs.Store.{Ghosts}
+use Rattle.sqlite.specs.declared.transaction.Transaction.{Transaction}
 use Rattle.sql_maps.specs.Maps.{Maps, Holds, ListedBy, SecondBelow}
 use Rattle.terms.specs.Limits.{InLimits, IsOwner, IsMeta}
 use Rattle.terms.specs.Pictures.{Picture}
@@ -21,46 +22,79 @@ use Rattle.terms.specs.declared.row.MetaRow.{MetaRow}
 use Rattle.terms.specs.declared.row.KeptRow.{KeptRow}
 use Rattle.terms.specs.declared.row.ClosedDayRow.{ClosedDayRow}
 use Rattle.circ_tables.specs.declared.kept.KeptReply.{KeptReply}
+use Rattle.circ_tables.specs.declared.meta.TheConstants.{ALL_META}
 use Rattle.circ_tables.specs.Cells.{number_key, pair_key, kept_key, kept_cells, meta_cells}
 use Rattle.circ_tables.specs.Encoding.{HasPicture, HasTexts, IsClosedDay, reply_of}
-use Rattle.circ_tables.specs.Reading.{Asks, OfMaps, OfPicture, IsStoredIn, IsLone, GetsMeta, GetsDay, GetsKept, kept_with, Lists, ListsDays, AreSuch}
+use Rattle.circ_tables.specs.Reading.{Asks, OfMaps, OfPicture, IsStoredIn, IsLone, WorksInside, GetsMeta, GetsMetaInside, GetsDay, GetsKept, kept_with, Lists, ListsDays, AreSuch}
 use Rattle.circ_tables.specs.ClosedDays.{closed_days}
 use Rattle.circ_tables.specs.Selections.{is_closed_at, AreClosedDays}
-use Rattle.circ_tables.specs.Shape.{schema, meta_place, closed_days_place, kept_place}
+use Rattle.circ_tables.specs.Shape.{schema, later_tables, later_indexes, meta_place, closed_days_place, kept_place}
+use Rattle.circ_tables.proofs.FoundLemmas.{all_meta_plain, lone_meta, only_meta}
 use Rattle.circ_tables.proofs.DayLemmas.{day_of, days_are, days_shown}
 use Rattle.circ_tables.proofs.InverseLemmas.{meta_row_told, meta_alone, day_told, reply_told, row_sound}
 use Rattle.circ_tables.proofs.ReadingLemmas.{looks_of, read_of, if_ok}
 use Rattle.circ_tables.proofs.TableLemmas.{closed_days_within, kept_within}
 
--- the one row of `meta`
-module _ {S : Type 0} (text : List ℕ) (plain : (s : Schema) → s ≡ schema → IsPlain (understood s text))
-    (g : Ghosts S) (old new : Held S) (result : Result MetaRow Fault) (asks : Asks text [] g old new)
-    (gets : OfMaps (λ maps row. maps meta_place (number_key 1) ≡ Some (meta_cells row)) g old new result)
-    (alone : HasCleanDisk (state g new) → IfOk result (λ row. (maps : Maps) → Holds schema (state g old).now maps → IsLone (maps meta_place) row))
-    (limits : IfOk result IsMeta)
-    (stored : IsStoredIn (λ maps. (r : MetaRow) → IsMeta r → maps meta_place (number_key 1) ≡ Some (meta_cells r) → ¬ IsLone (maps meta_place) r) g old new result) where
+-- what was read of `meta`: the one row that its text shows
+pub record MetaRead {S : Type 0} (g : Ghosts S) (old new : Held S) (result : Result MetaRow Fault) : Type 0 where
+  pub shown : HasCleanDisk (state g new) → IfOk result (λ r. Shown ALL_META.now [] (state g old) (state g new) (meta_cells r ∷ []))
+  pub limits : IfOk result IsMeta
+  pub stored : HasCleanDisk (state g new) → result ≡ Err Stored → (rows : List Row) × Shown ALL_META.now [] (state g old) (state g new) rows × ((r : MetaRow) → IsMeta r → rows ≢ meta_cells r ∷ [])
+
+-- from the rows that were shown
+pub meta_read : {S : Type 0} (g : Ghosts S) (old new : Held S) (result : Result MetaRow Fault) (rows slice : List Row) → slice ≡ rows → (HasCleanDisk (state g new) → Shown ALL_META.now [] (state g old) (state g new) rows)
+    → IfOk result (λ r. slice ≡ meta_cells r ∷ []) → IfOk result IsMeta → (result ≡ Err Stored → (r : MetaRow) → IsMeta r → slice ≢ meta_cells r ∷ []) → MetaRead g old new result
+meta_read g old new result rows slice same shown cells limits stored = record {
+  shown = λ clean. if_ok result (λ r is. subst (Shown ALL_META.now [] (state g old) (state g new)) (sym same ∙ is) (shown clean)) cells;
+  limits = limits;
+  stored = λ clean err. (rows, shown clean, λ r legal is. stored err r legal (same ∙ is));
+}
+
+module _ {S : Type 0} (g : Ghosts S) (old new : Held S) (result : Result MetaRow Fault) (is : MetaRead g old new result) where
+  meta_alone_in : HasCleanDisk (state g new)
+      → IfOk result (λ r. (maps : Maps) → Holds schema (state g old).now maps → ((maps meta_place (number_key 1) ≡ Some (meta_cells r)) × IsUnchanged (state g old) (state g new)) × IsLone (maps meta_place) r)
+  meta_alone_in clean = if_ok result (λ r shown. lone_meta later_tables later_indexes (state g old) (state g new) (meta_cells r ∷ []) (meta_cells r) refl shown) (is.shown clean)
+
+  meta_gets : OfMaps (λ maps row. maps meta_place (number_key 1) ≡ Some (meta_cells row)) g old new result
+  meta_gets clean = if_ok result (λ r all maps holds. (all maps holds).0) (meta_alone_in clean)
+
+  meta_stored : IsStoredIn (λ maps. (r : MetaRow) → IsMeta r → maps meta_place (number_key 1) ≡ Some (meta_cells r) → ¬ IsLone (maps meta_place) r) g old new result
+  meta_stored clean err maps holds r legal there alone =
+      let bad = is.stored clean err in
+      bad.2 r legal (only_meta later_tables later_indexes (state g old) (state g new) bad.0 bad.1 maps holds (number_key 1) (meta_cells r) there alone)
+
   meta_shown : OfPicture (λ P row. row ≡ P.meta) g old new result
-  meta_shown clean = if_ok result (λ r each P shown. meta_row_told P r _ (each shown.maps shown.holds) (shown.encodes.meta.there 1 tt)) (gets clean)
+  meta_shown clean = if_ok result (λ r each P shown. meta_row_told P r _ (each shown.maps shown.holds) (shown.encodes.meta.there 1 tt)) (meta_gets clean)
 
   meta_sound : HasCleanDisk (state g new) → (P : Picture) → HasPicture (state g old).now P → IsMeta P.meta → result ≢ Err Stored
-  meta_sound clean P shown legal err = stored clean err shown.maps shown.holds P.meta legal (shown.encodes.meta.there 1 tt) (meta_alone shown.maps P shown.encodes)
+  meta_sound clean P shown legal err = meta_stored clean err shown.maps shown.holds P.meta legal (shown.encodes.meta.there 1 tt) (meta_alone shown.maps P shown.encodes)
 
-  pub meta_of : GetsMeta g old new result
-  meta_of =
-      let looked = looks_of text [] g old new plain asks in
+  pub meta_of : Asks ALL_META.now [] g old new → GetsMeta g old new result
+  meta_of asks =
+      let looked = looks_of ALL_META.now [] g old new (all_meta_plain later_tables later_indexes) asks in
       record {
         looks = looked;
-        gets = gets;
-        alone = alone;
-        limits = limits;
-        stored = stored;
+        gets = meta_gets;
+        alone = λ clean. if_ok result (λ r all maps holds. (all maps holds).1) (meta_alone_in clean);
+        limits = is.limits;
+        stored = meta_stored;
         shows = meta_shown;
         sound = meta_sound;
         view = record {
-          read = read_of result g old new looked (λ clean. if_ok result (λ row got maps holds. (got maps holds).1) (gets clean)) (λ clean P shown legal. meta_sound clean P shown legal.meta);
+          read = read_of result g old new looked (λ clean. if_ok result (λ row got maps holds. (got maps holds).1) (meta_gets clean)) (λ clean P shown legal. meta_sound clean P shown legal.meta);
           shown = λ clean. if_ok result (λ row got P shown legal. (got P shown).0) (meta_shown clean);
         };
       }
+
+pub meta_inside : {S : Type 0} (g : Ghosts S) (old new : Transaction S) (result : Result MetaRow Fault) → WorksInside g old new → MetaRead g old.conn.now new.conn.now result → GetsMetaInside g old new result
+meta_inside g old new result works is = record {
+  works = works;
+  gets = meta_gets g old.conn.now new.conn.now result is;
+  limits = is.limits;
+  stored = meta_stored g old.conn.now new.conn.now result is;
+  shows = meta_shown g old.conn.now new.conn.now result is;
+  sound = meta_sound g old.conn.now new.conn.now result is;
+}
 
 -- whether a branch is closed singly on a day
 module _ {S : Type 0} (branch day : ℕ) (text : List ℕ) (plain : (s : Schema) → s ≡ schema → IsPlain (understood s text)) (given : Row)

@@ -18,6 +18,7 @@ pub mod Titles
 pub mod Copies
 pub mod Loans
 pub mod Holds
+pub mod Holds1
 pub mod Transits
 pub mod Lines
 pub mod Kept

@@ -9,9 +9,10 @@ use Rattle.sqlite.specs.Given.{IsPlain}
 use Rattle.sqlite.specs.Held.{Held, state}
 use Rattle.sqlite.specs.Listing.{understood}
 use Rattle.sqlite.specs.Order.{Row, column}
-use Rattle.sqlite.specs.State.{State, HasCleanDisk, IsUnchanged, Survives, CommitsShowing, Shown}
+use Rattle.sqlite.specs.State.{State, HasCleanDisk, IsUnchanged, KeepsCommit, Survives, CommitsShowing, Shown}
 use Rattle.sqlite.specs.Store.{Ghosts}
 use Rattle.sqlite.specs.Tree.{Trees}
+use Rattle.sqlite.specs.declared.transaction.Transaction.{Transaction}
 use Rattle.sqlite_rules.specs.Lists.{Has}
 use Rattle.sql_maps.specs.Calls.{FindsRow, IsKeptOrUndone}
 use Rattle.sql_maps.specs.Maps.{Map, Maps, Holds, Count}
@@ -101,6 +102,21 @@ pub record AsksAll {S L : Type 0} (items : L → List Row) (text : List ℕ) (gi
       → IfOk result (λ rows. Shown text given (state g old) (state g new) (items rows))
   pub fault : IfErr result (λ fault. fault ≡ Database)
 
+-- What a text that is asked inside a transaction leaves of it, and of what was committed before it, whatever comes of the call and whenever it is stopped.
+pub record WorksInside {S : Type 0} (g : Ghosts S) (old new : Transaction S) : Type 0 where
+  pub same_reference : new.conn.ghost_name ≡ old.conn.ghost_name
+  pub kept : HasCleanDisk (state g new.conn.now) → IsTrue (state g old.conn.now).in_transaction
+      → KeepsCommit (state g old.conn.now) (state g new.conn.now)
+  pub survives : Survives (state g old.conn.now) (state g new.conn.now) (λ _. ⊥)
+
+-- A text was asked inside a transaction for all its rows, which the list has in their order. Only the database refuses it.
+pub record AsksInside {S L : Type 0} (items : L → List Row) (text : List ℕ) (given : Row)
+    (g : Ghosts S) (old new : Transaction S) (result : Result L Fault) : Type 0 where
+  pub works : WorksInside g old new
+  pub shown : HasCleanDisk (state g new.conn.now)
+      → IfOk result (λ rows. Shown text given (state g old.conn.now) (state g new.conn.now) (items rows))
+  pub fault : IfErr result (λ fault. fault ≡ Database)
+
 -- What a plain text leaves of tables with the schema, where nothing is committed.
 pub record Looks {S : Type 0} (g : Ghosts S) (old new : Held S) : Type 0 where
   pub clean : HasCleanDisk (state g new) → HasCleanDisk (state g old)
@@ -175,6 +191,16 @@ pub record GetsMeta {S : Type 0} (g : Ghosts S) (old new : Held S) (result : Res
   pub sound : IsSoundIn (λ P. IsMeta P.meta) g old new result
   pub view : Views (λ P row. row ≡ P.meta) g old new result
 
+-- The same, asked inside a transaction. Where the row comes, nothing is changed, so that the transaction goes on.
+pub record GetsMetaInside {S : Type 0} (g : Ghosts S) (old new : Transaction S) (result : Result MetaRow Fault) : Type 0 where
+  pub works : WorksInside g old new
+  pub gets : OfMaps (λ maps row. maps meta_place (number_key 1) ≡ Some (meta_cells row)) g old.conn.now new.conn.now result
+  pub limits : IfOk result IsMeta
+  pub stored : IsStoredIn (λ maps. (r : MetaRow) → IsMeta r → maps meta_place (number_key 1) ≡ Some (meta_cells r)
+      → ¬ IsLone (maps meta_place) r) g old.conn.now new.conn.now result
+  pub shows : OfPicture (λ P row. row ≡ P.meta) g old.conn.now new.conn.now result
+  pub sound : IsSoundIn (λ P. IsMeta P.meta) g old.conn.now new.conn.now result
+
 -- Whether a branch is closed singly on a day. No row is read, so none is outside its limits.
 pub record GetsDay {S : Type 0} (branch day : ℕ)
     (g : Ghosts S) (old new : Held S) (result : Result Bool Fault) : Type 0 where
@@ -223,16 +249,27 @@ pub record Counts {S K R : Type 0} (t : Table K R) (passes : Row → Bool)
   pub counts : OfMaps (λ maps n. Count (maps t.place) passes n) g old new result
   pub stored : IsStoredIn (λ maps. (n : ℕ) × Count (maps t.place) passes n × (4294967295 < n)) g old new result
 
--- All rows that a text shows, each within its limits.
-pub record AllEntries {S R L : Type 0} (items : L → List R) (cells : R → Row) (IsLegal : R → Type 0)
+-- What is read of all rows that a text shows, each within its limits.
+pub record Entries {S R L : Type 0} (items : L → List R) (cells : R → Row) (IsLegal : R → Type 0)
     (text : List ℕ) (given : Row) (g : Ghosts S) (old new : Held S) (result : Result L Fault) : Type 0 where
-  pub asks : Asks text given g old new
   pub shown : HasCleanDisk (state g new)
       → IfOk result (λ l. Shown text given (state g old) (state g new) (map cells (items l)))
   pub limits : IfOk result (λ l. All IsLegal (items l))
   pub stored : HasCleanDisk (state g new) → result ≡ Err Stored
       → (rows : List Row) × Shown text given (state g old) (state g new) rows
       × ¬ ((v : Row) → Has rows v → (r : R) × IsLegal r × (v ≡ cells r))
+
+-- The same with what the text leaves.
+pub record AllEntries {S R L : Type 0} (items : L → List R) (cells : R → Row) (IsLegal : R → Type 0)
+    (text : List ℕ) (given : Row) (g : Ghosts S) (old new : Held S) (result : Result L Fault) : Type 0 where
+  pub asks : Asks text given g old new
+  pub entries : Entries items cells IsLegal text given g old new result
+
+-- The same inside a transaction.
+pub record EntriesInside {S R L : Type 0} (items : L → List R) (cells : R → Row) (IsLegal : R → Type 0)
+    (text : List ℕ) (given : Row) (g : Ghosts S) (old new : Transaction S) (result : Result L Fault) : Type 0 where
+  pub works : WorksInside g old new
+  pub entries : Entries items cells IsLegal text given g old.conn.now new.conn.now result
 
 -- The rows of a table that a list takes, in its order.
 pub record Lists {S K R L : Type 0} (t : Table K R) (items : L → List R) (Found : Map → List Row → Type 0)
@@ -243,6 +280,14 @@ pub record Lists {S K R L : Type 0} (t : Table K R) (items : L → List R) (Foun
   pub stored : IsStoredIn (λ maps. ¬ AreEncoded t.cells t.IsLegal (maps t.place)) g old new result
   pub sound : IsSoundIn InLimits g old new result
   pub read : Reading (result_err result) (state g old) (state g new)
+
+-- The same, asked inside a transaction. Where the rows come, nothing is changed, so that the transaction goes on.
+pub record ListsInside {S K R L : Type 0} (t : Table K R) (items : L → List R) (Found : Map → List Row → Type 0)
+    (g : Ghosts S) (old new : Transaction S) (result : Result L Fault) : Type 0 where
+  pub works : WorksInside g old new
+  pub lists : OfMaps (λ maps l. Found (maps t.place) (map t.cells (items l))) g old.conn.now new.conn.now result
+  pub limits : IfOk result (λ l. All t.IsLegal (items l))
+  pub stored : IsStoredIn (λ maps. ¬ AreEncoded t.cells t.IsLegal (maps t.place)) g old.conn.now new.conn.now result
 
 -- The days on which a branch is closed singly.
 pub record ListsDays {S L : Type 0} (items : L → List ℕ) (branch : ℕ)

@@ -6,12 +6,12 @@ ghost use Rattle.sql_maps.specs.Maps.{Listed};
 ghost use Rattle.sql_maps.specs.Pages.{FirstRows};
 ghost use Rattle.circ_tables.specs.Numbered.{AreTexts, IsNumberTable};
 ghost use Rattle.circ_tables.specs.Puts.{Runs, PutsRow, TakesRow};
-ghost use Rattle.circ_tables.specs.Reading.{Gets, Lists};
+ghost use Rattle.circ_tables.specs.Reading.{Gets, Lists, ListsInside};
 ghost use Rattle.circ_tables.specs.Selections.{is_any, is_next, least_after};
 ghost use Rattle.circ_tables.specs.declared.by_number.TheConstants.{PAGE_ROWS};
 
 use crate::call::run;
-use crate::list::{Table, row_of, rows_of};
+use crate::list::{Table, row_of, rows_inside, rows_of};
 use sqlite::{Alter, Connection, Transaction, params};
 use std::alloc::Global;
 use terms::{Fault, Number, Ordered};
@@ -148,5 +148,24 @@ pub fn next_rows<T: Numbered, S: Alter>(
             rows_of(conn, alloc, memory, T::texts().page, least)
         },
         None => rows_of(conn, alloc, memory, T::texts().first, &[]),
+    }
+}
+
+/// The same rows, asked inside a transaction, which goes on. 90, 91, 93.
+pub fn next_rows_inside<T: Numbered, S: Alter>(
+    tx: &mut Transaction<'_, S>,
+    alloc: Global,
+    memory: T::Memory,
+    after: Option<u32>,
+) -> Result<Vec<T>, Fault>
+    ensures { ListsInside T.table (λ l. l.items) (λ m. FirstRows PAGE_ROWS m (is_next after))
+        S.Store tx.old tx.new result }
+{
+    match after {
+        Some(number) => {
+            let from = params![least_after(number)];
+            rows_inside(tx, alloc, memory, T::texts().page, from)
+        },
+        None => rows_inside(tx, alloc, memory, T::texts().first, &[]),
     }
 }

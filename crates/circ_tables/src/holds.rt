@@ -1,4 +1,4 @@
-//! The table of holds.
+//! The table of holds, as a library has it from schema 2 on.
 
 ghost use Rattle.sql_maps.specs.Maps.{First, FirstOf, Listed};
 ghost use Rattle.sql_maps.specs.Pages.{FirstRows};
@@ -28,9 +28,9 @@ impl Table for HoldRow {
 
     ghost table = { holds };
 
-    /// A row of `holds`. 91, 93.
+    /// A row of `holds2`. 91, 93.
     fn read(row: &Row, _memory: ()) -> Result<HoldRow, Fault> {
-        has_width(row, 7)?;
+        has_width(row, 8)?;
         Ok(HoldRow {
             hold: hold_at(row, 0, LAST_NUMBER)?,
             patron: patron_at(row, 1)?,
@@ -39,6 +39,7 @@ impl Table for HoldRow {
             state: state_at(row, 4)?,
             copy: copy_or_none_at(row, 5)?,
             limit_day: day_or_none_at(row, 6)?,
+            first_day: day_or_none_at(row, 7)?,
         })
     }
 }
@@ -54,12 +55,12 @@ impl Numbered for HoldRow {
 
     fn texts() -> Texts {
         Texts {
-            put: "INSERT INTO holds VALUES (?1, ?2, ?3, ?4, ?5, ?6, ?7) ON CONFLICT (hold) DO UPDATE SET patron = ?2, title = ?3, branch = ?4, state = ?5, copy = ?6, limit_day = ?7",
-            take: "DELETE FROM holds WHERE hold = ?1",
-            get: "SELECT * FROM holds WHERE hold = ?1",
-            all: "SELECT * FROM holds ORDER BY hold",
-            first: "SELECT * FROM holds ORDER BY hold LIMIT 1000",
-            page: "SELECT * FROM holds WHERE hold >= ?1 ORDER BY hold LIMIT 1000",
+            put: "INSERT INTO holds2 VALUES (?1, ?2, ?3, ?4, ?5, ?6, ?7, ?8) ON CONFLICT (hold) DO UPDATE SET patron = ?2, title = ?3, branch = ?4, state = ?5, copy = ?6, limit_day = ?7, first_day = ?8",
+            take: "DELETE FROM holds2 WHERE hold = ?1",
+            get: "SELECT * FROM holds2 WHERE hold = ?1",
+            all: "SELECT * FROM holds2 ORDER BY hold",
+            first: "SELECT * FROM holds2 ORDER BY hold LIMIT 1000",
+            page: "SELECT * FROM holds2 WHERE hold >= ?1 ORDER BY hold LIMIT 1000",
         }
     }
 
@@ -85,13 +86,14 @@ impl Put for HoldRow {
                 state_number(self.state),
                 copy_or_null(self.copy),
                 day_or_null(self.limit_day),
+                day_or_null(self.first_day),
             ],
         )
     }
 }
 
 /// The text of `ready_hold_of`.
-pub const READY_HOLD_OF_TEXT: &str = "SELECT * FROM holds WHERE copy = ?1 ORDER BY hold LIMIT 1";
+pub const READY_HOLD_OF_TEXT: &str = "SELECT * FROM holds2 WHERE copy = ?1 ORDER BY hold LIMIT 1";
 
 /// The hold that names the copy, if one does. 91, 93.
 pub fn ready_hold_of<S: Alter>(
@@ -106,7 +108,7 @@ pub fn ready_hold_of<S: Alter>(
 
 /// The text of `first_in_line`.
 pub const FIRST_IN_LINE_TEXT: &str =
-    "SELECT * FROM holds WHERE title = ?1 AND state = 0 AND NOT EXISTS (SELECT * FROM transits WHERE transits.hold = holds.hold) ORDER BY hold LIMIT 1";
+    "SELECT * FROM holds2 WHERE title = ?1 AND state = 0 AND NOT EXISTS (SELECT * FROM transits WHERE transits.hold = holds2.hold) ORDER BY hold LIMIT 1";
 
 /// The first in line for a title: the waiting hold of the least number that no copy travels for.
 /// 91, 93.
@@ -123,7 +125,7 @@ pub fn first_in_line<S: Alter>(
 
 /// The text of `count_active_holds`.
 pub const COUNT_ACTIVE_HOLDS_TEXT: &str =
-    "SELECT COUNT(*) FROM holds WHERE patron = ?1 AND state <= 1";
+    "SELECT COUNT(*) FROM holds2 WHERE patron = ?1 AND state <= 1";
 
 /// How many waiting and ready holds the patron has. 91; 93 from 2^32 on.
 pub fn count_active_holds<S: Alter>(
@@ -137,7 +139,7 @@ pub fn count_active_holds<S: Alter>(
 
 /// The text of `count_active_holds_on`.
 pub const COUNT_ACTIVE_HOLDS_ON_TEXT: &str =
-    "SELECT COUNT(*) FROM holds WHERE patron = ?1 AND title = ?2 AND state <= 1";
+    "SELECT COUNT(*) FROM holds2 WHERE patron = ?1 AND title = ?2 AND state <= 1";
 
 /// How many waiting and ready holds the patron has on the title. 91; 93 from 2^32 on.
 pub fn count_active_holds_on<S: Alter>(
@@ -156,7 +158,7 @@ pub fn count_active_holds_on<S: Alter>(
 
 /// The text of `active_holds_by`.
 pub const ACTIVE_HOLDS_BY_TEXT: &str =
-    "SELECT * FROM holds WHERE patron = ?1 AND state <= 1 ORDER BY hold";
+    "SELECT * FROM holds2 WHERE patron = ?1 AND state <= 1 ORDER BY hold";
 
 /// The waiting and the ready holds of a patron, the least number first. 90, 91, 93.
 pub fn active_holds_by<S: Alter>(
@@ -178,7 +180,7 @@ pub fn active_holds_by<S: Alter>(
 
 /// The text of `ready_holds_after`.
 pub const READY_HOLDS_AFTER_TEXT: &str =
-    "SELECT * FROM holds WHERE branch = ?1 AND state = 1 AND hold > ?2 ORDER BY hold LIMIT 1000";
+    "SELECT * FROM holds2 WHERE branch = ?1 AND state = 1 AND hold > ?2 ORDER BY hold LIMIT 1000";
 
 /// The first ready holds with this pick-up branch whose numbers are above this one, the least
 /// number first: all of them, or as many as a page has. 90, 91, 93.

@@ -2,15 +2,15 @@
 
 ghost use Rattle.std.specs.Prelude.{◌≡◌, ◌≢◌, map, Err, IfOk};
 ghost use Rattle.sqlite.specs.Values.{bound};
-ghost use Rattle.circ_tables.specs.Reading.{AllEntries, FirstEntry, CountShown};
+ghost use Rattle.circ_tables.specs.Reading.{AllEntries, EntriesInside, FirstEntry, CountShown};
 ghost use Rattle.std.specs.List.{All};
 ghost use Rattle.sqlite.specs.Order.{Row as SqlRow};
 ghost use Rattle.sqlite_rules.specs.Lists.{Has};
 ghost use Rattle.circ_tables.specs.Reading.{Table as Typed};
 
-use crate::call::{all_rows, first_row};
+use crate::call::{all_rows, all_rows_inside, first_row};
 use crate::cell::number_at;
-use sqlite::{Alter, Connection, Row};
+use sqlite::{Alter, Connection, Row, Transaction};
 use sqlite_value::value::ValueRef;
 use std::alloc::Global;
 use terms::{Count, Fault, Key};
@@ -76,6 +76,21 @@ pub fn rows_of<T: Table, S: Alter>(
         S.Store conn.old conn.new result }
 {
     let rows = all_rows(conn, sql, params)?;
+    entries(alloc, memory, rows.as_slice())
+}
+
+/// All rows that a text shows inside a transaction, each within its limits. 90, 91, 93.
+pub fn rows_inside<T: Table, S: Alter>(
+    tx: &mut Transaction<'_, S>,
+    alloc: Global,
+    memory: T::Memory,
+    sql: &str,
+    params: &[ValueRef<'_>],
+) -> Result<Vec<T>, Fault>
+    ensures { EntriesInside (λ l. l.items) T.table.cells T.table.IsLegal sql.now
+        (bound params.now) S.Store tx.old tx.new result }
+{
+    let rows = all_rows_inside(tx, sql, params)?;
     entries(alloc, memory, rows.as_slice())
 }
 

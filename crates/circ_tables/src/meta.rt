@@ -6,9 +6,9 @@ ghost use Rattle.terms.specs.Limits.{IsMeta};
 ghost use Rattle.terms.specs.declared.row.MetaRow.{MetaRow as MetaRecord};
 ghost use Rattle.circ_tables.specs.Cells.{meta_cells};
 ghost use Rattle.circ_tables.specs.Puts.{PutsMeta};
-ghost use Rattle.circ_tables.specs.Reading.{GetsMeta};
+ghost use Rattle.circ_tables.specs.Reading.{GetsMeta, GetsMetaInside};
 
-use crate::call::{all_rows, run};
+use crate::call::{all_rows, all_rows_inside, run};
 use crate::cell::{day_at, has_width, hold_at, line_at, loan_at, number_at};
 use sqlite::{Alter, Connection, Row, Transaction, params};
 use terms::{Fault, LAST_NEXT_NUMBER, MetaRow};
@@ -46,12 +46,32 @@ pub fn meta_row(row: &Row) -> Result<MetaRow, Fault>
     })
 }
 
+/// The row of `meta` where these are its rows. 91; 93 where they are not one row of id 1, or it is
+/// outside its limits.
+fn lone_row(rows: &[Row]) -> Result<MetaRow, Fault>
+    ensures cells { IfOk result (λ r. rows.now ≡ meta_cells r ∷ []) }
+    ensures limits { IfOk result IsMeta }
+    ensures stored { result ≡ Err Fault.Stored → (r : MetaRecord) → IsMeta r
+        → rows.now ≢ meta_cells r ∷ [] }
+{
+    meta_row(one_of(rows)?)
+}
+
 /// The one row of `meta`. 91; 93 where it is not one row of id 1, or is outside its limits.
 pub fn get_meta<S: Alter>(conn: &mut Connection<S>) -> Result<MetaRow, Fault>
     ensures { GetsMeta S.Store conn.old conn.new result }
 {
     let rows = all_rows(conn, ALL_META, &[])?;
-    meta_row(one_of(rows.as_slice())?)
+    lone_row(rows.as_slice())
+}
+
+/// The one row of `meta`, asked inside a transaction, which goes on. 91; 93 where it is not one row
+/// of id 1, or is outside its limits.
+pub fn get_meta_inside<S: Alter>(tx: &mut Transaction<'_, S>) -> Result<MetaRow, Fault>
+    ensures { GetsMetaInside S.Store tx.old tx.new result }
+{
+    let rows = all_rows_inside(tx, ALL_META, &[])?;
+    lone_row(rows.as_slice())
 }
 
 /// Puts the row of `meta`. 91.
