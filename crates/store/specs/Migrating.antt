@@ -1,5 +1,5 @@
 -- How a library of an older schema is led to the newest one.
-use Rattle.std.specs.Prelude.{◌≡◌, ◌⊎◌, ◌<◌, ◌^◌, ℕ, List, [], ◌∷◌, Option, Some, None, option_map, Err, Result, IfOk, IfErr, OnOk, OnErr, IsTrue, refl}
+use Rattle.std.specs.Prelude.{◌≡◌, ◌⊎◌, ◌<◌, ◌^◌, ℕ, false, List, [], ◌∷◌, Option, Some, None, option_map, Err, Result, IfOk, IfErr, OnOk, OnErr, IsTrue, refl}
 use Rattle.sqlite.specs.Effect.{Database}
 use Rattle.sqlite.specs.Held.{Held, state}
 use Rattle.sqlite.specs.State.{State, HasCleanDisk}
@@ -15,7 +15,7 @@ use Rattle.circ_tables.specs.Encoding.{HasPicture, HasPictureAt, Draws}
 use Rattle.circ_tables.specs.Holds.{holds}
 use Rattle.circ_tables.specs.Holds1.{holds1}
 use Rattle.circ_tables.specs.Puts.{Works}
-use Rattle.circ_tables.specs.Reading.{Table}
+use Rattle.circ_tables.specs.Reading.{Table, WorksInside}
 use Rattle.store.specs.Commit.{IsRefused}
 use Rattle.store.specs.Schemas.{IsKnown}
 use Rattle.store.specs.Stops.{Leaves, KeepsPicture, KeepsPictureAt}
@@ -82,7 +82,7 @@ pub record DrawsInside {S T : Type 0} (change : Picture → Picture)
 -- A library is led on in the transaction: where the database shows a picture that is ready for it, it shows the other afterwards; and then no fault of a stored row comes.
 pub record LeadsInside {S T : Type 0} (IsReady : Database → Picture → Type 0) (change : Picture → Picture)
     (g : Ghosts S) (old new : Transaction S) (result : Result T Fault) : Type 0 where
-  pub works : Works g old new
+  pub works : WorksInside g old new
   pub inside : HasCleanDisk (state g new.conn.now) → IsTrue (state g old.conn.now).in_transaction
       → OnOk result (IsTrue (state g new.conn.now).in_transaction)
   pub leads : HasCleanDisk (state g new.conn.now) → IsTrue (state g old.conn.now).in_transaction

@@ -19,7 +19,7 @@ use terms::{Fault, HoldId, HoldRow, HoldRow1, MetaRow};
 /// A row of a table that the next schema has in another form.
 pub(crate) trait Carried: Numbered {
     /// The row as the next schema has it.
-    type Next: Put;
+    type Next: Put + Drop;
 
     ghost carried: { Self → Self.Next.Row };
 
