@@ -31,7 +31,7 @@ pub of_known : (Is : Maps → Type 0) (db : Database) → ((more : List Table) (
 of_known Is db all n known maps holds = let it = grown_at n known in all it.0 it.1 maps (subst (λ (s : Schema). Holds s db maps) it.2 holds)
 
 -- the tables of a picture name its schema
-picture_names : (maps : Maps) (P : Picture) → Encodes maps P → NamesSchema maps P.meta.schema
+pub picture_names : (maps : Maps) (P : Picture) → Encodes maps P → NamesSchema maps P.meta.schema
 picture_names maps P is = record { key = number_key 1; row = meta_cells P.meta; there = is.meta.there 1 tt; alone = meta_alone maps P is; schema = refl }
 
 -- one row names one schema

@@ -2,42 +2,54 @@
 use Rattle.std.specs.Prelude.{◌≡◌, ◌⊎◌, ◌<◌, ◌^◌, ℕ, false, List, [], ◌∷◌, Option, Some, None, option_map, Err, Result, IfOk, IfErr, OnOk, OnErr, IsTrue, refl}
 use Rattle.sqlite.specs.Effect.{Database}
 use Rattle.sqlite.specs.Held.{Held, state}
-use Rattle.sqlite.specs.State.{State, HasCleanDisk}
+use Rattle.sqlite.specs.State.{State, HasCleanDisk, KeepsCommit, Survives}
 use Rattle.sqlite.specs.Store.{Ghosts}
+use Rattle.sqlite.specs.Tree.{Trees}
 use Rattle.sqlite.specs.declared.transaction.Transaction.{Transaction}
+use Rattle.sql_maps.specs.Maps.{Maps, Holds}
 use Rattle.terms.specs.Limits.{InLimits}
 use Rattle.terms.specs.Pictures.{Picture, put}
 use Rattle.terms.specs.Schemas.{IsOfSchema1, carried, led_to_2}
 use Rattle.terms.specs.declared.fault.Fault.{Fault}
-use Rattle.terms.specs.declared.fault.Fault.TheVariants.{Stored}
+use Rattle.terms.specs.declared.fault.Fault.TheVariants.{Database as Refused, Stored}
 use Rattle.terms.specs.declared.limits.TheConstants.{SCHEMA}
+use Rattle.terms.specs.declared.row.HoldRow.{HoldRow}
+use Rattle.terms.specs.declared.row.HoldRow1.{HoldRow1}
 use Rattle.circ_tables.specs.Encoding.{HasPicture, HasPictureAt, Draws}
 use Rattle.circ_tables.specs.Holds.{holds}
 use Rattle.circ_tables.specs.Holds1.{holds1}
 use Rattle.circ_tables.specs.Puts.{Works}
-use Rattle.circ_tables.specs.Reading.{Table, WorksInside}
-use Rattle.store.specs.Commit.{IsRefused}
+use Rattle.circ_tables.specs.Reading.{Table}
+use Rattle.circ_tables.specs.Shape.{schema_at}
+use Rattle.store.specs.Commit.{Brings, HasDone}
+use Rattle.store.specs.Library.{HasTables}
 use Rattle.store.specs.Schemas.{IsKnown}
 use Rattle.store.specs.Stops.{Leaves, KeepsPicture, KeepsPictureAt}
 
 -- ---- rows that are carried over
 
--- What ties a table to that of the next schema: the picture with these rows in the two of them.
-pub record IsCarriedOver {R N : Type 0} (old : Table ℕ R) (new : Table ℕ N) (number_of : R → ℕ) (new_number : N → ℕ) (carried : R → N) : Type 0 where
+-- From a table to that of the next schema: what a row becomes, and the picture with these rows in the two tables.
+pub record Route (R N : Type 0) : Type 0 where
+  pub carried : R → N
   pub with_both : Picture → (ℕ → Option R) → (ℕ → Option N) → Picture
-  pub same : (P : Picture) → with_both P (old.rows P) (new.rows P) ≡ P
-  pub old_rows : (P : Picture) (f : ℕ → Option R) (g : ℕ → Option N) → old.rows (with_both P f g) ≡ f
-  pub taken : (P : Picture) (f : ℕ → Option R) (g : ℕ → Option N) (k : ℕ) → old.set (with_both P f g) k None ≡ with_both P (put f k None) g
-  pub put_in : (P : Picture) (f : ℕ → Option R) (g : ℕ → Option N) (k : ℕ) (n : N) → new.set (with_both P f g) k (Some n) ≡ with_both P f (put g k (Some n))
-  pub number_is : (r : R) → new_number (carried r) ≡ number_of r
-  pub legal : (r : R) → old.IsLegal r → new.IsLegal (carried r)
-  pub limits : (P : Picture) (f : ℕ → Option R) (g : ℕ → Option N) → InLimits P → ((k : ℕ) (r : R) → f k ≡ Some r → (number_of r ≡ k) × old.IsLegal r)
-      → ((k : ℕ) (n : N) → g k ≡ Some n → (new_number n ≡ k) × new.IsLegal n) → InLimits (with_both P f g)
 
--- The holds of schema 1 and those of schema 2.
-pub holds_carried : IsCarriedOver holds1 holds (λ r. r.hold) (λ r. r.hold) carried
+-- What ties the two tables to it.
+pub record IsRoute {R N : Type 0} (old : Table ℕ R) (new : Table ℕ N) (number_of : R → ℕ) (new_number : N → ℕ) (route : Route R N) : Type 0 where
+  pub same : (P : Picture) → route.with_both P (old.rows P) (new.rows P) ≡ P
+  pub old_rows : (P : Picture) (f : ℕ → Option R) (g : ℕ → Option N) → old.rows (route.with_both P f g) ≡ f
+  pub taken : (P : Picture) (f : ℕ → Option R) (g : ℕ → Option N) (k : ℕ) → old.set (route.with_both P f g) k None ≡ route.with_both P (put f k None) g
+  pub put_in : (P : Picture) (f : ℕ → Option R) (g : ℕ → Option N) (k : ℕ) (n : N) → new.set (route.with_both P f g) k (Some n) ≡ route.with_both P f (put g k (Some n))
+  pub number_is : (r : R) → new_number (route.carried r) ≡ number_of r
+  pub legal : (r : R) → old.IsLegal r → new.IsLegal (route.carried r)
+  pub limits : (P : Picture) (f : ℕ → Option R) (g : ℕ → Option N) → InLimits P → ((k : ℕ) (r : R) → f k ≡ Some r → (number_of r ≡ k) × old.IsLegal r)
+      → ((k : ℕ) (n : N) → g k ≡ Some n → (new_number n ≡ k) × new.IsLegal n) → InLimits (route.with_both P f g)
+
+-- The holds of schema 1 become those of schema 2.
+abbrev pub holds_route : Route HoldRow1 HoldRow
+holds_route = record { carried = carried; with_both = λ P f g. record P { holds = g; holds1 = f } }
+
+pub holds_carried : IsRoute holds1 holds (λ r. r.hold) (λ r. r.hold) holds_route
 holds_carried = record {
-  with_both = λ P f g. record P { holds = g; holds1 = f };
   same = λ P. refl;
   old_rows = λ P f g. refl;
   taken = λ P f g k. refl;
@@ -71,20 +83,25 @@ module _ {R N : Type 0} (old : Table ℕ R) (new : Table ℕ N) (number_of : R �
   move_all [] P = P
   move_all (r ∷ more) P = move_all more (move_one r P)
 
--- The picture is changed so in the transaction. Its one fault is 91.
+-- The picture is changed so in the transaction, and the tables stay. Its one fault is 91.
 pub record DrawsInside {S T : Type 0} (change : Picture → Picture)
     (g : Ghosts S) (old new : Transaction S) (result : Result T Fault) : Type 0 where
   pub works : Works g old new
   pub draws : HasCleanDisk (state g new.conn.now) → IsTrue (state g old.conn.now).in_transaction
       → OnOk result (Draws (state g old.conn.now) (state g new.conn.now) change)
-  pub fault : IfErr result IsRefused
+  pub tables : HasCleanDisk (state g new.conn.now) → IsTrue (state g old.conn.now).in_transaction
+      → OnOk result (HasTables (state g old.conn.now).now → HasTables (state g new.conn.now).now)
+  pub fault : IfErr result (λ fault. fault ≡ Refused)
 
--- A library is led on in the transaction: where the database shows a picture that is ready for it, it shows the other afterwards; and then no fault of a stored row comes.
-pub record LeadsInside {S T : Type 0} (IsReady : Database → Picture → Type 0) (change : Picture → Picture)
+-- A library is led on in the transaction. Where its tables are there nothing is committed, and after an answer the transaction goes on, over the tables of the newest schema. Where they show a picture that is ready for it they show the other afterwards, and then no fault of a stored row comes.
+pub record LeadsInside {S T : Type 0} (AreThere : Database → Type 0) (IsReady : Database → Picture → Type 0) (change : Picture → Picture)
     (g : Ghosts S) (old new : Transaction S) (result : Result T Fault) : Type 0 where
-  pub works : WorksInside g old new
+  pub same_reference : new.conn.ghost_name ≡ old.conn.ghost_name
+  pub survives : Survives (state g old.conn.now) (state g new.conn.now) (λ _. ⊥)
+  pub kept : HasCleanDisk (state g new.conn.now) → IsTrue (state g old.conn.now).in_transaction
+      → AreThere (state g old.conn.now).now → KeepsCommit (state g old.conn.now) (state g new.conn.now)
   pub inside : HasCleanDisk (state g new.conn.now) → IsTrue (state g old.conn.now).in_transaction
-      → OnOk result (IsTrue (state g new.conn.now).in_transaction)
+      → AreThere (state g old.conn.now).now → OnOk result (IsTrue (state g new.conn.now).in_transaction × HasTables (state g new.conn.now).now)
   pub leads : HasCleanDisk (state g new.conn.now) → IsTrue (state g old.conn.now).in_transaction
       → OnOk result ((P : Picture) → IsReady (state g old.conn.now).now P → HasPicture (state g new.conn.now).now (change P))
   pub sound : HasCleanDisk (state g new.conn.now) → IsTrue (state g old.conn.now).in_transaction → result ≡ Err Stored
@@ -95,9 +112,8 @@ abbrev pub IsToCarry : {N : Type 0} → Table ℕ N → Database → Picture →
 IsToCarry new db P = HasPicture db P × InLimits P × ((k : ℕ) → new.rows P k ≡ None)
 
 -- All rows stand in the new table, and none in the old one.
-abbrev pub all_over : {R N : Type 0} {old : Table ℕ R} {new : Table ℕ N} {number_of : R → ℕ} {new_number : N → ℕ} {carried : R → N}
-    → IsCarriedOver old new number_of new_number carried → Picture → Picture
-all_over {old = old} {carried = carried} over P = over.with_both P (λ _. None) (λ k. option_map carried (old.rows P k))
+abbrev pub all_over : {R N : Type 0} → Table ℕ R → Route R N → Picture → Picture
+all_over old route P = route.with_both P (λ _. None) (λ k. option_map route.carried (old.rows P k))
 
 -- ---- from schema to schema
 
@@ -107,15 +123,41 @@ IsLibrary1 db P = HasPictureAt 1 db P × IsOfSchema1 P × InLimits P
 
 -- Those of the newest schema show one that names it.
 abbrev pub IsNewest : Database → Picture → Type 0
-IsNewest db P = HasPicture db P × (P.meta.schema ≡ SCHEMA) × InLimits P
+IsNewest db P = HasPicture db P × (P.meta.schema ≡ SCHEMA)
 
--- Where the one shows a library of schema 1, the other shows what it is led to.
-abbrev pub LeadsTo2 : Database → Database → Type 0
-LeadsTo2 old new = (P : Picture) → IsLibrary1 old P → HasPicture new (led_to_2 P)
+-- Its tables are there.
+abbrev pub HasTables1 : Database → Type 0
+HasTables1 db = (maps : Maps) × Holds (schema_at 1) db maps
 
--- A fault of a stored row comes where the database showed no picture that was ready.
-abbrev pub IsNotReady : {S : Type 0} → (Database → Picture → Type 0) → Ghosts S → Held S → Held S → Fault → Type 0
-IsNotReady IsReady g old new fault = HasCleanDisk (state g new) → fault ≡ Stored → (P : Picture) → ¬ IsReady (state g old).now P
+-- Where the one shows a library of schema 1, the other shows what it is led to; and one of the newest schema is shown still.
+pub record LeadsOn (old new : Database) : Type 0 where
+  pub from_1 : (P : Picture) → IsLibrary1 old P → HasPicture new (led_to_2 P)
+  pub newest : (P : Picture) → IsNewest old P → HasPicture new P
+
+-- These tables are led on.
+abbrev pub AreThere : Database → Type 0
+AreThere db = HasTables1 db ⊎ ((P : Picture) × IsNewest db P)
+
+-- A step was made in the transaction. Where its tables are there nothing is committed, and no fault of a stored row comes where they show a picture that can be led on.
+pub record LeadsOnInside {S T : Type 0} (g : Ghosts S) (old new : Transaction S) (result : Result T Fault) : Type 0 where
+  pub same_reference : new.conn.ghost_name ≡ old.conn.ghost_name
+  pub survives : Survives (state g old.conn.now) (state g new.conn.now) (λ _. ⊥)
+  pub kept : HasCleanDisk (state g new.conn.now) → IsTrue (state g old.conn.now).in_transaction
+      → AreThere (state g old.conn.now).now → KeepsCommit (state g old.conn.now) (state g new.conn.now)
+  pub leads : HasCleanDisk (state g new.conn.now) → IsTrue (state g old.conn.now).in_transaction
+      → OnOk result (LeadsOn (state g old.conn.now).now (state g new.conn.now).now)
+  pub sound : HasCleanDisk (state g new.conn.now) → IsTrue (state g old.conn.now).in_transaction → result ≡ Err Stored
+      → (P : Picture) → ¬ (IsLibrary1 (state g old.conn.now).now P ⊎ (IsNewest (state g old.conn.now).now P))
+
+-- It was made in one transaction: where the tables are there, it is made and committed, or nothing is; and whatever a stop leaves is what was there or what the step brings.
+pub record StepsOn {S T : Type 0} (g : Ghosts S) (old new : Held S) (result : Result T Fault) : Type 0 where
+  pub idle : new.in_transaction ≡ false
+  pub done : HasCleanDisk (state g new) → AreThere (state g old).now → OnOk result (HasDone LeadsOn (state g old) (state g new))
+  pub undone : HasCleanDisk (state g new) → IsTrue (state g new).is_open → AreThere (state g old).now → OnErr result (
+      ((state g new).now ≡ (state g old).now) × ((state g new).committed ≡ (state g old).now))
+  pub survives : Survives (state g old) (state g new) (Brings LeadsOn (state g old).now)
+  pub sound : HasCleanDisk (state g new) → result ≡ Err Stored → (P : Picture)
+      → ¬ (IsLibrary1 (state g old).now P ⊎ IsNewest (state g old).now P)
 
 -- The number of the schema was asked for, and nothing is changed: it is the one that the picture names. No fault of a stored row comes where it names one of 32 bits.
 pub record TellsSchema {S : Type 0} (g : Ghosts S) (old new : Held S) (result : Result ℕ Fault) : Type 0 where
@@ -123,7 +165,7 @@ pub record TellsSchema {S : Type 0} (g : Ghosts S) (old new : Held S) (result : 
   pub idle : new.in_transaction ≡ false
   pub now : HasCleanDisk (state g new) → IsTrue (state g new).is_open → (state g new).now ≡ (state g old).now
   pub committed : HasCleanDisk (state g new) → IsTrue (state g new).is_open → (state g new).committed ≡ (state g old).now
-  pub left : HasCleanDisk (state g new) → (P : Database → Type 0) → Leaves (state g old) P → Leaves (state g new) P
+  pub left : HasCleanDisk (state g new) → (trees : Trees) → (state g new).may_leave trees → (state g old).may_leave trees
   pub told : HasCleanDisk (state g new) → IfOk result (λ named. (n : ℕ) → IsKnown n → (P : Picture)
       → HasPictureAt n (state g old).now P → P.meta.schema ≡ named)
   pub sound : HasCleanDisk (state g new) → result ≡ Err Stored → (n : ℕ) → IsKnown n → (P : Picture)
@@ -133,9 +175,11 @@ pub record TellsSchema {S : Type 0} (g : Ghosts S) (old new : Held S) (result : 
 pub record Migrates {S T : Type 0} (g : Ghosts S) (old new : Held S) (result : Result T Fault) : Type 0 where
   pub clean : HasCleanDisk (state g new) → HasCleanDisk (state g old)
   pub led : HasCleanDisk (state g new) → OnOk result ((P : Picture) → IsLibrary1 (state g old).now P → KeepsPicture (state g new) (led_to_2 P))
-  pub same : HasCleanDisk (state g new) → IsTrue (state g new).is_open → OnOk result ((P : Picture) → IsNewest (state g old).now P → KeepsPicture (state g new) P)
-  pub undone : HasCleanDisk (state g new) → IsTrue (state g new).is_open → OnErr result ((n : ℕ) → IsKnown n → (P : Picture)
-      → HasPictureAt n (state g old).now P → KeepsPictureAt n (state g new) P)
+  pub same : HasCleanDisk (state g new) → OnOk result ((P : Picture) → IsNewest (state g old).now P → KeepsPicture (state g new) P)
+  pub undone : HasCleanDisk (state g new) → IsTrue (state g new).is_open → OnErr result ((P : Picture)
+      → HasPictureAt 1 (state g old).now P → KeepsPictureAt 1 (state g new) P)
+  pub undone_same : HasCleanDisk (state g new) → IsTrue (state g new).is_open → OnErr result ((P : Picture)
+      → IsNewest (state g old).now P → KeepsPicture (state g new) P)
   pub stop : HasCleanDisk (state g new) → (P : Picture) → KeepsPictureAt 1 (state g old) P → IsOfSchema1 P → InLimits P
       → Leaves (state g new) (λ db. HasPictureAt 1 db P ⊎ HasPicture db (led_to_2 P))
   pub stop_same : HasCleanDisk (state g new) → (P : Picture) → KeepsPicture (state g old) P → P.meta.schema ≡ SCHEMA

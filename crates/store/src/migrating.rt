@@ -1,45 +1,45 @@
 //! A library of an older schema, which is led to the newest one.
 
 ghost use Rattle.std.specs.Prelude.{◌≡◌, false};
-ghost use Rattle.terms.specs.Schemas.{carried, led_to_2};
-ghost use Rattle.store.specs.Commit.{Transacts};
-ghost use Rattle.store.specs.Migrating.{IsCarriedOver, holds_carried, move_all, all_over};
-ghost use Rattle.store.specs.Migrating.{DrawsInside, LeadsInside, IsToCarry, IsLibrary1};
-ghost use Rattle.store.specs.Migrating.{LeadsTo2, IsNotReady, TellsSchema};
+ghost use Rattle.terms.specs.Schemas.{led_to_2};
+ghost use Rattle.store.specs.Library.{HasTables};
+ghost use Rattle.store.specs.Migrating.{Route, IsRoute, holds_route, holds_carried, move_all, all_over};
+ghost use Rattle.store.specs.Migrating.{DrawsInside, LeadsInside, IsToCarry, HasTables1};
+ghost use Rattle.store.specs.Migrating.{IsLibrary1, LeadsOnInside, StepsOn, TellsSchema};
 
 use crate::pages::last_of;
 use circ_tables::{
-    Numbered, Put, get_meta_inside, make_second, next_rows_inside, put_meta, put_row, schema_of,
-    take_row,
+    Numbered, Put, get_meta_inside, make_second, next_rows_inside, put_meta, put_row,
+    schema_inside, schema_of, take_row,
 };
 use sqlite::{Alter, Connection, Transaction};
 use std::alloc::Global;
-use terms::{Fault, HoldId, HoldRow, HoldRow1, MetaRow};
+use terms::{Fault, HoldId, HoldRow, HoldRow1, MetaRow, SCHEMA};
 
 /// A row of a table that the next schema has in another form.
 pub(crate) trait Carried: Numbered {
     /// The row as the next schema has it.
     type Next: Put + Drop;
 
-    ghost carried: { Self → Self.Next.Row };
+    ghost route: { Route Self Self.Next.Row };
 
     /// The row as the next schema has it.
     fn next(&self) -> Self::Next
-        ensures { Self.Next.entry result ≡ carried self.now };
+        ensures { Self.Next.entry result ≡ route.carried self.now };
 
     /// What names the row.
     fn id(&self) -> Self::Id
         ensures { Self.Id.value result ≡ Self.number_of self.now };
 
-    ghost over: { IsCarriedOver Self.table Self.Next.Row.table Self.number_of
-        Self.Next.Row.number_of carried };
+    ghost over: { IsRoute Self.table Self.Next.Row.table Self.number_of
+        Self.Next.Row.number_of route };
 }
 
 /// Schema 2 has holds with a first day, and those of schema 1 have none.
 impl Carried for HoldRow1 {
     type Next = HoldRow;
 
-    ghost carried = { carried };
+    ghost route = { holds_route };
 
     fn next(&self) -> HoldRow {
         HoldRow {
@@ -67,7 +67,7 @@ fn carry_page<R: Carried, S: Alter>(
     page: &[R],
 ) -> Result<(), Fault>
     ensures { DrawsInside (move_all R.table R.Next.Row.table R.number_of R.Next.Row.number_of
-        R.carried page.now) S.Store tx.old tx.new result }
+        R.route.carried page.now) S.Store tx.old tx.new result }
 {
     'rows: for row in page {
         put_row(tx, &row.next())?;
@@ -82,8 +82,8 @@ fn carry_all<R: Carried, S: Alter>(
     alloc: Global,
     memory: R::Memory,
 ) -> Result<(), Fault>
-    ensures { LeadsInside (IsToCarry R.Next.Row.table) (all_over R.over)
-        S.Store tx.old tx.new result }
+    ensures { LeadsInside HasTables (IsToCarry R.Next.Row.table)
+        (all_over R.table R.route) S.Store tx.old tx.new result }
 {
     let mut after = None;
     'pages: for _page in 0..u64::MAX {
@@ -99,7 +99,7 @@ fn carry_all<R: Carried, S: Alter>(
 
 /// Leads the tables of schema 1 to those of schema 2, which has holds with a first day. 90, 91, 93.
 fn lead_to_2<S: Alter>(tx: &mut Transaction<'_, S>, alloc: Global) -> Result<(), Fault>
-    ensures { LeadsInside IsLibrary1 led_to_2 S.Store tx.old tx.new result }
+    ensures { LeadsInside HasTables1 IsLibrary1 led_to_2 S.Store tx.old tx.new result }
 {
     make_second(tx)?;
     carry_all::<HoldRow1, S>(tx, alloc, ())?;
@@ -107,16 +107,27 @@ fn lead_to_2<S: Alter>(tx: &mut Transaction<'_, S>, alloc: Global) -> Result<(),
     put_meta(tx, &MetaRow { schema: 2, ..meta })
 }
 
-/// The step from schema 1 to schema 2, in one transaction: all of it or nothing. 90, 91, 93.
-pub(crate) fn step_to_2<S: Alter>(conn: &mut Connection<S>, alloc: Global) -> Result<(), Fault>
+/// Makes the step that leads on from the schema that the tables have; those of the newest schema are
+/// left as they are. 90, 91; 93 also where the schema is not known.
+fn lead_on<S: Alter>(tx: &mut Transaction<'_, S>, alloc: Global) -> Result<(), Fault>
+    ensures { LeadsOnInside S.Store tx.old tx.new result }
+{
+    match schema_inside(tx)? {
+        1 => lead_to_2(tx, alloc),
+        SCHEMA => Ok(()),
+        _ => Err(Fault::Stored),
+    }
+}
+
+/// Makes one step in one transaction: all of it or nothing. 90, 91, 93.
+pub(crate) fn step<S: Alter>(conn: &mut Connection<S>, alloc: Global) -> Result<(), Fault>
     requires { conn.old.in_transaction ≡ false }
-    ensures { Transacts LeadsTo2 (IsNotReady IsLibrary1 S.Store conn.old conn.new)
-        S.Store conn.old conn.new result }
+    ensures { StepsOn S.Store conn.old conn.new result }
 {
     let is_idle = conn.is_autocommit();
     prove!(is_idle);
     let mut tx = conn.transaction();
-    lead_to_2(&mut tx, alloc)?;
+    lead_on(&mut tx, alloc)?;
     match tx.commit() {
         Ok(()) => Ok(()),
         Err(_) => Err(Fault::Database),

@@ -127,11 +127,9 @@ impl<S: Alter> Store<S> {
     pub fn migrate(&mut self, alloc: Global) -> Result<(), Fault>
         ensures { Migrates S.Store self.old self.new result }
     {
-        match migrating::schema(&mut self.conn)? {
-            1 => migrating::step_to_2(&mut self.conn, alloc),
-            SCHEMA => Ok(()),
-            _ => Err(Fault::Stored),
-        }
+        let is_idle = self.conn.is_autocommit();
+        prove!(is_idle);
+        migrating::step(&mut self.conn, alloc)
     }
 
     /// What is kept under a caller's key. 91, 93.

@@ -1,0 +1,49 @@
+use Rattle.std.proofs.Common.{◌≡◌, refl, rules, arith, subst}
+use Rattle.sqlite.specs.Held.{state}
+use Rattle.sqlite.specs.State.{HasCleanDisk, Survives, KeepsCommit}
+use Rattle.store.specs.Commit.{Brings, HasDone}
+use Rattle.store.specs.Migrating.{LeadsOn}
+use Rattle.store.proofs.Steps.{begun as in_transaction, commit_survives, commit_has_done}
+use Rattle.store.proofs.migrating.step.Goals as goal
+
+pub returns-in-Ok : goal.returns-in-Ok
+returns-in-Ok g c =
+    let old = c.args.conn.now in
+    let last = c.lead_on.new.tx.conn.now in
+    let begun = c.transaction-tx.ensures.begun in
+    let end = c.commit.new.self.0 in
+    let same : end ≡ c.conn-2-1.given.0 = search rules in
+    let made : HasCleanDisk (state g.S.Store last) → LeadsOn (state g.S.Store old).now (state g.S.Store last).now = λ clean. rw begun at (c.in_ok-lead_on.ensures.leads clean (rw begun refl)) in
+    record {
+      idle = search rules;
+      done = λ clean there.
+          let late : HasCleanDisk (state g.S.Store end) = search rules in
+          let early : HasCleanDisk (state g.S.Store last) = omega (arith, c.commit.ensures.survives.clean) in
+          subst (λ h. HasDone LeadsOn (state g.S.Store old) (state g.S.Store h)) same
+          (commit_has_done g.S.Store LeadsOn old last end (made early) (rw begun at (c.in_ok-lead_on.ensures.kept early (rw begun refl) there)) (c.in-Ok.ensures.ok late).1);
+      undone = search rules;
+      survives = subst (λ h. Survives (state g.S.Store old) (state g.S.Store h) (Brings LeadsOn (state g.S.Store old).now)) same
+          (commit_survives g.S.Store LeadsOn old last end made (rw begun at c.lead_on.ensures.survives) c.commit.ensures.survives);
+      sound = search rules;
+    }
+
+pub returns-in-Err : goal.returns-in-Err
+returns-in-Err g c =
+    let old = c.args.conn.now in
+    let last = c.lead_on.new.tx.conn.now in
+    let begun = c.transaction-tx.ensures.begun in
+    let end = c.commit.new.self.0 in
+    let same : end ≡ c.conn-2-1.given.0 = search rules in
+    let made : HasCleanDisk (state g.S.Store last) → LeadsOn (state g.S.Store old).now (state g.S.Store last).now = λ clean. rw begun at (c.in_ok-lead_on.ensures.leads clean (rw begun refl)) in
+    record {
+      idle = search rules;
+      done = search rules;
+      undone = λ clean is there.
+          let late : HasCleanDisk (state g.S.Store end) = search rules in
+          let early : HasCleanDisk (state g.S.Store last) = omega (arith, c.commit.ensures.survives.clean) in
+          let kept : KeepsCommit (state g.S.Store (in_transaction g.S.Store LeadsOn old)) (state g.S.Store last) = rw begun at (c.in_ok-lead_on.ensures.kept early (rw begun refl) there) in
+          search rules;
+      survives = subst (λ h. Survives (state g.S.Store old) (state g.S.Store h) (Brings LeadsOn (state g.S.Store old).now)) same
+          (commit_survives g.S.Store LeadsOn old last end made (rw begun at c.lead_on.ensures.survives) c.commit.ensures.survives);
+      sound = search rules;
+    }

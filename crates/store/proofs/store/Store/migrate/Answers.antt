@@ -1,0 +1,35 @@
+use Rattle.std.proofs.Common.{◌⊎◌, inl, inr, refl, arith}
+use Rattle.sqlite.specs.Held.{state}
+use Rattle.sql_maps.proofs.CallLemmas.{on_ok}
+use Rattle.terms.specs.Schemas.{led_to_2}
+use Rattle.terms.specs.declared.limits.TheConstants.{SCHEMA}
+use Rattle.circ_tables.specs.Encoding.{HasPicture, HasPictureAt}
+use Rattle.store.specs.Migrating.{LeadsOn}
+use Rattle.store.specs.Stops.{KeepsPicture, KeepsPictureAt}
+use Rattle.store.proofs.MigrateLemmas.{on_ok_each, on_err_each}
+use Rattle.store.proofs.StopLemmas.{on_err, open_keeps, stops_between, leaves_weaker}
+use Rattle.store.proofs.store.Store.migrate.Goals as goal
+
+pub returns : goal.returns
+returns g c =
+    let old = state g.S.Store c.args.self.now in
+    let new = state g.S.Store c.step.new.conn in
+    let is = rw c.self.view_is at c.step.ensures in
+    let settled = g.met.S.Store.settled in
+    record {
+      clean = λ clean. omega (arith, is.survives.clean, clean);
+      led = λ clean. on_ok_each (λ P. KeepsPicture new (led_to_2 P)) c.step.result
+          (λ P ready. on_ok c.step.result (λ done. open_keeps g.S.Store settled SCHEMA new.now c.step.new.conn (led_to_2 P) done.is_open refl done.committed (done.made.from_1 P ready)) (is.done clean (inl (ready.0.maps, ready.0.holds))));
+      same = λ clean. on_ok_each (λ P. KeepsPicture new P) c.step.result
+          (λ P ready. on_ok c.step.result (λ done. open_keeps g.S.Store settled SCHEMA new.now c.step.new.conn P done.is_open refl done.committed (done.made.newest P ready)) (is.done clean (inr (P, ready))));
+      undone = λ clean is_open. on_err_each (λ P. KeepsPictureAt 1 new P) c.step.result
+          (λ P shown. on_err c.step.result (λ same. open_keeps g.S.Store settled 1 old.now c.step.new.conn P is_open same.0 same.1 shown) (is.undone clean is_open (inl (shown.maps, shown.holds))));
+      undone_same = λ clean is_open. on_err_each (λ P. KeepsPicture new P) c.step.result
+          (λ P shown. on_err c.step.result (λ same. open_keeps g.S.Store settled SCHEMA old.now c.step.new.conn P is_open same.0 same.1 shown.0) (is.undone clean is_open (inr (P, shown))));
+      stop = λ clean P keeps of_1 legal.
+          stops_between LeadsOn (λ db. HasPictureAt 1 db P) (λ db. HasPicture db (led_to_2 P)) old new (λ db made. made.from_1 P (keeps.now, of_1, legal)) is.survives clean keeps.left;
+      stop_same = λ clean P keeps named.
+          leaves_weaker new (λ db. HasPicture db P ⊎ HasPicture db P) (λ db. HasPicture db P) (λ db both. elim both [ inl h ↦ h | inr h ↦ h ])
+          (stops_between LeadsOn (λ db. HasPicture db P) (λ db. HasPicture db P) old new (λ db made. made.newest P (keeps.now, named)) is.survives clean keeps.left);
+      sound = is.sound;
+    }
