@@ -18,11 +18,11 @@ import subprocess
 import sys
 import tempfile
 import time
-from contextlib import closing, contextmanager
+from contextlib import closing
 
 import calendar_weeks
 from desk_rules import Library
-from messages import message
+from messages import as_it_is, message
 
 TOP = os.path.dirname(os.path.dirname(os.path.abspath(__file__)))
 CIRC = os.path.join(TOP, "circ")
@@ -571,17 +571,6 @@ def timed(call):
     begin = time.perf_counter()
     given = call()
     return given, time.perf_counter() - begin
-
-
-@contextmanager
-def as_it_is(path):
-    """A copy of the files for stock SQLite, so that what a kill left stays as it is."""
-    with tempfile.TemporaryDirectory() as folder:
-        copied = os.path.join(folder, "copy.db")
-        for tail in ("", "-wal"):
-            if os.path.exists(path + tail):
-                shutil.copy(path + tail, copied + tail)
-        yield copied
 
 
 def rows_now(path, text):
