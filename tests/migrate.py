@@ -271,6 +271,9 @@ def later(folder):
     check("its file", digest(path), kept)
 
 
+TRIES = 50  # so many migrations are stopped at most while they are at work, until three were met there
+
+
 def held(folder):
     """While another process has the file it is told 91, and nothing is changed: one with the lock alone, one that serves, and one that is at a migration."""
     path = old_library(HOLDS, os.path.join(folder, "held.db"))
@@ -296,10 +299,12 @@ def held(folder):
     before = whole(large)
     _, took = timed(lambda: migrate(shutil.copy(large, large + ".timed")))
     met = 0
-    for at in range(20):
+    for at in range(TRIES):
+        if met == 3:
+            break
         busy = shutil.copy(large, os.path.join(folder, f"busy{at}.db"))
         with subprocess.Popen([PROGRAM, "migrate", busy], stdout=subprocess.PIPE, stderr=subprocess.DEVNULL) as run:
-            time.sleep(took * (at + 1) / 20)
+            time.sleep(took * (at % 10 + 1) / 11)
             # it stands still meanwhile, so that it isn't at its end
             run.send_signal(signal.SIGSTOP)
             try:
@@ -311,10 +316,10 @@ def held(folder):
                 run.send_signal(signal.SIGCONT)
             check("the migration at work", (run.stdout.read(), run.wait(timeout=120)), (b"schema 2\n", 0))
         check("its rows", whole(busy), of_schema_2(before))
-    check(f"migrations at work were met: {met}", met > 0, True)
+    check("migrations at work were met", met, 3)
 
 
-KILLS = 400  # so many migrations are killed at most, until kills hit before and after the end of the transaction
+KILLS, LEAST = 400, 40  # so many libraries at most, and at least, have their migrations killed, until kills hit before and after the end of the transaction
 
 
 def killed(folder):
@@ -326,7 +331,7 @@ def killed(folder):
     after = of_schema_2(before)
     took = max(timed(lambda: migrate(shutil.copy(base, os.path.join(folder, "calm.db"))))[1] for _ in range(3))
     for at in range(KILLS):
-        if at >= 40 and min(hits.values()) >= 3:
+        if at >= LEAST and min(hits.values()) >= 3:
             break
         for end in ("-wal", "-shm"):
             if os.path.exists(path + end):
