@@ -95,7 +95,12 @@ def is_migrated(path, before, what):
     check(f"stock SQLite finds no fault in {what}", rows(path, "PRAGMA integrity_check"), [("ok",)])
     kept = digest(path)
     migrate(path)
-    check(f"the file of {what} after a second migration", digest(path), kept)
+    check(f"the file of {what} after a second migration", (digest(path), has_log(path)), (kept, False))
+
+
+def has_log(path):
+    """Whether there is a page beside the file that isn't in it yet."""
+    return os.path.exists(path + "-wal") and os.path.getsize(path + "-wal") > 512
 
 
 def stays(path, words, line, before, said=None):
@@ -171,8 +176,7 @@ def other_runs(folder):
                     ["serve", path, "1", "1", "1", DESK_KEY]]
             for words in runs:
                 stays(path, words, "fault 93", before, OLDER)
-                log = os.path.exists(path + "-wal") and os.path.getsize(path + "-wal")
-                check(f"the file after {words[0]}", (digest(path), log or 0), (kept, 0))
+                check(f"the file after {words[0]}", (digest(path), has_log(path)), (kept, False))
             is_migrated(path, before, f"{name}, {journal}, after other runs")
 
 
@@ -249,8 +253,8 @@ def damaged(folder):
 
 def other_tables(folder):
     """Where the tables aren't those of a library the database refuses a call, which is told as 91, or nothing is known of a schema; no row is changed."""
-    for at, (text, line) in enumerate((("DROP TABLE holds", "fault 91"), ("CREATE TABLE holds2 (hold INTEGER PRIMARY KEY)", "fault 91"), ("ALTER TABLE holds ADD COLUMN more INTEGER", "fault 93"),
-                                       ("CREATE TABLE more (n INTEGER)", "schema 2"), ("DROP INDEX holds_copy", "schema 2"))):
+    for at, (text, line) in enumerate((("DROP TABLE holds", "fault 91"), ("CREATE TABLE holds2 (hold INTEGER PRIMARY KEY, patron INTEGER)", "fault 91"), ("ALTER TABLE holds ADD COLUMN more INTEGER", "fault 93"),
+                                       ("CREATE TABLE more (n INTEGER PRIMARY KEY, text TEXT)", "schema 2"), ("DROP INDEX holds_copy", "schema 2"))):
         path = old_library(HOLDS, os.path.join(folder, f"tables{at}.db"))
         write(path, text)
         before, texts = whole(path), texts_of(path)
