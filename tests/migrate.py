@@ -288,10 +288,11 @@ def held(folder):
         check(f"{words[0]} on a file that is held", (other.stdout, other.stderr, other.returncode), (b"fault 91\n", message(words, "fault 91\n", True), 3))
 
     kept = digest(path)
-    with open(path, "rb+") as file:
-        fcntl.lockf(file, fcntl.LOCK_EX | fcntl.LOCK_NB, 512, 1 << 30)
-        is_refused(["migrate", path])
-        is_refused(["audit", path])
+    for words in (["migrate", path], ["audit", path]):
+        # the lock is let go as soon as this process closes the file anywhere, so each run has one of its own
+        with open(path, "rb+") as file:
+            fcntl.lockf(file, fcntl.LOCK_EX | fcntl.LOCK_NB, 512, 1 << 30)
+            is_refused(words)
     check("the file stays", digest(path), kept)
     is_migrated(path, before, "a file that was held")
     after = whole(path)
