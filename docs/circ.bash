@@ -4,8 +4,8 @@ _circ() {
   local commands="begin-day branch week close-day open-day kind rule patron acquire check-out check-in renew place-hold cancel-hold unshelve unshelve-cancelled missing withdraw pay waive page"
   COMPREPLY=()
   case $COMP_CWORD:$run in
-    1:*) COMPREPLY=($(compgen -W "file import report audit serve send" -- "$word")) ;;
-    2:file | 2:import | 2:report | 2:audit | 2:serve | 3:import) COMPREPLY=($(compgen -f -- "$word")) ;;
+    1:*) COMPREPLY=($(compgen -W "file import report audit migrate serve send" -- "$word")) ;;
+    2:file | 2:import | 2:report | 2:audit | 2:migrate | 2:serve | 3:import) COMPREPLY=($(compgen -f -- "$word")) ;;
     3:report) COMPREPLY=($(compgen -W "overdue till shelf" -- "$word")) ;;
     4:file | 5:send) COMPREPLY=($(compgen -W "$commands" -- "$word")) ;;
   esac

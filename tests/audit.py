@@ -43,7 +43,7 @@ BUSY = [
 ON_THE_GROUND = [
     ([], "sound"),
     (["UPDATE copies SET condition = 1 WHERE copy = 20", "INSERT INTO transits VALUES (20, 1, NULL)"], "unsound claims 20"),
-    (["INSERT INTO holds VALUES (1, 2, 100, 1, 1, 10, NULL)", "UPDATE meta SET next_hold = 2"], "unsound binding 1"),
+    (["INSERT INTO holds2 VALUES (1, 2, 100, 1, 1, 10, NULL, NULL)", "UPDATE meta SET next_hold = 2"], "unsound binding 1"),
     (["UPDATE patrons SET owed = 1 WHERE patron = 2"], "unsound balance 2"),
 ]
 
@@ -56,12 +56,12 @@ DAMAGE = [
     (["UPDATE copies SET condition = 1 WHERE copy = 10"], "unsound claims 10"),
     (["UPDATE copies SET condition = 2 WHERE copy = 10"], "unsound claims 10"),
     (["INSERT INTO transits VALUES (10, 1, NULL)"], "unsound claims 10"),
-    (["UPDATE holds SET copy = 10 WHERE hold = 2"], "unsound claims 10"),
+    (["UPDATE holds2 SET copy = 10 WHERE hold = 2"], "unsound claims 10"),
     (["UPDATE copies SET condition = 2 WHERE copy = 20"], "unsound claims 20"),
     (["INSERT INTO transits VALUES (30, 2, NULL)"], "unsound claims 30"),
     (["UPDATE copies SET condition = 1 WHERE copy = 30"], "unsound claims 30"),
     ([LOAN.format(3, 10)], "unsound claims 10"),
-    (["UPDATE holds SET state = 1, copy = 30, limit_day = 20535 WHERE hold = 3"], "unsound claims 30"),
+    (["UPDATE holds2 SET state = 1, copy = 30, limit_day = 20535 WHERE hold = 3"], "unsound claims 30"),
     # an ended loan claims nothing until it is open again
     (["UPDATE loans SET ended = NULL WHERE loan = 1"], "unsound claims 11"),
     (["UPDATE loans SET copy = 10 WHERE loan = 1"], "sound"),
@@ -73,31 +73,31 @@ DAMAGE = [
     ([LOAN.format(3, 65536), LOAN.format(4, 65536), LOAN.format(5, 65535), LOAN.format(6, 65535)], "unsound claims 65535"),
     ([LOAN.format(3, 65535), LOAN.format(4, 65536), LOAN.format(5, 131072)], "sound"),
     # a ready hold lacks its copy or its limit
-    (["UPDATE holds SET limit_day = NULL WHERE hold = 2"], "unsound binding 2"),
-    (["UPDATE holds SET copy = NULL WHERE hold = 2"], "unsound binding 2"),
+    (["UPDATE holds2 SET limit_day = NULL WHERE hold = 2"], "unsound binding 2"),
+    (["UPDATE holds2 SET copy = NULL WHERE hold = 2"], "unsound binding 2"),
     # one that isn't ready has either
-    (["UPDATE holds SET copy = 40 WHERE hold = 3"], "unsound binding 3"),
-    (["UPDATE holds SET limit_day = 20535 WHERE hold = 3"], "unsound binding 3"),
-    (["UPDATE holds SET state = 2 WHERE hold = 2"], "unsound binding 2"),
-    (["UPDATE holds SET state = 4, copy = NULL WHERE hold = 2"], "unsound binding 2"),
+    (["UPDATE holds2 SET copy = 40 WHERE hold = 3"], "unsound binding 3"),
+    (["UPDATE holds2 SET limit_day = 20535 WHERE hold = 3"], "unsound binding 3"),
+    (["UPDATE holds2 SET state = 2 WHERE hold = 2"], "unsound binding 2"),
+    (["UPDATE holds2 SET state = 4, copy = NULL WHERE hold = 2"], "unsound binding 2"),
     # a transit names a hold that has no row, that isn't waiting, or that is picked up elsewhere
     (["UPDATE transits SET hold = 9 WHERE copy = 20"], "unsound binding 9"),
-    (["UPDATE holds SET state = 3 WHERE hold = 1"], "unsound binding 1"),
+    (["UPDATE holds2 SET state = 3 WHERE hold = 1"], "unsound binding 1"),
     (["UPDATE transits SET goal = 2 WHERE copy = 20"], "unsound binding 1"),
-    (["UPDATE holds SET branch = 2 WHERE hold = 1"], "unsound binding 1"),
+    (["UPDATE holds2 SET branch = 2 WHERE hold = 1"], "unsound binding 1"),
     # the copy of a hold has no row, or is of another title
-    (["UPDATE holds SET copy = 99 WHERE hold = 2"], "unsound binding 2"),
-    (["UPDATE holds SET copy = 40 WHERE hold = 2"], "unsound binding 2"),
-    (["UPDATE holds SET title = 400 WHERE hold = 2"], "unsound binding 2"),
+    (["UPDATE holds2 SET copy = 99 WHERE hold = 2"], "unsound binding 2"),
+    (["UPDATE holds2 SET copy = 40 WHERE hold = 2"], "unsound binding 2"),
+    (["UPDATE holds2 SET title = 400 WHERE hold = 2"], "unsound binding 2"),
     (["UPDATE transits SET copy = 99 WHERE copy = 20"], "unsound binding 1"),
     (["UPDATE transits SET copy = 40 WHERE copy = 20"], "unsound binding 1"),
     (["UPDATE copies SET title = 400 WHERE copy = 20"], "unsound binding 1"),
     # a transit for no hold is none of its, and a hold that is cancelled may be without any
     (["UPDATE transits SET hold = NULL WHERE copy = 20"], "sound"),
-    (["UPDATE holds SET state = 3 WHERE hold = 3"], "sound"),
+    (["UPDATE holds2 SET state = 3 WHERE hold = 3"], "sound"),
     # the least hold is told
-    (["UPDATE holds SET limit_day = NULL WHERE hold = 2", "UPDATE transits SET goal = 2 WHERE copy = 20"], "unsound binding 1"),
-    (["UPDATE holds SET limit_day = NULL WHERE hold = 2", "UPDATE holds SET copy = 40 WHERE hold = 3"], "unsound binding 2"),
+    (["UPDATE holds2 SET limit_day = NULL WHERE hold = 2", "UPDATE transits SET goal = 2 WHERE copy = 20"], "unsound binding 1"),
+    (["UPDATE holds2 SET limit_day = NULL WHERE hold = 2", "UPDATE holds2 SET copy = 40 WHERE hold = 3"], "unsound binding 2"),
     (["INSERT INTO transits VALUES (40, 1, 2147483647)"], "unsound binding 2147483647"),
     # what is owed isn't the fines and prices less the payments and waivers
     (["UPDATE patrons SET owed = 51 WHERE patron = 1"], "unsound balance 1"),
@@ -118,15 +118,15 @@ DAMAGE = [
     (["INSERT INTO patrons VALUES (65536, 1, 'cardkey65536', 'Yan', 5)", "INSERT INTO lines VALUES (4, 65536, 20529, 0, 5, 1)",
       "INSERT INTO patrons VALUES (131072, 1, 'cardkey13107', 'Wim', 1)"], "unsound balance 131072"),
     # claims come before bindings, and these before balances
-    (["UPDATE copies SET condition = 1 WHERE copy = 30", "UPDATE holds SET limit_day = NULL WHERE hold = 2", "UPDATE patrons SET owed = 0"], "unsound claims 30"),
-    (["UPDATE holds SET copy = 40 WHERE hold = 3", "UPDATE patrons SET owed = 0"], "unsound binding 3"),
+    (["UPDATE copies SET condition = 1 WHERE copy = 30", "UPDATE holds2 SET limit_day = NULL WHERE hold = 2", "UPDATE patrons SET owed = 0"], "unsound claims 30"),
+    (["UPDATE holds2 SET copy = 40 WHERE hold = 3", "UPDATE patrons SET owed = 0"], "unsound binding 3"),
 ]
 
 # A row past its limits, or tables that no library has, are faults and no findings.
 FAULTS = [
     (["UPDATE copies SET condition = 3 WHERE copy = 10"], "fault 93"),
     (["UPDATE patrons SET owed = -1 WHERE patron = 1"], "fault 93"),
-    (["UPDATE holds SET state = 5 WHERE hold = 1"], "fault 93"),
+    (["UPDATE holds2 SET state = 5 WHERE hold = 1"], "fault 93"),
     (["UPDATE loans SET due = 84006 WHERE loan = 1"], "fault 93"),
     (["UPDATE branches SET name = CAST(x'ff' AS TEXT) WHERE branch = 1"], "fault 93"),
     (["INSERT INTO closed_days VALUES (1, 84006)"], "fault 93"),
@@ -139,7 +139,7 @@ FAULTS = [
     (["INSERT INTO titles VALUES (-1, 'A title')"], "fault 93"),
     (["INSERT INTO copies VALUES (-9223372036854775808, 100, 1, 1, 900, 0)"], "fault 93"),
     ([LOAN.format(0, 99)], "fault 93"),
-    (["INSERT INTO holds VALUES (-1, 1, 100, 1, 3, NULL, NULL)"], "fault 93"),
+    (["INSERT INTO holds2 VALUES (-1, 1, 100, 1, 3, NULL, NULL, NULL)"], "fault 93"),
     (["INSERT INTO transits VALUES (0, 1, NULL)"], "fault 93"),
     (["INSERT INTO lines VALUES (-2, 1, 20529, 0, 5, 1)"], "fault 93"),
     (["INSERT INTO kept VALUES (-1, 'k1', 'page 1', 'ok')"], "fault 93"),
@@ -155,7 +155,7 @@ FAR = [
     ([f"UPDATE copies SET condition = 2 WHERE copy = {LAST}"], f"unsound claims {LAST}"),
     ([LOAN.format(LAST + 1, LAST)], f"unsound claims {LAST}"),
     ([f"UPDATE loans SET ended = NULL WHERE loan = {LAST}"], f"unsound claims {LAST}"),
-    ([f"UPDATE holds SET copy = {LAST} WHERE hold = {LAST}"], f"unsound binding {LAST}"),
+    ([f"UPDATE holds2 SET copy = {LAST} WHERE hold = {LAST}"], f"unsound binding {LAST}"),
     ([f"UPDATE transits SET hold = {LAST} WHERE copy = {LAST}"], f"unsound binding {LAST}"),
     ([f"UPDATE patrons SET owed = 1 WHERE patron = {LAST}"], f"unsound balance {LAST}"),
     (["DELETE FROM lines WHERE line = (SELECT max(line) FROM lines)"], f"unsound balance {LAST}"),
@@ -163,7 +163,7 @@ FAR = [
     ([f"UPDATE titles SET text = CAST(x'ff' AS TEXT) WHERE title = {LAST}"], "fault 93"),
     ([f"UPDATE copies SET condition = 3 WHERE copy = {LAST}"], "fault 93"),
     ([f"UPDATE loans SET due = 84006 WHERE loan = {LAST}"], "fault 93"),
-    ([f"UPDATE holds SET state = 5 WHERE hold = {LAST}"], "fault 93"),
+    ([f"UPDATE holds2 SET state = 5 WHERE hold = {LAST}"], "fault 93"),
     ([f"UPDATE transits SET goal = 0 WHERE copy = {LAST}"], "fault 93"),
     (["UPDATE lines SET sort = 4 WHERE line = (SELECT max(line) FROM lines)"], "fault 93"),
     ([f"UPDATE kept SET reply = CAST(x'ff' AS TEXT) WHERE caller = 0 AND key = 'k{LAST}'"], "fault 93"),
@@ -183,7 +183,7 @@ def laws_of(path):
 
         loans, transits = read("SELECT copy, ended FROM loans"), read("SELECT copy, goal, hold FROM transits")
         copies = {copy: (title, condition) for copy, title, condition in read("SELECT copy, title, condition FROM copies")}
-        holds = {hold: row for hold, *row in read("SELECT hold, title, branch, state, copy, limit_day FROM holds")}
+        holds = {hold: row for hold, *row in read("SELECT hold, title, branch, state, copy, limit_day FROM holds2")}
         owed, lines = dict(read("SELECT patron, owed FROM patrons")), read("SELECT patron, sort, amount FROM lines")
 
     claims = [copy for copy, ended in loans if ended is None] + [copy for copy, *_ in transits]
@@ -249,7 +249,7 @@ def fill(path):
         "titles": [(n, "A title") for n in numbers],
         "copies": [(n, n, 1, 1, 900, 0) for n in numbers],
         "loans": [(n, n, n, 1, 20500, 20520, 20, 1, 20, 1000, 20529) for n in numbers],
-        "holds": [(n, n, n, 1, 3, None, None) for n in numbers],
+        "holds2": [(n, n, n, 1, 3, None, None, None) for n in numbers],
         "transits": [(n, 1, None) for n in numbers],
         "lines": lines,
         "kept": kept,
@@ -305,7 +305,7 @@ def lost_output(library):
 # Columns with the values that the random damage gives them, most of them within the limits.
 COLUMNS = {
     "loans": {"copy": (10, 11, 20, 30, 40, 99), "ended": (None, None, 20529), "patron": (1, 2, 3)},
-    "holds": {"state": (0, 1, 2, 3, 4), "copy": (None, 10, 20, 30, 40, 99), "limit_day": (None, 20535), "title": (100, 200, 300, 400), "branch": (1, 2)},
+    "holds2": {"state": (0, 1, 2, 3, 4), "copy": (None, 10, 20, 30, 40, 99), "limit_day": (None, 20535), "title": (100, 200, 300, 400), "branch": (1, 2)},
     "transits": {"goal": (1, 2), "hold": (None, 1, 2, 3, 9), "copy": (10, 11, 20, 30, 40, 99)},
     "copies": {"condition": (0, 0, 1, 2), "title": (100, 200, 300, 400)},
     "lines": {"patron": (1, 2, 3, 9), "sort": (0, 1, 2, 3), "amount": (1, 20, 30, 50, 100)},

@@ -391,7 +391,7 @@ class Library:
         sorts = ["fine", "price", "payment", "waiver"]
         day = lambda d: None if d is None else number(d)
         return {
-            "meta": [(1, 1, number(self.today), len(self.loans) + 1, len(self.holds) + 1, len(self.lines) + 1)],
+            "meta": [(1, 2, number(self.today), len(self.loans) + 1, len(self.holds) + 1, len(self.lines) + 1)],
             "branches": [(n, r["pickup"], r["week"], r["name"]) for n, r in sorted(self.branches.items())],
             "closed_days": [(n, number(d)) for n, days in sorted(self.closed.items()) for d in sorted(days)],
             "kinds": [(n, r["loans"], r["holds"], r["debt"]) for n, r in sorted(self.kinds.items())],
@@ -402,8 +402,9 @@ class Library:
                        for n, r in sorted(self.copies.items())],
             "loans": [(n, r["copy"], r["patron"], r["branch"], number(r["made"]), number(r["due"]), r["period"],
                        r["renewals"], r["rate"], r["cap"], day(r["ended"])) for n, r in sorted(self.loans.items())],
-            "holds": [(n, r["patron"], r["title"], r["branch"], states.index(r["state"]), r["copy"], day(r["limit"]))
-                      for n, r in sorted(self.holds.items())],
+            "holds": [],  # those of schema 1 stood here
+            "holds2": [(n, r["patron"], r["title"], r["branch"], states.index(r["state"]), r["copy"], day(r["limit"]), None)
+                       for n, r in sorted(self.holds.items())],
             "transits": [(n, goal, hold) for n, (goal, hold) in sorted(self.transits.items())],
             "lines": [(n, r["patron"], number(r["day"]), sorts.index(r["sort"]), r["amount"], r["loan"])
                       for n, r in enumerate(self.lines, 1)],

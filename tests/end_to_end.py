@@ -18,11 +18,11 @@ import subprocess
 import sys
 import tempfile
 import time
-from contextlib import closing, contextmanager
+from contextlib import closing
 
 import calendar_weeks
 from desk_rules import Library
-from messages import message
+from messages import as_it_is, message
 
 TOP = os.path.dirname(os.path.dirname(os.path.abspath(__file__)))
 CIRC = os.path.join(TOP, "circ")
@@ -212,12 +212,12 @@ def digest(path):
 
 
 def a_new_library(folder):
-    """A new file has the thirteen tables, their keys and indexes, and the first row of meta."""
+    """A new file has the fourteen tables, their keys and indexes, and the first row of meta."""
     path = os.path.join(folder, "new.db")
     check("a new file", circ(["file", path, "g1", "week", "1", "ooooooo"]), ("refused 10", 2))
-    check("meta", rows(path, "SELECT * FROM meta"), [(1, 1, 10957, 1, 1, 1)])
+    check("meta", rows(path, "SELECT * FROM meta"), [(1, 2, 10957, 1, 1, 1)])
     tables = "SELECT name FROM sqlite_schema WHERE type = 'table' AND name NOT LIKE 'sqlite%' ORDER BY rowid"
-    names = "meta branches closed_days kinds rules patrons titles copies loans holds transits lines kept"
+    names = "meta branches closed_days kinds rules patrons titles copies loans holds transits lines kept holds2"
     check("tables", [name for (name,) in rows(path, tables)], names.split())
     for name in names.split()[1:]:
         check(f"no row of {name}", rows(path, f"SELECT COUNT(*) FROM {name}"), [(0,)])
@@ -230,7 +230,8 @@ def a_new_library(folder):
     unique = "SELECT name FROM pragma_index_list('transits') WHERE \"unique\" = 1 AND origin = 'u'"
     check("one UNIQUE", len(rows(path, unique)), 1)
     indexes = "SELECT name FROM sqlite_schema WHERE type = 'index' AND sql IS NOT NULL ORDER BY rowid"
-    wanted = "loans_copy loans_patron holds_copy holds_patron holds_title holds_branch lines_day loans_branch"
+    wanted = """loans_copy loans_patron holds_copy holds_patron holds_title holds_branch lines_day loans_branch holds2_copy holds2_patron
+        holds2_title holds2_branch"""
     check("indexes", [name for (name,) in rows(path, indexes)], wanted.split())
     empty = os.path.join(folder, "empty.db")
     open(empty, "w").close()
@@ -258,7 +259,7 @@ def a_small_library(folder):
     check("loans", rows(path, "SELECT * FROM loans"),
           [(1, 10, 1, 1, 20514, 20521, 6, 1, 20, 100, None),
            (2, 11, 1, 1, 20514, 20521, 6, 1, 20, 100, None)])
-    check("meta", rows(path, "SELECT * FROM meta"), [(1, 1, 20514, 3, 1, 1)])
+    check("meta", rows(path, "SELECT * FROM meta"), [(1, 2, 20514, 3, 1, 1)])
     check("kept", rows(path, "SELECT * FROM kept WHERE key IN ('g1', 'k1', 'k2') ORDER BY key"),
           [(0, "g1", "begin-day 2026-03-02", "ok"),
            (0, "k1", "check-out 1 10 1", "loan 1 due 2026-03-09"),
@@ -346,8 +347,8 @@ def movements(folder):
         ("a3", ["check-in", "10", "2"], "fine 0 transit 1 for 1"),
         ("a4", ["check-in", "11", "2"], "fine 0 ready 2 at 2 until 2026-03-05"),
     ])
-    check("holds", rows(path, "SELECT * FROM holds"),
-          [(1, 2, 100, 1, 0, None, None), (2, 3, 100, 2, 1, 11, 20517)])
+    check("holds", rows(path, "SELECT * FROM holds2"),
+          [(1, 2, 100, 1, 0, None, None, None), (2, 3, 100, 2, 1, 11, 20517, None)])
     check("transits", rows(path, "SELECT * FROM transits"), [(10, 1, 1)])
     say(path, [
         ("b1", ["cancel-hold", "1"], "ok"),
@@ -361,7 +362,7 @@ def movements(folder):
         ("b6", ["begin-day", "2026-03-06"], "ok"),
         ("b7", ["unshelve", "2"], "transit 1"),
     ])
-    check("states", rows(path, "SELECT hold, state, copy, limit_day FROM holds"), [(1, 3, None, None), (2, 4, None, None)])
+    check("states", rows(path, "SELECT hold, state, copy, limit_day FROM holds2"), [(1, 3, None, None), (2, 4, None, None)])
     check("home", rows(path, "SELECT * FROM transits"), [(11, 1, None)])
     say(path, [
         ("c1", ["missing", "11"], "ok"),
@@ -374,7 +375,7 @@ def movements(folder):
     ])
     check("transits", rows(path, "SELECT * FROM transits"), [(30, 1, None)])
     check("conditions", rows(path, "SELECT copy, condition FROM copies"), [(10, 0), (11, 2), (20, 0), (30, 0)])
-    check("meta", rows(path, "SELECT * FROM meta"), [(1, 1, 20518, 1, 4, 1)])
+    check("meta", rows(path, "SELECT * FROM meta"), [(1, 2, 20518, 1, 4, 1)])
 
 
 def refusals_of_other_rows(folder, path):
@@ -395,10 +396,10 @@ def refusals_of_other_rows(folder, path):
           "UPDATE copies SET condition = 2 WHERE copy = 20",
           "UPDATE copies SET condition = 1 WHERE copy = 30",
           "INSERT INTO transits VALUES (12, 2, NULL)",
-          "INSERT INTO holds VALUES (1, 3, 103, 1, 1, 14, 20519)",
-          "INSERT INTO holds VALUES (2, 3, 102, 1, 0, NULL, NULL)",
-          "INSERT INTO holds VALUES (3, 2, 103, 1, 0, NULL, NULL)",
-          "INSERT INTO holds VALUES (4, 2, 103, 1, 0, NULL, NULL)")
+          "INSERT INTO holds2 VALUES (1, 3, 103, 1, 1, 14, 20519, NULL)",
+          "INSERT INTO holds2 VALUES (2, 3, 102, 1, 0, NULL, NULL, NULL)",
+          "INSERT INTO holds2 VALUES (3, 2, 103, 1, 0, NULL, NULL, NULL)",
+          "INSERT INTO holds2 VALUES (4, 2, 103, 1, 0, NULL, NULL, NULL)")
     say(other, [
         ("p1", ["check-out", "2", "20", "2"], "refused 35"),
         ("p2", ["check-out", "2", "30", "1"], "refused 34"),
@@ -409,7 +410,7 @@ def refusals_of_other_rows(folder, path):
         ("p7", ["check-out", "3", "14", "1"], "loan 3 due 2026-03-09"),
         ("p8", ["check-out", "3", "13", "1"], "loan 4 due 2026-03-09"),
     ])
-    check("filled holds", rows(other, "SELECT hold, state, copy, limit_day FROM holds WHERE patron = 3"),
+    check("filled holds", rows(other, "SELECT hold, state, copy, limit_day FROM holds2 WHERE patron = 3"),
           [(1, 2, None, None), (2, 2, None, None)])
     write(other, "DELETE FROM transits", "UPDATE patrons SET owed = 501", "UPDATE kinds SET loans = 5")
     say(other, [("q1", ["check-out", "1", "12", "1"], "refused 38")])
@@ -512,14 +513,14 @@ def a_long_line(folder):
     say(path, GROUND)
     with closing(sqlite3.connect(path)) as db, db:
         db.executemany("INSERT INTO patrons VALUES (?, 1, ?, ?, 0)", ((n, f"card{n:08}", f"Reader {n}") for n in range(1001, 2001)))
-        db.executemany("INSERT INTO holds VALUES (?, ?, 100, ?, 0, NULL, NULL)", ((n, 1000 + n, 1 + n % 2) for n in range(1, 1001)))
+        db.executemany("INSERT INTO holds2 VALUES (?, ?, 100, ?, 0, NULL, NULL, NULL)", ((n, 1000 + n, 1 + n % 2) for n in range(1, 1001)))
         db.execute("UPDATE meta SET next_hold = 1001")
     say(path, [
         ("c1", ["check-in", "10", "2"], "fine 0 ready 1 at 2 until 2026-03-05"),
         ("c2", ["check-in", "11", "2"], "fine 0 transit 1 for 2"),
         ("c3", ["place-hold", "1", "100", "1"], "hold 1001"),
     ])
-    check("the others wait", rows(path, "SELECT COUNT(*), MIN(hold), MAX(hold) FROM holds WHERE state = 0"), [(1000, 2, 1001)])
+    check("the others wait", rows(path, "SELECT COUNT(*), MIN(hold), MAX(hold) FROM holds2 WHERE state = 0"), [(1000, 2, 1001)])
 
 
 def memory_of(words, out):
@@ -570,17 +571,6 @@ def timed(call):
     begin = time.perf_counter()
     given = call()
     return given, time.perf_counter() - begin
-
-
-@contextmanager
-def as_it_is(path):
-    """A copy of the files for stock SQLite, so that what a kill left stays as it is."""
-    with tempfile.TemporaryDirectory() as folder:
-        copied = os.path.join(folder, "copy.db")
-        for tail in ("", "-wal"):
-            if os.path.exists(path + tail):
-                shutil.copy(path + tail, copied + tail)
-        yield copied
 
 
 def rows_now(path, text):
@@ -822,7 +812,7 @@ def bad_files(folder, path):
     check("another meta", circ(["file", namesake, *words]), ("fault 93", 3))
     later = os.path.join(folder, "later.db")
     shutil.copy(path, later)
-    write(later, "UPDATE meta SET schema = 2")
+    write(later, "UPDATE meta SET schema = 3")
     before = whole(later)
     check("a later schema", circ(["file", later, *words]), ("fault 93", 3))
     check("it stays", whole(later), before)

@@ -10,11 +10,12 @@ and through what is known of a library's file when the database told a fault.
 import fcntl
 import os
 import re
+import shutil
 import sqlite3
 import subprocess
 import sys
 import tempfile
-from contextlib import closing
+from contextlib import closing, contextmanager
 
 TOP = os.path.dirname(os.path.dirname(os.path.abspath(__file__)))
 PROGRAM = f"{TOP}/crates/circ_cli/out/circ_cli"
@@ -28,8 +29,10 @@ SAYINGS = {
     "unsound balance ": "the patron of this number doesn't owe the charges less payments and waivers",
 }
 BAD = "the row is not copy,title,text,kind,home,price,end, or no row may follow"
+OLDER = "the library is of an older schema: make a backup of it, and then bring it forward by circ migrate FILE"
+LATER = "the library is of a later schema, for a later version of this program"
 UNWRITTEN = b"circ: standard output takes no more\n"
-RUNS = ["file", "import", "report", "report", "report", "audit", "serve", "send"]
+RUNS = ["file", "import", "report", "report", "report", "audit", "migrate", "serve", "send"]
 
 
 def read(path):
@@ -79,10 +82,21 @@ def is_held(path):
             return True
 
 
+@contextmanager
+def as_it_is(path):
+    """A copy of the files for stock SQLite, so that what a kill left stays as it is."""
+    with tempfile.TemporaryDirectory() as folder:
+        copied = os.path.join(folder, "copy.db")
+        for tail in ("", "-wal"):
+            if os.path.exists(path + tail):
+                shutil.copy(path + tail, copied + tail)
+        yield copied
+
+
 def schema_of(path):
     """The schema of a library, as stock SQLite reads it; none where it can't."""
     try:
-        with closing(sqlite3.connect(path)) as conn:
+        with as_it_is(path) as copied, closing(sqlite3.connect(copied)) as conn:
             return conn.execute("SELECT schema FROM meta").fetchone()[0]
     except (sqlite3.Error, TypeError):
         return None
@@ -100,9 +114,11 @@ def cause(path, line, held=None):
                 return "the file can't be read, or is no library"
         if line == "fault 91" and (is_held(path) if held is None else held):
             return "another process has the file"
-        schema = schema_of(path) if line == "fault 93" else None
+        schema = schema_of(path)
         if isinstance(schema, int) and schema > int(SCHEMA):
-            return "the library is of a later schema, for a later version of this program"
+            return LATER
+        if isinstance(schema, int) and 1 <= schema < int(SCHEMA):
+            return OLDER
         return "the file is there, and begins as a library"
     except (FileNotFoundError, NotADirectoryError):
         return "no such file or directory"
@@ -169,22 +185,30 @@ def main():
         asks(["import", path, copies], "row 1 refused 10\nrow 2 bad\naccepted 0 refused 1\n")
         asks(["send", "1", "deskkey00001", "k1", "page", "1"], "fault network\n")
         asks(["serve", path, "1", "9", "1", "deskkey00001"], not_understood)
+        asks(["migrate"], not_understood)
+        asks(["migrate", path, "again"], not_understood)
+        asks(["migrate", path], f"schema {SCHEMA}\n")
         empty, garbage, absent = (os.path.join(place, it) for it in ("empty.db", "garbage.db", "absent.db"))
         open(empty, "w", encoding="utf-8").close()
         with open(garbage, "wb") as file:
             file.write(b"this is no database " * 500)
         asks(["report", empty, "shelf", "1"], "fault 93\n")
         asks(["report", absent, "shelf", "1"], "fault 93\n")
+        asks(["migrate", empty], "fault 93\n")
+        asks(["migrate", absent], "fault 93\n")
+        asks(["migrate", garbage], "fault 91\n")
+        asks(["migrate", place], "fault 91\n")
         asks(["report", garbage, "shelf", "1"], "fault 91\n")
         asks(["file", place, "k1", "page", "1"], "fault 91\n")
         asks(["file", os.path.join(place, "no", "town.db"), "k1", "page", "1"], "fault 91\n")
         later = os.path.join(place, "later.db")
         asks(["file", later, "k1", "begin-day", "2026-03-02"], "ok\n")
-        for schema, said in ((2, "the library is of a later schema, for a later version of this program"), (0, "the file is there, and begins as a library")):
+        for schema, said in ((3, LATER), (1, OLDER), (0, "the file is there, and begins as a library")):
             with closing(sqlite3.connect(later)) as conn:
                 conn.execute(f"UPDATE meta SET schema = {schema}")
                 conn.commit()
-            asks(["report", later, "shelf", "1"], "fault 93\n")
+            for words in (["report", later, "shelf", "1"], ["audit", later]):
+                asks(words, "fault 93\n")
             are(["file", later, "k2", "page", "1"], f"circ: {MEANINGS[93]}\ncirc: {later}: {said}\n")
         with open(path, "rb+") as file:
             fcntl.lockf(file, fcntl.LOCK_EX | fcntl.LOCK_NB, 512, 1 << 30)

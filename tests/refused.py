@@ -26,6 +26,7 @@ import end_to_end as desk
 from desk_rules import Library
 from end_to_end import CIRC, GROUND, HEADER, PROGRAM, TOP, check, rows, say, the_rows_are, whole
 from messages import message
+from migrate import of_schema_2, with_many_holds
 from web import DESK_KEY, everything, started
 
 STEP = 64 * 1024
@@ -127,6 +128,27 @@ def one_request_in_a_file(folder, refusing, everything):
             check(f"the rows then, {where}", whole(path), after)
     check("both faults came", told["fault 90"] > 0 and told["fault 91"] > 0, True)
     print(f"refused: one request for memory of a run: {dict(told)}")
+
+
+def one_request_of_a_migration(folder, refusing, everything):
+    """A migration of which one request for memory is refused: it is made all the same, or ends with a fault and leaves the old rows; run again it is made."""
+    base, path, told = with_many_holds(os.path.join(folder, "old.db")), os.path.join(folder, "migrated.db"), Counter()
+    before, words = whole(base), ["migrate", path]
+    after = of_schema_2(before)
+    copied(base, path)
+    plain = refusing.run([PROGRAM, *words], 0)
+    check("the migration, with memory", (plain.stdout, plain.returncode, whole(path)), (b"schema 2\n", 0, after))
+    for number in places(refusing.count(), 80, everything):
+        copied(base, path)
+        run = refusing.run([PROGRAM, *words], number)
+        where, found = f"the migration, request {number} refused", (run.stdout, run.returncode, whole(path))
+        ends = [(b"schema 2\n", 0, after), (b"fault 90\n", 3, before), (b"fault 91\n", 3, before)]
+        check(f"the end of {where}: {found[:2]}", found in ends, True)
+        told[run.stdout.decode().strip()] += 1
+        again = subprocess.run([PROGRAM, *words], capture_output=True, timeout=300, check=False)
+        check(f"again after {where}", (again.returncode, again.stdout, whole(path)), (0, b"schema 2\n", after))
+    check("migrations were refused memory", told["fault 90"] + told["fault 91"] > 4, True)
+    print(f"refused: one request for memory of a migration: {dict(told)}")
 
 
 def end_of(run, port):
@@ -482,6 +504,24 @@ def disk(folder, everything):
     print(f"refused: disk: {hits} limits hit the middle of a copies file")
 
 
+def disk_of_a_migration(folder, everything):
+    """A migration where the files may not grow past a limit: it is made, or told as 91 and the old rows are there; without the limit it is made."""
+    base, path = os.path.join(folder, "old.db"), os.path.join(folder, "narrow.db")
+    before, words, told = whole(base), ["migrate", path], Counter()
+    after, size = of_schema_2(before), os.path.getsize(base)
+    for limit in chosen(range(4096, 4 * size, 16 * 1024), everything):
+        copied(base, path)
+        run = under(words, resource.RLIMIT_FSIZE, limit)
+        out, found = run.stdout.decode(), whole(path)
+        check(f"the end at {limit}: {out}", (out, run.returncode, found) in [("schema 2\n", 0, after), ("fault 91\n", 3, before)], True)
+        check(f"what is said at {limit}", run.stderr, message(words, out))
+        told[out.strip()] += 1
+        again = subprocess.run([PROGRAM, *words], capture_output=True, timeout=300, check=False)
+        check(f"again at {limit}", (again.stdout.decode(), again.returncode, whole(path)), ("schema 2\n", 0, after))
+    check("limits were met and not met", min(told["fault 91"], told["schema 2"]) > 2, True)
+    print(f"refused: disk of a migration: {dict(told)}")
+
+
 def main():
     subprocess.run([CIRC], stdout=subprocess.DEVNULL, stderr=subprocess.DEVNULL, check=False)  # builds the program where it isn't there
     everything = "--all" in sys.argv
@@ -489,6 +529,7 @@ def main():
         refusing = Refusing(folder)
         scripts_in_memory(refusing, everything)
         one_request_in_a_file(folder, refusing, everything)
+        one_request_of_a_migration(folder, refusing, everything)
         one_request_of_the_web(folder, refusing, everything)
         a_board_that_cannot_grow(folder, refusing)
         missing_threads(folder, refusing)
@@ -496,6 +537,7 @@ def main():
         serving_memory(folder, everything)
         refused_after_listening(folder)
         disk(folder, everything)
+        disk_of_a_migration(folder, everything)
     print(f"refused: {desk.passed} passed, 0 failed")
 
 

@@ -48,13 +48,13 @@ SILENT = ("pairs", "sql", "damage")  # lines with no answer of their own
 # What no library may have, each by a text that finds it.
 LAWS = {
     "a copy is in two places, or isn't there": """
-        SELECT copy FROM (SELECT copy FROM loans WHERE ended IS NULL UNION ALL SELECT copy FROM holds WHERE state = 1
+        SELECT copy FROM (SELECT copy FROM loans WHERE ended IS NULL UNION ALL SELECT copy FROM holds2 WHERE state = 1
             UNION ALL SELECT copy FROM transits UNION ALL SELECT copy FROM copies WHERE condition > 0)
         GROUP BY copy HAVING COUNT(*) > 1 OR copy IS NULL OR copy NOT IN (SELECT copy FROM copies)""",
     "a ready hold has no present copy": """
-        SELECT hold FROM holds WHERE state = 1 AND (copy IS NULL OR copy NOT IN (SELECT copy FROM copies WHERE condition = 0))""",
+        SELECT hold FROM holds2 WHERE state = 1 AND (copy IS NULL OR copy NOT IN (SELECT copy FROM copies WHERE condition = 0))""",
     "a hold that isn't ready names a copy or a limit": """
-        SELECT hold FROM holds WHERE state <> 1 AND (copy IS NOT NULL OR limit_day IS NOT NULL)""",
+        SELECT hold FROM holds2 WHERE state <> 1 AND (copy IS NOT NULL OR limit_day IS NOT NULL)""",
     "a patron doesn't owe what the lines say": """
         SELECT patron FROM patrons WHERE owed <> (SELECT COALESCE(SUM(CASE WHEN sort < 2 THEN amount ELSE -amount END), 0)
             FROM lines WHERE lines.patron = patrons.patron)""",

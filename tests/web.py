@@ -233,7 +233,7 @@ def each_route(folder, workers):
             found = serving.answers(method, target, {}, None, 405, b'{"status":405}')
             check(f"what {target} allows", found.get("Allow"), allowed)
     check("the loan", rows(path, "SELECT loan, copy, patron, due, renewals_left FROM loans"), [(1, 10, 1, 20528, 0)])
-    check("the hold", rows(path, "SELECT hold, patron, title, branch, state FROM holds"), [(1, 2, 100, 1, 3)])
+    check("the hold", rows(path, "SELECT hold, patron, title, branch, state FROM holds2"), [(1, 2, 100, 1, 3)])
     check("what is kept of patrons", rows(path, "SELECT caller, key FROM kept WHERE caller > 0 ORDER BY caller, key"),
           [(1, "r1"), (2, "c1"), (2, "h1")])
 
@@ -283,7 +283,7 @@ def in_pieces(folder, workers):
         with socket.create_connection(("127.0.0.1", serving.port), timeout=60) as gone:
             gone.sendall(PAGE_OF_ANN[:30])
         check("the next one", serving.raw(PAGE_OF_ANN), whole_page)
-    check("one hold", rows(path, "SELECT COUNT(*) FROM holds"), [(1,)])
+    check("one hold", rows(path, "SELECT COUNT(*) FROM holds2"), [(1,)])
 
 
 HOLD = b'{"branch":1,"title":100}'
@@ -404,9 +404,9 @@ def hostile_bytes(folder, workers):
         check("writes that failed", sum(is_lost(serving, path, number) for number in range(LOST)), LOST)
     after = whole(path)
     kept = [(2, f"l{number}", *it) for number in range(LOST) for it in LOST_HOLDS[number : number + 1]]
-    check("the holds", ([hold[:4] for hold in after["holds"]], after["meta"]), ([(1, 2, 100, 1), (2, 2, 200, 1), (3, 2, 300, 2)], [(1, 1, 20514, 1, 4, 1)]))
+    check("the holds", ([hold[:4] for hold in after["holds2"]], after["meta"]), ([(1, 2, 100, 1), (2, 2, 200, 1), (3, 2, 300, 2)], [(1, 2, 20514, 1, 4, 1)]))
     check("what is kept of them", [it for it in after["kept"] if it not in before["kept"]], sorted([(2, "h1", "place-hold 2 100 1", "hold 1"), *kept]))
-    check("all else stays", {**after, "holds": [], "kept": before["kept"], "meta": before["meta"]}, before)
+    check("all else stays", {**after, "holds2": [], "kept": before["kept"], "meta": before["meta"]}, before)
 
 
 PAUSES = [n / 4000 for n in range(12)]  # in seconds, until a connection is broken whose answer is on its way

@@ -100,7 +100,7 @@ def main():
     usages = re.findall(r'^    "(circ [^"]*)",$', read("crates/messages/src/usage.rt"), re.M)
     same("the runs of the usage", usages, runs)
     version = re.search(r'VERSION: &str = "([^"]*)"', read("crates/messages/src/usage.rt")).group(1)
-    schema = re.search(r"SCHEMA: u32 = (\d+)", read("crates/store/src/changing.rt")).group(1)
+    schema = re.search(r"SCHEMA: u32 = (\d+)", read("crates/terms/src/limits.rt")).group(1)
     same("the newest version and its schema", (VERSION, SCHEMA), (version, schema))
     bodies = list(wrong_bodies())
     if len(bodies) < 60:

@@ -14,10 +14,10 @@ use test_library::{
 };
 
 /// The rows of the small library, table by table, with three that a check-out changes: a part of `meta`, `loans`
-/// and the last of `kept`.
+/// and the last of `kept`, behind which stand no holds.
 fn tables(alloc: Global, next: &str, loans: &str, kept: &str) -> Result<String, Fail> {
     Ok(format!(in alloc;
-        "\n1|1|20514|{next}|1|1|;\
+        "\n1|2|20514|{next}|1|1|;\
         \n1|5|ooooooc|Main|;2|3|coooooc|Harbour|;\
         \n\
         \n1|5|5|500|;\
@@ -35,7 +35,8 @@ fn tables(alloc: Global, next: &str, loans: &str, kept: &str) -> Result<String, 
         0|g9|patron 1 1 cardkey00001 Ann Bell|ok|;0|g10|patron 2 1 cardkey00002 Bo Carr|ok|;\
         0|g11|patron 3 1 cardkey00003 Cy Dunn|ok|;0|g12|acquire 10 100 1 1 2500 Rivers of the North|ok|;\
         0|g13|acquire 11 100 1 1 2500 Rivers of the North|ok|;0|g14|acquire 20 200 1 2 1200 Salt Roads|ok|;\
-        0|g15|acquire 30 300 2 1 800 Night Ferries|ok|;{kept}"
+        0|g15|acquire 30 300 2 1 800 Night Ferries|ok|;{kept}\
+        \n"
     )?)
 }
 

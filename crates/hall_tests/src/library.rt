@@ -107,7 +107,7 @@ pub fn page_bytes(alloc: Global, worker: u64) -> Option<String> {
 /// The patrons of the holds, by number: since each hold gets the next number, the order in which the requests were handled.
 pub fn order(alloc: Global, conn: &mut Connection<MemStore>) -> Result<Vec<i64>, Fail> {
     let mut patrons = Vec::new(alloc);
-    for row in &conn.query_all("SELECT patron FROM holds ORDER BY hold", &[])? {
+    for row in &conn.query_all("SELECT patron FROM holds2 ORDER BY hold", &[])? {
         match row.get_ref(0)? {
             ValueRef::Int(patron) => patrons.push(patron)?,
             _ => return Err("a patron".into()),
