@@ -22,7 +22,7 @@ use Rattle.circ_tables.specs.Puts.{Works}
 use Rattle.circ_tables.specs.Reading.{Table}
 use Rattle.circ_tables.specs.Shape.{schema_at}
 use Rattle.store.specs.Commit.{Brings, HasDone}
-use Rattle.store.specs.Library.{HasTables}
+use Rattle.store.specs.Library.{HasTables, IsAsItWas}
 use Rattle.store.specs.Schemas.{IsKnown}
 use Rattle.store.specs.Stops.{Leaves, KeepsPicture, KeepsPictureAt}
 
@@ -144,6 +144,8 @@ pub record LeadsOnInside {S T : Type 0} (g : Ghosts S) (old new : Transaction S)
   pub survives : Survives (state g old.conn.now) (state g new.conn.now) (λ _. ⊥)
   pub kept : HasCleanDisk (state g new.conn.now) → IsTrue (state g old.conn.now).in_transaction
       → AreThere (state g old.conn.now).now → KeepsCommit (state g old.conn.now) (state g new.conn.now)
+  pub inside : HasCleanDisk (state g new.conn.now) → IsTrue (state g old.conn.now).in_transaction
+      → AreThere (state g old.conn.now).now → OnOk result (IsTrue (state g new.conn.now).in_transaction)
   pub leads : HasCleanDisk (state g new.conn.now) → IsTrue (state g old.conn.now).in_transaction
       → OnOk result (LeadsOn (state g old.conn.now).now (state g new.conn.now).now)
   pub sound : HasCleanDisk (state g new.conn.now) → IsTrue (state g old.conn.now).in_transaction → result ≡ Err Stored
@@ -171,13 +173,15 @@ pub record TellsSchema {S : Type 0} (g : Ghosts S) (old new : Held S) (result : 
   pub sound : HasCleanDisk (state g new) → result ≡ Err Stored → (n : ℕ) → IsKnown n → (P : Picture)
       → HasPictureAt n (state g old).now P → P.meta.schema < 2 ^ 32 → ⊥
 
--- A library was led to the newest schema, or it was of that already and is as it was; after a fault it is as it was, as long as the database is open; and a stop leaves what was there or what it is led to.
+-- A library was led to the newest schema, or it was of that already and is as it was; after a fault it is as it was, as long as the database is open, whatever rows its tables have; and a stop leaves what was there or what it is led to.
 pub record Migrates {S T : Type 0} (g : Ghosts S) (old new : Held S) (result : Result T Fault) : Type 0 where
   pub clean : HasCleanDisk (state g new) → HasCleanDisk (state g old)
   pub led : HasCleanDisk (state g new) → OnOk result ((P : Picture) → IsLibrary1 (state g old).now P → KeepsPicture (state g new) (led_to_2 P))
   pub same : HasCleanDisk (state g new) → OnOk result ((P : Picture) → IsNewest (state g old).now P → KeepsPicture (state g new) P)
   pub undone : HasCleanDisk (state g new) → IsTrue (state g new).is_open → OnErr result ((P : Picture)
       → HasPictureAt 1 (state g old).now P → KeepsPictureAt 1 (state g new) P)
+  pub nothing : HasCleanDisk (state g new) → IsTrue (state g new).is_open → HasTables1 (state g old).now
+      → OnErr result (IsAsItWas (state g old) (state g new))
   pub undone_same : HasCleanDisk (state g new) → IsTrue (state g new).is_open → OnErr result ((P : Picture)
       → IsNewest (state g old).now P → KeepsPicture (state g new) P)
   pub stop : HasCleanDisk (state g new) → (P : Picture) → KeepsPictureAt 1 (state g old) P → IsOfSchema1 P → InLimits P

@@ -17,6 +17,7 @@ returns-in_err-schema_inside g c =
       same_reference = read.works.same_reference;
       survives = read.works.survives;
       kept = λ clean begun there. read.works.kept clean begun;
+      inside = search rules;
       leads = search rules;
       sound = λ clean begun told P ready. elim ready [
         | inl is ↦ can_be_told old.now (read.stored clean (search rules)) 1 first_known P is.0 (let one = is.1.names in omega (arith, one))
@@ -43,6 +44,12 @@ returns-in-1 g c =
             keeps_then _ _ _ (read.works.kept (late clean) begun) (led.kept clean (subst IsTrue (sym same.mode) begun) (subst HasTables1 (sym same.now_is) tables))
         | inr shown ↦ (let two = told_newest old mid n (read.named (late clean)) shown.0 shown.1 in absurd (omega (arith, two, is_1)))
       ];
+      inside = λ clean begun there. elim there [
+        | inl tables ↦
+            let same = (unchanged_1 old mid n (read.named (late clean)) tables).0 in
+            on_ok c.lead_to_2.result (λ it. it.0) (led.inside clean (subst IsTrue (sym same.mode) begun) (subst HasTables1 (sym same.now_is) tables))
+        | inr shown ↦ (let two = told_newest old mid n (read.named (late clean)) shown.0 shown.1 in absurd (omega (arith, two, is_1)))
+      ];
       leads = λ clean begun. both_ways old.now new.now c.lead_to_2.result
           (on_ok_each (λ P. HasPicture new.now (led_to_2 P)) c.lead_to_2.result (λ P is.
           let same = (told_of old mid n (read.named (late clean)) 1 first_known P is.0).1.0 in
@@ -67,9 +74,31 @@ returns-in-2 g c =
       same_reference = read.works.same_reference;
       survives = read.works.survives;
       kept = λ clean begun there. read.works.kept clean begun;
+      inside = λ clean begun there. elim there [
+        | inl tables ↦ subst IsTrue (sym (unchanged_1 old new n (read.named clean) tables).0.mode) begun
+        | inr shown ↦ subst IsTrue (sym (told_of old new n (read.named clean) 2 newest_known shown.0 shown.1.0).1.0.mode) begun
+      ];
       leads = λ clean begun. record {
         from_1 = λ P is. (let one = told_1 old new n (read.named clean) P is in absurd (omega (arith, one, is_2)));
         newest = λ P is. (let same = (told_of old new n (read.named clean) 2 newest_known P is.0).1.0 in subst (λ d. HasPicture d P) (sym same.now_is) is.0);
       };
       sound = search rules;
+    }
+
+pub returns-in_default : goal.returns-in_default
+returns-in_default g c =
+    let old = state g.S.Store c.args.tx.now.conn.now in
+    let new = state g.S.Store c.schema_inside.new.tx.conn.now in
+    let read = c.in_ok-schema_inside.ensures in
+    let n = c.in_ok-schema_inside.field-0 in
+    record {
+      same_reference = read.works.same_reference;
+      survives = read.works.survives;
+      kept = λ clean begun there. read.works.kept clean begun;
+      inside = search rules;
+      leads = search rules;
+      sound = λ clean begun told P ready. elim ready [
+        | inl is ↦ (let one = told_1 old new n (read.named clean) P is in absurd (omega (arith, one)))
+        | inr is ↦ (let two = told_newest old new n (read.named clean) P is in absurd (omega (arith, two)))
+      ];
     }

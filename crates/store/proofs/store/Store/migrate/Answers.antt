@@ -1,4 +1,5 @@
-use Rattle.std.proofs.Common.{◌⊎◌, inl, inr, refl, arith}
+use Rattle.std.proofs.Common.{◌≡◌, ◌⊎◌, ◌∙◌, inl, inr, refl, ap, arith}
+use Rattle.sqlite.specs.Effect.{Database}
 use Rattle.sqlite.specs.Held.{state}
 use Rattle.sql_maps.proofs.CallLemmas.{on_ok}
 use Rattle.terms.specs.Schemas.{led_to_2}
@@ -7,7 +8,7 @@ use Rattle.circ_tables.specs.Encoding.{HasPicture, HasPictureAt}
 use Rattle.store.specs.Migrating.{LeadsOn}
 use Rattle.store.specs.Stops.{KeepsPicture, KeepsPictureAt}
 use Rattle.store.proofs.MigrateLemmas.{on_ok_each, on_err_each}
-use Rattle.store.proofs.StopLemmas.{on_err, open_keeps, stops_between, leaves_weaker}
+use Rattle.store.proofs.StopLemmas.{on_err, open_keeps, stops_between, leaves_weaker, leaves_committed}
 use Rattle.store.proofs.store.Store.migrate.Goals as goal
 
 pub returns : goal.returns
@@ -24,6 +25,10 @@ returns g c =
           (λ P ready. on_ok c.step.result (λ done. open_keeps g.S.Store settled SCHEMA new.now c.step.new.conn P done.is_open refl done.committed (done.made.newest P ready)) (is.done clean (inr (P, ready))));
       undone = λ clean is_open. on_err_each (λ P. KeepsPictureAt 1 new P) c.step.result
           (λ P shown. on_err c.step.result (λ same. open_keeps g.S.Store settled 1 old.now c.step.new.conn P is_open same.0 same.1 shown) (is.undone clean is_open (inl (shown.maps, shown.holds))));
+      nothing = λ clean is_open there. on_err c.step.result (λ same. record {
+        now = same.0;
+        left = λ trees may. let it = leaves_committed g.S.Store settled c.step.new.conn (λ db. db ≡ old.now) is_open same.1 trees may in inr (it.2 ∙ ap (λ (db : Database). db.trees) it.1);
+      }) (is.undone clean is_open (inl there));
       undone_same = λ clean is_open. on_err_each (λ P. KeepsPicture new P) c.step.result
           (λ P shown. on_err c.step.result (λ same. open_keeps g.S.Store settled SCHEMA old.now c.step.new.conn P is_open same.0 same.1 shown.0) (is.undone clean is_open (inr (P, shown))));
       stop = λ clean P keeps of_1 legal.
