@@ -30,6 +30,7 @@ SAYINGS = {
 }
 BAD = "the row is not copy,title,text,kind,home,price,end, or no row may follow"
 OLDER = "the library is of an older schema: make a backup of it, and then bring it forward by circ migrate FILE"
+STILL = "the library is of an older schema still"
 LATER = "the library is of a later schema, for a later version of this program"
 UNWRITTEN = b"circ: standard output takes no more\n"
 RUNS = ["file", "import", "report", "report", "report", "audit", "migrate", "serve", "send"]
@@ -102,8 +103,8 @@ def schema_of(path):
         return None
 
 
-def cause(path, line, held=None):
-    """What is known of a library's file after a fault; whether another process has it is looked up where it isn't given."""
+def cause(run, path, line, held=None):
+    """What is known of a library's file after a fault of a run; whether another process has it is looked up where it isn't given."""
     try:
         if os.path.isdir(path):
             return "this is a directory"
@@ -118,7 +119,7 @@ def cause(path, line, held=None):
         if isinstance(schema, int) and schema > int(SCHEMA):
             return LATER
         if isinstance(schema, int) and 1 <= schema < int(SCHEMA):
-            return OLDER
+            return STILL if run == "migrate" else OLDER
         return "the file is there, and begins as a library"
     except (FileNotFoundError, NotADirectoryError):
         return "no such file or directory"
@@ -141,7 +142,7 @@ def message(words, out, held=None):
         return b""
     said = f"circ: {MEANINGS[int(numbers[-1])]}\n"
     if line in ("fault 91", "fault 93") and words[0] != "send":
-        said += f"circ: {words[1]}: {cause(words[1], line, held)}\n"
+        said += f"circ: {words[1]}: {cause(words[0], words[1], line, held)}\n"
     return said.encode()
 
 

@@ -9,3 +9,4 @@ mod SoundBindings
 mod SoundBalances
 mod WholeTables
 mod Audits
+mod Migrations

@@ -1,7 +1,8 @@
 -- What is said of a library that is brought to the newest schema, and how the program ends.
 use Rattle.std.specs.Prelude.{◌≡◌, ◌⊎◌, ℕ, List, Option, Result, IfOk, OnErr}
 use Rattle.std.specs.Io.KnownBytes.{Appends}
-use Rattle.store.specs.Library.{Ghosts, Held, State, state, IsClean, IsOpen}
+use Rattle.store.specs.Library.{Ghosts, Held, State, state, IsClean, IsOpen, IsAsItWas}
+use Rattle.store.specs.Migrating.{HasTables1}
 use Rattle.store.specs.Stops.{Leaves, KeepsPictureAt, LeavesPicture}
 use Rattle.circ_tables.specs.Encoding.{HasPicture, HasPictureAt}
 use Rattle.terms.specs.Writing.{AppendsFront}
@@ -40,7 +41,7 @@ pub record SaysLed {S : Type 0} (g : Ghosts S) (old new : Held S) (line : List �
   pub line_is : line ≡ schema_line
   pub exit_is : exit ≡ Done
   pub led : IsClean g new → (H : History) → ShowsAt1 (state g old) H → Shows (state g new) H
-  pub same : IsClean g new → IsOpen g new → Stays (state g old) (state g new)
+  pub same : IsClean g new → Stays (state g old) (state g new)
 
 -- The line is a fault, which is not 93 where the tables showed a list of accepted requests. They
 -- show what they showed, as long as the database is open.
@@ -53,6 +54,9 @@ pub record SaysNotLed {S : Type 0} (g : Ghosts S) (old new : Held S) (line : Lis
       → ¬ (ShowsAt1 (state g old) H ⊎ Shows (state g old) H)
   pub undone_at_1 : IsClean g new → IsOpen g new → StaysAt1 (state g old) (state g new)
   pub undone : IsClean g new → IsOpen g new → Stays (state g old) (state g new)
+  -- and so do tables of schema 1 with other rows
+  pub nothing : IsClean g new → IsOpen g new → HasTables1 (state g old).now
+      → IsAsItWas (state g old) (state g new)
 
 -- The line is the newest schema, or a fault.
 abbrev pub SaysOneOf : {S : Type 0} → Ghosts S → Held S → Held S → List ℕ → Exit → Type 0

@@ -30,8 +30,8 @@ fn schema_of<S: Alter>(conn: &mut Connection<S>) -> Option<i64> {
     None
 }
 
-/// What is known of a file that begins as a database, by opening it once more: the run has let go of it.
-fn cause_inside(rt: &HostRuntime, path: &str) -> &'static str {
+/// What is known of a file that begins as a database, by opening it once more: the run has let go of it. A run that was to bring it forward isn't named as the remedy.
+fn cause_inside(rt: &HostRuntime, path: &str, migrates: bool) -> &'static str {
     let schema = match Connection::open(rt, path) {
         Ok(mut conn) => schema_of(&mut conn),
         Err(Error::SqliteFailure(ErrorCode::DatabaseBusy)) => return "another process has the file",
@@ -41,6 +41,9 @@ fn cause_inside(rt: &HostRuntime, path: &str) -> &'static str {
         Some(schema) if schema > i64::from(SCHEMA) => {
             "the library is of a later schema, for a later version of this program"
         }
+        Some(schema) if schema >= 1 && schema < i64::from(SCHEMA) && migrates => {
+            "the library is of an older schema still"
+        }
         Some(schema) if schema >= 1 && schema < i64::from(SCHEMA) => {
             "the library is of an older schema: make a backup of it, and then bring it forward by circ migrate FILE"
         }
@@ -49,14 +52,14 @@ fn cause_inside(rt: &HostRuntime, path: &str) -> &'static str {
 }
 
 /// What is known of the file of a library with which a run met a fault.
-fn cause(rt: &HostRuntime, path: &str) -> &'static str {
+fn cause(rt: &HostRuntime, path: &str, migrates: bool) -> &'static str {
     match fs::metadata(rt, path) {
         Err(error) if error.kind() == ErrorKind::NotFound => "no such file or directory",
         Err(_) => "the file can't be looked at",
         Ok(file) if file.is_dir() => "this is a directory",
         Ok(file) if file.len() == 0 => "the file has no bytes",
         Ok(_) if !is_database(rt, path) => "the file can't be read, or is no library",
-        Ok(_) => cause_inside(rt, path),
+        Ok(_) => cause_inside(rt, path, migrates),
     }
 }
 
@@ -65,6 +68,14 @@ fn library_of(words: &[String]) -> Option<&str> {
     match words {
         [run, path, ..] if run.as_str() != "send" => Some(path.as_str()),
         _ => None,
+    }
+}
+
+/// Whether the run brings a library to the newest schema.
+fn is_migration(words: &[String]) -> bool {
+    match words.first() {
+        Some(run) => run.as_str() == "migrate",
+        None => false,
     }
 }
 
@@ -84,7 +95,9 @@ pub fn say(rt: &HostRuntime, told: &Line, words: &[String]) -> Result<(), WriteF
     let is_of_database = told.as_bytes().starts_with(b"fault 91")
         || told.as_bytes().starts_with(b"fault 93");
     match library_of(words) {
-        Some(path) if is_of_database => write_cause(&mut writer, path, cause(rt, path)),
+        Some(path) if is_of_database => {
+            write_cause(&mut writer, path, cause(rt, path, is_migration(words)))
+        }
         _ => Ok(()),
     }
 }
