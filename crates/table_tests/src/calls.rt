@@ -7,8 +7,8 @@ use circ_tables::Numbered;
 use sqlite::{Alter, Connection, Transaction};
 use std::alloc::Global;
 use terms::{
-    BranchId, CopyId, Fault, HoldId, KeptRow, Key, LineId, LineRow, LoanId, Owner, PatronId,
-    TitleId, TransitRow,
+    BranchId, CopyId, Fault, HoldId, HoldRow1, KeptRow, Key, LineId, LineRow, LoanId, Owner,
+    PatronId, TitleId, TransitRow,
 };
 
 pub fn make_tables<S: Alter>(tx: &mut Transaction<'_, S>) -> Result<(), Fault> {
@@ -17,6 +17,23 @@ pub fn make_tables<S: Alter>(tx: &mut Transaction<'_, S>) -> Result<(), Fault> {
 
 pub fn put_transit<S: Alter>(tx: &mut Transaction<'_, S>, row: &TransitRow) -> Result<(), Fault> {
     tables::put_row(tx, row)
+}
+
+/// The numbers of a page of the holds of schema 1, inside a transaction.
+pub fn next_old_holds<S: Alter>(
+    tx: &mut Transaction<'_, S>,
+    alloc: Global,
+    after: Option<u32>,
+) -> Result<Vec<u32>, Fault> {
+    let mut numbers = Vec::new(alloc);
+    for row in &tables::next_rows_inside::<HoldRow1, S>(tx, alloc, (), after)? {
+        numbers.push(row.hold.number())?;
+    }
+    Ok(numbers)
+}
+
+pub fn take_old_hold<S: Alter>(tx: &mut Transaction<'_, S>, hold: u32) -> Result<(), Fault> {
+    tables::take_row::<HoldRow1, S>(tx, HoldId::new(hold))
 }
 
 pub fn get_line<S: Alter>(conn: &mut Connection<S>, line: u32) -> Result<Option<u32>, Fault> {

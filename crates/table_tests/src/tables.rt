@@ -9,7 +9,7 @@ use std::alloc::Global;
 use std::process::Abort;
 use std::test::Fail;
 use terms::{
-    BranchId, CopyId, CopyRow, Fault, HoldId, HoldRow, LineRow, LoanRow, Owner, PatronId,
+    BranchId, CopyId, CopyRow, Fault, HoldId, HoldRow, HoldRow1, LineRow, LoanRow, Owner, PatronId,
     PatronRow, TitleRow, TransitRow,
 };
 
@@ -19,7 +19,8 @@ const ROWS: &str = "\
 INSERT INTO closed_days VALUES (3, 20795), (2, 20800), (1, 20810), (1, 20801), (1, 20795);\
 INSERT INTO copies VALUES (15, 100, 4, 1, 2500, 0), (14, 101, 4, 1, 2500, 0), (13, 102, 4, 1, 2500, 0), (12, 101, 4, 1, 2500, 0), (11, 100, 4, 1, 2500, 0), (10, 100, 4, 1, 2500, 2);\
 INSERT INTO loans VALUES (9, 11, 1, 1, 20700, 20708, 21, 3, 20, 1000, NULL), (8, 13, 2, 1, 20700, 20709, 21, 3, 20, 1000, 20704), (7, 13, 2, 2, 20700, 20712, 21, 3, 20, 1000, NULL), (6, 12, 1, 1, 20700, 20711, 21, 3, 20, 1000, NULL), (5, 12, 2, 2, 20700, 20711, 21, 3, 20, 1000, 20711), (4, 11, 1, 1, 20700, 20710, 21, 3, 20, 1000, NULL), (3, 10, 1, 2, 20700, 20706, 21, 3, 20, 1000, NULL), (2, 10, 2, 1, 20700, 20705, 21, 3, 20, 1000, NULL), (1, 10, 1, 1, 20700, 20705, 21, 3, 20, 1000, 20706);\
-INSERT INTO holds VALUES (11, 3, 102, 2, 1, 13, 20760), (10, 2, 100, 2, 0, NULL, NULL), (9, 1, 102, 2, 0, NULL, NULL), (8, 1, 102, 1, 2, NULL, NULL), (7, 2, 101, 1, 0, NULL, NULL), (6, 2, 101, 1, 3, NULL, NULL), (5, 1, 101, 2, 1, 14, 20760), (4, 1, 100, 2, 0, NULL, NULL), (3, 2, 100, 2, 0, NULL, NULL), (2, 2, 100, 1, 1, 15, 20760), (1, 1, 100, 1, 4, NULL, NULL);\
+INSERT INTO holds2 VALUES (11, 3, 102, 2, 1, 13, 20760, NULL), (10, 2, 100, 2, 0, NULL, NULL, 20790), (9, 1, 102, 2, 0, NULL, NULL, NULL), (8, 1, 102, 1, 2, NULL, NULL, NULL), (7, 2, 101, 1, 0, NULL, NULL, NULL), (6, 2, 101, 1, 3, NULL, NULL, NULL), (5, 1, 101, 2, 1, 14, 20760, NULL), (4, 1, 100, 2, 0, NULL, NULL, 20790), (3, 2, 100, 2, 0, NULL, NULL, NULL), (2, 2, 100, 1, 1, 15, 20760, NULL), (1, 1, 100, 1, 4, NULL, NULL, NULL);\
+INSERT INTO holds VALUES (3, 2, 101, 1, 0, NULL, NULL), (2, 1, 102, 1, 1, 13, 20760), (1, 1, 100, 1, 4, NULL, NULL);\
 INSERT INTO transits VALUES (19, 1, NULL), (18, 2, 9), (17, 1, NULL), (16, 2, 3);\
 INSERT INTO patrons VALUES (3, 1, 'cardkey00003', 'Cy Dunn', 0), (2, 1, 'cardkey00002', 'Bo Carr', 0), (1, 1, 'cardkey00001', 'Ann Bell', 0);\
 INSERT INTO titles VALUES (102, 'Night Ferries'), (101, 'Salt Roads'), (100, 'Rivers of the North');\
@@ -124,6 +125,8 @@ fn finds_pages<S: Alter>(
     lists(rt, loans, &[8, 9]);
     let holds = next_rows::<HoldRow, S>(conn, alloc, (), Some(9))?;
     lists(rt, holds, &[10, 11]);
+    let old = next_rows::<HoldRow1, S>(conn, alloc, (), Some(1))?;
+    lists(rt, old, &[2, 3]);
     let transits = next_rows::<TransitRow, S>(conn, alloc, (), Some(17))?;
     lists(rt, transits, &[18, 19]);
     let lines = next_rows::<LineRow, S>(conn, alloc, (), Some(4))?;
@@ -166,6 +169,30 @@ fn refuses_a_second<S: Alter>(conn: &mut Connection<S>) -> Result<bool, Fault> {
     Ok(is_refused)
 }
 
+/// The holds of schema 1 are read inside a transaction, and one after another taken out; the others
+/// stay.
+fn empties_the_old_table<S: Alter>(
+    rt: &impl Abort,
+    conn: &mut Connection<S>,
+    alloc: Global,
+) -> Result<(), Fail> {
+    let mut tx = begin(conn)?;
+    let all = next_old_holds(&mut tx, alloc, None)?;
+    let after = next_old_holds(&mut tx, alloc, Some(2))?;
+    take_old_hold(&mut tx, 2)?;
+    let fewer = next_old_holds(&mut tx, alloc, None)?;
+    take_old_hold(&mut tx, 1)?;
+    take_old_hold(&mut tx, 3)?;
+    let none = next_old_holds(&mut tx, alloc, None)?;
+    tx.commit().map_err(database)?;
+    lists(rt, all, &[1, 2, 3]);
+    lists(rt, after, &[3]);
+    lists(rt, fewer, &[1, 3]);
+    lists(rt, none, &[]);
+    assert!(rt; count_active_holds(conn, 1)? == 3);
+    Ok(())
+}
+
 fn finds_days<S: Alter>(
     rt: &impl Abort,
     conn: &mut Connection<S>,
@@ -187,7 +214,7 @@ fn finds_days<S: Alter>(
 
 /// Days past their limits: of a loan, of a ready hold, and a closed day.
 const DAMAGE: &str = "UPDATE loans SET due = 84006 WHERE loan = 2;\
-UPDATE holds SET limit_day = 84006 WHERE hold = 5;UPDATE closed_days SET day = 10956 WHERE branch = 2";
+UPDATE holds2 SET limit_day = 84006 WHERE hold = 5;UPDATE closed_days SET day = 10956 WHERE branch = 2";
 
 fn tells_damage<S: Alter>(
     rt: &impl Abort,
@@ -210,6 +237,7 @@ fn looks<S: Alter>(rt: &impl Abort, conn: &mut Connection<S>, alloc: Global) -> 
     finds_days(rt, conn, alloc)?;
     finds_pages(rt, conn, alloc)?;
     finds_kept(rt, conn, alloc)?;
+    empties_the_old_table(rt, conn, alloc)?;
     assert!(rt; refuses_a_second(conn)?);
     assert!(rt; transit_for(conn, 9)? == Some(18));
     tells_damage(rt, conn, alloc)
