@@ -36,3 +36,13 @@ pub fn restart<D: Crash + Drop>(
 ) -> Result<Store<FileStore<D>>, Fault> {
     store.restart(alloc, options)
 }
+
+/// Leads a library to the newest schema.
+pub fn migrate<S: Alter>(store: &mut Store<S>, alloc: Global) -> Result<(), Fault> {
+    store.migrate(alloc)
+}
+
+/// Sets how many steps each later call of the database may take.
+pub fn limit_steps<S: Alter>(store: &mut Store<S>, limit: Option<u64>) {
+    store.limit_steps(limit);
+}

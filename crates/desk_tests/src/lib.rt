@@ -1,5 +1,5 @@
 //! Tests of the desk that the program on files cannot show, in a crate of their own, so that the crates below are proved once:
-//! lists of requests, callers that are patrons, all rows, limits on steps, and stops.
+//! lists of requests, callers that are patrons, all rows, limits on steps, stops, and migrations.
 #![tactic(auto)]
 
 #[cfg(test)]
@@ -8,6 +8,8 @@ mod calls;
 mod limits;
 #[cfg(test)]
 mod lists;
+#[cfg(test)]
+mod migrations;
 #[cfg(test)]
 mod script_stops;
 #[cfg(test)]

@@ -10,5 +10,7 @@ pub use calls::{
     connection, counts, desk_over, handle, in_memory, into_files, open, open_files, run, store_of,
 };
 pub use files::{calls_of_open, filled, fused, left, options};
-pub use lines::{GROUND, asked, check, fill, ground, key, opened, request, rows, runs, words_of};
+pub use lines::{
+    GROUND, asked, check, fill, ground, key, opened, request, rows, rows_of, runs, words_of,
+};
 pub use scripts::{HOLDS, LATE, LOST, PAID, RENEWED, REOPENED, RETURNED, SCRIPTS};

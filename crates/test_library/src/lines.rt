@@ -175,11 +175,20 @@ fn add_rows<S: Alter>(
     Ok(())
 }
 
-/// All rows of all tables, as one text.
-pub fn rows<S: Alter>(alloc: Global, conn: &mut Connection<S>) -> Result<String, Fail> {
+/// All rows of these tables, as one text.
+pub fn rows_of<S: Alter>(
+    alloc: Global,
+    conn: &mut Connection<S>,
+    tables: &str,
+) -> Result<String, Fail> {
     let mut text = String::new(alloc);
-    for table in TABLES.split(' ') {
+    for table in tables.split(' ') {
         add_rows(alloc, &mut text, conn, table)?;
     }
     Ok(text)
+}
+
+/// All rows of all tables, as one text.
+pub fn rows<S: Alter>(alloc: Global, conn: &mut Connection<S>) -> Result<String, Fail> {
+    rows_of(alloc, conn, TABLES)
 }

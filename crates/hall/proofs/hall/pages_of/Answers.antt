@@ -1,6 +1,6 @@
 use Rattle.std.proofs.Common.{◌<◌, ℕ, List, [], ap, sym, subst, ◌∙◌, arith, length}
 use Rattle.desk.specs.declared.showing.OwnPage.{OwnPage}
-use Rattle.desk.proofs.Looking.{idle, gives}
+use Rattle.desk.proofs.Looking.{◌⨾◌, idle, gives, stops}
 use Rattle.board.specs.Showing.{page_at}
 use Rattle.board.proofs.PageLists.{page-put}
 use Rattle.hall.specs.Openings.{AreFirstPages}
@@ -26,6 +26,9 @@ patrons-preserved g c =
       | in_default w ↦
           first-passed g.S.Store c.args.desk.now c.patrons.desk c.own_page.new.self xs k q more c.in_ok-page.field-0 c.in_ok-page.ensures c.patrons.first c.match-branch-2.first i w.in_default.is w.first-is
     ]
+
+pub returns-in_err-first : goal.returns-in_err-first
+returns-in_err-first g c = stops _ c.from_residual-in_err-first.ensures (c.patrons.invariant ⨾ c.in_ok-page.ensures)
 
 pub returns : goal.returns
 returns g c = first-all g.S.Store c.args.desk.now c.patrons.desk c.args.patrons.now c.patrons.patron-index c.patrons.first c.patrons-test.false c.patrons.invariant
