@@ -1,7 +1,7 @@
 -- What is said of a library that was led to the newest schema, or not.
-use Rattle.std.proofs.Common.{◌≡◌, ◌⊎◌, inl, inr, refl, subst}
+use Rattle.std.proofs.Common.{◌≡◌, ◌⊎◌, inl, inr, refl, ap, subst}
 use Rattle.std.specs.Prelude.{Result, Ok, Err}
-use Rattle.store.specs.Library.{Ghosts, Held, state, HasCleanDisk}
+use Rattle.store.specs.Library.{Ghosts, Held, State, state, HasCleanDisk}
 use Rattle.store.specs.Migrating.{Migrates, IsLibrary1}
 use Rattle.store.specs.Stops.{Leaves, KeepsPicture, LeavesPicture}
 use Rattle.circ_tables.specs.Encoding.{HasPicture, HasPictureAt}
@@ -21,18 +21,21 @@ use Rattle.circ.specs.declared.lines.Exit.TheVariants.{Done, Faulted}
 use Rattle.circ.specs.Lines.{schema_line, fault_line}
 use Rattle.circ.specs.Migrating.{ShowsAt1, LeavesOneSchema, SaysOneOf}
 
-module _ {S T : Type 0} (g : Ghosts S) (old new : Held S) where
-  -- Tables that show a list of accepted requests in schema 1 can be led on.
-  is-library : (H : History) → ShowsAt1 (state g old) H → IsLibrary1 (state g old).now (picture1 H)
-  is-library H shows = (shows.tables.now, of_schema_1 H, limits1 H (legal-rows H shows.legal shows.forms))
+-- Tables that show a list of accepted requests in schema 1 can be led on.
+is-library : (s : State) (H : History) → ShowsAt1 s H → IsLibrary1 s.now (picture1 H)
+is-library s H shows = (shows.tables.now, of_schema_1 H, limits1 H (legal-rows H shows.legal shows.forms))
 
+module _ {S T : Type 0} (g : Ghosts S) (old new : Held S) where
   pub says-led : (done : T) → Migrates g old new (Ok done) → SaysOneOf g old new schema_line Done
   says-led done it = inl (record {
     line_is = refl;
     exit_is = refl;
-    led = λ disk H shows. record { legal = shows.legal; forms = shows.forms; tables = subst (λ P. KeepsPicture (state g new) P) (led H) (it.led disk (picture1 H) (is-library H shows)) };
+    led = λ disk H shows. record { legal = shows.legal; forms = shows.forms; tables = subst (λ P. KeepsPicture (state g new) P) (led H) (it.led disk (picture1 H) (is-library (state g old) H shows)) };
     same = λ disk H shows. record { legal = shows.legal; forms = shows.forms; tables = it.same disk (picture H) (shows.tables.now, refl) };
   })
+
+  abbrev failed : Fault → Result T Fault
+  failed fault = Err fault
 
   pub says-not-led : (fault : Fault) → Migrates {T = T} g old new (Err fault) → SaysOneOf g old new (fault_line (fault_number fault)) Faulted
   says-not-led fault it = inr (record {
@@ -40,8 +43,8 @@ module _ {S T : Type 0} (g : Ghosts S) (old new : Held S) where
     line_is = refl;
     exit_is = refl;
     sound = λ disk stored H shows.
-        let same : Err {A = T} fault ≡ Err Stored = cc in
-        elim shows [ inl at_1 ↦ it.sound disk same (picture1 H) (inl (is-library H at_1)) | inr at_2 ↦ it.sound disk same (picture H) (inr (at_2.tables.now, refl)) ];
+        let same : failed fault ≡ failed Stored = ap failed stored in
+        elim shows [ inl at_1 ↦ it.sound disk same (picture1 H) (inl (is-library (state g old) H at_1)) | inr at_2 ↦ it.sound disk same (picture H) (inr (at_2.tables.now, refl)) ];
     undone_at_1 = λ disk is_open H shows. record { legal = shows.legal; forms = shows.forms; tables = it.undone disk is_open (picture1 H) shows.tables.now };
     undone = λ disk is_open H shows. record { legal = shows.legal; forms = shows.forms; tables = it.undone_same disk is_open (picture H) (shows.tables.now, refl) };
     nothing = it.nothing;
