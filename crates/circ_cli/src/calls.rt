@@ -26,11 +26,7 @@ pub fn create<S: Start>(rt: &HostRuntime, path: &str, start: S) -> Result<FileDe
 }
 
 /// The tables of the library in the file, of whichever schema they are.
-pub fn open_any<S: Start>(
-    rt: &HostRuntime,
-    path: &str,
-    start: S,
-) -> Result<FileTables<S>, Fault> {
+pub fn open_any<S: Start>(rt: &HostRuntime, path: &str, start: S) -> Result<FileTables<S>, Fault> {
     Store::open_from(rt, path, start)
 }
 

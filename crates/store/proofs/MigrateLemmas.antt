@@ -73,9 +73,10 @@ module _ {R N : Type 0} {old : Table ℕ R} {new : Table ℕ N} {number_of : R �
           let most = last_is number_of page left.rise it.0 it.1 in
           let moved : move_all old new number_of new_number route.carried page (over_to after P) ≡ over_to (number_of it.0) P =
           all_moved page P (left_above after (old.rows P)) (carried_to route.carried after (old.rows P))
-          ∙ ap₂ (route.with_both P) (next_left number_of route.carried (old.rows P) numbered after page left it.0 most.0 most.1) (next_carried number_of route.carried (old.rows P) numbered after page left it.0 most.0 most.1) in
-          (subst (λ n. move_all old new number_of new_number route.carried page (over_to after P) ≡ over_to n P) it.2 moved,
-          subst (λ n. after < n) it.2 (left.sound it.0 (contains_had page it.0 most.0)).1)
+          ∙ ap₂ (route.with_both P) (next_left number_of route.carried (old.rows P) numbered after page left it.0 most.0 most.1) (next_carried number_of route.carried (old.rows P) numbered after page left it.0 most.0 most.1) in (
+            subst (λ n. move_all old new number_of new_number route.carried page (over_to after P) ≡ over_to n P) it.2 moved,
+            subst (λ n. after < n) it.2 (left.sound it.0 (contains_had page it.0 most.0)).1,
+          )
 
   -- Its rows lie within their limits.
   pub over_limits : (P : Picture) → InLimits P → (table : IsNumberTable old number_of) → (after : ℕ) → InLimits (over_to after P)

@@ -62,10 +62,7 @@ impl Carried for HoldRow1 {
 }
 
 /// Carries over the rows of a page. 91.
-fn carry_page<R: Carried, S: Alter>(
-    tx: &mut Transaction<'_, S>,
-    page: &[R],
-) -> Result<(), Fault>
+fn carry_page<R: Carried, S: Alter>(tx: &mut Transaction<'_, S>, page: &[R]) -> Result<(), Fault>
     ensures { DrawsInside (move_all R.table R.Next.Row.table R.number_of R.Next.Row.number_of
         R.route.carried page.now) S.Store tx.old tx.new result }
 {

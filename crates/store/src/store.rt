@@ -14,9 +14,7 @@ ghost use Rattle.circ_tables.specs.Patrons.{patrons};
 ghost use Rattle.circ_tables.specs.Loans.{loans};
 ghost use Rattle.circ_tables.specs.Holds.{holds};
 
-use crate::changing;
-use crate::migrating;
-use crate::viewing;
+use crate::{changing, migrating, viewing};
 use circ_core::{Changes, View};
 use circ_tables::{KeptReply, get_kept, get_row, schema_of, second_begin};
 use sqlite::{Alter, Connection};

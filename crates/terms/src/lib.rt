@@ -46,8 +46,8 @@ pub use reading::{read_number, read_reply};
 pub use refusal::Refusal;
 pub use reply::{Reply, Routed, reply_text};
 pub use row::{
-    BranchRow, ClosedDayRow, Condition, CopyRow, HoldRow, HoldRow1, HoldState, KeptRow, KindRow, LineRow,
-    LoanRow, MetaRow, PatronRow, RuleRow, Sort, TitleRow, TransitRow,
+    BranchRow, ClosedDayRow, Condition, CopyRow, HoldRow, HoldRow1, HoldState, KeptRow, KindRow,
+    LineRow, LoanRow, MetaRow, PatronRow, RuleRow, Sort, TitleRow, TransitRow,
 };
 pub use tables::{Rows, Tables};
 pub use text::{CardKey, Key, Name, Text};
