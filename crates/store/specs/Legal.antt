@@ -54,14 +54,14 @@ pub record HasLegalDealings (maps : Maps) : Type 0 where
   pub transits : HasLegal transits maps
   pub lines : HasLegal lines maps
 
--- Of all thirteen tables.
+-- Of all tables but the one of schema 1, which the newest leaves empty.
 pub record HasLegalTables (maps : Maps) : Type 0 where
   pub registers : HasLegalRegisters maps
   pub holdings : HasLegalHoldings maps
   pub dealings : HasLegalDealings maps
   pub kept : HasLegal kept maps
 
--- Every row of the thirteen tables is that of a row within its limits: none is damaged.
+-- Every row of these thirteen tables is that of a row within its limits: none is damaged.
 abbrev pub HasLegalRows : Database → Type 0
 HasLegalRows db = (maps : Maps) → Holds schema db maps → HasLegalTables maps
 

@@ -9,7 +9,7 @@ pub use Rattle.sqlite.specs.State.{State, HasCleanDisk}
 pub use Rattle.sqlite.specs.Store.{Ghosts}
 pub use Rattle.sqlite.specs.Steps.{over_memory}
 
--- The thirteen tables are there, whatever rows they have.
+-- The tables of the newest schema are there, whatever rows they have.
 abbrev pub HasTables : Database → Type 0
 HasTables db = (maps : Maps) × Holds schema db maps
 
