@@ -10,7 +10,7 @@ use Rattle.terms.specs.declared.row.HoldState.TheVariants.{Waiting, Ready, Fille
 use Rattle.terms.specs.declared.command.Command.{Command}
 use Rattle.terms.specs.declared.command.Command.TheVariants.{Acquire, CheckOut, CheckIn, CancelHold, Unshelve, UnshelveCancelled, Missing, Withdraw}
 use Rattle.model.specs.History.{Event, History, copy_of, CopyFacts, copies, copies_after, copy_after, holds, holds_after, next_hold, HoldFacts, hold_made, hold_of, hold_after, numbers_to}
-use Rattle.model.specs.Places.{Place, Nowhere, Shelf, HoldShelf, Transit, Loan, MissingCopy, WithdrawnCopy, place, state, place_after, state_made, line, route, route_from, route_to, state_at, is_kept_for, is_bound_for, is_waiting, is_ready, is_coming_by, title_of_hold, title_of_copy, goal_of, home_of, fills_from, fills_by, fills_first, kept_for_by, place_let_go, place_unshelved, state_unshelved}
+use Rattle.model.specs.Places.{Place, Nowhere, Shelf, HoldShelf, Transit, Loan, MissingCopy, WithdrawnCopy, place, state, place_after, state_made, line, route, route_from, route_to, state_at, is_kept_for, is_bound_for, is_waiting, is_ready, is_begun, is_coming_by, title_of_hold, title_of_copy, goal_of, home_of, fills_from, fills_by, fills_first, kept_for_by, place_let_go, place_unshelved, state_unshelved}
 use Rattle.model.specs.Refusals.{refusal, checks, is_on_hold_shelf}
 use Rattle.model.proofs.Passing.{passed}
 use Rattle.model.proofs.MadeHolds.{moves-nothing}
@@ -87,10 +87,10 @@ not-true false e = refl
 -- The first in line waits, and no copy is coming for it.
 pub line-head : (H : History) (t h : ℕ) (hs : List ℕ) → line H t ≡ h ∷ hs → (state H h ≡ Some Waiting) × (is_coming_by H (place H) (state H) h ≡ false)
 line-head H t h hs e =
-    let passes : (title_of_hold H h == t ≡ true) × ((is_waiting (state H h) && not (is_coming_by H (place H) (state H) h)) ≡ true) =
+    let passes : (title_of_hold H h == t ≡ true) × ((is_waiting (state H h) && (not (is_coming_by H (place H) (state H) h) && is_begun H h)) ≡ true) =
     both _ _ (filter-head _ (numbers_to (holds H)) h hs e) in
-    let parts : (is_waiting (state H h) ≡ true) × (not (is_coming_by H (place H) (state H) h) ≡ true) = and_parts _ _ passes.1 in
-    (waiting-is _ parts.0, not-true _ parts.1)
+    let parts : (is_waiting (state H h) ≡ true) × ((not (is_coming_by H (place H) (state H) h) && is_begun H h) ≡ true) = and_parts _ _ passes.1 in
+    (waiting-is _ parts.0, not-true _ (and_parts (not (is_coming_by H (place H) (state H) h)) (is_begun H h) parts.1).0)
 
 -- A copy that is somewhere is there.
 there : (H : History) (d : ℕ) (p : Place) → place H d ≡ p → (p ≡ Nowhere → ⊥) → IsBound H → is_none (copy_of H d) ≡ false

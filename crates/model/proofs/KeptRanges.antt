@@ -229,8 +229,8 @@ module _ (H : History) (legal : IsLegal H) (forms : HasForms H) where
   accepted-kept o (Renew l) ok changes =
       let pass = passed (checks H o (Renew l)) ok in
       (loan-number l (and_parts (is_some (loan_of H l)) (is_own H o (borrower H l)) (not-false _ pass.0)).0, renewed-kept l (due H l) (loan_of H l) pass.1.1.1.1.1.1.0)
-  accepted-kept o (PlaceHold p t b) ok changes =
-      let room : holds H < LAST_NUMBER = leb-false _ _ (passed (checks H o (PlaceHold p t b)) ok).1.1.1.1.1.1.0 in
+  accepted-kept o (PlaceHold p t b d) ok changes =
+      let room : holds H < LAST_NUMBER = leb-false _ _ (passed (checks H o (PlaceHold p t b d)) ok).1.1.1.1.1.1.1.0 in
       omega (arith, room)
   accepted-kept o (Unshelve h) ok changes = unshelved-kept h (not-false _ (passed (checks H o (Unshelve h)) ok).1.0)
   accepted-kept o (UnshelveCancelled h) ok changes = unshelved-kept h (not-false _ (passed (checks H o (UnshelveCancelled h)) ok).1.0)

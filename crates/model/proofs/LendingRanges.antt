@@ -1,5 +1,7 @@
 -- In every legal history whose commands have their forms: loans, holds and the places lie in their limits.
-use Rattle.std.proofs.Common.{◌≡◌, ℕ, ◌==◌, Bool, false, cond, [], ◌∷◌, refl, sym, ap, ◌∙◌, subst, arith}
+use Rattle.terms.specs.declared.limits.TheConstants.{LAST_TODAY}
+use Rattle.std.proofs.lemmas.Bool.{and_parts, leb-true, ltb-true}
+use Rattle.std.proofs.Common.{◌≡◌, ℕ, ◌==◌, Bool, false, cond, [], ◌∷◌, refl, sym, ap, ◌∙◌, subst, arith, IfSome, nat_lt, nat_le, ◌<◌, ◌≤◌}
 use Rattle.std.specs.Prelude.{Option, Some, None, is_none, option_map, option_and_then, unwrap_or}
 use Rattle.std.specs.Option.{option_or}
 use Rattle.calendar.specs.Days.{IsDayNumber}
@@ -11,7 +13,7 @@ use Rattle.model.specs.History.{History, today, Terms, rule_of, PatronFacts, pat
 use Rattle.model.specs.Places.{Place, Shelf, HoldShelf, Transit, Loan, place, state, route_by, goal_of, home_of}
 use Rattle.model.specs.Loans.{LoanFacts, loan_of, loan_after, ended, ended_after, is_loan_of_copy, terms_for, no_terms}
 use Rattle.model.specs.Invariant.{Invariant}
-use Rattle.model.specs.Refusals.{refusal, checks}
+use Rattle.model.specs.Refusals.{refusal, checks, is_bad_first_day}
 use Rattle.model.specs.Requests.{IsLegal}
 use Rattle.model.specs.Forms.{HasForms}
 use Rattle.model.proofs.Passing.{passed}
@@ -26,7 +28,7 @@ abbrev LoanIn : LoanFacts → Type 0
 LoanIn r = IsLarge r.copy × IsLarge r.patron × IsSmall r.branch × IsDayNumber r.made × TermsIn r.terms
 
 abbrev HoldIn : HoldFacts → Type 0
-HoldIn r = IsLarge r.patron × IsLarge r.title × IsSmall r.branch
+HoldIn r = IsLarge r.patron × IsLarge r.title × IsSmall r.branch × IfSome r.first_day IsDayNumber
 
 -- The branch, the hold or the loan of a place lies in its limits.
 abbrev pub PlaceIn : Place → Type 0
@@ -88,6 +90,15 @@ module _ (H : History) (inv : Invariant H) (settings : SettingRanges H) (before 
   ends-step (Missing c) l d e = ended-now l c d e
   ends-step _ l d e = before.ends l d e
 
+  -- A first day that a hold is to have is a day of the calendar.
+  first_day-in : (d : Option ℕ) → is_bad_first_day H d ≡ false → IfSome d IsDayNumber
+  first_day-in None ok = tt
+  first_day-in (Some d) ok =
+      let pass = and_parts (nat_lt (today H) d) (nat_le d LAST_TODAY) (not-false _ ok) in
+      let later : today H < d = ltb-true _ _ pass.0 in
+      let low : d ≤ LAST_TODAY = leb-true _ _ pass.1 in
+      (omega (arith, inv.today_from, later), omega (arith, low))
+
   holds-step : (x : Command) (made : Option HoldFacts) → hold_made x ≡ made → refusal H o x ≡ None → (h : ℕ) (r : HoldFacts) → hold_after H made h (hold_of H h) ≡ Some r → HoldIn r
   holds-step x (Some made) is ok h r e =
       let pass = placeable H o x made ok is in
@@ -95,7 +106,7 @@ module _ (H : History) (inv : Invariant H) (settings : SettingRanges H) (before 
       let title = there-not (title_of H made.title) pass.title in
       let branch = there _ (not-false _ pass.branch) in
       set-if HoldIn (next_hold H == h) made (hold_of H h)
-      (λ _. ((settings.patrons made.patron patron.0 patron.1).0, (settings.titles made.title title.0 title.1).0, (settings.branches made.branch branch.0 branch.1).0)) (before.holds h) r e
+      (λ _. ((settings.patrons made.patron patron.0 patron.1).0, (settings.titles made.title title.0 title.1).0, (settings.branches made.branch branch.0 branch.1).0, first_day-in made.first_day pass.later)) (before.holds h) r e
     where
       there-not : {A : Type 0} (y : Option A) → is_none y ≡ false → (x : A) × (y ≡ Some x)
       there-not (Some x) f = (x, refl)

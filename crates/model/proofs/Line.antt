@@ -1,15 +1,16 @@
 -- A hold that an accepted command takes out of its title's line otherwise than by cancelling was the first of that line.
-use Rattle.std.proofs.Common.{◌≡◌, ℕ, ◌==◌, Bool, true, false, ◌||◌, ◌⊎◌, ◌≢◌, inl, inr, List, [], ◌∷◌, refl, sym, ◌∙◌, ap, subst, cond, not, ◌&&◌, ◌≤◌, arith}
-use Rattle.std.specs.Prelude.{Option, Some, None, is_none, unwrap_or, option_map}
+use Rattle.std.proofs.Common.{◌≡◌, ℕ, ◌==◌, Bool, true, false, ◌||◌, ◌⊎◌, ◌≢◌, inl, inr, List, [], ◌∷◌, refl, sym, ◌∙◌, ap, subst, cond, not, ◌&&◌, ◌≤◌, ◌<◌, nat_lt, nat_le, le-leb, arith}
+use Rattle.std.specs.Prelude.{Option, Some, None, is_none, unwrap_or, option_map, option_and_then}
 use Rattle.std.specs.List.{list_any}
-use Rattle.std.proofs.lemmas.Bool.{eqb-true, eq-eqb, and_parts}
+use Rattle.std.proofs.lemmas.Bool.{eqb-true, eq-eqb, leb-true, ltb-true, and_parts}
+use Rattle.terms.specs.declared.limits.TheConstants.{LAST_TODAY}
 use Rattle.terms.specs.declared.command.Owner.{Owner}
 use Rattle.terms.specs.declared.row.HoldState.{HoldState}
 use Rattle.terms.specs.declared.row.HoldState.TheVariants.{Waiting, Ready, Filled, Cancelled, Expired}
 use Rattle.terms.specs.declared.command.Command.{Command}
-use Rattle.terms.specs.declared.command.Command.TheVariants.{Acquire, CheckOut, CheckIn, CancelHold, Unshelve, UnshelveCancelled, Missing, Withdraw}
-use Rattle.model.specs.History.{Event, History, copies, copies_after, copy_of, next_hold, HoldFacts, hold_made, hold_of, hold_after, holds, holds_after, numbers_to}
-use Rattle.model.specs.Places.{Place, Nowhere, Shelf, HoldShelf, Transit, Loan, MissingCopy, WithdrawnCopy, place, state, line, route, route_to, route_from, is_kept_for, is_bound_for, is_coming, is_waiting, title_of_hold, title_of_copy, goal_of, home_of, fills_from, fills_by, fills_first, kept_for_by, place_let_go, place_unshelved, place_after, state_unshelved, state_made}
+use Rattle.terms.specs.declared.command.Command.TheVariants.{Acquire, CheckOut, CheckIn, BeginDay, CancelHold, Unshelve, UnshelveCancelled, Missing, Withdraw}
+use Rattle.model.specs.History.{Event, History, today, today_after, has_begun, copies, copies_after, copy_of, next_hold, HoldFacts, hold_made, hold_of, hold_after, holds, holds_after, numbers_to}
+use Rattle.model.specs.Places.{Place, Nowhere, Shelf, HoldShelf, Transit, Loan, MissingCopy, WithdrawnCopy, place, state, line, route, route_to, route_from, is_kept_for, is_bound_for, is_coming, is_waiting, is_begun, first_day_of, title_of_hold, title_of_copy, goal_of, home_of, fills_from, fills_by, fills_first, kept_for_by, place_let_go, place_unshelved, place_after, state_unshelved, state_made}
 use Rattle.model.specs.Refusals.{refusal, checks}
 use Rattle.model.proofs.Passing.{passed}
 use Rattle.model.proofs.MadeHolds.{moves-nothing}
@@ -22,10 +23,15 @@ use Rattle.model.proofs.Legal.{legal-bound, some-none}
 use Rattle.model.proofs.LoanLaws.{legal-LoanLaws}
 use Rattle.model.proofs.Members.{filter-passes, filter-has, numbers-has}
 
--- The hold stands in line: it waits, and isn't coming.
-pub record StandsInLine (H : History) (h : ℕ) : Type 0 where
+-- The hold waits, and isn't coming.
+pub record WaitsForCopy (H : History) (h : ℕ) : Type 0 where
   pub waits : state H h ≡ Some Waiting
   pub uncoming : is_coming H h ≡ false
+
+-- The hold stands in line: it waits, isn't coming, and has begun.
+pub record StandsInLine (H : History) (h : ℕ) : Type 0 where
+  pub waits : WaitsForCopy H h
+  pub begun : is_begun H h ≡ true
 
 -- The hold is the first of some line.
 abbrev pub IsFirstInLine : History → ℕ → Type 0
@@ -52,7 +58,7 @@ route_from-serves H n b h (Transit g (Some j)) at s = inl (rw at (go (g == b) s)
     go false s = s
 route_from-serves H n b h _ at s = inr (route_to-serves H n b h (line H (title_of_copy H n)) refl s)
 
-module _ (H : History) (h : ℕ) (inv : IsBound H) (stands : StandsInLine H h) where
+module _ (H : History) (h : ℕ) (inv : IsBound H) (stands : WaitsForCopy H h) where
   nobody : (d : ℕ) → Serves (place H d) h → ⊥
   nobody d s = unserved H h d inv stands.waits stands.uncoming s
 
@@ -99,7 +105,7 @@ module _ (H : History) (h : ℕ) (inv : IsBound H) (stands : StandsInLine H h) w
   fills-first n p _ at e = let never : ⊥ = cc in absurd never
 
   abbrev Next : Owner → List ℕ → Command → Type 0
-  Next o k c = StandsInLine (event o k c ∷ H) h ⊎ IsFirstInLine H h
+  Next o k c = WaitsForCopy (event o k c ∷ H) h ⊎ IsFirstInLine H h
 
   -- h stands in line after a command and the hold that it makes.
   abbrev StandsAfter : Command → Option HoldFacts → Type 0
@@ -152,14 +158,14 @@ module _ (H : History) (h : ℕ) (inv : IsBound H) (stands : StandsInLine H h) w
       go (inl off) = inl (record { waits = arrived-waits (route H n b) off; uncoming = quiet (copies H) _ (move-quiet n (route H n b) off) })
       go (inr first) = inr first
 
-  missing-line : (o : Owner) (k : List ℕ) (n : ℕ) → StandsInLine (event o k (Missing n) ∷ H) h
+  missing-line : (o : Owner) (k : List ℕ) (n : ℕ) → WaitsForCopy (event o k (Missing n) ∷ H) h
   missing-line o k n = record { waits = stays (is_kept_for (place H n) h); uncoming = quiet (copies H) _ (move-quiet n MissingCopy (λ s. s)) }
     where
       stays : (x : Bool) → left (state H h) Waiting x ≡ Some Waiting
       stays true = refl
       stays false = stands.waits
 
-  acquire-line : (o : Owner) (k : List ℕ) (n t kind home price : ℕ) (text : List ℕ) → StandsInLine (event o k (Acquire n t kind home price text) ∷ H) h
+  acquire-line : (o : Owner) (k : List ℕ) (n t kind home price : ℕ) (text : List ℕ) → WaitsForCopy (event o k (Acquire n t kind home price text) ∷ H) h
   acquire-line o k n t kind home price text = record { waits = stands.waits; uncoming = quiet (copies (event o k (Acquire n t kind home price text) ∷ H)) _ (λ c s. none c (is_none (copy_of H n)) s) }
     where
       none : (c : ℕ) (x : Bool) → Serves (elim x as (λ _. Place) [ true ↦ moved n (Shelf home) (place H) c | false ↦ place H c ]) h → ⊥
@@ -178,7 +184,7 @@ module _ (H : History) (h : ℕ) (inv : IsBound H) (stands : StandsInLine H h) w
       stays true = refl
       stays false = stands.waits
 
-  cancel-line : (o : Owner) (k : List ℕ) (g : ℕ) → (g == h) ≡ false → StandsInLine (event o k (CancelHold g) ∷ H) h
+  cancel-line : (o : Owner) (k : List ℕ) (g : ℕ) → (g == h) ≡ false → WaitsForCopy (event o k (CancelHold g) ∷ H) h
   cancel-line o k g other = record { waits = stays (g == h) other; uncoming = quiet (copies H) _ (λ c s. nobody c (before (place H c) s)) }
     where
       stays : (x : Bool) → x ≡ false → left (state H h) Cancelled x ≡ Some Waiting
@@ -266,35 +272,52 @@ module _ (H : History) (h : ℕ) (inv : IsBound H) (stands : StandsInLine H h) w
 
 -- ---- the law
 
-title-kept : (H : History) (made : Option HoldFacts) (h : ℕ) → h ≤ holds H → hold_after H made h (hold_of H h) ≡ hold_of H h
-title-kept H (Some made) h old = go (next_hold H == h) refl
+hold-kept : (H : History) (made : Option HoldFacts) (h : ℕ) → h ≤ holds H → hold_after H made h (hold_of H h) ≡ hold_of H h
+hold-kept H (Some made) h old = go (next_hold H == h) refl
   where
     go : (x : Bool) → (next_hold H == h) ≡ x → cond x (Some made) (hold_of H h) ≡ hold_of H h
     go true e = let same : next_hold H ≡ h = eqb-true (next_hold H) h e in let never : ⊥ = omega (arith, same, old) in absurd never
     go false e = refl
-title-kept H None h old = refl
+hold-kept H None h old = refl
 
 holds-grow : (made : Option HoldFacts) (n : ℕ) → n ≤ holds_after made n
 holds-grow (Some made) n = omega arith
 holds-grow None n = omega arith
 
+-- Days go on, so the first day of a hold that has come has come for good.
+day-goes-on : (o : Owner) (c : Command) (H : History) → refusal H o c ≡ None → today H ≤ today_after c (today H)
+day-goes-on o (BeginDay d) H ok =
+    let pass = and_parts (nat_lt (today H) d) (nat_le d LAST_TODAY) (not-false _ (passed (checks H o (BeginDay d)) ok).0) in
+    let later : today H < d = ltb-true _ _ pass.0 in omega (arith, later)
+day-goes-on o _ H ok = omega arith
+
+begun-later : (day later : ℕ) (first_day : Option ℕ) → day ≤ later → has_begun day first_day ≡ true → has_begun later first_day ≡ true
+begun-later day later None le begun = refl
+begun-later day later (Some d) le begun = let came : d ≤ day = leb-true d day begun in le-leb d later (omega (arith, came, le))
+
+stays-begun : (e : Event) (H : History) (h : ℕ) → refusal H e.owner e.command ≡ None → h ≤ holds H → is_begun H h ≡ true → is_begun (e ∷ H) h ≡ true
+stays-begun e H h ok old begun =
+    ap (λ o. has_begun (today (e ∷ H)) (option_and_then (λ r. r.first_day) o)) (hold-kept H (hold_made e.command) h old)
+    ∙ begun-later (today H) (today (e ∷ H)) (first_day_of H h) (day-goes-on e.owner e.command H ok) begun
+
 in-line : (H : History) (t h : ℕ) → stands_in_line H t h ≡ true → (title_of_hold H h ≡ t) × StandsInLine H h
 in-line H t h e =
-    let parts : ((title_of_hold H h == t) ≡ true) × ((is_waiting (state H h) && not (is_coming H h)) ≡ true) = both _ _ (filter-passes _ h (numbers_to (holds H)) e) in
-    let stands : (is_waiting (state H h) ≡ true) × (not (is_coming H h) ≡ true) = and_parts _ _ parts.1 in
-    (eqb-true _ _ parts.0, record { waits = waiting-is _ stands.0; uncoming = not-true _ stands.1 })
+    let parts : ((title_of_hold H h == t) ≡ true) × ((is_waiting (state H h) && (not (is_coming H h) && is_begun H h)) ≡ true) = both _ _ (filter-passes _ h (numbers_to (holds H)) e) in
+    let stands : (is_waiting (state H h) ≡ true) × ((not (is_coming H h) && is_begun H h) ≡ true) = and_parts _ _ parts.1 in
+    let free : (not (is_coming H h) ≡ true) × (is_begun H h ≡ true) = and_parts _ _ stands.1 in
+    (eqb-true _ _ parts.0, record { waits = record { waits = waiting-is _ stands.0; uncoming = not-true _ free.0 }; begun = free.1 })
 
 line-in : (H : History) (t h : ℕ) → 1 ≤ h → h ≤ holds H → title_of_hold H h ≡ t → StandsInLine H h → stands_in_line H t h ≡ true
 line-in H t h low high title stands =
-    let test : (elim (title_of_hold H h == t) as (λ _. Bool) [ true ↦ is_waiting (state H h) && not (is_coming H h) | false ↦ false ]) ≡ true =
-    ap (λ x. elim x as (λ _. Bool) [ true ↦ is_waiting (state H h) && not (is_coming H h) | false ↦ false ]) (eq-eqb _ _ title)
-    ∙ ap (λ x. is_waiting x && not (is_coming H h)) stands.waits ∙ ap not stands.uncoming in
-    filter-has (λ g. elim (title_of_hold H g == t) as (λ _. Bool) [ true ↦ is_waiting (state H g) && not (is_coming H g) | false ↦ false ]) h (numbers_to (holds H)) test (numbers-has (holds H) h low high)
+    let test : (elim (title_of_hold H h == t) as (λ _. Bool) [ true ↦ is_waiting (state H h) && (not (is_coming H h) && is_begun H h) | false ↦ false ]) ≡ true =
+    ap (λ x. elim x as (λ _. Bool) [ true ↦ is_waiting (state H h) && (not (is_coming H h) && is_begun H h) | false ↦ false ]) (eq-eqb _ _ title)
+    ∙ ap (λ x. is_waiting x && (not (is_coming H h) && is_begun H h)) stands.waits.waits ∙ ap (λ x. not x && is_begun H h) stands.waits.uncoming ∙ stands.begun in
+    filter-has (λ g. elim (title_of_hold H g == t) as (λ _. Bool) [ true ↦ is_waiting (state H g) && (not (is_coming H g) && is_begun H g) | false ↦ false ]) h (numbers_to (holds H)) test (numbers-has (holds H) h low high)
 
 -- Who leaves a line otherwise than by cancelling was its first.
 pub served-first : (e : Event) (H : History) (t h : ℕ) → IsLegal (e ∷ H) → e.command ≢ CancelHold h
     → stands_in_line H t h ≡ true → stands_in_line (e ∷ H) t h ≡ false → (hs : List ℕ) × (line H t ≡ h ∷ hs)
-served-first e H t h legal other before gone = go (event-line H h bound was.1 e.owner e.key e.command legal.0.unrefused other)
+served-first e H t h legal other before gone = go (event-line H h bound was.1.waits e.owner e.key e.command legal.0.unrefused other)
   where
     bound : IsBound H
     bound = legal-bound H legal.1
@@ -304,16 +327,16 @@ served-first e H t h legal other before gone = go (event-line H h bound was.1 e.
 
     placed : (o : Option HoldFacts) → hold_of H h ≡ o → (1 ≤ h) × (h ≤ holds H)
     placed (Some r) f = (legal-LoanLaws H legal.1).made_hold h r f
-    placed None f = absurd (some-none _ Waiting was.1.waits (bound.unplaced h f))
+    placed None f = absurd (some-none _ Waiting was.1.waits.waits (bound.unplaced h f))
 
     made : (1 ≤ h) × (h ≤ holds H)
     made = placed (hold_of H h) refl
 
-    go : StandsInLine (e ∷ H) h ⊎ IsFirstInLine H h → (hs : List ℕ) × (line H t ≡ h ∷ hs)
+    go : WaitsForCopy (e ∷ H) h ⊎ IsFirstInLine H h → (hs : List ℕ) × (line H t ≡ h ∷ hs)
     go (inl still) =
-        let title : title_of_hold (e ∷ H) h ≡ t = ap (λ o. unwrap_or (option_map (λ r. r.title) o) 0) (title-kept H (hold_made e.command) h made.1) ∙ was.0 in
+        let title : title_of_hold (e ∷ H) h ≡ t = ap (λ o. unwrap_or (option_map (λ r. r.title) o) 0) (hold-kept H (hold_made e.command) h made.1) ∙ was.0 in
         let grow : holds H ≤ holds_after (hold_made e.command) (holds H) = holds-grow (hold_made e.command) (holds H) in
-        let stays : stands_in_line (e ∷ H) t h ≡ true = line-in (e ∷ H) t h made.0 (omega (arith, made.1, grow)) title still in
+        let stays : stands_in_line (e ∷ H) t h ≡ true = line-in (e ∷ H) t h made.0 (omega (arith, made.1, grow)) title (record { waits = still; begun = stays-begun e H h legal.0.unrefused made.1 was.1.begun }) in
         absurd (clash _ stays gone)
     go (inr first) =
         let title : title_of_hold H h ≡ first.0 = eqb-true _ _ (both _ _ (filter-head _ (numbers_to (holds H)) h first.1 first.2)).0 in

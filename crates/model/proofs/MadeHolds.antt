@@ -8,7 +8,7 @@ use Rattle.terms.specs.declared.command.Command.TheVariants.{Acquire, CheckOut, 
 use Rattle.model.specs.History.{History, title_of, copy_of, copy_after, copies, copies_after, HoldFacts, hold_made, holds}
 use Rattle.model.specs.Places.{place, state, place_after, limit_after}
 use Rattle.model.specs.DueDays.{comes_to_shelf}
-use Rattle.model.specs.Refusals.{refusal, checks, has_patron, has_branch}
+use Rattle.model.specs.Refusals.{refusal, checks, has_patron, has_branch, is_bad_first_day}
 use Rattle.model.proofs.Passing.{passed}
 
 -- The checks that a command passed which makes this hold, whichever command it is.
@@ -16,13 +16,14 @@ pub record IsPlaceable (H : History) (made : HoldFacts) : Type 0 where
   pub patron : not (has_patron H made.patron) ≡ false
   pub title : is_none (title_of H made.title) ≡ false
   pub branch : not (has_branch H made.branch) ≡ false
+  pub later : is_bad_first_day H made.first_day ≡ false
   pub room : nat_le LAST_NUMBER (holds H) ≡ false
 
 pub placeable : (H : History) (o : Owner) (c : Command) (made : HoldFacts) → refusal H o c ≡ None → hold_made c ≡ Some made → IsPlaceable H made
-placeable H o (PlaceHold p t b) made ok e =
-    let pass = passed (checks H o (PlaceHold p t b)) ok in
-    let same : ◌≡◌ {A = HoldFacts} (record { patron = p; title = t; branch = b }) made = cc in
-    subst (IsPlaceable H) same (record { patron = pass.0; title = pass.1.0; branch = pass.1.1.0; room = pass.1.1.1.1.1.1.0 })
+placeable H o (PlaceHold p t b d) made ok e =
+    let pass = passed (checks H o (PlaceHold p t b d)) ok in
+    let same : ◌≡◌ {A = HoldFacts} (record { patron = p; title = t; branch = b; first_day = d }) made = cc in
+    subst (IsPlaceable H) same (record { patron = pass.0; title = pass.1.0; branch = pass.1.1.0; later = pass.1.1.1.0; room = pass.1.1.1.1.1.1.1.0 })
 placeable H o _ made ok e = let never : ⊥ = cc in absurd never
 
 -- The command moves no copy, and sets no shelf limit.

@@ -1,7 +1,7 @@
 -- What holds of the place of every copy, command after command, if it holds where routing can send
 -- one.
 use Rattle.terms.specs.declared.limits.TheConstants.{LAST_NUMBER}
-use Rattle.std.proofs.Common.{◌≡◌, ℕ, ◌<◌, ◌==◌, Bool, true, false, not, List, [], ◌∷◌, refl, subst}
+use Rattle.std.proofs.Common.{◌≡◌, ℕ, ◌<◌, ◌==◌, Bool, true, false, not, List, [], ◌∷◌, refl, subst, ◌&&◌}
 use Rattle.std.specs.Prelude.{Option, Some, None, is_none}
 use Rattle.std.proofs.lemmas.Bool.{and_parts, eqb-true, leb-false}
 use Rattle.terms.specs.declared.command.Owner.{Owner}
@@ -9,7 +9,7 @@ use Rattle.terms.specs.declared.command.Command.{Command}
 use Rattle.terms.specs.declared.command.Command.TheVariants.{Acquire, CheckOut, CheckIn, CancelHold, Unshelve, UnshelveCancelled, Missing, Withdraw}
 use Rattle.terms.specs.declared.row.HoldState.TheVariants.{Waiting}
 use Rattle.model.specs.History.{History, numbers_to, BranchFacts, branch_of, CopyFacts, copy_of, loans, next_loan, HoldFacts, hold_of, holds}
-use Rattle.model.specs.Places.{Place, Nowhere, Shelf, HoldShelf, Transit, Loan, MissingCopy, WithdrawnCopy, place, state, place_after, place_let_go, place_unshelved, is_kept_for, is_waiting, is_coming_by, line_by, route_by, route_from, route_to, goal_of, home_of, title_of_copy}
+use Rattle.model.specs.Places.{Place, Nowhere, Shelf, HoldShelf, Transit, Loan, MissingCopy, WithdrawnCopy, place, state, place_after, place_let_go, place_unshelved, is_kept_for, is_waiting, is_begun, is_coming_by, line_by, route_by, route_from, route_to, goal_of, home_of, title_of_copy}
 use Rattle.model.specs.Invariant.{Invariant}
 use Rattle.model.specs.Refusals.{refusal, checks}
 use Rattle.model.proofs.Passing.{passed}
@@ -46,8 +46,8 @@ module _ (H : History) (inv : Invariant H) (P : Place
       → P (HoldShelf h) × P (Transit (goal_of H h) (Some h))
   first-keeps t h hs e =
       let test = both _ _ (filter-head _ (numbers_to (holds H)) h hs e) in
-      let waits = (and_parts (is_waiting (state H h)) (not (is_coming_by H (place H)
-      (state H) h)) test.1).0 in
+      let waits = (and_parts (is_waiting (state H h))
+      (not (is_coming_by H (place H) (state H) h) && is_begun H h) test.1).0 in
       let hold = inv.placed h Waiting (waiting-is (state H h) waits) in
       keeps.to_hold h hold.0 hold.1
 

@@ -154,7 +154,7 @@ module _ (H : History) (legal : IsLegal H) (forms : HasForms H) where
       let f = lending.holds h m.1 m.3 in
       let made = inv.made_hold h m.1 m.3 in
       subst (λ q. (q.hold ≡ h) × IsHold q) m.4
-      (refl, ((made.0, omega (arith, made.1, inv.holds_left)), f.0, f.1, f.2, kept-in h m.0, limit_day-in h m.0 m.2, tt))
+      (refl, ((made.0, omega (arith, made.1, inv.holds_left)), f.0, f.1, f.2, kept-in h m.0, limit_day-in h m.0 m.2, f.3))
 
   transit-in : (c : ℕ) (r : TransitRow) → (picture H).transits c ≡ Some r → (r.copy ≡ c) × IsTransit r
   transit-in c r e = go (place H c) refl (lending.places c) e

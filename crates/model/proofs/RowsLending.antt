@@ -1,5 +1,5 @@
 -- Worked examples of lending: due days, renewals, fines, accounts and keys.
-use Rattle.std.specs.Prelude.{◌≡◌, List, [], ◌∷◌, ◌++◌, length, codes, refl}
+use Rattle.std.specs.Prelude.{◌≡◌, List, [], ◌∷◌, ◌++◌, length, codes, refl, None}
 use Rattle.std.specs.Fmt.{digits}
 use Rattle.terms.specs.declared.command.Command.TheVariants.{BeginDay, Branch, Week, CloseDay, OpenDay, Kind, Rule, Acquire, CheckOut, CheckIn, Renew, PlaceHold, CancelHold, Missing, Withdraw, Pay, Waive, Page}
 use Rattle.terms.specs.declared.command.Request.{Request}
@@ -61,7 +61,7 @@ bad_settings_change_nothing = refl
 
 -- A renewal is refused while somebody stands in line, and begins at the old due day.
 renewal_waits_for_the_line : Gives ground
-    (desk (CheckOut 1 10 1 ∷ PlaceHold 2 100 1 ∷ Renew 1 ∷ CheckIn 11 2 ∷ Renew 1 ∷ Renew 1 ∷ []))
+    (desk (CheckOut 1 10 1 ∷ PlaceHold 2 100 1 None ∷ Renew 1 ∷ CheckIn 11 2 ∷ Renew 1 ∷ Renew 1 ∷ []))
     ("loan 1 due 2026-03-09" ∷ "hold 1" ∷ "refused 36" ∷ "fine 0 transit 1 for 1" ∷ "loan 1 due 2026-03-16" ∷ "refused 42" ∷ [])
 unfolding digits reply_text reply_words routed_words
 renewal_waits_for_the_line = gives refl
@@ -143,7 +143,7 @@ opened_day_counts_again = gives refl
 
 -- An overdue loan isn't renewed, whoever stands in line.
 overdue_loan_is_not_renewed : Gives ground
-    (desk (CheckOut 1 10 1 ∷ BeginDay 20522 ∷ PlaceHold 2 100 1 ∷ Renew 1 ∷ []))
+    (desk (CheckOut 1 10 1 ∷ BeginDay 20522 ∷ PlaceHold 2 100 1 None ∷ Renew 1 ∷ []))
     ("loan 1 due 2026-03-09" ∷ "ok" ∷ "hold 1" ∷ "refused 41" ∷ [])
 unfolding digits reply_text reply_words routed_words
 overdue_loan_is_not_renewed = gives refl
@@ -158,7 +158,7 @@ ended_loan_is_not_renewed = gives refl
 -- Another patron's loan or hold is unknown to a patron, and another's number is not allowed.
 patrons_see_their_own : Gives ground
     (by_desk (codes "k0") (CheckOut 1 10 1) ∷ by_patron 2 (codes "k1") (Renew 1) ∷ by_patron 1 (codes "k2") (Renew 1) ∷ by_patron 2 (codes "k3") (Page 1)
-    ∷ by_patron 1 (codes "k4") (PlaceHold 1 200 1) ∷ by_patron 2 (codes "k5") (CancelHold 1) ∷ by_patron 1 (codes "k6") (CancelHold 1) ∷ [])
+    ∷ by_patron 1 (codes "k4") (PlaceHold 1 200 1 None) ∷ by_patron 2 (codes "k5") (CancelHold 1) ∷ by_patron 1 (codes "k6") (CancelHold 1) ∷ [])
     ("loan 1 due 2026-03-09" ∷ "refused 14" ∷ "loan 1 due 2026-03-16" ∷ "refused 81" ∷ "hold 1" ∷ "refused 15" ∷ "ok" ∷ [])
 unfolding digits reply_text reply_words routed_words
 patrons_see_their_own = gives refl

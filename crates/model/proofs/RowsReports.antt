@@ -1,5 +1,5 @@
 -- Worked examples of pages and reports.
-use Rattle.std.specs.Prelude.{◌≡◌, [], ◌∷◌, ◌++◌, map, codes, refl}
+use Rattle.std.specs.Prelude.{◌≡◌, [], ◌∷◌, ◌++◌, map, codes, refl, None}
 use Rattle.std.specs.Fmt.{digits}
 use Rattle.calendar.specs.Days.{day_text, civil_of}
 use Rattle.terms.specs.declared.command.Command.TheVariants.{BeginDay, CloseDay, OpenDay, CheckOut, CheckIn, PlaceHold, Pay, Waive}
@@ -15,12 +15,12 @@ unfolding digits day_text civil_of
 page_shows_loans = refl
 
 -- A page with a hold, and another patron's as before.
-page_shows_holds : page (after ground (by_patron 2 (codes "h1") (PlaceHold 2 100 1) ∷ [])) 2
+page_shows_holds : page (after ground (by_patron 2 (codes "h1") (PlaceHold 2 100 1 None) ∷ [])) 2
     ≡ codes "patron 2 owed 0 name Bo Carr" ++ 10 ∷ codes "hold 1 at 1 waiting title 100 Rivers of the North"
 unfolding digits
 page_shows_holds = refl
 
-page_of_another_is_as_before : page (after ground (by_patron 2 (codes "h1") (PlaceHold 2 100 1) ∷ [])) 1 ≡ codes "patron 1 owed 0 name Ann Bell"
+page_of_another_is_as_before : page (after ground (by_patron 2 (codes "h1") (PlaceHold 2 100 1 None) ∷ [])) 1 ≡ codes "patron 1 owed 0 name Ann Bell"
 unfolding digits
 page_of_another_is_as_before = refl
 
@@ -56,7 +56,7 @@ unfolding digits day_text civil_of
 till_report_of_payments = refl
 
 -- One ready hold.
-shelf_report : shelf (after ground (desk (PlaceHold 2 100 1 ∷ PlaceHold 3 100 1 ∷ CheckIn 10 1 ∷ []))) 1
+shelf_report : shelf (after ground (desk (PlaceHold 2 100 1 None ∷ PlaceHold 3 100 1 None ∷ CheckIn 10 1 ∷ []))) 1
     ≡ report_lines (map codes (
     "      hold    copy  patron until      title"
     ∷ "         1      10       2 2026-03-07 Rivers of the North"

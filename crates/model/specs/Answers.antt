@@ -35,7 +35,7 @@ abbrev pub accepted : History → Command → Reply
 accepted H (CheckOut p c b) = Lent (next_loan H) (unwrap_or (first_due H p c b) 0)
 accepted H (CheckIn c b) = CheckedIn (fine_at H (place H c)) (routed H (route H c b))
 accepted H (Renew l) = Lent l (unwrap_or (renewed_due H l (due H l)) 0)
-accepted H (PlaceHold p t b) = Held (next_hold H)
+accepted H (PlaceHold p t b d) = Held (next_hold H)
 accepted H (Unshelve h) = Moved (unshelved H h)
 accepted H (UnshelveCancelled h) = Moved (unshelved H h)
 accepted H (Missing c) = missed H c (place H c)

@@ -1,6 +1,6 @@
 -- The list of accepted events, the newest first, and what its commands have set.
 use Rattle.calendar.specs.declared.limits.TheConstants.{FIRST_DAY}
-use Rattle.std.specs.Prelude.{ℕ, zero, suc, ◌+◌, ◌==◌, Bool, false, ◌&&◌, not, if◌then◌else◌, List, [], ◌∷◌, ◌++◌, filter, Option, Some, None, is_none, replicate}
+use Rattle.std.specs.Prelude.{ℕ, zero, suc, ◌+◌, ◌==◌, nat_le, Bool, true, false, ◌&&◌, not, if◌then◌else◌, List, [], ◌∷◌, ◌++◌, filter, Option, Some, None, is_none, replicate}
 use Rattle.std.specs.Option.{option_or}
 use Rattle.terms.specs.declared.command.Owner.{Owner}
 use Rattle.terms.specs.declared.command.Command.{Command}
@@ -181,15 +181,21 @@ loans (e ∷ H) = loans_after e.command (loans H)
 abbrev pub next_loan : History → ℕ
 next_loan H = loans H + 1
 
--- A hold: who placed it, on which title, and where it is to be picked up.
+-- A hold: who placed it, on which title, where it is to be picked up, and from which day on, if it isn't wanted at once.
 pub record HoldFacts : Type 0 where
   pub patron : ℕ
   pub title : ℕ
   pub branch : ℕ
+  pub first_day : Option ℕ
+
+-- A hold without a first day has begun at once, and any other on its first day.
+abbrev pub has_begun : ℕ → Option ℕ → Bool
+has_begun today None = true
+has_begun today (Some day) = nat_le day today
 
 -- The hold that a command makes.
 abbrev pub hold_made : Command → Option HoldFacts
-hold_made (PlaceHold p t b) = Some (record { patron = p; title = t; branch = b })
+hold_made (PlaceHold p t b d) = Some (record { patron = p; title = t; branch = b; first_day = d })
 hold_made _ = None
 
 -- One hold more, where one is made.

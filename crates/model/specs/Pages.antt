@@ -1,9 +1,9 @@
 -- The page of a patron.
-use Rattle.std.specs.Prelude.{ℕ, if◌then◌else◌, List, [], ◌∷◌, ◌++◌, map, codes, decimal, option_map, unwrap_or}
+use Rattle.std.specs.Prelude.{ℕ, Bool, true, false, List, [], ◌∷◌, ◌++◌, map, codes, decimal, Option, Some, None, option_map, unwrap_or}
 use Rattle.std.specs.List.{join_with_byte}
 use Rattle.calendar.specs.Days.{day_text}
 use Rattle.model.specs.History.{History, patron_of, title_of}
-use Rattle.model.specs.Places.{state, is_ready, goal_of, title_of_hold}
+use Rattle.model.specs.Places.{state, is_ready, goal_of, title_of_hold, first_day_of}
 use Rattle.model.specs.Loans.{due, renewals_left, open_loans, title_of_loan}
 use Rattle.model.specs.Accounts.{owed}
 use Rattle.model.specs.Refusals.{active_holds}
@@ -33,10 +33,20 @@ abbrev pub loan_line : History → ℕ → List ℕ
 loan_line H l =
     spaced (codes "loan" ∷ decimal l ∷ codes "due" ∷ day_text (due H l) ∷ codes "renewals" ∷ decimal (renewals_left H l) ∷ title_words H (title_of_loan H l))
 
+-- How a hold waits: from its first day on, where it has one, before and after that day.
+abbrev pub waiting_words : Option ℕ → List (List ℕ)
+waiting_words None = codes "waiting" ∷ []
+waiting_words (Some d) = codes "waiting" ∷ codes "from" ∷ day_text d ∷ []
+
+-- How an active hold stands: it is ready, or it waits.
+abbrev pub standing_words : Bool → Option ℕ → List (List ℕ)
+standing_words true first_day = codes "ready" ∷ []
+standing_words false first_day = waiting_words first_day
+
 -- The line of an active hold. A hold that is coming is shown as waiting.
 abbrev pub hold_line : History → ℕ → List ℕ
 hold_line H h =
-    spaced (codes "hold" ∷ decimal h ∷ codes "at" ∷ decimal (goal_of H h) ∷ (if is_ready (state H h) then codes "ready" else codes "waiting") ∷ title_words H (title_of_hold H h))
+    spaced (codes "hold" ∷ decimal h ∷ codes "at" ∷ decimal (goal_of H h) ∷ standing_words (is_ready (state H h)) (first_day_of H h) ++ title_words H (title_of_hold H h))
 
 -- The page: the patron's own line, then the open loans, then the active holds, parted by newlines.
 abbrev pub page : History → ℕ → List ℕ

@@ -65,7 +65,7 @@ loan_with l until left end r =
       ended = end;
     }
 
--- The columns of a hold, by its state, the copy and the limit that it has while it is ready, and what was asked for. No hold has a first day.
+-- The columns of a hold, by its state, the copy and the limit that it has while it is ready, and what was asked for.
 abbrev pub hold_with : ℕ → HoldState → Option ℕ → Option ℕ → HoldFacts → HoldRow
 hold_with h s kept until r =
     record {
@@ -76,7 +76,7 @@ hold_with h s kept until r =
       state = s;
       copy = if_ready (Some s) kept;
       limit_day = if_ready (Some s) until;
-      first_day = None;
+      first_day = r.first_day;
     }
 
 -- The row of a hold, which there is where the hold has a state.

@@ -1,12 +1,12 @@
 -- Where each copy is, how each hold stands, and the lines of the titles.
-use Rattle.std.specs.Prelude.{ℕ, ◌+◌, ◌==◌, Bool, true, false, ◌&&◌, not, List, [], ◌∷◌, filter, find, Option, Some, None, is_none, option_map, unwrap_or}
+use Rattle.std.specs.Prelude.{ℕ, ◌+◌, ◌==◌, Bool, true, false, ◌&&◌, not, List, [], ◌∷◌, filter, find, Option, Some, None, is_none, option_map, option_and_then, unwrap_or}
 use Rattle.std.specs.List.{list_any}
 use Rattle.terms.specs.declared.command.Command.{Command}
 use Rattle.terms.specs.declared.command.Command.TheVariants.{Acquire, CheckOut, CheckIn, CancelHold, Unshelve, UnshelveCancelled, Missing, Withdraw}
 use Rattle.terms.specs.declared.row.HoldState.{HoldState}
 use Rattle.terms.specs.declared.row.HoldState.TheVariants.{Waiting, Ready, Filled, Cancelled, Expired}
 use Rattle.model.specs.Calendar.{least}
-use Rattle.model.specs.History.{History, numbers_to, today, is_open, branch_of, copy_of, copies, next_loan, HoldFacts, hold_made, holds, next_hold, hold_of}
+use Rattle.model.specs.History.{History, numbers_to, today, is_open, branch_of, copy_of, copies, next_loan, HoldFacts, has_begun, hold_made, holds, next_hold, hold_of}
 
 -- The one place that a copy is in: on the shelf of a branch, on the hold shelf for a hold, in transit to a branch
 -- for a hold or for none, on a loan, missing or withdrawn. A copy never acquired is nowhere.
@@ -63,6 +63,14 @@ patron_of_hold H h = unwrap_or (option_map (λ r. r.patron) (hold_of H h)) 0
 abbrev pub goal_of : History → ℕ → ℕ
 goal_of H h = unwrap_or (option_map (λ r. r.branch) (hold_of H h)) 0
 
+-- The first day of a hold, if it has one.
+abbrev pub first_day_of : History → ℕ → Option ℕ
+first_day_of H h = option_and_then (λ r. r.first_day) (hold_of H h)
+
+-- Whether the first day of a hold has come, or it has none.
+abbrev pub is_begun : History → ℕ → Bool
+is_begun H h = has_begun (today H) (first_day_of H h)
+
 -- ---- lines and routing, by the places and states before
 
 module _ (H : History) (places : ℕ → Place) (states : ℕ → Option HoldState) where
@@ -70,9 +78,9 @@ module _ (H : History) (places : ℕ → Place) (states : ℕ → Option HoldSta
   abbrev pub is_coming_by : ℕ → Bool
   is_coming_by h = list_any (λ c. is_bound_for (places c) h) (copies H)
 
-  -- The waiting holds of the title that aren't coming, least number first.
+  -- The waiting holds of the title that aren't coming and have begun, least number first.
   abbrev pub line_by : ℕ → List ℕ
-  line_by t = filter (λ h. elim (title_of_hold H h == t) [ true ↦ is_waiting (states h) && not (is_coming_by h) | false ↦ false ]) (numbers_to (holds H))
+  line_by t = filter (λ h. elim (title_of_hold H h == t) [ true ↦ is_waiting (states h) && (not (is_coming_by h) && is_begun H h) | false ↦ false ]) (numbers_to (holds H))
 
   -- The first in line gets the copy, at once or by transit; with no line it goes home.
   abbrev pub route_to : ℕ → ℕ → List ℕ → Place
@@ -174,7 +182,7 @@ abbrev mutual
 abbrev pub is_coming : History → ℕ → Bool
 is_coming H h = is_coming_by H (place H) (state H) h
 
--- The line of a title: its waiting holds that aren't coming, least number first.
+-- The line of a title: its waiting holds that aren't coming and have no first day after today, least number first.
 abbrev pub line : History → ℕ → List ℕ
 line H t = line_by H (place H) (state H) t
 

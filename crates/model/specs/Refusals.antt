@@ -1,7 +1,7 @@
 -- Which check of a command fails first.
 use Rattle.calendar.specs.declared.limits.TheConstants.{MOST_CLOSED_DAYS}
 use Rattle.terms.specs.declared.limits.TheConstants.{LAST_TODAY, LAST_NUMBER}
-use Rattle.std.specs.Prelude.{ℕ, ◌+◌, ◌==◌, nat_le, nat_lt, Bool, true, false, ◌&&◌, ◌||◌, not, List, [], ◌∷◌, filter, length, Option, is_some, is_none, option_map, unwrap_or, bytes_eq}
+use Rattle.std.specs.Prelude.{ℕ, ◌+◌, ◌==◌, nat_le, nat_lt, Bool, true, false, ◌&&◌, ◌||◌, not, List, [], ◌∷◌, filter, length, Option, Some, None, is_some, is_none, option_map, unwrap_or, bytes_eq}
 use Rattle.std.specs.List.{list_any, list_all}
 use Rattle.terms.specs.declared.command.Owner.{Owner}
 use Rattle.terms.specs.declared.command.Owner.TheVariants.{Desk, Patron as Reader}
@@ -19,6 +19,15 @@ use Rattle.model.specs.Accounts.{owed, lines, lines_by, borrower}
 -- ---- tests on a history
 
 module _ (H : History) where
+  -- The day isn't after today, or it is one that can never be today.
+  abbrev pub is_bad_day : ℕ → Bool
+  is_bad_day d = not (nat_lt (today H) d && nat_le d LAST_TODAY)
+
+  -- A first day that a hold is to have is no later day.
+  abbrev pub is_bad_first_day : Option ℕ → Bool
+  is_bad_first_day None = false
+  is_bad_first_day (Some d) = is_bad_day d
+
   -- There is such a branch.
   abbrev pub has_branch : ℕ → Bool
   has_branch b = is_some (branch_of H b)
@@ -159,7 +168,7 @@ is_empty (h ∷ hs) = false
 
 -- The checks of a command, in order: each with its refusal, and whether it fails.
 abbrev pub checks : History → Owner → Command → List Check
-checks H o (BeginDay d) = (BadDay, not (nat_lt (today H) d && nat_le d LAST_TODAY)) ∷ []
+checks H o (BeginDay d) = (BadDay, is_bad_day H d) ∷ []
 checks H o (Branch b pickup name) = (OutOfLimits, not (is_within_limits (Branch b pickup name))) ∷ (OtherContent, differs_branch H b pickup name) ∷ []
 checks H o (Week b closed) = (UnknownBranch, not (has_branch H b)) ∷ (AllWeekdaysClosed, list_all (λ x. x) closed) ∷ []
 checks H o (CloseDay b d) =
@@ -188,9 +197,9 @@ checks H o (Renew l) =
     (UnknownLoan, not (has_loan H o l)) ∷ (LoanEnded, is_some (ended H l)) ∷ (Overdue, nat_lt (due H l) (today H))
     ∷ (HoldWaits, not (is_empty (line H (title_of_loan H l))))
     ∷ (NoRenewalsLeft, renewals_left H l == 0) ∷ (OwesTooMuch, owes_too_much H (borrower H l)) ∷ (PastCalendar, is_none (renewed_due H l (due H l))) ∷ []
-checks H o (PlaceHold p t b) =
-    (UnknownPatron, not (has_patron H p)) ∷ (UnknownTitle, is_none (title_of H t)) ∷ (UnknownBranch, not (has_branch H b)) ∷ (AlreadyHolds, has_hold_on H p t)
-    ∷ (HasOnLoan, has_on_loan H p t) ∷ (TooManyHolds, has_all_holds H p) ∷ (NumbersUsedUp, nat_le LAST_NUMBER (holds H)) ∷ []
+checks H o (PlaceHold p t b d) =
+    (UnknownPatron, not (has_patron H p)) ∷ (UnknownTitle, is_none (title_of H t)) ∷ (UnknownBranch, not (has_branch H b)) ∷ (BadDay, is_bad_first_day H d)
+    ∷ (AlreadyHolds, has_hold_on H p t) ∷ (HasOnLoan, has_on_loan H p t) ∷ (TooManyHolds, has_all_holds H p) ∷ (NumbersUsedUp, nat_le LAST_NUMBER (holds H)) ∷ []
 checks H o (CancelHold h) = (UnknownHold, not (has_hold H o h)) ∷ (WrongHoldState, not (is_waiting (state H h))) ∷ []
 checks H o (Unshelve h) =
     (UnknownHold, not (has_hold H o h)) ∷ (WrongHoldState, not (is_ready (state H h))) ∷ (LimitNotPassed, nat_le (today H) (unwrap_or (limit H h) 0)) ∷ []

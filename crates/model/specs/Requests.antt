@@ -24,9 +24,9 @@ abbrev pub is_known : History → Caller → Bool
 is_known H FromDesk = true
 is_known H (FromPatron p card_key) = unwrap_or (option_map (λ r. bytes_eq r.card_key card_key) (patron_of H p)) false
 
--- A patron may send place-hold and page for the own number, and renew and cancel-hold.
+-- A patron may send place-hold, from a day on or at once, and page for the own number, and renew and cancel-hold.
 abbrev pub patron_may : ℕ → Command → Bool
-patron_may p (PlaceHold q title branch) = q == p
+patron_may p (PlaceHold q title branch first_day) = q == p
 patron_may p (Page q) = q == p
 patron_may p (Renew loan) = true
 patron_may p (CancelHold hold) = true

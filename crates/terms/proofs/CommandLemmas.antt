@@ -5,7 +5,7 @@ use Rattle.std.specs.Borrow.{Bor}
 use Rattle.std.specs.Fmt.{decimal}
 use Rattle.calendar.specs.Days.{IsDayNumber, day_text}
 use Rattle.terms.specs.Forms.{is_card_key, is_name}
-use Rattle.terms.specs.Commands.{AreSayable, Column, IsNoCommand, IsNoNumber, IsReadAs, Text, commands, kind_of, parts_in, texts}
+use Rattle.terms.specs.Commands.{AreSayable, Column, IsNoCommand, IsNoDay, IsNoNumber, IsReadAs, Text, commands, kind_of, parts_in, texts}
 use Rattle.terms.specs.Laws.{AreParts}
 use Rattle.terms.specs.Texts.{Part, Number, Amount, Day, Mask, CardKey, Name, said, word_of, command_words, mask_text}
 use Rattle.terms.specs.declared.command.Command.{Command}
@@ -70,6 +70,12 @@ pub no_amount : (name : Text) (words : List (Bor Text)) (k : ℕ) (d : Bor Text)
     → IsNoNumber (get_or words k d).now → IsNoCommand name (texts words)
 no_amount name words k d e isnt =
     record { none = λ command h. let p = kind_at (kinds_under name) words k d kind.Amount (have_kinds_under name (texts words) command h) e in isnt.none p.0 p.1 p.2 }
+
+-- a word that isn't the day that the name asks for at its place
+pub no_day : (name : Text) (words : List (Bor Text)) (k : ℕ) (d : Bor Text) → slice_get (kinds_under name) k ≡ Some kind.Day
+    → IsNoDay (get_or words k d).now → IsNoCommand name (texts words)
+no_day name words k d e isnt =
+    record { none = λ command h. let p = kind_at (kinds_under name) words k d kind.Day (have_kinds_under name (texts words) command h) e in isnt.none p.0 p.1 p.2 }
 
 -- n texts from the place i on
 abbrev pub listing : ℕ → ℕ → List (Bor Text) → Bor Text → List Text

@@ -71,7 +71,8 @@ command_from name parts =
     else (if bytes_eq name (codes "check-out") then CheckOut (n 0) (n 1) (n 2)
     else (if bytes_eq name (codes "check-in") then CheckIn (n 0) (n 1)
     else (if bytes_eq name (codes "renew") then Renew (n 0)
-    else (if bytes_eq name (codes "place-hold") then PlaceHold (n 0) (n 1) (n 2)
+    else (if bytes_eq name (codes "place-hold") then PlaceHold (n 0) (n 1) (n 2) None
+    else (if bytes_eq name (codes "place-hold-from") then PlaceHold (n 0) (n 1) (n 2) (Some (n 3))
     else (if bytes_eq name (codes "cancel-hold") then CancelHold (n 0)
     else (if bytes_eq name (codes "unshelve") then Unshelve (n 0)
     else (if bytes_eq name (codes "unshelve-cancelled") then UnshelveCancelled (n 0)
@@ -79,7 +80,7 @@ command_from name parts =
     else (if bytes_eq name (codes "withdraw") then Withdraw (n 0)
     else (if bytes_eq name (codes "pay") then Pay (n 0) (n 1)
     else (if bytes_eq name (codes "waive") then Waive (n 0) (n 1)
-    else Page (n 0))))))))))))))))))))
+    else Page (n 0)))))))))))))))))))))
 
 pub record IsTold (command : Command) : Type 0 where
   pub parts : List Column
@@ -91,7 +92,8 @@ pub record IsTold (command : Command) : Type 0 where
 
 pub told : (command : Command) → IsTold command
 unfolding command_from parts_in
-told (BeginDay a) = record { parts = _; found = refl; kinds = refl; named = refl; apart = refl; back = refl }
+told (PlaceHold a b c None) = record { parts = _; found = refl; kinds = refl; named = refl; apart = refl; back = refl }
+told (PlaceHold a b c (Some d)) = record { parts = _; found = refl; kinds = refl; named = refl; apart = refl; back = refl }
 told _ = record { parts = _; found = refl; kinds = refl; named = refl; apart = refl; back = refl }
 
 pub listed : (command : Command) → IsListed command

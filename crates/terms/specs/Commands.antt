@@ -67,6 +67,7 @@ commands =
     ∷ (codes "check-in", (codes "copy", kind.Number) ∷ (codes "branch", kind.Number) ∷ [])
     ∷ (codes "renew", (codes "loan", kind.Number) ∷ [])
     ∷ (codes "place-hold", (codes "patron", kind.Number) ∷ (codes "title", kind.Number) ∷ (codes "branch", kind.Number) ∷ [])
+    ∷ (codes "place-hold-from", (codes "patron", kind.Number) ∷ (codes "title", kind.Number) ∷ (codes "branch", kind.Number) ∷ (codes "day", kind.Day) ∷ [])
     ∷ (codes "cancel-hold", (codes "hold", kind.Number) ∷ [])
     ∷ (codes "unshelve", (codes "hold", kind.Number) ∷ [])
     ∷ (codes "unshelve-cancelled", (codes "hold", kind.Number) ∷ [])

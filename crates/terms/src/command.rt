@@ -87,11 +87,13 @@ pub enum Command {
     Renew {
         loan: LoanId,
     },
-    /// A patron wants a title, to be picked up at a branch.
+    /// A patron wants a title, to be picked up at a branch: at once (`place-hold`), or from a later
+    /// day on (`place-hold-from`).
     PlaceHold {
         patron: PatronId,
         title: TitleId,
         branch: BranchId,
+        first_day: Option<Day>,
     },
     /// A waiting hold is cancelled.
     CancelHold {
@@ -217,7 +219,14 @@ pub(crate) fn joined_words(alloc: Global, command: &Command) -> Result<String, M
             patron,
             title,
             branch,
+            first_day: None,
         } => format!(in alloc; "place-hold {patron} {title} {branch}"),
+        Command::PlaceHold {
+            patron,
+            title,
+            branch,
+            first_day: Some(day),
+        } => format!(in alloc; "place-hold-from {patron} {title} {branch} {day}"),
         Command::CancelHold { hold } => format!(in alloc; "cancel-hold {hold}"),
         Command::Unshelve { hold } => format!(in alloc; "unshelve {hold}"),
         Command::UnshelveCancelled { hold } => format!(in alloc; "unshelve-cancelled {hold}"),

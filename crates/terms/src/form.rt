@@ -209,6 +209,10 @@ const COMMANDS: &[CommandForm] = &[
         parts: &[PATRON, TITLE, BRANCH],
     },
     CommandForm {
+        name: "place-hold-from",
+        parts: &[PATRON, TITLE, BRANCH, DAY],
+    },
+    CommandForm {
         name: "cancel-hold",
         parts: &[HOLD],
     },

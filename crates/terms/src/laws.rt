@@ -134,10 +134,14 @@ pub fn command_has_forms(command: &Command)
             patron,
             title,
             branch,
+            first_day,
         } => {
             let _patron = patron.number();
             let _title = title.number();
             let _branch = branch.number();
+            if let Some(day) = first_day {
+                let _day = day.number();
+            }
         }
         Command::CancelHold { hold } => {
             let _hold = hold.number();

@@ -305,6 +305,28 @@ fn place_hold(values: &[&str]) -> Result<Command, WordFault>
         patron,
         title,
         branch,
+        first_day: None,
+    })
+}
+
+#[tactic(auto, unfolding(crate::specs::Texts::command_words))]
+fn place_hold_from(values: &[&str]) -> Result<Command, WordFault>
+    ensures read { IfOk result (IsReadAs (codes "place-hold-from") (texts values.now)) }
+    ensures refused { result ≡ Err Refused
+        → IsNoCommand (codes "place-hold-from") (texts values.now) }
+{
+    let [patron, title, branch, day] = values else {
+        return Err(WordFault::NotUnderstood);
+    };
+    let patron = PatronId::new(number(patron)?);
+    let title = TitleId::new(number(title)?);
+    let branch = BranchId::new(number(branch)?);
+    let day = read_day(day)?;
+    Ok(Command::PlaceHold {
+        patron,
+        title,
+        branch,
+        first_day: Some(day),
     })
 }
 
@@ -428,6 +450,7 @@ pub fn read_command(alloc: Global, name: &str, values: &[&str]) -> Result<Comman
         "check-in" => check_in(values),
         "renew" => renew(values),
         "place-hold" => place_hold(values),
+        "place-hold-from" => place_hold_from(values),
         "cancel-hold" => cancel_hold(values),
         "unshelve" => unshelve(values),
         "unshelve-cancelled" => unshelve_cancelled(values),
