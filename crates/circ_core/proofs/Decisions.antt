@@ -49,8 +49,8 @@ decides H legal v (Acquire copy title kind home price text) result w on =
 decides H legal v (CheckOut patron copy branch) result w on = decided H _ _ _ _ (check_out_meets H (legal-Invariant H legal) patron copy branch v w) result on
 decides H legal v (CheckIn copy branch) result w on = decided H _ _ _ _ (check_in_meets H legal copy branch v w) result on
 decides H legal v (Renew loan) result w on = decided H _ _ _ _ (renew_meets H legal (legal-Invariant H legal) loan v w) result on
-decides H legal v (PlaceHold patron title branch) result w on =
-    decided H _ _ _ _ (place_hold_meets H (legal-Invariant H legal) patron title branch v w) result on
+decides H legal v (PlaceHold patron title branch first_day) result w on =
+    decided H _ _ _ _ (place_hold_meets H (legal-Invariant H legal) patron title branch first_day v w) result on
 decides H legal v (CancelHold hold) result w on = decided H _ _ _ _ (cancel_hold_meets H (legal-Invariant H legal) hold v w) result on
 decides H legal v (Unshelve hold) result w on = decided H _ _ _ _ (unshelve_meets H legal hold v w) result on
 decides H legal v (UnshelveCancelled hold) result w on = decided H _ _ _ _ (unshelve_cancelled_meets H legal hold v w) result on

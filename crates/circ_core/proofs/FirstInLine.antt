@@ -1,6 +1,6 @@
 -- The first hold in line, as the tables show it, is the first of the model's line.
 use Rattle.std.proofs.Common.{◌≡◌, ℕ, ◌≤◌, ◌==◌, Bool, true, false, not, ◌&&◌, ◌||◌, List, [], ◌∷◌, refl, sym, ◌∙◌, ap, arith}
-use Rattle.std.specs.Prelude.{Option, Some, None, option_map, unwrap_or}
+use Rattle.std.specs.Prelude.{Option, Some, None, option_map, option_and_then, unwrap_or}
 use Rattle.std.specs.List.{list_any}
 use Rattle.std.proofs.lemmas.Bool.{eqb-true, eq-eqb, and_parts, and_from, false_from_ne_true}
 use Rattle.terms.specs.declared.row.HoldRow.{HoldRow}
@@ -11,8 +11,8 @@ use Rattle.circ_core.specs.Views.{InLine, IsFirstOf}
 use Rattle.model.specs.Invariant.{Invariant}
 use Rattle.circ_core.proofs.Rising.{filter-none, filter-first}
 use Rattle.circ_core.proofs.Claims.{hold_row-is, hold_row-from}
-use Rattle.model.specs.History.{History, HoldFacts, hold_of, holds, CopyFacts, copy_of, copies}
-use Rattle.model.specs.Places.{Place, Nowhere, Shelf, HoldShelf, Transit, Loan, MissingCopy, WithdrawnCopy as Withdrawn, is_bound_for, is_waiting, place, state, line, is_coming_by, title_of_hold}
+use Rattle.model.specs.History.{History, HoldFacts, today, has_begun, hold_of, holds, CopyFacts, copy_of, copies}
+use Rattle.model.specs.Places.{Place, Nowhere, Shelf, HoldShelf, Transit, Loan, MissingCopy, WithdrawnCopy as Withdrawn, is_bound_for, is_waiting, is_begun, place, state, line, is_coming_by, title_of_hold}
 use Rattle.model.specs.Picture.{picture, hold_columns, transit_at}
 
 -- ---- lists
@@ -81,7 +81,7 @@ not-true false e = refl
 
 module _ (H : History) (inv : Invariant H) (t : ℕ) where
   abbrev stands : ℕ → Bool
-  stands h = elim (title_of_hold H h == t) [ true ↦ is_waiting (state H h) && not (is_coming_by H (place H) (state H) h) | false ↦ false ]
+  stands h = elim (title_of_hold H h == t) [ true ↦ is_waiting (state H h) && (not (is_coming_by H (place H) (state H) h) && is_begun H h) | false ↦ false ]
 
   both : (x y : Bool) → ◌≡◌ {A = Bool} (elim x [ true ↦ y | false ↦ false ]) true → (x ≡ true) × (y ≡ true)
   both true y e = (refl, e)
@@ -101,10 +101,11 @@ module _ (H : History) (inv : Invariant H) (t : ℕ) where
 
   stands-row : (h : ℕ) → stands h ≡ true → (f : HoldFacts) × (hold_of H h ≡ Some f) × InLine (picture H) t h (hold_columns H h Waiting f)
   stands-row h e =
-      let parts : (title_of_hold H h == t ≡ true) × ((is_waiting (state H h) && not (is_coming_by H (place H) (state H) h)) ≡ true) = both _ _ e in
-      let more : (is_waiting (state H h) ≡ true) × (not (is_coming_by H (place H) (state H) h) ≡ true) = and_parts _ _ parts.1 in
+      let parts : (title_of_hold H h == t ≡ true) × ((is_waiting (state H h) && (not (is_coming_by H (place H) (state H) h) && is_begun H h)) ≡ true) = both _ _ e in
+      let more : (is_waiting (state H h) ≡ true) × ((not (is_coming_by H (place H) (state H) h) && is_begun H h) ≡ true) = and_parts _ _ parts.1 in
+      let free : (not (is_coming_by H (place H) (state H) h) ≡ true) × (is_begun H h ≡ true) = and_parts _ _ more.1 in
       let waits : state H h ≡ Some Waiting = waiting-is (state H h) more.0 in
-      let alone : is_coming_by H (place H) (state H) h ≡ false = not-true _ more.1 in
+      let alone : is_coming_by H (place H) (state H) h ≡ false = not-true _ free.0 in
       let f : (f : HoldFacts) × (hold_of H h ≡ Some f) = inv.placed h Waiting waits in (
         f.0,
         f.1,
@@ -112,6 +113,7 @@ module _ (H : History) (inv : Invariant H) (t : ℕ) where
           there = hold_row-from H h Waiting f.0 waits f.1;
           on_title = ap (λ o. unwrap_or (option_map (λ r. r.title) o) 0) (sym f.1) ∙ eqb-true _ _ parts.0;
           waits = refl;
+          begun = ap (λ o. has_begun (today H) (option_and_then (λ r. r.first_day) o)) (sym f.1) ∙ free.1;
           alone = λ c x row names.
               let bound : is_bound_for (place H c) h ≡ true = transit-is c (place H c) x h row names in
               let at : (b : ℕ) × (place H c ≡ Transit b (Some h)) = bound-is (place H c) h bound in
@@ -127,8 +129,10 @@ module _ (H : History) (inv : Invariant H) (t : ℕ) where
       let waits : is.0 ≡ Waiting = ap (λ x. x.state) is.4 ∙ w.waits in
       let title : title_of_hold H h ≡ t = ap (λ o. unwrap_or (option_map (λ r. r.title) o) 0) is.3 ∙ ap (λ x. x.title) is.4 ∙ w.on_title in
       let alone : is_coming_by H (place H) (state H) h ≡ false = go (is_coming_by H (place H) (state H) h) refl in
+      let begun : is_begun H h ≡ true =
+      ap (λ o. has_begun (today H) (option_and_then (λ r. r.first_day) o)) is.3 ∙ ap (λ x. has_begun (today H) x.first_day) is.4 ∙ w.begun in
       let row : hold_columns H h Waiting is.1 ≡ q = ap (λ s. hold_columns H h s is.1) (sym waits) ∙ is.4 in
-      (both-from _ _ (eq-eqb _ _ title) (and_from _ _ (ap is_waiting (is.2 ∙ ap Some waits)) (ap not alone)), (inv.made_hold h is.1 is.3).0, (inv.made_hold h is.1 is.3).1, (is.1, is.3, row))
+      (both-from _ _ (eq-eqb _ _ title) (and_from _ _ (ap is_waiting (is.2 ∙ ap Some waits)) (and_from _ _ (ap not alone) begun)), (inv.made_hold h is.1 is.3).0, (inv.made_hold h is.1 is.3).1, (is.1, is.3, row))
     where
       go : (b : Bool) → is_coming_by H (place H) (state H) h ≡ b → b ≡ false
       go true e =

@@ -1,25 +1,33 @@
--- The checks and row changes of `place-hold`, on the rows of a view.
+-- The checks and row changes of `place-hold` and `place-hold-from`, on the rows of a view.
 use Rattle.terms.specs.declared.limits.TheConstants.{LAST_NUMBER}
-use Rattle.std.specs.Prelude.{ℕ, ◌+◌, nat_le, nat_lt, List, [], ◌∷◌, Option, Some, None, is_none, is_some}
+use Rattle.std.specs.Prelude.{ℕ, Bool, false, ◌+◌, nat_le, nat_lt, List, [], ◌∷◌, Option, Some, None, is_none, is_some}
 use Rattle.terms.specs.declared.refusal.Refusal.TheVariants as refusal
 use Rattle.terms.specs.declared.row.KindRow.{KindRow}
+use Rattle.terms.specs.declared.row.MetaRow.{MetaRow}
 use Rattle.terms.specs.declared.row.HoldRow.{HoldRow}
 use Rattle.terms.specs.declared.row.HoldState.TheVariants.{Waiting}
 use Rattle.model.specs.Checks.{Check}
 use Rattle.circ_core.specs.declared.changes.RowChange.{RowChange}
 use Rattle.circ_core.specs.declared.changes.RowChange.TheVariants.{PutMeta, PutHold}
 use Rattle.circ_core.specs.declared.views.View.{View}
+use Rattle.circ_core.specs.BeginDay.{is_bad_day}
 
 -- How many active holds the kind may have.
 abbrev pub holds_allowed : Option KindRow → ℕ
 holds_allowed (Some kind) = kind.holds
 holds_allowed None = 0
 
-abbrev pub place_hold_checks : View → List Check
-place_hold_checks view =
+-- The hold is to have a first day, and that is no later day.
+abbrev pub is_bad_first_day : MetaRow → Option ℕ → Bool
+is_bad_first_day meta None = false
+is_bad_first_day meta (Some day) = is_bad_day meta day
+
+abbrev pub place_hold_checks : View → Option ℕ → List Check
+place_hold_checks view first_day =
     (refusal.UnknownPatron, is_none view.patron)
     ∷ (refusal.UnknownTitle, is_none view.title)
     ∷ (refusal.UnknownBranch, is_none view.branch)
+    ∷ (refusal.BadDay, is_bad_first_day view.meta first_day)
     ∷ (refusal.AlreadyHolds, nat_lt 0 view.own_holds)
     ∷ (refusal.HasOnLoan, is_some view.loan)
     ∷ (refusal.TooManyHolds, nat_le (holds_allowed view.kind) view.active_holds)
@@ -27,8 +35,8 @@ place_hold_checks view =
     ∷ []
 
 -- The hold that is made: it waits from now on, and no copy is for it yet.
-abbrev pub new_hold : ℕ → ℕ → ℕ → ℕ → HoldRow
-new_hold number patron title branch = record {
+abbrev pub new_hold : ℕ → ℕ → ℕ → ℕ → Option ℕ → HoldRow
+new_hold number patron title branch first_day = record {
   hold = number;
   patron = patron;
   title = title;
@@ -36,10 +44,10 @@ new_hold number patron title branch = record {
   state = Waiting;
   copy = None;
   limit_day = None;
-  first_day = None;
+  first_day = first_day;
 }
 
 -- The next number is given, and the hold is made.
-abbrev pub place_hold_rows : View → ℕ → ℕ → ℕ → List RowChange
-place_hold_rows view patron title branch =
-    PutMeta (record view.meta { next_hold = view.meta.next_hold + 1 }) ∷ PutHold (new_hold view.meta.next_hold patron title branch) ∷ []
+abbrev pub place_hold_rows : View → ℕ → ℕ → ℕ → Option ℕ → List RowChange
+place_hold_rows view patron title branch first_day =
+    PutMeta (record view.meta { next_hold = view.meta.next_hold + 1 }) ∷ PutHold (new_hold view.meta.next_hold patron title branch first_day) ∷ []

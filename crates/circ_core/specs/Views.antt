@@ -15,6 +15,7 @@ use Rattle.terms.specs.declared.row.TransitRow.{TransitRow}
 use Rattle.terms.specs.declared.command.Command.{Command}
 use Rattle.terms.specs.declared.command.Command.TheVariants.{BeginDay, Branch, Week, Kind, Rule, Patron, Acquire, CheckOut, CheckIn, Renew, PlaceHold, CancelHold, Unshelve, UnshelveCancelled, Missing, Withdraw, CloseDay, OpenDay, Pay, Waive, Page}
 use Rattle.terms.specs.Pictures.{Picture}
+use Rattle.model.specs.History.{has_begun}
 use Rattle.circ_core.specs.declared.views.View.{View}
 
 -- ---- rows that are searched
@@ -60,11 +61,12 @@ abbrev pub IsLoanOfTitle : Picture → ℕ → ℕ → Option LoanRow → Type 0
 IsLoanOfTitle P patron title (Some row) = (P.loans row.loan ≡ Some row) × LendsTitle P patron title row
 IsLoanOfTitle P patron title None = (l : ℕ) (r : LoanRow) → P.loans l ≡ Some r → LendsTitle P patron title r → ⊥
 
--- The hold waits for the title, and no transit names it.
+-- The hold waits for the title, its first day has come if it has one, and no transit names it.
 pub record InLine (P : Picture) (title hold : ℕ) (row : HoldRow) : Type 0 where
   pub there : P.holds hold ≡ Some row
   pub on_title : row.title ≡ title
   pub waits : row.state ≡ Waiting
+  pub begun : has_begun P.meta.today row.first_day ≡ true
   pub alone : (c : ℕ) (x : TransitRow) → P.transits c ≡ Some x → x.hold ≡ Some hold → ⊥
 
 -- The hold of the least number among those in line for the title, or none where nobody stands in line.
@@ -280,7 +282,7 @@ IsViewOf P (Acquire copy title kind home price text) rows = IsAcquireView P copy
 IsViewOf P (CheckOut patron copy branch) rows = IsCheckOutView P patron copy branch rows
 IsViewOf P (CheckIn copy branch) rows = IsCheckInView P copy branch rows
 IsViewOf P (Renew loan) rows = IsRenewView P loan rows
-IsViewOf P (PlaceHold patron title branch) rows = IsPlaceHoldView P patron title branch rows
+IsViewOf P (PlaceHold patron title branch first_day) rows = IsPlaceHoldView P patron title branch rows
 IsViewOf P (CancelHold hold) rows = IsCancelHoldView P hold rows
 IsViewOf P (Unshelve hold) rows = IsUnshelveView P hold rows
 IsViewOf P (UnshelveCancelled hold) rows = IsUnshelveView P hold rows
@@ -337,7 +339,7 @@ HasOnly (Renew loan) rows = rows ≡ record empty_view {
   kind = rows.kind;
   lender = rows.lender;
 }
-HasOnly (PlaceHold patron title branch) rows = rows ≡ record empty_view {
+HasOnly (PlaceHold patron title branch first_day) rows = rows ≡ record empty_view {
   meta = rows.meta;
   patron = rows.patron;
   kind = rows.kind;

@@ -1,18 +1,21 @@
-//! `place-hold`: a patron stands in line for a title.
+//! `place-hold` and `place-hold-from`: a patron stands in line for a title, at once or from a later
+//! day on.
 
 ghost use Rattle.std.specs.Prelude.{◌≡◌, nat_le};
 ghost use Rattle.circ_core.specs.Decided.{Decided};
 ghost use Rattle.model.specs.Checks.{first_failing};
 ghost use Rattle.terms.specs.declared.reply.Reply.TheVariants.{Held};
-ghost use Rattle.circ_core.specs.PlaceHold.{holds_allowed, place_hold_checks, place_hold_rows};
+ghost use Rattle.circ_core.specs.PlaceHold.{holds_allowed, is_bad_first_day, place_hold_checks};
+ghost use Rattle.circ_core.specs.PlaceHold.{place_hold_rows};
 
+use crate::begin_day::is_bad_day;
 use crate::changes::{Changes, Decision, RowChange};
 use crate::checks::first_refusal;
 use crate::routing::limit_day;
 use crate::views::View;
 use terms::{
-    BranchId, Count, HoldId, HoldRow, HoldState, KindRow, LAST_NUMBER, PatronId, Refusal, Reply,
-    TitleId,
+    BranchId, Count, Day, HoldId, HoldRow, HoldState, KindRow, LAST_NUMBER, MetaRow, PatronId,
+    Refusal, Reply, TitleId,
 };
 
 /// Whether the patron has as many active holds as the kind is allowed.
@@ -25,14 +28,25 @@ fn has_all_holds(kind: &Option<KindRow>, active_holds: Count) -> bool
     }
 }
 
+/// Whether the hold is to have a first day, and that is no later day.
+fn is_bad_first_day(meta: &MetaRow, first_day: &Option<Day>) -> bool
+    ensures { result ≡ is_bad_first_day meta.now first_day.now }
+{
+    match first_day {
+        Some(day) => is_bad_day(meta, *day),
+        None => false,
+    }
+}
+
 /// The refusal of a hold that is to be placed, by its table of checks.
-fn place_hold_refusal(view: &View) -> Option<Refusal>
-    ensures { result ≡ first_failing (place_hold_checks view.now) }
+fn place_hold_refusal(view: &View, first_day: &Option<Day>) -> Option<Refusal>
+    ensures { result ≡ first_failing (place_hold_checks view.now first_day.now) }
 {
     first_refusal(&[
         (Refusal::UnknownPatron, view.patron.is_none()),
         (Refusal::UnknownTitle, view.title.is_none()),
         (Refusal::UnknownBranch, view.branch.is_none()),
+        (Refusal::BadDay, is_bad_first_day(&view.meta, first_day)),
         (Refusal::AlreadyHolds, 0 < view.own_holds.number()),
         (Refusal::HasOnLoan, view.loan.is_some()),
         (
@@ -46,17 +60,19 @@ fn place_hold_refusal(view: &View) -> Option<Refusal>
     ])
 }
 
-/// `place-hold`: refusals 11, 12, 10, 50, 52, 51, 70, in this order.
+/// `place-hold`, and `place-hold-from` with a first day: refusals 11, 12, 10, 23 (of a first day
+/// alone), 50, 52, 51, 70, in this order.
 pub(crate) fn place_hold<'a>(
     view: &View,
     patron: PatronId,
     title: TitleId,
     branch: BranchId,
+    first_day: Option<Day>,
 ) -> Result<Decision<'a>, Refusal>
-    ensures { Decided (place_hold_checks view.now) (Held view.now.meta.next_hold)
-        (place_hold_rows view.now patron title branch) result }
+    ensures { Decided (place_hold_checks view.now first_day) (Held view.now.meta.next_hold)
+        (place_hold_rows view.now patron title branch first_day) result }
 {
-    if let Some(refusal) = place_hold_refusal(view) {
+    if let Some(refusal) = place_hold_refusal(view, &first_day) {
         return Err(refusal);
     }
     let hold = view.meta.next_hold;
@@ -70,7 +86,7 @@ pub(crate) fn place_hold<'a>(
         state: HoldState::Waiting,
         copy: None,
         limit_day: None,
-        first_day: None,
+        first_day,
     };
     Ok(Decision {
         reply: Reply::Held { hold },
