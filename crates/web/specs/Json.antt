@@ -1,8 +1,9 @@
 -- What the JSON bodies of requests are.
 use Rattle.std.specs.Prelude.{◌≡◌, ◌+◌, ◌≤◌, ℕ, length, List, [], ◌∷◌, codes, Option, Some, None, IsUtf8}
 use Rattle.serde_json.specs.Data.{Data, number, unsigned, string, array, object, Items, no_items, item, Members, no_members, member}
-use Rattle.serde_json.specs.Find.{get_member}
+use Rattle.serde_json.specs.Find.{get, get_member}
 use Rattle.serde_json.specs.Read.{read}
+use Rattle.calendar.specs.Days.{day_text}
 use Rattle.web.specs.declared.limits.TheConstants.{MOST_WORDS}
 
 -- The body is JSON text of these data.
@@ -15,12 +16,17 @@ abbrev pub count_members : Members → ℕ
 count_members no_members = 0
 count_members (member name d members) = 1 + count_members members
 
--- An object of these two members and no other.
-abbrev pub IsHold : Data → ℕ → ℕ → Type 0
-IsHold (object members) branch title =
-    (count_members members ≡ 2) × (get_member (codes "branch") members ≡ Some (number (unsigned branch)))
+-- The first day that an object of so many members tells: none with two, and with three that of the text of its member `from`.
+abbrev pub TellsFirstDay : Data → ℕ → Option ℕ → Type 0
+TellsFirstDay value count None = count ≡ 2
+TellsFirstDay value count (Some day) = (count ≡ 3) × (get (codes "from") value ≡ Some (string (day_text day)))
+
+-- An object of the members `branch` and `title`, with or without a member `from`, and no other.
+abbrev pub IsHold : Data → ℕ → ℕ → Option ℕ → Type 0
+IsHold (object members) branch title first_day =
+    TellsFirstDay (object members) (count_members members) first_day × (get_member (codes "branch") members ≡ Some (number (unsigned branch)))
     × (get_member (codes "title") members ≡ Some (number (unsigned title)))
-IsHold _ branch title = ⊥
+IsHold _ branch title first_day = ⊥
 
 -- A list of texts.
 abbrev pub texts_data : List (List ℕ) → Items

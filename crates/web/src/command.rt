@@ -8,7 +8,7 @@ use crate::json::{read_hold, read_texts};
 use crate::routes::Route;
 use front::{WordFault, read_words};
 use std::alloc::{AllocError, Global};
-use terms::{BranchId, Command, Memory, PatronId, TitleId};
+use terms::{Command, Memory, PatronId};
 
 /// The hold that a body asks for.
 fn hold_command(alloc: Global, patron: PatronId, body: &[u8]) -> Result<Option<Command>, Memory>
@@ -17,10 +17,11 @@ fn hold_command(alloc: Global, patron: PatronId, body: &[u8]) -> Result<Option<C
         ((said : Said) → AsksHold patron body.now said → ⊥)) }
 {
     match read_hold(alloc, body)? {
-        Some((branch, title)) => Ok(Some(Command::PlaceHold {
+        Some(asked) => Ok(Some(Command::PlaceHold {
             patron,
-            title: TitleId::new(title),
-            branch: BranchId::new(branch),
+            title: asked.title,
+            branch: asked.branch,
+            first_day: asked.first_day,
         })),
         None => Ok(None),
     }

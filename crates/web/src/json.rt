@@ -1,20 +1,21 @@
 //! The JSON bodies of requests.
 
-ghost use Rattle.std.specs.Prelude.{◌≡◌, ◌<◌, ◌^◌, ℕ, List, string_bytes};
+ghost use Rattle.std.specs.Prelude.{◌≡◌, ◌<◌, ◌^◌, ℕ, List, Option, string_bytes};
 ghost use Rattle.std.specs.Prelude.{IfOk, IfSome, IfNone, Some};
 ghost use Rattle.serde_json.specs.Find.{get};
-ghost use Rattle.serde_json.specs.Data.{Data, number, unsigned};
+ghost use Rattle.calendar.specs.Days.{IsDayNumber, day_text};
+ghost use Rattle.serde_json.specs.Data.{Data, number, string, unsigned};
 ghost use Rattle.serde_json.specs.View.{view, items_view};
 ghost use Rattle.std.specs.Option.{option_map};
 ghost use Rattle.terms.specs.Laws.{IsNumber};
 ghost use Rattle.front.specs.Understood.{texts_of};
-ghost use Rattle.web.specs.Json.{IsJson, IsHold, IsTextList, texts_data, data_text};
+ghost use Rattle.web.specs.Json.{IsJson, IsHold, TellsFirstDay, IsTextList, texts_data, data_text};
 
 use crate::limits::MOST_WORDS;
 use serde_json::Value;
 use std::alloc::{AllocError, Global};
 use std::str;
-use terms::Memory;
+use terms::{BranchId, Day, Memory, TitleId};
 
 /// The value of a body that is JSON.
 fn read_value(alloc: Global, body: &[u8]) -> Result<Option<Value>, Memory>
@@ -46,28 +47,70 @@ fn number_at(object: &Value, name: &str) -> Option<u32>
     u32::try_from(number).ok()
 }
 
-/// The branch and the title that a value asks a hold for.
-fn hold_of(value: &Value) -> Option<(u32, u32)>
-    ensures some { IfSome result
-        (λ p. IsHold (view value.now) p.0 p.1 × (p.0 < 2 ^ 32) × (p.1 < 2 ^ 32)) }
-    ensures none { IfNone result ((b t : ℕ) → b < 2 ^ 32 → t < 2 ^ 32
-        → IsHold (view value.now) b t → ⊥) }
+/// The day whose text a member of an object is.
+fn day_at(object: &Value, name: &str) -> Option<Day>
+    ensures some { IfSome result (λ d. IsDayNumber d
+        × (get name.now (view object.now) ≡ Some (string (day_text d)))) }
+    ensures none { IfNone result ((d : ℕ) → IsDayNumber d
+        → get name.now (view object.now) ≡ Some (string (day_text d)) → ⊥) }
 {
-    let members = value.as_object()?;
-    if members.len() != 2 {
-        return None;
-    }
-    let branch = number_at(value, "branch")?;
-    let title = number_at(value, "title")?;
-    Some((branch, title))
+    let text = object.get(name)?.as_str()?;
+    Day::read(text)
 }
 
-/// The branch and the title that a body asks a hold for.
-pub(crate) fn read_hold(alloc: Global, body: &[u8]) -> Result<Option<(u32, u32)>, Memory>
-    ensures some { IfOk result (λ o. IfSome o
-        (λ p. ((d : Data) × IsJson body.now d × IsHold d p.0 p.1) × IsNumber p.0 × IsNumber p.1)) }
-    ensures none { IfOk result (λ o. IfNone o ((d : Data) (b t : ℕ) → IsJson body.now d
-        → IsNumber b → IsNumber t → IsHold d b t → ⊥)) }
+/// The first day that an object of so many members tells, if it can be that of a hold: with two
+/// members none, and with a third that of the member `from`.
+fn first_day_of(object: &Value, members: usize) -> Option<Option<Day>>
+    ensures some { IfSome result
+        (λ d. TellsFirstDay (view object.now) members d × IfSome d IsDayNumber) }
+    ensures none { IfNone result ((d : Option ℕ) → IfSome d IsDayNumber
+        → TellsFirstDay (view object.now) members d → ⊥) }
+{
+    match members {
+        2 => Some(None),
+        3 => {
+            let day = day_at(object, "from")?;
+            Some(Some(day))
+        }
+        _ => None,
+    }
+}
+
+/// What a body asks of a hold.
+#[derive(Clone, Copy, Debug, PartialEq, Eq)]
+pub(crate) struct AskedHold {
+    pub(crate) branch: BranchId,
+    pub(crate) title: TitleId,
+    /// From which day on the hold is wanted, if it isn't wanted at once.
+    pub(crate) first_day: Option<Day>,
+}
+
+/// The hold that a value asks for.
+fn hold_of(value: &Value) -> Option<AskedHold>
+    ensures some { IfSome result (λ asked. IsHold (view value.now) asked.branch asked.title asked.first_day
+        × IsNumber asked.branch × IsNumber asked.title × IfSome asked.first_day IsDayNumber) }
+    ensures none { IfNone result ((b t : ℕ) (d : Option ℕ) → IsNumber b → IsNumber t
+        → IfSome d IsDayNumber → IsHold (view value.now) b t d → ⊥) }
+{
+    let members = value.as_object()?;
+    let first_day = first_day_of(value, members.len())?;
+    let branch = number_at(value, "branch")?;
+    let title = number_at(value, "title")?;
+    Some(AskedHold {
+        branch: BranchId::new(branch),
+        title: TitleId::new(title),
+        first_day,
+    })
+}
+
+/// The hold that a body asks for.
+pub(crate) fn read_hold(alloc: Global, body: &[u8]) -> Result<Option<AskedHold>, Memory>
+    ensures some { IfOk result (λ o. IfSome o (λ asked. ((value : Data) × IsJson body.now value
+        × IsHold value asked.branch asked.title asked.first_day) × IsNumber asked.branch
+        × IsNumber asked.title × IfSome asked.first_day IsDayNumber)) }
+    ensures none { IfOk result (λ o. IfNone o ((value : Data) (b t : ℕ) (d : Option ℕ)
+        → IsJson body.now value → IsNumber b → IsNumber t → IfSome d IsDayNumber
+        → IsHold value b t d → ⊥)) }
 {
     match read_value(alloc, body)? {
         Some(value) => Ok(hold_of(&value)),
