@@ -10,7 +10,7 @@ use Rattle.terms.specs.declared.command.Command.TheVariants.{Acquire}
 use Rattle.terms.specs.declared.reply.Reply.TheVariants.{Done}
 use Rattle.model.specs.Invariant.{Invariant}
 use Rattle.model.specs.History.{History, branch_of, title_of, CopyFacts, copy_of, copies, hold_of}
-use Rattle.model.specs.Places.{Place, Nowhere, Shelf, place, state, place_after, is_kept_for, kept_for, limit}
+use Rattle.model.specs.Places.{Place, Nowhere, Shelf, place, state, place_after, is_kept_for, kept_for, limit, is_begun}
 use Rattle.model.specs.Picture.{picture, branch_columns, title_row, copy_columns, copy_row, hold_row, condition_at, transit_at, hold_by}
 use Rattle.circ_core.specs.declared.changes.RowChange.{RowChange}
 use Rattle.circ_core.specs.declared.changes.RowChange.TheVariants.{PutTitle, PutCopy}
@@ -42,7 +42,7 @@ module _ (H : History) (inv : Invariant H) (c t k home price : ℕ) (text : List
   -- ---- the places
 
   abbrev place_now : ℕ → Place
-  place_now n = place_after H (place H) (state H) (Acquire c t k home price text) n
+  place_now n = place_after H (place H) (state H) (is_begun H) (Acquire c t k home price text) n
 
   -- What is the same on a shelf as nowhere stays the same for every copy.
   place_same : {A : Type 0} (f : ℕ → Place → A) → ((n : ℕ) → f n Nowhere ≡ f n (Shelf home)) → (n : ℕ) → f n (place H n) ≡ f n (place_now n)

@@ -12,7 +12,7 @@ use Rattle.terms.specs.declared.row.HoldState.TheVariants.{Waiting, Ready, Fille
 use Rattle.terms.specs.declared.row.TransitRow.{TransitRow}
 use Rattle.terms.specs.Pictures.{put}
 use Rattle.model.specs.History.{History, copy_of, copies, HoldFacts, hold_of}
-use Rattle.model.specs.Places.{Place, Transit, place, state, is_kept_for, is_bound_for, is_waiting, place_let_go, limit}
+use Rattle.model.specs.Places.{Place, Transit, place, state, is_kept_for, is_bound_for, is_waiting, place_let_go, limit, is_begun}
 use Rattle.model.specs.Refusals.{checks, has_hold}
 use Rattle.model.specs.Invariant.{Invariant, Serves}
 use Rattle.model.specs.Picture.{picture, copy_columns, hold_row, hold_columns, transit_row, transit_at, condition_at, hold_by, hold_with}
@@ -65,7 +65,7 @@ module _ (H : History) (inv : Invariant H) (h : ℕ) where
 
 module _ (H : History) (h : ℕ) where
   abbrev goes_on : Place → Place
-  goes_on p = place_let_go H (place H) (state H) h p
+  goes_on p = place_let_go H (place H) (state H) (is_begun H) h p
 
   same_condition : (p : Place) → condition_at p ≡ condition_at (goes_on p)
   same_condition (Transit b (Some g)) = go (h == g)

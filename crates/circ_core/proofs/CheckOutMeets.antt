@@ -35,7 +35,7 @@ use Rattle.circ_core.proofs.Standing.{FillsAs, Standing, standing_shelf, standin
 use Rattle.circ_core.proofs.Rising.{find-same}
 use Rattle.model.specs.Calendar.{least}
 use Rattle.model.specs.History.{History, today, is_open, Terms, rule_of, PatronFacts, patron_of, CopyFacts, copy_of, copies, loans, next_loan, HoldFacts, hold_of}
-use Rattle.model.specs.Places.{Place, Nowhere, Shelf, HoldShelf, Transit, Loan, MissingCopy, WithdrawnCopy, place, state, fills, fills_from, is_kept_for, kept_for, limit, title_of_copy}
+use Rattle.model.specs.Places.{Place, Nowhere, Shelf, HoldShelf, Transit, Loan, MissingCopy, WithdrawnCopy, place, state, fills, fills_from, is_kept_for, kept_for, limit, title_of_copy, is_begun}
 use Rattle.model.specs.Loans.{LoanFacts, loan_of, terms_for, no_terms, first_due, due, renewals, ended}
 use Rattle.model.specs.Accounts.{owed}
 use Rattle.model.specs.Checks.{Check}
@@ -299,7 +299,7 @@ module _ (H : History) (inv : Invariant H) (p c b : ℕ) (v : View) (w : IsCheck
   kept_same : (h : ℕ) → fills H p c h ≡ false → find (λ x. is_kept_for (moved_to (c == x) x) h) (copies H) ≡ kept_for H h
   kept_same h unfilled = find-same _ _ (λ x. go x (c == x) refl) (copies H)
     where
-      shelf : (y : Place) → fills_from H (place H) (state H) p c y h ≡ false → is_kept_for y h ≡ false
+      shelf : (y : Place) → fills_from H (place H) (state H) (is_begun H) p c y h ≡ false → is_kept_for y h ≡ false
       shelf (HoldShelf g) e = e
       shelf _ e = refl
 

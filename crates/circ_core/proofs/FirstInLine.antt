@@ -81,7 +81,7 @@ not-true false e = refl
 
 module _ (H : History) (inv : Invariant H) (t : ℕ) where
   abbrev stands : ℕ → Bool
-  stands h = elim (title_of_hold H h == t) [ true ↦ is_waiting (state H h) && (not (is_coming_by H (place H) (state H) h) && is_begun H h) | false ↦ false ]
+  stands h = elim (title_of_hold H h == t) [ true ↦ is_waiting (state H h) && (not (is_coming_by H (place H) (state H) (is_begun H) h) && is_begun H h) | false ↦ false ]
 
   both : (x y : Bool) → ◌≡◌ {A = Bool} (elim x [ true ↦ y | false ↦ false ]) true → (x ≡ true) × (y ≡ true)
   both true y e = (refl, e)
@@ -101,11 +101,11 @@ module _ (H : History) (inv : Invariant H) (t : ℕ) where
 
   stands-row : (h : ℕ) → stands h ≡ true → (f : HoldFacts) × (hold_of H h ≡ Some f) × InLine (picture H) t h (hold_columns H h Waiting f)
   stands-row h e =
-      let parts : (title_of_hold H h == t ≡ true) × ((is_waiting (state H h) && (not (is_coming_by H (place H) (state H) h) && is_begun H h)) ≡ true) = both _ _ e in
-      let more : (is_waiting (state H h) ≡ true) × ((not (is_coming_by H (place H) (state H) h) && is_begun H h) ≡ true) = and_parts _ _ parts.1 in
-      let free : (not (is_coming_by H (place H) (state H) h) ≡ true) × (is_begun H h ≡ true) = and_parts _ _ more.1 in
+      let parts : (title_of_hold H h == t ≡ true) × ((is_waiting (state H h) && (not (is_coming_by H (place H) (state H) (is_begun H) h) && is_begun H h)) ≡ true) = both _ _ e in
+      let more : (is_waiting (state H h) ≡ true) × ((not (is_coming_by H (place H) (state H) (is_begun H) h) && is_begun H h) ≡ true) = and_parts _ _ parts.1 in
+      let free : (not (is_coming_by H (place H) (state H) (is_begun H) h) ≡ true) × (is_begun H h ≡ true) = and_parts _ _ more.1 in
       let waits : state H h ≡ Some Waiting = waiting-is (state H h) more.0 in
-      let alone : is_coming_by H (place H) (state H) h ≡ false = not-true _ free.0 in
+      let alone : is_coming_by H (place H) (state H) (is_begun H) h ≡ false = not-true _ free.0 in
       let f : (f : HoldFacts) × (hold_of H h ≡ Some f) = inv.placed h Waiting waits in (
         f.0,
         f.1,
@@ -118,7 +118,7 @@ module _ (H : History) (inv : Invariant H) (t : ℕ) where
               let bound : is_bound_for (place H c) h ≡ true = transit-is c (place H c) x h row names in
               let at : (b : ℕ) × (place H c ≡ Transit b (Some h)) = bound-is (place H c) h bound in
               let has : list_any (λ x. c == x) (copies H) ≡ true = known c (λ no. let clash : Nowhere ≡ Transit at.0 (Some h) = sym no ∙ at.1 in let never : ⊥ = cc in never) in
-              let coming : is_coming_by H (place H) (state H) h ≡ true = list_any-member (λ y. is_bound_for (place H y) h) (copies H) c has bound in
+              let coming : is_coming_by H (place H) (state H) (is_begun H) h ≡ true = list_any-member (λ y. is_bound_for (place H y) h) (copies H) c has bound in
               let never : ⊥ = cc in never;
         },
       )
@@ -128,13 +128,13 @@ module _ (H : History) (inv : Invariant H) (t : ℕ) where
       let is : (s : HoldState) × (f : HoldFacts) × (state H h ≡ Some s) × (hold_of H h ≡ Some f) × (hold_columns H h s f ≡ q) = hold_row-is H h q w.there in
       let waits : is.0 ≡ Waiting = ap (λ x. x.state) is.4 ∙ w.waits in
       let title : title_of_hold H h ≡ t = ap (λ o. unwrap_or (option_map (λ r. r.title) o) 0) is.3 ∙ ap (λ x. x.title) is.4 ∙ w.on_title in
-      let alone : is_coming_by H (place H) (state H) h ≡ false = go (is_coming_by H (place H) (state H) h) refl in
+      let alone : is_coming_by H (place H) (state H) (is_begun H) h ≡ false = go (is_coming_by H (place H) (state H) (is_begun H) h) refl in
       let begun : is_begun H h ≡ true =
       ap (λ o. has_begun (today H) (option_and_then (λ r. r.first_day) o)) is.3 ∙ ap (λ x. has_begun (today H) x.first_day) is.4 ∙ w.begun in
       let row : hold_columns H h Waiting is.1 ≡ q = ap (λ s. hold_columns H h s is.1) (sym waits) ∙ is.4 in
       (both-from _ _ (eq-eqb _ _ title) (and_from _ _ (ap is_waiting (is.2 ∙ ap Some waits)) (and_from _ _ (ap not alone) begun)), (inv.made_hold h is.1 is.3).0, (inv.made_hold h is.1 is.3).1, (is.1, is.3, row))
     where
-      go : (b : Bool) → is_coming_by H (place H) (state H) h ≡ b → b ≡ false
+      go : (b : Bool) → is_coming_by H (place H) (state H) (is_begun H) h ≡ b → b ≡ false
       go true e =
           let who : (c : ℕ) × (is_bound_for (place H c) h ≡ true) = list_any-some (λ y. is_bound_for (place H y) h) (copies H) e in
           let at : (b : ℕ) × (place H who.0 ≡ Transit b (Some h)) = bound-is (place H who.0) h who.1 in

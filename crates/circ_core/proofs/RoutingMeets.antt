@@ -8,7 +8,7 @@ use Rattle.terms.specs.declared.row.HoldState.TheVariants.{Waiting}
 use Rattle.terms.specs.declared.row.TransitRow.{TransitRow}
 use Rattle.model.specs.Calendar.{least}
 use Rattle.model.specs.History.{History, today, is_open, BranchFacts, branch_of, HoldFacts, hold_of}
-use Rattle.model.specs.Places.{Place, Nowhere, Shelf, HoldShelf, Transit, Loan, MissingCopy, WithdrawnCopy, place, state, line, route, route_from, route_to, limit_now, home_of, goal_of, title_of_copy}
+use Rattle.model.specs.Places.{Place, Nowhere, Shelf, HoldShelf, Transit, Loan, MissingCopy, WithdrawnCopy, place, state, line, route, route_from, route_to, limit_now, home_of, goal_of, title_of_copy, is_begun}
 use Rattle.model.specs.Invariant.{Invariant, Serves}
 use Rattle.model.specs.Refusals.{has_branch}
 use Rattle.model.specs.Answers.{routed}
@@ -62,12 +62,12 @@ module _ (H : History) (b home : ℕ) where
 module _ (H : History) (inv : Invariant H) (c b home : ℕ) (at_home : home ≡ home_of H c) where
   -- A copy that travels for no hold goes to the line of its title.
   pub by_line : (first : Option HoldRow) → IsFirstOf (picture H) (title_of_copy H c) first
-      → LeadsTo H b (course_for home b first) (route_to H (place H) (state H) c b (line H (title_of_copy H c)))
+      → LeadsTo H b (course_for home b first) (route_to H (place H) (state H) (is_begun H) c b (line H (title_of_copy H c)))
   by_line None w =
       let r : LeadsTo H b (course_for home b None) (elim (home == b) as (λ _. Place) [ true ↦ Shelf b | false ↦ Transit home None ]) = go (home == b) in (
         r.0
             ∙ ap (λ n. elim (n == b) as (λ _. Place) [ true ↦ Shelf b | false ↦ Transit n None ]) at_home
-            ∙ sym (ap (λ l. route_to H (place H) (state H) c b l) (line_none H inv (title_of_copy H c) w)),
+            ∙ sym (ap (λ l. route_to H (place H) (state H) (is_begun H) c b l) (line_none H inv (title_of_copy H c) w)),
         r.1,
       )
     where
@@ -81,20 +81,20 @@ module _ (H : History) (inv : Invariant H) (c b home : ℕ) (at_home : home ≡ 
       let waits : state H q.hold ≡ Some Waiting = (line-head H (title_of_copy H c) q.hold l.0.0 l.0.1).0 in
       let r : LeadsTo H b (course_for home b (Some q)) (elim (goal_of H q.hold == b) as (λ _. Place) [ true ↦ HoldShelf q.hold | false ↦ Transit (goal_of H q.hold) (Some q.hold) ]) =
       toward H b home q l.1.0 l.1.1 l.1.2 waits (goal_of H q.hold) refl in
-      (r.0 ∙ sym (ap (λ x. route_to H (place H) (state H) c b x) l.0.1), r.1)
+      (r.0 ∙ sym (ap (λ x. route_to H (place H) (state H) (is_begun H) c b x) l.0.1), r.1)
 
   -- The course by the rows leads where routing leads.
   pub by_rows : (transit : Option TransitRow) (coming first : Option HoldRow) → transit ≡ transit_row H c → coming ≡ coming_in (picture H) transit → IsFirstOf (picture H) (title_of_copy H c) first
       → LeadsTo H b (course_of home coming first b) (route H c b)
   by_rows transit coming first travels comes w = go (place H c) refl (comes ∙ ap (λ o. coming_in (picture H) o) travels)
     where
-      free : (p : Place) → coming ≡ None → route_from H (place H) (state H) c b p ≡ route_to H (place H) (state H) c b (line H (title_of_copy H c))
-          → LeadsTo H b (course_of home coming first b) (route_from H (place H) (state H) c b p)
+      free : (p : Place) → coming ≡ None → route_from H (place H) (state H) (is_begun H) c b p ≡ route_to H (place H) (state H) (is_begun H) c b (line H (title_of_copy H c))
+          → LeadsTo H b (course_of home coming first b) (route_from H (place H) (state H) (is_begun H) c b p)
       free p none same =
-          let r : LeadsTo H b (course_for home b first) (route_to H (place H) (state H) c b (line H (title_of_copy H c))) = by_line first w in
-          subst (λ o. LeadsTo H b (course_for home b (served o first)) (route_from H (place H) (state H) c b p)) (sym none) (r.0 ∙ sym same, r.1)
+          let r : LeadsTo H b (course_for home b first) (route_to H (place H) (state H) (is_begun H) c b (line H (title_of_copy H c))) = by_line first w in
+          subst (λ o. LeadsTo H b (course_for home b (served o first)) (route_from H (place H) (state H) (is_begun H) c b p)) (sym none) (r.0 ∙ sym same, r.1)
 
-      go : (p : Place) → place H c ≡ p → coming ≡ coming_in (picture H) (transit_at c p) → LeadsTo H b (course_of home coming first b) (route_from H (place H) (state H) c b p)
+      go : (p : Place) → place H c ≡ p → coming ≡ coming_in (picture H) (transit_at c p) → LeadsTo H b (course_of home coming first b) (route_from H (place H) (state H) (is_begun H) c b p)
       go (Transit g (Some h)) at come =
           let serves : Serves (place H c) h = rw at refl in
           let fits : (state H h ≡ Some Waiting) × (goal_of H h ≡ g) = rw at at (inv.bound.fits c h serves) in

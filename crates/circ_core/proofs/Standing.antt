@@ -12,7 +12,7 @@ use Rattle.model.specs.Invariant.{Invariant, Serves}
 use Rattle.circ_core.proofs.Claims.{IsKept, hold_claims, hold_none, hold_row-from}
 use Rattle.circ_core.proofs.FirstInLine.{line_none, line_some}
 use Rattle.model.specs.History.{History, HoldFacts, hold_of, CopyFacts, copy_of}
-use Rattle.model.specs.Places.{Shelf, HoldShelf, place, state, line, fills, fills_from, fills_first, goal_of, title_of_copy, title_of_hold, patron_of_hold}
+use Rattle.model.specs.Places.{Shelf, HoldShelf, place, state, line, fills, fills_from, fills_first, goal_of, title_of_copy, title_of_hold, patron_of_hold, is_begun}
 use Rattle.model.specs.Refusals.{is_elsewhere, is_kept_for_other, is_wanted_by_other, is_first_other, is_on_hold_shelf}
 use Rattle.model.specs.Picture.{picture, hold_row, hold_columns, copy_row, transit_at, condition_at}
 
@@ -55,13 +55,13 @@ module _ (H : History) (inv : Invariant H) (p c b : ℕ) (r : CopyFacts) (there 
 
   shelf_fill : (n : ℕ) → place H c ≡ Shelf n → (o : Option HoldRow) → IsFirstOf (picture H) (title_of_copy H c) o → is_of_other o p ≡ false → FillsAs H p c o
   shelf_fill n at None w e = λ h.
-      ap (λ x. fills_from H (place H) (state H) p c x h) at ∙ ap (λ l. fills_first H (place H) (state H) p l h) (line_none H inv (title_of_copy H c) w)
+      ap (λ x. fills_from H (place H) (state H) (is_begun H) p c x h) at ∙ ap (λ l. fills_first H (place H) (state H) (is_begun H) p l h) (line_none H inv (title_of_copy H c) w)
   shelf_fill n at (Some q) w e =
       let l : ((hs : List ℕ) × (line H (title_of_copy H c) ≡ q.hold ∷ hs)) × ((f : HoldFacts) × (hold_of H q.hold ≡ Some f) × (hold_columns H q.hold Waiting f ≡ q)) = line_some H inv (title_of_copy H c) q w in
       let patron : patron_of_hold H q.hold ≡ q.patron = ap (λ o. unwrap_or (option_map (λ f. f.patron) o) 0) l.1.1 ∙ ap (λ x. x.patron) l.1.2 in
       let own : (q.patron == p) ≡ true = not-false _ e in
       let own' : (patron_of_hold H q.hold == p) ≡ true = ap (λ n. n == p) patron ∙ own in (
-        (λ h. ap (λ x. fills_from H (place H) (state H) p c x h) at ∙ ap (λ l. fills_first H (place H) (state H) p l h) l.0.1 ∙ and_true (q.hold == h) _ own'),
+        (λ h. ap (λ x. fills_from H (place H) (state H) (is_begun H) p c x h) at ∙ ap (λ l. fills_first H (place H) (state H) (is_begun H) p l h) l.0.1 ∙ and_true (q.hold == h) _ own'),
         (q, w.0.there, eqb-true _ _ own, w.0.on_title, inl w.0.waits),
         w.0.there,
       )
@@ -107,7 +107,7 @@ module _ (H : History) (inv : Invariant H) (p c b : ℕ) (r : CopyFacts) (there 
         wanted = sym (ap (λ y. is_wanted_by_other H p c y) at);
         fill = λ f _.
             let own : (x.patron == p) ≡ true = not-false _ (ap (λ m. not (m == p)) (sym patron) ∙ sym (ap (λ y. is_kept_for_other H p y) at) ∙ f) in (
-              (λ g. ap (λ y. fills_from H (place H) (state H) p c y g) at ∙ ap (λ m. m == g) (sym number)),
+              (λ g. ap (λ y. fills_from H (place H) (state H) (is_begun H) p c y g) at ∙ ap (λ m. m == g) (sym number)),
               (x, row_here, eqb-true _ _ own, sym title ∙ inv.of_title c h serves, inr (ap (λ y. y.state) (sym row))),
               row_here,
             );

@@ -12,7 +12,7 @@ use Rattle.terms.specs.declared.row.KeptRow.{KeptRow}
 use Rattle.terms.specs.declared.command.Owner.{Owner}
 use Rattle.terms.specs.Pictures.{Picture, put}
 use Rattle.model.specs.History.{History, today, HoldFacts, hold_of, CopyFacts, copy_of, copies}
-use Rattle.model.specs.Places.{Place, Nowhere, HoldShelf, place, state, line, is_ready, is_kept_for, kept_for, route, route_from, route_to, limit, limit_now, limit_at, unshelved_to, place_unshelved, state_unshelved, goal_of, home_of, title_of_copy}
+use Rattle.model.specs.Places.{Place, Nowhere, HoldShelf, place, state, line, is_ready, is_kept_for, kept_for, route, route_from, route_to, limit, limit_now, limit_at, unshelved_to, place_unshelved, state_unshelved, goal_of, home_of, title_of_copy, is_begun}
 use Rattle.model.specs.Invariant.{Invariant, Serves}
 use Rattle.model.specs.Requests.{IsLegal}
 use Rattle.model.specs.Refusals.{checks, has_branch, has_hold}
@@ -45,7 +45,7 @@ module _ (H : History) (inv : Invariant H) (g c : ℕ) (f : CopyFacts) (there : 
   serves x e = rw e refl
 
   -- Unshelving moves this copy and no other.
-  unshelved_moved : (x : ℕ) → place_unshelved H (place H) (state H) g x ≡ moved c (route H c (goal_of H g)) (place H) x
+  unshelved_moved : (x : ℕ) → place_unshelved H (place H) (state H) (is_begun H) g x ≡ moved c (route H c (goal_of H g)) (place H) x
   unshelved_moved x = go (is_kept_for (place H x) g) refl (c == x) refl
     where
       go : (y : Bool) → is_kept_for (place H x) g ≡ y → (z : Bool) → (c == x) ≡ z
@@ -104,23 +104,23 @@ module _ (H : History) (inv : Invariant H) (g c : ℕ) (f : CopyFacts) (there : 
     -- The rows of the holds are those that the history has, once the hold has ended.
     pub holds_lead : (way : Course) → LeadsTo H b way (route H c (goal_of H g)) → Limits H way until → (h : ℕ)
         → ready_put way c until (put (hold_row H) g (Some ended_row) h) h
-        ≡ hold_by h (hold_of H h) (state_unshelved H (place H) (state H) g ends (kept_for H g) h) (find (λ y. is_kept_for (place_unshelved H (place H) (state H) g y) h) (copies H))
+        ≡ hold_by h (hold_of H h) (state_unshelved H (place H) (state H) (is_begun H) g ends (kept_for H g) h) (find (λ y. is_kept_for (place_unshelved H (place H) (state H) (is_begun H) g y) h) (copies H))
         (limit_at H (unshelved_to H g (kept_for H g)) h (limit H h))
     holds_lead way to l h =
         holds_moved way to.1 l h
         ∙ ap (λ q. row_at (g == h) q h) to.0
-        ∙ ap (λ k. hold_by h (hold_of H h) (state_unshelved H (place H) (state H) g ends (Some c) h) k (limit_at H (route H c (goal_of H g)) h (limit H h)))
+        ∙ ap (λ k. hold_by h (hold_of H h) (state_unshelved H (place H) (state H) (is_begun H) g ends (Some c) h) k (limit_at H (route H c (goal_of H g)) h (limit H h)))
         (sym (find-same _ _ (λ y. ap (λ p. is_kept_for p h) (unshelved_moved y)) (copies H)))
-        ∙ ap (λ o. hold_by h (hold_of H h) (state_unshelved H (place H) (state H) g ends o h) (find (λ y. is_kept_for (place_unshelved H (place H) (state H) g y) h) (copies H))
+        ∙ ap (λ o. hold_by h (hold_of H h) (state_unshelved H (place H) (state H) (is_begun H) g ends o h) (find (λ y. is_kept_for (place_unshelved H (place H) (state H) (is_begun H) g y) h) (copies H))
         (limit_at H (unshelved_to H g o) h (limit H h))) (sym (shelf_row H inv c f there g at).3)
 
-    pub transits_lead : (way : Course) → LeadsTo H b way (route H c (goal_of H g)) → (x : ℕ) → sent_put way c (transit_row H x) x ≡ transit_at x (place_unshelved H (place H) (state H) g x)
+    pub transits_lead : (way : Course) → LeadsTo H b way (route H c (goal_of H g)) → (x : ℕ) → sent_put way c (transit_row H x) x ≡ transit_at x (place_unshelved H (place H) (state H) (is_begun H) g x)
     transits_lead way to x =
         sends H c b way (transit_row H) (over way (transit_row H c) (ap (λ p. transit_at c p) at)) (λ y e. refl) x
         ∙ ap (λ q. transit_at x (moved c q (place H) x)) to.0
         ∙ ap (λ p. transit_at x p) (sym (unshelved_moved x))
 
-    pub copies_lead : (way : Course) → LeadsTo H b way (route H c (goal_of H g)) → (x : ℕ) → condition_at (place H x) ≡ condition_at (place_unshelved H (place H) (state H) g x)
+    pub copies_lead : (way : Course) → LeadsTo H b way (route H c (goal_of H g)) → (x : ℕ) → condition_at (place H x) ≡ condition_at (place_unshelved H (place H) (state H) (is_begun H) g x)
     copies_lead way to x =
         stays_present H c b way (ap condition_at at) x
         ∙ ap (λ q. condition_at (moved c q (place H) x)) to.0
@@ -245,10 +245,10 @@ module _ (H : History) (legal : IsLegal H) (g : ℕ) (v : View) (w : IsUnshelveV
           let home : home_in v.copy ≡ home_of H s.0 = ap home_in s.5 ∙ sym (ap (λ o. unwrap_or (option_map (λ r. r.home) o) 0) s.3) in
           let title : s.1.title ≡ title_of_copy H s.0 = sym (ap (λ o. unwrap_or (option_map (λ r. r.title) o) 0) s.3) in
           let first : IsFirstOf (picture H) (title_of_copy H s.0) v.first = subst (λ t. IsFirstOf (picture H) t v.first) title (subst (λ o. IsFirstFor (picture H) o v.first) s.5 w.first) in
-          let r : LeadsTo H branch way (route_to H (place H) (state H) s.0 branch (line H (title_of_copy H s.0))) = by_line H inv s.0 branch (home_in v.copy) home v.first first in (
+          let r : LeadsTo H branch way (route_to H (place H) (state H) (is_begun H) s.0 branch (line H (title_of_copy H s.0))) = by_line H inv s.0 branch (home_in v.copy) home v.first first in (
             r.0
-                ∙ ap (λ n. route_to H (place H) (state H) s.0 n (line H (title_of_copy H s.0))) branch_is
-                ∙ sym (ap (λ p. route_from H (place H) (state H) s.0 (goal_of H g) p) s.2),
+                ∙ ap (λ n. route_to H (place H) (state H) (is_begun H) s.0 n (line H (title_of_copy H s.0))) branch_is
+                ∙ sym (ap (λ p. route_from H (place H) (state H) (is_begun H) s.0 (goal_of H g) p) s.2),
             r.1,
           )
 
@@ -277,11 +277,11 @@ module _ (H : History) (legal : IsLegal H) (g : ℕ) (v : View) (w : IsUnshelveV
       abbrev tables_after : HoldState → (Owner → List ℕ → Option KeptRow) → Picture
       tables_after ends kept = record (picture H) {
         copies = λ n. option_map
-            (λ r. record { copy = n; title = r.title; kind = r.kind; home = r.home; price = r.price; condition = condition_at (place_unshelved H (place H) (state H) g n) })
+            (λ r. record { copy = n; title = r.title; kind = r.kind; home = r.home; price = r.price; condition = condition_at (place_unshelved H (place H) (state H) (is_begun H) g n) })
             (copy_of H n);
-        holds = λ h. hold_by h (hold_of H h) (state_unshelved H (place H) (state H) g ends (kept_for H g) h)
-            (find (λ y. is_kept_for (place_unshelved H (place H) (state H) g y) h) (copies H)) (limit_at H (unshelved_to H g (kept_for H g)) h (limit H h));
-        transits = λ n. transit_at n (place_unshelved H (place H) (state H) g n);
+        holds = λ h. hold_by h (hold_of H h) (state_unshelved H (place H) (state H) (is_begun H) g ends (kept_for H g) h)
+            (find (λ y. is_kept_for (place_unshelved H (place H) (state H) (is_begun H) g y) h) (copies H)) (limit_at H (unshelved_to H g (kept_for H g)) h (limit H h));
+        transits = λ n. transit_at n (place_unshelved H (place H) (state H) (is_begun H) g n);
         kept = kept;
       }
 

@@ -85,12 +85,12 @@ not-true true e = let never : ⊥ = cc in absurd never
 not-true false e = refl
 
 -- The first in line waits, and no copy is coming for it.
-pub line-head : (H : History) (t h : ℕ) (hs : List ℕ) → line H t ≡ h ∷ hs → (state H h ≡ Some Waiting) × (is_coming_by H (place H) (state H) h ≡ false)
+pub line-head : (H : History) (t h : ℕ) (hs : List ℕ) → line H t ≡ h ∷ hs → (state H h ≡ Some Waiting) × (is_coming_by H (place H) (state H) (is_begun H) h ≡ false)
 line-head H t h hs e =
-    let passes : (title_of_hold H h == t ≡ true) × ((is_waiting (state H h) && (not (is_coming_by H (place H) (state H) h) && is_begun H h)) ≡ true) =
+    let passes : (title_of_hold H h == t ≡ true) × ((is_waiting (state H h) && (not (is_coming_by H (place H) (state H) (is_begun H) h) && is_begun H h)) ≡ true) =
     both _ _ (filter-head _ (numbers_to (holds H)) h hs e) in
-    let parts : (is_waiting (state H h) ≡ true) × ((not (is_coming_by H (place H) (state H) h) && is_begun H h) ≡ true) = and_parts _ _ passes.1 in
-    (waiting-is _ parts.0, not-true _ (and_parts (not (is_coming_by H (place H) (state H) h)) (is_begun H h) parts.1).0)
+    let parts : (is_waiting (state H h) ≡ true) × ((not (is_coming_by H (place H) (state H) (is_begun H) h) && is_begun H h) ≡ true) = and_parts _ _ passes.1 in
+    (waiting-is _ parts.0, not-true _ (and_parts (not (is_coming_by H (place H) (state H) (is_begun H) h)) (is_begun H h) parts.1).0)
 
 -- A copy that is somewhere is there.
 there : (H : History) (d : ℕ) (p : Place) → place H d ≡ p → (p ≡ Nowhere → ⊥) → IsBound H → is_none (copy_of H d) ≡ false
@@ -101,7 +101,7 @@ there H d p at somewhere inv = go (is_none (copy_of H d)) refl
     go false e = refl
 
 -- No copy serves a hold that waits and isn't coming.
-unserved_at : (H : History) (d h : ℕ) (p : Place) → place H d ≡ p → IsBound H → state H h ≡ Some Waiting → is_coming_by H (place H) (state H) h ≡ false
+unserved_at : (H : History) (d h : ℕ) (p : Place) → place H d ≡ p → IsBound H → state H h ≡ Some Waiting → is_coming_by H (place H) (state H) (is_begun H) h ≡ false
     → Serves p h → Fits (goal_of H) p h (state H h) → ⊥
 unserved_at H d h (HoldShelf g) at inv waits coming serves fits = let no_more : Some Ready ≡ Some Waiting = sym fits ∙ waits in cc
 unserved_at H d h (Transit b (Some g)) at inv waits coming serves fits =
@@ -110,7 +110,7 @@ unserved_at H d h (Transit b (Some g)) at inv waits coming serves fits =
     false-ne g h other serves
 unserved_at H d h _ at inv waits coming serves fits = serves
 
-pub unserved : (H : History) (h d : ℕ) → IsBound H → state H h ≡ Some Waiting → is_coming_by H (place H) (state H) h ≡ false → Serves (place H d) h → ⊥
+pub unserved : (H : History) (h d : ℕ) → IsBound H → state H h ≡ Some Waiting → is_coming_by H (place H) (state H) (is_begun H) h ≡ false → Serves (place H d) h → ⊥
 unserved H h d inv waits coming serves = unserved_at H d h (place H d) refl inv waits coming serves (inv.bound.fits d h serves)
 
 -- ---- where routing sends a copy
@@ -132,10 +132,10 @@ first_goes : (H : History) (n g goal : ℕ) (x : Bool) → goal_of H g ≡ goal 
 first_goes H n g goal true is_goal waits alone h same = ((λ d ne s. alone d (rw same s)), rw (← same) waits, tt)
 first_goes H n g goal false is_goal waits alone h same = ((λ d ne s. alone d (rw same s)), rw (← same) waits, rw (← same) is_goal)
 
-route_to_goes : (H : History) (n b t : ℕ) (hs : List ℕ) → line H t ≡ hs → IsBound H → GoesTo H n (route_to H (place H) (state H) n b hs)
+route_to_goes : (H : History) (n b t : ℕ) (hs : List ℕ) → line H t ≡ hs → IsBound H → GoesTo H n (route_to H (place H) (state H) (is_begun H) n b hs)
 route_to_goes H n b t [] at inv = home_goes H n b (home_of H n) (home_of H n == b)
 route_to_goes H n b t (g ∷ gs) at inv =
-    let head : (state H g ≡ Some Waiting) × (is_coming_by H (place H) (state H) g ≡ false) = line-head H t g gs at in
+    let head : (state H g ≡ Some Waiting) × (is_coming_by H (place H) (state H) (is_begun H) g ≡ false) = line-head H t g gs at in
     first_goes H n g (goal_of H g) (goal_of H g == b) refl head.0 (λ d. unserved H g d inv head.0 head.1)
 
 bound_goes : (H : History) (n g h b : ℕ) (x : Bool) → place H n ≡ Transit g (Some h) → IsBound H
@@ -155,7 +155,7 @@ bound_goes H n g h b x at inv = go x
     go true k same = ((λ d ne s. alone d ne (rw same s)), rw (← same) fits.0, tt)
     go false k same = ((λ d ne s. alone d ne (rw same s)), rw (← same) fits.0, rw (← same) fits.1)
 
-route_from_goes : (H : History) (n b : ℕ) (p : Place) → place H n ≡ p → IsBound H → GoesTo H n (route_from H (place H) (state H) n b p)
+route_from_goes : (H : History) (n b : ℕ) (p : Place) → place H n ≡ p → IsBound H → GoesTo H n (route_from H (place H) (state H) (is_begun H) n b p)
 route_from_goes H n b (Transit g (Some h)) at inv = bound_goes H n g h b (g == b) at inv
 route_from_goes H n b _ at inv = route_to_goes H n b (title_of_copy H n) (line H (title_of_copy H n)) refl inv
 
@@ -203,7 +203,7 @@ module _ (H : History) (n : ℕ) (q : Place) (inv : IsBound H) (goes : GoesTo H 
       go false e r = inr (kept r)
 
   -- A copy that goes where routing sends it keeps the bindings.
-  arrive-bound : Bound (goal_of H) (moved n q (place H)) (λ h. state_at H (place H) (state H) q h)
+  arrive-bound : Bound (goal_of H) (moved n q (place H)) (λ h. state_at H (place H) (state H) (is_begun H) q h)
   arrive-bound = move-bound (goal_of H) (place H) (state H) _ inv.bound n q (arrive-others H n q goes)
       (λ h serves. let g : ((d : ℕ) → n ≢ d → Serves (place H d) h → ⊥) × (state H h ≡ Some Waiting) × ToGoal H q h = goes h serves in (arrive-fits H n q goes q h serves g.1 g.2, g.0))
       arrive-ready
@@ -266,20 +266,20 @@ missing-bound H o k n inv = leave-bound H n MissingCopy Waiting (λ h. is_kept_f
 
 -- ---- check-out
 
-fills_first_alone : (H : History) (t p d h : ℕ) (hs : List ℕ) → line H t ≡ hs → IsBound H → fills_first H (place H) (state H) p hs h ≡ true → Serves (place H d) h → ⊥
+fills_first_alone : (H : History) (t p d h : ℕ) (hs : List ℕ) → line H t ≡ hs → IsBound H → fills_first H (place H) (state H) (is_begun H) p hs h ≡ true → Serves (place H d) h → ⊥
 fills_first_alone H t p d h [] at inv e s = let never : ⊥ = cc in never
 fills_first_alone H t p d h (g ∷ gs) at inv e s =
-    let head : (state H g ≡ Some Waiting) × (is_coming_by H (place H) (state H) g ≡ false) = line-head H t g gs at in
+    let head : (state H g ≡ Some Waiting) × (is_coming_by H (place H) (state H) (is_begun H) g ≡ false) = line-head H t g gs at in
     let same : g ≡ h = eqb-true g h (and_parts _ _ e).0 in
     unserved H g d inv head.0 head.1 (rw same s)
 
-fills_alone : (H : History) (n d p h : ℕ) (at : Place) → place H n ≡ at → IsBound H → fills_from H (place H) (state H) p n at h ≡ true → n ≢ d → Serves (place H d) h → ⊥
+fills_alone : (H : History) (n d p h : ℕ) (at : Place) → place H n ≡ at → IsBound H → fills_from H (place H) (state H) (is_begun H) p n at h ≡ true → n ≢ d → Serves (place H d) h → ⊥
 fills_alone H n d p h (HoldShelf g) at inv e ne s = ne (inv.bound.once n d h (rw at (eqb-true g h e)) s)
 fills_alone H n d p h (Shelf b) at inv e ne s = fills_first_alone H (title_of_copy H n) p d h (line H (title_of_copy H n)) refl inv e s
 fills_alone H n d p h _ at inv e ne s = let never : ⊥ = cc in never
 
 check_out-bound : (H : History) (o : Owner) (k : List ℕ) (p n b : ℕ) → IsBound H → BoundAfter H o k (CheckOut p n b)
-check_out-bound H o k p n b inv = leave-bound H n _ Filled (λ h. fills_by H (place H) (state H) p n h) inv (λ h s. s) (λ e. cc)
+check_out-bound H o k p n b inv = leave-bound H n _ Filled (λ h. fills_by H (place H) (state H) (is_begun H) p n h) inv (λ h s. s) (λ e. cc)
     (λ d h e ne s. fills_alone H n d p h (place H n) refl inv e ne s) (λ h at. rw at (eq-eqb h h refl))
 
 -- ---- withdraw and acquire
@@ -311,10 +311,10 @@ served_old H c h inv serves = ne-eqb (next_hold H) h (λ same. go (place H c) se
 -- What is bound after a command and the hold that it makes.
 abbrev BoundBy : History → Command → Option HoldFacts → Type 0
 BoundBy H c made =
-    Bound (λ h. unwrap_or (option_map (λ r. r.branch) (hold_after H made h (hold_of H h))) 0) (place_after H (place H) (state H) c) (λ h. state_made H (place H) (state H) made c h)
+    Bound (λ h. unwrap_or (option_map (λ r. r.branch) (hold_after H made h (hold_of H h))) 0) (place_after H (place H) (state H) (is_begun H) c) (λ h. state_made H (place H) (state H) (is_begun H) made c h)
 
 new_hold-bound : (H : History) (c : Command) (made : HoldFacts) → IsBound H
-    → Bound (λ h. unwrap_or (option_map (λ r. r.branch) (hold_after H (Some made) h (hold_of H h))) 0) (place H) (λ h. state_made H (place H) (state H) (Some made) c h)
+    → Bound (λ h. unwrap_or (option_map (λ r. r.branch) (hold_after H (Some made) h (hold_of H h))) 0) (place H) (λ h. state_made H (place H) (state H) (is_begun H) (Some made) c h)
 new_hold-bound H c made inv = record {
   once = inv.bound.once;
   fits = λ c h serves. fits (place H c) h (served_old H c h inv serves) serves (inv.bound.fits c h serves);
@@ -331,7 +331,7 @@ new_hold-bound H c made inv = record {
     goal_new h false e = refl
 
     fits : (at : Place) (h : ℕ) → (next_hold H == h) ≡ false → Serves at h → Fits (goal_of H) at h (state H h)
-        → Fits (λ g. unwrap_or (option_map (λ r. r.branch) (hold_after H (Some made) g (hold_of H g))) 0) at h (state_made H (place H) (state H) (Some made) c h)
+        → Fits (λ g. unwrap_or (option_map (λ r. r.branch) (hold_after H (Some made) g (hold_of H g))) 0) at h (state_made H (place H) (state H) (is_begun H) (Some made) c h)
     fits (HoldShelf g) h old serves f = state_new h (next_hold H == h) old ∙ f
     fits (Transit d (Some g)) h old serves f = (state_new h (next_hold H == h) old ∙ f.0, goal_new h (next_hold H == h) old ∙ f.1)
     fits _ h old serves f = absurd serves
@@ -342,7 +342,7 @@ new_hold-bound H c made inv = record {
 
 -- ---- cancel-hold
 
-let_go : (H : History) (g h : ℕ) (at : Place) → (state H g ≡ Some Waiting) → Fits (goal_of H) at h (state H h) → Serves (place_let_go H (place H) (state H) g at) h
+let_go : (H : History) (g h : ℕ) (at : Place) → (state H g ≡ Some Waiting) → Fits (goal_of H) at h (state H h) → Serves (place_let_go H (place H) (state H) (is_begun H) g at) h
     → Serves at h × ((g == h) ≡ false)
 let_go H g h (HoldShelf j) waits f s = (s, ne-eqb g h (λ same. let ready : state H g ≡ Some Ready = rw same f in let never : ⊥ = cc in never))
 let_go H g h (Transit b (Some j)) waits f s = go (g == j) refl s
@@ -375,8 +375,8 @@ ended_other : (ends : HoldState) (s : Option HoldState) (x : Bool) → x ≡ fal
 ended_other ends s true e = let never : ⊥ = cc in absurd never
 ended_other ends s false e = refl
 
-let_go_fits : (H : History) (g h : ℕ) (at : Place) → (g == h) ≡ false → Fits (goal_of H) at h (state H h) → Serves (place_let_go H (place H) (state H) g at) h
-    → Fits (goal_of H) (place_let_go H (place H) (state H) g at) h (ended_as Cancelled (state H h) (g == h))
+let_go_fits : (H : History) (g h : ℕ) (at : Place) → (g == h) ≡ false → Fits (goal_of H) at h (state H h) → Serves (place_let_go H (place H) (state H) (is_begun H) g at) h
+    → Fits (goal_of H) (place_let_go H (place H) (state H) (is_begun H) g at) h (ended_as Cancelled (state H h) (g == h))
 let_go_fits H g h (HoldShelf j) other f s = ended_other Cancelled _ (g == h) other ∙ f
 let_go_fits H g h (Transit b (Some j)) other f s = go (g == j) s
   where
@@ -396,10 +396,10 @@ cancel-bound H o k g inv ok = record {
     waits : state H g ≡ Some Waiting
     waits = waiting-is _ (not-false _ (passed (checks H o (CancelHold g)) ok).1.0)
 
-    old : (c h : ℕ) → Serves (place_let_go H (place H) (state H) g (place H c)) h → Fits (goal_of H) (place H c) h (state H h)
+    old : (c h : ℕ) → Serves (place_let_go H (place H) (state H) (is_begun H) g (place H c)) h → Fits (goal_of H) (place H c) h (state H h)
     old c h s = go (place H c) (inv.bound.fits c h) s
       where
-        go : (at : Place) → (Serves at h → Fits (goal_of H) at h (state H h)) → Serves (place_let_go H (place H) (state H) g at) h → Fits (goal_of H) at h (state H h)
+        go : (at : Place) → (Serves at h → Fits (goal_of H) at h (state H h)) → Serves (place_let_go H (place H) (state H) (is_begun H) g at) h → Fits (goal_of H) at h (state H h)
         go (HoldShelf j) f s = f s
         go (Transit b (Some j)) f s = two (g == j) s
           where
@@ -408,10 +408,10 @@ cancel-bound H o k g inv ok = record {
             two false s = f s
         go _ f s = absurd s
 
-    was : (c h : ℕ) → Serves (place_let_go H (place H) (state H) g (place H c)) h → Serves (place H c) h × ((g == h) ≡ false)
+    was : (c h : ℕ) → Serves (place_let_go H (place H) (state H) (is_begun H) g (place H c)) h → Serves (place H c) h × ((g == h) ≡ false)
     was c h s = let_go H g h (place H c) waits (old c h s) s
 
-    kept : (h : ℕ) (x : Bool) → ended_as Cancelled (state H h) x ≡ Some Ready → (c : ℕ) × (place_let_go H (place H) (state H) g (place H c) ≡ HoldShelf h)
+    kept : (h : ℕ) (x : Bool) → ended_as Cancelled (state H h) x ≡ Some Ready → (c : ℕ) × (place_let_go H (place H) (state H) (is_begun H) g (place H c) ≡ HoldShelf h)
     kept h true e = let never : ⊥ = cc in absurd never
     kept h false e = let on : (c : ℕ) × (place H c ≡ HoldShelf h) = inv.bound.kept h e in (on.0, rw on.1 refl)
 
@@ -436,13 +436,13 @@ find-none test (x ∷ xs) e = find_none_at test x xs (test x) refl (find-none te
     find_none_at test x xs false p rest q = rest q
 
 -- The copy on the hold shelf for g is the one that is found.
-pub kept-found : (H : History) (n g : ℕ) → IsBound H → place H n ≡ HoldShelf g → kept_for_by H (place H) (state H) g ≡ Some n
-kept-found H n g inv at = go (kept_for_by H (place H) (state H) g) refl
+pub kept-found : (H : History) (n g : ℕ) → IsBound H → place H n ≡ HoldShelf g → kept_for_by H (place H) (state H) (is_begun H) g ≡ Some n
+kept-found H n g inv at = go (kept_for_by H (place H) (state H) (is_begun H) g) refl
   where
     here : is_kept_for (place H n) g ≡ true
     here = rw at (eq-eqb g g refl)
 
-    go : (found : Option ℕ) → kept_for_by H (place H) (state H) g ≡ found → found ≡ Some n
+    go : (found : Option ℕ) → kept_for_by H (place H) (state H) (is_begun H) g ≡ found → found ≡ Some n
     go None e =
         let off : is_kept_for (place H n) g ≡ false =
         listed H (λ c. is_kept_for (place H c) g) n (find-none _ (copies H) e) (there H n (HoldShelf g) at (λ q. cc) inv) in
@@ -495,7 +495,7 @@ module _ (H : History) (g n : ℕ) (ends : HoldState) (inv : IsBound H) (at : pl
   unshelve-moved : Bound (goal_of H) (moved n back (place H)) states_then
   unshelve-moved = move-bound (goal_of H) (place H) (state H) states_then inv.bound n back unshelve-others unshelve-served unshelve-ready
 
-  place-unshelved : (c : ℕ) → moved n back (place H) c ≡ place_unshelved H (place H) (state H) g c
+  place-unshelved : (c : ℕ) → moved n back (place H) c ≡ place_unshelved H (place H) (state H) (is_begun H) g c
   place-unshelved c = go (n == c) refl (is_kept_for (place H c) g) refl
     where
       go : (x : Bool) → (n == c) ≡ x → (y : Bool) → is_kept_for (place H c) g ≡ y
@@ -505,11 +505,11 @@ module _ (H : History) (g n : ℕ) (ends : HoldState) (inv : IsBound H) (at : pl
       go false e true f = absurd (false-ne n c e (inv.bound.once n c g (rw at refl) (rw (kept-is (place H c) g f) refl)))
       go false e false f = refl
 
-  state-unshelved : (h : ℕ) → states_then h ≡ state_unshelved H (place H) (state H) g ends (kept_for_by H (place H) (state H) g) h
+  state-unshelved : (h : ℕ) → states_then h ≡ state_unshelved H (place H) (state H) (is_begun H) g ends (kept_for_by H (place H) (state H) (is_begun H) g) h
   state-unshelved h = rw (kept-found H n g inv at) refl
 
   -- A ready hold ends, and its copy goes where routing sends it.
-  unshelved-bound : Bound (goal_of H) (place_unshelved H (place H) (state H) g) (state_unshelved H (place H) (state H) g ends (kept_for_by H (place H) (state H) g))
+  unshelved-bound : Bound (goal_of H) (place_unshelved H (place H) (state H) (is_begun H) g) (state_unshelved H (place H) (state H) (is_begun H) g ends (kept_for_by H (place H) (state H) (is_begun H) g))
   unshelved-bound = along (goal_of H) _ _ _ _ place-unshelved state-unshelved unshelve-moved
 
 unshelve-bound : (H : History) (o : Owner) (k : List ℕ) (g : ℕ) → IsBound H → refusal H o (Unshelve g) ≡ None → BoundAfter H o k (Unshelve g)

@@ -8,7 +8,7 @@ use Rattle.terms.specs.declared.row.HoldState.TheVariants.{Waiting, Ready, Fille
 use Rattle.terms.specs.declared.command.Command.{Command}
 use Rattle.terms.specs.declared.command.Command.TheVariants.{CheckOut, CheckIn, CancelHold, Unshelve, UnshelveCancelled, Missing}
 use Rattle.model.specs.History.{History, HoldFacts, hold_made, next_hold}
-use Rattle.model.specs.Places.{Place, HoldShelf, Shelf, place, state, line, route, is_kept_for, title_of_copy, goal_of, fills_from, fills_by, fills_first, kept_for_by, state_unshelved, state_moved, state_made}
+use Rattle.model.specs.Places.{Place, HoldShelf, Shelf, place, state, line, route, is_kept_for, title_of_copy, goal_of, fills_from, fills_by, fills_first, kept_for_by, state_unshelved, state_moved, state_made, is_begun}
 use Rattle.model.specs.Refusals.{refusal, checks}
 use Rattle.model.proofs.Passing.{passed}
 use Rattle.model.specs.Invariant.{Fits}
@@ -41,11 +41,11 @@ module _ (H : History) (h : ℕ) (s : HoldState) (inv : IsBound H) (settled : Is
   not_ready : state H h ≡ Some Ready → ⊥
   not_ready e = settled.unready (same_state s Ready (state H h) is e)
 
-  fills_first-not : (t p : ℕ) (hs : List ℕ) → line H t ≡ hs → fills_first H (place H) (state H) p hs h ≡ true → ⊥
+  fills_first-not : (t p : ℕ) (hs : List ℕ) → line H t ≡ hs → fills_first H (place H) (state H) (is_begun H) p hs h ≡ true → ⊥
   fills_first-not t p [] at e = let never : ⊥ = cc in never
   fills_first-not t p (g ∷ gs) at e = not_waiting (rw (← eqb-true g h (and_parts _ _ e).0) (line-head H t g gs at).0)
 
-  fills-not : (n p : ℕ) (at : Place) → place H n ≡ at → fills_from H (place H) (state H) p n at h ≡ true → ⊥
+  fills-not : (n p : ℕ) (at : Place) → place H n ≡ at → fills_from H (place H) (state H) (is_begun H) p n at h ≡ true → ⊥
   fills-not n p (HoldShelf g) at e =
       let f : Fits (goal_of H) (HoldShelf g) h (state H h) = rw at at (inv.bound.fits n h (rw at (eqb-true g h e))) in not_ready f
   fills-not n p (Shelf b) at e = fills_first-not (title_of_copy H n) p (line H (title_of_copy H n)) refl e
@@ -62,31 +62,31 @@ module _ (H : History) (h : ℕ) (s : HoldState) (inv : IsBound H) (settled : Is
       go true e = absurd (not_waiting (route-goes H n b inv h (rw (kept-is (route H n b) h e) refl)).1)
       go false e = is
 
-  unshelved-stays : (g : ℕ) (ends : HoldState) (found : Option ℕ) → state H g ≡ Some Ready → state_unshelved H (place H) (state H) g ends found h ≡ Some s
+  unshelved-stays : (g : ℕ) (ends : HoldState) (found : Option ℕ) → state H g ≡ Some Ready → state_unshelved H (place H) (state H) (is_begun H) g ends found h ≡ Some s
   unshelved-stays g ends found ready = go found (g == h) refl
     where
       other : (g == h) ≡ true → ⊥
       other e = not_ready (rw (← eqb-true g h e) ready)
 
-      go : (f : Option ℕ) (x : Bool) → (g == h) ≡ x → state_unshelved H (place H) (state H) g ends f h ≡ Some s
+      go : (f : Option ℕ) (x : Bool) → (g == h) ≡ x → state_unshelved H (place H) (state H) (is_begun H) g ends f h ≡ Some s
       go f true e = absurd (other e)
       go None false e = rw (e, state_unshelved) is
       go (Some c) false e = rw (e, state_unshelved) (arrived-stays c (goal_of H g))
 
-  moved-stays : (o : Owner) (c : Command) → refusal H o c ≡ None → state_moved H (place H) (state H) c h ≡ Some s
-  moved-stays o (CheckOut p n b) ok = left-stays Filled (fills_by H (place H) (state H) p n h) (λ e. fills-not n p (place H n) refl e)
+  moved-stays : (o : Owner) (c : Command) → refusal H o c ≡ None → state_moved H (place H) (state H) (is_begun H) c h ≡ Some s
+  moved-stays o (CheckOut p n b) ok = left-stays Filled (fills_by H (place H) (state H) (is_begun H) p n h) (λ e. fills-not n p (place H n) refl e)
   moved-stays o (CheckIn n b) ok = arrived-stays n b
   moved-stays o (CancelHold g) ok =
       left-stays Cancelled (g == h) (λ e. not_waiting (rw (← eqb-true g h e) (waiting-is _ (not-false _ (passed (checks H o (CancelHold g)) ok).1.0))))
-  moved-stays o (Unshelve g) ok = unshelved-stays g Expired (kept_for_by H (place H) (state H) g) (ready-is _ (not-false _ (passed (checks H o (Unshelve g)) ok).1.0))
+  moved-stays o (Unshelve g) ok = unshelved-stays g Expired (kept_for_by H (place H) (state H) (is_begun H) g) (ready-is _ (not-false _ (passed (checks H o (Unshelve g)) ok).1.0))
   moved-stays o (UnshelveCancelled g) ok =
-      unshelved-stays g Cancelled (kept_for_by H (place H) (state H) g) (ready-is _ (not-false _ (passed (checks H o (UnshelveCancelled g)) ok).1.0))
+      unshelved-stays g Cancelled (kept_for_by H (place H) (state H) (is_begun H) g) (ready-is _ (not-false _ (passed (checks H o (UnshelveCancelled g)) ok).1.0))
   moved-stays o (Missing n) ok =
       left-stays Waiting (is_kept_for (place H n) h)
       (λ e. let f : Fits (goal_of H) (HoldShelf h) h (state H h) = rw (kept-is (place H n) h e) at (inv.bound.fits n h (rw (kept-is (place H n) h e) refl)) in not_ready f)
   moved-stays o _ ok = is
 
-  made-stays : (o : Owner) (c : Command) (made : Option HoldFacts) → refusal H o c ≡ None → state_made H (place H) (state H) made c h ≡ Some s
+  made-stays : (o : Owner) (c : Command) (made : Option HoldFacts) → refusal H o c ≡ None → state_made H (place H) (state H) (is_begun H) made c h ≡ Some s
   made-stays o c (Some made) ok =
       left-stays Waiting (next_hold H == h) (λ e. some-none _ s is (inv.unplaced h (unheld H h (omega (arith, eqb-true (next_hold H) h e)))))
   made-stays o c None ok = moved-stays o c ok

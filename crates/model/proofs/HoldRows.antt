@@ -8,7 +8,7 @@ use Rattle.terms.specs.declared.row.HoldState.{HoldState}
 use Rattle.terms.specs.declared.row.HoldState.TheVariants.{Waiting, Ready, Filled, Cancelled, Expired}
 use Rattle.model.specs.Checks.{is_within}
 use Rattle.model.specs.History.{History, today, loans, loans_after, next_loan, HoldFacts, hold_made, hold_of, hold_after, holds, holds_after, next_hold}
-use Rattle.model.specs.Places.{place, state, state_moved, state_made, state_at, state_unshelved, route, route_by, kept_for_by, is_kept_for, goal_of, fills_by}
+use Rattle.model.specs.Places.{place, state, state_moved, state_made, state_at, state_unshelved, route, route_by, kept_for_by, is_kept_for, goal_of, fills_by, is_begun}
 use Rattle.model.specs.Loans.{LoanFacts, loan_of, loan_after, terms_for, no_terms}
 use Rattle.model.specs.Picture.{hold_row, hold_columns}
 use Rattle.model.specs.Requests.{IsLegal}
@@ -56,23 +56,23 @@ left-stated : (s : Option HoldState) (ends : HoldState) (b : Bool) → IsStated 
 left-stated s ends true there = (ends, refl)
 left-stated s ends false there = there
 
-unshelved-stated : (H : History) (g : ℕ) (ends : HoldState) (found : Option ℕ) (h : ℕ) → IsStated (state H h) → IsStated (state_unshelved H (place H) (state H) g ends found h)
+unshelved-stated : (H : History) (g : ℕ) (ends : HoldState) (found : Option ℕ) (h : ℕ) → IsStated (state H h) → IsStated (state_unshelved H (place H) (state H) (is_begun H) g ends found h)
 unshelved-stated H g ends None h there = left-stated (state H h) ends (g == h) there
 unshelved-stated H g ends (Some c) h there =
-    left-stated (state_at H (place H) (state H) (route_by H (place H) (state H) c (goal_of H g)) h) ends (g == h)
-    (left-stated (state H h) Ready (is_kept_for (route_by H (place H) (state H) c (goal_of H g)) h) there)
+    left-stated (state_at H (place H) (state H) (is_begun H) (route_by H (place H) (state H) (is_begun H) c (goal_of H g)) h) ends (g == h)
+    (left-stated (state H h) Ready (is_kept_for (route_by H (place H) (state H) (is_begun H) c (goal_of H g)) h) there)
 
-moved-state : (H : History) (x : Command) (h : ℕ) → IsStated (state H h) → IsStated (state_moved H (place H) (state H) x h)
-moved-state H (CheckOut p c b) h before = left-stated (state H h) Filled (fills_by H (place H) (state H) p c h) before
+moved-state : (H : History) (x : Command) (h : ℕ) → IsStated (state H h) → IsStated (state_moved H (place H) (state H) (is_begun H) x h)
+moved-state H (CheckOut p c b) h before = left-stated (state H h) Filled (fills_by H (place H) (state H) (is_begun H) p c h) before
 moved-state H (CheckIn c b) h before = left-stated (state H h) Ready (is_kept_for (route H c b) h) before
 moved-state H (CancelHold g) h before = left-stated (state H h) Cancelled (g == h) before
-moved-state H (Unshelve g) h before = unshelved-stated H g Expired (kept_for_by H (place H) (state H) g) h before
-moved-state H (UnshelveCancelled g) h before = unshelved-stated H g Cancelled (kept_for_by H (place H) (state H) g) h before
+moved-state H (Unshelve g) h before = unshelved-stated H g Expired (kept_for_by H (place H) (state H) (is_begun H) g) h before
+moved-state H (UnshelveCancelled g) h before = unshelved-stated H g Cancelled (kept_for_by H (place H) (state H) (is_begun H) g) h before
 moved-state H (Missing c) h before = left-stated (state H h) Waiting (is_kept_for (place H c) h) before
 moved-state H _ h before = before
 
 state-step : (H : History) (x : Command) (made : Option HoldFacts) (h : ℕ) (r : HoldFacts) → hold_after H made h (hold_of H h) ≡ Some r → ((q : HoldFacts) → hold_of H h ≡ Some q → IsStated (state H h))
-    → IsStated (state_made H (place H) (state H) made x h)
+    → IsStated (state_made H (place H) (state H) (is_begun H) made x h)
 state-step H x (Some made) h r e before = go (next_hold H == h) e
   where
     go : (b : Bool) → cond b (Some made) (hold_of H h) ≡ Some r → IsStated (left (state H h) Waiting b)

@@ -10,7 +10,7 @@ use Rattle.terms.specs.declared.command.Owner.{Owner}
 use Rattle.terms.specs.declared.command.Command.{Command}
 use Rattle.terms.specs.declared.command.Command.TheVariants.{CheckOut, CheckIn, Missing}
 use Rattle.model.specs.History.{History, today, Terms, rule_of, PatronFacts, patron_of, title_of, CopyFacts, copy_of, next_loan, HoldFacts, hold_made, hold_of, hold_after, next_hold}
-use Rattle.model.specs.Places.{Place, Shelf, HoldShelf, Transit, Loan, place, state, route_by, goal_of, home_of}
+use Rattle.model.specs.Places.{Place, Shelf, HoldShelf, Transit, Loan, place, state, route_by, goal_of, home_of, is_begun}
 use Rattle.model.specs.Loans.{LoanFacts, loan_of, loan_after, ended, ended_after, is_loan_of_copy, terms_for, no_terms}
 use Rattle.model.specs.Invariant.{Invariant}
 use Rattle.model.specs.Refusals.{refusal, checks, is_bad_first_day}
@@ -131,7 +131,7 @@ module _ (H : History) (inv : Invariant H) (settings : SettingRanges H) (before 
     withdrawn = tt;
   }
 
-  pub routed-in : (c b : ℕ) (f : CopyFacts) → copy_of H c ≡ Some f → PlaceIn (route_by H (place H) (state H) c b)
+  pub routed-in : (c b : ℕ) (f : CopyFacts) → copy_of H c ≡ Some f → PlaceIn (route_by H (place H) (state H) (is_begun H) c b)
   routed-in c b f known = route-keeps H inv PlaceIn places-keep o c b f known
 
 pub legal-LendingRanges : (H : History) → IsLegal H → HasForms H → LendingRanges H

@@ -38,7 +38,7 @@ abbrev pub IsFirstInLine : History → ℕ → Type 0
 IsFirstInLine H h = (t : ℕ) × (hs : List ℕ) × (line H t ≡ h ∷ hs)
 
 -- Where routing has a copy serve h, the copy served it before or h was the first of its line.
-route_to-serves : (H : History) (n b h : ℕ) (hs : List ℕ) → line H (title_of_copy H n) ≡ hs → Serves (route_to H (place H) (state H) n b hs) h → IsFirstInLine H h
+route_to-serves : (H : History) (n b h : ℕ) (hs : List ℕ) → line H (title_of_copy H n) ≡ hs → Serves (route_to H (place H) (state H) (is_begun H) n b hs) h → IsFirstInLine H h
 route_to-serves H n b h [] at s = absurd (go (home_of H n == b) s)
   where
     go : (x : Bool) → Serves (elim x as (λ _. Place) [ true ↦ Shelf b | false ↦ Transit (home_of H n) None ]) h → ⊥
@@ -50,7 +50,7 @@ route_to-serves H n b h (g ∷ gs) at s = (title_of_copy H n, gs, at ∙ ap (λ 
     go true s = s
     go false s = s
 
-route_from-serves : (H : History) (n b h : ℕ) (p : Place) → place H n ≡ p → Serves (route_from H (place H) (state H) n b p) h → Serves (place H n) h ⊎ IsFirstInLine H h
+route_from-serves : (H : History) (n b h : ℕ) (p : Place) → place H n ≡ p → Serves (route_from H (place H) (state H) (is_begun H) n b p) h → Serves (place H n) h ⊎ IsFirstInLine H h
 route_from-serves H n b h (Transit g (Some j)) at s = inl (rw at (go (g == b) s))
   where
     go : (x : Bool) → Serves (elim x as (λ _. Place) [ true ↦ HoldShelf j | false ↦ Transit g (Some j) ]) h → j ≡ h
@@ -95,11 +95,11 @@ module _ (H : History) (h : ℕ) (inv : IsBound H) (stands : WaitsForCopy H h) w
       go true s = off s
       go false s = nobody c s
 
-  fills_first-is : (t p : ℕ) (hs : List ℕ) → line H t ≡ hs → fills_first H (place H) (state H) p hs h ≡ true → IsFirstInLine H h
+  fills_first-is : (t p : ℕ) (hs : List ℕ) → line H t ≡ hs → fills_first H (place H) (state H) (is_begun H) p hs h ≡ true → IsFirstInLine H h
   fills_first-is t p [] at e = let never : ⊥ = cc in absurd never
   fills_first-is t p (g ∷ gs) at e = (t, gs, at ∙ ap (λ j. j ∷ gs) (eqb-true g h (and_parts _ _ e).0))
 
-  fills-first : (n p : ℕ) (at : Place) → place H n ≡ at → fills_from H (place H) (state H) p n at h ≡ true → IsFirstInLine H h
+  fills-first : (n p : ℕ) (at : Place) → place H n ≡ at → fills_from H (place H) (state H) (is_begun H) p n at h ≡ true → IsFirstInLine H h
   fills-first n p (HoldShelf g) at e = absurd (nobody n (rw at (eqb-true g h e)))
   fills-first n p (Shelf b) at e = fills_first-is (title_of_copy H n) p (line H (title_of_copy H n)) refl e
   fills-first n p _ at e = let never : ⊥ = cc in absurd never
@@ -110,18 +110,18 @@ module _ (H : History) (h : ℕ) (inv : IsBound H) (stands : WaitsForCopy H h) w
   -- h stands in line after a command and the hold that it makes.
   abbrev StandsAfter : Command → Option HoldFacts → Type 0
   StandsAfter c made =
-      (state_made H (place H) (state H) made c h ≡ Some Waiting) × (list_any (λ x. is_bound_for (place_after H (place H) (state H) c x) h) (copies_after H c (copies H)) ≡ false)
+      (state_made H (place H) (state H) (is_begun H) made c h ≡ Some Waiting) × (list_any (λ x. is_bound_for (place_after H (place H) (state H) (is_begun H) c x) h) (copies_after H c (copies H)) ≡ false)
 
   next-after : (o : Owner) (k : List ℕ) (c : Command) → Next o k c → StandsAfter c (hold_made c) ⊎ IsFirstInLine H h
   next-after o k c (inl still) = inl (still.waits, still.uncoming)
   next-after o k c (inr first) = inr first
 
   check_out-line : (o : Owner) (k : List ℕ) (p n b : ℕ) → Next o k (CheckOut p n b)
-  check_out-line o k p n b = go (fills_by H (place H) (state H) p n h) refl
+  check_out-line o k p n b = go (fills_by H (place H) (state H) (is_begun H) p n h) refl
     where
-      go : (x : Bool) → fills_by H (place H) (state H) p n h ≡ x → Next o k (CheckOut p n b)
+      go : (x : Bool) → fills_by H (place H) (state H) (is_begun H) p n h ≡ x → Next o k (CheckOut p n b)
       go true e = inr (fills-first n p (place H n) refl e)
-      go false e = inl (record { waits = stays (fills_by H (place H) (state H) p n h) e; uncoming = quiet (copies H) _ (move-quiet n _ (λ s. s)) })
+      go false e = inl (record { waits = stays (fills_by H (place H) (state H) (is_begun H) p n h) e; uncoming = quiet (copies H) _ (move-quiet n _ (λ s. s)) })
         where
           stays : (x : Bool) → x ≡ false → left (state H h) Filled x ≡ Some Waiting
           stays true e = let never : ⊥ = cc in absurd never
@@ -177,7 +177,7 @@ module _ (H : History) (h : ℕ) (inv : IsBound H) (stands : WaitsForCopy H h) w
   new_hold-line c made e =
       let still = moves-nothing H c made e in (
         stays (next_hold H == h),
-        ap (list_any (λ x. is_bound_for (place_after H (place H) (state H) c x) h)) still.copies ∙ quiet (copies H) _ (λ x s. nobody x (subst (λ p. Serves p h) (still.places x) s)),
+        ap (list_any (λ x. is_bound_for (place_after H (place H) (state H) (is_begun H) c x) h)) still.copies ∙ quiet (copies H) _ (λ x s. nobody x (subst (λ p. Serves p h) (still.places x) s)),
       )
     where
       stays : (x : Bool) → left (state H h) Waiting x ≡ Some Waiting
@@ -191,7 +191,7 @@ module _ (H : History) (h : ℕ) (inv : IsBound H) (stands : WaitsForCopy H h) w
       stays true e = let never : ⊥ = cc in absurd never
       stays false e = stands.waits
 
-      before : (p : Place) → Serves (place_let_go H (place H) (state H) g p) h → Serves p h
+      before : (p : Place) → Serves (place_let_go H (place H) (state H) (is_begun H) g p) h → Serves p h
       before (Transit b (Some j)) s = two (g == j) s
         where
           two : (x : Bool) → Serves (elim x as (λ _. Place) [ true ↦ Transit b None | false ↦ Transit b (Some j) ]) h → j ≡ h
@@ -213,10 +213,10 @@ module _ (H : History) (h : ℕ) (inv : IsBound H) (stands : WaitsForCopy H h) w
         go true e = let two : Some Waiting ≡ Some Ready = sym stands.waits ∙ (rw (← eqb-true g h e) ready) in let never : ⊥ = cc in absurd never
         go false e = refl
 
-    unshelved-waits : (Serves (route H n (goal_of H g)) h → ⊥) → state_unshelved H (place H) (state H) g ends (kept_for_by H (place H) (state H) g) h ≡ Some Waiting
+    unshelved-waits : (Serves (route H n (goal_of H g)) h → ⊥) → state_unshelved H (place H) (state H) (is_begun H) g ends (kept_for_by H (place H) (state H) (is_begun H) g) h ≡ Some Waiting
     unshelved-waits off = rw (kept-found H n g inv at, state_unshelved, other_hold) (arrived-waits (route H n (goal_of H g)) off)
 
-    unshelved-quiet : (Serves (route H n (goal_of H g)) h → ⊥) → (c : ℕ) → Serves (place_unshelved H (place H) (state H) g c) h → ⊥
+    unshelved-quiet : (Serves (route H n (goal_of H g)) h → ⊥) → (c : ℕ) → Serves (place_unshelved H (place H) (state H) (is_begun H) g c) h → ⊥
     unshelved-quiet off c = go (is_kept_for (place H c) g) refl
       where
         go : (x : Bool) → is_kept_for (place H c) g ≡ x → Serves (elim x as (λ _. Place) [ true ↦ route H c (goal_of H g) | false ↦ place H c ]) h → ⊥

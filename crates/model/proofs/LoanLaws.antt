@@ -8,7 +8,7 @@ use Rattle.terms.specs.declared.row.HoldState.{HoldState}
 use Rattle.terms.specs.declared.command.Command.{Command}
 use Rattle.terms.specs.declared.command.Command.TheVariants.{BeginDay, Acquire, CheckOut, CheckIn, Renew, CancelHold, Unshelve, UnshelveCancelled, Missing, Withdraw}
 use Rattle.model.specs.History.{History, today, CopyFacts, copy_of, copy_after, loans, loans_after, next_loan, HoldFacts, hold_made, hold_of, hold_after, holds, holds_after, next_hold}
-use Rattle.model.specs.Places.{Place, Nowhere, Shelf, HoldShelf, Transit, Loan, MissingCopy, WithdrawnCopy, place, state, place_after, place_let_go, place_unshelved, is_kept_for, route_by, route_from, route_to, line_by, goal_of, home_of, title_of_copy}
+use Rattle.model.specs.Places.{Place, Nowhere, Shelf, HoldShelf, Transit, Loan, MissingCopy, WithdrawnCopy, place, state, place_after, place_let_go, place_unshelved, is_kept_for, route_by, route_from, route_to, line_by, goal_of, home_of, title_of_copy, is_begun}
 use Rattle.model.specs.Loans.{LoanFacts, loan_of, loan_after, ended, ended_after, is_loan_of_copy, renewals, renewals_after, terms_for, no_terms}
 use Rattle.model.specs.Refusals.{checks, refusal, is_own, is_on_loan, has_copy}
 use Rattle.model.specs.Accounts.{borrower}
@@ -35,25 +35,25 @@ none-or (Some x) b e = let never : ⊥ = cc in absurd never
 none-or None b e = (refl, e)
 
 -- A routed copy is on no loan.
-route_to-free : (H : History) (places : ℕ → Place) (states : ℕ → Option HoldState) (c b : ℕ) (hs : List ℕ) → is_on_loan (route_to H places states c b hs) ≡ false
-route_to-free H places states c b (h ∷ hs) = go (goal_of H h == b)
+route_to-free : (H : History) (places : ℕ → Place) (states : ℕ → Option HoldState) (begun : ℕ → Bool) (c b : ℕ) (hs : List ℕ) → is_on_loan (route_to H places states begun c b hs) ≡ false
+route_to-free H places states begun c b (h ∷ hs) = go (goal_of H h == b)
   where
     go : (x : Bool) → is_on_loan (elim x as (λ _. Place) [ true ↦ HoldShelf h | false ↦ Transit (goal_of H h) (Some h) ]) ≡ false
     go true = refl
     go false = refl
-route_to-free H places states c b [] = go (home_of H c == b)
+route_to-free H places states begun c b [] = go (home_of H c == b)
   where
     go : (x : Bool) → is_on_loan (elim x as (λ _. Place) [ true ↦ Shelf b | false ↦ Transit (home_of H c) None ]) ≡ false
     go true = refl
     go false = refl
 
-route_from-free : (H : History) (places : ℕ → Place) (states : ℕ → Option HoldState) (c b : ℕ) (p : Place) → is_on_loan (route_from H places states c b p) ≡ false
-route_from-free H places states c b (Transit g (Some h)) = go (g == b)
+route_from-free : (H : History) (places : ℕ → Place) (states : ℕ → Option HoldState) (begun : ℕ → Bool) (c b : ℕ) (p : Place) → is_on_loan (route_from H places states begun c b p) ≡ false
+route_from-free H places states begun c b (Transit g (Some h)) = go (g == b)
   where
     go : (x : Bool) → is_on_loan (elim x as (λ _. Place) [ true ↦ HoldShelf h | false ↦ Transit g (Some h) ]) ≡ false
     go true = refl
     go false = refl
-route_from-free H places states c b _ = route_to-free H places states c b (line_by H places states (title_of_copy H c))
+route_from-free H places states begun c b _ = route_to-free H places states begun c b (line_by H places states begun (title_of_copy H c))
 
 -- ---- one event
 
@@ -109,19 +109,19 @@ module _ (H : History) (inv : LoanLaws H) (o : Owner) where
   -- ---- places
 
   abbrev after : Command → ℕ → Place
-  after x c = place_after H (place H) (state H) x c
+  after x c = place_after H (place H) (state H) (is_begun H) x c
 
   free-ne : (p : Place) (l : ℕ) → is_on_loan p ≡ false → p ≡ Loan l → ⊥
   free-ne p l e f = let yes' : is_on_loan p ≡ true = ap is_on_loan f in let never : ⊥ = cc in never
 
-  unshelved-loan : (g c l : ℕ) → place_unshelved H (place H) (state H) g c ≡ Loan l → place H c ≡ Loan l
+  unshelved-loan : (g c l : ℕ) → place_unshelved H (place H) (state H) (is_begun H) g c ≡ Loan l → place H c ≡ Loan l
   unshelved-loan g c l e = go (is_kept_for (place H c) g) e
     where
-      go : (x : Bool) → (elim x as (λ _. Place) [ true ↦ route_by H (place H) (state H) c (goal_of H g) | false ↦ place H c ]) ≡ Loan l → place H c ≡ Loan l
-      go true f = absurd (free-ne _ l (route_from-free H (place H) (state H) c (goal_of H g) (place H c)) f)
+      go : (x : Bool) → (elim x as (λ _. Place) [ true ↦ route_by H (place H) (state H) (is_begun H) c (goal_of H g) | false ↦ place H c ]) ≡ Loan l → place H c ≡ Loan l
+      go true f = absurd (free-ne _ l (route_from-free H (place H) (state H) (is_begun H) c (goal_of H g) (place H c)) f)
       go false f = f
 
-  let_go-loan : (h : ℕ) (p : Place) (l : ℕ) → place_let_go H (place H) (state H) h p ≡ Loan l → p ≡ Loan l
+  let_go-loan : (h : ℕ) (p : Place) (l : ℕ) → place_let_go H (place H) (state H) (is_begun H) h p ≡ Loan l → p ≡ Loan l
   let_go-loan h (Transit b (Some g)) l e = go (h == g) e
     where
       go : (x : Bool) → (elim x as (λ _. Place) [ true ↦ Transit b None | false ↦ Transit b (Some g) ]) ≡ Loan l → Transit b (Some g) ≡ Loan l
@@ -181,8 +181,8 @@ module _ (H : History) (inv : LoanLaws H) (o : Owner) where
       go false d f = old_at (inv.on_loan c l f)
   on_loan-step (CheckIn n b) ok c l e = go (n == c) refl e
     where
-      go : (x : Bool) → (n == c) ≡ x → (elim x as (λ _. Place) [ true ↦ route_by H (place H) (state H) n b | false ↦ place H c ]) ≡ Loan l → OnLoan (CheckIn n b) c l
-      go true d f = absurd (free-ne _ l (route_from-free H (place H) (state H) n b (place H n)) f)
+      go : (x : Bool) → (n == c) ≡ x → (elim x as (λ _. Place) [ true ↦ route_by H (place H) (state H) (is_begun H) n b | false ↦ place H c ]) ≡ Loan l → OnLoan (CheckIn n b) c l
+      go true d f = absurd (free-ne _ l (route_from-free H (place H) (state H) (is_begun H) n b (place H n)) f)
       go false d f = let w : OnLoan (BeginDay 0) c l = inv.on_loan c l f in (w.0, w.1, w.2, goes_on n c l d w.0 w.1 w.2 w.3)
   on_loan-step (Missing n) ok c l e = go (n == c) refl e
     where
@@ -223,13 +223,13 @@ module _ (H : History) (inv : LoanLaws H) (o : Owner) where
             let never : ⊥ = cc in never,
       )
 
-  unshelved-keeps : (g c l : ℕ) → place H c ≡ Loan l → place_unshelved H (place H) (state H) g c ≡ Loan l
+  unshelved-keeps : (g c l : ℕ) → place H c ≡ Loan l → place_unshelved H (place H) (state H) (is_begun H) g c ≡ Loan l
   unshelved-keeps g c l at =
-      ap (λ x. elim (is_kept_for x g) as (λ _. Place) [ true ↦ route_by H (place H) (state H) c (goal_of H g) | false ↦ place H c ]) at ∙ at
+      ap (λ x. elim (is_kept_for x g) as (λ _. Place) [ true ↦ route_by H (place H) (state H) (is_begun H) c (goal_of H g) | false ↦ place H c ]) at ∙ at
 
-  unshelved-nowhere : (g c : ℕ) → place H c ≡ Nowhere → place_unshelved H (place H) (state H) g c ≡ Nowhere
+  unshelved-nowhere : (g c : ℕ) → place H c ≡ Nowhere → place_unshelved H (place H) (state H) (is_begun H) g c ≡ Nowhere
   unshelved-nowhere g c at =
-      ap (λ x. elim (is_kept_for x g) as (λ _. Place) [ true ↦ route_by H (place H) (state H) c (goal_of H g) | false ↦ place H c ]) at ∙ at
+      ap (λ x. elim (is_kept_for x g) as (λ _. Place) [ true ↦ route_by H (place H) (state H) (is_begun H) c (goal_of H g) | false ↦ place H c ]) at ∙ at
 
   -- A command that wants its copy to be there touches none that isn't.
   untouched : (n c : ℕ) (q : Place) → not (has_copy H n) ≡ false → copy_of H c ≡ None → (elim (n == c) as (λ _. Place) [ true ↦ q | false ↦ place H c ]) ≡ Nowhere
@@ -274,7 +274,7 @@ module _ (H : History) (inv : LoanLaws H) (o : Owner) where
       go false d f = kept_at (inv.open_loan l r f none)
   open_loan-step (CheckIn n b) ok l r e none =
       let w : (ended H l ≡ None) × ((n == r.copy) ≡ true → ⊥) = other_copy n l r e none in
-      keeps n r.copy l (route_by H (place H) (state H) n b) w.1 (inv.open_loan l r e w.0)
+      keeps n r.copy l (route_by H (place H) (state H) (is_begun H) n b) w.1 (inv.open_loan l r e w.0)
   open_loan-step (Missing n) ok l r e none =
       let w : (ended H l ≡ None) × ((n == r.copy) ≡ true → ⊥) = other_copy n l r e none in
       keeps n r.copy l MissingCopy w.1 (inv.open_loan l r e w.0)
@@ -285,7 +285,7 @@ module _ (H : History) (inv : LoanLaws H) (o : Owner) where
       let shut : is_on_loan (place H n) ≡ false = k.1.1.0 in
       let lent' : is_on_loan (place H n) ≡ true = subst (λ m. is_on_loan (place H m) ≡ true) (sym (eqb-true n r.copy d)) (ap is_on_loan at) in
       let never : ⊥ = cc in never) at
-  open_loan-step (CancelHold h) ok l r e none = ap (λ p. place_let_go H (place H) (state H) h p) (inv.open_loan l r e none) ∙ refl
+  open_loan-step (CancelHold h) ok l r e none = ap (λ p. place_let_go H (place H) (state H) (is_begun H) h p) (inv.open_loan l r e none) ∙ refl
   open_loan-step (Unshelve g) ok l r e none = unshelved-keeps g r.copy l (inv.open_loan l r e none)
   open_loan-step (UnshelveCancelled g) ok l r e none = unshelved-keeps g r.copy l (inv.open_loan l r e none)
   open_loan-step _ ok l r e none = inv.open_loan l r e none
@@ -302,10 +302,10 @@ module _ (H : History) (inv : LoanLaws H) (o : Owner) where
       go false true None d g = inv.unknown c d
       go false false None d g = inv.unknown c d
   unknown-step (CheckOut p n b) ok c e = let k = passed (checks H o (CheckOut p n b)) ok in untouched n c (Loan (next_loan H)) k.1.1.0 e
-  unknown-step (CheckIn n b) ok c e = let k = passed (checks H o (CheckIn n b)) ok in untouched n c (route_by H (place H) (state H) n b) k.1.0 e
+  unknown-step (CheckIn n b) ok c e = let k = passed (checks H o (CheckIn n b)) ok in untouched n c (route_by H (place H) (state H) (is_begun H) n b) k.1.0 e
   unknown-step (Missing n) ok c e = let k = passed (checks H o (Missing n)) ok in untouched n c MissingCopy k.0 e
   unknown-step (Withdraw n) ok c e = let k = passed (checks H o (Withdraw n)) ok in untouched n c WithdrawnCopy k.0 e
-  unknown-step (CancelHold h) ok c e = ap (λ p. place_let_go H (place H) (state H) h p) (inv.unknown c e)
+  unknown-step (CancelHold h) ok c e = ap (λ p. place_let_go H (place H) (state H) (is_begun H) h p) (inv.unknown c e)
   unknown-step (Unshelve g) ok c e = unshelved-nowhere g c (inv.unknown c e)
   unknown-step (UnshelveCancelled g) ok c e = unshelved-nowhere g c (inv.unknown c e)
   unknown-step _ ok c e = inv.unknown c e

@@ -6,7 +6,7 @@ use Rattle.terms.specs.declared.command.Owner.{Owner}
 use Rattle.terms.specs.declared.command.Command.{Command}
 use Rattle.terms.specs.declared.command.Command.TheVariants.{Acquire, CheckOut, CheckIn, PlaceHold, CancelHold, Unshelve, UnshelveCancelled, Missing, Withdraw}
 use Rattle.model.specs.History.{History, title_of, copy_of, copy_after, copies, copies_after, HoldFacts, hold_made, holds}
-use Rattle.model.specs.Places.{place, state, place_after, limit_after}
+use Rattle.model.specs.Places.{place, state, place_after, limit_after, is_begun}
 use Rattle.model.specs.DueDays.{comes_to_shelf}
 use Rattle.model.specs.Refusals.{refusal, checks, has_patron, has_branch, is_bad_first_day}
 use Rattle.model.proofs.Passing.{passed}
@@ -28,7 +28,7 @@ placeable H o _ made ok e = let never : ⊥ = cc in absurd never
 
 -- The command moves no copy, and sets no shelf limit.
 pub record MovesNothing (H : History) (c : Command) : Type 0 where
-  pub places : (x : ℕ) → place_after H (place H) (state H) c x ≡ place H x
+  pub places : (x : ℕ) → place_after H (place H) (state H) (is_begun H) c x ≡ place H x
   pub copies : copies_after H c (copies H) ≡ copies H
   pub facts : (x : ℕ) → copy_after c x (copy_of H x) ≡ copy_of H x
   pub comes : (h : ℕ) → comes_to_shelf H c h ≡ false

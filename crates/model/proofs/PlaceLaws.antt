@@ -8,7 +8,7 @@ use Rattle.terms.specs.declared.row.HoldState.TheVariants.{Waiting}
 use Rattle.terms.specs.declared.command.Command.{Command}
 use Rattle.terms.specs.declared.command.Command.TheVariants.{Acquire, CheckOut, CheckIn, CancelHold, Unshelve, UnshelveCancelled, Missing, Withdraw}
 use Rattle.model.specs.History.{History, numbers_to, CopyFacts, copy_of, copy_after, next_loan, HoldFacts, hold_made, hold_of, hold_after, holds, next_hold}
-use Rattle.model.specs.Places.{Place, Nowhere, Shelf, HoldShelf, Transit, Loan, MissingCopy, WithdrawnCopy, place, state, place_after, place_let_go, place_unshelved, is_kept_for, route_by, route_from, route_to, line_by, goal_of, home_of, title_of_copy, title_of_hold}
+use Rattle.model.specs.Places.{Place, Nowhere, Shelf, HoldShelf, Transit, Loan, MissingCopy, WithdrawnCopy, place, state, place_after, place_let_go, place_unshelved, is_kept_for, route_by, route_from, route_to, line_by, goal_of, home_of, title_of_copy, title_of_hold, is_begun}
 use Rattle.model.specs.Invariant.{Serves, Fits, Bound}
 use Rattle.model.proofs.Bindings.{filter-head, both}
 use Rattle.model.proofs.MadeHolds.{moves-nothing}
@@ -20,14 +20,14 @@ pub record PlaceLaws (H : History) : Type 0 where
   pub of_title : (c h : ℕ) → Serves (place H c) h → title_of_hold H h ≡ title_of_copy H c
 
 module _ (H : History) where
-  line-title : (t h : ℕ) (hs : List ℕ) → line_by H (place H) (state H) t ≡ h ∷ hs → title_of_hold H h ≡ t
+  line-title : (t h : ℕ) (hs : List ℕ) → line_by H (place H) (state H) (is_begun H) t ≡ h ∷ hs → title_of_hold H h ≡ t
   line-title t h hs e = eqb-true _ _ (both _ _ (filter-head _ (numbers_to (holds H)) h hs e)).0
 
   -- What a routed copy is: at home on a shelf, else serving a hold of its title, or bound home.
   abbrev RouteOk : ℕ → Place → Type 0
   RouteOk c q = (q ≡ Nowhere → ⊥) × ((n : ℕ) → q ≡ Shelf n → home_of H c ≡ n) × ((h : ℕ) → Serves q h → title_of_hold H h ≡ title_of_copy H c)
 
-  route_to-ok : (c b : ℕ) (hs : List ℕ) → line_by H (place H) (state H) (title_of_copy H c) ≡ hs → RouteOk c (route_to H (place H) (state H) c b hs)
+  route_to-ok : (c b : ℕ) (hs : List ℕ) → line_by H (place H) (state H) (is_begun H) (title_of_copy H c) ≡ hs → RouteOk c (route_to H (place H) (state H) (is_begun H) c b hs)
   route_to-ok c b (h ∷ hs) e = go (goal_of H h == b)
     where
       title : title_of_hold H h ≡ title_of_copy H c
@@ -42,17 +42,17 @@ module _ (H : History) where
       go true d = ((λ q. let never : ⊥ = cc in never), (λ n q. let same : b ≡ n = cc in eqb-true _ _ d ∙ same), (λ k s. absurd s))
       go false d = ((λ q. let never : ⊥ = cc in never), (λ n q. let never : ⊥ = cc in absurd never), (λ k s. absurd s))
 
-  route-ok : (c b : ℕ) (p : Place) → ((h : ℕ) → Serves p h → title_of_hold H h ≡ title_of_copy H c) → RouteOk c (route_from H (place H) (state H) c b p)
+  route-ok : (c b : ℕ) (p : Place) → ((h : ℕ) → Serves p h → title_of_hold H h ≡ title_of_copy H c) → RouteOk c (route_from H (place H) (state H) (is_begun H) c b p)
   route-ok c b (Transit g (Some h)) t = go (g == b)
     where
       go : (x : Bool) → RouteOk c (elim x as (λ _. Place) [ true ↦ HoldShelf h | false ↦ Transit g (Some h) ])
       go true = ((λ q. let never : ⊥ = cc in never), (λ n q. let never : ⊥ = cc in absurd never), t)
       go false = ((λ q. let never : ⊥ = cc in never), (λ n q. let never : ⊥ = cc in absurd never), t)
-  route-ok c b _ t = route_to-ok c b (line_by H (place H) (state H) (title_of_copy H c)) refl
+  route-ok c b _ t = route_to-ok c b (line_by H (place H) (state H) (is_begun H) (title_of_copy H c)) refl
 
 module _ (H : History) (inv : PlaceLaws H) (loans_ok : LoanLaws H) (bound : Bound (goal_of H) (place H) (state H)) (o : Owner) where
   abbrev after : Command → ℕ → Place
-  after x c = place_after H (place H) (state H) x c
+  after x c = place_after H (place H) (state H) (is_begun H) x c
 
   -- What holds of a copy in this place, with the copies and holds as they are.
   abbrev PlaceOk : ℕ → Place → Type 0
@@ -61,8 +61,8 @@ module _ (H : History) (inv : PlaceLaws H) (loans_ok : LoanLaws H) (bound : Boun
   was_ok : (c : ℕ) → PlaceOk c (place H c)
   was_ok c = (inv.somewhere c, inv.at_home c, inv.of_title c)
 
-  routed_ok : (c b : ℕ) → PlaceOk c (route_by H (place H) (state H) c b)
-  routed_ok c b = let r : RouteOk H c (route_from H (place H) (state H) c b (place H c)) = route-ok H c b (place H c) (inv.of_title c) in ((λ e. absurd (r.0 e)), r.1, r.2)
+  routed_ok : (c b : ℕ) → PlaceOk c (route_by H (place H) (state H) (is_begun H) c b)
+  routed_ok c b = let r : RouteOk H c (route_from H (place H) (state H) (is_begun H) c b (place H c)) = route-ok H c b (place H c) (inv.of_title c) in ((λ e. absurd (r.0 e)), r.1, r.2)
 
   moved_ok : (n c : ℕ) (q : Place) → PlaceOk n q → PlaceOk c (elim (n == c) as (λ _. Place) [ true ↦ q | false ↦ place H c ])
   moved_ok n c q w = go (n == c) refl
@@ -71,7 +71,7 @@ module _ (H : History) (inv : PlaceLaws H) (loans_ok : LoanLaws H) (bound : Boun
       go true d = subst (λ m. PlaceOk m q) (eqb-true n c d) w
       go false d = was_ok c
 
-  let_go_ok : (h c : ℕ) (p : Place) → PlaceOk c p → PlaceOk c (place_let_go H (place H) (state H) h p)
+  let_go_ok : (h c : ℕ) (p : Place) → PlaceOk c p → PlaceOk c (place_let_go H (place H) (state H) (is_begun H) h p)
   let_go_ok h c (Transit b (Some g)) w = go (h == g)
     where
       go : (x : Bool) → PlaceOk c (elim x as (λ _. Place) [ true ↦ Transit b None | false ↦ Transit b (Some g) ])
@@ -80,10 +80,10 @@ module _ (H : History) (inv : PlaceLaws H) (loans_ok : LoanLaws H) (bound : Boun
   let_go_ok h c (Transit b None) w = w
   let_go_ok h c _ w = w
 
-  unshelved_ok : (g c : ℕ) → PlaceOk c (place_unshelved H (place H) (state H) g c)
+  unshelved_ok : (g c : ℕ) → PlaceOk c (place_unshelved H (place H) (state H) (is_begun H) g c)
   unshelved_ok g c = go (is_kept_for (place H c) g)
     where
-      go : (x : Bool) → PlaceOk c (elim x as (λ _. Place) [ true ↦ route_by H (place H) (state H) c (goal_of H g) | false ↦ place H c ])
+      go : (x : Bool) → PlaceOk c (elim x as (λ _. Place) [ true ↦ route_by H (place H) (state H) (is_begun H) c (goal_of H g) | false ↦ place H c ])
       go true = routed_ok c (goal_of H g)
       go false = was_ok c
 
@@ -97,7 +97,7 @@ module _ (H : History) (inv : PlaceLaws H) (loans_ok : LoanLaws H) (bound : Boun
   step_ok : (x : Command) (c : ℕ) → ((n t k home price : ℕ) (text : List ℕ) → x ≡ Acquire n t k home price text → ⊥) → PlaceOk c (after x c)
   step_ok (Acquire n t k home price text) c ne = absurd (ne n t k home price text refl)
   step_ok (CheckOut p n b) c ne = moved_ok n c (Loan (next_loan H)) (loan_ok n)
-  step_ok (CheckIn n b) c ne = moved_ok n c (route_by H (place H) (state H) n b) (routed_ok n b)
+  step_ok (CheckIn n b) c ne = moved_ok n c (route_by H (place H) (state H) (is_begun H) n b) (routed_ok n b)
   step_ok (Missing n) c ne = moved_ok n c MissingCopy (plain_ok n MissingCopy (λ e. let never : ⊥ = cc in never) (λ m e. let never : ⊥ = cc in never) (λ h s. s))
   step_ok (Withdraw n) c ne = moved_ok n c WithdrawnCopy (plain_ok n WithdrawnCopy (λ e. let never : ⊥ = cc in never) (λ m e. let never : ⊥ = cc in never) (λ h s. s))
   step_ok (CancelHold h) c ne = let_go_ok h c (place H c) (was_ok c)

@@ -42,18 +42,18 @@ pub record Keeps (H : History) (P : Place → Type 0) : Type 0 where
 module _ (H : History) (inv : Invariant H) (P : Place
     → Type 0) (keeps : Keeps H P) (o : Owner) where
   -- The first in line was placed.
-  first-keeps : (t h : ℕ) (hs : List ℕ) → line_by H (place H) (state H) t ≡ h ∷ hs
+  first-keeps : (t h : ℕ) (hs : List ℕ) → line_by H (place H) (state H) (is_begun H) t ≡ h ∷ hs
       → P (HoldShelf h) × P (Transit (goal_of H h) (Some h))
   first-keeps t h hs e =
       let test = both _ _ (filter-head _ (numbers_to (holds H)) h hs e) in
       let waits = (and_parts (is_waiting (state H h))
-      (not (is_coming_by H (place H) (state H) h) && is_begun H h) test.1).0 in
+      (not (is_coming_by H (place H) (state H) (is_begun H) h) && is_begun H h) test.1).0 in
       let hold = inv.placed h Waiting (waiting-is (state H h) waits) in
       keeps.to_hold h hold.0 hold.1
 
   route_to-keeps : (c b : ℕ) (f : CopyFacts) → copy_of H c ≡ Some f → (hs : List ℕ)
-      → line_by H (place H) (state H) (title_of_copy H c) ≡ hs
-      → P (route_to H (place H) (state H) c b hs)
+      → line_by H (place H) (state H) (is_begun H) (title_of_copy H c) ≡ hs
+      → P (route_to H (place H) (state H) (is_begun H) c b hs)
   route_to-keeps c b f known (h ∷ hs) e = go (goal_of H h == b)
     where
       first : P (HoldShelf h) × P (Transit (goal_of H h) (Some h))
@@ -75,18 +75,18 @@ module _ (H : History) (inv : Invariant H) (P : Place
       go false d = home.1
 
   route_from-keeps : (c b : ℕ) (f : CopyFacts) → copy_of H c ≡ Some f → (p : Place) → P p
-      → P (route_from H (place H) (state H) c b p)
+      → P (route_from H (place H) (state H) (is_begun H) c b p)
   route_from-keeps c b f known (Transit g (Some h)) was = go (g == b)
     where
       go : (x : Bool)
           → P (elim x as (λ _. Place) [ true ↦ HoldShelf h | false ↦ Transit g (Some h) ])
       go true = keeps.arrives g h was
       go false = was
-  route_from-keeps c b f known _ was = route_to-keeps c b f known (line_by H (place H) (state H)
+  route_from-keeps c b f known _ was = route_to-keeps c b f known (line_by H (place H) (state H) (is_begun H)
       (title_of_copy H c)) refl
 
   pub route-keeps : (c b : ℕ) (f : CopyFacts) → copy_of H c ≡ Some f
-      → P (route_by H (place H) (state H) c b)
+      → P (route_by H (place H) (state H) (is_begun H) c b)
   route-keeps c b f known = route_from-keeps c b f known (place H c) (keeps.now c)
 
   moved-keeps : (n c : ℕ) (q : Place) → P q
@@ -97,7 +97,7 @@ module _ (H : History) (inv : Invariant H) (P : Place
       go true = new
       go false = keeps.now c
 
-  let_go-keeps : (h : ℕ) (p : Place) → P p → P (place_let_go H (place H) (state H) h p)
+  let_go-keeps : (h : ℕ) (p : Place) → P p → P (place_let_go H (place H) (state H) (is_begun H) h p)
   let_go-keeps h (Transit b (Some g)) was = go (h == g)
     where
       go : (x : Bool)
@@ -111,13 +111,13 @@ module _ (H : History) (inv : Invariant H) (P : Place
   kept-somewhere Nowhere g e = let never : ⊥ = cc in absurd never
   kept-somewhere _ g e = λ f. let never : ⊥ = cc in never
 
-  unshelved-keeps : (g c : ℕ) → P (place_unshelved H (place H) (state H) g c)
+  unshelved-keeps : (g c : ℕ) → P (place_unshelved H (place H) (state H) (is_begun H) g c)
   unshelved-keeps g c = go (is_kept_for (place H c) g) refl
     where
       go : (x : Bool) → is_kept_for (place H c) g ≡ x
           → P (elim x as
           (λ _. Place) [
-            | true ↦ route_by H (place H) (state H) c
+            | true ↦ route_by H (place H) (state H) (is_begun H) c
                 (goal_of H g)
             | false ↦ place H c
           ])
@@ -127,7 +127,7 @@ module _ (H : History) (inv : Invariant H) (P : Place
 
   -- P holds of the place of every copy after an accepted command.
   pub place_after-keeps : (x : Command) → refusal H o x ≡ None → (c : ℕ)
-      → P (place_after H (place H) (state H) x c)
+      → P (place_after H (place H) (state H) (is_begun H) x c)
   place_after-keeps (Acquire n t k home price text) ok c = go (is_none (copy_of H n))
     where
       branch : (r : BranchFacts) × (branch_of H home ≡ Some r)
@@ -148,7 +148,7 @@ module _ (H : History) (inv : Invariant H) (P : Place
       moved-keeps n c (Loan (next_loan H)) (keeps.lent room)
   place_after-keeps (CheckIn n b) ok c =
       let copy = there (copy_of H n) (not-false _ (passed (checks H o (CheckIn n b)) ok).1.0) in
-      moved-keeps n c (route_by H (place H) (state H) n b) (route-keeps n b copy.0 copy.1)
+      moved-keeps n c (route_by H (place H) (state H) (is_begun H) n b) (route-keeps n b copy.0 copy.1)
   place_after-keeps (CancelHold g) ok c = let_go-keeps g (place H c) (keeps.now c)
   place_after-keeps (Unshelve g) ok c = unshelved-keeps g c
   place_after-keeps (UnshelveCancelled g) ok c = unshelved-keeps g c

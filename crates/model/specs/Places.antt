@@ -71,16 +71,16 @@ first_day_of H h = option_and_then (λ r. r.first_day) (hold_of H h)
 abbrev pub is_begun : History → ℕ → Bool
 is_begun H h = has_begun (today H) (first_day_of H h)
 
--- ---- lines and routing, by the places and states before
+-- ---- lines and routing, by the places and states before, and by which holds have begun
 
-module _ (H : History) (places : ℕ → Place) (states : ℕ → Option HoldState) where
+module _ (H : History) (places : ℕ → Place) (states : ℕ → Option HoldState) (begun : ℕ → Bool) where
   -- A hold is coming while a copy is in transit for it.
   abbrev pub is_coming_by : ℕ → Bool
   is_coming_by h = list_any (λ c. is_bound_for (places c) h) (copies H)
 
   -- The waiting holds of the title that aren't coming and have begun, least number first.
   abbrev pub line_by : ℕ → List ℕ
-  line_by t = filter (λ h. elim (title_of_hold H h == t) [ true ↦ is_waiting (states h) && (not (is_coming_by h) && is_begun H h) | false ↦ false ]) (numbers_to (holds H))
+  line_by t = filter (λ h. elim (title_of_hold H h == t) [ true ↦ is_waiting (states h) && (not (is_coming_by h) && begun h) | false ↦ false ]) (numbers_to (holds H))
 
   -- The first in line gets the copy, at once or by transit; with no line it goes home.
   abbrev pub route_to : ℕ → ℕ → List ℕ → Place
@@ -171,32 +171,32 @@ abbrev mutual
   -- A copy is where the last command that moved it left it.
   pub place : History → ℕ → Place
   place [] c = Nowhere
-  place (e ∷ H) c = place_after H (place H) (state H) e.command c
+  place (e ∷ H) c = place_after H (place H) (state H) (is_begun H) e.command c
 
   -- A hold is in the state in which the last command that touched it left it.
   pub state : History → ℕ → Option HoldState
   state [] h = None
-  state (e ∷ H) h = state_after H (place H) (state H) e.command h
+  state (e ∷ H) h = state_after H (place H) (state H) (is_begun H) e.command h
 
 -- A hold is coming while a copy is in transit for it.
 abbrev pub is_coming : History → ℕ → Bool
-is_coming H h = is_coming_by H (place H) (state H) h
+is_coming H h = is_coming_by H (place H) (state H) (is_begun H) h
 
 -- The line of a title: its waiting holds that aren't coming and have no first day after today, least number first.
 abbrev pub line : History → ℕ → List ℕ
-line H t = line_by H (place H) (state H) t
+line H t = line_by H (place H) (state H) (is_begun H) t
 
 -- The place that routing gives a copy handed in at the branch.
 abbrev pub route : History → ℕ → ℕ → Place
-route H c b = route_by H (place H) (state H) c b
+route H c b = route_by H (place H) (state H) (is_begun H) c b
 
 -- The copy on the hold shelf for h.
 abbrev pub kept_for : History → ℕ → Option ℕ
-kept_for H h = kept_for_by H (place H) (state H) h
+kept_for H h = kept_for_by H (place H) (state H) (is_begun H) h
 
 -- Whether a check-out of the copy by the patron fills the hold h.
 abbrev pub fills : History → ℕ → ℕ → ℕ → Bool
-fills H p c h = fills_by H (place H) (state H) p c h
+fills H p c h = fills_by H (place H) (state H) (is_begun H) p c h
 
 -- The shelf limit of a hold that becomes ready now: the least open day of its pick-up branch from the end of the pick-up period.
 abbrev pub limit_now : History → ℕ → Option ℕ
