@@ -1,4 +1,5 @@
 -- Check-in meets the history.
+use Rattle.model.specs.Sights.{sight}
 use Rattle.std.proofs.Common.{◌≡◌, ℕ, ◌+◌, ◌==◌, Bool, true, false, not, List, [], ◌∷◌, ◌++◌, length, refl, sym, ◌∙◌, ap, subst, arith}
 use Rattle.std.specs.Prelude.{Option, Some, None, option_map, unwrap_or, is_none, is_some}
 use Rattle.std.proofs.lemmas.Bool.{eqb-true, eq-eqb}
@@ -268,7 +269,7 @@ module _ (H : History) (legal : IsLegal H) (inv : Invariant H) (c : ℕ) (rows :
   lines_counted None l w = ap length (fine_line-none H (place H c) (sym (loan_claims H inv c None l)))
 
   lacks_is : (loan : Option LoanRow) → IsLoanOf (picture H) c loan → IsLenderView (picture H) loan rows
-      → lacks_numbers (meta_row H) (fine_due loan rows.lender (today H)) 0 ≡ lacks_lines H (length (fine_line H (place H c)))
+      → lacks_numbers (meta_row H) (fine_due loan rows.lender (today H)) 0 ≡ lacks_lines H (sight H) (length (fine_line H (place H c)))
   lacks_is loan l w = lacks_same H (fine_due loan rows.lender (today H)) 0 (fine_line H (place H c)) (lines_counted loan l w)
 
   -- The borrower, if there is one, is charged the fine.

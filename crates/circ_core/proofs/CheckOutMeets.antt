@@ -1,4 +1,5 @@
 -- Check-out meets the history.
+use Rattle.model.specs.Sights.{sight}
 use Rattle.terms.specs.declared.limits.TheConstants.{LAST_NUMBER}
 use Rattle.std.proofs.Common.{◌≡◌, ℕ, ◌+◌, ◌-◌, ◌≤◌, ◌<◌, ◌==◌, nat_lt, nat_le, Bool, true, false, cond, not, ◌⊎◌, inl, inr, List, [], ◌∷◌, refl, sym, ◌∙◌, ap, subst, arith}
 use Rattle.std.specs.Prelude.{Option, Some, None, option_map, option_and_then, unwrap_or, is_none, find}
@@ -96,7 +97,7 @@ module _ (H : History) (inv : Invariant H) (p c b : ℕ) (v : View) (w : IsCheck
       go MissingCopy at d e f g = let never : ⊥ = cc in absurd never
       go WithdrawnCopy at d e f g = let never : ⊥ = cc in absurd never
 
-  more_same : (r : CopyFacts) → copy_of H c ≡ Some r → (o : Option HoldRow) → FillsAs H p c o → has_more o v.own_holds ≡ has_other_hold H p c
+  more_same : (r : CopyFacts) → copy_of H c ≡ Some r → (o : Option HoldRow) → FillsAs H p c o → has_more o v.own_holds ≡ has_other_hold H (sight H) p c
   more_same r there None f = others_none H inv p (title_of_copy H c) (fills H p c) v.own_holds (own_is r there) f
   more_same r there (Some q) f = others_one H inv p (title_of_copy H c) (fills H p c) v.own_holds q.hold (own_is r there) f.1 f.0
 

@@ -1,4 +1,5 @@
 -- The end of a copy's loan, with its fine, meets the history.
+use Rattle.model.specs.Sights.{sight}
 use Rattle.terms.specs.declared.limits.TheConstants.{LAST_NUMBER}
 use Rattle.std.proofs.Common.{◌≡◌, ℕ, zero, suc, ◌+◌, ◌*◌, ◌≤◌, ◌<◌, ◌==◌, nat_lt, ◌⊎◌, inl, inr, Bool, true, false, cond, List, [], ◌++◌, length, refl, sym, ◌∙◌, ap, subst, arith}
 use Rattle.std.specs.Prelude.{Option, Some, None, option_map, unwrap_or, is_none, min}
@@ -163,7 +164,7 @@ lt-suc a b c e = go (cases_lt a c)
     go (inr le) = le-ltb (a + 1) b (omega (arith, le, e)) ∙ sym (le-ltb a c le)
 
 -- The numbers that are left suffice on the rows as they do in the history.
-pub lacks_same : (H : History) (fine price : ℕ) (xs : List Line) → length xs ≡ lines_for fine + lines_for price → lacks_numbers (meta_row H) fine price ≡ lacks_lines H (length xs)
+pub lacks_same : (H : History) (fine price : ℕ) (xs : List Line) → length xs ≡ lines_for fine + lines_for price → lacks_numbers (meta_row H) fine price ≡ lacks_lines H (sight H) (length xs)
 lacks_same H fine price xs e = lt-suc LAST_NUMBER (next_line H + lines_for fine + lines_for price) (length (lines H) + length xs) (omega (arith, e))
 
 module _ (H : History) (legal : IsLegal H) (inv : Invariant H) (c : ℕ) (q : LoanRow) (l : IsLent H c q) where

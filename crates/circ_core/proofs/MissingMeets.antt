@@ -1,4 +1,5 @@
 -- Missing meets the history.
+use Rattle.model.specs.Sights.{sight}
 use Rattle.std.proofs.Common.{◌≡◌, ℕ, ◌+◌, false, List, [], ◌∷◌, ◌++◌, length, length-append, refl, sym, ◌∙◌, ap}
 use Rattle.std.specs.Prelude.{Option, Some, None, option_map, unwrap_or, is_none, is_some}
 use Rattle.std.proofs.lemmas.List.{append-nil}
@@ -62,7 +63,7 @@ module _ (H : History) (legal : IsLegal H) (inv : Invariant H) (c : ℕ) (r : Co
   no_lines off = rw (fine_line-none H (place H c) off, price_line-none (place H c) off) refl
 
   numbers_same : (o : Option LoanRow) → IsLoanOf (picture H) c o → (rows : View) → IsLenderView (picture H) o rows
-      → lacks_numbers (meta_row H) (fine_due o rows.lender (today H)) (price_due o (Some row)) ≡ lacks_lines H (length (lines_by H (Missing c)))
+      → lacks_numbers (meta_row H) (fine_due o rows.lender (today H)) (price_due o (Some row)) ≡ lacks_lines H (sight H) (length (lines_by H (Missing c)))
   numbers_same (Some q) w rows v =
       let l : IsLent H c q = lent H inv c q w in
       lacks_same H (fine_due (Some q) rows.lender (today H)) r.price (lines_by H (Missing c))
@@ -168,7 +169,7 @@ module _ (H : History) (legal : IsLegal H) (inv : Invariant H) (c : ℕ) (v : Vi
   copy_here : (r : CopyFacts) → copy_of H c ≡ Some r → v.copy ≡ Some (copy_columns H c r)
   copy_here r there = w.at.copy ∙ ap (option_map (copy_columns H c)) there
 
-  numbers_here : (r : CopyFacts) → copy_of H c ≡ Some r → lacks_numbers v.meta (fine_in v) (price_in v) ≡ lacks_lines H (length (lines_by H (Missing c)))
+  numbers_here : (r : CopyFacts) → copy_of H c ≡ Some r → lacks_numbers v.meta (fine_in v) (price_in v) ≡ lacks_lines H (sight H) (length (lines_by H (Missing c)))
   numbers_here r there =
       ap (λ m. lacks_numbers m (fine_due v.loan v.lender m.today) (price_in v)) w.meta
       ∙ ap (λ o. lacks_numbers (meta_row H) (fine_due v.loan v.lender (today H)) (price_due v.loan o)) (copy_here r there)

@@ -1,4 +1,5 @@
 -- What the counts of a patron's open loans and active holds tell.
+use Rattle.model.specs.Sights.{sight}
 use Rattle.std.proofs.Common.{◌≡◌, ℕ, suc, ◌≤◌, ◌==◌, nat_lt, Bool, true, false, not, ◌&&◌, ◌||◌, ◌⊎◌, inl, inr, List, [], ◌∷◌, length, refl, sym, ◌∙◌, ap, subst, arith}
 use Rattle.std.specs.Prelude.{Option, Some, None, option_map, unwrap_or, is_some, is_none}
 use Rattle.std.specs.List.{list_any, IsDistinct}
@@ -88,11 +89,11 @@ module _ (H : History) (inv : Invariant H) (p : ℕ) where
   -- ---- active holds, and open loans of a title
 
   -- A hold of the title is one too many.
-  pub holds-some : (t n : ℕ) → IsCount (IsActiveOn (picture H) p t) n → nat_lt 0 n ≡ has_hold_on H p t
+  pub holds-some : (t n : ℕ) → IsCount (IsActiveOn (picture H) p t) n → nat_lt 0 n ≡ has_hold_on H (sight H) p t
   holds-some t n w = ap (λ k. nat_lt 0 k) (sym w.count) ∙ go w.keys w.sound w.whole
     where
       go : (ks : List ℕ) → ((k : ℕ) → list_any (λ y. k == y) ks ≡ true → IsActiveOn (picture H) p t k) → ((k : ℕ) → IsActiveOn (picture H) p t k → list_any (λ y. k == y) ks ≡ true)
-          → nat_lt 0 (length ks) ≡ has_hold_on H p t
+          → nat_lt 0 (length ks) ≡ has_hold_on H (sight H) p t
       go [] sound whole = sym (false_from_ne_true _ (λ e.
           let who : (h : ℕ) × (is_own_hold h ≡ true) × ((title_of_hold H h == t) ≡ true) = any_filter-some is_own_hold (λ h. title_of_hold H h == t) (numbers_to (holds H)) e in
           let has : list_any (λ y. who.0 == y) [] ≡ true = whole who.0 (hold-from t who.0 who.1 who.2) in let never : ⊥ = cc in never))

@@ -1,4 +1,5 @@
 -- Renewal meets the history.
+use Rattle.model.specs.Sights.{sight}
 use Rattle.std.proofs.Common.{◌≡◌, ℕ, ◌+◌, ◌-◌, ◌==◌, nat_lt, Bool, true, false, cond, not, List, ◌∷◌, refl, sym, ◌∙◌, ap, subst, arith}
 use Rattle.std.specs.Prelude.{Option, Some, None, option_map, option_and_then, unwrap_or, is_none, is_some}
 use Rattle.std.proofs.lemmas.Bool.{eqb-true}
@@ -80,7 +81,7 @@ module _ (H : History) (legal : IsLegal H) (inv : Invariant H) (l : ℕ) (v : Vi
     patron_is : v.patron ≡ (picture H).patrons r.patron
     patron_is = w.patron ∙ ap (borrower_in (picture H)) loan_is
 
-    debt_here : nat_lt (debt_allowed v.kind) (owed_by v.patron) ≡ owes_too_much H (borrower H l)
+    debt_here : nat_lt (debt_allowed v.kind) (owed_by v.patron) ≡ owes_too_much H (sight H) (borrower H l)
     debt_here =
         ap (λ n. nat_lt n (owed_by v.patron)) (debt_same H r.patron enrolled.0 enrolled.1 v.patron patron_is v.kind w.kind)
         ∙ ap (λ n. nat_lt (kind_now H r.patron).debt n) (owed_same H r.patron enrolled.0 enrolled.1 v.patron patron_is v.kind w.kind)

@@ -24,8 +24,8 @@ FillsAs H p c (Some q) = ((h : ℕ) → fills H p c h ≡ (q.hold == h)) × IsAc
 pub record Standing (H : History) (p c b : ℕ) (copy : Option CopyRow) (hold first : Option HoldRow) : Type 0 where
   pub elsewhere : not (stands_at hold copy == b) ≡ is_elsewhere H b (place H c)
   pub other : is_of_other hold p ≡ is_kept_for_other H p (place H c)
-  pub wanted : is_wanted hold first p ≡ is_wanted_by_other H p c (place H c)
-  pub fill : is_kept_for_other H p (place H c) ≡ false → is_wanted_by_other H p c (place H c) ≡ false → FillsAs H p c (filled_hold hold first)
+  pub wanted : is_wanted hold first p ≡ is_wanted_by_other H p (line H (title_of_copy H c)) (place H c)
+  pub fill : is_kept_for_other H p (place H c) ≡ false → is_wanted_by_other H p (line H (title_of_copy H c)) (place H c) ≡ false → FillsAs H p c (filled_hold hold first)
   pub present : condition_at (place H c) ≡ Present
   pub still : transit_at c (place H c) ≡ None
 
@@ -74,8 +74,8 @@ module _ (H : History) (inv : Invariant H) (p c b : ℕ) (r : CopyFacts) (there 
   on_shelf n at None e = record {
     elsewhere = ap (λ m. not (m == b)) (home-is n at) ∙ sym (ap (λ x. is_elsewhere H b x) at);
     other = sym (ap (λ x. is_kept_for_other H p x) at);
-    wanted = first_other first is_first ∙ sym (ap (λ x. is_wanted_by_other H p c x) at);
-    fill = λ _ f. shelf_fill n at first is_first (first_other first is_first ∙ sym (ap (λ x. is_wanted_by_other H p c x) at) ∙ f);
+    wanted = first_other first is_first ∙ sym (ap (λ x. is_wanted_by_other H p (line H (title_of_copy H c)) x) at);
+    fill = λ _ f. shelf_fill n at first is_first (first_other first is_first ∙ sym (ap (λ x. is_wanted_by_other H p (line H (title_of_copy H c)) x) at) ∙ f);
     present = ap condition_at at;
     still = ap (λ x. transit_at c x) at;
   }
@@ -104,7 +104,7 @@ module _ (H : History) (inv : Invariant H) (p c b : ℕ) (r : CopyFacts) (there 
       record {
         elsewhere = ap (λ m. not (m == b)) (sym branch) ∙ sym (ap (λ y. is_elsewhere H b y) at);
         other = ap (λ m. not (m == p)) (sym patron) ∙ sym (ap (λ y. is_kept_for_other H p y) at);
-        wanted = sym (ap (λ y. is_wanted_by_other H p c y) at);
+        wanted = sym (ap (λ y. is_wanted_by_other H p (line H (title_of_copy H c)) y) at);
         fill = λ f _.
             let own : (x.patron == p) ≡ true = not-false _ (ap (λ m. not (m == p)) (sym patron) ∙ sym (ap (λ y. is_kept_for_other H p y) at) ∙ f) in (
               (λ g. ap (λ y. fills_from H (place H) (state H) (is_begun H) p c y g) at ∙ ap (λ m. m == g) (sym number)),

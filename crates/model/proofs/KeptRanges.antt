@@ -1,4 +1,5 @@
 -- In every legal history whose commands have their forms: lines lie in their limits, and what is kept can be read back.
+use Rattle.model.specs.Sights.{sight}
 use Rattle.calendar.specs.declared.limits.TheConstants.{FIRST_DAY, LAST_DAY}
 use Rattle.terms.specs.declared.limits.TheConstants.{LAST_NUMBER}
 use Rattle.std.proofs.Common.{◌≡◌, ℕ, zero, suc, ◌+◌, ◌≤◌, ◌<◌, ◌==◌, Bool, true, false, not, ◌&&◌, List, [], ◌∷◌, ◌++◌, length, refl, sym, ap, subst, arith}
@@ -131,7 +132,7 @@ module _ (H : History) (legal : IsLegal H) (forms : HasForms H) where
   price-in c _ at = tt
 
   -- What is paid or waived is at most what is owed, and the patron is there.
-  paid-in : (o : Owner) (p n : ℕ) → not (is_some (patron_of H p)) ≡ false → is_bad_amount H p n ≡ false → IsLarge p × IsAmount n
+  paid-in : (o : Owner) (p n : ℕ) → not (is_some (patron_of H p)) ≡ false → is_bad_amount H (sight H) p n ≡ false → IsLarge p × IsAmount n
   paid-in o p n has good =
       let patron = there (patron_of H p) (not-false _ has) in
       let low : n ≤ owed H p = ltb-false _ _ (or_parts (n == 0) (nat_lt (owed H p) n) good).1 in
@@ -184,7 +185,7 @@ module _ (H : History) (legal : IsLegal H) (forms : HasForms H) where
   handed_in c b f known = routed-in H inv settings lending Desk c b f known
 
   -- The copy of a ready hold goes somewhere.
-  unshelved-kept : (h : ℕ) → is_ready (state H h) ≡ true → IsRouted (unshelved H h)
+  unshelved-kept : (h : ℕ) → is_ready (state H h) ≡ true → IsRouted (unshelved H (sight H) h)
   unshelved-kept h ready =
       let copy = inv.bound.kept h (ready-is (state H h) ready) in
       let found : kept_for H h ≡ Some copy.0 = kept-found H copy.0 h (legal-bound H legal) copy.1 in

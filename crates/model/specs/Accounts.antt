@@ -51,21 +51,28 @@ abbrev pub price_line : History → ℕ → Place → List Line
 price_line H c (Loan l) = line_of H (borrower H l) Price (Some l) (price_of H c)
 price_line H c _ = []
 
+-- The lines that a command makes, by where copies are.
+abbrev pub lines_made : History → (ℕ → Place) → Command → List Line
+lines_made H places (CheckIn c b) = fine_line H (places c)
+lines_made H places (Missing c) = fine_line H (places c) ++ price_line H c (places c)
+lines_made H places (Pay p n) = line_of H p Payment None n
+lines_made H places (Waive p n) = line_of H p Waiver None n
+lines_made H places _ = []
+
 -- The lines that a command makes.
 abbrev pub lines_by : History → Command → List Line
-lines_by H (CheckIn c b) = fine_line H (place H c)
-lines_by H (Missing c) = fine_line H (place H c) ++ price_line H c (place H c)
-lines_by H (Pay p n) = line_of H p Payment None n
-lines_by H (Waive p n) = line_of H p Waiver None n
-lines_by H _ = []
+lines_by H c = lines_made H (place H) c
 
 -- A command adds its lines at the end.
+abbrev pub lines_then : History → (ℕ → Place) → Command → List Line → List Line
+lines_then H places (CheckIn c b) before = before ++ lines_made H places (CheckIn c b)
+lines_then H places (Missing c) before = before ++ lines_made H places (Missing c)
+lines_then H places (Pay p n) before = before ++ lines_made H places (Pay p n)
+lines_then H places (Waive p n) before = before ++ lines_made H places (Waive p n)
+lines_then H places _ before = before
+
 abbrev pub lines_after : History → Command → List Line → List Line
-lines_after H (CheckIn c b) before = before ++ lines_by H (CheckIn c b)
-lines_after H (Missing c) before = before ++ lines_by H (Missing c)
-lines_after H (Pay p n) before = before ++ lines_by H (Pay p n)
-lines_after H (Waive p n) before = before ++ lines_by H (Waive p n)
-lines_after H _ before = before
+lines_after H c before = lines_then H (place H) c before
 
 -- All lines of all patrons, the oldest first.
 abbrev pub lines : History → List Line
@@ -76,9 +83,13 @@ lines (e ∷ H) = lines_after H e.command (lines H)
 abbrev pub next_line : History → ℕ
 next_line H = length (lines H) + 1
 
+-- Of all lines those of a patron, in order.
+abbrev pub account_in : List Line → ℕ → List Line
+account_in all p = filter (λ x. x.patron == p) all
+
 -- The account of a patron: the patron's lines, in order.
 abbrev pub account : History → ℕ → List Line
-account H p = filter (λ x. x.patron == p) (lines H)
+account H p = account_in (lines H) p
 
 -- What a line adds to the charges.
 abbrev pub charge : Sort → ℕ → ℕ
@@ -102,6 +113,10 @@ charges xs = sum_by (λ x. charge x.sort x.amount) xs
 abbrev pub credits : List Line → ℕ
 credits xs = sum_by (λ x. credit x.sort x.amount) xs
 
+-- What a patron owes, by all lines.
+abbrev pub owed_in : List Line → ℕ → ℕ
+owed_in all p = charges (account_in all p) - credits (account_in all p)
+
 -- What a patron owes.
 abbrev pub owed : History → ℕ → ℕ
-owed H p = charges (account H p) - credits (account H p)
+owed H p = owed_in (lines H) p

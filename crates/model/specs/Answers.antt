@@ -8,11 +8,13 @@ use Rattle.terms.specs.declared.reply.Routed.TheVariants.{Shelf as ToShelf, Hold
 use Rattle.terms.specs.declared.reply.Reply.{Reply}
 use Rattle.terms.specs.declared.reply.Reply.TheVariants.{Done, Lent, CheckedIn, Held, Moved, Lost, Owed, Shown, Refused}
 use Rattle.model.specs.History.{History, next_loan, next_hold}
-use Rattle.model.specs.Places.{Place, Shelf, HoldShelf, Transit, Loan, place, route, kept_for, goal_of, limit_now}
+use Rattle.model.specs.Places.{Place, Shelf, HoldShelf, Transit, Loan, goal_of, limit_now}
 use Rattle.model.specs.Loans.{due, first_due, renewed_due}
-use Rattle.model.specs.Accounts.{owed, fine_at, price_of}
-use Rattle.model.specs.Refusals.{refusal}
-use Rattle.model.specs.Pages.{page}
+use Rattle.model.specs.Accounts.{fine_at, price_of}
+use Rattle.model.specs.Sights.{Sight, sight, route_seen, kept_for_seen, owed_seen}
+use Rattle.model.specs.Checks.{first_failing}
+use Rattle.model.specs.Refusals.{checks_by}
+use Rattle.model.specs.Pages.{page_by}
 
 -- The place that routing gave, with the limit of a hold that becomes ready.
 abbrev pub routed : History → Place → Routed
@@ -22,28 +24,36 @@ routed H (Transit g h) = ToTransit g h
 routed H _ = ToShelf 0
 
 -- Where the copy goes that stands on the hold shelf for h.
-abbrev pub unshelved : History → ℕ → Routed
-unshelved H h = routed H (route H (unwrap_or (kept_for H h) 0) (goal_of H h))
+abbrev pub unshelved : History → Sight → ℕ → Routed
+unshelved H s h = routed H (route_seen H s (unwrap_or (kept_for_seen H s h) 0) (goal_of H h))
 
 -- What is charged for a missing copy: the fine and the price if it was on loan, and else nothing.
 abbrev pub missed : History → ℕ → Place → Reply
 missed H c (Loan l) = Lost (fine_at H (Loan l)) (price_of H c)
 missed H c _ = Done
 
--- The reply to a command that isn't refused.
-abbrev pub accepted : History → Command → Reply
-accepted H (CheckOut p c b) = Lent (next_loan H) (unwrap_or (first_due H p c b) 0)
-accepted H (CheckIn c b) = CheckedIn (fine_at H (place H c)) (routed H (route H c b))
-accepted H (Renew l) = Lent l (unwrap_or (renewed_due H l (due H l)) 0)
-accepted H (PlaceHold p t b d) = Held (next_hold H)
-accepted H (Unshelve h) = Moved (unshelved H h)
-accepted H (UnshelveCancelled h) = Moved (unshelved H h)
-accepted H (Missing c) = missed H c (place H c)
-accepted H (Pay p n) = Owed (owed H p - n)
-accepted H (Waive p n) = Owed (owed H p - n)
-accepted H (Page p) = Shown (page H p)
-accepted H _ = Done
+-- The reply to a command that isn't refused, by what the list shows.
+abbrev pub accepted_by : History → Sight → Command → Reply
+accepted_by H s (CheckOut p c b) = Lent (next_loan H) (unwrap_or (first_due H p c b) 0)
+accepted_by H s (CheckIn c b) = CheckedIn (fine_at H (s.place c)) (routed H (route_seen H s c b))
+accepted_by H s (Renew l) = Lent l (unwrap_or (renewed_due H l (due H l)) 0)
+accepted_by H s (PlaceHold p t b d) = Held (next_hold H)
+accepted_by H s (Unshelve h) = Moved (unshelved H s h)
+accepted_by H s (UnshelveCancelled h) = Moved (unshelved H s h)
+accepted_by H s (Missing c) = missed H c (s.place c)
+accepted_by H s (Pay p n) = Owed (owed_seen H s p - n)
+accepted_by H s (Waive p n) = Owed (owed_seen H s p - n)
+accepted_by H s (Page p) = Shown (page_by H s p)
+accepted_by H s _ = Done
 
--- The answer: the refusal, or else the reply.
+-- The reply to a command that isn't refused after a list.
+abbrev pub accepted : History → Command → Reply
+accepted H c = accepted_by H (sight H) c
+
+-- The answer, by what the list shows: the refusal, or else the reply.
+abbrev pub answer_by : History → Sight → Owner → Command → Reply
+answer_by H s o c = elim (first_failing (checks_by H s o c)) [ Some refused ↦ Refused refused | None ↦ accepted_by H s c ]
+
+-- The answer after a list.
 abbrev pub answer : History → Owner → Command → Reply
-answer H o c = elim (refusal H o c) [ Some refused ↦ Refused refused | None ↦ accepted H c ]
+answer H o c = answer_by H (sight H) o c

@@ -4,6 +4,7 @@ pub mod Checks
 pub mod Places
 pub mod Loans
 pub mod Accounts
+pub mod Sights
 pub mod Refusals
 pub mod Pages
 pub mod Answers

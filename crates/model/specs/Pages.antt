@@ -3,10 +3,10 @@ use Rattle.std.specs.Prelude.{ℕ, Bool, true, false, List, [], ◌∷◌, ◌++
 use Rattle.std.specs.List.{join_with_byte}
 use Rattle.calendar.specs.Days.{day_text}
 use Rattle.model.specs.History.{History, patron_of, title_of}
-use Rattle.model.specs.Places.{state, is_ready, goal_of, title_of_hold, first_day_of}
+use Rattle.model.specs.Places.{is_ready, goal_of, title_of_hold, first_day_of}
 use Rattle.model.specs.Loans.{due, renewals_left, open_loans, title_of_loan}
-use Rattle.model.specs.Accounts.{owed}
-use Rattle.model.specs.Refusals.{active_holds}
+use Rattle.model.specs.Sights.{Sight, sight, owed_seen}
+use Rattle.model.specs.Refusals.{active_holds_by}
 
 -- Words joined by single spaces.
 abbrev pub spaced : List (List ℕ) → List ℕ
@@ -25,8 +25,11 @@ abbrev pub title_words : History → ℕ → List (List ℕ)
 title_words H t = codes "title" ∷ decimal t ∷ title_text H t ∷ []
 
 -- The first line of the page: what the patron owes, and the name.
+abbrev pub patron_line_by : History → Sight → ℕ → List ℕ
+patron_line_by H s p = spaced (codes "patron" ∷ decimal p ∷ codes "owed" ∷ decimal (owed_seen H s p) ∷ codes "name" ∷ name_of H p ∷ [])
+
 abbrev pub patron_line : History → ℕ → List ℕ
-patron_line H p = spaced (codes "patron" ∷ decimal p ∷ codes "owed" ∷ decimal (owed H p) ∷ codes "name" ∷ name_of H p ∷ [])
+patron_line H p = patron_line_by H (sight H) p
 
 -- The line of an open loan.
 abbrev pub loan_line : History → ℕ → List ℕ
@@ -44,10 +47,17 @@ standing_words true first_day = codes "ready" ∷ []
 standing_words false first_day = waiting_words first_day
 
 -- The line of an active hold. A hold that is coming is shown as waiting.
-abbrev pub hold_line : History → ℕ → List ℕ
-hold_line H h =
-    spaced (codes "hold" ∷ decimal h ∷ codes "at" ∷ decimal (goal_of H h) ∷ standing_words (is_ready (state H h)) (first_day_of H h) ++ title_words H (title_of_hold H h))
+abbrev pub hold_line_by : History → Sight → ℕ → List ℕ
+hold_line_by H s h =
+    spaced (codes "hold" ∷ decimal h ∷ codes "at" ∷ decimal (goal_of H h) ∷ standing_words (is_ready (s.state h)) (first_day_of H h) ++ title_words H (title_of_hold H h))
 
--- The page: the patron's own line, then the open loans, then the active holds, parted by newlines.
+abbrev pub hold_line : History → ℕ → List ℕ
+hold_line H h = hold_line_by H (sight H) h
+
+-- The page, by what the list shows: the patron's own line, then the open loans, then the active holds, parted by newlines.
+abbrev pub page_by : History → Sight → ℕ → List ℕ
+page_by H s p = join_with_byte 10 (patron_line_by H s p ∷ map (loan_line H) (open_loans H p) ++ map (hold_line_by H s) (active_holds_by H s p))
+
+-- The page of a patron after a list.
 abbrev pub page : History → ℕ → List ℕ
-page H p = join_with_byte 10 (patron_line H p ∷ map (loan_line H) (open_loans H p) ++ map (hold_line H) (active_holds H p))
+page H p = page_by H (sight H) p

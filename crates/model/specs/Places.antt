@@ -71,6 +71,14 @@ first_day_of H h = option_and_then (λ r. r.first_day) (hold_of H h)
 abbrev pub is_begun : History → ℕ → Bool
 is_begun H h = has_begun (today H) (first_day_of H h)
 
+-- The shelf limit of a hold that becomes ready now: the least open day of its pick-up branch from the end of the pick-up period.
+abbrev pub limit_now : History → ℕ → Option ℕ
+limit_now H h = least (is_open H (goal_of H h)) (today H + unwrap_or (option_map (λ r. r.pickup) (branch_of H (goal_of H h))) 0)
+
+-- A copy that comes to the hold shelf for h sets the limit of h.
+abbrev pub limit_at : History → Place → ℕ → Option ℕ → Option ℕ
+limit_at H p h before = elim (is_kept_for p h) [ true ↦ limit_now H h | false ↦ before ]
+
 -- ---- lines and routing, by the places and states before, and by which holds have begun
 
 module _ (H : History) (places : ℕ → Place) (states : ℕ → Option HoldState) (begun : ℕ → Bool) where
@@ -165,6 +173,18 @@ module _ (H : History) (places : ℕ → Place) (states : ℕ → Option HoldSta
   abbrev pub state_after : Command → ℕ → Option HoldState
   state_after c h = state_made (hold_made c) c h
 
+  -- The place that unshelving the hold g gives the copy on its shelf.
+  abbrev pub unshelved_to_by : ℕ → Option ℕ → Place
+  unshelved_to_by g (Some c) = route_by c (goal_of H g)
+  unshelved_to_by g None = Nowhere
+
+  -- The commands that may bring a copy to a hold shelf may set a limit.
+  abbrev pub limit_after_by : Command → ℕ → Option ℕ → Option ℕ
+  limit_after_by (CheckIn c b) h before = limit_at H (route_by c b) h before
+  limit_after_by (Unshelve g) h before = limit_at H (unshelved_to_by g (kept_for_by g)) h before
+  limit_after_by (UnshelveCancelled g) h before = limit_at H (unshelved_to_by g (kept_for_by g)) h before
+  limit_after_by _ h before = before
+
 -- ---- the definitions
 
 abbrev mutual
@@ -198,25 +218,13 @@ kept_for H h = kept_for_by H (place H) (state H) (is_begun H) h
 abbrev pub fills : History → ℕ → ℕ → ℕ → Bool
 fills H p c h = fills_by H (place H) (state H) (is_begun H) p c h
 
--- The shelf limit of a hold that becomes ready now: the least open day of its pick-up branch from the end of the pick-up period.
-abbrev pub limit_now : History → ℕ → Option ℕ
-limit_now H h = least (is_open H (goal_of H h)) (today H + unwrap_or (option_map (λ r. r.pickup) (branch_of H (goal_of H h))) 0)
-
 -- The place that unshelving the hold g gives the copy on its shelf.
 abbrev pub unshelved_to : History → ℕ → Option ℕ → Place
-unshelved_to H g (Some c) = route H c (goal_of H g)
-unshelved_to H g None = Nowhere
+unshelved_to H g c = unshelved_to_by H (place H) (state H) (is_begun H) g c
 
--- A copy that comes to the hold shelf for h sets the limit of h.
-abbrev pub limit_at : History → Place → ℕ → Option ℕ → Option ℕ
-limit_at H p h before = elim (is_kept_for p h) [ true ↦ limit_now H h | false ↦ before ]
-
--- The commands that may bring a copy to a hold shelf may set a limit.
+-- The shelf limit that a command leaves a hold.
 abbrev pub limit_after : History → Command → ℕ → Option ℕ → Option ℕ
-limit_after H (CheckIn c b) h before = limit_at H (route H c b) h before
-limit_after H (Unshelve g) h before = limit_at H (unshelved_to H g (kept_for H g)) h before
-limit_after H (UnshelveCancelled g) h before = limit_at H (unshelved_to H g (kept_for H g)) h before
-limit_after H _ h before = before
+limit_after H c h before = limit_after_by H (place H) (state H) (is_begun H) c h before
 
 -- The shelf limit of a hold, as it was set when the hold last became ready.
 abbrev pub limit : History → ℕ → Option ℕ

@@ -12,9 +12,10 @@ use Rattle.terms.specs.declared.refusal.Refusal.TheVariants.{UnknownBranch, Unkn
 use Rattle.model.specs.Calendar.{is_single}
 use Rattle.model.specs.Checks.{Check, first_failing, is_within_limits}
 use Rattle.model.specs.History.{History, numbers_to, today, singles_of, branch_of, KindFacts, kind_of, patron_of, title_of, copy_of, loans, holds, hold_of}
-use Rattle.model.specs.Places.{Place, Shelf, HoldShelf, Transit, Loan, MissingCopy, WithdrawnCopy, place, state, line, fills, limit, title_of_copy, title_of_hold, patron_of_hold, goal_of, is_waiting, is_ready}
+use Rattle.model.specs.Places.{Place, Shelf, HoldShelf, Transit, Loan, MissingCopy, WithdrawnCopy, title_of_copy, title_of_hold, patron_of_hold, goal_of, is_waiting, is_ready}
 use Rattle.model.specs.Loans.{loan_of, due, ended, terms_for, renewed_due, renewals_left, open_loans, has_on_loan, title_of_loan}
-use Rattle.model.specs.Accounts.{owed, lines, lines_by, borrower}
+use Rattle.model.specs.Accounts.{lines_made, borrower}
+use Rattle.model.specs.Sights.{Sight, sight, line_seen, fills_seen, owed_seen}
 
 -- ---- tests on a history
 
@@ -44,37 +45,9 @@ module _ (H : History) where
   abbrev pub kind_now : ℕ → KindFacts
   kind_now p = unwrap_or (kind_of H (unwrap_or (option_map (λ r. r.kind) (patron_of H p)) 0)) (record { loans = 0; holds = 0; debt = 0 })
 
-  -- The patron owes more than the kind may at check-out.
-  abbrev pub owes_too_much : ℕ → Bool
-  owes_too_much p = nat_lt (kind_now p).debt (owed H p)
-
   -- The patron has as many open loans as the kind may.
   abbrev pub has_all_loans : ℕ → Bool
   has_all_loans p = nat_le (kind_now p).loans (length (open_loans H p))
-
-  -- A waiting or ready hold is active.
-  abbrev pub is_active : ℕ → Bool
-  is_active h = is_waiting (state H h) || is_ready (state H h)
-
-  -- The active holds of a patron, by number.
-  abbrev pub active_holds : ℕ → List ℕ
-  active_holds p = filter (λ h. (patron_of_hold H h == p) && is_active h) (numbers_to (holds H))
-
-  -- The patron has as many active holds as the kind may.
-  abbrev pub has_all_holds : ℕ → Bool
-  has_all_holds p = nat_le (kind_now p).holds (length (active_holds p))
-
-  -- The patron has an active hold of the title.
-  abbrev pub has_hold_on : ℕ → ℕ → Bool
-  has_hold_on p t = list_any (λ h. title_of_hold H h == t) (active_holds p)
-
-  -- The patron has an active hold of the copy's title that this check-out doesn't fill.
-  abbrev pub has_other_hold : ℕ → ℕ → Bool
-  has_other_hold p c = list_any (λ h. (title_of_hold H h == title_of_copy H c) && not (fills H p c h)) (active_holds p)
-
-  -- Fewer than n line numbers are left.
-  abbrev pub lacks_lines : ℕ → Bool
-  lacks_lines n = nat_lt LAST_NUMBER (length (lines H) + n)
 
   -- The branch is there with another pick-up period or name.
   abbrev pub differs_branch : ℕ → ℕ → List ℕ → Bool
@@ -107,9 +80,48 @@ module _ (H : History) where
   abbrev pub has_hold : Owner → ℕ → Bool
   has_hold o h = is_some (hold_of H h) && is_own o (patron_of_hold H h)
 
+-- ---- tests on what a list shows
+
+module _ (H : History) (s : Sight) where
+  -- The patron owes more than the kind may at check-out.
+  abbrev pub owes_too_much : ℕ → Bool
+  owes_too_much p = nat_lt (kind_now H p).debt (owed_seen H s p)
+
+  -- A waiting or ready hold is active.
+  abbrev pub is_active_by : ℕ → Bool
+  is_active_by h = is_waiting (s.state h) || is_ready (s.state h)
+
+  -- The active holds of a patron, by number.
+  abbrev pub active_holds_by : ℕ → List ℕ
+  active_holds_by p = filter (λ h. (patron_of_hold H h == p) && is_active_by h) (numbers_to (holds H))
+
+  -- The patron has as many active holds as the kind may.
+  abbrev pub has_all_holds : ℕ → Bool
+  has_all_holds p = nat_le (kind_now H p).holds (length (active_holds_by p))
+
+  -- The patron has an active hold of the title.
+  abbrev pub has_hold_on : ℕ → ℕ → Bool
+  has_hold_on p t = list_any (λ h. title_of_hold H h == t) (active_holds_by p)
+
+  -- The patron has an active hold of the copy's title that this check-out doesn't fill.
+  abbrev pub has_other_hold : ℕ → ℕ → Bool
+  has_other_hold p c = list_any (λ h. (title_of_hold H h == title_of_copy H c) && not (fills_seen H s p c h)) (active_holds_by p)
+
+  -- Fewer than n line numbers are left.
+  abbrev pub lacks_lines : ℕ → Bool
+  lacks_lines n = nat_lt LAST_NUMBER (length s.lines + n)
+
   -- The amount is zero, or above what the patron owes.
   abbrev pub is_bad_amount : ℕ → ℕ → Bool
-  is_bad_amount p n = (n == 0) || nat_lt (owed H p) n
+  is_bad_amount p n = (n == 0) || nat_lt (owed_seen H s p) n
+
+-- A waiting or ready hold is active.
+abbrev pub is_active : History → ℕ → Bool
+is_active H h = is_active_by H (sight H) h
+
+-- The active holds of a patron, by number.
+abbrev pub active_holds : History → ℕ → List ℕ
+active_holds H p = active_holds_by H (sight H) p
 
 -- ---- tests on a place
 
@@ -154,10 +166,10 @@ abbrev pub is_first_other : History → ℕ → List ℕ → Bool
 is_first_other H p [] = false
 is_first_other H p (h ∷ hs) = not (patron_of_hold H h == p)
 
--- The copy is on the shelf while the first hold in line is another patron's.
-abbrev pub is_wanted_by_other : History → ℕ → ℕ → Place → Bool
-is_wanted_by_other H p c (Shelf b) = is_first_other H p (line H (title_of_copy H c))
-is_wanted_by_other H p c _ = false
+-- The copy is on the shelf while the first hold in this line is another patron's.
+abbrev pub is_wanted_by_other : History → ℕ → List ℕ → Place → Bool
+is_wanted_by_other H p hs (Shelf b) = is_first_other H p hs
+is_wanted_by_other H p hs _ = false
 
 -- Nobody stands in line.
 abbrev pub is_empty : List ℕ → Bool
@@ -166,53 +178,57 @@ is_empty (h ∷ hs) = false
 
 -- ---- the table of checks
 
--- The checks of a command, in order: each with its refusal, and whether it fails.
-abbrev pub checks : History → Owner → Command → List Check
-checks H o (BeginDay d) = (BadDay, is_bad_day H d) ∷ []
-checks H o (Branch b pickup name) = (OutOfLimits, not (is_within_limits (Branch b pickup name))) ∷ (OtherContent, differs_branch H b pickup name) ∷ []
-checks H o (Week b closed) = (UnknownBranch, not (has_branch H b)) ∷ (AllWeekdaysClosed, list_all (λ x. x) closed) ∷ []
-checks H o (CloseDay b d) =
+-- The checks of a command, in order, by what the list shows: each with its refusal, and whether it fails.
+abbrev pub checks_by : History → Sight → Owner → Command → List Check
+checks_by H s o (BeginDay d) = (BadDay, is_bad_day H d) ∷ []
+checks_by H s o (Branch b pickup name) = (OutOfLimits, not (is_within_limits (Branch b pickup name))) ∷ (OtherContent, differs_branch H b pickup name) ∷ []
+checks_by H s o (Week b closed) = (UnknownBranch, not (has_branch H b)) ∷ (AllWeekdaysClosed, list_all (λ x. x) closed) ∷ []
+checks_by H s o (CloseDay b d) =
     (UnknownBranch, not (has_branch H b)) ∷ (BadDay, nat_le d (today H)) ∷ (AlreadyClosed, is_single (singles_of H b) d)
     ∷ (OutOfLimits, nat_le MOST_CLOSED_DAYS (length (singles_of H b))) ∷ []
-checks H o (OpenDay b d) =
+checks_by H s o (OpenDay b d) =
     (UnknownBranch, not (has_branch H b)) ∷ (BadDay, nat_le d (today H)) ∷ (NotClosed, not (is_single (singles_of H b) d)) ∷ []
-checks H o (Kind k loans holds debt) = (OutOfLimits, not (is_within_limits (Kind k loans holds debt))) ∷ []
-checks H o (Rule k c period renewals rate cap) =
+checks_by H s o (Kind k loans holds debt) = (OutOfLimits, not (is_within_limits (Kind k loans holds debt))) ∷ []
+checks_by H s o (Rule k c period renewals rate cap) =
     (OutOfLimits, not (is_within_limits (Rule k c period renewals rate cap))) ∷ (UnknownKind, is_none (kind_of H k)) ∷ []
-checks H o (Patron p k card_key name) =
+checks_by H s o (Patron p k card_key name) =
     (OutOfLimits, not (is_within_limits (Patron p k card_key name))) ∷ (UnknownKind, is_none (kind_of H k)) ∷ (OtherContent, differs_patron H p k card_key name) ∷ []
-checks H o (Acquire c t k home price text) =
+checks_by H s o (Acquire c t k home price text) =
     (OutOfLimits, not (is_within_limits (Acquire c t k home price text))) ∷ (UnknownBranch, not (has_branch H home))
     ∷ (OtherContent, differs_title H t text || differs_copy H c t k home price) ∷ []
-checks H o (CheckOut p c b) =
+checks_by H s o (CheckOut p c b) =
     (UnknownBranch, not (has_branch H b)) ∷ (UnknownPatron, not (has_patron H p)) ∷ (UnknownCopy, not (has_copy H c))
-    ∷ (CopyWithdrawn, is_withdrawn (place H c)) ∷ (CopyMissing, is_missing (place H c)) ∷ (OnLoan, is_on_loan (place H c)) ∷ (InTransit, is_in_transit (place H c))
-    ∷ (Elsewhere, is_elsewhere H b (place H c)) ∷ (OnHoldShelf, is_kept_for_other H p (place H c)) ∷ (HoldWaits, is_wanted_by_other H p c (place H c))
-    ∷ (AlreadyHolds, has_other_hold H p c) ∷ (NoRule, is_none (terms_for H p c)) ∷ (TooManyLoans, has_all_loans H p)
-    ∷ (OwesTooMuch, owes_too_much H p) ∷ (NumbersUsedUp, nat_le LAST_NUMBER (loans H)) ∷ []
-checks H o (CheckIn c b) =
-    (UnknownBranch, not (has_branch H b)) ∷ (UnknownCopy, not (has_copy H c)) ∷ (CopyWithdrawn, is_withdrawn (place H c)) ∷ (OnHoldShelf, is_on_hold_shelf (place H c))
-    ∷ (NumbersUsedUp, lacks_lines H (length (lines_by H (CheckIn c b)))) ∷ []
-checks H o (Renew l) =
+    ∷ (CopyWithdrawn, is_withdrawn (s.place c)) ∷ (CopyMissing, is_missing (s.place c)) ∷ (OnLoan, is_on_loan (s.place c)) ∷ (InTransit, is_in_transit (s.place c))
+    ∷ (Elsewhere, is_elsewhere H b (s.place c)) ∷ (OnHoldShelf, is_kept_for_other H p (s.place c)) ∷ (HoldWaits, is_wanted_by_other H p (line_seen H s (title_of_copy H c)) (s.place c))
+    ∷ (AlreadyHolds, has_other_hold H s p c) ∷ (NoRule, is_none (terms_for H p c)) ∷ (TooManyLoans, has_all_loans H p)
+    ∷ (OwesTooMuch, owes_too_much H s p) ∷ (NumbersUsedUp, nat_le LAST_NUMBER (loans H)) ∷ []
+checks_by H s o (CheckIn c b) =
+    (UnknownBranch, not (has_branch H b)) ∷ (UnknownCopy, not (has_copy H c)) ∷ (CopyWithdrawn, is_withdrawn (s.place c)) ∷ (OnHoldShelf, is_on_hold_shelf (s.place c))
+    ∷ (NumbersUsedUp, lacks_lines H s (length (lines_made H s.place (CheckIn c b)))) ∷ []
+checks_by H s o (Renew l) =
     (UnknownLoan, not (has_loan H o l)) ∷ (LoanEnded, is_some (ended H l)) ∷ (Overdue, nat_lt (due H l) (today H))
-    ∷ (HoldWaits, not (is_empty (line H (title_of_loan H l))))
-    ∷ (NoRenewalsLeft, renewals_left H l == 0) ∷ (OwesTooMuch, owes_too_much H (borrower H l)) ∷ (PastCalendar, is_none (renewed_due H l (due H l))) ∷ []
-checks H o (PlaceHold p t b d) =
+    ∷ (HoldWaits, not (is_empty (line_seen H s (title_of_loan H l))))
+    ∷ (NoRenewalsLeft, renewals_left H l == 0) ∷ (OwesTooMuch, owes_too_much H s (borrower H l)) ∷ (PastCalendar, is_none (renewed_due H l (due H l))) ∷ []
+checks_by H s o (PlaceHold p t b d) =
     (UnknownPatron, not (has_patron H p)) ∷ (UnknownTitle, is_none (title_of H t)) ∷ (UnknownBranch, not (has_branch H b)) ∷ (BadDay, is_bad_first_day H d)
-    ∷ (AlreadyHolds, has_hold_on H p t) ∷ (HasOnLoan, has_on_loan H p t) ∷ (TooManyHolds, has_all_holds H p) ∷ (NumbersUsedUp, nat_le LAST_NUMBER (holds H)) ∷ []
-checks H o (CancelHold h) = (UnknownHold, not (has_hold H o h)) ∷ (WrongHoldState, not (is_waiting (state H h))) ∷ []
-checks H o (Unshelve h) =
-    (UnknownHold, not (has_hold H o h)) ∷ (WrongHoldState, not (is_ready (state H h))) ∷ (LimitNotPassed, nat_le (today H) (unwrap_or (limit H h) 0)) ∷ []
-checks H o (UnshelveCancelled h) = (UnknownHold, not (has_hold H o h)) ∷ (WrongHoldState, not (is_ready (state H h))) ∷ []
-checks H o (Missing c) =
-    (UnknownCopy, not (has_copy H c)) ∷ (CopyWithdrawn, is_withdrawn (place H c)) ∷ (CopyMissing, is_missing (place H c))
-    ∷ (NumbersUsedUp, lacks_lines H (length (lines_by H (Missing c)))) ∷ []
-checks H o (Withdraw c) =
-    (UnknownCopy, not (has_copy H c)) ∷ (CopyWithdrawn, is_withdrawn (place H c)) ∷ (OnLoan, is_on_loan (place H c)) ∷ (InTransit, is_in_transit (place H c))
-    ∷ (OnHoldShelf, is_on_hold_shelf (place H c)) ∷ []
-checks H o (Pay p n) = (UnknownPatron, not (has_patron H p)) ∷ (BadAmount, is_bad_amount H p n) ∷ (NumbersUsedUp, lacks_lines H 1) ∷ []
-checks H o (Waive p n) = (UnknownPatron, not (has_patron H p)) ∷ (BadAmount, is_bad_amount H p n) ∷ (NumbersUsedUp, lacks_lines H 1) ∷ []
-checks H o (Page p) = (UnknownPatron, not (has_patron H p)) ∷ []
+    ∷ (AlreadyHolds, has_hold_on H s p t) ∷ (HasOnLoan, has_on_loan H p t) ∷ (TooManyHolds, has_all_holds H s p) ∷ (NumbersUsedUp, nat_le LAST_NUMBER (holds H)) ∷ []
+checks_by H s o (CancelHold h) = (UnknownHold, not (has_hold H o h)) ∷ (WrongHoldState, not (is_waiting (s.state h))) ∷ []
+checks_by H s o (Unshelve h) =
+    (UnknownHold, not (has_hold H o h)) ∷ (WrongHoldState, not (is_ready (s.state h))) ∷ (LimitNotPassed, nat_le (today H) (unwrap_or (s.limit h) 0)) ∷ []
+checks_by H s o (UnshelveCancelled h) = (UnknownHold, not (has_hold H o h)) ∷ (WrongHoldState, not (is_ready (s.state h))) ∷ []
+checks_by H s o (Missing c) =
+    (UnknownCopy, not (has_copy H c)) ∷ (CopyWithdrawn, is_withdrawn (s.place c)) ∷ (CopyMissing, is_missing (s.place c))
+    ∷ (NumbersUsedUp, lacks_lines H s (length (lines_made H s.place (Missing c)))) ∷ []
+checks_by H s o (Withdraw c) =
+    (UnknownCopy, not (has_copy H c)) ∷ (CopyWithdrawn, is_withdrawn (s.place c)) ∷ (OnLoan, is_on_loan (s.place c)) ∷ (InTransit, is_in_transit (s.place c))
+    ∷ (OnHoldShelf, is_on_hold_shelf (s.place c)) ∷ []
+checks_by H s o (Pay p n) = (UnknownPatron, not (has_patron H p)) ∷ (BadAmount, is_bad_amount H s p n) ∷ (NumbersUsedUp, lacks_lines H s 1) ∷ []
+checks_by H s o (Waive p n) = (UnknownPatron, not (has_patron H p)) ∷ (BadAmount, is_bad_amount H s p n) ∷ (NumbersUsedUp, lacks_lines H s 1) ∷ []
+checks_by H s o (Page p) = (UnknownPatron, not (has_patron H p)) ∷ []
+
+-- The checks of a command after a list.
+abbrev pub checks : History → Owner → Command → List Check
+checks H o c = checks_by H (sight H) o c
 
 -- The refusal of a command, if there is one: that of the first check that fails.
 abbrev pub refusal : History → Owner → Command → Option Refusal

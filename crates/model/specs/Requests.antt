@@ -7,6 +7,7 @@ use Rattle.terms.specs.declared.command.Caller.TheVariants.{Desk as FromDesk, Pa
 use Rattle.terms.specs.declared.command.Request.{Request}
 use Rattle.terms.specs.declared.command.Command.{Command}
 use Rattle.terms.specs.declared.command.Command.TheVariants.{Renew, PlaceHold, CancelHold, Page}
+use Rattle.terms.specs.declared.refusal.Refusal.{Refusal}
 use Rattle.terms.specs.declared.refusal.Refusal.TheVariants.{KeyUsed, NotAllowed}
 use Rattle.terms.specs.declared.reply.Reply.{Reply}
 use Rattle.terms.specs.declared.reply.Reply.TheVariants.{Refused}
@@ -53,11 +54,15 @@ pub record Kept : Type 0 where
   pub text : List ℕ
   pub reply : Reply
 
+-- An accepted request keeps its text and its reply for its owner's key.
+abbrev pub kept_after : Event → Reply → Owner → List ℕ → Option Kept → Option Kept
+kept_after e reply o k before =
+    elim (same_owner e.owner o && bytes_eq e.key k) [ true ↦ Some (record { text = request_text e.command; reply = reply }) | false ↦ before ]
+
 -- The text and the reply that are kept for the owner's key.
 abbrev pub kept_of : History → Owner → List ℕ → Option Kept
 kept_of [] o k = None
-kept_of (e ∷ H) o k =
-    elim (same_owner e.owner o && bytes_eq e.key k) [ true ↦ Some (record { text = request_text e.command; reply = accepted H e.command }) | false ↦ kept_of H o k ]
+kept_of (e ∷ H) o k = kept_after e (accepted H e.command) o k (kept_of H o k)
 
 -- ---- one request
 
@@ -105,13 +110,16 @@ abbrev pub is_enrolled : History → Owner → Bool
 is_enrolled H Desk = true
 is_enrolled H (Reader p) = is_some (patron_of H p)
 
--- The event was accepted after the list before it.
-pub record IsAccepted (e : Event) (H : History) : Type 0 where
+-- The event was accepted after the list before it: it changes something, its owner is there and may send the command, which isn't refused, and nothing is kept for its key.
+pub record IsAcceptedBy (e : Event) (H : History) (refused : Option Refusal) (kept : Option Kept) : Type 0 where
   pub changes : IsFalse (is_page e.command)
   pub enrolled : IsTrue (is_enrolled H e.owner)
   pub allowed : IsTrue (may_send e.owner e.command)
-  pub unrefused : refusal H e.owner e.command ≡ None
-  pub fresh : kept_of H e.owner e.key ≡ None
+  pub unrefused : refused ≡ None
+  pub fresh : kept ≡ None
+
+abbrev pub IsAccepted : Event → History → Type 0
+IsAccepted e H = IsAcceptedBy e H (refusal H e.owner e.command) (kept_of H e.owner e.key)
 
 -- Each event of a legal history was accepted after the list before it.
 abbrev pub IsLegal : History → Type 0

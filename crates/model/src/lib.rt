@@ -10,7 +10,7 @@ ghost use Rattle.model.specs.Laws.{Invariants};
 ghost use Rattle.model.specs.Calendars.{CalendarsAgree};
 ghost use Rattle.model.specs.Forms.{FormsStay, FormsAreWhole, RowsInLimits, FewClosedDays};
 ghost use Rattle.model.specs.References.{References};
-ghost use Rattle.model.specs.Schemas.{OldTablesAreLed};
+ghost use Rattle.model.specs.Schemas.{OldListsStand, OldTablesAreLed};
 ghost use Rattle.model.specs.Repeats.{RepeatsLeaveNothing, RepeatsGetTheKeptReply, RowsActOnce};
 ghost use Rattle.model.specs.DueDays.{WholeWeeksStay, DueDays, DueDaysExist, ShelfLimits};
 ghost use Rattle.model.specs.DueDays.{LimitsExist};
@@ -156,6 +156,14 @@ pub fn references_law()
 /// After a legal history no branch is closed singly on more days than it can be.
 pub fn few_closed_days_law()
     ensures { FewClosedDays }
+{}
+
+/// A list of requests that was legal by the definitions of schema 1, whose commands had no first
+/// days and whose line looked at none, is legal by those of today: every copy is in the same place,
+/// every hold in the same state, the accounts have the same lines, and every command gets the same
+/// answer.
+pub fn old_lists_law()
+    ensures { OldListsStand }
 {}
 
 /// The tables that a library of schema 1 holds after a history are led to those that a library of
