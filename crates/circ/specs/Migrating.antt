@@ -12,18 +12,16 @@ use Rattle.terms.specs.declared.fault.Fault.TheVariants.{Stored}
 use Rattle.model.specs.Forms.{HasForms}
 use Rattle.model.specs.History.{History}
 use Rattle.model.specs.Picture.{picture}
-use Rattle.model.specs.Requests.{IsLegal}
-use Rattle.model.specs.Schemas.{AreOfSchema1, picture1}
+use Rattle.model.specs.Schemas.{IsLegal1, picture1}
 use Rattle.desk.specs.Answering.{Shows, Stays}
 use Rattle.circ.specs.declared.lines.Exit.{Exit}
 use Rattle.circ.specs.declared.lines.Exit.TheVariants.{Done, Faulted}
 use Rattle.circ.specs.Lines.{schema_line, fault_line}
 
--- The tables of schema 1 show what a list of accepted requests of its commands leaves there, and so
--- does whatever a stop may leave.
+-- The tables of schema 1 show what a list of requests leaves there that was legal with it, and so does
+-- whatever a stop may leave.
 pub record ShowsAt1 (s : State) (H : History) : Type 0 where
-  pub legal : IsLegal H
-  pub of_schema : AreOfSchema1 H
+  pub legal : IsLegal1 H
   pub forms : HasForms H
   pub tables : KeepsPictureAt 1 s (picture1 H)
 

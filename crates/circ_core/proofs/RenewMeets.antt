@@ -85,7 +85,7 @@ module _ (H : History) (legal : IsLegal H) (inv : Invariant H) (l : ℕ) (v : Vi
     debt_here =
         ap (λ n. nat_lt n (owed_by v.patron)) (debt_same H r.patron enrolled.0 enrolled.1 v.patron patron_is v.kind w.kind)
         ∙ ap (λ n. nat_lt (kind_now H r.patron).debt n) (owed_same H r.patron enrolled.0 enrolled.1 v.patron patron_is v.kind w.kind)
-        ∙ ap (owes_too_much H) (sym who_is)
+        ∙ ap (owes_too_much H (sight H)) (sym who_is)
 
     -- ---- the new due day
 

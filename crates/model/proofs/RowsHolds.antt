@@ -1,7 +1,7 @@
 -- Worked examples of holds: lines, transits, hold shelves and what becomes of their copies.
 use Rattle.std.specs.Prelude.{◌≡◌, [], ◌∷◌, map, refl, Some, None}
 use Rattle.std.specs.Fmt.{digits}
-use Rattle.terms.specs.declared.command.Command.TheVariants.{BeginDay, CheckOut, CheckIn, PlaceHold, CancelHold, Unshelve, UnshelveCancelled, Missing, Withdraw}
+use Rattle.terms.specs.declared.command.Command.TheVariants.{BeginDay, CheckOut, CheckIn, Renew, PlaceHold, CancelHold, Unshelve, UnshelveCancelled, Missing, Withdraw}
 use Rattle.terms.specs.Texts.{reply_text, reply_words, routed_words}
 use Rattle.terms.specs.declared.row.HoldState.TheVariants.{Waiting, Ready, Filled, Cancelled, Expired}
 use Rattle.model.specs.Places.{state, line}
@@ -14,6 +14,19 @@ copies_serve_the_line_in_order : Gives ground
     ("hold 1" ∷ "hold 2" ∷ "fine 0 transit 1 for 1" ∷ "fine 0 ready 2 at 2 until 2026-03-05" ∷ [])
 unfolding digits reply_text reply_words routed_words
 copies_serve_the_line_in_order = gives refl
+
+-- A hold from a later day on: no copy is kept for it before its day, its patron can't borrow past it, others can, and on its day it stands in line.
+hold_begins_on_its_day : Gives ground
+    (desk (PlaceHold 2 100 1 (Some 20514) ∷ PlaceHold 2 100 1 (Some 80719) ∷ PlaceHold 2 100 1 (Some 20517) ∷ CheckIn 10 1 ∷ CheckOut 2 10 1 ∷ CheckOut 1 10 1 ∷ Renew 1 ∷ BeginDay 20517 ∷ CheckIn 11 1 ∷ []))
+    ("refused 23" ∷ "refused 23" ∷ "hold 1" ∷ "fine 0 shelf 1" ∷ "refused 50" ∷ "loan 1 due 2026-03-09" ∷ "loan 1 due 2026-03-16" ∷ "ok" ∷ "fine 0 ready 1 at 1 until 2026-03-10" ∷ [])
+unfolding digits reply_text reply_words routed_words
+hold_begins_on_its_day = gives refl
+
+-- It comes into line by its number: before one that was placed after it.
+hold_comes_into_line_by_its_number : map (λ H. line H 100) (after ground (desk (PlaceHold 2 100 1 (Some 20516) ∷ PlaceHold 3 100 1 None ∷ BeginDay 20515 ∷ []))
+    ∷ after ground (desk (PlaceHold 2 100 1 (Some 20516) ∷ PlaceHold 3 100 1 None ∷ BeginDay 20516 ∷ [])) ∷ []) ≡ (2 ∷ []) ∷ (1 ∷ 2 ∷ []) ∷ []
+unfolding digits
+hold_comes_into_line_by_its_number = refl
 
 -- The copy of a cancelled hold goes on to the same branch, and serves the line from there.
 cancelled_hold_frees_its_copy : Gives ground

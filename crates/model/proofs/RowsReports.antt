@@ -1,5 +1,5 @@
 -- Worked examples of pages and reports.
-use Rattle.std.specs.Prelude.{◌≡◌, [], ◌∷◌, ◌++◌, map, codes, refl, None}
+use Rattle.std.specs.Prelude.{◌≡◌, [], ◌∷◌, ◌++◌, map, codes, refl, Some, None}
 use Rattle.std.specs.Fmt.{digits}
 use Rattle.calendar.specs.Days.{day_text, civil_of}
 use Rattle.terms.specs.declared.command.Command.TheVariants.{BeginDay, CloseDay, OpenDay, CheckOut, CheckIn, PlaceHold, Pay, Waive}
@@ -19,6 +19,13 @@ page_shows_holds : page (after ground (by_patron 2 (codes "h1") (PlaceHold 2 100
     ≡ codes "patron 2 owed 0 name Bo Carr" ++ 10 ∷ codes "hold 1 at 1 waiting title 100 Rivers of the North"
 unfolding digits
 page_shows_holds = refl
+
+-- A page with a hold from a later day on, before that day and on it.
+page_shows_first_days : map (λ H. page H 2) (after ground (desk (PlaceHold 2 100 1 (Some 20517) ∷ [])) ∷ after ground (desk (PlaceHold 2 100 1 (Some 20517) ∷ BeginDay 20517 ∷ [])) ∷ [])
+    ≡ map (λ line. codes "patron 2 owed 0 name Bo Carr" ++ 10 ∷ line)
+    (codes "hold 1 at 1 waiting from 2026-03-05 title 100 Rivers of the North" ∷ codes "hold 1 at 1 waiting from 2026-03-05 title 100 Rivers of the North" ∷ [])
+unfolding digits day_text civil_of
+page_shows_first_days = refl
 
 page_of_another_is_as_before : page (after ground (by_patron 2 (codes "h1") (PlaceHold 2 100 1 None) ∷ [])) 1 ≡ codes "patron 1 owed 0 name Ann Bell"
 unfolding digits
