@@ -12,9 +12,9 @@ use Rattle.sqlite_value.proofs.OrderLemmas.{value_cmp_total}
 use Rattle.sqlite.specs.Order.{Row}
 use Rattle.sqlite.specs.Table.{Table}
 use Rattle.sqlite.specs.Schema.{Schema}
-use Rattle.sqlite.specs.Term.{Term, lit}
-use Rattle.sqlite.specs.Query.{Query, Output, output, output_cmp, page}
-use Rattle.sqlite.specs.Program.{IsProgramAnswer}
+use Rattle.sqlite.specs.Term.{Term, lit, eval_all}
+use Rattle.sqlite.specs.Query.{Query, Output, output, output_cmp, page, IsAnswer}
+use Rattle.sqlite.specs.Program.{overlay, IsProgramAnswer}
 use Rattle.sqlite.specs.Tree.{Trees}
 use Rattle.sqlite.specs.Listing.{understood, reads_listing}
 use Rattle.sqlite.specs.Command.TheVariants.{Select}
@@ -64,7 +64,7 @@ module _ {X : Type 0} (cmp : X → X → Ordering) (total : IsTotalOrder cmp) wh
   rises-sorted [] apart = tt
   rises-sorted (x ∷ xs) apart = rises-insert x _ (all-sort _ xs apart.0) (rises-sorted xs apart.1)
 
-mapped_twice : {A B C : Type 0} (f : A → B) (g : B → C) (xs : List A) → map g (map f xs) ≡ map (λ x. g (f x)) xs
+pub mapped_twice : {A B C : Type 0} (f : A → B) (g : B → C) (xs : List A) → map g (map f xs) ≡ map (λ x. g (f x)) xs
 mapped_twice f g [] = refl
 mapped_twice f g (x ∷ xs) = ap (λ l. g (f x) ∷ l) (mapped_twice f g xs)
 
@@ -74,22 +74,21 @@ same_mapped f g same (x ∷ xs) = λ i. same x i ∷ same_mapped f g same xs i
 
 -- ---- the rows that pass, in the order of ORDER BY
 
-module _ (table : Table) (tests : List Term) (order : List (Term × Key)) (most : Term) (given : Row) (good : Row → Bool) (reads : (r : Row) → passes tests given r ≡ good (cells table r))
-    (as_cells : (r : Row) → shown_of (each_column 1 table) given r ≡ cells table r) (Before : Row → Row → Type 0) where
-  abbrev pub ordering_query : Query
-  ordering_query = in_order_up_to table.tree tests (each_column 1 table) order most
+-- of a query that keeps the stored rows that pass, each in the slots that are its own
+module _ (table : Table) (q : Query) (env : Row → List Row) (p good : Row → Bool) (reads : (r : Row) → p r ≡ good (cells table r)) (Before : Row → Row → Type 0) where
+  abbrev shown_env : Row → Output
+  shown_env r = output q (env r)
 
   -- how two stored rows compare
   abbrev pub rows_cmp : Row → Row → Ordering
-  rows_cmp x y = output_cmp ordering_query (output ordering_query (given ∷ x ∷ [])) (output ordering_query (given ∷ y ∷ []))
+  rows_cmp x y = output_cmp q (shown_env x) (shown_env y)
 
-  module _ (tells : (x y : Row) → list_all is_plain (key_at table x) ≡ true → list_all is_plain (key_at table y) ≡ true → passes tests given x ≡ true → passes tests given y ≡ true
-      → is_eq (rows_cmp x y) ≡ true → key_at table x ≡ key_at table y)
+  module _ (tells : (x y : Row) → list_all is_plain (key_at table x) ≡ true → list_all is_plain (key_at table y) ≡ true → p x ≡ true → p y ≡ true → is_eq (rows_cmp x y) ≡ true → key_at table x ≡ key_at table y)
       (before : (x y : Row) → rows_cmp x y ≡ Less → Before (cells table x) (cells table y)) where
-    no_ties : (db : Trees) (m : Map) → IsMap table (db table.tree) m → (xs : List Row) → ((x : Row) → Has xs x → Has (db table.tree) x × (passes tests given x ≡ true))
+    no_ties : (rows : List Row) (m : Map) → IsMap table rows m → (xs : List Row) → ((x : Row) → Has xs x → Has rows x × (p x ≡ true))
         → IsAscending (λ a b. value_cmp (rowid a) (rowid b) ≡ Less) xs → IsAscending (λ a b. is_eq (rows_cmp a b) ≡ false) xs
-    no_ties db m is [] from up = tt
-    no_ties db m is (x ∷ xs) from up =
+    no_ties rows m is [] from up = tt
+    no_ties rows m is (x ∷ xs) from up =
         let here = from x (inl refl) in (
           all_from (λ y. is_eq (rows_cmp x y) ≡ false) xs (λ y there. false_from_ne_true _ (λ tie.
               let it = from y (inr there) in
@@ -98,51 +97,72 @@ module _ (table : Table) (tests : List Term) (order : List (Term × Key)) (most 
               let self : value_cmp (rowid x) (rowid x) ≡ Less = subst (λ z. value_cmp (rowid x) (rowid z) ≡ Less) (sym same) less in
               let tied = tied_itself value_cmp_total (rowid x) in
               cc)),
-          no_ties db m is xs (λ y there. from y (inr there)) up.1,
+          no_ties rows m is xs (λ y there. from y (inr there)) up.1,
         )
 
-    abbrev good_rows : Trees → List Row
-    good_rows db = filter (passes tests given) (db table.tree)
-
-    abbrev shown_env : Row → Output
-    shown_env r = output ordering_query (given ∷ r ∷ [])
+    good_apart : (rows : List Row) (m : Map) → IsMap table rows m → IsAscending (λ a b. is_eq (rows_cmp a b) ≡ false) (filter p rows)
+    good_apart rows m is = no_ties rows m is (filter p rows) (λ x there. has_filtered p rows x there) (ascending-filter _ p rows is.shaped.0)
 
     total_rows : IsTotalOrder rows_cmp
-    total_rows = on_total shown_env (output_cmp_total ordering_query)
+    total_rows = on_total shown_env (output_cmp_total q)
 
     -- all of them, in this order
+    abbrev pub sorted_rows : List Row → List Row
+    sorted_rows rows = sort_by rows_cmp (filter p rows)
+
+    pub sorted_answer : (rows : List Row) (m : Map) → IsMap table rows m → (db : Trees) (given : Row) (out : List Row) (a : IsAnswer q db given out) → a.kept ≡ map shown_env (filter p rows)
+        → out ≡ page q given (map (λ r. eval_all q.project (env r)) (sorted_rows rows))
+    sorted_answer rows m is db given out a kept =
+        let apart = ascending-map (λ a b. is_eq (output_cmp q a b) ≡ false) shown_env (filter p rows) (good_apart rows m is) in
+        let sorted = sorted_is-sort_by (output_cmp q) (output_cmp_total q) (map shown_env (filter p rows)) a.ordered apart (subst (λ k. IsPermutation k a.ordered) kept a.same) a.sorted in
+        a.shown ∙ ap (λ l. page q given (map (λ (o : Output). o.1) l)) (sorted ∙ sort_by-map (output_cmp q) shown_env (filter p rows))
+        ∙ ap (page q given) (mapped_twice shown_env (λ (o : Output). o.1) (sorted_rows rows))
+
+    pub sorted_list : (rows : List Row) (m : Map) → IsMap table rows m → ListedBy Before m good (map (cells table) (sorted_rows rows))
+    sorted_list rows m is =
+        let all = sorted_rows rows in
+        let mixed = IsPermutation-sort_by rows_cmp total_rows (filter p rows) in
+        record {
+          sound = λ v there.
+              let it = has_mapped (cells table) all v there in
+              let r = has_filtered p rows it.0 (has_permuted (filter p rows) all it.0 (IsPermutation-sym _ _ mixed) it.1) in
+              (key_at table it.0, is.sound it.0 r.0 ∙ ap Some (sym it.2), ap good it.2 ∙ sym (reads it.0) ∙ r.1);
+          whole = λ k v e fine.
+              let r = is.whole k v e in
+              let there = has_permuted all (filter p rows) r.0 mixed (has_kept p rows r.0 r.1 (reads r.0 ∙ ap good r.3 ∙ fine)) in
+              subst (Has (map (cells table) all)) r.3 (mapped_has (cells table) all r.0 there);
+          rises = ascending-map Before (cells table) all (ascending_weaker (λ a b. rows_cmp a b ≡ Less) (λ a b. Before (cells table a) (cells table b)) before all (rises-sorted rows_cmp total_rows (filter p rows) (good_apart rows m is)));
+        }
+
+-- of a query on one table
+module _ (table : Table) (tests : List Term) (order : List (Term × Key)) (most : Term) (given : Row) (good : Row → Bool) (reads : (r : Row) → passes tests given r ≡ good (cells table r))
+    (as_cells : (r : Row) → shown_of (each_column 1 table) given r ≡ cells table r) (Before : Row → Row → Type 0) where
+  abbrev pub ordering_query : Query
+  ordering_query = in_order_up_to table.tree tests (each_column 1 table) order most
+
+  abbrev row_env : Row → List Row
+  row_env r = given ∷ r ∷ []
+
+  abbrev pub table_cmp : Row → Row → Ordering
+  table_cmp = rows_cmp table ordering_query row_env (passes tests given) good reads Before
+
+  module _ (tells : (x y : Row) → list_all is_plain (key_at table x) ≡ true → list_all is_plain (key_at table y) ≡ true → passes tests given x ≡ true → passes tests given y ≡ true
+      → is_eq (table_cmp x y) ≡ true → key_at table x ≡ key_at table y)
+      (before : (x y : Row) → table_cmp x y ≡ Less → Before (cells table x) (cells table y)) where
+    abbrev pub table_rows : List Row → List Row
+    table_rows rows = sorted_rows table ordering_query row_env (passes tests given) good reads Before tells before rows
+
     abbrev pub all_rows : Trees → List Row
-    all_rows db = map (cells table) (sort_by rows_cmp (good_rows db))
+    all_rows db = map (cells table) (table_rows (db table.tree))
 
     ordered_rows : (db : Trees) (m : Map) → IsMap table (db table.tree) m → (out : List Row) → IsProgramAnswer [] ordering_query db given out → out ≡ page ordering_query given (all_rows db)
     ordered_rows db m is out h =
         let q = ordering_query in
         let a = h Null in
-        let env = λ (r : Row). given ∷ r ∷ [] in
-        let staged = a.grouped ∙ ap (λ rows. flat_map (λ r. cond (passes tests given r) (env r ∷ []) []) rows) (plain_overlay db table.tree) ∙ matched (passes tests given) env (db table.tree) in
-        let kept : a.kept ≡ map shown_env (good_rows db) = a.distinct ∙ ap (map (output q)) staged ∙ mapped_twice env (output q) (good_rows db) in
-        let apart = no_ties db m is (good_rows db) (λ x there. has_filtered (passes tests given) (db table.tree) x there) (ascending-filter _ (passes tests given) (db table.tree) is.shaped.0) in
-        let apart_out = ascending-map (λ a b. is_eq (output_cmp q a b) ≡ false) shown_env (good_rows db) apart in
-        let sorted = sorted_is-sort_by (output_cmp q) (output_cmp_total q) (map shown_env (good_rows db)) a.ordered apart_out (subst (λ k. IsPermutation k a.ordered) kept a.same) a.sorted in
-        a.shown ∙ ap (λ l. page q given (map (λ (o : Output). o.1) l)) (sorted ∙ sort_by-map (output_cmp q) shown_env (good_rows db))
-        ∙ ap (page q given) (mapped_twice shown_env (λ (o : Output). o.1) (sort_by rows_cmp (good_rows db)) ∙ same_mapped (λ r. shown_of (each_column 1 table) given r) (cells table) as_cells (sort_by rows_cmp (good_rows db)))
-
-    sorted_list : (db : Trees) (m : Map) → IsMap table (db table.tree) m → ListedBy Before m good (all_rows db)
-    sorted_list db m is =
-        let rows = sort_by rows_cmp (good_rows db) in
-        let apart = no_ties db m is (good_rows db) (λ x there. has_filtered (passes tests given) (db table.tree) x there) (ascending-filter _ (passes tests given) (db table.tree) is.shaped.0) in
-        let mixed = IsPermutation-sort_by rows_cmp total_rows (good_rows db) in
-        record {
-          sound = λ v there.
-              let it = has_mapped (cells table) rows v there in
-              let r = has_filtered (passes tests given) (db table.tree) it.0 (has_permuted (good_rows db) rows it.0 (IsPermutation-sym _ _ mixed) it.1) in
-              (key_at table it.0, is.sound it.0 r.0 ∙ ap Some (sym it.2), ap good it.2 ∙ sym (reads it.0) ∙ r.1);
-          whole = λ k v e fine.
-              let r = is.whole k v e in
-              let there = has_permuted rows (good_rows db) r.0 mixed (has_kept (passes tests given) (db table.tree) r.0 r.1 (reads r.0 ∙ ap good r.3 ∙ fine)) in
-              subst (Has (map (cells table) rows)) r.3 (mapped_has (cells table) rows r.0 there);
-          rises = ascending-map Before (cells table) rows (ascending_weaker (λ a b. rows_cmp a b ≡ Less) (λ a b. Before (cells table a) (cells table b)) before rows (rises-sorted rows_cmp total_rows (good_rows db) apart));
-        }
+        let kept = filter (passes tests given) (db table.tree) in
+        let staged = a.grouped ∙ ap (λ rows. flat_map (λ r. cond (passes tests given r) (row_env r ∷ []) []) rows) (plain_overlay db table.tree) ∙ matched (passes tests given) row_env (db table.tree) in
+        sorted_answer table q row_env (passes tests given) good reads Before tells before (db table.tree) m is (overlay db []) given out a (a.distinct ∙ ap (map (output q)) staged ∙ mapped_twice row_env (output q) kept)
+        ∙ ap (page q given) (same_mapped (λ r. shown_of (each_column 1 table) given r) (cells table) as_cells (table_rows (db table.tree)))
 
     -- of the rows that a text shows: all in this order, and which of them those are
     pub sorted_shown : (schema : Schema) (at : ℕ) (names : List (List ℕ)) (text : List ℕ) → slice_get schema.tables at ≡ Some table
@@ -151,8 +171,11 @@ module _ (table : Table) (tests : List Term) (order : List (Term × Key)) (most 
         → (rows ≡ page ordering_query given (all_rows old.now.trees)) × ListedBy Before (maps at) good (all_rows old.now.trees) × IsUnchanged old new
     sorted_shown schema at names text listed command bare unlisted old new rows h maps held =
         let is = held.tables at table listed in
-        let read = reads_as text given old new schema held.schema_is _ command bare unlisted rows h in
-        (ordered_rows old.now.trees (maps at) is rows read.answer, sorted_list old.now.trees (maps at) is, shown_unchanged text given old new schema held.schema_is bare rows h)
+        let read = reads_as text given old new schema held.schema_is _ command bare unlisted rows h in (
+          ordered_rows old.now.trees (maps at) is rows read.answer,
+          sorted_list table ordering_query row_env (passes tests given) good reads Before tells before (old.now.trees table.tree) (maps at) is,
+          shown_unchanged text given old new schema held.schema_is bare rows h,
+        )
 
 module _ (table : Table) (tests : List Term) (order : List (Term × Key)) (given : Row) (good : Row → Bool) (reads : (r : Row) → passes tests given r ≡ good (cells table r))
     (as_cells : (r : Row) → shown_of (each_column 1 table) given r ≡ cells table r) (Before : Row → Row → Type 0) where
@@ -161,8 +184,8 @@ module _ (table : Table) (tests : List Term) (order : List (Term × Key)) (given
   whole = lit (Int (negsuc 0))
 
   pub sorted_found : (tells : (x y : Row) → list_all is_plain (key_at table x) ≡ true → list_all is_plain (key_at table y) ≡ true → passes tests given x ≡ true → passes tests given y ≡ true
-      → is_eq (rows_cmp table tests order whole given good reads as_cells Before x y) ≡ true → key_at table x ≡ key_at table y)
-      (before : (x y : Row) → rows_cmp table tests order whole given good reads as_cells Before x y ≡ Less → Before (cells table x) (cells table y))
+      → is_eq (table_cmp table tests order whole given good reads as_cells Before x y) ≡ true → key_at table x ≡ key_at table y)
+      (before : (x y : Row) → table_cmp table tests order whole given good reads as_cells Before x y ≡ Less → Before (cells table x) (cells table y))
       (schema : Schema) (at : ℕ) (names : List (List ℕ)) (text : List ℕ) → slice_get schema.tables at ≡ Some table
       → command_of (understood schema text) ≡ Select (record { lets = []; body = in_order_of table.tree tests (each_column 1 table) order }) names → IsPlain (understood schema text) → reads_listing schema text ≡ false
       → (old new : State) (rows : List Row) → Shown text given old new rows → (maps : Maps) → Holds schema old.now maps → ListedBy Before (maps at) good rows × IsUnchanged old new
@@ -176,8 +199,8 @@ module _ (table : Table) (tests : List Term) (order : List (Term × Key)) (given
     so_many = lit (Int (pos most))
 
     pub page_sorted : (tells : (x y : Row) → list_all is_plain (key_at table x) ≡ true → list_all is_plain (key_at table y) ≡ true → passes tests given x ≡ true → passes tests given y ≡ true
-        → is_eq (rows_cmp table tests order so_many given good reads as_cells Before x y) ≡ true → key_at table x ≡ key_at table y)
-        (before : (x y : Row) → rows_cmp table tests order so_many given good reads as_cells Before x y ≡ Less → Before (cells table x) (cells table y))
+        → is_eq (table_cmp table tests order so_many given good reads as_cells Before x y) ≡ true → key_at table x ≡ key_at table y)
+        (before : (x y : Row) → table_cmp table tests order so_many given good reads as_cells Before x y ≡ Less → Before (cells table x) (cells table y))
         (cut : (l : List Row) → page (in_order_up_to table.tree tests (each_column 1 table) order so_many) given l ≡ take most l)
         (schema : Schema) (at : ℕ) (names : List (List ℕ)) (text : List ℕ) → slice_get schema.tables at ≡ Some table
         → command_of (understood schema text) ≡ Select (record { lets = []; body = in_order_up_to table.tree tests (each_column 1 table) order so_many }) names → IsPlain (understood schema text) → reads_listing schema text ≡ false

@@ -27,7 +27,7 @@ use Rattle.sqlite.specs.Table.{Table}
 use Rattle.sqlite_rules.specs.Lists.{Has}
 use Rattle.sqlite_rules.proofs.ListLemmas.{has_filtered, has_kept, all_has}
 use Rattle.sqlite_rules.proofs.ProbeLemmas.{has_mapped, mapped_has}
-use Rattle.sql_maps.specs.Maps.{key_at, cells, Map, IsMap, First, Count, Listed, FirstOf}
+use Rattle.sql_maps.specs.Maps.{key_at, cells, Map, IsMap, First, Count, Listed, ListedBy, FirstOf, FirstOfBy}
 use Rattle.sql_maps.proofs.Words.{in_order, counting}
 use Rattle.sql_maps.proofs.AnswerLemmas.{passes, shown_of, plain_overlay, matched, twice}
 
@@ -138,3 +138,15 @@ module _ (table : Table) (rows : List Row) (m : Map) (is : IsMap table rows m) (
 pub first_of : (m : Map) (good : Row → Bool) (Good : Row → Type 0) → ((v : Row) → good v ≡ true → Good v) → ((v : Row) → Good v → good v ≡ true) → (out : List Row) → First m good out → FirstOf m Good out
 first_of m good Good from to [] h = λ k v e fine. true≢false (sym (to v fine) ∙ h k v e)
 first_of m good Good from to (v ∷ more) h = (h.0, from v h.1, λ k w e fine. h.2 k w e (to w fine), h.3)
+
+-- the first of all that are listed
+pub first_of_listed : (Before : Row → Row → Type 0) (m : Map) (good : Row → Bool) (Good : Row → Type 0) → ((v : Row) → good v ≡ true → Good v) → ((v : Row) → Good v → good v ≡ true) → (all : List Row) → ListedBy Before m good all
+    → FirstOfBy Before m Good (take 1 all)
+first_of_listed Before m good Good from to [] is = λ k v e fine. is.whole k v e (to v fine)
+first_of_listed Before m good Good from to (v ∷ rest) is =
+    let first = is.sound v (inl refl) in (
+      (first.0, first.1),
+      from v first.2,
+      λ k w e fine. elim (is.whole k w e (to w fine)) [ inl same ↦ inl same | inr later ↦ inr (all_has (Before v) rest w is.rises.0 later) ],
+      refl,
+    )

@@ -106,11 +106,18 @@ First m good [] = (k v : Row) → m k ≡ Some v → good v ≡ false
 First m good (v ∷ more) =
     ((k : Row) × (m k ≡ Some v)) × (good v ≡ true) × ((k w : Row) → m k ≡ Some w → good w ≡ true → (w ≡ v) ⊎ (value_cmp (column v 0) (column w 0) ≡ Less)) × (more ≡ [])
 
--- the same where the condition is a fact
+-- the first column of the one is below that of the other
+abbrev pub FirstBelow : Row → Row → Type 0
+FirstBelow v w = value_cmp (column v 0) (column w 0) ≡ Less
+
+-- the row that comes before all others among those of the map of which a fact holds
+abbrev pub FirstOfBy : (Row → Row → Type 0) → Map → (Row → Type 0) → List Row → Type 0
+FirstOfBy Before m Good [] = (k v : Row) → m k ≡ Some v → ¬ Good v
+FirstOfBy Before m Good (v ∷ more) = ((k : Row) × (m k ≡ Some v)) × Good v × ((k w : Row) → m k ≡ Some w → Good w → (w ≡ v) ⊎ Before v w) × (more ≡ [])
+
+-- by its key, where the key is the first column
 abbrev pub FirstOf : Map → (Row → Type 0) → List Row → Type 0
-FirstOf m Good [] = (k v : Row) → m k ≡ Some v → ¬ Good v
-FirstOf m Good (v ∷ more) =
-    ((k : Row) × (m k ≡ Some v)) × Good v × ((k w : Row) → m k ≡ Some w → Good w → (w ≡ v) ⊎ (value_cmp (column v 0) (column w 0) ≡ Less)) × (more ≡ [])
+FirstOf = FirstOfBy FirstBelow
 
 -- the rows of the map that pass, each once, each before the next
 pub record ListedBy (Before : Row → Row → Type 0) (m : Map) (good : Row → Bool) (out : List Row) : Type 0 where
@@ -118,10 +125,7 @@ pub record ListedBy (Before : Row → Row → Type 0) (m : Map) (good : Row → 
   pub whole : (k v : Row) → m k ≡ Some v → good v ≡ true → Has out v
   pub rises : IsAscending Before out
 
--- the first column of the one is below that of the other; so the second; so the two together
-abbrev pub FirstBelow : Row → Row → Type 0
-FirstBelow v w = value_cmp (column v 0) (column w 0) ≡ Less
-
+-- the second column of the one is below that of the other; so the first two together
 abbrev pub SecondBelow : Row → Row → Type 0
 SecondBelow v w = value_cmp (column v 1) (column w 1) ≡ Less
 
