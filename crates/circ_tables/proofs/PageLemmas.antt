@@ -59,7 +59,7 @@ pub overdue_plain : (s : Schema) → s ≡ schema → IsPlain (understood s over
 overdue_plain s e = subst (λ z. IsPlain (understood z overdue_text)) (sym e) overdue_pages.bare
 
 -- what is no value is absent
-absent_is : (v : Value) → is_true (binary (Is Binary) v Null) ≡ true → v ≡ Null
+pub absent_is : (v : Value) → is_true (binary (Is Binary) v Null) ≡ true → v ≡ Null
 unfolding binary value_cmp lib.Ieee.is_nan lib.Ieee.lt
 absent_is Null h = refl
 absent_is (Int n) h = absurd (true≢false (sym h))
@@ -67,7 +67,7 @@ absent_is (Real x) h = absurd (true≢false (sym h))
 absent_is (Text t) h = absurd (true≢false (sym h))
 absent_is (Blob b) h = absurd (true≢false (sym h))
 
-nothing_tied : value_cmp Null Null ≡ Equal
+pub nothing_tied : value_cmp Null Null ≡ Equal
 unfolding value_cmp lib.Ieee.is_nan lib.Ieee.lt
 nothing_tied = refl
 

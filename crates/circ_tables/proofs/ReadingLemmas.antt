@@ -1,8 +1,9 @@
 -- Rows that are found: by their key, or first among those that a selection takes.
-use Rattle.std.proofs.Common.{◌≡◌, ◌≢◌, ◌≤◌, ◌<◌, Bool, length, inl, inr, ℕ, List, map, Option, None, Some, Ok, Err, Result, IfOk, refl, sym, subst, ap}
+use Rattle.std.proofs.Common.{◌≡◌, ◌≢◌, ◌≤◌, ◌<◌, Bool, length, inl, inr, ℕ, List, [], map, Option, None, Some, Ok, Err, Result, IfOk, refl, sym, subst, ap, ◌∙◌}
 use Rattle.std.specs.Prelude.{IfSome, option_map}
 use Rattle.std.specs.Option.{option_to_list}
-use Rattle.std.specs.Result.{result_err}
+use Rattle.std.specs.Result.{result_err, IsErr, IsErrAnd}
+use Rattle.sqlite.specs.Effect.{Database}
 use Rattle.sqlite.specs.Given.{IsPlain}
 use Rattle.sqlite.specs.Held.{Held, state}
 use Rattle.sqlite.specs.Listing.{understood}
@@ -14,7 +15,10 @@ use Rattle.sqlite.specs.declared.transaction.Transaction.{Transaction}
 use Rattle.sqlite_rules.specs.Lists.{Has}
 use Rattle.sql_maps.specs.Calls.{FindsRow}
 use Rattle.sql_maps.specs.Maps.{Map, Maps, Holds, Count}
-use Rattle.sql_maps.proofs.ReadLemmas.{commits_nothing}
+use Rattle.sqlite.proofs.Callers.{never_commits}
+use Rattle.sqlite.proofs.StateLemmas.{survives_then, survives_weaker}
+use Rattle.sql_maps.specs.Calls.{IsKeptOrUndone}
+use Rattle.sql_maps.proofs.ReadLemmas.{none_shown, row_unchanged, shown_unchanged}
 use Rattle.terms.specs.Limits.{InLimits}
 use Rattle.terms.specs.Pictures.{Picture}
 use Rattle.terms.specs.declared.fault.Fault.{Fault}
@@ -31,7 +35,7 @@ looks_of text given g old new plain asks = record {
   clean = asks.clean;
   mode = asks.mode;
   leaves = λ clean is. asks.leaves clean (plain (state g old).now.schema is);
-  survives = λ is. commits_nothing text given (state g old) (state g new) (plain (state g old).now.schema is) asks.survives;
+  survives = survives_weaker (state g old) (state g new) _ _ (λ _ db may same. never_commits text given (state g old) db (plain (state g old).now.schema same) may) asks.survives;
 }
 
 is_well : {A : Type 0} (r : Result A Fault) {Q : Type 0} → result_err r ≡ None → IfOk r (λ _. Q) → Q
@@ -50,7 +54,7 @@ read_of r g old new looks unchanged sound = record {
   clean = looks.clean;
   mode = looks.mode;
   leaves = λ h is maps holds. elim (looks.leaves h holds.schema_is) [ inl kept ↦ inl kept.now | inr undone ↦ inr (undone.was_open is, (undone.undone is).0) ];
-  crash = λ h maps holds trees may. elim ((looks.survives holds.schema_is).crash h trees may) [ inl before ↦ before | inr none ↦ absurd none ];
+  crash = λ h maps holds trees may. elim (looks.survives.crash h trees may) [ inl before ↦ before | inr other ↦ absurd (other holds.schema_is) ];
   same = λ is h maps holds. let all = is_well r is (unchanged h) maps holds in record { now = all.0.now_is; committed = all.0.committed_is; was_open = λ _. all.0.was_open };
   sound = λ is h P shown legal few. sound h P shown legal (is_stored r is);
 }
@@ -101,6 +105,11 @@ module _ {S K R : Type 0} (t : Table K R) (told : (a b : R) → t.IsLegal a → 
     };
   }
 
+-- a plain text that was asked for its first row leaves all as it was
+found_unchanged : (text : List ℕ) → ((s : Schema) → s ≡ schema → IsPlain (understood s text)) → (given : Row) (old new : State) (o : Option Row) → old.now.schema ≡ schema → FindsRow text given old new o → IsUnchanged old new
+found_unchanged text plain given old new (Some row) is finds = row_unchanged text given old new schema is (plain schema refl) row finds
+found_unchanged text plain given old new None is finds = shown_unchanged text given old new schema is (plain schema refl) [] (none_shown text given old new schema is (plain schema refl) finds)
+
 -- a row that a selection finds first
 module _ {S K R : Type 0} (t : Table K R) (text : List ℕ) (plain : (s : Schema) → s ≡ schema → IsPlain (understood s text)) (given : Row) (Found : Maps → List Row → Type 0)
     (found : (old new : State) (o : Option Row) → FindsRow text given old new o → (maps : Maps) → Holds schema old.now maps → Found maps (option_to_list o) × IsUnchanged old new)
@@ -128,8 +137,91 @@ module _ {S K R : Type 0} (t : Table K R) (text : List ℕ) (plain : (s : Schema
         first = selected;
         limits = is.limits;
         stored = outside;
+        same = λ clean. if_ok result (λ row finds is. found_unchanged text plain given (state g old) (state g new) (option_map t.cells row) is finds) (is.finds clean);
         read = read_of result g old new looked (λ clean. if_ok result (λ row first maps holds. (first maps holds).1) (selected clean)) (λ clean P shows within err. outside clean err shows.maps shows.holds (encoded shows.maps P shows.encodes within));
       }
+
+-- ---- one selection after another
+
+kept_then : (a b c : State) → IsUnchanged a b → IsKeptOrUndone b c → IsKeptOrUndone a c
+kept_then a b c one (inl two) = inl (record { now = two.now ∙ one.0.now_is; committed = two.committed ∙ one.0.committed_is; mode = two.mode ∙ one.0.mode })
+kept_then a b c one (inr two) = inr (record {
+  was_open = λ _. one.0.was_open;
+  undone = λ is. let both = two.undone is in (both.0 ∙ one.0.committed_is, both.1 ∙ one.0.committed_is);
+  autocommit = two.autocommit;
+  unmarked = two.unmarked;
+  counts = record { changes = two.counts.changes ∙ one.1.changes; last_rowid = two.counts.last_rowid ∙ one.1.last_rowid };
+})
+
+unchanged_then : (a b c : State) → IsUnchanged a b → IsUnchanged b c → IsUnchanged a c
+unchanged_then a b c one two = (
+  record { was_open = one.0.was_open; is_open = two.0.is_open; now_is = two.0.now_is ∙ one.0.now_is; committed_is = two.0.committed_is ∙ one.0.committed_is; mode = two.0.mode ∙ one.0.mode },
+  record { changes = two.1.changes ∙ one.1.changes; last_rowid = two.1.last_rowid ∙ one.1.last_rowid },
+  two.2 ∙ one.2,
+)
+
+held_still : (a b : State) (maps : Maps) → IsUnchanged a b → Holds schema a.now maps → Holds schema b.now maps
+held_still a b maps one holds = subst (λ d. Holds schema d maps) (sym one.0.now_is) holds
+
+-- a selection that ended well, and then another: what both found is so in the tables of the first
+module _ {S K R : Type 0} {t : Table K R} (encoded : (maps : Maps) (P : Picture) → Encodes maps P → InLimits P → AreEncoded t.cells t.IsLegal (maps t.place)) {Found Then : Maps → List Row → Type 0} {g : Ghosts S} {a b c : Held S} {x : Option R}
+    {r : Result (Option R) Fault} (one : Selects t Found g a b (Ok x)) (two : Selects t Then g b c r) where
+  still : HasCleanDisk (state g c) → (state g a).now.schema ≡ schema → IsUnchanged (state g a) (state g b)
+  still clean = one.same (two.looks.clean clean)
+
+  schema_still : HasCleanDisk (state g c) → (state g a).now.schema ≡ schema → (state g b).now.schema ≡ schema
+  schema_still clean is = ap (λ d. d.schema) (still clean is).0.now_is ∙ is
+
+  looks_then : Looks g a c
+  looks_then = record {
+    clean = λ clean. one.looks.clean (two.looks.clean clean);
+    mode = λ idle. two.looks.mode (one.looks.mode idle);
+    leaves = λ clean is. kept_then (state g a) (state g b) (state g c) (still clean is) (two.looks.leaves clean (schema_still clean is));
+    survives = survives_then (state g a) (state g b) (state g c) _ _ _ (λ _ db other. other) (λ clean db other is. other (schema_still clean is)) one.looks.survives two.looks.survives;
+  }
+
+  stored_then : IsStoredIn (λ maps. ¬ AreEncoded t.cells t.IsLegal (maps t.place)) g a c r
+  stored_then clean err maps holds = two.stored clean err maps (held_still (state g a) (state g b) maps (still clean holds.schema_is) holds)
+
+  found_then : OfMaps (λ maps row. Found maps (map t.cells (option_to_list x)) × Then maps (map t.cells (option_to_list row))) g a c r
+  found_then clean = if_ok r (λ y found maps holds.
+      let before = one.first (two.looks.clean clean) maps holds in
+      let after = found maps (held_still (state g a) (state g b) maps before.1 holds) in
+      ((before.0, after.0), unchanged_then (state g a) (state g b) (state g c) before.1 after.1)) (two.first clean)
+
+  pub selects_then : Selects t (λ maps rows. Found maps (map t.cells (option_to_list x)) × Then maps rows) g a c r
+  selects_then = record {
+    looks = looks_then;
+    first = found_then;
+    limits = two.limits;
+    stored = stored_then;
+    same = λ clean. if_ok r (λ y same is. unchanged_then (state g a) (state g b) (state g c) (still clean is) (same (schema_still clean is))) (two.same clean);
+    read = read_of r g a c looks_then (λ clean. if_ok r (λ y found maps holds. (found maps holds).1) (found_then clean)) (λ clean P shows within err. stored_then clean err shows.maps shows.holds (encoded shows.maps P shows.encodes within));
+  }
+
+-- what was found gives the row that is answered
+pub selects_gives : {S K R : Type 0} {t : Table K R} {Found Wanted : Maps → List Row → Type 0} {g : Ghosts S} {a b : Held S} {x y : Option R} → Selects t Found g a b (Ok x)
+    → ((maps : Maps) (db : Database) → Holds schema db maps → Found maps (map t.cells (option_to_list x)) → Wanted maps (map t.cells (option_to_list y))) → IfSome y t.IsLegal → Selects t Wanted g a b (Ok y)
+selects_gives {g = g} {a = a} {b = b} is so legal = record {
+  looks = is.looks;
+  first = λ clean maps holds. let found = is.first clean maps holds in (so maps (state g a).now holds found.0, found.1);
+  limits = legal;
+  stored = λ clean err. absurd (let never : ⊥ = cc in never);
+  same = is.same;
+  read = is.read;
+}
+
+-- a fault that is handed on
+pub selects_fails : {S K R : Type 0} {t : Table K R} {Found Wanted : Maps → List Row → Type 0} {g : Ghosts S} {a b : Held S} (r : Result (Option R) Fault) (fault : Fault) → IsErr r × IsErrAnd r (λ e. e ≡ fault) → Selects t Found g a b (Err fault) → Selects t Wanted g a b r
+selects_fails (Ok x) fault is seen = absurd (let none = is.0 in cc)
+selects_fails {R = R} {g = g} {a = a} {b = b} (Err e) fault is seen = record {
+  looks = seen.looks;
+  first = λ clean. tt;
+  limits = tt;
+  stored = λ clean err. seen.stored clean (subst (λ f. ◌≡◌ {A = Result (Option R) Fault} (Err f) (Err Stored)) is.1 err);
+  same = λ clean. tt;
+  read = subst (λ f. Reading (Some f) (state g a) (state g b)) (sym is.1) seen.read;
+}
 
 -- the rows that a list takes
 module _ {S K R L : Type 0} (t : Table K R) (items : L → List R) (text : List ℕ) (given : Row) (Found : Map → List Row → Type 0)

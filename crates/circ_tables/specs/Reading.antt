@@ -117,14 +117,13 @@ pub record AsksInside {S L : Type 0} (items : L → List Row) (text : List ℕ) 
       → IfOk result (λ rows. Shown text given (state g old.conn.now) (state g new.conn.now) (items rows))
   pub fault : IfErr result (λ fault. fault ≡ Database)
 
--- What a plain text leaves of tables with the schema, where nothing is committed.
+-- What plain texts leave of tables with the schema, where nothing is committed.
 pub record Looks {S : Type 0} (g : Ghosts S) (old new : Held S) : Type 0 where
   pub clean : HasCleanDisk (state g new) → HasCleanDisk (state g old)
   pub mode : old.in_transaction ≡ false → new.in_transaction ≡ false
   pub leaves : HasCleanDisk (state g new) → (state g old).now.schema ≡ schema
       → IsKeptOrUndone (state g old) (state g new)
-  pub survives : (state g old).now.schema ≡ schema
-      → Survives (state g old) (state g new) (λ _. ⊥)
+  pub survives : Survives (state g old) (state g new) (λ _. (state g old).now.schema ≢ schema)
 
 -- The tables were asked in a transaction that was rolled back: as long as the database is open they are what was committed, whatever tables there are.
 pub record RollsBack {S : Type 0} (g : Ghosts S) (old new : Held S) : Type 0 where
@@ -223,13 +222,15 @@ pub record GetsKept {S : Type 0} (owner : Owner) (key : List ℕ)
       → IfSome (P.kept owner key) HasTexts → result ≢ Err Stored
   pub view : Views (λ P kept. IsOwner owner → kept ≡ option_map reply_of (P.kept owner key)) g old new result
 
--- The row that a selection finds first, if there is one.
+-- The row that a selection finds first, if there is one. Where it answers, tables with the schema are as they were.
 pub record Selects {S K R : Type 0} (t : Table K R) (Found : Maps → List Row → Type 0)
     (g : Ghosts S) (old new : Held S) (result : Result (Option R) Fault) : Type 0 where
   pub looks : Looks g old new
   pub first : OfMaps (λ maps row. Found maps (map t.cells (option_to_list row))) g old new result
   pub limits : IfOk result (λ row. IfSome row t.IsLegal)
   pub stored : IsStoredIn (λ maps. ¬ AreEncoded t.cells t.IsLegal (maps t.place)) g old new result
+  pub same : HasCleanDisk (state g new)
+      → IfOk result (λ _. (state g old).now.schema ≡ schema → IsUnchanged (state g old) (state g new))
   pub read : Reading (result_err result) (state g old) (state g new)
 
 -- The number that a text counts. The fault of a stored row comes where it counts no number below 2^32.

@@ -1,11 +1,13 @@
 //! The table of holds, as a library has it from schema 2 on.
 
-ghost use Rattle.sql_maps.specs.Maps.{First, FirstOf, Listed};
+ghost use Rattle.std.specs.Prelude.{◌≡◌, ◌⊎◌, ◌<◌, ◌≤◌, true, MatchBool, MatchOption};
+ghost use Rattle.sql_maps.specs.Maps.{First, FirstOf, FirstOfBy, Listed};
 ghost use Rattle.sql_maps.specs.Pages.{FirstRows};
 ghost use Rattle.circ_tables.specs.Holds.{holds, holds_are};
 ghost use Rattle.circ_tables.specs.Reading.{Counts, Lists, Selects};
-ghost use Rattle.circ_tables.specs.Selections.{Waits, is_active_by, is_active_on};
-ghost use Rattle.circ_tables.specs.Selections.{is_ready_after, names_copy};
+ghost use Rattle.circ_tables.specs.Selections.{BeginsBefore, StandsInLine, Waits, WaitsSince};
+ghost use Rattle.circ_tables.specs.Selections.{is_active_by, is_active_on, is_ready_after};
+ghost use Rattle.circ_tables.specs.Selections.{names_copy};
 ghost use Rattle.circ_tables.specs.Shape.{holds_place, transits_place};
 ghost use Rattle.circ_tables.specs.Transits.{transits};
 ghost use Rattle.circ_tables.specs.declared.by_number.TheConstants.{PAGE_ROWS};
@@ -17,6 +19,7 @@ use crate::cell::{
     patron_at, state_at, state_number, title_at,
 };
 use crate::list::{Table, counted, row_of, rows_of};
+use calendar::Day;
 use sqlite::{Alter, Connection, Row, Transaction, params};
 use std::alloc::Global;
 use terms::{BranchId, CopyId, Count, Fault, HoldId, HoldRow, LAST_NUMBER, PatronId, TitleId};
@@ -106,21 +109,103 @@ pub fn ready_hold_of<S: Alter>(
     row_of(conn, (), READY_HOLD_OF_TEXT, params![copy.number()])
 }
 
-/// The text of `first_in_line`.
-pub const FIRST_IN_LINE_TEXT: &str =
-    "SELECT * FROM holds2 WHERE title = ?1 AND state = 0 AND NOT EXISTS (SELECT * FROM transits WHERE transits.hold = holds2.hold) ORDER BY hold LIMIT 1";
+/// The text of `first_waiting`.
+pub const FIRST_WAITING_TEXT: &str =
+    "SELECT * FROM holds2 WHERE title = ?1 AND state = 0 AND NOT EXISTS (SELECT * FROM transits WHERE transits.hold = holds2.hold) ORDER BY first_day, hold LIMIT 1";
 
-/// The first in line for a title: the waiting hold of the least number that no copy travels for.
-/// 91, 93.
-pub fn first_in_line<S: Alter>(
+/// The waiting hold for a title that no copy travels for and that begins first: one without a first
+/// day before all others, then one of the earliest first day; of these the least number. 91, 93.
+///
+/// The order is that of the index, in which NULL comes first, so that no other row is read.
+fn first_waiting<S: Alter>(
     conn: &mut Connection<S>,
     title: TitleId,
 ) -> Result<Option<HoldRow>, Fault>
     ensures { Selects holds
-        (λ maps. FirstOf (maps holds_place) (Waits (maps transits_place) title))
+        (λ maps. FirstOfBy BeginsBefore (maps holds_place) (Waits (maps transits_place) title))
         S.Store conn.old conn.new result }
 {
-    row_of(conn, (), FIRST_IN_LINE_TEXT, params![title.number()])
+    row_of(conn, (), FIRST_WAITING_TEXT, params![title.number()])
+}
+
+/// The text of `first_begun`.
+pub const FIRST_BEGUN_TEXT: &str =
+    "SELECT * FROM holds2 WHERE title = ?1 AND state = 0 AND first_day >= 0 AND first_day <= ?2 AND NOT EXISTS (SELECT * FROM transits WHERE transits.hold = holds2.hold) ORDER BY hold LIMIT 1";
+
+/// The waiting hold of the least number for a title that no copy travels for and whose first day
+/// has come. 91, 93.
+///
+/// The days are a range of the index. Its lower end is named too, since a plan without one begins
+/// at the holds that have no first day, and there may be many.
+fn first_begun<S: Alter>(
+    conn: &mut Connection<S>,
+    title: TitleId,
+    today: Day,
+) -> Result<Option<HoldRow>, Fault>
+    ensures { Selects holds
+        (λ maps. FirstOf (maps holds_place) (WaitsSince (maps transits_place) title today))
+        S.Store conn.old conn.new result }
+{
+    row_of(
+        conn,
+        (),
+        FIRST_BEGUN_TEXT,
+        params![title.number(), today.number()],
+    )
+}
+
+/// Whether the hold has no first day, or one that isn't after this day.
+fn has_begun(hold: &HoldRow, today: Day) -> bool
+    ensures { MatchOption hold.now.first_day (result ≡ true)
+        (λ day. MatchBool result (day ≤ today) (today < day)) }
+{
+    match hold.first_day {
+        Some(day) => day.number() <= today.number(),
+        None => true,
+    }
+}
+
+/// The hold of the lesser number.
+fn lesser(hold: HoldRow, other: Option<HoldRow>) -> HoldRow
+    ensures { MatchOption other (result ≡ hold)
+        (λ row. ((result ≡ hold) × (hold.hold < row.hold))
+        ⊎ ((result ≡ row) × (row.hold ≤ hold.hold))) }
+{
+    match other {
+        Some(row) => {
+            if hold.hold.number() < row.hold.number() {
+                hold
+            } else {
+                row
+            }
+        },
+        None => hold,
+    }
+}
+
+/// The first in line for a title: the waiting hold of the least number that no copy travels for and
+/// that has no first day after today. 91, 93.
+///
+/// Two rows are looked at. Where even the hold that begins first hasn't begun, none has. Else the
+/// first in line is that hold or the least of those whose first day has come: where the former has
+/// a first day of its own, it is among these.
+pub fn first_in_line<S: Alter>(
+    conn: &mut Connection<S>,
+    title: TitleId,
+    today: Day,
+) -> Result<Option<HoldRow>, Fault>
+    ensures { Selects holds
+        (λ maps. FirstOf (maps holds_place) (StandsInLine (maps transits_place) title today))
+        S.Store conn.old conn.new result }
+{
+    let Some(waiting) = first_waiting(conn, title)? else {
+        return Ok(None);
+    };
+    if !has_begun(&waiting, today) {
+        return Ok(None);
+    }
+    let begun = first_begun(conn, title, today)?;
+    Ok(Some(lesser(waiting, begun)))
 }
 
 /// The text of `count_active_holds`.
