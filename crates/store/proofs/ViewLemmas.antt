@@ -21,7 +21,7 @@ use Rattle.circ_tables.specs.Reading.{Table, Views, Selects, Counts, Lists}
 use Rattle.circ_tables.specs.Loans.{loans}
 use Rattle.circ_tables.specs.Holds.{holds}
 use Rattle.circ_tables.specs.Transits.{transits}
-use Rattle.circ_tables.specs.Selections.{is_open_of, is_open_by, is_active_by, is_active_on, names_copy, travels_for, Waits, LendsTitle}
+use Rattle.circ_tables.specs.Selections.{is_open_of, is_open_by, is_active_by, is_active_on, names_copy, travels_for, StandsInLine, LendsTitle}
 use Rattle.circ_tables.specs.Shape.{copies_place, loans_place, holds_place, transits_place}
 use Rattle.circ_tables.proofs.ReadingLemmas.{read_of}
 use Rattle.store.proofs.CountLemmas.{open_loans_shown, open_loans_few, active_holds_shown, active_holds_few, active_holds_on_shown, active_holds_on_few}
@@ -84,8 +84,9 @@ hold_seen {g = g} {copy = copy} {r = r} {a = a} {b = b} is = record { read = is.
 pub travel_seen : {S : Type 0} {g : Ghosts S} {hold : ℕ} {r : Result (Option TransitRow) Fault} {a b : Held S} → Selects transits (λ maps. First (maps transits_place) (travels_for hold)) g a b r → Views (λ P row. IsTravelFor P hold row) g a b r
 travel_seen {g = g} {hold = hold} {r = r} {a = a} {b = b} is = record { read = is.read; shown = λ clean. travel_for_shown hold (state g a) (state g b) r (is.first clean) is.limits }
 
-pub first_seen : {S : Type 0} {g : Ghosts S} {title : ℕ} {r : Result (Option HoldRow) Fault} {a b : Held S} → Selects holds (λ maps. FirstOf (maps holds_place) (Waits (maps transits_place) title)) g a b r → Views (λ P row. IsFirstOf P title row) g a b r
-first_seen {g = g} {title = title} {r = r} {a = a} {b = b} is = record { read = is.read; shown = λ clean. first_of_shown title (state g a) (state g b) r (is.first clean) is.limits }
+pub first_seen : {S : Type 0} {g : Ghosts S} {title today : ℕ} {r : Result (Option HoldRow) Fault} {a b : Held S} → Selects holds (λ maps. FirstOf (maps holds_place) (StandsInLine (maps transits_place) title today)) g a b r
+    → Views (λ P row. today ≡ P.meta.today → IsFirstOf P title row) g a b r
+first_seen {g = g} {title = title} {today = today} {r = r} {a = a} {b = b} is = record { read = is.read; shown = λ clean. first_of_shown title today (state g a) (state g b) r (is.first clean) is.limits }
 
 pub title_loan_seen : {S : Type 0} {g : Ghosts S} {patron title : ℕ} {r : Result (Option LoanRow) Fault} {a b : Held S} → Selects loans (λ maps. FirstOf (maps loans_place) (LendsTitle (maps copies_place) patron title)) g a b r → Views (λ P row. IsLoanOfTitle P patron title row) g a b r
 title_loan_seen {g = g} {patron = patron} {title = title} {r = r} {a = a} {b = b} is = record { read = is.read; shown = λ clean. loan_of_title_shown patron title (state g a) (state g b) r (is.first clean) is.limits }

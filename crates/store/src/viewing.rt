@@ -165,15 +165,17 @@ fn rule_for<S: Alter>(
     }
 }
 
-/// The first hold in line for the title of a copy.
+/// The first hold in line for the title of a copy, where today is this day.
 fn first_for<S: Alter>(
     conn: &mut Connection<S>,
     copy: &Option<CopyRow>,
+    today: Day,
 ) -> Result<Option<HoldRow>, Fault>
-    ensures { Views (λ P first. IsFirstFor P copy.now first) S.Store conn.old conn.new result }
+    ensures { Views (λ P first. today ≡ P.meta.today → IsFirstFor P copy.now first)
+        S.Store conn.old conn.new result }
 {
     match copy {
-        Some(row) => first_in_line(conn, row.title),
+        Some(row) => first_in_line(conn, row.title, today),
         None => Ok(None),
     }
 }
@@ -416,13 +418,15 @@ fn lending_of<S: Alter>(
     number: PatronId,
     patron: &Option<PatronRow>,
     copy: &Option<CopyRow>,
+    today: Day,
 ) -> Result<Lending, Fault>
     ensures { Views (λ P it. (it.rule ≡ rule_in P patron.now copy.now)
-        × IsFirstFor P copy.now it.first × IsCount (IsOpenBy P number) it.open_loans
+        × (today ≡ P.meta.today → IsFirstFor P copy.now it.first)
+        × IsCount (IsOpenBy P number) it.open_loans
         × AreHoldsFor P number copy.now it.own_holds) S.Store conn.old conn.new result }
 {
     let rule = rule_for(conn, patron, copy)?;
-    let first = first_for(conn, copy)?;
+    let first = first_for(conn, copy, today)?;
     let open_loans = count_open_loans(conn, number)?;
     let own_holds = holds_for(conn, number, copy)?;
     Ok(Lending {
@@ -449,7 +453,7 @@ fn check_out_view<S: Alter>(
     let patron = get_row::<PatronRow, S>(conn, alloc, number)?;
     let kind = kind_of(conn, &patron)?;
     let at = copy_view(conn, copy)?;
-    let lending = lending_of(conn, number, &patron, &at.copy)?;
+    let lending = lending_of(conn, number, &patron, &at.copy, meta.today)?;
     let Lending {
         rule,
         first,
@@ -480,7 +484,7 @@ fn renew_view<S: Alter>(
     let meta = get_meta(conn)?;
     let loan = get_row::<LoanRow, S>(conn, (), number)?;
     let copy = lent_copy(conn, &loan)?;
-    let first = first_for(conn, &copy)?;
+    let first = first_for(conn, &copy, meta.today)?;
     let patron = borrower_of(conn, alloc, &loan)?;
     let kind = kind_of(conn, &patron)?;
     let lender = lender_calendar(conn, alloc, &loan)?;
@@ -575,7 +579,7 @@ fn check_in_view<S: Alter>(
     let end = lender_of(conn, alloc, &at.loan)?;
     let Lender { lender, patron } = end;
     let coming = coming_hold(conn, &at.transit)?;
-    let first = first_for(conn, &at.copy)?;
+    let first = first_for(conn, &at.copy, meta.today)?;
     Ok(View {
         meta,
         branch,
@@ -601,7 +605,7 @@ fn unshelve_view<S: Alter>(
     let copy = named_copy(conn, &hold)?;
     let here = shelf_of(conn, alloc, &hold)?;
     let Shelf { branch, calendar } = here;
-    let first = first_for(conn, &copy)?;
+    let first = first_for(conn, &copy, meta.today)?;
     Ok(View {
         meta,
         hold,

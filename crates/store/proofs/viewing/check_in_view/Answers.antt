@@ -1,3 +1,4 @@
+use Rattle.std.proofs.Common.{ap}
 use Rattle.store.proofs.ViewLemmas.{◌⨾◌, fails, gives}
 use Rattle.store.proofs.viewing.check_in_view.Goals as goal
 
@@ -22,4 +23,4 @@ returns-in_err-first-clause-view g c = fails _ _ c.from_residual-in_err-first.en
 pub returns-clause-view : goal.returns-clause-view
 returns-clause-view g c =
     gives (c.in_ok-meta.ensures.view ⨾ c.in_ok-branch.ensures.view ⨾ c.in_ok-calendar.ensures ⨾ c.in_ok-at.ensures.view ⨾ c.in_ok-end.ensures ⨾ c.in_ok-coming.ensures ⨾ c.in_ok-first.ensures)
-    (λ P all. record { meta = all.0; here = record { branch = all.1.0; calendar = (all.1.1.0 all.1.0).0 }; at = record { copy = all.1.1.1.0.copy; loan = all.1.1.1.0.loan; transit = all.1.1.1.0.transit; hold = all.1.1.1.0.hold }; lender = record { calendar = all.1.1.1.1.0.0; patron = all.1.1.1.1.0.1 }; coming = all.1.1.1.1.1.0; first = all.1.1.1.1.1.1 })
+    (λ P all. record { meta = all.0; here = record { branch = all.1.0; calendar = (all.1.1.0 all.1.0).0 }; at = record { copy = all.1.1.1.0.copy; loan = all.1.1.1.0.loan; transit = all.1.1.1.0.transit; hold = all.1.1.1.0.hold }; lender = record { calendar = all.1.1.1.1.0.0; patron = all.1.1.1.1.0.1 }; coming = all.1.1.1.1.1.0; first = all.1.1.1.1.1.1 (ap (λ m. m.today) all.0) })

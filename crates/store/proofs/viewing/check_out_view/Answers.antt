@@ -1,3 +1,4 @@
+use Rattle.std.proofs.Common.{ap}
 use Rattle.store.proofs.ViewLemmas.{◌⨾◌, fails, gives}
 use Rattle.store.proofs.viewing.check_out_view.Goals as goal
 
@@ -19,4 +20,4 @@ returns-in_err-lending-clause-view g c = fails _ _ c.from_residual-in_err-lendin
 pub returns-clause-view : goal.returns-clause-view
 returns-clause-view g c =
     gives (c.in_ok-meta.ensures.view ⨾ c.in_ok-calendar.ensures ⨾ c.in_ok-patron.ensures.view ⨾ c.in_ok-kind.ensures ⨾ c.in_ok-at.ensures.view ⨾ c.in_ok-lending.ensures)
-    (λ P all. record { meta = all.0; calendar = all.1.0.0; patron = all.1.1.0; kind = all.1.1.1.0; at = record { copy = all.1.1.1.1.0.copy; loan = all.1.1.1.1.0.loan; transit = all.1.1.1.1.0.transit; hold = all.1.1.1.1.0.hold }; rule = all.1.1.1.1.1.0; first = all.1.1.1.1.1.1; open_loans = all.1.1.1.1.1.2; own_holds = all.1.1.1.1.1.3 })
+    (λ P all. record { meta = all.0; calendar = all.1.0.0; patron = all.1.1.0; kind = all.1.1.1.0; at = record { copy = all.1.1.1.1.0.copy; loan = all.1.1.1.1.0.loan; transit = all.1.1.1.1.0.transit; hold = all.1.1.1.1.0.hold }; rule = all.1.1.1.1.1.0; first = all.1.1.1.1.1.1 (ap (λ m. m.today) all.0); open_loans = all.1.1.1.1.1.2; own_holds = all.1.1.1.1.1.3 })

@@ -1,3 +1,4 @@
+use Rattle.std.proofs.Common.{ap}
 use Rattle.store.proofs.ViewLemmas.{◌⨾◌, fails, gives}
 use Rattle.store.proofs.viewing.renew_view.Goals as goal
 
@@ -22,4 +23,4 @@ returns-in_err-lender-clause-view g c = fails _ _ c.from_residual-in_err-lender.
 pub returns-clause-view : goal.returns-clause-view
 returns-clause-view g c =
     gives (c.in_ok-meta.ensures.view ⨾ c.in_ok-loan.ensures.view ⨾ c.in_ok-copy.ensures ⨾ c.in_ok-first.ensures ⨾ c.in_ok-patron.ensures ⨾ c.in_ok-kind.ensures ⨾ c.in_ok-lender.ensures)
-    (λ P all. record { meta = all.0; loan = all.1.0; copy = all.1.1.0; first = all.1.1.1.0; patron = all.1.1.1.1.0; kind = all.1.1.1.1.1.0; calendar = all.1.1.1.1.1.1 })
+    (λ P all. record { meta = all.0; loan = all.1.0; copy = all.1.1.0; first = all.1.1.1.0 (ap (λ m. m.today) all.0); patron = all.1.1.1.1.0; kind = all.1.1.1.1.1.0; calendar = all.1.1.1.1.1.1 })
