@@ -72,8 +72,12 @@ pub fn transit_for<S: Alter>(conn: &mut Connection<S>, hold: u32) -> Result<Opti
     }
 }
 
-pub fn first_in_line<S: Alter>(conn: &mut Connection<S>, title: u32) -> Result<Option<u32>, Fault> {
-    match tables::first_in_line(conn, TitleId::new(title))? {
+pub fn first_in_line<S: Alter>(
+    conn: &mut Connection<S>,
+    title: u32,
+    today: Day,
+) -> Result<Option<u32>, Fault> {
+    match tables::first_in_line(conn, TitleId::new(title), today)? {
         Some(row) => Ok(Some(row.hold.number())),
         None => Ok(None),
     }

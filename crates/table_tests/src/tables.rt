@@ -96,8 +96,8 @@ fn finds_holds<S: Alter>(
 ) -> Result<(), Fail> {
     assert!(rt; ready_hold_of(conn, 14)? == Some(5));
     assert!(rt; ready_hold_of(conn, 10)? == None);
-    assert!(rt; first_in_line(conn, 100)? == Some(4));
-    assert!(rt; first_in_line(conn, 101)? == Some(7));
+    assert!(rt; first_in_line(conn, 100, day(20_790)?)? == Some(4));
+    assert!(rt; first_in_line(conn, 101, day(20_789)?)? == Some(7));
     assert!(rt; transit_for(conn, 3)? == Some(16));
     assert!(rt; transit_for(conn, 4)? == None);
     assert!(rt; count_active_holds(conn, 1)? == 3);
@@ -212,6 +212,30 @@ fn finds_days<S: Alter>(
     Ok(())
 }
 
+/// Lines of titles. Of 103, hold 23 has no first day, but a copy travels for it, and 24 has none either; of 104 each hold has one; that
+/// of 105 is no longer waiting.
+const LINES: &str = "\
+INSERT INTO holds2 VALUES (25, 4, 103, 1, 0, NULL, NULL, 20790), (24, 4, 103, 1, 0, NULL, NULL, NULL), (23, 4, 103, 1, 0, NULL, NULL, NULL), (22, 4, 103, 1, 0, NULL, NULL, 20795), (21, 4, 103, 1, 0, NULL, NULL, 20800);\
+INSERT INTO holds2 VALUES (34, 4, 104, 1, 0, NULL, NULL, 20796), (33, 4, 104, 1, 0, NULL, NULL, 20795), (32, 4, 104, 1, 0, NULL, NULL, 20795), (31, 4, 104, 1, 0, NULL, NULL, 20800);\
+INSERT INTO holds2 VALUES (41, 4, 105, 1, 2, NULL, NULL, 20790);\
+INSERT INTO transits VALUES (14, 1, 23)";
+
+/// The first in line before a first day, on it and after it.
+fn finds_the_first<S: Alter>(rt: &impl Abort, conn: &mut Connection<S>) -> Result<(), Fail> {
+    write(conn, LINES)?;
+    assert!(rt; first_in_line(conn, 103, day(20_789)?)? == Some(24));
+    assert!(rt; first_in_line(conn, 103, day(20_790)?)? == Some(24));
+    assert!(rt; first_in_line(conn, 103, day(20_795)?)? == Some(22));
+    assert!(rt; first_in_line(conn, 103, day(20_799)?)? == Some(22));
+    assert!(rt; first_in_line(conn, 103, day(20_800)?)? == Some(21));
+    assert!(rt; first_in_line(conn, 104, day(20_794)?)? == None);
+    assert!(rt; first_in_line(conn, 104, day(20_795)?)? == Some(32));
+    assert!(rt; first_in_line(conn, 104, day(20_801)?)? == Some(31));
+    assert!(rt; first_in_line(conn, 105, day(20_801)?)? == None);
+    assert!(rt; first_in_line(conn, 100, day(20_789)?)? == None);
+    Ok(())
+}
+
 /// Days past their limits: of a loan, of a ready hold, and a closed day.
 const DAMAGE: &str = "UPDATE loans SET due = 84006 WHERE loan = 2;\
 UPDATE holds2 SET limit_day = 84006 WHERE hold = 5;UPDATE closed_days SET day = 10956 WHERE branch = 2";
@@ -240,6 +264,7 @@ fn looks<S: Alter>(rt: &impl Abort, conn: &mut Connection<S>, alloc: Global) -> 
     empties_the_old_table(rt, conn, alloc)?;
     assert!(rt; refuses_a_second(conn)?);
     assert!(rt; transit_for(conn, 9)? == Some(18));
+    finds_the_first(rt, conn)?;
     tells_damage(rt, conn, alloc)
 }
 
