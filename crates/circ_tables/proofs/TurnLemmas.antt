@@ -1,5 +1,5 @@
 -- The first in line is one of two rows: the hold that begins first, and the least of those whose first day has come.
-use Rattle.std.proofs.Common.{arith, ◌≡◌, ◌⊎◌, ◌&&◌, ◌≤◌, ◌<◌, inl, inr, ℕ, pos, Bool, true, false, List, [], ◌∷◌, map, Option, Some, None, refl, sym, ap, subst, ◌∙◌, true≢false, Ordering, Less, Equal, Greater}
+use Rattle.std.proofs.Common.{arith, ◌≡◌, ◌⊎◌, ◌&&◌, ◌≤◌, ◌<◌, inl, inr, ℕ, pos, Bool, true, false, [], ◌∷◌, map, Option, Some, None, refl, sym, ap, subst, ◌∙◌, true≢false, Ordering, Less, Equal, Greater}
 use Rattle.std.specs.Prelude.{MatchBool, MatchOption, IfSome}
 use Rattle.std.specs.Option.{option_to_list}
 use Rattle.std.specs.Ordering.{ordering_then}
@@ -69,14 +69,14 @@ module _ (db : Database) (maps : Maps) (held : Holds shape.schema db maps) (titl
   abbrev m : Map
   m = maps shape.holds_place
 
-  abbrev W : Row → Type 0
-  W = Waits (maps shape.transits_place) title
+  abbrev IsWaiting : Row → Type 0
+  IsWaiting = Waits (maps shape.transits_place) title
 
-  abbrev C : Row → Type 0
-  C = WaitsSince (maps shape.transits_place) title today
+  abbrev HasCome : Row → Type 0
+  HasCome = WaitsSince (maps shape.transits_place) title today
 
-  abbrev L : Row → Type 0
-  L = StandsInLine (maps shape.transits_place) title today
+  abbrev IsInLine : Row → Type 0
+  IsInLine = StandsInLine (maps shape.transits_place) title today
 
   -- two rows of one number are the same
   keyed : (k v : Row) → m k ≡ Some v → column v 0 ∷ [] ≡ k
@@ -85,12 +85,12 @@ module _ (db : Database) (maps : Maps) (held : Holds shape.schema db maps) (titl
   same_number : (j v k w : Row) → m j ≡ Some v → m k ≡ Some w → column v 0 ≡ column w 0 → v ≡ w
   same_number j v k w e f same = same_row (m k) v w (ap m (sym (keyed k w f) ∙ ap (λ x. x ∷ []) (sym same) ∙ keyed j v e) ∙ e) f
 
-  pub nobody : FirstOfBy BeginsBefore m W [] → FirstOf m L []
+  pub nobody : FirstOfBy BeginsBefore m IsWaiting [] → FirstOf m IsInLine []
   nobody none = λ k v e line. none k v e line.0
 
-  module _ (hold : HoldRow) (first : FirstOfBy BeginsBefore m W (hold_cells hold ∷ [])) where
+  module _ (hold : HoldRow) (first : FirstOfBy BeginsBefore m IsWaiting (hold_cells hold ∷ [])) where
     -- where it has a first day, each hold that waits has one, and none an earlier one
-    has_day : (day : ℕ) → hold.first_day ≡ Some day → (k w : Row) → m k ≡ Some w → W w → null_at 7 w ≡ true → ⊥
+    has_day : (day : ℕ) → hold.first_day ≡ Some day → (k w : Row) → m k ≡ Some w → IsWaiting w → null_at 7 w ≡ true → ⊥
     has_day day is k w e waits free = go (first.2 k w e waits)
       where
         none : column w 7 ≡ Null
@@ -103,7 +103,7 @@ module _ (db : Database) (maps : Maps) (held : Holds shape.schema db maps) (titl
         go (inl same) = let clash : Null ≡ number day = sym none ∙ ap (λ v. column v 7) same ∙ own in cc
         go (inr less) = never_before day (value_cmp (number hold.hold) (column w 0)) (ap (λ v. ordering_then v (value_cmp (number hold.hold) (column w 0))) (ap (λ x. value_cmp x Null) (sym own) ∙ ap (value_cmp (optional hold.first_day)) (sym none)) ∙ less)
 
-    no_earlier : (day : ℕ) → hold.first_day ≡ Some day → today < day → (k w : Row) → m k ≡ Some w → W w → has_come today w ≡ true → ⊥
+    no_earlier : (day : ℕ) → hold.first_day ≡ Some day → today < day → (k w : Row) → m k ≡ Some w → IsWaiting w → has_come today w ≡ true → ⊥
     no_earlier day is late k w e waits come = go (first.2 k w e waits)
       where
         own : optional hold.first_day ≡ number day
@@ -121,15 +121,15 @@ module _ (db : Database) (maps : Maps) (held : Holds shape.schema db maps) (titl
             later_still day today (column w 7) late (then_less (value_cmp (number day) (column w 7)) (value_cmp (number hold.hold) (column w 0)) before) up_to
 
     -- where its first day is to come, nobody stands in line
-    pub nobody_yet : Later today hold → FirstOf m L []
+    pub nobody_yet : Later today hold → FirstOf m IsInLine []
     nobody_yet late = λ k w e line. elim line.1 [ inl free ↦ has_day late.0 late.1 k w e line.0 free | inr come ↦ no_earlier late.0 late.1 late.2 k w e line.0 come ]
 
     module _ (begun : Begun today hold) where
-      stands : L (hold_cells hold)
+      stands : IsInLine (hold_cells hold)
       stands = (first.1, elim begun [ inl none ↦ inl (if_none hold.first_day none) | inr day ↦ inr (if_come hold.first_day today day.0 day.1 day.2) ])
 
       -- no hold without a first day has a lesser number
-      free_after : (k w : Row) → m k ≡ Some w → W w → null_at 7 w ≡ true → (w ≡ hold_cells hold) ⊎ FirstBelow (hold_cells hold) w
+      free_after : (k w : Row) → m k ≡ Some w → IsWaiting w → null_at 7 w ≡ true → (w ≡ hold_cells hold) ⊎ FirstBelow (hold_cells hold) w
       free_after k w e waits free = go begun
         where
           by_number : (w ≡ hold_cells hold) ⊎ BeginsBefore (hold_cells hold) w → hold.first_day ≡ None → (w ≡ hold_cells hold) ⊎ FirstBelow (hold_cells hold) w
@@ -142,10 +142,10 @@ module _ (db : Database) (maps : Maps) (held : Holds shape.schema db maps) (titl
           go (inl none) = by_number (first.2 k w e waits) none
           go (inr day) = absurd (has_day day.0 day.1 k w e waits free)
 
-      alone : FirstOf m C [] → FirstOf m L (hold_cells hold ∷ [])
+      alone : FirstOf m HasCome [] → FirstOf m IsInLine (hold_cells hold ∷ [])
       alone none = (first.0, stands, λ k w e line. elim line.1 [ inl free ↦ free_after k w e line.0 free | inr come ↦ absurd (none k w e (line.0, come)) ], refl)
 
-      before : (row : HoldRow) → FirstOf m C (hold_cells row ∷ []) → hold.hold < row.hold → FirstOf m L (hold_cells hold ∷ [])
+      before : (row : HoldRow) → FirstOf m HasCome (hold_cells row ∷ []) → hold.hold < row.hold → FirstOf m IsInLine (hold_cells hold ∷ [])
       before row come less = (
         first.0,
         stands,
@@ -160,7 +160,7 @@ module _ (db : Database) (maps : Maps) (held : Holds shape.schema db maps) (titl
           after w (inl same) = subst (λ v. FirstBelow (hold_cells hold) v) (sym same) lower
           after w (inr more) = value_cmp_total.trans (number hold.hold) (number row.hold) (column w 0) lower more
 
-      instead : (row : HoldRow) → FirstOf m C (hold_cells row ∷ []) → row.hold ≤ hold.hold → FirstOf m L (hold_cells row ∷ [])
+      instead : (row : HoldRow) → FirstOf m HasCome (hold_cells row ∷ []) → row.hold ≤ hold.hold → FirstOf m IsInLine (hold_cells row ∷ [])
       instead row come le = (
         come.0,
         (come.1.0, inr come.1.1),
@@ -178,11 +178,11 @@ module _ (db : Database) (maps : Maps) (held : Holds shape.schema db maps) (titl
               let one : hold.hold ≡ row.hold = omega (arith, le, other) in
               inr (subst (λ n. value_cmp (number n) (column w 0) ≡ Less) one more)
 
-      pub in_turn : (other : Option HoldRow) (result : HoldRow) → FirstOf m C (map hold_cells (option_to_list other)) → MatchOption other (result ≡ hold) (λ row. ((result ≡ hold) × (hold.hold < row.hold)) ⊎ ((result ≡ row) × (row.hold ≤ hold.hold)))
-          → FirstOf m L (hold_cells result ∷ [])
-      in_turn None result come is = subst (λ r. FirstOf m L (hold_cells r ∷ [])) (sym is) (alone come)
-      in_turn (Some row) result come (inl is) = subst (λ r. FirstOf m L (hold_cells r ∷ [])) (sym is.0) (before row come is.1)
-      in_turn (Some row) result come (inr is) = subst (λ r. FirstOf m L (hold_cells r ∷ [])) (sym is.0) (instead row come is.1)
+      pub in_turn : (other : Option HoldRow) (result : HoldRow) → FirstOf m HasCome (map hold_cells (option_to_list other)) → MatchOption other (result ≡ hold) (λ row. ((result ≡ hold) × (hold.hold < row.hold)) ⊎ ((result ≡ row) × (row.hold ≤ hold.hold)))
+          → FirstOf m IsInLine (hold_cells result ∷ [])
+      in_turn None result come is = subst (λ r. FirstOf m IsInLine (hold_cells r ∷ [])) (sym is) (alone come)
+      in_turn (Some row) result come (inl is) = subst (λ r. FirstOf m IsInLine (hold_cells r ∷ [])) (sym is.0) (before row come is.1)
+      in_turn (Some row) result come (inr is) = subst (λ r. FirstOf m IsInLine (hold_cells r ∷ [])) (sym is.0) (instead row come is.1)
 
 -- the lesser of two rows within their limits is within them
 pub lesser_legal : (hold : HoldRow) (other : Option HoldRow) (result : HoldRow) → IsHold hold → IfSome other IsHold → MatchOption other (result ≡ hold) (λ row. ((result ≡ hold) × (hold.hold < row.hold)) ⊎ ((result ≡ row) × (row.hold ≤ hold.hold))) → IsHold result
