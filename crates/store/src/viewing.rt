@@ -2,7 +2,7 @@
 
 ghost use Rattle.calendar.specs.declared.limits.TheConstants.{MOST_CLOSED_DAYS};
 ghost use Rattle.std.specs.Prelude.{◌≡◌, ◌≢◌, ◌≤◌, ℕ, Bool, false, List, Err, length, IfOk, IfSome};
-ghost use Rattle.std.specs.Prelude.{option_and_then};
+ghost use Rattle.std.specs.Prelude.{None, option_and_then};
 ghost use Rattle.calendar.specs.Openings.{AreWeekdays, has_day, has_repeat};
 ghost use Rattle.circ_core.specs.Views.{IsCalendarOf, IsLenderOf, IsFirstFor, AreHoldsFor};
 ghost use Rattle.circ_core.specs.Views.{IsPatronView, IsAcquireView, IsCopyView, IsCheckOutView};
@@ -536,7 +536,7 @@ fn place_hold_view<S: Alter>(
 ) -> Result<View, Fault>
     ensures view { Views (λ P rows. IsPlaceHoldView P number wanted pickup rows)
         S.Store conn.old conn.new result }
-    ensures only { IfOk result (HasOnly (PlaceHold number wanted pickup)) }
+    ensures only { IfOk result (HasOnly (PlaceHold number wanted pickup None)) }
 {
     let meta = get_meta(conn)?;
     let patron = get_row::<PatronRow, S>(conn, alloc, number)?;
@@ -731,6 +731,7 @@ pub(crate) fn view_for<S: Alter>(
             patron,
             title,
             branch,
+            ..
         } => place_hold_view(conn, alloc, *patron, *title, *branch),
         Command::CancelHold { hold } => cancel_hold_view(conn, *hold),
         Command::Unshelve { hold } => unshelve_view(conn, alloc, *hold),
