@@ -1,9 +1,7 @@
-//! Tests of the board and of the hall in threads, in a crate of their own, so that the crates below are proved once: a board from
-//! its opening to its end; workers and a desk over the queue, and what the tables show afterwards.
+//! Tests of the hall in threads, in a crate of their own, so that the crates below are proved once: workers and a desk over
+//! the queue, and what the tables show afterwards.
 #![tactic(auto)]
 
-#[cfg(test)]
-mod boards;
 #[cfg(test)]
 mod bytes;
 #[cfg(test)]

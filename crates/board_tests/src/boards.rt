@@ -366,6 +366,7 @@ fn hold(alloc: Global, patron_number: u32) -> Result<SharedRequest, Fail> {
         patron: PatronId::new(patron_number),
         title: TitleId::new(100),
         branch: BranchId::new(1),
+        first_day: None,
     };
     shared(alloc, caller, "h1", command)
 }
