@@ -116,7 +116,7 @@ pub const FIRST_WAITING_TEXT: &str =
 /// The waiting hold for a title that no copy travels for and that begins first: one without a first
 /// day before all others, then one of the earliest first day; of these the least number. 91, 93.
 ///
-/// The order is that of the index, in which NULL comes first, so that no other row is read.
+/// The order is that of the index, in which NULL comes first, so that no row is read after it.
 fn first_waiting<S: Alter>(
     conn: &mut Connection<S>,
     title: TitleId,
