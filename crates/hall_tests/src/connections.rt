@@ -26,7 +26,7 @@ const HELD: &str = "200 OK {\"reply\":\"hold 1\"}";
 pub const ANNS_PAGE: &str = "200 OK {\"reply\":\"patron 1 owed 0 name Ann Bell\"}";
 
 /// Requests one after another, each with the status and the body of its answer.
-const ANSWERED: [(&str, &str); 11] = [
+const ANSWERED: [(&str, &str); 14] = [
     (HOLD, HELD),
     (
         "GET /patrons/2 HTTP/1.1\r\nCard-Key: cardkey00002\r\n\r\n",
@@ -63,6 +63,18 @@ const ANSWERED: [(&str, &str); 11] = [
     (
         "POST /desk HTTP/1.1\r\nDesk-Key: deskkey00001\r\nRequest-Key: d3\r\nContent-Length: 12\r\n\r\n[\"page\",\"9\"]",
         "409 Conflict {\"refusal\":11}",
+    ),
+    (
+        "POST /patrons/3/holds HTTP/1.1\r\nCard-Key: cardkey00003\r\nRequest-Key: h1\r\nContent-Length: 44\r\n\r\n{\"branch\":1,\"from\":\"2026-03-05\",\"title\":100}",
+        "200 OK {\"reply\":\"hold 2\"}",
+    ),
+    (
+        "GET /patrons/3 HTTP/1.1\r\nCard-Key: cardkey00003\r\n\r\n",
+        "200 OK {\"reply\":\"patron 3 owed 0 name Cy Dunn\\nhold 2 at 1 waiting from 2026-03-05 title 100 Rivers of the North\"}",
+    ),
+    (
+        "POST /patrons/4/holds HTTP/1.1\r\nCard-Key: cardkey00004\r\nRequest-Key: h1\r\nContent-Length: 44\r\n\r\n{\"branch\":1,\"from\":\"2026-03-02\",\"title\":100}",
+        "409 Conflict {\"refusal\":23}",
     ),
     ("GET /patrons/1 HT", "400 Bad Request {\"status\":400}"),
 ];
@@ -188,7 +200,7 @@ fn answers_each_kind_of_request(rt: HostRuntime) -> Result<(), Fail> {
     let alloc = rt.alloc();
     let (count, handled, _) = meet::<Brand, _>(rt, alloc, open_queue(alloc)?, Deed::Answers)?;
     assert!(&rt;
-        count == ANSWERED.len() && handled == 3,
+        count == ANSWERED.len() && handled == 5,
         "{count} {handled}"
     );
     Ok(())
