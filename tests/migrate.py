@@ -25,7 +25,7 @@ from desk_rules import Library
 from end_to_end import (CIRC, GROUND, HEADER, PROGRAM, ROOM, TOP, answers, as_it_is, check, circ, digest, kill_at_work, memory_of, month, rows, say, status_of, the_rows_are, timed,
                         whole, write)
 from messages import LATER, MEANINGS, OLDER, message
-from web import DESK_KEY, Serving, told
+from web import DESK_KEY, Serving, body_of_hold, told
 
 NEW, HOLDS, MONTH = "schema1_new", "schema1_holds", "schema1_month"
 HALF = 642
@@ -142,7 +142,7 @@ def the_rest_of_the_month(folder):
         for patron, key, words, line in BY_PATRONS:
             for again in (words, ["cancel-hold", "44"]):
                 target = {"place-hold": f"/patrons/{patron}/holds", "renew": f"/patrons/{patron}/loans/{again[-1]}/renew"}.get(again[0], f"/patrons/{patron}/holds/{again[-1]}/cancel")
-                body = f'{{"branch":{again[3]},"title":{again[2]}}}' if again[0] == "place-hold" else None
+                body = body_of_hold(again) if again[0] == "place-hold" else None
                 # a refusal isn't kept: hold 44 is another patron's, and so unknown to these
                 wanted = line if again == words else "refused 15" if line.startswith("refused") else "refused 80"
                 found = serving.ask("POST", target, {"Card-Key": f"cardkey{patron:05}", "Request-Key": key}, body)

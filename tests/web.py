@@ -176,6 +176,12 @@ def told(line):
     return 200, json.dumps({"reply": line}, ensure_ascii=False, separators=(",", ":")).encode()
 
 
+def body_of_hold(words):
+    """The body by which a patron asks for the hold of these words."""
+    _, _, title, branch, *days = words
+    return json.dumps({"branch": int(branch), **{"from": day for day in days}, "title": int(title)}).encode()
+
+
 def a_library(folder, name):
     """The small library that all begin with."""
     path = os.path.join(folder, name)
