@@ -91,6 +91,14 @@ REFUSALS = [
     (["place-hold", "1", "999", "1"], 12),
     (["place-hold", "1", "300", "9"], 10),
     (["place-hold", "1", "100", "1"], 52),
+    (["place-hold-from", "9", "100", "1", "2026-03-03"], 11),
+    (["place-hold-from", "1", "999", "1", "2026-03-03"], 12),
+    (["place-hold-from", "1", "300", "9", "2026-03-03"], 10),
+    (["place-hold-from", "1", "300", "1", "2026-03-02"], 23),
+    (["place-hold-from", "1", "300", "1", "2000-01-01"], 23),
+    (["place-hold-from", "1", "300", "1", "2191-01-01"], 23),
+    (["place-hold-from", "1", "300", "1", "2199-12-31"], 23),
+    (["place-hold-from", "1", "100", "1", "2026-03-03"], 52),
     (["cancel-hold", "9"], 15),
     (["unshelve", "9"], 15),
     (["unshelve-cancelled", "9"], 15),
@@ -152,6 +160,15 @@ BAD_REQUESTS = [
     ["page", "01"],
     ["pay", "1", "05"],
     ["close-day", "1", "2026-3-9"],
+    ["place-hold", "2", "100", "1", "2026-03-05"],
+    ["place-hold-from", "2", "100", "1"],
+    ["place-hold-from", "2", "100", "1", "2026-3-5"],
+    ["place-hold-from", "2", "100", "1", "2026-02-29"],
+    ["place-hold-from", "2", "100", "1", "1999-12-31"],
+    ["place-hold-from", "2", "100", "1", "2200-01-01"],
+    ["place-hold-from", "2", "100", "1", "20517"],
+    ["place-hold-from", "2", "100", "1", "2026-03-05", "again"],
+    ["place-hold-from", "2", "2026-03-05", "100", "1"],
 ]
 
 passed = 0
@@ -234,6 +251,8 @@ def a_new_library(folder):
     wanted = """loans_copy loans_patron holds_copy holds_patron holds_title holds_branch lines_day loans_branch holds2_copy holds2_patron
         holds2_title holds2_branch"""
     check("indexes", [name for (name,) in rows(path, indexes)], wanted.split())
+    check("the index of a title's line", rows(path, "SELECT sql FROM sqlite_schema WHERE name = 'holds2_title'"),
+          [("CREATE INDEX holds2_title ON holds2 (title, state, first_day, hold)",)])
     empty = os.path.join(folder, "empty.db")
     open(empty, "w").close()
     say(empty, [("g1", ["begin-day", "2026-03-02"], "ok")])
@@ -701,23 +720,24 @@ def lost_output(folder):
     check("the rest is taken in", take_in(path, copies), ("".join(f"row {n} ok\n" for n in range(1, 2001)) + "accepted 2000 refused 0\n", 0))
 
 
-# A library with loans, one of them overdue, a hold that waits, two that are ready, a lost copy and an account.
+# A library with loans, one of them overdue, a hold that waits, one whose first day is to come, two that are ready, a lost copy and an account.
 BEGUN = [shlex.join(words) for _, words, _ in GROUND] + [
     "acquire 12 101 1 1 900 'Slow Water'", "check-out 1 10 1", "check-out 1 11 1", "place-hold 2 100 1",
     "place-hold 3 300 1", "check-in 30 1", "place-hold 1 200 1", "check-in 20 1", "begin-day 2026-03-07",
-    "check-out 3 12 1", "begin-day 2026-03-12", "missing 11", "pay 1 30",
+    "check-out 3 12 1", "begin-day 2026-03-12", "missing 11", "pay 1 30", "place-hold-from 1 101 1 2026-03-13",
 ]
 
 # Requests about its few copies, loans and holds, which get in each other's way.
 CROWDED = [
     "check-out 1 10 1", "check-out 2 10 1", "check-out 3 30 1", "check-out 1 20 1", "check-in 10 1", "check-in 10 2",
-    "check-in 12 2", "check-in 11 1", "renew 1", "renew 3", "place-hold 2 101 2", "place-hold 1 100 2", "cancel-hold 1",
-    "unshelve 2", "unshelve-cancelled 3", "missing 30", "withdraw 11", "pay 1 30", "waive 1 2500", "page 1",
+    "check-in 12 2", "check-in 11 1", "renew 1", "renew 3", "place-hold 2 101 2", "place-hold 1 100 2",
+    "place-hold-from 2 200 2 2026-03-13", "begin-day 2026-03-13", "cancel-hold 1", "unshelve 2", "unshelve-cancelled 3",
+    "missing 30", "withdraw 11", "pay 1 30", "waive 1 2500", "page 1",
 ]
 
 
 def every_pair(folder):
-    """Every ordered pair of twenty requests, each on a library of its own that is the same before: each reply is that of
+    """Every ordered pair of these requests, each on a library of its own that is the same before: each reply is that of
     the rules, and so is each row."""
     begun, pair, rules = os.path.join(folder, "begun.db"), os.path.join(folder, "pair.db"), Library()
     for at, text in enumerate(BEGUN):
