@@ -612,6 +612,7 @@ def the_rows_are(path, library):
 IN_THE_MONTH = {
     ("withdraw", "ok"), ("withdraw", "33"), ("check-in", "35"), ("check-out", "35"), ("check-out", "33"), ("check-out", "38"),
     ("check-out", "50"), ("place-hold", "50"), ("place-hold", "51"), ("renew", "41"), ("renew", "38"), ("missing", "35"),
+    ("place-hold-from", "hold"), ("place-hold-from", "23"), ("place-hold-from", "50"), ("place-hold-from", "51"), ("place-hold-from", "52"),
 }
 
 
