@@ -5,6 +5,7 @@ Expected answers are those of docs/RULES.md, worked out by hand; those of the mo
 """
 
 import atexit
+import datetime
 import http.client
 import json
 import os
@@ -25,6 +26,7 @@ import end_to_end as desk
 from desk_rules import Library
 from end_to_end import CIRC, GROUND, PROGRAM, TOP, check, circ, rows, say, whole
 from messages import message
+from outer_forms import said
 
 DESK_KEY = "deskkey00001"
 ANN, BO = {"Card-Key": "cardkey00001"}, {"Card-Key": "cardkey00002"}
@@ -292,6 +294,76 @@ def from_a_day_on(folder, workers):
           [(1, 2, 100, 1, 0, None, None, 20517), (2, 2, 200, 2, 3, None, None, 80718), (3, 2, 300, 1, 0, None, None, 20518)])
     check("what is kept of Bo", rows(path, "SELECT key, text, reply FROM kept WHERE caller = 2 ORDER BY key"),
           [("c2", "cancel-hold 2", "ok"), ("h3", "place-hold-from 2 100 1 2026-03-05", "hold 1"), ("h5", "place-hold-from 2 300 1 2026-03-06", "hold 3")])
+
+
+# What is asked at random, of few copies, holds and loans, which get in each other's way. Letters stand for a patron, a copy, a branch, a title, a hold, a loan and a day to come.
+AT_RANDOM = ["check-out P C B", "check-out P C B", "check-out P C B", "check-in C B", "check-in C B", "check-in C B", "check-in C B", "place-hold P T B", "place-hold-from P T B D",
+             "place-hold-from P T B D", "cancel-hold H", "renew L", "unshelve H", "unshelve-cancelled H", "missing C", "begin-day D"]
+BEFORE = ["kind 1 9 9 1000000", "acquire 21 200 1 1 1200 'Salt Roads'", "acquire 22 200 1 2 1200 'Salt Roads'", "acquire 31 300 2 2 800 'Night Ferries'"]
+BY_PATRONS = ("place-hold", "place-hold-from", "cancel-hold", "renew")
+TURNS = 1_200
+# What holds with a first day have to meet in these turns: what the state of one was before a request, and after it.
+MET = {("waiting", "coming"), ("waiting", "ready"), ("waiting", "cancelled"), ("coming", "ready"), ("ready", "filled"), ("ready", "waiting"), ("ready", "cancelled")}
+
+
+class Turns:
+    """Random requests, and what holds with a first day met by them."""
+
+    def __init__(self, seed):
+        self.draw, self.library, self.met, self.passed_over = random.Random(seed), Library(), set(), 0
+
+    def words(self):
+        """The next request of the desk."""
+        draw, library = self.draw, self.library
+        active = [number for number, hold in library.holds.items() if hold["state"] in ("waiting", "ready")]
+        values = {"P": draw.choice("123"), "C": draw.choice(sorted(map(str, library.copies))), "B": draw.choice("12"), "T": draw.choice(("100", "200", "300")),
+                  "H": str(draw.choice(active or [1])), "L": str(draw.randint(1, len(library.loans) + 1)), "D": str(library.today + datetime.timedelta(draw.choice((1, 1, 2, 3, 9))))}
+        return [values.get(it, it) for it in draw.choice(AT_RANDOM).split()]
+
+    def states(self):
+        """How each hold with a first day stands."""
+        coming = {hold for _, hold in self.library.transits.values()}
+        return {number: "coming" if number in coming else hold["state"] for number, hold in self.library.holds.items() if hold["first"]}
+
+    def awaited(self, copy):
+        """Whether a hold of a copy's title has its first day to come."""
+        title, today = self.library.copies[copy]["title"], self.library.today
+        return any(hold["first"] and hold["first"] > today and hold["state"] == "waiting" and hold["title"] == title for hold in self.library.holds.values())
+
+    def handle(self, patron, shown, key, words):
+        """The line by the rules."""
+        before, is_awaited = self.states(), words[0] == "check-in" and self.awaited(int(words[1]))
+        line = said(self.library, DESK_KEY, patron, shown, key, words)
+        self.passed_over += is_awaited and " shelf " in line
+        self.met.update((before.get(it), now) for it, now in self.states().items() if before.get(it) != now)
+        return line
+
+
+def at_random(folder, workers):
+    """Random requests of the desk and of patrons, on a small library: each answer is that of the rules, and so is a page after each, and each row at the end."""
+    path, seed = a_library(folder, "random.db"), random.randrange(10**9)
+    turns, draw = Turns(seed), random.Random(seed + 1)
+    for key, words, _ in GROUND:
+        turns.library.handle(key, words)
+    print(f"web: {TURNS} turns at random by the seed {seed}, {workers} workers")
+    with Serving(path, len(BEFORE) + 2 * TURNS, workers=workers) as serving:
+        for at in range(-len(BEFORE), TURNS):
+            words, number = shlex.split(BEFORE[at]) if at < 0 else turns.words(), draw.choice("123")
+            is_own = words[0] in BY_PATRONS and draw.random() < 0.5
+            patron = int(words[1] if words[0].startswith("place") else number) if is_own else None
+            shown, key = f"cardkey{patron:05}" if is_own else DESK_KEY, f"t{at}"
+            wanted = told(turns.handle(patron, shown, key, words))
+            if is_own:
+                target = {"renew": f"loans/{words[1]}/renew", "cancel-hold": f"holds/{words[1]}/cancel"}.get(words[0], "holds")
+                found = serving.ask("POST", f"/patrons/{patron}/{target}", {"Card-Key": shown, "Request-Key": key}, body_of_hold(words) if target == "holds" else None)[:2]
+            else:
+                found = serving.desk(key, words)
+            check(f"turn {at} by the seed {seed}: {words} of {patron or 'the desk'}", found, wanted)
+            if at >= 0:
+                page = serving.ask("GET", f"/patrons/{number}", {"Card-Key": f"cardkey{number:0>5}"})[:2]
+                check(f"the page of {number} after turn {at} by the seed {seed}", page, told(turns.library.handle("", ["page", number])))
+    desk.the_rows_are(path, turns.library)
+    check(f"what holds with a first day met, by the seed {seed}", (MET - turns.met, turns.passed_over > 2), (set(), True))
 
 
 def by_curl(folder, workers):
@@ -699,7 +771,7 @@ def main():
             for workers in (1, 2, 8):
                 room = os.path.join(folder, f"workers{workers}")
                 os.mkdir(room)
-                for part in (each_route, from_a_day_on, by_curl, in_pieces, hostile_bytes, one_waits, a_damaged_patron, a_damaged_copy, sent):
+                for part in (each_route, from_a_day_on, at_random, by_curl, in_pieces, hostile_bytes, one_waits, a_damaged_patron, a_damaged_copy, sent):
                     part(room, workers)
             for it in silent:
                 it.result()
