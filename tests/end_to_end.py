@@ -6,6 +6,7 @@ Expected lines and rows are those of the desk's rules, worked out by hand; those
 """
 
 import copy
+import datetime
 import hashlib
 import os
 import random
@@ -21,7 +22,7 @@ import time
 from contextlib import closing
 
 import calendar_weeks
-from desk_rules import Library
+from desk_rules import EPOCH, Library
 from messages import as_it_is, message
 from outer_forms import WORDS
 
@@ -527,6 +528,9 @@ def reports(folder):
         check("it stays", os.path.getsize(empty), 0)
 
 
+TODAY = 20514  # 2026-03-02, as it is stored
+
+
 def a_long_line(folder):
     """A copy that comes in goes to the first of a thousand holds that wait for its title."""
     path = os.path.join(folder, "line.db")
@@ -541,6 +545,30 @@ def a_long_line(folder):
         ("c3", ["place-hold", "1", "100", "1"], "hold 1001"),
     ])
     check("the others wait", rows(path, "SELECT COUNT(*), MIN(hold), MAX(hold) FROM holds2 WHERE state = 0"), [(1000, 2, 1001)])
+
+
+def a_line_with_first_days(folder):
+    """Of a thousand holds that wait for a title, most with a first day, a copy goes to the least number of those that have none or whose day has come: on each day anew."""
+    path, served = os.path.join(folder, "first_days.db"), []
+    say(path, GROUND)
+    # first days from two weeks before today to two weeks after it, in no order of the numbers; every fortieth hold has none, and the least of these is hold 7
+    first_days = {n: None if n % 40 == 7 else TODAY - 14 + n * 97 % 29 for n in range(1, 1001)}
+    with closing(sqlite3.connect(path)) as db, db:
+        db.executemany("INSERT INTO patrons VALUES (?, 1, ?, ?, 0)", ((1000 + n, f"card{n:08}", f"Reader {n}") for n in first_days))
+        db.executemany("INSERT INTO holds2 VALUES (?, ?, 100, 1, 0, NULL, NULL, ?)", ((n, 1000 + n, day) for n, day in first_days.items()))
+        db.execute("UPDATE meta SET next_hold = 1001")
+    waiting = dict(first_days)
+    for today in range(TODAY, TODAY + 15):
+        if today > TODAY:
+            say(path, [(f"d{today}", ["begin-day", str(EPOCH + datetime.timedelta(today))], "ok")])
+        for number in ("10", "11"):
+            first = min(n for n, day in waiting.items() if day is None or day <= today)
+            served.append((first, waiting.pop(first)))
+            found, status = answers(path, f"c{today}-{number}", ["check-in", number, "1"])
+            check(f"the first in line on day {today}", (found.startswith(f"fine 0 ready {first} at 1 until "), status), (True, 0))
+            say(path, [(f"m{today}-{number}", ["missing", number], "ok"), (f"x{today}-{number}", ["cancel-hold", str(first)], "ok")])
+    kinds = {"none" if day is None else "before" if day <= TODAY else "after" for _, day in served}
+    check("holds without a first day were served, and with one before the beginning and after it", kinds, {"none", "before", "after"})
 
 
 def memory_of(words, out):
@@ -873,6 +901,7 @@ def main():
         movements(folder)
         reports(folder)
         a_long_line(folder)
+        a_line_with_first_days(folder)
         a_long_report(folder)
         a_day_at_the_desk(folder)
         the_readme(folder)
