@@ -14,6 +14,7 @@ export const COMMANDS = {
   "check-in": ["copy", "branch"],
   "renew": ["loan"],
   "place-hold": ["patron", "title", "branch"],
+  "place-hold-from": ["patron", "title", "branch", "day"],
   "cancel-hold": ["hold"],
   "unshelve": ["hold"],
   "unshelve-cancelled": ["hold"],
@@ -48,6 +49,11 @@ export function isCommand(words) {
 export function commandBegun(line) {
   const name = line.trimStart().split(/\s/, 1)[0];
   return Object.hasOwn(COMMANDS, name) ? name : null;
+}
+
+// The body by which a patron asks for a hold; it names a first day where one is given.
+export function holdBody(title, branch, day) {
+  return JSON.stringify({ branch: Number(branch), ...(day ? { from: day } : {}), title: Number(title) });
 }
 
 export function isNumber(text) {

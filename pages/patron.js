@@ -1,7 +1,7 @@
 // A patron's page: what is lent, what is on hold, what is owed; renewing, holds and cancelling.
 
 import { Door, askUntilAnswered, newKey } from "./asking.js";
-import { isNumber } from "./commands.js";
+import { holdBody, isNumber } from "./commands.js";
 import { daysBetween } from "./replies.js";
 import { MEANINGS, TEXTS, amount, fillIn, say } from "./texts.js";
 
@@ -154,8 +154,10 @@ it("place").addEventListener("submit", (event) => {
   const title = it("title").value.trim();
   const branch = it("branch").value.trim();
   if (!isNumber(title) || !isNumber(branch)) return tell(say(TEXTS.wrongForm, { what: TEXTS.numberForm }));
+  const day = it("from").value;
   it("title").value = "";
-  act("/holds", JSON.stringify({ branch: Number(branch), title: Number(title) }));
+  it("from").value = "";
+  act("/holds", holdBody(title, branch, day));
 });
 
 it("sign-out").addEventListener("click", () => {

@@ -57,6 +57,7 @@ export const TEXTS = {
   placeHold: "Place a hold",
   titleNumber: "Number of the title",
   pickUpBranch: "Branch where I pick it up",
+  fromDay: "Only from this day on (may be left empty)",
   placeTheHold: "Place the hold",
   signOut: "Sign out",
 

@@ -22,7 +22,8 @@ from end_to_end import CIRC, GROUND, ROOM, check, circ, digest, memory_of, rows,
 import end_to_end
 
 # After the small library: a loan that ended with a fine, which was paid and waived in part, a copy on loan, one that is lost, one that
-# travels for a hold, one that stands ready for another, and a hold that waits. Days: 2026-03-17 is 20529, 2026-03-23 is 20535.
+# travels for a hold, one that stands ready for another, a hold that waits, and one from a day on. Days: 2026-03-17 is 20529, 2026-03-23 is 20535,
+# 2026-04-01 is 20544.
 BUSY = [
     ("a1", ["check-out", "1", "11", "1"], "loan 1 due 2026-03-09"),
     ("a2", ["begin-day", "2026-03-17"], "ok"),
@@ -37,6 +38,7 @@ BUSY = [
     ("b2", ["check-in", "30", "1"], "fine 0 ready 2 at 1 until 2026-03-23"),
     ("b3", ["place-hold", "2", "300", "2"], "hold 3"),
     ("b4", ["acquire", "40", "400", "1", "1", "900", "High Pastures"], "ok"),
+    ("b5", ["place-hold-from", "1", "400", "1", "2026-04-01"], "hold 4"),
 ]
 
 # What is written into the small library, and the line of its audit.
@@ -95,6 +97,14 @@ DAMAGE = [
     # a transit for no hold is none of its, and a hold that is cancelled may be without any
     (["UPDATE transits SET hold = NULL WHERE copy = 20"], "sound"),
     (["UPDATE holds2 SET state = 3 WHERE hold = 3"], "sound"),
+    # a first day binds nothing: any hold may have one, or none
+    (["UPDATE holds2 SET first_day = NULL WHERE hold = 4"], "sound"),
+    (["UPDATE holds2 SET first_day = 20544"], "sound"),
+    (["UPDATE holds2 SET state = 1, copy = 40, limit_day = 20549 WHERE hold = 4"], "sound"),
+    (["INSERT INTO transits VALUES (40, 1, 4)"], "sound"),
+    (["INSERT INTO transits VALUES (40, 2, 4)"], "unsound binding 4"),
+    (["UPDATE holds2 SET state = 1 WHERE hold = 4"], "unsound binding 4"),
+    (["UPDATE holds2 SET copy = 40 WHERE hold = 4"], "unsound binding 4"),
     # the least hold is told
     (["UPDATE holds2 SET limit_day = NULL WHERE hold = 2", "UPDATE transits SET goal = 2 WHERE copy = 20"], "unsound binding 1"),
     (["UPDATE holds2 SET limit_day = NULL WHERE hold = 2", "UPDATE holds2 SET copy = 40 WHERE hold = 3"], "unsound binding 2"),
@@ -127,6 +137,8 @@ FAULTS = [
     (["UPDATE copies SET condition = 3 WHERE copy = 10"], "fault 93"),
     (["UPDATE patrons SET owed = -1 WHERE patron = 1"], "fault 93"),
     (["UPDATE holds2 SET state = 5 WHERE hold = 1"], "fault 93"),
+    (["UPDATE holds2 SET first_day = 10956 WHERE hold = 4"], "fault 93"),
+    (["UPDATE holds2 SET first_day = 84006 WHERE hold = 1"], "fault 93"),
     (["UPDATE loans SET due = 84006 WHERE loan = 1"], "fault 93"),
     (["UPDATE branches SET name = CAST(x'ff' AS TEXT) WHERE branch = 1"], "fault 93"),
     (["INSERT INTO closed_days VALUES (1, 84006)"], "fault 93"),
@@ -305,8 +317,9 @@ def lost_output(library):
 # Columns with the values that the random damage gives them, most of them within the limits.
 COLUMNS = {
     "loans": {"copy": (10, 11, 20, 30, 40, 99), "ended": (None, None, 20529), "patron": (1, 2, 3)},
-    "holds2": {"state": (0, 1, 2, 3, 4), "copy": (None, 10, 20, 30, 40, 99), "limit_day": (None, 20535), "title": (100, 200, 300, 400), "branch": (1, 2)},
-    "transits": {"goal": (1, 2), "hold": (None, 1, 2, 3, 9), "copy": (10, 11, 20, 30, 40, 99)},
+    "holds2": {"state": (0, 1, 2, 3, 4), "copy": (None, 10, 20, 30, 40, 99), "limit_day": (None, 20535), "title": (100, 200, 300, 400), "branch": (1, 2),
+               "first_day": (None, 20544)},
+    "transits": {"goal": (1, 2), "hold": (None, 1, 2, 3, 4, 9), "copy": (10, 11, 20, 30, 40, 99)},
     "copies": {"condition": (0, 0, 1, 2), "title": (100, 200, 300, 400)},
     "lines": {"patron": (1, 2, 3, 9), "sort": (0, 1, 2, 3), "amount": (1, 20, 30, 50, 100)},
     "patrons": {"owed": (0, 20, 50, 70, 100)},

@@ -313,7 +313,7 @@ def patron(driver, base, serving):
     page.type("title", "400")
     page.type("branch", "1")
     driver.switch_to.active_element.send_keys(Keys.ENTER)
-    until("a hold", lambda: page.told() == "Hold 3 is placed.")
+    until("a hold", lambda: page.told() == "Hold 4 is placed.")
     until("the hold", lambda: page.it("holds").text.replace("\n", " ") == "Winter Bees waiting, to be picked up at branch 1 Cancel")
     need("no name is empty", [it for it in page.names() if not it[1]], [])
     need("320 pixels", page.fits(320), True)
@@ -328,7 +328,22 @@ def patron(driver, base, serving):
     serving.start()
     until("cancelled", lambda: page.told() == "Done.", 60)
     until("no hold", lambda: page.it("holds").text == "No holds.")
+    # a hold from today on, and one from a day to come
+    place_from(page, "300", "2", "03172026")
+    until("no day to come", lambda: page.told() == f"Refused (23): {meaning('23')}.")
+    place_from(page, "300", "2", "04012026")
+    until("a hold from a day on", lambda: page.told() == "Hold 5 is placed.")
+    until("its day", lambda: page.it("holds").text.replace("\n", " ") == "Maps, Old and New waiting from 2026-04-01, to be picked up at branch 2 Cancel")
+    need("the fields are empty again", (page.it("title").get_attribute("value"), page.it("from").get_attribute("value")), ("", ""))
     return page
+
+
+def place_from(page, title, branch, day):
+    """Asks for a hold from a day on, which is typed as the month, the day and the year."""
+    page.type("title", title)
+    page.type("branch", branch)
+    page.it("from").send_keys(day)
+    page.it("from").send_keys(Keys.ENTER)
 
 
 def look(driver, name):
@@ -364,10 +379,6 @@ def tried(behind, pictures):
                 page = patron(driver, base, serving)
                 need("a look at the page", page.it("page").is_displayed(), True)
                 if pictures:
-                    page.type("title", "300")
-                    page.type("branch", "2")
-                    driver.switch_to.active_element.send_keys(Keys.ENTER)
-                    until("the hold is shown", lambda: "Maps, Old and New" in page.it("holds").text)
                     look(driver, "patron-page.png")
                 killed(driver, base, serving)
                 wrong = [it["message"] for it in driver.get_log("browser") if "Content Security" in it["message"] or "Uncaught" in it["message"]]
@@ -375,7 +386,8 @@ def tried(behind, pictures):
         finally:
             driver.quit()
             serving.kill()
-        need("the hold was cancelled once", serving.rows("SELECT count(*) FROM kept WHERE text = 'cancel-hold 3'"), [(1,)])
+        need("the hold was cancelled once", serving.rows("SELECT count(*) FROM kept WHERE text = 'cancel-hold 4'"), [(1,)])
+        need("the hold from a day on", serving.rows("SELECT text, reply FROM kept WHERE caller = 1 AND text LIKE 'place-hold-from%'"), [("place-hold-from 1 300 2 2026-04-01", "hold 5")])
         need("there is one loan of the copy", serving.rows("SELECT count(*) FROM loans WHERE copy = 20 AND ended IS NULL"), [(1,)])
         need("an audit", outside.run(outside.PROGRAM, "audit", serving.path).stdout, "sound\n")
 

@@ -23,7 +23,8 @@ import tempfile
 import end_to_end
 from desk_rules import Library
 from end_to_end import GROUND, TOP, check, circ, say, status_of, whole
-from web import DESK_KEY, Serving, told
+from outer_forms import WORDS
+from web import DESK_KEY, Serving, body_of_hold, told
 
 # A line: the words and the answer; `weekly N` before it asks N times, each with a last word that is a week later.
 DESK = """
@@ -166,6 +167,19 @@ cancel-hold 9 -> refused 15
 cancel-hold 1 -> ok
 cancel-hold 1 -> refused 53
 
+# place-hold-from
+place-hold-from 9 100 1 2026-03-03 -> refused 11
+place-hold-from 1 999 1 2026-03-03 -> refused 12
+place-hold-from 1 100 9 2026-03-03 -> refused 10
+place-hold-from 1 100 1 2026-03-02 -> refused 23
+place-hold-from 1 100 1 2191-01-01 -> refused 23
+place-hold-from 1 100 1 2190-12-31 -> hold 1
+place-hold-from 1 100 1 2026-03-03 -> refused 50
+check-out 1 30 1 -> loan 1 due 2026-03-14
+place-hold-from 1 300 1 2026-03-03 -> refused 52
+kind 1 5 1 500 -> ok
+place-hold-from 1 200 2 2026-03-03 -> refused 51
+
 # unshelve
 unshelve 1 -> refused 15
 place-hold 1 300 2 -> hold 1
@@ -242,6 +256,19 @@ kind 1 5 1 500 -> ok
 1/cardkey00001 cancel-hold 1 -> ok
 1/cardkey00001 cancel-hold 1 -> refused 53
 
+1/cardkey00002 place-hold-from 1 100 1 2026-03-03 -> refused 81
+9/cardkey00001 place-hold-from 9 100 1 2026-03-03 -> refused 81
+1/cardkey00001 place-hold-from 1 999 1 2026-03-03 -> refused 12
+1/cardkey00001 place-hold-from 1 100 9 2026-03-03 -> refused 10
+1/cardkey00001 place-hold-from 1 100 1 2026-03-02 -> refused 23
+1/cardkey00001 place-hold-from 1 100 1 2191-01-01 -> refused 23
+1/cardkey00001 place-hold-from 1 100 1 2190-12-31 -> hold 1
+1/cardkey00001 place-hold-from 1 100 1 2026-03-03 -> refused 50
+check-out 1 30 1 -> loan 1 due 2026-03-14
+1/cardkey00001 place-hold-from 1 300 1 2026-03-03 -> refused 52
+kind 1 5 1 500 -> ok
+1/cardkey00001 place-hold-from 1 200 2 2026-03-03 -> refused 51
+
 1/cardkey00001 renew 1 -> refused 14
 check-out 1 10 1 -> loan 1 due 2026-03-09
 1/cardkey00002 renew 1 -> refused 81
@@ -277,7 +304,7 @@ check-out 1 30 1 -> loan 1 due 2191-12-31
 """
 
 # What a patron may send, and the form of the page of a patron with no loan and no hold.
-PATRONS_COMMANDS = ("page", "place-hold", "cancel-hold", "renew")
+PATRONS_COMMANDS = ("page", "place-hold", "place-hold-from", "cancel-hold", "renew")
 PAGE = "patron P owed N name NAME"
 
 
@@ -306,9 +333,8 @@ class Line:
         name, fields = self.words[0], {"Card-Key": self.card_key, "Request-Key": key}
         if name == "page":
             return "GET", f"/patrons/{self.words[1]}", {"Card-Key": self.card_key}, None
-        if name == "place-hold":
-            body = json.dumps({"branch": int(self.words[3]), "title": int(self.words[2])})
-            return "POST", f"/patrons/{self.words[1]}/holds", fields, body.encode()
+        if name in ("place-hold", "place-hold-from"):
+            return "POST", f"/patrons/{self.words[1]}/holds", fields, body_of_hold(self.words)
         last = f"holds/{self.words[1]}/cancel" if name == "cancel-hold" else f"loans/{self.words[1]}/renew"
         return "POST", f"/patrons/{self.patron}/{last}", fields, None
 
@@ -391,7 +417,7 @@ def none_is_left_out(lines, wanted):
 
 def main():
     table, desks, patrons = commands(), lists_of(DESK), lists_of(PATRONS)
-    check("how many commands there are", len(table), 21)
+    check("the commands of the table", list(table), list(WORDS))
     none_is_left_out([line for lines in desks for _, line in lines], table)
     own = {name: ([81] + [it for it in table[name][0] if it != 11], table[name][1]) for name in PATRONS_COMMANDS}
     none_is_left_out([line for lines in patrons for _, line in lines if line.patron], own)

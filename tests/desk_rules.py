@@ -61,9 +61,10 @@ class Library:
         return next((n for n, hold in self.holds.items() if hold["state"] == "ready" and hold["copy"] == copy), None)
 
     def line(self, title):
+        """The holds of a title that stand in line; one with a first day does from that day on."""
         coming = {hold for _, hold in self.transits.values()}
-        return [n for n, hold in sorted(self.holds.items())
-                if hold["title"] == title and hold["state"] == "waiting" and n not in coming]
+        return [n for n, hold in sorted(self.holds.items()) if hold["title"] == title and hold["state"] == "waiting"
+                and n not in coming and (hold["first"] is None or hold["first"] <= self.today)]
 
     def active(self, patron, title=None):
         return [n for n, hold in sorted(self.holds.items()) if hold["patron"] == patron
@@ -121,10 +122,14 @@ class Library:
 
     # ---- commands
 
-    def do_begin_day(self, day):
+    def day_to_come(self, day):
+        """A day that today can still become."""
         day = datetime.date.fromisoformat(day)
         refuse(23, not self.today < day <= LAST_TODAY)
-        self.today = day
+        return day
+
+    def do_begin_day(self, day):
+        self.today = self.day_to_come(day)
         return "ok"
 
     def do_branch(self, branch, pickup, name):
@@ -241,17 +246,22 @@ class Library:
         row["renewals"] -= 1
         return f"loan {loan} due {row['due']}"
 
-    def do_place_hold(self, patron, title, branch):
+    def do_place_hold(self, patron, title, branch, first=None):
+        """A hold, with a first day if there is one."""
         refuse(11, patron not in self.patrons)
         refuse(12, title not in self.titles)
         refuse(10, branch not in self.branches)
+        if first is not None:
+            first = self.day_to_come(first)
         refuse(50, bool(self.active(patron, title)))
         refuse(52, any(self.copies[self.loans[n]["copy"]]["title"] == title for n in self.open_loans(patron)))
         refuse(51, len(self.active(patron)) >= self.kinds[self.patrons[patron]["kind"]]["holds"])
         hold = len(self.holds) + 1
         self.holds[hold] = {"patron": patron, "title": title, "branch": branch, "state": "waiting", "copy": None,
-                            "limit": None}
+                            "limit": None, "first": first}
         return f"hold {hold}"
+
+    do_place_hold_from = do_place_hold
 
     def do_cancel_hold(self, hold):
         refuse(15, hold not in self.holds)
@@ -326,7 +336,8 @@ class Library:
             lines.append(f"loan {n} due {row['due']} renewals {row['renewals']} title {title} {self.titles[title]}")
         for n in self.active(patron):
             row = self.holds[n]
-            lines.append(f"hold {n} at {row['branch']} {row['state']} title {row['title']} {self.titles[row['title']]}")
+            state = row["state"] if row["state"] == "ready" or row["first"] is None else f"waiting from {row['first']}"
+            lines.append(f"hold {n} at {row['branch']} {state} title {row['title']} {self.titles[row['title']]}")
         return "\n".join(lines)
 
     # ---- requests
@@ -403,8 +414,8 @@ class Library:
             "loans": [(n, r["copy"], r["patron"], r["branch"], number(r["made"]), number(r["due"]), r["period"],
                        r["renewals"], r["rate"], r["cap"], day(r["ended"])) for n, r in sorted(self.loans.items())],
             "holds": [],  # those of schema 1 stood here
-            "holds2": [(n, r["patron"], r["title"], r["branch"], states.index(r["state"]), r["copy"], day(r["limit"]), None)
-                       for n, r in sorted(self.holds.items())],
+            "holds2": [(n, r["patron"], r["title"], r["branch"], states.index(r["state"]), r["copy"], day(r["limit"]),
+                        day(r["first"])) for n, r in sorted(self.holds.items())],
             "transits": [(n, goal, hold) for n, (goal, hold) in sorted(self.transits.items())],
             "lines": [(n, r["patron"], number(r["day"]), sorts.index(r["sort"]), r["amount"], r["loan"])
                       for n, r in enumerate(self.lines, 1)],

@@ -6,6 +6,7 @@ Expected lines and rows are those of the desk's rules, worked out by hand; those
 """
 
 import copy
+import datetime
 import hashlib
 import os
 import random
@@ -21,8 +22,9 @@ import time
 from contextlib import closing
 
 import calendar_weeks
-from desk_rules import Library
+from desk_rules import EPOCH, Library
 from messages import as_it_is, message
+from outer_forms import WORDS
 
 TOP = os.path.dirname(os.path.dirname(os.path.abspath(__file__)))
 CIRC = os.path.join(TOP, "circ")
@@ -90,6 +92,14 @@ REFUSALS = [
     (["place-hold", "1", "999", "1"], 12),
     (["place-hold", "1", "300", "9"], 10),
     (["place-hold", "1", "100", "1"], 52),
+    (["place-hold-from", "9", "100", "1", "2026-03-03"], 11),
+    (["place-hold-from", "1", "999", "1", "2026-03-03"], 12),
+    (["place-hold-from", "1", "300", "9", "2026-03-03"], 10),
+    (["place-hold-from", "1", "300", "1", "2026-03-02"], 23),
+    (["place-hold-from", "1", "300", "1", "2000-01-01"], 23),
+    (["place-hold-from", "1", "300", "1", "2191-01-01"], 23),
+    (["place-hold-from", "1", "300", "1", "2199-12-31"], 23),
+    (["place-hold-from", "1", "100", "1", "2026-03-03"], 52),
     (["cancel-hold", "9"], 15),
     (["unshelve", "9"], 15),
     (["unshelve-cancelled", "9"], 15),
@@ -151,6 +161,15 @@ BAD_REQUESTS = [
     ["page", "01"],
     ["pay", "1", "05"],
     ["close-day", "1", "2026-3-9"],
+    ["place-hold", "2", "100", "1", "2026-03-05"],
+    ["place-hold-from", "2", "100", "1"],
+    ["place-hold-from", "2", "100", "1", "2026-3-5"],
+    ["place-hold-from", "2", "100", "1", "2026-02-29"],
+    ["place-hold-from", "2", "100", "1", "1999-12-31"],
+    ["place-hold-from", "2", "100", "1", "2200-01-01"],
+    ["place-hold-from", "2", "100", "1", "20517"],
+    ["place-hold-from", "2", "100", "1", "2026-03-05", "again"],
+    ["place-hold-from", "2", "2026-03-05", "100", "1"],
 ]
 
 passed = 0
@@ -233,6 +252,8 @@ def a_new_library(folder):
     wanted = """loans_copy loans_patron holds_copy holds_patron holds_title holds_branch lines_day loans_branch holds2_copy holds2_patron
         holds2_title holds2_branch"""
     check("indexes", [name for (name,) in rows(path, indexes)], wanted.split())
+    check("the index of a title's line", rows(path, "SELECT sql FROM sqlite_schema WHERE name = 'holds2_title'"),
+          [("CREATE INDEX holds2_title ON holds2 (title, state, first_day, hold)",)])
     empty = os.path.join(folder, "empty.db")
     open(empty, "w").close()
     say(empty, [("g1", ["begin-day", "2026-03-02"], "ok")])
@@ -507,6 +528,9 @@ def reports(folder):
         check("it stays", os.path.getsize(empty), 0)
 
 
+TODAY = 20514  # 2026-03-02, as it is stored
+
+
 def a_long_line(folder):
     """A copy that comes in goes to the first of a thousand holds that wait for its title."""
     path = os.path.join(folder, "line.db")
@@ -521,6 +545,30 @@ def a_long_line(folder):
         ("c3", ["place-hold", "1", "100", "1"], "hold 1001"),
     ])
     check("the others wait", rows(path, "SELECT COUNT(*), MIN(hold), MAX(hold) FROM holds2 WHERE state = 0"), [(1000, 2, 1001)])
+
+
+def a_line_with_first_days(folder):
+    """Of a thousand holds that wait for a title, most with a first day, a copy goes to the least number of those that have none or whose day has come: on each day anew."""
+    path, served = os.path.join(folder, "first_days.db"), []
+    say(path, GROUND)
+    # first days from two weeks before today to two weeks after it, in no order of the numbers; every fortieth hold has none, and the least of these is hold 7
+    first_days = {n: None if n % 40 == 7 else TODAY - 14 + n * 97 % 29 for n in range(1, 1001)}
+    with closing(sqlite3.connect(path)) as db, db:
+        db.executemany("INSERT INTO patrons VALUES (?, 1, ?, ?, 0)", ((1000 + n, f"card{n:08}", f"Reader {n}") for n in first_days))
+        db.executemany("INSERT INTO holds2 VALUES (?, ?, 100, 1, 0, NULL, NULL, ?)", ((n, 1000 + n, day) for n, day in first_days.items()))
+        db.execute("UPDATE meta SET next_hold = 1001")
+    waiting = dict(first_days)
+    for today in range(TODAY, TODAY + 15):
+        if today > TODAY:
+            say(path, [(f"d{today}", ["begin-day", str(EPOCH + datetime.timedelta(today))], "ok")])
+        for number in ("10", "11"):
+            first = min(n for n, day in waiting.items() if day is None or day <= today)
+            served.append((first, waiting.pop(first)))
+            found, status = answers(path, f"c{today}-{number}", ["check-in", number, "1"])
+            check(f"the first in line on day {today}", (found.startswith(f"fine 0 ready {first} at 1 until "), status), (True, 0))
+            say(path, [(f"m{today}-{number}", ["missing", number], "ok"), (f"x{today}-{number}", ["cancel-hold", str(first)], "ok")])
+    kinds = {"none" if day is None else "before" if day <= TODAY else "after" for _, day in served}
+    check("holds without a first day were served, and with one before the beginning and after it", kinds, {"none", "before", "after"})
 
 
 def memory_of(words, out):
@@ -592,6 +640,7 @@ def the_rows_are(path, library):
 IN_THE_MONTH = {
     ("withdraw", "ok"), ("withdraw", "33"), ("check-in", "35"), ("check-out", "35"), ("check-out", "33"), ("check-out", "38"),
     ("check-out", "50"), ("place-hold", "50"), ("place-hold", "51"), ("renew", "41"), ("renew", "38"), ("missing", "35"),
+    ("place-hold-from", "hold"), ("place-hold-from", "23"), ("place-hold-from", "50"), ("place-hold-from", "51"), ("place-hold-from", "52"),
 }
 
 
@@ -700,23 +749,24 @@ def lost_output(folder):
     check("the rest is taken in", take_in(path, copies), ("".join(f"row {n} ok\n" for n in range(1, 2001)) + "accepted 2000 refused 0\n", 0))
 
 
-# A library with loans, one of them overdue, a hold that waits, two that are ready, a lost copy and an account.
+# A library with loans, one of them overdue, a hold that waits, one whose first day is to come, two that are ready, a lost copy and an account.
 BEGUN = [shlex.join(words) for _, words, _ in GROUND] + [
     "acquire 12 101 1 1 900 'Slow Water'", "check-out 1 10 1", "check-out 1 11 1", "place-hold 2 100 1",
     "place-hold 3 300 1", "check-in 30 1", "place-hold 1 200 1", "check-in 20 1", "begin-day 2026-03-07",
-    "check-out 3 12 1", "begin-day 2026-03-12", "missing 11", "pay 1 30",
+    "check-out 3 12 1", "begin-day 2026-03-12", "missing 11", "pay 1 30", "place-hold-from 1 101 1 2026-03-13",
 ]
 
 # Requests about its few copies, loans and holds, which get in each other's way.
 CROWDED = [
     "check-out 1 10 1", "check-out 2 10 1", "check-out 3 30 1", "check-out 1 20 1", "check-in 10 1", "check-in 10 2",
-    "check-in 12 2", "check-in 11 1", "renew 1", "renew 3", "place-hold 2 101 2", "place-hold 1 100 2", "cancel-hold 1",
-    "unshelve 2", "unshelve-cancelled 3", "missing 30", "withdraw 11", "pay 1 30", "waive 1 2500", "page 1",
+    "check-in 12 2", "check-in 11 1", "renew 1", "renew 3", "place-hold 2 101 2", "place-hold 1 100 2",
+    "place-hold-from 2 200 2 2026-03-13", "begin-day 2026-03-13", "cancel-hold 1", "unshelve 2", "unshelve-cancelled 3",
+    "missing 30", "withdraw 11", "pay 1 30", "waive 1 2500", "page 1",
 ]
 
 
 def every_pair(folder):
-    """Every ordered pair of twenty requests, each on a library of its own that is the same before: each reply is that of
+    """Every ordered pair of these requests, each on a library of its own that is the same before: each reply is that of
     the rules, and so is each row."""
     begun, pair, rules = os.path.join(folder, "begun.db"), os.path.join(folder, "pair.db"), Library()
     for at, text in enumerate(BEGUN):
@@ -752,7 +802,7 @@ def the_readme(folder):
     check("its last line", line, "loan 1 due 2026-03-09")
     with open(os.path.join(TOP, "docs", "RULES.md"), encoding="utf-8") as file:
         table = re.findall(r"^\| `([a-z-]+) ?[^`]*` \|[^|]*\| `([^`]+)` \| ([^|]*) \|[^|]*\|$", file.read(), re.MULTILINE)
-    check("a row for each word", len(table), 21)
+    check("a row for each word", [word for word, _, _ in table], list(WORDS))
     library, path = Library(), os.path.join(folder, "examples.db")
     for at, (word, example, refusals) in enumerate(table):
         words = shlex.split(example)
@@ -851,6 +901,7 @@ def main():
         movements(folder)
         reports(folder)
         a_long_line(folder)
+        a_line_with_first_days(folder)
         a_long_report(folder)
         a_day_at_the_desk(folder)
         the_readme(folder)

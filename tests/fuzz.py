@@ -38,8 +38,9 @@ REQUESTS, FILES = 470, 30  # in a round
 NUMBERS = ["1", "2", "3", "10", "11", "20", "30", "100", "200", "300"]
 ODD_NUMBERS = ["0", "01", "+1", "-1", "1.0", "", " 1", "1 ", "1e0", "x", "99", "100", "9999999", "10000000", "4294967295", "4294967296",
                "42949672950", "99999999999999999999", "\u0661", "0x1", "1_0", "007"]
-DAYS = ["2026-03-03", "2026-03-04", "2026-03-09", "2026-04-01", "2000-01-01"]
-ODD_DAYS = ["2026-3-3", "2026-02-29", "2028-02-29", "2026-13-01", "2199-12-31", "2200-01-01", "1999-12-31", "20260303", "2026-03-03 "]
+DAYS = ["2026-03-03", "2026-03-04", "2026-03-09", "2026-04-01", "2026-05-01", "2000-01-01"]
+FIRST_DAYS = ["2026-03-04", "2026-03-09", "2026-04-01", "2026-05-01", "2026-06-01", "2190-12-31"]  # of holds
+ODD_DAYS = ["2026-3-3", "2026-02-29", "2028-02-29", "2026-13-01", "2191-01-01", "2199-12-31", "2200-01-01", "1999-12-31", "20260303", "2026-03-03 ", ""]
 MASKS, ODD_MASKS = ["ooooooc", "coooooc", "ooooooo"], ["ccccccc", "oooooo", "oooooooo", "OOOOOOO", "oooooox"]
 NAMES = ["Main", "Hill", "Rivers of the North", "Salt Roads", "Night Ferries", "Bücher", "日本 \U0001f4da", 'Maps, "Old"', "\u2028\u0085", "x" * 120, "7"]
 ODD_NAMES = ["", " Hill", "Hill ", "x" * 121, "ü" * 60, "ü" * 60 + "x", "a\nb", "a\tb", "a\x7fb", "a\x00b", "-Hill"]
@@ -56,7 +57,7 @@ ODD_VALUES = ['"1"', "-1", "-0", "1.0", "1e0", "1E+2", "4294967295", "4294967296
               "true", "nul", "[1]", "[]", "[1,]", "{}", '{"a":1}', "{1:1}", ".5", "1.", "1e", "NaN", "-Infinity", "1" + "0" * 400, '"\\ud83d\\ude00"', '"\\ud800"',
               '"\\ude00\\ud83d"', '"\\ud83dx"', '"\\ud83d\\n"', '"\\u12G4"', '"\\x"', '"\x01"', '"\x7f"', '"\t"', "'1'", "1//", '"']
 TOKENS = [b"GET ", b"POST ", b"/patrons/", b"/desk", b" HTTP/1.1", b"\r\n", b"\n", b"\r", b"\r\n\r\n", b": ", b"Content-Length", b"Card-Key", b"Desk-Key",
-          b"Request-Key", b"{", b"}", b"[", b"]", b'"', b",", b'"branch":', b'"title":', b"1", b"0", b"-", b" ", b"\t", b"\x00", b"\xff", b"\xc3", b"\\u",
+          b"Request-Key", b"{", b"}", b"[", b"]", b'"', b",", b'"branch":', b'"title":', b'"from":', b'"2026-05-01"', b"1", b"0", b"-", b" ", b"\t", b"\x00", b"\xff", b"\xc3", b"\\u",
           b"\\ud800", b"\\", b"e9", b".5", b"null", MARK, b"end", b'""', b"copy,title,text,kind,home,price,end\n", b";", b"'"]
 
 
@@ -77,10 +78,16 @@ class Cases:
 
     # ---- words and bodies
 
+    def word(self, name, form):
+        """A part of a command, which mostly has its form."""
+        if form not in FORMS:
+            return self.number_text()
+        return self.one_of(FIRST_DAYS, ODD_DAYS) if name == "place-hold-from" else self.one_of(*FORMS[form])
+
     def words(self):
         """Words of the desk."""
-        name = self.rng.choice([*WORDS, "check-out", "check-in", "place-hold", "renew", "pay"])
-        words = [name] + [self.one_of(*FORMS[form]) if form in FORMS else self.number_text() for form in WORDS[name]]
+        name = self.rng.choice([*WORDS, "check-out", "check-in", "place-hold", "place-hold-from", "renew", "pay"])
+        words = [name] + [self.word(name, form) for form in WORDS[name]]
         if self.odd(0.05):
             place = self.rng.randrange(len(words))
             words[place:place + self.rng.randrange(2)] = self.rng.choices(["1", "", "-1", "page", "help", "--", name], k=self.rng.randrange(4))
@@ -104,14 +111,17 @@ class Cases:
     def hold(self):
         members = [("branch", self.rng.choice(["1", "2"])), ("title", self.rng.choice(["100", "200", "300"]))]
         members = [(name, value if self.odd(0.8) else self.json_value()) for name, value in members]
+        if self.odd(0.4):
+            day = self.json_string(self.one_of(FIRST_DAYS, ODD_DAYS))
+            members.append(("from", day if self.odd(0.95) else self.json_value(0.5)))
         if self.odd(0.1):
-            members.append((self.rng.choice(["branch", "title", "copy", "", "Branch"]), self.json_value()))
+            members.append((self.rng.choice(["branch", "title", "from", "copy", "", "Branch", "From"]), self.json_value()))
         if self.odd(0.03):
             members.pop(0)
         self.rng.shuffle(members)
         # a value that another takes the place of has to be JSON all the same
         if self.odd(0.15):
-            members.insert(0, (self.rng.choice(["branch", "title"]), self.json_value(0.9)))
+            members.insert(0, (self.rng.choice(["branch", "title", "from"]), self.json_value(0.9)))
         texts = [self.blank() + self.json_string(name) + self.blank() + ":" + self.blank() + value + self.blank() for name, value in members]
         return "{" + ",".join(texts) + "}"
 
@@ -130,7 +140,7 @@ class Cases:
             text = self.rng.choice(["", "{}", "[]", "null", '""', " ", '["page"]', '["page",1]', "[1,2]", "\ufeff[]", json.dumps(["1"] * 13)])
         elif self.odd(0.02):
             text = self.deep()
-        elif route == "place-hold" or self.odd(0.01):
+        elif route == "holds" or self.odd(0.01):
             text = self.hold()
         elif route == "desk":
             text = self.desk_body()
@@ -145,7 +155,7 @@ class Cases:
     def target(self, route):
         patron = self.rng.choice(["1", "2", "3"]) if self.odd(0.95) else self.rng.choice([*ODD_NUMBERS, "8"])
         number = self.rng.choice(["1", "2", "3", "4"]) if self.odd(0.95) else self.number_text(0.5)
-        text = {"page": f"/patrons/{patron}", "place-hold": f"/patrons/{patron}/holds", "cancel-hold": f"/patrons/{patron}/holds/{number}/cancel",
+        text = {"page": f"/patrons/{patron}", "holds": f"/patrons/{patron}/holds", "cancel-hold": f"/patrons/{patron}/holds/{number}/cancel",
                 "renew": f"/patrons/{patron}/loans/{number}/renew", "desk": "/desk"}[route]
         if self.odd(0.03):
             text = self.rng.choice([text + "/", text + "?x=1", "/" + text, text.upper(), text[1:], text + "/holds", "*", "/", "http://a" + text, text + "\u00fc",
@@ -187,7 +197,7 @@ class Cases:
 
     def request(self):
         """A request, with a few parts that aren't good."""
-        route = self.rng.choice(["page", "place-hold", "place-hold", "cancel-hold", "renew", "desk", "desk", "desk"])
+        route = self.rng.choice(["page", "holds", "holds", "cancel-hold", "renew", "desk", "desk", "desk"])
         (target, patron), body = self.target(route), self.body(route)
         method = self.rng.choice(METHODS) if self.odd(0.04) else "GET" if route == "page" else "POST"
         version = self.rng.choice(VERSIONS) if self.odd(0.1) else "HTTP/1.1"
@@ -333,7 +343,7 @@ def take_in_all(cases, path, library, where, seen):
 
 
 def play(ground, library, seed, number):
-    """One round: how often each status came."""
+    """One round: how often each status came, and how many holds have a first day."""
     cases, seen, where = Cases(random.Random(f"{seed} {number}"), number), Counter(), f"seed {seed}, round {number}"
     with tempfile.TemporaryDirectory() as folder:
         path = os.path.join(folder, "round.db")
@@ -341,7 +351,7 @@ def play(ground, library, seed, number):
         ask_all(cases, path, library, where, seen)
         take_in_all(cases, path, library, where, seen)
         desk.the_rows_are(path, library)
-    return seen
+    return seen, sum(hold["first"] is not None for hold in library.holds.values())
 
 
 def main(seed=SEED, count=CASES):
@@ -352,15 +362,16 @@ def main(seed=SEED, count=CASES):
         say(ground, GROUND)
         for key, words, line in GROUND:
             check(f"{key} by the rules", library.handle(key, words), line)
-        seen = Counter()
-        for found in pool.map(play, *zip(*[(ground, library, seed, number) for number in range(rounds)])):
-            seen += found
+        seen, first_days = Counter(), 0
+        for found, held in pool.map(play, *zip(*[(ground, library, seed, number) for number in range(rounds)])):
+            seen, first_days = seen + found, first_days + held
             if seen.total() % TOLD == 0:
                 print(f"fuzz: {seen.total()} cases by the seed {seed}, no difference so far", flush=True)
     wanted = [f"answers {status}" for status in (200, 400, 403, 404, 405, 409, 413)] + [f"files that end with status {status}" for status in (0, 2, 4)]
     check("each status came", [name for name in wanted if not seen[name]], [])
+    check("holds with a first day were placed", first_days > 0, True)
     told = ", ".join(f"{many} {name}" for name, many in sorted(seen.items()))
-    print(f"fuzz: {seen.total()} cases by the seed {seed} in {time.monotonic() - began:.0f} seconds, no difference: {told}")
+    print(f"fuzz: {seen.total()} cases by the seed {seed} in {time.monotonic() - began:.0f} seconds, {first_days} holds from a day on, no difference: {told}")
 
 
 if __name__ == "__main__":

@@ -23,7 +23,7 @@ from concurrent.futures import ThreadPoolExecutor
 import end_to_end as desk
 from desk_rules import Library
 from end_to_end import CIRC, GROUND, check, rows, timed
-from web import ANN, ANNS_PAGE, BO, FAILED, HOLD, PAGE_OF_ANN, Serving, a_library, answer, everything, hold_with, is_let_go, told
+from web import ANN, ANNS_PAGE, BO, FAILED, HOLD, PAGE_OF_ANN, Serving, a_library, answer, body_of_hold, everything, hold_with, is_let_go, told
 
 HALF_A_HEAD = PAGE_OF_ANN[:30]
 PATRONS, TITLES, RENEWALS = range(1, 9), range(101, 151), 99
@@ -44,8 +44,7 @@ def asked(serving, caller, key, words):
     fields = {"Card-Key": f"cardkey{caller:05}", "Request-Key": key}
     if words[0] == "renew":
         return serving.ask("POST", f"/patrons/{caller}/loans/{words[1]}/renew", fields)[:2]
-    body = json.dumps({"branch": int(words[3]), "title": int(words[2])})
-    return serving.ask("POST", f"/patrons/{caller}/holds", fields, body)[:2]
+    return serving.ask("POST", f"/patrons/{caller}/holds", fields, body_of_hold(words))[:2]
 
 
 def page_of(serving, patron):
@@ -96,8 +95,10 @@ def caller_of(patron):
 
 
 def holds_of(patron):
-    """A patron's requests to hold each title: the caller, the key and the words."""
-    return [(caller_of(patron), f"h{patron}-{title}", ["place-hold", str(patron), str(title), str(1 + title % 2)]) for title in TITLES]
+    """A patron's requests to hold each title, every third from a day on: the caller, the key and the words."""
+    for_now, for_later = ("place-hold", []), ("place-hold-from", ["2026-04-01"])
+    return [(caller_of(patron), f"h{patron}-{title}", [name, str(patron), str(title), str(1 + title % 2), *days])
+            for title in TITLES for name, days in [for_later if title % 3 == 0 else for_now]]
 
 
 def renewals_of(patron):

@@ -17,6 +17,8 @@ import sys
 import tempfile
 from contextlib import closing, contextmanager
 
+from outer_forms import WORDS
+
 TOP = os.path.dirname(os.path.dirname(os.path.abspath(__file__)))
 PROGRAM = f"{TOP}/crates/circ_cli/out/circ_cli"
 
@@ -219,8 +221,8 @@ def main():
         compared += 1
         if (run.returncode, run.stderr) != (3, UNWRITTEN):
             wrong.append(f"no room for a line: {run}")
-        if len(COMMANDS) < 21 or len(MEANINGS) < 40 or len(USAGES) != len(RUNS):
-            wrong.append("the manual page has too little")
+        if list(COMMANDS) != list(WORDS) or len(MEANINGS) < 40 or len(USAGES) != len(RUNS):
+            wrong.append("the manual page lacks something")
     for line in wrong:
         print(line)
     print(f"messages: {compared} compared, {len(wrong)} differ")

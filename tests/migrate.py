@@ -5,7 +5,7 @@
 
 The old libraries stand in tests/data as texts of SQL: the program made them when it had schema 1, and stock SQLite wrote them down (`sqlite3 FILE .dump`). `schema1_new.sql` is a new
 library; `schema1_holds.sql` one after the first `HALF` requests of tests/month.txt and those of patrons in `BY_PATRONS`, which came over the web: there are holds in every state, and
-copies that travel for some; `schema1_month.sql` one after all requests of the month. What they hold is worked out here once more by the rules in plain Python, and what a
+copies that travel for some; `schema1_month.sql` one after the first `ALL` requests of the month, which are those that schema 1 knew. What they hold is worked out here once more by the rules in plain Python, and what a
 migration has to leave follows from it: nothing here is taken from the program.
 """
 
@@ -25,10 +25,10 @@ from desk_rules import Library
 from end_to_end import (CIRC, GROUND, HEADER, PROGRAM, ROOM, TOP, answers, as_it_is, check, circ, digest, kill_at_work, memory_of, month, rows, say, status_of, the_rows_are, timed,
                         whole, write)
 from messages import LATER, MEANINGS, OLDER, message
-from web import DESK_KEY, Serving, told
+from web import DESK_KEY, Serving, body_of_hold, told
 
 NEW, HOLDS, MONTH = "schema1_new", "schema1_holds", "schema1_month"
-HALF = 642
+HALF, ALL = 642, 732
 # What patrons asked for after these requests: the number of each, a key, and the words. One key is one that the desk used too.
 BY_PATRONS = [
     (2, "h1", ["place-hold", "2", "1", "1"], "hold 63"),
@@ -60,7 +60,7 @@ def known(name):
     library, requests = Library(), month()
     if name == NEW:
         return library
-    for key, *words in requests[:HALF] if name == HOLDS else requests:
+    for key, *words in requests[:HALF if name == HOLDS else ALL]:
         library.handle(key, words)
     if name == HOLDS:
         asked_by_patrons(library)
@@ -142,7 +142,7 @@ def the_rest_of_the_month(folder):
         for patron, key, words, line in BY_PATRONS:
             for again in (words, ["cancel-hold", "44"]):
                 target = {"place-hold": f"/patrons/{patron}/holds", "renew": f"/patrons/{patron}/loans/{again[-1]}/renew"}.get(again[0], f"/patrons/{patron}/holds/{again[-1]}/cancel")
-                body = f'{{"branch":{again[3]},"title":{again[2]}}}' if again[0] == "place-hold" else None
+                body = body_of_hold(again) if again[0] == "place-hold" else None
                 # a refusal isn't kept: hold 44 is another patron's, and so unknown to these
                 wanted = line if again == words else "refused 15" if line.startswith("refused") else "refused 80"
                 found = serving.ask("POST", target, {"Card-Key": f"cardkey{patron:05}", "Request-Key": key}, body)
@@ -159,6 +159,48 @@ def the_rest_of_the_month(folder):
     for branch in sorted(library.branches):
         check(f"the hold shelf of {branch}", desk.report(path, "shelf", str(branch)), (library.shelf(branch), 0))
         check(f"the overdue loans of {branch}", desk.report(path, "overdue", str(branch)), (library.overdue(branch), 0))
+
+
+# What is asked of the library with holds in every state after it was migrated: the patron who asks, or 0 for the desk, a key, the words and the answer. Two keys were kept before.
+FROM_A_DAY_ON = [
+    (0, "m1", ["begin-day", "2026-03-02"], "ok"),
+    (0, "m1", ["place-hold-from", "5", "1", "3", "2026-04-02"], "refused 80"),
+    (2, "h1", ["place-hold", "2", "1", "1"], "hold 63"),
+    (2, "h1", ["place-hold-from", "2", "1", "1", "2026-04-02"], "refused 80"),
+    (0, "f1", ["place-hold-from", "2", "1", "1", "2026-04-02"], "refused 50"),
+    (0, "f1", ["place-hold-from", "5", "1", "3", "2026-04-02"], "hold 64"),
+    (6, "f1", ["place-hold-from", "6", "8", "1", "2026-04-01"], "hold 65"),
+    (0, "f2", ["page", "2"], "patron 2 owed 0 name Bo Dunn\nhold 37 at 3 waiting title 14 Lanterns\nhold 63 at 1 waiting title 1 Rivers of the North"),
+    (0, "f2", ["page", "5"], "patron 5 owed 0 name Eva Grant\nhold 64 at 3 waiting from 2026-04-02 title 1 Rivers of the North"),
+    # holds 44 and 63 were there before; Hill is open on Tuesdays, Thursdays and Saturdays, and keeps a copy no day longer than today
+    (0, "f3", ["unshelve-cancelled", "38"], "ready 44 at 3 until 2026-03-31"),
+    (0, "f4", ["begin-day", "2026-04-01"], "ok"),
+    (0, "f5", ["unshelve", "44"], "transit 1 for 63"),
+    (2, "f6", ["cancel-hold", "63"], "ok"),
+    (0, "f7", ["check-in", "104", "1"], "fine 0 transit 3"),
+    (0, "f8", ["begin-day", "2026-04-02"], "ok"),
+    (0, "f9", ["check-in", "104", "1"], "fine 0 transit 3 for 64"),
+    (0, "g1", ["check-in", "104", "3"], "fine 0 ready 64 at 3 until 2026-04-02"),
+    (0, "g2", ["check-out", "5", "104", "3"], "loan 77 due 2026-04-23"),
+    (6, "f1", ["place-hold-from", "6", "8", "1", "2026-04-01"], "hold 65"),
+]
+
+
+def holds_from_a_day_on(folder):
+    """A library that was migrated takes holds from a day on, beside the holds that it had, which have no first day."""
+    path, library = old_library(HOLDS, os.path.join(folder, "from.db")), known(HOLDS)
+    migrate(path)
+    check("no first day is made up", rows(path, "SELECT DISTINCT first_day FROM holds2"), [(None,)])
+    with Serving(path, len(FROM_A_DAY_ON)) as serving:
+        for patron, key, words, line in FROM_A_DAY_ON:
+            check(f"{key} {words}, by the rules", library.handle(key, words, caller=patron), line)
+            if patron:
+                target, body = (f"/patrons/{patron}/holds", body_of_hold(words)) if words[0] != "cancel-hold" else (f"/patrons/{patron}/holds/{words[1]}/cancel", None)
+                found = serving.ask("POST", target, {"Card-Key": f"cardkey{patron:05}", "Request-Key": key}, body)[:2]
+            else:
+                found = serving.desk(key, words)
+            check(f"{key} {words} of {patron}", found, told(line))
+    the_rows_are(path, library)
 
 
 def other_runs(folder):
@@ -394,7 +436,7 @@ def a_large_library(folder):
 
 def main():
     subprocess.run([CIRC], stdout=subprocess.DEVNULL, stderr=subprocess.DEVNULL, check=False)  # builds the program where it isn't there
-    for part in (old_libraries, the_rest_of_the_month, other_runs, no_library, damaged, other_tables, later, held, killed, a_large_library):
+    for part in (old_libraries, the_rest_of_the_month, holds_from_a_day_on, other_runs, no_library, damaged, other_tables, later, held, killed, a_large_library):
         with tempfile.TemporaryDirectory() as folder:
             part(folder)
     print(f"migrate: {desk.passed} passed, 0 failed")

@@ -65,6 +65,7 @@ WORDS = {
     "check-in": NUMBERS[:2],
     "renew": NUMBERS[:1],
     "place-hold": NUMBERS[:3],
+    "place-hold-from": [*NUMBERS[:3], is_day],
     "cancel-hold": NUMBERS[:1],
     "unshelve": NUMBERS[:1],
     "unshelve-cancelled": NUMBERS[:1],
@@ -230,7 +231,7 @@ FIELD = re.compile(rb"(%b):(%b)\r?\n" % (TOKEN, VALUE))
 NUMBER_IN_TARGET = "(0|[1-9][0-9]{0,9})"
 ROUTES = [
     ("page", "GET", re.compile(f"/patrons/{NUMBER_IN_TARGET}")),
-    ("place-hold", "POST", re.compile(f"/patrons/{NUMBER_IN_TARGET}/holds")),
+    ("holds", "POST", re.compile(f"/patrons/{NUMBER_IN_TARGET}/holds")),
     ("cancel-hold", "POST", re.compile(f"/patrons/{NUMBER_IN_TARGET}/holds/{NUMBER_IN_TARGET}/cancel")),
     ("renew", "POST", re.compile(f"/patrons/{NUMBER_IN_TARGET}/loans/{NUMBER_IN_TARGET}/renew")),
     ("desk", "POST", re.compile("/desk")),
@@ -297,6 +298,16 @@ def route_of(target):
     raise Failed(404)
 
 
+def words_of_hold(patron, value):
+    """The words that place the hold for which a JSON value asks: from a day on, if it names one."""
+    fail(400, not isinstance(value, dict))
+    days = [value.pop("from")] if "from" in value else []
+    fail(400, not all(isinstance(day, str) and is_day(day) for day in days))
+    fail(400, set(value) != {"branch", "title"})
+    fail(400, not all(type(number) is int and 0 <= number < 2**32 for number in value.values()))
+    return ["place-hold-from" if days else "place-hold", patron, str(value["title"]), str(value["branch"]), *days]
+
+
 def words_of(route, numbers, body):
     """The words of the command that a body asks for at a route."""
     if route == "page":
@@ -309,10 +320,8 @@ def words_of(route, numbers, body):
         value = json_of(body)
     except NotJson as error:
         raise Failed(400) from error
-    if route == "place-hold":
-        fail(400, not isinstance(value, dict) or set(value) != {"branch", "title"})
-        fail(400, not all(type(number) is int and 0 <= number < 2**32 for number in value.values()))
-        return ["place-hold", numbers[0], str(value["title"]), str(value["branch"])]
+    if route == "holds":
+        return words_of_hold(numbers[0], value)
     fail(400, not isinstance(value, list) or not 1 <= len(value) <= MOST_WORDS)
     fail(400, not all(isinstance(word, str) for word in value) or not is_understood(value))
     return value

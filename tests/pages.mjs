@@ -1,7 +1,7 @@
 // The modules of the pages that read replies and words, on every form: run by tests/pages.py.
 import { deepStrictEqual as same } from "node:assert";
 import { readAnswer, readReply, readPage, daysBetween } from "../pages/replies.js";
-import { centsOf, isCommand, isNumber, wordsOf } from "../pages/commands.js";
+import { centsOf, commandBegun, holdBody, isCommand, isNumber, wordsOf } from "../pages/commands.js";
 import { Door, newKey } from "../pages/asking.js";
 import { TEXTS, amount, say } from "../pages/texts.js";
 
@@ -78,6 +78,11 @@ is(isCommand(wordsOf("renew 1")), true);
 is(isCommand(wordsOf("renew")), false);
 is(isCommand(wordsOf("renew 1 2")), false);
 is(isCommand(wordsOf("toString 1")), false);
+is(isCommand(wordsOf("place-hold 2 100 1")), true);
+is(isCommand(wordsOf("place-hold 2 100 1 2026-03-05")), false);
+is(isCommand(wordsOf("place-hold-from 2 100 1 2026-03-05")), true);
+is(isCommand(wordsOf("place-hold-from 2 100 1")), false);
+is(["place-hold 2", "place-hold-from 2", " place-hold-from", "place-hold-fro 2"].map(commandBegun), ["place-hold", "place-hold-from", "place-hold-from", null]);
 is(isCommand(null), false);
 is(["0", "1", "4294967295", "4294967296", "01", "-1", "1.0", ""].map(isNumber), [true, true, true, false, false, false, false, false]);
 is(["2", "2.50", "0,05", "12.5", "1.005", ".5", "-1"].map(centsOf), [200, 250, 5, null, null, null, null]);
@@ -85,6 +90,10 @@ is([0, 5, 250, 100000].map(amount), ["0.00", "0.05", "2.50", "1000.00"]);
 is(daysBetween("2026-03-28", "2026-03-30"), 2);
 is(daysBetween("2026-03-09", "2026-03-02"), -7);
 is(say(TEXTS.lent, { loan: 3, due: "2026-03-09" }), "Loan 3, due on 2026-03-09.");
+
+// ---- what a patron asks for
+is(holdBody("100", "1", ""), '{"branch":1,"title":100}');
+is(holdBody("100", "1", "2026-03-05"), '{"branch":1,"from":"2026-03-05","title":100}');
 
 // ---- a request goes out under one key until an answer comes, and a second one waits
 class Kept {

@@ -109,7 +109,8 @@ def one_request_in_a_file(folder, refusing, everything):
     base, path = os.path.join(folder, "ground.db"), os.path.join(folder, "one.db")
     say(base, GROUND + [("a1", ["place-hold", "2", "100", "1"], "hold 1"), ("a2", ["check-out", "2", "11", "1"], "loan 1 due 2026-03-09")])
     before, told = whole(base), Counter()
-    for words, line in ((["check-in", "11", "2"], "fine 0 transit 1"), (["place-hold", "3", "100", "2"], "hold 2"), (["renew", "1"], "loan 1 due 2026-03-16"), (["page", "2"], None)):
+    for words, line in ((["check-in", "11", "2"], "fine 0 transit 1"), (["place-hold", "3", "100", "2"], "hold 2"), (["place-hold-from", "3", "100", "2", "2026-03-05"], "hold 2"),
+                        (["renew", "1"], "loan 1 due 2026-03-16"), (["page", "2"], None)):
         run_words = ["file", path, "k1", *words]
         copied(base, path)
         plain = refusing.run([PROGRAM, *run_words], 0)

@@ -5,6 +5,7 @@ Expected answers are those of docs/RULES.md, worked out by hand; those of the mo
 """
 
 import atexit
+import datetime
 import http.client
 import json
 import os
@@ -25,6 +26,7 @@ import end_to_end as desk
 from desk_rules import Library
 from end_to_end import CIRC, GROUND, PROGRAM, TOP, check, circ, rows, say, whole
 from messages import message
+from outer_forms import said
 
 DESK_KEY = "deskkey00001"
 ANN, BO = {"Card-Key": "cardkey00001"}, {"Card-Key": "cardkey00002"}
@@ -176,6 +178,12 @@ def told(line):
     return 200, json.dumps({"reply": line}, ensure_ascii=False, separators=(",", ":")).encode()
 
 
+def body_of_hold(words):
+    """The body by which a patron asks for the hold of these words."""
+    _, _, title, branch, *days = words
+    return json.dumps({"branch": int(branch), **{"from": day for day in days}, "title": int(title)}).encode()
+
+
 def a_library(folder, name):
     """The small library that all begin with."""
     path = os.path.join(folder, name)
@@ -238,13 +246,133 @@ def each_route(folder, workers):
           [(1, "r1"), (2, "c1"), (2, "h1")])
 
 
+def from_a_day_on(folder, workers):
+    """A patron's hold from a day on, by the route: until its day others borrow and renew, and on its day a copy that comes in is kept for it."""
+    path = a_library(folder, "from.db")
+    body = lambda day: b'{"branch":1,"from":"' + day + b'","title":100}'
+    places = lambda key: ("POST", "/patrons/2/holds", {**BO, "Request-Key": key})
+    desks = lambda key, *words: ("POST", "/desk", {"Desk-Key": DESK_KEY, "Request-Key": key}, json.dumps(words).encode())
+    waiting = b'{"reply":"patron 2 owed 0 name Bo Carr\\nhold 1 at 1 waiting from 2026-03-05 title 100 Rivers of the North"}'
+    ready = b'{"reply":"patron 2 owed 0 name Bo Carr\\nhold 1 at 1 ready title 100 Rivers of the North"}'
+    asked = [
+        (*places("h1"), body(b"2026-03-02"), 409, b'{"refusal":23}'),
+        (*places("h2"), body(b"2191-01-01"), 409, b'{"refusal":23}'),
+        # the patron's own key and number, and no other's
+        ("POST", "/patrons/2/holds", {**ANN, "Request-Key": "h3"}, body(b"2026-03-05"), 403, b'{"refusal":81}'),
+        ("POST", "/patrons/1/holds", {**BO, "Request-Key": "h3"}, body(b"2026-03-05"), 403, b'{"refusal":81}'),
+        ("POST", "/patrons/8/holds", {**BO, "Request-Key": "h3"}, body(b"2026-03-05"), 403, b'{"refusal":81}'),
+        (*places("h3"), body(b"2026-03-05"), 200, b'{"reply":"hold 1"}'),
+        # the same key again: the same request, also with its members in another order, another day, and the hold of no day
+        (*places("h3"), b'{ "title": 100, "from": "2026\\u002d03-05", "branch": 1 }', 200, b'{"reply":"hold 1"}'),
+        (*places("h3"), body(b"2026-03-06"), 409, b'{"refusal":80}'),
+        (*places("h3"), HOLD, 409, b'{"refusal":80}'),
+        (*places("h4"), body(b"2026-03-06"), 409, b'{"refusal":50}'),
+        (*desks("d1", "check-in", "10", "1"), 200, b'{"reply":"fine 0 shelf 1"}'),
+        (*desks("d2", "check-out", "2", "10", "1"), 409, b'{"refusal":50}'),
+        (*desks("d3", "check-out", "1", "10", "1"), 200, b'{"reply":"loan 1 due 2026-03-09"}'),
+        ("POST", "/patrons/1/loans/1/renew", {**ANN, "Request-Key": "r1"}, None, 200, b'{"reply":"loan 1 due 2026-03-16"}'),
+        ("GET", "/patrons/2", BO, None, 200, waiting),
+        (*desks("d4", "begin-day", "2026-03-05"), 200, b'{"reply":"ok"}'),
+        ("GET", "/patrons/2", BO, None, 200, waiting),
+        (*places("h3"), body(b"2026-03-05"), 200, b'{"reply":"hold 1"}'),
+        ("POST", "/patrons/1/loans/1/renew", {**ANN, "Request-Key": "r2"}, None, 409, b'{"refusal":36}'),
+        (*desks("d5", "check-in", "11", "1"), 200, b'{"reply":"fine 0 ready 1 at 1 until 2026-03-10"}'),
+        ("GET", "/patrons/2", BO, None, 200, ready),
+        (*desks("d6", "missing", "11"), 200, b'{"reply":"ok"}'),
+        ("GET", "/patrons/2", BO, None, 200, waiting),
+        # the desk sends it too; a hold is cancelled before its day, by its patron alone
+        (*desks("d7", "place-hold-from", "2", "200", "2", "2190-12-31"), 200, b'{"reply":"hold 2"}'),
+        ("POST", "/patrons/1/holds/2/cancel", {**ANN, "Request-Key": "c1"}, None, 409, b'{"refusal":15}'),
+        ("POST", "/patrons/2/holds/2/cancel", {**BO, "Request-Key": "c2"}, None, 200, b'{"reply":"ok"}'),
+        # of a member that is repeated the last value is kept
+        (*places("h5"), b'{"from":null,"branch":1,"from":"2026-03-06","title":300}', 200, b'{"reply":"hold 3"}'),
+    ]
+    with Serving(path, len(asked), workers=workers) as serving:
+        for it in asked:
+            serving.answers(*it)
+    check("the holds", rows(path, "SELECT hold, patron, title, branch, state, copy, limit_day, first_day FROM holds2"),
+          [(1, 2, 100, 1, 0, None, None, 20517), (2, 2, 200, 2, 3, None, None, 80718), (3, 2, 300, 1, 0, None, None, 20518)])
+    check("what is kept of Bo", rows(path, "SELECT key, text, reply FROM kept WHERE caller = 2 ORDER BY key"),
+          [("c2", "cancel-hold 2", "ok"), ("h3", "place-hold-from 2 100 1 2026-03-05", "hold 1"), ("h5", "place-hold-from 2 300 1 2026-03-06", "hold 3")])
+
+
+# What is asked at random, of few copies, holds and loans, which get in each other's way. Letters stand for a patron, a copy, a branch, a title, a hold, a loan and a day to come.
+AT_RANDOM = ["check-out P C B", "check-out P C B", "check-out P C B", "check-in C B", "check-in C B", "check-in C B", "check-in C B", "place-hold P T B", "place-hold-from P T B D",
+             "place-hold-from P T B D", "cancel-hold H", "renew L", "unshelve H", "unshelve-cancelled H", "missing C", "begin-day D"]
+BEFORE = ["kind 1 9 9 1000000", "acquire 21 200 1 1 1200 'Salt Roads'", "acquire 22 200 1 2 1200 'Salt Roads'", "acquire 31 300 2 2 800 'Night Ferries'"]
+BY_PATRONS = ("place-hold", "place-hold-from", "cancel-hold", "renew")
+TURNS = 1_200
+# What holds with a first day have to meet in these turns: what the state of one was before a request, and after it.
+MET = {("waiting", "coming"), ("waiting", "ready"), ("waiting", "cancelled"), ("coming", "ready"), ("ready", "filled"), ("ready", "waiting"), ("ready", "cancelled")}
+
+
+class Turns:
+    """Random requests, and what holds with a first day met by them."""
+
+    def __init__(self, seed):
+        self.draw, self.library, self.met, self.passed_over = random.Random(seed), Library(), set(), 0
+
+    def words(self):
+        """The next request of the desk."""
+        draw, library = self.draw, self.library
+        active = [number for number, hold in library.holds.items() if hold["state"] in ("waiting", "ready")]
+        values = {"P": draw.choice("123"), "C": draw.choice(sorted(map(str, library.copies))), "B": draw.choice("12"), "T": draw.choice(("100", "200", "300")),
+                  "H": str(draw.choice(active or [1])), "L": str(draw.randint(1, len(library.loans) + 1)), "D": str(library.today + datetime.timedelta(draw.choice((1, 1, 2, 3, 9))))}
+        return [values.get(it, it) for it in draw.choice(AT_RANDOM).split()]
+
+    def states(self):
+        """How each hold with a first day stands."""
+        coming = {hold for _, hold in self.library.transits.values()}
+        return {number: "coming" if number in coming else hold["state"] for number, hold in self.library.holds.items() if hold["first"]}
+
+    def awaited(self, copy):
+        """Whether a hold of a copy's title has its first day to come."""
+        title, today = self.library.copies[copy]["title"], self.library.today
+        return any(hold["first"] and hold["first"] > today and hold["state"] == "waiting" and hold["title"] == title for hold in self.library.holds.values())
+
+    def handle(self, patron, shown, key, words):
+        """The line by the rules."""
+        before, is_awaited = self.states(), words[0] == "check-in" and self.awaited(int(words[1]))
+        line = said(self.library, DESK_KEY, patron, shown, key, words)
+        self.passed_over += is_awaited and " shelf " in line
+        self.met.update((before.get(it), now) for it, now in self.states().items() if before.get(it) != now)
+        return line
+
+
+def at_random(folder, workers):
+    """Random requests of the desk and of patrons, on a small library: each answer is that of the rules, and so is a page after each, and each row at the end."""
+    path, seed = a_library(folder, "random.db"), random.randrange(10**9)
+    turns, draw = Turns(seed), random.Random(seed + 1)
+    for key, words, _ in GROUND:
+        turns.library.handle(key, words)
+    print(f"web: {TURNS} turns at random by the seed {seed}, {workers} workers")
+    with Serving(path, len(BEFORE) + 2 * TURNS, workers=workers) as serving:
+        for at in range(-len(BEFORE), TURNS):
+            words, number = shlex.split(BEFORE[at]) if at < 0 else turns.words(), draw.choice("123")
+            is_own = words[0] in BY_PATRONS and draw.random() < 0.5
+            patron = int(words[1] if words[0].startswith("place") else number) if is_own else None
+            shown, key = f"cardkey{patron:05}" if is_own else DESK_KEY, f"t{at}"
+            wanted = told(turns.handle(patron, shown, key, words))
+            if is_own:
+                target = {"renew": f"loans/{words[1]}/renew", "cancel-hold": f"holds/{words[1]}/cancel"}.get(words[0], "holds")
+                found = serving.ask("POST", f"/patrons/{patron}/{target}", {"Card-Key": shown, "Request-Key": key}, body_of_hold(words) if target == "holds" else None)[:2]
+            else:
+                found = serving.desk(key, words)
+            check(f"turn {at} by the seed {seed}: {words} of {patron or 'the desk'}", found, wanted)
+            if at >= 0:
+                page = serving.ask("GET", f"/patrons/{number}", {"Card-Key": f"cardkey{number:0>5}"})[:2]
+                check(f"the page of {number} after turn {at} by the seed {seed}", page, told(turns.library.handle("", ["page", number])))
+    desk.the_rows_are(path, turns.library)
+    check(f"what holds with a first day met, by the seed {seed}", (MET - turns.met, turns.passed_over > 2), (set(), True))
+
+
 def by_curl(folder, workers):
     """Each route by curl, as docs/USING.md shows it, and a body for which curl waits to be told to go on."""
     path = a_library(folder, "curl.db")
     with open(os.path.join(TOP, "docs", "USING.md"), encoding="utf-8") as file:
         lines = [line.strip() for line in file if line.startswith("    curl ")]
     answers = [b'{"reply":"hold 1"}', b'{"reply":"patron 2 owed 0 name Bo Carr\\nhold 1 at 1 waiting title 100 Rivers of the North"}',
-               b'{"reply":"ok"}', b'{"reply":"loan 1 due 2026-03-09"}', b'{"reply":"loan 1 due 2026-03-16"}']
+               b'{"reply":"ok"}', b'{"reply":"hold 2"}', b'{"reply":"loan 1 due 2026-03-09"}', b'{"reply":"loan 1 due 2026-03-16"}']
     check("each route is shown", len(lines), len(answers))
     with Serving(path, len(answers) + 1, workers=workers) as serving:
         for line, wanted in zip(lines, answers):
@@ -330,6 +458,23 @@ HOSTILE = [
     ("a branch below 0", hold_with(b'{"branch":-1,"title":100}'), FAILED),
     ("a branch of 2^32", hold_with(b'{"branch":4294967296,"title":100}'), FAILED),
     ("a body that is no UTF-8", hold_with(b'{"branch":"\xe9","branch":1,"title":100}'), FAILED),
+    ("a first day that is none", hold_with(b'{"branch":1,"from":"2026-3-5","title":100}'), FAILED),
+    ("a first day that February hasn't", hold_with(b'{"branch":1,"from":"2026-02-29","title":100}'), FAILED),
+    ("a first day before the calendar", hold_with(b'{"branch":1,"from":"1999-12-31","title":100}'), FAILED),
+    ("a first day behind the calendar", hold_with(b'{"branch":1,"from":"2200-01-01","title":100}'), FAILED),
+    ("a first day with a blank", hold_with(b'{"branch":1,"from":"2026-03-05 ","title":100}'), FAILED),
+    ("an empty first day", hold_with(b'{"branch":1,"from":"","title":100}'), FAILED),
+    ("a first day that is a number", hold_with(b'{"branch":1,"from":20517,"title":100}'), FAILED),
+    ("a first day that is null", hold_with(b'{"branch":1,"from":null,"title":100}'), FAILED),
+    ("a first day that is a list", hold_with(b'{"branch":1,"from":["2026-03-05"],"title":100}'), FAILED),
+    ("a first day twice, the last time none", hold_with(b'{"branch":1,"from":"2026-03-05","from":"none","title":100}'), FAILED),
+    ("a fourth member", hold_with(b'{"branch":1,"copy":10,"from":"2026-03-05","title":100}'), FAILED),
+    ("a first day and no title", hold_with(b'{"branch":1,"from":"2026-03-05"}'), FAILED),
+    ("a first day and no branch", hold_with(b'{"from":"2026-03-05","title":100}'), FAILED),
+    ("a first day by another name", hold_with(b'{"From":"2026-03-05","branch":1,"title":100}'), FAILED),
+    ("a branch that is a text, beside a first day", hold_with(b'{"branch":"1","from":"2026-03-05","title":100}'), FAILED),
+    ("a day that is no word of the desk", desk_with(b'["place-hold-from","2","100","1","2026-3-5"]'), FAILED),
+    ("a day too many", desk_with(b'["place-hold","2","100","1","2026-03-05"]'), FAILED),
     ("no words", desk_with(b"[]"), FAILED),
     ("thirteen words", desk_with(json.dumps(["page"] * 13).encode()), FAILED),
     ("a word too few", desk_with(b'["page"]'), FAILED),
@@ -626,7 +771,7 @@ def main():
             for workers in (1, 2, 8):
                 room = os.path.join(folder, f"workers{workers}")
                 os.mkdir(room)
-                for part in (each_route, by_curl, in_pieces, hostile_bytes, one_waits, a_damaged_patron, a_damaged_copy, sent):
+                for part in (each_route, from_a_day_on, at_random, by_curl, in_pieces, hostile_bytes, one_waits, a_damaged_patron, a_damaged_copy, sent):
                     part(room, workers)
             for it in silent:
                 it.result()

@@ -15,6 +15,7 @@ import re
 import sys
 
 from messages import SCHEMA, TOP, VERSION, of_manual, read
+from outer_forms import WORDS
 
 
 def commands():
@@ -85,8 +86,7 @@ def main():
             wrong.append(f"{what}: {one} is not {other}")
 
     table = commands()
-    if len(table) < 21:
-        wrong.append(f"only {len(table)} commands were found in the table")
+    same("the commands of the table", list(table), list(WORDS))
     runs, words, told = of_manual(read("docs/circ.1"))
     same("the manual page's commands", words, table)
     completed = re.search(r'local commands="([^"]*)"', read("docs/circ.bash")).group(1).split()
