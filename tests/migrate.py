@@ -11,6 +11,7 @@ migration has to leave follows from it: nothing here is taken from the program.
 
 import fcntl
 import os
+import pty
 import random
 import shutil
 import signal
@@ -201,6 +202,22 @@ def holds_from_a_day_on(folder):
                 found = serving.desk(key, words)
             check(f"{key} {words} of {patron}", found, told(line))
     the_rows_are(path, library)
+
+
+def on_a_terminal(folder):
+    """A person at a terminal is told that the work has begun; elsewhere nothing is told but the line."""
+    path = old_library(NEW, os.path.join(folder, "terminal.db"))
+    ours, theirs = pty.openpty()
+    try:
+        run = subprocess.run([PROGRAM, "migrate", path], stdout=subprocess.PIPE, stderr=theirs, timeout=120, check=False)
+        shown = os.read(ours, 1000).decode()
+    finally:
+        os.close(ours)
+        os.close(theirs)
+    check("what a terminal shows", shown, f"circ: {path}: the library is being brought to the newest schema\r\n")
+    check("the line beside it", (run.stdout, run.returncode), (b"schema 2\n", 0))
+    run = subprocess.run([PROGRAM, "migrate", path], capture_output=True, timeout=120, check=False)
+    check("what is told elsewhere", (run.stdout, run.stderr), (b"schema 2\n", b""))
 
 
 def other_runs(folder):
@@ -436,7 +453,7 @@ def a_large_library(folder):
 
 def main():
     subprocess.run([CIRC], stdout=subprocess.DEVNULL, stderr=subprocess.DEVNULL, check=False)  # builds the program where it isn't there
-    for part in (old_libraries, the_rest_of_the_month, holds_from_a_day_on, other_runs, no_library, damaged, other_tables, later, held, killed, a_large_library):
+    for part in (old_libraries, the_rest_of_the_month, holds_from_a_day_on, on_a_terminal, other_runs, no_library, damaged, other_tables, later, held, killed, a_large_library):
         with tempfile.TemporaryDirectory() as folder:
             part(folder)
     print(f"migrate: {desk.passed} passed, 0 failed")

@@ -11,7 +11,7 @@ use calls::{
 };
 use circ::{Exit, Report, Run, WriteFault, read_run};
 use messages::{Line, Noting};
-use notes::{say, say_unwritten};
+use notes::{say, say_migrating, say_unwritten};
 use sqlite::{Start, Wary};
 use std::fs::File;
 use std::io::{BufWriter, ErrorKind, Write};
@@ -137,6 +137,8 @@ fn migrate_in<S: Start, W: Write>(
     }
     match open_any(rt, path, start) {
         Ok(mut store) => {
+            // A note that can't be written keeps no library back.
+            let _ = say_migrating(rt, path);
             let told = migrate(&mut store, rt.alloc(), writer);
             close_tables(store);
             told

@@ -4,7 +4,7 @@ use messages::{Line, explain};
 use sqlite::types::ValueRef;
 use sqlite::{Alter, Connection, Error, ErrorCode};
 use std::fs::{self, File};
-use std::io::{ErrorKind, Read, Write};
+use std::io::{ErrorKind, IsTerminal, Read, Write};
 use terms::{SCHEMA, WriteFault, write_bytes};
 
 /// How the file of a database begins.
@@ -100,6 +100,16 @@ pub fn say(rt: &HostRuntime, told: &Line, words: &[String]) -> Result<(), WriteF
         }
         _ => Ok(()),
     }
+}
+
+/// Says on a terminal that the library is being brought to the newest schema: of a large one all
+/// holds are written anew, and meanwhile nothing else is told.
+pub fn say_migrating(rt: &HostRuntime, path: &str) -> Result<(), WriteFault> {
+    let mut writer = rt.stderr();
+    if !writer.is_terminal() {
+        return Ok(());
+    }
+    write_cause(&mut writer, path, "the library is being brought to the newest schema")
 }
 
 /// Says that a line could not be written.
