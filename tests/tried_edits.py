@@ -74,7 +74,8 @@ def told_of(edits):
         os.makedirs(f"{room}/tests")
         os.makedirs(f"{room}/crates/numbers/src")
         os.makedirs(f"{room}/crates/numbers/must-fail")
-        shutil.copy(f"{TOP}/tests/edits", f"{room}/tests/edits")
+        for script in ("edits", "gate_libraries.py"):
+            shutil.copy(f"{TOP}/tests/{script}", f"{room}/tests/{script}")
         write(f"{room}/crates.txt", "numbers:\n")
         write(f"{room}/crates/numbers/src/lib.rt", SOURCE)
         for name, (function, old, new, _) in edits.items():

@@ -1,0 +1,156 @@
+#!/usr/bin/env python3
+"""The definitions of the desk's words, computed on random histories, beside the rules in plain Python.
+
+    tests/definitions.py GATE [--seed N] [HISTORIES]      over the libraries that `rt ci` left in GATE/crates/*/out, a copy of the repository
+
+A history is 25 requests of the desk, of all commands but `page`, after those that make a small library. What each is answered is worked out by `tests/desk_rules.py`, which shares nothing
+with the definitions; that the definitions give the same answers is a lemma, which the prover computes in a copy of the crate `model`. One lemma more has a wrong answer, and has to be rejected.
+"""
+
+import datetime
+import os
+import random
+import re
+import shutil
+import subprocess
+import sys
+import tempfile
+
+from desk_rules import EPOCH, Library
+from gate_libraries import PARTS, TOP, check_of, kit, libraries
+
+HISTORIES, REQUESTS = 40, 25
+# The small library of the definitions' worked examples.
+FOUNDING = [
+    ["begin-day", "2026-03-02"], ["branch", "1", "5", "Main"], ["branch", "2", "3", "Harbour"], ["week", "1", "ooooooc"], ["week", "2", "coooooc"],
+    ["kind", "1", "5", "5", "500"], ["rule", "1", "1", "6", "1", "20", "100"], ["rule", "1", "2", "12", "1", "20", "100"],
+    ["patron", "1", "1", "cardkey00001", "Ann Bell"], ["patron", "2", "1", "cardkey00002", "Bo Carr"], ["patron", "3", "1", "cardkey00003", "Cy Dunn"],
+    ["acquire", "10", "100", "1", "1", "2500", "Rivers of the North"], ["acquire", "11", "100", "1", "1", "2500", "Rivers of the North"],
+    ["acquire", "20", "200", "1", "2", "1200", "Salt Roads"], ["acquire", "30", "300", "2", "1", "800", "Night Ferries"],
+]
+IMPORTS = """-- Random histories, and what the rules in plain Python answer.
+use Rattle.std.specs.Prelude.{◌≡◌, [], ◌∷◌, true, false, refl, Some, None}
+use Rattle.std.specs.Fmt.{digits}
+use Rattle.terms.specs.declared.command.Command.TheVariants.{BeginDay, Branch, Week, CloseDay, OpenDay, Kind, Rule, Patron, Acquire, CheckOut, CheckIn, Renew, PlaceHold, CancelHold, Unshelve, UnshelveCancelled, Missing, Withdraw, Pay, Waive}
+use Rattle.terms.specs.Texts.{reply_text, reply_words, routed_words}
+use Rattle.model.proofs.Rows.{closed_in, desk, Gives, gives, ground}
+use Rattle.std.specs.Prelude.{codes}
+"""
+
+
+def as_term(words):
+    """A command as the definitions write it: a variant, and its parts."""
+    name, parts = words[0], [f'(codes "{word}")' if not word.isdecimal() else word for word in words[1:]]
+    for at, word in enumerate(words[1:]):
+        if re.fullmatch(r"\d{4}-\d{2}-\d{2}", word):
+            parts[at] = str((datetime.date.fromisoformat(word) - EPOCH).days)
+    if name == "week":
+        parts[1] = f'(closed_in "{words[2]}")'
+    if name == "place-hold":
+        parts.append("None")
+    if name == "place-hold-from":
+        name, parts[3] = "place-hold", f"(Some {parts[3]})"
+    return " ".join(["".join(part.capitalize() for part in name.split("-")), *parts])
+
+
+class Clerk:
+    """Who makes up what is asked, with numbers that mostly mean something."""
+
+    def __init__(self, rng, library):
+        self.rng, self.library = rng, library
+
+    def one(self, *numbers):
+        return str(self.rng.choice(numbers))
+
+    def among(self, rows):
+        return str(self.rng.randint(1, max(1, len(rows))))
+
+    def day(self, *later):
+        return str(self.library.today + datetime.timedelta(self.rng.choice(later)))
+
+    def request(self):
+        one, day = self.one, self.day
+        patron, title, branch, copy = one(1, 2, 3), one(100, 100, 100, 200, 300), one(1, 1, 2), one(10, 11, 10, 11, 20, 30)
+        hold, loan, amount = self.among(self.library.holds), self.among(self.library.loans), one(10, 30, 2500)
+        often = [
+            ["check-in", copy, branch], ["check-out", patron, copy, branch], ["place-hold-from", patron, title, branch, day(0, 1, 1, 2, 3, 5)],
+            ["begin-day", day(0, 1, 1, 2, 4)], ["place-hold", patron, title, branch],
+        ]
+        seldom = [
+            ["renew", loan], ["cancel-hold", hold], ["unshelve", hold], ["unshelve-cancelled", hold], ["missing", copy], ["withdraw", copy], ["pay", patron, amount],
+            ["waive", patron, amount], ["close-day", branch, day(1, 5, 6, 7)], ["open-day", branch, day(1, 5, 6, 7)], ["kind", "1", one(2, 5), one(1, 3, 5), "500"],
+            ["rule", "1", one(1, 2), one(3, 6), one(0, 2), "20", "100"], ["week", branch, self.rng.choice(["ooooooc", "coooooc", "ooooooo", "ccccccc"])],
+            ["branch", branch, one(3, 5), "Main"], ["patron", patron, "1", "cardkey00001", "Ann Bell"], ["acquire", one(10, 12), "100", "1", "1", "2500", "Rivers of the North"],
+        ]
+        return self.rng.choice(often if self.rng.random() < 0.6 else seldom)
+
+
+def history(rng):
+    """Requests, and what they are answered."""
+    library = Library()
+    for at, words in enumerate(FOUNDING):
+        if library.handle(f"f{at}", words) != "ok":
+            sys.exit(f"definitions: {words} of the small library is refused")
+    clerk, asked = Clerk(rng, library), []
+    for at in range(REQUESTS):
+        words = clerk.request()
+        asked.append((words, library.handle(f"r{at}", words)))
+    return asked
+
+
+def lemma(name, asked):
+    commands = " ∷ ".join(as_term(words) for words, _ in asked)
+    answers = " ∷ ".join(f'"{answer}"' for _, answer in asked)
+    return f"""
+{name} : Gives ground
+    (desk ({commands} ∷ []))
+    ({answers} ∷ [])
+unfolding digits reply_text reply_words routed_words
+{name} = gives refl
+"""
+
+
+def errors_of(words, lemmas):
+    """The lemmas that a check of a copy of the crate with them rejects, and whether it came to an end."""
+    with tempfile.TemporaryDirectory(prefix="definitions-") as room:
+        for part in PARTS:
+            shutil.copytree(f"{TOP}/crates/model/{part}", f"{room}/{part}")
+        with open(f"{room}/proofs/Lib.antt", "a", encoding="utf-8") as it:
+            it.write("mod RandomHistories\n")
+        with open(f"{room}/proofs/RandomHistories.antt", "w", encoding="utf-8") as it:
+            it.write(IMPORTS + "".join(lemmas))
+        ran = subprocess.run(words, cwd=room, stdin=subprocess.DEVNULL, stdout=subprocess.PIPE, stderr=subprocess.STDOUT, encoding="utf-8", errors="replace", check=False)
+    ended = re.search(r"^logic=(?:proved|not-proved)", ran.stdout, re.M)
+    return re.findall(r"RandomHistories\.antt:\d+:\d+: error: `?(\w*)", ran.stdout), bool(ended), ran.stdout
+
+
+def main(words):
+    seed = random.randrange(1_000_000)
+    if "--seed" in words:
+        at = words.index("--seed")
+        seed = int(words[at + 1])
+        del words[at : at + 2]
+    if not words or words[0].startswith("-"):
+        sys.exit(__doc__)
+    many = int(words[1]) if len(words) > 1 else HISTORIES
+    command, missing = check_of("model", libraries(), os.path.abspath(words[0]), kit())
+    if missing:
+        sys.exit(f"definitions: the libraries {' '.join(missing)} are not there")
+    rng = random.Random(seed)
+    histories = [history(rng) for _ in range(many)]
+    wrong = [*histories[0][:-1], (histories[0][-1][0], "refused 99")]
+    lemmas = [lemma(f"history_{at}", asked) for at, asked in enumerate(histories)]
+    rejected, ended, told = errors_of(command, [*lemmas, lemma("wrong_answer", wrong)])
+    differ = [name for name in rejected if name != "wrong_answer"]
+    asked = {words[0] for its in histories for words, _ in its}
+    refused = {answer for its in histories for _, answer in its if answer.startswith("refused")}
+    if not ended or "wrong_answer" not in rejected or differ:
+        print(told[-6000:])
+    print(f"definitions: {many} histories of {REQUESTS} requests by the seed {seed}, {len(asked)} commands and {len(refused)} refusals among them: {len(differ)} differ")
+    failed = len(differ) + (not ended) + ("wrong_answer" not in rejected)
+    print(f"{many + 1 - failed} passed, {failed} failed")
+    return 1 if failed else 0
+
+
+if __name__ == "__main__":
+    sys.exit(main(sys.argv[1:]))
