@@ -22,10 +22,11 @@ use Rattle.circ_tables.proofs.InverseLemmas.{schema_told}
 use Rattle.sqlite_schema.specs.declared.schema.Index.{Index}
 use Rattle.circ_tables.specs.Reading.{Table}
 use Rattle.circ_tables.specs.Selections.{is_next}
-use Rattle.circ_tables.specs.Shape.{schema, schema_at, holds_place}
+use Rattle.circ_tables.specs.Shape.{schema, schema_at, holds_place, holds1_place}
+use Rattle.circ_tables.specs.Holds1.{holds1}
 use Rattle.circ_tables.specs.declared.by_number.TheConstants.{PAGE_ROWS}
 use Rattle.sql_maps.specs.Pages.{FirstRows}
-use Rattle.store.specs.Migrating.{Route, IsRoute, HasTables1, IsLibrary1, IsNewest, LeadsOn, move_one, move_all, all_over}
+use Rattle.store.specs.Migrating.{Route, IsRoute, HasTables1, HasLegalAt, IsLibrary1, IsNewest, LeadsLegal, LeadsOn, move_one, move_all, all_over}
 use Rattle.store.specs.Library.{HasTables}
 use Rattle.store.specs.Schemas.{IsKnown}
 use Rattle.store.proofs.OpenLemmas.{of_known, picture_names}
@@ -170,18 +171,28 @@ grows old new moves P shown is = record {
   };
 }
 
--- What an answer says of each picture, from what it says where there is one.
-pub on_ok_each : {A E : Type 0} {Ready : Picture → Type 0} (Is : Picture → Type 0) (r : Result A E) → ((P : Picture) → Ready P → OnOk r (Is P)) → OnOk r ((P : Picture) → Ready P → Is P)
+-- The rows of the holds lay within their limits before.
+pub legal_before : (a b : State) → Moves (schema_at 1) (schema_at 2) a b → HasLegalAt SCHEMA holds1 b.now → HasLegalAt 1 holds1 a.now
+legal_before a b moves legal maps holds =
+    subst (λ m. AreEncoded holds1.cells holds1.IsLegal m) (sym (cut_same 13 maps holds1_place (omega arith))) (legal (cut 13 maps) (moves.maps (cut 13 maps) (cut_free 13 maps) (cut_holds a.now maps holds)))
+
+-- What an answer says of each picture, or of all maps, from what it says where there is one.
+pub on_ok_each : {A E X : Type 0} {Ready : X → Type 0} (Is : X → Type 0) (r : Result A E) → ((x : X) → Ready x → OnOk r (Is x)) → OnOk r ((x : X) → Ready x → Is x)
 on_ok_each Is (Ok a) each = each
 on_ok_each Is (Err e) each = tt
 
-pub on_err_each : {A E : Type 0} {Ready : Picture → Type 0} (Is : Picture → Type 0) (r : Result A E) → ((P : Picture) → Ready P → OnErr r (Is P)) → OnErr r ((P : Picture) → Ready P → Is P)
+pub on_err_each : {A E X : Type 0} {Ready : X → Type 0} (Is : X → Type 0) (r : Result A E) → ((x : X) → Ready x → OnErr r (Is x)) → OnErr r ((x : X) → Ready x → Is x)
 on_err_each Is (Ok a) each = tt
 on_err_each Is (Err e) each = each
 
-pub both_ways : {A E : Type 0} (a b : Database) (r : Result A E) → OnOk r ((P : Picture) → IsLibrary1 a P → HasPicture b (led_to_2 P)) → OnOk r ((P : Picture) → IsNewest a P → HasPicture b P) → OnOk r (LeadsOn a b)
-both_ways a b (Ok x) one newest = record { from_1 = one; newest = newest }
-both_ways a b (Err e) one newest = tt
+-- What holds whatever the answer.
+pub on_any : {A E X : Type 0} (r : Result A E) → X → OnOk r X
+on_any (Ok a) x = x
+on_any (Err e) x = tt
+
+pub both_ways : {A E : Type 0} (a b : Database) (r : Result A E) → OnOk r (LeadsLegal a b) → OnOk r ((P : Picture) → IsLibrary1 a P → HasPicture b (led_to_2 P)) → OnOk r ((P : Picture) → IsNewest a P → HasPicture b P) → OnOk r (LeadsOn a b)
+both_ways a b (Ok x) legal one newest = record { legal = legal; from_1 = one; newest = newest }
+both_ways a b (Err e) legal one newest = tt
 
 -- ---- the number of the schema, asked inside the transaction
 
@@ -202,8 +213,11 @@ module _ (a b : State) (n : ℕ) (named : (more : List SqlTable) (others : List 
   pub told_newest : (P : Picture) → IsNewest a.now P → SCHEMA ≡ n
   told_newest P is = sym is.1 ∙ (told_of SCHEMA newest_known P is.0).0
 
+  pub named_1 : (maps : Maps) → Holds (schema_at 1) a.now maps → NamesSchema maps n × IsUnchanged a b
+  named_1 maps holds = of_known (λ maps. NamesSchema maps n × IsUnchanged a b) a.now named 1 first_known maps holds
+
   pub unchanged_1 : HasTables1 a.now → IsUnchanged a b
-  unchanged_1 there = (of_known (λ maps. NamesSchema maps n × IsUnchanged a b) a.now named 1 first_known there.0 there.1).1
+  unchanged_1 there = (named_1 there.0 there.1).1
 
 -- It can be told.
 pub can_be_told : (db : Database) → ((more : List SqlTable) (others : List Index) (maps : Maps) → Holds (grown more others) db maps → (n : ℕ) → n < 2 ^ 32 → ¬ NamesSchema maps n) → (m : ℕ) → IsKnown m → (P : Picture) → HasPictureAt m db P
