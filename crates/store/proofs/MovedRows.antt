@@ -2,6 +2,7 @@
 use Rattle.std.proofs.Common.{◌≡◌, ℕ, ◌+◌, ◌-◌, ◌⊎◌, ◌==◌, inl, inr, Bool, true, false, cond, List, [], ◌∷◌, length, map, refl, sym, ◌∙◌, ap, subst}
 use Rattle.std.specs.Prelude.{Option, Some, None, option_map, slice_get}
 use Rattle.std.specs.List.{All}
+use Rattle.std.proofs.Math.Path.{fun_ext}
 use Rattle.std.proofs.lemmas.Bool.{cases_Bool, eq-eqb}
 use Rattle.std.proofs.lemmas.List.Elements.{All-contains}
 use Rattle.sqlite.specs.Effect.{Database}
@@ -19,20 +20,20 @@ use Rattle.circ_tables.specs.Reading.{Table}
 use Rattle.circ_tables.specs.Selections.{is_next}
 use Rattle.circ_tables.specs.Shape.{schema}
 use Rattle.circ_tables.specs.declared.by_number.TheConstants.{PAGE_ROWS}
-use Rattle.store.specs.Legal.{HasLegal}
-use Rattle.store.specs.Migrating.{Route, IsRoute, move_row, move_rows}
+use Rattle.store.specs.Migrating.{Route, IsRoute, AreMoved, move_row, move_rows}
 use Rattle.store.proofs.MetRows.{AreMetSoFar, IsMapPage, none_met, key_is, all_met, next_met}
 
--- Each row that the table had is there still, or is that of a row within its limits; and of those that are there the same is known as where they are only read.
-pub record AreMovedSoFar {R : Type 0} (t : Table ℕ R) (after : Option ℕ) (pages : ℕ) (was : Maps) (db : Database) : Type 0 where
+-- Each row that the table had is there still, or is that of a row within its limits; of those that are there the same is known as where they are only read; and all but the two tables stand as they stood.
+pub record AreMovedSoFar {R N : Type 0} (t : Table ℕ R) (to : Table ℕ N) (after : Option ℕ) (pages : ℕ) (was : Maps) (db : Database) : Type 0 where
   pub maps : Maps
   pub holds : Holds schema db maps
   pub met : AreMetSoFar t after pages maps
   pub moved : (k v : Row) → was t.place k ≡ Some v → (maps t.place k ≡ Some v) ⊎ ((r : R) × t.IsLegal r × (v ≡ t.cells r))
+  pub others : (at : ℕ) → (at == t.place) ≡ false → (at == to.place) ≡ false → maps at ≡ was at
 
 -- Nothing was moved yet.
-pub none_moved : {R : Type 0} (t : Table ℕ R) (was : Maps) (db : Database) → Holds schema db was → AreMovedSoFar t None 0 was db
-none_moved t was db holds = record { maps = was; holds = holds; met = none_met t was; moved = λ k v e. inl e }
+pub none_moved : {R N : Type 0} (t : Table ℕ R) (to : Table ℕ N) (was : Maps) (db : Database) → Holds schema db was → AreMovedSoFar t to None 0 was db
+none_moved t to was db holds = record { maps = was; holds = holds; met = none_met t was; moved = λ k v e. inl e; others = λ at aside apart. refl }
 
 -- A page of the rows that are there.
 pub page_moved : {R : Type 0} {t : Table ℕ R} {number_of : R → ℕ} (table : IsNumberTable t number_of) (after : Option ℕ) (page : List R) → All t.IsLegal page → (a b : State) (maps : Maps) → Holds schema a.now maps
@@ -53,6 +54,18 @@ module _ {R N : Type 0} {old : Table ℕ R} {new : Table ℕ N} {number_of : R �
       let with_it = put (maps new.place) (new.key (new_number it)) (new.cells it) k in
       ap (λ b. cond b (cond (same_key k (old.key (number_of r))) None (cond (old.place == new.place) with_it (maps old.place k))) (cond (old.place == new.place) with_it (maps old.place k))) (eq-eqb old.place old.place refl)
       ∙ ap (λ b. cond (same_key k (old.key (number_of r))) None (cond b with_it (maps old.place k))) over.apart
+
+  -- Another table.
+  beside_row : (r : R) (maps : Maps) (at : ℕ) → (at == old.place) ≡ false → (at == new.place) ≡ false → row_moved r maps at ≡ maps at
+  beside_row r maps at aside apart = fun_ext (λ k.
+      let it = route.carried r in
+      let with_it = put (maps new.place) (new.key (new_number it)) (new.cells it) k in
+      let put_in = cond (at == new.place) with_it (maps at k) in
+      ap (λ b. cond b (cond (same_key k (old.key (number_of r))) None (cond (old.place == new.place) with_it (maps old.place k))) put_in) aside ∙ ap (λ b. cond b with_it (maps at k)) apart)
+
+  beside_rows : (page : List R) (maps : Maps) (at : ℕ) → (at == old.place) ≡ false → (at == new.place) ≡ false → rows_moved page maps at ≡ maps at
+  beside_rows [] maps at aside apart = refl
+  beside_rows (r ∷ more) maps at aside apart = beside_rows more (row_moved r maps) at aside apart ∙ beside_row r maps at aside apart
 
   -- A row that is there was there before.
   row_was : (r : R) (maps : Maps) (k v : Row) → row_moved r maps old.place k ≡ Some v → maps old.place k ≡ Some v
@@ -91,10 +104,15 @@ module _ {R N : Type 0} {old : Table ℕ R} {new : Table ℕ N} {number_of : R �
         let cell = sym (table.texts.key_cell it.0) ∙ ap (λ v. column v 0) it.3 ∙ table.first_cell r in
         sym it.2 ∙ ap (map (column it.0)) table.texts.primary ∙ ap (λ w. w ∷ []) cell ∙ sym (table.keyed (number_of r))
 
-    module _ (after : Option ℕ) (pages : ℕ) (was : Maps) (db : Database) (so_far : AreMovedSoFar old after pages was db) (page : List R) (is : IsMapPage old after page so_far.maps) where
+    module _ (after : Option ℕ) (pages : ℕ) (was : Maps) (db : Database) (so_far : AreMovedSoFar old new after pages was db) (page : List R) (is : IsMapPage old after page so_far.maps) where
       -- A page that is empty is the last: all rows that there were lay within their limits.
-      pub all_legal : length page ≡ 0 → HasLegal old was
-      all_legal none k v e = elim (so_far.moved k v e) [ inr legal ↦ legal | inl there ↦ all_met table so_far.maps after pages so_far.met page is none k v there ]
+      pub all_rows_moved : length page ≡ 0 → (next : Database) → next ≡ db → AreMoved old new was next
+      all_rows_moved none next same = record {
+        legal = λ k v e. elim (so_far.moved k v e) [ inr legal ↦ legal | inl there ↦ all_met table so_far.maps after pages so_far.met page is none k v there ];
+        now = so_far.maps;
+        there = subst (λ d. Holds schema d so_far.maps) (sym same) so_far.holds;
+        others = so_far.others;
+      }
 
       -- A row under the number of one of the page is that one.
       on_page : (r : R) → Has page r → (k v : Row) → so_far.maps old.place k ≡ Some v → k ≡ old.key (number_of r) → (s : R) × old.IsLegal s × (v ≡ old.cells s)
@@ -105,7 +123,7 @@ module _ {R N : Type 0} {old : Table ℕ R} {new : Table ℕ N} {number_of : R �
           (r, All-contains old.IsLegal page r is.limits (contains_had page r has), let same : v ≡ old.cells r = cc in same)
 
       -- One page more.
-      pub next_moved : (last : ℕ) → option_map number_of (slice_get page (length page - 1)) ≡ Some last → (a b : State) → a.now ≡ db → Steps schema a b (rows_moved page) → AreMovedSoFar old (Some last) (pages + 1) was b.now
+      pub next_moved : (last : ℕ) → option_map number_of (slice_get page (length page - 1)) ≡ Some last → (a b : State) → a.now ≡ db → Steps schema a b (rows_moved page) → AreMovedSoFar old new (Some last) (pages + 1) was b.now
       next_moved last end a b same steps =
           let met = next_met table so_far.maps after pages so_far.met page is last end in
           record {
@@ -119,4 +137,5 @@ module _ {R N : Type 0} {old : Table ℕ R} {new : Table ℕ N} {number_of : R �
                 | inr it ↦ inr (on_page it.0 it.1 k v there it.2)
               ]
             ];
+            others = λ at aside apart. beside_rows page so_far.maps at aside apart ∙ so_far.others at aside apart;
           }

@@ -7,7 +7,7 @@ use Rattle.sqlite.specs.Store.{Ghosts}
 use Rattle.sqlite.specs.Tree.{Trees}
 use Rattle.sqlite.specs.declared.transaction.Transaction.{Transaction}
 use Rattle.sql_maps.specs.Maps.{Maps, Holds, put_at, take_at}
-use Rattle.terms.specs.Limits.{InLimits}
+use Rattle.terms.specs.Limits.{InLimits, IsMeta}
 use Rattle.terms.specs.Pictures.{Picture, put}
 use Rattle.terms.specs.Schemas.{IsOfSchema1, carried, led_to_2}
 use Rattle.terms.specs.declared.fault.Fault.{Fault}
@@ -15,13 +15,15 @@ use Rattle.terms.specs.declared.fault.Fault.TheVariants.{Database as Refused, St
 use Rattle.terms.specs.declared.limits.TheConstants.{SCHEMA}
 use Rattle.terms.specs.declared.row.HoldRow.{HoldRow}
 use Rattle.terms.specs.declared.row.HoldRow1.{HoldRow1}
-use Rattle.circ_tables.specs.Encoding.{HasPicture, HasPictureAt}
+use Rattle.terms.specs.declared.row.MetaRow.{MetaRow}
+use Rattle.circ_tables.specs.Cells.{number_key, meta_cells}
+use Rattle.circ_tables.specs.Encoding.{HasPicture, HasPictureAt, AreEncoded}
 use Rattle.circ_tables.specs.Holds.{holds}
 use Rattle.circ_tables.specs.Holds1.{holds1}
 use Rattle.circ_tables.specs.Puts.{ChangesRows}
 use Rattle.circ_tables.specs.Reading.{Table}
 use Rattle.circ_tables.specs.SchemaNumber.{NamesSchema}
-use Rattle.circ_tables.specs.Shape.{schema_at}
+use Rattle.circ_tables.specs.Shape.{schema, schema_at, meta_place, holds1_place, holds_place}
 use Rattle.store.specs.Commit.{Brings, HasDone}
 use Rattle.store.specs.Legal.{HasLegal}
 use Rattle.store.specs.Library.{HasTables, IsAsItWas}
@@ -98,8 +100,8 @@ module _ {R N : Type 0} (old : Table ℕ R) (new : Table ℕ N) (number_of : R �
   abbrev pub MovesPage : {S T : Type 0} → List R → Ghosts S → Transaction S → Transaction S → Result T Fault → Type 0
   MovesPage page = ChangesRows (move_rows page) (Unit {0}) (move_all page)
 
--- A library is led on in the transaction. Where its tables are there nothing is committed, and after an answer the transaction goes on, over the tables of the newest schema; an answer comes only of rows that are legal, whatever the tables show. Where they show a picture that is ready for it they show the other afterwards, and then no fault of a stored row comes.
-pub record LeadsInside {S T : Type 0} (AreThere AreLegal : Database → Type 0) (IsReady : Database → Picture → Type 0) (change : Picture → Picture)
+-- A library is led on in the transaction. Where its tables are there nothing is committed, and after an answer the transaction goes on, over the tables of the newest schema; what an answer says of their maps is so whatever they show. Where they show a picture that is ready for it they show the other afterwards, and then no fault of a stored row comes.
+pub record LeadsInside {S T : Type 0} (AreThere : Database → Type 0) (AreLed : Database → Database → Type 0) (IsReady : Database → Picture → Type 0) (change : Picture → Picture)
     (g : Ghosts S) (old new : Transaction S) (result : Result T Fault) : Type 0 where
   pub same_reference : new.conn.ghost_name ≡ old.conn.ghost_name
   pub survives : Survives (state g old.conn.now) (state g new.conn.now) (λ _. ⊥)
@@ -107,7 +109,8 @@ pub record LeadsInside {S T : Type 0} (AreThere AreLegal : Database → Type 0) 
       → AreThere (state g old.conn.now).now → KeepsCommit (state g old.conn.now) (state g new.conn.now)
   pub inside : HasCleanDisk (state g new.conn.now) → IsTrue (state g old.conn.now).in_transaction
       → AreThere (state g old.conn.now).now → OnOk result (IsTrue (state g new.conn.now).in_transaction × HasTables (state g new.conn.now).now)
-  pub legal : HasCleanDisk (state g new.conn.now) → IsTrue (state g old.conn.now).in_transaction → OnOk result (AreLegal (state g old.conn.now).now)
+  pub rows : HasCleanDisk (state g new.conn.now) → IsTrue (state g old.conn.now).in_transaction
+      → OnOk result (AreLed (state g old.conn.now).now (state g new.conn.now).now)
   pub leads : HasCleanDisk (state g new.conn.now) → IsTrue (state g old.conn.now).in_transaction
       → OnOk result ((P : Picture) → IsReady (state g old.conn.now).now P → HasPicture (state g new.conn.now).now (change P))
   pub sound : HasCleanDisk (state g new.conn.now) → IsTrue (state g old.conn.now).in_transaction → result ≡ Err Stored
@@ -117,9 +120,15 @@ pub record LeadsInside {S T : Type 0} (AreThere AreLegal : Database → Type 0) 
 abbrev pub IsToCarry : {N : Type 0} → Table ℕ N → Database → Picture → Type 0
 IsToCarry new db P = HasPicture db P × InLimits P × ((k : ℕ) → new.rows P k ≡ None)
 
--- Every row of this one of the tables of a schema is that of a row within its limits.
-abbrev pub HasLegalAt : {K R : Type 0} → ℕ → Table K R → Database → Type 0
-HasLegalAt n t db = (maps : Maps) → Holds (schema_at n) db maps → HasLegal t maps
+-- The maps of a database that held these: every row of the old table was that of a row within its limits, and all but the two tables stand as they stood.
+pub record AreMoved {R N : Type 0} (old : Table ℕ R) (new : Table ℕ N) (maps : Maps) (after : Database) : Type 0 where
+  pub legal : HasLegal old maps
+  pub now : Maps
+  pub there : Holds schema after now
+  pub others : (at : ℕ) → (at == old.place) ≡ false → (at == new.place) ≡ false → now at ≡ maps at
+
+abbrev pub MovesRows : {R N : Type 0} → Table ℕ R → Table ℕ N → Database → Database → Type 0
+MovesRows old new before after = (maps : Maps) → Holds schema before maps → AreMoved old new maps after
 
 -- All rows stand in the new table, and none in the old one.
 abbrev pub all_over : {R N : Type 0} → Table ℕ R → Route R N → Picture → Picture
@@ -139,14 +148,31 @@ IsNewest db P = HasPicture db P × (P.meta.schema ≡ SCHEMA)
 abbrev pub HasTables1 : Database → Type 0
 HasTables1 db = (maps : Maps) × Holds (schema_at 1) db maps
 
--- Of tables of schema 1, whatever they show: `meta` names schema 1 and every row of the holds is that of a row within its limits; or `meta` names the newest, and the database is the same.
+-- The maps of tables of schema 1 were led to those of a database of the newest, whatever they show: the row of `meta` and every row of the holds lay within their limits, and each other table stands as it stood.
+pub record AreLedOn (maps : Maps) (new : Database) : Type 0 where
+  pub meta : (r : MetaRow) × IsMeta r × (maps meta_place (number_key 1) ≡ Some (meta_cells r))
+  pub holds : HasLegal holds1 maps
+  pub now : Maps
+  pub there : Holds schema new now
+  pub others : (at : ℕ) → at < holds_place → (at == meta_place) ≡ false → (at == holds1_place) ≡ false → now at ≡ maps at
+
+abbrev pub LeadsRows : Database → Database → Type 0
+LeadsRows old new = (maps : Maps) → Holds (schema_at 1) old maps → AreLedOn maps new
+
+-- No row that a step carries over or changes is damaged: none of `meta`, which names schema 1, and none of the holds.
+pub record CanBeLed (maps : Maps) : Type 0 where
+  pub named : NamesSchema maps 1
+  pub meta : AreEncoded meta_cells IsMeta (maps meta_place)
+  pub holds : HasLegal holds1 maps
+
+-- Tables of schema 1 are led on, whatever they show, only where none of these rows is damaged; or `meta` names the newest schema, and the database is the same.
 abbrev pub LeadsLegal : Database → Database → Type 0
 LeadsLegal old new = (maps : Maps) → Holds (schema_at 1) old maps
-    → (NamesSchema maps 1 × HasLegal holds1 maps) ⊎ (NamesSchema maps SCHEMA × (new ≡ old))
+    → (CanBeLed maps × AreLedOn maps new) ⊎ (NamesSchema maps SCHEMA × (new ≡ old))
 
--- A row of the holds of schema 1 is not that of a row within its limits.
-abbrev pub HasDamagedHold : Database → Type 0
-HasDamagedHold db = (maps : Maps) × Holds (schema_at 1) db maps × ¬ HasLegal holds1 maps
+-- One of these rows is damaged, or `meta` names another schema.
+abbrev pub CannotBeLed : Database → Type 0
+CannotBeLed db = (maps : Maps) × Holds (schema_at 1) db maps × ¬ CanBeLed maps
 
 -- Where the one shows a library of schema 1, the other shows what it is led to; and one of the newest schema is shown still. No damaged row is passed over.
 pub record LeadsOn (old new : Database) : Type 0 where
@@ -209,7 +235,7 @@ pub record Migrates {S T : Type 0} (g : Ghosts S) (old new : Held S) (result : R
       → Leaves (state g new) (λ db. HasPictureAt 1 db P ⊎ HasPicture db (led_to_2 P))
   pub stop_same : HasCleanDisk (state g new) → (P : Picture) → KeepsPicture (state g old) P → P.meta.schema ≡ SCHEMA
       → Leaves (state g new) (λ db. HasPicture db P)
-  pub stop_damaged : HasCleanDisk (state g new) → HasDamagedHold (state g old).now
+  pub stop_damaged : HasCleanDisk (state g new) → CannotBeLed (state g old).now
       → Leaves (state g old) (λ db. db ≡ (state g old).now) → Leaves (state g new) (λ db. db ≡ (state g old).now)
   pub sound : HasCleanDisk (state g new) → result ≡ Err Stored → (P : Picture)
       → ¬ (IsLibrary1 (state g old).now P ⊎ IsNewest (state g old).now P)

@@ -2,11 +2,9 @@
 
 ghost use Rattle.std.specs.Prelude.{◌≡◌, false};
 ghost use Rattle.terms.specs.Schemas.{led_to_2};
-ghost use Rattle.terms.specs.declared.limits.TheConstants.{SCHEMA};
-ghost use Rattle.circ_tables.specs.Holds1.{holds1};
 ghost use Rattle.store.specs.Library.{HasTables};
 ghost use Rattle.store.specs.Migrating.{Route, IsRoute, holds_route, holds_carried, MovesPage};
-ghost use Rattle.store.specs.Migrating.{LeadsInside, HasLegalAt, IsToCarry, all_over, HasTables1};
+ghost use Rattle.store.specs.Migrating.{LeadsInside, MovesRows, LeadsRows, IsToCarry, all_over, HasTables1};
 ghost use Rattle.store.specs.Migrating.{IsLibrary1, LeadsOnInside, StepsOn, TellsSchema};
 
 use crate::pages::last_of;
@@ -81,8 +79,8 @@ fn carry_all<R: Carried, S: Alter>(
     alloc: Global,
     memory: R::Memory,
 ) -> Result<(), Fault>
-    ensures { LeadsInside HasTables (HasLegalAt SCHEMA R.table) (IsToCarry R.Next.Row.table)
-        (all_over R.table R.route) S.Store tx.old tx.new result }
+    ensures { LeadsInside HasTables (MovesRows R.table R.Next.Row.table)
+        (IsToCarry R.Next.Row.table) (all_over R.table R.route) S.Store tx.old tx.new result }
 {
     let mut after = None;
     'pages: for _page in 0..u64::MAX {
@@ -98,8 +96,7 @@ fn carry_all<R: Carried, S: Alter>(
 
 /// Leads the tables of schema 1 to those of schema 2, which has holds with a first day. 90, 91, 93.
 fn lead_to_2<S: Alter>(tx: &mut Transaction<'_, S>, alloc: Global) -> Result<(), Fault>
-    ensures { LeadsInside HasTables1 (HasLegalAt 1 holds1) IsLibrary1 led_to_2
-        S.Store tx.old tx.new result }
+    ensures { LeadsInside HasTables1 LeadsRows IsLibrary1 led_to_2 S.Store tx.old tx.new result }
 {
     make_second(tx)?;
     carry_all::<HoldRow1, S>(tx, alloc, ())?;

@@ -5,7 +5,7 @@ use Rattle.terms.specs.Pictures.{Picture}
 use Rattle.circ_tables.specs.Encoding.{HasPicture}
 use Rattle.sql_maps.proofs.CallLemmas.{same_keeps}
 use Rattle.store.proofs.MigrateLemmas.{over_to, over_none, over_all, over_next, read_there, read_page, read_sound}
-use Rattle.store.proofs.MovedRows.{none_moved, page_moved, all_legal, next_moved}
+use Rattle.store.proofs.MovedRows.{none_moved, page_moved, all_rows_moved, next_moved}
 use Rattle.store.proofs.PageLemmas.{numbered}
 use Rattle.store.proofs.PagedRows.{empty_if}
 use Rattle.store.proofs.Steps.{then, keeps_then, same_survives}
@@ -15,7 +15,7 @@ pub pages-init : goal.pages-init
 pages-init g c = record {
   same_reference = refl;
   survives = same_survives (state g.S.Store c.args.tx.now.conn.now);
-  there = λ clean begun there. (same_keeps (state g.S.Store c.args.tx.now.conn.now), begun, none_moved g.R.Table.table there.0 _ there.1);
+  there = λ clean begun there. (same_keeps (state g.S.Store c.args.tx.now.conn.now), begun, none_moved g.R.Table.table g.R.Next.Row.Table.table there.0 _ there.1);
   carried = λ clean begun P it.
       subst (HasPicture (state g.S.Store c.args.tx.now.conn.now).now) (sym (over_none g.met.R.Carried.over P (numbered g.met.R.Numbered.sound P it.1) it.2)) it.0;
   low = omega arith;
@@ -31,7 +31,7 @@ returns-in_err-page g c =
       survives = then _ _ _ so_far.survives read.works.survives;
       kept = λ clean begun there. let it = so_far.there (was clean) begun there in keeps_then _ _ _ it.0 (read.works.kept clean it.1);
       inside = search rules;
-      legal = search rules;
+      rows = search rules;
       leads = search rules;
       sound = λ clean begun told P ready.
           read_sound g.met.R.Carried.over g.met.R.Numbered.sound (unwrap_or c.pages.after 0) P ready.1 (so_far.carried (was clean) begun P ready) (read.stored clean (search rules));
@@ -50,9 +50,10 @@ returns-in-None g c =
       survives = then _ _ _ so_far.survives read.works.survives;
       kept = λ clean begun there. let it = so_far.there (was clean) begun there in keeps_then _ _ _ it.0 (read.works.kept clean it.1);
       inside = λ clean begun there. let it = so_far.there (was clean) begun there in read_there _ _ it.1 (it.2.maps, it.2.holds) (read.lists clean);
-      legal = λ clean begun maps holds.
+      rows = λ clean begun maps holds.
           let it = (so_far.there (was clean) begun (maps, holds)).2 in
-          all_legal g.met.R.Carried.over g.met.R.Numbered.sound c.pages.after c.pages._page maps _ it page (page_moved g.met.R.Numbered.sound c.pages.after page read.limits _ _ it.maps it.holds (read.lists clean)) empty;
+          all_rows_moved g.met.R.Carried.over g.met.R.Numbered.sound c.pages.after c.pages._page maps _ it page (page_moved g.met.R.Numbered.sound c.pages.after page read.limits _ _ it.maps it.holds (read.lists clean))
+          empty _ (read.lists clean it.maps it.holds).1.0.now_is;
       leads = λ clean begun P ready.
           let after = unwrap_or c.pages.after 0 in
           let seen = read_page g.met.R.Carried.over g.met.R.Numbered.sound c.pages.after P ready.1 page read.limits _ _ (so_far.carried (was clean) begun P ready) (read.lists clean) in
@@ -74,7 +75,7 @@ returns-in_err-carry_page g c =
           let it = so_far.there (was (late clean)) begun there in
           keeps_then _ _ _ (keeps_then _ _ _ it.0 (read.works.kept (late clean) it.1)) (carries.works.kept clean);
       inside = search rules;
-      legal = search rules;
+      rows = search rules;
       leads = search rules;
       sound = search rules;
     }
@@ -122,7 +123,7 @@ returns g c =
       survives = so_far.survives;
       kept = λ clean begun there. (so_far.there clean begun there).0;
       inside = λ clean begun there. let it = so_far.there clean begun there in (it.1, (it.2.maps, it.2.holds));
-      legal = λ clean begun maps holds. let few : c.pages._page ≤ unwrap_or c.pages.after 0 = (so_far.there clean begun (maps, holds)).2.met.few in absurd (omega (arith, few, low, past));
+      rows = λ clean begun maps holds. let few : c.pages._page ≤ unwrap_or c.pages.after 0 = (so_far.there clean begun (maps, holds)).2.met.few in absurd (omega (arith, few, low, past));
       leads = λ clean begun P ready. let few : c.pages._page ≤ unwrap_or c.pages.after 0 = (so_far.there clean begun (ready.0.maps, ready.0.holds)).2.met.few in absurd (omega (arith, few, low, past));
       sound = search rules;
     }
