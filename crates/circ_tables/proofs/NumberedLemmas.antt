@@ -1,5 +1,5 @@
 -- What follows of a table that is keyed by one number, whichever it is.
-use Rattle.std.proofs.Common.{arith, negsuc, min, Ok, ◌≤◌, ◌<◌, ◌≡◌, inl, inr, ℕ, ℤ, pos, Bool, true, false, not, ◌==◌, ◌&&◌, ◌||◌, zero, suc, ◌≢◌, ◌+◌, length, cond, List, [], ◌∷◌, ◌++◌, map, Option, Some, None, Result, refl, sym, ap, subst, ◌∙◌, true≢false}
+use Rattle.std.proofs.Common.{arith, negsuc, min, Ok, ◌≤◌, ◌<◌, ◌≡◌, inl, inr, ℕ, pos, Bool, true, false, not, ◌==◌, ◌&&◌, ◌||◌, zero, suc, ◌≢◌, ◌+◌, length, cond, List, [], ◌∷◌, ◌++◌, map, Option, Some, None, Result, refl, sym, ap, subst, ◌∙◌, true≢false}
 use Rattle.std.specs.Prelude.{bytes_eq, option_map}
 use Rattle.std.specs.List.{list_all, list_any, flat_map, filter_map}
 use Rattle.std.proofs.lemmas.Bool.{cases_Bool, and_parts}
@@ -45,7 +45,7 @@ use Rattle.circ_tables.specs.Puts.{Runs, PutsRow, TakesRow}
 use Rattle.circ_tables.specs.Reading.{Table, FirstEntry, AllEntries, EntriesInside, CountShown, Gets, Selects, Counts, Lists, ListsInside}
 use Rattle.circ_tables.specs.Selections.{is_any, is_next}
 use Rattle.circ_tables.specs.Shape.{schema}
-use Rattle.circ_tables.specs.Texts.{names_of, put_text, take_text, get_text, all_text, first_text, page_text}
+use Rattle.circ_tables.specs.Texts.{names_of, put_text, take_text, get_text, all_text}
 use Rattle.circ_tables.specs.declared.by_number.TheConstants.{PAGE_ROWS}
 use Rattle.circ_tables.proofs.EncodingLemmas.{put_encoded, take_encoded, number_same}
 use Rattle.circ_tables.proofs.InverseLemmas.{told}

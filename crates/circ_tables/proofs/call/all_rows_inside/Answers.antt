@@ -1,5 +1,4 @@
 use Rattle.std.proofs.Common.{rules}
-use Rattle.sqlite.specs.Held.{state}
 use Rattle.circ_tables.proofs.QueryLemmas.{query_works}
 use Rattle.circ_tables.proofs.call.all_rows_inside.Goals as goal
 
