@@ -32,6 +32,7 @@ module _ {S T : Type 0} (g : Ghosts S) (old new : Held S) where
     exit_is = refl;
     led = λ disk H shows. record { legal = (stands-still H shows.legal).legal; forms = shows.forms; tables = subst (λ P. KeepsPicture (state g new) P) (led H (are-of-schema-1 H shows.legal)) (it.led disk (picture1 H) (is-library (state g old) H shows)) };
     same = λ disk H shows. record { legal = shows.legal; forms = shows.forms; tables = it.same disk (picture H) (shows.tables.now, refl) };
+    legal = it.legal;
   })
 
   abbrev failed : Fault → Result T Fault

@@ -2,7 +2,7 @@
 use Rattle.std.specs.Prelude.{◌≡◌, ◌⊎◌, ℕ, List, Option, Result, IfOk, OnErr}
 use Rattle.std.specs.Io.KnownBytes.{Appends}
 use Rattle.store.specs.Library.{Ghosts, Held, State, state, IsClean, IsOpen, IsAsItWas}
-use Rattle.store.specs.Migrating.{HasTables1}
+use Rattle.store.specs.Migrating.{HasTables1, LeadsLegal, CannotBeLed}
 use Rattle.store.specs.Stops.{Leaves, KeepsPictureAt, LeavesPicture}
 use Rattle.circ_tables.specs.Encoding.{HasPicture, HasPictureAt}
 use Rattle.terms.specs.Writing.{AppendsFront}
@@ -34,13 +34,15 @@ abbrev pub LeavesOneSchema : State → History → Type 0
 LeavesOneSchema s H = Leaves s (λ db. HasPictureAt 1 db (picture1 H) ⊎ HasPicture db (picture H))
 
 -- The line is the newest schema. A library of schema 1 shows the same list of accepted requests in
--- it now, and one that was of the newest shows what it showed.
+-- it now, and one that was of the newest shows what it showed. Whatever tables of schema 1 showed,
+-- none of their rows that are carried over or changed was damaged.
 pub record SaysLed {S : Type 0} (g : Ghosts S) (old new : Held S) (line : List ℕ)
     (exit : Exit) : Type 0 where
   pub line_is : line ≡ schema_line
   pub exit_is : exit ≡ Done
   pub led : IsClean g new → (H : History) → ShowsAt1 (state g old) H → Shows (state g new) H
   pub same : IsClean g new → Stays (state g old) (state g new)
+  pub legal : IsClean g new → LeadsLegal (state g old).now (state g new).now
 
 -- The line is a fault, which is not 93 where the tables showed a list of accepted requests. They
 -- show what they showed, as long as the database is open.
@@ -73,6 +75,10 @@ pub record SaysMigration {S E : Type 0} (g : Ghosts S) (old new : Held S)
       → LeavesOneSchema (state g new) H
   pub left_same : IsClean g new → (H : History) → Shows (state g old) H
       → LeavesPicture (state g new) (picture H)
+  -- and tables of schema 1 of which such a row is damaged are left as they were
+  pub left_damaged : IsClean g new → CannotBeLed (state g old).now
+      → Leaves (state g old) (λ db. db ≡ (state g old).now)
+      → Leaves (state g new) (λ db. db ≡ (state g old).now)
   -- where a write failed, a beginning of the line went out
   pub cut : OnErr result
       ((line : List ℕ) × (exit : Exit) × SaysOneOf g old new line exit

@@ -1,5 +1,5 @@
 -- What follows of a table that is keyed by one number, whichever it is.
-use Rattle.std.proofs.Common.{arith, negsuc, min, Ok, ◌≤◌, ◌<◌, ◌≡◌, inl, inr, ℕ, ℤ, pos, Bool, true, false, not, ◌==◌, ◌&&◌, ◌||◌, zero, suc, ◌≢◌, ◌+◌, length, cond, List, [], ◌∷◌, ◌++◌, map, Option, Some, None, Result, refl, sym, ap, subst, ◌∙◌, true≢false}
+use Rattle.std.proofs.Common.{arith, negsuc, min, Ok, ◌≤◌, ◌<◌, ◌≡◌, inl, inr, ℕ, pos, Bool, true, false, not, ◌==◌, ◌&&◌, ◌||◌, zero, suc, ◌≢◌, ◌+◌, length, cond, List, [], ◌∷◌, ◌++◌, map, Option, Some, None, Result, refl, sym, ap, subst, ◌∙◌, true≢false}
 use Rattle.std.specs.Prelude.{bytes_eq, option_map}
 use Rattle.std.specs.List.{list_all, list_any, flat_map, filter_map}
 use Rattle.std.proofs.lemmas.Bool.{cases_Bool, and_parts}
@@ -40,12 +40,12 @@ use Rattle.terms.specs.Pictures.{Picture, put as put_in}
 use Rattle.terms.specs.declared.fault.Fault.{Fault}
 use Rattle.circ_tables.specs.Cells.{number_key}
 use Rattle.circ_tables.specs.Encoding.{Any, IsEncoded, Draws, Encodes, with_map}
-use Rattle.circ_tables.specs.Numbered.{IsNumbered, IsNumberTable, IsRead, page_of, count_of, by_key, from_key, by_number, put_terms, put_shows}
+use Rattle.circ_tables.specs.Numbered.{IsNumbered, IsNumberTable, IsRead, page_of, count_of, by_key, from_key, by_number, next_text, next_given, put_terms, put_shows}
 use Rattle.circ_tables.specs.Puts.{Runs, PutsRow, TakesRow}
 use Rattle.circ_tables.specs.Reading.{Table, FirstEntry, AllEntries, EntriesInside, CountShown, Gets, Selects, Counts, Lists, ListsInside}
-use Rattle.circ_tables.specs.Selections.{is_any, is_from}
+use Rattle.circ_tables.specs.Selections.{is_any, is_next}
 use Rattle.circ_tables.specs.Shape.{schema}
-use Rattle.circ_tables.specs.Texts.{names_of, put_text, take_text, get_text, all_text, first_text, page_text}
+use Rattle.circ_tables.specs.Texts.{names_of, put_text, take_text, get_text, all_text}
 use Rattle.circ_tables.specs.declared.by_number.TheConstants.{PAGE_ROWS}
 use Rattle.circ_tables.proofs.EncodingLemmas.{put_encoded, take_encoded, number_same}
 use Rattle.circ_tables.proofs.InverseLemmas.{told}
@@ -206,23 +206,27 @@ module _ {R : Type 0} {t : Table ℕ R} {number_of : R → ℕ} (is : IsNumberTa
   pub lists_all : {S L : Type 0} (items : L → List R) (g : Ghosts S) (old new : Held S) (result : Result L Fault) → AllEntries items t.cells t.IsLegal (all_text t.shape) [] g old new result → Lists t items (λ m. Listed m is_any) g old new result
   lists_all = lists_by [] (all_text t.shape) [] is_any (λ r. refl) is.texts.all
 
-  -- the first page, and a later one
-  pub lists_first : {S L : Type 0} (items : L → List R) (g : Ghosts S) (old new : Held S) (result : Result L Fault) → AllEntries items t.cells t.IsLegal (first_text t.shape) [] g old new result
-      → Lists t items (λ m. FirstRows PAGE_ROWS m is_any) g old new result
-  lists_first = pages_by [] (first_text t.shape) [] is_any (λ r. refl) is.texts.first
+  -- the first page, or the one after a number
+  abbrev next_tests : Option ℕ → List Term
+  next_tests None = []
+  next_tests (Some n) = from_key
 
-  pub lists_page : (a : ℤ) → {S L : Type 0} (items : L → List R) (g : Ghosts S) (old new : Held S) (result : Result L Fault) → AllEntries items t.cells t.IsLegal (page_text t.shape) (Int a ∷ []) g old new result
-      → Lists t items (λ m. FirstRows PAGE_ROWS m (is_from a)) g old new result
-  lists_page a = pages_by from_key (page_text t.shape) (Int a ∷ []) (is_from a) (λ r. rw (is.texts.key_cell r) refl) is.texts.page
+  next_passes : (after : Option ℕ) (r : Row) → passes (next_tests after) (next_given after) r ≡ is_next after (cells t.shape r)
+  next_passes None r = refl
+  next_passes (Some n) r = rw (is.texts.key_cell r) refl
+
+  next_read : (after : Option ℕ) → IsRead schema (next_text t.shape after) (page_of t.shape (next_tests after))
+  next_read None = is.texts.first
+  next_read (Some n) = is.texts.page
+
+  pub lists_next : (after : Option ℕ) → {S L : Type 0} (items : L → List R) (g : Ghosts S) (old new : Held S) (result : Result L Fault) → AllEntries items t.cells t.IsLegal (next_text t.shape after) (next_given after) g old new result
+      → Lists t items (λ m. FirstRows PAGE_ROWS m (is_next after)) g old new result
+  lists_next after = pages_by (next_tests after) (next_text t.shape after) (next_given after) (is_next after) (next_passes after) (next_read after)
 
   -- the same inside a transaction
-  pub inside_first : {S L : Type 0} (items : L → List R) (g : Ghosts S) (old new : Transaction S) (result : Result L Fault) → EntriesInside items t.cells t.IsLegal (first_text t.shape) [] g old new result
-      → ListsInside t items (λ m. FirstRows PAGE_ROWS m is_any) g old new result
-  inside_first = pages_inside [] (first_text t.shape) [] is_any (λ r. refl) is.texts.first
-
-  pub inside_page : (a : ℤ) → {S L : Type 0} (items : L → List R) (g : Ghosts S) (old new : Transaction S) (result : Result L Fault) → EntriesInside items t.cells t.IsLegal (page_text t.shape) (Int a ∷ []) g old new result
-      → ListsInside t items (λ m. FirstRows PAGE_ROWS m (is_from a)) g old new result
-  inside_page a = pages_inside from_key (page_text t.shape) (Int a ∷ []) (is_from a) (λ r. rw (is.texts.key_cell r) refl) is.texts.page
+  pub inside_next : (after : Option ℕ) → {S L : Type 0} (items : L → List R) (g : Ghosts S) (old new : Transaction S) (result : Result L Fault) → EntriesInside items t.cells t.IsLegal (next_text t.shape after) (next_given after) g old new result
+      → ListsInside t items (λ m. FirstRows PAGE_ROWS m (is_next after)) g old new result
+  inside_next after = pages_inside (next_tests after) (next_text t.shape after) (next_given after) (is_next after) (next_passes after) (next_read after)
 
   -- the picture after a change of the map at the place
   drawn : (old new : State) (change : Maps → Maps) (m : Map → Map) (u : Picture → ℕ → Option R)

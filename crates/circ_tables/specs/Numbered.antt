@@ -33,6 +33,7 @@ use Rattle.terms.specs.Pictures.{Picture, put as put_in}
 use Rattle.circ_tables.specs.Cells.{number, optional, number_key}
 use Rattle.circ_tables.specs.Encoding.{Encodes, IsEncoded, Any, with_map}
 use Rattle.circ_tables.specs.Reading as typed
+use Rattle.circ_tables.specs.Selections.{least_after}
 use Rattle.circ_tables.specs.declared.by_number.Texts.{Texts}
 use Rattle.circ_tables.specs.declared.by_number.TheConstants.{PAGE_ROWS}
 use Rattle.circ_tables.specs.Shape.{schema, first}
@@ -65,6 +66,15 @@ page_of t tests = Select (record { lets = []; body = in_order_up_to t.tree tests
 
 abbrev pub count_of : Table → List Term → Command
 count_of t tests = Select (record { lets = []; body = counting t.tree tests }) (codes "COUNT(*)" ∷ [])
+
+-- A page is asked for from the beginning, or after a number.
+abbrev pub next_text : Table → Option ℕ → List ℕ
+next_text t None = first_text t
+next_text t (Some n) = page_text t
+
+abbrev pub next_given : Option ℕ → List Value
+next_given None = []
+next_given (Some n) = Int (least_after n) ∷ []
 
 -- A text is understood as this command.
 pub record IsRun (s : Schema) (text : List ℕ) (command : Command) : Type 0 where

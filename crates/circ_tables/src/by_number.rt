@@ -1,10 +1,12 @@
 //! A table that is keyed by one number: what it has to say of itself, and the calls that follow from
 //! that.
 
+ghost use Rattle.std.specs.Option.{option_to_list};
 ghost use Rattle.std.specs.Prelude.{◌≡◌, ◌<◌, ◌^◌, ℕ};
+ghost use Rattle.sqlite.specs.Values.{bound};
 ghost use Rattle.sql_maps.specs.Maps.{Listed};
 ghost use Rattle.sql_maps.specs.Pages.{FirstRows};
-ghost use Rattle.circ_tables.specs.Numbered.{AreTexts, IsNumberTable};
+ghost use Rattle.circ_tables.specs.Numbered.{AreTexts, IsNumberTable, next_text, next_given};
 ghost use Rattle.circ_tables.specs.Puts.{Runs, PutsRow, TakesRow};
 ghost use Rattle.circ_tables.specs.Reading.{Gets, Lists, ListsInside};
 ghost use Rattle.circ_tables.specs.Selections.{is_any, is_next, least_after};
@@ -12,7 +14,9 @@ ghost use Rattle.circ_tables.specs.declared.by_number.TheConstants.{PAGE_ROWS};
 
 use crate::call::run;
 use crate::list::{Table, row_of, rows_inside, rows_of};
+use sqlite::types::ToSql;
 use sqlite::{Alter, Connection, Transaction, params};
+use sqlite_value::value::ValueRef;
 use std::alloc::Global;
 use terms::{Fault, Number, Ordered};
 
@@ -128,11 +132,33 @@ fn least_after(after: u32) -> i64
     i64::from(after) + 1
 }
 
+/// What a page is asked by: its text, and the least number that its rows may have, if it takes one.
+#[derive(Clone, Copy)]
+struct Asked {
+    text: &'static str,
+    least: Option<ValueRef<'static>>,
+}
+
+/// What the first page is asked by, or the one after a number. The first is asked for without a
+/// number, so that no row is passed over whatever its number is.
+fn next_page<T: Numbered>(after: Option<u32>) -> Asked
+    ensures text { result.text.now ≡ next_text T.table.shape after }
+    ensures given { bound (option_to_list result.least) ≡ next_given after }
+{
+    match after {
+        Some(number) => Asked {
+            text: T::texts().page,
+            least: Some(least_after(number).to_sql()),
+        },
+        None => Asked {
+            text: T::texts().first,
+            least: None,
+        },
+    }
+}
+
 /// The first rows, or the first whose numbers are above this one, the least number first: all of
 /// them, or as many as a page has. 90, 91, 93.
-///
-/// The first page is asked for without a number, so that no row is passed over whatever its number
-/// is.
 pub fn next_rows<T: Numbered, S: Alter>(
     conn: &mut Connection<S>,
     alloc: Global,
@@ -142,13 +168,8 @@ pub fn next_rows<T: Numbered, S: Alter>(
     ensures { Lists T.table (λ l. l.items) (λ m. FirstRows PAGE_ROWS m (is_next after))
         S.Store conn.old conn.new result }
 {
-    match after {
-        Some(number) => {
-            let least = params![least_after(number)];
-            rows_of(conn, alloc, memory, T::texts().page, least)
-        },
-        None => rows_of(conn, alloc, memory, T::texts().first, &[]),
-    }
+    let asked = next_page::<T>(after);
+    rows_of(conn, alloc, memory, asked.text, asked.least.as_slice())
 }
 
 /// The same rows, asked inside a transaction, which goes on. 90, 91, 93.
@@ -161,11 +182,6 @@ pub fn next_rows_inside<T: Numbered, S: Alter>(
     ensures { ListsInside T.table (λ l. l.items) (λ m. FirstRows PAGE_ROWS m (is_next after))
         S.Store tx.old tx.new result }
 {
-    match after {
-        Some(number) => {
-            let from = params![least_after(number)];
-            rows_inside(tx, alloc, memory, T::texts().page, from)
-        },
-        None => rows_inside(tx, alloc, memory, T::texts().first, &[]),
-    }
+    let asked = next_page::<T>(after);
+    rows_inside(tx, alloc, memory, asked.text, asked.least.as_slice())
 }

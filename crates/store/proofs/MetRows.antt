@@ -65,7 +65,7 @@ module _ {R : Type 0} (t : Table ℕ R) where
 
 module _ {R : Type 0} {t : Table ℕ R} {number_of : R → ℕ} (table : IsNumberTable t number_of) where
   -- The key of a stored row is a number.
-  key_is : (db : Database) (maps : Maps) → Holds schema db maps → (k v : Row) → maps t.place k ≡ Some v → (n : ℤ) × (column v 0 ≡ Int n)
+  pub key_is : (db : Database) (maps : Maps) → Holds schema db maps → (k v : Row) → maps t.place k ≡ Some v → (n : ℤ) × (column v 0 ≡ Int n)
   key_is db maps holds k v e =
       let is = holds.tables t.place t.shape table.texts.listed in
       let row = is.whole k v e in

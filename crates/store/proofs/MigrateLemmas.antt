@@ -1,20 +1,21 @@
 -- What the steps from schema to schema make of a picture.
-use Rattle.std.proofs.Common.{◌≡◌, ◌<◌, ◌^◌, ℕ, zero, suc, List, [], ◌∷◌, length, ltb, leb, Bool, cond, Option, Some, None, true, false, refl, sym, ap, ap₂, subst, ◌∙◌, arith}
+use Rattle.std.proofs.Common.{◌≡◌, ◌==◌, ◌<◌, ◌^◌, ℕ, zero, suc, List, [], ◌∷◌, length, ltb, leb, Bool, cond, Option, Some, None, true, false, refl, sym, ap, ap₂, subst, ◌∙◌, arith}
 use Rattle.std.specs.Prelude.{option_map, slice_get, unwrap_or, map, ◌-◌, IsTrue, Result, Ok, Err, OnOk, OnErr}
 use Rattle.std.specs.List.{All}
 use Rattle.std.proofs.Math.Path.{fun_ext}
 use Rattle.sqlite_rules.proofs.ListLemmas.{contains_had}
-use Rattle.std.proofs.lemmas.Bool.{lt-ltb, le-ltb}
+use Rattle.std.proofs.lemmas.Bool.{lt-ltb, le-ltb, ne_eqb}
 use Rattle.sqlite.specs.Effect.{Database}
 use Rattle.sqlite.specs.Order.{Row}
 use Rattle.sqlite.specs.State.{State, IsUnchanged}
 use Rattle.sqlite.specs.Table.{Table as SqlTable}
-use Rattle.sql_maps.specs.Maps.{Map, Maps, IsMap, IsFreeFrom, Holds, Moves}
-use Rattle.terms.specs.Limits.{InLimits}
+use Rattle.sql_maps.specs.Maps.{Map, Maps, IsMap, IsFreeFrom, Holds, Steps, Moves, put as put_map, put_at}
+use Rattle.terms.specs.Limits.{InLimits, IsMeta}
+use Rattle.terms.specs.declared.row.MetaRow.{MetaRow}
 use Rattle.terms.specs.Pictures.{Picture, put}
 use Rattle.terms.specs.Schemas.{IsOfSchema1, led_to_2}
 use Rattle.terms.specs.declared.limits.TheConstants.{SCHEMA}
-use Rattle.circ_tables.specs.Cells.{number_key, hold_cells}
+use Rattle.circ_tables.specs.Cells.{number_key, meta_cells, hold_cells}
 use Rattle.circ_tables.specs.Encoding.{HasPicture, HasPictureAt, IsEncoded, AreEncoded, Any}
 use Rattle.circ_tables.specs.Numbered.{IsNumberTable, grown}
 use Rattle.circ_tables.specs.SchemaNumber.{NamesSchema}
@@ -22,10 +23,12 @@ use Rattle.circ_tables.proofs.InverseLemmas.{schema_told}
 use Rattle.sqlite_schema.specs.declared.schema.Index.{Index}
 use Rattle.circ_tables.specs.Reading.{Table}
 use Rattle.circ_tables.specs.Selections.{is_next}
-use Rattle.circ_tables.specs.Shape.{schema, schema_at, holds_place}
+use Rattle.circ_tables.specs.Shape.{schema, schema_at, meta_place, holds_place, holds1_place}
+use Rattle.circ_tables.specs.Holds.{holds}
+use Rattle.circ_tables.specs.Holds1.{holds1}
 use Rattle.circ_tables.specs.declared.by_number.TheConstants.{PAGE_ROWS}
 use Rattle.sql_maps.specs.Pages.{FirstRows}
-use Rattle.store.specs.Migrating.{Route, IsRoute, HasTables1, IsLibrary1, IsNewest, LeadsOn, move_one, move_all, all_over}
+use Rattle.store.specs.Migrating.{Route, IsRoute, HasTables1, IsLibrary1, IsNewest, AreMoved, AreLedOn, CanBeLed, LeadsLegal, LeadsOn, move_one, move_all, all_over}
 use Rattle.store.specs.Library.{HasTables}
 use Rattle.store.specs.Schemas.{IsKnown}
 use Rattle.store.proofs.OpenLemmas.{of_known, picture_names}
@@ -170,18 +173,49 @@ grows old new moves P shown is = record {
   };
 }
 
--- What an answer says of each picture, from what it says where there is one.
-pub on_ok_each : {A E : Type 0} {Ready : Picture → Type 0} (Is : Picture → Type 0) (r : Result A E) → ((P : Picture) → Ready P → OnOk r (Is P)) → OnOk r ((P : Picture) → Ready P → Is P)
+-- The maps of tables that were made so are those before.
+pub cut_made : (a b : State) → Moves (schema_at 1) (schema_at 2) a b → (maps : Maps) → Holds (schema_at 1) a.now maps → Holds schema b.now (cut 13 maps)
+cut_made a b moves maps holds = moves.maps (cut 13 maps) (cut_free 13 maps) (cut_holds a.now maps holds)
+
+pub cut_is : (maps : Maps) (at : ℕ) → at < 13 → cut 13 maps at ≡ maps at
+cut_is maps at less = sym (cut_same 13 maps at less)
+
+-- A row of `meta` is put, and no other table changes.
+meta_put : (maps : Maps) (k v : Row) (at : ℕ) → (at == meta_place) ≡ false → put_at maps meta_place k v at ≡ maps at
+meta_put maps k v at aside = fun_ext (λ j. ap (λ b. cond b (put_map (maps meta_place) k v j) (maps at j)) aside)
+
+-- The rows of the two tables were moved, the row of `meta` was read, and then put.
+pub led_rows : (a b d e : State) (mid : Database) (maps : Maps) (row : MetaRow) (cells : Row) → IsMeta row → Moves (schema_at 1) (schema_at 2) a b → Holds (schema_at 1) a.now maps → (moved : AreMoved holds1 holds (cut 13 maps) mid) → d.now ≡ mid
+    → moved.now meta_place (number_key 1) ≡ Some (meta_cells row) → Steps schema d e (λ m. put_at m meta_place (number_key 1) cells) → AreLedOn maps e.now
+led_rows a b d e mid maps row cells legal moves held moved same found steps = record {
+  meta = (row, legal, ap (λ (m : Map). m (number_key 1)) (sym (moved.others meta_place refl refl ∙ cut_is maps meta_place (omega arith))) ∙ found);
+  holds = subst (λ m. AreEncoded holds1.cells holds1.IsLegal m) (cut_is maps holds1_place (omega arith)) moved.legal;
+  now = put_at moved.now meta_place (number_key 1) cells;
+  there = steps.maps moved.now (subst (λ db. Holds schema db moved.now) (sym same) moved.there);
+  others = λ at less aside apart.
+      meta_put moved.now (number_key 1) cells at aside ∙ moved.others at apart (ne_eqb at holds_place (λ there. omega (arith, less, there))) ∙ cut_is maps at less;
+}
+
+-- Where `meta` is one row that names schema 1, that row lay within its limits.
+pub can_be_led : (maps : Maps) → NamesSchema maps 1 → (new : Database) → AreLedOn maps new → CanBeLed maps
+can_be_led maps named new led = record {
+  named = named;
+  meta = λ k v e. (led.meta.0, led.meta.1, named.alone k v e ∙ sym (named.alone (number_key 1) (meta_cells led.meta.0) led.meta.2));
+  holds = led.holds;
+}
+
+-- What an answer says of each picture, or of all maps, from what it says where there is one.
+pub on_ok_each : {A E X : Type 0} {Ready : X → Type 0} (Is : X → Type 0) (r : Result A E) → ((x : X) → Ready x → OnOk r (Is x)) → OnOk r ((x : X) → Ready x → Is x)
 on_ok_each Is (Ok a) each = each
 on_ok_each Is (Err e) each = tt
 
-pub on_err_each : {A E : Type 0} {Ready : Picture → Type 0} (Is : Picture → Type 0) (r : Result A E) → ((P : Picture) → Ready P → OnErr r (Is P)) → OnErr r ((P : Picture) → Ready P → Is P)
+pub on_err_each : {A E X : Type 0} {Ready : X → Type 0} (Is : X → Type 0) (r : Result A E) → ((x : X) → Ready x → OnErr r (Is x)) → OnErr r ((x : X) → Ready x → Is x)
 on_err_each Is (Ok a) each = tt
 on_err_each Is (Err e) each = each
 
-pub both_ways : {A E : Type 0} (a b : Database) (r : Result A E) → OnOk r ((P : Picture) → IsLibrary1 a P → HasPicture b (led_to_2 P)) → OnOk r ((P : Picture) → IsNewest a P → HasPicture b P) → OnOk r (LeadsOn a b)
-both_ways a b (Ok x) one newest = record { from_1 = one; newest = newest }
-both_ways a b (Err e) one newest = tt
+pub both_ways : {A E : Type 0} (a b : Database) (r : Result A E) → OnOk r (LeadsLegal a b) → OnOk r ((P : Picture) → IsLibrary1 a P → HasPicture b (led_to_2 P)) → OnOk r ((P : Picture) → IsNewest a P → HasPicture b P) → OnOk r (LeadsOn a b)
+both_ways a b (Ok x) legal one newest = record { legal = legal; from_1 = one; newest = newest }
+both_ways a b (Err e) legal one newest = tt
 
 -- ---- the number of the schema, asked inside the transaction
 
@@ -202,8 +236,11 @@ module _ (a b : State) (n : ℕ) (named : (more : List SqlTable) (others : List 
   pub told_newest : (P : Picture) → IsNewest a.now P → SCHEMA ≡ n
   told_newest P is = sym is.1 ∙ (told_of SCHEMA newest_known P is.0).0
 
+  pub named_1 : (maps : Maps) → Holds (schema_at 1) a.now maps → NamesSchema maps n × IsUnchanged a b
+  named_1 maps holds = of_known (λ maps. NamesSchema maps n × IsUnchanged a b) a.now named 1 first_known maps holds
+
   pub unchanged_1 : HasTables1 a.now → IsUnchanged a b
-  unchanged_1 there = (of_known (λ maps. NamesSchema maps n × IsUnchanged a b) a.now named 1 first_known there.0 there.1).1
+  unchanged_1 there = (named_1 there.0 there.1).1
 
 -- It can be told.
 pub can_be_told : (db : Database) → ((more : List SqlTable) (others : List Index) (maps : Maps) → Holds (grown more others) db maps → (n : ℕ) → n < 2 ^ 32 → ¬ NamesSchema maps n) → (m : ℕ) → IsKnown m → (P : Picture) → HasPictureAt m db P

@@ -3,8 +3,8 @@
 ghost use Rattle.std.specs.Prelude.{◌≡◌, false};
 ghost use Rattle.terms.specs.Schemas.{led_to_2};
 ghost use Rattle.store.specs.Library.{HasTables};
-ghost use Rattle.store.specs.Migrating.{Route, IsRoute, holds_route, holds_carried, move_all, all_over};
-ghost use Rattle.store.specs.Migrating.{DrawsInside, LeadsInside, IsToCarry, HasTables1};
+ghost use Rattle.store.specs.Migrating.{Route, IsRoute, holds_route, holds_carried, MovesPage};
+ghost use Rattle.store.specs.Migrating.{LeadsInside, MovesRows, LeadsRows, IsToCarry, all_over, HasTables1};
 ghost use Rattle.store.specs.Migrating.{IsLibrary1, LeadsOnInside, StepsOn, TellsSchema};
 
 use crate::pages::last_of;
@@ -63,8 +63,8 @@ impl Carried for HoldRow1 {
 
 /// Carries over the rows of a page. 91.
 fn carry_page<R: Carried, S: Alter>(tx: &mut Transaction<'_, S>, page: &[R]) -> Result<(), Fault>
-    ensures { DrawsInside (move_all R.table R.Next.Row.table R.number_of R.Next.Row.number_of
-        R.route.carried page.now) S.Store tx.old tx.new result }
+    ensures { MovesPage R.table R.Next.Row.table R.number_of R.Next.Row.number_of
+        R.route.carried page.now S.Store tx.old tx.new result }
 {
     'rows: for row in page {
         put_row(tx, &row.next())?;
@@ -79,8 +79,8 @@ fn carry_all<R: Carried, S: Alter>(
     alloc: Global,
     memory: R::Memory,
 ) -> Result<(), Fault>
-    ensures { LeadsInside HasTables (IsToCarry R.Next.Row.table)
-        (all_over R.table R.route) S.Store tx.old tx.new result }
+    ensures { LeadsInside HasTables (MovesRows R.table R.Next.Row.table)
+        (IsToCarry R.Next.Row.table) (all_over R.table R.route) S.Store tx.old tx.new result }
 {
     let mut after = None;
     'pages: for _page in 0..u64::MAX {
@@ -96,7 +96,7 @@ fn carry_all<R: Carried, S: Alter>(
 
 /// Leads the tables of schema 1 to those of schema 2, which has holds with a first day. 90, 91, 93.
 fn lead_to_2<S: Alter>(tx: &mut Transaction<'_, S>, alloc: Global) -> Result<(), Fault>
-    ensures { LeadsInside HasTables1 IsLibrary1 led_to_2 S.Store tx.old tx.new result }
+    ensures { LeadsInside HasTables1 LeadsRows IsLibrary1 led_to_2 S.Store tx.old tx.new result }
 {
     make_second(tx)?;
     carry_all::<HoldRow1, S>(tx, alloc, ())?;

@@ -17,6 +17,7 @@ returns-in-Ok g c =
       written = said-whole (SaysOneOf g.S.Store old new) c.tell_schema.result _ _ schema_line Done says c.tell_schema.ensures.exit_is c.tell_schema.ensures.writes.all;
       left = left-in-one g.S.Store old new c.in-Ok.ensures;
       left_same = left-same g.S.Store old new c.in-Ok.ensures;
+      left_damaged = c.in-Ok.ensures.stop_damaged;
       cut = said-cut (SaysOneOf g.S.Store old new) c.tell_schema.result _ _ schema_line Done says c.tell_schema.ensures.writes.front;
     }
 
@@ -31,5 +32,6 @@ returns-in-Err g c =
       written = said-whole (SaysOneOf g.S.Store old new) c.tell_fault.result _ _ line Faulted says c.tell_fault.ensures.exit_is c.tell_fault.ensures.writes.all;
       left = left-in-one g.S.Store old new c.in-Err.ensures;
       left_same = left-same g.S.Store old new c.in-Err.ensures;
+      left_damaged = c.in-Err.ensures.stop_damaged;
       cut = said-cut (SaysOneOf g.S.Store old new) c.tell_fault.result _ _ line Faulted says c.tell_fault.ensures.writes.front;
     }

@@ -8,7 +8,7 @@ use Rattle.circ_tables.specs.Numbered.{grown}
 use Rattle.circ_tables.specs.declared.meta.TheConstants.{ALL_META}
 use Rattle.circ_tables.proofs.FoundLemmas.{schema_found, all_meta_plain}
 use Rattle.circ_tables.proofs.KnownLemmas.{meta_understood, named_alone, named_wide}
-use Rattle.circ_tables.proofs.QueryLemmas.{query_keeps}
+use Rattle.circ_tables.proofs.QueryLemmas.{query_works}
 use Rattle.circ_tables.proofs.known.schema_inside.Goals as goal
 
 pub returns-in-Err-SqlInputError : goal.returns-in-Err-SqlInputError
@@ -16,11 +16,7 @@ returns-in-Err-SqlInputError g c =
     let old = state g.S.Store c.args.tx.now.conn.now in
     let new = state g.S.Store c.query_all.new.self.conn.now in
     record {
-      works = record {
-        same_reference = search rules;
-        kept = λ clean inside. query_keeps _ _ old new inside _ c.query_all.result (c.query_all.ensures.ok clean) (c.query_all.ensures.err clean);
-        survives = search rules;
-      };
+      works = query_works g.S.Store _ _ _ _ _ c.query_all.result c.query_all.ensures.same_reference c.query_all.ensures.survives c.query_all.ensures.ok c.query_all.ensures.err;
       named = search rules;
       stored = λ clean is more others maps holds n few names. meta_understood more others old new c.in-Err-SqlInputError.field-0-0 holds.schema_is (rw c.in-Err-SqlInputError.field-0-is at (c.in-Err-SqlInputError.ensures.err clean));
     }
@@ -30,11 +26,7 @@ returns-in-Err g c =
     let old = state g.S.Store c.args.tx.now.conn.now in
     let new = state g.S.Store c.query_all.new.self.conn.now in
     record {
-      works = record {
-        same_reference = search rules;
-        kept = λ clean inside. query_keeps _ _ old new inside _ c.query_all.result (c.query_all.ensures.ok clean) (c.query_all.ensures.err clean);
-        survives = search rules;
-      };
+      works = query_works g.S.Store _ _ _ _ _ c.query_all.result c.query_all.ensures.same_reference c.query_all.ensures.survives c.query_all.ensures.ok c.query_all.ensures.err;
       named = search rules;
       stored = search rules;
     }
@@ -44,11 +36,7 @@ returns-in_err-one_of g c =
     let old = state g.S.Store c.args.tx.now.conn.now in
     let new = state g.S.Store c.query_all.new.self.conn.now in
     record {
-      works = record {
-        same_reference = search rules;
-        kept = λ clean inside. query_keeps _ _ old new inside _ c.query_all.result (c.query_all.ensures.ok clean) (c.query_all.ensures.err clean);
-        survives = search rules;
-      };
+      works = query_works g.S.Store _ _ _ _ _ c.query_all.result c.query_all.ensures.same_reference c.query_all.ensures.survives c.query_all.ensures.ok c.query_all.ensures.err;
       named = search rules;
       stored = λ clean is more others maps holds n few names.
           let alone = named_alone more others old new c.in-Ok.rows.items (c.in-Ok.ensures.ok clean) maps holds n names in
@@ -61,11 +49,7 @@ returns g c =
     let old = state g.S.Store c.args.tx.now.conn.now in
     let new = state g.S.Store c.query_all.new.self.conn.now in
     record {
-      works = record {
-        same_reference = search rules;
-        kept = λ clean inside. query_keeps _ _ old new inside _ c.query_all.result (c.query_all.ensures.ok clean) (c.query_all.ensures.err clean);
-        survives = search rules;
-      };
+      works = query_works g.S.Store _ _ _ _ _ c.query_all.result c.query_all.ensures.same_reference c.query_all.ensures.survives c.query_all.ensures.ok c.query_all.ensures.err;
       named = λ clean.
           let one = sym c.as_slice.ensures.value ∙ c.in_ok-one_of.ensures.ok in
           let shown = c.in-Ok.ensures.ok clean in

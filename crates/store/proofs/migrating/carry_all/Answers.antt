@@ -1,11 +1,11 @@
-use Rattle.std.proofs.Common.{◌≡◌, ◌≤◌, ◌<◌, ◌-◌, ◌∙◌, option_map, slice_get, length, unwrap_or, Some, None, refl, sym, subst, arith, rules}
+use Rattle.std.proofs.Common.{◌≡◌, ◌≤◌, ◌<◌, ◌^◌, ◌-◌, ◌∙◌, option_map, slice_get, length, unwrap_or, Some, None, refl, sym, subst, arith, rules}
 use Rattle.sqlite.specs.Held.{state}
 use Rattle.sqlite.specs.State.{HasCleanDisk}
 use Rattle.terms.specs.Pictures.{Picture}
 use Rattle.circ_tables.specs.Encoding.{HasPicture}
-use Rattle.store.specs.Library.{HasTables}
 use Rattle.sql_maps.proofs.CallLemmas.{same_keeps}
-use Rattle.store.proofs.MigrateLemmas.{over_to, over_none, over_all, over_next, over_limits, read_there, read_page, read_sound}
+use Rattle.store.proofs.MigrateLemmas.{over_to, over_none, over_all, over_next, read_there, read_page, read_sound}
+use Rattle.store.proofs.MovedRows.{none_moved, page_moved, all_rows_moved, next_moved}
 use Rattle.store.proofs.PageLemmas.{numbered}
 use Rattle.store.proofs.PagedRows.{empty_if}
 use Rattle.store.proofs.Steps.{then, keeps_then, same_survives}
@@ -15,11 +15,9 @@ pub pages-init : goal.pages-init
 pages-init g c = record {
   same_reference = refl;
   survives = same_survives (state g.S.Store c.args.tx.now.conn.now);
-  there = λ clean begun there. (same_keeps (state g.S.Store c.args.tx.now.conn.now), begun, there);
-  carried = λ clean begun P it. (
-    subst (HasPicture (state g.S.Store c.args.tx.now.conn.now).now) (sym (over_none g.met.R.Carried.over P (numbered g.met.R.Numbered.sound P it.1) it.2)) it.0,
-    omega arith,
-  );
+  there = λ clean begun there. (same_keeps (state g.S.Store c.args.tx.now.conn.now), begun, none_moved g.R.Table.table g.R.Next.Row.Table.table there.0 _ there.1);
+  carried = λ clean begun P it.
+      subst (HasPicture (state g.S.Store c.args.tx.now.conn.now).now) (sym (over_none g.met.R.Carried.over P (numbered g.met.R.Numbered.sound P it.1) it.2)) it.0;
   low = omega arith;
 }
 
@@ -33,10 +31,10 @@ returns-in_err-page g c =
       survives = then _ _ _ so_far.survives read.works.survives;
       kept = λ clean begun there. let it = so_far.there (was clean) begun there in keeps_then _ _ _ it.0 (read.works.kept clean it.1);
       inside = search rules;
+      rows = search rules;
       leads = search rules;
       sound = λ clean begun told P ready.
-          let it = so_far.carried (was clean) begun P ready in
-          read_sound g.met.R.Carried.over g.met.R.Numbered.sound (unwrap_or c.pages.after 0) P ready.1 it.0 (read.stored clean (search rules));
+          read_sound g.met.R.Carried.over g.met.R.Numbered.sound (unwrap_or c.pages.after 0) P ready.1 (so_far.carried (was clean) begun P ready) (read.stored clean (search rules));
     }
 
 pub returns-in-None : goal.returns-in-None
@@ -51,12 +49,34 @@ returns-in-None g c =
       same_reference = read.works.same_reference ∙ so_far.same_reference;
       survives = then _ _ _ so_far.survives read.works.survives;
       kept = λ clean begun there. let it = so_far.there (was clean) begun there in keeps_then _ _ _ it.0 (read.works.kept clean it.1);
-      inside = λ clean begun there. let it = so_far.there (was clean) begun there in read_there _ _ it.1 it.2 (read.lists clean);
+      inside = λ clean begun there. let it = so_far.there (was clean) begun there in read_there _ _ it.1 (it.2.maps, it.2.holds) (read.lists clean);
+      rows = λ clean begun maps holds.
+          let it = (so_far.there (was clean) begun (maps, holds)).2 in
+          all_rows_moved g.met.R.Carried.over g.met.R.Numbered.sound c.pages.after c.pages._page maps _ it page (page_moved g.met.R.Numbered.sound c.pages.after page read.limits _ _ it.maps it.holds (read.lists clean))
+          empty _ (read.lists clean it.maps it.holds).1.0.now_is;
       leads = λ clean begun P ready.
-          let it = so_far.carried (was clean) begun P ready in
           let after = unwrap_or c.pages.after 0 in
-          let seen = read_page g.met.R.Carried.over g.met.R.Numbered.sound c.pages.after P ready.1 page read.limits _ _ it.0 (read.lists clean) in
+          let seen = read_page g.met.R.Carried.over g.met.R.Numbered.sound c.pages.after P ready.1 page read.limits _ _ (so_far.carried (was clean) begun P ready) (read.lists clean) in
           subst (HasPicture (state g.S.Store c.next_rows_inside.new.tx.conn.now).now) (over_all g.met.R.Carried.over P (numbered g.met.R.Numbered.sound P ready.1) after page seen.0 empty) seen.1;
+      sound = search rules;
+    }
+
+pub returns-in_err-carry_page : goal.returns-in_err-carry_page
+returns-in_err-carry_page g c =
+    let so_far = c.pages.invariant in
+    let read = c.in_ok-page.ensures in
+    let carries = c.carry_page.ensures in
+    let late : HasCleanDisk (state g.S.Store c.carry_page.new.tx.conn.now) → HasCleanDisk (state g.S.Store c.next_rows_inside.new.tx.conn.now) = λ clean. omega (arith, carries.works.survives.clean) in
+    let was : HasCleanDisk (state g.S.Store c.next_rows_inside.new.tx.conn.now) → HasCleanDisk (state g.S.Store c.pages.tx.conn.now) = λ clean. omega (arith, read.works.survives.clean) in
+    record {
+      same_reference = carries.works.same_reference ∙ read.works.same_reference ∙ so_far.same_reference;
+      survives = then _ _ _ (then _ _ _ so_far.survives read.works.survives) carries.works.survives;
+      kept = λ clean begun there.
+          let it = so_far.there (was (late clean)) begun there in
+          keeps_then _ _ _ (keeps_then _ _ _ it.0 (read.works.kept (late clean) it.1)) (carries.works.kept clean);
+      inside = search rules;
+      rows = search rules;
+      leads = search rules;
       sound = search rules;
     }
 
@@ -74,21 +94,36 @@ pages-preserved g c =
       survives = then _ _ _ (then _ _ _ so_far.survives read.works.survives) carries.works.survives;
       there = λ clean begun there.
           let it = so_far.there (was (late clean)) begun there in
-          let mid = read_there _ _ it.1 it.2 (read.lists (late clean)) in (
+          let mid = read_there _ _ it.1 (it.2.maps, it.2.holds) (read.lists (late clean)) in
+          let steps = rw (c.as_slice-in-pages.ensures.value) at (carries.steps clean mid.0) in
+          let seen = read.lists (late clean) it.2.maps it.2.holds in (
             keeps_then _ _ _ (keeps_then _ _ _ it.0 (read.works.kept (late clean) it.1)) (carries.works.kept clean),
-            (carries.draws clean mid.0).is_inside,
-            carries.tables clean mid.0 mid.1,
+            steps.is_inside,
+            next_moved g.met.R.Carried.over g.met.R.Numbered.sound c.pages.after c.pages._page there.0 _ it.2 page (page_moved g.met.R.Numbered.sound c.pages.after page read.limits _ _ it.2.maps it.2.holds (read.lists (late clean)))
+            c.in-Some.last (sym end) _ _ seen.1.0.now_is steps,
           );
       carried = λ clean begun P ready.
-          let it = so_far.carried (was (late clean)) begun P ready in
           let there = so_far.there (was (late clean)) begun (ready.0.maps, ready.0.holds) in
-          let mid = read_there _ _ there.1 there.2 (read.lists (late clean)) in
+          let mid = read_there _ _ there.1 (there.2.maps, there.2.holds) (read.lists (late clean)) in
           let after = unwrap_or c.pages.after 0 in
-          let seen = read_page g.met.R.Carried.over g.met.R.Numbered.sound c.pages.after P ready.1 page read.limits _ _ it.0 (read.lists (late clean)) in
+          let seen = read_page g.met.R.Carried.over g.met.R.Numbered.sound c.pages.after P ready.1 page read.limits _ _ (so_far.carried (was (late clean)) begun P ready) (read.lists (late clean)) in
           let next = over_next g.met.R.Carried.over P (numbered g.met.R.Numbered.sound P ready.1) after page seen.0 c.in-Some.last (sym end) in
-          let moved = (rw (c.as_slice-in-pages.ensures.value) at (carries.draws clean mid.0)).picture (over_to g.met.R.Carried.over after P) seen.1 in
-          let few : c.pages._page ≤ after = it.1 in
-          let more : after < c.in-Some.last = next.1 in
-          (subst (HasPicture (state g.S.Store c.carry_page.new.tx.conn.now).now) next.0 moved, omega (arith, few, more));
+          let moved = (rw (c.as_slice-in-pages.ensures.value) at (carries.draws clean mid.0 tt)).picture (over_to g.met.R.Carried.over after P) seen.1 in
+          subst (HasPicture (state g.S.Store c.carry_page.new.tx.conn.now).now) next.0 moved;
       low = search;
+    }
+
+pub returns : goal.returns
+returns g c =
+    let so_far = c.pages.invariant in
+    let low : unwrap_or c.pages.after 0 < 2 ^ 32 = so_far.low in
+    let past = c.pages-test.false in
+    record {
+      same_reference = so_far.same_reference;
+      survives = so_far.survives;
+      kept = λ clean begun there. (so_far.there clean begun there).0;
+      inside = λ clean begun there. let it = so_far.there clean begun there in (it.1, (it.2.maps, it.2.holds));
+      rows = λ clean begun maps holds. let few : c.pages._page ≤ unwrap_or c.pages.after 0 = (so_far.there clean begun (maps, holds)).2.met.few in absurd (omega (arith, few, low, past));
+      leads = λ clean begun P ready. let few : c.pages._page ≤ unwrap_or c.pages.after 0 = (so_far.there clean begun (ready.0.maps, ready.0.holds)).2.met.few in absurd (omega (arith, few, low, past));
+      sound = search rules;
     }

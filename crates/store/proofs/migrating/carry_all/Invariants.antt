@@ -1,4 +1,4 @@
-use Rattle.std.proofs.Common.{◌≡◌, ◌^◌, ◌<◌, ◌≤◌}
+use Rattle.std.proofs.Common.{◌≡◌, ◌^◌, ◌<◌}
 use Rattle.std.specs.Prelude.{IsTrue, unwrap_or}
 use Rattle.sqlite.specs.Held.{state}
 use Rattle.sqlite.specs.State.{HasCleanDisk, KeepsCommit, Survives}
@@ -7,6 +7,7 @@ use Rattle.circ_tables.specs.Encoding.{HasPicture}
 use Rattle.store.specs.Library.{HasTables}
 use Rattle.store.specs.Migrating.{IsToCarry}
 use Rattle.store.proofs.MigrateLemmas.{over_to}
+use Rattle.store.proofs.MovedRows.{AreMovedSoFar}
 use Rattle.store.proofs.migrating.carry_all.Given as goal
 
 -- The rows up to a number are carried over, and there were no more pages than that.
@@ -17,8 +18,8 @@ invariant-pages g l =
     record {
       same_reference : l.tx.conn.ghost_name ≡ l.initial.tx.conn.ghost_name;
       survives : Survives old now (λ _. ⊥);
-      there : HasCleanDisk now → IsTrue old.in_transaction → HasTables old.now → KeepsCommit old now × IsTrue now.in_transaction × HasTables now.now;
+      there : HasCleanDisk now → IsTrue old.in_transaction → (there : HasTables old.now) → KeepsCommit old now × IsTrue now.in_transaction × AreMovedSoFar g.R.Table.table g.R.Next.Row.Table.table l.after l._page there.0 now.now;
       carried : HasCleanDisk now → IsTrue old.in_transaction → (P : Picture) → IsToCarry g.R.Next.Row.Table.table old.now P
-          → HasPicture now.now (over_to g.met.R.Carried.over (unwrap_or l.after 0) P) × (l._page ≤ unwrap_or l.after 0);
+          → HasPicture now.now (over_to g.met.R.Carried.over (unwrap_or l.after 0) P);
       low : unwrap_or l.after 0 < 2 ^ 32;
     }
