@@ -1,5 +1,5 @@
 -- What the steps from schema to schema make of a picture.
-use Rattle.std.proofs.Common.{◌≡◌, ◌==◌, ◌<◌, ◌^◌, ℕ, zero, suc, List, [], ◌∷◌, length, ltb, leb, Bool, cond, Option, Some, None, true, false, refl, sym, ap, ap₂, subst, ◌∙◌, arith}
+use Rattle.std.proofs.Common.{◌≡◌, ◌==◌, ◌<◌, ◌^◌, ℕ, zero, suc, List, [], ◌∷◌, length, ltb, leb, cond, Option, Some, None, true, false, refl, sym, ap, ap₂, subst, ◌∙◌, arith}
 use Rattle.std.specs.Prelude.{option_map, slice_get, unwrap_or, map, ◌-◌, IsTrue, Result, Ok, Err, OnOk, OnErr}
 use Rattle.std.specs.List.{All}
 use Rattle.std.proofs.Math.Path.{fun_ext}
@@ -16,7 +16,7 @@ use Rattle.terms.specs.Pictures.{Picture, put}
 use Rattle.terms.specs.Schemas.{IsOfSchema1, led_to_2}
 use Rattle.terms.specs.declared.limits.TheConstants.{SCHEMA}
 use Rattle.circ_tables.specs.Cells.{number_key, meta_cells, hold_cells}
-use Rattle.circ_tables.specs.Encoding.{HasPicture, HasPictureAt, IsEncoded, AreEncoded, Any}
+use Rattle.circ_tables.specs.Encoding.{HasPicture, HasPictureAt, AreEncoded}
 use Rattle.circ_tables.specs.Numbered.{IsNumberTable, grown}
 use Rattle.circ_tables.specs.SchemaNumber.{NamesSchema}
 use Rattle.circ_tables.proofs.InverseLemmas.{schema_told}
@@ -36,7 +36,7 @@ use Rattle.store.specs.Pages.{AreRowsAfter, AreNumbered}
 use Rattle.store.proofs.PageLemmas.{page_are}
 use Rattle.store.proofs.CarriedRows.{left_above, carried_to, all_taken, all_put, none_left, none_carried, all_left, all_carried, next_left, next_carried}
 use Rattle.circ_tables.proofs.ShownLemmas.{are_encoded}
-use Rattle.store.proofs.PagedRows.{last_is, last_there, empty_if}
+use Rattle.store.proofs.PagedRows.{last_is, last_there}
 
 module _ {R N : Type 0} {old : Table ℕ R} {new : Table ℕ N} {number_of : R → ℕ} {new_number : N → ℕ} {route : Route R N} (over : IsRoute old new number_of new_number route) where
   one_moved : (r : R) (P : Picture) (f : ℕ → Option R) (g : ℕ → Option N)

@@ -1,8 +1,8 @@
 -- How a library of an older schema is led to the newest one.
-use Rattle.std.specs.Prelude.{◌≡◌, ◌⊎◌, ◌<◌, ◌^◌, ◌==◌, ℕ, false, List, [], ◌∷◌, Option, Some, None, option_map, Err, Result, IfOk, IfErr, OnOk, OnErr, IsTrue, refl}
+use Rattle.std.specs.Prelude.{◌≡◌, ◌⊎◌, ◌<◌, ◌^◌, ◌==◌, ℕ, false, List, [], ◌∷◌, Option, Some, None, option_map, Err, Result, IfOk, OnOk, OnErr, IsTrue, refl}
 use Rattle.sqlite.specs.Effect.{Database}
 use Rattle.sqlite.specs.Held.{Held, state}
-use Rattle.sqlite.specs.State.{State, HasCleanDisk, KeepsCommit, Survives}
+use Rattle.sqlite.specs.State.{HasCleanDisk, KeepsCommit, Survives}
 use Rattle.sqlite.specs.Store.{Ghosts}
 use Rattle.sqlite.specs.Tree.{Trees}
 use Rattle.sqlite.specs.declared.transaction.Transaction.{Transaction}
@@ -11,7 +11,7 @@ use Rattle.terms.specs.Limits.{InLimits, IsMeta}
 use Rattle.terms.specs.Pictures.{Picture, put}
 use Rattle.terms.specs.Schemas.{IsOfSchema1, carried, led_to_2}
 use Rattle.terms.specs.declared.fault.Fault.{Fault}
-use Rattle.terms.specs.declared.fault.Fault.TheVariants.{Database as Refused, Stored}
+use Rattle.terms.specs.declared.fault.Fault.TheVariants.{Stored}
 use Rattle.terms.specs.declared.limits.TheConstants.{SCHEMA}
 use Rattle.terms.specs.declared.row.HoldRow.{HoldRow}
 use Rattle.terms.specs.declared.row.HoldRow1.{HoldRow1}

@@ -8,7 +8,7 @@ use Rattle.terms.specs.declared.limits.TheConstants.{SCHEMA}
 use Rattle.circ_tables.specs.Encoding.{HasPicture}
 use Rattle.circ_tables.specs.SchemaNumber.{NamesSchema}
 use Rattle.circ_tables.specs.Shape.{schema_at}
-use Rattle.store.specs.Migrating.{HasTables1, IsLibrary1, IsNewest, CanBeLed, AreLedOn}
+use Rattle.store.specs.Migrating.{HasTables1, IsLibrary1, CanBeLed, AreLedOn}
 use Rattle.store.proofs.MigrateLemmas.{on_ok_each, both_ways, first_known, newest_known, told_of, told_1, told_newest, named_1, can_be_led, unchanged_1, can_be_told}
 use Rattle.store.proofs.Steps.{then, keeps_then}
 use Rattle.store.proofs.migrating.lead_on.Goals as goal
