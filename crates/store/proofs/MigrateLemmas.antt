@@ -1,5 +1,5 @@
 -- What the steps from schema to schema make of a picture.
-use Rattle.std.proofs.Common.{◌≡◌, ◌==◌, ◌<◌, ◌^◌, ℕ, zero, suc, List, [], ◌∷◌, length, ltb, leb, Bool, cond, Option, Some, None, true, false, refl, sym, ap, ap₂, subst, ◌∙◌, arith}
+use Rattle.std.proofs.Common.{◌≡◌, ◌==◌, ◌<◌, ◌^◌, ℕ, zero, suc, List, [], ◌∷◌, length, ltb, leb, cond, Option, Some, None, true, false, refl, sym, ap, ap₂, subst, ◌∙◌, arith}
 use Rattle.std.specs.Prelude.{option_map, slice_get, unwrap_or, map, ◌-◌, IsTrue, Result, Ok, Err, OnOk, OnErr}
 use Rattle.std.specs.List.{All}
 use Rattle.std.proofs.Math.Path.{fun_ext}
@@ -16,7 +16,7 @@ use Rattle.terms.specs.Pictures.{Picture, put}
 use Rattle.terms.specs.Schemas.{IsOfSchema1, led_to_2}
 use Rattle.terms.specs.declared.limits.TheConstants.{SCHEMA}
 use Rattle.circ_tables.specs.Cells.{number_key, meta_cells, hold_cells}
-use Rattle.circ_tables.specs.Encoding.{HasPicture, HasPictureAt, IsEncoded, AreEncoded, Any}
+use Rattle.circ_tables.specs.Encoding.{HasPicture, HasPictureAt, AreEncoded}
 use Rattle.circ_tables.specs.Numbered.{IsNumberTable, grown}
 use Rattle.circ_tables.specs.SchemaNumber.{NamesSchema}
 use Rattle.circ_tables.proofs.InverseLemmas.{schema_told}
@@ -28,7 +28,7 @@ use Rattle.circ_tables.specs.Holds.{holds}
 use Rattle.circ_tables.specs.Holds1.{holds1}
 use Rattle.circ_tables.specs.declared.by_number.TheConstants.{PAGE_ROWS}
 use Rattle.sql_maps.specs.Pages.{FirstRows}
-use Rattle.store.specs.Migrating.{Route, IsRoute, HasTables1, IsLibrary1, IsNewest, AreMoved, AreLedOn, CanBeLed, LeadsLegal, LeadsOn, move_one, move_all, all_over}
+use Rattle.store.specs.Migrating.{Route, IsRoute, HasTables1, IsLibrary1, IsNewest, AreMoved, AreLedOn, LeadsLegal, LeadsOn, move_one, move_all, all_over}
 use Rattle.store.specs.Library.{HasTables}
 use Rattle.store.specs.Schemas.{IsKnown}
 use Rattle.store.proofs.OpenLemmas.{of_known, picture_names}
@@ -36,7 +36,7 @@ use Rattle.store.specs.Pages.{AreRowsAfter, AreNumbered}
 use Rattle.store.proofs.PageLemmas.{page_are}
 use Rattle.store.proofs.CarriedRows.{left_above, carried_to, all_taken, all_put, none_left, none_carried, all_left, all_carried, next_left, next_carried}
 use Rattle.circ_tables.proofs.ShownLemmas.{are_encoded}
-use Rattle.store.proofs.PagedRows.{last_is, last_there, empty_if}
+use Rattle.store.proofs.PagedRows.{last_is, last_there}
 
 module _ {R N : Type 0} {old : Table ℕ R} {new : Table ℕ N} {number_of : R → ℕ} {new_number : N → ℕ} {route : Route R N} (over : IsRoute old new number_of new_number route) where
   one_moved : (r : R) (P : Picture) (f : ℕ → Option R) (g : ℕ → Option N)
@@ -185,24 +185,21 @@ meta_put : (maps : Maps) (k v : Row) (at : ℕ) → (at == meta_place) ≡ false
 meta_put maps k v at aside = fun_ext (λ j. ap (λ b. cond b (put_map (maps meta_place) k v j) (maps at j)) aside)
 
 -- The rows of the two tables were moved, the row of `meta` was read, and then put.
-pub led_rows : (a b d e : State) (mid : Database) (maps : Maps) (row : MetaRow) (cells : Row) → IsMeta row → Moves (schema_at 1) (schema_at 2) a b → Holds (schema_at 1) a.now maps → (moved : AreMoved holds1 holds (cut 13 maps) mid) → d.now ≡ mid
+pub led_rows : (a b d e : State) (mid : Database) (maps : Maps) (row : MetaRow) (cells : Row) → IsMeta row → Moves (schema_at 1) (schema_at 2) a b → Holds (schema_at 1) a.now maps → NamesSchema maps 1 → (moved : AreMoved holds1 holds (cut 13 maps) mid) → d.now ≡ mid
     → moved.now meta_place (number_key 1) ≡ Some (meta_cells row) → Steps schema d e (λ m. put_at m meta_place (number_key 1) cells) → AreLedOn maps e.now
-led_rows a b d e mid maps row cells legal moves held moved same found steps = record {
-  meta = (row, legal, ap (λ (m : Map). m (number_key 1)) (sym (moved.others meta_place refl refl ∙ cut_is maps meta_place (omega arith))) ∙ found);
-  holds = subst (λ m. AreEncoded holds1.cells holds1.IsLegal m) (cut_is maps holds1_place (omega arith)) moved.legal;
-  now = put_at moved.now meta_place (number_key 1) cells;
-  there = steps.maps moved.now (subst (λ db. Holds schema db moved.now) (sym same) moved.there);
-  others = λ at less aside apart.
-      meta_put moved.now (number_key 1) cells at aside ∙ moved.others at apart (ne_eqb at holds_place (λ there. omega (arith, less, there))) ∙ cut_is maps at less;
-}
-
--- Where `meta` is one row that names schema 1, that row lay within its limits.
-pub can_be_led : (maps : Maps) → NamesSchema maps 1 → (new : Database) → AreLedOn maps new → CanBeLed maps
-can_be_led maps named new led = record {
-  named = named;
-  meta = λ k v e. (led.meta.0, led.meta.1, named.alone k v e ∙ sym (named.alone (number_key 1) (meta_cells led.meta.0) led.meta.2));
-  holds = led.holds;
-}
+led_rows a b d e mid maps row cells legal moves held named moved same found steps =
+    let there : maps meta_place (number_key 1) ≡ Some (meta_cells row) = ap (λ (m : Map). m (number_key 1)) (sym (moved.others meta_place refl refl ∙ cut_is maps meta_place (omega arith))) ∙ found in
+    record {
+      legal = record {
+        named = named;
+        meta = λ k v e. (row, legal, named.alone k v e ∙ sym (named.alone (number_key 1) (meta_cells row) there));
+        holds = subst (λ m. AreEncoded holds1.cells holds1.IsLegal m) (cut_is maps holds1_place (omega arith)) moved.legal;
+      };
+      now = put_at moved.now meta_place (number_key 1) cells;
+      there = steps.maps moved.now (subst (λ db. Holds schema db moved.now) (sym same) moved.there);
+      others = λ at less aside apart.
+          meta_put moved.now (number_key 1) cells at aside ∙ moved.others at apart (ne_eqb at holds_place (λ there. omega (arith, less, there))) ∙ cut_is maps at less;
+    }
 
 -- What an answer says of each picture, or of all maps, from what it says where there is one.
 pub on_ok_each : {A E X : Type 0} {Ready : X → Type 0} (Is : X → Type 0) (r : Result A E) → ((x : X) → Ready x → OnOk r (Is x)) → OnOk r ((x : X) → Ready x → Is x)

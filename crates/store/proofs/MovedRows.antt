@@ -14,7 +14,6 @@ use Rattle.sqlite_rules.proofs.ProbeLemmas.{mapped_has}
 use Rattle.sql_maps.specs.Maps.{Maps, Holds, Steps, same_key, put, take_out}
 use Rattle.sql_maps.specs.Pages.{FirstRows}
 use Rattle.sql_maps.proofs.MapLemmas.{key_same}
-use Rattle.circ_tables.specs.Cells.{number_key}
 use Rattle.circ_tables.specs.Numbered.{IsNumberTable}
 use Rattle.circ_tables.specs.Reading.{Table}
 use Rattle.circ_tables.specs.Selections.{is_next}

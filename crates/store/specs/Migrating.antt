@@ -1,8 +1,8 @@
 -- How a library of an older schema is led to the newest one.
-use Rattle.std.specs.Prelude.{◌≡◌, ◌⊎◌, ◌<◌, ◌^◌, ◌==◌, ℕ, false, List, [], ◌∷◌, Option, Some, None, option_map, Err, Result, IfOk, IfErr, OnOk, OnErr, IsTrue, refl}
+use Rattle.std.specs.Prelude.{◌≡◌, ◌⊎◌, ◌<◌, ◌^◌, ◌==◌, ℕ, false, List, [], ◌∷◌, Option, Some, None, option_map, Err, Result, IfOk, OnOk, OnErr, IsTrue, refl}
 use Rattle.sqlite.specs.Effect.{Database}
 use Rattle.sqlite.specs.Held.{Held, state}
-use Rattle.sqlite.specs.State.{State, HasCleanDisk, KeepsCommit, Survives}
+use Rattle.sqlite.specs.State.{HasCleanDisk, KeepsCommit, Survives}
 use Rattle.sqlite.specs.Store.{Ghosts}
 use Rattle.sqlite.specs.Tree.{Trees}
 use Rattle.sqlite.specs.declared.transaction.Transaction.{Transaction}
@@ -11,12 +11,11 @@ use Rattle.terms.specs.Limits.{InLimits, IsMeta}
 use Rattle.terms.specs.Pictures.{Picture, put}
 use Rattle.terms.specs.Schemas.{IsOfSchema1, carried, led_to_2}
 use Rattle.terms.specs.declared.fault.Fault.{Fault}
-use Rattle.terms.specs.declared.fault.Fault.TheVariants.{Database as Refused, Stored}
+use Rattle.terms.specs.declared.fault.Fault.TheVariants.{Stored}
 use Rattle.terms.specs.declared.limits.TheConstants.{SCHEMA}
 use Rattle.terms.specs.declared.row.HoldRow.{HoldRow}
 use Rattle.terms.specs.declared.row.HoldRow1.{HoldRow1}
-use Rattle.terms.specs.declared.row.MetaRow.{MetaRow}
-use Rattle.circ_tables.specs.Cells.{number_key, meta_cells}
+use Rattle.circ_tables.specs.Cells.{meta_cells}
 use Rattle.circ_tables.specs.Encoding.{HasPicture, HasPictureAt, AreEncoded}
 use Rattle.circ_tables.specs.Holds.{holds}
 use Rattle.circ_tables.specs.Holds1.{holds1}
@@ -148,27 +147,26 @@ IsNewest db P = HasPicture db P × (P.meta.schema ≡ SCHEMA)
 abbrev pub HasTables1 : Database → Type 0
 HasTables1 db = (maps : Maps) × Holds (schema_at 1) db maps
 
--- The maps of tables of schema 1 were led to those of a database of the newest, whatever they show: the row of `meta` and every row of the holds lay within their limits, and each other table stands as it stood.
-pub record AreLedOn (maps : Maps) (new : Database) : Type 0 where
-  pub meta : (r : MetaRow) × IsMeta r × (maps meta_place (number_key 1) ≡ Some (meta_cells r))
-  pub holds : HasLegal holds1 maps
-  pub now : Maps
-  pub there : Holds schema new now
-  pub others : (at : ℕ) → at < holds_place → (at == meta_place) ≡ false → (at == holds1_place) ≡ false → now at ≡ maps at
-
-abbrev pub LeadsRows : Database → Database → Type 0
-LeadsRows old new = (maps : Maps) → Holds (schema_at 1) old maps → AreLedOn maps new
-
--- No row that a step carries over or changes is damaged: none of `meta`, which names schema 1, and none of the holds.
+-- Of the rows of tables of schema 1 that are carried over or changed none is damaged: not that of `meta`, which names schema 1, and none of the holds.
 pub record CanBeLed (maps : Maps) : Type 0 where
   pub named : NamesSchema maps 1
   pub meta : AreEncoded meta_cells IsMeta (maps meta_place)
   pub holds : HasLegal holds1 maps
 
--- Tables of schema 1 are led on, whatever they show, only where none of these rows is damaged; or `meta` names the newest schema, and the database is the same.
+-- They were led to those of a database of the newest schema, and each other table stands as it stood.
+pub record AreLedOn (maps : Maps) (new : Database) : Type 0 where
+  pub legal : CanBeLed maps
+  pub now : Maps
+  pub there : Holds schema new now
+  pub others : (at : ℕ) → at < holds_place → (at == meta_place) ≡ false → (at == holds1_place) ≡ false → now at ≡ maps at
+
+-- So all that name schema 1.
+abbrev pub LeadsRows : Database → Database → Type 0
+LeadsRows old new = (maps : Maps) → Holds (schema_at 1) old maps → NamesSchema maps 1 → AreLedOn maps new
+
+-- Tables of schema 1 were led on, whatever they show, or `meta` names the newest schema, and the database is the same.
 abbrev pub LeadsLegal : Database → Database → Type 0
-LeadsLegal old new = (maps : Maps) → Holds (schema_at 1) old maps
-    → (CanBeLed maps × AreLedOn maps new) ⊎ (NamesSchema maps SCHEMA × (new ≡ old))
+LeadsLegal old new = (maps : Maps) → Holds (schema_at 1) old maps → AreLedOn maps new ⊎ (NamesSchema maps SCHEMA × (new ≡ old))
 
 -- One of these rows is damaged, or `meta` names another schema.
 abbrev pub CannotBeLed : Database → Type 0

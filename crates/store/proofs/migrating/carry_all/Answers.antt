@@ -1,7 +1,6 @@
 use Rattle.std.proofs.Common.{◌≡◌, ◌≤◌, ◌<◌, ◌^◌, ◌-◌, ◌∙◌, option_map, slice_get, length, unwrap_or, Some, None, refl, sym, subst, arith, rules}
 use Rattle.sqlite.specs.Held.{state}
 use Rattle.sqlite.specs.State.{HasCleanDisk}
-use Rattle.terms.specs.Pictures.{Picture}
 use Rattle.circ_tables.specs.Encoding.{HasPicture}
 use Rattle.sql_maps.proofs.CallLemmas.{same_keeps}
 use Rattle.store.proofs.MigrateLemmas.{over_to, over_none, over_all, over_next, read_there, read_page, read_sound}
@@ -100,7 +99,7 @@ pages-preserved g c =
             keeps_then _ _ _ (keeps_then _ _ _ it.0 (read.works.kept (late clean) it.1)) (carries.works.kept clean),
             steps.is_inside,
             next_moved g.met.R.Carried.over g.met.R.Numbered.sound c.pages.after c.pages._page there.0 _ it.2 page (page_moved g.met.R.Numbered.sound c.pages.after page read.limits _ _ it.2.maps it.2.holds (read.lists (late clean)))
-            c.in-Some.last (sym end) _ _ seen.1.0.now_is steps,
+                c.in-Some.last (sym end) _ _ seen.1.0.now_is steps,
           );
       carried = λ clean begun P ready.
           let there = so_far.there (was (late clean)) begun (ready.0.maps, ready.0.holds) in

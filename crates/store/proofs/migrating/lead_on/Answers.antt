@@ -8,8 +8,8 @@ use Rattle.terms.specs.declared.limits.TheConstants.{SCHEMA}
 use Rattle.circ_tables.specs.Encoding.{HasPicture}
 use Rattle.circ_tables.specs.SchemaNumber.{NamesSchema}
 use Rattle.circ_tables.specs.Shape.{schema_at}
-use Rattle.store.specs.Migrating.{HasTables1, IsLibrary1, IsNewest, CanBeLed, AreLedOn}
-use Rattle.store.proofs.MigrateLemmas.{on_ok_each, both_ways, first_known, newest_known, told_of, told_1, told_newest, named_1, can_be_led, unchanged_1, can_be_told}
+use Rattle.store.specs.Migrating.{HasTables1, IsLibrary1, AreLedOn}
+use Rattle.store.proofs.MigrateLemmas.{on_ok_each, both_ways, first_known, newest_known, told_of, told_1, told_newest, named_1, unchanged_1, can_be_told}
 use Rattle.store.proofs.Steps.{then, keeps_then}
 use Rattle.store.proofs.migrating.lead_on.Goals as goal
 
@@ -55,10 +55,9 @@ returns-in-1 g c =
         | inr shown ↦ (let two = told_newest old mid n (read.named (late clean)) shown.0 shown.1 in absurd (omega (arith, two, is_1)))
       ];
       leads = λ clean begun. both_ways old.now new.now c.lead_to_2.result
-          (on_ok_each (λ maps. (CanBeLed maps × AreLedOn maps new.now) ⊎ (NamesSchema maps SCHEMA × (new.now ≡ old.now))) c.lead_to_2.result (λ maps holds.
+          (on_ok_each (λ maps. AreLedOn maps new.now ⊎ (NamesSchema maps SCHEMA × (new.now ≡ old.now))) c.lead_to_2.result (λ maps holds.
           let it = named_1 old mid n (read.named (late clean)) maps holds in
-          let named : NamesSchema maps 1 = subst (NamesSchema maps) is_1 it.0 in
-          on_ok c.lead_to_2.result (λ rows. let led = rows maps (subst (λ d. Holds (schema_at 1) d maps) (sym it.1.0.now_is) holds) in inl (can_be_led maps named new.now led, led))
+          on_ok c.lead_to_2.result (λ rows. inl (rows maps (subst (λ d. Holds (schema_at 1) d maps) (sym it.1.0.now_is) holds) (subst (NamesSchema maps) is_1 it.0)))
           (led.rows clean (subst IsTrue (sym it.1.0.mode) begun))))
           (on_ok_each (λ P. HasPicture new.now (led_to_2 P)) c.lead_to_2.result (λ P is.
           let same = (told_of old mid n (read.named (late clean)) 1 first_known P is.0).1.0 in

@@ -6,6 +6,7 @@ use Rattle.terms.specs.Schemas.{led_to_2}
 use Rattle.terms.specs.declared.row.MetaRow.{MetaRow}
 use Rattle.circ_tables.specs.Encoding.{HasPicture}
 use Rattle.circ_tables.specs.Holds1.{holds1}
+use Rattle.circ_tables.specs.SchemaNumber.{NamesSchema}
 use Rattle.store.specs.Migrating.{holds_route, all_over, AreLedOn}
 use Rattle.store.proofs.MigrateLemmas.{grows, tables_made, read_there, cut, cut_made, led_rows, on_ok_each}
 use Rattle.store.proofs.Steps.{then, keeps_then}
@@ -74,13 +75,13 @@ returns g c =
           let mid = carried.inside (late (last clean)) moves.is_inside (tables_made _ _ there moves) in
           let after = read_there _ _ mid.0 mid.1 (read.gets (last clean)) in
           on_ok c.put_meta.result (λ steps. (steps.is_inside, (_, steps.maps after.1.0 after.1.1))) (put.steps clean after.0);
-      rows = λ clean begun. on_ok_each (λ maps. AreLedOn maps (state g.S.Store c.put_meta.new.tx.conn.now).now) c.put_meta.result (λ maps holds.
+      rows = λ clean begun. on_ok_each (λ maps. NamesSchema maps 1 → AreLedOn maps (state g.S.Store c.put_meta.new.tx.conn.now).now) c.put_meta.result (λ maps holds.
           let moves = made.moves (was (late (last clean))) begun in
           let cut_there = cut_made _ _ moves maps holds in
           let moved = carried.rows (late (last clean)) moves.is_inside (cut 13 maps) cut_there in
           let mid = carried.inside (late (last clean)) moves.is_inside (cut 13 maps, cut_there) in
           let found = read.gets (last clean) moved.now moved.there in
-          on_ok c.put_meta.result (λ steps. led_rows _ _ _ _ _ maps _ _ read.limits moves holds moved found.1.0.now_is found.0 steps) (put.steps clean (subst IsTrue (sym found.1.0.mode) mid.0)));
+          on_ok c.put_meta.result (λ steps named. led_rows _ _ _ _ _ maps _ _ read.limits moves holds named moved found.1.0.now_is found.0 steps) (put.steps clean (subst IsTrue (sym found.1.0.mode) mid.0)));
       leads = λ clean begun. on_ok_each (λ P. HasPicture (state g.S.Store c.put_meta.new.tx.conn.now).now (led_to_2 P)) c.put_meta.result (λ P ready.
           let moves = made.moves (was (late (last clean))) begun in
           let grown = grows _ _ moves.maps P ready.0 ready.1 in

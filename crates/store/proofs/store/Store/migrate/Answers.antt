@@ -6,7 +6,7 @@ use Rattle.terms.specs.Schemas.{led_to_2}
 use Rattle.terms.specs.declared.limits.TheConstants.{SCHEMA}
 use Rattle.circ_tables.specs.Encoding.{HasPicture, HasPictureAt}
 use Rattle.circ_tables.specs.SchemaNumber.{NamesSchema}
-use Rattle.store.specs.Migrating.{CanBeLed, AreLedOn, LeadsOn}
+use Rattle.store.specs.Migrating.{AreLedOn, LeadsOn}
 use Rattle.store.specs.Stops.{KeepsPicture, KeepsPictureAt}
 use Rattle.store.proofs.MigrateLemmas.{on_ok_each, on_err_each}
 use Rattle.store.proofs.StopLemmas.{on_err, open_keeps, stops_between, leaves_weaker, leaves_committed}
@@ -24,7 +24,7 @@ returns g c =
           (λ P ready. on_ok c.step.result (λ done. open_keeps g.S.Store settled SCHEMA new.now c.step.new.conn (led_to_2 P) done.is_open refl done.committed (done.made.from_1 P ready)) (is.done clean (inl (ready.0.maps, ready.0.holds))));
       same = λ clean. on_ok_each (λ P. KeepsPicture new P) c.step.result
           (λ P ready. on_ok c.step.result (λ done. open_keeps g.S.Store settled SCHEMA new.now c.step.new.conn P done.is_open refl done.committed (done.made.newest P ready)) (is.done clean (inr (P, ready))));
-      legal = λ clean. on_ok_each (λ maps. (CanBeLed maps × AreLedOn maps new.now) ⊎ (NamesSchema maps SCHEMA × (new.now ≡ old.now))) c.step.result
+      legal = λ clean. on_ok_each (λ maps. AreLedOn maps new.now ⊎ (NamesSchema maps SCHEMA × (new.now ≡ old.now))) c.step.result
           (λ maps holds. on_ok c.step.result (λ done. done.made.legal maps holds) (is.done clean (inl (maps, holds))));
       undone = λ clean is_open. on_err_each (λ P. KeepsPictureAt 1 new P) c.step.result
           (λ P shown. on_err c.step.result (λ same. open_keeps g.S.Store settled 1 old.now c.step.new.conn P is_open same.0 same.1 shown) (is.undone clean is_open (inl (shown.maps, shown.holds))));
@@ -41,6 +41,6 @@ returns g c =
           (stops_between LeadsOn (λ db. HasPicture db P) (λ db. HasPicture db P) old new (λ db made. made.newest P (keeps.now, named)) is.survives clean keeps.left);
       stop_damaged = λ clean damaged left.
           leaves_weaker new (λ db. (db ≡ old.now) ⊎ (db ≡ old.now)) (λ db. db ≡ old.now) (λ db both. elim both [ inl h ↦ h | inr h ↦ h ])
-          (stops_between LeadsOn (λ db. db ≡ old.now) (λ db. db ≡ old.now) old new (λ db made. elim (made.legal damaged.0 damaged.1) [ inl can ↦ absurd (damaged.2 can.0) | inr same ↦ same.1 ]) is.survives clean left);
+          (stops_between LeadsOn (λ db. db ≡ old.now) (λ db. db ≡ old.now) old new (λ db made. elim (made.legal damaged.0 damaged.1) [ inl led ↦ absurd (damaged.2 led.legal) | inr same ↦ same.1 ]) is.survives clean left);
       sound = is.sound;
     }
