@@ -109,7 +109,11 @@ pub fn say_migrating(rt: &HostRuntime, path: &str) -> Result<(), WriteFault> {
     if !writer.is_terminal() {
         return Ok(());
     }
-    write_cause(&mut writer, path, "the library is being brought to the newest schema")
+    write_cause(
+        &mut writer,
+        path,
+        "the library is being brought to the newest schema",
+    )
 }
 
 /// Says that a line could not be written.
