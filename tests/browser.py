@@ -379,6 +379,8 @@ def tried(behind, pictures):
                 page = patron(driver, base, serving)
                 need("a look at the page", page.it("page").is_displayed(), True)
                 if pictures:
+                    driver.set_window_size(900, 1120)
+                    driver.execute_script("document.activeElement.blur()")
                     look(driver, "patron-page.png")
                 killed(driver, base, serving)
                 wrong = [it["message"] for it in driver.get_log("browser") if "Content Security" in it["message"] or "Uncaught" in it["message"]]
