@@ -4,8 +4,9 @@ ghost use Rattle.std.specs.Prelude.{◌≡◌, false};
 ghost use Rattle.terms.specs.Schemas.{led_to_2};
 ghost use Rattle.store.specs.Library.{HasTables};
 ghost use Rattle.store.specs.Migrating.{Route, IsRoute, holds_route, holds_carried, MovesPage};
-ghost use Rattle.store.specs.Migrating.{LeadsInside, MovesRows, LeadsRows, IsToCarry, all_over, HasTables1};
-ghost use Rattle.store.specs.Migrating.{IsLibrary1, LeadsOnInside, StepsOn, TellsSchema};
+ghost use Rattle.store.specs.Migrating.{LeadsInside, MovesRows, IsToCarry, all_over};
+ghost use Rattle.store.specs.Migrating.{HasTables1, LeadsRows, IsLibrary1, LeadsOnInside};
+ghost use Rattle.store.specs.Migrating.{StepsOn, TellsSchema};
 
 use crate::pages::last_of;
 use circ_tables::{
