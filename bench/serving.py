@@ -23,6 +23,15 @@ def build():
         sys.exit("bench: the program did not build")
 
 
+def one_run(*words):
+    """How long one run takes, in seconds, and the most memory that it holds, in MB."""
+    run = subprocess.run([f"{TOP}/tests/measured", os.devnull, PROGRAM, *words], stdout=subprocess.PIPE, check=True)
+    took, most, status = run.stdout.split()
+    if int(status):
+        sys.exit(f"bench: {words} ended with {status}")
+    return float(took), int(most) / 1024
+
+
 def desk_request(key, words):
     """The bytes of a request of the desk."""
     body = json.dumps(words)
