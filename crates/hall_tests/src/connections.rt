@@ -65,12 +65,12 @@ const ANSWERED: [(&str, &str); 14] = [
         "409 Conflict {\"refusal\":11}",
     ),
     (
-        "POST /patrons/3/holds HTTP/1.1\r\nCard-Key: cardkey00003\r\nRequest-Key: h1\r\nContent-Length: 44\r\n\r\n{\"branch\":1,\"from\":\"2026-03-05\",\"title\":100}",
+        "POST /patrons/5/holds HTTP/1.1\r\nCard-Key: cardkey00005\r\nRequest-Key: h1\r\nContent-Length: 44\r\n\r\n{\"branch\":1,\"from\":\"2026-03-05\",\"title\":100}",
         "200 OK {\"reply\":\"hold 2\"}",
     ),
     (
-        "GET /patrons/3 HTTP/1.1\r\nCard-Key: cardkey00003\r\n\r\n",
-        "200 OK {\"reply\":\"patron 3 owed 0 name Cy Dunn\\nhold 2 at 1 waiting from 2026-03-05 title 100 Rivers of the North\"}",
+        "GET /patrons/5 HTTP/1.1\r\nCard-Key: cardkey00005\r\n\r\n",
+        "200 OK {\"reply\":\"patron 5 owed 0 name Ed Ford\\nhold 2 at 1 waiting from 2026-03-05 title 100 Rivers of the North\"}",
     ),
     (
         "POST /patrons/4/holds HTTP/1.1\r\nCard-Key: cardkey00004\r\nRequest-Key: h1\r\nContent-Length: 44\r\n\r\n{\"branch\":1,\"from\":\"2026-03-02\",\"title\":100}",
