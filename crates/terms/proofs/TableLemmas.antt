@@ -8,7 +8,7 @@ use Rattle.terms.specs.Commands.{Column, IsListed, Text, commands, kind_of, line
 use Rattle.terms.specs.Texts.{Part, Number, Amount, Day, Mask, CardKey, Name, said}
 use Rattle.terms.specs.declared.command.Command.{Command}
 use Rattle.terms.specs.declared.form.CommandForm.{CommandForm}
-use Rattle.terms.specs.declared.command.Command.TheVariants.{BeginDay, Branch, Week, CloseDay, OpenDay, Kind, Rule, Patron, Acquire, CheckOut, CheckIn, Renew, PlaceHold, CancelHold, Unshelve, UnshelveCancelled, Missing, Withdraw, Pay, Waive, Page}
+use Rattle.terms.specs.declared.command.Command.TheVariants.{BeginDay, Branch, Week, CloseDay, OpenDay, Kind, Rule, Grace, Patron, Acquire, CheckOut, CheckIn, Renew, PlaceHold, CancelHold, Unshelve, UnshelveCancelled, Missing, Withdraw, Pay, Waive, Page}
 
 -- each byte is ASCII
 abbrev pub is_low : List ℕ → Bool
@@ -66,6 +66,7 @@ command_from name parts =
     else (if bytes_eq name (codes "open-day") then OpenDay (n 0) (n 1)
     else (if bytes_eq name (codes "kind") then Kind (n 0) (n 1) (n 2) (n 3)
     else (if bytes_eq name (codes "rule") then Rule (n 0) (n 1) (n 2) (n 3) (n 4) (n 5)
+    else (if bytes_eq name (codes "grace") then Grace (n 0) (n 1) (n 2)
     else (if bytes_eq name (codes "patron") then Patron (n 0) (n 1) (t 2) (t 3)
     else (if bytes_eq name (codes "acquire") then Acquire (n 0) (n 1) (n 2) (n 3) (n 4) (t 5)
     else (if bytes_eq name (codes "check-out") then CheckOut (n 0) (n 1) (n 2)
@@ -80,7 +81,7 @@ command_from name parts =
     else (if bytes_eq name (codes "withdraw") then Withdraw (n 0)
     else (if bytes_eq name (codes "pay") then Pay (n 0) (n 1)
     else (if bytes_eq name (codes "waive") then Waive (n 0) (n 1)
-    else Page (n 0)))))))))))))))))))))
+    else Page (n 0))))))))))))))))))))))
 
 pub record IsTold (command : Command) : Type 0 where
   pub parts : List Column

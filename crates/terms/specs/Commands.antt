@@ -57,6 +57,7 @@ commands =
       (codes "kind", kind.Number) ∷ (codes "copy-kind", kind.Number) ∷ (codes "period", kind.Number) ∷ (codes "renewals", kind.Number)
           ∷ (codes "rate", kind.Amount) ∷ (codes "cap", kind.Amount) ∷ [],
     )
+    ∷ (codes "grace", (codes "kind", kind.Number) ∷ (codes "copy-kind", kind.Number) ∷ (codes "days", kind.Number) ∷ [])
     ∷ (codes "patron", (codes "patron", kind.Number) ∷ (codes "kind", kind.Number) ∷ (codes "card-key", kind.CardKey) ∷ (codes "name", kind.Name) ∷ [])
     ∷ (
       codes "acquire",

@@ -7,7 +7,7 @@ use Rattle.terms.specs.Forms.{IsName, is_card_key, IsKey}
 use Rattle.terms.specs.Texts.{reply_text}
 use Rattle.terms.specs.Laws.{IsAmount, IsKept}
 use Rattle.terms.specs.Pictures.{Picture}
-use Rattle.terms.specs.declared.limits.TheConstants.{LAST_SMALL_NUMBER, LAST_LARGE_NUMBER, LAST_NUMBER, LAST_NEXT_NUMBER, LONGEST_PERIOD, LONGEST_PICKUP, MOST_RENEWALS, MOST_ALLOWED, HIGHEST_RATE, HIGHEST_CAP, HIGHEST_PRICE, HIGHEST_DEBT}
+use Rattle.terms.specs.declared.limits.TheConstants.{LAST_SMALL_NUMBER, LAST_LARGE_NUMBER, LAST_NUMBER, LAST_NEXT_NUMBER, LONGEST_PERIOD, LONGEST_PICKUP, MOST_RENEWALS, MOST_GRACE, MOST_ALLOWED, HIGHEST_RATE, HIGHEST_CAP, HIGHEST_PRICE, HIGHEST_DEBT}
 use Rattle.terms.specs.declared.reply.Reply.{Reply}
 use Rattle.terms.specs.declared.command.Owner.{Owner}
 use Rattle.terms.specs.declared.command.Owner.TheVariants.{Desk, Patron}
@@ -15,10 +15,12 @@ use Rattle.terms.specs.declared.row.MetaRow.{MetaRow}
 use Rattle.terms.specs.declared.row.BranchRow.{BranchRow}
 use Rattle.terms.specs.declared.row.KindRow.{KindRow}
 use Rattle.terms.specs.declared.row.RuleRow.{RuleRow}
+use Rattle.terms.specs.declared.row.RuleRow1.{RuleRow1}
 use Rattle.terms.specs.declared.row.PatronRow.{PatronRow}
 use Rattle.terms.specs.declared.row.TitleRow.{TitleRow}
 use Rattle.terms.specs.declared.row.CopyRow.{CopyRow}
 use Rattle.terms.specs.declared.row.LoanRow.{LoanRow}
+use Rattle.terms.specs.declared.row.LoanRow1.{LoanRow1}
 use Rattle.terms.specs.declared.row.HoldRow.{HoldRow}
 use Rattle.terms.specs.declared.row.HoldRow1.{HoldRow1}
 use Rattle.terms.specs.declared.row.TransitRow.{TransitRow}
@@ -57,7 +59,10 @@ abbrev pub IsKind : KindRow → Type 0
 IsKind r = IsSmall r.kind × (r.loans ≤ MOST_ALLOWED) × (r.holds ≤ MOST_ALLOWED) × (r.debt ≤ HIGHEST_DEBT)
 
 abbrev pub IsRule : RuleRow → Type 0
-IsRule r = IsSmall r.kind × IsSmall r.copy_kind × IsPeriod r.period × (r.renewals ≤ MOST_RENEWALS) × (r.rate ≤ HIGHEST_RATE) × (r.cap ≤ HIGHEST_CAP)
+IsRule r = IsSmall r.kind × IsSmall r.copy_kind × IsPeriod r.period × (r.renewals ≤ MOST_RENEWALS) × (r.rate ≤ HIGHEST_RATE) × (r.cap ≤ HIGHEST_CAP) × (r.grace ≤ MOST_GRACE)
+
+abbrev pub IsRule1 : RuleRow1 → Type 0
+IsRule1 r = IsSmall r.kind × IsSmall r.copy_kind × IsPeriod r.period × (r.renewals ≤ MOST_RENEWALS) × (r.rate ≤ HIGHEST_RATE) × (r.cap ≤ HIGHEST_CAP)
 
 abbrev pub IsPatron : PatronRow → Type 0
 IsPatron r = IsLarge r.patron × IsSmall r.kind × (is_card_key r.card_key ≡ true) × IsName r.name × IsAmount r.owed
@@ -70,6 +75,11 @@ IsCopy r = IsLarge r.copy × IsLarge r.title × IsSmall r.kind × IsSmall r.home
 
 abbrev pub IsLoan : LoanRow → Type 0
 IsLoan r =
+    IsGiven r.loan × IsLarge r.copy × IsLarge r.patron × IsSmall r.branch × IsDayNumber r.made × IsDayNumber r.due × IsPeriod r.period
+    × (r.renewals_left ≤ MOST_RENEWALS) × (r.rate ≤ HIGHEST_RATE) × (r.cap ≤ HIGHEST_CAP) × IfSome r.ended IsDayNumber × (r.grace ≤ MOST_GRACE)
+
+abbrev pub IsLoan1 : LoanRow1 → Type 0
+IsLoan1 r =
     IsGiven r.loan × IsLarge r.copy × IsLarge r.patron × IsSmall r.branch × IsDayNumber r.made × IsDayNumber r.due × IsPeriod r.period
     × (r.renewals_left ≤ MOST_RENEWALS) × (r.rate ≤ HIGHEST_RATE) × (r.cap ≤ HIGHEST_CAP) × IfSome r.ended IsDayNumber
 
@@ -96,10 +106,12 @@ pub record InLimits (P : Picture) : Type 0 where
   pub closed_days : (b d : ℕ) → P.closed_days b d ≡ true → IsSmall b × IsDayNumber d
   pub kinds : (k : ℕ) (r : KindRow) → P.kinds k ≡ Some r → (r.kind ≡ k) × IsKind r
   pub rules : (k c : ℕ) (r : RuleRow) → P.rules k c ≡ Some r → (r.kind ≡ k) × (r.copy_kind ≡ c) × IsRule r
+  pub rules1 : (k c : ℕ) (r : RuleRow1) → P.rules1 k c ≡ Some r → (r.kind ≡ k) × (r.copy_kind ≡ c) × IsRule1 r
   pub patrons : (p : ℕ) (r : PatronRow) → P.patrons p ≡ Some r → (r.patron ≡ p) × IsPatron r
   pub titles : (t : ℕ) (r : TitleRow) → P.titles t ≡ Some r → (r.title ≡ t) × IsTitle r
   pub copies : (c : ℕ) (r : CopyRow) → P.copies c ≡ Some r → (r.copy ≡ c) × IsCopy r
   pub loans : (l : ℕ) (r : LoanRow) → P.loans l ≡ Some r → (r.loan ≡ l) × IsLoan r
+  pub loans1 : (l : ℕ) (r : LoanRow1) → P.loans1 l ≡ Some r → (r.loan ≡ l) × IsLoan1 r
   pub holds : (h : ℕ) (r : HoldRow) → P.holds h ≡ Some r → (r.hold ≡ h) × IsHold r
   pub holds1 : (h : ℕ) (r : HoldRow1) → P.holds1 h ≡ Some r → (r.hold ≡ h) × IsHold1 r
   pub transits : (c : ℕ) (r : TransitRow) → P.transits c ≡ Some r → (r.copy ≡ c) × IsTransit r

@@ -1,4 +1,4 @@
--- The rows of the fourteen tables, as maps from their keys.
+-- The rows of the sixteen tables, as maps from their keys.
 use Rattle.std.specs.Prelude.{ℕ, ◌==◌, Bool, true, false, ◌&&◌, List, Option, bytes_eq}
 use Rattle.terms.specs.declared.command.Owner.{Owner}
 use Rattle.terms.specs.declared.command.Owner.TheVariants.{Desk, Patron as Reader}
@@ -6,27 +6,31 @@ use Rattle.terms.specs.declared.row.MetaRow.{MetaRow}
 use Rattle.terms.specs.declared.row.BranchRow.{BranchRow}
 use Rattle.terms.specs.declared.row.KindRow.{KindRow}
 use Rattle.terms.specs.declared.row.RuleRow.{RuleRow}
+use Rattle.terms.specs.declared.row.RuleRow1.{RuleRow1}
 use Rattle.terms.specs.declared.row.PatronRow.{PatronRow}
 use Rattle.terms.specs.declared.row.TitleRow.{TitleRow}
 use Rattle.terms.specs.declared.row.CopyRow.{CopyRow}
 use Rattle.terms.specs.declared.row.LoanRow.{LoanRow}
+use Rattle.terms.specs.declared.row.LoanRow1.{LoanRow1}
 use Rattle.terms.specs.declared.row.HoldRow.{HoldRow}
 use Rattle.terms.specs.declared.row.HoldRow1.{HoldRow1}
 use Rattle.terms.specs.declared.row.TransitRow.{TransitRow}
 use Rattle.terms.specs.declared.row.LineRow.{LineRow}
 use Rattle.terms.specs.declared.row.KeptRow.{KeptRow}
 
--- The tables: for each key, the row or none. A single closed day is there or not. `holds` are those of the table of schema 2, and `holds1` those of the table that schema 1 has and that is empty from then on.
+-- The tables: for each key, the row or none. A single closed day is there or not. `holds` are those of the table of schema 2, and `holds1` those of the table that schema 1 has and that is empty from then on; `rules` and `loans` those of schema 3, and `rules1` and `loans1` those that schemas 1 and 2 have.
 pub record Picture : Type 0 where
   pub meta : MetaRow
   pub branches : ℕ → Option BranchRow
   pub closed_days : ℕ → ℕ → Bool
   pub kinds : ℕ → Option KindRow
   pub rules : ℕ → ℕ → Option RuleRow
+  pub rules1 : ℕ → ℕ → Option RuleRow1
   pub patrons : ℕ → Option PatronRow
   pub titles : ℕ → Option TitleRow
   pub copies : ℕ → Option CopyRow
   pub loans : ℕ → Option LoanRow
+  pub loans1 : ℕ → Option LoanRow1
   pub holds : ℕ → Option HoldRow
   pub holds1 : ℕ → Option HoldRow1
   pub transits : ℕ → Option TransitRow

@@ -1,5 +1,9 @@
 -- How the tables of one schema are led to those of the next.
 use Rattle.std.specs.Prelude.{◌≡◌, ℕ, Option, None, option_map}
+use Rattle.terms.specs.declared.row.RuleRow.{RuleRow}
+use Rattle.terms.specs.declared.row.RuleRow1.{RuleRow1}
+use Rattle.terms.specs.declared.row.LoanRow.{LoanRow}
+use Rattle.terms.specs.declared.row.LoanRow1.{LoanRow1}
 use Rattle.terms.specs.declared.row.HoldRow.{HoldRow}
 use Rattle.terms.specs.declared.row.HoldRow1.{HoldRow1}
 use Rattle.terms.specs.Pictures.{Picture}
@@ -8,11 +12,51 @@ use Rattle.terms.specs.Pictures.{Picture}
 abbrev pub carried : HoldRow1 → HoldRow
 carried r = record { hold = r.hold; patron = r.patron; title = r.title; branch = r.branch; state = r.state; copy = r.copy; limit_day = r.limit_day; first_day = None }
 
--- The tables are those of a library of schema 1, whose `meta` says so.
+-- A rule and a loan of schema 2 as schema 3 has them: with no grace days.
+abbrev pub carried_rule : RuleRow1 → RuleRow
+carried_rule r = record { kind = r.kind; copy_kind = r.copy_kind; period = r.period; renewals = r.renewals; rate = r.rate; cap = r.cap; grace = 0 }
+
+abbrev pub carried_loan : LoanRow1 → LoanRow
+carried_loan r =
+    record {
+      loan = r.loan;
+      copy = r.copy;
+      patron = r.patron;
+      branch = r.branch;
+      made = r.made;
+      due = r.due;
+      period = r.period;
+      renewals_left = r.renewals_left;
+      rate = r.rate;
+      cap = r.cap;
+      ended = r.ended;
+      grace = 0;
+    }
+
+-- The tables are those of a library of schema 2, whose `meta` says so.
+pub record IsOfSchema2 (P : Picture) : Type 0 where
+  pub names : P.meta.schema ≡ 2
+  pub later_rules : (k c : ℕ) → P.rules k c ≡ None
+  pub later_loans : (l : ℕ) → P.loans l ≡ None
+
+-- They are those of a library of schema 1.
 pub record IsOfSchema1 (P : Picture) : Type 0 where
   pub names : P.meta.schema ≡ 1
   pub later : (h : ℕ) → P.holds h ≡ None
+  pub later_rules : (k c : ℕ) → P.rules k c ≡ None
+  pub later_loans : (l : ℕ) → P.loans l ≡ None
 
--- Those of schema 2 that they are led to: each hold is carried over, and no other row is changed but that of `meta`, which says the schema.
+-- Those of schema 2 that the tables of schema 1 are led to: each hold is carried over, and no other row is changed but that of `meta`, which says the schema.
 abbrev pub led_to_2 : Picture → Picture
 led_to_2 P = record P { meta = record P.meta { schema = 2 }; holds = λ h. option_map carried (P.holds1 h); holds1 = λ _. None }
+
+-- Those of schema 3 that the tables of schema 2 are led to: each rule and each loan is carried over.
+abbrev pub led_to_3 : Picture → Picture
+led_to_3 P =
+    record P {
+      meta = record P.meta { schema = 3 };
+      rules = λ k c. option_map carried_rule (P.rules1 k c);
+      rules1 = λ _ _. None;
+      loans = λ l. option_map carried_loan (P.loans1 l);
+      loans1 = λ _. None;
+    }

@@ -56,6 +56,13 @@ pub enum Command {
         rate: Cents,
         cap: Cents,
     },
+    /// The grace days of a circulation rule: a loan that is made under it and ends at most so many
+    /// open days late costs no fine.
+    Grace {
+        kind: PatronKind,
+        copy_kind: CopyKind,
+        days: Days,
+    },
     /// A patron is enrolled.
     Patron {
         patron: PatronId,
@@ -194,6 +201,11 @@ pub(crate) fn joined_words(alloc: Global, command: &Command) -> Result<String, M
             rate,
             cap,
         } => format!(in alloc; "rule {kind} {copy_kind} {period} {renewals} {rate} {cap}"),
+        Command::Grace {
+            kind,
+            copy_kind,
+            days,
+        } => format!(in alloc; "grace {kind} {copy_kind} {days}"),
         Command::Patron {
             patron,
             kind,

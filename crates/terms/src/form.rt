@@ -104,6 +104,11 @@ const CAP: PartForm = PartForm {
     kind: PartKind::Amount,
 };
 
+const DAYS: PartForm = PartForm {
+    name: "days",
+    kind: PartKind::Number,
+};
+
 const PATRON: PartForm = PartForm {
     name: "patron",
     kind: PartKind::Number,
@@ -183,6 +188,10 @@ const COMMANDS: &[CommandForm] = &[
     CommandForm {
         name: "rule",
         parts: &[KIND, COPY_KIND, PERIOD, RENEWALS, RATE, CAP],
+    },
+    CommandForm {
+        name: "grace",
+        parts: &[KIND, COPY_KIND, DAYS],
     },
     CommandForm {
         name: "patron",

@@ -88,6 +88,15 @@ pub fn command_has_forms(command: &Command)
             let _rate = rate.number();
             let _cap = cap.number();
         }
+        Command::Grace {
+            kind,
+            copy_kind,
+            days,
+        } => {
+            let _kind = kind.number();
+            let _copy_kind = copy_kind.number();
+            let _days = days.number();
+        }
         Command::Patron {
             patron,
             kind,

@@ -32,7 +32,7 @@ pub use laws::{
 pub use limits::{
     HIGHEST_CAP, HIGHEST_DEBT, HIGHEST_PRICE, HIGHEST_RATE, LARGEST_SUM, LAST_LARGE_NUMBER,
     LAST_NEXT_NUMBER, LAST_NUMBER, LAST_SMALL_NUMBER, LAST_TODAY, LONGEST_CARD_KEY, LONGEST_KEY,
-    LONGEST_NAME, LONGEST_PERIOD, LONGEST_PICKUP, MOST_ALLOWED, MOST_RENEWALS, SCHEMA,
+    LONGEST_NAME, LONGEST_PERIOD, LONGEST_PICKUP, MOST_ALLOWED, MOST_GRACE, MOST_RENEWALS, SCHEMA,
     SHORTEST_CARD_KEY,
 };
 pub use money::fine;
@@ -47,7 +47,7 @@ pub use refusal::Refusal;
 pub use reply::{Reply, Routed, reply_text};
 pub use row::{
     BranchRow, ClosedDayRow, Condition, CopyRow, HoldRow, HoldRow1, HoldState, KeptRow, KindRow,
-    LineRow, LoanRow, MetaRow, PatronRow, RuleRow, Sort, TitleRow, TransitRow,
+    LineRow, LoanRow, LoanRow1, MetaRow, PatronRow, RuleRow, RuleRow1, Sort, TitleRow, TransitRow,
 };
 pub use tables::{Rows, Tables};
 pub use text::{CardKey, Key, Name, Text};

@@ -1,7 +1,7 @@
 //! The limits of numbers, amounts and texts, each under one name for the code and the definitions.
 
 /// The number of the newest schema of a library: that of the tables that are made.
-pub const SCHEMA: u32 = 2;
+pub const SCHEMA: u32 = 3;
 
 /// The greatest number of a branch, a kind of patron or a kind of copy. The least is 1, as of every
 /// number below.
@@ -21,6 +21,9 @@ pub const LAST_TODAY: u32 = 80718;
 
 /// The longest loan period, in days. The shortest is 1.
 pub const LONGEST_PERIOD: u32 = 365;
+
+/// The most grace days that a circulation rule can give.
+pub const MOST_GRACE: u32 = 365;
 
 /// The longest pick-up period, in days.
 pub const LONGEST_PICKUP: u32 = 60;

@@ -3,13 +3,16 @@
 ghost use Rattle.std.specs.Prelude.{◌≡◌};
 ghost use Rattle.terms.specs.Money.{fine_for};
 
-use crate::number::Cents;
+use crate::number::{Cents, Days};
 
-/// The fine for so many open days late: each costs the rate in cents, and all together no more than
-/// the cap.
-pub fn fine(days: u32, rate: Cents, cap: Cents) -> Cents
-    ensures { result ≡ fine_for days rate cap }
+/// The fine for so many open days late: none within the grace days; else each day late costs the
+/// rate in cents, and all together no more than the cap.
+pub fn fine(days: u32, rate: Cents, cap: Cents, grace: Days) -> Cents
+    ensures { result ≡ fine_for days rate cap grace }
 {
+    if days <= grace.number() {
+        return Cents::new(0);
+    }
     let most = cap.number();
     match u64::from(days).checked_mul(rate.number()) {
         Some(amount) => Cents::new(amount.min(most)),

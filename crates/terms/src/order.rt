@@ -8,7 +8,7 @@ ghost use Rattle.terms.specs.Orders.{rise-on, pair-on, kept-on};
 use crate::command::Owner;
 use crate::row::{
     BranchRow, ClosedDayRow, CopyRow, HoldRow, HoldRow1, KeptRow, KindRow, LineRow, LoanRow,
-    PatronRow, RuleRow, TitleRow, TransitRow,
+    LoanRow1, PatronRow, RuleRow, TitleRow, TransitRow,
 };
 
 /// Rows of a table, which stand in an order of their keys.
@@ -101,6 +101,17 @@ impl Ordered for LoanRow {
     ghost comes_before = { λ r s. r.loan < s.loan };
 
     fn comes_before(&self, other: &LoanRow) -> bool {
+        self.loan.number() < other.loan.number()
+    }
+
+    ghost goes_on = { rise-on (λ r. r.loan) };
+}
+
+/// Loans of schemas 1 and 2 stand by number.
+impl Ordered for LoanRow1 {
+    ghost comes_before = { λ r s. r.loan < s.loan };
+
+    fn comes_before(&self, other: &LoanRow1) -> bool {
         self.loan.number() < other.loan.number()
     }
 

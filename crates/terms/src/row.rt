@@ -43,9 +43,21 @@ pub struct KindRow {
     pub debt: Cents,
 }
 
-/// A row of `rules`.
+/// A row of `rules3`.
 #[derive(Clone, Copy, Debug, PartialEq, Eq)]
 pub struct RuleRow {
+    pub kind: PatronKind,
+    pub copy_kind: CopyKind,
+    pub period: Days,
+    pub renewals: Count,
+    pub rate: Cents,
+    pub cap: Cents,
+    pub grace: Days,
+}
+
+/// A row of `rules`: a rule as a library of schema 1 or 2 has it. From schema 3 on there is none.
+#[derive(Clone, Copy, Debug, PartialEq, Eq)]
+pub struct RuleRow1 {
     pub kind: PatronKind,
     pub copy_kind: CopyKind,
     pub period: Days,
@@ -90,9 +102,26 @@ pub struct CopyRow {
     pub condition: Condition,
 }
 
-/// A row of `loans`. A loan is open while it has no day on which it ended.
+/// A row of `loans3`. A loan is open while it has no day on which it ended.
 #[derive(Clone, Copy, Debug, PartialEq, Eq)]
 pub struct LoanRow {
+    pub loan: LoanId,
+    pub copy: CopyId,
+    pub patron: PatronId,
+    pub branch: BranchId,
+    pub made: Day,
+    pub due: Day,
+    pub period: Days,
+    pub renewals_left: Count,
+    pub rate: Cents,
+    pub cap: Cents,
+    pub ended: Option<Day>,
+    pub grace: Days,
+}
+
+/// A row of `loans`: a loan as a library of schema 1 or 2 has it. From schema 3 on there is none.
+#[derive(Clone, Copy, Debug, PartialEq, Eq)]
+pub struct LoanRow1 {
     pub loan: LoanId,
     pub copy: CopyId,
     pub patron: PatronId,

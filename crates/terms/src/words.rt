@@ -204,6 +204,24 @@ fn rule(values: &[&str]) -> Result<Command, WordFault>
 }
 
 #[tactic(auto, unfolding(crate::specs::Texts::command_words))]
+fn grace(values: &[&str]) -> Result<Command, WordFault>
+    ensures read { IfOk result (IsReadAs (codes "grace") (texts values.now)) }
+    ensures refused { result ≡ Err Refused → IsNoCommand (codes "grace") (texts values.now) }
+{
+    let [kind, copy_kind, days] = values else {
+        return Err(WordFault::NotUnderstood);
+    };
+    let kind = PatronKind::new(number(kind)?);
+    let copy_kind = CopyKind::new(number(copy_kind)?);
+    let days = Days::new(number(days)?);
+    Ok(Command::Grace {
+        kind,
+        copy_kind,
+        days,
+    })
+}
+
+#[tactic(auto, unfolding(crate::specs::Texts::command_words))]
 fn patron(alloc: Global, values: &[&str]) -> Result<Command, WordFault>
     ensures read { IfOk result (IsReadAs (codes "patron") (texts values.now)) }
     ensures refused { result ≡ Err Refused → IsNoCommand (codes "patron") (texts values.now) }
@@ -444,6 +462,7 @@ pub fn read_command(alloc: Global, name: &str, values: &[&str]) -> Result<Comman
         "open-day" => open_day(values),
         "kind" => kind(values),
         "rule" => rule(values),
+        "grace" => grace(values),
         "patron" => patron(alloc, values),
         "acquire" => acquire(alloc, values),
         "check-out" => check_out(values),
