@@ -1,20 +1,92 @@
--- Rows that are carried over from one table to another, page by page.
-use Rattle.std.proofs.Common.{◌≡◌, ◌≢◌, ℕ, ◌<◌, ◌≤◌, inl, inr, leb, true, false, cond, List, [], ◌∷◌, length, refl, sym, ap, subst, ◌∙◌, arith}
+-- Rows that are carried over from one table to another.
+use Rattle.std.proofs.Common.{◌≡◌, ◌≢◌, ℕ, ◌<◌, ◌≤◌, ◌⊎◌, inl, inr, leb, Bool, true, false, cond, List, [], ◌∷◌, length, refl, sym, ap, subst, ◌∙◌, arith, true≢false}
 use Rattle.std.specs.Prelude.{Option, Some, None, option_map}
 use Rattle.std.proofs.Math.Path.{fun_ext}
-use Rattle.std.proofs.lemmas.Bool.{cases_lt, cases_eq, le-leb, lt-leb, eq-eqb, ne_eqb}
+use Rattle.std.proofs.lemmas.Bool.{cases_Bool, cases_lt, false_from_ne_true, le-leb, lt-leb}
 use Rattle.sqlite_rules.specs.Lists.{Has}
 use Rattle.sqlite_rules.proofs.ListLemmas.{has_contained, contains_had}
-use Rattle.terms.specs.Pictures.{put}
 use Rattle.circ_tables.specs.declared.by_number.TheConstants.{PAGE_ROWS}
+use Rattle.store.specs.Migrating.{put_by}
 use Rattle.store.specs.Pages.{AreRowsAfter, AreNumbered}
 
--- An entry under its key, and under another.
-put_here : {A : Type 0} (t : ℕ → A) (k : ℕ) (x : A) (n : ℕ) → k ≡ n → put t k x n ≡ x
-put_here t k x n same = ap (λ b. elim b [ true ↦ x | false ↦ t n ]) (eq-eqb k n same)
+-- What tells two keys of a table apart.
+module _ {K : Type 0} (same : K → K → Bool) (own : (k : K) → same k k ≡ true) (met : (j k : K) → same j k ≡ true → j ≡ k) where
+  alike : (j k : K) → (j ≡ k) ⊎ (j ≢ k)
+  alike j k = elim (cases_Bool (same j k)) [
+    | inl hit ↦ inl (met j k hit)
+    | inr miss ↦ inr (λ e. true≢false (sym (subst (λ i. same j i ≡ true) e (own j)) ∙ miss))
+  ]
 
-put_elsewhere : {A : Type 0} (t : ℕ → A) (k : ℕ) (x : A) (n : ℕ) → k ≢ n → put t k x n ≡ t n
-put_elsewhere t k x n other = ap (λ b. elim b [ true ↦ x | false ↦ t n ]) (ne_eqb k n other)
+  -- An entry under its key, and under another.
+  put_here : {A : Type 0} (t : K → A) (k : K) (x : A) (j : K) → k ≡ j → put_by same t k x j ≡ x
+  put_here t k x j is = ap (λ b. elim b [ true ↦ x | false ↦ t j ]) (subst (λ i. same k i ≡ true) is (own k))
+
+  put_elsewhere : {A : Type 0} (t : K → A) (k : K) (x : A) (j : K) → k ≢ j → put_by same t k x j ≡ t j
+  put_elsewhere t k x j other = ap (λ b. elim b [ true ↦ x | false ↦ t j ]) (false_from_ne_true _ (λ hit. other (met k j hit)))
+
+  -- The rows of a page are taken out of the one table, and what they become is put into the other.
+  module _ {R N : Type 0} (key_of : R → K) (carried : R → N) where
+    abbrev pub all_taken : List R → (K → Option R) → K → Option R
+    all_taken [] f = f
+    all_taken (r ∷ more) f = all_taken more (put_by same f (key_of r) None)
+
+    abbrev pub all_put : List R → (K → Option N) → K → Option N
+    all_put [] g = g
+    all_put (r ∷ more) g = all_put more (put_by same g (key_of r) (Some (carried r)))
+
+    pub taken_none : (page : List R) (f : K → Option R) (k : K) → f k ≡ None → all_taken page f k ≡ None
+    taken_none [] f k none = none
+    taken_none (r ∷ more) f k none = taken_none more (put_by same f (key_of r) None) k (elim (alike (key_of r) k) [ inl is ↦ put_here f (key_of r) None k is | inr other ↦ put_elsewhere f (key_of r) None k other ∙ none ])
+
+    pub taken_there : (page : List R) (f : K → Option R) (r : R) → Has page r → all_taken page f (key_of r) ≡ None
+    taken_there [] f r never = absurd never
+    taken_there (x ∷ more) f r (inl is) = taken_none more (put_by same f (key_of x) None) (key_of r) (put_here f (key_of x) None (key_of r) (ap key_of (sym is)))
+    taken_there (x ∷ more) f r (inr there) = taken_there more (put_by same f (key_of x) None) r there
+
+    pub taken_elsewhere : (page : List R) (f : K → Option R) (k : K) → ((r : R) → Has page r → key_of r ≢ k) → all_taken page f k ≡ f k
+    taken_elsewhere [] f k other = refl
+    taken_elsewhere (x ∷ more) f k other = taken_elsewhere more (put_by same f (key_of x) None) k (λ r there. other r (inr there)) ∙ put_elsewhere f (key_of x) None k (other x (inl refl))
+
+    pub put_nowhere : (page : List R) (g : K → Option N) (k : K) → ((r : R) → Has page r → key_of r ≢ k) → all_put page g k ≡ g k
+    put_nowhere [] g k other = refl
+    put_nowhere (x ∷ more) g k other = put_nowhere more (put_by same g (key_of x) (Some (carried x))) k (λ r there. other r (inr there)) ∙ put_elsewhere g (key_of x) (Some (carried x)) k (other x (inl refl))
+
+    put_stays : (page : List R) (g : K → Option N) (k : K) (n : N) → ((r : R) → Has page r → key_of r ≡ k → carried r ≡ n) → g k ≡ Some n → all_put page g k ≡ Some n
+    put_stays [] g k n each is = is
+    put_stays (x ∷ more) g k n each is =
+        put_stays more (put_by same g (key_of x) (Some (carried x))) k n (λ r there. each r (inr there)) (elim (alike (key_of x) k) [
+          | inl mine ↦ put_here g (key_of x) (Some (carried x)) k mine ∙ ap Some (each x (inl refl) mine)
+          | inr other ↦ put_elsewhere g (key_of x) (Some (carried x)) k other ∙ is
+        ])
+
+    pub put_there : (page : List R) (g : K → Option N) (k : K) (n : N) → ((r : R) → Has page r → key_of r ≡ k → carried r ≡ n) → (r : R) → Has page r → key_of r ≡ k → all_put page g k ≡ Some n
+    put_there [] g k n each r never mine = absurd never
+    put_there (x ∷ more) g k n each r (inl is) mine =
+        let here : key_of x ≡ k = ap key_of (sym is) ∙ mine in
+        put_stays more (put_by same g (key_of x) (Some (carried x))) k n (λ s there. each s (inr there)) (put_here g (key_of x) (Some (carried x)) k here ∙ ap Some (each x (inl refl) here))
+    put_there (x ∷ more) g k n each r (inr there) mine = put_there more (put_by same g (key_of x) (Some (carried x))) k n (λ s before. each s (inr before)) r there mine
+
+    -- A page that has every row of the table.
+    module _ (f : K → Option R) (page : List R) (sound : (r : R) → Has page r → f (key_of r) ≡ Some r) (whole : (k : K) (r : R) → f k ≡ Some r → Has page r × (key_of r ≡ k)) where
+      pub whole_taken : all_taken page f ≡ λ _. None
+      whole_taken = fun_ext (λ k. at k (f k) refl)
+        where
+          at : (k : K) (o : Option R) → f k ≡ o → all_taken page f k ≡ None
+          at k None e = taken_none page f k e
+          at k (Some r) e = let it = whole k r e in subst (λ j. all_taken page f j ≡ None) it.1 (taken_there page f r it.0)
+
+      pub whole_put : all_put page (λ _. None) ≡ λ k. option_map carried (f k)
+      whole_put = fun_ext (λ k. at k (f k) refl)
+        where
+          alone : (k : K) (r : R) → f k ≡ Some r → (s : R) → Has page s → key_of s ≡ k → carried s ≡ carried r
+          alone k r e s has mine =
+              let both : Some s ≡ Some r = sym (sound s has) ∙ ap f mine ∙ e in
+              let one : s ≡ r = cc in
+              ap carried one
+
+          at : (k : K) (o : Option R) → f k ≡ o → all_put page (λ _. None) k ≡ option_map carried o
+          at k None e = put_nowhere page (λ _. None) k (λ r has mine. (let both : None ≡ Some r = sym e ∙ ap f (sym mine) ∙ sound r has in let never : ⊥ = cc in never))
+          at k (Some r) e = let it = whole k r e in put_there page (λ _. None) k (carried r) (alone k r e) r it.0 it.1
 
 -- The rows that are left above a number, and those that were carried over up to it.
 abbrev pub left_above : {R : Type 0} → ℕ → (ℕ → Option R) → ℕ → Option R
@@ -37,48 +109,8 @@ module _ {R N : Type 0} (carried : R → N) (f : ℕ → Option R) (after k : �
   carried_high : after < k → carried_to carried after f k ≡ None
   carried_high high = ap (λ b. cond b (option_map carried (f k)) None) (lt-leb k after high)
 
--- The rows of a page are taken out of the one table, and what they become is put into the other.
-module _ {R N : Type 0} (number_of : R → ℕ) (carried : R → N) where
-  abbrev pub all_taken : List R → (ℕ → Option R) → ℕ → Option R
-  all_taken [] f = f
-  all_taken (r ∷ more) f = all_taken more (put f (number_of r) None)
-
-  abbrev pub all_put : List R → (ℕ → Option N) → ℕ → Option N
-  all_put [] g = g
-  all_put (r ∷ more) g = all_put more (put g (number_of r) (Some (carried r)))
-
-  taken_none : (page : List R) (f : ℕ → Option R) (k : ℕ) → f k ≡ None → all_taken page f k ≡ None
-  taken_none [] f k none = none
-  taken_none (r ∷ more) f k none = taken_none more (put f (number_of r) None) k (elim (cases_eq (number_of r) k) [ inl same ↦ put_here f (number_of r) None k same | inr other ↦ put_elsewhere f (number_of r) None k other ∙ none ])
-
-  taken_there : (page : List R) (f : ℕ → Option R) (r : R) → Has page r → all_taken page f (number_of r) ≡ None
-  taken_there [] f r never = absurd never
-  taken_there (x ∷ more) f r (inl same) = taken_none more (put f (number_of x) None) (number_of r) (put_here f (number_of x) None (number_of r) (ap number_of (sym same)))
-  taken_there (x ∷ more) f r (inr there) = taken_there more (put f (number_of x) None) r there
-
-  taken_elsewhere : (page : List R) (f : ℕ → Option R) (k : ℕ) → ((r : R) → Has page r → number_of r ≢ k) → all_taken page f k ≡ f k
-  taken_elsewhere [] f k other = refl
-  taken_elsewhere (x ∷ more) f k other = taken_elsewhere more (put f (number_of x) None) k (λ r there. other r (inr there)) ∙ put_elsewhere f (number_of x) None k (other x (inl refl))
-
-  put_nowhere : (page : List R) (g : ℕ → Option N) (k : ℕ) → ((r : R) → Has page r → number_of r ≢ k) → all_put page g k ≡ g k
-  put_nowhere [] g k other = refl
-  put_nowhere (x ∷ more) g k other = put_nowhere more (put g (number_of x) (Some (carried x))) k (λ r there. other r (inr there)) ∙ put_elsewhere g (number_of x) (Some (carried x)) k (other x (inl refl))
-
-  put_stays : (page : List R) (g : ℕ → Option N) (k : ℕ) (n : N) → ((r : R) → Has page r → number_of r ≡ k → carried r ≡ n) → g k ≡ Some n → all_put page g k ≡ Some n
-  put_stays [] g k n each is = is
-  put_stays (x ∷ more) g k n each is =
-      put_stays more (put g (number_of x) (Some (carried x))) k n (λ r there. each r (inr there)) (elim (cases_eq (number_of x) k) [
-        | inl same ↦ put_here g (number_of x) (Some (carried x)) k same ∙ ap Some (each x (inl refl) same)
-        | inr other ↦ put_elsewhere g (number_of x) (Some (carried x)) k other ∙ is
-      ])
-
-  put_there : (page : List R) (g : ℕ → Option N) (k : ℕ) (n : N) → ((r : R) → Has page r → number_of r ≡ k → carried r ≡ n) → (r : R) → Has page r → number_of r ≡ k → all_put page g k ≡ Some n
-  put_there [] g k n each r never same = absurd never
-  put_there (x ∷ more) g k n each r (inl is) same =
-      let here : number_of x ≡ k = ap number_of (sym is) ∙ same in
-      put_stays more (put g (number_of x) (Some (carried x))) k n (λ s there. each s (inr there)) (put_here g (number_of x) (Some (carried x)) k here ∙ ap Some (each x (inl refl) here))
-  put_there (x ∷ more) g k n each r (inr there) same = put_there more (put g (number_of x) (Some (carried x))) k n (λ s before. each s (inr before)) r there same
-
+-- Rows under numbers, up to one of which they are carried over.
+module _ (same : ℕ → ℕ → Bool) (own : (k : ℕ) → same k k ≡ true) (told : (j k : ℕ) → same j k ≡ true → j ≡ k) {R N : Type 0} (number_of : R → ℕ) (carried : R → N) where
   module _ (f : ℕ → Option R) (numbered : AreNumbered f number_of) where
     -- Nothing is carried over yet.
     pub none_left : left_above 0 f ≡ f
@@ -167,24 +199,24 @@ module _ {R N : Type 0} (number_of : R → ℕ) (carried : R → N) where
         more : after < number_of last
         more = (row_is last there).1
 
-        pub next_left : all_taken page (left_above after f) ≡ left_above (number_of last) f
+        pub next_left : all_taken same number_of carried page (left_above after f) ≡ left_above (number_of last) f
         next_left = fun_ext at
           where
-            between : (k : ℕ) → after < k → k ≤ number_of last → (o : Option R) → f k ≡ o → all_taken page (left_above after f) k ≡ None
-            between k high low None e = taken_none page (left_above after f) k (left_high f after k high ∙ e)
+            between : (k : ℕ) → after < k → k ≤ number_of last → (o : Option R) → f k ≡ o → all_taken same number_of carried page (left_above after f) k ≡ None
+            between k high low None e = taken_none same own told number_of carried page (left_above after f) k (left_high f after k high ∙ e)
             between k high low (Some r) e =
-                subst (λ n. all_taken page (left_above after f) n ≡ None) (numbered k r e).0 (taken_there page (left_above after f) r (met k r e high low))
+                subst (λ n. all_taken same number_of carried page (left_above after f) n ≡ None) (numbered k r e).0 (taken_there same own told number_of carried page (left_above after f) r (met k r e high low))
 
-            at : (k : ℕ) → all_taken page (left_above after f) k ≡ left_above (number_of last) f k
+            at : (k : ℕ) → all_taken same number_of carried page (left_above after f) k ≡ left_above (number_of last) f k
             at k = elim (cases_lt after k) [
-              | inr low ↦ taken_none page (left_above after f) k (left_low f after k low) ∙ sym (left_low f (number_of last) k (omega (arith, low, more)))
+              | inr low ↦ taken_none same own told number_of carried page (left_above after f) k (left_low f after k low) ∙ sym (left_low f (number_of last) k (omega (arith, low, more)))
               | inl high ↦ elim (cases_lt (number_of last) k) [
-                | inl past ↦ taken_elsewhere page (left_above after f) k (high_elsewhere k past) ∙ left_high f after k high ∙ sym (left_high f (number_of last) k past)
+                | inl past ↦ taken_elsewhere same own told number_of carried page (left_above after f) k (high_elsewhere k past) ∙ left_high f after k high ∙ sym (left_high f (number_of last) k past)
                 | inr within ↦ between k high within (f k) refl ∙ sym (left_low f (number_of last) k within)
               ]
             ]
 
-        pub next_carried : all_put page (carried_to carried after f) ≡ carried_to carried (number_of last) f
+        pub next_carried : all_put same number_of carried page (carried_to carried after f) ≡ carried_to carried (number_of last) f
         next_carried = fun_ext at
           where
             same_row : (k : ℕ) (r : R) → f k ≡ Some r → (s : R) → Has page s → number_of s ≡ k → carried s ≡ carried r
@@ -194,17 +226,17 @@ module _ {R N : Type 0} (number_of : R → ℕ) (carried : R → N) where
                 let one : s ≡ r = cc in
                 ap carried one
 
-            between : (k : ℕ) → after < k → k ≤ number_of last → (o : Option R) → f k ≡ o → all_put page (carried_to carried after f) k ≡ option_map carried o
-            between k high low None e = put_nowhere page (carried_to carried after f) k (none_elsewhere k e) ∙ carried_high carried f after k high
-            between k high low (Some r) e = put_there page (carried_to carried after f) k (carried r) (same_row k r e) r (met k r e high low) (numbered k r e).0
+            between : (k : ℕ) → after < k → k ≤ number_of last → (o : Option R) → f k ≡ o → all_put same number_of carried page (carried_to carried after f) k ≡ option_map carried o
+            between k high low None e = put_nowhere same own told number_of carried page (carried_to carried after f) k (none_elsewhere k e) ∙ carried_high carried f after k high
+            between k high low (Some r) e = put_there same own told number_of carried page (carried_to carried after f) k (carried r) (same_row k r e) r (met k r e high low) (numbered k r e).0
 
-            at : (k : ℕ) → all_put page (carried_to carried after f) k ≡ carried_to carried (number_of last) f k
+            at : (k : ℕ) → all_put same number_of carried page (carried_to carried after f) k ≡ carried_to carried (number_of last) f k
             at k = elim (cases_lt after k) [
               | inr low ↦
-                  put_nowhere page (carried_to carried after f) k (low_elsewhere k low) ∙ carried_low carried f after k low
+                  put_nowhere same own told number_of carried page (carried_to carried after f) k (low_elsewhere k low) ∙ carried_low carried f after k low
                   ∙ sym (carried_low carried f (number_of last) k (omega (arith, low, more)))
               | inl high ↦ elim (cases_lt (number_of last) k) [
-                | inl past ↦ put_nowhere page (carried_to carried after f) k (high_elsewhere k past) ∙ carried_high carried f after k high ∙ sym (carried_high carried f (number_of last) k past)
+                | inl past ↦ put_nowhere same own told number_of carried page (carried_to carried after f) k (high_elsewhere k past) ∙ carried_high carried f after k high ∙ sym (carried_high carried f (number_of last) k past)
                 | inr within ↦ between k high within (f k) refl ∙ sym (carried_low carried f (number_of last) k within)
               ]
             ]

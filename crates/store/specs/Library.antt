@@ -1,17 +1,22 @@
 -- The words for a library that the crates above speak of.
-use Rattle.std.specs.Prelude.{◌≡◌, ◌⊎◌, IsTrue}
+use Rattle.std.specs.Prelude.{◌≡◌, ◌⊎◌, ℕ, IsTrue}
 use Rattle.sqlite.specs.Effect.{Database}
 use Rattle.sqlite.specs.Tree.{Trees}
 use Rattle.sql_maps.specs.Maps.{Maps, Holds}
-use Rattle.circ_tables.specs.Shape.{schema}
+use Rattle.circ_tables.specs.Shape.{schema_at}
+use Rattle.terms.specs.declared.limits.TheConstants.{SCHEMA}
 pub use Rattle.sqlite.specs.Held.{Held, held_code, state}
 pub use Rattle.sqlite.specs.State.{State, HasCleanDisk}
 pub use Rattle.sqlite.specs.Store.{Ghosts}
 pub use Rattle.sqlite.specs.Steps.{over_memory}
 
--- The tables of the newest schema are there, whatever rows they have.
+-- The tables of a schema are there, whatever rows they have.
+abbrev pub HasTablesAt : ℕ → Database → Type 0
+HasTablesAt n db = (maps : Maps) × Holds (schema_at n) db maps
+
+-- Those of the newest schema.
 abbrev pub HasTables : Database → Type 0
-HasTables db = (maps : Maps) × Holds schema db maps
+HasTables = HasTablesAt SCHEMA
 
 -- The database holds what it held, and a stop leaves that, or what it would have left before.
 pub record IsAsItWas (old new : State) : Type 0 where

@@ -1,209 +1,204 @@
 -- How a library of an older schema is led to the newest one.
-use Rattle.std.specs.Prelude.{◌≡◌, ◌⊎◌, ◌<◌, ◌^◌, ◌==◌, ℕ, false, List, [], ◌∷◌, Option, Some, None, option_map, Err, Result, IfOk, OnOk, OnErr, IsTrue, refl}
+use Rattle.std.specs.Prelude.{◌≡◌, ◌⊎◌, ◌<◌, ◌≤◌, ◌+◌, ◌-◌, ◌^◌, ◌==◌, ◌&&◌, ℕ, zero, suc, Bool, true, false, List, [], ◌∷◌, Option, Some, None, option_map, Err, Result, IfOk, OnOk, OnErr, IsTrue}
 use Rattle.sqlite.specs.Effect.{Database}
 use Rattle.sqlite.specs.Held.{Held, state}
-use Rattle.sqlite.specs.State.{HasCleanDisk, KeepsCommit, Survives}
+use Rattle.sqlite.specs.State.{State, HasCleanDisk, KeepsCommit, Survives}
 use Rattle.sqlite.specs.Store.{Ghosts}
 use Rattle.sqlite.specs.Tree.{Trees}
 use Rattle.sqlite.specs.declared.transaction.Transaction.{Transaction}
 use Rattle.sql_maps.specs.Maps.{Maps, Holds, put_at, take_at}
 use Rattle.terms.specs.Limits.{InLimits, IsMeta}
-use Rattle.terms.specs.Pictures.{Picture, put}
-use Rattle.terms.specs.Schemas.{IsOfSchema1, carried, led_to_2}
+use Rattle.terms.specs.Pictures.{Picture}
+use Rattle.terms.specs.Schemas.{IsOfSchema, led_on, led_by}
 use Rattle.terms.specs.declared.fault.Fault.{Fault}
 use Rattle.terms.specs.declared.fault.Fault.TheVariants.{Stored}
 use Rattle.terms.specs.declared.limits.TheConstants.{SCHEMA}
-use Rattle.terms.specs.declared.row.HoldRow.{HoldRow}
-use Rattle.terms.specs.declared.row.HoldRow1.{HoldRow1}
 use Rattle.circ_tables.specs.Cells.{meta_cells}
 use Rattle.circ_tables.specs.Encoding.{HasPicture, HasPictureAt, AreEncoded}
-use Rattle.circ_tables.specs.Holds.{holds}
 use Rattle.circ_tables.specs.Holds1.{holds1}
+use Rattle.circ_tables.specs.Loans1.{loans1}
 use Rattle.circ_tables.specs.Puts.{ChangesRows}
 use Rattle.circ_tables.specs.Reading.{Table}
+use Rattle.circ_tables.specs.Rules1.{rules1}
 use Rattle.circ_tables.specs.SchemaNumber.{NamesSchema}
-use Rattle.circ_tables.specs.Shape.{schema, schema_at, meta_place, holds1_place, holds_place}
+use Rattle.circ_tables.specs.Shape.{HasTable, schema_at, meta_place, rules1_place, loans1_place, holds1_place, holds_place, rules_place}
 use Rattle.store.specs.Commit.{Brings, HasDone}
 use Rattle.store.specs.Legal.{HasLegal}
-use Rattle.store.specs.Library.{HasTables, IsAsItWas}
-use Rattle.store.specs.Schemas.{IsKnown}
+use Rattle.store.specs.Library.{HasTablesAt, IsAsItWas}
+use Rattle.store.specs.Schemas.{IsKnown, IsOlder, next_schema}
 use Rattle.store.specs.Stops.{Leaves, KeepsPicture, KeepsPictureAt}
 
 -- ---- rows that are carried over
 
--- From a table to that of the next schema: what a row becomes, and the picture with these rows in the two tables.
-pub record Route (R N : Type 0) : Type 0 where
+-- From a table to that of the next schema: the key of a row in each and what tells two keys apart, what a row becomes, and the picture with these rows in the two tables.
+pub record Route (K R N : Type 0) : Type 0 where
+  pub key_of : R → K
+  pub new_key : N → K
+  pub same : K → K → Bool
   pub carried : R → N
-  pub with_both : Picture → (ℕ → Option R) → (ℕ → Option N) → Picture
+  pub with_both : Picture → (K → Option R) → (K → Option N) → Picture
 
--- What ties the two tables to it; they are two.
-pub record IsRoute {R N : Type 0} (old : Table ℕ R) (new : Table ℕ N) (number_of : R → ℕ) (new_number : N → ℕ) (route : Route R N) : Type 0 where
+-- The map with this under the key.
+abbrev pub put_by : {K A : Type 0} → (K → K → Bool) → (K → A) → K → A → K → A
+put_by same t k x j = elim (same k j) [ true ↦ x | false ↦ t j ]
+
+-- What ties the two tables to it; they are two, and a library that has the new one has the old one.
+pub record IsRoute {K R N : Type 0} (old : Table K R) (new : Table K N) (route : Route K R N) : Type 0 where
+  pub there : HasTable new.since new.since
+  pub was_there : HasTable old.since new.since
   pub apart : (old.place == new.place) ≡ false
+  pub own : (k : K) → route.same k k ≡ true
+  pub met : (j k : K) → route.same j k ≡ true → j ≡ k
   pub same : (P : Picture) → route.with_both P (old.rows P) (new.rows P) ≡ P
-  pub old_rows : (P : Picture) (f : ℕ → Option R) (g : ℕ → Option N) → old.rows (route.with_both P f g) ≡ f
-  pub taken : (P : Picture) (f : ℕ → Option R) (g : ℕ → Option N) (k : ℕ) → old.set (route.with_both P f g) k None ≡ route.with_both P (put f k None) g
-  pub put_in : (P : Picture) (f : ℕ → Option R) (g : ℕ → Option N) (k : ℕ) (n : N) → new.set (route.with_both P f g) k (Some n) ≡ route.with_both P f (put g k (Some n))
-  pub number_is : (r : R) → new_number (route.carried r) ≡ number_of r
+  pub old_rows : (P : Picture) (f : K → Option R) (g : K → Option N) → old.rows (route.with_both P f g) ≡ f
+  pub taken : (P : Picture) (f : K → Option R) (g : K → Option N) (k : K) → old.set (route.with_both P f g) k None ≡ route.with_both P (put_by route.same f k None) g
+  pub put_in : (P : Picture) (f : K → Option R) (g : K → Option N) (k : K) (n : N) → new.set (route.with_both P f g) k (Some n) ≡ route.with_both P f (put_by route.same g k (Some n))
+  pub key_is : (r : R) → route.new_key (route.carried r) ≡ route.key_of r
   pub legal : (r : R) → old.IsLegal r → new.IsLegal (route.carried r)
-  pub limits : (P : Picture) (f : ℕ → Option R) (g : ℕ → Option N) → InLimits P → ((k : ℕ) (r : R) → f k ≡ Some r → (number_of r ≡ k) × old.IsLegal r)
-      → ((k : ℕ) (n : N) → g k ≡ Some n → (new_number n ≡ k) × new.IsLegal n) → InLimits (route.with_both P f g)
-
--- The holds of schema 1 become those of schema 2.
-abbrev pub holds_route : Route HoldRow1 HoldRow
-holds_route = record { carried = carried; with_both = λ P f g. record P { holds = g; holds1 = f } }
-
-pub holds_carried : IsRoute holds1 holds (λ r. r.hold) (λ r. r.hold) holds_route
-holds_carried = record {
-  apart = refl;
-  same = λ P. refl;
-  old_rows = λ P f g. refl;
-  taken = λ P f g k. refl;
-  put_in = λ P f g k n. refl;
-  number_is = λ r. refl;
-  legal = λ r is. (is.0, is.1, is.2, is.3, is.4, is.5, tt);
-  limits = λ P f g is old new. record {
-    meta = is.meta;
-    branches = is.branches;
-    closed_days = is.closed_days;
-    kinds = is.kinds;
-    rules = is.rules;
-    patrons = is.patrons;
-    titles = is.titles;
-    copies = is.copies;
-    loans = is.loans;
-    holds = new;
-    holds1 = old;
-    transits = is.transits;
-    lines = is.lines;
-    kept = is.kept;
-  };
-}
+  pub limits : (P : Picture) (f : K → Option R) (g : K → Option N) → InLimits P → ((k : K) (r : R) → f k ≡ Some r → (route.key_of r ≡ k) × old.IsLegal r)
+      → ((k : K) (n : N) → g k ≡ Some n → (route.new_key n ≡ k) × new.IsLegal n) → InLimits (route.with_both P f g)
 
 -- One row is put into the new table, and taken out of the old one; so each of a list. The same in the maps.
-module _ {R N : Type 0} (old : Table ℕ R) (new : Table ℕ N) (number_of : R → ℕ) (new_number : N → ℕ) (carried : R → N) where
+module _ {K R N : Type 0} (old : Table K R) (new : Table K N) (route : Route K R N) where
   abbrev pub move_one : R → Picture → Picture
-  move_one r P = old.set (new.set P (new_number (carried r)) (Some (carried r))) (number_of r) None
+  move_one r P = old.set (new.set P (route.new_key (route.carried r)) (Some (route.carried r))) (route.key_of r) None
 
   abbrev pub move_all : List R → Picture → Picture
   move_all [] P = P
   move_all (r ∷ more) P = move_all more (move_one r P)
 
   abbrev pub move_row : R → Maps → Maps
-  move_row r maps = take_at (put_at maps new.place (new.key (new_number (carried r))) (new.cells (carried r))) old.place (old.key (number_of r))
+  move_row r maps = take_at (put_at maps new.place (new.key (route.new_key (route.carried r))) (new.cells (route.carried r))) old.place (old.key (route.key_of r))
 
   abbrev pub move_rows : List R → Maps → Maps
   move_rows [] maps = maps
   move_rows (r ∷ more) maps = move_rows more (move_row r maps)
 
-  -- The rows of a page are moved, in the maps and in the picture. Its one fault is 91.
-  abbrev pub MovesPage : {S T : Type 0} → List R → Ghosts S → Transaction S → Transaction S → Result T Fault → Type 0
-  MovesPage page = ChangesRows (move_rows page) (Unit {0}) (move_all page)
+  -- The row is moved, or the rows of a page, in the maps and in the picture. The one fault is 91.
+  abbrev pub MovesRow : {S T : Type 0} → R → Ghosts S → Transaction S → Transaction S → Result T Fault → Type 0
+  MovesRow r = ChangesRows new.since (move_row r) (Unit {0}) (move_one r)
 
--- A library is led on in the transaction. Where its tables are there nothing is committed, and after an answer the transaction goes on, over the tables of the newest schema; what an answer says of their maps is so whatever they show. Where they show a picture that is ready for it they show the other afterwards, and then no fault of a stored row comes.
-pub record LeadsInside {S T : Type 0} (AreThere : Database → Type 0) (AreLed : Database → Database → Type 0) (IsReady : Database → Picture → Type 0) (change : Picture → Picture)
+  abbrev pub MovesPage : {S T : Type 0} → List R → Ghosts S → Transaction S → Transaction S → Result T Fault → Type 0
+  MovesPage page = ChangesRows new.since (move_rows page) (Unit {0}) (move_all page)
+
+-- A library is led in the transaction from the tables of one schema to those of another, or the same. Where the first are there nothing is committed, and after an answer the transaction goes on, over the others; what an answer says of their maps is so whatever they show. Where they show a picture that is ready for it they show the other afterwards, and then no fault of a stored row comes.
+pub record LeadsInside {S T : Type 0} (from to : ℕ) (AreLed : Maps → Maps → Type 0) (IsReady : Picture → Type 0) (change : Picture → Picture)
     (g : Ghosts S) (old new : Transaction S) (result : Result T Fault) : Type 0 where
   pub same_reference : new.conn.ghost_name ≡ old.conn.ghost_name
   pub survives : Survives (state g old.conn.now) (state g new.conn.now) (λ _. ⊥)
   pub kept : HasCleanDisk (state g new.conn.now) → IsTrue (state g old.conn.now).in_transaction
-      → AreThere (state g old.conn.now).now → KeepsCommit (state g old.conn.now) (state g new.conn.now)
+      → HasTablesAt from (state g old.conn.now).now → KeepsCommit (state g old.conn.now) (state g new.conn.now)
   pub inside : HasCleanDisk (state g new.conn.now) → IsTrue (state g old.conn.now).in_transaction
-      → AreThere (state g old.conn.now).now → OnOk result (IsTrue (state g new.conn.now).in_transaction × HasTables (state g new.conn.now).now)
+      → HasTablesAt from (state g old.conn.now).now → OnOk result (IsTrue (state g new.conn.now).in_transaction)
   pub rows : HasCleanDisk (state g new.conn.now) → IsTrue (state g old.conn.now).in_transaction
-      → OnOk result (AreLed (state g old.conn.now).now (state g new.conn.now).now)
+      → (maps : Maps) → Holds (schema_at from) (state g old.conn.now).now maps
+      → OnOk result ((now : Maps) × Holds (schema_at to) (state g new.conn.now).now now × AreLed maps now)
   pub leads : HasCleanDisk (state g new.conn.now) → IsTrue (state g old.conn.now).in_transaction
-      → OnOk result ((P : Picture) → IsReady (state g old.conn.now).now P → HasPicture (state g new.conn.now).now (change P))
+      → (P : Picture) → HasPictureAt from (state g old.conn.now).now P → IsReady P
+      → OnOk result (HasPictureAt to (state g new.conn.now).now (change P))
   pub sound : HasCleanDisk (state g new.conn.now) → IsTrue (state g old.conn.now).in_transaction → result ≡ Err Stored
-      → (P : Picture) → ¬ IsReady (state g old.conn.now).now P
+      → (P : Picture) → HasPictureAt from (state g old.conn.now).now P → IsReady P → ⊥
 
--- The tables of the newest schema show the picture, its rows lie within their limits, and the new table has none yet.
-abbrev pub IsToCarry : {N : Type 0} → Table ℕ N → Database → Picture → Type 0
-IsToCarry new db P = HasPicture db P × InLimits P × ((k : ℕ) → new.rows P k ≡ None)
+-- The rows of the picture lie within their limits, and the new table has none yet.
+abbrev pub IsToCarry : {K N : Type 0} → Table K N → Picture → Type 0
+IsToCarry {K} new P = InLimits P × ((k : K) → new.rows P k ≡ None)
 
--- The maps of a database that held these: every row of the old table was that of a row within its limits, and all but the two tables stand as they stood.
-pub record AreMoved {R N : Type 0} (old : Table ℕ R) (new : Table ℕ N) (maps : Maps) (after : Database) : Type 0 where
+-- Every row of the old table was that of a row within its limits, and all but the two tables stand as they stood.
+pub record AreMoved {K R N : Type 0} (old : Table K R) (new : Table K N) (maps now : Maps) : Type 0 where
   pub legal : HasLegal old maps
-  pub now : Maps
-  pub there : Holds schema after now
   pub others : (at : ℕ) → (at == old.place) ≡ false → (at == new.place) ≡ false → now at ≡ maps at
 
-abbrev pub MovesRows : {R N : Type 0} → Table ℕ R → Table ℕ N → Database → Database → Type 0
-MovesRows old new before after = (maps : Maps) → Holds schema before maps → AreMoved old new maps after
-
 -- All rows stand in the new table, and none in the old one.
-abbrev pub all_over : {R N : Type 0} → Table ℕ R → Route R N → Picture → Picture
+abbrev pub all_over : {K R N : Type 0} → Table K R → Route K R N → Picture → Picture
 all_over old route P = route.with_both P (λ _. None) (λ k. option_map route.carried (old.rows P k))
+
+-- The rows of a table are carried over, inside the first schema that has the new one.
+abbrev pub CarriesAll : {K R N S T : Type 0} → Table K R → Table K N → Route K R N → Ghosts S → Transaction S → Transaction S → Result T Fault → Type 0
+CarriesAll old new route = LeadsInside new.since new.since (AreMoved old new) (IsToCarry new) (all_over old route)
+
+-- ---- the number of the schema
+
+-- The one row of `meta` was that of a row within its limits; it names the schema now, and every other table stands as it stood.
+pub record AreNamed (n : ℕ) (maps now : Maps) : Type 0 where
+  pub meta : ((m : ℕ) → NamesSchema maps m → AreEncoded meta_cells IsMeta (maps meta_place) × NamesSchema now n)
+  pub others : (at : ℕ) → (at == meta_place) ≡ false → now at ≡ maps at
+
+-- The schema is named in the transaction.
+abbrev pub NamesInside : {S T : Type 0} → ℕ → Ghosts S → Transaction S → Transaction S → Result T Fault → Type 0
+NamesInside n = LeadsInside n n (AreNamed n) (λ P. IsMeta P.meta) (λ P. record P { meta = record P.meta { schema = n } })
 
 -- ---- from schema to schema
 
--- The tables of schema 1 show the picture of a library of schema 1, with rows within their limits.
-abbrev pub IsLibrary1 : Database → Picture → Type 0
-IsLibrary1 db P = HasPictureAt 1 db P × IsOfSchema1 P × InLimits P
+-- The tables of schema n show the picture of a library of schema n, with rows within their limits.
+abbrev pub IsLibrary : ℕ → Database → Picture → Type 0
+IsLibrary n db P = HasPictureAt n db P × IsOfSchema n P × InLimits P
 
--- Those of the newest schema show one that names it.
-abbrev pub IsNewest : Database → Picture → Type 0
-IsNewest db P = HasPicture db P × (P.meta.schema ≡ SCHEMA)
+-- Of the rows of tables of an older schema that are carried over or changed by the step that leads it on none is damaged: of schema 1 the holds, of schema 2 the rules and the loans, and that of `meta`.
+abbrev pub CanBeLed : ℕ → Maps → Type 0
+CanBeLed (suc zero) maps = AreEncoded meta_cells IsMeta (maps meta_place) × HasLegal holds1 maps
+CanBeLed (suc (suc zero)) maps = AreEncoded meta_cells IsMeta (maps meta_place) × HasLegal rules1 maps × HasLegal loans1 maps
+CanBeLed _ maps = Unit {0}
 
--- Its tables are there.
-abbrev pub HasTables1 : Database → Type 0
-HasTables1 db = (maps : Maps) × Holds (schema_at 1) db maps
+-- The table at the place is none of those that the step takes rows out of or changes.
+abbrev pub IsLeft : ℕ → ℕ → Type 0
+IsLeft (suc zero) at = (at < holds_place) × ((at == meta_place) ≡ false) × ((at == holds1_place) ≡ false)
+IsLeft (suc (suc zero)) at = (at < rules_place) × ((at == meta_place) ≡ false) × ((at == rules1_place) ≡ false) × ((at == loans1_place) ≡ false)
+IsLeft _ at = Unit {0}
 
--- Of the rows of tables of schema 1 that are carried over or changed none is damaged: not that of `meta`, which names schema 1, and none of the holds.
-pub record CanBeLed (maps : Maps) : Type 0 where
-  pub named : NamesSchema maps 1
-  pub meta : AreEncoded meta_cells IsMeta (maps meta_place)
-  pub holds : HasLegal holds1 maps
+-- The maps of an older schema were led to these: none of the rows that were carried over or changed was damaged, the next schema is named, and each other table stands as it stood.
+pub record AreLedOn (n : ℕ) (maps now : Maps) : Type 0 where
+  pub legal : CanBeLed n maps
+  pub named : NamesSchema now (next_schema n)
+  pub others : (at : ℕ) → IsLeft n at → now at ≡ maps at
 
--- They were led to those of a database of the newest schema, and each other table stands as it stood.
-pub record AreLedOn (maps : Maps) (new : Database) : Type 0 where
-  pub legal : CanBeLed maps
-  pub now : Maps
-  pub there : Holds schema new now
-  pub others : (at : ℕ) → at < holds_place → (at == meta_place) ≡ false → (at == holds1_place) ≡ false → now at ≡ maps at
+-- The same, whatever schema the maps name: they may name none.
+abbrev pub AreLedIfNamed : ℕ → Maps → Maps → Type 0
+AreLedIfNamed n maps now = (m : ℕ) → NamesSchema maps m → AreLedOn n maps now
 
--- So all that name schema 1.
-abbrev pub LeadsRows : Database → Database → Type 0
-LeadsRows old new = (maps : Maps) → Holds (schema_at 1) old maps → NamesSchema maps 1 → AreLedOn maps new
+-- The step leads on from the tables of schema n.
+abbrev pub LeadsFrom : {S T : Type 0} → ℕ → Ghosts S → Transaction S → Transaction S → Result T Fault → Type 0
+LeadsFrom n = LeadsInside n (next_schema n) (AreLedIfNamed n) (λ P. IsOfSchema n P × InLimits P) (led_on n)
 
--- Tables of schema 1 were led on, whatever they show, or `meta` names the newest schema, and the database is the same.
-abbrev pub LeadsLegal : Database → Database → Type 0
-LeadsLegal old new = (maps : Maps) → Holds (schema_at 1) old maps → AreLedOn maps new ⊎ (NamesSchema maps SCHEMA × (new ≡ old))
+-- The tables are those of schema n, whatever rows they have, and `meta` names no older schema but that.
+pub record AreThere (n : ℕ) (db : Database) : Type 0 where
+  pub known : IsKnown n
+  pub maps : Maps
+  pub holds : Holds (schema_at n) db maps
+  pub named : (m : ℕ) → NamesSchema maps m → IsOlder m → m ≡ n
 
--- One of these rows is damaged, or `meta` names another schema.
-abbrev pub CannotBeLed : Database → Type 0
-CannotBeLed db = (maps : Maps) × Holds (schema_at 1) db maps × ¬ CanBeLed maps
+-- A library was led on by a step, to the schema that it names now: from tables that show one to those of the same in the next schema, and those of the newest stay. Whatever they show, no damaged row is passed over; where the newest is named the database is the same; and where none is named that is known nothing is led on.
+pub record LeadsOn (to : ℕ) (old new : Database) : Type 0 where
+  pub leads : (n : ℕ) → IsKnown n → (P : Picture) → IsLibrary n old P → (to ≡ next_schema n) × HasPictureAt (next_schema n) new (led_on n P)
+  pub rows : (n : ℕ) → IsOlder n → (maps : Maps) → Holds (schema_at n) old maps → NamesSchema maps n
+      → (to ≡ next_schema n) × ((now : Maps) × Holds (schema_at (next_schema n)) new now × AreLedOn n maps now)
+  pub same : (n : ℕ) → IsKnown n → (maps : Maps) → Holds (schema_at n) old maps → NamesSchema maps SCHEMA → (to ≡ SCHEMA) × (new ≡ old)
+  pub named : (n : ℕ) → IsKnown n → (maps : Maps) → Holds (schema_at n) old maps → (m : ℕ) × NamesSchema maps m × IsKnown m
 
--- Where the one shows a library of schema 1, the other shows what it is led to; and one of the newest schema is shown still. No damaged row is passed over.
-pub record LeadsOn (old new : Database) : Type 0 where
-  pub legal : LeadsLegal old new
-  pub from_1 : (P : Picture) → IsLibrary1 old P → HasPicture new (led_to_2 P)
-  pub newest : (P : Picture) → IsNewest old P → HasPicture new P
-
--- These tables are led on.
-abbrev pub AreThere : Database → Type 0
-AreThere db = HasTables1 db ⊎ ((P : Picture) × IsNewest db P)
-
--- A step was made in the transaction. Where its tables are there nothing is committed, and no fault of a stored row comes where they show a picture that can be led on.
-pub record LeadsOnInside {S T : Type 0} (g : Ghosts S) (old new : Transaction S) (result : Result T Fault) : Type 0 where
+-- A step was made in the transaction. Where its tables are there nothing is committed, and no fault of a stored row comes where they show a library.
+pub record LeadsOnInside {S : Type 0} (g : Ghosts S) (old new : Transaction S) (result : Result ℕ Fault) : Type 0 where
   pub same_reference : new.conn.ghost_name ≡ old.conn.ghost_name
   pub survives : Survives (state g old.conn.now) (state g new.conn.now) (λ _. ⊥)
   pub kept : HasCleanDisk (state g new.conn.now) → IsTrue (state g old.conn.now).in_transaction
-      → AreThere (state g old.conn.now).now → KeepsCommit (state g old.conn.now) (state g new.conn.now)
+      → (n : ℕ) → AreThere n (state g old.conn.now).now → KeepsCommit (state g old.conn.now) (state g new.conn.now)
   pub inside : HasCleanDisk (state g new.conn.now) → IsTrue (state g old.conn.now).in_transaction
-      → AreThere (state g old.conn.now).now → OnOk result (IsTrue (state g new.conn.now).in_transaction)
+      → (n : ℕ) → AreThere n (state g old.conn.now).now → OnOk result (IsTrue (state g new.conn.now).in_transaction)
   pub leads : HasCleanDisk (state g new.conn.now) → IsTrue (state g old.conn.now).in_transaction
-      → OnOk result (LeadsOn (state g old.conn.now).now (state g new.conn.now).now)
+      → IfOk result (λ to. LeadsOn to (state g old.conn.now).now (state g new.conn.now).now)
   pub sound : HasCleanDisk (state g new.conn.now) → IsTrue (state g old.conn.now).in_transaction → result ≡ Err Stored
-      → (P : Picture) → ¬ (IsLibrary1 (state g old.conn.now).now P ⊎ (IsNewest (state g old.conn.now).now P))
+      → (n : ℕ) → IsKnown n → (P : Picture) → ¬ IsLibrary n (state g old.conn.now).now P
+
+-- A step, to whatever schema.
+abbrev pub Leads : Database → Database → Type 0
+Leads old new = (to : ℕ) × LeadsOn to old new
 
 -- It was made in one transaction: where the tables are there, it is made and committed, or nothing is; and whatever a stop leaves is what was there or what the step brings.
-pub record StepsOn {S T : Type 0} (g : Ghosts S) (old new : Held S) (result : Result T Fault) : Type 0 where
+pub record StepsOn {S : Type 0} (g : Ghosts S) (old new : Held S) (result : Result ℕ Fault) : Type 0 where
   pub idle : new.in_transaction ≡ false
-  pub done : HasCleanDisk (state g new) → AreThere (state g old).now → OnOk result (HasDone LeadsOn (state g old) (state g new))
-  pub undone : HasCleanDisk (state g new) → IsTrue (state g new).is_open → AreThere (state g old).now → OnErr result (
+  pub done : HasCleanDisk (state g new) → (n : ℕ) → AreThere n (state g old).now → IfOk result (λ to. HasDone (LeadsOn to) (state g old) (state g new))
+  pub undone : HasCleanDisk (state g new) → IsTrue (state g new).is_open → (n : ℕ) → AreThere n (state g old).now → OnErr result (
       ((state g new).now ≡ (state g old).now) × ((state g new).committed ≡ (state g old).now))
-  pub survives : Survives (state g old) (state g new) (Brings LeadsOn (state g old).now)
-  pub sound : HasCleanDisk (state g new) → result ≡ Err Stored → (P : Picture)
-      → ¬ (IsLibrary1 (state g old).now P ⊎ IsNewest (state g old).now P)
+  pub survives : Survives (state g old) (state g new) (Brings Leads (state g old).now)
+  pub sound : HasCleanDisk (state g new) → result ≡ Err Stored → (n : ℕ) → IsKnown n → (P : Picture) → ¬ IsLibrary n (state g old).now P
 
 -- The number of the schema was asked for, and nothing is changed: it is the one that the picture names. No fault of a stored row comes where it names one of 32 bits.
 pub record TellsSchema {S : Type 0} (g : Ghosts S) (old new : Held S) (result : Result ℕ Fault) : Type 0 where
@@ -217,23 +212,53 @@ pub record TellsSchema {S : Type 0} (g : Ghosts S) (old new : Held S) (result : 
   pub sound : HasCleanDisk (state g new) → result ≡ Err Stored → (n : ℕ) → IsKnown n → (P : Picture)
       → HasPictureAt n (state g old).now P → P.meta.schema < 2 ^ 32 → ⊥
 
--- A library was led to the newest schema, or it was of that already and is as it was; after a fault it is as it was, as long as the database is open, whatever rows its tables have; and a stop leaves what was there or what it is led to. It is led on only where no row that is to be carried over is damaged.
+-- ---- all steps that are due
+
+-- A library of schema n that was led on by so many steps.
+abbrev pub IsLedBy : ℕ → ℕ → Picture → Database → Type 0
+IsLedBy steps n P db = (n + steps ≤ SCHEMA) × HasPictureAt (n + steps) db (led_by steps n P)
+
+-- By some.
+abbrev pub IsAtSomeSchema : ℕ → Picture → Database → Type 0
+IsAtSomeSchema n P db = (steps : ℕ) × IsLedBy steps n P db
+
+-- The maps of schema n were led to those of the newest schema, one schema after another: at no step was a row damaged that it carries over or changes.
+abbrev pub AreLedUp : ℕ → Maps → Maps → Type 0
+AreLedUp (suc zero) maps now = (between : Maps) × AreLedOn 1 maps between × AreLedOn 2 between now
+AreLedUp (suc (suc zero)) maps now = AreLedOn 2 maps now
+AreLedUp _ maps now = Unit {0}
+
+-- Tables that name their own schema were led up to the newest, whatever they show; where they name the newest the database is the same.
+pub record LeadsUp (old new : Database) : Type 0 where
+  pub rows : (n : ℕ) → IsOlder n → (maps : Maps) → Holds (schema_at n) old maps → NamesSchema maps n
+      → (now : Maps) × Holds (schema_at SCHEMA) new now × AreLedUp n maps now
+  pub same : (n : ℕ) → IsKnown n → (maps : Maps) → Holds (schema_at n) old maps → NamesSchema maps SCHEMA → new ≡ old
+  pub named : (n : ℕ) → IsKnown n → (maps : Maps) → Holds (schema_at n) old maps → (m : ℕ) × NamesSchema maps m × IsKnown m
+
+-- Of tables of an older schema a row is damaged that the step from it carries over or changes.
+pub record CannotBeLed (db : Database) : Type 0 where
+  pub at : ℕ
+  pub older : IsOlder at
+  pub there : AreThere at db
+  pub damaged : ¬ CanBeLed at there.maps
+
+-- The tables are as they were, or as the first of two steps left them, which stands.
+pub record IsLedInPart (old new : State) : Type 0 where
+  pub led : Leads old.now new.now
+  pub committed : new.committed ≡ new.now
+
+-- A library was led to the newest schema, step after step, or it was of that already and is as it was. After a fault it is of the schema that the last whole step led to, and the one that met the fault changed nothing, as long as the database is open; and a stop leaves what was there or what some of the steps lead it to. It is led on only where no row that is to be carried over is damaged.
 pub record Migrates {S T : Type 0} (g : Ghosts S) (old new : Held S) (result : Result T Fault) : Type 0 where
   pub clean : HasCleanDisk (state g new) → HasCleanDisk (state g old)
-  pub led : HasCleanDisk (state g new) → OnOk result ((P : Picture) → IsLibrary1 (state g old).now P → KeepsPicture (state g new) (led_to_2 P))
-  pub same : HasCleanDisk (state g new) → OnOk result ((P : Picture) → IsNewest (state g old).now P → KeepsPicture (state g new) P)
-  pub legal : HasCleanDisk (state g new) → OnOk result (LeadsLegal (state g old).now (state g new).now)
-  pub undone : HasCleanDisk (state g new) → IsTrue (state g new).is_open → OnErr result ((P : Picture)
-      → HasPictureAt 1 (state g old).now P → KeepsPictureAt 1 (state g new) P)
-  pub nothing : HasCleanDisk (state g new) → IsTrue (state g new).is_open → HasTables1 (state g old).now
-      → OnErr result (IsAsItWas (state g old) (state g new))
-  pub undone_same : HasCleanDisk (state g new) → IsTrue (state g new).is_open → OnErr result ((P : Picture)
-      → IsNewest (state g old).now P → KeepsPicture (state g new) P)
-  pub stop : HasCleanDisk (state g new) → (P : Picture) → KeepsPictureAt 1 (state g old) P → IsOfSchema1 P → InLimits P
-      → Leaves (state g new) (λ db. HasPictureAt 1 db P ⊎ HasPicture db (led_to_2 P))
-  pub stop_same : HasCleanDisk (state g new) → (P : Picture) → KeepsPicture (state g old) P → P.meta.schema ≡ SCHEMA
-      → Leaves (state g new) (λ db. HasPicture db P)
+  pub led : HasCleanDisk (state g new) → OnOk result ((n : ℕ) → IsKnown n → (P : Picture) → IsLibrary n (state g old).now P
+      → KeepsPicture (state g new) (led_by (SCHEMA - n) n P))
+  pub legal : HasCleanDisk (state g new) → (n : ℕ) → AreThere n (state g old).now → OnOk result (LeadsUp (state g old).now (state g new).now)
+  pub undone : HasCleanDisk (state g new) → IsTrue (state g new).is_open → OnErr result ((n : ℕ) → IsKnown n → (P : Picture)
+      → IsLibrary n (state g old).now P → (steps : ℕ) × (n + steps ≤ SCHEMA) × KeepsPictureAt (n + steps) (state g new) (led_by steps n P))
+  pub nothing : HasCleanDisk (state g new) → IsTrue (state g new).is_open → (n : ℕ) → AreThere n (state g old).now
+      → OnErr result (IsAsItWas (state g old) (state g new) ⊎ IsLedInPart (state g old) (state g new))
+  pub stop : HasCleanDisk (state g new) → (n : ℕ) → IsKnown n → (P : Picture) → KeepsPictureAt n (state g old) P → IsOfSchema n P → InLimits P
+      → Leaves (state g new) (IsAtSomeSchema n P)
   pub stop_damaged : HasCleanDisk (state g new) → CannotBeLed (state g old).now
       → Leaves (state g old) (λ db. db ≡ (state g old).now) → Leaves (state g new) (λ db. db ≡ (state g old).now)
-  pub sound : HasCleanDisk (state g new) → result ≡ Err Stored → (P : Picture)
-      → ¬ (IsLibrary1 (state g old).now P ⊎ IsNewest (state g old).now P)
+  pub sound : HasCleanDisk (state g new) → result ≡ Err Stored → (n : ℕ) → IsKnown n → (P : Picture) → ¬ IsLibrary n (state g old).now P

@@ -1,39 +1,42 @@
 //! A library of an older schema, which is led to the newest one.
 
 ghost use Rattle.std.specs.Prelude.{◌≡◌, false};
-ghost use Rattle.terms.specs.Schemas.{led_to_2};
-ghost use Rattle.store.specs.Library.{HasTables};
-ghost use Rattle.store.specs.Migrating.{Route, IsRoute, holds_route, holds_carried, MovesPage};
-ghost use Rattle.store.specs.Migrating.{LeadsInside, MovesRows, IsToCarry, all_over};
-ghost use Rattle.store.specs.Migrating.{HasTables1, LeadsRows, IsLibrary1, LeadsOnInside};
-ghost use Rattle.store.specs.Migrating.{StepsOn, TellsSchema};
+ghost use Rattle.circ_tables.specs.Rules1.{rules1};
+ghost use Rattle.circ_tables.specs.Rules.{rules};
+ghost use Rattle.store.specs.Migrating.{Route, IsRoute, MovesRow, MovesPage, CarriesAll};
+ghost use Rattle.store.specs.Migrating.{NamesInside, LeadsFrom, LeadsOnInside, StepsOn};
+ghost use Rattle.store.specs.Migrating.{TellsSchema};
+ghost use Rattle.store.specs.Routes.{holds_route, holds_carried, loans_route, loans_carried};
+ghost use Rattle.store.specs.Routes.{rules_route, rules_carried};
 
 use crate::pages::last_of;
 use circ_tables::{
-    Numbered, Put, get_meta_inside, make_second, next_rows_inside, put_meta, put_row,
-    schema_inside, schema_of, take_row,
+    Numbered, Table, get_meta_inside, make_second, make_third, next_rows_inside, put_meta, put_row,
+    put_rule, rules_inside, schema_inside, schema_of, take_old_rule, take_row,
 };
 use sqlite::{Alter, Connection, Transaction};
 use std::alloc::Global;
-use terms::{Fault, HoldId, HoldRow, HoldRow1, MetaRow, SCHEMA};
+use terms::{
+    Days, Fault, HoldRow, HoldRow1, LoanRow, LoanRow1, MetaRow, RuleRow, RuleRow1, SCHEMA,
+};
 
 /// A row of a table that the next schema has in another form.
-pub(crate) trait Carried: Numbered {
+pub(crate) trait Carried: Table {
     /// The row as the next schema has it.
-    type Next: Put + Drop;
+    type Next: Table<Key = Self::Key>;
 
-    ghost route: { Route Self Self.Next.Row };
+    ghost route: { Route Self.Key Self Self.Next };
 
-    /// The row as the next schema has it.
-    fn next(&self) -> Self::Next
-        ensures { Self.Next.entry result ≡ route.carried self.now };
+    /// Puts the row into the table of the next schema, and takes it out of its own. 91.
+    fn carry<S: Alter>(&self, tx: &mut Transaction<'_, S>) -> Result<(), Fault>
+        ensures { MovesRow table Self.Next.table route self.now S.Store tx.old tx.new result };
 
-    /// What names the row.
-    fn id(&self) -> Self::Id
-        ensures { Self.Id.value result ≡ Self.number_of self.now };
+    ghost over: { IsRoute table Self.Next.table route };
+}
 
-    ghost over: { IsRoute Self.table Self.Next.Row.table Self.number_of
-        Self.Next.Row.number_of route };
+/// Such a row under a number, by which the rows can be read page by page.
+pub(crate) trait CarriedByNumber: Carried + Numbered {
+    ghost by_key: { (r : Self) → number_of r ≡ route.key_of r };
 }
 
 /// Schema 2 has holds with a first day, and those of schema 1 have none.
@@ -42,8 +45,8 @@ impl Carried for HoldRow1 {
 
     ghost route = { holds_route };
 
-    fn next(&self) -> HoldRow {
-        HoldRow {
+    fn carry<S: Alter>(&self, tx: &mut Transaction<'_, S>) -> Result<(), Fault> {
+        let next = HoldRow {
             hold: self.hold,
             patron: self.patron,
             title: self.title,
@@ -52,36 +55,90 @@ impl Carried for HoldRow1 {
             copy: self.copy,
             limit_day: self.limit_day,
             first_day: None,
-        }
-    }
-
-    fn id(&self) -> HoldId {
-        self.hold
+        };
+        put_row(tx, &next)?;
+        take_row::<HoldRow1, S>(tx, self.hold)
     }
 
     ghost over = { holds_carried };
 }
 
+impl CarriedByNumber for HoldRow1 {
+    ghost by_key = { λ r. refl };
+}
+
+/// Schema 3 has loans with grace days, and those of the schemas before it have none.
+impl Carried for LoanRow1 {
+    type Next = LoanRow;
+
+    ghost route = { loans_route };
+
+    fn carry<S: Alter>(&self, tx: &mut Transaction<'_, S>) -> Result<(), Fault> {
+        let next = LoanRow {
+            loan: self.loan,
+            copy: self.copy,
+            patron: self.patron,
+            branch: self.branch,
+            made: self.made,
+            due: self.due,
+            period: self.period,
+            renewals_left: self.renewals_left,
+            rate: self.rate,
+            cap: self.cap,
+            ended: self.ended,
+            grace: Days::new(0),
+        };
+        put_row(tx, &next)?;
+        take_row::<LoanRow1, S>(tx, self.loan)
+    }
+
+    ghost over = { loans_carried };
+}
+
+impl CarriedByNumber for LoanRow1 {
+    ghost by_key = { λ r. refl };
+}
+
+/// Schema 3 has rules with grace days, and those of the schemas before it have none.
+impl Carried for RuleRow1 {
+    type Next = RuleRow;
+
+    ghost route = { rules_route };
+
+    fn carry<S: Alter>(&self, tx: &mut Transaction<'_, S>) -> Result<(), Fault> {
+        let next = RuleRow {
+            kind: self.kind,
+            copy_kind: self.copy_kind,
+            period: self.period,
+            renewals: self.renewals,
+            rate: self.rate,
+            cap: self.cap,
+            grace: Days::new(0),
+        };
+        put_rule(tx, &next)?;
+        take_old_rule(tx, self.kind, self.copy_kind)
+    }
+
+    ghost over = { rules_carried };
+}
+
 /// Carries over the rows of a page. 91.
 fn carry_page<R: Carried, S: Alter>(tx: &mut Transaction<'_, S>, page: &[R]) -> Result<(), Fault>
-    ensures { MovesPage R.table R.Next.Row.table R.number_of R.Next.Row.number_of
-        R.route.carried page.now S.Store tx.old tx.new result }
+    ensures { MovesPage R.table R.Next.table R.route page.now S.Store tx.old tx.new result }
 {
     'rows: for row in page {
-        put_row(tx, &row.next())?;
-        take_row::<R, S>(tx, row.id())?;
+        row.carry(tx)?;
     }
     Ok(())
 }
 
 /// Carries over all rows of a table, page by page. 90, 91, 93.
-fn carry_all<R: Carried, S: Alter>(
+fn carry_all<R: CarriedByNumber, S: Alter>(
     tx: &mut Transaction<'_, S>,
     alloc: Global,
     memory: R::Memory,
 ) -> Result<(), Fault>
-    ensures { LeadsInside HasTables (MovesRows R.table R.Next.Row.table)
-        (IsToCarry R.Next.Row.table) (all_over R.table R.route) S.Store tx.old tx.new result }
+    ensures { CarriesAll R.table R.Next.table R.route S.Store tx.old tx.new result }
 {
     let mut after = None;
     'pages: for _page in 0..u64::MAX {
@@ -95,39 +152,73 @@ fn carry_all<R: Carried, S: Alter>(
     Ok(())
 }
 
+/// Carries over all rules, of which there are no more than kinds of patrons times kinds of copies.
+/// 90, 91, 93.
+fn carry_rules<S: Alter>(tx: &mut Transaction<'_, S>, alloc: Global) -> Result<(), Fault>
+    ensures { CarriesAll rules1 rules rules_route S.Store tx.old tx.new result }
+{
+    let old = rules_inside(tx, alloc)?;
+    carry_page(tx, old.as_slice())
+}
+
+/// Names the schema in the row of `meta`. 91, 93.
+fn name_schema<S: Alter>(tx: &mut Transaction<'_, S>, schema: u32) -> Result<u32, Fault>
+    ensures named { NamesInside schema S.Store tx.old tx.new result }
+    ensures told { IfOk result (λ told. told ≡ schema) }
+{
+    let meta = get_meta_inside(tx)?;
+    put_meta(tx, &MetaRow { schema, ..meta })?;
+    Ok(schema)
+}
+
 /// Leads the tables of schema 1 to those of schema 2, which has holds with a first day. 90, 91, 93.
-fn lead_to_2<S: Alter>(tx: &mut Transaction<'_, S>, alloc: Global) -> Result<(), Fault>
-    ensures { LeadsInside HasTables1 LeadsRows IsLibrary1 led_to_2 S.Store tx.old tx.new result }
+fn lead_to_2<S: Alter>(tx: &mut Transaction<'_, S>, alloc: Global) -> Result<u32, Fault>
+    ensures leads { LeadsFrom 1 S.Store tx.old tx.new result }
+    ensures told { IfOk result (λ told. told ≡ 2) }
 {
     make_second(tx)?;
     carry_all::<HoldRow1, S>(tx, alloc, ())?;
-    let meta = get_meta_inside(tx)?;
-    put_meta(tx, &MetaRow { schema: 2, ..meta })
+    name_schema(tx, 2)
 }
 
-/// Makes the step that leads on from the schema that the tables have; those of the newest schema are
-/// left as they are. 90, 91; 93 also where the schema is not known.
-fn lead_on<S: Alter>(tx: &mut Transaction<'_, S>, alloc: Global) -> Result<(), Fault>
+/// Leads the tables of schema 2 to those of schema 3, which has rules and loans with grace days. 90,
+/// 91, 93.
+fn lead_to_3<S: Alter>(tx: &mut Transaction<'_, S>, alloc: Global) -> Result<u32, Fault>
+    ensures leads { LeadsFrom 2 S.Store tx.old tx.new result }
+    ensures told { IfOk result (λ told. told ≡ 3) }
+{
+    make_third(tx)?;
+    carry_rules(tx, alloc)?;
+    carry_all::<LoanRow1, S>(tx, alloc, ())?;
+    name_schema(tx, 3)
+}
+
+/// Makes the step that leads on from the schema that the tables have, and answers which they have
+/// then; those of the newest schema are left as they are. 90, 91; 93 also where the schema is not
+/// known.
+fn lead_on<S: Alter>(tx: &mut Transaction<'_, S>, alloc: Global) -> Result<u32, Fault>
     ensures { LeadsOnInside S.Store tx.old tx.new result }
 {
     match schema_inside(tx)? {
         1 => lead_to_2(tx, alloc),
-        SCHEMA => Ok(()),
+        2 => lead_to_3(tx, alloc),
+        SCHEMA => Ok(SCHEMA),
         _ => Err(Fault::Stored),
     }
 }
 
-/// Makes one step in one transaction: all of it or nothing. 90, 91, 93.
-pub(crate) fn step<S: Alter>(conn: &mut Connection<S>, alloc: Global) -> Result<(), Fault>
+/// Makes one step in one transaction, all of it or nothing, and answers the schema that the tables
+/// have then. 90, 91, 93.
+pub(crate) fn step<S: Alter>(conn: &mut Connection<S>, alloc: Global) -> Result<u32, Fault>
     requires { conn.old.in_transaction ≡ false }
     ensures { StepsOn S.Store conn.old conn.new result }
 {
     let is_idle = conn.is_autocommit();
     prove!(is_idle);
     let mut tx = conn.transaction();
-    lead_on(&mut tx, alloc)?;
+    let schema = lead_on(&mut tx, alloc)?;
     match tx.commit() {
-        Ok(()) => Ok(()),
+        Ok(()) => Ok(schema),
         Err(_) => Err(Fault::Database),
     }
 }

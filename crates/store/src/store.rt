@@ -58,7 +58,7 @@ fn is_known(schema: u32) -> bool
 }
 
 impl<S: Alter + Drop> Store<S> {
-    /// Makes the fourteen tables of a new library in one transaction: all of them empty, but for
+    /// Makes the sixteen tables of a new library in one transaction: all of them empty, but for
     /// the first row of `meta`. 91, also where a name is taken or a transaction is under way.
     pub fn create(mut conn: Connection<S>) -> Result<Store<S>, Fault>
         ensures created { IfOk result (CreatesLibrary S.Store conn) }
@@ -120,14 +120,18 @@ impl<S: Alter> Store<S> {
 
     /// Leads a library of an older schema to the newest one, in one transaction for each schema
     /// between; one of the newest stays as it is. 90, 91; 93 where the schema is not known, or a
-    /// stored row lies out of its limits. Memory doesn't grow with the library, beyond what the
-    /// database takes for the changes of a transaction.
+    /// stored row lies out of its limits. After a fault the steps that were made stand, and the one
+    /// that met it changed nothing. Memory doesn't grow with the library, beyond what the database
+    /// takes for the changes of a transaction.
     pub fn migrate(&mut self, alloc: Global) -> Result<(), Fault>
         ensures { Migrates S.Store self.old self.new result }
     {
         let is_idle = self.conn.is_autocommit();
         prove!(is_idle);
-        migrating::step(&mut self.conn, alloc)
+        if migrating::step(&mut self.conn, alloc)? < SCHEMA {
+            migrating::step(&mut self.conn, alloc)?;
+        }
+        Ok(())
     }
 
     /// What is kept under a caller's key. 91, 93.

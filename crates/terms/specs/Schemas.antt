@@ -1,5 +1,5 @@
 -- How the tables of one schema are led to those of the next.
-use Rattle.std.specs.Prelude.{◌≡◌, ℕ, Option, None, option_map}
+use Rattle.std.specs.Prelude.{◌≡◌, ℕ, zero, suc, Option, None, option_map}
 use Rattle.terms.specs.declared.row.RuleRow.{RuleRow}
 use Rattle.terms.specs.declared.row.RuleRow1.{RuleRow1}
 use Rattle.terms.specs.declared.row.LoanRow.{LoanRow}
@@ -60,3 +60,19 @@ led_to_3 P =
       loans = λ l. option_map carried_loan (P.loans1 l);
       loans1 = λ _. None;
     }
+
+-- The tables are those of a library of schema n.
+abbrev pub IsOfSchema : ℕ → Picture → Type 0
+IsOfSchema (suc zero) P = IsOfSchema1 P
+IsOfSchema (suc (suc zero)) P = IsOfSchema2 P
+IsOfSchema n P = P.meta.schema ≡ n
+
+-- Those of the next schema that the tables of schema n are led to, and by so many steps.
+abbrev pub led_on : ℕ → Picture → Picture
+led_on (suc zero) P = led_to_2 P
+led_on (suc (suc zero)) P = led_to_3 P
+led_on _ P = P
+
+abbrev pub led_by : ℕ → ℕ → Picture → Picture
+led_by zero n P = P
+led_by (suc steps) n P = led_by steps (suc n) (led_on n P)
