@@ -12,7 +12,7 @@ use Rattle.terms.specs.Pictures.{put}
 use Rattle.terms.specs.declared.row.BranchRow.{BranchRow}
 use Rattle.circ_tables.specs.Cells.{number_key, branch_cells}
 use Rattle.circ_tables.specs.Encoding.{IsEncoded, Any, all_held, to_list, from_list, with_held}
-use Rattle.circ_tables.specs.Numbered.{IsNumbered, IsNumberTable, grown, put_terms, put_shows, nat_of, text_of}
+use Rattle.circ_tables.specs.Numbered.{IsNumbered, IsNumberTable, grown, in_each, put_terms, put_shows, nat_of, text_of}
 use Rattle.circ_tables.specs.Reading.{Table}
 use Rattle.circ_tables.specs.Shape as shape
 
@@ -20,6 +20,7 @@ abbrev pub branches : Table ℕ BranchRow
 branches = record {
   shape = shape.branches;
   place = shape.branches_place;
+  since = 1;
   key = number_key;
   cells = branch_cells;
   IsLegal = IsBranch;
@@ -45,7 +46,8 @@ texts_are more others = record {
 
 pub branches_are : IsNumberTable branches (λ r. r.branch)
 branches_are = record {
-  texts = texts_are shape.later_tables shape.later_indexes;
+  newest = shape.has_first;
+  texts = in_each shape.branches_place shape.branches texts_are;
   keyed = λ k. refl;
   first_cell = λ r. refl;
   from_one = λ r legal. legal.0.0;

@@ -13,7 +13,7 @@ use Rattle.terms.specs.declared.row.Condition.TheVariants.{Present, Missing, Wit
 use Rattle.terms.specs.declared.row.CopyRow.{CopyRow}
 use Rattle.circ_tables.specs.Cells.{number_key, condition_number, copy_cells}
 use Rattle.circ_tables.specs.Encoding.{IsEncoded, Any, all_held, to_list, from_list, with_held}
-use Rattle.circ_tables.specs.Numbered.{IsNumbered, IsNumberTable, grown, put_terms, put_shows, nat_of}
+use Rattle.circ_tables.specs.Numbered.{IsNumbered, IsNumberTable, grown, in_each, put_terms, put_shows, nat_of}
 use Rattle.circ_tables.specs.Reading.{Table}
 use Rattle.circ_tables.specs.Shape as shape
 
@@ -21,6 +21,7 @@ abbrev pub copies : Table ℕ CopyRow
 copies = record {
   shape = shape.copies;
   place = shape.copies_place;
+  since = 1;
   key = number_key;
   cells = copy_cells;
   IsLegal = IsCopy;
@@ -56,7 +57,8 @@ texts_are more others = record {
 
 pub copies_are : IsNumberTable copies (λ r. r.copy)
 copies_are = record {
-  texts = texts_are shape.later_tables shape.later_indexes;
+  newest = shape.has_first;
+  texts = in_each shape.copies_place shape.copies texts_are;
   keyed = λ k. refl;
   first_cell = λ r. refl;
   from_one = λ r legal. legal.0.0;

@@ -1,9 +1,11 @@
--- The table of holds. Its texts are understood in the newest schema, of which it is.
+-- The table of holds, which is there from schema 2 on.
 use Rattle.std.proofs.Common.{ap, ◌∙◌}
-use Rattle.std.specs.Prelude.{◌≡◌, ℕ, pos, true, drop, refl, zero, suc, ◌&&◌}
+use Rattle.std.specs.Prelude.{◌≡◌, ℕ, pos, true, List, [], drop, refl, zero, suc, ◌&&◌}
 use Rattle.sqlite.specs.Kind.TheVariants.{Integer}
 use Rattle.sqlite.specs.Listing.{understood}
 use Rattle.sqlite.specs.Order.{column}
+use Rattle.sqlite.specs.Table.{Table as SqlTable}
+use Rattle.sqlite_schema.specs.declared.schema.Index.{Index}
 use Rattle.sqlite_tied.specs.Compute.{everything}
 use Rattle.sql_maps.proofs.FillLemmas.{single_fills, suits_kind}
 use Rattle.terms.specs.Limits.{IsHold}
@@ -13,7 +15,7 @@ use Rattle.terms.specs.declared.row.HoldState.{HoldState}
 use Rattle.terms.specs.declared.row.HoldState.TheVariants.{Waiting, Ready, Filled, Cancelled, Expired}
 use Rattle.circ_tables.specs.Cells.{optional, number_key, state_number, hold_cells}
 use Rattle.circ_tables.specs.Encoding.{IsEncoded, Any, all_held, to_list, from_list, with_held}
-use Rattle.circ_tables.specs.Numbered.{IsNumbered, IsNumberTable, put_terms, put_shows, nat_of, option_of, option_back, optional_suits}
+use Rattle.circ_tables.specs.Numbered.{IsNumbered, IsNumberTable, grown_from, put_terms, put_shows, nat_of, option_of, option_back, optional_suits}
 use Rattle.circ_tables.specs.Reading.{Table}
 use Rattle.circ_tables.specs.Shape as shape
 
@@ -21,6 +23,7 @@ abbrev pub holds : Table ℕ HoldRow
 holds = record {
   shape = shape.holds;
   place = shape.holds_place;
+  since = 2;
   key = number_key;
   cells = hold_cells;
   IsLegal = IsHold;
@@ -42,9 +45,9 @@ state_back Filled = refl
 state_back Cancelled = refl
 state_back Expired = refl
 
-texts_are : IsNumbered shape.schema shape.holds_place shape.holds
+texts_are : (more : List SqlTable) (others : List Index) → IsNumbered (grown_from shape.second more others) shape.holds_place shape.holds
 unfolding understood everything
-texts_are = record {
+texts_are more others = record {
   listed = refl;
   primary = refl;
   uncounted = refl;
@@ -60,7 +63,8 @@ texts_are = record {
 
 pub holds_are : IsNumberTable holds (λ r. r.hold)
 holds_are = record {
-  texts = texts_are;
+  newest = shape.has_second;
+  texts = shape.since_second (λ n. IsNumbered (shape.schema_at n) shape.holds_place shape.holds) (texts_are [] []) (texts_are (shape.tables_after shape.second 3) (shape.indexes_after shape.second 3));
   keyed = λ k. refl;
   first_cell = λ r. refl;
   from_one = λ r legal. legal.0.0;

@@ -14,7 +14,7 @@ use Rattle.terms.specs.declared.row.HoldRow1.{HoldRow1}
 use Rattle.circ_tables.specs.Cells.{optional, number_key, hold1_cells}
 use Rattle.circ_tables.specs.Encoding.{IsEncoded, Any, all_held, to_list, from_list, with_held}
 use Rattle.circ_tables.specs.Holds.{state_of, state_back}
-use Rattle.circ_tables.specs.Numbered.{IsNumbered, IsNumberTable, grown, put_terms, put_shows, nat_of, option_of, option_back, optional_suits}
+use Rattle.circ_tables.specs.Numbered.{IsNumbered, IsNumberTable, grown, in_each, put_terms, put_shows, nat_of, option_of, option_back, optional_suits}
 use Rattle.circ_tables.specs.Reading.{Table}
 use Rattle.circ_tables.specs.Shape as shape
 
@@ -22,6 +22,7 @@ abbrev pub holds1 : Table ℕ HoldRow1
 holds1 = record {
   shape = shape.holds1;
   place = shape.holds1_place;
+  since = 1;
   key = number_key;
   cells = hold1_cells;
   IsLegal = IsHold1;
@@ -47,7 +48,8 @@ texts_are more others = record {
 
 pub holds1_are : IsNumberTable holds1 (λ r. r.hold)
 holds1_are = record {
-  texts = texts_are shape.later_tables shape.later_indexes;
+  newest = shape.has_first;
+  texts = in_each shape.holds1_place shape.holds1 texts_are;
   keyed = λ k. refl;
   first_cell = λ r. refl;
   from_one = λ r legal. legal.0.0;

@@ -11,7 +11,7 @@ use Rattle.terms.specs.Pictures.{put}
 use Rattle.terms.specs.declared.row.KindRow.{KindRow}
 use Rattle.circ_tables.specs.Cells.{number_key, kind_cells}
 use Rattle.circ_tables.specs.Encoding.{IsEncoded, Any, all_held, to_list, from_list, with_held}
-use Rattle.circ_tables.specs.Numbered.{IsNumbered, IsNumberTable, grown, put_terms, put_shows, nat_of}
+use Rattle.circ_tables.specs.Numbered.{IsNumbered, IsNumberTable, grown, in_each, put_terms, put_shows, nat_of}
 use Rattle.circ_tables.specs.Reading.{Table}
 use Rattle.circ_tables.specs.Shape as shape
 
@@ -19,6 +19,7 @@ abbrev pub kinds : Table ℕ KindRow
 kinds = record {
   shape = shape.kinds;
   place = shape.kinds_place;
+  since = 1;
   key = number_key;
   cells = kind_cells;
   IsLegal = IsKind;
@@ -44,7 +45,8 @@ texts_are more others = record {
 
 pub kinds_are : IsNumberTable kinds (λ r. r.kind)
 kinds_are = record {
-  texts = texts_are shape.later_tables shape.later_indexes;
+  newest = shape.has_first;
+  texts = in_each shape.kinds_place shape.kinds texts_are;
   keyed = λ k. refl;
   first_cell = λ r. refl;
   from_one = λ r legal. legal.0.0;

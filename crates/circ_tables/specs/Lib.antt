@@ -13,10 +13,12 @@ pub mod Branches
 pub mod ClosedDays
 pub mod Kinds
 pub mod Rules
+pub mod Rules1
 pub mod Patrons
 pub mod Titles
 pub mod Copies
 pub mod Loans
+pub mod Loans1
 pub mod Holds
 pub mod Holds1
 pub mod Transits

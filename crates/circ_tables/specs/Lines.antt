@@ -14,7 +14,7 @@ use Rattle.terms.specs.declared.row.Sort.{Sort}
 use Rattle.terms.specs.declared.row.Sort.TheVariants.{Fine, Price, Payment, Waiver}
 use Rattle.circ_tables.specs.Cells.{number_key, sort_number, line_cells}
 use Rattle.circ_tables.specs.Encoding.{IsEncoded, Any, all_held, to_list, from_list, with_held}
-use Rattle.circ_tables.specs.Numbered.{IsNumbered, IsNumberTable, grown, put_terms, put_shows, nat_of, option_of, option_back, optional_suits}
+use Rattle.circ_tables.specs.Numbered.{IsNumbered, IsNumberTable, grown, in_each, put_terms, put_shows, nat_of, option_of, option_back, optional_suits}
 use Rattle.circ_tables.specs.Reading.{Table}
 use Rattle.circ_tables.specs.Shape as shape
 
@@ -22,6 +22,7 @@ abbrev pub lines : Table ℕ LineRow
 lines = record {
   shape = shape.lines;
   place = shape.lines_place;
+  since = 1;
   key = number_key;
   cells = line_cells;
   IsLegal = IsLine;
@@ -59,7 +60,8 @@ texts_are more others = record {
 
 pub lines_are : IsNumberTable lines (λ r. r.line)
 lines_are = record {
-  texts = texts_are shape.later_tables shape.later_indexes;
+  newest = shape.has_first;
+  texts = in_each shape.lines_place shape.lines texts_are;
   keyed = λ k. refl;
   first_cell = λ r. refl;
   from_one = λ r legal. legal.0.0;

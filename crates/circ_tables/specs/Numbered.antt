@@ -1,5 +1,6 @@
 -- What has to be computed of the texts of a table that is keyed by one number. It is the same list of `refl` for each table, and holds of each schema that begins with the tables up to its own.
-use Rattle.std.specs.Prelude.{codes, true, refl, None, ◌≡◌, ◌+◌, ◌-◌, ◌≤◌, ℕ, pos, negsuc, false, List, [], ◌∷◌, ◌++◌, length, map, slice_get, Option, Some}
+use Rattle.std.specs.Prelude.{codes, true, refl, None, ◌≡◌, ◌+◌, ◌-◌, ◌≤◌, ℕ, zero, suc, pos, negsuc, false, List, [], ◌∷◌, ◌++◌, length, map, slice_get, Option, Some}
+use Rattle.std.proofs.Common.{sym, subst}
 use Rattle.std.specs.List.{range_with_len}
 use Rattle.sqlite.specs.Order.{Row, column}
 use Rattle.sqlite.specs.Table.{Table}
@@ -29,6 +30,7 @@ use Rattle.sql_maps.proofs.FillLemmas.{suits_kind}
 use Rattle.sql_maps.proofs.WriteLemmas.{Fills, id_test}
 use Rattle.circ_tables.specs.Texts.{names_of, put_text, take_text, get_text, all_text, first_text, page_text}
 use Rattle.terms.specs.Limits.{InLimits}
+use Rattle.terms.specs.declared.limits.TheConstants.{SCHEMA}
 use Rattle.terms.specs.Pictures.{Picture, put as put_in}
 use Rattle.circ_tables.specs.Cells.{number, optional, number_key}
 use Rattle.circ_tables.specs.Encoding.{Encodes, IsEncoded, Any, with_map}
@@ -36,7 +38,7 @@ use Rattle.circ_tables.specs.Reading as typed
 use Rattle.circ_tables.specs.Selections.{least_after}
 use Rattle.circ_tables.specs.declared.by_number.Texts.{Texts}
 use Rattle.circ_tables.specs.declared.by_number.TheConstants.{PAGE_ROWS}
-use Rattle.circ_tables.specs.Shape.{schema, first}
+use Rattle.circ_tables.specs.Shape.{schema_at, HasTable, first, later_tables, later_indexes}
 
 -- The key is the first parameter; or is not below it.
 abbrev pub by_key : List Term
@@ -108,9 +110,10 @@ pub record AreTexts (t : Table) (texts : Texts) : Type 0 where
   pub first : texts.first.now ≡ first_text t
   pub page : texts.page.now ≡ page_text t
 
--- A table of typed rows that is keyed by one number: its texts, and what ties the rows to SQL and to the picture. A row can be read back from its columns, and it has a place in the picture.
+-- A table of typed rows that is keyed by one number, which the newest schema has: its texts in each schema that has it, and what ties the rows to SQL and to the picture. A row can be read back from its columns, and it has a place in the picture.
 pub record IsNumberTable {R : Type 0} (t : typed.Table ℕ R) (number_of : R → ℕ) : Type 0 where
-  pub texts : IsNumbered schema t.place t.shape
+  pub newest : HasTable t.since SCHEMA
+  pub texts : (n : ℕ) → HasTable t.since n → IsNumbered (schema_at n) t.place t.shape
   pub keyed : (k : ℕ) → t.key k ≡ number_key k
   pub first_cell : (r : R) → column (t.cells r) 0 ≡ number (number_of r)
   pub from_one : (r : R) → t.IsLegal r → 1 ≤ number_of r
@@ -123,9 +126,23 @@ pub record IsNumberTable {R : Type 0} (t : typed.Table ℕ R) (number_of : R →
   pub set_is : (P : Picture) (k : ℕ) (row : Option R) → t.set P k row ≡ with_rows P (put_in (t.rows P) k row)
   pub framed : (maps : Maps) (P : Picture) (m : Map) (u : ℕ → Option R) → Encodes maps P → IsEncoded Any number_key t.cells m u → Encodes (with_map maps t.place m) (with_rows P u)
 
--- A schema that begins with these tables and indexes.
+-- A schema that begins with the tables and indexes of another; with those of step 1.
+abbrev pub grown_from : Schema → List Table → List Index → Schema
+grown_from s more others = record { tables = s.tables ++ more; indexes = s.indexes ++ others; views = [] }
+
 abbrev pub grown : List Table → List Index → Schema
-grown more others = record { tables = first.tables ++ more; indexes = first.indexes ++ others; views = [] }
+grown = grown_from first
+
+-- The schema of a number begins with those of step 1.
+pub schema_grown : (n : ℕ) → schema_at n ≡ grown (later_tables n) (later_indexes n)
+schema_grown zero = refl
+schema_grown (suc zero) = refl
+schema_grown (suc (suc zero)) = refl
+schema_grown (suc (suc (suc n))) = refl
+
+-- So what is so of each schema that does is so of that of a number.
+pub in_each : (at : ℕ) (t : Table) → ((more : List Table) (others : List Index) → IsNumbered (grown more others) at t) → (n : ℕ) → HasTable 1 n → IsNumbered (schema_at n) at t
+in_each at t is n has = subst (λ s. IsNumbered s at t) (sym (schema_grown n)) (is (later_tables n) (later_indexes n))
 
 -- What a column holds, as it is read back.
 abbrev pub nat_of : Value → ℕ

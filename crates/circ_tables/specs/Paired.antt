@@ -1,5 +1,6 @@
 -- What has to be computed of the texts of a table that is keyed by two columns. It is the same list for each table.
-use Rattle.std.specs.Prelude.{◌≡◌, ◌+◌, ◌-◌, ℕ, List, [], ◌∷◌, ◌++◌, length, map, Some}
+use Rattle.std.proofs.Common.{sym, subst}
+use Rattle.std.specs.Prelude.{◌≡◌, ◌+◌, ◌-◌, ℕ, refl, List, [], ◌∷◌, ◌++◌, length, map, Some}
 use Rattle.std.specs.List.{range_with_len}
 use Rattle.sqlite.specs.Order.{Row, column}
 use Rattle.sqlite.specs.Table.{Table}
@@ -14,13 +15,19 @@ use Rattle.sqlite_sql.specs.declared.ops.BinaryOp.TheVariants.{Compare}
 use Rattle.sqlite_sql.specs.declared.ops.CompareOp.TheVariants.{Eq}
 use Rattle.sqlite_value.specs.declared.keys.Collation.TheVariants.{Binary}
 use Rattle.sqlite_value.specs.declared.keys.Key.{Key}
-use Rattle.sqlite_value.specs.Keys.{ascending}
+use Rattle.sqlite_value.specs.Keys.{ascending, plain}
+use Rattle.sqlite_schema.specs.declared.schema.Index.{Index}
+use Rattle.sqlite_schema.specs.declared.schema.Keys.{Keys}
+use Rattle.sqlite_schema.specs.Rules.{agree}
+use Rattle.sqlite_rules.specs.Action.{works}
+use Rattle.sqlite_rules.specs.Keys.{conflicts}
 use Rattle.sqlite_tied.specs.Listing.{each_column}
 use Rattle.sql_maps.specs.Maps.{cells}
 use Rattle.sql_maps.proofs.Words.{over, in_order_of}
 use Rattle.sql_maps.proofs.AnswerLemmas.{shown_of}
 use Rattle.sql_maps.proofs.WriteLemmas.{Fixed, id_test}
-use Rattle.circ_tables.specs.Numbered.{IsRun, IsRead}
+use Rattle.circ_tables.specs.Numbered.{IsRun, IsRead, grown, schema_grown}
+use Rattle.circ_tables.specs.Shape.{schema_at, HasTable, since_first, later_tables, later_indexes}
 use Rattle.circ_tables.specs.Texts.{kept_columns, names_of, put_text, take_text, get_text, all_text}
 
 -- The key is the first parameter and the second.
@@ -55,3 +62,21 @@ pub record IsPaired (s : Schema) (at : ℕ) (t : Table) : Type 0 where
   pub take : IsRun s (take_text t) (Delete at (record { lets = []; body = over t.tree by_key (col 1 0 ∷ []) }))
   pub get : IsRead s (get_text t) (Select (record { lets = []; body = over t.tree by_key (each_column 1 t) }) (names_of t))
   pub all : IsRead s (all_text t) (Select (record { lets = []; body = in_order_of t.tree [] (each_column 1 t) by_pair }) (names_of t))
+
+-- No foreign key acts.
+abbrev pub IsCalm : Schema → Type 0
+IsCalm s = (keys : Keys) (depth tree : ℕ) (olds news : List Row) → works s keys depth tree olds news ≡ []
+
+-- Of the indexes of the schema that of its key alone guards a table: so a clause on the key meets the rows with the key.
+abbrev pub IsAimed : Schema → Table → Type 0
+IsAimed s t = (r new : Row) → conflicts (Some t.primary) s.indexes t new r ≡ agree plain t.primary r t.primary new
+
+pub are_calm : (n : ℕ) → HasTable 1 n → IsCalm (schema_at n)
+are_calm = since_first (λ n. IsCalm (schema_at n)) (λ keys depth tree olds news. refl) (λ keys depth tree olds news. refl) (λ keys depth tree olds news. refl)
+
+-- What the texts are in each schema that begins with the tables of step 1 they are in that of a number.
+pub in_each : (at : ℕ) (t : Table) → ((more : List Table) (others : List Index) → IsCalm (grown more others) → IsAimed (grown more others) t → IsPaired (grown more others) at t)
+    → ((n : ℕ) → HasTable 1 n → IsAimed (schema_at n) t) → (n : ℕ) → HasTable 1 n → IsPaired (schema_at n) at t
+in_each at t is aimed n has =
+    let same = schema_grown n in
+    subst (λ s. IsPaired s at t) (sym same) (is (later_tables n) (later_indexes n) (subst IsCalm same (are_calm n has)) (subst (λ s. IsAimed s t) same (aimed n has)))

@@ -11,7 +11,7 @@ use Rattle.terms.specs.Pictures.{put}
 use Rattle.terms.specs.declared.row.PatronRow.{PatronRow}
 use Rattle.circ_tables.specs.Cells.{number_key, patron_cells}
 use Rattle.circ_tables.specs.Encoding.{IsEncoded, Any, all_held, to_list, from_list, with_held}
-use Rattle.circ_tables.specs.Numbered.{IsNumbered, IsNumberTable, grown, put_terms, put_shows, nat_of, text_of}
+use Rattle.circ_tables.specs.Numbered.{IsNumbered, IsNumberTable, grown, in_each, put_terms, put_shows, nat_of, text_of}
 use Rattle.circ_tables.specs.Reading.{Table}
 use Rattle.circ_tables.specs.Shape as shape
 
@@ -19,6 +19,7 @@ abbrev pub patrons : Table ℕ PatronRow
 patrons = record {
   shape = shape.patrons;
   place = shape.patrons_place;
+  since = 1;
   key = number_key;
   cells = patron_cells;
   IsLegal = IsPatron;
@@ -44,7 +45,8 @@ texts_are more others = record {
 
 pub patrons_are : IsNumberTable patrons (λ r. r.patron)
 patrons_are = record {
-  texts = texts_are shape.later_tables shape.later_indexes;
+  newest = shape.has_first;
+  texts = in_each shape.patrons_place shape.patrons texts_are;
   keyed = λ k. refl;
   first_cell = λ r. refl;
   from_one = λ r legal. legal.0.0;

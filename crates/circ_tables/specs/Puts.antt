@@ -17,7 +17,7 @@ use Rattle.terms.specs.declared.row.KeptRow.{KeptRow}
 use Rattle.circ_tables.specs.Cells.{number_key, meta_cells, kept_key, kept_cells}
 use Rattle.circ_tables.specs.Encoding.{Draws}
 use Rattle.circ_tables.specs.Reading.{Table}
-use Rattle.circ_tables.specs.Shape.{schema, meta_place, kept_place}
+use Rattle.circ_tables.specs.Shape.{schema_at, HasTable, meta_place, kept_place}
 
 -- The transaction is the same one, and what was committed before it stands, whatever comes of the call and whenever it is stopped.
 pub record Works {S : Type 0} (g : Ghosts S) (old new : Transaction S) : Type 0 where
@@ -35,38 +35,38 @@ pub record Runs {S T : Type 0} (text : List ℕ) (given : Row)
       → OnErr result (IsKeptOrUndone (state g old.conn.now) (state g new.conn.now))
   pub fault : IfErr result (λ fault. fault ≡ Database)
 
--- The maps of the tables are changed so, and the picture that they show. The change of the picture may need something of the row. Its one fault is 91.
-pub record ChangesRows {S T : Type 0} (change : Maps → Maps) (Needs : Type 0) (draw : Picture → Picture)
+-- The maps of the tables are changed so, and the picture that they show, in each schema that has the tables that are there since one. The change of the picture may need something of the row. Its one fault is 91.
+pub record ChangesRows {S T : Type 0} (since : ℕ) (change : Maps → Maps) (Needs : Type 0) (draw : Picture → Picture)
     (g : Ghosts S) (old new : Transaction S) (result : Result T Fault) : Type 0 where
   pub works : Works g old new
   pub steps : HasCleanDisk (state g new.conn.now) → IsTrue (state g old.conn.now).in_transaction
-      → OnOk result (Steps schema (state g old.conn.now) (state g new.conn.now) change)
+      → OnOk result ((n : ℕ) → HasTable since n → Steps (schema_at n) (state g old.conn.now) (state g new.conn.now) change)
   pub draws : HasCleanDisk (state g new.conn.now) → IsTrue (state g old.conn.now).in_transaction → Needs
-      → OnOk result (Draws (state g old.conn.now) (state g new.conn.now) draw)
+      → OnOk result ((n : ℕ) → HasTable since n → Draws n (state g old.conn.now) (state g new.conn.now) draw)
   pub fault : IfErr result (λ fault. fault ≡ Database)
 
 -- One text changes them; after a fault nothing is changed, or the transaction is undone.
-pub record Puts {S T : Type 0} (change : Maps → Maps) (Needs : Type 0) (draw : Picture → Picture)
+pub record Puts {S T : Type 0} (since : ℕ) (change : Maps → Maps) (Needs : Type 0) (draw : Picture → Picture)
     (g : Ghosts S) (old new : Transaction S) (result : Result T Fault) : Type 0 where
-  pub changes : ChangesRows change Needs draw g old new result
+  pub changes : ChangesRows since change Needs draw g old new result
   pub leaves : HasCleanDisk (state g new.conn.now)
       → OnErr result (IsKeptOrUndone (state g old.conn.now) (state g new.conn.now))
 
 -- The row stands under the key, in place of the row that had it.
 abbrev pub PutsRow : {S K R T : Type 0} → Table K R → K → R → Ghosts S → Transaction S → Transaction S → Result T Fault → Type 0
-PutsRow t key row = Puts (λ maps. put_at maps t.place (t.key key) (t.cells row)) (Unit {0}) (λ P. t.set P key (Some row))
+PutsRow t key row = Puts t.since (λ maps. put_at maps t.place (t.key key) (t.cells row)) (Unit {0}) (λ P. t.set P key (Some row))
 
 -- No row stands under the key any more.
 abbrev pub TakesRow : {S K R T : Type 0} → Table K R → K → Ghosts S → Transaction S → Transaction S → Result T Fault → Type 0
-TakesRow t key = Puts (λ maps. take_at maps t.place (t.key key)) (Unit {0}) (λ P. t.set P key None)
+TakesRow t key = Puts t.since (λ maps. take_at maps t.place (t.key key)) (Unit {0}) (λ P. t.set P key None)
 
 -- The row is the one of `meta`.
 abbrev pub PutsMeta : {S T : Type 0} → MetaRow → Ghosts S → Transaction S → Transaction S → Result T Fault → Type 0
-PutsMeta row = Puts (λ maps. put_at maps meta_place (number_key 1) (meta_cells row)) (Unit {0}) (λ P. record P { meta = row })
+PutsMeta row = Puts 1 (λ maps. put_at maps meta_place (number_key 1) (meta_cells row)) (Unit {0}) (λ P. record P { meta = row })
 
 -- The row is kept under its caller and key. In the picture it stands so for the desk and for each patron that may be.
 abbrev pub PutsKept : {S T : Type 0} → KeptRow → Ghosts S → Transaction S → Transaction S → Result T Fault → Type 0
-PutsKept row = Puts (λ maps. put_at maps kept_place (kept_key row.caller row.key) (kept_cells row)) (IsOwner row.caller)
+PutsKept row = Puts 1 (λ maps. put_at maps kept_place (kept_key row.caller row.key) (kept_cells row)) (IsOwner row.caller)
     (λ P. record P { kept = put_kept P.kept row.caller row.key (Some row) })
 
 -- The schema is led from one stage to another, with the maps of the tables that are there. Its one fault is 91.

@@ -9,6 +9,7 @@ use Rattle.sqlite.specs.Given.{IsPlain}
 use Rattle.sqlite.specs.Held.{Held, state}
 use Rattle.sqlite.specs.Listing.{understood}
 use Rattle.sqlite.specs.Order.{Row, column}
+use Rattle.sqlite.specs.Schema.{Schema}
 use Rattle.sqlite.specs.State.{State, HasCleanDisk, IsUnchanged, KeepsCommit, Survives, CommitsShowing, Shown}
 use Rattle.sqlite.specs.Store.{Ghosts}
 use Rattle.sqlite.specs.Tree.{Trees}
@@ -21,19 +22,21 @@ use Rattle.terms.specs.Pictures.{Picture}
 use Rattle.terms.specs.declared.command.Owner.{Owner}
 use Rattle.terms.specs.declared.fault.Fault.{Fault}
 use Rattle.terms.specs.declared.fault.Fault.TheVariants.{Database, Stored}
+use Rattle.terms.specs.declared.limits.TheConstants.{SCHEMA}
 use Rattle.terms.specs.declared.row.MetaRow.{MetaRow}
 use Rattle.terms.specs.declared.row.KeptRow.{KeptRow}
 use Rattle.circ_tables.specs.declared.kept.KeptReply.{KeptReply}
 use Rattle.circ_tables.specs.Cells.{number, number_key, pair_key, kept_key, meta_cells, kept_cells}
-use Rattle.circ_tables.specs.Encoding.{HasPicture, AreEncoded, reply_of, HasTexts, day_cells, IsClosedDay}
+use Rattle.circ_tables.specs.Encoding.{HasPicture, HasPictureAt, AreEncoded, reply_of, HasTexts, day_cells, IsClosedDay}
 use Rattle.circ_tables.specs.Selections.{AreClosedDays}
 use Rattle.sqlite.specs.Table.{Table as Shape}
-use Rattle.circ_tables.specs.Shape.{schema, meta_place, closed_days_place, kept_place}
+use Rattle.circ_tables.specs.Shape.{schema, schema_at, HasTable, meta_place, closed_days_place, kept_place}
 
--- A table of typed rows: its shape and place, the key of a row, its columns, its limits, its rows in a picture, and the picture with another row, or none, under a key.
+-- A table of typed rows: its shape and place, the schema since which it is there, the key of a row, its columns, its limits, its rows in a picture, and the picture with another row, or none, under a key.
 pub record Table (K R : Type 0) : Type 1 where
   pub shape : Shape
   pub place : ℕ
+  pub since : ℕ
   pub key : K → Row
   pub cells : R → Row
   pub IsLegal : R → Type 0
@@ -133,27 +136,39 @@ pub record RollsBack {S : Type 0} (g : Ghosts S) (old new : Held S) : Type 0 whe
       × ((state g new).committed ≡ (state g old).committed)
   pub survives : Survives (state g old) (state g new) (λ _. ⊥)
 
--- What was found is so in the maps of the tables, and nothing is changed.
-abbrev pub OfMaps : {S A : Type 0} → (Maps → A → Type 0) → Ghosts S → Held S → Held S → Result A Fault → Type 0
-OfMaps Is g old new result = HasCleanDisk (state g new)
-    → IfOk result (λ x. (maps : Maps) → Holds schema (state g old).now maps
+-- What was found is so in the maps of the tables, and nothing is changed: of tables with a schema, and of those with the newest one.
+abbrev pub OfMapsAt : {S A : Type 0} → Schema → (Maps → A → Type 0) → Ghosts S → Held S → Held S → Result A Fault → Type 0
+OfMapsAt s Is g old new result = HasCleanDisk (state g new)
+    → IfOk result (λ x. (maps : Maps) → Holds s (state g old).now maps
     → Is maps x × IsUnchanged (state g old) (state g new))
 
--- The same in a picture.
-abbrev pub OfPicture : {S A : Type 0} → (Picture → A → Type 0) → Ghosts S → Held S → Held S → Result A Fault → Type 0
-OfPicture Is g old new result = HasCleanDisk (state g new)
-    → IfOk result (λ x. (P : Picture) → HasPicture (state g old).now P
+abbrev pub OfMaps : {S A : Type 0} → (Maps → A → Type 0) → Ghosts S → Held S → Held S → Result A Fault → Type 0
+OfMaps = OfMapsAt schema
+
+-- The same in a picture, which the tables of a schema show.
+abbrev pub OfPictureAt : {S A : Type 0} → ℕ → (Picture → A → Type 0) → Ghosts S → Held S → Held S → Result A Fault → Type 0
+OfPictureAt n Is g old new result = HasCleanDisk (state g new)
+    → IfOk result (λ x. (P : Picture) → HasPictureAt n (state g old).now P
     → Is P x × IsUnchanged (state g old) (state g new))
 
+abbrev pub OfPicture : {S A : Type 0} → (Picture → A → Type 0) → Ghosts S → Held S → Held S → Result A Fault → Type 0
+OfPicture = OfPictureAt SCHEMA
+
 -- The fault of a stored row comes only over maps of which this is so.
+abbrev pub IsStoredAt : {S A : Type 0} → Schema → (Maps → Type 0) → Ghosts S → Held S → Held S → Result A Fault → Type 0
+IsStoredAt s Bad g old new result = HasCleanDisk (state g new) → result ≡ Err Stored
+    → (maps : Maps) → Holds s (state g old).now maps → Bad maps
+
 abbrev pub IsStoredIn : {S A : Type 0} → (Maps → Type 0) → Ghosts S → Held S → Held S → Result A Fault → Type 0
-IsStoredIn Bad g old new result = HasCleanDisk (state g new) → result ≡ Err Stored
-    → (maps : Maps) → Holds schema (state g old).now maps → Bad maps
+IsStoredIn = IsStoredAt schema
 
 -- It never comes over a picture of which this is so.
+abbrev pub IsSoundAt : {S A : Type 0} → ℕ → (Picture → Type 0) → Ghosts S → Held S → Held S → Result A Fault → Type 0
+IsSoundAt n Good g old new result = HasCleanDisk (state g new)
+    → (P : Picture) → HasPictureAt n (state g old).now P → Good P → result ≢ Err Stored
+
 abbrev pub IsSoundIn : {S A : Type 0} → (Picture → Type 0) → Ghosts S → Held S → Held S → Result A Fault → Type 0
-IsSoundIn Good g old new result = HasCleanDisk (state g new)
-    → (P : Picture) → HasPicture (state g old).now P → Good P → result ≢ Err Stored
+IsSoundIn = IsSoundAt SCHEMA
 
 -- The first row that a text shows, within its limits.
 pub record FirstEntry {S R : Type 0} (cells : R → Row) (IsLegal : R → Type 0) (text : List ℕ) (given : Row)
@@ -190,15 +205,15 @@ pub record GetsMeta {S : Type 0} (g : Ghosts S) (old new : Held S) (result : Res
   pub sound : IsSoundIn (λ P. IsMeta P.meta) g old new result
   pub view : Views (λ P row. row ≡ P.meta) g old new result
 
--- The same, asked inside a transaction. Where the row comes, nothing is changed, so that the transaction goes on.
+-- The same, asked inside a transaction, over the tables of each schema. Where the row comes, nothing is changed, so that the transaction goes on.
 pub record GetsMetaInside {S : Type 0} (g : Ghosts S) (old new : Transaction S) (result : Result MetaRow Fault) : Type 0 where
   pub works : WorksInside g old new
-  pub gets : OfMaps (λ maps row. maps meta_place (number_key 1) ≡ Some (meta_cells row)) g old.conn.now new.conn.now result
+  pub gets : (n : ℕ) → HasTable 1 n → OfMapsAt (schema_at n) (λ maps row. maps meta_place (number_key 1) ≡ Some (meta_cells row)) g old.conn.now new.conn.now result
   pub limits : IfOk result IsMeta
-  pub stored : IsStoredIn (λ maps. (r : MetaRow) → IsMeta r → maps meta_place (number_key 1) ≡ Some (meta_cells r)
+  pub stored : (n : ℕ) → HasTable 1 n → IsStoredAt (schema_at n) (λ maps. (r : MetaRow) → IsMeta r → maps meta_place (number_key 1) ≡ Some (meta_cells r)
       → ¬ IsLone (maps meta_place) r) g old.conn.now new.conn.now result
-  pub shows : OfPicture (λ P row. row ≡ P.meta) g old.conn.now new.conn.now result
-  pub sound : IsSoundIn (λ P. IsMeta P.meta) g old.conn.now new.conn.now result
+  pub shows : (n : ℕ) → HasTable 1 n → OfPictureAt n (λ P row. row ≡ P.meta) g old.conn.now new.conn.now result
+  pub sound : (n : ℕ) → HasTable 1 n → IsSoundAt n (λ P. IsMeta P.meta) g old.conn.now new.conn.now result
 
 -- Whether a branch is closed singly on a day. No row is read, so none is outside its limits.
 pub record GetsDay {S : Type 0} (branch day : ℕ)
@@ -282,13 +297,13 @@ pub record Lists {S K R L : Type 0} (t : Table K R) (items : L → List R) (Foun
   pub sound : IsSoundIn InLimits g old new result
   pub read : Reading (result_err result) (state g old) (state g new)
 
--- The same, asked inside a transaction. Where the rows come, nothing is changed, so that the transaction goes on.
+-- The same, asked inside a transaction, over the tables of each schema that has this one. Where the rows come, nothing is changed, so that the transaction goes on.
 pub record ListsInside {S K R L : Type 0} (t : Table K R) (items : L → List R) (Found : Map → List Row → Type 0)
     (g : Ghosts S) (old new : Transaction S) (result : Result L Fault) : Type 0 where
   pub works : WorksInside g old new
-  pub lists : OfMaps (λ maps l. Found (maps t.place) (map t.cells (items l))) g old.conn.now new.conn.now result
+  pub lists : (n : ℕ) → HasTable t.since n → OfMapsAt (schema_at n) (λ maps l. Found (maps t.place) (map t.cells (items l))) g old.conn.now new.conn.now result
   pub limits : IfOk result (λ l. All t.IsLegal (items l))
-  pub stored : IsStoredIn (λ maps. ¬ AreEncoded t.cells t.IsLegal (maps t.place)) g old.conn.now new.conn.now result
+  pub stored : (n : ℕ) → HasTable t.since n → IsStoredAt (schema_at n) (λ maps. ¬ AreEncoded t.cells t.IsLegal (maps t.place)) g old.conn.now new.conn.now result
 
 -- The days on which a branch is closed singly.
 pub record ListsDays {S L : Type 0} (items : L → List ℕ) (branch : ℕ)

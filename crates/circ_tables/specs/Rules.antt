@@ -1,5 +1,6 @@
--- The table of circulation rules.
+-- The table of circulation rules, which is there from schema 3 on.
 use Rattle.std.proofs.Common.{inl, inr, refl}
+use Rattle.std.specs.Prelude.{ℕ}
 use Rattle.sqlite.specs.Listing.{understood}
 use Rattle.sqlite_tied.specs.Compute.{everything}
 use Rattle.sql_maps.proofs.UniqueLemmas.{or_false, alone_by_index}
@@ -16,6 +17,7 @@ abbrev pub rules : Table Pair RuleRow
 rules = record {
   shape = shape.rules;
   place = shape.rules_place;
+  since = 3;
   key = λ k. pair_key k.0 k.1;
   cells = rule_cells;
   IsLegal = IsRule;
@@ -23,15 +25,15 @@ rules = record {
   set = λ P k row. record P { rules = put_pair P.rules k.0 k.1 row };
 }
 
-pub rules_are : IsPaired shape.schema shape.rules_place shape.rules
+texts_are : IsPaired shape.schema shape.rules_place shape.rules
 unfolding understood everything
-rules_are = record {
+texts_are = record {
   fixed = record {
     listed = refl;
     uncounted = refl;
     calm = λ keys depth tree olds news. refl;
     target = λ r new. or_false _;
-    alone = alone_by_index shape.schema shape.rules_place shape.rules _ refl (inr (inl refl)) refl refl refl;
+    alone = alone_by_index shape.schema shape.rules_place shape.rules _ refl (inr (inr (inr (inr (inr (inr (inr (inr (inr (inr (inr (inr (inr (inr (inr (inr (inl refl))))))))))))))))) refl refl refl;
   };
   primary = refl;
   first_cell = λ r. refl;
@@ -42,3 +44,6 @@ rules_are = record {
   get = record { command_is = refl; bare = (refl, refl); unlisted = refl };
   all = record { command_is = refl; bare = (refl, refl); unlisted = refl };
 }
+
+pub rules_are : (n : ℕ) → shape.HasTable 3 n → IsPaired (shape.schema_at n) shape.rules_place shape.rules
+rules_are = shape.since_third (λ n. IsPaired (shape.schema_at n) shape.rules_place shape.rules) texts_are

@@ -12,7 +12,7 @@ use Rattle.terms.specs.Pictures.{put}
 use Rattle.terms.specs.declared.row.TransitRow.{TransitRow}
 use Rattle.circ_tables.specs.Cells.{number_key, transit_cells}
 use Rattle.circ_tables.specs.Encoding.{IsEncoded, Any, all_held, to_list, from_list, with_held}
-use Rattle.circ_tables.specs.Numbered.{IsNumbered, IsNumberTable, grown, put_terms, put_shows, nat_of, option_of, option_back, optional_suits}
+use Rattle.circ_tables.specs.Numbered.{IsNumbered, IsNumberTable, grown, in_each, put_terms, put_shows, nat_of, option_of, option_back, optional_suits}
 use Rattle.circ_tables.specs.Reading.{Table}
 use Rattle.circ_tables.specs.Shape as shape
 
@@ -20,6 +20,7 @@ abbrev pub transits : Table ℕ TransitRow
 transits = record {
   shape = shape.transits;
   place = shape.transits_place;
+  since = 1;
   key = number_key;
   cells = transit_cells;
   IsLegal = IsTransit;
@@ -45,7 +46,8 @@ texts_are more others = record {
 
 pub transits_are : IsNumberTable transits (λ r. r.copy)
 transits_are = record {
-  texts = texts_are shape.later_tables shape.later_indexes;
+  newest = shape.has_first;
+  texts = in_each shape.transits_place shape.transits texts_are;
   keyed = λ k. refl;
   first_cell = λ r. refl;
   from_one = λ r legal. legal.0.0;

@@ -1,4 +1,4 @@
-//! The table of loans.
+//! The table of loans, from schema 3 on.
 
 ghost use Rattle.sql_maps.specs.Maps.{First, FirstOf, Listed};
 ghost use Rattle.sql_maps.specs.Pages.{FirstRows};
@@ -21,7 +21,7 @@ use sqlite::{Alter, Connection, Row, Transaction, params};
 use std::alloc::Global;
 use terms::{
     BranchId, CopyId, Count, Fault, HIGHEST_CAP, HIGHEST_RATE, LAST_NUMBER, LONGEST_PERIOD, LoanId,
-    LoanRow, MOST_RENEWALS, PatronId, TitleId,
+    LoanRow, MOST_GRACE, MOST_RENEWALS, PatronId, TitleId,
 };
 
 impl Table for LoanRow {
@@ -31,9 +31,9 @@ impl Table for LoanRow {
 
     ghost table = { loans };
 
-    /// A row of `loans`, with the limits of the rule that it was made by. 91, 93.
+    /// A row of `loans3`, with the limits of the rule that it was made by. 91, 93.
     fn read(row: &Row, _memory: ()) -> Result<LoanRow, Fault> {
-        has_width(row, 11)?;
+        has_width(row, 12)?;
         Ok(LoanRow {
             loan: loan_at(row, 0, LAST_NUMBER)?,
             copy: copy_at(row, 1)?,
@@ -46,6 +46,7 @@ impl Table for LoanRow {
             rate: cents_at(row, 8, HIGHEST_RATE)?,
             cap: cents_at(row, 9, HIGHEST_CAP)?,
             ended: day_or_none_at(row, 10)?,
+            grace: days_at(row, 11, 0, MOST_GRACE)?,
         })
     }
 }
@@ -61,12 +62,12 @@ impl Numbered for LoanRow {
 
     fn texts() -> Texts {
         Texts {
-            put: "INSERT INTO loans VALUES (?1, ?2, ?3, ?4, ?5, ?6, ?7, ?8, ?9, ?10, ?11) ON CONFLICT (loan) DO UPDATE SET copy = ?2, patron = ?3, branch = ?4, made = ?5, due = ?6, period = ?7, renewals_left = ?8, rate = ?9, cap = ?10, ended = ?11",
-            take: "DELETE FROM loans WHERE loan = ?1",
-            get: "SELECT * FROM loans WHERE loan = ?1",
-            all: "SELECT * FROM loans ORDER BY loan",
-            first: "SELECT * FROM loans ORDER BY loan LIMIT 1000",
-            page: "SELECT * FROM loans WHERE loan >= ?1 ORDER BY loan LIMIT 1000",
+            put: "INSERT INTO loans3 VALUES (?1, ?2, ?3, ?4, ?5, ?6, ?7, ?8, ?9, ?10, ?11, ?12) ON CONFLICT (loan) DO UPDATE SET copy = ?2, patron = ?3, branch = ?4, made = ?5, due = ?6, period = ?7, renewals_left = ?8, rate = ?9, cap = ?10, ended = ?11, grace = ?12",
+            take: "DELETE FROM loans3 WHERE loan = ?1",
+            get: "SELECT * FROM loans3 WHERE loan = ?1",
+            all: "SELECT * FROM loans3 ORDER BY loan",
+            first: "SELECT * FROM loans3 ORDER BY loan LIMIT 1000",
+            page: "SELECT * FROM loans3 WHERE loan >= ?1 ORDER BY loan LIMIT 1000",
         }
     }
 
@@ -98,6 +99,7 @@ impl Put for LoanRow {
                 rate,
                 cap,
                 day_or_null(self.ended),
+                self.grace.number(),
             ],
         )
     }
@@ -105,7 +107,7 @@ impl Put for LoanRow {
 
 /// The text of `open_loan_of`.
 pub const OPEN_LOAN_OF_TEXT: &str =
-    "SELECT * FROM loans WHERE copy = ?1 AND ended IS NULL ORDER BY loan LIMIT 1";
+    "SELECT * FROM loans3 WHERE copy = ?1 AND ended IS NULL ORDER BY loan LIMIT 1";
 
 /// The open loan of a copy, if it is on loan. 91, 93.
 pub fn open_loan_of<S: Alter>(
@@ -120,7 +122,7 @@ pub fn open_loan_of<S: Alter>(
 
 /// The text of `open_loan_of_title`.
 pub const OPEN_LOAN_OF_TITLE_TEXT: &str =
-    "SELECT * FROM loans WHERE patron = ?1 AND ended IS NULL AND EXISTS (SELECT * FROM copies WHERE copies.copy = loans.copy AND copies.title = ?2) ORDER BY loan LIMIT 1";
+    "SELECT * FROM loans3 WHERE patron = ?1 AND ended IS NULL AND EXISTS (SELECT * FROM copies WHERE copies.copy = loans3.copy AND copies.title = ?2) ORDER BY loan LIMIT 1";
 
 /// The open loan of a patron of some copy of the title, the least number first, if there is one.
 /// 91, 93.
@@ -143,7 +145,7 @@ pub fn open_loan_of_title<S: Alter>(
 
 /// The text of `count_open_loans`.
 pub const COUNT_OPEN_LOANS_TEXT: &str =
-    "SELECT COUNT(*) FROM loans WHERE patron = ?1 AND ended IS NULL";
+    "SELECT COUNT(*) FROM loans3 WHERE patron = ?1 AND ended IS NULL";
 
 /// How many open loans the patron has. 91; 93 from 2^32 on.
 pub fn count_open_loans<S: Alter>(
@@ -157,7 +159,7 @@ pub fn count_open_loans<S: Alter>(
 
 /// The text of `open_loans_by`.
 pub const OPEN_LOANS_BY_TEXT: &str =
-    "SELECT * FROM loans WHERE patron = ?1 AND ended IS NULL ORDER BY loan";
+    "SELECT * FROM loans3 WHERE patron = ?1 AND ended IS NULL ORDER BY loan";
 
 /// The open loans of a patron, the least number first. 90, 91, 93.
 pub fn open_loans_by<S: Alter>(
@@ -179,7 +181,7 @@ pub fn open_loans_by<S: Alter>(
 
 /// The text of `overdue_loans_after`.
 pub const OVERDUE_LOANS_AFTER_TEXT: &str =
-    "SELECT * FROM loans WHERE branch = ?1 AND ended IS NULL AND due < ?2 AND loan > ?3 ORDER BY ended, loan LIMIT 1000";
+    "SELECT * FROM loans3 WHERE branch = ?1 AND ended IS NULL AND due < ?2 AND loan > ?3 ORDER BY ended, loan LIMIT 1000";
 
 /// The first open loans that the branch made, that were due before the day and whose numbers are
 /// above this one, the least number first: all of them, or as many as a page has. 90, 91, 93.

@@ -1,4 +1,4 @@
-//! The table of circulation rules.
+//! The table of circulation rules, from schema 3 on.
 
 ghost use Rattle.std.specs.Prelude.{[]};
 ghost use Rattle.sql_maps.specs.Maps.{ListedBy, PairBelow};
@@ -13,7 +13,8 @@ use crate::list::{Table, row_of, rows_of};
 use sqlite::{Alter, Connection, Row, Transaction, params};
 use std::alloc::Global;
 use terms::{
-    CopyKind, Fault, HIGHEST_CAP, HIGHEST_RATE, LONGEST_PERIOD, MOST_RENEWALS, PatronKind, RuleRow,
+    CopyKind, Fault, HIGHEST_CAP, HIGHEST_RATE, LONGEST_PERIOD, MOST_GRACE, MOST_RENEWALS,
+    PatronKind, RuleRow,
 };
 
 impl Table for RuleRow {
@@ -23,11 +24,10 @@ impl Table for RuleRow {
 
     ghost table = { rules };
 
-    /// A row of `rules`: a period of 1 to 365 days, up to 99 renewals, a rate up to 10,000 and a cap up
-    /// to
-    /// 100,000 cents. 91, 93.
+    /// A row of `rules3`: a period of 1 to 365 days, up to 99 renewals, a rate up to 10,000 and a cap up
+    /// to 100,000 cents, and up to 365 grace days. 91, 93.
     fn read(row: &Row, _memory: ()) -> Result<RuleRow, Fault> {
-        has_width(row, 6)?;
+        has_width(row, 7)?;
         Ok(RuleRow {
             kind: patron_kind_at(row, 0)?,
             copy_kind: copy_kind_at(row, 1)?,
@@ -35,11 +35,12 @@ impl Table for RuleRow {
             renewals: count_at(row, 3, MOST_RENEWALS)?,
             rate: cents_at(row, 4, HIGHEST_RATE)?,
             cap: cents_at(row, 5, HIGHEST_CAP)?,
+            grace: days_at(row, 6, 0, MOST_GRACE)?,
         })
     }
 }
 
-/// Puts a row of `rules`. 91.
+/// Puts a row of `rules3`. 91.
 pub fn put_rule<S: Alter>(tx: &mut Transaction<'_, S>, row: &RuleRow) -> Result<(), Fault>
     ensures { PutsRow rules (row.now.kind, row.now.copy_kind) row.now S.Store tx.old tx.new result }
 {
@@ -47,7 +48,7 @@ pub fn put_rule<S: Alter>(tx: &mut Transaction<'_, S>, row: &RuleRow) -> Result<
     let cap = money(row.cap);
     run(
         tx,
-        "INSERT INTO rules VALUES (?1, ?2, ?3, ?4, ?5, ?6) ON CONFLICT (kind, copy_kind) DO UPDATE SET period = ?3, renewals = ?4, rate = ?5, cap = ?6",
+        "INSERT INTO rules3 VALUES (?1, ?2, ?3, ?4, ?5, ?6, ?7) ON CONFLICT (kind, copy_kind) DO UPDATE SET period = ?3, renewals = ?4, rate = ?5, cap = ?6, grace = ?7",
         params![
             row.kind.number(),
             row.copy_kind.number(),
@@ -55,6 +56,7 @@ pub fn put_rule<S: Alter>(tx: &mut Transaction<'_, S>, row: &RuleRow) -> Result<
             row.renewals.number(),
             rate,
             cap,
+            row.grace.number(),
         ],
     )
 }
@@ -70,12 +72,12 @@ pub fn get_rule<S: Alter>(
     row_of(
         conn,
         (),
-        "SELECT * FROM rules WHERE kind = ?1 AND copy_kind = ?2",
+        "SELECT * FROM rules3 WHERE kind = ?1 AND copy_kind = ?2",
         params![kind.number(), copy_kind.number()],
     )
 }
 
-/// All rows of `rules`, by the kind of patron and then by the kind of copy. 90, 91, 93.
+/// All rows of `rules3`, by the kind of patron and then by the kind of copy. 90, 91, 93.
 pub fn all_rules<S: Alter>(conn: &mut Connection<S>, alloc: Global) -> Result<Vec<RuleRow>, Fault>
     ensures { Lists rules (λ l. l.items) (λ m. ListedBy PairBelow m is_any)
         S.Store conn.old conn.new result }
@@ -84,7 +86,7 @@ pub fn all_rules<S: Alter>(conn: &mut Connection<S>, alloc: Global) -> Result<Ve
         conn,
         alloc,
         (),
-        "SELECT * FROM rules ORDER BY kind, copy_kind",
+        "SELECT * FROM rules3 ORDER BY kind, copy_kind",
         &[],
     )
 }
