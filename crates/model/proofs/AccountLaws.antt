@@ -11,7 +11,7 @@ use Rattle.terms.specs.declared.command.Command.{Command}
 use Rattle.terms.specs.declared.command.Command.TheVariants.{Patron, CheckOut, CheckIn, Missing, Pay, Waive}
 use Rattle.model.specs.History.{History, today, patron_of, patron_after, next_loan}
 use Rattle.model.specs.Places.{Place, Loan, place}
-use Rattle.model.specs.Loans.{LoanFacts, loan_of, loan_after, ended, terms_for, no_terms}
+use Rattle.model.specs.Loans.{LoanFacts, loan_of, loan_after, ended, grace_of, terms_for, no_terms}
 use Rattle.model.specs.Accounts.{Line, line_of, lines, lines_after, fine_line, price_line, fine_now, price_of, borrower, account}
 use Rattle.model.specs.Refusals.{checks, refusal, has_patron}
 use Rattle.model.specs.Requests.{IsLegal}
@@ -65,8 +65,8 @@ module _ (H : History) (inv : AccountLaws H) (loans_ok : LoanLaws H) (o : Owner)
       let who : borrower H l ≡ r.0.patron = ap (λ y. unwrap_or (option_map (λ z. z.patron) y) 0) r.1 in
       inv.borrowers l r.0 r.1 (ap (λ m. patron_of H m) (sym who ∙ same) ∙ none)
 
-  fine-other : (c p : ℕ) (at : Place) → place H c ≡ at → patron_of H p ≡ None → filter (λ x. x.patron == p) (fine_line H at) ≡ []
-  fine-other c p (Loan l) at none = line-other (borrower H l) p Fine (Some l) (fine_now H l) (borrower-other c l p at none)
+  fine-other : (c p : ℕ) (at : Place) → place H c ≡ at → patron_of H p ≡ None → filter (λ x. x.patron == p) (fine_line H (grace_of H) at) ≡ []
+  fine-other c p (Loan l) at none = line-other (borrower H l) p Fine (Some l) (fine_now H (grace_of H) l) (borrower-other c l p at none)
   fine-other c p _ at none = refl
 
   price-other : (c p : ℕ) (at : Place) → place H c ≡ at → patron_of H p ≡ None → filter (λ x. x.patron == p) (price_line H c at) ≡ []
@@ -80,10 +80,10 @@ module _ (H : History) (inv : AccountLaws H) (loans_ok : LoanLaws H) (o : Owner)
   paid-other q p has none same = some-not (patron_of H q) has (ap (λ m. patron_of H m) same ∙ none)
 
   strangers-step : (x : Command) → refusal H o x ≡ None → (p : ℕ) → patron_after x p (patron_of H p) ≡ None → filter (λ y. y.patron == p) (lines_after H x (lines H)) ≡ []
-  strangers-step (CheckIn c b) ok p none = grown p (fine_line H (place H c)) none (fine-other c p (place H c) refl none)
+  strangers-step (CheckIn c b) ok p none = grown p (fine_line H (grace_of H) (place H c)) none (fine-other c p (place H c) refl none)
   strangers-step (Missing c) ok p none =
-      grown p (fine_line H (place H c) ++ price_line H c (place H c)) none
-      (filter-append (λ x. x.patron == p) (fine_line H (place H c)) (price_line H c (place H c))
+      grown p (fine_line H (grace_of H) (place H c) ++ price_line H c (place H c)) none
+      (filter-append (λ x. x.patron == p) (fine_line H (grace_of H) (place H c)) (price_line H c (place H c))
       ∙ ap (λ xs. xs ++ filter (λ x. x.patron == p) (price_line H c (place H c))) (fine-other c p (place H c) refl none) ∙ price-other c p (place H c) refl none)
   strangers-step (Pay q n) ok p none = grown p (line_of H q Payment None n) none (line-other q p Payment None n (paid-other q p (passed (checks H o (Pay q n)) ok).0 none))
   strangers-step (Waive q n) ok p none = grown p (line_of H q Waiver None n) none (line-other q p Waiver None n (paid-other q p (passed (checks H o (Waive q n)) ok).0 none))

@@ -11,6 +11,7 @@ use Rattle.terms.specs.declared.command.Command.{Command}
 use Rattle.terms.specs.declared.command.Command.TheVariants.{CheckIn, Missing, Pay, Waive}
 use Rattle.model.specs.History.{History}
 use Rattle.model.specs.Places.{Place, Loan, place}
+use Rattle.model.specs.Loans.{grace_of}
 use Rattle.model.specs.Accounts.{Line, line_of, lines, lines_by, lines_after, fine_line, price_line, account, charge, credit, charges, credits, owed}
 use Rattle.model.specs.Refusals.{refusal, checks}
 use Rattle.model.specs.Requests.{IsLegal}
@@ -42,7 +43,7 @@ price_credit : (H : History) (q p : ℕ) (l : Option ℕ) (n : ℕ) → credits 
 price_credit H q p l zero = refl
 price_credit H q p l (suc n) = one_charge _ p refl
 
-fine_line_credit : (H : History) (p : ℕ) (at : Place) → credits (of_patron p (fine_line H at)) ≡ 0
+fine_line_credit : (H : History) (p : ℕ) (at : Place) → credits (of_patron p (fine_line H (grace_of H) at)) ≡ 0
 fine_line_credit H p (Loan l) = fine_credit H _ p _ _
 fine_line_credit H p _ = refl
 
@@ -74,7 +75,7 @@ new_covers : (H : History) (o : Owner) (c : Command) (p : ℕ) → refusal H o c
     → credits (account H p) + credits (of_patron p (lines_by H c)) ≤ charges (account H p) + charges (of_patron p (lines_by H c))
 new_covers H o (CheckIn c b) p ok covers = omega (arith, covers, fine_line_credit H p (place H c))
 new_covers H o (Missing c) p ok covers =
-    rw (filter-append (λ x. x.patron == p) (fine_line H (place H c)) (price_line H c (place H c)), sum_by-append (λ x. credit x.sort x.amount) (of_patron p (fine_line H (place H c))) (of_patron p (price_line H c (place H c))))
+    rw (filter-append (λ x. x.patron == p) (fine_line H (grace_of H) (place H c)) (price_line H c (place H c)), sum_by-append (λ x. credit x.sort x.amount) (of_patron p (fine_line H (grace_of H) (place H c))) (of_patron p (price_line H c (place H c))))
     (omega (arith, covers, fine_line_credit H p (place H c), price_line_credit H c p (place H c)))
 new_covers H o (Pay q n) p ok covers = line_covers H p q n Payment (λ k. refl) (amount_le H q n (passed (checks H o (Pay q n)) ok).1.0) covers
 new_covers H o (Waive q n) p ok covers = line_covers H p q n Waiver (λ k. refl) (amount_le H q n (passed (checks H o (Waive q n)) ok).1.0) covers

@@ -23,7 +23,7 @@ use Rattle.terms.specs.declared.row.Sort.TheVariants.{Fine, Price, Payment, Waiv
 use Rattle.model.specs.Calendar.{is_single, opens, least, IsLeast}
 use Rattle.model.specs.History.{History, today, is_open, week_of, singles_of, loans, holds, HoldFacts, hold_of, branch_of, patron_of, CopyFacts, copy_of}
 use Rattle.model.specs.Places.{Place, Shelf, HoldShelf, Transit, Loan, place, state, is_ready, route, kept_for, goal_of, limit_now}
-use Rattle.model.specs.Loans.{LoanFacts, loan_of, due, first_due, terms_for, no_terms}
+use Rattle.model.specs.Loans.{LoanFacts, loan_of, due, grace_of, first_due, terms_for, no_terms}
 use Rattle.model.specs.Accounts.{Line, line_of, lines, lines_after, fine_line, price_line, fine_now, fine_at, price_of, borrower, owed}
 use Rattle.model.specs.Answers.{routed, unshelved, missed, accepted}
 use Rattle.model.specs.Invariant.{Invariant}
@@ -114,7 +114,7 @@ module _ (H : History) (legal : IsLegal H) (forms : HasForms H) where
       let made = inv.made_loan l r.0 r.1 in
       (subst IsLarge (sym (ap (λ y. unwrap_or (option_map (λ q. q.patron) y) 0) r.1)) (lending.loans l r.0 r.1).1, (made.0, omega (arith, made.1, inv.loans_left)))
 
-  fine-le : (l : ℕ) → fine_now H l ≤ 100000
+  fine-le : (l : ℕ) → fine_now H (grace_of H) l ≤ 100000
   fine-le l = fine-small H (legal-MoneyLaws H legal) (legal-SettingLaws H legal) l
 
   price-le : (c : ℕ) → price_of H c ≤ 1000000
@@ -123,8 +123,8 @@ module _ (H : History) (legal : IsLegal H) (forms : HasForms H) where
   pub owed-le : (p : ℕ) → owed H p ≤ 2147483647000000
   owed-le p = omega (arith, inv.debts p, inv.lines_left)
 
-  fine-in : (c : ℕ) (at : Place) → place H c ≡ at → AreIn (fine_line H at)
-  fine-in c (Loan l) at = let r = loan-in c l at in line-in (borrower H l) Fine (Some l) (fine_now H l) r.0 (omega (arith, fine-le l)) r.1
+  fine-in : (c : ℕ) (at : Place) → place H c ≡ at → AreIn (fine_line H (grace_of H) at)
+  fine-in c (Loan l) at = let r = loan-in c l at in line-in (borrower H l) Fine (Some l) (fine_now H (grace_of H) l) r.0 (omega (arith, fine-le l)) r.1
   fine-in c _ at = tt
 
   price-in : (c : ℕ) (at : Place) → place H c ≡ at → AreIn (price_line H c at)
@@ -139,10 +139,10 @@ module _ (H : History) (legal : IsLegal H) (forms : HasForms H) where
       ((settings.patrons p patron.0 patron.1).0, omega (arith, low, owed-le p))
 
   lines-step : (o : Owner) (x : Command) → refusal H o x ≡ None → AreIn (lines H) → AreIn (lines_after H x (lines H))
-  lines-step o (CheckIn c b) ok was = append-in (lines H) (fine_line H (place H c)) was (fine-in c (place H c) refl)
+  lines-step o (CheckIn c b) ok was = append-in (lines H) (fine_line H (grace_of H) (place H c)) was (fine-in c (place H c) refl)
   lines-step o (Missing c) ok was =
-      append-in (lines H) (fine_line H (place H c) ++ price_line H c (place H c)) was
-      (append-in (fine_line H (place H c)) (price_line H c (place H c)) (fine-in c (place H c) refl) (price-in c (place H c) refl))
+      append-in (lines H) (fine_line H (grace_of H) (place H c) ++ price_line H c (place H c)) was
+      (append-in (fine_line H (grace_of H) (place H c)) (price_line H c (place H c)) (fine-in c (place H c) refl) (price-in c (place H c) refl))
   lines-step o (Pay p n) ok was =
       let pass = passed (checks H o (Pay p n)) ok in
       let paid = paid-in o p n pass.0 pass.1.0 in
@@ -155,7 +155,7 @@ module _ (H : History) (legal : IsLegal H) (forms : HasForms H) where
 
   -- ---- replies
 
-  fine_at-le : (at : Place) → fine_at H at ≤ 100000
+  fine_at-le : (at : Place) → fine_at H (grace_of H) at ≤ 100000
   fine_at-le (Loan l) = fine-le l
   fine_at-le _ = omega arith
 
@@ -192,7 +192,7 @@ module _ (H : History) (legal : IsLegal H) (forms : HasForms H) where
       let known = copy-known H inv copy.0 (λ e. let never : ⊥ = cc in never) in
       routed-kept (route H (unwrap_or (kept_for H h) 0) (goal_of H h)) (subst (λ y. PlaceIn (route H (unwrap_or y 0) (goal_of H h))) (sym found) (handed_in copy.0 (goal_of H h) known.0 known.1))
 
-  missed-kept : (c : ℕ) (at : Place) → IsKept (missed H c at)
+  missed-kept : (c : ℕ) (at : Place) → IsKept (missed H (grace_of H) c at)
   missed-kept c (Loan l) = (omega (arith, fine-le l), omega (arith, price-le c))
   missed-kept c _ = tt
 

@@ -1,6 +1,7 @@
 mod DayTexts
 mod Rows
 mod RowsLending
+mod RowsGrace
 mod RowsHolds
 mod RowsReports
 pub mod Passing

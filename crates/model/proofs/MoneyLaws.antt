@@ -1,6 +1,6 @@
 -- In every legal history: fines, prices and debts are bounded, and numbers aren't past their end.
 use Rattle.terms.specs.declared.limits.TheConstants.{LAST_NUMBER}
-use Rattle.std.proofs.Common.{◌≡◌, ℕ, zero, suc, ◌+◌, ◌*◌, ◌≤◌, ◌<◌, ◌==◌, Bool, true, false, cond, List, [], ◌∷◌, ◌++◌, length, length-append, refl, ap, subst, arith}
+use Rattle.std.proofs.Common.{◌≡◌, ℕ, zero, suc, ◌+◌, ◌*◌, ◌≤◌, ◌<◌, ◌==◌, nat_le, Bool, true, false, cond, List, [], ◌∷◌, ◌++◌, length, length-append, refl, ap, subst, arith}
 use Rattle.std.specs.Prelude.{Option, Some, None, option_map, unwrap_or, filter, min}
 use Rattle.std.proofs.lemmas.List.Sums.{sum_by-append, sum_by-cons}
 use Rattle.std.proofs.lemmas.Bool.{ltb-false, leb-false}
@@ -13,7 +13,7 @@ use Rattle.terms.specs.declared.row.Sort.TheVariants.{Fine, Price, Payment, Waiv
 use Rattle.model.specs.Calendar.{late}
 use Rattle.model.specs.History.{History, today, is_open, loans, loans_after, next_loan, HoldFacts, hold_made, holds, holds_after, CopyFacts, copy_of}
 use Rattle.model.specs.Places.{Place, Loan, place}
-use Rattle.model.specs.Loans.{LoanFacts, loan_of, loan_after, due, terms_for, no_terms}
+use Rattle.model.specs.Loans.{LoanFacts, loan_of, loan_after, due, grace_of, terms_for, no_terms}
 use Rattle.model.specs.Accounts.{Line, fine_now, price_of, borrower, line_of, fine_line, price_line, lines_by, lines_after, lines, charge, charges, owed}
 use Rattle.model.specs.Refusals.{refusal, checks}
 use Rattle.model.specs.Requests.{IsLegal}
@@ -30,15 +30,20 @@ pub record MoneyLaws (H : History) : Type 0 where
   pub loans_left : loans H ≤ LAST_NUMBER
   pub holds_left : holds H ≤ LAST_NUMBER
 
-min-le : (a b : ℕ) → min a b ≤ b
-min-le a b = omega arith
+-- A fine is no more than its cap.
+fine-le : (days rate cap grace : ℕ) → fine_for days rate cap grace ≤ cap
+fine-le days rate cap grace = go (nat_le days grace)
+  where
+    go : (x : Bool) → elim x as (λ _. ℕ) [ true ↦ 0 | false ↦ min (days * rate) cap ] ≤ cap
+    go true = omega arith
+    go false = omega arith
 
 module _ (H : History) (inv : MoneyLaws H) (settings : SettingLaws H) where
-  pub fine-small : (l : ℕ) → fine_now H l ≤ 100000
+  pub fine-small : (l : ℕ) → fine_now H (grace_of H) l ≤ 100000
   fine-small l = go (loan_of H l) refl
     where
-      go : (y : Option LoanFacts) → loan_of H l ≡ y → unwrap_or (option_map (λ r. fine_for (late (is_open H r.branch) (due H l) (today H)) r.terms.rate r.terms.cap) y) 0 ≤ 100000
-      go (Some r) e = omega (arith, inv.caps l r e, min-le (late (is_open H r.branch) (due H l) (today H) * r.terms.rate) r.terms.cap)
+      go : (y : Option LoanFacts) → loan_of H l ≡ y → unwrap_or (option_map (λ r. fine_for (late (is_open H r.branch) (due H l) (today H)) r.terms.rate r.terms.cap (grace_of H l)) y) 0 ≤ 100000
+      go (Some r) e = omega (arith, inv.caps l r e, fine-le (late (is_open H r.branch) (due H l) (today H)) r.terms.rate r.terms.cap (grace_of H l))
       go None e = omega arith
 
   pub price-small : (c : ℕ) → price_of H c ≤ 1000000
@@ -56,8 +61,8 @@ module _ (H : History) (inv : MoneyLaws H) (settings : SettingLaws H) where
   line-small p s loan zero le = omega arith
   line-small p s loan (suc n) le = omega (arith, le)
 
-  fine_line-small : (at : Place) → AreSmall (fine_line H at)
-  fine_line-small (Loan l) = line-small (borrower H l) Fine (Some l) (fine_now H l) (omega (arith, fine-small l))
+  fine_line-small : (at : Place) → AreSmall (fine_line H (grace_of H) at)
+  fine_line-small (Loan l) = line-small (borrower H l) Fine (Some l) (fine_now H (grace_of H) l) (omega (arith, fine-small l))
   fine_line-small _ = omega arith
 
   price_line-small : (c : ℕ) (at : Place) → AreSmall (price_line H c at)
@@ -69,7 +74,7 @@ module _ (H : History) (inv : MoneyLaws H) (settings : SettingLaws H) where
 
   new-small : (x : Command) → AreSmall (lines_by H x)
   new-small (CheckIn c b) = fine_line-small (place H c)
-  new-small (Missing c) = append-small (fine_line H (place H c)) (price_line H c (place H c)) (fine_line-small (place H c)) (price_line-small c (place H c))
+  new-small (Missing c) = append-small (fine_line H (grace_of H) (place H c)) (price_line H c (place H c)) (fine_line-small (place H c)) (price_line-small c (place H c))
   new-small (Pay p n) = line-small p Payment None n (omega arith)
   new-small (Waive p n) = line-small p Waiver None n (omega arith)
   new-small _ = omega arith

@@ -9,7 +9,7 @@ use Rattle.terms.specs.Texts.{request_text}
 use Rattle.terms.specs.declared.command.Owner.{Owner}
 use Rattle.terms.specs.declared.command.Owner.TheVariants.{Patron as Reader}
 use Rattle.terms.specs.declared.command.Command.{Command}
-use Rattle.terms.specs.declared.command.Command.TheVariants.{Branch, Kind, Rule, Patron, Acquire, CheckOut, CheckIn, Missing, Pay, Waive}
+use Rattle.terms.specs.declared.command.Command.TheVariants.{Branch, Kind, Rule, Grace, Patron, Acquire, CheckOut, CheckIn, Missing, Pay, Waive}
 use Rattle.terms.specs.declared.row.Sort.{Sort}
 use Rattle.terms.specs.declared.row.Sort.TheVariants.{Fine, Price, Payment, Waiver}
 use Rattle.terms.specs.declared.row.HoldState.{HoldState}
@@ -17,7 +17,7 @@ use Rattle.terms.specs.declared.row.HoldState.TheVariants.{Waiting, Ready, Fille
 use Rattle.model.specs.Calendar.{is_single}
 use Rattle.model.specs.History.{History, today, singles_of, BranchFacts, branch_of, branch_after, KindFacts, kind_of, kind_after, Terms, rule_of, rule_after, PatronFacts, patron_of, patron_after, title_of, title_after, CopyFacts, copy_of, copy_after, copies, next_loan, HoldFacts, hold_made, hold_of, hold_after, next_hold}
 use Rattle.model.specs.Places.{Place, Nowhere, HoldShelf, Transit, Loan, place, state, is_kept_for, kept_for, goal_of, home_of}
-use Rattle.model.specs.Loans.{LoanFacts, loan_of, loan_after, terms_for, no_terms}
+use Rattle.model.specs.Loans.{LoanFacts, loan_of, loan_after, grace_of, terms_for, no_terms}
 use Rattle.model.specs.Accounts.{Line, line_of, lines, lines_after, fine_line, price_line, fine_now, price_of, borrower}
 use Rattle.model.specs.Answers.{accepted}
 use Rattle.model.specs.Picture.{picture, rule_columns, patron_columns, copy_columns, loan_columns, hold_columns, if_ready, nth_line, line_columns, kept_columns}
@@ -32,7 +32,7 @@ use Rattle.model.proofs.ClaimsLaw.{map-some, hold-facts, transit-place}
 use Rattle.model.proofs.Invariants.{legal-Invariant}
 use Rattle.model.proofs.PlaceSteps.{Keeps, place_after-keeps, copy-known}
 use Rattle.model.proofs.Repeats.{same_owner-is}
-use Rattle.model.proofs.SettingRanges.{set-if, make-at, none-some}
+use Rattle.model.proofs.SettingRanges.{graced, set-if, make-at, none-some}
 
 -- There is one.
 abbrev IsThere : {A : Type 0} → Option A → Type 0
@@ -137,9 +137,10 @@ module _ (H : History) (inv : Invariant H) (before : ReferenceLaws H) (o : Owner
       let known : IsThere (kind_of H n) = is_none-there (kind_of H n) (passed (checks H o
       (Rule n m period renewals rate most)) ok).1.0 in
       set-if (λ _. IsThere (kind_of H k)) ((n == k) && (m == c))
-      (record { period = period; renewals = renewals; rate = rate; cap = most }) (rule_of H k c)
+      (record { period = period; renewals = renewals; rate = rate; cap = most; grace = 0 }) (rule_of H k c)
       (λ d. subst (λ a. IsThere (kind_of H a)) (eqb-true n k (and_parts (n == k)
       (m == c) d).0) known) (before.rules k c) t e
+  rules-step (Grace n m days) ok k c t e = graced (λ _. IsThere (kind_of H k)) ((n == k) && (m == c)) days (rule_of H k c) (before.rules k c) (λ _ there. there) t e
   rules-step x ok k c t e = kind-stays x k (kind_of H k) (before.rules k c t e)
 
   patrons-step : (x : Command) → refusal H o x ≡ None → (p : ℕ) (r : PatronFacts)
@@ -281,8 +282,8 @@ module _ (H : History) (inv : Invariant H) (before : ReferenceLaws H) (o : Owner
       (λ k. IsThere (loan_of H k)) is (some-there (loan_of H l) r.0 r.1))
 
   fine-there : (c : ℕ) (at : Place) → place H c ≡ at
-      → AllByRecursion (LineThere (patron_of H) (loan_of H)) (fine_line H at)
-  fine-there c (Loan l) at = loan_line-there c l Fine (fine_now H l) at
+      → AllByRecursion (LineThere (patron_of H) (loan_of H)) (fine_line H (grace_of H) at)
+  fine-there c (Loan l) at = loan_line-there c l Fine (fine_now H (grace_of H) l) at
   fine-there c _ at = tt
 
   price-there : (c : ℕ) (at : Place) → place H c ≡ at
@@ -311,11 +312,11 @@ module _ (H : History) (inv : Invariant H) (before : ReferenceLaws H) (o : Owner
 
   lines-step : (x : Command) → refusal H o x ≡ None
       → AllByRecursion (LineThere (patron_of H) (loan_of H)) (lines_after H x (lines H))
-  lines-step (CheckIn c b) ok = all-append _ (lines H) (fine_line H (place H c)) before.lines
+  lines-step (CheckIn c b) ok = all-append _ (lines H) (fine_line H (grace_of H) (place H c)) before.lines
       (fine-there c (place H c) refl)
   lines-step (Missing c) ok =
-      all-append _ (lines H) (fine_line H (place H c) ++ price_line H c (place H c)) before.lines
-      (all-append _ (fine_line H (place H c)) (price_line H c (place H c)) (fine-there c
+      all-append _ (lines H) (fine_line H (grace_of H) (place H c) ++ price_line H c (place H c)) before.lines
+      (all-append _ (fine_line H (grace_of H) (place H c)) (price_line H c (place H c)) (fine-there c
       (place H c) refl) (price-there c (place H c) refl))
   lines-step (Pay p n) ok =
       all-append _ (lines H) (line_of H p Payment None n) before.lines

@@ -87,7 +87,7 @@ module _ (H : History) (legal : IsLegal H) (forms : HasForms H) where
   rule-in k c r e =
       let m = map-some (rule_columns H k c) (rule_of H k c) r e in
       let f = settings.rules k c m.0 m.1 in
-      subst (λ q. (q.kind ≡ k) × (q.copy_kind ≡ c) × IsRule q) m.2 (refl, refl, (f.0, f.1, f.2.0, f.2.1, f.2.2, f.2.3))
+      subst (λ q. (q.kind ≡ k) × (q.copy_kind ≡ c) × IsRule q) m.2 (refl, refl, (f.0, f.1, f.2.0, f.2.1, f.2.2, f.2.3, f.2.4))
 
   patron-in : (p : ℕ) (r : PatronRow) → (picture H).patrons p ≡ Some r → (r.patron ≡ p) × IsPatron r
   patron-in p r e =
@@ -124,7 +124,7 @@ module _ (H : History) (legal : IsLegal H) (forms : HasForms H) where
       let made = inv.made_loan l m.0 m.1 in
       let due : IsDayNumber (due H l) = due-in H l m.0 (due H l) (due-is H l m.0 legal whole m.1) in
       subst (λ q. (q.loan ≡ l) × IsLoan q) m.2
-      (refl, ((made.0, omega (arith, made.1, inv.loans_left)), f.0, f.1, f.2, f.3, due, f.4.0, left-le l m.0 m.1, f.4.2, f.4.3, ended-in l))
+      (refl, ((made.0, omega (arith, made.1, inv.loans_left)), f.0, f.1, f.2, f.3, due, f.4.0, left-le l m.0 m.1, f.4.2, f.4.3, ended-in l, f.4.4))
 
   -- The copy and the limit of a hold in this state.
   kept-in : (h : ℕ) (s : HoldState) → IfSome (if_ready (Some s) (kept_for H h)) IsLarge
@@ -195,10 +195,12 @@ legal-rows H legal forms = record {
   closed_days = (legal-SettingRanges H legal forms).singles;
   kinds = kind-in H legal forms;
   rules = rule-in H legal forms;
+  rules1 = λ k c r e. absurd (none-some r e);
   patrons = patron-in H legal forms;
   titles = title-in H legal forms;
   copies = copy-in H legal forms;
   loans = loan-in H legal forms;
+  loans1 = λ l r e. absurd (none-some r e);
   holds = hold-in H legal forms;
   holds1 = λ h r e. absurd (none-some r e);
   transits = transit-in H legal forms;

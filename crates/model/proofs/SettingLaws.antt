@@ -8,7 +8,7 @@ use Rattle.std.specs.List.{list_all, IsDistinct, AllByRecursion}
 use Rattle.std.proofs.lemmas.Bool.{and_parts, or_parts, eqb-true, eq-eqb, leb-true, leb-false, ltb-true}
 use Rattle.terms.specs.declared.command.Owner.{Owner}
 use Rattle.terms.specs.declared.command.Command.{Command}
-use Rattle.terms.specs.declared.command.Command.TheVariants.{BeginDay, Branch, Week, CloseDay, OpenDay, Rule, Acquire}
+use Rattle.terms.specs.declared.command.Command.TheVariants.{BeginDay, Branch, Week, CloseDay, OpenDay, Rule, Grace, Acquire}
 use Rattle.model.specs.Calendar.{is_single}
 use Rattle.model.specs.Checks.{is_within, is_within_limits, is_small_number, is_large_number}
 use Rattle.model.specs.History.{History, today, today_after, week_of, week_after, singles_of, singles_after, BranchFacts, branch_of, branch_after, Terms, rule_of, rule_after, CopyFacts, copy_of, copy_after}
@@ -20,6 +20,7 @@ use Rattle.model.proofs.Moves.{ne-eqb}
 use Rattle.model.proofs.Bindings.{not-false, clash}
 use Rattle.model.proofs.LoanLaws.{none-or}
 use Rattle.model.proofs.OpenDays.{length-filter-le}
+use Rattle.model.proofs.SettingRanges.{graced}
 
 pub record SettingLaws (H : History) : Type 0 where
   pub today_from : FIRST_DAY ≤ today H
@@ -160,11 +161,12 @@ module _ (H : History) (inv : SettingLaws H) (o : Owner) where
       limits : is_within_limits (Rule n m period renewals rate most) ≡ true
       limits = not-false _ (passed (checks H o (Rule n m period renewals rate most)) ok).0
 
-      go : (x : Bool) → cond x (Some (record { period = period; renewals = renewals; rate = rate; cap = most })) (rule_of H k c) ≡ Some t → (t.period ≤ 365) × (t.cap ≤ 100000)
+      go : (x : Bool) → cond x (Some (record { period = period; renewals = renewals; rate = rate; cap = most; grace = 0 })) (rule_of H k c) ≡ Some t → (t.period ≤ 365) × (t.cap ≤ 100000)
       go true f =
-          let same : ◌≡◌ {A = Terms} (record { period = period; renewals = renewals; rate = rate; cap = most }) t = cc in
+          let same : ◌≡◌ {A = Terms} (record { period = period; renewals = renewals; rate = rate; cap = most; grace = 0 }) t = cc in
           subst (λ q. (q.period ≤ 365) × (q.cap ≤ 100000)) same (rule-short n m period renewals rate most limits)
       go false f = inv.terms k c t f
+  terms-step (Grace n m days) ok k c t e = graced (λ q. (q.period ≤ 365) × (q.cap ≤ 100000)) ((n == k) && (m == c)) days (rule_of H k c) (inv.terms k c) (λ z was. was) t e
   terms-step _ ok k c t e = inv.terms k c t e
 
   pickups-step : (x : Command) → refusal H o x ≡ None → (b : ℕ) (r : BranchFacts) → branch_after x b (branch_of H b) ≡ Some r → r.pickup ≤ 60

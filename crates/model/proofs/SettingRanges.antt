@@ -1,6 +1,6 @@
 -- In every legal history whose commands have their forms: what was set and made lies in its limits.
-use Rattle.std.proofs.Common.{◌≡◌, ℕ, ◌≤◌, ◌==◌, Bool, true, false, cond, not, ◌&&◌, ◌||◌, List, [], ◌∷◌, refl, subst}
-use Rattle.std.specs.Prelude.{Option, Some, None, is_some, filter}
+use Rattle.std.proofs.Common.{◌≡◌, ℕ, ◌≤◌, ◌==◌, Bool, true, false, cond, not, ◌&&◌, ◌||◌, List, [], ◌∷◌, refl, subst, arith}
+use Rattle.std.specs.Prelude.{Option, Some, None, is_some, option_map, filter}
 use Rattle.std.specs.Option.{option_or}
 use Rattle.std.specs.List.{list_all, list_any}
 use Rattle.std.proofs.lemmas.Bool.{and_parts, eqb-true, leb-true}
@@ -11,10 +11,10 @@ use Rattle.terms.specs.Laws.{IsCommand}
 use Rattle.terms.specs.Limits.{IsSmall, IsLarge, IsPeriod}
 use Rattle.terms.specs.declared.command.Owner.{Owner}
 use Rattle.terms.specs.declared.command.Command.{Command}
-use Rattle.terms.specs.declared.command.Command.TheVariants.{Branch, Week, CloseDay, OpenDay, Kind, Rule, Patron, Acquire}
+use Rattle.terms.specs.declared.command.Command.TheVariants.{Branch, Week, CloseDay, OpenDay, Kind, Rule, Grace, Patron, Acquire}
 use Rattle.model.specs.Calendar.{is_single}
 use Rattle.model.specs.Checks.{is_within, is_within_limits, is_small_number, is_large_number}
-use Rattle.model.specs.History.{History, week_of, week_after, singles_of, singles_after, BranchFacts, branch_of, branch_after, KindFacts, kind_of, kind_after, Terms, rule_of, rule_after, PatronFacts, patron_of, patron_after, title_of, title_after, CopyFacts, copy_of, copy_after}
+use Rattle.model.specs.History.{History, week_of, week_after, singles_of, singles_after, BranchFacts, branch_of, branch_after, KindFacts, kind_of, kind_after, Terms, with_grace, rule_of, rule_after, PatronFacts, patron_of, patron_after, title_of, title_after, CopyFacts, copy_of, copy_after}
 use Rattle.model.specs.Refusals.{refusal, checks, has_branch}
 use Rattle.model.specs.Requests.{IsLegal}
 use Rattle.model.specs.Forms.{HasForms}
@@ -30,7 +30,7 @@ abbrev KindIn : ℕ → KindFacts → Type 0
 KindIn k r = IsSmall k × (r.loans ≤ 200) × (r.holds ≤ 200) × (r.debt ≤ 1000000)
 
 abbrev pub TermsIn : Terms → Type 0
-TermsIn t = IsPeriod t.period × (t.renewals ≤ 99) × (t.rate ≤ 10000) × (t.cap ≤ 100000)
+TermsIn t = IsPeriod t.period × (t.renewals ≤ 99) × (t.rate ≤ 10000) × (t.cap ≤ 100000) × (t.grace ≤ 365)
 
 abbrev RuleIn : ℕ → ℕ → Terms → Type 0
 RuleIn k c t = IsSmall k × IsSmall c × TermsIn t
@@ -77,6 +77,13 @@ pub make-at : {A : Type 0} (P : ℕ → A → Type 0) (n k : ℕ) (f : A) (y : O
 make-at P n k f (Some z) new old r e = old r e
 make-at P n k f None new old r e = set-at P n k f None new (λ z d. absurd (none-some z d)) r e
 
+-- The terms of a rule, which a grace command may have given other grace days, keep to what they have to if those do and the terms before did.
+pub graced : (P : Terms → Type 0) (x : Bool) (days : ℕ) (y : Option Terms) → ((z : Terms) → y ≡ Some z → P z) → ((z : Terms) → P z → P (with_grace days z))
+    → (t : Terms) → cond x (option_map (with_grace days) y) y ≡ Some t → P t
+graced P true days (Some z) old new t e = subst P (some-same _ t e) (new z (old z refl))
+graced P true days None old new t e = absurd (none-some t e)
+graced P false days y old new t e = old t e
+
 -- ---- limits
 
 within : (low high n : ℕ) → is_within low high n ≡ true → (low ≤ n) × (n ≤ high)
@@ -98,6 +105,9 @@ rule-within n m period renewals rate most e =
     let d = and_parts (is_within 0 99 renewals) _ c.1 in
     let f = and_parts (is_within 0 10000 rate) (is_within 0 100000 most) d.1 in
     (within 1 99 n a.0, within 1 99 m b.0, within 1 365 period c.0, (within 0 99 renewals d.0).1, (within 0 10000 rate f.0).1, (within 0 100000 most f.1).1)
+
+grace-within : (n m days : ℕ) → is_within_limits (Grace n m days) ≡ true → days ≤ 365
+grace-within n m days e = (within 0 365 days (and_parts (is_small_number m) (is_within 0 365 days) (and_parts (is_small_number n) _ e).1).1).1
 
 copy-within : (c t k home price : ℕ) (text : List ℕ) → is_within_limits (Acquire c t k home price text) ≡ true → IsLarge c × IsLarge t × IsSmall k × (price ≤ 1000000)
 copy-within c t k home price text e =
@@ -176,10 +186,13 @@ module _ (H : History) (inv : SettingRanges H) (o : Owner) where
   rules-step : (x : Command) → refusal H o x ≡ None → (k c : ℕ) (t : Terms) → rule_after x k c (rule_of H k c) ≡ Some t → RuleIn k c t
   rules-step (Rule n m period renewals rate most) ok k c t e =
       let limits = rule-within n m period renewals rate most (not-false _ (passed (checks H o (Rule n m period renewals rate most)) ok).0) in
-      let terms : Terms = record { period = period; renewals = renewals; rate = rate; cap = most } in
-      let new : RuleIn n m terms = (limits.0, limits.1, (limits.2, limits.3, limits.4, limits.5)) in
+      let terms : Terms = record { period = period; renewals = renewals; rate = rate; cap = most; grace = 0 } in
+      let new : RuleIn n m terms = (limits.0, limits.1, (limits.2, limits.3, limits.4, limits.5, omega arith)) in
       set-if (RuleIn k c) ((n == k) && (m == c)) terms (rule_of H k c)
       (λ d. let q = and_parts _ _ d in subst (λ b. RuleIn k b terms) (eqb-true m c q.1) (subst (λ a. RuleIn a m terms) (eqb-true n k q.0) new)) (inv.rules k c) t e
+  rules-step (Grace n m days) ok k c t e =
+      let most = grace-within n m days (not-false _ (passed (checks H o (Grace n m days)) ok).0) in
+      graced (RuleIn k c) ((n == k) && (m == c)) days (rule_of H k c) (inv.rules k c) (λ z was. (was.0, was.1, (was.2.0, was.2.1, was.2.2, was.2.3, most))) t e
   rules-step _ ok k c t e = inv.rules k c t e
 
   patrons-step : (x : Command) → IsCommand x → refusal H o x ≡ None → (p : ℕ) (r : PatronFacts) → patron_after x p (patron_of H p) ≡ Some r → PatronIn p r

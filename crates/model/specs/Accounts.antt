@@ -9,7 +9,7 @@ use Rattle.model.specs.Calendar.{late}
 use Rattle.model.specs.History.{History, today, is_open, copy_of}
 use Rattle.model.specs.Places.{Place, place}
 use Rattle.model.specs.Places.Place.{Loan}
-use Rattle.model.specs.Loans.{loan_of, due}
+use Rattle.model.specs.Loans.{loan_of, due, grace_of}
 
 -- One line of an account. Its number is its place among the lines of all patrons.
 pub record Line : Type 0 where
@@ -19,14 +19,15 @@ pub record Line : Type 0 where
   pub amount : ℕ
   pub loan : Option ℕ
 
--- The fine of a loan that ends now: for the open days of the lending branch after the due day, by the loan's own terms.
-abbrev pub fine_now : History → ℕ → ℕ
-fine_now H l = unwrap_or (option_map (λ r. fine_for (late (is_open H r.branch) (due H l) (today H)) r.terms.rate r.terms.cap) (loan_of H l)) 0
+-- The fine of a loan that ends now: for the open days of the lending branch after the due day, by the loan's own terms and these grace days.
+abbrev pub fine_now : History → (ℕ → ℕ) → ℕ → ℕ
+fine_now H graces l =
+    unwrap_or (option_map (λ r. fine_for (late (is_open H r.branch) (due H l) (today H)) r.terms.rate r.terms.cap (graces l)) (loan_of H l)) 0
 
 -- The fine of a copy that leaves this place: that of its loan, if it was on one.
-abbrev pub fine_at : History → Place → ℕ
-fine_at H (Loan l) = fine_now H l
-fine_at H _ = 0
+abbrev pub fine_at : History → (ℕ → ℕ) → Place → ℕ
+fine_at H graces (Loan l) = fine_now H graces l
+fine_at H graces _ = 0
 
 -- The price of a copy.
 abbrev pub price_of : History → ℕ → ℕ
@@ -42,37 +43,37 @@ abbrev pub borrower : History → ℕ → ℕ
 borrower H l = unwrap_or (option_map (λ r. r.patron) (loan_of H l)) 0
 
 -- The fine line of a copy that leaves this place.
-abbrev pub fine_line : History → Place → List Line
-fine_line H (Loan l) = line_of H (borrower H l) Fine (Some l) (fine_now H l)
-fine_line H _ = []
+abbrev pub fine_line : History → (ℕ → ℕ) → Place → List Line
+fine_line H graces (Loan l) = line_of H (borrower H l) Fine (Some l) (fine_now H graces l)
+fine_line H graces _ = []
 
 -- The price line of a copy that is lost from this place.
 abbrev pub price_line : History → ℕ → Place → List Line
 price_line H c (Loan l) = line_of H (borrower H l) Price (Some l) (price_of H c)
 price_line H c _ = []
 
--- The lines that a command makes, by where copies are.
-abbrev pub lines_made : History → (ℕ → Place) → Command → List Line
-lines_made H places (CheckIn c b) = fine_line H (places c)
-lines_made H places (Missing c) = fine_line H (places c) ++ price_line H c (places c)
-lines_made H places (Pay p n) = line_of H p Payment None n
-lines_made H places (Waive p n) = line_of H p Waiver None n
-lines_made H places _ = []
+-- The lines that a command makes, by where copies are and the grace days of loans.
+abbrev pub lines_made : History → (ℕ → Place) → (ℕ → ℕ) → Command → List Line
+lines_made H places graces (CheckIn c b) = fine_line H graces (places c)
+lines_made H places graces (Missing c) = fine_line H graces (places c) ++ price_line H c (places c)
+lines_made H places graces (Pay p n) = line_of H p Payment None n
+lines_made H places graces (Waive p n) = line_of H p Waiver None n
+lines_made H places graces _ = []
 
 -- The lines that a command makes.
 abbrev pub lines_by : History → Command → List Line
-lines_by H c = lines_made H (place H) c
+lines_by H c = lines_made H (place H) (grace_of H) c
 
 -- A command adds its lines at the end.
-abbrev pub lines_then : History → (ℕ → Place) → Command → List Line → List Line
-lines_then H places (CheckIn c b) before = before ++ lines_made H places (CheckIn c b)
-lines_then H places (Missing c) before = before ++ lines_made H places (Missing c)
-lines_then H places (Pay p n) before = before ++ lines_made H places (Pay p n)
-lines_then H places (Waive p n) before = before ++ lines_made H places (Waive p n)
-lines_then H places _ before = before
+abbrev pub lines_then : History → (ℕ → Place) → (ℕ → ℕ) → Command → List Line → List Line
+lines_then H places graces (CheckIn c b) before = before ++ lines_made H places graces (CheckIn c b)
+lines_then H places graces (Missing c) before = before ++ lines_made H places graces (Missing c)
+lines_then H places graces (Pay p n) before = before ++ lines_made H places graces (Pay p n)
+lines_then H places graces (Waive p n) before = before ++ lines_made H places graces (Waive p n)
+lines_then H places graces _ before = before
 
 abbrev pub lines_after : History → Command → List Line → List Line
-lines_after H c before = lines_then H (place H) c before
+lines_after H c before = lines_then H (place H) (grace_of H) c before
 
 -- All lines of all patrons, the oldest first.
 abbrev pub lines : History → List Line

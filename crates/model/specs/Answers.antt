@@ -28,19 +28,19 @@ abbrev pub unshelved : History → Sight → ℕ → Routed
 unshelved H s h = routed H (route_seen H s (unwrap_or (kept_for_seen H s h) 0) (goal_of H h))
 
 -- What is charged for a missing copy: the fine and the price if it was on loan, and else nothing.
-abbrev pub missed : History → ℕ → Place → Reply
-missed H c (Loan l) = Lost (fine_at H (Loan l)) (price_of H c)
-missed H c _ = Done
+abbrev pub missed : History → (ℕ → ℕ) → ℕ → Place → Reply
+missed H graces c (Loan l) = Lost (fine_at H graces (Loan l)) (price_of H c)
+missed H graces c _ = Done
 
 -- The reply to a command that isn't refused, by what the list shows.
 abbrev pub accepted_by : History → Sight → Command → Reply
 accepted_by H s (CheckOut p c b) = Lent (next_loan H) (unwrap_or (first_due H p c b) 0)
-accepted_by H s (CheckIn c b) = CheckedIn (fine_at H (s.place c)) (routed H (route_seen H s c b))
+accepted_by H s (CheckIn c b) = CheckedIn (fine_at H s.grace (s.place c)) (routed H (route_seen H s c b))
 accepted_by H s (Renew l) = Lent l (unwrap_or (renewed_due H l (due H l)) 0)
 accepted_by H s (PlaceHold p t b d) = Held (next_hold H)
 accepted_by H s (Unshelve h) = Moved (unshelved H s h)
 accepted_by H s (UnshelveCancelled h) = Moved (unshelved H s h)
-accepted_by H s (Missing c) = missed H c (s.place c)
+accepted_by H s (Missing c) = missed H s.grace c (s.place c)
 accepted_by H s (Pay p n) = Owed (owed_seen H s p - n)
 accepted_by H s (Waive p n) = Owed (owed_seen H s p - n)
 accepted_by H s (Page p) = Shown (page_by H s p)

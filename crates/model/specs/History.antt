@@ -1,10 +1,10 @@
 -- The list of accepted events, the newest first, and what its commands have set.
 use Rattle.calendar.specs.declared.limits.TheConstants.{FIRST_DAY}
-use Rattle.std.specs.Prelude.{ℕ, zero, suc, ◌+◌, ◌==◌, nat_le, Bool, true, false, ◌&&◌, not, if◌then◌else◌, List, [], ◌∷◌, ◌++◌, filter, Option, Some, None, is_none, replicate}
+use Rattle.std.specs.Prelude.{ℕ, zero, suc, ◌+◌, ◌==◌, nat_le, Bool, true, false, ◌&&◌, not, if◌then◌else◌, List, [], ◌∷◌, ◌++◌, filter, Option, Some, None, is_none, option_map, replicate}
 use Rattle.std.specs.Option.{option_or}
 use Rattle.terms.specs.declared.command.Owner.{Owner}
 use Rattle.terms.specs.declared.command.Command.{Command}
-use Rattle.terms.specs.declared.command.Command.TheVariants.{BeginDay, Branch, Week, CloseDay, OpenDay, Kind, Rule, Patron, Acquire, CheckOut, PlaceHold}
+use Rattle.terms.specs.declared.command.Command.TheVariants.{BeginDay, Branch, Week, CloseDay, OpenDay, Kind, Rule, Grace, Patron, Acquire, CheckOut, PlaceHold}
 use Rattle.model.specs.Calendar.{opens}
 
 -- An accepted changing command, with its key and whose key it is.
@@ -72,12 +72,13 @@ pub record KindFacts : Type 0 where
   pub holds : ℕ
   pub debt : ℕ
 
--- A rule's terms: the loan period in days, the renewals, and the cents for each day late, up to a cap.
+-- A rule's terms: the loan period in days, the renewals, the cents for each day late, up to a cap, and the grace days, within which being late costs nothing.
 pub record Terms : Type 0 where
   pub period : ℕ
   pub renewals : ℕ
   pub rate : ℕ
   pub cap : ℕ
+  pub grace : ℕ
 
 -- A patron: the kind, the card key and the name.
 pub record PatronFacts : Type 0 where
@@ -112,13 +113,18 @@ abbrev pub kind_of : History → ℕ → Option KindFacts
 kind_of [] k = None
 kind_of (e ∷ H) k = kind_after e.command k (kind_of H k)
 
--- A rule command sets the terms of its two kinds.
+-- The terms with these grace days.
+abbrev pub with_grace : ℕ → Terms → Terms
+with_grace days r = record r { grace = days }
+
+-- A rule command sets the terms of its two kinds, with no grace days, and a grace command sets the grace days of the rule that is there.
 abbrev pub rule_after : Command → ℕ → ℕ → Option Terms → Option Terms
 rule_after (Rule n m period renewals rate cap) k c before =
-    if (n == k) && (m == c) then Some (record { period = period; renewals = renewals; rate = rate; cap = cap }) else before
+    if (n == k) && (m == c) then Some (record { period = period; renewals = renewals; rate = rate; cap = cap; grace = 0 }) else before
+rule_after (Grace n m days) k c before = if (n == k) && (m == c) then option_map (with_grace days) before else before
 rule_after _ k c before = before
 
--- The rule of a patron kind and a copy kind is what its last command set.
+-- The rule of a patron kind and a copy kind is what its last rule command set, with the grace days of its last grace command since then.
 abbrev pub rule_of : History → ℕ → ℕ → Option Terms
 rule_of [] k c = None
 rule_of (e ∷ H) k c = rule_after e.command k c (rule_of H k c)

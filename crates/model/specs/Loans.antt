@@ -22,7 +22,7 @@ terms_for H p c = option_and_then (λ q. option_and_then (λ r. rule_of H q.kind
 
 -- The terms where there is no rule. No check-out is accepted on them.
 abbrev pub no_terms : Terms
-no_terms = record { period = 0; renewals = 0; rate = 0; cap = 0 }
+no_terms = record { period = 0; renewals = 0; rate = 0; cap = 0; grace = 0 }
 
 -- A check-out makes the loan of the next number, on the terms of its rule.
 abbrev pub loan_after : History → Command → ℕ → Option LoanFacts → Option LoanFacts
@@ -34,6 +34,10 @@ loan_after H _ l before = before
 abbrev pub loan_of : History → ℕ → Option LoanFacts
 loan_of [] l = None
 loan_of (e ∷ H) l = loan_after H e.command l (loan_of H l)
+
+-- The grace days of a loan: those of its terms.
+abbrev pub grace_of : History → ℕ → ℕ
+grace_of H l = unwrap_or (option_map (λ r. r.terms.grace) (loan_of H l)) 0
 
 -- The loan is one of this copy.
 abbrev pub is_loan_of_copy : History → ℕ → ℕ → Bool

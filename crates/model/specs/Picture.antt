@@ -63,6 +63,7 @@ loan_with l until left end r =
       rate = r.terms.rate;
       cap = r.terms.cap;
       ended = end;
+      grace = r.terms.grace;
     }
 
 -- The columns of a hold, by its state, the copy and the limit that it has while it is ready, and what was asked for.
@@ -110,7 +111,7 @@ module _ (H : History) where
 
   -- The columns of a rule.
   abbrev pub rule_columns : ℕ → ℕ → Terms → RuleRow
-  rule_columns k c r = record { kind = k; copy_kind = c; period = r.period; renewals = r.renewals; rate = r.rate; cap = r.cap }
+  rule_columns k c r = record { kind = k; copy_kind = c; period = r.period; renewals = r.renewals; rate = r.rate; cap = r.cap; grace = r.grace }
 
   -- The row of a rule.
   abbrev pub rule_row : ℕ → ℕ → Option RuleRow
@@ -172,7 +173,7 @@ module _ (H : History) where
   abbrev pub kept_row : Owner → List ℕ → Option KeptRow
   kept_row o k = option_map (kept_columns o k) (kept_of H o k)
 
-  -- What the tables hold. The holds are in the table of schema 2, and that of schema 1 is empty.
+  -- What the tables hold. The rules, the loans and the holds are in their newest tables, and those of older schemas are empty.
   abbrev pub picture : Picture
   picture = record {
     meta = meta_row;
@@ -180,10 +181,12 @@ module _ (H : History) where
     closed_days = closed_day;
     kinds = kind_row;
     rules = rule_row;
+    rules1 = λ _ _. None;
     patrons = patron_row;
     titles = title_row;
     copies = copy_row;
     loans = loan_row;
+    loans1 = λ _. None;
     holds = hold_row;
     holds1 = λ _. None;
     transits = transit_row;

@@ -6,12 +6,12 @@ use Rattle.std.specs.List.{list_any, list_all}
 use Rattle.terms.specs.declared.command.Owner.{Owner}
 use Rattle.terms.specs.declared.command.Owner.TheVariants.{Desk, Patron as Reader}
 use Rattle.terms.specs.declared.command.Command.{Command}
-use Rattle.terms.specs.declared.command.Command.TheVariants.{BeginDay, Branch, Week, CloseDay, OpenDay, Kind, Rule, Patron, Acquire, CheckOut, CheckIn, Renew, PlaceHold, CancelHold, Unshelve, UnshelveCancelled, Missing, Withdraw, Pay, Waive, Page}
+use Rattle.terms.specs.declared.command.Command.TheVariants.{BeginDay, Branch, Week, CloseDay, OpenDay, Kind, Rule, Grace, Patron, Acquire, CheckOut, CheckIn, Renew, PlaceHold, CancelHold, Unshelve, UnshelveCancelled, Missing, Withdraw, Pay, Waive, Page}
 use Rattle.terms.specs.declared.refusal.Refusal.{Refusal}
 use Rattle.terms.specs.declared.refusal.Refusal.TheVariants.{UnknownBranch, UnknownPatron, UnknownTitle, UnknownCopy, UnknownLoan, UnknownHold, NoRule, UnknownKind, OtherContent, OutOfLimits, AllWeekdaysClosed, BadDay, AlreadyClosed, NotClosed, Elsewhere, OnLoan, InTransit, OnHoldShelf, CopyMissing, CopyWithdrawn, HoldWaits, TooManyLoans, OwesTooMuch, PastCalendar, LoanEnded, Overdue, NoRenewalsLeft, AlreadyHolds, TooManyHolds, HasOnLoan, WrongHoldState, LimitNotPassed, BadAmount, NumbersUsedUp}
 use Rattle.model.specs.Calendar.{is_single}
 use Rattle.model.specs.Checks.{Check, first_failing, is_within_limits}
-use Rattle.model.specs.History.{History, numbers_to, today, singles_of, branch_of, KindFacts, kind_of, patron_of, title_of, copy_of, loans, holds, hold_of}
+use Rattle.model.specs.History.{History, numbers_to, today, singles_of, branch_of, KindFacts, kind_of, rule_of, patron_of, title_of, copy_of, loans, holds, hold_of}
 use Rattle.model.specs.Places.{Place, Shelf, HoldShelf, Transit, Loan, MissingCopy, WithdrawnCopy, title_of_copy, title_of_hold, patron_of_hold, goal_of, is_waiting, is_ready}
 use Rattle.model.specs.Loans.{loan_of, due, ended, terms_for, renewed_due, renewals_left, open_loans, has_on_loan, title_of_loan}
 use Rattle.model.specs.Accounts.{lines_made, borrower}
@@ -191,6 +191,7 @@ checks_by H s o (OpenDay b d) =
 checks_by H s o (Kind k loans holds debt) = (OutOfLimits, not (is_within_limits (Kind k loans holds debt))) ∷ []
 checks_by H s o (Rule k c period renewals rate cap) =
     (OutOfLimits, not (is_within_limits (Rule k c period renewals rate cap))) ∷ (UnknownKind, is_none (kind_of H k)) ∷ []
+checks_by H s o (Grace k c days) = (OutOfLimits, not (is_within_limits (Grace k c days))) ∷ (NoRule, is_none (rule_of H k c)) ∷ []
 checks_by H s o (Patron p k card_key name) =
     (OutOfLimits, not (is_within_limits (Patron p k card_key name))) ∷ (UnknownKind, is_none (kind_of H k)) ∷ (OtherContent, differs_patron H p k card_key name) ∷ []
 checks_by H s o (Acquire c t k home price text) =
@@ -204,7 +205,7 @@ checks_by H s o (CheckOut p c b) =
     ∷ (OwesTooMuch, owes_too_much H s p) ∷ (NumbersUsedUp, nat_le LAST_NUMBER (loans H)) ∷ []
 checks_by H s o (CheckIn c b) =
     (UnknownBranch, not (has_branch H b)) ∷ (UnknownCopy, not (has_copy H c)) ∷ (CopyWithdrawn, is_withdrawn (s.place c)) ∷ (OnHoldShelf, is_on_hold_shelf (s.place c))
-    ∷ (NumbersUsedUp, lacks_lines H s (length (lines_made H s.place (CheckIn c b)))) ∷ []
+    ∷ (NumbersUsedUp, lacks_lines H s (length (lines_made H s.place s.grace (CheckIn c b)))) ∷ []
 checks_by H s o (Renew l) =
     (UnknownLoan, not (has_loan H o l)) ∷ (LoanEnded, is_some (ended H l)) ∷ (Overdue, nat_lt (due H l) (today H))
     ∷ (HoldWaits, not (is_empty (line_seen H s (title_of_loan H l))))
@@ -218,7 +219,7 @@ checks_by H s o (Unshelve h) =
 checks_by H s o (UnshelveCancelled h) = (UnknownHold, not (has_hold H o h)) ∷ (WrongHoldState, not (is_ready (s.state h))) ∷ []
 checks_by H s o (Missing c) =
     (UnknownCopy, not (has_copy H c)) ∷ (CopyWithdrawn, is_withdrawn (s.place c)) ∷ (CopyMissing, is_missing (s.place c))
-    ∷ (NumbersUsedUp, lacks_lines H s (length (lines_made H s.place (Missing c)))) ∷ []
+    ∷ (NumbersUsedUp, lacks_lines H s (length (lines_made H s.place s.grace (Missing c)))) ∷ []
 checks_by H s o (Withdraw c) =
     (UnknownCopy, not (has_copy H c)) ∷ (CopyWithdrawn, is_withdrawn (s.place c)) ∷ (OnLoan, is_on_loan (s.place c)) ∷ (InTransit, is_in_transit (s.place c))
     ∷ (OnHoldShelf, is_on_hold_shelf (s.place c)) ∷ []

@@ -1,32 +1,102 @@
--- What a library of schema 1 was: its commands, its line, which lists it accepted, and the rows that its tables held.
-use Rattle.std.specs.Prelude.{◌≡◌, ℕ, Bool, true, false, IsTrue, List, [], ◌∷◌, Option, Some, None, option_map}
+-- What a library of an older schema was: its commands, its line, its fines, which lists it accepted, and the rows that its tables held.
+use Rattle.std.specs.Prelude.{◌≡◌, ℕ, ◌*◌, min, Bool, true, false, IsTrue, List, [], ◌∷◌, Option, Some, None, option_map}
 use Rattle.terms.specs.declared.command.Command.{Command}
-use Rattle.terms.specs.declared.command.Command.TheVariants.{PlaceHold}
+use Rattle.terms.specs.declared.command.Command.TheVariants.{PlaceHold, Grace}
+use Rattle.terms.specs.declared.row.RuleRow.{RuleRow}
+use Rattle.terms.specs.declared.row.RuleRow1.{RuleRow1}
+use Rattle.terms.specs.declared.row.LoanRow.{LoanRow}
+use Rattle.terms.specs.declared.row.LoanRow1.{LoanRow1}
 use Rattle.terms.specs.declared.row.HoldRow.{HoldRow}
 use Rattle.terms.specs.declared.row.HoldRow1.{HoldRow1}
 use Rattle.terms.specs.Limits.{InLimits, ClosesFewDays}
-use Rattle.terms.specs.Schemas.{IsOfSchema1, led_to_2}
+use Rattle.terms.specs.Money.{fine_for}
+use Rattle.terms.specs.Schemas.{IsOfSchema1, IsOfSchema2, led_to_2, led_to_3}
 use Rattle.terms.specs.declared.row.HoldState.{HoldState}
 use Rattle.terms.specs.declared.command.Owner.{Owner}
 use Rattle.model.specs.History.{History}
-use Rattle.model.specs.Places.{Place, Nowhere, place_after, state_after, limit_after_by}
+use Rattle.model.specs.Places.{Place, Nowhere, place, place_after, state_after, limit_after_by}
 use Rattle.model.specs.Accounts.{Line, lines_then}
 use Rattle.model.specs.Sights.{Sight, sight}
 use Rattle.model.specs.Checks.{first_failing}
 use Rattle.model.specs.Refusals.{checks_by}
 use Rattle.model.specs.Answers.{accepted_by, answer_by, answer}
 use Rattle.model.specs.Requests.{Kept, kept_after, kept_of, IsAcceptedBy, IsLegal}
-use Rattle.model.specs.Picture.{Picture, picture, meta_row, hold_row}
+use Rattle.model.specs.Picture.{Picture, picture, meta_row, rule_row, loan_row, hold_row}
 
--- A command that there was with schema 1: no hold began on a later day.
-abbrev pub is_of_schema_1 : Command → Bool
-is_of_schema_1 (PlaceHold p t b (Some d)) = false
-is_of_schema_1 _ = true
+-- ---- lists of an older schema
 
 -- Each command of the list is one of these.
+abbrev pub AreOf : (Command → Bool) → History → Type 0
+AreOf is_of [] = Unit {0}
+AreOf is_of (e ∷ H) = IsTrue (is_of e.command) × AreOf is_of H
+
+-- What was kept for an owner's key, by what lists showed.
+abbrev pub kept_of_by : (History → Sight) → History → Owner → List ℕ → Option Kept
+kept_of_by sight_of [] o k = None
+kept_of_by sight_of (e ∷ H) o k = kept_after e (accepted_by H (sight_of H) e.command) o k (kept_of_by sight_of H o k)
+
+-- Each event of a legal list was a command that there was, accepted after the list before it by what that showed.
+abbrev pub IsLegalBy : (Command → Bool) → (History → Sight) → History → Type 0
+IsLegalBy is_of sight_of [] = Unit {0}
+IsLegalBy is_of sight_of (e ∷ H) =
+    IsTrue (is_of e.command)
+    × IsAcceptedBy e H (first_failing (checks_by H (sight_of H) e.owner e.command)) (kept_of_by sight_of H e.owner e.key)
+    × IsLegalBy is_of sight_of H
+
+-- A list that was legal is legal, shows what it showed, and every command gets the answer that it got.
+pub record StandsStill (is_of : Command → Bool) (sight_of : History → Sight) (H : History) : Type 0 where
+  pub legal : IsLegal H
+  pub of_schema : AreOf is_of H
+  pub shows : sight_of H ≡ sight H
+  pub kept : (o : Owner) (k : List ℕ) → kept_of_by sight_of H o k ≡ kept_of H o k
+  pub answers : (o : Owner) (c : Command) → answer_by H (sight_of H) o c ≡ answer H o c
+
+abbrev pub OldListsStand : (Command → Bool) → (History → Sight) → Type 0
+OldListsStand is_of sight_of = (H : History) → IsLegalBy is_of sight_of H → StandsStill is_of sight_of H
+
+-- ---- schema 2
+
+-- A command that there was with schema 2: no rule had grace days.
+abbrev pub is_of_schema_2 : Command → Bool
+is_of_schema_2 (Grace k c days) = false
+is_of_schema_2 _ = true
+
+abbrev pub AreOfSchema2 : History → Type 0
+AreOfSchema2 = AreOf is_of_schema_2
+
+-- The fines of schemas 1 and 2 looked at no grace days: each open day late cost the rate.
+abbrev pub no_grace : ℕ → ℕ
+no_grace l = 0
+
+-- The fine without grace days is theirs.
+abbrev pub FinesWithoutGrace : Type 0
+FinesWithoutGrace = (days rate cap : ℕ) → fine_for days rate cap 0 ≡ min (days * rate) cap
+
+-- The lines of all accounts.
+abbrev pub lines2 : History → List Line
+lines2 [] = []
+lines2 (e ∷ H) = lines_then H (place H) no_grace e.command (lines2 H)
+
+-- What a list showed.
+abbrev pub sight2 : History → Sight
+sight2 H = record (sight H) { grace = no_grace; lines = lines2 H }
+
+abbrev pub kept_of2 : History → Owner → List ℕ → Option Kept
+kept_of2 = kept_of_by sight2
+
+abbrev pub IsLegal2 : History → Type 0
+IsLegal2 = IsLegalBy is_of_schema_2 sight2
+
+-- ---- schema 1
+
+-- A command that there was with schema 1: no hold began on a later day either.
+abbrev pub is_of_schema_1 : Command → Bool
+is_of_schema_1 (PlaceHold p t b (Some d)) = false
+is_of_schema_1 (Grace k c days) = false
+is_of_schema_1 _ = true
+
 abbrev pub AreOfSchema1 : History → Type 0
-AreOfSchema1 [] = Unit {0}
-AreOfSchema1 (e ∷ H) = IsTrue (is_of_schema_1 e.command) × AreOfSchema1 H
+AreOfSchema1 = AreOf is_of_schema_1
 
 -- The line of schema 1 looked at no first day: a hold stood in it as soon as it was placed.
 abbrev pub begun_at_once : ℕ → Bool
@@ -51,55 +121,76 @@ limit1 (e ∷ H) h = limit_after_by H (place1 H) (state1 H) begun_at_once e.comm
 -- The lines of all accounts.
 abbrev pub lines1 : History → List Line
 lines1 [] = []
-lines1 (e ∷ H) = lines_then H (place1 H) e.command (lines1 H)
+lines1 (e ∷ H) = lines_then H (place1 H) no_grace e.command (lines1 H)
 
 -- What a list showed.
 abbrev pub sight1 : History → Sight
-sight1 H = record { place = place1 H; state = state1 H; begun = begun_at_once; limit = limit1 H; lines = lines1 H }
+sight1 H = record { place = place1 H; state = state1 H; begun = begun_at_once; limit = limit1 H; grace = no_grace; lines = lines1 H }
 
--- What was kept for an owner's key.
 abbrev pub kept_of1 : History → Owner → List ℕ → Option Kept
-kept_of1 [] o k = None
-kept_of1 (e ∷ H) o k = kept_after e (accepted_by H (sight1 H) e.command) o k (kept_of1 H o k)
+kept_of1 = kept_of_by sight1
 
--- Each event of a legal list was a command of schema 1, accepted after the list before it.
 abbrev pub IsLegal1 : History → Type 0
-IsLegal1 [] = Unit {0}
-IsLegal1 (e ∷ H) =
-    IsTrue (is_of_schema_1 e.command)
-    × IsAcceptedBy e H (first_failing (checks_by H (sight1 H) e.owner e.command)) (kept_of1 H e.owner e.key)
-    × IsLegal1 H
+IsLegal1 = IsLegalBy is_of_schema_1 sight1
 
--- A list that was legal is legal, shows what it showed, and every command gets the answer that it got.
-pub record StandsStill (H : History) : Type 0 where
-  pub legal : IsLegal H
-  pub of_schema_1 : AreOfSchema1 H
-  pub shows : sight1 H ≡ sight H
-  pub kept : (o : Owner) (k : List ℕ) → kept_of1 H o k ≡ kept_of H o k
-  pub answers : (o : Owner) (c : Command) → answer_by H (sight1 H) o c ≡ answer H o c
+-- Each list of schema 1 is one of schema 2.
+abbrev pub Schema1IsWithinSchema2 : Type 0
+Schema1IsWithinSchema2 = (H : History) → AreOfSchema1 H → AreOfSchema2 H
 
-abbrev pub OldListsStand : Type 0
-OldListsStand = (H : History) → IsLegal1 H → StandsStill H
+-- ---- tables
+
+-- The columns that schemas 1 and 2 have of a rule, and of a loan: each but the grace days.
+abbrev pub rule1_columns : RuleRow → RuleRow1
+rule1_columns r = record { kind = r.kind; copy_kind = r.copy_kind; period = r.period; renewals = r.renewals; rate = r.rate; cap = r.cap }
+
+abbrev pub loan1_columns : LoanRow → LoanRow1
+loan1_columns r =
+    record {
+      loan = r.loan;
+      copy = r.copy;
+      patron = r.patron;
+      branch = r.branch;
+      made = r.made;
+      due = r.due;
+      period = r.period;
+      renewals_left = r.renewals_left;
+      rate = r.rate;
+      cap = r.cap;
+      ended = r.ended;
+    }
 
 -- The columns that schema 1 has of a hold: each but the first day.
 abbrev pub hold1_columns : HoldRow → HoldRow1
 hold1_columns r = record { hold = r.hold; patron = r.patron; title = r.title; branch = r.branch; state = r.state; copy = r.copy; limit_day = r.limit_day }
 
+-- The row of a rule.
+abbrev pub rule_row1 : History → ℕ → ℕ → Option RuleRow1
+rule_row1 H k c = option_map rule1_columns (rule_row H k c)
+
+-- The row of a loan.
+abbrev pub loan_row1 : History → ℕ → Option LoanRow1
+loan_row1 H l = option_map loan1_columns (loan_row H l)
+
 -- The row of a hold.
 abbrev pub hold_row1 : History → ℕ → Option HoldRow1
 hold_row1 H h = option_map hold1_columns (hold_row H h)
 
--- What the tables of schema 1 hold: the holds stand in its own table, and every other row is that of the newest schema.
+-- What the tables of schema 2 hold: the rules and the loans stand in its own tables, and every other row is that of the newest schema.
+abbrev pub picture2 : History → Picture
+picture2 H = record (picture H) { meta = record (meta_row H) { schema = 2 }; rules = λ _ _. None; rules1 = rule_row1 H; loans = λ _. None; loans1 = loan_row1 H }
+
+-- What those of schema 1 hold: the holds stand in its own table, and every other row is that of schema 2.
 abbrev pub picture1 : History → Picture
-picture1 H = record (picture H) { meta = record (meta_row H) { schema = 1 }; holds = λ _. None; holds1 = hold_row1 H }
+picture1 H = record (picture2 H) { meta = record (meta_row H) { schema = 1 }; holds = λ _. None; holds1 = hold_row1 H }
 
--- The tables of schema 1 after a history are led to those of the newest schema after the same history, and keep to the same limits.
-pub record IsLed (H : History) : Type 0 where
-  pub of_schema_1 : IsOfSchema1 (picture1 H)
-  pub led : led_to_2 (picture1 H) ≡ picture H
-  pub limits : InLimits (picture H) → InLimits (picture1 H)
-  pub closed_days : ClosesFewDays (picture H) → ClosesFewDays (picture1 H)
+-- The tables of an older schema are led to those of the next, and keep to the same limits.
+pub record IsLed (old : Picture) (led_to : Picture → Picture) (new : Picture) : Type 0 where
+  pub led : led_to old ≡ new
+  pub limits : InLimits new → InLimits old
+  pub closed_days : ClosesFewDays new → ClosesFewDays old
 
--- It is so after every history of commands that there were with schema 1.
+-- It is so after every history of commands that there were with the older schema, with the tables of both after that same history.
 abbrev pub OldTablesAreLed : Type 0
-OldTablesAreLed = (H : History) → AreOfSchema1 H → IsLed H
+OldTablesAreLed = (H : History)
+    → (AreOfSchema1 H → IsOfSchema1 (picture1 H) × IsLed (picture1 H) led_to_2 (picture2 H))
+    × (AreOfSchema2 H → IsOfSchema2 (picture2 H) × IsLed (picture2 H) led_to_3 (picture H))

@@ -3,19 +3,21 @@ use Rattle.std.specs.Prelude.{ℕ, Bool, List, Option}
 use Rattle.terms.specs.declared.row.HoldState.{HoldState}
 use Rattle.model.specs.History.{History}
 use Rattle.model.specs.Places.{Place, place, state, is_begun, limit, line_by, route_by, kept_for_by, fills_by}
+use Rattle.model.specs.Loans.{grace_of}
 use Rattle.model.specs.Accounts.{Line, lines, owed_in}
 
--- Where each copy is, how each hold stands, whether its first day has come, its shelf limit, and the lines of all accounts.
+-- Where each copy is, how each hold stands, whether its first day has come, its shelf limit, the grace days of each loan, and the lines of all accounts.
 pub record Sight : Type 0 where
   pub place : ℕ → Place
   pub state : ℕ → Option HoldState
   pub begun : ℕ → Bool
   pub limit : ℕ → Option ℕ
+  pub grace : ℕ → ℕ
   pub lines : List Line
 
 -- What the list shows.
 abbrev pub sight : History → Sight
-sight H = record { place = place H; state = state H; begun = is_begun H; limit = limit H; lines = lines H }
+sight H = record { place = place H; state = state H; begun = is_begun H; limit = limit H; grace = grace_of H; lines = lines H }
 
 module _ (H : History) (s : Sight) where
   -- The line of a title.

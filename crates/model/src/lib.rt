@@ -10,7 +10,9 @@ ghost use Rattle.model.specs.Laws.{Invariants};
 ghost use Rattle.model.specs.Calendars.{CalendarsAgree};
 ghost use Rattle.model.specs.Forms.{FormsStay, FormsAreWhole, RowsInLimits, FewClosedDays};
 ghost use Rattle.model.specs.References.{References};
-ghost use Rattle.model.specs.Schemas.{OldListsStand, OldTablesAreLed};
+ghost use Rattle.model.specs.Schemas.{is_of_schema_1, is_of_schema_2, sight1, sight2};
+ghost use Rattle.model.specs.Schemas.{OldListsStand, FinesWithoutGrace};
+ghost use Rattle.model.specs.Schemas.{OldTablesAreLed, Schema1IsWithinSchema2};
 ghost use Rattle.model.specs.Repeats.{RepeatsLeaveNothing, RepeatsGetTheKeptReply, RowsActOnce};
 ghost use Rattle.model.specs.DueDays.{WholeWeeksStay, DueDays, DueDaysExist, ShelfLimits};
 ghost use Rattle.model.specs.DueDays.{LimitsExist};
@@ -159,16 +161,21 @@ pub fn few_closed_days_law()
 {}
 
 /// A list of requests that was legal by the definitions of schema 1, whose commands had no first
-/// days and whose line looked at none, is legal by those of today: every copy is in the same place,
-/// every hold in the same state, the accounts have the same lines, and every command gets the same
-/// answer.
+/// days and whose line looked at none, or by those of schema 2, whose rules had no grace days and
+/// whose fines looked at none, is legal by those of today: every copy is in the same place, every
+/// hold in the same state, the accounts have the same lines, and every command gets the same
+/// answer. The fine without grace days is that of both.
 pub fn old_lists_law()
-    ensures { OldListsStand }
+    ensures schema_1 { OldListsStand is_of_schema_1 sight1 }
+    ensures schema_2 { OldListsStand is_of_schema_2 sight2 }
+    ensures fines { FinesWithoutGrace }
 {}
 
-/// The tables that a library of schema 1 holds after a history are led to those that a library of
-/// the newest schema holds after the same history, every hold with the state, the copy and the
-/// limit that it had; and they keep to the same limits.
-pub fn schema_1_law()
-    ensures { OldTablesAreLed }
+/// The tables that a library of schema 1 holds after a history are led to those that one of schema
+/// 2 holds after the same history, every hold with the state, the copy and the limit that it had;
+/// and those of schema 2 to those of the newest schema, every rule and every loan with the terms
+/// that it had. They keep to the same limits. Each list of schema 1 is one of schema 2.
+pub fn old_tables_law()
+    ensures led { OldTablesAreLed }
+    ensures within { Schema1IsWithinSchema2 }
 {}

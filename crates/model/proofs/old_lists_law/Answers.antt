@@ -1,5 +1,11 @@
-use Rattle.model.proofs.Schemas.{stands-still}
+use Rattle.model.proofs.Schemas.{stands-1, stands-2, fines-without-grace}
 use Rattle.model.proofs.old_lists_law.Goals as goal
 
-pub returns : goal.returns
-returns c = stands-still
+pub returns-clause-schema_1 : goal.returns-clause-schema_1
+returns-clause-schema_1 c = stands-1
+
+pub returns-clause-schema_2 : goal.returns-clause-schema_2
+returns-clause-schema_2 c = stands-2
+
+pub returns-clause-fines : goal.returns-clause-fines
+returns-clause-fines c = fines-without-grace
