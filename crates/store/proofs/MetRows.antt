@@ -24,7 +24,8 @@ use Rattle.sql_maps.specs.Pages.{FirstRows}
 use Rattle.circ_tables.specs.Numbered.{IsNumberTable}
 use Rattle.circ_tables.specs.Reading.{Table, Lists}
 use Rattle.circ_tables.specs.Selections.{is_next}
-use Rattle.circ_tables.specs.Shape.{schema}
+use Rattle.circ_tables.specs.Shape.{schema_at, HasTable}
+use Rattle.terms.specs.declared.limits.TheConstants.{SCHEMA}
 use Rattle.circ_tables.specs.declared.by_number.TheConstants.{PAGE_ROWS}
 use Rattle.circ_tables.proofs.CellLemmas.{is_least, if_least, from_alone}
 use Rattle.circ_tables.proofs.DayLemmas.{below}
@@ -65,12 +66,13 @@ module _ {R : Type 0} (t : Table ℕ R) where
 
 module _ {R : Type 0} {t : Table ℕ R} {number_of : R → ℕ} (table : IsNumberTable t number_of) where
   -- The key of a stored row is a number.
-  pub key_is : (db : Database) (maps : Maps) → Holds schema db maps → (k v : Row) → maps t.place k ≡ Some v → (n : ℤ) × (column v 0 ≡ Int n)
-  key_is db maps holds k v e =
-      let is = holds.tables t.place t.shape table.texts.listed in
+  pub key_is : (n : ℕ) → HasTable t.since n → (db : Database) (maps : Maps) → Holds (schema_at n) db maps → (k v : Row) → maps t.place k ≡ Some v → (n : ℤ) × (column v 0 ≡ Int n)
+  key_is n has db maps holds k v e =
+      let texts = table.texts n has in
+      let is = holds.tables t.place t.shape texts.listed in
       let row = is.whole k v e in
       let int = all_has (λ r. IsTrue (is_int (rowid r))) (db.trees t.shape.tree) row.0 is.shaped.1 row.1 in
-      go (column row.0 0) (ap (λ r. column r 0) (sym row.3) ∙ table.texts.key_cell row.0) int
+      go (column row.0 0) (ap (λ r. column r 0) (sym row.3) ∙ texts.key_cell row.0) int
     where
       go : (w : Value) → column v 0 ≡ w → IsTrue (is_int w) → (n : ℤ) × (column v 0 ≡ Int n)
       go (Int n) same int = (n, same)
@@ -83,7 +85,7 @@ module _ {R : Type 0} {t : Table ℕ R} {number_of : R → ℕ} (table : IsNumbe
       → Reviews (λ P (x : L). AreNumbered (t.rows P) number_of × AreRowsAfter (t.rows P) number_of (unwrap_or after 0) (items x)) (IsMapPage t after (items l)) g a b (Ok l)
   page_met after is = record {
     view = page_seen table after is;
-    met = λ clean maps holds. record { limits = is.limits; first = (is.lists clean maps holds).0; keys = key_is _ maps holds };
+    met = λ clean maps holds. record { limits = is.limits; first = (is.lists clean maps holds).0; keys = key_is SCHEMA table.newest _ maps holds };
   }
 
   module _ (maps : Maps) (after : Option ℕ) (pages : ℕ) (so_far : AreMetSoFar t after pages maps) (page : List R) (is : IsMapPage t after page maps) where

@@ -3,8 +3,8 @@ use Rattle.std.specs.Prelude.{IsTrue, unwrap_or}
 use Rattle.sqlite.specs.Held.{state}
 use Rattle.sqlite.specs.State.{HasCleanDisk, KeepsCommit, Survives}
 use Rattle.terms.specs.Pictures.{Picture}
-use Rattle.circ_tables.specs.Encoding.{HasPicture}
-use Rattle.store.specs.Library.{HasTables}
+use Rattle.circ_tables.specs.Encoding.{HasPictureAt}
+use Rattle.store.specs.Library.{HasTablesAt}
 use Rattle.store.specs.Migrating.{IsToCarry}
 use Rattle.store.proofs.MigrateLemmas.{over_to}
 use Rattle.store.proofs.MovedRows.{AreMovedSoFar}
@@ -15,11 +15,12 @@ abbrev pub invariant-pages : goal.invariant-pages
 invariant-pages g l =
     let old = state g.S.Store l.initial.tx.conn.now in
     let now = state g.S.Store l.tx.conn.now in
+    let at = g.R.Next.Table.table.since in
     record {
       same_reference : l.tx.conn.ghost_name ≡ l.initial.tx.conn.ghost_name;
       survives : Survives old now (λ _. ⊥);
-      there : HasCleanDisk now → IsTrue old.in_transaction → (there : HasTables old.now) → KeepsCommit old now × IsTrue now.in_transaction × AreMovedSoFar g.R.Table.table g.R.Next.Row.Table.table l.after l._page there.0 now.now;
-      carried : HasCleanDisk now → IsTrue old.in_transaction → (P : Picture) → IsToCarry g.R.Next.Row.Table.table old.now P
-          → HasPicture now.now (over_to g.met.R.Carried.over (unwrap_or l.after 0) P);
+      there : HasCleanDisk now → IsTrue old.in_transaction → (there : HasTablesAt at old.now) → KeepsCommit old now × IsTrue now.in_transaction × AreMovedSoFar g.R.Table.table g.R.Next.Table.table l.after l._page there.0 now.now;
+      carried : HasCleanDisk now → IsTrue old.in_transaction → (P : Picture) → HasPictureAt at old.now P → IsToCarry g.R.Next.Table.table P
+          → HasPictureAt at now.now (over_to g.met.R.Carried.over (unwrap_or l.after 0) P);
       low : unwrap_or l.after 0 < 2 ^ 32;
     }

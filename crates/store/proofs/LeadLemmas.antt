@@ -1,0 +1,254 @@
+-- One part of a step after another, inside a transaction.
+use Rattle.std.proofs.Common.{◌≡◌, ◌==◌, ◌<◌, ◌∙◌, ℕ, zero, suc, List, length, map, ltb, cond, Option, Some, None, true, false, refl, sym, ap, subst, arith, IsTrue}
+use Rattle.std.specs.Prelude.{Result, Ok, Err, IfErr, OnOk, option_map, slice_get}
+use Rattle.std.specs.List.{All}
+use Rattle.std.specs.Result.{IsErr, IsErrAnd}
+use Rattle.std.proofs.Math.Path.{fun_ext}
+use Rattle.std.proofs.lemmas.Bool.{lt-ltb, le-ltb, ne_eqb}
+use Rattle.sqlite.specs.Effect.{Database}
+use Rattle.sqlite.specs.Held.{state}
+use Rattle.sqlite.specs.Order.{Row}
+use Rattle.sqlite.specs.Schema.{Schema}
+use Rattle.sqlite.specs.State.{State, HasCleanDisk}
+use Rattle.sqlite.specs.Store.{Ghosts}
+use Rattle.sqlite.specs.declared.transaction.Transaction.{Transaction}
+use Rattle.sql_maps.specs.Maps.{Map, Maps, IsMap, IsFreeFrom, Holds, ListedBy, PairBelow, put as put_map, put_at}
+use Rattle.sql_maps.proofs.CallLemmas.{on_ok}
+use Rattle.terms.specs.Limits.{InLimits, IsMeta}
+use Rattle.terms.specs.Pictures.{Picture}
+use Rattle.terms.specs.Schemas.{IsOfSchema1, IsOfSchema2}
+use Rattle.terms.specs.declared.row.MetaRow.{MetaRow}
+use Rattle.terms.specs.declared.row.RuleRow1.{RuleRow1}
+use Rattle.terms.specs.declared.fault.Fault.{Fault}
+use Rattle.terms.specs.declared.fault.Fault.TheVariants.{Stored, Database as DatabaseFault}
+use Rattle.circ_tables.specs.Cells.{number_key, meta_cells}
+use Rattle.circ_tables.specs.Encoding.{Any, Encodes, HasPictureAt, AreEncoded, IsEncoded}
+use Rattle.circ_tables.specs.Holds.{holds}
+use Rattle.circ_tables.specs.Holds1.{holds1}
+use Rattle.circ_tables.specs.Loans.{loans}
+use Rattle.circ_tables.specs.Loans1.{loans1}
+use Rattle.circ_tables.specs.Puts.{Makes}
+use Rattle.circ_tables.specs.Reading.{ListsInside}
+use Rattle.circ_tables.specs.Rules.{rules}
+use Rattle.circ_tables.specs.Rules1.{rules1}
+use Rattle.circ_tables.specs.SchemaNumber.{NamesSchema}
+use Rattle.circ_tables.specs.Selections.{is_any}
+use Rattle.circ_tables.specs.Shape.{schema_at, meta_place, rules1_place, loans1_place, holds1_place, holds_place, rules_place, loans_place}
+use Rattle.store.specs.Legal.{HasLegal}
+use Rattle.store.specs.Library.{HasTablesAt}
+use Rattle.store.specs.Migrating.{LeadsInside, LeadsFrom, NamesInside, AreMoved, AreNamed, AreLedOn, AreLedIfNamed, all_over}
+use Rattle.store.specs.Routes.{holds_route, rules_route, loans_route}
+use Rattle.store.proofs.Steps.{then, keeps_then}
+
+-- ---- a part that ended well, and then another
+
+module _ {S T U : Type 0} (g : Ghosts S) {old mid new : Transaction S} {x : T} {r : Result U Fault} {from at to : ℕ} {Led1 Led2 : Maps → Maps → Type 0} {Ready1 Ready2 : Picture → Type 0} {c1 c2 : Picture → Picture} where
+  pub leads_then : (Led : Maps → Maps → Type 0) (Ready : Picture → Type 0) (change : Picture → Picture) → ((a b c : Maps) → Led1 a b → Led2 b c → Led a c)
+      → ((P : Picture) → Ready P → Ready1 P × Ready2 (c1 P)) → ((P : Picture) → c2 (c1 P) ≡ change P)
+      → LeadsInside from at Led1 Ready1 c1 g old mid (Ok x) → LeadsInside at to Led2 Ready2 c2 g mid new r → LeadsInside from to Led Ready change g old new r
+  leads_then Led Ready change glue parts same one two = record {
+    same_reference = two.same_reference ∙ one.same_reference;
+    survives = then _ _ _ one.survives two.survives;
+    kept = λ clean begun there. keeps_then _ _ _ (one.kept (early clean) begun there) (two.kept clean (one.inside (early clean) begun there) (between clean begun there));
+    inside = λ clean begun there. two.inside clean (one.inside (early clean) begun there) (between clean begun there);
+    rows = λ clean begun maps holds.
+        let it = one.rows (early clean) begun maps holds in
+        on_ok r (λ e. (e.0, e.1, glue maps it.0 e.0 it.2 e.2)) (two.rows clean (one.inside (early clean) begun (maps, holds)) it.0 it.1);
+    leads = λ clean begun P shown ready.
+        let are = parts P ready in
+        on_ok r (subst (HasPictureAt to (state g new.conn.now).now) (same P)) (two.leads clean (one.inside (early clean) begun (shown.maps, shown.holds)) (c1 P) (one.leads (early clean) begun P shown are.0) are.1);
+    sound = λ clean begun told P shown ready.
+        let are = parts P ready in
+        two.sound clean (one.inside (early clean) begun (shown.maps, shown.holds)) told (c1 P) (one.leads (early clean) begun P shown are.0) are.1;
+  }
+    where
+      early : HasCleanDisk (state g new.conn.now) → HasCleanDisk (state g mid.conn.now)
+      early clean = omega (arith, two.survives.clean)
+
+      between : HasCleanDisk (state g new.conn.now) → IsTrue (state g old.conn.now).in_transaction → HasTablesAt from (state g old.conn.now).now → HasTablesAt at (state g mid.conn.now).now
+      between clean begun there = let it = one.rows (early clean) begun there.0 there.1 in (it.0, it.1)
+
+-- A part that failed, whose fault is handed on.
+pub leads_failed : {S T U : Type 0} (g : Ghosts S) {old new : Transaction S} {fault : Fault} (r : Result U Fault) {from at to : ℕ} {Led1 Led : Maps → Maps → Type 0} {Ready1 Ready : Picture → Type 0} {c1 change : Picture → Picture}
+    → IsErr r × IsErrAnd r (λ e. e ≡ fault) → ((P : Picture) → Ready P → Ready1 P) → LeadsInside {S} {T} from at Led1 Ready1 c1 g old new (Err fault) → LeadsInside from to Led Ready change g old new r
+leads_failed g (Ok x) is parts one = absurd (let none = is.0 in cc)
+leads_failed {T = T} g {fault = fault} (Err e) is parts one = record {
+  same_reference = one.same_reference;
+  survives = one.survives;
+  kept = one.kept;
+  inside = λ clean begun there. tt;
+  rows = λ clean begun maps holds. tt;
+  leads = λ clean begun P shown ready. tt;
+  sound = λ clean begun told P shown ready.
+      let named : e ≡ Stored = cc in
+      let same : fault ≡ Stored = sym is.1 ∙ named in
+      let failed : Fault → Result T Fault = λ f. Err f in
+      one.sound clean begun (ap failed same) P shown (parts P ready);
+}
+
+-- ---- tables that are made beside others
+
+-- The maps with no row from a place on.
+abbrev pub cut : ℕ → Maps → Maps
+cut place maps at k = cond (ltb at place) (maps at k) None
+
+cut_free : (place : ℕ) (maps : Maps) → IsFreeFrom place (cut place maps)
+cut_free place maps at from k = ap (λ b. cond b (maps at k) None) (le-ltb at place from)
+
+cut_is : (place : ℕ) (maps : Maps) (at : ℕ) → at < place → cut place maps at ≡ maps at
+cut_is place maps at less = fun_ext (λ k. ap (λ b. cond b (maps at k) None) (lt-ltb at place less))
+
+got_below : {A : Type 0} (list : List A) (at : ℕ) (x : A) → slice_get list at ≡ Some x → at < length list
+got_below [] at x e = let never : ⊥ = cc in absurd never
+got_below (y ∷ list) zero x e = omega arith
+got_below (y ∷ list) (suc at) x e = let less = got_below list at x e in omega (arith, less)
+
+-- The tables of a schema hold the maps up to their number.
+cut_holds : (s : Schema) (db : Database) (maps : Maps) → Holds s db maps → Holds s db (cut (length s.tables) maps)
+cut_holds s db maps holds = record {
+  sound = holds.sound;
+  schema_is = holds.schema_is;
+  tables = λ at table there. subst (λ (m : Map). IsMap table (db.trees table.tree) m) (sym (cut_is (length s.tables) maps at (got_below s.tables at table there))) (holds.tables at table there);
+}
+
+-- The tables of another schema were made beside those of one.
+pub made_leads : {S T : Type 0} (g : Ghosts S) {old new : Transaction S} (r : Result T Fault) (from to place : ℕ) → length (schema_at from).tables ≡ place → (IsReady : Picture → Type 0)
+    → ((maps : Maps) (P : Picture) → Encodes maps P → IsReady P → Encodes (cut place maps) P) → Makes (schema_at from) (schema_at to) g old new r
+    → LeadsInside from to (λ maps now. (at : ℕ) → at < place → now at ≡ maps at) IsReady (λ P. P) g old new r
+made_leads g {old} {new} r from to place long IsReady encodes made = record {
+  same_reference = made.works.same_reference;
+  survives = made.works.survives;
+  kept = λ clean begun there. made.works.kept clean;
+  inside = λ clean begun there. on_ok r (λ moves. moves.is_inside) (made.moves clean begun);
+  rows = λ clean begun maps holds. on_ok r (λ moves. (cut place maps, moves.maps (cut place maps) (free maps) (held maps holds), cut_is place maps)) (made.moves clean begun);
+  leads = λ clean begun P shown ready. on_ok r (λ moves. record { maps = cut place shown.maps; holds = moves.maps (cut place shown.maps) (free shown.maps) (held shown.maps shown.holds); encodes = encodes shown.maps P shown.encodes ready }) (made.moves clean begun);
+  sound = λ clean begun told P shown ready. not_stored r made.fault told;
+}
+  where
+    free : (maps : Maps) → IsFreeFrom (length (schema_at from).tables) (cut place maps)
+    free maps = subst (λ n. IsFreeFrom n (cut place maps)) (sym long) (cut_free place maps)
+
+    held : (maps : Maps) → Holds (schema_at from) (state g old.conn.now).now maps → Holds (schema_at from) (state g old.conn.now).now (cut place maps)
+    held maps holds = subst (λ n. Holds (schema_at from) (state g old.conn.now).now (cut n maps)) long (cut_holds (schema_at from) (state g old.conn.now).now maps holds)
+
+    not_stored : (r : Result _ Fault) → IfErr r (λ fault. fault ≡ DatabaseFault) → r ≡ Err Stored → ⊥
+    not_stored (Ok x) fault told = cc
+    not_stored (Err e) fault told = let same : e ≡ Stored = cc in let never : DatabaseFault ≡ Stored = sym fault ∙ same in cc
+
+-- A table that is made has no row.
+none_encoded : {K R : Type 0} {key : K → Row} {cells : R → Row} {t : K → Option R} → ((k : K) → t k ≡ None) → IsEncoded Any key cells (λ j. None) t
+none_encoded {cells = cells} none = record { there = λ k any. sym (ap (option_map cells) (none k)); only = λ j v e. absurd (let never : ⊥ = cc in never) }
+
+-- The tables of schema 1 show a picture with no hold of schema 2, and no rule and no loan of schema 3.
+pub encoded_1 : (maps : Maps) (P : Picture) → Encodes maps P → IsOfSchema1 P × InLimits P → Encodes (cut 13 maps) P
+encoded_1 maps P is ready = record {
+  meta = is.meta;
+  branches = is.branches;
+  closed_days = is.closed_days;
+  kinds = is.kinds;
+  rules1 = is.rules1;
+  patrons = is.patrons;
+  titles = is.titles;
+  copies = is.copies;
+  loans1 = is.loans1;
+  holds1 = is.holds1;
+  transits = is.transits;
+  lines = is.lines;
+  kept = is.kept;
+  holds = none_encoded ready.0.later;
+  rules = none_encoded (λ k. ready.0.later_rules k.0 k.1);
+  loans = none_encoded ready.0.later_loans;
+}
+
+-- Those of schema 2 one with no rule and no loan of schema 3.
+pub encoded_2 : (maps : Maps) (P : Picture) → Encodes maps P → IsOfSchema2 P × InLimits P → Encodes (cut 14 maps) P
+encoded_2 maps P is ready = record {
+  meta = is.meta;
+  branches = is.branches;
+  closed_days = is.closed_days;
+  kinds = is.kinds;
+  rules1 = is.rules1;
+  patrons = is.patrons;
+  titles = is.titles;
+  copies = is.copies;
+  loans1 = is.loans1;
+  holds1 = is.holds1;
+  transits = is.transits;
+  lines = is.lines;
+  kept = is.kept;
+  holds = is.holds;
+  rules = none_encoded (λ k. ready.0.later_rules k.0 k.1);
+  loans = none_encoded ready.0.later_loans;
+}
+
+-- ---- the schema is named
+
+-- Another map of `meta` that is the same names the same schema.
+names_still : (a b : Maps) (n : ℕ) → b meta_place ≡ a meta_place → NamesSchema a n → NamesSchema b n
+names_still a b n same is = record {
+  key = is.key;
+  row = is.row;
+  there = ap (λ (m : Map). m is.key) same ∙ is.there;
+  alone = λ k v e. is.alone k v (ap (λ (m : Map). m k) (sym same) ∙ e);
+  schema = is.schema;
+}
+
+-- A row of `meta` is put, and no other table changes.
+pub meta_put : (maps : Maps) (k v : Row) (at : ℕ) → (at == meta_place) ≡ false → put_at maps meta_place k v at ≡ maps at
+meta_put maps k v at aside = fun_ext (λ j. ap (λ b. cond b (put_map (maps meta_place) k v j) (maps at j)) aside)
+
+-- ---- a whole step
+
+-- The holds were moved into a table that was made.
+record HoldsMoved (maps now : Maps) : Type 0 where
+  pub legal : HasLegal holds1 maps
+  pub others : (at : ℕ) → at < holds_place → (at == holds1_place) ≡ false → now at ≡ maps at
+
+pub made_moved : (a b c : Maps) → ((at : ℕ) → at < 13 → b at ≡ a at) → AreMoved holds1 holds b c → HoldsMoved a c
+made_moved a b c same moved = record {
+  legal = subst (λ (m : Map). AreEncoded holds1.cells holds1.IsLegal m) (same holds1_place (omega arith)) moved.legal;
+  others = λ at less aside. moved.others at aside (ne_eqb at holds_place (λ there. omega (arith, less, there))) ∙ same at less;
+}
+
+pub led_to_second : (a b c : Maps) → HoldsMoved a b → AreNamed 2 b c → AreLedIfNamed 1 a c
+led_to_second a b c moved named m names =
+    let meta = moved.others meta_place (omega arith) refl in
+    let it = named.meta m (names_still a b m meta names) in
+    record {
+      legal = (subst (λ (m : Map). AreEncoded meta_cells IsMeta m) meta it.0, moved.legal);
+      named = it.1;
+      others = λ at left. named.others at left.1 ∙ moved.others at left.0 left.2;
+    }
+
+-- So the rules, and then the loans.
+record RulesMoved (maps now : Maps) : Type 0 where
+  pub legal : HasLegal rules1 maps
+  pub others : (at : ℕ) → at < rules_place → (at == rules1_place) ≡ false → now at ≡ maps at
+
+record LoansMoved (maps now : Maps) : Type 0 where
+  pub rules_legal : HasLegal rules1 maps
+  pub loans_legal : HasLegal loans1 maps
+  pub others : (at : ℕ) → at < rules_place → (at == rules1_place) ≡ false → (at == loans1_place) ≡ false → now at ≡ maps at
+
+pub made_rules : (a b c : Maps) → ((at : ℕ) → at < 14 → b at ≡ a at) → AreMoved rules1 rules b c → RulesMoved a c
+made_rules a b c same moved = record {
+  legal = subst (λ (m : Map). AreEncoded rules1.cells rules1.IsLegal m) (same rules1_place (omega arith)) moved.legal;
+  others = λ at less aside. moved.others at aside (ne_eqb at rules_place (λ there. omega (arith, less, there))) ∙ same at less;
+}
+
+pub made_loans : (a b c : Maps) → RulesMoved a b → AreMoved loans1 loans b c → LoansMoved a c
+made_loans a b c first moved = record {
+  rules_legal = first.legal;
+  loans_legal = subst (λ (m : Map). AreEncoded loans1.cells loans1.IsLegal m) (first.others loans1_place (omega arith) refl) moved.legal;
+  others = λ at less aside beside. moved.others at beside (ne_eqb at loans_place (λ there. omega (arith, less, there))) ∙ first.others at less aside;
+}
+
+pub led_to_third : (a b c : Maps) → LoansMoved a b → AreNamed 3 b c → AreLedIfNamed 2 a c
+led_to_third a b c moved named m names =
+    let meta = moved.others meta_place (omega arith) refl refl in
+    let it = named.meta m (names_still a b m meta names) in
+    record {
+      legal = (subst (λ (m : Map). AreEncoded meta_cells IsMeta m) meta it.0, moved.rules_legal, moved.loans_legal);
+      named = it.1;
+      others = λ at left. named.others at left.1 ∙ moved.others at left.0 left.2 left.3;
+    }
