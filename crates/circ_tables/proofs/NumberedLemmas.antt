@@ -1,6 +1,6 @@
 -- What follows of a table that is keyed by one number, whichever it is.
 use Rattle.std.proofs.Common.{arith, negsuc, min, Ok, ◌≤◌, ◌<◌, ◌≡◌, inl, inr, ℕ, pos, Bool, true, false, not, ◌==◌, ◌&&◌, ◌||◌, zero, suc, ◌≢◌, ◌+◌, length, cond, List, [], ◌∷◌, ◌++◌, map, Option, Some, None, Result, refl, sym, ap, subst, ◌∙◌, true≢false}
-use Rattle.std.specs.Prelude.{bytes_eq, option_map}
+use Rattle.std.specs.Prelude.{bytes_eq, option_map, slice_get}
 use Rattle.std.specs.List.{list_all, list_any, flat_map, filter_map}
 use Rattle.std.proofs.lemmas.Bool.{cases_Bool, and_parts}
 use Rattle.std.proofs.lemmas.Bool.Decides.{Decides-eqb}
@@ -31,26 +31,26 @@ use Rattle.sql_maps.proofs.AnswerLemmas.{shown_of, passes}
 use Rattle.sql_maps.proofs.CallLemmas.{put_steps, take_steps}
 use Rattle.sql_maps.proofs.FindLemmas.{finds_one}
 use Rattle.sql_maps.proofs.LookLemmas.{Looks, look, first_found, list_found, count_found, count_gives}
-use Rattle.sql_maps.proofs.MapLemmas.{are_apart}
 use Rattle.sql_maps.proofs.PageLemmas.{page_found}
 use Rattle.sql_maps.proofs.ReadLemmas.{get_row}
 use Rattle.sql_maps.proofs.UniqueLemmas.{or_false, alone_by_rowid}
 use Rattle.sql_maps.proofs.WriteLemmas.{Fixed}
 use Rattle.terms.specs.Pictures.{Picture, put as put_in}
 use Rattle.terms.specs.declared.fault.Fault.{Fault}
+use Rattle.terms.specs.declared.limits.TheConstants.{SCHEMA}
 use Rattle.circ_tables.specs.Cells.{number_key}
 use Rattle.circ_tables.specs.Encoding.{Any, IsEncoded, Draws, Encodes, with_map}
 use Rattle.circ_tables.specs.Numbered.{IsNumbered, IsNumberTable, IsRead, page_of, count_of, by_key, from_key, by_number, next_text, next_given, put_terms, put_shows}
 use Rattle.circ_tables.specs.Puts.{Runs, PutsRow, TakesRow}
 use Rattle.circ_tables.specs.Reading.{Table, FirstEntry, AllEntries, EntriesInside, CountShown, Gets, Selects, Counts, Lists, ListsInside}
 use Rattle.circ_tables.specs.Selections.{is_any, is_next}
-use Rattle.circ_tables.specs.Shape.{schema}
+use Rattle.circ_tables.specs.Shape.{schema, schema_at, HasTable}
 use Rattle.circ_tables.specs.Texts.{names_of, put_text, take_text, get_text, all_text}
 use Rattle.circ_tables.specs.declared.by_number.TheConstants.{PAGE_ROWS}
 use Rattle.circ_tables.proofs.EncodingLemmas.{put_encoded, take_encoded, number_same}
 use Rattle.circ_tables.proofs.InverseLemmas.{told}
 use Rattle.circ_tables.proofs.PageLemmas.{there}
-use Rattle.circ_tables.proofs.PutLemmas.{puts_of}
+use Rattle.circ_tables.proofs.PutLemmas.{apart, puts_of}
 use Rattle.circ_tables.proofs.ReadingLemmas.{gets_of, selects_of, counts_of, lists_of, lists_inside}
 use Rattle.circ_tables.proofs.ShownLemmas.{are_encoded}
 
@@ -99,14 +99,21 @@ fixed_of s at t free past is = record {
   alone = λ db fits x y hx hy same. alone_by_rowid x y (subst (λ p. agree plain p x p y ≡ true) is.primary same);
 }
 
-apart : are_apart schema.tables ≡ true
-apart = refl
+-- so is the schema of each number
+free_all : (n : ℕ) → list_all is_free (schema_at n).tables ≡ true
+free_all zero = refl
+free_all (suc zero) = refl
+free_all (suc (suc zero)) = refl
+free_all (suc (suc (suc n))) = refl
 
-free_all : list_all is_free schema.tables ≡ true
-free_all = refl
+past_all : (n : ℕ) → list_all aims_past (schema_at n).indexes ≡ true
+past_all zero = refl
+past_all (suc zero) = refl
+past_all (suc (suc zero)) = refl
+past_all (suc (suc (suc n))) = refl
 
-past_all : list_all aims_past schema.indexes ≡ true
-past_all = refl
+pub fixed_in : (n at : ℕ) (t : sql.Table) → IsNumbered (schema_at n) at t → Fixed (schema_at n) at t
+fixed_in n at t = fixed_of (schema_at n) at t (free_all n) (past_all n)
 
 -- ---- a table of typed rows
 
@@ -131,34 +138,38 @@ set_one : {A : Type 0} (t : ℕ → A) (at : ℕ) (x : A) (k : ℕ) → put_in t
 set_one t at x k = elim (cases_Bool (at == k)) [ inl hit ↦ rw (hit, put_in) refl | inr miss ↦ rw (miss, put_in) refl ]
 
 module _ {R : Type 0} {t : Table ℕ R} {number_of : R → ℕ} (is : IsNumberTable t number_of) where
-  fixed : Fixed schema t.place t.shape
-  fixed = fixed_of schema t.place t.shape free_all past_all is.texts
+  -- its texts in the newest schema
+  abbrev texts : IsNumbered schema t.place t.shape
+  texts = is.texts SCHEMA is.newest
+
+  fixed : (n : ℕ) → HasTable t.since n → Fixed (schema_at n) t.place t.shape
+  fixed n has = fixed_in n t.place t.shape (is.texts n has)
 
   plain_of : {text : List ℕ} {command : Command} → IsRead schema text command → (s : Schema) → s ≡ schema → IsPlain (understood s text)
   plain_of {text} read s e = subst (λ z. IsPlain (understood z text)) (sym e) read.bare
 
   as_cells : (given : Row) (l : List Row) → map (shown_of (each_column 1 t.shape) given) l ≡ map (cells t.shape) l
-  as_cells given l i = map (λ r. is.texts.shows given r i) l
+  as_cells given l i = map (λ r. texts.shows given r i) l
 
   single : (r : Row) → key_at t.shape r ≡ column r 0 ∷ []
-  single r = ap (map (column r)) is.texts.primary
+  single r = ap (map (column r)) texts.primary
 
   got : (k : ℕ) (old new : State) (o : Option Row) → FindsRow (get_text t.shape) (number_key k) old new o → (maps : Maps) → Holds schema old.now maps → (maps t.place (t.key k) ≡ o) × IsUnchanged old new
   got k old new o finds maps holds =
       subst (λ j. (maps t.place j ≡ o) × IsUnchanged old new) (sym (is.keyed k))
-      (get_row schema t.place t.shape is.texts.listed by_key (each_column 1 t.shape) (number_key k) (number_key k) (finds_one t.shape (Int (pos k)) is.texts.primary refl) (is.texts.shows (number_key k)) (names_of t.shape) (get_text t.shape)
-      is.texts.get.command_is is.texts.get.bare is.texts.get.unlisted old new o finds maps holds)
+      (get_row schema t.place t.shape texts.listed by_key (each_column 1 t.shape) (number_key k) (number_key k) (finds_one t.shape (Int (pos k)) texts.primary refl) (texts.shows (number_key k)) (names_of t.shape) (get_text t.shape)
+      texts.get.command_is texts.get.bare texts.get.unlisted old new o finds maps holds)
 
   -- the row of a number
   pub gets_row : (k : ℕ) → {S : Type 0} (g : Ghosts S) (old new : Held S) (result : Result (Option R) Fault) → FirstEntry t.cells t.IsLegal (get_text t.shape) (number_key k) g old new result → Gets t k g old new result
   gets_row k g old new result entry =
-      gets_of t (told is) (get_text t.shape) (plain_of is.texts.get) k (number_key k) (got k) (λ maps P encodes. subst (λ j. maps t.place j ≡ option_map t.cells (t.rows P k)) (sym (is.keyed k)) ((is.rows_are maps P encodes).there k tt))
+      gets_of t (told is) (get_text t.shape) (plain_of texts.get) k (number_key k) (got k) (λ maps P encodes. subst (λ j. maps t.place j ≡ option_map t.cells (t.rows P k)) (sym (is.keyed k)) ((is.rows_are maps P encodes).there k tt))
       (λ P legal r there. (is.legal P legal k r there).1) g old new result entry
 
   -- ---- rows that pass a test: the first one, all of them, a page of them, and how many they are
   module _ (tests : List Term) (text : List ℕ) (given : Row) (good : Row → Bool) (reads : (r : Row) → passes tests given r ≡ good (cells t.shape r)) where
     looks : (most : Term) → IsRead schema text (look t.shape tests most (names_of t.shape)) → Looks schema t.place t.shape tests most (names_of t.shape) text
-    looks most read = record { listed = is.texts.listed; command = read.command_is; bare = read.bare; unlisted = read.unlisted; single = single; key_cell = is.texts.key_cell; as_cells = as_cells }
+    looks most read = record { listed = texts.listed; command = read.command_is; bare = read.bare; unlisted = read.unlisted; single = single; key_cell = texts.key_cell; as_cells = as_cells }
 
     pub selects_by : IsRead schema text (look t.shape tests (lit (Int (pos 1))) (names_of t.shape)) → {S : Type 0} (g : Ghosts S) (old new : Held S) (result : Result (Option R) Fault) → FirstEntry t.cells t.IsLegal text given g old new result
         → Selects t (λ maps. First (maps t.place) good) g old new result
@@ -171,25 +182,25 @@ module _ {R : Type 0} {t : Table ℕ R} {number_of : R → ℕ} (is : IsNumberTa
         lists_of t items text (plain_of read) given (λ m. Listed m good) (list_found schema t.place t.shape tests (names_of t.shape) text given good reads (looks (lit (Int (negsuc 0))) read))
         (λ m rows listed v there. let at = listed.sound v there in (at.0, at.1)) (are_encoded is)
 
-    found_by : IsRead schema text (page_of t.shape tests) → (old new : State) (rows : List Row) → Shown text given old new rows → (maps : Maps) → Holds schema old.now maps → FirstRows PAGE_ROWS (maps t.place) good rows × IsUnchanged old new
-    found_by read =
-        page_found schema t.place t.shape tests by_number PAGE_ROWS (names_of t.shape) text given good reads (λ x y _ _ less. rw less refl)
-        (record { listed = is.texts.listed; command = read.command_is; bare = read.bare; unlisted = read.unlisted; single = single; key_cell = is.texts.key_cell; as_cells = as_cells; cut = λ given l. refl })
+    found_by : (s : Schema) → slice_get s.tables t.place ≡ Some t.shape → IsRead s text (page_of t.shape tests) → (old new : State) (rows : List Row) → Shown text given old new rows → (maps : Maps) → Holds s old.now maps → FirstRows PAGE_ROWS (maps t.place) good rows × IsUnchanged old new
+    found_by s listed read =
+        page_found s t.place t.shape tests by_number PAGE_ROWS (names_of t.shape) text given good reads (λ x y _ _ less. rw less refl)
+        (record { listed = listed; command = read.command_is; bare = read.bare; unlisted = read.unlisted; single = single; key_cell = texts.key_cell; as_cells = as_cells; cut = λ given l. refl })
 
     pub pages_by : IsRead schema text (page_of t.shape tests) → {S L : Type 0} (items : L → List R) (g : Ghosts S) (old new : Held S) (result : Result L Fault) → AllEntries items t.cells t.IsLegal text given g old new result
         → Lists t items (λ m. FirstRows PAGE_ROWS m good) g old new result
     pages_by read items =
-        lists_of t items text (plain_of read) given (λ m. FirstRows PAGE_ROWS m good) (found_by read) (λ m rows first v has. there PAGE_ROWS m good rows first v has) (are_encoded is)
+        lists_of t items text (plain_of read) given (λ m. FirstRows PAGE_ROWS m good) (found_by schema texts.listed read) (λ m rows first v has. there PAGE_ROWS m good rows first v has) (are_encoded is)
 
-    pages_inside : IsRead schema text (page_of t.shape tests) → {S L : Type 0} (items : L → List R) (g : Ghosts S) (old new : Transaction S) (result : Result L Fault) → EntriesInside items t.cells t.IsLegal text given g old new result
+    pages_inside : ((n : ℕ) → HasTable t.since n → IsRead (schema_at n) text (page_of t.shape tests)) → {S L : Type 0} (items : L → List R) (g : Ghosts S) (old new : Transaction S) (result : Result L Fault) → EntriesInside items t.cells t.IsLegal text given g old new result
         → ListsInside t items (λ m. FirstRows PAGE_ROWS m good) g old new result
-    pages_inside read items = lists_inside t items text given (λ m. FirstRows PAGE_ROWS m good) (found_by read) (λ m rows first v has. there PAGE_ROWS m good rows first v has)
+    pages_inside read items = lists_inside t items text given (λ m. FirstRows PAGE_ROWS m good) (λ n has. found_by (schema_at n) (is.texts n has).listed (read n has)) (λ m rows first v has. there PAGE_ROWS m good rows first v has)
 
     -- a count that is no number of 32 bits is greater
     count_many : IsRead schema text (count_of t.shape tests) → (old new : State) → (row : Row) × FindsRow text given old new (Some row) × (0 < length row → (n : ℕ) → n ≤ 4294967295 → column row 0 ≢ Int (pos n)) → (maps : Maps) → Holds schema old.now maps
         → (n : ℕ) × Count (maps t.place) good n × (4294967295 < n)
     count_many read old new found maps held =
-        let all = count_gives schema t.place t.shape tests [] text given good reads is.texts.listed read.command_is read.bare read.unlisted single is.texts.key_cell old new (Ok found.0) found.1 maps held in
+        let all = count_gives schema t.place t.shape tests [] text given good reads texts.listed read.command_is read.bare read.unlisted single texts.key_cell old new (Ok found.0) found.1 maps held in
         let many : all.0 ≤ 4294967295 → ⊥ = λ few.
         let same : min all.0 9223372036854775807 ≡ all.0 = omega arith in
         let is : column found.0 0 ≡ Int (pos all.0) = ap (λ r. column r 0) all.2 ∙ ap (λ n. Int (pos n)) same in
@@ -200,11 +211,11 @@ module _ {R : Type 0} {t : Table ℕ R} {number_of : R → ℕ} (is : IsNumberTa
     pub counts_by : IsRead schema text (count_of t.shape tests) → {S : Type 0} (g : Ghosts S) (old new : Held S) (result : Result ℕ Fault) → CountShown text given g old new result → Counts t good g old new result
     counts_by read =
         counts_of t text (plain_of read) given good
-        (count_found schema t.place t.shape tests [] text given good reads is.texts.listed read.command_is read.bare read.unlisted single is.texts.key_cell) (count_many read)
+        (count_found schema t.place t.shape tests [] text given good reads texts.listed read.command_is read.bare read.unlisted single texts.key_cell) (count_many read)
 
   -- all rows
   pub lists_all : {S L : Type 0} (items : L → List R) (g : Ghosts S) (old new : Held S) (result : Result L Fault) → AllEntries items t.cells t.IsLegal (all_text t.shape) [] g old new result → Lists t items (λ m. Listed m is_any) g old new result
-  lists_all = lists_by [] (all_text t.shape) [] is_any (λ r. refl) is.texts.all
+  lists_all = lists_by [] (all_text t.shape) [] is_any (λ r. refl) texts.all
 
   -- the first page, or the one after a number
   abbrev next_tests : Option ℕ → List Term
@@ -213,26 +224,26 @@ module _ {R : Type 0} {t : Table ℕ R} {number_of : R → ℕ} (is : IsNumberTa
 
   next_passes : (after : Option ℕ) (r : Row) → passes (next_tests after) (next_given after) r ≡ is_next after (cells t.shape r)
   next_passes None r = refl
-  next_passes (Some n) r = rw (is.texts.key_cell r) refl
+  next_passes (Some n) r = rw (texts.key_cell r) refl
 
-  next_read : (after : Option ℕ) → IsRead schema (next_text t.shape after) (page_of t.shape (next_tests after))
-  next_read None = is.texts.first
-  next_read (Some n) = is.texts.page
+  next_read : (s : Schema) → IsNumbered s t.place t.shape → (after : Option ℕ) → IsRead s (next_text t.shape after) (page_of t.shape (next_tests after))
+  next_read s of None = of.first
+  next_read s of (Some n) = of.page
 
   pub lists_next : (after : Option ℕ) → {S L : Type 0} (items : L → List R) (g : Ghosts S) (old new : Held S) (result : Result L Fault) → AllEntries items t.cells t.IsLegal (next_text t.shape after) (next_given after) g old new result
       → Lists t items (λ m. FirstRows PAGE_ROWS m (is_next after)) g old new result
-  lists_next after = pages_by (next_tests after) (next_text t.shape after) (next_given after) (is_next after) (next_passes after) (next_read after)
+  lists_next after = pages_by (next_tests after) (next_text t.shape after) (next_given after) (is_next after) (next_passes after) (next_read schema texts after)
 
   -- the same inside a transaction
   pub inside_next : (after : Option ℕ) → {S L : Type 0} (items : L → List R) (g : Ghosts S) (old new : Transaction S) (result : Result L Fault) → EntriesInside items t.cells t.IsLegal (next_text t.shape after) (next_given after) g old new result
       → ListsInside t items (λ m. FirstRows PAGE_ROWS m (is_next after)) g old new result
-  inside_next after = pages_inside (next_tests after) (next_text t.shape after) (next_given after) (is_next after) (next_passes after) (next_read after)
+  inside_next after = pages_inside (next_tests after) (next_text t.shape after) (next_given after) (is_next after) (next_passes after) (λ n has. next_read (schema_at n) (is.texts n has) after)
 
   -- the picture after a change of the map at the place
-  drawn : (old new : State) (change : Maps → Maps) (m : Map → Map) (u : Picture → ℕ → Option R)
+  drawn : (n : ℕ) (old new : State) (change : Maps → Maps) (m : Map → Map) (u : Picture → ℕ → Option R)
       → ((maps : Maps) → change maps ≡ with_map maps t.place (m (maps t.place)))
-      → ((maps : Maps) (P : Picture) → Encodes maps P → IsEncoded Any number_key t.cells (m (maps t.place)) (u P)) → Steps schema old new change → Draws old new (λ P. is.with_rows P (u P))
-  drawn old new change m u same encoded steps = record {
+      → ((maps : Maps) (P : Picture) → Encodes maps P → IsEncoded Any number_key t.cells (m (maps t.place)) (u P)) → Steps (schema_at n) old new change → Draws n old new (λ P. is.with_rows P (u P))
+  drawn n old new change m u same encoded steps = record {
     picture = λ P p. record { maps = change p.maps; holds = steps.maps p.maps p.holds; encodes = subst (λ maps. Encodes maps (is.with_rows P (u P))) (sym (same p.maps)) (is.framed p.maps P (m (p.maps t.place)) (u P) p.encodes (encoded p.maps P p.encodes)) };
     is_inside = steps.is_inside;
     committed = steps.committed;
@@ -241,27 +252,27 @@ module _ {R : Type 0} {t : Table ℕ R} {number_of : R → ℕ} (is : IsNumberTa
   -- a row is put
   pub puts_row : (row : R) → {S T : Type 0} (g : Ghosts S) (old new : Transaction S) (result : Result T Fault) → Runs (put_text t.shape) (t.cells row) g old new result → PutsRow t (number_of row) row g old new result
   puts_row row g old new result runs =
-      let n = number_of row in
-      puts_of _ _ _
-      (λ a b done. subst (λ k. Steps schema a b (λ maps. put_at maps t.place k (t.cells row))) (sym (is.keyed n))
-      (put_steps schema apart t.place t.shape fixed (t.cells row) (put_terms t.shape) (put_shows t.shape) (length t.shape.columns + 1) (length t.shape.columns) (number_key n) (t.cells row) (is.fills row) (put_text t.shape)
-      is.texts.put.command_is is.texts.put.bare a b done.0 done.1))
-      (λ a b any st. subst (Draws a b) (λ i P. sym (is.set_is P n (Some row)) i)
-      (drawn a b (λ maps. put_at maps t.place (number_key n) (t.cells row)) (λ w. put_map w (number_key n) (t.cells row)) (λ P. put_in (t.rows P) n (Some row))
-      (λ maps p i j. changed_at maps t.place (put_map (maps t.place) (number_key n) (t.cells row)) i j p)
-      (λ maps P encodes. put_encoded Any number_key t.cells (maps t.place) (t.rows P) n tt row (put_in (t.rows P) n (Some row)) (λ k. n == k) (λ k _. number_same n k) (set_one (t.rows P) n (Some row)) (is.rows_are maps P encodes))
-      (subst (λ k. Steps schema a b (λ maps. put_at maps t.place k (t.cells row))) (is.keyed n) st)))
+      let at = number_of row in
+      puts_of _ _ _ _
+      (λ n has a b done. subst (λ k. Steps (schema_at n) a b (λ maps. put_at maps t.place k (t.cells row))) (sym (is.keyed at))
+      (put_steps (schema_at n) (apart n) t.place t.shape (fixed n has) (t.cells row) (put_terms t.shape) (put_shows t.shape) (length t.shape.columns + 1) (length t.shape.columns) (number_key at) (t.cells row) (is.fills row) (put_text t.shape)
+      (is.texts n has).put.command_is (is.texts n has).put.bare a b done.0 done.1))
+      (λ n has a b any st. subst (Draws n a b) (λ i P. sym (is.set_is P at (Some row)) i)
+      (drawn n a b (λ maps. put_at maps t.place (number_key at) (t.cells row)) (λ w. put_map w (number_key at) (t.cells row)) (λ P. put_in (t.rows P) at (Some row))
+      (λ maps p i j. changed_at maps t.place (put_map (maps t.place) (number_key at) (t.cells row)) i j p)
+      (λ maps P encodes. put_encoded Any number_key t.cells (maps t.place) (t.rows P) at tt row (put_in (t.rows P) at (Some row)) (λ k. at == k) (λ k _. number_same at k) (set_one (t.rows P) at (Some row)) (is.rows_are maps P encodes))
+      (subst (λ k. Steps (schema_at n) a b (λ maps. put_at maps t.place k (t.cells row))) (is.keyed at) st)))
       runs
 
   -- a row is taken
-  pub takes_row : (n : ℕ) → {S T : Type 0} (g : Ghosts S) (old new : Transaction S) (result : Result T Fault) → Runs (take_text t.shape) (number_key n) g old new result → TakesRow t n g old new result
-  takes_row n g old new result runs =
-      puts_of _ _ _
-      (λ a b done. subst (λ k. Steps schema a b (λ maps. take_at maps t.place k)) (sym (is.keyed n))
-      (take_steps schema t.place t.shape fixed by_key (number_key n) (number_key n) (finds_one t.shape (Int (pos n)) is.texts.primary refl) apart (take_text t.shape) is.texts.take.command_is is.texts.take.bare a b done.0 done.1))
-      (λ a b any st. subst (Draws a b) (λ i P. sym (is.set_is P n None) i)
-      (drawn a b (λ maps. take_at maps t.place (number_key n)) (λ w. take_out w (number_key n)) (λ P. put_in (t.rows P) n None)
-      (λ maps p i j. changed_at maps t.place (take_out (maps t.place) (number_key n)) i j p)
-      (λ maps P encodes. take_encoded Any number_key t.cells (maps t.place) (t.rows P) n tt (put_in (t.rows P) n None) (λ k. n == k) (λ k _. number_same n k) (set_one (t.rows P) n None) (is.rows_are maps P encodes))
-      (subst (λ k. Steps schema a b (λ maps. take_at maps t.place k)) (is.keyed n) st)))
+  pub takes_row : (at : ℕ) → {S T : Type 0} (g : Ghosts S) (old new : Transaction S) (result : Result T Fault) → Runs (take_text t.shape) (number_key at) g old new result → TakesRow t at g old new result
+  takes_row at g old new result runs =
+      puts_of _ _ _ _
+      (λ n has a b done. subst (λ k. Steps (schema_at n) a b (λ maps. take_at maps t.place k)) (sym (is.keyed at))
+      (take_steps (schema_at n) t.place t.shape (fixed n has) by_key (number_key at) (number_key at) (finds_one t.shape (Int (pos at)) texts.primary refl) (apart n) (take_text t.shape) (is.texts n has).take.command_is (is.texts n has).take.bare a b done.0 done.1))
+      (λ n has a b any st. subst (Draws n a b) (λ i P. sym (is.set_is P at None) i)
+      (drawn n a b (λ maps. take_at maps t.place (number_key at)) (λ w. take_out w (number_key at)) (λ P. put_in (t.rows P) at None)
+      (λ maps p i j. changed_at maps t.place (take_out (maps t.place) (number_key at)) i j p)
+      (λ maps P encodes. take_encoded Any number_key t.cells (maps t.place) (t.rows P) at tt (put_in (t.rows P) at None) (λ k. at == k) (λ k _. number_same at k) (set_one (t.rows P) at None) (is.rows_are maps P encodes))
+      (subst (λ k. Steps (schema_at n) a b (λ maps. take_at maps t.place k)) (is.keyed at) st)))
       runs

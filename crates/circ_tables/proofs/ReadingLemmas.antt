@@ -24,9 +24,9 @@ use Rattle.terms.specs.Pictures.{Picture}
 use Rattle.terms.specs.declared.fault.Fault.{Fault}
 use Rattle.terms.specs.declared.fault.Fault.TheVariants.{Stored}
 use Rattle.circ_tables.specs.Encoding.{Encodes, HasPicture, AreEncoded}
-use Rattle.circ_tables.specs.Reading.{Table, Reading, Asks, Looks, FirstEntry, OfMaps, IsStoredIn, Gets, Selects, Entries, AllEntries, EntriesInside, Lists, ListsInside, Counts, CountShown}
+use Rattle.circ_tables.specs.Reading.{Table, Reading, Asks, Looks, FirstEntry, OfMaps, OfMapsAt, IsStoredIn, IsStoredAt, Gets, Selects, Entries, AllEntries, EntriesInside, Lists, ListsInside, Counts, CountShown}
 use Rattle.circ_tables.specs.Cells.{number}
-use Rattle.circ_tables.specs.Shape.{schema}
+use Rattle.circ_tables.specs.Shape.{schema, schema_at, HasTable}
 use Rattle.circ_tables.proofs.ColumnLemmas.{same_row}
 use Rattle.circ_tables.proofs.InverseLemmas.{row_told, row_sound}
 
@@ -224,14 +224,14 @@ selects_fails {R = R} {g = g} {a = a} {b = b} (Err e) fault is seen = record {
 }
 
 -- the rows that a list takes
-module _ {S K R L : Type 0} (t : Table K R) (items : L → List R) (text : List ℕ) (given : Row) (Found : Map → List Row → Type 0)
-    (found : (old new : State) (rows : List Row) → Shown text given old new rows → (maps : Maps) → Holds schema old.now maps → Found (maps t.place) rows × IsUnchanged old new)
+module _ {S K R L : Type 0} (s : Schema) (t : Table K R) (items : L → List R) (text : List ℕ) (given : Row) (Found : Map → List Row → Type 0)
+    (found : (old new : State) (rows : List Row) → Shown text given old new rows → (maps : Maps) → Holds s old.now maps → Found (maps t.place) rows × IsUnchanged old new)
     (has : (m : Map) (rows : List Row) → Found m rows → (v : Row) → Has rows v → (k : Row) × (m k ≡ Some v))
     (g : Ghosts S) (old new : Held S) (result : Result L Fault) (is : Entries items t.cells t.IsLegal text given g old new result) where
-  listed_in : OfMaps (λ maps l. Found (maps t.place) (map t.cells (items l))) g old new result
+  listed_in : OfMapsAt s (λ maps l. Found (maps t.place) (map t.cells (items l))) g old new result
   listed_in clean = if_ok result (λ l shown maps holds. found (state g old) (state g new) (map t.cells (items l)) shown maps holds) (is.shown clean)
 
-  outside_of : IsStoredIn (λ maps. ¬ AreEncoded t.cells t.IsLegal (maps t.place)) g old new result
+  outside_of : IsStoredAt s (λ maps. ¬ AreEncoded t.cells t.IsLegal (maps t.place)) g old new result
   outside_of clean err maps holds all =
       let bad = is.stored clean err in
       bad.2 (λ v there. let at = has (maps t.place) bad.0 (found (state g old) (state g new) bad.0 bad.1 maps holds).0 v there in all at.0 v at.1)
@@ -244,8 +244,8 @@ module _ {S K R L : Type 0} (t : Table K R) (items : L → List R) (text : List 
   pub lists_of : Lists t items Found g old new result
   lists_of =
       let looked = looks_of text given g old new plain is.asks in
-      let listed = listed_in t items text given Found found has g old new result is.entries in
-      let outside = outside_of t items text given Found found has g old new result is.entries in
+      let listed = listed_in schema t items text given Found found has g old new result is.entries in
+      let outside = outside_of schema t items text given Found found has g old new result is.entries in
       record {
         looks = looked;
         lists = listed;
@@ -257,15 +257,15 @@ module _ {S K R L : Type 0} (t : Table K R) (items : L → List R) (text : List 
 
 -- inside a transaction
 module _ {S K R L : Type 0} (t : Table K R) (items : L → List R) (text : List ℕ) (given : Row) (Found : Map → List Row → Type 0)
-    (found : (old new : State) (rows : List Row) → Shown text given old new rows → (maps : Maps) → Holds schema old.now maps → Found (maps t.place) rows × IsUnchanged old new)
+    (found : (n : ℕ) → HasTable t.since n → (old new : State) (rows : List Row) → Shown text given old new rows → (maps : Maps) → Holds (schema_at n) old.now maps → Found (maps t.place) rows × IsUnchanged old new)
     (has : (m : Map) (rows : List Row) → Found m rows → (v : Row) → Has rows v → (k : Row) × (m k ≡ Some v))
     (g : Ghosts S) (old new : Transaction S) (result : Result L Fault) (is : EntriesInside items t.cells t.IsLegal text given g old new result) where
   pub lists_inside : ListsInside t items Found g old new result
   lists_inside = record {
     works = is.works;
-    lists = listed_in t items text given Found found has g old.conn.now new.conn.now result is.entries;
+    lists = λ n there. listed_in (schema_at n) t items text given Found (found n there) has g old.conn.now new.conn.now result is.entries;
     limits = is.entries.limits;
-    stored = outside_of t items text given Found found has g old.conn.now new.conn.now result is.entries;
+    stored = λ n there. outside_of (schema_at n) t items text given Found (found n there) has g old.conn.now new.conn.now result is.entries;
   }
 
 -- how many rows a text counts

@@ -18,17 +18,19 @@ use Rattle.terms.specs.Pictures.{Picture}
 use Rattle.terms.specs.declared.command.Owner.{Owner}
 use Rattle.terms.specs.declared.fault.Fault.{Fault}
 use Rattle.terms.specs.declared.fault.Fault.TheVariants.{Stored}
+use Rattle.terms.specs.declared.limits.TheConstants.{SCHEMA}
 use Rattle.terms.specs.declared.row.MetaRow.{MetaRow}
 use Rattle.terms.specs.declared.row.KeptRow.{KeptRow}
 use Rattle.terms.specs.declared.row.ClosedDayRow.{ClosedDayRow}
 use Rattle.circ_tables.specs.declared.kept.KeptReply.{KeptReply}
 use Rattle.circ_tables.specs.declared.meta.TheConstants.{ALL_META}
 use Rattle.circ_tables.specs.Cells.{number_key, pair_key, kept_key, kept_cells, meta_cells}
+use Rattle.circ_tables.specs.Numbered.{grown, schema_grown}
 use Rattle.circ_tables.specs.Encoding.{HasPicture, HasTexts, IsClosedDay, reply_of}
-use Rattle.circ_tables.specs.Reading.{Asks, OfMaps, OfPicture, IsStoredIn, IsLone, WorksInside, GetsMeta, GetsMetaInside, GetsDay, GetsKept, kept_with, Lists, ListsDays, AreSuch}
+use Rattle.circ_tables.specs.Reading.{Asks, OfMaps, OfMapsAt, OfPicture, OfPictureAt, IsStoredAt, IsSoundAt, IsLone, WorksInside, GetsMeta, GetsMetaInside, GetsDay, GetsKept, kept_with, Lists, ListsDays, AreSuch}
 use Rattle.circ_tables.specs.ClosedDays.{closed_days}
 use Rattle.circ_tables.specs.Selections.{is_closed_at, AreClosedDays}
-use Rattle.circ_tables.specs.Shape.{schema, later_tables, later_indexes, meta_place, closed_days_place, kept_place}
+use Rattle.circ_tables.specs.Shape.{schema, schema_at, later_tables, later_indexes, meta_place, closed_days_place, kept_place}
 use Rattle.circ_tables.proofs.FoundLemmas.{all_meta_plain, lone_meta, only_meta}
 use Rattle.circ_tables.proofs.DayLemmas.{day_of, days_are, days_shown}
 use Rattle.circ_tables.proofs.InverseLemmas.{meta_row_told, meta_alone, day_told, reply_told, row_sound}
@@ -51,49 +53,54 @@ meta_read g old new result rows slice same shown cells limits stored = record {
 }
 
 module _ {S : Type 0} (g : Ghosts S) (old new : Held S) (result : Result MetaRow Fault) (is : MetaRead g old new result) where
-  meta_alone_in : HasCleanDisk (state g new)
-      → IfOk result (λ r. (maps : Maps) → Holds schema (state g old).now maps → ((maps meta_place (number_key 1) ≡ Some (meta_cells r)) × IsUnchanged (state g old) (state g new)) × IsLone (maps meta_place) r)
-  meta_alone_in clean = if_ok result (λ r shown. lone_meta later_tables later_indexes (state g old) (state g new) (meta_cells r ∷ []) (meta_cells r) refl shown) (is.shown clean)
+  -- in the schema of a number
+  module _ (n : ℕ) where
+    as_grown : (maps : Maps) → Holds (schema_at n) (state g old).now maps → Holds (grown (later_tables n) (later_indexes n)) (state g old).now maps
+    as_grown maps = subst (λ s. Holds s (state g old).now maps) (schema_grown n)
 
-  meta_gets : OfMaps (λ maps row. maps meta_place (number_key 1) ≡ Some (meta_cells row)) g old new result
-  meta_gets clean = if_ok result (λ r all maps holds. (all maps holds).0) (meta_alone_in clean)
+    meta_alone_in : HasCleanDisk (state g new)
+        → IfOk result (λ r. (maps : Maps) → Holds (schema_at n) (state g old).now maps → ((maps meta_place (number_key 1) ≡ Some (meta_cells r)) × IsUnchanged (state g old) (state g new)) × IsLone (maps meta_place) r)
+    meta_alone_in clean = if_ok result (λ r shown maps holds. lone_meta (later_tables n) (later_indexes n) (state g old) (state g new) (meta_cells r ∷ []) (meta_cells r) refl shown maps (as_grown maps holds)) (is.shown clean)
 
-  meta_stored : IsStoredIn (λ maps. (r : MetaRow) → IsMeta r → maps meta_place (number_key 1) ≡ Some (meta_cells r) → ¬ IsLone (maps meta_place) r) g old new result
-  meta_stored clean err maps holds r legal there alone =
-      let bad = is.stored clean err in
-      bad.2 r legal (only_meta later_tables later_indexes (state g old) (state g new) bad.0 bad.1 maps holds (number_key 1) (meta_cells r) there alone)
+    meta_gets : OfMapsAt (schema_at n) (λ maps row. maps meta_place (number_key 1) ≡ Some (meta_cells row)) g old new result
+    meta_gets clean = if_ok result (λ r all maps holds. (all maps holds).0) (meta_alone_in clean)
 
-  meta_shown : OfPicture (λ P row. row ≡ P.meta) g old new result
-  meta_shown clean = if_ok result (λ r each P shown. meta_row_told P r _ (each shown.maps shown.holds) (shown.encodes.meta.there 1 tt)) (meta_gets clean)
+    meta_stored : IsStoredAt (schema_at n) (λ maps. (r : MetaRow) → IsMeta r → maps meta_place (number_key 1) ≡ Some (meta_cells r) → ¬ IsLone (maps meta_place) r) g old new result
+    meta_stored clean err maps holds r legal there alone =
+        let bad = is.stored clean err in
+        bad.2 r legal (only_meta (later_tables n) (later_indexes n) (state g old) (state g new) bad.0 bad.1 maps (as_grown maps holds) (number_key 1) (meta_cells r) there alone)
 
-  meta_sound : HasCleanDisk (state g new) → (P : Picture) → HasPicture (state g old).now P → IsMeta P.meta → result ≢ Err Stored
-  meta_sound clean P shown legal err = meta_stored clean err shown.maps shown.holds P.meta legal (shown.encodes.meta.there 1 tt) (meta_alone shown.maps P shown.encodes)
+    meta_shown : OfPictureAt n (λ P row. row ≡ P.meta) g old new result
+    meta_shown clean = if_ok result (λ r each P shown. meta_row_told P r _ (each shown.maps shown.holds) (shown.encodes.meta.there 1 tt)) (meta_gets clean)
+
+    meta_sound : IsSoundAt n (λ P. IsMeta P.meta) g old new result
+    meta_sound clean P shown legal err = meta_stored clean err shown.maps shown.holds P.meta legal (shown.encodes.meta.there 1 tt) (meta_alone shown.maps P shown.encodes)
 
   pub meta_of : Asks ALL_META.now [] g old new → GetsMeta g old new result
   meta_of asks =
-      let looked = looks_of ALL_META.now [] g old new (all_meta_plain later_tables later_indexes) asks in
+      let looked = looks_of ALL_META.now [] g old new (all_meta_plain (later_tables SCHEMA) (later_indexes SCHEMA)) asks in
       record {
         looks = looked;
-        gets = meta_gets;
-        alone = λ clean. if_ok result (λ r all maps holds. (all maps holds).1) (meta_alone_in clean);
+        gets = meta_gets SCHEMA;
+        alone = λ clean. if_ok result (λ r all maps holds. (all maps holds).1) (meta_alone_in SCHEMA clean);
         limits = is.limits;
-        stored = meta_stored;
-        shows = meta_shown;
-        sound = meta_sound;
+        stored = meta_stored SCHEMA;
+        shows = meta_shown SCHEMA;
+        sound = meta_sound SCHEMA;
         view = record {
-          read = read_of result g old new looked (λ clean. if_ok result (λ row got maps holds. (got maps holds).1) (meta_gets clean)) (λ clean P shown legal. meta_sound clean P shown legal.meta);
-          shown = λ clean. if_ok result (λ row got P shown legal. (got P shown).0) (meta_shown clean);
+          read = read_of result g old new looked (λ clean. if_ok result (λ row got maps holds. (got maps holds).1) (meta_gets SCHEMA clean)) (λ clean P shown legal. meta_sound SCHEMA clean P shown legal.meta);
+          shown = λ clean. if_ok result (λ row got P shown legal. (got P shown).0) (meta_shown SCHEMA clean);
         };
       }
 
 pub meta_inside : {S : Type 0} (g : Ghosts S) (old new : Transaction S) (result : Result MetaRow Fault) → WorksInside g old new → MetaRead g old.conn.now new.conn.now result → GetsMetaInside g old new result
 meta_inside g old new result works is = record {
   works = works;
-  gets = meta_gets g old.conn.now new.conn.now result is;
+  gets = λ n has. meta_gets g old.conn.now new.conn.now result is n;
   limits = is.limits;
-  stored = meta_stored g old.conn.now new.conn.now result is;
-  shows = meta_shown g old.conn.now new.conn.now result is;
-  sound = meta_sound g old.conn.now new.conn.now result is;
+  stored = λ n has. meta_stored g old.conn.now new.conn.now result is n;
+  shows = λ n has. meta_shown g old.conn.now new.conn.now result is n;
+  sound = λ n has. meta_sound g old.conn.now new.conn.now result is n;
 }
 
 -- whether a branch is closed singly on a day

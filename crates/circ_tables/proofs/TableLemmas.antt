@@ -12,6 +12,7 @@ use Rattle.circ_tables.specs.Encoding.{Encodes, AreEncoded, HasTexts}
 use Rattle.circ_tables.specs.Reading.{Table}
 use Rattle.circ_tables.specs.ClosedDays.{closed_days}
 use Rattle.circ_tables.specs.Rules.{rules}
+use Rattle.circ_tables.specs.Rules1.{rules1}
 use Rattle.circ_tables.specs.Kept.{kept}
 use Rattle.circ_tables.proofs.ShownLemmas.{days_encoded}
 
@@ -31,6 +32,11 @@ pub rules_within : IsWithin rules
 rules_within maps P is legal k v e =
     let key = is.rules.only k v e in
     within rules.cells rules.IsLegal (P.rules key.0.0 key.0.1) (λ r there. (legal.rules key.0.0 key.0.1 r there).2) v (sym e ∙ ap (maps rules.place) key.2 ∙ is.rules.there key.0 key.1)
+
+pub rules1_within : IsWithin rules1
+rules1_within maps P is legal k v e =
+    let key = is.rules1.only k v e in
+    within rules1.cells rules1.IsLegal (P.rules1 key.0.0 key.0.1) (λ r there. (legal.rules1 key.0.0 key.0.1 r there).2) v (sym e ∙ ap (maps rules1.place) key.2 ∙ is.rules1.there key.0 key.1)
 
 -- what is kept within the limits is text
 pub texts_of : (r : KeptRow) → IsKeptRow r → HasTexts r

@@ -7,8 +7,8 @@ use circ_tables::Numbered;
 use sqlite::{Alter, Connection, Transaction};
 use std::alloc::Global;
 use terms::{
-    BranchId, CopyId, Fault, HoldId, HoldRow1, KeptRow, Key, LineId, LineRow, LoanId, Owner,
-    PatronId, TitleId, TransitRow,
+    BranchId, CopyId, CopyKind, Fault, HoldId, HoldRow1, KeptRow, Key, LineId, LineRow, LoanId,
+    LoanRow1, Owner, PatronId, PatronKind, TitleId, TransitRow,
 };
 
 pub fn make_tables<S: Alter>(tx: &mut Transaction<'_, S>) -> Result<(), Fault> {
@@ -19,7 +19,7 @@ pub fn put_transit<S: Alter>(tx: &mut Transaction<'_, S>, row: &TransitRow) -> R
     tables::put_row(tx, row)
 }
 
-/// The numbers of a page of the holds of schema 1, inside a transaction.
+/// The numbers of a page of the old holds, inside a transaction.
 pub fn next_old_holds<S: Alter>(
     tx: &mut Transaction<'_, S>,
     alloc: Global,
@@ -34,6 +34,55 @@ pub fn next_old_holds<S: Alter>(
 
 pub fn take_old_hold<S: Alter>(tx: &mut Transaction<'_, S>, hold: u32) -> Result<(), Fault> {
     tables::take_row::<HoldRow1, S>(tx, HoldId::new(hold))
+}
+
+/// The numbers of a page of the old loans, inside a transaction.
+pub fn next_old_loans<S: Alter>(
+    tx: &mut Transaction<'_, S>,
+    alloc: Global,
+    after: Option<u32>,
+) -> Result<Vec<u32>, Fault> {
+    let mut numbers = Vec::new(alloc);
+    for row in &tables::next_rows_inside::<LoanRow1, S>(tx, alloc, (), after)? {
+        numbers.push(row.loan.number())?;
+    }
+    Ok(numbers)
+}
+
+pub fn take_old_loan<S: Alter>(tx: &mut Transaction<'_, S>, loan: u32) -> Result<(), Fault> {
+    tables::take_row::<LoanRow1, S>(tx, LoanId::new(loan))
+}
+
+/// The periods of the old rules, inside a transaction.
+pub fn old_rules<S: Alter>(
+    tx: &mut Transaction<'_, S>,
+    alloc: Global,
+) -> Result<Vec<u32>, Fault> {
+    let mut periods = Vec::new(alloc);
+    for row in &tables::rules_inside(tx, alloc)? {
+        periods.push(row.period.number())?;
+    }
+    Ok(periods)
+}
+
+pub fn take_old_rule<S: Alter>(
+    tx: &mut Transaction<'_, S>,
+    kind: u32,
+    copy_kind: u32,
+) -> Result<(), Fault> {
+    tables::take_old_rule(tx, PatronKind::new(kind), CopyKind::new(copy_kind))
+}
+
+/// The grace days of a rule.
+pub fn grace_of<S: Alter>(
+    conn: &mut Connection<S>,
+    kind: u32,
+    copy_kind: u32,
+) -> Result<Option<u32>, Fault> {
+    match tables::get_rule(conn, PatronKind::new(kind), CopyKind::new(copy_kind))? {
+        Some(row) => Ok(Some(row.grace.number())),
+        None => Ok(None),
+    }
 }
 
 pub fn get_line<S: Alter>(conn: &mut Connection<S>, line: u32) -> Result<Option<u32>, Fault> {

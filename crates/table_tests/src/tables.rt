@@ -9,8 +9,8 @@ use std::alloc::Global;
 use std::process::Abort;
 use std::test::Fail;
 use terms::{
-    BranchId, CopyId, CopyRow, Fault, HoldId, HoldRow, HoldRow1, LineRow, LoanRow, Owner, PatronId,
-    PatronRow, TitleRow, TransitRow,
+    BranchId, CopyId, CopyRow, Fault, HoldId, HoldRow, HoldRow1, LineRow, LoanRow, LoanRow1, Owner,
+    PatronId, PatronRow, TitleRow, TransitRow,
 };
 
 /// Rows of the tables that are asked, the greatest key first. Of the loans of copy 10 one is over, and two are open; of title 100's line
@@ -18,7 +18,10 @@ use terms::{
 const ROWS: &str = "\
 INSERT INTO closed_days VALUES (3, 20795), (2, 20800), (1, 20810), (1, 20801), (1, 20795);\
 INSERT INTO copies VALUES (15, 100, 4, 1, 2500, 0), (14, 101, 4, 1, 2500, 0), (13, 102, 4, 1, 2500, 0), (12, 101, 4, 1, 2500, 0), (11, 100, 4, 1, 2500, 0), (10, 100, 4, 1, 2500, 2);\
-INSERT INTO loans VALUES (9, 11, 1, 1, 20700, 20708, 21, 3, 20, 1000, NULL), (8, 13, 2, 1, 20700, 20709, 21, 3, 20, 1000, 20704), (7, 13, 2, 2, 20700, 20712, 21, 3, 20, 1000, NULL), (6, 12, 1, 1, 20700, 20711, 21, 3, 20, 1000, NULL), (5, 12, 2, 2, 20700, 20711, 21, 3, 20, 1000, 20711), (4, 11, 1, 1, 20700, 20710, 21, 3, 20, 1000, NULL), (3, 10, 1, 2, 20700, 20706, 21, 3, 20, 1000, NULL), (2, 10, 2, 1, 20700, 20705, 21, 3, 20, 1000, NULL), (1, 10, 1, 1, 20700, 20705, 21, 3, 20, 1000, 20706);\
+INSERT INTO loans3 VALUES (9, 11, 1, 1, 20700, 20708, 21, 3, 20, 1000, NULL, 0), (8, 13, 2, 1, 20700, 20709, 21, 3, 20, 1000, 20704, 0), (7, 13, 2, 2, 20700, 20712, 21, 3, 20, 1000, NULL, 0), (6, 12, 1, 1, 20700, 20711, 21, 3, 20, 1000, NULL, 0), (5, 12, 2, 2, 20700, 20711, 21, 3, 20, 1000, 20711, 0), (4, 11, 1, 1, 20700, 20710, 21, 3, 20, 1000, NULL, 0), (3, 10, 1, 2, 20700, 20706, 21, 3, 20, 1000, NULL, 0), (2, 10, 2, 1, 20700, 20705, 21, 3, 20, 1000, NULL, 0), (1, 10, 1, 1, 20700, 20705, 21, 3, 20, 1000, 20706, 0);\
+INSERT INTO loans VALUES (3, 12, 2, 1, 20700, 20708, 21, 3, 20, 1000, NULL), (2, 11, 1, 1, 20690, 20700, 21, 3, 20, 1000, 20699), (1, 10, 1, 2, 20700, 20708, 21, 3, 20, 1000, NULL);\
+INSERT INTO rules3 VALUES (1, 1, 21, 3, 20, 1000, 2);\
+INSERT INTO rules VALUES (2, 1, 14, 2, 20, 1000), (1, 2, 7, 0, 50, 2000), (1, 1, 21, 3, 20, 1000);\
 INSERT INTO holds2 VALUES (11, 3, 102, 2, 1, 13, 20760, NULL), (10, 2, 100, 2, 0, NULL, NULL, 20790), (9, 1, 102, 2, 0, NULL, NULL, NULL), (8, 1, 102, 1, 2, NULL, NULL, NULL), (7, 2, 101, 1, 0, NULL, NULL, NULL), (6, 2, 101, 1, 3, NULL, NULL, NULL), (5, 1, 101, 2, 1, 14, 20760, NULL), (4, 1, 100, 2, 0, NULL, NULL, 20790), (3, 2, 100, 2, 0, NULL, NULL, NULL), (2, 2, 100, 1, 1, 15, 20760, NULL), (1, 1, 100, 1, 4, NULL, NULL, NULL);\
 INSERT INTO holds VALUES (3, 2, 101, 1, 0, NULL, NULL), (2, 1, 102, 1, 1, 13, 20760), (1, 1, 100, 1, 4, NULL, NULL);\
 INSERT INTO transits VALUES (19, 1, NULL), (18, 2, 9), (17, 1, NULL), (16, 2, 3);\
@@ -125,8 +128,10 @@ fn finds_pages<S: Alter>(
     lists(rt, loans, &[8, 9]);
     let holds = next_rows::<HoldRow, S>(conn, alloc, (), Some(9))?;
     lists(rt, holds, &[10, 11]);
-    let old = next_rows::<HoldRow1, S>(conn, alloc, (), Some(1))?;
-    lists(rt, old, &[2, 3]);
+    let old_loans = next_rows::<LoanRow1, S>(conn, alloc, (), Some(1))?;
+    lists(rt, old_loans, &[2, 3]);
+    let old_holds = next_rows::<HoldRow1, S>(conn, alloc, (), Some(1))?;
+    lists(rt, old_holds, &[2, 3]);
     let transits = next_rows::<TransitRow, S>(conn, alloc, (), Some(17))?;
     lists(rt, transits, &[18, 19]);
     let lines = next_rows::<LineRow, S>(conn, alloc, (), Some(4))?;
@@ -169,9 +174,9 @@ fn refuses_a_second<S: Alter>(conn: &mut Connection<S>) -> Result<bool, Fault> {
     Ok(is_refused)
 }
 
-/// The holds of schema 1 are read inside a transaction, and one after another taken out; the others
-/// stay.
-fn empties_the_old_table<S: Alter>(
+/// The rows of the old tables are read inside a transaction, and one after another taken out; those
+/// of the new ones stay.
+fn empties_the_old_tables<S: Alter>(
     rt: &impl Abort,
     conn: &mut Connection<S>,
     alloc: Global,
@@ -190,6 +195,49 @@ fn empties_the_old_table<S: Alter>(
     lists(rt, fewer, &[1, 3]);
     lists(rt, none, &[]);
     assert!(rt; count_active_holds(conn, 1)? == 3);
+    empties_the_old_loans(rt, conn, alloc)?;
+    empties_the_old_rules(rt, conn, alloc)
+}
+
+fn empties_the_old_loans<S: Alter>(
+    rt: &impl Abort,
+    conn: &mut Connection<S>,
+    alloc: Global,
+) -> Result<(), Fail> {
+    let mut tx = begin(conn)?;
+    let all = next_old_loans(&mut tx, alloc, None)?;
+    take_old_loan(&mut tx, 2)?;
+    let fewer = next_old_loans(&mut tx, alloc, None)?;
+    take_old_loan(&mut tx, 1)?;
+    take_old_loan(&mut tx, 3)?;
+    let none = next_old_loans(&mut tx, alloc, None)?;
+    tx.commit().map_err(database)?;
+    lists(rt, all, &[1, 2, 3]);
+    lists(rt, fewer, &[1, 3]);
+    lists(rt, none, &[]);
+    assert!(rt; count_open_loans(conn, 1)? == 4);
+    Ok(())
+}
+
+/// The old rules by their periods.
+fn empties_the_old_rules<S: Alter>(
+    rt: &impl Abort,
+    conn: &mut Connection<S>,
+    alloc: Global,
+) -> Result<(), Fail> {
+    let mut tx = begin(conn)?;
+    let all = old_rules(&mut tx, alloc)?;
+    take_old_rule(&mut tx, 1, 2)?;
+    let fewer = old_rules(&mut tx, alloc)?;
+    take_old_rule(&mut tx, 1, 1)?;
+    take_old_rule(&mut tx, 2, 1)?;
+    let none = old_rules(&mut tx, alloc)?;
+    tx.commit().map_err(database)?;
+    lists(rt, all, &[21, 7, 14]);
+    lists(rt, fewer, &[21, 14]);
+    lists(rt, none, &[]);
+    assert!(rt; grace_of(conn, 1, 1)? == Some(2));
+    assert!(rt; grace_of(conn, 2, 1)? == None);
     Ok(())
 }
 
@@ -236,9 +284,10 @@ fn finds_the_first<S: Alter>(rt: &impl Abort, conn: &mut Connection<S>) -> Resul
     Ok(())
 }
 
-/// Days past their limits: of a loan, of a ready hold, and a closed day.
-const DAMAGE: &str = "UPDATE loans SET due = 84006 WHERE loan = 2;\
-UPDATE holds2 SET limit_day = 84006 WHERE hold = 5;UPDATE closed_days SET day = 10956 WHERE branch = 2";
+/// Days past their limits: of a loan, of a ready hold, a closed day, and the grace days of a rule.
+const DAMAGE: &str = "UPDATE loans3 SET due = 84006 WHERE loan = 2;\
+UPDATE holds2 SET limit_day = 84006 WHERE hold = 5;UPDATE closed_days SET day = 10956 WHERE branch = 2;\
+UPDATE rules3 SET grace = 366 WHERE kind = 1";
 
 fn tells_damage<S: Alter>(
     rt: &impl Abort,
@@ -250,6 +299,7 @@ fn tells_damage<S: Alter>(
     assert!(rt; ready_hold_of(conn, 14) == Err(Fault::Stored));
     assert!(rt; open_loans_by(conn, alloc, 2).err() == Some(Fault::Stored));
     assert!(rt; closed_days_of(conn, alloc, 2).err() == Some(Fault::Stored));
+    assert!(rt; grace_of(conn, 1, 1) == Err(Fault::Stored));
     assert!(rt; count_open_loans(conn, 2)? == 2);
     Ok(())
 }
@@ -261,7 +311,7 @@ fn looks<S: Alter>(rt: &impl Abort, conn: &mut Connection<S>, alloc: Global) -> 
     finds_days(rt, conn, alloc)?;
     finds_pages(rt, conn, alloc)?;
     finds_kept(rt, conn, alloc)?;
-    empties_the_old_table(rt, conn, alloc)?;
+    empties_the_old_tables(rt, conn, alloc)?;
     assert!(rt; refuses_a_second(conn)?);
     assert!(rt; transit_for(conn, 9)? == Some(18));
     finds_the_first(rt, conn)?;
