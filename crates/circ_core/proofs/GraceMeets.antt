@@ -1,6 +1,6 @@
 -- Grace meets the history.
 use Rattle.std.proofs.Common.{◌≡◌, ℕ, ◌==◌, ◌&&◌, Bool, true, false, cond, refl, sym, ◌∙◌, ap}
-use Rattle.std.specs.Prelude.{Option, Some, None, option_map, is_none}
+use Rattle.std.specs.Prelude.{Option, Some, option_map, is_none}
 use Rattle.std.proofs.lemmas.Bool.{eqb-true, and_parts}
 use Rattle.terms.specs.declared.row.RuleRow.{RuleRow}
 use Rattle.terms.specs.declared.command.Owner.TheVariants.{Desk}

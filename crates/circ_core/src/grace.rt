@@ -34,8 +34,9 @@ pub(crate) fn set_grace<'a>(
     ensures { Decided (grace_checks rule.now kind copy_kind days) Done
         (grace_rows rule.now days) result }
 {
-    let fits =
-        is_small(kind.number()) && is_small(copy_kind.number()) && days.number() <= MOST_GRACE;
+    let fits = is_small(kind.number())
+        && is_small(copy_kind.number())
+        && days.number() <= MOST_GRACE;
     if let Some(refusal) = first_refusal(&[
         (Refusal::OutOfLimits, !fits),
         (Refusal::NoRule, rule.is_none()),
