@@ -35,10 +35,12 @@ module _ (H : History) (inv : Invariant H) (b pickup : ℕ) (name : List ℕ) wh
     closed_days = λ _ _. refl;
     kinds = λ _. refl;
     rules = λ _ _. refl;
+    rules1 = λ _ _. refl;
     patrons = λ _. refl;
     titles = λ _. refl;
     copies = λ _. refl;
     loans = λ _. refl;
+    loans1 = λ _. refl;
     holds = λ _. refl;
     holds1 = λ _. refl;
     transits = λ _. refl;
@@ -51,10 +53,12 @@ module _ (H : History) (inv : Invariant H) (b pickup : ℕ) (name : List ℕ) wh
     closed_days = λ _ _. refl;
     kinds = λ _. refl;
     rules = λ _ _. refl;
+    rules1 = λ _ _. refl;
     patrons = λ _. refl;
     titles = λ _. refl;
     copies = λ _. refl;
     loans = λ _. refl;
+    loans1 = λ _. refl;
     holds = λ _. refl;
     holds1 = λ _. refl;
     transits = λ _. refl;

@@ -160,10 +160,12 @@ module _ (H : History) (inv : Invariant H) (h : ℕ) where
     closed_days = λ _ _. refl;
     kinds = λ _. refl;
     rules = λ _ _. refl;
+    rules1 = λ _ _. refl;
     patrons = λ _. refl;
     titles = λ _. refl;
     copies = copies_same;
     loans = λ _. refl;
+    loans1 = λ _. refl;
     holds = one_cancelled f e;
     holds1 = λ _. refl;
     transits = one_goes_on t w;
@@ -175,10 +177,12 @@ module _ (H : History) (inv : Invariant H) (h : ℕ) where
     closed_days = λ _ _. refl;
     kinds = λ _. refl;
     rules = λ _ _. refl;
+    rules1 = λ _ _. refl;
     patrons = λ _. refl;
     titles = λ _. refl;
     copies = copies_same;
     loans = λ _. refl;
+    loans1 = λ _. refl;
     holds = one_cancelled f e;
     holds1 = λ _. refl;
     transits = transits_stay w;

@@ -97,9 +97,11 @@ pub record ShowsLines (H : History) (xs : List Line) (P Q : Picture) : Type 0 wh
   pub closed_days : Q.closed_days ≡ P.closed_days
   pub kinds : Q.kinds ≡ P.kinds
   pub rules : Q.rules ≡ P.rules
+  pub rules1 : Q.rules1 ≡ P.rules1
   pub titles : Q.titles ≡ P.titles
   pub copies : Q.copies ≡ P.copies
   pub loans : Q.loans ≡ P.loans
+  pub loans1 : Q.loans1 ≡ P.loans1
   pub holds : Q.holds ≡ P.holds
   pub holds1 : Q.holds1 ≡ P.holds1
   pub transits : Q.transits ≡ P.transits
@@ -193,9 +195,11 @@ module _ (H : History) (p l : ℕ) where
       closed_days = refl;
       kinds = refl;
       rules = refl;
+      rules1 = refl;
       titles = refl;
       copies = refl;
       loans = refl;
+      loans1 = refl;
       holds = refl;
       holds1 = refl;
       transits = refl;
@@ -212,9 +216,11 @@ module _ (H : History) (p l : ℕ) where
           closed_days = refl;
           kinds = refl;
           rules = refl;
+          rules1 = refl;
           titles = refl;
           copies = refl;
           loans = refl;
+          loans1 = refl;
           holds = refl;
           holds1 = refl;
           transits = refl;
@@ -233,9 +239,11 @@ module _ (H : History) (p l : ℕ) where
           closed_days = refl;
           kinds = refl;
           rules = refl;
+          rules1 = refl;
           titles = refl;
           copies = refl;
           loans = refl;
+          loans1 = refl;
           holds = refl;
           holds1 = refl;
           transits = refl;
@@ -263,9 +271,11 @@ module _ (H : History) (p l : ℕ) where
           closed_days = refl;
           kinds = refl;
           rules = refl;
+          rules1 = refl;
           titles = refl;
           copies = refl;
           loans = refl;
+          loans1 = refl;
           holds = refl;
           holds1 = refl;
           transits = refl;

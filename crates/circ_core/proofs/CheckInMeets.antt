@@ -14,6 +14,7 @@ use Rattle.terms.specs.declared.row.HoldRow.{HoldRow}
 use Rattle.terms.specs.declared.row.LoanRow.{LoanRow}
 use Rattle.terms.specs.declared.row.TransitRow.{TransitRow}
 use Rattle.terms.specs.Pictures.{Picture, put}
+use Rattle.model.specs.Loans.{grace_of}
 use Rattle.model.specs.Accounts.{Line, lines, fine_line, fine_at, fine_now}
 use Rattle.model.specs.Answers.{routed}
 use Rattle.model.specs.History.{History, today, CopyFacts, copy_of, branch_of}
@@ -97,10 +98,12 @@ pub record HasLeft (H : History) (c b : ℕ) (way : Course) (P : Picture) : Type
   pub closed_days : P.closed_days ≡ closed_day H
   pub kinds : P.kinds ≡ kind_row H
   pub rules : P.rules ≡ rule_row H
+  pub rules1 : P.rules1 ≡ (λ _ _. None)
   pub patrons : P.patrons ≡ patron_row H
   pub titles : P.titles ≡ title_row H
   pub copies : (n : ℕ) → P.copies n ≡ option_map (λ r. record (copy_columns H n r) { condition = condition_at (moved c (place_by way b) (place H) n) }) (copy_of H n)
   pub loans : (n : ℕ) → P.loans n ≡ loan_ended H c n
+  pub loans1 : P.loans1 ≡ (λ _. None)
   pub holds : P.holds ≡ hold_row H
   pub holds1 : P.holds1 ≡ (λ _. None)
   pub free : IsOver way (P.transits c)
@@ -120,10 +123,12 @@ module _ (H : History) (inv : Invariant H) (c b : ℕ) (f : CopyFacts) (there : 
     closed_days = refl;
     kinds = refl;
     rules = refl;
+    rules1 = refl;
     patrons = refl;
     titles = refl;
     copies = copies_stay way (ap condition_at l.here);
     loans = one_ends H inv c q l;
+    loans1 = refl;
     holds = refl;
     holds1 = refl;
     free = over way (transit_row H c) (ap (λ p. transit_at c p) l.here);
@@ -139,10 +144,12 @@ module _ (H : History) (inv : Invariant H) (c b : ℕ) (f : CopyFacts) (there : 
     closed_days = refl;
     kinds = refl;
     rules = refl;
+    rules1 = refl;
     patrons = refl;
     titles = refl;
     copies = copies_stay (course.Transit g k) present;
     loans = none_ends H inv c off;
+    loans1 = refl;
     holds = refl;
     holds1 = refl;
     free = tt;
@@ -155,10 +162,12 @@ module _ (H : History) (inv : Invariant H) (c b : ℕ) (f : CopyFacts) (there : 
     closed_days = refl;
     kinds = refl;
     rules = refl;
+    rules1 = refl;
     patrons = refl;
     titles = refl;
     copies = copies_stay (course.HoldShelf r) present;
     loans = none_ends H inv c off;
+    loans1 = refl;
     holds = refl;
     holds1 = refl;
     free = ap (λ x. elim x as (λ _. Option TransitRow) [ true ↦ None | false ↦ transit_row H c ]) (eq-eqb c c refl);
@@ -171,10 +180,12 @@ module _ (H : History) (inv : Invariant H) (c b : ℕ) (f : CopyFacts) (there : 
     closed_days = refl;
     kinds = refl;
     rules = refl;
+    rules1 = refl;
     patrons = refl;
     titles = refl;
     copies = copies_stay course.Shelf present;
     loans = none_ends H inv c off;
+    loans1 = refl;
     holds = refl;
     holds1 = refl;
     free = ap (λ x. elim x as (λ _. Option TransitRow) [ true ↦ None | false ↦ transit_row H c ]) (eq-eqb c c refl);
@@ -209,10 +220,12 @@ module _ (H : History) (inv : Invariant H) (c b : ℕ) (f : CopyFacts) (there : 
         closed_days = refl;
         kinds = refl;
         rules = refl;
+        rules1 = refl;
         patrons = refl;
         titles = refl;
         copies = found way;
         loans = none_ends H inv c off;
+        loans1 = refl;
         holds = refl;
         holds1 = refl;
         free = over way (transit_row H c) still;
@@ -225,10 +238,12 @@ module _ (H : History) (inv : Invariant H) (c b : ℕ) (f : CopyFacts) (there : 
         closed_days = refl;
         kinds = refl;
         rules = refl;
+        rules1 = refl;
         patrons = refl;
         titles = refl;
         copies = copies_stay way e;
         loans = none_ends H inv c off;
+        loans1 = refl;
         holds = refl;
         holds1 = refl;
         free = over way (transit_row H c) still;
@@ -251,26 +266,26 @@ module _ (H : History) (inv : Invariant H) (c b : ℕ) (f : CopyFacts) (there : 
 module _ (H : History) (legal : IsLegal H) (inv : Invariant H) (c : ℕ) (rows : View) where
   -- The lines after the check-in.
   abbrev lines_now : List Line
-  lines_now = lines H ++ fine_line H (place H c)
+  lines_now = lines H ++ fine_line H (grace_of H) (place H c)
 
-  fine_is : (loan : Option LoanRow) → IsLoanOf (picture H) c loan → IsLenderView (picture H) loan rows → fine_due loan rows.lender (today H) ≡ fine_at H (place H c)
+  fine_is : (loan : Option LoanRow) → IsLoanOf (picture H) c loan → IsLenderView (picture H) loan rows → fine_due loan rows.lender (today H) ≡ fine_at H (grace_of H) (place H c)
   fine_is (Some q) l w =
       let x : IsLent H c q = lent H inv c q l in
       fine_same H legal inv c q x rows w ∙ sym (fine_at-is H legal inv c q x)
   fine_is None l w = sym (fine_at-none H (place H c) (sym (loan_claims H inv c None l)))
 
   lines_counted : (loan : Option LoanRow) → IsLoanOf (picture H) c loan → IsLenderView (picture H) loan rows
-      → length (fine_line H (place H c)) ≡ lines_for (fine_due loan rows.lender (today H)) + lines_for 0
+      → length (fine_line H (grace_of H) (place H c)) ≡ lines_for (fine_due loan rows.lender (today H)) + lines_for 0
   lines_counted (Some q) l w =
       let x : IsLent H c q = lent H inv c q l in
-      let count : length (fine_line H (place H c)) ≡ lines_for (fine_due (Some q) rows.lender (today H)) =
-      ap length (fine_line-is H legal inv c q x) ∙ line-count H q.patron _ (Some q.loan) (fine_now H q.loan) ∙ ap lines_for (sym (fine_same H legal inv c q x rows w)) in
+      let count : length (fine_line H (grace_of H) (place H c)) ≡ lines_for (fine_due (Some q) rows.lender (today H)) =
+      ap length (fine_line-is H legal inv c q x) ∙ line-count H q.patron _ (Some q.loan) (fine_now H (grace_of H) q.loan) ∙ ap lines_for (sym (fine_same H legal inv c q x rows w)) in
       omega (arith, count)
   lines_counted None l w = ap length (fine_line-none H (place H c) (sym (loan_claims H inv c None l)))
 
   lacks_is : (loan : Option LoanRow) → IsLoanOf (picture H) c loan → IsLenderView (picture H) loan rows
-      → lacks_numbers (meta_row H) (fine_due loan rows.lender (today H)) 0 ≡ lacks_lines H (sight H) (length (fine_line H (place H c)))
-  lacks_is loan l w = lacks_same H (fine_due loan rows.lender (today H)) 0 (fine_line H (place H c)) (lines_counted loan l w)
+      → lacks_numbers (meta_row H) (fine_due loan rows.lender (today H)) 0 ≡ lacks_lines H (sight H) (length (fine_line H (grace_of H) (place H c)))
+  lacks_is loan l w = lacks_same H (fine_due loan rows.lender (today H)) 0 (fine_line H (grace_of H) (place H c)) (lines_counted loan l w)
 
   -- The borrower, if there is one, is charged the fine.
   fine_shows : (loan : Option LoanRow) → IsLoanOf (picture H) c loan → IsLenderView (picture H) loan rows → (P : Picture) → P.meta ≡ meta_row H
@@ -284,6 +299,7 @@ module _ (H : History) (legal : IsLegal H) (inv : Invariant H) (c : ℕ) (rows :
       subst (λ xs. ShowsLines H xs P (changed (charge_rows (meta_row H) rows.patron None 0 0) P)) (sym same)
       (subst (λ o. ShowsLines H (lines H) P (changed (charge_rows (meta_row H) o None 0 0) P)) (sym w.patron) (record {
         meta = meta;
+        rules1 = refl;
         patrons = patrons;
         lines = of_lines;
         branches = refl;
@@ -293,6 +309,7 @@ module _ (H : History) (legal : IsLegal H) (inv : Invariant H) (c : ℕ) (rows :
         titles = refl;
         copies = refl;
         loans = refl;
+        loans1 = refl;
         holds = refl;
         holds1 = refl;
         transits = refl;
@@ -363,11 +380,11 @@ module _ (H : History) (legal : IsLegal H) (c b : ℕ) (v : View) (w : IsCheckIn
     abbrev until : ℕ
     until = check_in_limit v b
 
-    reply_same : check_in_reply v b until ≡ CheckedIn (fine_at H (place H c)) (routed H (route H c b))
+    reply_same : check_in_reply v b until ≡ CheckedIn (fine_at H (grace_of H) (place H c)) (routed H (route H c b))
     reply_same =
         ap (λ m. CheckedIn (fine_due v.loan v.lender m.today) (routed_by way b until)) w.meta
         ∙ ap (λ n. CheckedIn n (routed_by way b until)) (fine_is H legal inv c v v.loan w.at.loan w.lender)
-        ∙ ap (λ r. CheckedIn (fine_at H (place H c)) r) (told_same H inv b v w.here today_is known way to_there.1 ∙ ap (λ p. routed H p) to_there.0)
+        ∙ ap (λ r. CheckedIn (fine_at H (grace_of H) (place H c)) r) (told_same H inv b v w.here today_is known way to_there.1 ∙ ap (λ p. routed H p) to_there.0)
 
     -- The tables once the copy has left, and once it has arrived.
     abbrev gone : Picture
@@ -390,7 +407,7 @@ module _ (H : History) (legal : IsLegal H) (c b : ℕ) (v : View) (w : IsCheckIn
     left : HasLeft H c b way gone
     left = leaves H inv c b f there way v.loan v.transit v.copy w.at.loan w.at.transit (copy_is f there) kept
 
-    shown : ShowsLines H (lines H ++ fine_line H (place H c)) come (charged_at come)
+    shown : ShowsLines H (lines H ++ fine_line H (grace_of H) (place H c)) come (charged_at come)
     shown = fine_shows H legal inv c v v.loan w.at.loan w.lender come left.meta (λ k. ap (λ t. t k) left.patrons) (λ k. ap (λ t. t k) left.lines)
 
     check_in_leads : Leads H (CheckIn c b) (check_in_rows v c b until)
@@ -402,11 +419,13 @@ module _ (H : History) (legal : IsLegal H) (c b : ℕ) (v : View) (w : IsCheckIn
           closed_days = λ n d. ap (λ t. t n d) (shown.closed_days ∙ left.closed_days);
           kinds = λ n. ap (λ t. t n) (shown.kinds ∙ left.kinds);
           rules = λ n d. ap (λ t. t n d) (shown.rules ∙ left.rules);
+          rules1 = λ n d. ap (λ t. t n d) (shown.rules1 ∙ left.rules1);
           patrons = shown.patrons;
           titles = λ n. ap (λ t. t n) (shown.titles ∙ left.titles);
           copies = λ n. ap (λ t. t n) shown.copies ∙ left.copies n
               ∙ ap (λ q. option_map (λ r. record (copy_columns H n r) { condition = condition_at (moved c q (place H) n) }) (copy_of H n)) to_there.0;
           loans = λ n. ap (λ t. t n) shown.loans ∙ left.loans n;
+          loans1 = λ n. ap (λ t. t n) (shown.loans1 ∙ left.loans1);
           holds = λ h. ap (λ t. t h) shown.holds ∙ ap (λ t. ready_put way c until (t h) h) left.holds
               ∙ arrive H inv c f there b until way to_there.1 l h (unkept (place H c) h off)
               ∙ ap (λ q. arrived_row H inv c f there b until q h) to_there.0;

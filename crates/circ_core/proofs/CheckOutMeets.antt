@@ -17,7 +17,7 @@ use Rattle.terms.specs.declared.reply.Reply.TheVariants.{Lent}
 use Rattle.circ_core.specs.declared.changes.RowChange.TheVariants.{PutMeta, PutLoan}
 use Rattle.circ_core.specs.declared.views.View.{View}
 use Rattle.circ_core.specs.Condition.{is_missing as is_missing_row, is_withdrawn as is_withdrawn_row}
-use Rattle.circ_core.specs.CheckOut.{filled_hold, has_more, loans_allowed, check_out_checks, period_of, renewals_of, rate_of, cap_of, period_end, loan_due, due_in, new_loan, fill_rows, check_out_rows}
+use Rattle.circ_core.specs.CheckOut.{filled_hold, has_more, loans_allowed, check_out_checks, period_of, renewals_of, rate_of, cap_of, grace_in, period_end, loan_due, due_in, new_loan, fill_rows, check_out_rows}
 use Rattle.circ_core.specs.Debt.{debt_allowed, owed_by}
 use Rattle.circ_core.specs.Holds.{finished}
 use Rattle.terms.specs.Pictures.{put}
@@ -167,6 +167,13 @@ module _ (H : History) (inv : Invariant H) (p c b : ℕ) (v : View) (w : IsCheck
         go (Some t) = refl
         go None = refl
 
+    grace_same : grace_in v.rule ≡ terms_now.grace
+    grace_same = terms_same ℕ grace_in (λ t. t.grace) go
+      where
+        go : (o : Option Terms) → grace_in (option_map (rule_columns H q.kind r.kind) o) ≡ (unwrap_or o no_terms).grace
+        go (Some t) = refl
+        go None = refl
+
     period_end-same : period_end v ≡ today H + terms_now.period
     period_end-same = ap (λ m. m.today + period_of v.rule) w.meta ∙ ap (λ n. today H + n) period_same
 
@@ -185,7 +192,7 @@ module _ (H : History) (inv : Invariant H) (p c b : ℕ) (v : View) (w : IsCheck
     due_same ruled = same_day (loan_due v) v.meta.today 0 (due_there ruled) ∙ ap (λ o. unwrap_or o 0) due_is
 
     loan_same : new_loan v p c b due_now ≡ loan_now
-    loan_same = rw (w.meta, period_same, renewals_same, rate_same, cap_same) refl
+    loan_same = rw (w.meta, period_same, renewals_same, rate_same, cap_same, grace_same) refl
 
     after_copy : SameChecks (after_three (check_out_checks v p b)) (after_three (checks H Desk (CheckOut p c b)))
     after_copy = (
@@ -346,10 +353,12 @@ module _ (H : History) (inv : Invariant H) (p c b : ℕ) (v : View) (w : IsCheck
     closed_days = λ _ _. refl;
     kinds = λ _. refl;
     rules = λ _ _. refl;
+    rules1 = λ _ _. refl;
     patrons = λ _. refl;
     titles = λ _. refl;
     copies = λ n. ap (λ x. option_map (λ r. record { copy = n; title = r.title; kind = r.kind; home = r.home; price = r.price; condition = x }) (copy_of H n)) (copies_lead present n);
     loans = loans_lead;
+    loans1 = λ _. refl;
     holds = holds_none f;
     holds1 = λ _. refl;
     transits = transits_lead still;
@@ -361,10 +370,12 @@ module _ (H : History) (inv : Invariant H) (p c b : ℕ) (v : View) (w : IsCheck
     closed_days = λ _ _. refl;
     kinds = λ _. refl;
     rules = λ _ _. refl;
+    rules1 = λ _ _. refl;
     patrons = λ _. refl;
     titles = λ _. refl;
     copies = λ n. ap (λ x. option_map (λ r. record { copy = n; title = r.title; kind = r.kind; home = r.home; price = r.price; condition = x }) (copy_of H n)) (copies_lead present n);
     loans = loans_lead;
+    loans1 = λ _. refl;
     holds = holds_some q f;
     holds1 = λ _. refl;
     transits = transits_lead still;

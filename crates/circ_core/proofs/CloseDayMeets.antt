@@ -91,10 +91,12 @@ module _ (H : History) (inv : Invariant H) (b d : ℕ) (rows : View) (w : IsClos
       closed_days = close_lead;
       kinds = λ _. refl;
       rules = λ _ _. refl;
+      rules1 = λ _ _. refl;
       patrons = λ _. refl;
       titles = λ _. refl;
       copies = λ _. refl;
       loans = λ _. refl;
+      loans1 = λ _. refl;
       holds = λ _. refl;
       holds1 = λ _. refl;
       transits = λ _. refl;
@@ -132,10 +134,12 @@ module _ (H : History) (inv : Invariant H) (b d : ℕ) (rows : View) (w : IsClos
       closed_days = open_lead;
       kinds = λ _. refl;
       rules = λ _ _. refl;
+      rules1 = λ _ _. refl;
       patrons = λ _. refl;
       titles = λ _. refl;
       copies = λ _. refl;
       loans = λ _. refl;
+      loans1 = λ _. refl;
       holds = λ _. refl;
       holds1 = λ _. refl;
       transits = λ _. refl;

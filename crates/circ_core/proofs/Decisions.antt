@@ -1,7 +1,7 @@
 -- A decision on the rows of a view is the one that the history has.
 use Rattle.std.specs.Prelude.{Result}
 use Rattle.terms.specs.declared.command.Command.{Command}
-use Rattle.terms.specs.declared.command.Command.TheVariants.{BeginDay, Branch, Week, Kind, Rule, Patron, Acquire, CheckOut, CheckIn, Renew, PlaceHold, CancelHold, Unshelve, UnshelveCancelled, Missing, Withdraw, CloseDay, OpenDay, Pay, Waive, Page}
+use Rattle.terms.specs.declared.command.Command.TheVariants.{BeginDay, Branch, Week, Kind, Rule, Grace, Patron, Acquire, CheckOut, CheckIn, Renew, PlaceHold, CancelHold, Unshelve, UnshelveCancelled, Missing, Withdraw, CloseDay, OpenDay, Pay, Waive, Page}
 use Rattle.terms.specs.declared.refusal.Refusal.{Refusal}
 use Rattle.model.specs.History.{History}
 use Rattle.model.specs.Requests.{IsLegal}
@@ -18,6 +18,7 @@ use Rattle.circ_core.proofs.BranchMeets.{branch_meets}
 use Rattle.circ_core.proofs.WeekMeets.{week_meets}
 use Rattle.circ_core.proofs.KindMeets.{kind_meets}
 use Rattle.circ_core.proofs.RuleMeets.{rule_meets}
+use Rattle.circ_core.proofs.GraceMeets.{grace_meets}
 use Rattle.circ_core.proofs.PatronMeets.{patron_meets}
 use Rattle.circ_core.proofs.AcquireMeets.{acquire_meets}
 use Rattle.circ_core.proofs.CheckOutMeets.{check_out_meets}
@@ -42,6 +43,7 @@ decides H legal v (OpenDay branch day) result w on = decided H _ _ _ _ (open_day
 decides H legal v (Kind kind loans holds debt) result w on = decided H _ _ _ _ (kind_meets H kind loans holds debt) result on
 decides H legal v (Rule kind copy_kind period renewals rate cap) result w on =
     decided H _ _ _ _ (rule_meets H kind copy_kind period renewals rate cap v.kind w) result on
+decides H legal v (Grace kind copy_kind days) result w on = decided H _ _ _ _ (grace_meets H kind copy_kind days v.rule w) result on
 decides H legal v (Patron patron kind card_key name) result w on =
     decided H _ _ _ _ (patron_meets H (legal-Invariant H legal) patron kind card_key name v w) result on
 decides H legal v (Acquire copy title kind home price text) result w on =

@@ -1,8 +1,8 @@
 -- The end of a copy's loan, with its fine, meets the history.
 use Rattle.model.specs.Sights.{sight}
 use Rattle.terms.specs.declared.limits.TheConstants.{LAST_NUMBER}
-use Rattle.std.proofs.Common.{◌≡◌, ℕ, zero, suc, ◌+◌, ◌*◌, ◌≤◌, ◌<◌, ◌==◌, nat_lt, ◌⊎◌, inl, inr, Bool, true, false, cond, List, [], ◌++◌, length, refl, sym, ◌∙◌, ap, subst, arith}
-use Rattle.std.specs.Prelude.{Option, Some, None, option_map, unwrap_or, is_none, min}
+use Rattle.std.proofs.Common.{◌≡◌, ℕ, zero, suc, ◌+◌, ◌≤◌, ◌<◌, ◌==◌, nat_lt, ◌⊎◌, inl, inr, Bool, true, false, cond, List, [], ◌++◌, length, refl, sym, ◌∙◌, ap, subst, arith}
+use Rattle.std.specs.Prelude.{Option, Some, None, option_map, unwrap_or, is_none}
 use Rattle.std.specs.Option.{option_or}
 use Rattle.std.proofs.lemmas.Bool.{eqb-true, eq-eqb, cases_lt, lt-ltb, le-ltb}
 use Rattle.std.proofs.lemmas.List.{append-nil}
@@ -15,13 +15,15 @@ use Rattle.terms.specs.Pictures.{Picture, put}
 use Rattle.model.specs.Calendar.{late}
 use Rattle.model.specs.History.{History, today, is_open, branch_of, PatronFacts, patron_of}
 use Rattle.model.specs.Places.{Place, Loan, place}
-use Rattle.model.specs.Loans.{LoanFacts, loan_of, due, ended, is_loan_of_copy}
+use Rattle.model.specs.Loans.{LoanFacts, loan_of, due, ended, grace_of, is_loan_of_copy}
 use Rattle.model.specs.Accounts.{Line, lines, next_line, line_of, fine_line, price_line, price_of, fine_now, fine_at, borrower}
 use Rattle.model.specs.Refusals.{is_on_loan, lacks_lines}
 use Rattle.model.specs.Requests.{IsLegal}
 use Rattle.model.specs.Invariant.{Invariant}
 use Rattle.model.specs.Picture.{picture, meta_row, line_row, patron_row, patron_columns, loan_row, loan_columns, branch_columns}
 use Rattle.model.proofs.Moves.{false-ne}
+use Rattle.model.proofs.SettingLaws.{legal-SettingLaws}
+use Rattle.model.proofs.MoneyLaws.{legal-MoneyLaws, fine-small as fine_now-small}
 use Rattle.circ_core.specs.declared.views.View.{View}
 use Rattle.circ_core.specs.Ending.{fine_due, ended_loan, lines_for, lacks_numbers, charge_rows}
 use Rattle.circ_core.specs.Tables.{changed}
@@ -31,9 +33,6 @@ use Rattle.circ_core.proofs.Claims.{loan_row-is}
 use Rattle.circ_core.proofs.Lenders.{legal-lenders, borrower-there}
 use Rattle.circ_core.proofs.Calendars.{late_same}
 use Rattle.circ_core.proofs.Charging.{ShowsLines, lines_with, shows}
-
-min-le : (a b : ℕ) → min a b ≤ b
-min-le a b = omega arith
 
 -- ---- the open loan
 
@@ -73,24 +72,22 @@ module _ (H : History) (legal : IsLegal H) (inv : Invariant H) (c : ℕ) (q : Lo
   borrower_row rows w = w.patron ∙ ap (option_map (patron_columns H q.patron)) enrolled.1
 
   fine_by : (o : Option Closings) → IsLenderOf (picture H) (Some q) o → fine_due (Some q) o (today H)
-      ≡ fine_for (late (is_open H q.branch) q.due (today H)) q.rate q.cap
-  fine_by (Some closings) w = ap (λ n. fine_for n q.rate q.cap) (late_same H q.branch closings w q.due (today H))
+      ≡ fine_for (late (is_open H q.branch) q.due (today H)) q.rate q.cap q.grace
+  fine_by (Some closings) w = ap (λ n. fine_for n q.rate q.cap q.grace) (late_same H q.branch closings w q.due (today H))
   fine_by None w = absurd (legal-lenders H legal q.loan l.facts l.made (is_none-None _ (no_branch w)))
     where
       no_branch : (picture H).branches q.branch ≡ None → is_none (branch_of H l.facts.branch) ≡ true
       no_branch e = sym (is_none-map (branch_columns H q.branch) (branch_of H l.facts.branch)) ∙ ap (λ x. is_none (option_map (branch_columns H q.branch) (branch_of H x.branch))) l.row ∙ ap is_none e
 
   -- The fine on the rows is that of the history.
-  pub fine_same : (rows : View) → IsLenderView (picture H) (Some q) rows → fine_due (Some q) rows.lender (today H) ≡ fine_now H q.loan
+  pub fine_same : (rows : View) → IsLenderView (picture H) (Some q) rows → fine_due (Some q) rows.lender (today H) ≡ fine_now H (grace_of H) q.loan
   fine_same rows w =
       fine_by rows.lender w.calendar
-      ∙ ap (λ x. fine_for (late (is_open H x.branch) x.due (today H)) x.rate x.cap) (sym l.row)
-      ∙ sym (ap (λ o. unwrap_or (option_map (λ r. fine_for (late (is_open H r.branch) (due H q.loan) (today H)) r.terms.rate r.terms.cap) o) 0) l.made)
+      ∙ ap (λ x. fine_for (late (is_open H x.branch) x.due (today H)) x.rate x.cap x.grace) (sym l.row)
+      ∙ sym (ap (λ o. unwrap_or (option_map (λ r. fine_for (late (is_open H r.branch) (due H q.loan) (today H)) r.terms.rate r.terms.cap (unwrap_or (option_map (λ x. x.terms.grace) o) 0)) o) 0) l.made)
 
-  pub fine-small : fine_now H q.loan ≤ 100000
-  fine-small =
-      subst (λ o. unwrap_or (option_map (λ r. fine_for (late (is_open H r.branch) (due H q.loan) (today H)) r.terms.rate r.terms.cap) o) 0 ≤ 100000) (sym l.made)
-      (omega (arith, inv.loan_caps q.loan l.facts l.made, min-le (late (is_open H l.facts.branch) (due H q.loan) (today H) * l.facts.terms.rate) l.facts.terms.cap))
+  pub fine-small : fine_now H (grace_of H) q.loan ≤ 100000
+  fine-small = fine_now-small H (legal-MoneyLaws H legal) (legal-SettingLaws H legal) q.loan
 
 -- ---- the loans
 
@@ -143,11 +140,11 @@ module _ (H : History) (inv : Invariant H) (c : ℕ) where
 -- ---- the lines
 
 -- Off loan there is no fine and no line of one.
-pub fine_line-none : (H : History) (p : Place) → is_on_loan p ≡ false → fine_line H p ≡ []
+pub fine_line-none : (H : History) (p : Place) → is_on_loan p ≡ false → fine_line H (grace_of H) p ≡ []
 fine_line-none H (Loan l) e = let never : ⊥ = cc in absurd never
 fine_line-none H _ e = refl
 
-pub fine_at-none : (H : History) (p : Place) → is_on_loan p ≡ false → fine_at H p ≡ 0
+pub fine_at-none : (H : History) (p : Place) → is_on_loan p ≡ false → fine_at H (grace_of H) p ≡ 0
 fine_at-none H (Loan l) e = let never : ⊥ = cc in absurd never
 fine_at-none H _ e = refl
 
@@ -168,29 +165,29 @@ pub lacks_same : (H : History) (fine price : ℕ) (xs : List Line) → length xs
 lacks_same H fine price xs e = lt-suc LAST_NUMBER (next_line H + lines_for fine + lines_for price) (length (lines H) + length xs) (omega (arith, e))
 
 module _ (H : History) (legal : IsLegal H) (inv : Invariant H) (c : ℕ) (q : LoanRow) (l : IsLent H c q) where
-  pub fine_line-is : fine_line H (place H c) ≡ line_of H q.patron Fine (Some q.loan) (fine_now H q.loan)
-  fine_line-is = ap (fine_line H) l.here ∙ ap (λ n. line_of H n Fine (Some q.loan) (fine_now H q.loan)) (borrower-is H legal inv c q l)
+  pub fine_line-is : fine_line H (grace_of H) (place H c) ≡ line_of H q.patron Fine (Some q.loan) (fine_now H (grace_of H) q.loan)
+  fine_line-is = ap (fine_line H (grace_of H)) l.here ∙ ap (λ n. line_of H n Fine (Some q.loan) (fine_now H (grace_of H) q.loan)) (borrower-is H legal inv c q l)
 
-  pub fine_at-is : fine_at H (place H c) ≡ fine_now H q.loan
-  fine_at-is = ap (fine_at H) l.here
+  pub fine_at-is : fine_at H (grace_of H) (place H c) ≡ fine_now H (grace_of H) q.loan
+  fine_at-is = ap (fine_at H (grace_of H)) l.here
 
   pub price_line-is : price_line H c (place H c) ≡ line_of H q.patron Price (Some q.loan) (price_of H c)
   price_line-is = ap (price_line H c) l.here ∙ ap (λ n. line_of H n Price (Some q.loan) (price_of H c)) (borrower-is H legal inv c q l)
 
   -- The lines of the history after the fine alone.
-  pub fine_lines : lines H ++ fine_line H (place H c) ≡ lines_with H q.patron q.loan (fine_now H q.loan) 0
-  fine_lines = ap (λ xs. lines H ++ xs) (fine_line-is ∙ sym (append-nil (line_of H q.patron Fine (Some q.loan) (fine_now H q.loan))))
+  pub fine_lines : lines H ++ fine_line H (grace_of H) (place H c) ≡ lines_with H q.patron q.loan (fine_now H (grace_of H) q.loan) 0
+  fine_lines = ap (λ xs. lines H ++ xs) (fine_line-is ∙ sym (append-nil (line_of H q.patron Fine (Some q.loan) (fine_now H (grace_of H) q.loan))))
 
   -- The lines of the history after the fine and the price.
-  pub both_lines : lines H ++ (fine_line H (place H c) ++ price_line H c (place H c)) ≡ lines_with H q.patron q.loan (fine_now H q.loan) (price_of H c)
+  pub both_lines : lines H ++ (fine_line H (grace_of H) (place H c) ++ price_line H c (place H c)) ≡ lines_with H q.patron q.loan (fine_now H (grace_of H) q.loan) (price_of H c)
   both_lines = rw (fine_line-is, price_line-is) refl
 
   -- The fine and a price are charged as the history has it, on any tables that show its account and numbers.
   pub charges_show : (rows : View) → IsLenderView (picture H) (Some q) rows → (price : ℕ) → price ≤ 1000000 → (P : Picture) → P.meta ≡ meta_row H
       → ((k : ℕ) → P.patrons k ≡ patron_row H k) → ((k : ℕ) → P.lines k ≡ line_row H k)
-      → ShowsLines H (lines_with H q.patron q.loan (fine_now H q.loan) price) P
+      → ShowsLines H (lines_with H q.patron q.loan (fine_now H (grace_of H) q.loan) price) P
       (changed (charge_rows (meta_row H) rows.patron (Some q) (fine_due (Some q) rows.lender (today H)) price) P)
   charges_show rows w price small P meta patrons rows_of_lines =
       let f : (f : PatronFacts) × (patron_of H q.patron ≡ Some f) = enrolled H legal inv c q l in
       rw (fine_same H legal inv c q l rows w, borrower_row H legal inv c q l rows w)
-      (shows H q.patron q.loan inv f.0 f.1 q refl refl P meta patrons rows_of_lines (fine_now H q.loan) price (fine-small H legal inv c q l) small)
+      (shows H q.patron q.loan inv f.0 f.1 q refl refl P meta patrons rows_of_lines (fine_now H (grace_of H) q.loan) price (fine-small H legal inv c q l) small)

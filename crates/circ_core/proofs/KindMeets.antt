@@ -19,10 +19,12 @@ kind_meets H k loans holds debt = record {
     closed_days = λ _ _. refl;
     kinds = put_set (kind_columns H) (kind_of H) k (record { loans = loans; holds = holds; debt = debt });
     rules = λ _ _. refl;
+    rules1 = λ _ _. refl;
     patrons = λ _. refl;
     titles = λ _. refl;
     copies = λ _. refl;
     loans = λ _. refl;
+    loans1 = λ _. refl;
     holds = λ _. refl;
     holds1 = λ _. refl;
     transits = λ _. refl;

@@ -14,6 +14,7 @@ pub mod WeekMeets
 pub mod CloseDayMeets
 pub mod KindMeets
 pub mod RuleMeets
+pub mod GraceMeets
 pub mod PatronMeets
 pub mod AcquireMeets
 pub mod KindNow

@@ -15,6 +15,7 @@ use Rattle.terms.specs.declared.row.TransitRow.{TransitRow}
 use Rattle.terms.specs.Pictures.{Picture}
 use Rattle.model.specs.History.{History, today, CopyFacts, copy_of, patron_of}
 use Rattle.model.specs.Places.{Place, Nowhere, Shelf, HoldShelf, Transit, Loan, MissingCopy, WithdrawnCopy, place}
+use Rattle.model.specs.Loans.{grace_of}
 use Rattle.model.specs.Accounts.{lines, lines_by, fine_line, price_line, fine_now, price_of}
 use Rattle.model.specs.Answers.{missed}
 use Rattle.model.specs.Refusals.{checks, is_on_loan, is_on_hold_shelf, is_in_transit, lacks_lines}
@@ -67,19 +68,19 @@ module _ (H : History) (legal : IsLegal H) (inv : Invariant H) (c : ℕ) (r : Co
   numbers_same (Some q) w rows v =
       let l : IsLent H c q = lent H inv c q w in
       lacks_same H (fine_due (Some q) rows.lender (today H)) r.price (lines_by H (Missing c))
-      (length-append (fine_line H (place H c)) (price_line H c (place H c))
-      ∙ ap (λ n. n + length (price_line H c (place H c))) (ap length (fine_line-is H legal inv c q l) ∙ line-count H q.patron _ (Some q.loan) (fine_now H q.loan) ∙ ap lines_for (sym (fine_same H legal inv c q l rows v)))
+      (length-append (fine_line H (grace_of H) (place H c)) (price_line H c (place H c))
+      ∙ ap (λ n. n + length (price_line H c (place H c))) (ap length (fine_line-is H legal inv c q l) ∙ line-count H q.patron _ (Some q.loan) (fine_now H (grace_of H) q.loan) ∙ ap lines_for (sym (fine_same H legal inv c q l rows v)))
       ∙ ap (λ n. lines_for (fine_due (Some q) rows.lender (today H)) + n) (ap length (price_line-is H legal inv c q l) ∙ line-count H q.patron _ (Some q.loan) (price_of H c) ∙ ap lines_for price_is))
   numbers_same None w rows v = lacks_same H 0 0 (lines_by H (Missing c)) (ap length (no_lines (off_loan None w refl)))
 
   reply_same : (o : Option LoanRow) → IsLoanOf (picture H) c o → (rows : View) → IsLenderView (picture H) o rows
-      → lost_reply o (fine_due o rows.lender (today H)) (price_due o (Some row)) ≡ missed H c (place H c)
+      → lost_reply o (fine_due o rows.lender (today H)) (price_due o (Some row)) ≡ missed H (grace_of H) c (place H c)
   reply_same (Some q) w rows v =
       let l : IsLent H c q = lent H inv c q w in
-      rw (fine_same H legal inv c q l rows v, ← price_is) (sym (ap (missed H c) l.here))
+      rw (fine_same H legal inv c q l rows v, ← price_is) (sym (ap (missed H (grace_of H) c) l.here))
   reply_same None w rows v = go (place H c) (off_loan None w refl)
     where
-      go : (p : Place) → is_on_loan p ≡ false → Done ≡ missed H c p
+      go : (p : Place) → is_on_loan p ≡ false → Done ≡ missed H (grace_of H) c p
       go (Loan l) e = let never : ⊥ = cc in absurd never
       go _ e = refl
 
@@ -93,8 +94,8 @@ module _ (H : History) (legal : IsLegal H) (inv : Invariant H) (c : ℕ) (r : Co
   lead_on q l hold transit rows v owner key =
       let off : is_on_hold_shelf (place H c) ≡ false = ap is_on_hold_shelf l.here in
       let still : is_in_transit (place H c) ≡ false = ap is_in_transit l.here in
-      let same : lines_with H q.patron q.loan (fine_now H q.loan) r.price ≡ lines H ++ lines_by H (Missing c) =
-      ap (lines_with H q.patron q.loan (fine_now H q.loan)) (sym price_is) ∙ sym (both_lines H legal inv c q l) in
+      let same : lines_with H q.patron q.loan (fine_now H (grace_of H) q.loan) r.price ≡ lines H ++ lines_by H (Missing c) =
+      ap (lines_with H q.patron q.loan (fine_now H (grace_of H) q.loan)) (sym price_is) ∙ sym (both_lines H legal inv c q l) in
       let s = charges_show H legal inv c q l rows v r.price (inv.prices c r there) (freed (Some q) hold transit) refl (λ _. refl) (λ _. refl) in
       record {
         meta = s.meta ∙ ap (λ xs. record (meta_row H) { next_line = length xs + 1 }) same;
@@ -102,10 +103,12 @@ module _ (H : History) (legal : IsLegal H) (inv : Invariant H) (c : ℕ) (r : Co
         closed_days = λ m n. ap (λ t. t m n) s.closed_days;
         kinds = λ n. ap (λ t. t n) s.kinds;
         rules = λ m n. ap (λ t. t m n) s.rules;
+        rules1 = λ m n. ap (λ t. t m n) s.rules1;
         patrons = λ n. s.patrons n ∙ ap (λ xs. option_map (λ x. record (patron_columns H n x) { owed = owed_in xs n }) (patron_of H n)) same;
         titles = λ n. ap (λ t. t n) s.titles;
         copies = λ n. ap (λ t. t n) s.copies ∙ copies_gone H c MissingCopy refl refl r there n;
         loans = λ n. ap (λ t. t n) s.loans ∙ one_ends H inv c q l n;
+        loans1 = λ n. ap (λ t. t n) s.loans1;
         holds = λ n. ap (λ t. t n) s.holds ∙ holds_all_stay H c MissingCopy refl refl off n;
         holds1 = λ n. ap (λ t. t n) s.holds1;
         transits = λ n. ap (λ t. t n) s.transits ∙ transits_still H c MissingCopy refl refl still n;
@@ -114,12 +117,12 @@ module _ (H : History) (legal : IsLegal H) (inv : Invariant H) (c : ℕ) (r : Co
 
   -- Off loan only the copy's row changes, and those of a hold or a transit.
   lead_off : is_on_loan (place H c) ≡ false → (P : Picture) → P.meta ≡ meta_row H → P.branches ≡ (picture H).branches → P.closed_days ≡ (picture H).closed_days
-      → P.kinds ≡ (picture H).kinds → P.rules ≡ (picture H).rules → P.patrons ≡ (picture H).patrons → P.titles ≡ (picture H).titles
-      → ((n : ℕ) → P.copies n ≡ (freed None None None).copies n) → P.loans ≡ (picture H).loans → P.holds1 ≡ (picture H).holds1 → P.lines ≡ (picture H).lines
+      → P.kinds ≡ (picture H).kinds → P.rules ≡ (picture H).rules → P.rules1 ≡ (picture H).rules1 → P.patrons ≡ (picture H).patrons → P.titles ≡ (picture H).titles
+      → ((n : ℕ) → P.copies n ≡ (freed None None None).copies n) → P.loans ≡ (picture H).loans → P.loans1 ≡ (picture H).loans1 → P.holds1 ≡ (picture H).holds1 → P.lines ≡ (picture H).lines
       → (owner : Owner) (key : List ℕ)
       → ((n : ℕ) → P.holds n ≡ (picture (event owner key (Missing c) ∷ H)).holds n) → ((n : ℕ) → P.transits n ≡ (picture (event owner key (Missing c) ∷ H)).transits n)
       → SameRows P (picture (event owner key (Missing c) ∷ H))
-  lead_off off P m b d k u p t copies_p loans_p holds1_p lines_p owner key holds_p transits_p =
+  lead_off off P m b d k u u1 p t copies_p loans_p loans1_p holds1_p lines_p owner key holds_p transits_p =
       let same : lines H ≡ lines H ++ lines_by H (Missing c) = sym (ap (λ xs. lines H ++ xs) (no_lines off) ∙ append-nil (lines H)) in
       record {
         meta = m ∙ ap (λ xs. record (meta_row H) { next_line = length xs + 1 }) same;
@@ -127,10 +130,12 @@ module _ (H : History) (legal : IsLegal H) (inv : Invariant H) (c : ℕ) (r : Co
         closed_days = λ i n. ap (λ f. f i n) d;
         kinds = λ n. ap (λ f. f n) k;
         rules = λ i n. ap (λ f. f i n) u;
+        rules1 = λ i n. ap (λ f. f i n) u1;
         patrons = λ n. ap (λ f. f n) p ∙ ap (λ xs. option_map (λ x. record (patron_columns H n x) { owed = owed_in xs n }) (patron_of H n)) same;
         titles = λ n. ap (λ f. f n) t;
         copies = λ n. copies_p n ∙ copies_gone H c MissingCopy refl refl r there n;
         loans = λ n. ap (λ f. f n) loans_p ∙ none_ends H inv c off n;
+        loans1 = λ n. ap (λ f. f n) loans1_p;
         holds = holds_p;
         holds1 = λ n. ap (λ f. f n) holds1_p;
         transits = transits_p;
@@ -143,12 +148,12 @@ module _ (H : History) (legal : IsLegal H) (inv : Invariant H) (c : ℕ) (r : Co
   lead_by (Some q) w hold x transit y rows v owner key = lead_on q (lent H inv c q w) hold transit rows v owner key
   lead_by None w (Some q) x transit y rows v owner key =
       let k = kept_by H inv c r there q x in
-      rw v.patron (lead_off (off_loan None w refl) (freed None (Some q) transit) refl refl refl refl refl refl refl (λ _. refl) refl refl refl owner key
+      rw v.patron (lead_off (off_loan None w refl) (freed None (Some q) transit) refl refl refl refl refl refl refl refl (λ _. refl) refl refl refl refl owner key
       (holds_again H c MissingCopy refl refl q k) (transits_still H c MissingCopy refl refl (ap is_in_transit k.here)))
   lead_by None w None x (Some t) y rows v owner key =
       let off : is_on_hold_shelf (place H c) ≡ false = sym (shelf_claims H inv c r there None x) in
       let copy : t.copy ≡ c = travels (place H c) t y in
-      rw (v.patron, copy) (lead_off (off_loan None w refl) (changed (condition_rows (Some row) condition.Missing ++ TakeTransit c ∷ []) (picture H)) refl refl refl refl refl refl refl (λ _. refl) refl refl refl owner key
+      rw (v.patron, copy) (lead_off (off_loan None w refl) (changed (condition_rows (Some row) condition.Missing ++ TakeTransit c ∷ []) (picture H)) refl refl refl refl refl refl refl refl (λ _. refl) refl refl refl refl owner key
       (holds_all_stay H c MissingCopy refl refl off) (transits_over H c MissingCopy refl refl))
     where
       travels : (p : Place) (t : TransitRow) → Some t ≡ transit_at c p → t.copy ≡ c
@@ -162,7 +167,7 @@ module _ (H : History) (legal : IsLegal H) (inv : Invariant H) (c : ℕ) (r : Co
   lead_by None w None x None y rows v owner key =
       let off : is_on_hold_shelf (place H c) ≡ false = sym (shelf_claims H inv c r there None x) in
       let still : is_in_transit (place H c) ≡ false = sym (transit_claims H inv c None y) in
-      rw v.patron (lead_off (off_loan None w refl) (freed None None None) refl refl refl refl refl refl refl (λ _. refl) refl refl refl owner key
+      rw v.patron (lead_off (off_loan None w refl) (freed None None None) refl refl refl refl refl refl refl refl (λ _. refl) refl refl refl refl owner key
       (holds_all_stay H c MissingCopy refl refl off) (transits_still H c MissingCopy refl refl still))
 
 module _ (H : History) (legal : IsLegal H) (inv : Invariant H) (c : ℕ) (v : View) (w : IsMissingView (picture H) c v) where
@@ -187,7 +192,7 @@ module _ (H : History) (legal : IsLegal H) (inv : Invariant H) (c : ℕ) (v : Vi
         ),
   )
 
-  missing_due : (r : CopyFacts) → copy_of H c ≡ Some r → missing_reply v ≡ missed H c (place H c)
+  missing_due : (r : CopyFacts) → copy_of H c ≡ Some r → missing_reply v ≡ missed H (grace_of H) c (place H c)
   missing_due r there =
       ap (λ m. lost_reply v.loan (fine_due v.loan v.lender m.today) (price_in v)) w.meta
       ∙ ap (λ o. lost_reply v.loan (fine_due v.loan v.lender (today H)) (price_due v.loan o)) (copy_here r there)

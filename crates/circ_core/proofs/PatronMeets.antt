@@ -40,10 +40,12 @@ module _ (H : History) (inv : Invariant H) (p k : ℕ) (card_key name : List ℕ
     closed_days = λ _ _. refl;
     kinds = λ _. refl;
     rules = λ _ _. refl;
+    rules1 = λ _ _. refl;
     patrons = λ n. keep_old (patron_columns H) (patron_of H) p patron_facts r n e;
     titles = λ _. refl;
     copies = λ _. refl;
     loans = λ _. refl;
+    loans1 = λ _. refl;
     holds = λ _. refl;
     holds1 = λ _. refl;
     transits = λ _. refl;
@@ -55,11 +57,13 @@ module _ (H : History) (inv : Invariant H) (p k : ℕ) (card_key name : List ℕ
     closed_days = λ _ _. refl;
     kinds = λ _. refl;
     rules = λ _ _. refl;
+    rules1 = λ _ _. refl;
     patrons = λ n. put_new (patron_columns H) (patron_of H) p patron_facts _ n e
         (ap (λ w. record { patron = p; kind = k; card_key = card_key; name = name; owed = w }) (sym (owes_nothing e)));
     titles = λ _. refl;
     copies = λ _. refl;
     loans = λ _. refl;
+    loans1 = λ _. refl;
     holds = λ _. refl;
     holds1 = λ _. refl;
     transits = λ _. refl;

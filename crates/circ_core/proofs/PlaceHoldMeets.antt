@@ -86,10 +86,12 @@ module _ (H : History) (inv : Invariant H) (p t b : ℕ) (first_day : Option ℕ
           closed_days = λ _ _. refl;
           kinds = λ _. refl;
           rules = λ _ _. refl;
+          rules1 = λ _ _. refl;
           patrons = λ _. refl;
           titles = λ _. refl;
           copies = λ _. refl;
           loans = λ _. refl;
+          loans1 = λ _. refl;
           holds = holds_lead;
           holds1 = λ _. refl;
           transits = λ _. refl;

@@ -20,11 +20,13 @@ rule_meets H k c period renewals rate cap row w = record {
     branches = λ _. refl;
     closed_days = λ _ _. refl;
     kinds = λ _. refl;
-    rules = put_pair_set (rule_columns H) (rule_of H) k c (record { period = period; renewals = renewals; rate = rate; cap = cap });
+    rules = put_pair_set (rule_columns H) (rule_of H) k c (record { period = period; renewals = renewals; rate = rate; cap = cap; grace = 0 });
+    rules1 = λ _ _. refl;
     patrons = λ _. refl;
     titles = λ _. refl;
     copies = λ _. refl;
     loans = λ _. refl;
+    loans1 = λ _. refl;
     holds = λ _. refl;
     holds1 = λ _. refl;
     transits = λ _. refl;

@@ -135,10 +135,12 @@ module _ (H : History) (p : ℕ) (rows : View) (w : IsAccountView (picture H) p 
     closed_days = λ _ _. refl;
     kinds = λ _. refl;
     rules = λ _ _. refl;
+    rules1 = λ _ _. refl;
     patrons = patrons_lead H p m Payment refl refl r there;
     titles = λ _. refl;
     copies = λ _. refl;
     loans = λ _. refl;
+    loans1 = λ _. refl;
     holds = λ _. refl;
     holds1 = λ _. refl;
     transits = λ _. refl;
@@ -153,10 +155,12 @@ module _ (H : History) (p : ℕ) (rows : View) (w : IsAccountView (picture H) p 
     closed_days = λ _ _. refl;
     kinds = λ _. refl;
     rules = λ _ _. refl;
+    rules1 = λ _ _. refl;
     patrons = patrons_lead H p m Waiver refl refl r there;
     titles = λ _. refl;
     copies = λ _. refl;
     loans = λ _. refl;
+    loans1 = λ _. refl;
     holds = λ _. refl;
     holds1 = λ _. refl;
     transits = λ _. refl;

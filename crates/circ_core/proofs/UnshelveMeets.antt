@@ -295,11 +295,13 @@ module _ (H : History) (legal : IsLegal H) (g : ℕ) (v : View) (w : IsUnshelveV
             closed_days = λ _ _. refl;
             kinds = λ _. refl;
             rules = λ _ _. refl;
+            rules1 = λ _ _. refl;
             patrons = λ _. refl;
             titles = λ _. refl;
             copies = λ n. ap (λ x. option_map (λ r. record { copy = n; title = r.title; kind = r.kind; home = r.home; price = r.price; condition = x }) (copy_of H n))
                 (copies_lead H inv g s.0 s.1 s.3 s.2 k.0 k.2 k.1 ends final branch until way to_there n);
             loans = λ _. refl;
+            loans1 = λ _. refl;
             holds = holds_lead H inv g s.0 s.1 s.3 s.2 k.0 k.2 k.1 ends final branch until way to_there l;
             holds1 = λ _. refl;
             transits = transits_lead H inv g s.0 s.1 s.3 s.2 k.0 k.2 k.1 ends final branch until way to_there;

@@ -41,10 +41,12 @@ module _ (H : History) (b : ℕ) (closed : List Bool) where
     closed_days = λ _ _. refl;
     kinds = λ _. refl;
     rules = λ _ _. refl;
+    rules1 = λ _ _. refl;
     patrons = λ _. refl;
     titles = λ _. refl;
     copies = λ _. refl;
     loans = λ _. refl;
+    loans1 = λ _. refl;
     holds = λ _. refl;
     holds1 = λ _. refl;
     transits = λ _. refl;

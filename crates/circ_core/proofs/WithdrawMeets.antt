@@ -50,10 +50,12 @@ module _ (H : History) (inv : Invariant H) (c : ℕ) (v : View) (w : IsCopyView 
           closed_days = λ _ _. refl;
           kinds = λ _. refl;
           rules = λ _ _. refl;
+          rules1 = λ _ _. refl;
           patrons = λ _. refl;
           titles = λ _. refl;
           copies = copies_gone H c WithdrawnCopy refl refl r.0 r.1;
           loans = λ _. refl;
+          loans1 = λ _. refl;
           holds = λ n. holds_stay H c WithdrawnCopy refl refl n (unkept (place H c) n k.1.1.1.1.0);
           holds1 = λ _. refl;
           transits = transits_still H c WithdrawnCopy refl refl k.1.1.1.0;

@@ -64,6 +64,10 @@ abbrev pub cap_of : Option RuleRow → ℕ
 cap_of (Some rule) = rule.cap
 cap_of None = 0
 
+abbrev pub grace_in : Option RuleRow → ℕ
+grace_in (Some rule) = rule.grace
+grace_in None = 0
+
 -- The first day that the loan may be due: the end of its period.
 abbrev pub period_end : View → ℕ
 period_end view = view.meta.today + period_of view.rule
@@ -109,6 +113,7 @@ new_loan view patron copy branch due = record {
   rate = rate_of view.rule;
   cap = cap_of view.rule;
   ended = None;
+  grace = grace_in view.rule;
 }
 
 abbrev pub fill_rows : Option HoldRow → List RowChange

@@ -5,7 +5,7 @@ use Rattle.terms.specs.declared.reply.Reply.TheVariants.{Done, Held, Lent, Owed}
 use Rattle.terms.specs.declared.row.Sort.TheVariants.{Payment, Waiver}
 use Rattle.terms.specs.declared.row.HoldState.TheVariants.{Cancelled, Expired}
 use Rattle.terms.specs.declared.command.Command.{Command}
-use Rattle.terms.specs.declared.command.Command.TheVariants.{BeginDay, Branch, Week, Kind, Rule, Patron, Acquire, CheckOut, CheckIn, Renew, PlaceHold, CancelHold, Unshelve, UnshelveCancelled, Missing, Withdraw, CloseDay, OpenDay, Pay, Waive, Page}
+use Rattle.terms.specs.declared.command.Command.TheVariants.{BeginDay, Branch, Week, Kind, Rule, Grace, Patron, Acquire, CheckOut, CheckIn, Renew, PlaceHold, CancelHold, Unshelve, UnshelveCancelled, Missing, Withdraw, CloseDay, OpenDay, Pay, Waive, Page}
 use Rattle.circ_core.specs.declared.changes.Decision.{Decision}
 use Rattle.circ_core.specs.declared.views.View.{View}
 use Rattle.circ_core.specs.Decided.{Decided}
@@ -14,6 +14,7 @@ use Rattle.circ_core.specs.Branch.{branch_checks, branch_rows}
 use Rattle.circ_core.specs.Week.{week_checks, week_rows}
 use Rattle.circ_core.specs.Kind.{kind_checks, kind_rows}
 use Rattle.circ_core.specs.Rule.{rule_checks, rule_rows}
+use Rattle.circ_core.specs.Grace.{grace_checks, grace_rows}
 use Rattle.circ_core.specs.Patron.{patron_checks, patron_rows}
 use Rattle.circ_core.specs.Acquire.{acquire_checks, acquire_rows}
 use Rattle.circ_core.specs.Debt.{owed_by}
@@ -39,6 +40,7 @@ DecidesOn v (OpenDay branch day) decided = Decided (open_day_checks v day) Done 
 DecidesOn v (Kind kind loans holds debt) decided = Decided (kind_checks kind loans holds debt) Done (kind_rows kind loans holds debt) decided
 DecidesOn v (Rule kind copy_kind period renewals rate cap) decided =
     Decided (rule_checks v.kind kind copy_kind period renewals rate cap) Done (rule_rows kind copy_kind period renewals rate cap) decided
+DecidesOn v (Grace kind copy_kind days) decided = Decided (grace_checks v.rule kind copy_kind days) Done (grace_rows v.rule days) decided
 DecidesOn v (Patron patron kind card_key name) decided =
     Decided (patron_checks v patron kind card_key name) Done (patron_rows v patron kind card_key name) decided
 DecidesOn v (Acquire copy title kind home price text) decided =

@@ -15,7 +15,7 @@ use Rattle.circ_core.specs.declared.changes.RowChange.TheVariants.{PutMeta, PutP
 
 -- The fine of a loan that ends today, for the open days of the lending branch after the due day; nothing without a loan.
 abbrev pub fine_due : Option LoanRow → Option Closings → ℕ → ℕ
-fine_due (Some loan) (Some closings) today = fine_for (open_days_after closings loan.due today) loan.rate loan.cap
+fine_due (Some loan) (Some closings) today = fine_for (open_days_after closings loan.due today) loan.rate loan.cap loan.grace
 fine_due _ _ today = 0
 
 -- How many lines a charge makes: one, and none for a charge of zero.

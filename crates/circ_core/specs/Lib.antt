@@ -9,6 +9,7 @@ pub mod Week
 pub mod CloseDay
 pub mod Kind
 pub mod Rule
+pub mod Grace
 pub mod Patron
 pub mod Acquire
 pub mod Condition

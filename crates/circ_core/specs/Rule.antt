@@ -11,6 +11,7 @@ abbrev pub rule_checks : Option KindRow → ℕ → ℕ → ℕ → ℕ → ℕ 
 rule_checks row kind copy_kind period renewals rate cap =
     (OutOfLimits, not (is_within_limits (Rule kind copy_kind period renewals rate cap))) ∷ (UnknownKind, is_none row) ∷ []
 
+-- The rule is set, with no grace days.
 abbrev pub rule_rows : ℕ → ℕ → ℕ → ℕ → ℕ → ℕ → List RowChange
 rule_rows kind copy_kind period renewals rate cap =
-    PutRule (record { kind = kind; copy_kind = copy_kind; period = period; renewals = renewals; rate = rate; cap = cap }) ∷ []
+    PutRule (record { kind = kind; copy_kind = copy_kind; period = period; renewals = renewals; rate = rate; cap = cap; grace = 0 }) ∷ []

@@ -33,10 +33,12 @@ pub record SameRows (P Q : Picture) : Type 0 where
   pub closed_days : (b d : ℕ) → P.closed_days b d ≡ Q.closed_days b d
   pub kinds : (k : ℕ) → P.kinds k ≡ Q.kinds k
   pub rules : (k c : ℕ) → P.rules k c ≡ Q.rules k c
+  pub rules1 : (k c : ℕ) → P.rules1 k c ≡ Q.rules1 k c
   pub patrons : (p : ℕ) → P.patrons p ≡ Q.patrons p
   pub titles : (t : ℕ) → P.titles t ≡ Q.titles t
   pub copies : (c : ℕ) → P.copies c ≡ Q.copies c
   pub loans : (l : ℕ) → P.loans l ≡ Q.loans l
+  pub loans1 : (l : ℕ) → P.loans1 l ≡ Q.loans1 l
   pub holds : (h : ℕ) → P.holds h ≡ Q.holds h
   pub holds1 : (h : ℕ) → P.holds1 h ≡ Q.holds1 h
   pub transits : (c : ℕ) → P.transits c ≡ Q.transits c

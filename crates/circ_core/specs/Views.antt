@@ -13,7 +13,7 @@ use Rattle.terms.specs.declared.row.HoldRow.{HoldRow}
 use Rattle.terms.specs.declared.row.HoldState.TheVariants.{Waiting, Ready}
 use Rattle.terms.specs.declared.row.TransitRow.{TransitRow}
 use Rattle.terms.specs.declared.command.Command.{Command}
-use Rattle.terms.specs.declared.command.Command.TheVariants.{BeginDay, Branch, Week, Kind, Rule, Patron, Acquire, CheckOut, CheckIn, Renew, PlaceHold, CancelHold, Unshelve, UnshelveCancelled, Missing, Withdraw, CloseDay, OpenDay, Pay, Waive, Page}
+use Rattle.terms.specs.declared.command.Command.TheVariants.{BeginDay, Branch, Week, Kind, Rule, Grace, Patron, Acquire, CheckOut, CheckIn, Renew, PlaceHold, CancelHold, Unshelve, UnshelveCancelled, Missing, Withdraw, CloseDay, OpenDay, Pay, Waive, Page}
 use Rattle.terms.specs.Pictures.{Picture}
 use Rattle.model.specs.History.{has_begun}
 use Rattle.circ_core.specs.declared.views.View.{View}
@@ -277,6 +277,7 @@ IsViewOf P (CloseDay branch day) rows = IsClosedDayView P branch rows
 IsViewOf P (OpenDay branch day) rows = IsClosedDayView P branch rows
 IsViewOf P (Kind kind loans holds debt) rows = Unit {0}
 IsViewOf P (Rule kind copy_kind period renewals rate cap) rows = rows.kind ≡ P.kinds kind
+IsViewOf P (Grace kind copy_kind days) rows = rows.rule ≡ P.rules kind copy_kind
 IsViewOf P (Patron patron kind card_key name) rows = IsPatronView P patron kind rows
 IsViewOf P (Acquire copy title kind home price text) rows = IsAcquireView P copy title home rows
 IsViewOf P (CheckOut patron copy branch) rows = IsCheckOutView P patron copy branch rows
@@ -301,6 +302,7 @@ HasOnly (CloseDay branch day) rows = rows ≡ record empty_view { meta = rows.me
 HasOnly (OpenDay branch day) rows = rows ≡ record empty_view { meta = rows.meta; calendar = rows.calendar }
 HasOnly (Kind kind loans holds debt) rows = rows ≡ empty_view
 HasOnly (Rule kind copy_kind period renewals rate cap) rows = rows ≡ record empty_view { kind = rows.kind }
+HasOnly (Grace kind copy_kind days) rows = rows ≡ record empty_view { rule = rows.rule }
 HasOnly (Patron patron kind card_key name) rows = rows ≡ record empty_view { kind = rows.kind; patron = rows.patron }
 HasOnly (Acquire copy title kind home price text) rows = rows ≡ record empty_view { branch = rows.branch; title = rows.title; copy = rows.copy }
 HasOnly (CheckOut patron copy branch) rows = rows ≡ record empty_view {

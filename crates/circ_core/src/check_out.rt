@@ -7,7 +7,7 @@ ghost use Rattle.terms.specs.declared.reply.Reply.TheVariants.{Lent};
 ghost use Rattle.model.specs.Checks.{first_failing};
 ghost use Rattle.circ_core.specs.CheckOut.{stands_at, is_of_other, filled_hold, is_wanted};
 ghost use Rattle.circ_core.specs.CheckOut.{has_more, loans_allowed, check_out_checks, period_of};
-ghost use Rattle.circ_core.specs.CheckOut.{renewals_of, rate_of, cap_of, loan_due, due_in};
+ghost use Rattle.circ_core.specs.CheckOut.{renewals_of, rate_of, cap_of, grace_in, loan_due, due_in};
 ghost use Rattle.circ_core.specs.CheckOut.{check_out_rows, new_loan};
 ghost use Rattle.circ_core.specs.Renew.{is_late};
 
@@ -137,6 +137,7 @@ fn terms_of(rule: &Option<RuleRow>) -> RuleRow
     ensures renewals { result.renewals ≡ renewals_of rule.now }
     ensures rate { result.rate ≡ rate_of rule.now }
     ensures cap { result.cap ≡ cap_of rule.now }
+    ensures grace { result.grace ≡ grace_in rule.now }
 {
     match rule {
         Some(row) => *row,
@@ -147,6 +148,7 @@ fn terms_of(rule: &Option<RuleRow>) -> RuleRow
             renewals: Count::new(0),
             rate: Cents::new(0),
             cap: Cents::new(0),
+            grace: Days::new(0),
         },
     }
 }
@@ -168,6 +170,7 @@ fn loan_for(view: &View, patron: PatronId, copy: CopyId, branch: BranchId, due: 
         rate: rule.rate,
         cap: rule.cap,
         ended: None,
+        grace: rule.grace,
     }
 }
 

@@ -15,6 +15,7 @@ use crate::changes::Decision;
 use crate::check_in::check_in;
 use crate::check_out::check_out;
 use crate::close_day::{close_day, open_day};
+use crate::grace::set_grace;
 use crate::kind::set_kind;
 use crate::missing::declare_missing;
 use crate::page::page;
@@ -27,7 +28,7 @@ use crate::unshelve::{unshelve, unshelve_cancelled};
 use crate::views::View;
 use crate::week::set_week;
 use crate::withdraw::withdraw;
-use terms::{Command, Refusal, RuleRow, Sort};
+use terms::{Command, Days, Refusal, RuleRow, Sort};
 
 /// The refusal of the desk's command, or its reply with the rows that change. The view has the rows
 /// that the command needs. It takes no memory.
@@ -79,9 +80,15 @@ fn decide_on_rows<'a>(view: &'a View, command: &'a Command) -> Result<Decision<'
                 renewals: *renewals,
                 rate: *rate,
                 cap: *cap,
+                grace: Days::new(0),
             };
             set_rule(&view.kind, &rule)
         }
+        Command::Grace {
+            kind,
+            copy_kind,
+            days,
+        } => set_grace(&view.rule, *kind, *copy_kind, *days),
         Command::Patron {
             patron,
             kind,

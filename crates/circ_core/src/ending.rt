@@ -16,7 +16,10 @@ pub(crate) fn fine_of(loan: &Option<LoanRow>, calendar: &Option<Calendar>, today
 {
     match loan {
         Some(row) => match calendar {
-            Some(days) => terms::fine(days.open_days_after(row.due, today), row.rate, row.cap),
+            Some(days) => {
+                let late = days.open_days_after(row.due, today);
+                terms::fine(late, row.rate, row.cap, row.grace)
+            }
             None => Cents::new(0),
         },
         None => Cents::new(0),

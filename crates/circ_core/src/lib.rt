@@ -16,6 +16,7 @@ mod debt;
 mod deciding;
 mod due_day;
 mod ending;
+mod grace;
 mod holds;
 mod kind;
 mod limits;

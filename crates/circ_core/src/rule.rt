@@ -1,8 +1,10 @@
 //! `rule`: a circulation rule.
 
+ghost use Rattle.std.specs.Prelude.{[], ◌∷◌};
 ghost use Rattle.terms.specs.declared.reply.Reply.TheVariants.{Done};
+ghost use Rattle.circ_core.specs.declared.changes.RowChange.TheVariants.{PutRule};
 ghost use Rattle.circ_core.specs.Decided.{Decided};
-ghost use Rattle.circ_core.specs.Rule.{rule_checks, rule_rows};
+ghost use Rattle.circ_core.specs.Rule.{rule_checks};
 
 use crate::changes::{Changes, Decision, RowChange, done};
 use crate::checks::first_refusal;
@@ -14,8 +16,7 @@ pub(crate) fn set_rule<'a>(kind: &Option<KindRow>, rule: &RuleRow) -> Result<Dec
     ensures { Decided
         (rule_checks kind.now rule.now.kind rule.now.copy_kind rule.now.period
         rule.now.renewals rule.now.rate rule.now.cap) Done
-        (rule_rows rule.now.kind rule.now.copy_kind rule.now.period
-        rule.now.renewals rule.now.rate rule.now.cap) result }
+        (PutRule rule.now ∷ []) result }
 {
     let kinds_fit = is_small(rule.kind.number()) && is_small(rule.copy_kind.number());
     let period_fits = 1 <= rule.period.number() && rule.period.number() <= LONGEST_PERIOD;

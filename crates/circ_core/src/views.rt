@@ -22,7 +22,7 @@ pub struct View {
     pub calendar: Option<Calendar>,
     /// The kind of patron that is named, or the patron's kind as it is now.
     pub kind: Option<KindRow>,
-    /// The rule for the patron's kind and the copy's.
+    /// The rule that is named by its two kinds, or the one for the patron's kind and the copy's.
     pub rule: Option<RuleRow>,
     /// The patron who is named, or the borrower of the loan.
     pub patron: Option<PatronRow>,

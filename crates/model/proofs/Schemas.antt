@@ -9,13 +9,12 @@ use Rattle.terms.specs.declared.row.LoanRow1.{LoanRow1}
 use Rattle.terms.specs.declared.row.HoldRow1.{HoldRow1}
 use Rattle.terms.specs.declared.row.HoldState.{HoldState}
 use Rattle.terms.specs.Limits.{InLimits, IsRule1, IsLoan1, IsHold1}
-use Rattle.terms.specs.Money.{fine_for}
 use Rattle.terms.specs.Schemas.{IsOfSchema1, IsOfSchema2, carried, carried_rule, carried_loan, led_to_2, led_to_3}
 use Rattle.model.specs.History.{Event, History, Terms, rule_of, rule_after, PatronFacts, patron_of, CopyFacts, copy_of, next_loan, HoldFacts, has_begun, hold_made, hold_of, hold_after, next_hold, today}
 use Rattle.model.specs.Places.{place, place_after, state, state_after, kept_for, limit, limit_after_by, first_day_of, is_begun}
 use Rattle.model.specs.Loans.{LoanFacts, loan_of, loan_after, terms_for, no_terms, grace_of}
 use Rattle.model.specs.Picture.{picture, rule_row, rule_columns, loan_row, loan_columns, hold_row, hold_with, hold_by}
-use Rattle.model.specs.Schemas.{AreOf, kept_of_by, IsLegalBy, StandsStill, OldListsStand, is_of_schema_2, AreOfSchema2, no_grace, FinesWithoutGrace, lines2, sight2, is_of_schema_1, AreOfSchema1, begun_at_once, place1, state1, limit1, lines1, sight1, Schema1IsWithinSchema2, rule1_columns, loan1_columns, hold1_columns, picture1, picture2, IsLed, OldTablesAreLed}
+use Rattle.model.specs.Schemas.{AreOf, kept_of_by, IsLegalBy, OldListsStand, is_of_schema_2, AreOfSchema2, no_grace, FinesWithoutGrace, lines2, sight2, is_of_schema_1, AreOfSchema1, begun_at_once, place1, state1, limit1, lines1, sight1, Schema1IsWithinSchema2, rule1_columns, loan1_columns, hold1_columns, picture1, picture2, OldTablesAreLed}
 use Rattle.model.specs.Accounts.{lines, lines_then}
 use Rattle.model.specs.Sights.{Sight, sight}
 use Rattle.model.specs.Checks.{first_failing}
