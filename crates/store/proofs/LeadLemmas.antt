@@ -1,43 +1,51 @@
 -- One part of a step after another, inside a transaction.
-use Rattle.std.proofs.Common.{◌≡◌, ◌==◌, ◌<◌, ◌∙◌, ℕ, zero, suc, List, length, map, ltb, cond, Option, Some, None, true, false, refl, sym, ap, subst, arith, IsTrue}
+use Rattle.std.proofs.Common.{◌≡◌, ◌==◌, ◌<◌, ◌∙◌, ℕ, zero, suc, List, [], ◌∷◌, length, map, ltb, cond, inl, inr, ◌⊎◌, Option, Some, None, true, false, refl, sym, ap, subst, arith, IsTrue, true≢false}
 use Rattle.std.specs.Prelude.{Result, Ok, Err, IfErr, OnOk, option_map, slice_get}
 use Rattle.std.specs.List.{All}
 use Rattle.std.specs.Result.{IsErr, IsErrAnd}
 use Rattle.std.proofs.Math.Path.{fun_ext}
-use Rattle.std.proofs.lemmas.Bool.{lt-ltb, le-ltb, ne_eqb}
+use Rattle.std.proofs.lemmas.Bool.{cases_Bool, lt-ltb, le-ltb, ne_eqb}
 use Rattle.sqlite.specs.Effect.{Database}
 use Rattle.sqlite.specs.Held.{state}
-use Rattle.sqlite.specs.Order.{Row}
+use Rattle.sqlite.specs.Order.{Row, column}
 use Rattle.sqlite.specs.Schema.{Schema}
 use Rattle.sqlite.specs.State.{State, HasCleanDisk}
 use Rattle.sqlite.specs.Store.{Ghosts}
 use Rattle.sqlite.specs.declared.transaction.Transaction.{Transaction}
-use Rattle.sql_maps.specs.Maps.{Map, Maps, IsMap, IsFreeFrom, Holds, ListedBy, PairBelow, put as put_map, put_at}
+use Rattle.sql_maps.specs.Maps.{Map, Maps, IsMap, IsFreeFrom, Holds, ListedBy, PairBelow, same_key, put as put_map, put_at}
 use Rattle.sql_maps.proofs.CallLemmas.{on_ok}
-use Rattle.terms.specs.Limits.{InLimits, IsMeta}
+use Rattle.terms.specs.Limits.{InLimits, IsMeta, IsRule1}
+use Rattle.terms.specs.Orders.{IsPairBefore}
 use Rattle.terms.specs.Pictures.{Picture}
 use Rattle.terms.specs.Schemas.{IsOfSchema1, IsOfSchema2}
 use Rattle.terms.specs.declared.row.MetaRow.{MetaRow}
 use Rattle.terms.specs.declared.row.RuleRow1.{RuleRow1}
 use Rattle.terms.specs.declared.fault.Fault.{Fault}
 use Rattle.terms.specs.declared.fault.Fault.TheVariants.{Stored, Database as DatabaseFault}
-use Rattle.circ_tables.specs.Cells.{number_key, meta_cells}
-use Rattle.circ_tables.specs.Encoding.{Any, Encodes, HasPictureAt, AreEncoded, IsEncoded}
+use Rattle.circ_tables.specs.Cells.{number_key, meta_cells, rule1_cells}
+use Rattle.circ_tables.specs.Encoding.{Any, Pair, Encodes, HasPictureAt, AreEncoded, IsEncoded}
 use Rattle.circ_tables.specs.Holds.{holds}
 use Rattle.circ_tables.specs.Holds1.{holds1}
 use Rattle.circ_tables.specs.Loans.{loans}
 use Rattle.circ_tables.specs.Loans1.{loans1}
-use Rattle.circ_tables.specs.Puts.{Makes}
-use Rattle.circ_tables.specs.Reading.{ListsInside}
+use Rattle.circ_tables.specs.Puts.{ChangesRows, Makes}
+use Rattle.circ_tables.specs.Reading.{GetsMetaInside, ListsInside}
 use Rattle.circ_tables.specs.Rules.{rules}
 use Rattle.circ_tables.specs.Rules1.{rules1}
 use Rattle.circ_tables.specs.SchemaNumber.{NamesSchema}
 use Rattle.circ_tables.specs.Selections.{is_any}
-use Rattle.circ_tables.specs.Shape.{schema_at, meta_place, rules1_place, loans1_place, holds1_place, holds_place, rules_place, loans_place}
+use Rattle.circ_tables.specs.Shape.{HasTable, has_third, schema_at, meta, meta_place, rules1_place, loans1_place, holds1_place, holds_place, rules_place, loans_place}
+use Rattle.circ_tables.proofs.TableLemmas.{rules1_within}
 use Rattle.store.specs.Legal.{HasLegal}
 use Rattle.store.specs.Library.{HasTablesAt}
-use Rattle.store.specs.Migrating.{LeadsInside, LeadsFrom, NamesInside, AreMoved, AreNamed, AreLedOn, AreLedIfNamed, all_over}
-use Rattle.store.specs.Routes.{holds_route, rules_route, loans_route}
+use Rattle.store.specs.Lists.{AreAllOf}
+use Rattle.store.specs.Migrating.{LeadsInside, NamesInside, CarriesAll, MovesPage, IsToCarry, AreMoved, AreNamed, AreLedOn, AreLedIfNamed, move_rows, all_over}
+use Rattle.store.specs.Routes.{rules_route, rules_carried}
+use Rattle.store.specs.Schemas.{IsKnown}
+use Rattle.store.proofs.OpenLemmas.{of_known}
+use Rattle.store.proofs.ListLemmas.{all_are, pair_before}
+use Rattle.store.proofs.MigrateLemmas.{list_over, read_there}
+use Rattle.store.proofs.MovedRows.{listed_moved}
 use Rattle.store.proofs.Steps.{then, keeps_then}
 
 -- ---- a part that ended well, and then another
@@ -111,6 +119,11 @@ cut_holds s db maps holds = record {
   tables = λ at table there. subst (λ (m : Map). IsMap table (db.trees table.tree) m) (sym (cut_is (length s.tables) maps at (got_below s.tables at table there))) (holds.tables at table there);
 }
 
+-- Only the database refuses it.
+not_stored : {T : Type 0} (r : Result T Fault) → IfErr r (λ fault. fault ≡ DatabaseFault) → r ≡ Err Stored → ⊥
+not_stored (Ok x) fault told = cc
+not_stored (Err e) fault told = let same : e ≡ Stored = cc in let never : DatabaseFault ≡ Stored = sym fault ∙ same in cc
+
 -- The tables of another schema were made beside those of one.
 pub made_leads : {S T : Type 0} (g : Ghosts S) {old new : Transaction S} (r : Result T Fault) (from to place : ℕ) → length (schema_at from).tables ≡ place → (IsReady : Picture → Type 0)
     → ((maps : Maps) (P : Picture) → Encodes maps P → IsReady P → Encodes (cut place maps) P) → Makes (schema_at from) (schema_at to) g old new r
@@ -130,10 +143,6 @@ made_leads g {old} {new} r from to place long IsReady encodes made = record {
 
     held : (maps : Maps) → Holds (schema_at from) (state g old.conn.now).now maps → Holds (schema_at from) (state g old.conn.now).now (cut place maps)
     held maps holds = subst (λ n. Holds (schema_at from) (state g old.conn.now).now (cut n maps)) long (cut_holds (schema_at from) (state g old.conn.now).now maps holds)
-
-    not_stored : (r : Result _ Fault) → IfErr r (λ fault. fault ≡ DatabaseFault) → r ≡ Err Stored → ⊥
-    not_stored (Ok x) fault told = cc
-    not_stored (Err e) fault told = let same : e ≡ Stored = cc in let never : DatabaseFault ≡ Stored = sym fault ∙ same in cc
 
 -- A table that is made has no row.
 none_encoded : {K R : Type 0} {key : K → Row} {cells : R → Row} {t : K → Option R} → ((k : K) → t k ≡ None) → IsEncoded Any key cells (λ j. None) t
@@ -197,10 +206,92 @@ names_still a b n same is = record {
 pub meta_put : (maps : Maps) (k v : Row) (at : ℕ) → (at == meta_place) ≡ false → put_at maps meta_place k v at ≡ maps at
 meta_put maps k v at aside = fun_ext (λ j. ap (λ b. cond b (put_map (maps meta_place) k v j) (maps at j)) aside)
 
+-- A row of `meta` stands under its number.
+meta_key : (n : ℕ) → IsKnown n → (db : Database) (maps : Maps) → Holds (schema_at n) db maps → (k v : Row) → maps meta_place k ≡ Some v → k ≡ column v 0 ∷ []
+meta_key n known db maps holds = of_known (λ maps. (k v : Row) → maps meta_place k ≡ Some v → k ≡ column v 0 ∷ []) db
+    (λ more others maps holds k v e. let it = (holds.tables meta_place meta refl).whole k v e in sym it.2 ∙ ap (λ w. column w 0 ∷ []) it.3) n known maps holds
+
+-- Where the one row that named a schema is put, it names the one that it is put with.
+put_names : (n m : ℕ) → IsKnown n → (db : Database) (maps : Maps) → Holds (schema_at n) db maps → NamesSchema maps m → (row new : MetaRow) → maps meta_place (number_key 1) ≡ Some (meta_cells row)
+    → NamesSchema (put_at maps meta_place (number_key 1) (meta_cells new)) new.schema
+put_names n m known db maps holds names row new there = record { key = number_key 1; row = meta_cells new; there = refl; alone = λ k v e. at k v (cases_Bool (same_key k (number_key 1))) e; schema = refl }
+  where
+    at : (k v : Row) → (same_key k (number_key 1) ≡ true) ⊎ (same_key k (number_key 1) ≡ false) → cond (same_key k (number_key 1)) (Some (meta_cells new)) (maps meta_place k) ≡ Some v → v ≡ meta_cells new
+    at k v (inl hit) e =
+        let both : Some (meta_cells new) ≡ Some v = ap (λ b. cond b (Some (meta_cells new)) (maps meta_place k)) (sym hit) ∙ e in
+        let same : meta_cells new ≡ v = cc in
+        sym same
+    at k v (inr miss) e =
+        let was : maps meta_place k ≡ Some v = ap (λ b. cond b (Some (meta_cells new)) (maps meta_place k)) (sym miss) ∙ e in
+        let is : v ≡ meta_cells row = names.alone k v was ∙ sym (names.alone (number_key 1) (meta_cells row) there) in
+        let key : k ≡ number_key 1 = meta_key n known db maps holds k v was ∙ ap (λ w. column w 0 ∷ []) is in
+        absurd (true≢false (sym (subst (λ j. same_key j (number_key 1) ≡ true) (sym key) refl) ∙ miss))
+
+-- The row of `meta` could not be read.
+pub names_unread : {S U : Type 0} (g : Ghosts S) {old new : Transaction S} {fault : Fault} (r : Result U Fault) (n : ℕ) → IsKnown n → IsErr r × IsErrAnd r (λ e. e ≡ fault) → GetsMetaInside g old new (Err fault) → NamesInside n g old new r
+names_unread g r n known is read = leads_failed g r is (λ P ready. ready) (record {
+  same_reference = read.works.same_reference;
+  survives = read.works.survives;
+  kept = λ clean begun there. read.works.kept clean begun;
+  inside = λ clean begun there. tt;
+  rows = λ clean begun maps holds. tt;
+  leads = λ clean begun P shown ready. tt;
+  sound = λ clean begun told P shown ready. read.sound n known clean P shown ready told;
+})
+
+module _ {S T U : Type 0} (g : Ghosts S) {old mid new : Transaction S} {row : MetaRow} (n : ℕ) (known : IsKnown n) (read : GetsMetaInside g old mid (Ok row)) where
+  abbrev pub PutsNamed : Result T Fault → Type 0
+  PutsNamed = ChangesRows 1 (λ maps. put_at maps meta_place (number_key 1) (meta_cells (record row { schema = n }))) (Unit {0}) (λ P. record P { meta = record row { schema = n } }) g mid new
+
+  -- It could not be put.
+  pub names_not_put : {fault : Fault} (r : Result U Fault) → IsErr r × IsErrAnd r (λ e. e ≡ fault) → PutsNamed (Err fault) → NamesInside n g old new r
+  names_not_put r is put = leads_failed {T = T} g r is (λ P ready. ready) (record {
+    same_reference = put.works.same_reference ∙ read.works.same_reference;
+    survives = then _ _ _ read.works.survives put.works.survives;
+    kept = λ clean begun there. keeps_then _ _ _ (read.works.kept (omega (arith, clean, put.works.survives.clean)) begun) (put.works.kept clean);
+    inside = λ clean begun there. tt;
+    rows = λ clean begun maps holds. tt;
+    leads = λ clean begun P shown ready. tt;
+    sound = λ clean begun told P shown ready. not_stored {T} _ put.fault told;
+  })
+
+  -- It was put.
+  pub names_put : {t : T} (x : U) → PutsNamed (Ok t) → NamesInside n g old new (Ok x)
+  names_put x put = record {
+    same_reference = put.works.same_reference ∙ read.works.same_reference;
+    survives = then _ _ _ read.works.survives put.works.survives;
+    kept = λ clean begun there. keeps_then _ _ _ (read.works.kept (early clean) begun) (put.works.kept clean);
+    inside = λ clean begun there. (put.steps clean (between clean begun there) n known).is_inside;
+    rows = λ clean begun maps holds.
+        let seen = read.gets n known (early clean) maps holds in
+        let steps = put.steps clean (between clean begun (maps, holds)) n known in (
+          put_at maps meta_place (number_key 1) (meta_cells (record row { schema = n })),
+          steps.maps maps (subst (λ d. Holds (schema_at n) d maps) (sym seen.1.0.now_is) holds),
+          record {
+            meta = λ m names. (
+              λ k v e. (row, read.limits, names.alone k v e ∙ sym (names.alone (number_key 1) (meta_cells row) seen.0)),
+              put_names n m known _ maps holds names row (record row { schema = n }) seen.0,
+            );
+            others = meta_put maps (number_key 1) (meta_cells (record row { schema = n }));
+          },
+        );
+    leads = λ clean begun P shown ready.
+        let meta = read.shows n known (early clean) P shown in
+        subst (λ (m : MetaRow). HasPictureAt n (state g new.conn.now).now (record P { meta = record m { schema = n } })) meta.0
+        ((put.draws clean (between clean begun (shown.maps, shown.holds)) tt n known).picture P (subst (λ d. HasPictureAt n d P) (sym meta.1.0.now_is) shown));
+    sound = λ clean begun told P shown ready. (let never : ⊥ = cc in never);
+  }
+    where
+      early : HasCleanDisk (state g new.conn.now) → HasCleanDisk (state g mid.conn.now)
+      early clean = omega (arith, put.works.survives.clean)
+
+      between : HasCleanDisk (state g new.conn.now) → IsTrue (state g old.conn.now).in_transaction → HasTablesAt n (state g old.conn.now).now → IsTrue (state g mid.conn.now).in_transaction
+      between clean begun there = (read_there n _ _ begun there (read.gets n known (early clean))).0
+
 -- ---- a whole step
 
 -- The holds were moved into a table that was made.
-record HoldsMoved (maps now : Maps) : Type 0 where
+pub record HoldsMoved (maps now : Maps) : Type 0 where
   pub legal : HasLegal holds1 maps
   pub others : (at : ℕ) → at < holds_place → (at == holds1_place) ≡ false → now at ≡ maps at
 
@@ -221,11 +312,11 @@ led_to_second a b c moved named m names =
     }
 
 -- So the rules, and then the loans.
-record RulesMoved (maps now : Maps) : Type 0 where
+pub record RulesMoved (maps now : Maps) : Type 0 where
   pub legal : HasLegal rules1 maps
   pub others : (at : ℕ) → at < rules_place → (at == rules1_place) ≡ false → now at ≡ maps at
 
-record LoansMoved (maps now : Maps) : Type 0 where
+pub record LoansMoved (maps now : Maps) : Type 0 where
   pub rules_legal : HasLegal rules1 maps
   pub loans_legal : HasLegal loans1 maps
   pub others : (at : ℕ) → at < rules_place → (at == rules1_place) ≡ false → (at == loans1_place) ≡ false → now at ≡ maps at
@@ -252,3 +343,69 @@ led_to_third a b c moved named m names =
       named = it.1;
       others = λ at left. named.others at left.1 ∙ moved.others at left.0 left.2 left.3;
     }
+
+-- ---- rules, which are listed as a whole
+
+rule1_told : (a b : RuleRow1) → IsRule1 a → IsRule1 b → rule1_cells a ≡ rule1_cells b → a ≡ b
+rule1_told a b p q e =
+    let same_kind : a.kind ≡ b.kind = cc in
+    let same_copy_kind : a.copy_kind ≡ b.copy_kind = cc in
+    let same_period : a.period ≡ b.period = cc in
+    let same_renewals : a.renewals ≡ b.renewals = cc in
+    let same_rate : a.rate ≡ b.rate = cc in
+    let same_cap : a.cap ≡ b.cap = cc in
+    λ i. record { kind = same_kind i; copy_kind = same_copy_kind i; period = same_period i; renewals = same_renewals i; rate = same_rate i; cap = same_cap i }
+
+abbrev comes_before : RuleRow1 → RuleRow1 → Type 0
+comes_before r s = IsPairBefore (r.kind, r.copy_kind) (s.kind, s.copy_kind)
+
+pub own_rules : (P : Picture) → InLimits P → (k : Pair) (r : RuleRow1) → P.rules1 k.0 k.1 ≡ Some r → ((r.kind, r.copy_kind) ≡ k) × IsRule1 r
+own_rules P legal k r e = let mine = legal.rules1 k.0 k.1 r e in ((λ i. (mine.0 i, mine.1 i)), mine.2)
+
+rules_listed : (maps : Maps) (P : Picture) → Encodes maps P → InLimits P → (rows : List RuleRow1) → All IsRule1 rows → ListedBy PairBelow (maps rules1_place) is_any (map rule1_cells rows) → AreAllOf rules1 (λ r. (r.kind, r.copy_kind)) comes_before P rows
+rules_listed =
+    all_are rules1 (λ r. (r.kind, r.copy_kind)) comes_before Any rule1_told (λ a b p q less. pair_before a.kind a.copy_kind b.kind b.copy_kind less) (λ maps P is. is.rules1)
+    (λ P legal k r e. let mine = own_rules P legal k r e in (tt, mine.0, mine.1))
+
+pub rules_unread : {S L T : Type 0} {g : Ghosts S} {old new : Transaction S} {items : L → List RuleRow1} {fault : Fault} → ListsInside {L = L} rules1 items (λ m. ListedBy PairBelow m is_any) g old new (Err fault)
+    → LeadsInside {S} {L} 3 3 (AreMoved rules1 rules) (IsToCarry rules) (all_over rules1 rules_route) g old new (Err fault)
+rules_unread read = record {
+  same_reference = read.works.same_reference;
+  survives = read.works.survives;
+  kept = λ clean begun there. read.works.kept clean begun;
+  inside = λ clean begun there. tt;
+  rows = λ clean begun maps holds. tt;
+  leads = λ clean begun P shown ready. tt;
+  sound = λ clean begun told P shown ready. read.stored 3 (omega arith, omega arith) clean told shown.maps shown.holds (rules1_within shown.maps P shown.encodes ready.0);
+}
+
+pub rules_moved : {S L T : Type 0} (g : Ghosts S) {old mid new : Transaction S} {items : L → List RuleRow1} {l : L} (r : Result T Fault) → ListsInside rules1 items (λ m. ListedBy PairBelow m is_any) g old mid (Ok l) → MovesPage rules1 rules rules_route (items l) g mid new r
+    → CarriesAll rules1 rules rules_route g old new r
+rules_moved g {old} {mid} {new} {items} {l} r read moves = record {
+  same_reference = moves.works.same_reference ∙ read.works.same_reference;
+  survives = then _ _ _ read.works.survives moves.works.survives;
+  kept = λ clean begun there. keeps_then _ _ _ (read.works.kept (early clean) begun) (moves.works.kept clean);
+  inside = λ clean begun there. on_ok r (λ steps. (steps 3 has_third).is_inside) (moves.steps clean (between clean begun there).0);
+  rows = λ clean begun maps holds.
+      let seen = read.lists 3 has (early clean) maps holds in
+      on_ok r (λ steps. (
+        move_rows rules1 rules rules_route (items l) maps,
+        (steps 3 has_third).maps maps (subst (λ d. Holds (schema_at 3) d maps) (sym seen.1.0.now_is) holds),
+        listed_moved rules_carried (items l) maps read.limits seen.0,
+      )) (moves.steps clean (between clean begun (maps, holds)).0);
+  leads = λ clean begun P shown ready.
+      let seen = read.lists 3 has (early clean) shown.maps shown.holds in
+      on_ok r (λ draws. subst (HasPictureAt 3 (state g new.conn.now).now)
+      (list_over rules_carried P (own_rules P ready.0) ready.1 (items l) (rules_listed shown.maps P shown.encodes ready.0 (items l) read.limits seen.0))
+      ((draws 3 has_third).picture P (subst (λ d. HasPictureAt 3 d P) (sym seen.1.0.now_is) shown))) (moves.draws clean (between clean begun (shown.maps, shown.holds)).0 tt);
+  sound = λ clean begun told P shown ready. not_stored r moves.fault told;
+}
+  where
+    has : HasTable 1 3
+    has = (omega arith, omega arith)
+
+    early : HasCleanDisk (state g new.conn.now) → HasCleanDisk (state g mid.conn.now)
+    early clean = omega (arith, moves.works.survives.clean)
+
+    between : HasCleanDisk (state g new.conn.now) → IsTrue (state g old.conn.now).in_transaction → HasTablesAt 3 (state g old.conn.now).now → IsTrue (state g mid.conn.now).in_transaction × HasTablesAt 3 (state g mid.conn.now).now
+    between clean begun there = read_there 3 _ _ begun there (read.lists 3 has (early clean))
