@@ -81,9 +81,6 @@ lines2 (e ∷ H) = lines_then H (place H) no_grace e.command (lines2 H)
 abbrev pub sight2 : History → Sight
 sight2 H = record (sight H) { grace = no_grace; lines = lines2 H }
 
-abbrev pub kept_of2 : History → Owner → List ℕ → Option Kept
-kept_of2 = kept_of_by sight2
-
 abbrev pub IsLegal2 : History → Type 0
 IsLegal2 = IsLegalBy is_of_schema_2 sight2
 
@@ -126,9 +123,6 @@ lines1 (e ∷ H) = lines_then H (place1 H) no_grace e.command (lines1 H)
 -- What a list showed.
 abbrev pub sight1 : History → Sight
 sight1 H = record { place = place1 H; state = state1 H; begun = begun_at_once; limit = limit1 H; grace = no_grace; lines = lines1 H }
-
-abbrev pub kept_of1 : History → Owner → List ℕ → Option Kept
-kept_of1 = kept_of_by sight1
 
 abbrev pub IsLegal1 : History → Type 0
 IsLegal1 = IsLegalBy is_of_schema_1 sight1
