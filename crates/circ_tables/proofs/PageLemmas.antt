@@ -40,48 +40,6 @@ use Rattle.circ_tables.proofs.ListLemmas.{pair_tells, pair_below}
 pub there : (most : ℕ) (m : Map) (good : Row → _) (rows : List Row) → FirstRows most m good rows → (v : Row) → Has rows v → (k : Row) × (m k ≡ Some v)
 there most m good rows first v has = let at = first.sound v has in (at.0, at.1)
 
--- ---- overdue loans, whose order names `ended` first
-
-abbrev overdue_text : List ℕ
-overdue_text = OVERDUE_LOANS_AFTER_TEXT.now
-
-abbrev overdue_tests : List Term
-overdue_tests = op2 (Compare Eq Binary) (col 1 4) (col 0 0) ∷ op2 (Is Binary) (col 1 11) (lit Null) ∷ op2 (Compare Lt Binary) (col 1 6) (col 0 1) ∷ op2 (Compare Gt Binary) (col 1 0) (col 0 2) ∷ []
-
-abbrev by_ended : List (Term × Key)
-by_ended = (col 1 11, ascending Binary) ∷ (col 1 0, ascending Binary) ∷ []
-
-overdue_pages : Pages schema loans_place loans overdue_tests by_ended PAGE_ROWS (names_of loans) overdue_text
-unfolding understood everything
-overdue_pages = record { listed = refl; command = refl; bare = (refl, refl); unlisted = refl; single = λ r. refl; key_cell = λ r. refl; as_cells = λ given l. refl; cut = λ given l. refl }
-
-pub overdue_plain : (s : Schema) → s ≡ schema → IsPlain (understood s overdue_text)
-overdue_plain s e = subst (λ z. IsPlain (understood z overdue_text)) (sym e) overdue_pages.bare
-
--- what is no value is absent
-pub absent_is : (v : Value) → is_true (binary (Is Binary) v Null) ≡ true → v ≡ Null
-unfolding binary value_cmp lib.Ieee.is_nan lib.Ieee.lt
-absent_is Null h = refl
-absent_is (Int n) h = absurd (true≢false (sym h))
-absent_is (Real x) h = absurd (true≢false (sym h))
-absent_is (Text t) h = absurd (true≢false (sym h))
-absent_is (Blob b) h = absurd (true≢false (sym h))
-
-pub nothing_tied : value_cmp Null Null ≡ Equal
-unfolding value_cmp lib.Ieee.is_nan lib.Ieee.lt
-nothing_tied = refl
-
--- rows that passed have no day on which they ended, so they are in the order of their numbers
-no_end : (given : Row) (x : Row) → list_all (passes_test (given ∷ x ∷ [])) overdue_tests ≡ true → column x 11 ≡ Null
-no_end given x pass = absent_is (column x 11) (and_parts _ _ (and_parts _ _ pass).1).0
-
-pub overdue_found : (a b c : ℕ) → (old new : State) (rows : List Row) → Shown overdue_text (Int (pos a) ∷ Int (pos b) ∷ Int (pos c) ∷ []) old new rows → (maps : Maps) → Holds schema old.now maps
-    → FirstRows PAGE_ROWS (maps loans_place) (is_overdue_after a b c) rows × IsUnchanged old new
-overdue_found a b c =
-    let given : Row = Int (pos a) ∷ Int (pos b) ∷ Int (pos c) ∷ [] in
-    page_found schema loans_place loans overdue_tests by_ended PAGE_ROWS (names_of loans) overdue_text given (is_overdue_after a b c) (λ r. refl)
-    (λ x y p q less. rw (no_end given x p, no_end given y q, less, nothing_tied) refl) overdue_pages
-
 -- ---- what is kept, by callers and keys
 
 -- a row of such a page is one of the map
