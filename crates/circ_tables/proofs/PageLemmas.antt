@@ -1,19 +1,12 @@
 -- What the pages find.
-use Rattle.std.proofs.Common.{◌≡◌, ℕ, Some, pos, true, List, [], ◌∷◌, false, refl, sym, subst, Equal, true≢false}
-use Rattle.std.specs.List.{list_all}
-use Rattle.std.proofs.lemmas.Bool.{and_parts}
-use Rattle.sqlite.specs.declared.types.Value.TheVariants.{Null, Int, Real, Text, Blob}
-use Rattle.sqlite_value.specs.declared.value.Value.{Value}
+use Rattle.std.proofs.Common.{◌≡◌, ℕ, Some, pos, List, [], ◌∷◌, false, refl, sym, subst}
+use Rattle.sqlite.specs.declared.types.Value.TheVariants.{Int, Text}
 use Rattle.sqlite_value.specs.declared.keys.Collation.TheVariants.{Binary}
-use Rattle.sqlite_value.specs.declared.keys.Key.{Key}
-use Rattle.sqlite_value.specs.Keys.{ascending}
-use Rattle.sqlite_value.specs.Order.{value_cmp}
 use Rattle.sqlite.specs.Order.{Row, column}
 use Rattle.sqlite.specs.Schema.{Schema}
-use Rattle.sqlite.specs.Term.{Term, lit, col, op2, holds as passes_test}
-use Rattle.sqlite_sql.specs.Ops.{binary, is_true}
-use Rattle.sqlite_sql.specs.declared.ops.BinaryOp.TheVariants.{Compare, Is}
-use Rattle.sqlite_sql.specs.declared.ops.CompareOp.TheVariants.{Eq, Gt, Lt}
+use Rattle.sqlite.specs.Term.{Term, lit, col, op2}
+use Rattle.sqlite_sql.specs.declared.ops.BinaryOp.TheVariants.{Compare}
+use Rattle.sqlite_sql.specs.declared.ops.CompareOp.TheVariants.{Eq, Gt}
 use Rattle.sqlite.specs.Listing.{understood, reads_listing}
 use Rattle.sqlite.specs.Given.{IsPlain}
 use Rattle.sqlite.specs.State.{State, Shown, IsUnchanged}
@@ -24,16 +17,14 @@ use Rattle.sqlite_tied.specs.Listing.{each_column}
 use Rattle.sql_maps.specs.Maps.{Map, Maps, Holds, PairBelow}
 use Rattle.sql_maps.specs.Pages.{FirstRows, FirstRowsBy}
 use Rattle.sqlite_rules.specs.Lists.{Has}
-use Rattle.sql_maps.proofs.PageLemmas.{Pages, page_found}
 use Rattle.sql_maps.proofs.OrderLemmas.{page_sorted}
 use Rattle.sql_maps.proofs.Words.{in_order_up_to}
 use Rattle.circ_tables.specs.Paired.{by_pair}
-use Rattle.circ_tables.specs.Shape.{schema, loans, kept, loans_place, kept_place}
+use Rattle.circ_tables.specs.Shape.{schema, kept, kept_place}
 use Rattle.circ_tables.specs.Texts.{names_of}
-use Rattle.circ_tables.specs.Selections.{is_overdue_after, is_after, is_any, is_kept_after}
+use Rattle.circ_tables.specs.Selections.{is_after, is_any, is_kept_after}
 use Rattle.circ_tables.specs.declared.by_number.TheConstants.{PAGE_ROWS}
 use Rattle.circ_tables.specs.declared.kept.TheConstants.{FIRST_KEPT_TEXT, KEPT_AFTER_TEXT, KEPT_PAST_TEXT}
-use Rattle.circ_tables.specs.declared.loans.TheConstants.{OVERDUE_LOANS_AFTER_TEXT}
 use Rattle.circ_tables.proofs.ListLemmas.{pair_tells, pair_below}
 
 -- a row of a page is one of the map
