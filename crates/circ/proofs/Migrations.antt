@@ -1,20 +1,18 @@
 -- What is said of a library that was led to the newest schema, or not.
-use Rattle.std.proofs.Common.{◌≡◌, ◌≤◌, ◌+◌, ◌∙◌, ◌⊎◌, ℕ, zero, suc, inl, inr, refl, ap, subst, arith}
+use Rattle.std.proofs.Common.{◌≡◌, ◌≤◌, ◌+◌, ◌∙◌, ℕ, zero, suc, inl, inr, refl, ap, subst, arith}
 use Rattle.std.specs.Prelude.{Result, Ok, Err, ◌-◌}
-use Rattle.sqlite.specs.Effect.{Database}
-use Rattle.store.specs.Library.{Ghosts, Held, State, state, HasCleanDisk}
+use Rattle.store.specs.Library.{Ghosts, Held, State, state, HasCleanDisk, IsOpen}
 use Rattle.store.specs.Migrating.{Migrates, IsLibrary}
 use Rattle.store.specs.Schemas.{IsKnown}
 use Rattle.store.specs.Stops.{Leaves, KeepsPicture, KeepsPictureAt, LeavesPicture}
-use Rattle.circ_tables.specs.Encoding.{HasPicture, HasPictureAt}
+use Rattle.circ_tables.specs.Encoding.{HasPictureAt}
+use Rattle.circ_tables.specs.Shape.{since_first}
 use Rattle.terms.specs.Limits.{InLimits}
-use Rattle.terms.specs.Pictures.{Picture}
 use Rattle.terms.specs.Schemas.{IsOfSchema, led_by, led_to_3}
 use Rattle.terms.specs.Texts.{fault_number}
 use Rattle.terms.specs.declared.fault.Fault.{Fault}
 use Rattle.terms.specs.declared.fault.Fault.TheVariants.{Stored}
 use Rattle.terms.specs.declared.limits.TheConstants.{SCHEMA}
-use Rattle.model.specs.Forms.{HasForms}
 use Rattle.model.specs.History.{History}
 use Rattle.model.specs.Picture.{picture}
 use Rattle.model.specs.Requests.{IsLegal}
@@ -26,33 +24,26 @@ use Rattle.circ.specs.declared.lines.Exit.TheVariants.{Done, Faulted}
 use Rattle.circ.specs.Lines.{schema_line, fault_line}
 use Rattle.circ.specs.Migrating.{ShowsAt, IsFrom, LeavesOneSchema, SaysOneOf}
 
-each-known : (Is : ℕ → Type 0) → Is 1 → Is 2 → Is 3 → (n : ℕ) → IsKnown n → Is n
-each-known Is one two three zero known = let low : 1 ≤ 0 = known.0 in absurd (omega (arith, low))
-each-known Is one two three (suc zero) known = one
-each-known Is one two three (suc (suc zero)) known = two
-each-known Is one two three (suc (suc (suc zero))) known = three
-each-known Is one two three (suc (suc (suc (suc n)))) known = let high : suc (suc (suc (suc n))) ≤ 3 = known.1 in absurd (omega (arith, high))
-
 newest : IsKnown SCHEMA
 newest = (omega arith, omega arith)
 
 -- A list that was legal with a schema is legal.
 legal-now : (n : ℕ) → IsKnown n → (H : History) → IsLegalAt n H → IsLegal H
-legal-now = each-known (λ n. (H : History) → IsLegalAt n H → IsLegal H) (λ H was. (stands-1 H was).legal) (λ H was. (stands-2 H was).legal) (λ H was. was)
+legal-now = since_first (λ n. (H : History) → IsLegalAt n H → IsLegal H) (λ H was. (stands-1 H was).legal) (λ H was. (stands-2 H was).legal) (λ H was. was)
 
 -- Its tables are those of the schema, and keep to their limits.
 of-schema : (n : ℕ) → IsKnown n → (H : History) → IsOfSchema n (picture_at n H)
-of-schema = each-known (λ n. (H : History) → IsOfSchema n (picture_at n H)) of_schema_1 of_schema_2 (λ H. refl)
+of-schema = since_first (λ n. (H : History) → IsOfSchema n (picture_at n H)) of_schema_1 of_schema_2 (λ H. refl)
 
 in-limits : (n : ℕ) → IsKnown n → (H : History) → InLimits (picture H) → InLimits (picture_at n H)
-in-limits = each-known (λ n. (H : History) → InLimits (picture H) → InLimits (picture_at n H)) (λ H legal. limits1 H (limits2 H legal)) limits2 (λ H legal. legal)
+in-limits = since_first (λ n. (H : History) → InLimits (picture H) → InLimits (picture_at n H)) (λ H legal. limits1 H (limits2 H legal)) limits2 (λ H legal. legal)
 
 is-library : (n : ℕ) → IsKnown n → (s : State) (H : History) → ShowsAt n s H → IsLibrary n s.now (picture_at n H)
 is-library n known s H shows = (shows.tables.now, of-schema n known H, in-limits n known H (legal-rows H (legal-now n known H shows.legal) shows.forms))
 
 -- After any steps they are those of the same list in the schema that these lead to, with which it was legal too.
 led-by : (n : ℕ) → IsKnown n → (steps : ℕ) → n + steps ≤ SCHEMA → (H : History) → IsLegalAt n H → (led_by steps n (picture_at n H) ≡ picture_at (n + steps) H) × IsLegalAt (n + steps) H
-led-by = each-known (λ n. (steps : ℕ) → n + steps ≤ SCHEMA → (H : History) → IsLegalAt n H → (led_by steps n (picture_at n H) ≡ picture_at (n + steps) H) × IsLegalAt (n + steps) H) first second third
+led-by = since_first (λ n. (steps : ℕ) → n + steps ≤ SCHEMA → (H : History) → IsLegalAt n H → (led_by steps n (picture_at n H) ≡ picture_at (n + steps) H) × IsLegalAt (n + steps) H) first second third
   where
     first : (steps : ℕ) → 1 + steps ≤ SCHEMA → (H : History) → IsLegalAt 1 H → (led_by steps 1 (picture_at 1 H) ≡ picture_at (1 + steps) H) × IsLegalAt (1 + steps) H
     first zero few H legal = (refl, legal)
@@ -71,7 +62,7 @@ led-by = each-known (λ n. (steps : ℕ) → n + steps ≤ SCHEMA → (H : Histo
 
 -- After all of them they are those of the newest.
 led-up : (n : ℕ) → IsKnown n → (H : History) → IsLegalAt n H → led_by (SCHEMA - n) n (picture_at n H) ≡ picture H
-led-up = each-known (λ n. (H : History) → IsLegalAt n H → led_by (SCHEMA - n) n (picture_at n H) ≡ picture H)
+led-up = since_first (λ n. (H : History) → IsLegalAt n H → led_by (SCHEMA - n) n (picture_at n H) ≡ picture H)
     (λ H legal. (led-by 1 (omega arith, omega arith) 2 (omega arith) H legal).0) (λ H legal. (led-by 2 (omega arith, omega arith) 1 (omega arith) H legal).0) (λ H legal. refl)
 
 -- What shows a list in the newest schema shows it as one of that schema.
