@@ -390,7 +390,7 @@ def tried(behind, pictures):
             serving.kill()
         need("the hold was cancelled once", serving.rows("SELECT count(*) FROM kept WHERE text = 'cancel-hold 4'"), [(1,)])
         need("the hold from a day on", serving.rows("SELECT text, reply FROM kept WHERE caller = 1 AND text LIKE 'place-hold-from%'"), [("place-hold-from 1 300 2 2026-04-01", "hold 5")])
-        need("there is one loan of the copy", serving.rows("SELECT count(*) FROM loans WHERE copy = 20 AND ended IS NULL"), [(1,)])
+        need("there is one loan of the copy", serving.rows("SELECT count(*) FROM loans3 WHERE copy = 20 AND ended IS NULL"), [(1,)])
         need("an audit", outside.run(outside.PROGRAM, "audit", serving.path).stdout, "sound\n")
 
 
