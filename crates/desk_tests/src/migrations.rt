@@ -280,7 +280,10 @@ fn a_stop_at_each_call_of_the_database_leaves_whole_steps(rt: HostRuntime) -> Re
     for library in [FIRST, SECOND] {
         let hits = stops(&rt, rt.alloc(), library, false)?;
         assert!(rt;
-            hits.first.saturating_add(hits.second).saturating_add(hits.newest) > 4,
+            hits.first
+                .saturating_add(hits.second)
+                .saturating_add(hits.newest)
+                > 4,
             "{} {} {}",
             hits.first,
             hits.second,
