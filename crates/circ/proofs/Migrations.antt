@@ -1,61 +1,142 @@
 -- What is said of a library that was led to the newest schema, or not.
-use Rattle.std.proofs.Common.{◌≡◌, ◌⊎◌, inl, inr, refl, ap, subst}
-use Rattle.std.specs.Prelude.{Result, Ok, Err}
+use Rattle.std.proofs.Common.{◌≡◌, ◌≤◌, ◌+◌, ◌∙◌, ◌⊎◌, ℕ, zero, suc, inl, inr, refl, ap, subst, arith}
+use Rattle.std.specs.Prelude.{Result, Ok, Err, ◌-◌}
+use Rattle.sqlite.specs.Effect.{Database}
 use Rattle.store.specs.Library.{Ghosts, Held, State, state, HasCleanDisk}
-use Rattle.store.specs.Migrating.{Migrates, IsLibrary1}
-use Rattle.store.specs.Stops.{Leaves, KeepsPicture, LeavesPicture}
+use Rattle.store.specs.Migrating.{Migrates, IsLibrary}
+use Rattle.store.specs.Schemas.{IsKnown}
+use Rattle.store.specs.Stops.{Leaves, KeepsPicture, KeepsPictureAt, LeavesPicture}
 use Rattle.circ_tables.specs.Encoding.{HasPicture, HasPictureAt}
+use Rattle.terms.specs.Limits.{InLimits}
 use Rattle.terms.specs.Pictures.{Picture}
+use Rattle.terms.specs.Schemas.{IsOfSchema, led_by, led_to_3}
 use Rattle.terms.specs.Texts.{fault_number}
 use Rattle.terms.specs.declared.fault.Fault.{Fault}
 use Rattle.terms.specs.declared.fault.Fault.TheVariants.{Stored}
+use Rattle.terms.specs.declared.limits.TheConstants.{SCHEMA}
 use Rattle.model.specs.Forms.{HasForms}
 use Rattle.model.specs.History.{History}
 use Rattle.model.specs.Picture.{picture}
 use Rattle.model.specs.Requests.{IsLegal}
-use Rattle.model.specs.Schemas.{picture1}
+use Rattle.model.specs.Schemas.{IsLegalAt, picture_at}
 use Rattle.model.proofs.RowRanges.{legal-rows}
-use Rattle.model.proofs.Schemas.{are-of-schema-1, stands-still, of_schema_1, led, limits1}
+use Rattle.model.proofs.Schemas.{stands-1, stands-2, within-schema-2, legal-2, of_schema_1, of_schema_2, led-1, led-2, limits1, limits2}
 use Rattle.desk.specs.Answering.{Shows}
 use Rattle.circ.specs.declared.lines.Exit.TheVariants.{Done, Faulted}
 use Rattle.circ.specs.Lines.{schema_line, fault_line}
-use Rattle.circ.specs.Migrating.{ShowsAt1, LeavesOneSchema, SaysOneOf}
+use Rattle.circ.specs.Migrating.{ShowsAt, IsFrom, LeavesOneSchema, SaysOneOf}
 
--- Tables that show a list of accepted requests in schema 1 can be led on.
-is-library : (s : State) (H : History) → ShowsAt1 s H → IsLibrary1 s.now (picture1 H)
-is-library s H shows = (shows.tables.now, of_schema_1 H, limits1 H (legal-rows H (stands-still H shows.legal).legal shows.forms))
+each-known : (Is : ℕ → Type 0) → Is 1 → Is 2 → Is 3 → (n : ℕ) → IsKnown n → Is n
+each-known Is one two three zero known = let low : 1 ≤ 0 = known.0 in absurd (omega (arith, low))
+each-known Is one two three (suc zero) known = one
+each-known Is one two three (suc (suc zero)) known = two
+each-known Is one two three (suc (suc (suc zero))) known = three
+each-known Is one two three (suc (suc (suc (suc n)))) known = let high : suc (suc (suc (suc n))) ≤ 3 = known.1 in absurd (omega (arith, high))
+
+newest : IsKnown SCHEMA
+newest = (omega arith, omega arith)
+
+-- A list that was legal with a schema is legal.
+legal-now : (n : ℕ) → IsKnown n → (H : History) → IsLegalAt n H → IsLegal H
+legal-now = each-known (λ n. (H : History) → IsLegalAt n H → IsLegal H) (λ H was. (stands-1 H was).legal) (λ H was. (stands-2 H was).legal) (λ H was. was)
+
+-- Its tables are those of the schema, and keep to their limits.
+of-schema : (n : ℕ) → IsKnown n → (H : History) → IsOfSchema n (picture_at n H)
+of-schema = each-known (λ n. (H : History) → IsOfSchema n (picture_at n H)) of_schema_1 of_schema_2 (λ H. refl)
+
+in-limits : (n : ℕ) → IsKnown n → (H : History) → InLimits (picture H) → InLimits (picture_at n H)
+in-limits = each-known (λ n. (H : History) → InLimits (picture H) → InLimits (picture_at n H)) (λ H legal. limits1 H (limits2 H legal)) limits2 (λ H legal. legal)
+
+is-library : (n : ℕ) → IsKnown n → (s : State) (H : History) → ShowsAt n s H → IsLibrary n s.now (picture_at n H)
+is-library n known s H shows = (shows.tables.now, of-schema n known H, in-limits n known H (legal-rows H (legal-now n known H shows.legal) shows.forms))
+
+-- After any steps they are those of the same list in the schema that these lead to, with which it was legal too.
+led-by : (n : ℕ) → IsKnown n → (steps : ℕ) → n + steps ≤ SCHEMA → (H : History) → IsLegalAt n H → (led_by steps n (picture_at n H) ≡ picture_at (n + steps) H) × IsLegalAt (n + steps) H
+led-by = each-known (λ n. (steps : ℕ) → n + steps ≤ SCHEMA → (H : History) → IsLegalAt n H → (led_by steps n (picture_at n H) ≡ picture_at (n + steps) H) × IsLegalAt (n + steps) H) first second third
+  where
+    first : (steps : ℕ) → 1 + steps ≤ SCHEMA → (H : History) → IsLegalAt 1 H → (led_by steps 1 (picture_at 1 H) ≡ picture_at (1 + steps) H) × IsLegalAt (1 + steps) H
+    first zero few H legal = (refl, legal)
+    first (suc zero) few H legal = let is = stands-1 H legal in (led-1 H is.of_schema, legal-2 H (within-schema-2 H is.of_schema) is.legal)
+    first (suc (suc zero)) few H legal = let is = stands-1 H legal in (ap led_to_3 (led-1 H is.of_schema) ∙ led-2 H (within-schema-2 H is.of_schema), is.legal)
+    first (suc (suc (suc steps))) few H legal = absurd (omega (arith, few))
+
+    second : (steps : ℕ) → 2 + steps ≤ SCHEMA → (H : History) → IsLegalAt 2 H → (led_by steps 2 (picture_at 2 H) ≡ picture_at (2 + steps) H) × IsLegalAt (2 + steps) H
+    second zero few H legal = (refl, legal)
+    second (suc zero) few H legal = let is = stands-2 H legal in (led-2 H is.of_schema, is.legal)
+    second (suc (suc steps)) few H legal = absurd (omega (arith, few))
+
+    third : (steps : ℕ) → 3 + steps ≤ SCHEMA → (H : History) → IsLegalAt 3 H → (led_by steps 3 (picture_at 3 H) ≡ picture_at (3 + steps) H) × IsLegalAt (3 + steps) H
+    third zero few H legal = (refl, legal)
+    third (suc steps) few H legal = absurd (omega (arith, few))
+
+-- After all of them they are those of the newest.
+led-up : (n : ℕ) → IsKnown n → (H : History) → IsLegalAt n H → led_by (SCHEMA - n) n (picture_at n H) ≡ picture H
+led-up = each-known (λ n. (H : History) → IsLegalAt n H → led_by (SCHEMA - n) n (picture_at n H) ≡ picture H)
+    (λ H legal. (led-by 1 (omega arith, omega arith) 2 (omega arith) H legal).0) (λ H legal. (led-by 2 (omega arith, omega arith) 1 (omega arith) H legal).0) (λ H legal. refl)
+
+-- What shows a list in the newest schema shows it as one of that schema.
+at-newest : (s : State) (H : History) → Shows s H → ShowsAt SCHEMA s H
+at-newest s H shows = record { legal = shows.legal; forms = shows.forms; tables = shows.tables }
 
 module _ {S T : Type 0} (g : Ghosts S) (old new : Held S) where
+  says-now : (done : T) → Migrates g old new (Ok done) → HasCleanDisk (state g new) → (n : ℕ) → IsKnown n → (H : History) → ShowsAt n (state g old) H → Shows (state g new) H
+  says-now done it disk n known H shows = record {
+    legal = legal-now n known H shows.legal;
+    forms = shows.forms;
+    tables = subst (λ P. KeepsPicture (state g new) P) (led-up n known H shows.legal) (it.led disk n known (picture_at n H) (is-library n known (state g old) H shows));
+  }
+
   pub says-led : (done : T) → Migrates g old new (Ok done) → SaysOneOf g old new schema_line Done
   says-led done it = inl (record {
     line_is = refl;
     exit_is = refl;
-    led = λ disk H shows. record { legal = (stands-still H shows.legal).legal; forms = shows.forms; tables = subst (λ P. KeepsPicture (state g new) P) (led H (are-of-schema-1 H shows.legal)) (it.led disk (picture1 H) (is-library (state g old) H shows)) };
-    same = λ disk H shows. record { legal = shows.legal; forms = shows.forms; tables = it.same disk (picture H) (shows.tables.now, refl) };
+    led = says-now done it;
+    same = λ disk H shows. says-now done it disk SCHEMA newest H (at-newest (state g old) H shows);
     legal = it.legal;
   })
 
   abbrev failed : Fault → Result T Fault
   failed fault = Err fault
 
+  says-still : (fault : Fault) → Migrates {T = T} g old new (Err fault) → HasCleanDisk (state g new) → IsOpen g new → (n : ℕ) → IsKnown n → (H : History) → ShowsAt n (state g old) H → (m : ℕ) × IsFrom n m × ShowsAt m (state g new) H
+  says-still fault it disk is_open n known H shows =
+      let kept = it.undone disk is_open n known (picture_at n H) (is-library n known (state g old) H shows) in
+      let led = led-by n known kept.0 kept.1 H shows.legal in (
+        n + kept.0,
+        (omega arith, kept.1),
+        record { legal = led.1; forms = shows.forms; tables = subst (λ P. KeepsPictureAt (n + kept.0) (state g new) P) led.0 kept.2 },
+      )
+
   pub says-not-led : (fault : Fault) → Migrates {T = T} g old new (Err fault) → SaysOneOf g old new (fault_line (fault_number fault)) Faulted
   says-not-led fault it = inr (record {
     fault = fault;
     line_is = refl;
     exit_is = refl;
-    sound = λ disk stored H shows.
+    sound = λ disk stored n known H shows.
         let same : failed fault ≡ failed Stored = ap failed stored in
-        elim shows [ inl at_1 ↦ it.sound disk same (picture1 H) (inl (is-library (state g old) H at_1)) | inr at_2 ↦ it.sound disk same (picture H) (inr (at_2.tables.now, refl)) ];
-    undone_at_1 = λ disk is_open H shows. record { legal = shows.legal; forms = shows.forms; tables = it.undone disk is_open (picture1 H) shows.tables.now };
-    undone = λ disk is_open H shows. record { legal = shows.legal; forms = shows.forms; tables = it.undone_same disk is_open (picture H) (shows.tables.now, refl) };
+        it.sound disk same n known (picture_at n H) (is-library n known (state g old) H shows);
+    shown = says-still fault it;
+    same = λ disk is_open H shows.
+        let kept = says-still fault it disk is_open SCHEMA newest H (at-newest (state g old) H shows) in
+        let low = kept.1.0 in
+        let high = kept.1.1 in
+        let is : kept.0 ≡ SCHEMA = omega (arith, low, high) in
+        let here : ShowsAt SCHEMA (state g new) H = subst (λ m. ShowsAt m (state g new) H) is kept.2 in
+        record { legal = here.legal; forms = here.forms; tables = here.tables };
     nothing = it.nothing;
   })
 
-  -- A stop leaves the list in the one schema or in the other.
-  pub left-in-one : {r : Result T Fault} → Migrates g old new r → HasCleanDisk (state g new) → (H : History) → ShowsAt1 (state g old) H → LeavesOneSchema (state g new) H
-  left-in-one it disk H shows =
-      subst (λ P. Leaves (state g new) (λ db. HasPictureAt 1 db (picture1 H) ⊎ HasPicture db P)) (led H (are-of-schema-1 H shows.legal))
-      (it.stop disk (picture1 H) shows.tables (of_schema_1 H) (limits1 H (legal-rows H (stands-still H shows.legal).legal shows.forms)))
+  -- A stop leaves the list in its schema or in a later one.
+  pub left-in-one : {r : Result T Fault} → Migrates g old new r → HasCleanDisk (state g new) → (n : ℕ) → IsKnown n → (H : History) → ShowsAt n (state g old) H → LeavesOneSchema n (state g new) H
+  left-in-one it disk n known H shows trees may =
+      let left = it.stop disk n known (picture_at n H) shows.tables (of-schema n known H) (in-limits n known H (legal-rows H (legal-now n known H shows.legal) shows.forms)) trees may in
+      let led = led-by n known left.1.0 left.1.1.0 H shows.legal in
+      (left.0, (n + left.1.0, (omega arith, left.1.1.0), subst (HasPictureAt (n + left.1.0) left.0) led.0 left.1.1.1), left.2)
 
   pub left-same : {r : Result T Fault} → Migrates g old new r → HasCleanDisk (state g new) → (H : History) → Shows (state g old) H → LeavesPicture (state g new) (picture H)
-  left-same it disk H shows = it.stop_same disk (picture H) shows.tables refl
+  left-same it disk H shows trees may =
+      let left = left-in-one it disk SCHEMA newest H (at-newest (state g old) H shows) trees may in
+      let low = left.1.1.0 in
+      let high = left.1.1.1 in
+      let is : left.1.0 ≡ SCHEMA = omega (arith, low, high) in
+      (left.0, subst (λ m. HasPictureAt m left.0 (picture_at m H)) is left.1.2, left.2)

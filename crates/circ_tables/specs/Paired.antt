@@ -67,7 +67,7 @@ pub record IsPaired (s : Schema) (at : ℕ) (t : Table) : Type 0 where
 abbrev pub IsCalm : Schema → Type 0
 IsCalm s = (keys : Keys) (depth tree : ℕ) (olds news : List Row) → works s keys depth tree olds news ≡ []
 
--- Of the indexes of the schema that of its key alone guards a table: so a clause on the key meets the rows with the key.
+-- A clause on the key of a table meets the rows with the key alone.
 abbrev pub IsAimed : Schema → Table → Type 0
 IsAimed s t = (r new : Row) → conflicts (Some t.primary) s.indexes t new r ≡ agree plain t.primary r t.primary new
 

@@ -14,7 +14,7 @@ use Rattle.model.specs.History.{Event, History, Terms, rule_of, rule_after, Patr
 use Rattle.model.specs.Places.{place, place_after, state, state_after, kept_for, limit, limit_after_by, first_day_of, is_begun}
 use Rattle.model.specs.Loans.{LoanFacts, loan_of, loan_after, terms_for, no_terms, grace_of}
 use Rattle.model.specs.Picture.{picture, rule_row, rule_columns, loan_row, loan_columns, hold_row, hold_with, hold_by}
-use Rattle.model.specs.Schemas.{AreOf, kept_of_by, IsLegalBy, OldListsStand, is_of_schema_2, AreOfSchema2, no_grace, FinesWithoutGrace, lines2, sight2, is_of_schema_1, AreOfSchema1, begun_at_once, place1, state1, limit1, lines1, sight1, Schema1IsWithinSchema2, rule1_columns, loan1_columns, hold1_columns, picture1, picture2, OldTablesAreLed}
+use Rattle.model.specs.Schemas.{AreOf, kept_of_by, IsLegalBy, OldListsStand, is_of_schema_2, AreOfSchema2, IsLegal2, no_grace, FinesWithoutGrace, lines2, sight2, is_of_schema_1, AreOfSchema1, begun_at_once, place1, state1, limit1, lines1, sight1, Schema1IsWithinSchema2, rule1_columns, loan1_columns, hold1_columns, picture1, picture2, OldTablesAreLed}
 use Rattle.model.specs.Accounts.{lines, lines_then}
 use Rattle.model.specs.Sights.{Sight, sight}
 use Rattle.model.specs.Checks.{first_failing}
@@ -51,6 +51,20 @@ module _ (is_of : Command → Bool) (sight_of : History → Sight) (same : (H : 
   legal-still : (H : History) → IsLegalBy is_of sight_of H → IsLegal H
   legal-still [] legal = tt
   legal-still (e ∷ H) legal = (accepted-still e H (are-of H legal.2) legal.1, legal-still H legal.2)
+
+  accepted-back : (e : Event) (H : History) → AreOf is_of H → IsAccepted e H → IsAcceptedBy e H (first_failing (checks_by H (sight_of H) e.owner e.command)) (kept_of_by sight_of H e.owner e.key)
+  accepted-back e H old is = record {
+    changes = is.changes;
+    enrolled = is.enrolled;
+    allowed = is.allowed;
+    unrefused = ap (λ s. first_failing (checks_by H s e.owner e.command)) (same H old) ∙ is.unrefused;
+    fresh = kept-same H old e.owner e.key ∙ is.fresh;
+  }
+
+  -- A legal list of its commands was legal with it.
+  legal-back : (H : History) → AreOf is_of H → IsLegal H → IsLegalBy is_of sight_of H
+  legal-back [] old legal = tt
+  legal-back (e ∷ H) old legal = (old.0, accepted-back e H old.1 legal.0, legal-back H old.1 legal.1)
 
   lists-stand : OldListsStand is_of sight_of
   lists-stand H legal =
@@ -125,6 +139,10 @@ sight2-same H old =
 -- A list that was legal with schema 2 is legal, with the same answers.
 pub stands-2 : OldListsStand is_of_schema_2 sight2
 stands-2 = lists-stand is_of_schema_2 sight2 sight2-same
+
+-- A legal list of commands of schema 2 was legal with it.
+pub legal-2 : (H : History) → AreOfSchema2 H → IsLegal H → IsLegal2 H
+legal-2 = legal-back is_of_schema_2 sight2 sight2-same
 
 pub fines-without-grace : FinesWithoutGrace
 fines-without-grace days rate most = go (nat_le days 0) refl

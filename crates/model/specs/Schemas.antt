@@ -1,5 +1,5 @@
 -- What a library of an older schema was: its commands, its line, its fines, which lists it accepted, and the rows that its tables held.
-use Rattle.std.specs.Prelude.{◌≡◌, ℕ, ◌*◌, min, Bool, true, false, IsTrue, List, [], ◌∷◌, Option, Some, None, option_map}
+use Rattle.std.specs.Prelude.{◌≡◌, ℕ, suc, zero, ◌*◌, min, Bool, true, false, IsTrue, List, [], ◌∷◌, Option, Some, None, option_map}
 use Rattle.terms.specs.declared.command.Command.{Command}
 use Rattle.terms.specs.declared.command.Command.TheVariants.{PlaceHold, Grace}
 use Rattle.terms.specs.declared.row.RuleRow.{RuleRow}
@@ -176,6 +176,17 @@ picture2 H = record (picture H) { meta = record (meta_row H) { schema = 2 }; rul
 -- What those of schema 1 hold: the holds stand in its own table, and every other row is that of schema 2.
 abbrev pub picture1 : History → Picture
 picture1 H = record (picture2 H) { meta = record (meta_row H) { schema = 1 }; holds = λ _. None; holds1 = hold_row1 H }
+
+-- A list that was legal with schema n, and what its tables hold.
+abbrev pub IsLegalAt : ℕ → History → Type 0
+IsLegalAt (suc zero) H = IsLegal1 H
+IsLegalAt (suc (suc zero)) H = IsLegal2 H
+IsLegalAt _ H = IsLegal H
+
+abbrev pub picture_at : ℕ → History → Picture
+picture_at (suc zero) H = picture1 H
+picture_at (suc (suc zero)) H = picture2 H
+picture_at _ H = picture H
 
 -- The tables of an older schema are led to those of the next, and keep to the same limits.
 pub record IsLed (old : Picture) (led_to : Picture → Picture) (new : Picture) : Type 0 where

@@ -1,6 +1,6 @@
 //! A library of an older schema, which is led to the newest one.
 
-ghost use Rattle.std.specs.Prelude.{◌≡◌, false};
+ghost use Rattle.std.specs.Prelude.{◌≡◌, false, refl, IfOk};
 ghost use Rattle.circ_tables.specs.Rules1.{rules1};
 ghost use Rattle.circ_tables.specs.Rules.{rules};
 ghost use Rattle.store.specs.Migrating.{Route, IsRoute, MovesRow, MovesPage, CarriesAll};
@@ -29,14 +29,14 @@ pub(crate) trait Carried: Table {
 
     /// Puts the row into the table of the next schema, and takes it out of its own. 91.
     fn carry<S: Alter>(&self, tx: &mut Transaction<'_, S>) -> Result<(), Fault>
-        ensures { MovesRow table Self.Next.table route self.now S.Store tx.old tx.new result };
+        ensures { MovesRow Self.table Self.Next.table route self.now S.Store tx.old tx.new result };
 
-    ghost over: { IsRoute table Self.Next.table route };
+    ghost over: { IsRoute Self.table Self.Next.table route };
 }
 
 /// Such a row under a number, by which the rows can be read page by page.
 pub(crate) trait CarriedByNumber: Carried + Numbered {
-    ghost by_key: { (r : Self) → number_of r ≡ route.key_of r };
+    ghost by_key: { (r : Self) → Self.Numbered.number_of r ≡ Self.Carried.route.key_of r };
 }
 
 /// Schema 2 has holds with a first day, and those of schema 1 have none.

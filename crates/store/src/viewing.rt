@@ -14,6 +14,7 @@ ghost use Rattle.circ_core.specs.Views.{borrower_in, named_copy_in, coming_in, I
 ghost use Rattle.circ_core.specs.Views.{IsActiveOn, IsActiveBy, IsLoanOfTitle, copy_in};
 ghost use Rattle.circ_tables.specs.Reading.{Views};
 ghost use Rattle.terms.specs.declared.command.Command.TheVariants.{BeginDay, Week, CloseDay, Rule};
+ghost use Rattle.terms.specs.declared.command.Command.TheVariants.{Grace};
 ghost use Rattle.terms.specs.declared.command.Command.TheVariants.{Patron, Acquire, CheckOut};
 ghost use Rattle.terms.specs.declared.command.Command.TheVariants.{CheckIn, Renew, PlaceHold};
 ghost use Rattle.terms.specs.declared.command.Command.TheVariants.{CancelHold, Unshelve, Missing};
@@ -28,8 +29,8 @@ use circ_tables::{
 use sqlite::{Alter, Connection};
 use std::alloc::Global;
 use terms::{
-    BranchId, BranchRow, Command, CopyId, CopyRow, Count, Fault, HoldId, HoldRow, KindRow, LoanId,
-    LoanRow, PatronId, PatronKind, PatronRow, RuleRow, TitleId, TitleRow, TransitRow,
+    BranchId, BranchRow, Command, CopyId, CopyKind, CopyRow, Count, Fault, HoldId, HoldRow, KindRow,
+    LoanId, LoanRow, PatronId, PatronKind, PatronRow, RuleRow, TitleId, TitleRow, TransitRow,
 };
 
 /// The calendar with these closed weekdays and these single closed days. 90; 93 where a day stands
@@ -679,6 +680,23 @@ fn kind_view<S: Alter>(conn: &mut Connection<S>, number: PatronKind) -> Result<V
     })
 }
 
+/// The circulation rule of a kind of patron and a kind of copy alone.
+fn rule_view<S: Alter>(
+    conn: &mut Connection<S>,
+    kind: PatronKind,
+    copy_kind: CopyKind,
+) -> Result<View, Fault>
+    ensures view { Views (λ P rows. rows.rule ≡ P.rules kind copy_kind)
+        S.Store conn.old conn.new result }
+    ensures only { (days : ℕ) → IfOk result (HasOnly (Grace kind copy_kind days)) }
+{
+    let rule = get_rule(conn, kind, copy_kind)?;
+    Ok(View {
+        rule,
+        ..View::empty()
+    })
+}
+
 /// The row of a patron alone.
 fn page_view<S: Alter>(
     conn: &mut Connection<S>,
@@ -713,6 +731,9 @@ pub(crate) fn view_for<S: Alter>(
         Command::OpenDay { branch, .. } => closed_day_view(conn, alloc, *branch),
         Command::Kind { .. } => Ok(View::empty()),
         Command::Rule { kind, .. } => kind_view(conn, *kind),
+        Command::Grace {
+            kind, copy_kind, ..
+        } => rule_view(conn, *kind, *copy_kind),
         Command::Patron { patron, kind, .. } => patron_view(conn, alloc, *patron, *kind),
         Command::Acquire {
             copy,

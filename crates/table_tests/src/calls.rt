@@ -54,10 +54,7 @@ pub fn take_old_loan<S: Alter>(tx: &mut Transaction<'_, S>, loan: u32) -> Result
 }
 
 /// The periods of the old rules, inside a transaction.
-pub fn old_rules<S: Alter>(
-    tx: &mut Transaction<'_, S>,
-    alloc: Global,
-) -> Result<Vec<u32>, Fault> {
+pub fn old_rules<S: Alter>(tx: &mut Transaction<'_, S>, alloc: Global) -> Result<Vec<u32>, Fault> {
     let mut periods = Vec::new(alloc);
     for row in &tables::rules_inside(tx, alloc)? {
         periods.push(row.period.number())?;

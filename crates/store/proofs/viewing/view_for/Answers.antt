@@ -28,6 +28,9 @@ returns-in-OpenDay-clause-only g c = rw c.in-OpenDay.is (c.closed_day_view-in-Op
 pub returns-in-Rule-clause-only : goal.returns-in-Rule-clause-only
 returns-in-Rule-clause-only g c = rw c.in-Rule.is (c.kind_view.ensures.only 0 0 0 0 0)
 
+pub returns-in-Grace-clause-only : goal.returns-in-Grace-clause-only
+returns-in-Grace-clause-only g c = rw c.in-Grace.is (c.rule_view.ensures.only 0)
+
 pub returns-in-Patron-clause-only : goal.returns-in-Patron-clause-only
 returns-in-Patron-clause-only g c = rw c.in-Patron.is (c.patron_view.ensures.only [] [])
 
