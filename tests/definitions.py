@@ -158,10 +158,10 @@ def main(words):
     differ = [name for name in rejected if name != "wrong_answer"]
     asked = {words[0] for its in histories for words, _ in its}
     refused = {answer for its in histories for _, answer in its if answer.startswith("refused")}
-    fines = {answer.split()[1] != "0" for its in histories for _, answer in its if answer.startswith("fine ")}
+    fines = sum(answer.startswith("fine ") and not answer.startswith("fine 0 ") for its in histories for _, answer in its)
     if not ended or "wrong_answer" not in rejected or differ:
         print(told[-6000:])
-    print(f"definitions: {many} histories of {REQUESTS} requests by the seed {seed}, {len(asked)} commands and {len(refused)} refusals among them: {len(differ)} differ")
+    print(f"definitions: {many} histories of {REQUESTS} requests by the seed {seed}, {len(asked)} commands, {len(refused)} refusals and {fines} fines among them: {len(differ)} differ")
     failed = len(differ) + (not ended) + ("wrong_answer" not in rejected)
     print(f"{many + 1 - failed} passed, {failed} failed")
     return 1 if failed else 0
