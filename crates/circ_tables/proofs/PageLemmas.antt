@@ -1,19 +1,12 @@
 -- What the pages find.
-use Rattle.std.proofs.Common.{◌≡◌, ℕ, Some, pos, true, List, [], ◌∷◌, false, refl, sym, subst, Equal, true≢false}
-use Rattle.std.specs.List.{list_all}
-use Rattle.std.proofs.lemmas.Bool.{and_parts}
-use Rattle.sqlite.specs.declared.types.Value.TheVariants.{Null, Int, Real, Text, Blob}
-use Rattle.sqlite_value.specs.declared.value.Value.{Value}
+use Rattle.std.proofs.Common.{◌≡◌, ℕ, Some, pos, List, [], ◌∷◌, false, refl, sym, subst}
+use Rattle.sqlite.specs.declared.types.Value.TheVariants.{Int, Text}
 use Rattle.sqlite_value.specs.declared.keys.Collation.TheVariants.{Binary}
-use Rattle.sqlite_value.specs.declared.keys.Key.{Key}
-use Rattle.sqlite_value.specs.Keys.{ascending}
-use Rattle.sqlite_value.specs.Order.{value_cmp}
 use Rattle.sqlite.specs.Order.{Row, column}
 use Rattle.sqlite.specs.Schema.{Schema}
-use Rattle.sqlite.specs.Term.{Term, lit, col, op2, holds as passes_test}
-use Rattle.sqlite_sql.specs.Ops.{binary, is_true}
-use Rattle.sqlite_sql.specs.declared.ops.BinaryOp.TheVariants.{Compare, Is}
-use Rattle.sqlite_sql.specs.declared.ops.CompareOp.TheVariants.{Eq, Gt, Lt}
+use Rattle.sqlite.specs.Term.{Term, lit, col, op2}
+use Rattle.sqlite_sql.specs.declared.ops.BinaryOp.TheVariants.{Compare}
+use Rattle.sqlite_sql.specs.declared.ops.CompareOp.TheVariants.{Eq, Gt}
 use Rattle.sqlite.specs.Listing.{understood, reads_listing}
 use Rattle.sqlite.specs.Given.{IsPlain}
 use Rattle.sqlite.specs.State.{State, Shown, IsUnchanged}
@@ -24,63 +17,19 @@ use Rattle.sqlite_tied.specs.Listing.{each_column}
 use Rattle.sql_maps.specs.Maps.{Map, Maps, Holds, PairBelow}
 use Rattle.sql_maps.specs.Pages.{FirstRows, FirstRowsBy}
 use Rattle.sqlite_rules.specs.Lists.{Has}
-use Rattle.sql_maps.proofs.PageLemmas.{Pages, page_found}
 use Rattle.sql_maps.proofs.OrderLemmas.{page_sorted}
 use Rattle.sql_maps.proofs.Words.{in_order_up_to}
 use Rattle.circ_tables.specs.Paired.{by_pair}
-use Rattle.circ_tables.specs.Shape.{schema, loans, kept, loans_place, kept_place}
+use Rattle.circ_tables.specs.Shape.{schema, kept, kept_place}
 use Rattle.circ_tables.specs.Texts.{names_of}
-use Rattle.circ_tables.specs.Selections.{is_overdue_after, is_after, is_any, is_kept_after}
+use Rattle.circ_tables.specs.Selections.{is_after, is_any, is_kept_after}
 use Rattle.circ_tables.specs.declared.by_number.TheConstants.{PAGE_ROWS}
 use Rattle.circ_tables.specs.declared.kept.TheConstants.{FIRST_KEPT_TEXT, KEPT_AFTER_TEXT, KEPT_PAST_TEXT}
-use Rattle.circ_tables.specs.declared.loans.TheConstants.{OVERDUE_LOANS_AFTER_TEXT}
 use Rattle.circ_tables.proofs.ListLemmas.{pair_tells, pair_below}
 
 -- a row of a page is one of the map
 pub there : (most : ℕ) (m : Map) (good : Row → _) (rows : List Row) → FirstRows most m good rows → (v : Row) → Has rows v → (k : Row) × (m k ≡ Some v)
 there most m good rows first v has = let at = first.sound v has in (at.0, at.1)
-
--- ---- overdue loans, whose order names `ended` first
-
-abbrev overdue_text : List ℕ
-overdue_text = OVERDUE_LOANS_AFTER_TEXT.now
-
-abbrev overdue_tests : List Term
-overdue_tests = op2 (Compare Eq Binary) (col 1 4) (col 0 0) ∷ op2 (Is Binary) (col 1 11) (lit Null) ∷ op2 (Compare Lt Binary) (col 1 6) (col 0 1) ∷ op2 (Compare Gt Binary) (col 1 0) (col 0 2) ∷ []
-
-abbrev by_ended : List (Term × Key)
-by_ended = (col 1 11, ascending Binary) ∷ (col 1 0, ascending Binary) ∷ []
-
-overdue_pages : Pages schema loans_place loans overdue_tests by_ended PAGE_ROWS (names_of loans) overdue_text
-unfolding understood everything
-overdue_pages = record { listed = refl; command = refl; bare = (refl, refl); unlisted = refl; single = λ r. refl; key_cell = λ r. refl; as_cells = λ given l. refl; cut = λ given l. refl }
-
-pub overdue_plain : (s : Schema) → s ≡ schema → IsPlain (understood s overdue_text)
-overdue_plain s e = subst (λ z. IsPlain (understood z overdue_text)) (sym e) overdue_pages.bare
-
--- what is no value is absent
-pub absent_is : (v : Value) → is_true (binary (Is Binary) v Null) ≡ true → v ≡ Null
-unfolding binary value_cmp lib.Ieee.is_nan lib.Ieee.lt
-absent_is Null h = refl
-absent_is (Int n) h = absurd (true≢false (sym h))
-absent_is (Real x) h = absurd (true≢false (sym h))
-absent_is (Text t) h = absurd (true≢false (sym h))
-absent_is (Blob b) h = absurd (true≢false (sym h))
-
-pub nothing_tied : value_cmp Null Null ≡ Equal
-unfolding value_cmp lib.Ieee.is_nan lib.Ieee.lt
-nothing_tied = refl
-
--- rows that passed have no day on which they ended, so they are in the order of their numbers
-no_end : (given : Row) (x : Row) → list_all (passes_test (given ∷ x ∷ [])) overdue_tests ≡ true → column x 11 ≡ Null
-no_end given x pass = absent_is (column x 11) (and_parts _ _ (and_parts _ _ pass).1).0
-
-pub overdue_found : (a b c : ℕ) → (old new : State) (rows : List Row) → Shown overdue_text (Int (pos a) ∷ Int (pos b) ∷ Int (pos c) ∷ []) old new rows → (maps : Maps) → Holds schema old.now maps
-    → FirstRows PAGE_ROWS (maps loans_place) (is_overdue_after a b c) rows × IsUnchanged old new
-overdue_found a b c =
-    let given : Row = Int (pos a) ∷ Int (pos b) ∷ Int (pos c) ∷ [] in
-    page_found schema loans_place loans overdue_tests by_ended PAGE_ROWS (names_of loans) overdue_text given (is_overdue_after a b c) (λ r. refl)
-    (λ x y p q less. rw (no_end given x p, no_end given y q, less, nothing_tied) refl) overdue_pages
 
 -- ---- what is kept, by callers and keys
 

@@ -4,7 +4,10 @@ use Rattle.std.specs.Prelude.{MatchBool, MatchOption, IfSome}
 use Rattle.std.specs.Option.{option_to_list}
 use Rattle.std.specs.Ordering.{ordering_then}
 use Rattle.std.proofs.lemmas.Bool.{and_parts, cases_lt}
-use Rattle.sqlite.specs.declared.types.Value.TheVariants.{Null}
+use Rattle.sqlite.specs.declared.types.Value.TheVariants.{Null, Int, Real, Text, Blob}
+use Rattle.sqlite_sql.specs.Ops.{binary, is_true}
+use Rattle.sqlite_sql.specs.declared.ops.BinaryOp.TheVariants.{Is}
+use Rattle.sqlite_value.specs.declared.keys.Collation.TheVariants.{Binary}
 use Rattle.sqlite_value.specs.declared.value.Value.{Value}
 use Rattle.sqlite_value.specs.Order.{value_cmp}
 use Rattle.sqlite_value.proofs.OrderLemmas.{value_cmp_total}
@@ -19,9 +22,21 @@ use Rattle.circ_tables.specs.Selections.{BeginsBefore, StandsInLine, Waits, Wait
 use Rattle.circ_tables.specs.Shape as shape
 use Rattle.circ_tables.proofs.CellLemmas.{is_up_to, if_none, if_come, up_to_if, later_still, number_less}
 use Rattle.circ_tables.proofs.ColumnLemmas.{same_row}
-use Rattle.circ_tables.proofs.PageLemmas.{absent_is, nothing_tied}
 
 -- ---- the order of first days
+
+-- what is no value is absent
+absent_is : (v : Value) → is_true (binary (Is Binary) v Null) ≡ true → v ≡ Null
+unfolding binary value_cmp lib.Ieee.is_nan lib.Ieee.lt
+absent_is Null h = refl
+absent_is (Int n) h = absurd (true≢false (sym h))
+absent_is (Real x) h = absurd (true≢false (sym h))
+absent_is (Text t) h = absurd (true≢false (sym h))
+absent_is (Blob b) h = absurd (true≢false (sym h))
+
+nothing_tied : value_cmp Null Null ≡ Equal
+unfolding value_cmp lib.Ieee.is_nan lib.Ieee.lt
+nothing_tied = refl
 
 -- a day doesn't come before none
 never_before : (day : ℕ) (o : Ordering) → ordering_then (value_cmp (number day) Null) o ≡ Less → ⊥

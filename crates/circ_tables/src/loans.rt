@@ -181,13 +181,10 @@ pub fn open_loans_by<S: Alter>(
 
 /// The text of `overdue_loans_after`.
 pub const OVERDUE_LOANS_AFTER_TEXT: &str =
-    "SELECT * FROM loans3 WHERE branch = ?1 AND ended IS NULL AND due < ?2 AND loan > ?3 ORDER BY ended, loan LIMIT 1000";
+    "SELECT * FROM loans3 WHERE branch = ?1 AND ended IS NULL AND due < ?2 AND loan > ?3 ORDER BY loan LIMIT 1000";
 
 /// The first open loans that the branch made, that were due before the day and whose numbers are
 /// above this one, the least number first: all of them, or as many as a page has. 90, 91, 93.
-///
-/// The order names `ended` too, which all of them have in common: so it is the order of the index
-/// of a branch's loans, and no more of them are read than are given.
 pub fn overdue_loans_after<S: Alter>(
     conn: &mut Connection<S>,
     alloc: Global,

@@ -199,15 +199,15 @@ module _ (same : ℕ → ℕ → Bool) (own : (k : ℕ) → same k k ≡ true) (
         more : after < number_of last
         more = (row_is last there).1
 
-        pub next_left : all_taken same number_of carried page (left_above after f) ≡ left_above (number_of last) f
+        pub next_left : all_taken same own told number_of carried page (left_above after f) ≡ left_above (number_of last) f
         next_left = fun_ext at
           where
-            between : (k : ℕ) → after < k → k ≤ number_of last → (o : Option R) → f k ≡ o → all_taken same number_of carried page (left_above after f) k ≡ None
+            between : (k : ℕ) → after < k → k ≤ number_of last → (o : Option R) → f k ≡ o → all_taken same own told number_of carried page (left_above after f) k ≡ None
             between k high low None e = taken_none same own told number_of carried page (left_above after f) k (left_high f after k high ∙ e)
             between k high low (Some r) e =
-                subst (λ n. all_taken same number_of carried page (left_above after f) n ≡ None) (numbered k r e).0 (taken_there same own told number_of carried page (left_above after f) r (met k r e high low))
+                subst (λ n. all_taken same own told number_of carried page (left_above after f) n ≡ None) (numbered k r e).0 (taken_there same own told number_of carried page (left_above after f) r (met k r e high low))
 
-            at : (k : ℕ) → all_taken same number_of carried page (left_above after f) k ≡ left_above (number_of last) f k
+            at : (k : ℕ) → all_taken same own told number_of carried page (left_above after f) k ≡ left_above (number_of last) f k
             at k = elim (cases_lt after k) [
               | inr low ↦ taken_none same own told number_of carried page (left_above after f) k (left_low f after k low) ∙ sym (left_low f (number_of last) k (omega (arith, low, more)))
               | inl high ↦ elim (cases_lt (number_of last) k) [
@@ -216,7 +216,7 @@ module _ (same : ℕ → ℕ → Bool) (own : (k : ℕ) → same k k ≡ true) (
               ]
             ]
 
-        pub next_carried : all_put same number_of carried page (carried_to carried after f) ≡ carried_to carried (number_of last) f
+        pub next_carried : all_put same own told number_of carried page (carried_to carried after f) ≡ carried_to carried (number_of last) f
         next_carried = fun_ext at
           where
             same_row : (k : ℕ) (r : R) → f k ≡ Some r → (s : R) → Has page s → number_of s ≡ k → carried s ≡ carried r
@@ -226,11 +226,11 @@ module _ (same : ℕ → ℕ → Bool) (own : (k : ℕ) → same k k ≡ true) (
                 let one : s ≡ r = cc in
                 ap carried one
 
-            between : (k : ℕ) → after < k → k ≤ number_of last → (o : Option R) → f k ≡ o → all_put same number_of carried page (carried_to carried after f) k ≡ option_map carried o
+            between : (k : ℕ) → after < k → k ≤ number_of last → (o : Option R) → f k ≡ o → all_put same own told number_of carried page (carried_to carried after f) k ≡ option_map carried o
             between k high low None e = put_nowhere same own told number_of carried page (carried_to carried after f) k (none_elsewhere k e) ∙ carried_high carried f after k high
             between k high low (Some r) e = put_there same own told number_of carried page (carried_to carried after f) k (carried r) (same_row k r e) r (met k r e high low) (numbered k r e).0
 
-            at : (k : ℕ) → all_put same number_of carried page (carried_to carried after f) k ≡ carried_to carried (number_of last) f k
+            at : (k : ℕ) → all_put same own told number_of carried page (carried_to carried after f) k ≡ carried_to carried (number_of last) f k
             at k = elim (cases_lt after k) [
               | inr low ↦
                   put_nowhere same own told number_of carried page (carried_to carried after f) k (low_elsewhere k low) ∙ carried_low carried f after k low

@@ -22,7 +22,8 @@ use Rattle.terms.specs.declared.row.KeptRow.{KeptRow}
 use Rattle.circ_tables.specs.Cells.{number, owner_number, kept_cells}
 use Rattle.circ_tables.specs.Kept.{kept, kept_are}
 use Rattle.circ_tables.specs.Selections.{is_any, is_after, is_kept_after}
-use Rattle.circ_tables.specs.Shape.{schema}
+use Rattle.circ_tables.specs.Shape.{schema, has_first}
+use Rattle.terms.specs.declared.limits.TheConstants.{SCHEMA}
 use Rattle.circ_tables.specs.declared.by_number.TheConstants.{PAGE_ROWS}
 use Rattle.circ_tables.proofs.CellLemmas.{same_if, from_alone, alone, above_from}
 use Rattle.store.specs.Legal.{HasLegal, IsKeptPage}
@@ -33,12 +34,12 @@ use Rattle.store.proofs.PagedRows.{empty_if}
 -- The key of a stored row is of whole numbers and texts.
 keys_plain : (db : Database) (maps : Maps) → Holds schema db maps → (k v : Row) → maps kept.place k ≡ Some v → (is_plain (column v 0) ≡ true) × (is_plain (column v 1) ≡ true)
 keys_plain db maps holds k v e =
-    let is = holds.tables kept.place kept.shape kept_are.fixed.listed in
+    let is = holds.tables kept.place kept.shape (kept_are SCHEMA has_first).fixed.listed in
     let row = is.whole k v e in
     let plain = is.plain row.0 row.1 in
     let both = and_parts _ _ plain in (
-      subst (λ w. is_plain w ≡ true) (sym (kept_are.first_cell row.0) ∙ ap (λ r. column r 0) row.3) both.0,
-      subst (λ w. is_plain w ≡ true) (sym (kept_are.second_cell row.0) ∙ ap (λ r. column r 1) row.3) (alone _ both.1),
+      subst (λ w. is_plain w ≡ true) (sym ((kept_are SCHEMA has_first).first_cell row.0) ∙ ap (λ r. column r 0) row.3) both.0,
+      subst (λ w. is_plain w ≡ true) (sym ((kept_are SCHEMA has_first).second_cell row.0) ∙ ap (λ r. column r 1) row.3) (alone _ both.1),
     )
 
 -- A row after another is of a later key of the same caller, or of a later caller.

@@ -78,7 +78,7 @@ module _ {S T U : Type 0} (g : Ghosts S) {old mid new : Transaction S} {x : T} {
 
 -- A part that failed, whose fault is handed on.
 pub leads_failed : {S T U : Type 0} (g : Ghosts S) {old new : Transaction S} {fault : Fault} (r : Result U Fault) {from at to : ℕ} {Led1 Led : Maps → Maps → Type 0} {Ready1 Ready : Picture → Type 0} {c1 change : Picture → Picture}
-    → IsErr r × IsErrAnd r (λ e. e ≡ fault) → ((P : Picture) → Ready P → Ready1 P) → LeadsInside {S} {T} from at Led1 Ready1 c1 g old new (Err fault) → LeadsInside from to Led Ready change g old new r
+    → IsErr r × IsErrAnd r (λ e. e ≡ fault) → ((P : Picture) → Ready P → Ready1 P) → LeadsInside {S = S} {T = T} from at Led1 Ready1 c1 g old new (Err fault) → LeadsInside from to Led Ready change g old new r
 leads_failed g (Ok x) is parts one = absurd (let none = is.0 in cc)
 leads_failed {T = T} g {fault = fault} (Err e) is parts one = record {
   same_reference = one.same_reference;
@@ -229,34 +229,41 @@ put_names n m known db maps holds names row new there = record { key = number_ke
 
 -- The row of `meta` could not be read.
 pub names_unread : {S U : Type 0} (g : Ghosts S) {old new : Transaction S} {fault : Fault} (r : Result U Fault) (n : ℕ) → IsKnown n → IsErr r × IsErrAnd r (λ e. e ≡ fault) → GetsMetaInside g old new (Err fault) → NamesInside n g old new r
-names_unread g r n known is read = leads_failed g r is (λ P ready. ready) (record {
-  same_reference = read.works.same_reference;
-  survives = read.works.survives;
-  kept = λ clean begun there. read.works.kept clean begun;
-  inside = λ clean begun there. tt;
-  rows = λ clean begun maps holds. tt;
-  leads = λ clean begun P shown ready. tt;
-  sound = λ clean begun told P shown ready. read.sound n known clean P shown ready told;
-})
+names_unread {S} g {old} {new} {fault} r n known is read = leads_failed g r is (λ P ready. ready) failed
+  where
+    failed : NamesInside {S = S} {T = MetaRow} n g old new (Err fault)
+    failed = record {
+      same_reference = read.works.same_reference;
+      survives = read.works.survives;
+      kept = λ clean begun there. read.works.kept clean begun;
+      inside = λ clean begun there. tt;
+      rows = λ clean begun maps holds. tt;
+      leads = λ clean begun P shown ready. tt;
+      sound = λ clean begun told P shown ready. read.sound n known clean P shown ready told;
+    }
+
+-- The row is put with another schema.
+abbrev pub PutsNamed : {S T : Type 0} → MetaRow → ℕ → Ghosts S → Transaction S → Transaction S → Result T Fault → Type 0
+PutsNamed row n = ChangesRows 1 (λ maps. put_at maps meta_place (number_key 1) (meta_cells (record row { schema = n }))) (Unit {0}) (λ P. record P { meta = record row { schema = n } })
 
 module _ {S T U : Type 0} (g : Ghosts S) {old mid new : Transaction S} {row : MetaRow} (n : ℕ) (known : IsKnown n) (read : GetsMetaInside g old mid (Ok row)) where
-  abbrev pub PutsNamed : Result T Fault → Type 0
-  PutsNamed = ChangesRows 1 (λ maps. put_at maps meta_place (number_key 1) (meta_cells (record row { schema = n }))) (Unit {0}) (λ P. record P { meta = record row { schema = n } }) g mid new
-
   -- It could not be put.
-  pub names_not_put : {fault : Fault} (r : Result U Fault) → IsErr r × IsErrAnd r (λ e. e ≡ fault) → PutsNamed (Err fault) → NamesInside n g old new r
-  names_not_put r is put = leads_failed {T = T} g r is (λ P ready. ready) (record {
-    same_reference = put.works.same_reference ∙ read.works.same_reference;
-    survives = then _ _ _ read.works.survives put.works.survives;
-    kept = λ clean begun there. keeps_then _ _ _ (read.works.kept (omega (arith, clean, put.works.survives.clean)) begun) (put.works.kept clean);
-    inside = λ clean begun there. tt;
-    rows = λ clean begun maps holds. tt;
-    leads = λ clean begun P shown ready. tt;
-    sound = λ clean begun told P shown ready. not_stored {T} _ put.fault told;
-  })
+  pub names_not_put : {fault : Fault} (r : Result U Fault) → IsErr r × IsErrAnd r (λ e. e ≡ fault) → PutsNamed {T = T} row n g mid new (Err fault) → NamesInside n g old new r
+  names_not_put {fault} r is put = leads_failed g r is (λ P ready. ready) failed
+    where
+      failed : NamesInside {S = S} {T = T} n g old new (Err fault)
+      failed = record {
+        same_reference = put.works.same_reference ∙ read.works.same_reference;
+        survives = then _ _ _ read.works.survives put.works.survives;
+        kept = λ clean begun there. keeps_then _ _ _ (read.works.kept (omega (arith, clean, put.works.survives.clean)) begun) (put.works.kept clean);
+        inside = λ clean begun there. tt;
+        rows = λ clean begun maps holds. tt;
+        leads = λ clean begun P shown ready. tt;
+        sound = λ clean begun told P shown ready. not_stored {T = T} (Err fault) put.fault told;
+      }
 
   -- It was put.
-  pub names_put : {t : T} (x : U) → PutsNamed (Ok t) → NamesInside n g old new (Ok x)
+  pub names_put : {t : T} (x : U) → PutsNamed row n g mid new (Ok t) → NamesInside n g old new (Ok x)
   names_put x put = record {
     same_reference = put.works.same_reference ∙ read.works.same_reference;
     survives = then _ _ _ read.works.survives put.works.survives;
@@ -367,8 +374,8 @@ rules_listed =
     all_are rules1 (λ r. (r.kind, r.copy_kind)) comes_before Any rule1_told (λ a b p q less. pair_before a.kind a.copy_kind b.kind b.copy_kind less) (λ maps P is. is.rules1)
     (λ P legal k r e. let mine = own_rules P legal k r e in (tt, mine.0, mine.1))
 
-pub rules_unread : {S L T : Type 0} {g : Ghosts S} {old new : Transaction S} {items : L → List RuleRow1} {fault : Fault} → ListsInside {L = L} rules1 items (λ m. ListedBy PairBelow m is_any) g old new (Err fault)
-    → LeadsInside {S} {L} 3 3 (AreMoved rules1 rules) (IsToCarry rules) (all_over rules1 rules_route) g old new (Err fault)
+pub rules_unread : {S L : Type 0} {g : Ghosts S} {old new : Transaction S} {items : L → List RuleRow1} {fault : Fault} → ListsInside {L = L} rules1 items (λ m. ListedBy PairBelow m is_any) g old new (Err fault)
+    → LeadsInside {S = S} {T = L} 3 3 (AreMoved rules1 rules) (IsToCarry rules) (all_over rules1 rules_route) g old new (Err fault)
 rules_unread read = record {
   same_reference = read.works.same_reference;
   survives = read.works.survives;

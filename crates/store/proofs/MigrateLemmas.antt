@@ -34,7 +34,7 @@ module _ {K R N : Type 0} {old : Table K R} {new : Table K N} {route : Route K R
       ∙ ap (λ Q. old.set Q (route.key_of r) None) (over.put_in P f g (route.key_of r) (route.carried r)) ∙ over.taken P f (put_by route.same g (route.key_of r) (Some (route.carried r))) (route.key_of r)
 
   pub all_moved : (page : List R) (P : Picture) (f : K → Option R) (g : K → Option N)
-      → move_all old new route page (route.with_both P f g) ≡ route.with_both P (all_taken route.same route.key_of route.carried page f) (all_put route.same route.key_of route.carried page g)
+      → move_all old new route page (route.with_both P f g) ≡ route.with_both P (all_taken route.same over.own over.met route.key_of route.carried page f) (all_put route.same over.own over.met route.key_of route.carried page g)
   all_moved [] P f g = refl
   all_moved (r ∷ more) P f g =
       ap (move_all old new route more) (one_moved r P f g) ∙ all_moved more P (put_by route.same f (route.key_of r) None) (put_by route.same g (route.key_of r) (Some (route.carried r)))

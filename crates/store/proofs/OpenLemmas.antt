@@ -1,5 +1,5 @@
 -- What an opening finds of a library, and when it finds none of a known schema.
-use Rattle.std.proofs.Common.{◌≡◌, ◌≤◌, ℕ, zero, suc, List, [], refl, ap, sym, subst, ◌∙◌, arith}
+use Rattle.std.proofs.Common.{◌≡◌, ℕ, List, refl, ap, sym, subst, ◌∙◌}
 use Rattle.sqlite.specs.Effect.{Database}
 use Rattle.sqlite.specs.Held.{Held, state}
 use Rattle.sqlite.specs.Order.{Row, column}
@@ -11,7 +11,7 @@ use Rattle.sqlite_schema.specs.declared.schema.Index.{Index}
 use Rattle.sql_maps.specs.Maps.{Maps, Holds}
 use Rattle.circ_tables.specs.Cells.{number, number_key, meta_cells}
 use Rattle.circ_tables.specs.Encoding.{Encodes}
-use Rattle.circ_tables.specs.Numbered.{grown}
+use Rattle.circ_tables.specs.Numbered.{grown, schema_grown}
 use Rattle.circ_tables.specs.SchemaNumber.{NamesSchema}
 use Rattle.circ_tables.specs.Shape.{schema_at, later_tables, later_indexes}
 use Rattle.circ_tables.proofs.InverseLemmas.{meta_alone}
@@ -20,15 +20,12 @@ use Rattle.store.specs.Commit.{RefusesLibrary}
 use Rattle.store.specs.Schemas.{IsKnown}
 
 -- a known schema begins with the tables of the first
-grown_at : (n : ℕ) → IsKnown n → (more : List Table) × (others : List Index) × (schema_at n ≡ grown more others)
-grown_at zero known = let low : 1 ≤ 0 = known.0 in absurd (omega (arith, low))
-grown_at (suc zero) known = ([], [], refl)
-grown_at (suc (suc zero)) known = (later_tables, later_indexes, refl)
-grown_at (suc (suc (suc n))) known = let most : suc (suc (suc n)) ≤ 2 = known.1 in absurd (omega (arith, most))
+grown_at : (n : ℕ) → (more : List Table) × (others : List Index) × (schema_at n ≡ grown more others)
+grown_at n = (later_tables n, later_indexes n, schema_grown n)
 
 -- so what is said of all schemas that do is said of it
 pub of_known : (Is : Maps → Type 0) (db : Database) → ((more : List Table) (others : List Index) (maps : Maps) → Holds (grown more others) db maps → Is maps) → (n : ℕ) → IsKnown n → (maps : Maps) → Holds (schema_at n) db maps → Is maps
-of_known Is db all n known maps holds = let it = grown_at n known in all it.0 it.1 maps (subst (λ (s : Schema). Holds s db maps) it.2 holds)
+of_known Is db all n known maps holds = let it = grown_at n in all it.0 it.1 maps (subst (λ (s : Schema). Holds s db maps) it.2 holds)
 
 -- the tables of a picture name its schema
 pub picture_names : (maps : Maps) (P : Picture) → Encodes maps P → NamesSchema maps P.meta.schema

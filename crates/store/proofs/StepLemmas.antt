@@ -77,6 +77,11 @@ module _ (a b : State) (n : ℕ) (named : (more : List Table) (others : List Ind
   told_library : (m : ℕ) → IsKnown m → (P : Picture) → IsLibrary m a.now P → m ≡ n
   told_library m known P is = sym (of_schema m P is.1) ∙ schema_told is.0.maps P n is.0.encodes (told_of m known is.0.maps is.0.holds).0
 
+-- The schema that tables name can be told.
+pub can_be_told : (db : Database) → ((more : List Table) (others : List Index) (maps : Maps) → Holds (grown more others) db maps → (n : ℕ) → n < 2 ^ 32 → ¬ NamesSchema maps n) → (m : ℕ) → IsKnown m → (P : Picture) → HasPictureAt m db P
+    → P.meta.schema < 2 ^ 32 → ⊥
+can_be_told db stored m known P shown less = of_known (λ maps. (n : ℕ) → n < 2 ^ 32 → ¬ NamesSchema maps n) db stored m known shown.maps shown.holds P.meta.schema less (picture_names shown.maps P shown.encodes)
+
 module _ {S : Type 0} (g : Ghosts S) {old mid : Transaction S} where
   -- It could not be told.
   pub untold : {fault : Fault} (r : Result ℕ Fault) → IsErr r × IsErrAnd r (λ e. e ≡ fault) → TellsSchemaInside g old mid (Err fault) → LeadsOnInside g old mid r
@@ -91,10 +96,9 @@ module _ {S : Type 0} (g : Ghosts S) {old mid : Transaction S} where
         let named : e ≡ Stored = cc in
         let same : fault ≡ Stored = sym is.1 ∙ named in
         let failed : Fault → Result ℕ Fault = λ f. Err f in
-        let names = picture_names library.0.maps P library.0.encodes in
         let few : n ≤ SCHEMA = known.1 in
-        of_known (λ maps. (m : ℕ) → m < 2 ^ 32 → ¬ NamesSchema maps m) (state g old.conn.now).now (read.stored clean (ap failed same)) n known library.0.maps library.0.holds n (omega (arith, few))
-        (subst (NamesSchema library.0.maps) (of_schema n P library.1) names);
+        let named_so = of_schema n P library.1 in
+        can_be_told (state g old.conn.now).now (read.stored clean (ap failed same)) n known P library.0 (omega (arith, few, named_so));
   }
 
   module _ (n : ℕ) (read : TellsSchemaInside g old mid (Ok n)) where
@@ -266,13 +270,13 @@ between_there to old new led less n there = go (named_is named.0 named.2)
 -- What a stop leaves of a library between steps.
 brought_one : (old db : Database) → Leads old db → (n : ℕ) → IsKnown n → (P : Picture) → IsLibrary n old P → IsAtSomeSchema n P db
 brought_one old db led = each_known (λ n. (P : Picture) → IsLibrary n old P → IsAtSomeSchema n P db)
-    (λ P is. (1, omega arith, (led.1.leads 1 (omega arith, omega arith) P is).1))
-    (λ P is. (1, omega arith, (led.1.leads 2 (omega arith, omega arith) P is).1))
-    (λ P is. (0, omega arith, (led.1.leads 3 (omega arith, omega arith) P is).1))
+    (λ P is. (1, (omega arith, (led.1.leads 1 (omega arith, omega arith) P is).1)))
+    (λ P is. (1, (omega arith, (led.1.leads 2 (omega arith, omega arith) P is).1)))
+    (λ P is. (0, (omega arith, (led.1.leads 3 (omega arith, omega arith) P is).1)))
 
 as_it_was : (db : Database) (n : ℕ) → IsKnown n → (P : Picture) → HasPictureAt n db P → IsAtSomeSchema n P db
 as_it_was db = each_known (λ n. (P : Picture) → HasPictureAt n db P → IsAtSomeSchema n P db)
-    (λ P is. (0, omega arith, is)) (λ P is. (0, omega arith, is)) (λ P is. (0, omega arith, is))
+    (λ P is. (0, (omega arith, is))) (λ P is. (0, (omega arith, is))) (λ P is. (0, (omega arith, is)))
 
 -- A damaged row keeps the tables as they are.
 stays_damaged : (old db : Database) → Leads old db → CannotBeLed old → db ≡ old
@@ -301,7 +305,7 @@ not_damaged to old db led less cannot =
 
 module _ {S : Type 0} (g : Ghosts S) (settled : Settles g) {old mid : Held S} where
   -- The first step led to the newest schema.
-  pub one_step : {T : Type 0} (to : ℕ) (t : T) → SCHEMA ≤ to → StepsOn g old mid (Ok to) → Migrates {S} {T} g old mid (Ok t)
+  pub one_step : {T : Type 0} (to : ℕ) (t : T) → SCHEMA ≤ to → StepsOn g old mid (Ok to) → Migrates {S = S} {T = T} g old mid (Ok t)
   one_step to t most step = record {
     clean = λ clean. omega (arith, step.survives.clean, clean);
     led = λ clean n known P is.
@@ -384,7 +388,7 @@ module _ {S : Type 0} (g : Ghosts S) (settled : Settles g) {old mid new : Held S
         let is : IsLibrary n (state g old).now P = (keeps.now, of, legal) in
         let led = (first.done early n (library_there n known (state g old).now P is)).made in
         let it = from_first to (state g old).now (state g mid).now led less n known P is in
-        (brought.0, subst (λ k. IsLibrary 2 (state g mid).now (led_on k P) → IsAtSomeSchema k P brought.0) (sym it.0) (λ here. (2, omega arith, (brought.1.1.leads 2 (omega arith, omega arith) (led_on 1 P) here).1)) it.1, brought.2)
+        (brought.0, subst (λ k. IsLibrary 2 (state g mid).now (led_on k P) → IsAtSomeSchema k P brought.0) (sym it.0) (λ here. (2, (omega arith, (brought.1.1.leads 2 (omega arith, omega arith) (led_on 1 P) here).1))) it.1, brought.2)
     | inl between ↦ elim (first.survives.crash early trees between) [
       | inl before ↦ let it = keeps.left trees before in (it.0, as_it_was it.0 n known P it.1, it.2)
       | inr brought ↦ (brought.0, brought_one (state g old).now brought.0 brought.1 n known P (keeps.now, of, legal), brought.2)
@@ -395,7 +399,7 @@ module _ {S : Type 0} (g : Ghosts S) (settled : Settles g) {old mid new : Held S
       early = omega (arith, second.survives.clean, clean)
 
   -- The first step led to an older one, and the second from there to the newest.
-  pub two_steps : {T : Type 0} (last : ℕ) (t : T) → StepsOn g mid new (Ok last) → Migrates {S} {T} g old new (Ok t)
+  pub two_steps : {T : Type 0} (last : ℕ) (t : T) → StepsOn g mid new (Ok last) → Migrates {S = S} {T = T} g old new (Ok t)
   two_steps last t second = record {
     clean = λ clean. omega (arith, first.survives.clean, second.survives.clean, clean);
     led = λ clean n known P is.

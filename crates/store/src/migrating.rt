@@ -8,6 +8,7 @@ ghost use Rattle.store.specs.Migrating.{NamesInside, LeadsFrom, LeadsOnInside, S
 ghost use Rattle.store.specs.Migrating.{TellsSchema};
 ghost use Rattle.store.specs.Routes.{holds_route, holds_carried, loans_route, loans_carried};
 ghost use Rattle.store.specs.Routes.{rules_route, rules_carried};
+ghost use Rattle.store.specs.Schemas.{IsKnown};
 
 use crate::pages::last_of;
 use circ_tables::{
@@ -163,6 +164,7 @@ fn carry_rules<S: Alter>(tx: &mut Transaction<'_, S>, alloc: Global) -> Result<(
 
 /// Names the schema in the row of `meta`. 91, 93.
 fn name_schema<S: Alter>(tx: &mut Transaction<'_, S>, schema: u32) -> Result<u32, Fault>
+    requires { IsKnown schema }
     ensures named { NamesInside schema S.Store tx.old tx.new result }
     ensures told { IfOk result (λ told. told ≡ schema) }
 {

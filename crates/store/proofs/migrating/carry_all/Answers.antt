@@ -4,6 +4,8 @@ use Rattle.sqlite.specs.Held.{state}
 use Rattle.sqlite.specs.State.{HasCleanDisk}
 use Rattle.circ_tables.specs.Encoding.{HasPictureAt}
 use Rattle.circ_tables.specs.Numbered.{IsNumberTable}
+use Rattle.circ_tables.specs.Shape.{schema_at}
+use Rattle.sql_maps.specs.Maps.{Holds}
 use Rattle.sql_maps.proofs.CallLemmas.{same_keeps}
 use Rattle.store.proofs.MigrateLemmas.{over_to, over_none, over_all, over_next, read_there, read_page, read_sound}
 use Rattle.store.proofs.MovedRows.{none_moved, page_moved, all_rows_moved, next_moved}
@@ -63,7 +65,7 @@ returns-in-None g c =
           let it = so_far.there (was clean) begun (maps, holds) in
           (
             it.2.maps,
-            (read_there at _ _ it.1 (it.2.maps, it.2.holds) (read.lists at has clean)).1.1,
+            subst (λ d. Holds (schema_at at) d it.2.maps) (sym (read.lists at has clean it.2.maps it.2.holds).1.0.now_is) it.2.holds,
             all_rows_moved g.met.R.Carried.over table c.pages.after c.pages._page maps _ it.2 page (page_moved table at has c.pages.after page read.limits _ _ it.2.maps it.2.holds (read.lists at has clean)) empty,
           );
       leads = λ clean begun P shown ready.

@@ -15,7 +15,7 @@ IsReady P = IsOfSchema2 P × InLimits P
 
 pub returns-in_err-make_third-clause-leads : goal.returns-in_err-make_third-clause-leads
 returns-in_err-make_third-clause-leads g c =
-    leads_failed g.S.Store _ c.from_residual-in_err-make_third.ensures (λ P ready. ready) (made_leads g.S.Store _ 2 3 14 refl IsReady encoded_2 c.in_err-make_third.ensures)
+    leads_failed g.S.Store _ c.from_residual.ensures (λ P ready. ready) (made_leads g.S.Store _ 2 3 14 refl IsReady encoded_2 c.in_err-make_third.ensures)
 
 pub returns-in_err-carry_rules-clause-leads : goal.returns-in_err-carry_rules-clause-leads
 returns-in_err-carry_rules-clause-leads g c =
@@ -38,7 +38,7 @@ returns-clause-leads g c =
     (λ P ready. (ready, (all_over_limits rules_carried P ready.1 (own_rules P ready.1), ready.0.later_loans))) (λ P. refl)
     (leads_then g.S.Store RulesMoved IsReady (all_over rules1 rules_route) made_rules (λ P ready. (ready, (ready.1, λ k. ready.0.later_rules k.0 k.1))) (λ P. refl)
     (made_leads g.S.Store _ 2 3 14 refl IsReady encoded_2 c.in_ok-make_third.ensures) c.in_ok-carry_rules.ensures) c.in_ok-carry_all.ensures)
-    (c.name_schema.ensures.named (omega arith, omega arith))
+    c.name_schema.ensures.named
 
 pub returns-clause-told : goal.returns-clause-told
 returns-clause-told g c = c.name_schema.ensures.told

@@ -3,7 +3,7 @@ use Rattle.sqlite.specs.Held.{state}
 use Rattle.circ_tables.specs.SchemaNumber.{NamesSchema}
 use Rattle.circ_tables.proofs.InverseLemmas.{schema_told}
 use Rattle.store.proofs.OpenLemmas.{of_known}
-use Rattle.store.proofs.MigrateLemmas.{can_be_told}
+use Rattle.store.proofs.StepLemmas.{can_be_told}
 use Rattle.store.proofs.StopLemmas.{if_ok}
 use Rattle.store.proofs.migrating.schema.Goals as goal
 
