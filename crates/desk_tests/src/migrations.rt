@@ -103,7 +103,7 @@ fn made_older<S: Alter>(conn: &mut Connection<S>, library: Older) -> Result<(), 
 }
 
 /// The two files of an older library.
-fn older(alloc: Global, library: Older) -> Result<Files<Memory>, Fail> {
+fn older_files(alloc: Global, library: Older) -> Result<Files<Memory>, Fail> {
     let mut conn = connection_of(open_files(alloc, filled(alloc)?, options())?);
     made_older(&mut conn, library)?;
     Ok(into_files(open(conn)?))
@@ -229,7 +229,7 @@ fn one_stop(
 
 /// The fuse blows at each call of the migration in turn, until it is told as done.
 fn stops(rt: &impl Abort, alloc: Global, library: Older, is_log: bool) -> Result<Hits, Fail> {
-    let base = older(alloc, library)?;
+    let base = older_files(alloc, library)?;
     let copy = fused(alloc, &base, (is_log, u64::MAX))?;
     let others = look(
         alloc,
