@@ -8,6 +8,7 @@ export const COMMANDS = {
   "open-day": ["branch", "day"],
   "kind": ["kind", "loans", "holds", "debt"],
   "rule": ["kind", "copy-kind", "period", "renewals", "rate", "cap"],
+  "grace": ["kind", "copy-kind", "days"],
   "patron": ["patron", "kind", "card-key", "name"],
   "acquire": ["copy", "title", "kind", "home", "price", "text"],
   "check-out": ["patron", "copy", "branch"],

@@ -49,7 +49,7 @@ ON_THE_GROUND = [
     (["UPDATE patrons SET owed = 1 WHERE patron = 2"], "unsound balance 2"),
 ]
 
-LOAN = "INSERT INTO loans VALUES ({}, {}, 1, 1, 20529, 20535, 6, 1, 20, 100, NULL)"
+LOAN = "INSERT INTO loans3 VALUES ({}, {}, 1, 1, 20529, 20535, 6, 1, 20, 100, NULL, 0)"
 
 # What is written into the busy library, and the line of its audit.
 DAMAGE = [
@@ -65,8 +65,8 @@ DAMAGE = [
     ([LOAN.format(3, 10)], "unsound claims 10"),
     (["UPDATE holds2 SET state = 1, copy = 30, limit_day = 20535 WHERE hold = 3"], "unsound claims 30"),
     # an ended loan claims nothing until it is open again
-    (["UPDATE loans SET ended = NULL WHERE loan = 1"], "unsound claims 11"),
-    (["UPDATE loans SET copy = 10 WHERE loan = 1"], "sound"),
+    (["UPDATE loans3 SET ended = NULL WHERE loan = 1"], "unsound claims 11"),
+    (["UPDATE loans3 SET copy = 10 WHERE loan = 1"], "sound"),
     (["UPDATE copies SET condition = 0 WHERE copy = 11"], "sound"),
     # the least number is told, on whatever page of numbers it stands, and a copy needs no row for it
     (["UPDATE copies SET condition = 1 WHERE copy IN (10, 20, 30)"], "unsound claims 10"),
@@ -97,6 +97,8 @@ DAMAGE = [
     # a transit for no hold is none of its, and a hold that is cancelled may be without any
     (["UPDATE transits SET hold = NULL WHERE copy = 20"], "sound"),
     (["UPDATE holds2 SET state = 3 WHERE hold = 3"], "sound"),
+    # no law looks at grace days, nor at what a fine was
+    (["UPDATE rules3 SET grace = 365", "UPDATE loans3 SET grace = 365"], "sound"),
     # a first day binds nothing: any hold may have one, or none
     (["UPDATE holds2 SET first_day = NULL WHERE hold = 4"], "sound"),
     (["UPDATE holds2 SET first_day = 20544"], "sound"),
@@ -139,11 +141,14 @@ FAULTS = [
     (["UPDATE holds2 SET state = 5 WHERE hold = 1"], "fault 93"),
     (["UPDATE holds2 SET first_day = 10956 WHERE hold = 4"], "fault 93"),
     (["UPDATE holds2 SET first_day = 84006 WHERE hold = 1"], "fault 93"),
-    (["UPDATE loans SET due = 84006 WHERE loan = 1"], "fault 93"),
+    (["UPDATE loans3 SET due = 84006 WHERE loan = 1"], "fault 93"),
+    (["UPDATE loans3 SET grace = 366 WHERE loan = 1"], "fault 93"),
+    (["UPDATE loans3 SET grace = -1 WHERE loan = 2"], "fault 93"),
     (["UPDATE branches SET name = CAST(x'ff' AS TEXT) WHERE branch = 1"], "fault 93"),
     (["INSERT INTO closed_days VALUES (1, 84006)"], "fault 93"),
     (["UPDATE kinds SET loans = -1"], "fault 93"),
-    (["UPDATE rules SET period = 0"], "fault 93"),
+    (["UPDATE rules3 SET period = 0"], "fault 93"),
+    (["UPDATE rules3 SET grace = 366 WHERE copy_kind = 2"], "fault 93"),
     (["UPDATE titles SET text = CAST(x'ff' AS TEXT) WHERE title = 100"], "fault 93"),
     (["UPDATE kept SET reply = CAST(x'ff' AS TEXT) WHERE key = 'a1'"], "fault 93"),
     # numbers below those that there are
@@ -166,7 +171,7 @@ FAR = [
     ([], "sound"),
     ([f"UPDATE copies SET condition = 2 WHERE copy = {LAST}"], f"unsound claims {LAST}"),
     ([LOAN.format(LAST + 1, LAST)], f"unsound claims {LAST}"),
-    ([f"UPDATE loans SET ended = NULL WHERE loan = {LAST}"], f"unsound claims {LAST}"),
+    ([f"UPDATE loans3 SET ended = NULL WHERE loan = {LAST}"], f"unsound claims {LAST}"),
     ([f"UPDATE holds2 SET copy = {LAST} WHERE hold = {LAST}"], f"unsound binding {LAST}"),
     ([f"UPDATE transits SET hold = {LAST} WHERE copy = {LAST}"], f"unsound binding {LAST}"),
     ([f"UPDATE patrons SET owed = 1 WHERE patron = {LAST}"], f"unsound balance {LAST}"),
@@ -174,7 +179,8 @@ FAR = [
     ([f"UPDATE patrons SET owed = -1 WHERE patron = {LAST}"], "fault 93"),
     ([f"UPDATE titles SET text = CAST(x'ff' AS TEXT) WHERE title = {LAST}"], "fault 93"),
     ([f"UPDATE copies SET condition = 3 WHERE copy = {LAST}"], "fault 93"),
-    ([f"UPDATE loans SET due = 84006 WHERE loan = {LAST}"], "fault 93"),
+    ([f"UPDATE loans3 SET due = 84006 WHERE loan = {LAST}"], "fault 93"),
+    ([f"UPDATE loans3 SET grace = 366 WHERE loan = {LAST}"], "fault 93"),
     ([f"UPDATE holds2 SET state = 5 WHERE hold = {LAST}"], "fault 93"),
     ([f"UPDATE transits SET goal = 0 WHERE copy = {LAST}"], "fault 93"),
     (["UPDATE lines SET sort = 4 WHERE line = (SELECT max(line) FROM lines)"], "fault 93"),
@@ -193,7 +199,7 @@ def laws_of(path):
         def read(text):
             return conn.execute(text).fetchall()
 
-        loans, transits = read("SELECT copy, ended FROM loans"), read("SELECT copy, goal, hold FROM transits")
+        loans, transits = read("SELECT copy, ended FROM loans3"), read("SELECT copy, goal, hold FROM transits")
         copies = {copy: (title, condition) for copy, title, condition in read("SELECT copy, title, condition FROM copies")}
         holds = {hold: row for hold, *row in read("SELECT hold, title, branch, state, copy, limit_day FROM holds2")}
         owed, lines = dict(read("SELECT patron, owed FROM patrons")), read("SELECT patron, sort, amount FROM lines")
@@ -260,7 +266,7 @@ def fill(path):
         "patrons": [(n, 1, f"cardkey{n}", "Reader", 0) for n in numbers],
         "titles": [(n, "A title") for n in numbers],
         "copies": [(n, n, 1, 1, 900, 0) for n in numbers],
-        "loans": [(n, n, n, 1, 20500, 20520, 20, 1, 20, 1000, 20529) for n in numbers],
+        "loans3": [(n, n, n, 1, 20500, 20520, 20, 1, 20, 1000, 20529, 2) for n in numbers],
         "holds2": [(n, n, n, 1, 3, None, None, None) for n in numbers],
         "transits": [(n, 1, None) for n in numbers],
         "lines": lines,
@@ -280,7 +286,7 @@ def the_past(ground, folder):
     shutil.copy(ground, path)
     with closing(sqlite3.connect(path)) as conn, conn:
         each = range(1, PAST + 1)
-        conn.executemany("INSERT INTO loans VALUES (?, 10, 1, 1, 20514, 20521, 6, 1, 20, 100, 20520)", ((n,) for n in each))
+        conn.executemany("INSERT INTO loans3 VALUES (?, 10, 1, 1, 20514, 20521, 6, 1, 20, 100, 20520, 0)", ((n,) for n in each))
         conn.executemany("INSERT INTO titles VALUES (?, ?)", ((1_000 + n, f"A title of number {n}") for n in each))
         conn.executemany("INSERT INTO kept VALUES (0, ?, 'check-out 1 10 1', ?)", ((f"k{n}", f"loan {n} due 2026-03-09") for n in each))
         conn.execute("UPDATE meta SET next_loan = ?", (PAST + 1,))
@@ -316,7 +322,7 @@ def lost_output(library):
 
 # Columns with the values that the random damage gives them, most of them within the limits.
 COLUMNS = {
-    "loans": {"copy": (10, 11, 20, 30, 40, 99), "ended": (None, None, 20529), "patron": (1, 2, 3)},
+    "loans3": {"copy": (10, 11, 20, 30, 40, 99), "ended": (None, None, 20529), "patron": (1, 2, 3), "grace": (0, 2, 365)},
     "holds2": {"state": (0, 1, 2, 3, 4), "copy": (None, 10, 20, 30, 40, 99), "limit_day": (None, 20535), "title": (100, 200, 300, 400), "branch": (1, 2),
                "first_day": (None, 20544)},
     "transits": {"goal": (1, 2), "hold": (None, 1, 2, 3, 4, 9), "copy": (10, 11, 20, 30, 40, 99)},

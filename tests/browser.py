@@ -283,7 +283,7 @@ def killed(driver, base, serving):
     driver.switch_to.active_element.send_keys("20", Keys.ENTER)
     serving.start()
     until("an answer", desk.is_noted, 60)
-    need("the loan", desk.told()[:7], "Loan 5,")
+    need("the loan", desk.told()[:7], "Loan 6,")
 
 
 def patron(driver, base, serving):
@@ -306,7 +306,7 @@ def patron(driver, base, serving):
     ActionChains(driver).send_keys(Keys.TAB).perform()
     need("the first button", driver.switch_to.active_element.get_attribute("aria-label"), "Renew Rivers of the North")
     ActionChains(driver).send_keys(Keys.ENTER).perform()
-    until("renewed", lambda: page.told().startswith("Loan 4, due on"))
+    until("renewed", lambda: page.told().startswith("Loan 5, due on"))
     until("no renewal is left", lambda: "no renewal left" in page.it("loans").text)
     driver.find_element(By.CSS_SELECTOR, "#loans button").send_keys(Keys.ENTER)
     until("refused", lambda: page.told() == f"Refused (42): {meaning('42')}.")
@@ -329,7 +329,7 @@ def patron(driver, base, serving):
     until("cancelled", lambda: page.told() == "Done.", 60)
     until("no hold", lambda: page.it("holds").text == "No holds.")
     # a hold from today on, and one from a day to come
-    place_from(page, "300", "2", "03172026")
+    place_from(page, "300", "2", "03252026")
     until("no day to come", lambda: page.told() == f"Refused (23): {meaning('23')}.")
     place_from(page, "300", "2", "04012026")
     until("a hold from a day on", lambda: page.told() == "Hold 5 is placed.")
@@ -373,7 +373,7 @@ def tried(behind, pictures):
                 clerk(driver, base)
                 desk = Desk(driver, base, 1)
                 desk.scan("1")
-                need("Ann borrows again", desk.scan("11")[:6], "Loan 4")
+                need("Ann borrows again", desk.scan("11")[:6], "Loan 5")
                 if pictures:
                     look(driver, "desk-page.png")
                 page = patron(driver, base, serving)
@@ -390,7 +390,7 @@ def tried(behind, pictures):
             serving.kill()
         need("the hold was cancelled once", serving.rows("SELECT count(*) FROM kept WHERE text = 'cancel-hold 4'"), [(1,)])
         need("the hold from a day on", serving.rows("SELECT text, reply FROM kept WHERE caller = 1 AND text LIKE 'place-hold-from%'"), [("place-hold-from 1 300 2 2026-04-01", "hold 5")])
-        need("there is one loan of the copy", serving.rows("SELECT count(*) FROM loans WHERE copy = 20 AND ended IS NULL"), [(1,)])
+        need("there is one loan of the copy", serving.rows("SELECT count(*) FROM loans3 WHERE copy = 20 AND ended IS NULL"), [(1,)])
         need("an audit", outside.run(outside.PROGRAM, "audit", serving.path).stdout, "sound\n")
 
 

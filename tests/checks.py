@@ -51,6 +51,10 @@ kind 2 5 5 500 -> ok
 rule 1 1 366 1 20 100 -> refused 21
 rule 3 1 6 1 20 100 -> refused 17
 rule 2 1 6 1 20 100 -> ok
+grace 1 3 366 -> refused 21
+grace 1 100 2 -> refused 21
+grace 1 3 2 -> refused 16
+grace 2 1 2 -> ok
 patron 10000000 1 cardkey00004 'Di East' -> refused 21
 patron 4 3 cardkey00004 'Di East' -> refused 17
 patron 1 1 cardkey00004 'Ann Bell' -> refused 20
@@ -119,6 +123,20 @@ check-in 30 1 -> fine 0 ready 1 at 1 until 2026-03-07
 check-in 30 1 -> refused 33
 check-in 10 2 -> fine 0 transit 1
 check-in 10 1 -> fine 0 shelf 1
+
+# grace days: those of the rule when the loan was made
+grace 1 1 2 -> ok
+check-out 1 10 1 -> loan 1 due 2026-03-09
+check-out 2 11 1 -> loan 2 due 2026-03-09
+rule 1 1 6 1 20 100 -> ok
+check-out 3 20 2 -> loan 3 due 2026-03-10
+begin-day 2026-03-11 -> ok
+check-in 10 1 -> fine 0 shelf 1
+renew 2 -> refused 41
+begin-day 2026-03-12 -> ok
+check-in 11 1 -> fine 60 shelf 1
+missing 20 -> fine 40 price 1200
+page 1 -> patron 1 owed 0 name Ann Bell
 
 # renew
 renew 1 -> refused 14

@@ -3,7 +3,7 @@
 
     tests/definitions.py GATE [--seed N] [HISTORIES]      over the libraries that `rt ci` left in GATE/crates/*/out, a copy of the repository
 
-A history is 25 requests of the desk, of all commands but `page`, after those that make a small library. What each is answered is worked out by `tests/desk_rules.py`, which shares nothing
+A history is 25 requests of the desk, of all commands but `page`, after those that make a small library. Loans end late in them, within their grace days and past these. What each is answered is worked out by `tests/desk_rules.py`, which shares nothing
 with the definitions; that the definitions give the same answers is a lemma, which the prover computes in a copy of the crate `model`. One lemma more has a wrong answer, and has to be rejected.
 """
 
@@ -31,7 +31,7 @@ FOUNDING = [
 IMPORTS = """-- Random histories, and what the rules in plain Python answer.
 use Rattle.std.specs.Prelude.{◌≡◌, [], ◌∷◌, true, false, refl, Some, None}
 use Rattle.std.specs.Fmt.{digits}
-use Rattle.terms.specs.declared.command.Command.TheVariants.{BeginDay, Branch, Week, CloseDay, OpenDay, Kind, Rule, Patron, Acquire, CheckOut, CheckIn, Renew, PlaceHold, CancelHold, Unshelve, UnshelveCancelled, Missing, Withdraw, Pay, Waive}
+use Rattle.terms.specs.declared.command.Command.TheVariants.{BeginDay, Branch, Week, CloseDay, OpenDay, Kind, Rule, Grace, Patron, Acquire, CheckOut, CheckIn, Renew, PlaceHold, CancelHold, Unshelve, UnshelveCancelled, Missing, Withdraw, Pay, Waive}
 use Rattle.terms.specs.Texts.{reply_text, reply_words, routed_words}
 use Rattle.model.proofs.Rows.{closed_in, desk, Gives, gives, ground}
 use Rattle.std.specs.Prelude.{codes}
@@ -68,8 +68,21 @@ class Clerk:
     def day(self, *later):
         return str(self.library.today + datetime.timedelta(self.rng.choice(later)))
 
+    def end_of_a_loan(self):
+        """What ends an open loan late: a day soon after the one on which it is due and, from then on, its copy; None where there is none."""
+        lent = [loan for loan in self.library.loans.values() if loan["ended"] is None]
+        if not lent:
+            return None
+        loan = self.rng.choice(lent)
+        if self.library.today <= loan["due"]:
+            return ["begin-day", str(loan["due"] + datetime.timedelta(self.rng.choice((1, 2, 3, 4, 6))))]
+        return ["missing", str(loan["copy"])] if self.rng.random() < 0.2 else ["check-in", str(loan["copy"]), self.one(1, 2)]
+
     def request(self):
         one, day = self.one, self.day
+        ends = self.end_of_a_loan() if self.rng.random() < 0.3 else None
+        if ends:
+            return ends
         patron, title, branch, copy = one(1, 2, 3), one(100, 100, 100, 200, 300), one(1, 1, 2), one(10, 11, 10, 11, 20, 30)
         hold, loan, amount = self.among(self.library.holds), self.among(self.library.loans), one(10, 30, 2500)
         often = [
@@ -79,7 +92,7 @@ class Clerk:
         seldom = [
             ["renew", loan], ["cancel-hold", hold], ["unshelve", hold], ["unshelve-cancelled", hold], ["missing", copy], ["withdraw", copy], ["pay", patron, amount],
             ["waive", patron, amount], ["close-day", branch, day(1, 5, 6, 7)], ["open-day", branch, day(1, 5, 6, 7)], ["kind", "1", one(2, 5), one(1, 3, 5), "500"],
-            ["rule", "1", one(1, 2), one(3, 6), one(0, 2), "20", "100"], ["week", branch, self.rng.choice(["ooooooc", "coooooc", "ooooooo", "ccccccc"])],
+            ["rule", "1", one(1, 2), one(3, 6), one(0, 2), "20", "100"], ["grace", "1", one(1, 1, 2, 3), one(1, 2, 3, 366)], ["grace", "1", "1", one(0, 1, 2)], ["week", branch, self.rng.choice(["ooooooc", "coooooc", "ooooooo", "ccccccc"])],
             ["branch", branch, one(3, 5), "Main"], ["patron", patron, "1", "cardkey00001", "Ann Bell"], ["acquire", one(10, 12), "100", "1", "1", "2500", "Rivers of the North"],
         ]
         return self.rng.choice(often if self.rng.random() < 0.6 else seldom)
@@ -93,7 +106,8 @@ def history(rng):
             sys.exit(f"definitions: {words} of the small library is refused")
     clerk, asked = Clerk(rng, library), []
     for at in range(REQUESTS):
-        words = clerk.request()
+        # few loans are made in one history, so half of them have grace days from the beginning
+        words = ["grace", "1", "1", clerk.one(1, 2, 3)] if at == 0 and rng.random() < 0.5 else clerk.request()
         asked.append((words, library.handle(f"r{at}", words)))
     return asked
 
@@ -144,9 +158,10 @@ def main(words):
     differ = [name for name in rejected if name != "wrong_answer"]
     asked = {words[0] for its in histories for words, _ in its}
     refused = {answer for its in histories for _, answer in its if answer.startswith("refused")}
+    fines = sum(answer.startswith("fine ") and not answer.startswith("fine 0 ") for its in histories for _, answer in its)
     if not ended or "wrong_answer" not in rejected or differ:
         print(told[-6000:])
-    print(f"definitions: {many} histories of {REQUESTS} requests by the seed {seed}, {len(asked)} commands and {len(refused)} refusals among them: {len(differ)} differ")
+    print(f"definitions: {many} histories of {REQUESTS} requests by the seed {seed}, {len(asked)} commands, {len(refused)} refusals and {fines} fines among them: {len(differ)} differ")
     failed = len(differ) + (not ended) + ("wrong_answer" not in rejected)
     print(f"{many + 1 - failed} passed, {failed} failed")
     return 1 if failed else 0

@@ -115,7 +115,9 @@ class Library:
         if loan is None:
             return None, 0
         row = self.loans[loan]
-        fine = min(self.late(row["branch"], row["due"]) * row["rate"], row["cap"])
+        late = self.late(row["branch"], row["due"])
+        # within the grace days nothing is due, and past them each day late is
+        fine = 0 if late <= row["grace"] else min(late * row["rate"], row["cap"])
         row["ended"] = self.today
         self.add_line(row["patron"], "fine", fine, loan)
         return loan, fine
@@ -173,7 +175,13 @@ class Library:
         refuse(21, not (1 <= kind <= 99 and 1 <= copy_kind <= 99 and 1 <= period <= 365 and renewals <= 99
                         and rate <= 10_000 and cap <= 100_000))
         refuse(17, kind not in self.kinds)
-        self.rules[kind, copy_kind] = {"period": period, "renewals": renewals, "rate": rate, "cap": cap}
+        self.rules[kind, copy_kind] = {"period": period, "renewals": renewals, "rate": rate, "cap": cap, "grace": 0}
+        return "ok"
+
+    def do_grace(self, kind, copy_kind, days):
+        refuse(21, not (1 <= kind <= 99 and 1 <= copy_kind <= 99 and days <= 365))
+        refuse(16, (kind, copy_kind) not in self.rules)
+        self.rules[kind, copy_kind]["grace"] = days
         return "ok"
 
     def do_patron(self, patron, kind, card_key, name):
@@ -402,18 +410,20 @@ class Library:
         sorts = ["fine", "price", "payment", "waiver"]
         day = lambda d: None if d is None else number(d)
         return {
-            "meta": [(1, 2, number(self.today), len(self.loans) + 1, len(self.holds) + 1, len(self.lines) + 1)],
+            "meta": [(1, 3, number(self.today), len(self.loans) + 1, len(self.holds) + 1, len(self.lines) + 1)],
             "branches": [(n, r["pickup"], r["week"], r["name"]) for n, r in sorted(self.branches.items())],
             "closed_days": [(n, number(d)) for n, days in sorted(self.closed.items()) for d in sorted(days)],
             "kinds": [(n, r["loans"], r["holds"], r["debt"]) for n, r in sorted(self.kinds.items())],
-            "rules": [(*n, r["period"], r["renewals"], r["rate"], r["cap"]) for n, r in sorted(self.rules.items())],
+            "rules": [],  # those of the schemas before 3 stood here, and their loans and holds in the tables below that are empty too
+            "rules3": [(*n, r["period"], r["renewals"], r["rate"], r["cap"], r["grace"]) for n, r in sorted(self.rules.items())],
             "patrons": [(n, r["kind"], r["card_key"], r["name"], self.owed(n)) for n, r in sorted(self.patrons.items())],
             "titles": sorted(self.titles.items()),
             "copies": [(n, r["title"], r["kind"], r["home"], r["price"], conditions.index(r["condition"]))
                        for n, r in sorted(self.copies.items())],
-            "loans": [(n, r["copy"], r["patron"], r["branch"], number(r["made"]), number(r["due"]), r["period"],
-                       r["renewals"], r["rate"], r["cap"], day(r["ended"])) for n, r in sorted(self.loans.items())],
-            "holds": [],  # those of schema 1 stood here
+            "loans": [],
+            "loans3": [(n, r["copy"], r["patron"], r["branch"], number(r["made"]), number(r["due"]), r["period"],
+                        r["renewals"], r["rate"], r["cap"], day(r["ended"]), r["grace"]) for n, r in sorted(self.loans.items())],
+            "holds": [],
             "holds2": [(n, r["patron"], r["title"], r["branch"], states.index(r["state"]), r["copy"], day(r["limit"]),
                         day(r["first"])) for n, r in sorted(self.holds.items())],
             "transits": [(n, goal, hold) for n, (goal, hold) in sorted(self.transits.items())],

@@ -74,6 +74,11 @@ REFUSALS = [
     (["kind", "1", "201", "5", "500"], 21),
     (["rule", "1", "1", "0", "1", "20", "100"], 21),
     (["rule", "9", "1", "6", "1", "20", "100"], 17),
+    (["grace", "1", "3", "2"], 16),
+    (["grace", "9", "1", "2"], 16),
+    (["grace", "1", "1", "366"], 21),
+    (["grace", "1", "100", "2"], 21),
+    (["grace", "0", "3", "2"], 21),
     (["patron", "0", "1", "cardkey00009", "Di"], 21),
     (["patron", "9", "9", "cardkey00009", "Di"], 17),
     (["patron", "1", "1", "cardkey00009", "Ann Bell"], 20),
@@ -161,6 +166,11 @@ BAD_REQUESTS = [
     ["page", "01"],
     ["pay", "1", "05"],
     ["close-day", "1", "2026-3-9"],
+    ["grace", "1", "1"],
+    ["grace", "1", "1", "02"],
+    ["grace", "1", "1", "2", "2"],
+    ["grace", "1", "1", "-1"],
+    ["grace", "1", "1", "two"],
     ["place-hold", "2", "100", "1", "2026-03-05"],
     ["place-hold-from", "2", "100", "1"],
     ["place-hold-from", "2", "100", "1", "2026-3-5"],
@@ -231,17 +241,17 @@ def digest(path):
 
 
 def a_new_library(folder):
-    """A new file has the fourteen tables, their keys and indexes, and the first row of meta."""
+    """A new file has the sixteen tables, their keys and indexes, and the first row of meta."""
     path = os.path.join(folder, "new.db")
     check("a new file", circ(["file", path, "g1", "week", "1", "ooooooo"]), ("refused 10", 2))
-    check("meta", rows(path, "SELECT * FROM meta"), [(1, 2, 10957, 1, 1, 1)])
+    check("meta", rows(path, "SELECT * FROM meta"), [(1, 3, 10957, 1, 1, 1)])
     tables = "SELECT name FROM sqlite_schema WHERE type = 'table' AND name NOT LIKE 'sqlite%' ORDER BY rowid"
-    names = "meta branches closed_days kinds rules patrons titles copies loans holds transits lines kept holds2"
+    names = "meta branches closed_days kinds rules patrons titles copies loans holds transits lines kept holds2 rules3 loans3"
     check("tables", [name for (name,) in rows(path, tables)], names.split())
     for name in names.split()[1:]:
         check(f"no row of {name}", rows(path, f"SELECT COUNT(*) FROM {name}"), [(0,)])
         check(f"no foreign key of {name}", rows(path, f"PRAGMA foreign_key_list({name})"), [])
-    keys = {"closed_days": "branch day", "rules": "kind copy_kind", "kept": "caller key"}
+    keys = {"closed_days": "branch day", "rules": "kind copy_kind", "rules3": "kind copy_kind", "kept": "caller key"}
     for name in names.split():
         columns = rows(path, f"PRAGMA table_info({name})")
         first = " ".join(column[1] for column in columns if column[5])
@@ -250,7 +260,7 @@ def a_new_library(folder):
     check("one UNIQUE", len(rows(path, unique)), 1)
     indexes = "SELECT name FROM sqlite_schema WHERE type = 'index' AND sql IS NOT NULL ORDER BY rowid"
     wanted = """loans_copy loans_patron holds_copy holds_patron holds_title holds_branch lines_day loans_branch holds2_copy holds2_patron
-        holds2_title holds2_branch"""
+        holds2_title holds2_branch loans3_copy loans3_patron loans3_branch"""
     check("indexes", [name for (name,) in rows(path, indexes)], wanted.split())
     check("the index of a title's line", rows(path, "SELECT sql FROM sqlite_schema WHERE name = 'holds2_title'"),
           [("CREATE INDEX holds2_title ON holds2 (title, state, first_day, hold)",)])
@@ -267,7 +277,7 @@ def a_small_library(folder):
     check("branches", rows(path, "SELECT * FROM branches"),
           [(1, 5, "ooooooc", "Main"), (2, 3, "coooooc", "Harbour")])
     check("kinds", rows(path, "SELECT * FROM kinds"), [(1, 5, 5, 500)])
-    check("rules", rows(path, "SELECT * FROM rules"), [(1, 1, 6, 1, 20, 100), (1, 2, 12, 1, 20, 100)])
+    check("rules", rows(path, "SELECT * FROM rules3"), [(1, 1, 6, 1, 20, 100, 0), (1, 2, 12, 1, 20, 100, 0)])
     check("patrons", rows(path, "SELECT * FROM patrons"),
           [(1, 1, "cardkey00001", "Ann Bell", 0), (2, 1, "cardkey00002", "Bo Carr", 0),
            (3, 1, "cardkey00003", "Cy Dunn", 0)])
@@ -277,10 +287,10 @@ def a_small_library(folder):
           [(10, 100, 1, 1, 2500, 0), (11, 100, 1, 1, 2500, 0), (20, 200, 1, 2, 1200, 0),
            (30, 300, 2, 1, 800, 0)])
     say(path, LENDING)
-    check("loans", rows(path, "SELECT * FROM loans"),
-          [(1, 10, 1, 1, 20514, 20521, 6, 1, 20, 100, None),
-           (2, 11, 1, 1, 20514, 20521, 6, 1, 20, 100, None)])
-    check("meta", rows(path, "SELECT * FROM meta"), [(1, 2, 20514, 3, 1, 1)])
+    check("loans", rows(path, "SELECT * FROM loans3"),
+          [(1, 10, 1, 1, 20514, 20521, 6, 1, 20, 100, None, 0),
+           (2, 11, 1, 1, 20514, 20521, 6, 1, 20, 100, None, 0)])
+    check("meta", rows(path, "SELECT * FROM meta"), [(1, 3, 20514, 3, 1, 1)])
     check("kept", rows(path, "SELECT * FROM kept WHERE key IN ('g1', 'k1', 'k2') ORDER BY key"),
           [(0, "g1", "begin-day 2026-03-02", "ok"),
            (0, "k1", "check-out 1 10 1", "loan 1 due 2026-03-09"),
@@ -323,7 +333,7 @@ def single_closed_days(folder):
         ("k2", ["check-out", "2", "11", "1"], "loan 2 due 2026-03-09"),
     ])
     check("one is left", rows(path, "SELECT * FROM closed_days"), [(2, 20522)])
-    check("due days", rows(path, "SELECT loan, due FROM loans"), [(1, 20522), (2, 20521)])
+    check("due days", rows(path, "SELECT loan, due FROM loans3"), [(1, 20522), (2, 20521)])
 
 
 def payments(folder):
@@ -353,9 +363,38 @@ def payments(folder):
     check("lines", rows(path, "SELECT * FROM lines"),
           [(1, 1, 20529, 0, 100, 1), (2, 1, 20529, 1, 2500, 1), (3, 1, 20529, 2, 30, None),
            (4, 1, 20529, 3, 20, None), (5, 1, 20529, 2, 2550, None)])
-    check("loans", rows(path, "SELECT * FROM loans"),
-          [(1, 10, 1, 1, 20514, 20521, 6, 1, 20, 100, 20529),
-           (2, 11, 2, 1, 20529, 20542, 6, 0, 20, 100, None)])
+    check("loans", rows(path, "SELECT * FROM loans3"),
+          [(1, 10, 1, 1, 20514, 20521, 6, 1, 20, 100, 20529, 0),
+           (2, 11, 2, 1, 20529, 20542, 6, 0, 20, 100, None, 0)])
+
+
+def grace_days(folder):
+    """A loan within the grace days that its rule had when it was made costs nothing and makes no line; one past them costs each day late, and a loan of before has none."""
+    path = os.path.join(folder, "grace.db")
+    say(path, GROUND)
+    say(path, [
+        ("a1", ["check-out", "1", "10", "1"], "loan 1 due 2026-03-09"),
+        ("a2", ["grace", "1", "1", "2"], "ok"),
+        ("a2", ["grace", "1", "1", "2"], "ok"),
+        ("a2", ["grace", "1", "1", "3"], "refused 80"),
+        ("a3", ["check-out", "2", "11", "1"], "loan 2 due 2026-03-09"),
+        ("a4", ["check-out", "3", "20", "2"], "loan 3 due 2026-03-10"),
+    ])
+    check("rules", rows(path, "SELECT * FROM rules3"), [(1, 1, 6, 1, 20, 100, 2), (1, 2, 12, 1, 20, 100, 0)])
+    say(path, [
+        ("b1", ["begin-day", "2026-03-11"], "ok"),
+        ("b2", ["check-in", "10", "1"], "fine 40 shelf 1"),
+        ("b3", ["check-in", "11", "1"], "fine 0 shelf 1"),
+        ("b4", ["begin-day", "2026-03-13"], "ok"),
+        ("b5", ["check-in", "20", "2"], "fine 60 shelf 2"),
+        ("b6", ["rule", "1", "1", "6", "1", "20", "100"], "ok"),
+    ])
+    check("rules that were set again", rows(path, "SELECT * FROM rules3"), [(1, 1, 6, 1, 20, 100, 0), (1, 2, 12, 1, 20, 100, 0)])
+    check("loans", rows(path, "SELECT loan, due, rate, cap, ended, grace FROM loans3"),
+          [(1, 20521, 20, 100, 20523, 0), (2, 20521, 20, 100, 20523, 2), (3, 20522, 20, 100, 20525, 2)])
+    check("lines", rows(path, "SELECT * FROM lines"), [(1, 1, 20523, 0, 40, 1), (2, 3, 20525, 0, 60, 3)])
+    check("owed", rows(path, "SELECT patron, owed FROM patrons"), [(1, 40), (2, 0), (3, 60)])
+    check("no row of the old tables", rows(path, "SELECT (SELECT COUNT(*) FROM rules), (SELECT COUNT(*) FROM loans)"), [(0, 0)])
 
 
 def movements(folder):
@@ -396,7 +435,7 @@ def movements(folder):
     ])
     check("transits", rows(path, "SELECT * FROM transits"), [(30, 1, None)])
     check("conditions", rows(path, "SELECT copy, condition FROM copies"), [(10, 0), (11, 2), (20, 0), (30, 0)])
-    check("meta", rows(path, "SELECT * FROM meta"), [(1, 2, 20518, 1, 4, 1)])
+    check("meta", rows(path, "SELECT * FROM meta"), [(1, 3, 20518, 1, 4, 1)])
 
 
 def refusals_of_other_rows(folder, path):
@@ -589,7 +628,7 @@ def a_long_report(folder):
     with closing(sqlite3.connect(path)) as db, db:
         each = range(1, LATE + 1)
         db.executemany("INSERT INTO copies VALUES (?, 100, 1, 1, 2500, 0)", ((1000 + n,) for n in each))
-        db.executemany("INSERT INTO loans VALUES (?, ?, 1, 1, 20514, 20521, 6, 1, 20, 100, NULL)", ((n, 1000 + n) for n in each))
+        db.executemany("INSERT INTO loans3 VALUES (?, ?, 1, 1, 20514, 20521, 6, 1, 20, 100, NULL, 0)", ((n, 1000 + n) for n in each))
         db.execute("UPDATE meta SET next_loan = ?", (LATE + 1,))
     say(path, [("d1", ["begin-day", "2026-03-17"], "ok")])
     least, status = memory_of(["report", path, "shelf", "2"], out)
@@ -641,6 +680,7 @@ IN_THE_MONTH = {
     ("withdraw", "ok"), ("withdraw", "33"), ("check-in", "35"), ("check-out", "35"), ("check-out", "33"), ("check-out", "38"),
     ("check-out", "50"), ("place-hold", "50"), ("place-hold", "51"), ("renew", "41"), ("renew", "38"), ("missing", "35"),
     ("place-hold-from", "hold"), ("place-hold-from", "23"), ("place-hold-from", "50"), ("place-hold-from", "51"), ("place-hold-from", "52"),
+    ("grace", "ok"), ("grace", "16"), ("grace", "21"),
 }
 
 
@@ -726,7 +766,7 @@ def lost_output(folder):
     with open("/dev/full", "wb") as full:
         run = subprocess.run([CIRC, "file", path, "k1", "check-out", "1", "10", "1"], stdout=full, timeout=120)
     check("a full disk", run.returncode, 3)
-    check("the loan stands", rows(path, "SELECT loan, copy FROM loans"), [(1, 10)])
+    check("the loan stands", rows(path, "SELECT loan, copy FROM loans3"), [(1, 10)])
     say(path, [("k1", ["check-out", "1", "10", "1"], "loan 1 due 2026-03-09")])
     for words in (["report", path, "shelf", "1"], ["audit", path], ["file", path, "k2", "page", "1"], ["file"]):
         with open("/dev/full", "wb") as full:
@@ -761,7 +801,7 @@ CROWDED = [
     "check-out 1 10 1", "check-out 2 10 1", "check-out 3 30 1", "check-out 1 20 1", "check-in 10 1", "check-in 10 2",
     "check-in 12 2", "check-in 11 1", "renew 1", "renew 3", "place-hold 2 101 2", "place-hold 1 100 2",
     "place-hold-from 2 200 2 2026-03-13", "begin-day 2026-03-13", "cancel-hold 1", "unshelve 2", "unshelve-cancelled 3",
-    "missing 30", "withdraw 11", "pay 1 30", "waive 1 2500", "page 1",
+    "missing 30", "withdraw 11", "pay 1 30", "waive 1 2500", "page 1", "grace 1 1 2", "rule 1 1 6 1 20 100",
 ]
 
 
@@ -862,7 +902,7 @@ def bad_files(folder, path):
     check("another meta", circ(["file", namesake, *words]), ("fault 93", 3))
     later = os.path.join(folder, "later.db")
     shutil.copy(path, later)
-    write(later, "UPDATE meta SET schema = 3")
+    write(later, "UPDATE meta SET schema = 4")
     before = whole(later)
     check("a later schema", circ(["file", later, *words]), ("fault 93", 3))
     check("it stays", whole(later), before)
@@ -898,6 +938,7 @@ def main():
         refusals_of_other_rows(folder, path)
         single_closed_days(folder)
         payments(folder)
+        grace_days(folder)
         movements(folder)
         reports(folder)
         a_long_line(folder)

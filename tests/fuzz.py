@@ -41,6 +41,7 @@ ODD_NUMBERS = ["0", "01", "+1", "-1", "1.0", "", " 1", "1 ", "1e0", "x", "99", "
 DAYS = ["2026-03-03", "2026-03-04", "2026-03-09", "2026-04-01", "2026-05-01", "2000-01-01"]
 FIRST_DAYS = ["2026-03-04", "2026-03-09", "2026-04-01", "2026-05-01", "2026-06-01", "2190-12-31"]  # of holds
 ODD_DAYS = ["2026-3-3", "2026-02-29", "2028-02-29", "2026-13-01", "2191-01-01", "2199-12-31", "2200-01-01", "1999-12-31", "20260303", "2026-03-03 ", ""]
+GRACE = ["0", "1", "1", "1", "2", "3", "365", "366"]
 MASKS, ODD_MASKS = ["ooooooc", "coooooc", "ooooooo"], ["ccccccc", "oooooo", "oooooooo", "OOOOOOO", "oooooox"]
 NAMES = ["Main", "Hill", "Rivers of the North", "Salt Roads", "Night Ferries", "Bücher", "日本 \U0001f4da", 'Maps, "Old"', "\u2028\u0085", "x" * 120, "7"]
 ODD_NAMES = ["", " Hill", "Hill ", "x" * 121, "ü" * 60, "ü" * 60 + "x", "a\nb", "a\tb", "a\x7fb", "a\x00b", "-Hill"]
@@ -81,12 +82,13 @@ class Cases:
     def word(self, name, form):
         """A part of a command, which mostly has its form."""
         if form not in FORMS:
-            return self.number_text()
+            # mostly kinds that have a rule
+            return self.one_of(GRACE, ODD_NUMBERS) if name == "grace" else self.number_text()
         return self.one_of(FIRST_DAYS, ODD_DAYS) if name == "place-hold-from" else self.one_of(*FORMS[form])
 
     def words(self):
         """Words of the desk."""
-        name = self.rng.choice([*WORDS, "check-out", "check-in", "place-hold", "place-hold-from", "renew", "pay"])
+        name = self.rng.choice([*WORDS, "grace", "check-out", "check-in", "place-hold", "place-hold-from", "renew", "pay"])
         words = [name] + [self.word(name, form) for form in WORDS[name]]
         if self.odd(0.05):
             place = self.rng.randrange(len(words))
@@ -343,7 +345,7 @@ def take_in_all(cases, path, library, where, seen):
 
 
 def play(ground, library, seed, number):
-    """One round: how often each status came, and how many holds have a first day."""
+    """One round: how often each status came, how many holds have a first day, and how often grace days were set."""
     cases, seen, where = Cases(random.Random(f"{seed} {number}"), number), Counter(), f"seed {seed}, round {number}"
     with tempfile.TemporaryDirectory() as folder:
         path = os.path.join(folder, "round.db")
@@ -351,7 +353,7 @@ def play(ground, library, seed, number):
         ask_all(cases, path, library, where, seen)
         take_in_all(cases, path, library, where, seen)
         desk.the_rows_are(path, library)
-    return seen, sum(hold["first"] is not None for hold in library.holds.values())
+    return seen, sum(hold["first"] is not None for hold in library.holds.values()), sum(text.startswith("grace ") for text, _ in library.kept.values())
 
 
 def main(seed=SEED, count=CASES):
@@ -362,16 +364,16 @@ def main(seed=SEED, count=CASES):
         say(ground, GROUND)
         for key, words, line in GROUND:
             check(f"{key} by the rules", library.handle(key, words), line)
-        seen, first_days = Counter(), 0
-        for found, held in pool.map(play, *zip(*[(ground, library, seed, number) for number in range(rounds)])):
-            seen, first_days = seen + found, first_days + held
+        seen, first_days, grace = Counter(), 0, 0
+        for found, held, graced in pool.map(play, *zip(*[(ground, library, seed, number) for number in range(rounds)])):
+            seen, first_days, grace = seen + found, first_days + held, grace + graced
             if seen.total() % TOLD == 0:
                 print(f"fuzz: {seen.total()} cases by the seed {seed}, no difference so far", flush=True)
     wanted = [f"answers {status}" for status in (200, 400, 403, 404, 405, 409, 413)] + [f"files that end with status {status}" for status in (0, 2, 4)]
     check("each status came", [name for name in wanted if not seen[name]], [])
-    check("holds with a first day were placed", first_days > 0, True)
+    check("holds with a first day were placed, and grace days set", (first_days > 0, grace > 0), (True, True))
     told = ", ".join(f"{many} {name}" for name, many in sorted(seen.items()))
-    print(f"fuzz: {seen.total()} cases by the seed {seed} in {time.monotonic() - began:.0f} seconds, {first_days} holds from a day on, no difference: {told}")
+    print(f"fuzz: {seen.total()} cases by the seed {seed} in {time.monotonic() - began:.0f} seconds, {first_days} holds from a day on, grace days set {grace} times, no difference: {told}")
 
 
 if __name__ == "__main__":

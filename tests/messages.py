@@ -206,7 +206,7 @@ def main():
         asks(["file", os.path.join(place, "no", "town.db"), "k1", "page", "1"], "fault 91\n")
         later = os.path.join(place, "later.db")
         asks(["file", later, "k1", "begin-day", "2026-03-02"], "ok\n")
-        for schema, said in ((3, LATER), (1, OLDER), (0, "the file is there, and begins as a library")):
+        for schema, said in ((4, LATER), (2, OLDER), (1, OLDER), (0, "the file is there, and begins as a library")):
             with closing(sqlite3.connect(later)) as conn:
                 conn.execute(f"UPDATE meta SET schema = {schema}")
                 conn.commit()

@@ -59,6 +59,7 @@ WORDS = {
     "open-day": [is_number, is_day],
     "kind": NUMBERS[:4],
     "rule": NUMBERS[:6],
+    "grace": NUMBERS[:3],
     "patron": [is_number, is_number, is_card_key, is_name],
     "acquire": [*NUMBERS[:5], is_name],
     "check-out": NUMBERS[:3],

@@ -83,6 +83,8 @@ is(isCommand(wordsOf("place-hold 2 100 1 2026-03-05")), false);
 is(isCommand(wordsOf("place-hold-from 2 100 1 2026-03-05")), true);
 is(isCommand(wordsOf("place-hold-from 2 100 1")), false);
 is(["place-hold 2", "place-hold-from 2", " place-hold-from", "place-hold-fro 2"].map(commandBegun), ["place-hold", "place-hold-from", "place-hold-from", null]);
+is(isCommand(wordsOf("grace 1 1 2")), true);
+is(isCommand(wordsOf("grace 1 1")), false);
 is(isCommand(null), false);
 is(["0", "1", "4294967295", "4294967296", "01", "-1", "1.0", ""].map(isNumber), [true, true, true, false, false, false, false, false]);
 is(["2", "2.50", "0,05", "12.5", "1.005", ".5", "-1"].map(centsOf), [200, 250, 5, null, null, null, null]);

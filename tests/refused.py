@@ -26,7 +26,7 @@ import end_to_end as desk
 from desk_rules import Library
 from end_to_end import CIRC, GROUND, HEADER, PROGRAM, TOP, check, rows, say, the_rows_are, whole
 from messages import message
-from migrate import of_schema_2, with_many_holds
+from migrate import DONE, HOLDS, led_up, stages, with_many_rows
 from web import DESK_KEY, everything, started
 
 STEP = 64 * 1024
@@ -110,7 +110,7 @@ def one_request_in_a_file(folder, refusing, everything):
     say(base, GROUND + [("a1", ["place-hold", "2", "100", "1"], "hold 1"), ("a2", ["check-out", "2", "11", "1"], "loan 1 due 2026-03-09")])
     before, told = whole(base), Counter()
     for words, line in ((["check-in", "11", "2"], "fine 0 transit 1"), (["place-hold", "3", "100", "2"], "hold 2"), (["place-hold-from", "3", "100", "2", "2026-03-05"], "hold 2"),
-                        (["renew", "1"], "loan 1 due 2026-03-16"), (["page", "2"], None)):
+                        (["grace", "1", "1", "2"], "ok"), (["renew", "1"], "loan 1 due 2026-03-16"), (["page", "2"], None)):
         run_words = ["file", path, "k1", *words]
         copied(base, path)
         plain = refusing.run([PROGRAM, *run_words], 0)
@@ -131,25 +131,35 @@ def one_request_in_a_file(folder, refusing, everything):
     print(f"refused: one request for memory of a run: {dict(told)}")
 
 
+def ends_of(base):
+    """How a migration of a library may end where it is refused something: the line, the status and the rows, which are the newest or, after a fault, those that some of the steps leave."""
+    *earlier, last = stages(whole(base))
+    return [(f"{DONE}\n", 0, last), *((f"fault {fault}\n", 3, left) for fault in (90, 91) for left in earlier)]
+
+
+def schema_left(path):
+    """The schema that the file is of, for a count."""
+    return f"schema {rows(path, 'SELECT schema FROM meta')[0][0]}"
+
+
 def one_request_of_a_migration(folder, refusing, everything):
-    """A migration of which one request for memory is refused: it is made all the same, or ends with a fault and leaves the old rows; run again it is made."""
-    base, path, told = with_many_holds(os.path.join(folder, "old.db")), os.path.join(folder, "migrated.db"), Counter()
-    before, words = whole(base), ["migrate", path]
-    after = of_schema_2(before)
-    copied(base, path)
-    plain = refusing.run([PROGRAM, *words], 0)
-    check("the migration, with memory", (plain.stdout, plain.returncode, whole(path)), (b"schema 2\n", 0, after))
-    for number in places(refusing.count(), 80, everything):
+    """A migration of which one request for memory is refused: it is made all the same, or ends with a fault and leaves the rows of before or of a whole step; run again it is made."""
+    for name in HOLDS:
+        base, path, told = with_many_rows(os.path.join(folder, f"{name}.db"), name), os.path.join(folder, "migrated.db"), Counter()
+        words, ends, after = ["migrate", path], ends_of(base), led_up(whole(base))
         copied(base, path)
-        run = refusing.run([PROGRAM, *words], number)
-        where, found = f"the migration, request {number} refused", (run.stdout, run.returncode, whole(path))
-        ends = [(b"schema 2\n", 0, after), (b"fault 90\n", 3, before), (b"fault 91\n", 3, before)]
-        check(f"the end of {where}: {found[:2]}", found in ends, True)
-        told[run.stdout.decode().strip()] += 1
-        again = subprocess.run([PROGRAM, *words], capture_output=True, timeout=300, check=False)
-        check(f"again after {where}", (again.returncode, again.stdout, whole(path)), (0, b"schema 2\n", after))
-    check("migrations were refused memory", told["fault 90"] + told["fault 91"] > 4, True)
-    print(f"refused: one request for memory of a migration: {dict(told)}")
+        plain = refusing.run([PROGRAM, *words], 0)
+        check("the migration, with memory", (plain.stdout.decode(), plain.returncode, whole(path)), ends[0])
+        for number in places(refusing.count(), 80, everything):
+            copied(base, path)
+            run = refusing.run([PROGRAM, *words], number)
+            where, found = f"the migration of {name}, request {number} refused", (run.stdout.decode(), run.returncode, whole(path))
+            check(f"the end of {where}: {found[:2]}", found in ends, True)
+            told[f"{found[0].strip()}, left {schema_left(path)}"] += 1
+            again = subprocess.run([PROGRAM, *words], capture_output=True, timeout=300, check=False)
+            check(f"again after {where}", (again.returncode, again.stdout.decode(), whole(path)), (0, f"{DONE}\n", after))
+        check("migrations were refused memory, at each schema", (sum(many for it, many in told.items() if it.startswith("fault")) > 4, len({it.split()[-1] for it in told})), (True, len(stages(whole(base)))))
+        print(f"refused: one request for memory of a migration of {name}: {dict(told)}")
 
 
 def end_of(run, port):
@@ -270,7 +280,7 @@ def a_board_that_cannot_grow(folder, refusing):
         check(f"the end, {where}", (web.is_closed, web.status), (True, 3))
         again = RefusedWeb(refusing, path, path + ".new", 0, requests)
         check(f"what a new program answers, {where}", again.answers, [lent, '{"reply":"ok"}\n', page])
-        check(f"the loans, {where}", rows(path + ".new", "SELECT COUNT(*) FROM loans"), [(1,)])
+        check(f"the loans, {where}", rows(path + ".new", "SELECT COUNT(*) FROM loans3"), [(1,)])
         if met == 3:
             break
     check("the board could not grow after a commit", met > 0, True)
@@ -340,10 +350,10 @@ def memory(folder, everything):
             faults = {text: fault for fault in ("fault 90", "fault 91") for text in (f"{fault}\n", f"{front}{fault}\naccepted {done} refused 0\n")}
             check(f"the end of {where}: {run}", (out, run.returncode) in [(lines, status), *((text, 3) for text in faults)], True)
             found = whole(path)
-            others = {**found, **{table: before[table] for table in ("copies", "titles", "kept", "loans", "meta")}}
+            others = {**found, **{table: before[table] for table in ("copies", "titles", "kept", "loans3", "meta")}}
             check(f"the other rows after {where}", others, before)
             is_lent = out == lines and name == "file"
-            more = [len(found[table]) - len(before[table]) for table in ("copies", "titles", "kept", "loans")]
+            more = [len(found[table]) - len(before[table]) for table in ("copies", "titles", "kept", "loans3")]
             check(f"the rows after {where}", (more, found["meta"] != before["meta"]), ([done, int(done > 0), done + is_lent, int(is_lent)], is_lent))
             told[faults.get(out, "the whole")] += 1
             again = subprocess.run([PROGRAM, *words], capture_output=True, timeout=300, check=False)
@@ -506,21 +516,21 @@ def disk(folder, everything):
 
 
 def disk_of_a_migration(folder, everything):
-    """A migration where the files may not grow past a limit: it is made, or told as 91 and the old rows are there; without the limit it is made."""
-    base, path = os.path.join(folder, "old.db"), os.path.join(folder, "narrow.db")
-    before, words, told = whole(base), ["migrate", path], Counter()
-    after, size = of_schema_2(before), os.path.getsize(base)
-    for limit in chosen(range(4096, 4 * size, 16 * 1024), everything):
-        copied(base, path)
-        run = under(words, resource.RLIMIT_FSIZE, limit)
-        out, found = run.stdout.decode(), whole(path)
-        check(f"the end at {limit}: {out}", (out, run.returncode, found) in [("schema 2\n", 0, after), ("fault 91\n", 3, before)], True)
-        check(f"what is said at {limit}", run.stderr, message(words, out))
-        told[out.strip()] += 1
-        again = subprocess.run([PROGRAM, *words], capture_output=True, timeout=300, check=False)
-        check(f"again at {limit}", (again.stdout.decode(), again.returncode, whole(path)), ("schema 2\n", 0, after))
-    check("limits were met and not met", min(told["fault 91"], told["schema 2"]) > 2, True)
-    print(f"refused: disk of a migration: {dict(told)}")
+    """A migration where the files may not grow past a limit: it is made, or told as 91 and the rows of before or of a whole step are there; without the limit it is made."""
+    for name in HOLDS:
+        base, path, told = os.path.join(folder, f"{name}.db"), os.path.join(folder, "narrow.db"), Counter()
+        words, ends, size = ["migrate", path], [it for it in ends_of(base) if it[0] != "fault 90\n"], os.path.getsize(base)
+        for limit in chosen(range(4096, 4 * size, 16 * 1024), everything):
+            copied(base, path)
+            run = under(words, resource.RLIMIT_FSIZE, limit)
+            out, found = run.stdout.decode(), whole(path)
+            check(f"the end at {limit}: {out}", (out, run.returncode, found) in ends, True)
+            check(f"what is said at {limit}", run.stderr, message(words, out))
+            told[f"{out.strip()}, left {schema_left(path)}"] += 1
+            again = subprocess.run([PROGRAM, *words], capture_output=True, timeout=300, check=False)
+            check(f"again at {limit}", (again.stdout.decode(), again.returncode, whole(path)), ends[0])
+        check("limits were met and not met", min(sum(many for it, many in told.items() if it.startswith(begin)) for begin in ("fault 91", DONE)) > 2, True)
+        print(f"refused: disk of a migration of {name}: {dict(told)}")
 
 
 def main():

@@ -48,7 +48,7 @@ SILENT = ("pairs", "sql", "damage")  # lines with no answer of their own
 # What no library may have, each by a text that finds it.
 LAWS = {
     "a copy is in two places, or isn't there": """
-        SELECT copy FROM (SELECT copy FROM loans WHERE ended IS NULL UNION ALL SELECT copy FROM holds2 WHERE state = 1
+        SELECT copy FROM (SELECT copy FROM loans3 WHERE ended IS NULL UNION ALL SELECT copy FROM holds2 WHERE state = 1
             UNION ALL SELECT copy FROM transits UNION ALL SELECT copy FROM copies WHERE condition > 0)
         GROUP BY copy HAVING COUNT(*) > 1 OR copy IS NULL OR copy NOT IN (SELECT copy FROM copies)""",
     "a ready hold has no present copy": """

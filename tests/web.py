@@ -240,7 +240,7 @@ def each_route(folder, workers):
         for method, target, allowed in wrong:
             found = serving.answers(method, target, {}, None, 405, b'{"status":405}')
             check(f"what {target} allows", found.get("Allow"), allowed)
-    check("the loan", rows(path, "SELECT loan, copy, patron, due, renewals_left FROM loans"), [(1, 10, 1, 20528, 0)])
+    check("the loan", rows(path, "SELECT loan, copy, patron, due, renewals_left FROM loans3"), [(1, 10, 1, 20528, 0)])
     check("the hold", rows(path, "SELECT hold, patron, title, branch, state FROM holds2"), [(1, 2, 100, 1, 3)])
     check("what is kept of patrons", rows(path, "SELECT caller, key FROM kept WHERE caller > 0 ORDER BY caller, key"),
           [(1, "r1"), (2, "c1"), (2, "h1")])
@@ -296,9 +296,52 @@ def from_a_day_on(folder, workers):
           [("c2", "cancel-hold 2", "ok"), ("h3", "place-hold-from 2 100 1 2026-03-05", "hold 1"), ("h5", "place-hold-from 2 300 1 2026-03-06", "hold 3")])
 
 
-# What is asked at random, of few copies, holds and loans, which get in each other's way. Letters stand for a patron, a copy, a branch, a title, a hold, a loan and a day to come.
+def grace_days(folder, workers):
+    """The desk sets grace days over the web: a loan within those that its rule had when it was made costs nothing and shows no charge, a later one costs each day late, and no patron may set them."""
+    path = a_library(folder, "grace.db")
+    desks = lambda key, *words: ("POST", "/desk", {"Desk-Key": DESK_KEY, "Request-Key": key}, json.dumps(words).encode())
+    asked = [
+        (*desks("d1", "grace", "1", "3", "2"), 409, b'{"refusal":16}'),
+        (*desks("d2", "grace", "1", "1", "366"), 409, b'{"refusal":21}'),
+        (*desks("d3", "grace", "1", "1", "-2"), 400, b'{"status":400}'),
+        (*desks("d3", "grace", "1", "1"), 400, b'{"status":400}'),
+        ("POST", "/desk", {**ANN, "Request-Key": "d3"}, b'["grace","1","1","2"]', 403, b'{"refusal":81}'),
+        ("POST", "/patrons/1/grace", {**ANN, "Request-Key": "d3"}, b'["grace","1","1","2"]', 404, b'{"status":404}'),
+        # a loan of before has none, also once it is renewed
+        (*desks("d3", "check-out", "2", "20", "2"), 200, b'{"reply":"loan 1 due 2026-03-10"}'),
+        (*desks("d4", "grace", "1", "1", "2"), 200, b'{"reply":"ok"}'),
+        (*desks("d4", "grace", "1", "1", "2"), 200, b'{"reply":"ok"}'),
+        (*desks("d4", "grace", "1", "1", "3"), 409, b'{"refusal":80}'),
+        ("POST", "/patrons/2/loans/1/renew", {**BO, "Request-Key": "r1"}, None, 200, b'{"reply":"loan 1 due 2026-03-17"}'),
+        (*desks("d5", "check-out", "1", "10", "1"), 200, b'{"reply":"loan 2 due 2026-03-09"}'),
+        (*desks("d6", "check-out", "1", "11", "1"), 200, b'{"reply":"loan 3 due 2026-03-09"}'),
+        # what is set later changes no loan
+        (*desks("d7", "rule", "1", "1", "6", "1", "20", "100"), 200, b'{"reply":"ok"}'),
+        (*desks("d8", "begin-day", "2026-03-11"), 200, b'{"reply":"ok"}'),
+        ("POST", "/patrons/1/loans/2/renew", {**ANN, "Request-Key": "r2"}, None, 409, b'{"refusal":41}'),
+        (*desks("d9", "check-in", "10", "1"), 200, b'{"reply":"fine 0 shelf 1"}'),
+        ("GET", "/patrons/1", ANN, None, 200, b'{"reply":"patron 1 owed 0 name Ann Bell\\nloan 3 due 2026-03-09 renewals 1 title 100 Rivers of the North"}'),
+        (*desks("e1", "pay", "1", "1"), 409, b'{"refusal":60}'),
+        (*desks("e2", "begin-day", "2026-03-12"), 200, b'{"reply":"ok"}'),
+        (*desks("e3", "check-in", "11", "1"), 200, b'{"reply":"fine 60 shelf 1"}'),
+        ("GET", "/patrons/1", ANN, None, 200, b'{"reply":"patron 1 owed 60 name Ann Bell"}'),
+        (*desks("e4", "check-out", "3", "11", "1"), 200, b'{"reply":"loan 4 due 2026-03-18"}'),
+        (*desks("e5", "begin-day", "2026-03-19"), 200, b'{"reply":"ok"}'),
+        (*desks("e6", "check-in", "11", "1"), 200, b'{"reply":"fine 20 shelf 1"}'),
+        (*desks("e7", "missing", "20"), 200, b'{"reply":"fine 40 price 1200"}'),
+    ]
+    with Serving(path, len(asked), workers=workers) as serving:
+        for it in asked:
+            serving.answers(*it)
+    check("the rules", rows(path, "SELECT * FROM rules3"), [(1, 1, 6, 1, 20, 100, 0), (1, 2, 12, 1, 20, 100, 0)])
+    check("the loans", rows(path, "SELECT loan, patron, due, ended, grace FROM loans3"),
+          [(1, 2, 20529, 20531, 0), (2, 1, 20521, 20523, 2), (3, 1, 20521, 20524, 2), (4, 3, 20530, 20531, 0)])
+    check("the lines", rows(path, "SELECT patron, day, sort, amount, loan FROM lines"), [(1, 20524, 0, 60, 3), (3, 20531, 0, 20, 4), (2, 20531, 0, 40, 1), (2, 20531, 1, 1200, 1)])
+
+
+# What is asked at random, of few copies, holds and loans, which get in each other's way. Letters stand for a patron, a copy, a branch, a title, a hold, a loan, a day to come and a number of days.
 AT_RANDOM = ["check-out P C B", "check-out P C B", "check-out P C B", "check-in C B", "check-in C B", "check-in C B", "check-in C B", "place-hold P T B", "place-hold-from P T B D",
-             "place-hold-from P T B D", "cancel-hold H", "renew L", "unshelve H", "unshelve-cancelled H", "missing C", "begin-day D"]
+             "place-hold-from P T B D", "cancel-hold H", "renew L", "unshelve H", "unshelve-cancelled H", "missing C", "begin-day D", "grace 1 1 G"]
 BEFORE = ["kind 1 9 9 1000000", "acquire 21 200 1 1 1200 'Salt Roads'", "acquire 22 200 1 2 1200 'Salt Roads'", "acquire 31 300 2 2 800 'Night Ferries'"]
 BY_PATRONS = ("place-hold", "place-hold-from", "cancel-hold", "renew")
 TURNS = 1_200
@@ -317,7 +360,7 @@ class Turns:
         draw, library = self.draw, self.library
         active = [number for number, hold in library.holds.items() if hold["state"] in ("waiting", "ready")]
         values = {"P": draw.choice("123"), "C": draw.choice(sorted(map(str, library.copies))), "B": draw.choice("12"), "T": draw.choice(("100", "200", "300")),
-                  "H": str(draw.choice(active or [1])), "L": str(draw.randint(1, len(library.loans) + 1)), "D": str(library.today + datetime.timedelta(draw.choice((1, 1, 2, 3, 9))))}
+                  "H": str(draw.choice(active or [1])), "L": str(draw.randint(1, len(library.loans) + 1)), "D": str(library.today + datetime.timedelta(draw.choice((1, 1, 2, 3, 9)))), "G": draw.choice("01239")}
         return [values.get(it, it) for it in draw.choice(AT_RANDOM).split()]
 
     def states(self):
@@ -549,7 +592,7 @@ def hostile_bytes(folder, workers):
         check("writes that failed", sum(is_lost(serving, path, number) for number in range(LOST)), LOST)
     after = whole(path)
     kept = [(2, f"l{number}", *it) for number in range(LOST) for it in LOST_HOLDS[number : number + 1]]
-    check("the holds", ([hold[:4] for hold in after["holds2"]], after["meta"]), ([(1, 2, 100, 1), (2, 2, 200, 1), (3, 2, 300, 2)], [(1, 2, 20514, 1, 4, 1)]))
+    check("the holds", ([hold[:4] for hold in after["holds2"]], after["meta"]), ([(1, 2, 100, 1), (2, 2, 200, 1), (3, 2, 300, 2)], [(1, 3, 20514, 1, 4, 1)]))
     check("what is kept of them", [it for it in after["kept"] if it not in before["kept"]], sorted([(2, "h1", "place-hold 2 100 1", "hold 1"), *kept]))
     check("all else stays", {**after, "holds2": [], "kept": before["kept"], "meta": before["meta"]}, before)
 
@@ -771,7 +814,7 @@ def main():
             for workers in (1, 2, 8):
                 room = os.path.join(folder, f"workers{workers}")
                 os.mkdir(room)
-                for part in (each_route, from_a_day_on, at_random, by_curl, in_pieces, hostile_bytes, one_waits, a_damaged_patron, a_damaged_copy, sent):
+                for part in (each_route, from_a_day_on, grace_days, at_random, by_curl, in_pieces, hostile_bytes, one_waits, a_damaged_patron, a_damaged_copy, sent):
                     part(room, workers)
             for it in silent:
                 it.result()

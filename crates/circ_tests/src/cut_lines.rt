@@ -54,11 +54,11 @@ fn counted(desk: Desk<MemStore>, text: &str) -> Result<(Desk<MemStore>, u32), Fa
 fn lends(rt: &impl Abort, alloc: Global, line: &str, room: usize) -> Result<(), Fail> {
     let mut desk = ground(alloc)?;
     cut(rt, alloc, &mut desk, ("check-out 1 10 1", line), room)?;
-    let (mut desk, loans) = counted(desk, "SELECT COUNT(*) FROM loans")?;
+    let (mut desk, loans) = counted(desk, "SELECT COUNT(*) FROM loans3")?;
     assert!(rt; loans == 1, "at {room}");
     let lending = "desk k1 check-out 1 10 1 -> loan 1 due 2026-03-09";
     check(alloc, &mut desk, lending)?;
-    let (_, loans) = counted(desk, "SELECT COUNT(*) FROM loans")?;
+    let (_, loans) = counted(desk, "SELECT COUNT(*) FROM loans3")?;
     assert!(rt; loans == 1, "at {room}");
     Ok(())
 }

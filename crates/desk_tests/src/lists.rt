@@ -18,6 +18,7 @@ const ASKED: &str = "desk a1 check-out 1 10 1 -> loan 1 due 2026-03-09
 2/cardkey00003 m1 place-hold 2 100 1 -> refused 81
 8/cardkey00002 m1 place-hold 8 100 1 -> refused 81
 2/cardkey00002 m1 pay 2 1 -> refused 81
+2/cardkey00002 m1 grace 1 1 2 -> refused 81
 2/cardkey00002 m1 place-hold 2 100 1 -> hold 1
 2/cardkey00002 m1 place-hold 2 100 1 -> hold 1
 2/cardkey00002 m1 page 2 -> patron 2 owed 0 name Bo Carr; hold 1 at 1 waiting title 100 Rivers of the North

@@ -1,6 +1,6 @@
-//! Migrations of a library of schema 1 that are stopped: a fuse in one of its two files blows at each call in turn, and what was not
-//! synced is lost, or not; or the database may take only so many steps. The tables are then the old ones or the new ones, and the
-//! migration is made afterwards.
+//! Migrations of a library of an older schema that are stopped: a fuse in one of its two files blows at each call in turn, and what was
+//! not synced is lost, or not; or the database may take only so many steps. The tables are then the old ones, or those that a whole
+//! step leaves, and the migration is made afterwards.
 
 use crate::calls::{connection_of, limit_steps, migrate};
 use sqlite::{Alter, Connection, Files};
@@ -9,62 +9,116 @@ use std::alloc::Global;
 use std::process::Abort;
 use std::test::Fail;
 use store::Store;
-use terms::Fault;
+use terms::{Fault, SCHEMA};
 use test_library::{
     calls_of_open, connection, filled, fused, ground, into_files, left, open, open_files, options,
     rows_of,
 };
 
-/// What makes a library of schema 1 of the small one, with a hold in each state: the tables of schema 2 are those of schema 1 and
-/// one more.
-const OLDER: &str = "DROP TABLE holds2;UPDATE meta SET schema = 1, next_hold = 6;\
-INSERT INTO holds VALUES (1, 1, 100, 1, 0, NULL, NULL), (2, 2, 100, 2, 1, 10, 20519), (3, 2, 200, 1, 2, NULL, NULL), (4, 3, 200, 2, 3, NULL, NULL), (5, 1, 300, 1, 4, NULL, NULL)";
+/// An older library: its schema, what makes it of the small one of the newest schema, and the first day of its first hold.
+#[derive(Clone, Copy)]
+struct Older {
+    schema: u32,
+    texts: &'static str,
+    first_day: &'static str,
+}
 
-/// The rows of `meta` and of the tables of holds before a migration, and after it.
-const OLD: &str = "\n1|1|20514|1|6|1|;\
-\n1|1|100|1|0|none|none|;2|2|100|2|1|10|20519|;3|2|200|1|2|none|none|;4|3|200|2|3|none|none|;5|1|300|1|4|none|none|;";
+/// What a library has before schema 3: two rules, a loan that is open and one that ended.
+const BEFORE_3: &str = "DROP TABLE rules3;DROP TABLE loans3;\
+INSERT INTO rules VALUES (1, 1, 6, 1, 20, 100), (1, 2, 12, 1, 20, 100);\
+INSERT INTO loans VALUES (1, 11, 1, 1, 20514, 20521, 6, 1, 20, 100, NULL), (2, 20, 2, 2, 20500, 20513, 12, 0, 20, 100, 20514)";
 
-const NEW: &str = "\n1|2|20514|1|6|1|;\
-\n\
-\n1|1|100|1|0|none|none|none|;2|2|100|2|1|10|20519|none|;3|2|200|1|2|none|none|none|;4|3|200|2|3|none|none|none|;5|1|300|1|4|none|none|none|;";
+/// A library of schema 1, with a hold in each state.
+const FIRST: Older = Older {
+    schema: 1,
+    texts: "DROP TABLE holds2;UPDATE meta SET schema = 1, next_loan = 3, next_hold = 6;\
+INSERT INTO holds VALUES (1, 1, 100, 1, 0, NULL, NULL), (2, 2, 100, 2, 1, 10, 20519), (3, 2, 200, 1, 2, NULL, NULL), (4, 3, 200, 2, 3, NULL, NULL), (5, 1, 300, 1, 4, NULL, NULL)",
+    first_day: "none",
+};
+
+/// The same of schema 2, of which the first hold has a first day.
+const SECOND: Older = Older {
+    schema: 2,
+    texts: "UPDATE meta SET schema = 2, next_loan = 3, next_hold = 6;\
+INSERT INTO holds2 VALUES (1, 1, 100, 1, 0, NULL, NULL, 20543), (2, 2, 100, 2, 1, 10, 20519, NULL), (3, 2, 200, 1, 2, NULL, NULL, NULL), (4, 3, 200, 2, 3, NULL, NULL, NULL), (5, 1, 300, 1, 4, NULL, NULL, NULL)",
+    first_day: "20543",
+};
+
+/// The tables of a schema that a migration changes.
+fn changed_tables(schema: u32) -> &'static str {
+    match schema {
+        1 => "meta rules loans holds",
+        2 => "meta rules loans holds holds2",
+        _ => "meta rules loans holds holds2 rules3 loans3",
+    }
+}
+
+/// The rows of these tables.
+fn changed_rows(alloc: Global, schema: u32, first_day: &str) -> Result<String, Fail> {
+    Ok(match schema {
+        1 => format!(in alloc;
+            "\n1|1|20514|3|6|1|;\
+            \n1|1|6|1|20|100|;1|2|12|1|20|100|;\
+            \n1|11|1|1|20514|20521|6|1|20|100|none|;2|20|2|2|20500|20513|12|0|20|100|20514|;\
+            \n1|1|100|1|0|none|none|;2|2|100|2|1|10|20519|;3|2|200|1|2|none|none|;4|3|200|2|3|none|none|;5|1|300|1|4|none|none|;"
+        )?,
+        2 => format!(in alloc;
+            "\n1|2|20514|3|6|1|;\
+            \n1|1|6|1|20|100|;1|2|12|1|20|100|;\
+            \n1|11|1|1|20514|20521|6|1|20|100|none|;2|20|2|2|20500|20513|12|0|20|100|20514|;\
+            \n\
+            \n1|1|100|1|0|none|none|{first_day}|;2|2|100|2|1|10|20519|none|;3|2|200|1|2|none|none|none|;4|3|200|2|3|none|none|none|;5|1|300|1|4|none|none|none|;"
+        )?,
+        _ => format!(in alloc;
+            "\n1|3|20514|3|6|1|;\
+            \n\
+            \n\
+            \n\
+            \n1|1|100|1|0|none|none|{first_day}|;2|2|100|2|1|10|20519|none|;3|2|200|1|2|none|none|none|;4|3|200|2|3|none|none|none|;5|1|300|1|4|none|none|none|;\
+            \n1|1|6|1|20|100|0|;1|2|12|1|20|100|0|;\
+            \n1|11|1|1|20514|20521|6|1|20|100|none|0|;2|20|2|2|20500|20513|12|0|20|100|20514|0|;"
+        )?,
+    })
+}
 
 /// The other tables.
-const OTHERS: &str =
-    "branches closed_days kinds rules patrons titles copies loans transits lines kept";
+const OTHERS: &str = "branches closed_days kinds patrons titles copies transits lines kept";
 
-/// The rows that a migration changes, and all others.
+/// The schema of a library, the rows that a migration changes, and all others.
 #[derive(Drop)]
 struct Found {
+    schema: u32,
     changed: String,
     others: String,
 }
 
-/// A library of schema 1 in the place of one of schema 2.
-fn made_older<S: Alter>(conn: &mut Connection<S>) -> Result<(), Fail> {
-    for text in OLDER.split(';') {
-        conn.execute(text, &[])?;
+/// An older library in the place of one of the newest schema.
+fn made_older<S: Alter>(conn: &mut Connection<S>, library: Older) -> Result<(), Fail> {
+    for texts in [BEFORE_3, library.texts] {
+        for text in texts.split(';') {
+            conn.execute(text, &[])?;
+        }
     }
     Ok(())
 }
 
-/// The two files of a library of schema 1.
-fn older(alloc: Global) -> Result<Files<Memory>, Fail> {
+/// The two files of an older library.
+fn older_files(alloc: Global, library: Older) -> Result<Files<Memory>, Fail> {
     let mut conn = connection_of(open_files(alloc, filled(alloc)?, options())?);
-    made_older(&mut conn)?;
+    made_older(&mut conn, library)?;
     Ok(into_files(open(conn)?))
 }
 
 /// The rows of a database.
 fn look<S: Alter>(alloc: Global, conn: &mut Connection<S>) -> Result<Found, Fail> {
+    let schema = conn.query_row("SELECT schema FROM meta", &[])?.get(0)?;
+    let changed = rows_of(alloc, conn, changed_tables(schema))?;
     let others = rows_of(alloc, conn, OTHERS)?;
-    let is_old = rows_of(alloc, conn, "meta")?.starts_with("\n1|1|");
-    let tables = if is_old {
-        "meta holds"
-    } else {
-        "meta holds holds2"
-    };
-    let changed = rows_of(alloc, conn, tables)?;
-    Ok(Found { changed, others })
+    Ok(Found {
+        schema,
+        changed,
+        others,
+    })
 }
 
 /// A migration is told as done, or as refused by the database.
@@ -78,29 +132,45 @@ fn told<S: Alter>(rt: &impl Abort, alloc: Global, store: &mut Store<S>) -> bool 
     }
 }
 
-/// The rows are the new ones, or the old ones where the migration was not told as done; then it is made, and they are the new ones.
+/// The rows are those of a schema from the library's own on, and all others are as they were.
+fn are_whole(
+    rt: &impl Abort,
+    alloc: Global,
+    found: &Found,
+    library: Older,
+    others: &str,
+) -> Result<(), Fail> {
+    let wanted = changed_rows(alloc, found.schema, library.first_day)?;
+    assert!(rt; found.schema >= library.schema && found.schema <= SCHEMA);
+    assert!(rt;
+        found.changed.as_str() == wanted.as_str(),
+        "{}",
+        found.changed
+    );
+    assert!(rt; found.others.as_str() == others);
+    Ok(())
+}
+
+/// The rows are whole, and the newest where the migration was told as done; else it is made, and then they are. The schema that was found.
 fn judge<S: Alter + Drop>(
     rt: &impl Abort,
     alloc: Global,
     mut conn: Connection<S>,
     is_done: bool,
-    others: &str,
-) -> Result<bool, Fail> {
+    (library, others): (Older, &str),
+) -> Result<u32, Fail> {
     let found = look(alloc, &mut conn)?;
-    let is_new = found.changed.as_str() == NEW;
-    assert!(rt;
-        is_new || (!is_done && found.changed.as_str() == OLD),
-        "{is_done} {}",
-        found.changed
-    );
-    assert!(rt; found.others.as_str() == others);
+    are_whole(rt, alloc, &found, library, others)?;
+    let is_new = found.schema == SCHEMA;
+    assert!(rt; is_new || !is_done);
     if !is_new {
         let mut store = open(conn)?;
         assert!(rt; told(rt, alloc, &mut store));
         let last = look(alloc, &mut connection_of(store))?;
-        assert!(rt; last.changed.as_str() == NEW && last.others.as_str() == others);
+        assert!(rt; last.schema == SCHEMA);
+        are_whole(rt, alloc, &last, library, others)?;
     }
-    Ok(is_new)
+    Ok(found.schema)
 }
 
 /// The migration over two files: whether it was told as done, and the files as they were written.
@@ -114,11 +184,32 @@ fn migrated_in<D: Disk + Drop>(
     Ok((is_done, into_files(store)))
 }
 
-/// How often the rows were the old ones after a stop, and how often the new ones.
+/// How often a stop left each schema.
 #[derive(Clone, Copy)]
 struct Hits {
-    old: u64,
-    new: u64,
+    first: u64,
+    second: u64,
+    newest: u64,
+}
+
+impl Hits {
+    /// One more that left this schema.
+    fn and(self, schema: u32) -> Hits {
+        match schema {
+            1 => Hits {
+                first: self.first.saturating_add(1),
+                ..self
+            },
+            2 => Hits {
+                second: self.second.saturating_add(1),
+                ..self
+            },
+            _ => Hits {
+                newest: self.newest.saturating_add(1),
+                ..self
+            },
+        }
+    }
 }
 
 /// One stop, after which each of the files may lose what was not synced; whether the migration was told as done.
@@ -127,22 +218,18 @@ fn one_stop(
     alloc: Global,
     files: Files<Fuse<Memory>>,
     loses: (bool, bool),
-    others: &str,
+    library: (Older, &str),
     hits: &mut Hits,
 ) -> Result<bool, Fail> {
     let (is_done, files) = migrated_in(rt, alloc, files)?;
     let conn = connection_of(open_files(alloc, left(alloc, files, loses)?, options())?);
-    if judge(rt, alloc, conn, is_done, others)? {
-        hits.new = hits.new.saturating_add(1);
-    } else {
-        hits.old = hits.old.saturating_add(1);
-    }
+    *hits = hits.and(judge(rt, alloc, conn, is_done, library)?);
     Ok(is_done)
 }
 
 /// The fuse blows at each call of the migration in turn, until it is told as done.
-fn stops(rt: &impl Abort, alloc: Global, is_log: bool) -> Result<Hits, Fail> {
-    let base = older(alloc)?;
+fn stops(rt: &impl Abort, alloc: Global, library: Older, is_log: bool) -> Result<Hits, Fail> {
+    let base = older_files(alloc, library)?;
     let copy = fused(alloc, &base, (is_log, u64::MAX))?;
     let others = look(
         alloc,
@@ -150,12 +237,16 @@ fn stops(rt: &impl Abort, alloc: Global, is_log: bool) -> Result<Hits, Fail> {
     )?
     .others;
     let first = calls_of_open(alloc, &base, is_log)?;
-    let mut hits = Hits { old: 0, new: 0 };
-    for at in 1..400u64 {
+    let mut hits = Hits {
+        first: 0,
+        second: 0,
+        newest: 0,
+    };
+    for at in 1..800u64 {
         let mut is_done = true;
         for loses in [(false, false), (true, false), (false, true)] {
             let files = fused(alloc, &base, (is_log, first.saturating_add(at)))?;
-            is_done = one_stop(rt, alloc, files, loses, &others, &mut hits)? && is_done;
+            is_done = one_stop(rt, alloc, files, loses, (library, &others), &mut hits)? && is_done;
         }
         if is_done {
             return Ok(hits);
@@ -165,47 +256,75 @@ fn stops(rt: &impl Abort, alloc: Global, is_log: bool) -> Result<Hits, Fail> {
 }
 
 #[test]
-fn a_stop_at_each_call_of_the_log_migrates_all_or_nothing(rt: HostRuntime) -> Result<(), Fail> {
-    let hits = stops(&rt, rt.alloc(), true)?;
-    assert!(rt; hits.old > 4 && hits.new > 0, "{} {}", hits.old, hits.new);
-    Ok(())
-}
-
-#[test]
-fn a_stop_at_each_call_of_the_database_migrates_all_or_nothing(
-    rt: HostRuntime,
-) -> Result<(), Fail> {
-    let hits = stops(&rt, rt.alloc(), false)?;
+fn a_stop_at_each_call_of_the_log_leaves_whole_steps(rt: HostRuntime) -> Result<(), Fail> {
+    let hits = stops(&rt, rt.alloc(), FIRST, true)?;
     assert!(rt;
-        hits.old.saturating_add(hits.new) > 4,
+        hits.first > 4 && hits.second > 4 && hits.newest > 0,
+        "{} {} {}",
+        hits.first,
+        hits.second,
+        hits.newest
+    );
+    let hits = stops(&rt, rt.alloc(), SECOND, true)?;
+    assert!(rt;
+        hits.first == 0 && hits.second > 4 && hits.newest > 0,
         "{} {}",
-        hits.old,
-        hits.new
+        hits.second,
+        hits.newest
     );
     Ok(())
 }
 
 #[test]
-fn a_limit_on_steps_migrates_nothing(rt: HostRuntime) -> Result<(), Fail> {
-    let alloc = rt.alloc();
+fn a_stop_at_each_call_of_the_database_leaves_whole_steps(rt: HostRuntime) -> Result<(), Fail> {
+    for library in [FIRST, SECOND] {
+        let hits = stops(&rt, rt.alloc(), library, false)?;
+        assert!(rt;
+            hits.first
+                .saturating_add(hits.second)
+                .saturating_add(hits.newest)
+                > 4,
+            "{} {} {}",
+            hits.first,
+            hits.second,
+            hits.newest
+        );
+    }
+    Ok(())
+}
+
+/// The migration under each limit on steps, from 1 up to the first under which it is made: until then the rows are those of a whole step,
+/// or the old ones. How often it left the schema that the library had.
+fn limits(rt: &impl Abort, alloc: Global, library: Older) -> Result<u64, Fail> {
     let mut conn = connection(ground(alloc)?);
-    made_older(&mut conn)?;
+    made_older(&mut conn, library)?;
     let others = look(alloc, &mut conn)?.others;
     let mut refused = 0u64;
     for limit in 1..400u64 {
         let mut store = open(conn)?;
         limit_steps(&mut store, Some(limit));
-        let is_done = told(&rt, alloc, &mut store);
+        let is_done = told(rt, alloc, &mut store);
         limit_steps(&mut store, None);
         conn = connection_of(store);
-        if is_done {
-            break;
-        }
         let found = look(alloc, &mut conn)?;
-        assert!(rt; found.changed.as_str() == OLD && found.others.as_str() == others.as_str());
-        refused = limit;
+        are_whole(rt, alloc, &found, library, &others)?;
+        if is_done {
+            assert!(rt; found.schema == SCHEMA);
+            return Ok(refused);
+        }
+        assert!(rt; found.schema < SCHEMA);
+        if found.schema == library.schema {
+            refused = limit;
+        }
     }
-    assert!(rt; refused > 0 && refused < 399, "{refused}");
-    assert!(rt; judge(&rt, alloc, conn, true, &others)?);
+    Err("a limit under which the migration is made".into())
+}
+
+#[test]
+fn a_limit_on_steps_leaves_whole_steps(rt: HostRuntime) -> Result<(), Fail> {
+    for library in [FIRST, SECOND] {
+        let refused = limits(&rt, rt.alloc(), library)?;
+        assert!(rt; refused > 0, "{refused}");
+    }
     Ok(())
 }

@@ -11,8 +11,8 @@ use std::test::Fail;
 use store::Store;
 use terms::Fault;
 use test_library::{
-    HOLDS, LATE, LOST, PAID, RENEWED, REOPENED, RETURNED, calls_of_open, check, desk_over, filled,
-    fused, ground, into_files, left, open_files, opened, options, rows, runs, store_of,
+    GRACE, HOLDS, LATE, LOST, PAID, RENEWED, REOPENED, RETURNED, calls_of_open, check, desk_over,
+    filled, fused, ground, into_files, left, open_files, opened, options, rows, runs, store_of,
 };
 
 /// The rows of the small library before a script and after each of its requests, over memory.
@@ -222,20 +222,27 @@ fn a_stop_of_a_loan_that_ended(rt: HostRuntime) -> Result<(), Fail> {
     withstands_stops(&rt, rt.alloc(), RETURNED)
 }
 
-/// The one loan and the one line, if there is one, as the rows of a picture have them, and what the patron owes.
-fn tells(picture: &str, loan: &str, owed: &str) -> bool {
-    picture.contains(loan) && picture.contains(owed)
+#[test]
+fn a_stop_of_loans_with_grace_days_and_without(rt: HostRuntime) -> Result<(), Fail> {
+    withstands_stops(&rt, rt.alloc(), GRACE)
+}
+
+/// The one line, if there is one, and the one loan, as the rows of a picture have them, and what the patron owes.
+fn tells(picture: &str, (line, loan, owed): (&str, &str, &str)) -> bool {
+    picture.contains(line) && picture.contains(loan) && picture.contains(owed)
 }
 
 /// The loan is open and nothing is owed, or it has ended and its fine is owed, by one line.
 #[test]
 fn a_stop_of_a_late_check_in(rt: HostRuntime) -> Result<(), Fail> {
     let pictures = pictures(rt.alloc(), LATE)?;
-    let open = "\n1|10|1|1|20514|20521|6|1|20|100|none|;\n\n\n\n0|g1|";
+    let no_line = ";\n\n\n\n\n0|g1|";
+    let open = "\n1|10|1|1|20514|20521|6|1|20|100|none|0|;";
     let before = pictures.get(2).ok_or("a picture")?;
-    assert!(&rt; tells(before, open, "|Ann Bell|0|;"));
-    let ended = "\n1|10|1|1|20514|20521|6|1|20|100|20529|;\n\n\n1|1|20529|0|100|1|;\n0|g1|";
+    assert!(&rt; tells(before, (no_line, open, "|Ann Bell|0|;")));
+    let line = ";\n\n\n\n1|1|20529|0|100|1|;\n0|g1|";
+    let ended = "\n1|10|1|1|20514|20521|6|1|20|100|20529|0|;";
     let after = pictures.get(3).ok_or("a picture")?;
-    assert!(&rt; tells(after, ended, "|Ann Bell|100|;"));
+    assert!(&rt; tells(after, (line, ended, "|Ann Bell|100|;")));
     withstands_stops(&rt, rt.alloc(), LATE)
 }

@@ -13,19 +13,19 @@ use test_library::{
     options, request, rows, store_of,
 };
 
-/// The rows of the small library, table by table, with three that a check-out changes: a part of `meta`, `loans`
-/// and the last of `kept`, behind which stand no holds.
+/// The rows of the small library, table by table, with three that a check-out changes: a part of `meta`, the last of
+/// `kept`, behind which stand no holds, and the loans.
 fn tables(alloc: Global, next: &str, loans: &str, kept: &str) -> Result<String, Fail> {
     Ok(format!(in alloc;
-        "\n1|2|20514|{next}|1|1|;\
+        "\n1|3|20514|{next}|1|1|;\
         \n1|5|ooooooc|Main|;2|3|coooooc|Harbour|;\
         \n\
         \n1|5|5|500|;\
-        \n1|1|6|1|20|100|;1|2|12|1|20|100|;\
+        \n\
         \n1|1|cardkey00001|Ann Bell|0|;2|1|cardkey00002|Bo Carr|0|;3|1|cardkey00003|Cy Dunn|0|;\
         \n100|Rivers of the North|;200|Salt Roads|;300|Night Ferries|;\
         \n10|100|1|1|2500|0|;11|100|1|1|2500|0|;20|200|1|2|1200|0|;30|300|2|1|800|0|;\
-        \n{loans}\
+        \n\
         \n\
         \n\
         \n\
@@ -36,7 +36,9 @@ fn tables(alloc: Global, next: &str, loans: &str, kept: &str) -> Result<String, 
         0|g11|patron 3 1 cardkey00003 Cy Dunn|ok|;0|g12|acquire 10 100 1 1 2500 Rivers of the North|ok|;\
         0|g13|acquire 11 100 1 1 2500 Rivers of the North|ok|;0|g14|acquire 20 200 1 2 1200 Salt Roads|ok|;\
         0|g15|acquire 30 300 2 1 800 Night Ferries|ok|;{kept}\
-        \n"
+        \n\
+        \n1|1|6|1|20|100|0|;1|2|12|1|20|100|0|;\
+        \n{loans}"
     )?)
 }
 
@@ -50,7 +52,7 @@ fn after(alloc: Global) -> Result<String, Fail> {
     tables(
         alloc,
         "2",
-        "1|10|1|1|20514|20521|6|1|20|100|none|;",
+        "1|10|1|1|20514|20521|6|1|20|100|none|0|;",
         "0|k1|check-out 1 10 1|loan 1 due 2026-03-09|;",
     )
 }

@@ -164,7 +164,7 @@ fn a_new_hall_over_the_desk_of_a_closed_one_goes_on(rt: HostRuntime) -> Result<(
         "{faults:?} {fault:?}"
     );
     let text = rows(alloc, &mut connection(desk))?;
-    let loans = "\n1|10|1|1|20514|20528|6|0|20|100|none|;\n";
+    let loans = "\n1|10|1|1|20514|20528|6|0|20|100|none|0|;";
     assert!(&rt; text.contains(loans), "{text}");
     Ok(())
 }

@@ -13,4 +13,4 @@ pub use files::{calls_of_open, filled, fused, left, options};
 pub use lines::{
     GROUND, asked, check, fill, ground, key, opened, request, rows, rows_of, runs, words_of,
 };
-pub use scripts::{HOLDS, LATE, LOST, PAID, RENEWED, REOPENED, RETURNED, SCRIPTS};
+pub use scripts::{GRACE, HOLDS, LATE, LOST, PAID, RENEWED, REOPENED, RETURNED, SCRIPTS};

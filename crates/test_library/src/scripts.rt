@@ -46,5 +46,13 @@ pub const LATE: &str = "desk s1 check-out 1 10 1 -> loan 1 due 2026-03-09
 desk s2 begin-day 2026-03-17 -> ok
 desk c1 check-in 10 1 -> fine 100 shelf 1";
 
+/// A copy that comes in late, within the grace days, and one of a loan that has none.
+pub const GRACE: &str = "desk s1 check-out 2 11 1 -> loan 1 due 2026-03-09
+desk s2 grace 1 1 2 -> ok
+desk s3 check-out 1 10 1 -> loan 2 due 2026-03-09
+desk s4 begin-day 2026-03-11 -> ok
+desk s5 check-in 10 1 -> fine 0 shelf 1
+desk s6 check-in 11 1 -> fine 40 shelf 1";
+
 /// All of them but the late one.
-pub const SCRIPTS: [&str; 6] = [HOLDS, LOST, PAID, REOPENED, RENEWED, RETURNED];
+pub const SCRIPTS: [&str; 7] = [HOLDS, LOST, PAID, REOPENED, RENEWED, RETURNED, GRACE];
