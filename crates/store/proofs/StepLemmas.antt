@@ -22,7 +22,7 @@ use Rattle.terms.specs.declared.limits.TheConstants.{SCHEMA}
 use Rattle.circ_tables.specs.Encoding.{HasPictureAt}
 use Rattle.circ_tables.specs.Numbered.{grown}
 use Rattle.circ_tables.specs.SchemaNumber.{NamesSchema, TellsSchemaInside}
-use Rattle.circ_tables.specs.Shape.{schema_at}
+use Rattle.circ_tables.specs.Shape.{schema_at, since_first}
 use Rattle.circ_tables.proofs.InverseLemmas.{schema_told}
 use Rattle.store.specs.Commit.{Brings, HasDone}
 use Rattle.store.specs.Library.{HasTablesAt, IsAsItWas}
@@ -34,15 +34,6 @@ use Rattle.store.proofs.MigrateLemmas.{all_over_limits}
 use Rattle.store.proofs.OpenLemmas.{of_known, picture_names, names_once}
 use Rattle.store.proofs.Steps.{then, keeps_then}
 use Rattle.store.proofs.StopLemmas.{Settles, open_keeps, leaves_committed}
-
--- ---- what is said of each schema, by cases
-
-pub each_known : (Is : ℕ → Type 0) → Is 1 → Is 2 → Is 3 → (n : ℕ) → IsKnown n → Is n
-each_known Is one two three zero known = let low : 1 ≤ 0 = known.0 in absurd (omega (arith, low))
-each_known Is one two three (suc zero) known = one
-each_known Is one two three (suc (suc zero)) known = two
-each_known Is one two three (suc (suc (suc zero))) known = three
-each_known Is one two three (suc (suc (suc (suc n)))) known = let high : suc (suc (suc (suc n))) ≤ 3 = known.1 in absurd (omega (arith, high))
 
 of_older : (n : ℕ) → IsOlder n → IsKnown n
 of_older n older = let high = older.1 in (older.0, omega (arith, high))
@@ -229,7 +220,7 @@ second_library old new P is shown =
 
 -- What a step that led to an older schema was made from.
 from_first : (to : ℕ) (old new : Database) → LeadsOn to old new → to < SCHEMA → (n : ℕ) → IsKnown n → (P : Picture) → IsLibrary n old P → (n ≡ 1) × IsLibrary 2 new (led_on n P)
-from_first to old new led less = each_known (λ n. (P : Picture) → IsLibrary n old P → (n ≡ 1) × IsLibrary 2 new (led_on n P))
+from_first to old new led less = since_first (λ n. (P : Picture) → IsLibrary n old P → (n ≡ 1) × IsLibrary 2 new (led_on n P))
     (λ P is. (refl, second_library old new P is (led.leads 1 (omega arith, omega arith) P is).1))
     (λ P is. let next = (led.leads 2 (omega arith, omega arith) P is).0 in absurd (omega (arith, next, less)))
     (λ P is. let next = (led.leads 3 (omega arith, omega arith) P is).0 in absurd (omega (arith, next, less)))
@@ -269,13 +260,13 @@ between_there to old new led less n there = go (named_is named.0 named.2)
 
 -- What a stop leaves of a library between steps.
 brought_one : (old db : Database) → Leads old db → (n : ℕ) → IsKnown n → (P : Picture) → IsLibrary n old P → IsAtSomeSchema n P db
-brought_one old db led = each_known (λ n. (P : Picture) → IsLibrary n old P → IsAtSomeSchema n P db)
+brought_one old db led = since_first (λ n. (P : Picture) → IsLibrary n old P → IsAtSomeSchema n P db)
     (λ P is. (1, (omega arith, (led.1.leads 1 (omega arith, omega arith) P is).1)))
     (λ P is. (1, (omega arith, (led.1.leads 2 (omega arith, omega arith) P is).1)))
     (λ P is. (0, (omega arith, (led.1.leads 3 (omega arith, omega arith) P is).1)))
 
 as_it_was : (db : Database) (n : ℕ) → IsKnown n → (P : Picture) → HasPictureAt n db P → IsAtSomeSchema n P db
-as_it_was db = each_known (λ n. (P : Picture) → HasPictureAt n db P → IsAtSomeSchema n P db)
+as_it_was db = since_first (λ n. (P : Picture) → HasPictureAt n db P → IsAtSomeSchema n P db)
     (λ P is. (0, (omega arith, is))) (λ P is. (0, (omega arith, is))) (λ P is. (0, (omega arith, is)))
 
 -- A damaged row keeps the tables as they are.
@@ -332,14 +323,14 @@ module _ {S : Type 0} (g : Ghosts S) (settled : Settles g) {old mid : Held S} wh
   }
     where
       newest_led : LeadsOn to (state g old).now (state g mid).now → (n : ℕ) → IsKnown n → (P : Picture) → IsLibrary n (state g old).now P → HasPictureAt SCHEMA (state g mid).now (led_by (SCHEMA - n) n P)
-      newest_led made = each_known (λ n. (P : Picture) → IsLibrary n (state g old).now P → HasPictureAt SCHEMA (state g mid).now (led_by (SCHEMA - n) n P))
+      newest_led made = since_first (λ n. (P : Picture) → IsLibrary n (state g old).now P → HasPictureAt SCHEMA (state g mid).now (led_by (SCHEMA - n) n P))
           (λ P is. let next = (made.leads 1 (omega arith, omega arith) P is).0 in absurd (omega (arith, next, most)))
           (λ P is. (made.leads 2 (omega arith, omega arith) P is).1)
           (λ P is. (made.leads 3 (omega arith, omega arith) P is).1)
 
       newest_rows : LeadsOn to (state g old).now (state g mid).now → (n : ℕ) → IsOlder n → (maps : Maps) → Holds (schema_at n) (state g old).now maps → NamesSchema maps n
           → (now : Maps) × Holds (schema_at SCHEMA) (state g mid).now now × AreLedUp n maps now
-      newest_rows made n older = each_known (λ n. (maps : Maps) → Holds (schema_at n) (state g old).now maps → NamesSchema maps n → (now : Maps) × Holds (schema_at SCHEMA) (state g mid).now now × AreLedUp n maps now)
+      newest_rows made n older = since_first (λ n. (maps : Maps) → Holds (schema_at n) (state g old).now maps → NamesSchema maps n → (now : Maps) × Holds (schema_at SCHEMA) (state g mid).now now × AreLedUp n maps now)
           (λ maps holds names. let next = (made.rows 1 (omega arith, omega arith) maps holds names).0 in absurd (omega (arith, next, most)))
           (λ maps holds names. (made.rows 2 (omega arith, omega arith) maps holds names).1)
           (λ maps holds names. (maps, subst (λ d. Holds (schema_at 3) d maps) (sym (made.same 3 newest_known maps holds names).1) holds, tt))
@@ -353,8 +344,8 @@ module _ {S : Type 0} (g : Ghosts S) (settled : Settles g) {old mid : Held S} wh
     led = λ clean. tt;
     legal = λ clean n there. tt;
     undone = λ clean is_open n known P is. at_first n known P is (
-      let same = step.undone clean is_open n (library_there n known (state g old).now P is) in
-      open_keeps g settled n (state g old).now mid P is_open same.0 same.1 is.0);
+        let same = step.undone clean is_open n (library_there n known (state g old).now P is) in
+        open_keeps g settled n (state g old).now mid P is_open same.0 same.1 is.0);
     nothing = λ clean is_open n there.
         let same = step.undone clean is_open n there in
         inl (record {
@@ -377,7 +368,7 @@ module _ {S : Type 0} (g : Ghosts S) (settled : Settles g) {old mid : Held S} wh
   }
     where
       at_first : (n : ℕ) → IsKnown n → (P : Picture) → IsLibrary n (state g old).now P → KeepsPictureAt n (state g mid) P → (steps : ℕ) × (n + steps ≤ SCHEMA) × KeepsPictureAt (n + steps) (state g mid) (led_by steps n P)
-      at_first = each_known (λ n. (P : Picture) → IsLibrary n (state g old).now P → KeepsPictureAt n (state g mid) P → (steps : ℕ) × (n + steps ≤ SCHEMA) × KeepsPictureAt (n + steps) (state g mid) (led_by steps n P))
+      at_first = since_first (λ n. (P : Picture) → IsLibrary n (state g old).now P → KeepsPictureAt n (state g mid) P → (steps : ℕ) × (n + steps ≤ SCHEMA) × KeepsPictureAt (n + steps) (state g mid) (led_by steps n P))
           (λ P is keeps. (0, omega arith, keeps)) (λ P is keeps. (0, omega arith, keeps)) (λ P is keeps. (0, omega arith, keeps))
 
 module _ {S : Type 0} (g : Ghosts S) (settled : Settles g) {old mid new : Held S} (to : ℕ) (less : to < SCHEMA) (first : StepsOn g old mid (Ok to)) where
@@ -428,7 +419,7 @@ module _ {S : Type 0} (g : Ghosts S) (settled : Settles g) {old mid new : Held S
     where
       both_rows : LeadsOn to (state g old).now (state g mid).now → LeadsOn last (state g mid).now (state g new).now → (n : ℕ) → IsOlder n → (maps : Maps) → Holds (schema_at n) (state g old).now maps → NamesSchema maps n
           → (now : Maps) × Holds (schema_at SCHEMA) (state g new).now now × AreLedUp n maps now
-      both_rows made next n older = each_known (λ n. (maps : Maps) → Holds (schema_at n) (state g old).now maps → NamesSchema maps n → (now : Maps) × Holds (schema_at SCHEMA) (state g new).now now × AreLedUp n maps now)
+      both_rows made next n older = since_first (λ n. (maps : Maps) → Holds (schema_at n) (state g old).now maps → NamesSchema maps n → (now : Maps) × Holds (schema_at SCHEMA) (state g new).now now × AreLedUp n maps now)
           (λ maps holds names.
           let one = (made.rows 1 (omega arith, omega arith) maps holds names).1 in
           let two = (next.rows 2 (omega arith, omega arith) one.0 one.1 one.2.named).1 in

@@ -29,8 +29,9 @@ use circ_tables::{
 use sqlite::{Alter, Connection};
 use std::alloc::Global;
 use terms::{
-    BranchId, BranchRow, Command, CopyId, CopyKind, CopyRow, Count, Fault, HoldId, HoldRow, KindRow,
-    LoanId, LoanRow, PatronId, PatronKind, PatronRow, RuleRow, TitleId, TitleRow, TransitRow,
+    BranchId, BranchRow, Command, CopyId, CopyKind, CopyRow, Count, Fault, HoldId, HoldRow,
+    KindRow, LoanId, LoanRow, PatronId, PatronKind, PatronRow, RuleRow, TitleId, TitleRow,
+    TransitRow,
 };
 
 /// The calendar with these closed weekdays and these single closed days. 90; 93 where a day stands
@@ -732,7 +733,9 @@ pub(crate) fn view_for<S: Alter>(
         Command::Kind { .. } => Ok(View::empty()),
         Command::Rule { kind, .. } => kind_view(conn, *kind),
         Command::Grace {
-            kind, copy_kind, ..
+            kind,
+            copy_kind,
+            ..
         } => rule_view(conn, *kind, *copy_kind),
         Command::Patron { patron, kind, .. } => patron_view(conn, alloc, *patron, *kind),
         Command::Acquire {

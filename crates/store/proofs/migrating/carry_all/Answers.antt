@@ -62,8 +62,7 @@ returns-in-None g c =
       kept = λ clean begun there. let it = so_far.there (was clean) begun there in keeps_then _ _ _ it.0 (read.works.kept clean it.1);
       inside = λ clean begun there. let it = so_far.there (was clean) begun there in (read_there at _ _ it.1 (it.2.maps, it.2.holds) (read.lists at has clean)).0;
       rows = λ clean begun maps holds.
-          let it = so_far.there (was clean) begun (maps, holds) in
-          (
+          let it = so_far.there (was clean) begun (maps, holds) in (
             it.2.maps,
             subst (λ d. Holds (schema_at at) d it.2.maps) (sym (read.lists at has clean it.2.maps it.2.holds).1.0.now_is) it.2.holds,
             all_rows_moved g.met.R.Carried.over table c.pages.after c.pages._page maps _ it.2 page (page_moved table at has c.pages.after page read.limits _ _ it.2.maps it.2.holds (read.lists at has clean)) empty,

@@ -1,5 +1,5 @@
-use Rattle.std.proofs.Common.{◌≡◌, refl, arith}
-use Rattle.store.proofs.StepLemmas.{untold, not_led, newest_stays, older_led, each_known}
+use Rattle.std.proofs.Common.{refl, arith}
+use Rattle.store.proofs.StepLemmas.{untold, not_led, newest_stays, older_led}
 use Rattle.store.proofs.migrating.lead_on.Goals as goal
 
 pub returns-in_err-schema_inside : goal.returns-in_err-schema_inside
