@@ -1,9 +1,9 @@
 -- What is said of a library that was led to the newest schema, or not.
-use Rattle.std.proofs.Common.{◌≡◌, ◌≤◌, ◌+◌, ◌∙◌, ℕ, zero, suc, inl, inr, refl, ap, subst, arith}
+use Rattle.std.proofs.Common.{◌≡◌, ◌≤◌, ◌<◌, ◌+◌, ◌∙◌, ℕ, zero, suc, inl, inr, refl, ap, subst, arith}
 use Rattle.std.specs.Prelude.{Result, Ok, Err, ◌-◌}
 use Rattle.store.specs.Library.{Ghosts, Held, State, state, HasCleanDisk, IsOpen}
 use Rattle.store.specs.Migrating.{Migrates, IsLibrary}
-use Rattle.store.specs.Schemas.{IsKnown}
+use Rattle.store.specs.Schemas.{IsKnown, IsOlder}
 use Rattle.store.specs.Stops.{Leaves, KeepsPicture, KeepsPictureAt, LeavesPicture}
 use Rattle.circ_tables.specs.Encoding.{HasPictureAt}
 use Rattle.circ_tables.specs.Shape.{since_first}
@@ -89,12 +89,13 @@ module _ {S T : Type 0} (g : Ghosts S) (old new : Held S) where
   abbrev failed : Fault → Result T Fault
   failed fault = Err fault
 
-  says-still : (fault : Fault) → Migrates {T = T} g old new (Err fault) → HasCleanDisk (state g new) → IsOpen g new → (n : ℕ) → IsKnown n → (H : History) → ShowsAt n (state g old) H → (m : ℕ) × IsFrom n m × ShowsAt m (state g new) H
+  says-still : (fault : Fault) → Migrates {T = T} g old new (Err fault) → HasCleanDisk (state g new) → IsOpen g new → (n : ℕ) → IsKnown n → (H : History) → ShowsAt n (state g old) H → (m : ℕ) × IsFrom n m × (IsOlder n → m < SCHEMA) × ShowsAt m (state g new) H
   says-still fault it disk is_open n known H shows =
       let kept = it.undone disk is_open n known (picture_at n H) (is-library n known (state g old) H shows) in
-      let led = led-by n known kept.0 kept.1 H shows.legal in (
+      let led = led-by n known kept.0 kept.1.0 H shows.legal in (
         n + kept.0,
-        (omega arith, kept.1),
+        (omega arith, kept.1.0),
+        kept.1.1,
         record { legal = led.1; forms = shows.forms; tables = subst (λ P. KeepsPictureAt (n + kept.0) (state g new) P) led.0 kept.2 },
       )
 
@@ -112,7 +113,7 @@ module _ {S T : Type 0} (g : Ghosts S) (old new : Held S) where
         let low = kept.1.0 in
         let high = kept.1.1 in
         let is : kept.0 ≡ SCHEMA = omega (arith, low, high) in
-        let here : ShowsAt SCHEMA (state g new) H = subst (λ m. ShowsAt m (state g new) H) is kept.2 in
+        let here : ShowsAt SCHEMA (state g new) H = subst (λ m. ShowsAt m (state g new) H) is kept.3 in
         record { legal = here.legal; forms = here.forms; tables = here.tables };
     nothing = it.nothing;
   })

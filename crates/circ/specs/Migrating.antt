@@ -1,9 +1,9 @@
 -- What is said of a library that is brought to the newest schema, and how the program ends.
-use Rattle.std.specs.Prelude.{◌≡◌, ◌≤◌, ◌⊎◌, ℕ, List, Option, Result, IfOk, OnErr}
+use Rattle.std.specs.Prelude.{◌≡◌, ◌≤◌, ◌<◌, ◌⊎◌, ℕ, List, Option, Result, IfOk, OnErr}
 use Rattle.std.specs.Io.KnownBytes.{Appends}
 use Rattle.store.specs.Library.{Ghosts, Held, State, state, IsClean, IsOpen, IsAsItWas}
 use Rattle.store.specs.Migrating.{AreThere, LeadsUp, IsLedInPart, CannotBeLed}
-use Rattle.store.specs.Schemas.{IsKnown}
+use Rattle.store.specs.Schemas.{IsKnown, IsOlder}
 use Rattle.store.specs.Stops.{Leaves, KeepsPictureAt, LeavesPicture}
 use Rattle.circ_tables.specs.Encoding.{HasPictureAt}
 use Rattle.terms.specs.Writing.{AppendsFront}
@@ -50,7 +50,7 @@ pub record SaysLed {S : Type 0} (g : Ghosts S) (old new : Held S) (line : List �
 
 -- The line is a fault, which is not 93 where the tables showed a list of accepted requests. They
 -- show the same list, as long as the database is open, in their schema or in that of the last whole
--- step.
+-- step, which was not the last of all.
 pub record SaysNotLed {S : Type 0} (g : Ghosts S) (old new : Held S) (line : List ℕ)
     (exit : Exit) : Type 0 where
   pub fault : Fault
@@ -59,7 +59,7 @@ pub record SaysNotLed {S : Type 0} (g : Ghosts S) (old new : Held S) (line : Lis
   pub sound : IsClean g new → fault ≡ Stored → (n : ℕ) → IsKnown n → (H : History)
       → ¬ ShowsAt n (state g old) H
   pub shown : IsClean g new → IsOpen g new → (n : ℕ) → IsKnown n → (H : History)
-      → ShowsAt n (state g old) H → (m : ℕ) × IsFrom n m × ShowsAt m (state g new) H
+      → ShowsAt n (state g old) H → (m : ℕ) × IsFrom n m × (IsOlder n → m < SCHEMA) × ShowsAt m (state g new) H
   pub same : IsClean g new → IsOpen g new → Stays (state g old) (state g new)
   -- and tables with other rows are as they were, or as the first of two steps left them
   pub nothing : IsClean g new → IsOpen g new → (n : ℕ) → AreThere n (state g old).now

@@ -26,7 +26,7 @@ use Rattle.circ_tables.specs.Shape.{schema_at, since_first}
 use Rattle.circ_tables.proofs.InverseLemmas.{schema_told}
 use Rattle.store.specs.Commit.{Brings, HasDone}
 use Rattle.store.specs.Library.{HasTablesAt, IsAsItWas}
-use Rattle.store.specs.Migrating.{IsLibrary, IsAtSomeSchema, AreThere, AreLedOn, AreLedUp, LeadsFrom, LeadsOn, LeadsOnInside, Leads, StepsOn, IsLedInPart, CannotBeLed, Migrates}
+use Rattle.store.specs.Migrating.{IsLibrary, IsAtSomeSchema, AreThere, AreLedOn, AreLedUp, LeadsFrom, LeadsOn, LeadsOnInside, Leads, StepsOn, IsLedInPart, IsNotLedUp, CannotBeLed, Migrates}
 use Rattle.store.specs.Routes.{holds_carried}
 use Rattle.store.specs.Schemas.{IsKnown, IsOlder, next_schema}
 use Rattle.store.specs.Stops.{Leaves, KeepsPicture, KeepsPictureAt}
@@ -367,9 +367,9 @@ module _ {S : Type 0} (g : Ghosts S) (settled : Settles g) {old mid : Held S} wh
         step.sound clean (ap failed same) n known P library;
   }
     where
-      at_first : (n : ℕ) → IsKnown n → (P : Picture) → IsLibrary n (state g old).now P → KeepsPictureAt n (state g mid) P → (steps : ℕ) × (n + steps ≤ SCHEMA) × KeepsPictureAt (n + steps) (state g mid) (led_by steps n P)
-      at_first = since_first (λ n. (P : Picture) → IsLibrary n (state g old).now P → KeepsPictureAt n (state g mid) P → (steps : ℕ) × (n + steps ≤ SCHEMA) × KeepsPictureAt (n + steps) (state g mid) (led_by steps n P))
-          (λ P is keeps. (0, omega arith, keeps)) (λ P is keeps. (0, omega arith, keeps)) (λ P is keeps. (0, omega arith, keeps))
+      at_first : (n : ℕ) → IsKnown n → (P : Picture) → IsLibrary n (state g old).now P → KeepsPictureAt n (state g mid) P → (steps : ℕ) × IsNotLedUp n steps × KeepsPictureAt (n + steps) (state g mid) (led_by steps n P)
+      at_first = since_first (λ n. (P : Picture) → IsLibrary n (state g old).now P → KeepsPictureAt n (state g mid) P → (steps : ℕ) × IsNotLedUp n steps × KeepsPictureAt (n + steps) (state g mid) (led_by steps n P))
+          (λ P is keeps. (0, (omega arith, λ older. omega arith), keeps)) (λ P is keeps. (0, (omega arith, λ older. omega arith), keeps)) (λ P is keeps. (0, (omega arith, λ older. older.1), keeps))
 
 module _ {S : Type 0} (g : Ghosts S) (settled : Settles g) {old mid new : Held S} (to : ℕ) (less : to < SCHEMA) (first : StepsOn g old mid (Ok to)) where
   -- What two steps leave after a stop.
@@ -439,8 +439,8 @@ module _ {S : Type 0} (g : Ghosts S) (settled : Settles g) {old mid new : Held S
         let early : HasCleanDisk (state g mid) = omega (arith, second.survives.clean, clean) in
         let it = from_first to (state g old).now (state g mid).now (first.done early n (library_there n known (state g old).now P library)).made less n known P library in
         let same = second.undone clean is_open 2 (library_there 2 (omega arith, omega arith) (state g mid).now (led_on n P) it.1) in
-        subst (λ k. IsLibrary 2 (state g mid).now (led_on k P) → (steps : ℕ) × (k + steps ≤ SCHEMA) × KeepsPictureAt (k + steps) (state g new) (led_by steps k P)) (sym it.0)
-        (λ here. (1, omega arith, open_keeps g settled 2 (state g mid).now new (led_on 1 P) is_open same.0 same.1 here.0)) it.1;
+        subst (λ k. IsLibrary 2 (state g mid).now (led_on k P) → (steps : ℕ) × IsNotLedUp k steps × KeepsPictureAt (k + steps) (state g new) (led_by steps k P)) (sym it.0)
+        (λ here. (1, (omega arith, λ older. omega arith), open_keeps g settled 2 (state g mid).now new (led_on 1 P) is_open same.0 same.1 here.0)) it.1;
     nothing = λ clean is_open n there.
         let early : HasCleanDisk (state g mid) = omega (arith, second.survives.clean, clean) in
         let made = (first.done early n there).made in

@@ -247,6 +247,10 @@ pub record IsLedInPart (old new : State) : Type 0 where
   pub led : Leads old.now new.now
   pub committed : new.committed ≡ new.now
 
+-- So many steps lead on from schema n, and from an older one not to the newest.
+abbrev pub IsNotLedUp : ℕ → ℕ → Type 0
+IsNotLedUp n steps = (n + steps ≤ SCHEMA) × (IsOlder n → n + steps < SCHEMA)
+
 -- A library was led to the newest schema, step after step, or it was of that already and is as it was. After a fault it is of the schema that the last whole step led to, and the one that met the fault changed nothing, as long as the database is open; and a stop leaves what was there or what some of the steps lead it to. It is led on only where no row that is to be carried over is damaged.
 pub record Migrates {S T : Type 0} (g : Ghosts S) (old new : Held S) (result : Result T Fault) : Type 0 where
   pub clean : HasCleanDisk (state g new) → HasCleanDisk (state g old)
@@ -254,7 +258,7 @@ pub record Migrates {S T : Type 0} (g : Ghosts S) (old new : Held S) (result : R
       → KeepsPicture (state g new) (led_by (SCHEMA - n) n P))
   pub legal : HasCleanDisk (state g new) → (n : ℕ) → AreThere n (state g old).now → OnOk result (LeadsUp (state g old).now (state g new).now)
   pub undone : HasCleanDisk (state g new) → IsTrue (state g new).is_open → OnErr result ((n : ℕ) → IsKnown n → (P : Picture)
-      → IsLibrary n (state g old).now P → (steps : ℕ) × (n + steps ≤ SCHEMA) × KeepsPictureAt (n + steps) (state g new) (led_by steps n P))
+      → IsLibrary n (state g old).now P → (steps : ℕ) × IsNotLedUp n steps × KeepsPictureAt (n + steps) (state g new) (led_by steps n P))
   pub nothing : HasCleanDisk (state g new) → IsTrue (state g new).is_open → (n : ℕ) → AreThere n (state g old).now
       → OnErr result (IsAsItWas (state g old) (state g new) ⊎ IsLedInPart (state g old) (state g new))
   pub stop : HasCleanDisk (state g new) → (n : ℕ) → IsKnown n → (P : Picture) → KeepsPictureAt n (state g old) P → IsOfSchema n P → InLimits P
