@@ -26,7 +26,7 @@ import end_to_end as desk
 from desk_rules import Library
 from end_to_end import CIRC, GROUND, HEADER, PROGRAM, TOP, check, rows, say, the_rows_are, whole
 from messages import message
-from migrate import DONE, HOLDS, led_up, stages, with_many_rows
+from migrate import DONE, HOLDS, led_up, schema_of, stages, with_many_rows
 from web import DESK_KEY, everything, started
 
 STEP = 64 * 1024
@@ -158,7 +158,8 @@ def one_request_of_a_migration(folder, refusing, everything):
             told[f"{found[0].strip()}, left {schema_left(path)}"] += 1
             again = subprocess.run([PROGRAM, *words], capture_output=True, timeout=300, check=False)
             check(f"again after {where}", (again.returncode, again.stdout.decode(), whole(path)), (0, f"{DONE}\n", after))
-        check("migrations were refused memory, at each schema", (sum(many for it, many in told.items() if it.startswith("fault")) > 4, len({it.split()[-1] for it in told})), (True, len(stages(whole(base)))))
+        left = {it.split(", left ")[1] for it in told if it.startswith("fault")}
+        check("migrations were refused memory at each step", left, {f"schema {schema_of(it)}" for it in stages(whole(base))[:-1]})
         print(f"refused: one request for memory of a migration of {name}: {dict(told)}")
 
 
