@@ -400,14 +400,15 @@ def is_at_fault(path, name, table):
 def damaged(folder, name):
     """A row of `meta` or of a table that is carried over that is damaged is told as 93, wherever it stands; one that is just within its limits is carried over as it is."""
     path, kept = os.path.join(folder, "damaged.db"), with_many_rows(os.path.join(folder, "kept.db"), name)
-    tables = [table for table in LIMITS if table != "holds" or name == HOLDS[0]]
+    # the step from schema 2 on is one and the same, so of a library of schema 1 one column of each of its tables is enough
+    limits = {"holds": LIMITS["holds"], "rules": {"rate": RATE}, "loans": {"ended": DAY}} if name == HOLDS[0] else {it: LIMITS[it] for it in ("rules", "loans")}
     for text in META:
         shutil.copy(kept, path)
         write(path, text)
         leaves(path, ["migrate", path], "fault 93", whole(path))
-    for table in tables:
+    for table, columns in limits.items():
         first, last = ends_of(kept, table)
-        for column, (least, greatest) in LIMITS[table].items():
+        for column, (least, greatest) in columns.items():
             # each such number in one of the two rows, and those next to the limits in both
             for number, row in [(it, row) for it in (least - 1, greatest + 1) for row in (first, last)] + list(zip(FAR, (first, last) * 2)):
                 shutil.copy(kept, path)
