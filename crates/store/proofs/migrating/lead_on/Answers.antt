@@ -1,4 +1,4 @@
-use Rattle.std.proofs.Common.{refl, arith}
+use Rattle.std.proofs.Common.{refl, arith, rules}
 use Rattle.store.proofs.StepLemmas.{untold, not_led, newest_stays, older_led}
 use Rattle.store.proofs.migrating.lead_on.Goals as goal
 
@@ -6,10 +6,10 @@ pub returns-in_err-schema_inside : goal.returns-in_err-schema_inside
 returns-in_err-schema_inside g c = untold g.S.Store _ c.from_residual.ensures c.in_err-schema_inside.ensures
 
 pub returns-in-1 : goal.returns-in-1
-returns-in-1 g c = older_led g.S.Store 1 (rw c.in-1.is at c.in_ok-schema_inside.ensures) (omega arith, omega arith) c.lead_to_2.result c.lead_to_2.ensures.leads c.lead_to_2.ensures.told
+returns-in-1 g c = older_led g.S.Store 1 (rw c.in-1.is at c.in_ok-schema_inside.ensures) (omega arith, omega arith) _ (search rules) (search rules)
 
 pub returns-in-2 : goal.returns-in-2
-returns-in-2 g c = older_led g.S.Store 2 (rw c.in-2.is at c.in_ok-schema_inside.ensures) (omega arith, omega arith) c.lead_to_3.result c.lead_to_3.ensures.leads c.lead_to_3.ensures.told
+returns-in-2 g c = older_led g.S.Store 2 (rw c.in-2.is at c.in_ok-schema_inside.ensures) (omega arith, omega arith) _ (search rules) (search rules)
 
 pub returns-in-3 : goal.returns-in-3
 returns-in-3 g c = newest_stays g.S.Store c.in_ok-schema_inside.field-0 c.in_ok-schema_inside.ensures c.in-3.is 3 refl
