@@ -1,5 +1,7 @@
-"""The program serving a library over loopback, as the scripts beside this one measure it."""
+"""The program serving a library over loopback, and the tools that ask it, as the scripts beside this one measure it."""
 
+import importlib.machinery
+import importlib.util
 import json
 import os
 import re
@@ -7,6 +9,7 @@ import signal
 import socket
 import subprocess
 import sys
+import tempfile
 
 TOP = os.path.dirname(os.path.dirname(os.path.abspath(__file__)))
 PROGRAM = f"{TOP}/crates/circ_cli/out/circ_cli"
@@ -21,6 +24,27 @@ def build():
         subprocess.run([f"{TOP}/circ"], stdout=subprocess.DEVNULL, check=False)
     if not os.path.isfile(PROGRAM):
         sys.exit("bench: the program did not build")
+
+
+def script(name):
+    """A script beside this one, as a module."""
+    loader = importlib.machinery.SourceFileLoader(f"bench_{name}", f"{TOP}/bench/{name}")
+    module = importlib.util.module_from_spec(importlib.util.spec_from_loader(loader.name, loader))
+    loader.exec_module(module)
+    return module
+
+
+def begin_library(path, lines):
+    """Has the program begin a library with these commands."""
+    for at, words in enumerate(lines):
+        subprocess.run([PROGRAM, "file", path, f"g{at}", *words.split()], check=True, stdout=subprocess.DEVNULL)
+
+
+def free_port():
+    """A port on which nobody listens."""
+    with socket.socket() as found:
+        found.bind(("127.0.0.1", 0))
+        return found.getsockname()[1]
 
 
 def one_run(*words):
@@ -44,13 +68,37 @@ def said(answer):
     return json.loads(body or b"{}").get("reply", body.decode())
 
 
+def ab(url, at_once, seconds, card, beside=None):
+    """Requests a second of one target with a card key, each a connection of its own, and the 99th percentile of a request in milliseconds, by ab:
+    for so many seconds, or as long as another run lasts."""
+    with tempfile.NamedTemporaryFile("r") as file:
+        words = ["ab", "-q", "-l", "-t", str(seconds), "-n", "1000000", "-c", str(at_once), "-e", file.name, "-H", f"Card-Key: {card}", url]
+        run = subprocess.Popen(words, stdout=subprocess.PIPE, stderr=subprocess.PIPE, text=True)
+        if beside:
+            beside.wait()
+            run.send_signal(signal.SIGINT)
+        told, failed = run.communicate()
+        found = re.search(r"^99,([\d.]+)", file.read(), re.MULTILINE)
+    if not found:
+        sys.exit(f"bench: pages were not measured:\n{told}{failed}")
+    if "Non-2xx" in told and not url.endswith("/nowhere"):
+        sys.exit(f"bench: pages were refused:\n{told}")
+    return float(re.search(r"Requests per second:\s+([\d.]+)", told)[1]), float(found[1])
+
+
+def posted(run):
+    """How much wrk posted, and how much a second, each of it accepted."""
+    told, _ = run.communicate()
+    if run.returncode or "Non-2xx" in told or "Socket errors" in told:
+        sys.exit(f"bench: requests were refused:\n{told}")
+    return int(re.search(r"(\d+) requests in", told)[1]), float(re.search(r"Requests/sec:\s+([\d.]+)", told)[1])
+
+
 class Serving:
     """The program serving a library: with so many workers, each of which answers so many connections, and under another program where one is named."""
 
     def __init__(self, path, workers, each=1_000_000, before=()):
-        with socket.socket() as found:
-            found.bind(("127.0.0.1", 0))
-            self.port = found.getsockname()[1]
+        self.port = free_port()
         self.path, self.url = path, f"http://127.0.0.1:{self.port}"
         words = [*before, PROGRAM, "serve", path, str(self.port), str(workers), str(each), KEY]
         # a session of its own, so that at the end both programs are killed
@@ -76,6 +124,14 @@ class Serving:
         """Waits until the program has ended, as it does once all connections are answered."""
         if self.run.wait():
             sys.exit(f"bench: the program ended with {self.run.returncode}")
+
+    def wrk(self, script_text, at_once, seconds):
+        """Has wrk begin to post by a script, each request over a connection of its own, for so many seconds."""
+        name = f"{self.path}.lua"
+        with open(name, "w", encoding="utf-8") as file:
+            file.write(script_text)
+        words = ["wrk", "-t1", f"-c{at_once}", f"-d{seconds}s", "-s", name, self.url]
+        return subprocess.Popen(words, stdout=subprocess.PIPE, text=True)
 
     def held(self):
         """The memory that the process holds, in KiB."""
