@@ -7,12 +7,15 @@ The table of commands (`crates/terms/src/form.rt`): each command and its parts s
 and in the table of the rules. The numbers of refusals and faults (`crates/terms/src/refusal.rt`, `fault.rt`): what each means stands in one way in the
 program's messages (`crates/messages/src/meanings.rt`), the manual page and the rules. The runs of the usage are those of the manual page, and the newest
 version of CHANGES.md and its schema are the program's. Each edit that the tables of wrong bodies name (`docs/PROOFS.md`) is there, in the crate that they name. Each name in backquotes that only code
-can have (with an underscore, or capitals within) in README.md, PROOFS.md, RULES.md and ARCHITECTURE.md stands in a source, or is that of a file.
+can have (with an underscore, or capitals within) in README.md, PROOFS.md, RULES.md and ARCHITECTURE.md stands in a source, or is that of a file. The table of the
+files that the headline's words stand in (`docs/PROOFS.md`) is the one that `tests/headline_files` makes.
 """
 
 import os
 import re
+import subprocess
 import sys
+from difflib import unified_diff
 
 from messages import SCHEMA, TOP, VERSION, of_manual, read
 from outer_forms import WORDS
@@ -110,6 +113,9 @@ def main():
     if len(names) < 500:
         wrong.append(f"only {len(names)} names of code were found in the documents")
     same("the names of code in the documents", sorted({it for it in names if it[1] not in words_there}), [])
+    made = subprocess.run([f"{TOP}/tests/headline_files"], check=True, capture_output=True, text=True).stdout
+    listed = re.search(r"^\| file \| lines \|.*\n(?:\|.*\n)+", read("docs/PROOFS.md"), re.M)
+    wrong += [f"docs/PROOFS.md, the files of the headline: {it}" for it in unified_diff(listed[0].splitlines() if listed else [], made.splitlines(), "document", "tests/headline_files", n=0, lineterm="")]
     for line in wrong:
         print(line)
     print(f"words: {len(table)} commands, {len(told)} numbers, {len(bodies)} edits and {len(names)} names of code compared, {len(wrong)} differ")
