@@ -6,8 +6,8 @@
 The table of commands (`crates/terms/src/form.rt`): each command and its parts stand so in the manual page, its name in the completion for bash
 and in the table of the rules. The numbers of refusals and faults (`crates/terms/src/refusal.rt`, `fault.rt`): what each means stands in one way in the
 program's messages (`crates/messages/src/meanings.rt`), the manual page and the rules. The runs of the usage are those of the manual page, and the newest
-version of CHANGES.md and its schema are the program's. Each edit that the tables of wrong bodies name (`docs/PROOFS.md`) is there, in the crate that they name. Each name in backquotes that only code
-can have (with an underscore, or capitals within) in README.md, PROOFS.md, RULES.md and ARCHITECTURE.md stands in a source, or is that of a file. The table of the
+version of CHANGES.md and its schema are the program's. Each edit that the tables of wrong bodies name (`docs/WRONG-BODIES.md`) is there, in the crate that they name. Each name in backquotes that only code
+can have (with an underscore, or capitals within) in the documents of NAMING stands in a source, or is that of a file. The table of the
 files that the headline's words stand in (`docs/PROOFS.md`) is the one that `tests/headline_files` makes.
 """
 
@@ -19,6 +19,8 @@ from difflib import unified_diff
 
 from messages import SCHEMA, TOP, VERSION, of_manual, read
 from outer_forms import WORDS
+
+NAMING = ("README.md", "docs/PROOFS.md", "docs/WRONG-BODIES.md", "docs/RULES.md", "docs/ARCHITECTURE.md")
 
 
 def commands():
@@ -47,7 +49,7 @@ def rules():
 
 def wrong_bodies():
     """The edits that the tables of wrong bodies name, each as its crate and its name. A row that names no crate goes on with that of the row before; the fields are of circ_core."""
-    text = read("docs/PROOFS.md").partition("\n## Wrong bodies\n")[2].partition("\n## ")[0]
+    text = read("docs/WRONG-BODIES.md")
     bodies, _, fields = text.partition("\n| field of `Headline` |")
     for table, crate in ((bodies, None), (fields, "circ_core")):
         for row in re.findall(r"^\| .* \|$", table, re.M):
@@ -61,7 +63,7 @@ def wrong_bodies():
 
 def named():
     """The names of code in backquotes, each with the document that has it."""
-    for path in ("README.md", "docs/PROOFS.md", "docs/RULES.md", "docs/ARCHITECTURE.md"):
+    for path in NAMING:
         for quoted in re.findall(r"`([^`\n]+)`", read(path)):
             for name in re.findall(r"[A-Za-z]\w*", quoted):
                 if "_" in name or re.search(r"[a-z][A-Z]", name):
