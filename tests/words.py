@@ -20,7 +20,7 @@ from difflib import unified_diff
 from messages import SCHEMA, TOP, VERSION, of_manual, read
 from outer_forms import WORDS
 
-NAMING = ("README.md", "docs/PROOFS.md", "docs/WRONG-BODIES.md", "docs/GATE.md", "docs/COUNTS.md", "docs/TESTS.md", "docs/RULES.md", "docs/ARCHITECTURE.md")
+NAMING = ("README.md", "docs/PROOFS.md", "docs/PROOFS-OF-RUNS.md", "docs/WRONG-BODIES.md", "docs/GATE.md", "docs/COUNTS.md", "docs/TESTS.md", "docs/RULES.md", "docs/ARCHITECTURE.md")
 
 
 def commands():
