@@ -26,6 +26,13 @@ def build():
         sys.exit("bench: the program did not build")
 
 
+def need_disk(folder):
+    """Ends where a folder is in memory, in which no sync takes anything."""
+    kind = subprocess.run(["stat", "-f", "-c", "%T", folder], stdout=subprocess.PIPE, text=True, check=True).stdout.strip()
+    if kind in ("tmpfs", "ramfs"):
+        sys.exit(f"bench: {folder} is in memory; TMPDIR is to name a folder on a disk")
+
+
 def script(name):
     """A script beside this one, as a module."""
     loader = importlib.machinery.SourceFileLoader(f"bench_{name}", f"{TOP}/bench/{name}")

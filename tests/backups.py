@@ -9,10 +9,10 @@ import shutil
 import subprocess
 import tempfile
 
-import end_to_end as desk
 from desk_rules import Library
-from end_to_end import CIRC, GROUND, check, month, say, the_rows_are, whole
-from web import Serving
+from lib import runs
+from lib.runs import CIRC, GROUND, check, month, say, the_rows_are, whole
+from lib.serving import Serving
 
 
 def copied(path, to):
@@ -64,7 +64,7 @@ def main():
     with tempfile.TemporaryDirectory() as folder:
         ended(folder)
         stopped(folder)
-    print(f"backups: {desk.passed} passed, 0 failed")
+    print(f"backups: {runs.passed} passed, 0 failed")
 
 
 if __name__ == "__main__":

@@ -11,9 +11,9 @@ import shutil
 import subprocess
 import tempfile
 
-import end_to_end as desk
 from desk_rules import Library
-from end_to_end import CIRC, GROUND, HEADER, TOP, check, kill_at_work, rows, rows_now, say, take_in, the_rows_are, timed, whole
+from lib import runs
+from lib.runs import CIRC, GROUND, HEADER, TOP, check, kill_at_work, rows, rows_now, say, take_in, the_rows_are, timed, whole
 
 BEES = HEADER + """\
 50,500,"Maps, Old and New",1,1,1500,end
@@ -174,7 +174,7 @@ def main():
         a_spreadsheets_files(folder)
         a_row_too_many(folder)
         a_delivery(folder)
-    print(f"copies files: {desk.passed} passed, 0 failed")
+    print(f"copies files: {runs.passed} passed, 0 failed")
 
 
 if __name__ == "__main__":

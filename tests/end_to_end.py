@@ -7,7 +7,6 @@ Expected lines and rows are those of the desk's rules, worked out by hand; those
 
 import copy
 import datetime
-import hashlib
 import os
 import random
 import re
@@ -16,38 +15,19 @@ import shutil
 import signal
 import sqlite3
 import subprocess
-import sys
 import tempfile
-import time
 from contextlib import closing
 
 import calendar_weeks
 from desk_rules import EPOCH, Library
-from messages import as_it_is, message
+from lib import runs
+from lib.runs import (
+    CIRC, GROUND, HEADER, PROGRAM, ROOM, TOP, answers, check, circ, digest, kill_at_work, memory_of, month, report, rows, rows_now, say, status_of, take_in,
+    the_rows_are, timed, whole, write,
+)
+from messages import message
 from outer_forms import WORDS
 
-TOP = os.path.dirname(os.path.dirname(os.path.abspath(__file__)))
-CIRC = os.path.join(TOP, "circ")
-PROGRAM = os.path.join(TOP, "crates", "circ_cli", "out", "circ_cli")
-
-# A key, the words, and the line that answers them.
-GROUND = [
-    ("g1", ["begin-day", "2026-03-02"], "ok"),
-    ("g2", ["branch", "1", "5", "Main"], "ok"),
-    ("g3", ["branch", "2", "3", "Harbour"], "ok"),
-    ("g4", ["week", "1", "ooooooc"], "ok"),
-    ("g5", ["week", "2", "coooooc"], "ok"),
-    ("g6", ["kind", "1", "5", "5", "500"], "ok"),
-    ("g7", ["rule", "1", "1", "6", "1", "20", "100"], "ok"),
-    ("g8", ["rule", "1", "2", "12", "1", "20", "100"], "ok"),
-    ("g9", ["patron", "1", "1", "cardkey00001", "Ann Bell"], "ok"),
-    ("g10", ["patron", "2", "1", "cardkey00002", "Bo Carr"], "ok"),
-    ("g11", ["patron", "3", "1", "cardkey00003", "Cy Dunn"], "ok"),
-    ("g12", ["acquire", "10", "100", "1", "1", "2500", "Rivers of the North"], "ok"),
-    ("g13", ["acquire", "11", "100", "1", "1", "2500", "Rivers of the North"], "ok"),
-    ("g14", ["acquire", "20", "200", "1", "2", "1200", "Salt Roads"], "ok"),
-    ("g15", ["acquire", "30", "300", "2", "1", "800", "Night Ferries"], "ok"),
-]
 
 LENDING = [
     ("k1", ["check-out", "1", "10", "1"], "loan 1 due 2026-03-09"),
@@ -182,63 +162,6 @@ BAD_REQUESTS = [
     ["place-hold-from", "2", "2026-03-05", "100", "1"],
 ]
 
-passed = 0
-
-
-def check(what, found, wanted):
-    """Counts a passed test, or ends the script."""
-    global passed
-    if found != wanted:
-        print(f"end to end: {what}\n  found  {found!r}\n  wanted {wanted!r}", file=sys.stderr)
-        sys.exit(1)
-    passed += 1
-
-
-def circ(words, **how):
-    """The line and the status of one run, which says on standard error what the line means."""
-    run = subprocess.run([CIRC, *words], capture_output=True, timeout=120, **how)
-    line = run.stdout.decode()
-    check(f"standard error of {words}", run.stderr, message(words, line))
-    check(f"one line of {words}", (line.count("\n"), line.endswith("\n")), (1, True))
-    return line[:-1], run.returncode
-
-
-def status_of(line):
-    """The status that goes with a line."""
-    if line.startswith("refused "):
-        return 2
-    if line.startswith("fault "):
-        return 3
-    return 4 if line == "words not understood" else 0
-
-
-def say(path, rows):
-    """Each request gets its line, and the status of that line."""
-    for key, words, line in rows:
-        check(f"{key} {words}", circ(["file", path, key, *words]), (line, status_of(line)))
-
-
-def rows(path, text):
-    """What stock SQLite reads."""
-    with closing(sqlite3.connect(path)) as conn:
-        return conn.execute(text).fetchall()
-
-
-def write(path, *texts):
-    """What stock SQLite writes."""
-    with closing(sqlite3.connect(path)) as conn:
-        for text in texts:
-            conn.execute(text)
-        conn.commit()
-
-
-def digest(path):
-    """What a file holds, in short; None where there is no file."""
-    if not os.path.isfile(path):
-        return None
-    with open(path, "rb") as file:
-        return hashlib.sha256(file.read()).hexdigest()
-
 
 def a_new_library(folder):
     """A new file has the sixteen tables, their keys and indexes, and the first row of meta."""
@@ -297,12 +220,6 @@ def a_small_library(folder):
            (0, "k2", "check-out 1 11 1", "loan 2 due 2026-03-09")])
     check("kept in all", rows(path, "SELECT COUNT(*) FROM kept"), [(17,)])
     return path
-
-
-def whole(path):
-    """All rows of all tables."""
-    names = [name for (name,) in rows(path, "SELECT name FROM sqlite_schema WHERE type = 'table' ORDER BY name")]
-    return {name: rows(path, f'SELECT * FROM "{name}" ORDER BY 1, 2') for name in names}
 
 
 def refusals_and_bad_words(path):
@@ -478,13 +395,6 @@ def refusals_of_other_rows(folder, path):
     say(other, [("q2", ["check-out", "1", "12", "1"], "refused 70")])
 
 
-def answers(path, key, words):
-    """What one run prints, of any number of lines, and its status."""
-    run = subprocess.run([CIRC, "file", path, key, *words], capture_output=True, timeout=120)
-    check(f"standard error of {key} {words}", run.stderr, message(["file", path, key, *words], run.stdout.decode()))
-    return run.stdout.decode(), run.returncode
-
-
 def examples(page):
     """The lines that a page of docs/ shows as typed, each with the lines that answer it, or that the file has."""
     with open(os.path.join(TOP, "docs", page), encoding="utf-8") as file:
@@ -509,13 +419,6 @@ def a_day_at_the_desk(folder):
         check(f"the command of {words}", command, "./circ")
         run = subprocess.run([CIRC, *words], capture_output=True, timeout=120, cwd=room)
         check(f"{words}", (run.stdout.decode(), run.returncode), (answer, status_of(answer.partition("\n")[0])))
-
-
-def report(path, *words):
-    """What a report prints, and its status."""
-    run = subprocess.run([CIRC, "report", path, *words], capture_output=True, timeout=120)
-    check(f"standard error of {words}", run.stderr, message(["report", path, *words], run.stdout.decode()))
-    return run.stdout.decode(), run.returncode
 
 
 def reports(folder):
@@ -598,8 +501,8 @@ def a_line_with_first_days(folder):
         db.execute("UPDATE meta SET next_hold = 1001")
     waiting = dict(first_days)
     for today in range(TODAY, TODAY + 15):
-        if today > TODAY:
-            say(path, [(f"d{today}", ["begin-day", str(EPOCH + datetime.timedelta(today))], "ok")])
+        # a day that has begun isn't begun again
+        say(path, [(f"d{today}", ["begin-day", str(EPOCH + datetime.timedelta(today))], "ok" if today > TODAY else "refused 23")])
         for number in ("10", "11"):
             first = min(n for n, day in waiting.items() if day is None or day <= today)
             served.append((first, waiting.pop(first)))
@@ -610,15 +513,7 @@ def a_line_with_first_days(folder):
     check("holds without a first day were served, and with one before the beginning and after it", kinds, {"none", "before", "after"})
 
 
-def memory_of(words, out):
-    """The most memory that a run of the program takes, in KiB, and its status; what it prints goes into a file."""
-    run = subprocess.run([os.path.join(TOP, "tests", "measured"), out, PROGRAM, *words], stdout=subprocess.PIPE, check=True)
-    _, most, status = run.stdout.split()
-    return int(most), int(status)
-
-
 LATE = 100_000
-ROOM = 8 * 1024  # KiB; the rows of a whole report of so many loans would take several times as much
 
 
 def a_long_report(folder):
@@ -644,37 +539,6 @@ def a_long_report(folder):
     check(f"{most - least} KiB for the rows, of {ROOM}", most - least < ROOM, True)
 
 
-def kill_at_work(words, seconds):
-    """Starts a run and kills it after a while; it may have ended by then. What it printed, and whether the kill hit it."""
-    with subprocess.Popen([PROGRAM, *words], stdout=subprocess.PIPE) as run:
-        time.sleep(seconds)
-        run.kill()
-        printed = run.stdout.read().decode()
-    return printed, run.returncode == -signal.SIGKILL
-
-
-def timed(call):
-    """What a call gives, and the seconds that it took: kills are set by that, so that they hit work on a slow machine too."""
-    begin = time.perf_counter()
-    given = call()
-    return given, time.perf_counter() - begin
-
-
-def rows_now(path, text):
-    """What stock SQLite reads in a copy of the files."""
-    with as_it_is(path) as copied:
-        return rows(copied, text)
-
-
-def the_rows_are(path, library):
-    """The file holds exactly the rows that the rules give, and they are sound."""
-    check("the audit", circ(["audit", path]), ("sound", 0))
-    found = {name: sorted(rows, key=lambda row: row[:2] if name != "transits" else row[:1])
-             for name, rows in whole(path).items()}
-    for name, rows_of in library.tables().items():
-        check(f"rows of {name}", found[name], rows_of)
-
-
 # What the month has to have, on rows that the desk made: commands, each with its reply's first word or its refusal.
 IN_THE_MONTH = {
     ("withdraw", "ok"), ("withdraw", "33"), ("check-in", "35"), ("check-out", "35"), ("check-out", "33"), ("check-out", "38"),
@@ -682,12 +546,6 @@ IN_THE_MONTH = {
     ("place-hold-from", "hold"), ("place-hold-from", "23"), ("place-hold-from", "50"), ("place-hold-from", "51"), ("place-hold-from", "52"),
     ("grace", "ok"), ("grace", "16"), ("grace", "21"),
 }
-
-
-def month():
-    """The requests of a month: the key of each and its words."""
-    with open(os.path.join(TOP, "tests", "month.txt"), encoding="utf-8") as file:
-        return [shlex.split(line) for line in file]
 
 
 def a_month(folder):
@@ -722,16 +580,6 @@ def a_month(folder):
     for day in sorted({line["day"] for line in library.lines}):
         check(f"the till of {day}", report(calm, "till", str(day)), (library.till(day), 0))
     check(f"the rows after kills, seed {seed}", whole(killed), whole(calm))
-
-
-HEADER = "copy,title,text,kind,home,price,end\n"
-
-
-def take_in(path, copies):
-    """What taking in a copies file prints, and its status."""
-    run = subprocess.run([CIRC, "import", path, copies], capture_output=True, timeout=120)
-    check("standard error of a copies file", run.stderr, message(["import", path, copies], run.stdout.decode()))
-    return run.stdout.decode(), run.returncode
 
 
 MADE = 600  # so many creations are killed at most, until they hit
@@ -912,11 +760,7 @@ def bad_files(folder, path):
 
 
 def an_unreadable_file(folder, path):
-    """A file that may not be read is told as a fault. The superuser may read all, so another user asks."""
-    if os.getuid() != 0:
-        os.chmod(path, 0)
-        check("unreadable", circ(["file", path, "k9", "begin-day", "2026-03-03"]), ("fault 91", 3))
-        return
+    """A file that may not be read is told as a fault. The superuser may read all, so another user asks for one."""
     closed = os.path.join(folder, "closed.db")
     shutil.copy(path, closed)
     os.chmod(closed, 0)
@@ -925,7 +769,7 @@ def an_unreadable_file(folder, path):
     shutil.copy(PROGRAM, program)
     os.chmod(program, 0o755)
     run = subprocess.run([program, "file", closed, "k9", "begin-day", "2026-03-03"],
-                         capture_output=True, timeout=120, user=65534, cwd="/")
+                         capture_output=True, timeout=120, user=None if os.getuid() else 65534, cwd="/")
     check("unreadable", (run.stdout, run.returncode), (b"fault 91\n", 3))
 
 
@@ -955,7 +799,7 @@ def main():
         bad_files(folder, path)
         an_unreadable_file(folder, path)
     check("calendars by weeks", calendar_weeks.compare(), 10_000)
-    print(f"end to end: {passed} passed, 0 failed")
+    print(f"end to end: {runs.passed} passed, 0 failed")
 
 
 if __name__ == "__main__":

@@ -23,12 +23,12 @@ import time
 from collections import Counter
 from concurrent.futures import ProcessPoolExecutor
 
-import end_to_end as desk
 from desk_rules import Library
-from end_to_end import CIRC, GROUND, PROGRAM, check, say
+from lib import runs
+from lib.runs import CIRC, GROUND, PROGRAM, check, say
+from lib.serving import DESK_KEY, Serving, everything
 from messages import message
-from outer_forms import HEAD_BYTES, HEADER, MARK, MOST_LEVELS, WORDS, answer_to, is_card_key, is_day, is_mask, is_name, lines_of
-from web import DESK_KEY, Serving, everything
+from outer_forms import HEADER, HEAD_BYTES, MARK, MOST_LEVELS, WORDS, answer_to, is_card_key, is_day, is_mask, is_name, lines_of
 
 SEED, CASES = 28, 10_000
 TOLD = 25_000  # after as many cases a long run tells that it goes on
@@ -352,7 +352,7 @@ def play(ground, library, seed, number):
         shutil.copy(ground, path)
         ask_all(cases, path, library, where, seen)
         take_in_all(cases, path, library, where, seen)
-        desk.the_rows_are(path, library)
+        runs.the_rows_are(path, library)
     return seen, sum(hold["first"] is not None for hold in library.holds.values()), sum(text.startswith("grace ") for text, _ in library.kept.values())
 
 

@@ -20,10 +20,10 @@ import threading
 import time
 from concurrent.futures import ThreadPoolExecutor
 
-import end_to_end as desk
 from desk_rules import Library
-from end_to_end import CIRC, GROUND, check, rows, timed
-from web import ANN, ANNS_PAGE, BO, FAILED, HOLD, PAGE_OF_ANN, Serving, a_library, answer, body_of_hold, everything, hold_with, is_let_go, told
+from lib import runs
+from lib.runs import CIRC, GROUND, check, rows, timed
+from lib.serving import ANN, ANNS_PAGE, BO, FAILED, HOLD, PAGE_OF_ANN, Serving, a_library, answer, body_of_hold, everything, hold_with, is_let_go, told
 
 HALF_A_HEAD = PAGE_OF_ANN[:30]
 PATRONS, TITLES, RENEWALS = range(1, 9), range(101, 151), 99
@@ -68,7 +68,7 @@ class Town:
                 check(f"{words}", asked(serving, 0, f"t{at}", words), told(self.rules.handle(f"t{at}", words)))
             for patron in PATRONS:
                 check("the page of a patron who came meanwhile", page_of(serving, patron), page_by(self.rules, patron))
-        desk.the_rows_are(self.path, self.rules)
+        runs.the_rows_are(self.path, self.rules)
 
     def requests(self):
         """What is asked of the desk to make it."""
@@ -123,10 +123,10 @@ def handle_holds(library, answered):
 
 def handle_kept(path, library):
     """Has the rules handle what the file kept since, in the order in which it was kept: each reply is the same, and so is each row."""
-    for caller, key, text, reply in rows(path, "SELECT caller, key, text, reply FROM kept ORDER BY rowid"):
-        if (caller, key) not in library.kept:
-            check(f"{caller} {key} {text}", reply, library.handle(key, text.split(), caller))
-    desk.the_rows_are(path, library)
+    later = [it for it in rows(path, "SELECT caller, key, text, reply FROM kept ORDER BY rowid") if it[:2] not in library.kept]
+    for caller, key, text, reply in later:
+        check(f"{caller} {key} {text}", reply, library.handle(key, text.split(), caller))
+    runs.the_rows_are(path, library)
 
 
 def a_hold_and_its_page(folder):
@@ -143,7 +143,7 @@ def a_hold_and_its_page(folder):
             serving.answers("GET", "/patrons/2", BO, None, 200, bos_page)
             serving.answers("GET", "/patrons/1", ANN, None, 200, ANNS_PAGE)
             check("a head cut in its middle", serving.raw(HALF_A_HEAD), FAILED)
-    desk.the_rows_are(path, library)
+    runs.the_rows_are(path, library)
 
 
 def a_reply_is_on_the_page(town, workers):
@@ -154,13 +154,13 @@ def a_reply_is_on_the_page(town, workers):
             for caller, key, words in (request, renewal):
                 check(f"{key} {words}", asked(serving, caller, key, words), told(library.handle(key, words, caller)))
                 check(f"the page after {words}", page_of(serving, 1), page_by(library, 1))
-    desk.the_rows_are(path, library)
+    runs.the_rows_are(path, library)
 
 
 def pages_of_a_month(folder):
     """The month of commands with two workers: after each, every page that it changed is shown anew, and another patron's as it was."""
     path, library, pages, turns = os.path.join(folder, "month.db"), Library(), {}, []
-    for at, (key, *words) in enumerate(desk.month()):
+    for at, (key, *words) in enumerate(runs.month()):
         before, wanted = pages, told(library.handle(key, words))
         pages = {patron: page_by(library, patron) for patron in library.patrons}
         looks = [patron for patron in pages if pages[patron] != before.get(patron)] + [*pages][at % max(len(pages), 1):][:1]
@@ -171,7 +171,7 @@ def pages_of_a_month(folder):
             check(f"{key} {words}", asked(serving, 0, key, words), wanted)
             for patron, page in looks:
                 check(f"the page of {patron} after {key} {words}", page_of(serving, patron), page)
-    desk.the_rows_are(path, library)
+    runs.the_rows_are(path, library)
 
 
 def one_is_held(folder):
@@ -203,7 +203,7 @@ def fifty_holds_each(town):
         numbers = [hold_number(reply) for _, reply in answered]
         check("each client's own in their order", numbers, sorted(numbers))
     handle_holds(library, [it for answered in found for it in answered])
-    desk.the_rows_are(path, library)
+    runs.the_rows_are(path, library)
 
 
 class Watched:
@@ -331,7 +331,7 @@ def kills(town):
             break
         path, library = town.copied(f"killed{at}.db")
         answered, cut = killed_at(path, plans, moments.uniform(0.05, 0.8) * took)
-        with desk.as_it_is(path) as left:
+        with runs.as_it_is(path) as left:
             handle_kept(left, library)
         kept = {it: told(reply) for it, (_, reply) in library.kept.items() if it in everyone}
         for it, reply in answered.items():
@@ -380,7 +380,7 @@ def a_full_disk(town):
         for at, patron in enumerate(looks):
             check("a page as it was last", page_of(serving, patron), page_by(library, patron))
             check("the same by the desk", asked(serving, 0, f"p{at}", ["page", str(patron)]), page_by(library, patron))
-    desk.the_rows_are(path, library)
+    runs.the_rows_are(path, library)
 
 
 def let_go(serving, bytes_):
@@ -427,7 +427,7 @@ def slow_clients(folder):
     """Clients that are slow, silent or gone keep the workers waiting that they have, for half a minute after their last byte. The patrons
     of the other workers are served meanwhile, and then all is as before."""
     path, beside, is_over = a_library(folder, "slow.db"), [], threading.Event()
-    before = desk.whole(path)
+    before = runs.whole(path)
     half_a_body = hold_with(HOLD, key=b"s1")[:-12]
 
     def looks():
@@ -451,8 +451,8 @@ def slow_clients(folder):
         print(f"hall: {beside.count(3)} pages beside three slow clients; {made} of 2000 connections were made and left")
         check("pages were shown while each of the slow clients was there", beside.count(3) > 4, True)
         check("connections were made", made > 100, True)
-        with desk.as_it_is(path) as left:
-            check("the rows after slow clients", desk.whole(left), before)
+        with runs.as_it_is(path) as left:
+            check("the rows after slow clients", runs.whole(left), before)
         # each of the eight workers is there again: as many connections wait for one another's end
         peers = [socket.create_connection(("127.0.0.1", serving.port), timeout=60) for _ in range(8)]
         for peer in reversed(peers):
@@ -480,7 +480,7 @@ def main():
         a_full_disk(town)
         kills(town)
         slow.result()
-    print(f"hall: {desk.passed} passed, 0 failed")
+    print(f"hall: {runs.passed} passed, 0 failed")
 
 
 if __name__ == "__main__":

@@ -22,12 +22,11 @@ import tempfile
 import time
 from contextlib import closing
 
-import end_to_end as desk
 from desk_rules import Library
-from end_to_end import (CIRC, GROUND, HEADER, PROGRAM, ROOM, TOP, answers, as_it_is, check, circ, digest, kill_at_work, memory_of, month, rows, say, status_of, the_rows_are, timed,
-                        whole, write)
-from messages import LATER, MEANINGS, OLDER, SCHEMA, STILL, message
-from web import DESK_KEY, Serving, body_of_hold, told
+from lib import runs
+from lib.runs import CIRC, GROUND, HEADER, PROGRAM, ROOM, TOP, answers, check, circ, digest, kill_at_work, memory_of, month, rows, say, status_of, the_rows_are, timed, whole, write
+from lib.serving import DESK_KEY, Serving, body_of_hold, told
+from messages import LATER, MEANINGS, OLDER, SCHEMA, STILL, as_it_is, message
 
 NEW, HOLDS, MONTH = ([f"schema{schema}_{it}" for schema in (1, 2)] for it in ("new", "holds", "month"))
 HALF, KNOWN = 642, {1: 732, 2: 771}
@@ -72,9 +71,8 @@ def asked_after(name):
 
 def handle_after(library, name):
     """Has the rules handle what was asked after the beginning of the month; that an unknown hold is told of another's is patrons' alone to be refused."""
-    for patron, key, words, line in asked_after(name):
-        if line != "refused 15":
-            check(f"{key} of {patron or 'the desk'}, by the rules", library.handle(key, words, caller=patron), line)
+    for patron, key, words, line in [it for it in asked_after(name) if it[-1] != "refused 15"]:
+        check(f"{key} of {patron or 'the desk'}, by the rules", library.handle(key, words, caller=patron), line)
 
 
 def known(name):
@@ -153,14 +151,19 @@ def has_log(path):
     return os.path.exists(path + "-wal") and os.path.getsize(path + "-wal") > 512
 
 
-def leaves(path, words, line, after, said=None):
-    """A run prints this line, says this of the file, and leaves these rows."""
+def leaves(path, words, line, after):
+    """A run prints this line, and leaves these rows."""
     check(f"{words} on {path}", circ(words), (line, status_of(line)))
-    if said:
-        run = subprocess.run([PROGRAM, *words], capture_output=True, timeout=120, check=False)
-        number = int(line.split()[-1])
-        check(f"what is said of {words}", (run.stdout.decode(), run.stderr.decode()), (f"{line}\n", f"circ: {MEANINGS[number]}\ncirc: {path}: {said}\n"))
     check(f"the rows after {words}", whole(path), after)
+
+
+def leaves_and_says(path, words, line, after, said):
+    """The same, and it says this of the file."""
+    leaves(path, words, line, after)
+    run = subprocess.run([PROGRAM, *words], capture_output=True, timeout=120, check=False)
+    number = int(line.split()[-1])
+    check(f"what is said of {words}", (run.stdout.decode(), run.stderr.decode()), (f"{line}\n", f"circ: {MEANINGS[number]}\ncirc: {path}: {said}\n"))
+    check(f"the rows after {words} again", whole(path), after)
 
 
 def old_libraries(folder):
@@ -210,16 +213,19 @@ def the_rest_of_the_month(folder, name):
                 check(f"{key} {again} of patron {patron} again", by_route(serving, patron, key, again), told(wanted))
     the_rows_are(path, library)
     check("much was kept", len(kept) > 300, True)
-    for at, (key, *words) in enumerate(requests[HALF:]):
+    later = []
+    for key, *words in requests[HALF:]:
         line = library.handle(key, words)
         check(f"{key} {words}", answers(path, key, words), (line + "\n", status_of(line)))
-        if at % 10 == 0 and (0, key) in library.kept:
-            check(f"{key} {words} again", answers(path, key, words), (line + "\n", status_of(line)))
-            check(f"{key} for another", answers(path, key, ["withdraw", "999"]), ("refused 80\n", 2))
+        later += [(key, words, line)] if (0, key) in library.kept else []
+    check("more was kept", len(later) > 90, True)
+    for key, words, line in later[::10]:
+        check(f"{key} {words} again", answers(path, key, words), (line + "\n", status_of(line)))
+        check(f"{key} for another", answers(path, key, ["withdraw", "999"]), ("refused 80\n", 2))
     the_rows_are(path, library)
     for branch in sorted(library.branches):
-        check(f"the hold shelf of {branch}", desk.report(path, "shelf", str(branch)), (library.shelf(branch), 0))
-        check(f"the overdue loans of {branch}", desk.report(path, "overdue", str(branch)), (library.overdue(branch), 0))
+        check(f"the hold shelf of {branch}", runs.report(path, "shelf", str(branch)), (library.shelf(branch), 0))
+        check(f"the overdue loans of {branch}", runs.report(path, "overdue", str(branch)), (library.overdue(branch), 0))
 
 
 # What is asked of the library with holds in every state after it was migrated: the patron who asks, or 0 for the desk, a key, the words and the answer. Two keys were kept before.
@@ -316,12 +322,12 @@ def other_runs(folder):
         for journal in ("delete", "wal"):
             path = old_library(name, os.path.join(folder, f"{name}-other-{journal}.db"), journal)
             before, kept = whole(path), digest(path)
-            runs = [["file", path, "m1", "begin-day", "2026-03-02"], ["file", path, "k1", "begin-day", "2026-06-01"], ["file", path, "k1", "page", "1"],
-                    ["file", path, "k1", "place-hold", "1", "1", "1"], ["file", path, "k1", "grace", "1", "1", "2"], ["file", path, "k1", "help"], ["import", path, copies], ["import", path, os.path.join(folder, "absent.csv")],
-                    ["report", path, "overdue", "1"], ["report", path, "till", "2026-03-02"], ["report", path, "shelf", "1"], ["audit", path],
-                    ["serve", path, "1", "1", "1", DESK_KEY]]
-            for words in runs:
-                leaves(path, words, "fault 93", before, OLDER)
+            others = [["file", path, "m1", "begin-day", "2026-03-02"], ["file", path, "k1", "begin-day", "2026-06-01"], ["file", path, "k1", "page", "1"],
+                      ["file", path, "k1", "place-hold", "1", "1", "1"], ["file", path, "k1", "grace", "1", "1", "2"], ["file", path, "k1", "help"], ["import", path, copies], ["import", path, os.path.join(folder, "absent.csv")],
+                      ["report", path, "overdue", "1"], ["report", path, "till", "2026-03-02"], ["report", path, "shelf", "1"], ["audit", path],
+                      ["serve", path, "1", "1", "1", DESK_KEY]]
+            for words in others:
+                leaves_and_says(path, words, "fault 93", before, OLDER)
                 check(f"the file after {words[0]}", (digest(path), has_log(path)), (kept, False))
             is_migrated(path, before, f"{name}, {journal}, after other runs")
 
@@ -433,17 +439,17 @@ def damaged_and_mended(folder):
     library, last = whole(path), ends_of(path, "loans")[1]
     write(path, f"UPDATE loans SET due = 84006 WHERE {last}")
     between = led_on(whole(path))
-    leaves(path, ["migrate", path], "fault 93", between, STILL)
+    leaves_and_says(path, ["migrate", path], "fault 93", between, STILL)
     kept = digest(path)
     for words in (["audit", path], ["file", path, "k1", "page", "1"], ["report", path, "till", "2026-03-02"]):
-        leaves(path, words, "fault 93", between, OLDER)
+        leaves_and_says(path, words, "fault 93", between, OLDER)
         check(f"the file after {words[0]}", (digest(path), has_log(path)), (kept, False))
     write(path, f"UPDATE loans SET due = 20521 WHERE {last}")
     check("what is mended", whole(path), led_on(library))
     is_migrated(path, library, "a library that was mended")
     path = with_many_rows(os.path.join(folder, "twice.db"))
     write(path, f"UPDATE loans SET due = 84006 WHERE {last}", "UPDATE holds SET state = 5 WHERE hold = (SELECT max(hold) FROM holds)")
-    leaves(path, ["migrate", path], "fault 93", whole(path), STILL)
+    leaves_and_says(path, ["migrate", path], "fault 93", whole(path), STILL)
     # a row of a table that no step looks at stays as it is, and is told by the audit
     path = with_many_rows(os.path.join(folder, "others.db"), HOLDS[1])
     write(path, "UPDATE holds2 SET state = 5 WHERE hold = 64", "UPDATE patrons SET owed = -1 WHERE patron = 3")
@@ -472,12 +478,10 @@ def other_tables(folder, name):
         write(path, text)
         before, texts = whole(path), texts_of(path)
         migrate(path, line)
-        if steps:
-            for _ in range(steps):
-                before = led_on(before)
-            check(f"the rows after {text}", whole(path), before)
-        else:
-            check(f"the rows after {text}", (whole(path), texts_of(path)), (before, texts))
+        for _ in range(steps):
+            before = led_on(before)
+        # a step makes tables
+        check(f"the rows after {text}, and whether the tables are as they were", (whole(path), texts_of(path) == texts), (before, steps == 0))
 
 
 def later(folder):
@@ -486,7 +490,7 @@ def later(folder):
     say(path, GROUND)
     write(path, "UPDATE meta SET schema = 4")
     before, kept = whole(path), digest(path)
-    leaves(path, ["migrate", path], "fault 93", before, LATER)
+    leaves_and_says(path, ["migrate", path], "fault 93", before, LATER)
     check("its file", digest(path), kept)
 
 
@@ -615,7 +619,7 @@ def main():
     for part, *name in [(old_libraries,), (holds_from_a_day_on,), (on_a_terminal,), (other_runs,), (no_library,), (damaged_and_mended,), (later,), (held,), (a_large_library,), *of_each]:
         with tempfile.TemporaryDirectory() as folder:
             part(folder, *name)
-    print(f"migrate: {desk.passed} passed, 0 failed")
+    print(f"migrate: {runs.passed} passed, 0 failed")
 
 
 if __name__ == "__main__":

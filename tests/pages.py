@@ -23,7 +23,7 @@ def read(path):
 
 def meanings():
     """The numbers with their meanings, of the program and of the pages."""
-    program = re.findall(r'number: (\d+),\s*text: "([^"]*)"', read("crates/messages/src/meanings.rt"))
+    program = re.findall(r'number: (\d+),\s*text:\s*"([^"]*)"', re.sub(r"\\\n\s*", "", read("crates/messages/src/meanings.rt")))
     page = re.findall(r'^  (\d+): "([^"]*)",$', read("pages/texts.js"), re.MULTILINE)
     return program, page
 
@@ -53,21 +53,24 @@ def main():
     same("the commands of the program", [name for name, _ in program], list(WORDS))
     same("the commands", page, program)
 
-    for name in sorted(os.listdir(os.path.join(TOP, "pages"))):
-        text = read(f"pages/{name}")
+    names = sorted(os.listdir(os.path.join(TOP, "pages")))
+    pages, scripts = ([name for name in names if name.endswith(end)] for end in (".html", ".js"))
+    same("there are pages and scripts", (len(pages) > 1, len(scripts) > 3), (True, True))
+    for name in names:
         # with the header that the servers before it send, a browser runs and loads nothing else
-        same(f"{name} names another origin", re.findall(r"(?:https?:)?//[a-z][^\s]*\.[a-z]+", text), [])
-        if name.endswith(".html"):
-            same(f"{name} has a script or a style of its own within", re.findall(r"<style|<script(?! type=\"module\" src=)|\son\w+=|\sstyle=", text), [])
-            for file in re.findall(r'(?:src|href)="([^"]*)"', text):
-                same(f"{name} names {file}", os.path.exists(os.path.join(TOP, "pages", file)), True)
-            ids = re.findall(r'\sid="([^"]*)"', text)
-            same(f"{name} has an id twice", len(ids), len(set(ids)))
-            script = read(f"pages/{name[:-5]}.js")
-            same(f"the ids that {name[:-5]}.js names", sorted(set(re.findall(r'\bit\("([^"]*)"\)', script)) - set(ids)), [])
-        if name.endswith(".js"):
-            known = set(re.findall(r"^  (\w+):", read("pages/texts.js"), re.MULTILINE))
-            same(f"the texts that {name} names", sorted(set(re.findall(r"TEXTS\.(\w+)", text)) - known), [])
+        same(f"{name} names another origin", re.findall(r"(?:https?:)?//[a-z][^\s]*\.[a-z]+", read(f"pages/{name}")), [])
+    for name in pages:
+        text = read(f"pages/{name}")
+        same(f"{name} has a script or a style of its own within", re.findall(r"<style|<script(?! type=\"module\" src=)|\son\w+=|\sstyle=", text), [])
+        for file in re.findall(r'(?:src|href)="([^"]*)"', text):
+            same(f"{name} names {file}", os.path.exists(os.path.join(TOP, "pages", file)), True)
+        ids = re.findall(r'\sid="([^"]*)"', text)
+        same(f"{name} has an id twice", len(ids), len(set(ids)))
+        script = read(f"pages/{name[:-5]}.js")
+        same(f"the ids that {name[:-5]}.js names", sorted(set(re.findall(r'\bit\("([^"]*)"\)', script)) - set(ids)), [])
+    known = set(re.findall(r"^  (\w+):", read("pages/texts.js"), re.MULTILINE))
+    for name in scripts:
+        same(f"the texts that {name} names", sorted(set(re.findall(r"TEXTS\.(\w+)", read(f"pages/{name}"))) - known), [])
     used = set(re.findall(r'TEXTS\.(\w+)|data-text="(\w+)"', "".join(read(f"pages/{name}") for name in ("patron.html", "patron.js", "desk.html", "desk.js"))))
     used = {name for names in used for name in names if name}
     texts = set(re.findall(r'^  ([a-zA-Z]\w*): "', read("pages/texts.js"), re.MULTILINE))

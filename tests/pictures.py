@@ -6,20 +6,28 @@
 
 The places of a copy and the states of a hold, with the commands that lead from one to another (docs/RULES.md): the arrows are those that random requests on
 small libraries take by the rules in plain Python (tests/desk_rules.py), and no others. The crates (docs/ARCHITECTURE.md): an arrow goes to each crate that one
-stands on by crates.txt, unless another arrow leads there.
+stands on by crates.txt, unless another arrow leads there. The plots (docs/SPEED.md) were drawn from figures that each of them has as its description: these are those of the
+document's tables now. They are drawn anew by `bench/plots`.
 """
 
+import json
 import os
 import random
 import re
 import sys
+from xml.etree import ElementTree
 
 from desk_rules import Library
 
 TOP = os.path.dirname(os.path.dirname(os.path.abspath(__file__)))
+sys.path.append(os.path.join(TOP, "bench"))
+
+import figures
 CRATES = "docs/ARCHITECTURE.md"
 RULES = "docs/RULES.md"
 ROUNDS, REQUESTS = 300, 150
+LARGEST = 60_000  # bytes of a plot
+DESCRIPTION = ".//{http://purl.org/dc/elements/1.1/}description"
 GROUND = """begin-day 2026-03-02;branch 1 5 Main;branch 2 0 Harbour;kind 1 9 9 1000000;rule 1 1 6 9 20 100;patron 1 1 cardkey00001 Ann;patron 2 1 cardkey00002 Bo;
 acquire 10 100 1 1 2500 Rivers;acquire 11 100 1 2 2500 Rivers;acquire 20 200 1 2 1200 Roads"""
 COMMANDS = ["check-out P C B", "check-in C B", "check-in C B", "check-in C B", "place-hold P T B", "place-hold P T B", "place-hold-from P T B D",
@@ -105,6 +113,30 @@ def crates():
     return "\n".join(lines)
 
 
+def plots():
+    """What is wrong with the plots: each has the figures of the document's tables, is small, and is shown by the document, and one of them by the README."""
+    shown_in = {}
+    for path in (figures.SPEED, "README.md"):
+        with open(os.path.join(TOP, path), encoding="utf-8") as file:
+            shown_in[path] = set(re.findall(r"!\[[^\]]+\]\((?:docs/)?(\S+\.svg)\)", file.read()))
+    wanted = figures.shown()
+    for name, parts in wanted.items():
+        with open(os.path.join(TOP, "docs", name), encoding="utf-8") as file:
+            text = file.read()
+        described = ElementTree.fromstring(text).find(DESCRIPTION)
+        if described is None or json.loads(described.text) != parts:
+            yield f"docs/{name} was not drawn from the tables of {figures.SPEED}: bench/plots draws it anew"
+        if len(text) > LARGEST:
+            yield f"docs/{name} has {len(text)} bytes"
+        # a table that lost its rows would be compared with nothing
+        if any(not lines or min(map(len, lines.values())) < 2 for lines in parts.values()):
+            yield f"docs/{name} shows nothing, or a line of fewer than two points"
+    if shown_in[figures.SPEED] != set(wanted):
+        yield f"{figures.SPEED} shows {sorted(shown_in[figures.SPEED])}, and not {sorted(wanted)}"
+    if not shown_in["README.md"] & set(wanted):
+        yield "README.md shows no plot"
+
+
 def main():
     moves, turns = {}, {}
     for seed in range(ROUNDS):
@@ -126,8 +158,11 @@ def main():
         elif found[0] != wanted:
             print(f"{path}: the picture {name} is not\n{picture}")
             wrong += 1
+    for line in plots():
+        print(line)
+        wrong += 1
     arrows_seen = len(moves) + len(turns)
-    print(f"pictures: {len(pictures)} compared, with {arrows_seen} arrows of copies and holds, {wrong} differ")
+    print(f"pictures: {len(pictures)} and {len(figures.shown())} plots compared, with {arrows_seen} arrows of copies and holds, {wrong} differ")
     return 1 if wrong or arrows_seen < 20 else 0
 
 

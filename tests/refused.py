@@ -22,12 +22,12 @@ import time
 from collections import Counter
 from concurrent.futures import ThreadPoolExecutor
 
-import end_to_end as desk
 from desk_rules import Library
-from end_to_end import CIRC, GROUND, HEADER, PROGRAM, TOP, check, rows, say, the_rows_are, whole
+from lib import runs
+from lib.runs import CIRC, GROUND, HEADER, PROGRAM, TOP, check, rows, say, the_rows_are, whole
+from lib.serving import DESK_KEY, everything, started
 from messages import message
 from migrate import DONE, HOLDS, led_up, schema_of, stages, with_many_rows
-from web import DESK_KEY, everything, started
 
 STEP = 64 * 1024
 SAMPLE = 24  # how many limits of the system are tried where not each is
@@ -330,11 +330,11 @@ def memory(folder, everything):
     with open(copies, "w", encoding="utf-8") as file:
         file.write(HEADER + books)
     before = whole(base)
-    runs = {"file": (["file", path, "k1", "check-out", "1", "10", "1"], "loan 1 due 2026-03-09\n", 0),
-            "import": (["import", path, copies], "".join(f"row {n} ok\n" for n in range(1, 301)) + "accepted 300 refused 0\n", 0)}
+    whole_runs = {"file": (["file", path, "k1", "check-out", "1", "10", "1"], "loan 1 due 2026-03-09\n", 0),
+                  "import": (["import", path, copies], "".join(f"row {n} ok\n" for n in range(1, 301)) + "accepted 300 refused 0\n", 0)}
     lowest = least(begins, STEP, 2**31)
     told = Counter()
-    for name, (words, lines, status) in runs.items():
+    for name, (words, lines, status) in whole_runs.items():
 
         def is_done(limit):
             copied(base, path)
@@ -550,7 +550,7 @@ def main():
         refused_after_listening(folder)
         disk(folder, everything)
         disk_of_a_migration(folder, everything)
-    print(f"refused: {desk.passed} passed, 0 failed")
+    print(f"refused: {runs.passed} passed, 0 failed")
 
 
 if __name__ == "__main__":

@@ -39,7 +39,7 @@ import time
 from concurrent.futures import ThreadPoolExecutor
 
 from desk_rules import Library
-from end_to_end import CIRC, GROUND, PROGRAM, TOP, rows, status_of, whole, write
+from lib.runs import CIRC, GROUND, PROGRAM, TOP, rows, status_of, whole, write
 from messages import message
 
 KINDS = ("weekly", "report", "rows", "pairs", "sql", "select", "damage")
@@ -59,6 +59,9 @@ LAWS = {
         SELECT patron FROM patrons WHERE owed <> (SELECT COALESCE(SUM(CASE WHEN sort < 2 THEN amount ELSE -amount END), 0)
             FROM lines WHERE lines.patron = patrons.patron)""",
 }
+
+
+BY_RULES = 1_000  # so many answers at least are compared with the rules in plain Python in a run of all stories
 
 
 class Step:
@@ -84,7 +87,7 @@ class Story:
 
     def __init__(self, place, name):
         self.place, self.name, self.is_new, self.steps = place, name, False, []
-        self.compared, self.differences = 0, []
+        self.compared, self.by_rules, self.differences = 0, 0, []
 
     def compare(self, place, what, found, wanted):
         self.compared += 1
@@ -122,6 +125,7 @@ class Story:
         """One request; the rules give the same lines, where its words are understood."""
         self.send(step, ["file", self.path, key, *words], lines, status_of(lines[0]))
         if self.rules and status_of(lines[0]) != 4:
+            self.by_rules += 1
             self.compare(step.place, f"the rules at {key}", self.rules.handle(key, words).split("\n"), lines)
 
     def do_request(self, step):
@@ -229,9 +233,10 @@ def main(names):
     failed = [story for story in stories if story.differences or not story.compared]
     for story in failed:
         print(f"stories: {story.place}: {story.name}", *story.differences[:5], sep="\n", file=sys.stderr)
-    compared, seconds = sum(story.compared for story in stories), time.perf_counter() - begun
-    print(f"stories: {len(stories) - len(failed)} passed, {len(failed)} failed, {compared} comparisons in {seconds:.0f} s")
-    return 1 if failed or not stories else 0
+    compared, by_rules, seconds = sum(story.compared for story in stories), sum(story.by_rules for story in stories), time.perf_counter() - begun
+    print(f"stories: {len(stories) - len(failed)} passed, {len(failed)} failed, {compared} comparisons, {by_rules} of them of answers with the rules, in {seconds:.0f} s")
+    # a run of all stories compares most answers with the rules
+    return 1 if failed or not stories or not (names or by_rules > BY_RULES) else 0
 
 
 if __name__ == "__main__":

@@ -4,11 +4,10 @@
 Expected answers are those of docs/RULES.md, worked out by hand; those of the month's commands come from `desk_rules`.
 """
 
-import atexit
 import datetime
-import http.client
 import json
 import os
+import pty
 import random
 import shlex
 import shutil
@@ -22,46 +21,14 @@ import time
 from concurrent.futures import ThreadPoolExecutor
 from contextlib import contextmanager
 
-import end_to_end as desk
 from desk_rules import Library
-from end_to_end import CIRC, GROUND, PROGRAM, TOP, check, circ, rows, say, whole
+from lib import runs
+from lib.runs import CIRC, GROUND, HEADER, PROGRAM, TOP, check, circ, rows, whole
+from lib.serving import (
+    ANN, ANNS_PAGE, BO, DESK_KEY, FAILED, HOLD, PAGE_OF_ANN, Serving, a_library, answer, body_of_hold, everything, free_port, hold_with, is_let_go, started, told,
+)
 from messages import message
 from outer_forms import said
-
-DESK_KEY = "deskkey00001"
-ANN, BO = {"Card-Key": "cardkey00001"}, {"Card-Key": "cardkey00002"}
-ANNS_PAGE = b'{"reply":"patron 1 owed 0 name Ann Bell"}'
-PAGE_OF_ANN = b"GET /patrons/1 HTTP/1.1\r\nCard-Key: cardkey00001\r\n\r\n"
-
-
-def free_port():
-    """A port that nobody listens on. It is below those that connections get, so none of these takes it meanwhile."""
-    while True:
-        port = random.randrange(10_000, 32_768)
-        with socket.socket() as found:
-            try:
-                found.bind(("127.0.0.1", port))
-                return port
-            except OSError:
-                pass
-
-
-PORTS = 20  # so many are tried, since another process may take one before the program does
-
-
-def started(words_for, **how):
-    """The program run by the words for a port, the port, and the first line that it printed. Where another process took that port meanwhile, the next one is tried."""
-    for _ in range(PORTS):
-        port = free_port()
-        # not buffered here, so that what follows the first line is still there to be read
-        run = subprocess.Popen([PROGRAM, *words_for(port)], stdout=subprocess.PIPE, stderr=subprocess.PIPE, bufsize=0, **how)
-        # none is left behind where a test fails
-        atexit.register(run.kill)
-        first = run.stdout.readline().decode()
-        if first != "fault network\n":
-            break
-        run.communicate(timeout=60)
-    return run, port, first
 
 
 @contextmanager
@@ -70,125 +37,6 @@ def deaf_port():
     with socket.socket() as taken:
         taken.bind(("127.0.0.1", 0))
         yield taken.getsockname()[1]
-
-
-class Serving:
-    """The program serving a file for so many connections; at the end it has printed just these lines and has this status.
-    Its workers serve as many each, so at the end the spare ones ask for nowhere: were they fewer or more, that would fail.
-    No answer tells the desk's key or a card key."""
-
-    def __init__(self, path, connections, after="", status=0, workers=1, **how):
-        self.after, self.status, self.how, self.heard = after, status, how, []
-        each = -(-connections // workers)
-        self.spare = each * workers - connections
-        self.words_for = lambda port: ["serve", path, str(port), str(workers), str(each), DESK_KEY]
-
-    def __enter__(self):
-        self.run, self.port, first = started(self.words_for, **self.how)
-        self.words = self.words_for(self.port)
-        try:
-            check("the first line", first, f"listening on {self.port}\n")
-        except BaseException:
-            self.end()
-            raise
-        return self
-
-    def __exit__(self, kind, error, trace):
-        try:
-            if not kind:
-                for _ in range(self.spare):
-                    self.answers("GET", "/nowhere", {}, None, 404, b'{"status":404}')
-                out, err = self.run.communicate(timeout=120)
-                check("what it printed", (out.decode(), err, self.run.returncode), (self.after, message(self.words, self.after), self.status))
-                check("keys in answers", [key for key in (DESK_KEY, "cardkey") if key.encode() in b"\n".join(self.heard)], [])
-        finally:
-            self.end()
-
-    def end(self):
-        """Ends the program, if it is still there."""
-        self.run.kill()
-        self.run.wait()
-
-    def ask(self, method, target, fields=None, body=None):
-        """The status, the body and the fields of an answer, by http.client. One that is cut within its head is none."""
-        connection = http.client.HTTPConnection("127.0.0.1", self.port, timeout=60)
-        connection.request(method, target, body, fields or {})
-        answer = connection.getresponse()
-        given = answer.status, answer.read(), dict(answer.getheaders())
-        connection.close()
-        # a head that is cut has no such field, or one with nothing in it
-        if given[2].get("Content-Length") != str(len(given[1])):
-            raise http.client.IncompleteRead(given[1])
-        self.heard += [given[1], str(given[2]).encode()]
-        return given
-
-    def answers(self, method, target, fields, body, status, answer):
-        """Asks, and compares the answer."""
-        found = self.ask(method, target, fields, body)
-        check(f"{method} {target} {fields} {body}", found[:2], (status, answer))
-        size = str(len(answer))
-        wanted = {"Content-Type": "application/json", "Content-Length": size, "Connection": "close"}
-        check(f"its fields {target}", {name: found[2].get(name) for name in wanted}, wanted)
-        return found[2]
-
-    def desk(self, key, words):
-        """What the desk is answered, by http.client."""
-        fields = {"Desk-Key": DESK_KEY, "Request-Key": key}
-        return self.ask("POST", "/desk", fields, json.dumps(words))[:2]
-
-    def curl(self, target, *options):
-        """The status and the body of an answer, by curl."""
-        url = f"http://127.0.0.1:{self.port}{target}"
-        run = subprocess.run(["curl", "-s", "-m", "60", "-w", "\n%{http_code}", *options, url], capture_output=True, timeout=90)
-        check(f"curl {target}", run.returncode, 0)
-        body, _, status = run.stdout.rpartition(b"\n")
-        self.heard.append(body)
-        return int(status), body
-
-    def raw(self, *pieces, pause=0.002):
-        """All the bytes that pieces of a request are answered."""
-        with socket.create_connection(("127.0.0.1", self.port), timeout=120) as peer:
-            peer.setsockopt(socket.IPPROTO_TCP, socket.TCP_NODELAY, 1)
-            for piece in pieces:
-                peer.sendall(piece)
-                time.sleep(pause)
-            peer.shutdown(socket.SHUT_WR)
-            self.heard.append(everything(peer))
-            return self.heard[-1]
-
-
-def everything(peer):
-    """All that a peer sends up to its end."""
-    found = b""
-    while more := peer.recv(4096):
-        found += more
-    return found
-
-
-def answer(status, body, allow=""):
-    """The bytes of an answer."""
-    return (f"HTTP/1.1 {status}\r\n{allow}Content-Type: application/json\r\nContent-Length: {len(body)}\r\n"
-            f"Connection: close\r\n\r\n").encode() + body
-
-
-def told(line):
-    """The status and the body of the answer that tells a line of the desk."""
-    if line.startswith("refused "):
-        return 403 if line == "refused 81" else 409, f'{{"refusal":{line.split()[1]}}}'.encode()
-    return 200, json.dumps({"reply": line}, ensure_ascii=False, separators=(",", ":")).encode()
-
-
-def body_of_hold(words):
-    """The body by which a patron asks for the hold of these words."""
-    _, _, title, branch, *days = words
-    return json.dumps({"branch": int(branch), **{"from": day for day in days}, "title": int(title)}).encode()
-
-
-def a_library(folder, name):
-    """The small library that all begin with."""
-    path = os.path.join(folder, name)
-    say(path, GROUND)
-    return path
 
 
 def each_route(folder, workers):
@@ -389,7 +237,7 @@ def at_random(folder, workers):
     for key, words, _ in GROUND:
         turns.library.handle(key, words)
     print(f"web: {TURNS} turns at random by the seed {seed}, {workers} workers")
-    with Serving(path, len(BEFORE) + 2 * TURNS, workers=workers) as serving:
+    with Serving(path, 2 * (len(BEFORE) + TURNS), workers=workers) as serving:
         for at in range(-len(BEFORE), TURNS):
             words, number = shlex.split(BEFORE[at]) if at < 0 else turns.words(), draw.choice("123")
             is_own = words[0] in BY_PATRONS and draw.random() < 0.5
@@ -402,10 +250,9 @@ def at_random(folder, workers):
             else:
                 found = serving.desk(key, words)
             check(f"turn {at} by the seed {seed}: {words} of {patron or 'the desk'}", found, wanted)
-            if at >= 0:
-                page = serving.ask("GET", f"/patrons/{number}", {"Card-Key": f"cardkey{number:0>5}"})[:2]
-                check(f"the page of {number} after turn {at} by the seed {seed}", page, told(turns.library.handle("", ["page", number])))
-    desk.the_rows_are(path, turns.library)
+            page = serving.ask("GET", f"/patrons/{number}", {"Card-Key": f"cardkey{number:0>5}"})[:2]
+            check(f"the page of {number} after turn {at} by the seed {seed}", page, told(turns.library.handle("", ["page", number])))
+    runs.the_rows_are(path, turns.library)
     check(f"what holds with a first day met, by the seed {seed}", (MET - turns.met, turns.passed_over > 2), (set(), True))
 
 
@@ -457,10 +304,6 @@ def in_pieces(folder, workers):
     check("one hold", rows(path, "SELECT COUNT(*) FROM holds2"), [(1,)])
 
 
-HOLD = b'{"branch":1,"title":100}'
-FAILED = answer("400 Bad Request", b'{"status":400}')
-
-
 def page_with(fields, padding=0):
     """The request for Ann's page with so many fields, the last of which is so long."""
     lines = [b"GET /patrons/1 HTTP/1.1", b"Card-Key: cardkey00001", *[b"A: "] * (fields - 2), b"A: " + b"a" * padding]
@@ -470,12 +313,6 @@ def page_with(fields, padding=0):
 def page_fields(*lines, target=b"/patrons/1", body=b""):
     """The request for Ann's page with these fields too."""
     return b"GET " + target + b" HTTP/1.1\r\nCard-Key: cardkey00001\r\n" + b"".join(line + b"\r\n" for line in lines) + b"\r\n" + body
-
-
-def hold_with(body, length=None, key=b"h1"):
-    """Bo's request for a hold with this body."""
-    size = str(len(body) if length is None else length).encode()
-    return (b"POST /patrons/2/holds HTTP/1.1\r\nCard-Key: cardkey00002\r\nRequest-Key: " + key + b"\r\nContent-Length: " + size + b"\r\n\r\n" + body)
 
 
 def desk_with(body):
@@ -525,17 +362,6 @@ HOSTILE = [
 ]
 
 
-def is_let_go(peer):
-    """Whether the other end of a connection has let go of it, and sent nothing."""
-    peer.setblocking(False)
-    try:
-        return peer.recv(1, socket.MSG_PEEK) == b""
-    except BlockingIOError:
-        return False
-    finally:
-        peer.settimeout(120)
-
-
 @contextmanager
 def held(run):
     """The program stands still meanwhile: each of its threads is stopped."""
@@ -573,7 +399,7 @@ def hostile_bytes(folder, workers):
 
     def all_is_well(what):
         check(f"the next one after {what}", serving.raw(PAGE_OF_ANN, pause=0), answer("200 OK", ANNS_PAGE))
-        with desk.as_it_is(path) as left:
+        with runs.as_it_is(path) as left:
             check(f"the rows after {what}", whole(left), before)
 
     with Serving(path, 2 * (len(HOSTILE) + len(broken)) + 2 * len(PAUSES) + 2 + 3 * LOST, workers=workers) as serving:
@@ -614,7 +440,7 @@ def is_lost(serving, path, number):
     check("the next one after a lost answer", serving.raw(PAGE_OF_ANN), answer("200 OK", ANNS_PAGE))
     # another worker may still be at it
     for _ in range(5_000):
-        with desk.as_it_is(path) as left:
+        with runs.as_it_is(path) as left:
             is_kept = (2, f"l{number}", text, reply) in whole(left)["kept"]
         if is_kept:
             break
@@ -628,23 +454,23 @@ def no_key_is_told(folder):
     path, heard = a_library(folder, "secret.db"), []
     keys = card, wrong, desk_key, own = "9card9card9", "8wrong8wrong", "7desk7desk7", "6request-6"
 
-    def runs(*words):
-        run = subprocess.run([PROGRAM, *words], capture_output=True, timeout=60)
-        heard.extend([run.stdout, run.stderr])
+    def run(*words):
+        ran = subprocess.run([PROGRAM, *words], capture_output=True, timeout=60)
+        heard.extend([ran.stdout, ran.stderr])
 
     copies = os.path.join(folder, own + ".csv")
     with open(copies, "w", encoding="utf-8") as file:
-        file.write(f"{desk.HEADER}50,500,{card},1,1,1,END\n")
+        file.write(f"{HEADER}50,500,{card},1,1,1,END\n")
     for words in (["patron", "4", "1", card, "Di East"], ["patron", "4", "1", wrong, "Di East"], ["patron", "5", "1", "card key", card],
                   ["check-out", "4", "10", "1"], ["check-out", "4", "99", "1"], ["page", "4"], ["page", card]):
-        runs("file", path, own, *words)
-        runs("file", path, f"{own}-{words[0]}", *words)
+        run("file", path, own, *words)
+        run("file", path, f"{own}-{words[0]}", *words)
     check("the patron is there", rows(path, "SELECT card_key FROM patrons WHERE patron = 4"), [(card,)])
     for words in (["file", path, card + "_", "page", "4"], ["import", path, copies], ["import", path, own], ["report", path, "shelf", card],
                   ["serve", path, "0", "1", "1", desk_key], ["serve", folder, str(free_port()), "1", "1", desk_key], [desk_key]):
-        runs(*words)
+        run(*words)
     with deaf_port() as port:
-        runs("send", str(port), desk_key, own, "page", "4")
+        run("send", str(port), desk_key, own, "page", "4")
     serving, port, first = started(lambda port: ["serve", path, str(port), "2", "30", desk_key])
     asked = 0
     with serving:
@@ -667,7 +493,7 @@ def no_key_is_told(folder):
                     peer.shutdown(socket.SHUT_WR)
                     heard.append(everything(peer))
             for shown in (desk_key, wrong):
-                runs("send", str(port), shown, own + "-s", "patron", "7", "1", card, "Flo")
+                run("send", str(port), shown, own + "-s", "patron", "7", "1", card, "Flo")
             heard.extend(serving.communicate(timeout=60))
         finally:
             serving.kill()
@@ -706,7 +532,7 @@ def a_silent_client(folder, workers):
 def a_damaged_patron(folder, workers):
     """Every page is made at the start, so a damaged patron is told in place of the first line, and nobody is served."""
     path = a_library(folder, "patron.db")
-    desk.write(path, "UPDATE patrons SET card_key = 'short' WHERE patron = 2")
+    runs.write(path, "UPDATE patrons SET card_key = 'short' WHERE patron = 2")
     before = whole(path)
     words_for = lambda port: ["serve", path, str(port), str(workers), "1", DESK_KEY]
     run, port, first = started(words_for)
@@ -718,7 +544,7 @@ def a_damaged_patron(folder, workers):
 def a_damaged_copy(folder, workers):
     """The request that meets a fault of the desk is told it, each later one that the hall is closed; pages stay, and a line tells the fault."""
     path = a_library(folder, "copy.db")
-    desk.write(path, "UPDATE copies SET condition = 3 WHERE copy = 20")
+    runs.write(path, "UPDATE copies SET condition = 3 WHERE copy = 20")
     before = whole(path)
     clerk = lambda key: {"Desk-Key": DESK_KEY, "Request-Key": key}
     bos_page = b'{"reply":"patron 2 owed 0 name Bo Carr"}'
@@ -761,6 +587,41 @@ def no_network(folder):
         thread.join()
 
 
+DATA_PIECES = 152  # where the system's account of a connection has how many pieces with data it got
+
+
+def in_one_write(folder, workers):
+    """An answer comes in one piece of its connection, and that of a desk as that of a page and of nothing that is there."""
+    path = a_library(folder, "pieces.db")
+    asked = [(PAGE_OF_ANN, answer("200 OK", ANNS_PAGE)), (desk_with(b'["page","1"]'), answer("200 OK", ANNS_PAGE)), (b"GET /nowhere HTTP/1.1\r\n\r\n", answer("404 Not Found", b'{"status":404}'))]
+    with Serving(path, len(asked), workers=workers) as serving:
+        for request, wanted in asked:
+            with socket.create_connection(("127.0.0.1", serving.port), timeout=60) as peer:
+                peer.sendall(request)
+                found = everything(peer)
+                pieces = struct.unpack_from("I", peer.getsockopt(socket.IPPROTO_TCP, socket.TCP_INFO, DATA_PIECES + 4), DATA_PIECES)
+            check(f"an answer in one piece, {request}", (found, pieces), (wanted, (1,)))
+
+
+def on_a_terminal(folder):
+    """A person at a terminal is told that the library is being opened, before the program listens. Elsewhere nothing is told, as is compared at the end of each program that serves."""
+    path = a_library(folder, "terminal.db")
+    ours, theirs = pty.openpty()
+    try:
+        run, port, first = started(lambda port: ["serve", path, str(port), "1", "1", DESK_KEY], stderr=theirs)
+        shown = os.read(ours, 1000).decode()
+        check("the first line", first, f"listening on {port}\n")
+        # what comes before it tells of a port that another process took
+        check("what a terminal shows at the end", shown[shown.rfind("circ: "):], f"circ: {path}: the library is being opened, and the pages of its patrons are made\r\n")
+        with socket.create_connection(("127.0.0.1", port), timeout=60) as peer:
+            peer.sendall(PAGE_OF_ANN)
+            check("it serves", everything(peer).endswith(ANNS_PAGE), True)
+        check("it ends", run.wait(timeout=60), 0)
+    finally:
+        os.close(ours)
+        os.close(theirs)
+
+
 def bad_words(folder):
     """Words out of form are told before anything is opened."""
     path = os.path.join(folder, "never.db")
@@ -780,7 +641,7 @@ def bad_words(folder):
 
 def sent(folder, workers):
     """The month of commands by `circ send`: each answer, its status, and every row as by `circ file`."""
-    requests, path, library = desk.month(), os.path.join(folder, "month.db"), Library()
+    requests, path, library = runs.month(), os.path.join(folder, "month.db"), Library()
     others = [
         (DESK_KEY, "o1", ["page", "01"], b'{"status":400}\n', 4),
         (DESK_KEY, "o2", ["no-such-word"], b'{"status":400}\n', 4),
@@ -797,7 +658,7 @@ def sent(folder, workers):
         for desk_key, key, words, wanted, status in others:
             run = subprocess.run([PROGRAM, "send", str(serving.port), desk_key, key, *words], capture_output=True, timeout=60)
             check(f"{words}", (run.stdout, run.returncode), (wanted, status))
-    desk.the_rows_are(path, library)
+    runs.the_rows_are(path, library)
 
 
 def main():
@@ -809,16 +670,17 @@ def main():
             # half a minute in which nothing happens, beside the others
             silent = [pool.submit(a_silent_client, folder, workers) for workers in (1, 2)]
             no_network(folder)
+            on_a_terminal(folder)
             bad_words(folder)
             no_key_is_told(folder)
             for workers in (1, 2, 8):
                 room = os.path.join(folder, f"workers{workers}")
                 os.mkdir(room)
-                for part in (each_route, from_a_day_on, grace_days, at_random, by_curl, in_pieces, hostile_bytes, one_waits, a_damaged_patron, a_damaged_copy, sent):
+                for part in (each_route, from_a_day_on, grace_days, at_random, by_curl, in_pieces, in_one_write, hostile_bytes, one_waits, a_damaged_patron, a_damaged_copy, sent):
                     part(room, workers)
             for it in silent:
                 it.result()
-    print(f"web: {desk.passed} passed, 0 failed")
+    print(f"web: {runs.passed} passed, 0 failed")
 
 
 if __name__ == "__main__":

@@ -6,7 +6,7 @@
 The table of commands (`crates/terms/src/form.rt`): each command and its parts stand so in the manual page, its name in the completion for bash
 and in the table of the rules. The numbers of refusals and faults (`crates/terms/src/refusal.rt`, `fault.rt`): what each means stands in one way in the
 program's messages (`crates/messages/src/meanings.rt`), the manual page and the rules. The runs of the usage are those of the manual page, and the newest
-version of CHANGES.md and its schema are the program's. Each edit that the tables of wrong bodies name (`docs/WRONG-BODIES.md`) is there, in the crate that they name. Each name in backquotes that only code
+version of CHANGES.md and its schema are the program's. Each edit that the tables of wrong bodies name (`docs/WRONG-BODIES.md`) is there, in the crate that they name, and each field of the headline has its row. Each name in backquotes that only code
 can have (with an underscore, or capitals within) in the documents of NAMING stands in a source, or is that of a file. The table of the
 files that the headline's words stand in (`docs/PROOFS.md`) is the one that `tests/headline_files` makes.
 """
@@ -38,7 +38,7 @@ def numbers(path):
 
 def meanings():
     """What the program says that each number means."""
-    found = re.findall(r'number: (\d+),\s*text:\s*"([^"]*)"', read("crates/messages/src/meanings.rt"))
+    found = re.findall(r'number: (\d+),\s*text:\s*"([^"]*)"', re.sub(r"\\\n\s*", "", read("crates/messages/src/meanings.rt")))
     return {int(number): text for number, text in found}
 
 
@@ -61,6 +61,13 @@ def wrong_bodies():
                     yield crate, word
 
 
+def fields_of_headline():
+    """The fields of the headline: those of the record, and those of the table of wrong bodies, in which each has an edit."""
+    record = read("crates/desk/specs/Headline.antt").partition("pub record Headline ")[2]
+    table = read("docs/WRONG-BODIES.md").partition("\n| field of `Headline` |")[2].partition("\n\n")[0]
+    return re.findall(r"^  pub (\w+) :", record, re.M), re.findall(r"^\| `(\w+)` \| .*`\w+`", table, re.M)
+
+
 def named():
     """The names of code in backquotes, each with the document that has it."""
     for path in NAMING:
@@ -77,7 +84,7 @@ def sources():
         folders[:] = [it for it in folders if it not in (".git", "out", "__pycache__")]
         for name in files:
             words.update(part for part in re.split(r"[/.]", os.path.relpath(f"{at}/{name}", TOP)))
-            if not name.endswith((".md", ".png", ".xlsx", ".ods")):
+            if not name.endswith((".md", ".png", ".svg", ".xlsx", ".ods")):
                 with open(f"{at}/{name}", encoding="utf-8", errors="replace") as file:
                     words.update(re.findall(r"[A-Za-z]\w*", file.read()))
     return words
@@ -111,6 +118,8 @@ def main():
     if len(bodies) < 60:
         wrong.append(f"only {len(bodies)} edits were found in the tables of wrong bodies")
     same("the edits that the tables of wrong bodies name", [it for it in bodies if not os.path.isfile(f"{TOP}/crates/{it[0]}/must-fail/{it[1]}.edit")], [])
+    fields, told_of = fields_of_headline()
+    same("the fields of the headline that have an edit", told_of, fields)
     names, words_there = list(named()), sources()
     if len(names) < 500:
         wrong.append(f"only {len(names)} names of code were found in the documents")

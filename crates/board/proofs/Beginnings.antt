@@ -1,5 +1,6 @@
 -- Lists that begin with others.
-use Rattle.std.proofs.Common.{◌≡◌, ◌≤◌, ◌⊎◌, inl, inr, ℕ, List, [], ◌∷◌, ◌++◌, length, map, fold, Option, None, Some, sym, refl, ap, ◌∙◌, append_assoc, arith, length-append}
+use Rattle.std.proofs.Common.{◌≡◌, ◌≤◌, ◌⊎◌, inl, inr, ℕ, List, [], ◌∷◌, ◌++◌, length, map, fold, Option, None, Some, sym, refl, ap, ◌∙◌}
+use Rattle.std.proofs.Common.{append_assoc, arith, length-append}
 use Rattle.std.proofs.lemmas.List.{append-nil, map-append}
 use mathlib.Core.List.{IsPrefix}
 use Rattle.desk.specs.declared.showing.OwnPage.{OwnPage}
@@ -73,7 +74,8 @@ pub entries-append : (fs gs : List Frame) → entries_of (fs ++ gs) ≡ entries_
 entries-append [] gs = refl
 entries-append (f ∷ fs) gs = by f.entry (entries-append fs gs)
   where
-    by : (o : Option Entry) → entries_of (fs ++ gs) ≡ entries_of fs ++ entries_of gs → entry_before o (entries_of (fs ++ gs)) ≡ entry_before o (entries_of fs) ++ entries_of gs
+    by : (o : Option Entry) → entries_of (fs ++ gs) ≡ entries_of fs ++ entries_of gs
+        → entry_before o (entries_of (fs ++ gs)) ≡ entry_before o (entries_of fs) ++ entries_of gs
     by None is = is
     by (Some e) is = ap (λ l. e ∷ l) is
 

@@ -1,5 +1,6 @@
 -- Each step keeps the rule of the board.
-use Rattle.std.proofs.Common.{◌≡◌, ◌≢◌, ℕ, ◌+◌, ◌-◌, Bool, true, false, cond, List, [], ◌∷◌, ◌++◌, length, map, set, fold, Option, Some, None, get_or, zero, suc, sym, refl, ap, ◌∙◌, subst, ⊎_elim, append_assoc, length-append, arith}
+use Rattle.std.proofs.Common.{◌≡◌, ◌≢◌, ℕ, ◌+◌, ◌-◌, Bool, true, false, cond, List, [], ◌∷◌, ◌++◌, length, map, set, fold, Option, Some}
+use Rattle.std.proofs.Common.{None, get_or, zero, suc, sym, refl, ap, ◌∙◌, subst, ⊎_elim, append_assoc, length-append}
 use mathlib.Core.Option.{some, some-ne-none}
 use lib.ListN.{get_elem?}
 use Rattle.std.proofs.lemmas.List.{append-nil, map-append}
@@ -14,9 +15,11 @@ use Rattle.board.specs.declared.entry.Entry.{Entry}
 use Rattle.board.specs.declared.entry.Frame.{Frame}
 use Rattle.board.specs.declared.entry.Seen.{Seen}
 use Rattle.board.specs.Workers.{is_worker}
-use Rattle.board.specs.Showing.{Showing, StartsWith, EachIs, GoesOn, IsBoardOf, IsNextEntry, AreEntries, IsReply, ShowsEntry, ShowsMore, page_at, page_of, last_pages, first_seen, seen_of, entries_of, entry_before, next_frame, overlaid, last_of, last_on, count_own, with_entry, updated}
+use Rattle.board.specs.Showing.{Showing, EachIs, GoesOn, IsBoardOf, IsNextEntry, AreEntries, IsReply, ShowsEntry, ShowsMore}
+use Rattle.board.specs.Showing.{page_at, page_of, last_pages, first_seen, seen_of, entries_of, next_frame, overlaid, last_of}
+use Rattle.board.specs.Showing.{last_on, count_own, with_entry, updated}
 use Rattle.desk.specs.declared.showing.OwnPage.{OwnPage}
-use Rattle.board.specs.Rule.{Keeps, ShowsAll, Looks, Publishes, nothing_seen, opening, pages_of, are_pages}
+use Rattle.board.specs.Rule.{Keeps, ShowsAll, LooksAtBoard, Publishes, nothing_seen, opening, pages_of, are_pages}
 use Rattle.board.proofs.Beginnings.{starts_more, goes_self, fold-append, entries-append}
 use Rattle.std.proofs.lemmas.Bool.{false≢true}
 use Rattle.board.proofs.Lasts.{last_next, found_in, count_found, none_in, StandsLast}
@@ -24,11 +27,13 @@ use Rattle.board.proofs.PageLists.{put-all}
 
 -- ---- each of a list
 
-pub each-append : (Is : List Entry → Entry → Type 0) (before es : List Entry) (e : Entry) → EachIs Is before es → Is (before ++ es) e → EachIs Is before (es ++ e ∷ [])
+pub each-append : (Is : List Entry → Entry → Type 0) (before es : List Entry) (e : Entry) → EachIs Is before es → Is (before ++ es) e
+    → EachIs Is before (es ++ e ∷ [])
 each-append Is before [] e h may = (subst (λ l. Is l e) (append-nil before) may, tt)
 each-append Is before (x ∷ es) e h may = (h.0, each-append Is (before ++ x ∷ []) es e h.1 (subst (λ l. Is l e) (sym (append_assoc before (x ∷ []) es)) may))
 
-pub each_at : (Is : List Entry → Entry → Type 0) (before front : List Entry) (e : Entry) (rest : List Entry) → EachIs Is before (front ++ e ∷ rest) → Is (before ++ front) e
+pub each_at : (Is : List Entry → Entry → Type 0) (before front : List Entry) (e : Entry) (rest : List Entry)
+    → EachIs Is before (front ++ e ∷ rest) → Is (before ++ front) e
 each_at Is before [] e rest h = subst (λ l. Is l e) (sym (append-nil before)) h.0
 each_at Is before (x ∷ front) e rest h = subst (λ l. Is l e) (append_assoc before (x ∷ []) front) (each_at Is (before ++ x ∷ []) front e rest h.1)
 
@@ -42,7 +47,8 @@ last-more all now = fold-append (λ _ pages. pages) [] all (now ∷ [])
 set_view : (all : Seen) (views : List Seen) (side : ℕ) (w : Seen) → GoesOn all w → ((j : ℕ) (v : Seen) → get_elem? views j ≡ some v → GoesOn all v)
     → (j : ℕ) (u : Seen) → get_elem? (set views side w) j ≡ some u → GoesOn all u
 set_view all views side w mine others j u e =
-    ⊎_elim (λ (x : (j ≡ side) × (w ≡ u)). subst (λ (y : Seen). GoesOn all y) x.1 mine) (λ (x : (j ≢ side) × (get_elem? views j ≡ some u)). others j u x.1) (at_set views side j w u e)
+    ⊎_elim (λ (x : (j ≡ side) × (w ≡ u)). subst (λ (y : Seen). GoesOn all y) x.1 mine)
+    (λ (x : (j ≢ side) × (get_elem? views j ≡ some u)). others j u x.1) (at_set views side j w u e)
 
 -- a side that has seen nothing
 begins_nothing : (all : Seen) → GoesOn all nothing_seen
@@ -62,7 +68,8 @@ shows-first book pages = record { board = record { last = nobody; pages = refl; 
     none_at (o ∷ os) h (suc k) = none_at os h.1 k
 
     nobody : (w : ℕ) → last_on w (opening book pages) ≡ cond (is_worker w) (last_of w []) None
-    nobody w = ap (λ o. cond (is_worker w) o None) (none_at (opening book pages).last (refl, (refl, (refl, (refl, (refl, (refl, (refl, (refl, tt)))))))) (w - 1))
+    nobody w = ap (λ o. cond (is_worker w) o None)
+        (none_at (opening book pages).last (refl, (refl, (refl, (refl, (refl, (refl, (refl, (refl, tt)))))))) (w - 1))
 
 -- the rule holds of what is shown first
 pub begins : (book : Book) (pages : List (ℕ × OwnPage)) → Keeps book (opening book pages) (nothing_seen ∷ [])
@@ -70,7 +77,8 @@ begins book pages = record {
   name = refl;
   shows = shows-first book pages;
   sound = tt;
-  each = λ side v e. ⊎_elim (λ (y : get_elem? {A = Seen} [] side ≡ some v). absurd (some-ne-none v (sym y))) (λ (y : nothing_seen ≡ v). subst (λ (u : Seen). GoesOn (first_seen pages) u) y (begins_nothing (first_seen pages)))
+  each = λ side v e. ⊎_elim (λ (y : get_elem? {A = Seen} [] side ≡ some v). absurd (some-ne-none v (sym y)))
+      (λ (y : nothing_seen ≡ v). subst (λ (u : Seen). GoesOn (first_seen pages) u) y (begins_nothing (first_seen pages)))
       (at_snoc [] nothing_seen v side e);
 }
 
@@ -81,10 +89,11 @@ admits book x views h = record {
   shows = h.shows;
   sound = h.sound;
   each = λ side v e. ⊎_elim (λ (old : get_elem? views side ≡ some v). h.each side v old)
-      (λ (is : nothing_seen ≡ v). subst (λ (u : Seen). GoesOn (seen_of x.frames.items) u) is (begins_nothing (seen_of x.frames.items))) (at_snoc views nothing_seen v side e);
+      (λ (is : nothing_seen ≡ v). subst (λ (u : Seen). GoesOn (seen_of x.frames.items) u) is (begins_nothing (seen_of x.frames.items)))
+      (at_snoc views nothing_seen v side e);
 }
 
-pub looks : (book : Book) (side : ℕ) (v : Seen) → Turns (Keeps book) side v (λ x. x) (Looks book)
+pub looks : (book : Book) (side : ℕ) (v : Seen) → Turns (Keeps book) side v (λ x. x) (LooksAtBoard book)
 looks book side v x views h at =
     let all = seen_of x.frames.items in (
       all,
@@ -107,7 +116,8 @@ seen-more fs e pages =
     ∙ ap (λ l. record { entries = entries_of fs ++ e ∷ []; pages = l }) (map-append (λ (g : Frame). g.pages) fs (f ∷ []))
 
 -- the board once an entry is shown
-pub shows-next : (all : Seen) (x next : Showing) (us : List Update) (e : Entry) (frames : Known Frame) → ShowsAll all x → are_pages us ≡ true → IsNextEntry all.entries e
+pub shows-next : (all : Seen) (x next : Showing) (us : List Update) (e : Entry) (frames : Known Frame) → ShowsAll all x
+    → are_pages us ≡ true → IsNextEntry all.entries e
     → next ≡ with_entry (fold updated x us) e frames
     → ShowsAll (record { entries = all.entries ++ e ∷ []; pages = all.pages ++ next.pages ∷ [] }) next
 shows-next all x next us e frames shows pages may is =
@@ -117,18 +127,23 @@ shows-next all x next us e frames shows pages may is =
     let long : length mid.last ≡ 8 = ap length lasts ∙ shows.places in
     record {
       board = record {
-        last = λ w. ap (last_on w) is ∙ last_next mid e frames all.entries w may.worker long (ap (λ l. cond (is_worker w) (get_or l (w - 1) None) None) lasts ∙ shows.board.last w);
+        last = λ w. ap (last_on w) is ∙ last_next mid e frames all.entries w may.worker long
+            (ap (λ l. cond (is_worker w) (get_or l (w - 1) None) None) lasts ∙ shows.board.last w);
         pages = sym (last-more all.pages next.pages);
         looked = length-append all.pages (next.pages ∷ []) ∙ (ap (λ n. n + 1) (shows.board.looked ∙ sym (length-append all.entries (e ∷ []))));
       };
-      places = ap (λ (y : Showing). length y.last) is ∙ (ap (λ c. length (cond c (set mid.last (e.worker - 1) (Some e)) mid.last)) may.worker ∙ (length-set mid.last (e.worker - 1) (Some e) ∙ long));
+      places = ap (λ (y : Showing). length y.last) is
+          ∙ (ap (λ c. length (cond c (set mid.last (e.worker - 1) (Some e)) mid.last)) may.worker
+          ∙ (length-set mid.last (e.worker - 1) (Some e) ∙ long));
     }
 
 -- and the pages that it shows
-pub pages-next : (all : Seen) (x next : Showing) (us : List Update) (e : Entry) (frames : Known Frame) → ShowsAll all x → are_pages us ≡ true → next ≡ with_entry (fold updated x us) e frames
+pub pages-next : (all : Seen) (x next : Showing) (us : List Update) (e : Entry) (frames : Known Frame) → ShowsAll all x
+    → are_pages us ≡ true → next ≡ with_entry (fold updated x us) e frames
     → (patron : ℕ) → page_at next.pages patron ≡ overlaid (pages_of us) patron (page_of all patron)
 pages-next all x next us e frames shows pages is patron =
-    ap (λ (y : Showing). page_at y.pages patron) is ∙ ((put-all x us pages).1 patron ∙ ap (λ l. overlaid (pages_of us) patron (page_at l patron)) shows.board.pages)
+    ap (λ (y : Showing). page_at y.pages patron) is
+    ∙ ((put-all x us pages).1 patron ∙ ap (λ l. overlaid (pages_of us) patron (page_at l patron)) shows.board.pages)
 
 -- All frames once an entry is shown, on a board on which these updates were written since.
 abbrev pub frames_next : Showing → List Update → Entry → Known Frame
@@ -138,13 +153,21 @@ frames_next x us e = known x.frames.book (x.frames.items ++ next_frame x us e �
 module _ (x next : Showing) (us : List Update) (e : Entry) (pages : are_pages us ≡ true) where
   module _ (is : next ≡ with_entry (fold updated x us) e (frames_next x us e)) where
     -- this has been shown then
-    pub all-next : seen_of next.frames.items ≡ record { entries = (seen_of x.frames.items).entries ++ e ∷ []; pages = (seen_of x.frames.items).pages ++ next.pages ∷ [] }
+    pub all-next : seen_of next.frames.items ≡ record {
+      entries = (seen_of x.frames.items).entries ++ e ∷ [];
+      pages = (seen_of x.frames.items).pages ++ next.pages ∷ [];
+    }
     all-next =
         ap (λ (y : Showing). seen_of y.frames.items) is ∙ (seen-more x.frames.items e (fold updated x us).pages
-        ∙ ap (λ (y : Showing). record { entries = (seen_of x.frames.items).entries ++ e ∷ []; pages = (seen_of x.frames.items).pages ++ y.pages ∷ [] }) (sym is))
+        ∙ ap (λ (y : Showing). record {
+          entries = (seen_of x.frames.items).entries ++ e ∷ [];
+          pages = (seen_of x.frames.items).pages
+              ++ y.pages ∷ [];
+        }) (sym is))
 
     pub shows-all-next : ShowsAll (seen_of x.frames.items) x → IsNextEntry (seen_of x.frames.items).entries e → ShowsAll (seen_of next.frames.items) next
-    shows-all-next shows may = subst (λ (s : Seen). ShowsAll s next) (sym all-next) (shows-next (seen_of x.frames.items) x next us e (frames_next x us e) shows pages may is)
+    shows-all-next shows may = subst (λ (s : Seen). ShowsAll s next) (sym all-next)
+        (shows-next (seen_of x.frames.items) x next us e (frames_next x us e) shows pages may is)
 
     pub publishes : (book : Book) (side : ℕ) (v : Seen) → IsNextEntry (seen_of x.frames.items).entries e → TurnsAt (Keeps book) side v x next Publishes
     publishes book side v may views h at =
@@ -157,7 +180,8 @@ module _ (x next : Showing) (us : List Update) (e : Entry) (pages : are_pages us
             name = ap (λ (y : Showing). y.frames.book) is ∙ h.name;
             shows = shows-all-next h.shows may;
             sound = subst (λ (s : Seen). AreEntries [] s.entries) (sym all-next) (each-append IsNextEntry [] old.entries e h.sound may);
-            each = subst (λ (s : Seen). (j : ℕ) (u : Seen) → get_elem? (set views side v) j ≡ some u → GoesOn s u) (sym all-next) (set_view w views side v (more side v at) more);
+            each = subst (λ (s : Seen). (j : ℕ) (u : Seen) → get_elem? (set views side v) j ≡ some u → GoesOn s u) (sym all-next)
+                (set_view w views side v (more side v at) more);
           },
           refl,
         )
@@ -167,7 +191,14 @@ module _ (x next : Showing) (us : List Update) (e : Entry) (pages : are_pages us
     more-next shows =
         let old : Seen = seen_of x.frames.items in
         subst (λ (s : Seen). ShowsMore old (pages_of us) e s) (sym all-next)
-        (record { looked = shows.board.looked; entries = refl; now = next.pages; pages = refl; each = pages-next old x next us e (frames_next x us e) shows pages is })
+        (record {
+          looked = shows.board.looked;
+          entries = refl;
+          now = next.pages;
+          pages = refl;
+          each = pages-next old x next us e
+              (frames_next x us e) shows pages is;
+        })
 
 -- nothing is seen of a worker of whom the board shows nothing
 pub none-seen : (all : Seen) (x : Showing) (w : ℕ) → is_worker w ≡ true → IsBoardOf all x → last_on w x ≡ None → count_own w all.entries ≡ 0
@@ -178,7 +209,8 @@ none-seen all x w is b none = none_in w all.entries (by (is_worker w) is (sym (b
     by false h e = absurd (false≢true h)
 
 -- what a worker finds under its number is the reply to its submission
-pub found : (all : Seen) (x : Showing) (w n : ℕ) (request : Request) (e : Entry) → IsBoardOf all x → AreEntries [] all.entries → ShowsEntry x w n request e → IsReply all.entries w n request e.reply
+pub found : (all : Seen) (x : Showing) (w n : ℕ) (request : Request) (e : Entry) → IsBoardOf all x → AreEntries [] all.entries
+    → ShowsEntry x w n request e → IsReply all.entries w n request e.reply
 found all x w n request e b sound shows = by (is_worker w) (sym (b.last w) ∙ shows.last)
   where
     by : (c : Bool) → cond c (last_of w all.entries) None ≡ Some e → IsReply all.entries w n request e.reply

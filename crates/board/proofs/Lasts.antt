@@ -1,5 +1,6 @@
 -- The last entry of each worker.
-use Rattle.std.proofs.Common.{◌≡◌, ◌≢◌, ℕ, ◌+◌, ◌-◌, ◌<◌, ◌≤◌, Bool, true, false, cond, List, [], ◌∷◌, ◌++◌, length, set, get_or, Option, Some, None, sym, refl, ap, ◌∙◌, subst, eqb, arith, get_or-set_same}
+use Rattle.std.proofs.Common.{◌≡◌, ◌≢◌, ℕ, ◌+◌, ◌-◌, ◌<◌, ◌≤◌, Bool, true, false, cond, List, [], ◌∷◌, ◌++◌, length, set, get_or, Option}
+use Rattle.std.proofs.Common.{Some, None, sym, refl, ap, ◌∙◌, subst, eqb, arith, get_or-set_same}
 use Rattle.std.specs.Option.{option_or}
 use Rattle.std.proofs.lemmas.List.Sums.{sum_by-append, sum_by-cons}
 use Rattle.std.proofs.lemmas.List.{get_or-set_other}
@@ -16,7 +17,8 @@ last_of-snoc w [] e = refl
 last_of-snoc w (x ∷ es) e =
     let own : Option Entry = cond (eqb x.worker w) (Some x) None in
     ap (λ o. option_or o own) (last_of-snoc w es e)
-    ∙ (elim (eqb e.worker w) as (λ b. option_or (cond b (Some e) (last_of w es)) own ≡ cond b (Some e) (option_or (last_of w es) own)) [ true ↦ refl | false ↦ refl ])
+    ∙ (elim (eqb e.worker w) as (λ b. option_or (cond b (Some e) (last_of w es)) own ≡ cond b (Some e) (option_or (last_of w es) own))
+    [ true ↦ refl | false ↦ refl ])
 
 pub worker_tells : (w : ℕ) → is_worker w ≡ true → (1 ≤ w) × (w ≤ 8)
 worker_tells w h = grind (arith, nat_tests)
@@ -45,7 +47,8 @@ last_next x e frames entries w ise long old = by (is_worker w) refl
     by : (b : Bool) → is_worker w ≡ b → cond b (get_or list (w - 1) None) None ≡ cond b (last_of w (entries ++ e ∷ [])) None
     by false h = refl
     by true h =
-        let was : get_or x.last (w - 1) None ≡ last_of w entries = subst (λ b. cond b (get_or x.last (w - 1) None) None ≡ cond b (last_of w entries) None) h old in
+        let was : get_or x.last (w - 1) None ≡ last_of w entries =
+        subst (λ b. cond b (get_or x.last (w - 1) None) None ≡ cond b (last_of w entries) None) h old in
         ap (λ b. get_or (cond b (set x.last (e.worker - 1) (Some e)) x.last) (w - 1) None) ise
         ∙ (on_next x e w (eqb e.worker w) refl h ise long ∙ (ap (λ o. cond (eqb e.worker w) (Some e) o) was ∙ sym (last_of-snoc w entries e)))
 
@@ -62,7 +65,8 @@ pub none_in : (w : ℕ) (es : List Entry) → last_of w es ≡ None → count_ow
 none_in w [] h = refl
 none_in w (x ∷ es) h = by (none_in w es) (last_of w es) (eqb x.worker w) refl refl h
   where
-    by : (last_of w es ≡ None → count_own w es ≡ 0) → (o : Option Entry) (b : Bool) → last_of w es ≡ o → eqb x.worker w ≡ b → option_or o (cond b (Some x) None) ≡ None → count_own w (x ∷ es) ≡ 0
+    by : (last_of w es ≡ None → count_own w es ≡ 0) → (o : Option Entry) (b : Bool) → last_of w es ≡ o → eqb x.worker w ≡ b
+        → option_or o (cond b (Some x) None) ≡ None → count_own w (x ∷ es) ≡ 0
     by rest (Some f) b p q k = absurd (cc)
     by rest None true p q k = absurd (cc)
     by rest None false p q k =
@@ -85,13 +89,20 @@ pub found_in : (w : ℕ) (es : List Entry) (e : Entry) → last_of w es ≡ Some
 found_in w [] e h = absurd (cc)
 found_in w (x ∷ es) e h = by (found_in w es e) (last_of w es) (eqb x.worker w) refl refl h
   where
-    by : (last_of w es ≡ Some e → StandsLast w es e) → (o : Option Entry) (b : Bool) → last_of w es ≡ o → eqb x.worker w ≡ b → option_or o (cond b (Some x) None) ≡ Some e → StandsLast w (x ∷ es) e
+    by : (last_of w es ≡ Some e → StandsLast w es e) → (o : Option Entry) (b : Bool) → last_of w es ≡ o → eqb x.worker w ≡ b
+        → option_or o (cond b (Some x) None) ≡ Some e → StandsLast w (x ∷ es) e
     by rest (Some f) b p q k =
         let later = rest (p ∙ k) in
         record { front = x ∷ later.front; rest = later.rest; is = ap (λ l. x ∷ l) later.is; mine = later.mine; none = later.none }
     by rest None true p q k =
         let same : x ≡ e = some-is x e k in
-        record { front = []; rest = es; is = ap (λ y. y ∷ es) same; mine = ap (λ (y : Entry). y.worker) (sym same) ∙ eqb-true x.worker w q; none = none_in w es p }
+        record {
+          front = [];
+          rest = es;
+          is = ap (λ y. y ∷ es) same;
+          mine = ap (λ (y : Entry). y.worker) (sym same) ∙ eqb-true x.worker w q;
+          none = none_in w es p;
+        }
     by rest None false p q k = absurd (cc)
 
 pub count_found : (w : ℕ) (es : List Entry) (e : Entry) (s : StandsLast w es e) → count_own w es ≡ count_own w s.front + 1

@@ -26,17 +26,22 @@ told-first H pages is = record { replies = tt; pages = λ seen more looked patro
 
 -- one entry more
 pub told-more : (H : History) (old new : Seen) (put : List (ℕ × OwnPage)) (e : Entry) → IsTold H old → ShowsMore old put e new → IsGivenAfter H old.entries e
-    → ((patron : ℕ) → overlaid put patron (own_page (after H (requests old.entries)) patron) ≡ own_page (after H (requests (old.entries ++ e ∷ []))) patron) → IsTold H new
+    → ((patron : ℕ) → overlaid put patron (own_page (after H (requests old.entries)) patron) ≡ own_page
+    (after H (requests (old.entries ++ e ∷ []))) patron) → IsTold H new
 told-more H old new put e told more reply pages = record {
   replies = subst (λ l. EachIs (IsGivenAfter H) [] l) (sym more.entries) (each-append (IsGivenAfter H) [] old.entries e told.replies reply);
-  pages = λ seen on looked patron. by seen (starts_less old.entries seen.entries e (subst (λ l. StartsWith l seen.entries) more.entries on.0)) (starts_less old.pages seen.pages more.now (subst (λ l. StartsWith l seen.pages) more.pages on.1)) looked patron;
+  pages = λ seen on looked patron. by seen
+      (starts_less old.entries seen.entries e (subst (λ l. StartsWith l seen.entries) more.entries on.0))
+      (starts_less old.pages seen.pages more.now (subst (λ l. StartsWith l seen.pages) more.pages on.1)) looked patron;
 }
   where
-    by : (seen : Seen) → (seen.entries ≡ old.entries ++ e ∷ []) ⊎ StartsWith old.entries seen.entries → (seen.pages ≡ old.pages ++ more.now ∷ []) ⊎ StartsWith old.pages seen.pages → HasLooked seen
+    by : (seen : Seen) → (seen.entries ≡ old.entries ++ e ∷ []) ⊎ StartsWith old.entries seen.entries
+        → (seen.pages ≡ old.pages ++ more.now ∷ []) ⊎ StartsWith old.pages seen.pages → HasLooked seen
         → (patron : ℕ) → page_of seen patron ≡ own_page (after H (requests seen.entries)) patron
     by seen (inl a) (inl b) looked patron =
         ap (λ l. page_at (last_pages l) patron) b ∙ (ap (λ l. page_at l patron) (last-more old.pages more.now)
-        ∙ (more.each patron ∙ (ap (overlaid put patron) (told.pages old (goes_self old) more.looked patron) ∙ (pages patron ∙ ap (λ l. own_page (after H (requests l)) patron) (sym a)))))
+        ∙ (more.each patron ∙ (ap (overlaid put patron) (told.pages old (goes_self old) more.looked patron)
+        ∙ (pages patron ∙ ap (λ l. own_page (after H (requests l)) patron) (sym a)))))
     by seen (inr a) (inr b) looked patron = told.pages seen (a, b) looked patron
     by seen (inl a) (inr b) looked patron =
         let short = starts_short old.pages seen.pages b in
@@ -48,5 +53,6 @@ told-more H old new put e told more reply pages = record {
         absurd (omega (arith, short, long, looked, more.looked))
 
 -- an entry that was seen
-pub told-reply : (H : History) (all : Seen) (front : List Entry) (e : Entry) (rest : List Entry) → IsTold H all → all.entries ≡ front ++ e ∷ rest → e.reply ≡ reply_to (after H (requests front)) e.request
+pub told-reply : (H : History) (all : Seen) (front : List Entry) (e : Entry) (rest : List Entry) → IsTold H all → all.entries ≡ front ++ e
+    ∷ rest → e.reply ≡ reply_to (after H (requests front)) e.request
 told-reply H all front e rest told is = each_at (IsGivenAfter H) [] front e rest (subst (λ l. EachIs (IsGivenAfter H) [] l) is told.replies)

@@ -21,7 +21,8 @@ pub record MayTurn (x : Showing) (us : List Update) (e : Entry) (whole : Known F
   pub pages : are_pages us ≡ true
   pub whole_is : whole ≡ frames_next x us e
 
-pub may-turn : (x board : Showing) (us : List Update) (d e : Entry) (book chronicle : Book) (frames next whole : Known Frame) (shown : Seen) → x ≡ board → ShowsAll (seen_of frames.items) board → board.frames ≡ frames
+pub may-turn : (x board : Showing) (us : List Update) (d e : Entry) (book chronicle : Book) (frames next whole : Known Frame) (shown : Seen)
+    → x ≡ board → ShowsAll (seen_of frames.items) board → board.frames ≡ frames
     → are_pages us ≡ true → chronicle ≡ book → frames.book ≡ book → seen_of frames.items ≡ shown → IsNextEntry shown.entries e → next ≡ frames → d ≡ e
     → whole ≡ known chronicle (next.items ++ next_frame board us d ∷ []) → MayTurn x us e whole
 may-turn x board us d e book chronicle frames next whole shown same shows holds pages name named seen may again is added =
@@ -32,13 +33,18 @@ may-turn x board us d e book chronicle frames next whole shown same shows holds 
       shows = subst (λ (k : Known Frame). ShowsAll (seen_of k.items) x) (sym all) (subst (λ (y : Showing). ShowsAll (seen_of frames.items) y) (sym same) shows);
       may = subst (λ (k : Known Frame). IsNextEntry (seen_of k.items).entries e) (sym all) (subst (λ (s : Seen). IsNextEntry s.entries e) (sym seen) may);
       pages = pages;
-      whole_is = added ∙ (ap (λ b. known b (next.items ++ next_frame board us d ∷ [])) book-is ∙ (ap (λ l. known x.frames.book (l ++ next_frame board us d ∷ [])) items
-          ∙ (ap (λ (y : Showing). known x.frames.book (x.frames.items ++ next_frame y us d ∷ [])) (sym same) ∙ ap (λ (f : Entry). known x.frames.book (x.frames.items ++ next_frame x us f ∷ [])) is)));
+      whole_is = added ∙ (ap (λ b. known b (next.items ++ next_frame board us d ∷ [])) book-is
+          ∙ (ap (λ l. known x.frames.book (l ++ next_frame board us d ∷ [])) items
+          ∙ (ap (λ (y : Showing). known x.frames.book (x.frames.items ++ next_frame y us d ∷ [])) (sym same)
+          ∙ ap (λ (f : Entry). known x.frames.book (x.frames.items ++ next_frame x us f ∷ [])) is)));
     }
 
 -- what the board is once it is shown
-pub turned : (x y : Showing) (us all : List Update) (a : Arc Entry Global) (e : Entry) (k whole : Known Frame) → MayTurn x us e whole → arc_value a ≡ e → k ≡ whole → all ≡ us ++ update.Entry a k ∷ []
+pub turned : (x y : Showing) (us all : List Update) (a : Arc Entry Global) (e : Entry) (k whole : Known Frame) → MayTurn x us e whole
+    → arc_value a ≡ e → k ≡ whole → all ≡ us ++ update.Entry a k ∷ []
     → y ≡ fold updated x all → y ≡ with_entry (fold updated x us) e (frames_next x us e)
 turned x y us all a e k whole may is again pending shown =
     let mid : Showing = fold updated x us in
-    shown ∙ (ap (fold updated x) pending ∙ (fold-append updated x us (update.Entry a k ∷ []) ∙ (ap (λ (f : Entry). with_entry mid f k) is ∙ ap (with_entry mid e) (again ∙ may.whole_is))))
+    shown ∙ (ap (fold updated x) pending
+    ∙ (fold-append updated x us (update.Entry a k ∷ [])
+    ∙ (ap (λ (f : Entry). with_entry mid f k) is ∙ ap (with_entry mid e) (again ∙ may.whole_is))))

@@ -69,7 +69,7 @@ pub record Keeps (book : Book) (x : Showing) (views : List Seen) : Type 0 where
 
 -- A look: what is seen is all that was shown, which goes on from what was seen, and the board shows what
 -- it comes to.
-pub record Looks (book : Book) (v : Seen) (x y : Showing) (w : Seen) : Type 0 where
+pub record LooksAtBoard (book : Book) (v : Seen) (x y : Showing) (w : Seen) : Type 0 where
   pub name : y.frames.book ≡ book
   pub is : w ≡ seen_of y.frames.items
   pub more : GoesOn w v

@@ -2,7 +2,8 @@
 
 ghost use Rattle.std.specs.Prelude.{◌≡◌, None, map, IsFalse, MatchResult, IfOk, IfSome, option_map};
 ghost use Rattle.std.specs.Arc.{arc_value};
-ghost use Rattle.board.specs.Showing.{blank, page_at, with_page, with_last, with_entry, last_on, ShowsEntry};
+ghost use Rattle.board.specs.Showing.{blank, page_at, with_page, with_last, with_entry, last_on};
+ghost use Rattle.board.specs.Showing.{ShowsEntry};
 
 use crate::entry::{Entry, Frame};
 use crate::pages::Pages;

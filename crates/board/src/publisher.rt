@@ -21,8 +21,8 @@ use terms::{Memory, PatronId};
 /// What writes the board.
 pub(crate) type BoardWriter<J> = Writer<Board, Update, Seen, OneList<J>>;
 
-/// So many frames are shown at most, so that their count has a place. A hall never comes to as many:
-/// each of its workers submits 2^50 requests at most.
+/// So many frames are shown at most, so that their count has a place. A hall never comes to as
+/// many: each of its workers submits 2^50 requests at most.
 const MOST_FRAMES: u64 = u64::MAX - 1;
 
 /// What a board begins with: nothing was shown. Contracts see which board it is to be.
@@ -82,8 +82,8 @@ impl<'a, J: Naming> Item<Turn<'a, J>, Frame> for Turns {
         (drop t.writer.now.behind t.writer.now.log.items) (arc_value t.entry.now) };
 }
 
-/// The desk's side. Contracts see all that was shown, what workers see of it, and the pages that are
-/// to be shown with the next entry. It is not `Drop`: end it by `close`.
+/// The desk's side. Contracts see all that was shown, what workers see of it, and the pages that
+/// are to be shown with the next entry. It is not `Drop`: end it by `close`.
 pub struct Publisher<J: Naming> {
     writer: BoardWriter<J>,
     chronicle: Chronicle<Frame>,

@@ -5,8 +5,8 @@ use crate::entry::Seen;
 use crossbeam_utils::rule::{Outcome, Protocol};
 use std::marker::{Brand, PhantomData};
 
-/// Which board it is: it names what is shown, so that those of two boards can't be mixed. Who opens a
-/// board uses it inside one function generic in this, which is called with `Brand`.
+/// Which board it is: it names what is shown, so that those of two boards can't be mixed. Who opens
+/// a board uses it inside one function generic in this, which is called with `Brand`.
 pub trait Naming {
     ghost use Rattle.logbook.specs.Pages.{Book};
 
@@ -38,9 +38,9 @@ pub struct Look<J> {
 }
 
 impl<J: Naming> Outcome<Board, Seen> for Look<J> {
-    ghost use Rattle.board.specs.Rule.{Looks};
+    ghost use Rattle.board.specs.Rule.{LooksAtBoard};
 
-    ghost then = { Looks J.book };
+    ghost then = { LooksAtBoard J.book };
 }
 
 /// One frame more is shown.

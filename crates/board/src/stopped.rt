@@ -12,8 +12,8 @@ use chronicle::Beginning;
 use std::marker::Model;
 use std::sync::Wait;
 
-/// A board that shows nothing more: workers keep what they see. Contracts see all that was shown, and
-/// what workers see of it. It is not `Drop`: end it by `close`.
+/// A board that shows nothing more: workers keep what they see. Contracts see all that was shown,
+/// and what workers see of it. It is not `Drop`: end it by `close`.
 pub struct StoppedBoard<J: Naming> {
     writer: BoardWriter<J>,
     frames: Beginning<Frame>,
@@ -48,16 +48,16 @@ impl<J: Naming> StoppedBoard<J> {
         StoppedBoard { writer, frames }
     }
 
-    /// Workers see what all that was shown comes to: of each worker the last entry, and the pages that
-    /// were shown last.
+    /// Workers see what all that was shown comes to: of each worker the last entry, and the pages
+    /// that were shown last.
     pub fn shows_its_list(&self)
         ensures { ShowsAll self.now.shown self.now.board }
     {
         let _ = &self.writer;
     }
 
-    /// Whether what a worker had seen is a beginning of what was shown: it is where there is no more
-    /// of it.
+    /// Whether what a worker had seen is a beginning of what was shown: it is where there is no
+    /// more of it.
     pub fn has_shown(&self, sight: &Sight<J>) -> bool
         ensures { IsTrue result → GoesOn self.now.shown sight.now }
     {

@@ -30,7 +30,8 @@ pub enum Unseen {
     Gone,
 }
 
-/// A worker's side. Contracts see what it has seen: a beginning of the handled list, with its pages.
+/// A worker's side. Contracts see what it has seen: a beginning of the handled list, with its
+/// pages.
 #[derive(Drop)]
 pub struct Window<J: Naming> {
     reader: Option<BoardReader<J>>,

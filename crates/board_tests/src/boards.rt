@@ -379,7 +379,8 @@ struct AllAsked {
     others: [Asked; 3],
 }
 
-/// Each other submission differs from one that is handled in one thing: its number, its request or its worker.
+/// Each other submission differs from one that is handled in one thing: its number, its request or
+/// its worker.
 fn all_asked(alloc: Global) -> Result<AllAsked, Fail> {
     let one = ask(alloc, 1, 1, 1)?;
     let two = ask(alloc, 2, 1, 2)?;
@@ -496,8 +497,9 @@ fn each_entry_is_shown_with_its_page(rt: HostRuntime) -> Result<(), Fail> {
     Ok(())
 }
 
-/// Whether a window shows what it should of a board that is stopped with a page to be shown: what it
-/// showed, until it is ended; and whether what two windows saw was shown. None where no memory is left.
+/// Whether a window shows what it should of a board that is stopped with a page to be shown: what
+/// it showed, until it is ended; and whether what two windows saw was shown. None where no memory
+/// is left.
 fn walk_stopped<J: Naming, R: Wait>(
     rt: &R,
     alloc: Global,

@@ -47,22 +47,35 @@ later_year c n last past small h =
     let e12 : c.month ≡ 12 = omega (arith, h.exists) in
     let long : days_in_month (pos c.year) c.month ≡ 31 = december (pos c.year) c.month e12 in
     let e31 : c.day ≡ 31 = omega (arith, h.exists) in
-    let end : days_from_civil (pos c.year) 12 31 ≡ pos n = subst (λ (m : ℕ). days_from_civil (pos c.year) m 31 ≡ pos n) e12 (subst (λ (d : ℕ). days_from_civil (pos c.year) c.month d ≡ pos n) e31 h.numbered) in
+    let end : days_from_civil (pos c.year) 12 31 ≡ pos n =
+    subst (λ (m : ℕ). days_from_civil (pos c.year) m 31 ≡ pos n) e12
+    (subst (λ (d : ℕ). days_from_civil (pos c.year) c.month d ≡ pos n) e31 h.numbered) in
     let next = days_from_civil-next_year (pos c.year) (pos (c.year + 1)) (omega (arith, signed_arith)) (omega (arith, signed_arith)) in
     record {
       exists = (year_in c.year n small h.exists.0 end, (omega arith, omega arith), (omega arith, omega arith));
       numbered = omega (arith, signed_arith, next, end);
     }
 
-after_is : (c : Civil) (n : ℕ) (more months : Bool) → nat_lt c.day (days_in_month (pos c.year) c.month) ≡ more → nat_lt c.month 12 ≡ months → n < 2_932_896 → IsCivilOf c n
-    → IsCivilOf (if more then record { year = c.year; month = c.month; day = c.day + 1 } else (if months then record { year = c.year; month = c.month + 1; day = 1 } else record { year = c.year + 1; month = 1; day = 1 })) (suc n)
+after_is : (c : Civil) (n : ℕ) (more months : Bool) → nat_lt c.day (days_in_month (pos c.year) c.month) ≡ more → nat_lt c.month 12 ≡ months
+    → n < 2_932_896 → IsCivilOf c n
+    → IsCivilOf (if more then record { year = c.year; month = c.month; day = c.day + 1 } else
+    (if months then record { year = c.year; month = c.month + 1; day = 1 } else record { year = c.year + 1; month = 1; day = 1 }))
+    (suc n)
 after_is c n true months p q small h = later_day c n (grind (arith, nat_tests)) h
 after_is c n false true p q small h = later_month c n (grind (arith, nat_tests)) (grind (arith, nat_tests)) h
 after_is c n false false p q small h = later_year c n (grind (arith, nat_tests)) (grind (arith, nat_tests)) small h
 
 pub civil_of_is : (n : ℕ) → n ≤ 2_932_896 → IsCivilOf (civil_of n) n
 unfolding civil_of
-civil_of_is zero h = record { exists = ((omega (arith, signed_arith), omega (arith, signed_arith)), (omega arith, omega arith), (omega arith, omega arith)); numbered = let count = days_from_civil-day_count (pos 1970) 1 1 in omega (arith, signed_arith, count, day_count-epoch) }
+civil_of_is zero h = record {
+  exists = (
+    (omega (arith, signed_arith), omega (arith, signed_arith)),
+    (omega arith, omega arith),
+    (omega arith, omega arith),
+  );
+  numbered = let count = days_from_civil-day_count (pos 1970) 1 1 in
+      omega (arith, signed_arith, count, day_count-epoch);
+}
 civil_of_is (suc n) h = after_is (civil_of n) n _ _ refl refl (omega arith) (civil_of_is n (omega arith))
 
 date_from : (y : ℤ) (m d : ℕ) → IsCivilDate y m d → Date
@@ -83,7 +96,15 @@ unfolding day_text
 IsDateOf-day_text n small =
     let h = civil_of_is n small in
     let c = civil_of n in
-    record { year = c.year; month = c.month; day = c.day; four_digits = omega (arith, signed_arith, h.exists); exists = h.exists; written = refl; numbered = h.numbered }
+    record {
+      year = c.year;
+      month = c.month;
+      day = c.day;
+      four_digits = omega (arith, signed_arith, h.exists);
+      exists = h.exists;
+      written = refl;
+      numbered = h.numbered;
+    }
 
 -- and no other text is
 pub date-is_day_text : (t : List ℕ) (n : ℕ) → n ≤ 2_932_896 → IsDateOf t n → t ≡ day_text n

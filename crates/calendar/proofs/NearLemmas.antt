@@ -1,5 +1,6 @@
 -- An open day is near: 400 single days close no more than 400 of 401 weeks' days of an open weekday.
-use Rattle.std.proofs.Common.{◌≡◌, ℕ, zero, suc, ◌+◌, ◌-◌, ◌*◌, ◌%◌, ◌<◌, ◌≤◌, List, [], ◌∷◌, length, Bool, true, false, not, ◌||◌, sym, ◌∙◌, refl, arith, subst, inl, inr, nat_eq, Option, Some, None}
+use Rattle.std.proofs.Common.{◌≡◌, ℕ, zero, suc, ◌+◌, ◌-◌, ◌*◌, ◌%◌, ◌<◌, ◌≤◌, List, [], ◌∷◌, length, Bool, true, false, not, ◌||◌, sym}
+use Rattle.std.proofs.Common.{◌∙◌, refl, arith, subst, inl, inr, nat_eq, Option, Some, None}
 use Rattle.std.specs.Prelude.{◌==◌, IfNone, IfSome, IsSome, slice_index_or}
 use Rattle.std.specs.Option.{SomeIff}
 use Rattle.std.specs.List.{list_any, IsDistinct, AllByRecursion}
@@ -114,7 +115,8 @@ never_all c d h low high closed =
     let n = suc (length c.single) in
     let too_many : length (weeks_from x n) ≤ length c.single = length-le_from_is_member nat_eq_equiv (weeks_from x n) c.single (distinct x n) (λ q m.
     let r = member x n q m in
-    turned c.single q (single_then c q (omega (arith, r.from, f.1), omega (arith, r.below, f.2, h.few)) (subst (λ (i : ℕ). slice_index_or c.weekly i false ≡ false) (sym (r.same ∙ f.3)) w.2)
+    turned c.single q (single_then c q (omega (arith, r.from, f.1), omega (arith, r.below, f.2, h.few))
+    (subst (λ (i : ℕ). slice_index_or c.weekly i false ≡ false) (sym (r.same ∙ f.3)) w.2)
     (closed q (omega (arith, r.from, f.1)) (omega (arith, r.below, f.2, h.few))))) in
     omega (arith, too_many, length-weeks_from x n)
 
@@ -142,14 +144,17 @@ past day e low from h = elim (cases_order e 84005) [
   | inr apart ↦ elim apart [ inl below ↦ absurd (h (omega arith, omega arith)) | inr above ↦ above ]
 ]
 
-pub least_none : (r : Option ℕ) (c : Closings) (day e : ℕ) → IsDayNumber day → SomeIff r (IsDayNumber e) e → IsOpenFrom c day e → IfNone r ((k : ℕ) → day ≤ k → is_open c k ≡ false)
+pub least_none : (r : Option ℕ) (c : Closings) (day e : ℕ) → IsDayNumber day → SomeIff r (IsDayNumber e) e → IsOpenFrom c day e
+    → IfNone r ((k : ℕ) → day ≤ k → is_open c k ≡ false)
 least_none None c day e low h o = none_open-IsOpenFrom c day e o (past day e low.0 o.from h)
 least_none (Some x) c day e low h o = tt
 
-pub least_near : (r : Option ℕ) (c : Closings) (day e : ℕ) → AreClosings c → IsDayNumber day → SomeIff r (IsDayNumber e) e → IsOpenFrom c day e → IfSome r (λ x. x ≤ day + 2806)
+pub least_near : (r : Option ℕ) (c : Closings) (day e : ℕ) → AreClosings c → IsDayNumber day → SomeIff r (IsDayNumber e) e
+    → IsOpenFrom c day e → IfSome r (λ x. x ≤ day + 2806)
 least_near None c day e k low h o = tt
 least_near (Some x) c day e k low h o = rw h.1 (IsLeastOpen-near c day e k low.0 h.0.1 (IsLeastOpen-IsOpenFrom c day e o h.0))
 
-pub least_found : (r : Option ℕ) (c : Closings) (day e : ℕ) → AreClosings c → IsDayNumber day → SomeIff r (IsDayNumber e) e → IsOpenFrom c day e → day + 2806 ≤ 84005 → IsSome r
+pub least_found : (r : Option ℕ) (c : Closings) (day e : ℕ) → AreClosings c → IsDayNumber day → SomeIff r (IsDayNumber e) e
+    → IsOpenFrom c day e → day + 2806 ≤ 84005 → IsSome r
 least_found None c day e k low h o far = absurd (none_open-near c day k low.0 (none_open-IsOpenFrom c day e o (past day e low.0 o.from h)) far)
 least_found (Some x) c day e k low h o far = refl

@@ -1,12 +1,14 @@
 -- Open days, their count, and the single closed days after a change.
-use Rattle.std.proofs.Common.{◌≡◌, ℕ, zero, suc, ◌+◌, ◌<◌, ◌≤◌, List, [], ◌∷◌, ◌++◌, length, remove, get_or, Bool, true, false, not, ◌&&◌, ◌||◌, ap, sym, ◌∙◌, refl, arith, inl, inr}
+use Rattle.std.proofs.Common.{◌≡◌, ℕ, zero, suc, ◌+◌, ◌<◌, ◌≤◌, List, [], ◌∷◌, ◌++◌, length, remove, get_or, Bool, true, false, not, ◌&&◌}
+use Rattle.std.proofs.Common.{◌||◌, ap, sym, ◌∙◌, refl, arith, inl, inr}
 use Rattle.std.specs.Prelude.{◌==◌}
 use Rattle.std.proofs.lemmas.List.Folds.{list_any-append}
 use Rattle.std.proofs.lemmas.Bool.{cases_order}
 use Rattle.std.proofs.lemmas.Bool.Decides.{nat_tests, Decides-eqb}
 use Rattle.std.proofs.lemmas.List.Edits.{length-remove}
 use Rattle.calendar.specs.Days.{IsDayNumber, is_day}
-use Rattle.calendar.specs.Openings.{Closings, AreClosings, ClosesOnly, ClosesSame, IsLeastOpen, ReopensOnly, has_day, has_repeat, is_open, is_single, is_weekly, open_among}
+use Rattle.calendar.specs.Openings.{Closings, AreClosings, ClosesOnly, ClosesSame, IsLeastOpen, ReopensOnly, has_day, has_repeat, is_open}
+use Rattle.calendar.specs.Openings.{is_single, is_weekly, open_among}
 
 is_day-inside : (d : ℕ) → IsDayNumber d → is_day d ≡ true
 is_day-inside d h = grind (arith, nat_tests)
@@ -78,8 +80,12 @@ without : (a b r : Bool) → (a ≡ true → r ≡ false) → b ≡ (a || r) →
 without true b r h e = h refl
 without false b r h e = sym e
 
-pub has_day-remove : (days : List ℕ) (i day d : ℕ) → i < length days → get_or days i 0 ≡ day → has_repeat days ≡ false → has_day (remove days i) d ≡ (not (d == day) && has_day days d)
-has_day-remove days i day d lt e r = without (d == day) (has_day days d) (has_day (remove days i) d) (λ t. let e' : d ≡ day = (Decides-eqb d day).0 t in rw e' (once-remove days i day lt e r).1) (has_day-place days i day d lt e ∙ ap (λ b. b || has_day (remove days i) d) (same_day day d))
+pub has_day-remove : (days : List ℕ) (i day d : ℕ) → i < length days → get_or days i 0 ≡ day → has_repeat days ≡ false
+    → has_day (remove days i) d ≡ (not (d == day) && has_day days d)
+has_day-remove days i day d lt e r =
+    without (d == day) (has_day days d) (has_day (remove days i) d)
+    (λ t. let e' : d ≡ day = (Decides-eqb d day).0 t in rw e' (once-remove days i day lt e r).1)
+    (has_day-place days i day d lt e ∙ ap (λ b. b || has_day (remove days i) d) (same_day day d))
 
 -- the closed days with the one at a place left out
 pub AreClosings-remove : (c : Closings) (i day : ℕ) → AreClosings c → i < length c.single → get_or c.single i 0 ≡ day

@@ -1,10 +1,12 @@
 -- Single closed days in rising order: a search among them, and the days with one more or one less.
-use Rattle.std.proofs.Common.{◌≡◌, ◌≢◌, ℕ, zero, suc, ◌+◌, ◌-◌, ◌<◌, ◌≤◌, List, [], ◌∷◌, ◌++◌, length, get_or, take, drop, insert, remove, Bool, true, false, not, ◌&&◌, ◌||◌, sym, ◌∙◌, refl, ap, arith, subst, inl, inr}
+use Rattle.std.proofs.Common.{◌≡◌, ◌≢◌, ℕ, zero, suc, ◌+◌, ◌-◌, ◌<◌, ◌≤◌, List, [], ◌∷◌, ◌++◌, length, get_or, take, drop, insert, remove}
+use Rattle.std.proofs.Common.{Bool, true, false, not, ◌&&◌, ◌||◌, sym, ◌∙◌, refl, ap, arith, subst, inl, inr}
 use Rattle.std.specs.Prelude.{◌==◌}
 use Rattle.std.proofs.lemmas.Bool.{cases_order}
 use Rattle.std.proofs.lemmas.Bool.Decides.{nat_tests, Decides-eqb}
 use Rattle.std.proofs.lemmas.List.{take-append-drop, take_more, get_or-take, get_or-drop, length-take-le, length-drop}
-use Rattle.std.proofs.lemmas.List.Edits.{length-insert, get_or-insert_below, get_or-insert_at, get_or-insert_above, length-remove, get_or-remove_below, get_or-remove_above}
+use Rattle.std.proofs.lemmas.List.Edits.{length-insert, get_or-insert_below, get_or-insert_at, get_or-insert_above, length-remove}
+use Rattle.std.proofs.lemmas.List.Edits.{get_or-remove_below, get_or-remove_above}
 use Rattle.std.proofs.lemmas.List.Folds.{list_any-append, list_any_at}
 use Rattle.calendar.specs.Days.{IsDayNumber, is_day}
 use Rattle.calendar.specs.Openings.{Closings, AreClosings, ClosesOnly, ClosesExactly, IsLeastOpen, has_day, has_repeat, is_open, is_single, is_weekly}
@@ -54,7 +56,8 @@ IsPlaceFor-apart days d n up p apart = record {
   within = p.within;
   before = p.before;
   after = λ i from lt. elim (cases_order n i) [
-    | inl same ↦ (let a = p.after n (omega arith) (omega arith) in let b = apart (omega arith) in subst (λ (j : ℕ). d < get_or days j 0) same (strictly _ _ a b))
+    | inl same ↦ (let a = p.after n (omega arith) (omega arith) in let b = apart (omega arith) in subst (λ (j : ℕ). d < get_or days j 0)
+        same (strictly _ _ a b))
     | inr aside ↦ elim aside [
       | inl below ↦ (let a = p.after n (omega arith) (omega arith) in let b = up n i below lt in omega arith)
       | inr above ↦ absurd (omega arith)
@@ -63,7 +66,8 @@ IsPlaceFor-apart days d n up p apart = record {
 }
   where
     strictly : (d e : ℕ) → d ≤ e → e ≢ d → d < e
-    strictly d e h k = elim (cases_order d e) [ inl same ↦ absurd (k (sym same)) | inr aside ↦ elim aside [ inl below ↦ below | inr above ↦ absurd (omega arith) ] ]
+    strictly d e h k = elim (cases_order d e)
+        [ inl same ↦ absurd (k (sym same)) | inr aside ↦ elim aside [ inl below ↦ below | inr above ↦ absurd (omega arith) ] ]
 
 IsRising-tail : (x : ℕ) (days : List ℕ) → IsRising (x ∷ days) → IsRising days
 IsRising-tail x days h = λ i j less lt. h (suc i) (suc j) (omega arith) (omega arith)
@@ -84,9 +88,11 @@ moved false false c = refl
 
 has_day-insert : (days : List ℕ) (n day d : ℕ) → has_day (insert days n day) d ≡ ((d == day) || has_day days d)
 has_day-insert days n day d =
-    let whole : has_day days d ≡ (has_day (take n days) d || has_day (drop n days) d) = ap (λ (xs : List ℕ). has_day xs d) (sym (take-append-drop n days)) ∙ list_any-append (λ e. e == d) (take n days) (drop n days) in
+    let whole : has_day days d ≡ (has_day (take n days) d || has_day (drop n days) d) =
+    ap (λ (xs : List ℕ). has_day xs d) (sym (take-append-drop n days)) ∙ list_any-append (λ e. e == d) (take n days) (drop n days) in
     list_any-append (λ e. e == d) (take n days) (day ∷ drop n days)
-    ∙ (moved (has_day (take n days) d) (day == d) (has_day (drop n days) d) ∙ (ap (λ (b : Bool). (day == d) || b) (sym whole) ∙ ap (λ (b : Bool). b || has_day days d) (same_day day d)))
+    ∙ (moved (has_day (take n days) d) (day == d) (has_day (drop n days) d)
+    ∙ (ap (λ (b : Bool). (day == d) || b) (sym whole) ∙ ap (λ (b : Bool). b || has_day days d) (same_day day d)))
 
 IsRising-insert : (days : List ℕ) (n day : ℕ) → IsRising days → IsPlaceFor days day n → IsRising (insert days n day)
 IsRising-insert days n day up p = λ i j less lt. between i j less (let e = length-insert days n day p.within in omega arith)
@@ -163,7 +169,8 @@ ClosesExactly-more old new mask days i day lt e h k =
     record {
       weekly = k.weekly ∙ h.weekly;
       single = λ d. k.single d ∙ (ap (λ (b : Bool). (d == day) || b) (h.single d) ∙ rw more (sym (has_day-push (take i days) day d)));
-      as_many = let n = length-take-le i days (omega arith) in let m = length-take-le (i + 1) days (omega arith) in let a = k.one_more in let b = h.as_many in omega arith;
+      as_many = let n = length-take-le i days (omega arith) in let m = length-take-le (i + 1) days (omega arith) in let a = k.one_more in
+          let b = h.as_many in omega arith;
     }
 
 -- ---- one day less
@@ -208,7 +215,8 @@ listed-before w days due n from p = sym (listed-outside w due n (take from days)
     let a = p.before i (omega arith) in
     inl (rw (get_or-take from days i 0 (omega arith)) (omega arith))))
 
-pub listed-more_open : (w : List Bool) (days : List ℕ) (due n i day : ℕ) → i < length days → get_or days i 0 ≡ day → due < day → day ≤ due + n → is_closed_weekday w day ≡ false
+pub listed-more_open : (w : List Bool) (days : List ℕ) (due n i day : ℕ) → i < length days → get_or days i 0 ≡ day → due < day
+    → day ≤ due + n → is_closed_weekday w day ≡ false
     → listed w due n (take (i + 1) days) ≡ listed w due n (take i days) + 1
 listed-more_open w days due n i day lt e after until o =
     let more : take (i + 1) days ≡ take i days ++ day ∷ [] = take_more days i 0 lt ∙ ap (λ (x : ℕ). take i days ++ x ∷ []) e in
@@ -216,7 +224,8 @@ listed-more_open w days due n i day lt e after until o =
     let sum = listed-append w due n (take i days) (day ∷ []) in
     rw more (omega arith)
 
-pub listed-more_closed : (w : List Bool) (days : List ℕ) (due n i day : ℕ) → i < length days → get_or days i 0 ≡ day → due < day → day ≤ due + n → is_closed_weekday w day ≡ true
+pub listed-more_closed : (w : List Bool) (days : List ℕ) (due n i day : ℕ) → i < length days → get_or days i 0 ≡ day → due < day
+    → day ≤ due + n → is_closed_weekday w day ≡ true
     → listed w due n (take (i + 1) days) ≡ listed w due n (take i days)
 listed-more_closed w days due n i day lt e after until o =
     let more : take (i + 1) days ≡ take i days ++ day ∷ [] = take_more days i 0 lt ∙ ap (λ (x : ℕ). take i days ++ x ∷ []) e in
@@ -225,7 +234,8 @@ listed-more_closed w days due n i day lt e after until o =
     rw more (omega arith)
 
 -- none from a place on at which both searches have ended
-pub listed-all : (w : List Bool) (days : List ℕ) (due today from to i : ℕ) → IsRising days → IsCountBelow days (due + 1) from → IsCountBelow days (today + 1) to → from ≤ i → to ≤ i
+pub listed-all : (w : List Bool) (days : List ℕ) (due today from to i : ℕ) → IsRising days → IsCountBelow days (due + 1) from
+    → IsCountBelow days (today + 1) to → from ≤ i → to ≤ i
     → listed w due (today - due) (take i days) ≡ singles_among w days due (today - due)
 listed-all w days due today from to i up p q a b =
     let n = today - due in
@@ -266,7 +276,8 @@ is_open-single c d h = rw h (both (is_day d) (not (is_weekly c d)))
     both true false = refl
     both false b = refl
 
-pub IsReached-first : (c : Closings) (day from reached : ℕ) → IsDayNumber day → IsCountBelow c.single day from → day ≤ reached → reached ≤ day + 6 → is_closed_weekday c.weekly reached ≡ false
+pub IsReached-first : (c : Closings) (day from reached : ℕ) → IsDayNumber day → IsCountBelow c.single day from → day ≤ reached
+    → reached ≤ day + 6 → is_closed_weekday c.weekly reached ≡ false
     → ((k : ℕ) → day ≤ k → k < reached → is_closed_weekday c.weekly k ≡ true) → IsReached c day from reached
 IsReached-first c day from reached h p a b w closed = record {
   from = a;
@@ -277,7 +288,8 @@ IsReached-first c day from reached h p a b w closed = record {
 }
 
 -- the single day lies before it
-pub IsReached-before : (c : Closings) (day i reached single : ℕ) → IsReached c day i reached → get_or c.single i 0 ≡ single → single ≤ reached → single ≢ reached → IsReached c day (i + 1) reached
+pub IsReached-before : (c : Closings) (day i reached single : ℕ) → IsReached c day i reached → get_or c.single i 0 ≡ single
+    → single ≤ reached → single ≢ reached → IsReached c day (i + 1) reached
 IsReached-before c day i reached single r e not_later apart = record {
   from = r.from;
   near = r.near;
@@ -293,8 +305,10 @@ IsReached-before c day i reached single r e not_later apart = record {
     less x y h k = elim (cases_order x y) [ inl same ↦ absurd (k same) | inr aside ↦ elim aside [ inl below ↦ below | inr above ↦ absurd (omega arith) ] ]
 
 -- the single day is that day, and the next weekly open day comes after it
-pub IsReached-next : (c : Closings) (day i reached single next : ℕ) → IsReached c day i reached → i < length c.single → get_or c.single i 0 ≡ single → single ≡ reached → IsDayNumber single
-    → reached + 1 ≤ next → next ≤ reached + 1 + 6 → is_closed_weekday c.weekly next ≡ false → ((k : ℕ) → reached + 1 ≤ k → k < next → is_closed_weekday c.weekly k ≡ true)
+pub IsReached-next : (c : Closings) (day i reached single next : ℕ) → IsReached c day i reached → i < length c.single
+    → get_or c.single i 0 ≡ single → single ≡ reached → IsDayNumber single
+    → reached + 1 ≤ next → next ≤ reached + 1 + 6 → is_closed_weekday c.weekly next ≡ false
+    → ((k : ℕ) → reached + 1 ≤ k → k < next → is_closed_weekday c.weekly k ≡ true)
     → IsReached c day (i + 1) next
 IsReached-next c day i reached single next r lt e same h a b w closed = record {
   from = omega (arith, r.from);
@@ -311,7 +325,8 @@ IsReached-next c day i reached single next r lt e same h a b w closed = record {
 }
 
 -- the walk has come to a later single day, or to the end
-pub IsOpenFrom-reached : (c : Closings) (day i reached : ℕ) → IsRising c.single → IsReached c day i reached → (i < length c.single → reached < get_or c.single i 0) → IsOpenFrom c day reached
+pub IsOpenFrom-reached : (c : Closings) (day i reached : ℕ) → IsRising c.single → IsReached c day i reached
+    → (i < length c.single → reached < get_or c.single i 0) → IsOpenFrom c day reached
 IsOpenFrom-reached c day i reached up r later = record {
   from = r.from;
   near = r.near;

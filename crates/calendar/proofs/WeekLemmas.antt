@@ -1,5 +1,6 @@
 -- Open weekdays among days, counted week by week, and the single days that fall on them.
-use Rattle.std.proofs.Common.{◌≡◌, ◌≢◌, ℕ, zero, suc, ◌+◌, ◌-◌, ◌*◌, ◌/◌, ◌%◌, ◌<◌, ◌≤◌, ◌⊎◌, List, [], ◌∷◌, ◌++◌, length, get_or, Bool, true, false, not, ◌&&◌, ◌||◌, sym, ◌∙◌, refl, ap, arith, inl, inr}
+use Rattle.std.proofs.Common.{◌≡◌, ◌≢◌, ℕ, zero, suc, ◌+◌, ◌-◌, ◌*◌, ◌/◌, ◌%◌, ◌<◌, ◌≤◌, ◌⊎◌, List, [], ◌∷◌, ◌++◌, length, get_or, Bool}
+use Rattle.std.proofs.Common.{true, false, not, ◌&&◌, ◌||◌, sym, ◌∙◌, refl, ap, arith, inl, inr}
 use Rattle.std.specs.Prelude.{◌==◌, nat_lt, nat_le, if◌then◌else◌, slice_index_or}
 use Rattle.std.proofs.Math.Nat.{suc-mul}
 use Rattle.std.proofs.lemmas.Bool.{cases_order}
@@ -22,15 +23,19 @@ open_weekdays_among-more : (w : List Bool) (d n k : ℕ) → k ≡ suc n → ope
 unfolding open_weekdays_among
 open_weekdays_among-more w d n k e = rw e refl
 
-pub open_weekdays_among-open : (w : List Bool) (d n k e : ℕ) → k ≡ suc n → e ≡ d + suc n → is_closed_weekday w e ≡ false → open_weekdays_among w d k ≡ open_weekdays_among w d n + 1
+pub open_weekdays_among-open : (w : List Bool) (d n k e : ℕ) → k ≡ suc n → e ≡ d + suc n → is_closed_weekday w e ≡ false
+    → open_weekdays_among w d k ≡ open_weekdays_among w d n + 1
 open_weekdays_among-open w d n k e p q o = open_weekdays_among-more w d n k p ∙ rw (← q, o) refl
 
-pub open_weekdays_among-closed : (w : List Bool) (d n k e : ℕ) → k ≡ suc n → e ≡ d + suc n → is_closed_weekday w e ≡ true → open_weekdays_among w d k ≡ open_weekdays_among w d n
+pub open_weekdays_among-closed : (w : List Bool) (d n k e : ℕ) → k ≡ suc n → e ≡ d + suc n → is_closed_weekday w e ≡ true
+    → open_weekdays_among w d k ≡ open_weekdays_among w d n
 open_weekdays_among-closed w d n k e p q o = open_weekdays_among-more w d n k p ∙ rw (← q, o) (omega arith)
 
 pub open_weekdays_among-le : (w : List Bool) (d n : ℕ) → open_weekdays_among w d n ≤ n
 open_weekdays_among-le w d zero = let e = open_weekdays_among-none w d 0 refl in omega arith
-open_weekdays_among-le w d (suc n) = last (is_closed_weekday w (d + suc n)) (open_weekdays_among w d n) (open_weekdays_among w d (suc n)) (open_weekdays_among-le w d n) (open_weekdays_among-more w d n (suc n) refl)
+open_weekdays_among-le w d (suc n) =
+    last (is_closed_weekday w (d + suc n)) (open_weekdays_among w d n) (open_weekdays_among w d (suc n)) (open_weekdays_among-le w d n)
+    (open_weekdays_among-more w d n (suc n) refl)
   where
     last : (b : Bool) (m k : ℕ) → m ≤ n → k ≡ m + (if b then 0 else 1) → k ≤ suc n
     last true m k h e = omega arith
@@ -103,7 +108,8 @@ one_day c d h = by_weekday (is_weekly c d) refl
     by_weekday false w = rw (is_open-inside c d h w, w) (by_single (is_single c d))
 
 -- the open days and the single days make the days on open weekdays
-pub open_among-singles : (c : Closings) (d n : ℕ) → 10957 ≤ d → d + n ≤ 84005 → open_among c d n + singles_among c.weekly c.single d n ≡ open_weekdays_among c.weekly d n
+pub open_among-singles : (c : Closings) (d n : ℕ) → 10957 ≤ d → d + n ≤ 84005
+    → open_among c d n + singles_among c.weekly c.single d n ≡ open_weekdays_among c.weekly d n
 open_among-singles c d zero low high =
     let a = open_among-zero c d in
     let b = singles_among-none c.weekly c.single d 0 refl in
@@ -124,10 +130,12 @@ pub record IsCounted (c : Closings) (due today whole closed : ℕ) : Type 0 wher
   pub counted : whole - closed ≡ open_days_after c due today
 
 pub IsCounted-weeks : (c : Closings) (due today days week rest closed : ℕ) → IsDayNumber due → IsDayNumber today → days ≡ today - due
-    → week ≡ open_weekdays_among c.weekly due 7 → rest ≡ open_weekdays_among c.weekly due (days % 7) → closed ≡ singles_among c.weekly c.single due (today - due)
+    → week ≡ open_weekdays_among c.weekly due 7 → rest ≡ open_weekdays_among c.weekly due (days % 7)
+    → closed ≡ singles_among c.weekly c.single due (today - due)
     → IsCounted c due today (days / 7 * week + rest) closed
 IsCounted-weeks c due today days week rest closed h k long weekly left struck =
-    let whole : days / 7 * week + rest ≡ open_weekdays_among c.weekly due (today - due) = rw (weekly, left, long) (sym (open_weekdays_among-split c.weekly due (today - due))) in
+    let whole : days / 7 * week + rest ≡ open_weekdays_among c.weekly due (today - due) =
+    rw (weekly, left, long) (sym (open_weekdays_among-split c.weekly due (today - due))) in
     let sum = open_among-singles c due (today - due) h.0 (omega (arith, h.1, k.1)) in
     let bound = open_weekdays_among-le c.weekly due (today - due) in
     record {
@@ -195,7 +203,12 @@ singles_among-cons : (w : List Bool) (x : ℕ) (days : List ℕ) (d n : ℕ) →
 singles_among-cons w x days d zero new =
     let a = singles_among-none w (x ∷ days) d 0 refl in
     let b = singles_among-none w days d 0 refl in
-    let e = one_listed-outside w d 0 x (elim (cases_order x d) [ inl same ↦ inl (omega arith) | inr apart ↦ elim apart [ inl below ↦ inl (omega arith) | inr above ↦ inr (omega arith) ] ]) in
+    let e = one_listed-outside w d 0 x
+    (elim (cases_order x d) [
+      | inl same ↦ inl (omega arith)
+      | inr apart ↦ elim apart
+          [ inl below ↦ inl (omega arith) | inr above ↦ inr (omega arith) ]
+    ]) in
     omega arith
 singles_among-cons w x days d (suc n) new =
     let before = singles_among-cons w x days d n new in

@@ -25,7 +25,8 @@ fn find_in<L: Ledger>(calendar: &Calendar, day: Day, blank: Blank) -> (Option<Da
     (least, steps.taken())
 }
 
-/// How many days after `due`, up to `today`, are open, and at how many single closed days the call looked.
+/// How many days after `due`, up to `today`, are open, and at how many single closed days the call
+/// looked.
 pub fn count_open_days(calendar: &Calendar, due: Day, today: Day) -> (u32, u64) {
     count_in::<Brand>(calendar, due, today, Blank::new(1))
 }

@@ -1,10 +1,13 @@
-//! The program `calendar_tests`: counts open days, as each line of its input asks. It holds the tests of `calendar` too.
+//! The program `calendar_tests`: counts open days, as each line of its input asks. It holds the
+//! tests of `calendar` too.
 //!
-//! A line has four words, parted by single blanks: a letter for each weekday, Monday first, `c` for a closed one; the numbers
-//! of the single closed days, parted by commas, or `-` for none; the number of a due day; the number of a day. Of each line
-//! it writes how many days after the due day, up to the day, are open; the number of the least open day from the day on, or
-//! `none`; and at how many single closed days each of the two calls looked. With the argument `times` it writes, of the same
-//! two calls, the nanoseconds that each took, and that the same took day by day.
+//! A line has four words, parted by single blanks: a letter for each weekday, Monday first, `c` for
+//! a closed one; the numbers of the single closed days, parted by commas, or `-` for none; the
+//! number of a due day; the number of a day. Of each line it writes how many days after the due
+//! day, up to the day, are open; the number of the least open day from the day on, or `none`; and
+//! at how many single closed days each of the two calls looked. With the argument `times` it
+//! writes, of the same two calls, the nanoseconds that each took, and that the same took day by
+//! day.
 #![tactic(auto)]
 
 mod answers;

@@ -52,7 +52,8 @@ impl<E> Beginning<E> {
         }
     }
 
-    /// Whether it has no more items than another beginning of the same list: then that begins with it.
+    /// Whether it has no more items than another beginning of the same list: then that begins with
+    /// it.
     pub fn begins(&self, other: &Beginning<E>) -> bool
         requires { self.now.book ≡ other.now.book }
         ensures { IsTrue result → IsPrefix self.now.items other.now.items }

@@ -79,8 +79,8 @@ impl<E> Chronicle<E> {
         true
     }
 
-    /// Adds an item to a beginning that is the whole list. Who adds to the list knows it whole; where
-    /// it doesn't, this waits for ever.
+    /// Adds an item to a beginning that is the whole list. Who adds to the list knows it whole;
+    /// where it doesn't, this waits for ever.
     pub fn add<X, I: Item<X, E>, R: Wait>(&self, rt: &R, whole: &mut Beginning<E>, about: &X)
         requires list { whole.old.book ≡ self.now }
         requires room { length whole.old.items + 1 < 2 ^ 64 }

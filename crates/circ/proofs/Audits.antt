@@ -30,18 +30,21 @@ not-both tables (Binding hold) sound first = first.1.broken (sound.bindings hold
 not-both tables (Balance patron) sound first = first.2.broken (sound.balance patron)
 
 -- A stop leaves what it would have left before a read.
-pub read-left : {A : Type 0} {r : Result A Fault} (old new : State) → Reads old new r → HasCleanDisk new → (P : Picture) → KeepsPicture old P → LeavesPicture new P
+pub read-left : {A : Type 0} {r : Result A Fault} (old new : State) → Reads old new r → HasCleanDisk new → (P : Picture)
+    → KeepsPicture old P → LeavesPicture new P
 read-left old new reads disk P keeps = λ trees may. keeps.left trees (reads.left disk (keeps.now.maps, keeps.now.holds) trees may)
 
 -- The tables show a picture after a read that changed nothing of them.
-keeps-same : {A : Type 0} {r : Result A Fault} (old new : State) (P : Picture) → Reads old new r → HasCleanDisk new → new.now ≡ old.now → KeepsPicture old P → KeepsPicture new P
+keeps-same : {A : Type 0} {r : Result A Fault} (old new : State) (P : Picture) → Reads old new r → HasCleanDisk new → new.now ≡ old.now
+    → KeepsPicture old P → KeepsPicture new P
 keeps-same old new P reads disk same keeps = record {
   now = (subst (λ db. KeepsPicture (record old { now = db }) P) (sym same) (record { now = keeps.now; left = keeps.left })).now;
   left = read-left old new reads disk P keeps;
 }
 
 module _ {S : Type 0} (g : Ghosts S) (old new : Held S) where
-  pub says-sound : (tables : Tables) → Looked InLimits AreAuditTables IsReadable g old new (Ok tables) → AnswersLegal g old new (Ok tables) → Audits tables (Ok tt) → SaysOf g old new sound_line Done
+  pub says-sound : (tables : Tables) → Looked InLimits AreAuditTables IsReadable g old new (Ok tables) → AnswersLegal g old new (Ok tables)
+      → Audits tables (Ok tt) → SaysOf g old new sound_line Done
   says-sound tables looked legal audits = inl (record {
     tables = tables;
     line_is = refl;
@@ -49,11 +52,16 @@ module _ {S : Type 0} (g : Ghosts S) (old new : Held S) where
     legal = legal;
     read = λ disk P limits keeps.
         let found = looked.shown disk P keeps.now limits in
-        let sound = audits.sound.0 refl in
-        (found.0, sound, λ all whole. sound_as tables all (like_whole P all tables whole found.0) sound, keeps-same (state g old) (state g new) P looked.reads disk found.1 keeps);
+        let sound = audits.sound.0 refl in (
+          found.0,
+          sound,
+          λ all whole. sound_as tables all (like_whole P all tables whole found.0) sound,
+          keeps-same (state g old) (state g new) P looked.reads disk found.1 keeps,
+        );
   })
 
-  pub says-unsound : LegalTablesAreSound → (tables : Tables) (finding : Finding) → Looked InLimits AreAuditTables IsReadable g old new (Ok tables) → AnswersLegal g old new (Ok tables) → Audits tables (Err finding)
+  pub says-unsound : LegalTablesAreSound → (tables : Tables) (finding : Finding)
+      → Looked InLimits AreAuditTables IsReadable g old new (Ok tables) → AnswersLegal g old new (Ok tables) → Audits tables (Err finding)
       → SaysOf g old new (finding_line finding) Refused
   says-unsound law tables finding looked legal audits = inr (inl (record {
     tables = tables;
@@ -63,19 +71,26 @@ module _ {S : Type 0} (g : Ghosts S) (old new : Held S) where
     legal = legal;
     read = λ disk P limits keeps.
         let found = looked.shown disk P keeps.now limits in
-        let first = (audits.found finding).0 refl in
-        (found.0, first, λ all whole. broken_as tables all (like_whole P all tables whole found.0) finding first, keeps-same (state g old) (state g new) P looked.reads disk found.1 keeps);
+        let first = (audits.found finding).0 refl in (
+          found.0,
+          first,
+          λ all whole. broken_as tables all (like_whole P all tables whole found.0) finding first,
+          keeps-same (state g old) (state g new) P looked.reads disk found.1 keeps,
+        );
     never = λ disk H shows.
         let found = looked.shown disk (picture H) shows.tables.now (legal-rows H shows.legal shows.forms) in
         not-both tables finding (law H tables shows.legal shows.forms found.0) ((audits.found finding).0 refl);
   }))
 
-  pub says-faulted : (fault : Fault) → Looked InLimits AreAuditTables IsReadable g old new (Err fault) → SaysOf g old new (fault_line (fault_number fault)) Faulted
+  pub says-faulted : (fault : Fault) → Looked InLimits AreAuditTables IsReadable g old new (Err fault)
+      → SaysOf g old new (fault_line (fault_number fault)) Faulted
   says-faulted fault looked = inr (inr (record {
     fault = fault;
     line_is = refl;
     exit_is = refl;
     limits = λ disk stored P keeps. looked.sound disk (let same : Err fault ≡ Err Stored = cc in same) P keeps.now;
-    sound = λ disk stored H shows. looked.sound disk (let same : Err fault ≡ Err Stored = cc in same) (picture H) shows.tables.now (is-readable H shows.legal shows.forms);
-    undone = λ disk is_open P keeps. keeps-same (state g old) (state g new) P looked.reads disk (looked.reads.same disk is_open (keeps.now.maps, keeps.now.holds)) keeps;
+    sound = λ disk stored H shows. looked.sound disk (let same : Err fault ≡ Err Stored = cc in same) (picture H) shows.tables.now
+        (is-readable H shows.legal shows.forms);
+    undone = λ disk is_open P keeps. keeps-same (state g old) (state g new) P looked.reads disk
+        (looked.reads.same disk is_open (keeps.now.maps, keeps.now.holds)) keeps;
   }))

@@ -19,7 +19,8 @@ in-head x rows = (0, omega arith, refl)
 pub all-there : {R : Type 0} (P : R → Type 0) (rows : List R) → ((r : R) → Contains rows r → P r) → All P rows
 all-there P rows f k d lt = f (get_or rows k d) (Contains-get_or rows k d lt)
 
-pub above-first : {R : Type 0} (number_of : R → ℕ) (n : ℕ) (rows : List R) → AllByRecursion (λ s. n < number_of s) rows → (r : R) → Contains rows r → n < number_of r
+pub above-first : {R : Type 0} (number_of : R → ℕ) (n : ℕ) (rows : List R) → AllByRecursion (λ s. n < number_of s) rows → (r : R)
+    → Contains rows r → n < number_of r
 above-first number_of n [] all r at = let lt : at.0 < 0 = at.1 in absurd (omega (arith, lt))
 above-first number_of n (y ∷ rows) all r (zero, lt, is) = subst (λ s. n < number_of s) is all.0
 above-first number_of n (y ∷ rows) all r (suc k, lt, is) = above-first number_of n rows all.1 r (k, omega (arith, lt), is)
@@ -51,7 +52,8 @@ module _ {R : Type 0} (p : R → Bool) where
   pub counted-once : (number_of : R → ℕ) (rows : List R) → Rise number_of rows
       → ((r s : R) → Contains rows r → Contains rows s → p r ≡ true → p s ≡ true → number_of r ≡ number_of s) → count_by p rows ≤ 1
   counted-once number_of [] rise same = omega arith
-  counted-once number_of (x ∷ rows) rise same = go (counted-once number_of rows rise.1 (λ r s in_r in_s. same r s (in-tail x r rows in_r) (in-tail x s rows in_s))) (p x) refl
+  counted-once number_of (x ∷ rows) rise same =
+      go (counted-once number_of rows rise.1 (λ r s in_r in_s. same r s (in-tail x r rows in_r) (in-tail x s rows in_s))) (p x) refl
     where
       go : count_by p rows ≤ 1 → (b : Bool) → p x ≡ b → count_by p (x ∷ rows) ≤ 1
       go rest false e =
@@ -72,7 +74,8 @@ module _ {R : Type 0} (p : R → Bool) where
               absurd (omega (arith, equal, less))
 
 -- At most one of four counts is one, where no two are.
-pub one-of-four : (a b c d : ℕ) → a ≤ 1 → b ≤ 1 → c ≤ 1 → d ≤ 1 → (0 < a → 0 < b → ⊥) → (0 < a → 0 < c → ⊥) → (0 < a → 0 < d → ⊥) → (0 < b → 0 < c → ⊥) → (0 < b → 0 < d → ⊥) → (0 < c → 0 < d → ⊥)
+pub one-of-four : (a b c d : ℕ) → a ≤ 1 → b ≤ 1 → c ≤ 1 → d ≤ 1 → (0 < a → 0 < b → ⊥) → (0 < a → 0 < c → ⊥) → (0 < a → 0 < d → ⊥)
+    → (0 < b → 0 < c → ⊥) → (0 < b → 0 < d → ⊥) → (0 < c → 0 < d → ⊥)
     → a + b + c + d ≤ 1
 one-of-four a b c d la lb lc ld ab ac ad bc bd cd = go (cases_lt 0 a) (cases_lt 0 b) (cases_lt 0 c)
   where

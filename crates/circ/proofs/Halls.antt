@@ -1,8 +1,9 @@
 -- What serving the web comes to, from what its parts came to.
-use Rattle.std.proofs.Common.{◌≡◌, ◌≤◌, ◌+◌, inl, inr, ℕ, zero, suc, Bool, true, false, List, [], ◌∷◌, ◌++◌, length, map, refl, sym, ap, ◌∙◌, subst, arith, length-append}
+use Rattle.std.proofs.Common.{◌≡◌, ◌≤◌, ◌+◌, inl, inr, ℕ, zero, suc, Bool, true, false, List, [], ◌∷◌, ◌++◌, length, refl, sym, ap}
+use Rattle.std.proofs.Common.{◌∙◌, subst, arith, length-append}
 use Rattle.std.proofs.lemmas.List.{length-map}
 use Rattle.std.proofs.lemmas.List.Elements.{All-cons}
-use Rattle.std.specs.Prelude.{Option, Some, None, Result, Ok, Err}
+use Rattle.std.specs.Prelude.{Option, Some, Result, Ok, Err}
 use Rattle.std.specs.Io.KnownBytes.{Appends}
 use Rattle.store.specs.Library.{Ghosts, Held, state}
 use Rattle.model.specs.History.{History}
@@ -23,22 +24,30 @@ use Rattle.hall.specs.declared.hall.Why.TheVariants as why
 use Rattle.desk.proofs.Looking.{idle}
 use Rattle.hall.proofs.Progress.{handled-after-look, unopened}
 use Rattle.circ.specs.declared.lines.Exit.{Exit}
-use Rattle.circ.specs.declared.lines.Exit.TheVariants.{Faulted, NotUnderstood}
-use Rattle.circ.specs.Lines.{EndsWith, fault_line, port_line, threads_line, not_understood_line}
+use Rattle.circ.specs.declared.lines.Exit.TheVariants.{Faulted}
+use Rattle.circ.specs.Lines.{EndsWith, fault_line, port_line, threads_line}
 use Rattle.circ.specs.Serving.{TookParts, ServesWorkers, ServesHall, ServesPort, end_text, exit_after, why_line, exit_of_why}
 use Rattle.terms.proofs.Fronts.{failed-first, second-out, second-failed}
 
 -- one worker more took part
-pub part-more : (n : ℕ) (got : List Message) (shown : Seen) (parts more : ℕ) (w : Working) → TookParts n got shown parts → TookPart n got shown w → more ≤ parts + 1 → TookParts n got shown more
-part-more n got shown parts more w took part few = record { workers = w ∷ took.workers; each = All-cons (TookPart n got shown) w took.workers part took.each; many = omega (arith, took.many, few) }
+pub part-more : (n : ℕ) (got : List Message) (shown : Seen) (parts more : ℕ) (w : Working) → TookParts n got shown parts
+    → TookPart n got shown w → more ≤ parts + 1 → TookParts n got shown more
+part-more n got shown parts more w took part few =
+    record {
+      workers = w ∷ took.workers;
+      each = All-cons (TookPart n got shown) w took.workers part took.each;
+      many = omega (arith, took.many, few);
+    }
 
 -- nobody did
 pub no-part : (n : ℕ) (got : List Message) (shown : Seen) → TookParts n got shown 0
 no-part n got shown = record { workers = []; each = λ k d few. absurd (omega (arith, few)); many = omega arith }
 
-pub part-same : (n m : ℕ) (got heard : List Message) (shown shows : Seen) (parts : ℕ) → m ≡ n → heard ≡ got → shows ≡ shown → TookParts n got shown parts → TookParts m heard shows parts
+pub part-same : (n m : ℕ) (got heard : List Message) (shown shows : Seen) (parts : ℕ) → m ≡ n → heard ≡ got → shows ≡ shown
+    → TookParts n got shown parts → TookParts m heard shows parts
 part-same n m got heard shown shows parts a b c took =
-    subst (λ (k : ℕ). TookParts k heard shows parts) (sym a) (subst (λ (l : List Message). TookParts n l shows parts) (sym b) (subst (λ (s : Seen). TookParts n got s parts) (sym c) took))
+    subst (λ (k : ℕ). TookParts k heard shows parts) (sym a)
+    (subst (λ (l : List Message). TookParts n l shows parts) (sym b) (subst (λ (s : Seen). TookParts n got s parts) (sym c) took))
 
 -- as many workers as were hired
 pub hired-length : (workers : ℕ) (all : List Working) → AreWorkers workers all → length all ≡ workers
@@ -53,7 +62,8 @@ module _ {S : Type 0} (g : Ghosts S) where
   why-faulted e f h = cc
 
   -- a fault kept the hall from being opened
-  pub not-opened : (workers : ℕ) (old new : Held S) (fault : ServiceFault) → IsUnopened workers g old new (why.Faulted fault) → HandledFirst [] [] g old new (Some fault)
+  pub not-opened : (workers : ℕ) (old new : Held S) (fault : ServiceFault) → IsUnopened workers g old new (why.Faulted fault)
+      → HandledFirst [] [] g old new (Some fault)
   not-opened workers old new fault is = by (can_be_workers workers) refl
     where
       by : (b : Bool) → can_be_workers workers ≡ b → HandledFirst [] [] g old new (Some fault)
@@ -72,7 +82,8 @@ module _ {S : Type 0} (g : Ghosts S) where
 
   module _ {E : Type 0} (lists : History → Type 0) (port workers : ℕ) (old new : Held S) where
     -- the port was told, and then how it ended
-    pub port-told : (a b c : Option (List ℕ)) (r : Result Exit E) (are_whole : Bool) (fault : Option ServiceFault) → ServesWorkers lists workers are_whole g old new fault → Appends a b (port_line port)
+    pub port-told : (a b c : Option (List ℕ)) (r : Result Exit E) (are_whole : Bool) (fault : Option ServiceFault)
+        → ServesWorkers lists workers are_whole g old new fault → Appends a b (port_line port)
         → EndsWith (exit_after are_whole fault) (end_text are_whole fault) b c r → ServesHall lists port workers g old new a c r
     port-told a b c r are_whole fault serves out ends = record {
       fault = fault;
@@ -88,17 +99,26 @@ module _ {S : Type 0} (g : Ghosts S) where
     }
 
     -- the port could not be told
-    pub port-untold : (a b : Option (List ℕ)) (error : E) (are_whole : Bool) (fault : Option ServiceFault) → ServesWorkers lists workers are_whole g old new fault → AppendsFront a b (port_line port)
+    pub port-untold : (a b : Option (List ℕ)) (error : E) (are_whole : Bool) (fault : Option ServiceFault)
+        → ServesWorkers lists workers are_whole g old new fault → AppendsFront a b (port_line port)
         → ServesHall lists port workers g old new a b (Err error)
     port-untold a b error are_whole fault serves front = record {
       fault = fault;
       are_whole = are_whole;
       serves = serves;
-      told = record { exit_is = tt; writes = record { all = tt; front = failed-first {T = Exit} (Err error) a b (port_line port) (end_text are_whole fault) front } };
+      told = record {
+        exit_is = tt;
+        writes = record {
+          all = tt;
+          front = failed-first {T = Exit} (Err error) a b (port_line port)
+              (end_text are_whole fault) front;
+        };
+      };
     }
 
   -- the hall was opened, which only looks at the tables, and for each list that they show
-  pub opened-served : {E : Type 0} (lists : History → Type 0) (port workers : ℕ) (all : List Working) (old side new : Held S) (a b : Option (List ℕ)) (r : Result Exit E) → ((H : History) → Shows (state g old) H → lists H)
+  pub opened-served : {E : Type 0} (lists : History → Type 0) (port workers : ℕ) (all : List Working) (old side new : Held S)
+      (a b : Option (List ℕ)) (r : Result Exit E) → ((H : History) → Shows (state g old) H → lists H)
       → AreWorkers workers all → LooksOnly g old side (Ok tt) → ServesHall lists port (length all) g side new a b r → ServesPort port workers g old new a b r
   opened-served lists port workers all old side new a b r every hired look served =
       let s = served.serves in
@@ -123,18 +143,22 @@ module _ {S : Type 0} (g : Ghosts S) where
   no-memory held = unopened g held held (Met Memory) (inl (Memory, refl, record { looked = Ok tt; looks = idle; cause = inr refl }))
 
   -- the fault of a hall that isn't opened was told
-  pub fault-told : {E : Type 0} (port workers : ℕ) (old new : Held S) (a b : Option (List ℕ)) (r : Result Exit E) (fault : ServiceFault) → HandledFirst [] [] g old new (Some fault) → EndsWith Faulted (fault_line (service_fault_number fault)) a b r
+  pub fault-told : {E : Type 0} (port workers : ℕ) (old new : Held S) (a b : Option (List ℕ)) (r : Result Exit E) (fault : ServiceFault)
+      → HandledFirst [] [] g old new (Some fault) → EndsWith Faulted (fault_line (service_fault_number fault)) a b r
       → ServesPort port workers g old new a b r
   fault-told port workers old new a b r fault desk ends = inr (inl (record { fault = fault; desk = desk; told = ends }))
 
 -- why the hall isn't opened was told
-pub why-told : {S E : Type 0} (g : Ghosts S) (port workers : ℕ) (old new : Held S) (w : Why) (a b : Option (List ℕ)) (r : Result Exit E) → IsUnopened workers g old new w → EndsWith (exit_of_why w) (why_line w) a b r
+pub why-told : {S E : Type 0} (g : Ghosts S) (port workers : ℕ) (old new : Held S) (w : Why) (a b : Option (List ℕ)) (r : Result Exit E)
+    → IsUnopened workers g old new w → EndsWith (exit_of_why w) (why_line w) a b r
     → ServesPort port workers g old new a b r
 why-told g port workers old new (why.Faulted fault) a b r is ends = fault-told g port workers old new a b r fault (not-opened g workers old new fault is) ends
 why-told g port workers old new (why.Refused refusal) a b r is ends = inr (inr (not-asked g workers old new refusal is, ends))
 
 -- that a thread could not be made was told, and then the fault
-pub both-told : {E : Type 0} (are_whole : Bool) (fault : Option ServiceFault) (met : ServiceFault) (a b : Option (List ℕ)) (r : Result Exit E) → are_whole ≡ false → fault ≡ Some met
+pub both-told : {E : Type 0} (are_whole : Bool) (fault : Option ServiceFault) (met : ServiceFault) (a b : Option (List ℕ))
+    (r : Result Exit E) → are_whole ≡ false → fault ≡ Some met
     → EndsWith Faulted (threads_line ++ fault_line (service_fault_number met)) a b r → EndsWith (exit_after are_whole fault) (end_text are_whole fault) a b r
 both-told are_whole fault met a b r out is ends =
-    subst (λ (w : Bool). EndsWith (exit_after w fault) (end_text w fault) a b r) (sym out) (subst (λ (o : Option ServiceFault). EndsWith (exit_after false o) (end_text false o) a b r) (sym is) ends)
+    subst (λ (w : Bool). EndsWith (exit_after w fault) (end_text w fault) a b r) (sym out)
+    (subst (λ (o : Option ServiceFault). EndsWith (exit_after false o) (end_text false o) a b r) (sym is) ends)

@@ -1,6 +1,7 @@
 -- Rows of a copies file that are handled and told, one after another.
 use Rattle.front.specs.declared.copies.TheConstants.{MOST_ROWS}
-use Rattle.std.proofs.Common.{◌≡◌, ℕ, suc, ◌+◌, ◌≤◌, ◌<◌, Bool, true, false, not, cond, List, [], ◌∷◌, ◌++◌, length, take, Option, append_assoc, append-nil, refl, sym, ◌∙◌, ap, subst, arith}
+use Rattle.std.proofs.Common.{◌≡◌, ℕ, suc, ◌+◌, ◌≤◌, ◌<◌, Bool, true, false, not, cond, List, [], ◌∷◌, ◌++◌, length, take, Option}
+use Rattle.std.proofs.Common.{append_assoc, append-nil, refl, sym, ◌∙◌, ap, subst, arith}
 use Rattle.std.specs.Prelude.{filter, IsTrue}
 use Rattle.std.proofs.KnownBytes.{Appends-trans}
 use Rattle.std.proofs.Math.Seq.{take-append_seam}
@@ -20,10 +21,11 @@ use Rattle.desk.specs.Answering.{Shows, Stays, LeavesOneOf}
 use Rattle.desk.proofs.Afterwards.{after-last, replies-last}
 use Rattle.front.specs.declared.copies.CopyEnd.{CopyEnd}
 use Rattle.front.specs.declared.copies.CopyRow.{CopyRow}
-use Rattle.circ.specs.Importing.{request_of, requests_of, row_line, row_lines, end_line, counts_line, import_lines, end_exit, is_refusal, accepted_in, refused_in, with_row, HandlesOne, HandlesRows, ImportsAll, ImportsSome, ImportsCut}
+use Rattle.circ.specs.Importing.{request_of, requests_of, row_line, row_lines, end_line, counts_line, import_lines, end_exit, is_refusal}
+use Rattle.circ.specs.Importing.{accepted_in, refused_in, with_row, HandlesOne, HandlesRows, ImportsAll, ImportsSome, ImportsCut}
 use Rattle.circ.specs.Lines.{fault_line}
 use Rattle.terms.proofs.Fronts.{front-after, appends-nothing}
-use Rattle.circ.specs.declared.importing.Counts.{Counts}
+use Rattle.circ.specs.declared.importing.Tally.{Tally}
 use Rattle.circ.specs.declared.lines.Exit.TheVariants.{Faulted}
 
 -- ---- histories
@@ -31,7 +33,8 @@ use Rattle.circ.specs.declared.lines.Exit.TheVariants.{Faulted}
 requests-more : (rows : List CopyRow) (row : CopyRow) → requests_of (rows ++ row ∷ []) ≡ requests_of rows ++ request_of row ∷ []
 requests-more rows row = map-append request_of rows (row ∷ [])
 
-pub after-more : (H : History) (rows : List CopyRow) (row : CopyRow) → after H (requests_of (rows ++ row ∷ [])) ≡ after_one (after H (requests_of rows)) (request_of row)
+pub after-more : (H : History) (rows : List CopyRow) (row : CopyRow)
+    → after H (requests_of (rows ++ row ∷ [])) ≡ after_one (after H (requests_of rows)) (request_of row)
 after-more H rows row = ap (after H) (requests-more rows row) ∙ after-last (requests_of rows) H (request_of row)
 
 length-more : {A : Type 0} (xs : List A) (x : A) → length (xs ++ x ∷ []) ≡ length xs + 1
@@ -63,26 +66,31 @@ pub lines-more : (replies : List Reply) (reply : Reply) → row_lines 1 (replies
 lines-more replies reply = lines-from 1 replies reply ∙ ap (λ (m : ℕ). row_lines 1 replies ++ row_line m reply) (omega arith)
 
 accepted-more : (replies : List Reply) (reply : Reply) → accepted_in (replies ++ reply ∷ []) ≡ accepted_in replies + accepted_in (reply ∷ [])
-accepted-more replies reply = ap length (filter-append (λ r. not (is_refusal r)) replies (reply ∷ [])) ∙ length-append (filter (λ r. not (is_refusal r)) replies) (filter (λ r. not (is_refusal r)) (reply ∷ []))
+accepted-more replies reply = ap length (filter-append (λ r. not (is_refusal r)) replies (reply ∷ []))
+    ∙ length-append (filter (λ r. not (is_refusal r)) replies) (filter (λ r. not (is_refusal r)) (reply ∷ []))
 
 refused-more : (replies : List Reply) (reply : Reply) → refused_in (replies ++ reply ∷ []) ≡ refused_in replies + refused_in (reply ∷ [])
-refused-more replies reply = ap length (filter-append is_refusal replies (reply ∷ [])) ∙ length-append (filter is_refusal replies) (filter is_refusal (reply ∷ []))
+refused-more replies reply = ap length (filter-append is_refusal replies (reply ∷ []))
+    ∙ length-append (filter is_refusal replies) (filter is_refusal (reply ∷ []))
 
 -- Each reply is accepted or refused.
 pub both-kinds : (replies : List Reply) → accepted_in replies + refused_in replies ≡ length replies
 both-kinds [] = refl
 both-kinds (x ∷ replies) = go (is_refusal x) (both-kinds replies)
   where
-    go : (b : Bool) → accepted_in replies + refused_in replies ≡ length replies → length (cond (not b) (x ∷ filter (λ r. not (is_refusal r)) replies) (filter (λ r. not (is_refusal r)) replies)) + length (cond b (x ∷ filter is_refusal replies) (filter is_refusal replies)) ≡ suc (length replies)
+    go : (b : Bool) → accepted_in replies + refused_in replies ≡ length replies
+        → length (cond (not b) (x ∷ filter (λ r. not (is_refusal r)) replies) (filter (λ r. not (is_refusal r)) replies)) + length
+        (cond b (x ∷ filter is_refusal replies) (filter is_refusal replies)) ≡ suc (length replies)
     go true ih = omega (arith, ih)
     go false ih = omega (arith, ih)
 
 -- The counts are those of these replies.
-pub record Counted (counts : Counts) (replies : List Reply) : Type 0 where
+pub record Counted (counts : Tally) (replies : List Reply) : Type 0 where
   pub accepted : counts.accepted ≡ accepted_in replies
   pub refused : counts.refused ≡ refused_in replies
 
-with-one : (counts : Counts) (reply : Reply) → ((with_row counts reply).accepted ≡ counts.accepted + accepted_in (reply ∷ [])) × ((with_row counts reply).refused ≡ counts.refused + refused_in (reply ∷ []))
+with-one : (counts : Tally) (reply : Reply) → ((with_row counts reply).accepted ≡ counts.accepted + accepted_in (reply ∷ []))
+    × ((with_row counts reply).refused ≡ counts.refused + refused_in (reply ∷ []))
 with-one counts Done = (refl, omega arith)
 with-one counts (Lent loan due) = (refl, omega arith)
 with-one counts (CheckedIn fine routed) = (refl, omega arith)
@@ -93,31 +101,33 @@ with-one counts (Owed owed) = (refl, omega arith)
 with-one counts (Shown page) = (refl, omega arith)
 with-one counts (Refused refusal) = (omega arith, refl)
 
-pub counted-more : (counts : Counts) (replies : List Reply) (reply : Reply) → Counted counts replies → Counted (with_row counts reply) (replies ++ reply ∷ [])
+pub counted-more : (counts : Tally) (replies : List Reply) (reply : Reply) → Counted counts replies → Counted (with_row counts reply) (replies ++ reply ∷ [])
 counted-more counts replies reply counted = record {
   accepted = (with-one counts reply).0 ∙ ap (λ n. n + accepted_in (reply ∷ [])) counted.accepted ∙ sym (accepted-more replies reply);
   refused = (with-one counts reply).1 ∙ ap (λ n. n + refused_in (reply ∷ [])) counted.refused ∙ sym (refused-more replies reply);
 }
 
-pub counted-all : (counts : Counts) (replies : List Reply) → Counted counts replies → counts.accepted + counts.refused ≡ length replies
+pub counted-all : (counts : Tally) (replies : List Reply) → Counted counts replies → counts.accepted + counts.refused ≡ length replies
 counted-all counts replies counted = (λ i. counted.accepted i + counted.refused i) ∙ both-kinds replies
 
 -- ---- the rows so far
 
 -- The rows were handled, told and counted.
-pub record SoFar {S : Type 0} (g : Ghosts S) (old new : Held S) (rows : List CopyRow) (counts : Counts) (a b : Option (List ℕ)) : Type 0 where
+pub record SoFar {S : Type 0} (g : Ghosts S) (old new : Held S) (rows : List CopyRow) (counts : Tally) (a b : Option (List ℕ)) : Type 0 where
   pub replies : List Reply
   pub handled : HandlesRows rows g old new replies
   pub lines : Appends a b (row_lines 1 replies)
   pub counted : Counted counts replies
 
-pub far-more : {S : Type 0} (g : Ghosts S) (old mid new : Held S) (rows : List CopyRow) (counts : Counts) (a b c : Option (List ℕ)) (row : CopyRow) (reply : Reply)
+pub far-more : {S : Type 0} (g : Ghosts S) (old mid new : Held S) (rows : List CopyRow) (counts : Tally) (a b c : Option (List ℕ))
+    (row : CopyRow) (reply : Reply)
     → SoFar g old mid rows counts a b → HandlesOne row g mid new reply → Appends b c (row_line (counts.accepted + counts.refused + 1) reply)
     → SoFar g old new (rows ++ row ∷ []) (with_row counts reply) a c
 far-more g old mid new rows counts a b c row reply far one wrote = record {
   replies = far.replies ++ reply ∷ [];
   handled = handles-more g old mid new rows far.replies row reply far.handled one;
-  lines = subst (Appends a c) (ap (λ (n : ℕ). row_lines 1 far.replies ++ row_line (n + 1) reply) (counted-all counts far.replies far.counted) ∙ sym (lines-more far.replies reply))
+  lines = subst (Appends a c) (ap (λ (n : ℕ). row_lines 1 far.replies ++ row_line (n + 1) reply)
+      (counted-all counts far.replies far.counted) ∙ sym (lines-more far.replies reply))
       (Appends-trans a b c (row_lines 1 far.replies) (row_line (counts.accepted + counts.refused + 1) reply) far.lines wrote);
   counted = counted-more counts far.replies reply far.counted;
 }
@@ -150,11 +160,13 @@ within all before left rest row parted first =
     }
 
 -- There is room for a row more.
-pub room-for : {S : Type 0} (g : Ghosts S) (old new : Held S) (before : List CopyRow) (counts : Counts) (a b : Option (List ℕ)) (all : List CopyRow) (row : CopyRow)
+pub room-for : {S : Type 0} (g : Ghosts S) (old new : Held S) (before : List CopyRow) (counts : Tally) (a b : Option (List ℕ))
+    (all : List CopyRow) (row : CopyRow)
     → SoFar g old new before counts a b → Within all before row → length all ≤ MOST_ROWS → counts.accepted + counts.refused < MOST_ROWS
 room-for g old new before counts a b all row far at most = omega (arith, counted-all counts far.replies far.counted, far.handled.many, at.few, most)
 
-module _ {S : Type 0} (g : Ghosts S) (old mid new : Held S) (all before : List CopyRow) (counts : Counts) (a b : Option (List ℕ)) (row : CopyRow) (far : SoFar g old mid before counts a b) (at : Within all before row) where
+module _ {S : Type 0} (g : Ghosts S) (old mid new : Held S) (all before : List CopyRow) (counts : Tally) (a b : Option (List ℕ))
+    (row : CopyRow) (far : SoFar g old mid before counts a b) (at : Within all before row) where
   told : length far.replies ≡ length before
   told = far.handled.many
 
@@ -191,7 +203,8 @@ module _ {S : Type 0} (g : Ghosts S) (old mid new : Held S) (all before : List C
   }
 
   -- The line of the row could not be written.
-  pub imports-cut : (c : Option (List ℕ)) (reply : Reply) → HandlesOne row g mid new reply → AppendsFront b c (row_line (counts.accepted + counts.refused + 1) reply) → ImportsCut all g old new (AppendsFront a c)
+  pub imports-cut : (c : Option (List ℕ)) (reply : Reply) → HandlesOne row g mid new reply
+      → AppendsFront b c (row_line (counts.accepted + counts.refused + 1) reply) → ImportsCut all g old new (AppendsFront a c)
   imports-cut c reply one front =
       let replies : List Reply = far.replies ++ reply ∷ [] in
       let many : length replies ≡ length far.replies + 1 = length-more far.replies reply in
@@ -199,25 +212,33 @@ module _ {S : Type 0} (g : Ghosts S) (old mid new : Held S) (all before : List C
       record {
         replies = replies;
         few = let few : length before < length all = at.few in omega (arith, few, told, many);
-        handled = subst (λ (taken : List CopyRow). HandlesRows taken g old new replies) (sym rows) (handles-more g old mid new before far.replies row reply far.handled one);
-        lines = subst (AppendsFront a c) (ap (λ (n : ℕ). row_lines 1 far.replies ++ row_line (n + 1) reply) (counted-all counts far.replies far.counted) ∙ sym (lines-more far.replies reply))
+        handled = subst (λ (taken : List CopyRow). HandlesRows taken g old new replies) (sym rows)
+            (handles-more g old mid new before far.replies row reply far.handled one);
+        lines = subst (AppendsFront a c)
+            (ap (λ (n : ℕ). row_lines 1 far.replies ++ row_line (n + 1) reply) (counted-all counts far.replies far.counted)
+            ∙ sym (lines-more far.replies reply))
             (front-after a b c (row_lines 1 far.replies) (row_line (counts.accepted + counts.refused + 1) reply) far.lines front);
       }
 
 -- ---- the lines after those of the rows
 
-module _ {S : Type 0} (g : Ghosts S) (old new : Held S) (rows : List CopyRow) (counts : Counts) (a b : Option (List ℕ)) (far : SoFar g old new rows counts a b) (end : List ℕ) where
+module _ {S : Type 0} (g : Ghosts S) (old new : Held S) (rows : List CopyRow) (counts : Tally) (a b : Option (List ℕ))
+    (far : SoFar g old new rows counts a b) (end : List ℕ) where
   last-lines : row_lines 1 far.replies ++ (end ++ counts_line counts.accepted counts.refused) ≡ import_lines far.replies end
   last-lines = λ i. row_lines 1 far.replies ++ (end ++ counts_line (far.counted.accepted i) (far.counted.refused i))
 
   pub lines-whole : (c : Option (List ℕ)) → Appends b c (end ++ counts_line counts.accepted counts.refused) → Appends a c (import_lines far.replies end)
-  lines-whole c wrote = subst (Appends a c) last-lines (Appends-trans a b c (row_lines 1 far.replies) (end ++ counts_line counts.accepted counts.refused) far.lines wrote)
+  lines-whole c wrote = subst (Appends a c) last-lines
+      (Appends-trans a b c (row_lines 1 far.replies) (end ++ counts_line counts.accepted counts.refused) far.lines wrote)
 
-  pub lines-front : (c : Option (List ℕ)) → AppendsFront b c (end ++ counts_line counts.accepted counts.refused) → AppendsFront a c (import_lines far.replies end)
-  lines-front c front = subst (AppendsFront a c) last-lines (front-after a b c (row_lines 1 far.replies) (end ++ counts_line counts.accepted counts.refused) far.lines front)
+  pub lines-front : (c : Option (List ℕ)) → AppendsFront b c (end ++ counts_line counts.accepted counts.refused)
+      → AppendsFront a c (import_lines far.replies end)
+  lines-front c front = subst (AppendsFront a c) last-lines
+      (front-after a b c (row_lines 1 far.replies) (end ++ counts_line counts.accepted counts.refused) far.lines front)
 
   -- All rows were handled.
-  pub imports-all : (all : List CopyRow) → rows ≡ all → (end_of : CopyEnd) (WentOut : List ℕ → Type 0) → WentOut (import_lines far.replies (end_line end_of)) → ImportsAll all end_of g old new WentOut (end_exit end_of counts.refused)
+  pub imports-all : (all : List CopyRow) → rows ≡ all → (end_of : CopyEnd) (WentOut : List ℕ → Type 0)
+      → WentOut (import_lines far.replies (end_line end_of)) → ImportsAll all end_of g old new WentOut (end_exit end_of counts.refused)
   imports-all all is end_of WentOut lines = record {
     replies = far.replies;
     handled = subst (λ (xs : List CopyRow). HandlesRows xs g old new far.replies) is far.handled;

@@ -4,7 +4,7 @@ use Rattle.std.specs.Prelude.{Result, Ok, Err, ◌-◌}
 use Rattle.store.specs.Library.{Ghosts, Held, State, state, HasCleanDisk, IsOpen}
 use Rattle.store.specs.Migrating.{Migrates, IsLibrary}
 use Rattle.store.specs.Schemas.{IsKnown, IsOlder}
-use Rattle.store.specs.Stops.{Leaves, KeepsPicture, KeepsPictureAt, LeavesPicture}
+use Rattle.store.specs.Stops.{KeepsPicture, KeepsPictureAt, LeavesPicture}
 use Rattle.circ_tables.specs.Encoding.{HasPictureAt}
 use Rattle.circ_tables.specs.Shape.{since_first}
 use Rattle.terms.specs.Limits.{InLimits}
@@ -36,45 +36,54 @@ of-schema : (n : ℕ) → IsKnown n → (H : History) → IsOfSchema n (picture_
 of-schema = since_first (λ n. (H : History) → IsOfSchema n (picture_at n H)) of_schema_1 of_schema_2 (λ H. refl)
 
 in-limits : (n : ℕ) → IsKnown n → (H : History) → InLimits (picture H) → InLimits (picture_at n H)
-in-limits = since_first (λ n. (H : History) → InLimits (picture H) → InLimits (picture_at n H)) (λ H legal. limits1 H (limits2 H legal)) limits2 (λ H legal. legal)
+in-limits = since_first (λ n. (H : History) → InLimits (picture H) → InLimits (picture_at n H))
+    (λ H legal. limits1 H (limits2 H legal)) limits2 (λ H legal. legal)
 
 is-library : (n : ℕ) → IsKnown n → (s : State) (H : History) → ShowsAt n s H → IsLibrary n s.now (picture_at n H)
 is-library n known s H shows = (shows.tables.now, of-schema n known H, in-limits n known H (legal-rows H (legal-now n known H shows.legal) shows.forms))
 
 -- After any steps they are those of the same list in the schema that these lead to, with which it was legal too.
-led-by : (n : ℕ) → IsKnown n → (steps : ℕ) → n + steps ≤ SCHEMA → (H : History) → IsLegalAt n H → (led_by steps n (picture_at n H) ≡ picture_at (n + steps) H) × IsLegalAt (n + steps) H
-led-by = since_first (λ n. (steps : ℕ) → n + steps ≤ SCHEMA → (H : History) → IsLegalAt n H → (led_by steps n (picture_at n H) ≡ picture_at (n + steps) H) × IsLegalAt (n + steps) H) first second third
+led-by : (n : ℕ) → IsKnown n → (steps : ℕ) → n + steps ≤ SCHEMA → (H : History) → IsLegalAt n H
+    → (led_by steps n (picture_at n H) ≡ picture_at (n + steps) H) × IsLegalAt (n + steps) H
+led-by = since_first (λ n. (steps : ℕ) → n + steps ≤ SCHEMA → (H : History) → IsLegalAt n H
+    → (led_by steps n (picture_at n H) ≡ picture_at (n + steps) H) × IsLegalAt (n + steps) H) first second third
   where
-    first : (steps : ℕ) → 1 + steps ≤ SCHEMA → (H : History) → IsLegalAt 1 H → (led_by steps 1 (picture_at 1 H) ≡ picture_at (1 + steps) H) × IsLegalAt (1 + steps) H
+    first : (steps : ℕ) → 1 + steps ≤ SCHEMA → (H : History) → IsLegalAt 1 H → (led_by steps 1 (picture_at 1 H) ≡ picture_at (1 + steps) H)
+        × IsLegalAt (1 + steps) H
     first zero few H legal = (refl, legal)
     first (suc zero) few H legal = let is = stands-1 H legal in (led-1 H is.of_schema, legal-2 H (within-schema-2 H is.of_schema) is.legal)
     first (suc (suc zero)) few H legal = let is = stands-1 H legal in (ap led_to_3 (led-1 H is.of_schema) ∙ led-2 H (within-schema-2 H is.of_schema), is.legal)
     first (suc (suc (suc steps))) few H legal = absurd (omega (arith, few))
 
-    second : (steps : ℕ) → 2 + steps ≤ SCHEMA → (H : History) → IsLegalAt 2 H → (led_by steps 2 (picture_at 2 H) ≡ picture_at (2 + steps) H) × IsLegalAt (2 + steps) H
+    second : (steps : ℕ) → 2 + steps ≤ SCHEMA → (H : History) → IsLegalAt 2 H → (led_by steps 2 (picture_at 2 H) ≡ picture_at (2 + steps) H)
+        × IsLegalAt (2 + steps) H
     second zero few H legal = (refl, legal)
     second (suc zero) few H legal = let is = stands-2 H legal in (led-2 H is.of_schema, is.legal)
     second (suc (suc steps)) few H legal = absurd (omega (arith, few))
 
-    third : (steps : ℕ) → 3 + steps ≤ SCHEMA → (H : History) → IsLegalAt 3 H → (led_by steps 3 (picture_at 3 H) ≡ picture_at (3 + steps) H) × IsLegalAt (3 + steps) H
+    third : (steps : ℕ) → 3 + steps ≤ SCHEMA → (H : History) → IsLegalAt 3 H → (led_by steps 3 (picture_at 3 H) ≡ picture_at (3 + steps) H)
+        × IsLegalAt (3 + steps) H
     third zero few H legal = (refl, legal)
     third (suc steps) few H legal = absurd (omega (arith, few))
 
 -- After all of them they are those of the newest.
 led-up : (n : ℕ) → IsKnown n → (H : History) → IsLegalAt n H → led_by (SCHEMA - n) n (picture_at n H) ≡ picture H
 led-up = since_first (λ n. (H : History) → IsLegalAt n H → led_by (SCHEMA - n) n (picture_at n H) ≡ picture H)
-    (λ H legal. (led-by 1 (omega arith, omega arith) 2 (omega arith) H legal).0) (λ H legal. (led-by 2 (omega arith, omega arith) 1 (omega arith) H legal).0) (λ H legal. refl)
+    (λ H legal. (led-by 1 (omega arith, omega arith) 2 (omega arith) H legal).0)
+    (λ H legal. (led-by 2 (omega arith, omega arith) 1 (omega arith) H legal).0) (λ H legal. refl)
 
 -- What shows a list in the newest schema shows it as one of that schema.
 at-newest : (s : State) (H : History) → Shows s H → ShowsAt SCHEMA s H
 at-newest s H shows = record { legal = shows.legal; forms = shows.forms; tables = shows.tables }
 
 module _ {S T : Type 0} (g : Ghosts S) (old new : Held S) where
-  says-now : (done : T) → Migrates g old new (Ok done) → HasCleanDisk (state g new) → (n : ℕ) → IsKnown n → (H : History) → ShowsAt n (state g old) H → Shows (state g new) H
+  says-now : (done : T) → Migrates g old new (Ok done) → HasCleanDisk (state g new) → (n : ℕ) → IsKnown n → (H : History)
+      → ShowsAt n (state g old) H → Shows (state g new) H
   says-now done it disk n known H shows = record {
     legal = legal-now n known H shows.legal;
     forms = shows.forms;
-    tables = subst (λ P. KeepsPicture (state g new) P) (led-up n known H shows.legal) (it.led disk n known (picture_at n H) (is-library n known (state g old) H shows));
+    tables = subst (λ P. KeepsPicture (state g new) P) (led-up n known H shows.legal)
+        (it.led disk n known (picture_at n H) (is-library n known (state g old) H shows));
   }
 
   pub says-led : (done : T) → Migrates g old new (Ok done) → SaysOneOf g old new schema_line Done
@@ -89,7 +98,8 @@ module _ {S T : Type 0} (g : Ghosts S) (old new : Held S) where
   abbrev failed : Fault → Result T Fault
   failed fault = Err fault
 
-  says-still : (fault : Fault) → Migrates {T = T} g old new (Err fault) → HasCleanDisk (state g new) → IsOpen g new → (n : ℕ) → IsKnown n → (H : History) → ShowsAt n (state g old) H → (m : ℕ) × IsFrom n m × (IsOlder n → m < SCHEMA) × ShowsAt m (state g new) H
+  says-still : (fault : Fault) → Migrates {T = T} g old new (Err fault) → HasCleanDisk (state g new) → IsOpen g new → (n : ℕ) → IsKnown n
+      → (H : History) → ShowsAt n (state g old) H → (m : ℕ) × IsFrom n m × (IsOlder n → m < SCHEMA) × ShowsAt m (state g new) H
   says-still fault it disk is_open n known H shows =
       let kept = it.undone disk is_open n known (picture_at n H) (is-library n known (state g old) H shows) in
       let led = led-by n known kept.0 kept.1.0 H shows.legal in (
@@ -119,13 +129,16 @@ module _ {S T : Type 0} (g : Ghosts S) (old new : Held S) where
   })
 
   -- A stop leaves the list in its schema or in a later one.
-  pub left-in-one : {r : Result T Fault} → Migrates g old new r → HasCleanDisk (state g new) → (n : ℕ) → IsKnown n → (H : History) → ShowsAt n (state g old) H → LeavesOneSchema n (state g new) H
+  pub left-in-one : {r : Result T Fault} → Migrates g old new r → HasCleanDisk (state g new) → (n : ℕ) → IsKnown n → (H : History)
+      → ShowsAt n (state g old) H → LeavesOneSchema n (state g new) H
   left-in-one it disk n known H shows trees may =
-      let left = it.stop disk n known (picture_at n H) shows.tables (of-schema n known H) (in-limits n known H (legal-rows H (legal-now n known H shows.legal) shows.forms)) trees may in
+      let left = it.stop disk n known (picture_at n H) shows.tables (of-schema n known H)
+      (in-limits n known H (legal-rows H (legal-now n known H shows.legal) shows.forms)) trees may in
       let led = led-by n known left.1.0 left.1.1.0 H shows.legal in
       (left.0, (n + left.1.0, (omega arith, left.1.1.0), subst (HasPictureAt (n + left.1.0) left.0) led.0 left.1.1.1), left.2)
 
-  pub left-same : {r : Result T Fault} → Migrates g old new r → HasCleanDisk (state g new) → (H : History) → Shows (state g old) H → LeavesPicture (state g new) (picture H)
+  pub left-same : {r : Result T Fault} → Migrates g old new r → HasCleanDisk (state g new) → (H : History) → Shows (state g old) H
+      → LeavesPicture (state g new) (picture H)
   left-same it disk H shows trees may =
       let left = left-in-one it disk SCHEMA newest H (at-newest (state g old) H shows) trees may in
       let low = left.1.1.0 in

@@ -49,7 +49,15 @@ module _ {S : Type 0} (g : Ghosts S) (old new : Held S) (key : List ℕ) (words 
       → (HasCleanDisk (state g new) → (H : History) → Shows (state g old) H → LeavesOneOf (state g new) H (after_one H (desk_request key command)))
       → Says key words g old new (fault_line (fault_number fault)) Faulted
   says-fault command fault understood sound undone left =
-      inr (inl (record { fault = fault; line_is = refl; exit_is = refl; sound = sound; undone = undone; left = λ disk H shows. inr (command, understood, left disk H shows) }))
+      inr (inl (record {
+        fault = fault;
+        line_is = refl;
+        exit_is = refl;
+        sound = sound;
+        undone = undone;
+        left = λ disk H shows. inr
+            (command, understood, left disk H shows);
+      }))
 
 -- nothing was touched
 module _ {S : Type 0} (g : Ghosts S) (held : Held S) (key : List ℕ) (words : List (List ℕ)) where

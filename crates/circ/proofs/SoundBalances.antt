@@ -1,5 +1,6 @@
 -- By the tables of a legal history each patron owes the charges less payments and waivers.
-use Rattle.std.proofs.Common.{◌≡◌, ℕ, zero, suc, ◌+◌, ◌<◌, ◌≤◌, ◌==◌, ◌⊎◌, inl, inr, Bool, true, false, cond, List, [], ◌∷◌, map, refl, sym, ◌∙◌, ap, subst, arith}
+use Rattle.std.proofs.Common.{◌≡◌, ℕ, zero, suc, ◌+◌, ◌<◌, ◌≤◌, ◌==◌, ◌⊎◌, inl, inr, Bool, true, false, cond, List, [], ◌∷◌, map, refl, sym}
+use Rattle.std.proofs.Common.{◌∙◌, ap, subst, arith}
 use Rattle.std.specs.Prelude.{Some, None, option_map, filter, sum_by}
 use Rattle.std.specs.List.{Contains}
 use Rattle.std.proofs.lemmas.List.Sums.{sum_by-cons}
@@ -46,7 +47,8 @@ nth-zero [] = refl
 nth-zero (x ∷ xs) = refl
 
 module _ (k : ℕ) (x : Line) (xs : List Line) where
-  later : (r : LineRow) → suc k < r.line → (n : ℕ) → r.line ≡ k + n → nth_line (x ∷ xs) n ≡ Some (line_in r) → (m : ℕ) × (r.line ≡ suc k + m) × (nth_line xs m ≡ Some (line_in r))
+  later : (r : LineRow) → suc k < r.line → (n : ℕ) → r.line ≡ k + n → nth_line (x ∷ xs) n ≡ Some (line_in r) → (m : ℕ)
+      × (r.line ≡ suc k + m) × (nth_line xs m ≡ Some (line_in r))
   later r lt zero at e = let never : ⊥ = cc in absurd never
   later r lt (suc zero) at e = absurd (omega (arith, at, lt))
   later r lt (suc (suc n)) at e = (suc n, omega (arith, at), e)
@@ -143,16 +145,19 @@ module _ (p : ℕ) where
   summed f g is (r ∷ rows) = sum_by-cons f r rows ∙ ap (λ n. n + sum_by f rows) (is r) ∙ go (summed f g is rows) (r.patron == p)
     where
       go : sum_by f rows ≡ sum_by g (filter (λ x. x.patron == p) (map line_in rows)) → (b : Bool)
-          → cond b (g (line_in r)) 0 + sum_by f rows ≡ sum_by g (cond b (line_in r ∷ filter (λ x. x.patron == p) (map line_in rows)) (filter (λ x. x.patron == p) (map line_in rows)))
+          → cond b (g (line_in r)) 0 + sum_by f rows ≡ sum_by g
+          (cond b (line_in r ∷ filter (λ x. x.patron == p) (map line_in rows)) (filter (λ x. x.patron == p) (map line_in rows)))
       go ih true = ap (λ n. g (line_in r) + n) ih ∙ sym (sum_by-cons g (line_in r) (filter (λ x. x.patron == p) (map line_in rows)))
       go ih false = let e = ih in omega (arith, e)
 
 module _ (H : History) (rows : Tables) (legal : IsLegal H) (are : AreAuditTables (picture H) rows) (p : ℕ) where
   charged : charges_of rows p ≡ charges (account H p)
-  charged = summed p (λ r. charge r p) (λ x. charge_of x.sort x.amount) (charge-is p) rows.lines ∙ ap (λ (xs : List Line). sum_by (λ x. charge_of x.sort x.amount) (filter (λ x. x.patron == p) xs)) (listed H rows are)
+  charged = summed p (λ r. charge r p) (λ x. charge_of x.sort x.amount) (charge-is p) rows.lines
+      ∙ ap (λ (xs : List Line). sum_by (λ x. charge_of x.sort x.amount) (filter (λ x. x.patron == p) xs)) (listed H rows are)
 
   credited : credits_of rows p ≡ credits (account H p)
-  credited = summed p (λ r. credit r p) (λ x. credit_of x.sort x.amount) (credit-is p) rows.lines ∙ ap (λ (xs : List Line). sum_by (λ x. credit_of x.sort x.amount) (filter (λ x. x.patron == p) xs)) (listed H rows are)
+  credited = summed p (λ r. credit r p) (λ x. credit_of x.sort x.amount) (credit-is p) rows.lines
+      ∙ ap (λ (xs : List Line). sum_by (λ x. credit_of x.sort x.amount) (filter (λ x. x.patron == p) xs)) (listed H rows are)
 
   pub balanced : IsBalanced rows p
   balanced = all-there (λ r. r.patron ≡ p → r.owed + credits_of rows p ≡ charges_of rows p) rows.patrons owes

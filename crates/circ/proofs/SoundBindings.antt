@@ -69,7 +69,8 @@ module _ (H : History) (rows : Tables) (legal : IsLegal H) (forms : HasForms H) 
       ap (λ (o : Option ℕ). is_copy_of rows.copies o r.title) copy ∙ ap (is_copy_of rows.copies (Some on.0)) title ∙ of-title on.0 r.hold served somewhere
 
   fits : (r : HoldRow) → (picture H).holds r.hold ≡ Some r → is_fit rows.copies r ≡ true
-  fits r row = go facts.0 facts.2 (ap (λ (q : HoldRow). q.state) (sym facts.4)) (ap (λ (q : HoldRow). q.copy) (sym facts.4)) (ap (λ (q : HoldRow). q.limit_day) (sym facts.4))
+  fits r row = go facts.0 facts.2 (ap (λ (q : HoldRow). q.state) (sym facts.4)) (ap (λ (q : HoldRow). q.copy) (sym facts.4))
+      (ap (λ (q : HoldRow). q.limit_day) (sym facts.4))
     where
       facts : (s : HoldState) × (f : HoldFacts) × (state H r.hold ≡ Some s) × (hold_of H r.hold ≡ Some f) × (hold_columns H r.hold s f ≡ r)
       facts = hold-facts H r.hold r row
@@ -85,7 +86,8 @@ module _ (H : History) (rows : Tables) (legal : IsLegal H) (forms : HasForms H) 
       empty Cancelled at copy day other = rw (at, copy, day) refl
       empty Expired at copy day other = rw (at, copy, day) refl
 
-      go : (s : HoldState) → state H r.hold ≡ Some s → r.state ≡ s → r.copy ≡ if_ready (Some s) (kept_for H r.hold) → r.limit_day ≡ if_ready (Some s) (limit H r.hold) → is_fit rows.copies r ≡ true
+      go : (s : HoldState) → state H r.hold ≡ Some s → r.state ≡ s → r.copy ≡ if_ready (Some s) (kept_for H r.hold)
+          → r.limit_day ≡ if_ready (Some s) (limit H r.hold) → is_fit rows.copies r ≡ true
       go Ready is at copy day =
           let l = limit-is H r.hold legal (forms-whole H forms) is in
           let limited : is_some r.limit_day ≡ true = ap is_some (day ∙ l.1) in
@@ -118,7 +120,8 @@ module _ (H : History) (rows : Tables) (legal : IsLegal H) (forms : HasForms H) 
       row = hold_columns H h Waiting facts.0
 
       drawn : (picture H).holds h ≡ Some row
-      drawn = ap (λ (o : Option HoldState). option_and_then (λ s. option_map (hold_columns H h s) (hold_of H h)) o) travels.1 ∙ ap (option_map (hold_columns H h Waiting)) facts.1
+      drawn = ap (λ (o : Option HoldState). option_and_then (λ s. option_map (hold_columns H h s) (hold_of H h)) o) travels.1
+          ∙ ap (option_map (hold_columns H h Waiting)) facts.1
 
       there' : Contains rows.holds row
       there' = are.holds.whole h row drawn tt
@@ -132,13 +135,15 @@ module _ (H : History) (rows : Tables) (legal : IsLegal H) (forms : HasForms H) 
       title : is_copy_of rows.copies (Some r.copy) facts.0.title ≡ true
       title =
           subst (λ (n : ℕ). is_copy_of rows.copies (Some r.copy) n ≡ true) (ap (λ (o : Option HoldFacts). unwrap_or (option_map (λ q. q.title) o) 0) facts.1)
-          (of-title r.copy h (subst (λ (p : Place). Serves p h) (sym way) refl) (λ e. let p : Transit r.goal (Some h) ≡ Nowhere = sym way ∙ e in let never : ⊥ = cc in never))
+          (of-title r.copy h (subst (λ (p : Place). Serves p h) (sym way) refl)
+          (λ e. let p : Transit r.goal (Some h) ≡ Nowhere = sym way ∙ e in let never : ⊥ = cc in never))
 
   once : (h : ℕ) → IsServedOnce rows h
   once h =
       counted-once (λ r. names r.hold h) (λ r. r.copy) rows.transits are.transits.rise
       (λ r s in_r in_s e f.
-      (binding h).one_travels r.copy s.copy r.goal s.goal (on-way r in_r ∙ ap (Transit r.goal) (is-named r.hold h e)) (on-way s in_s ∙ ap (Transit s.goal) (is-named s.hold h f)))
+      (binding h).one_travels r.copy s.copy r.goal s.goal (on-way r in_r ∙ ap (Transit r.goal) (is-named r.hold h e))
+      (on-way s in_s ∙ ap (Transit s.goal) (is-named s.hold h f)))
 
   pub rightly-bound : (h : ℕ) → IsBound rows h
   rightly-bound h = record {

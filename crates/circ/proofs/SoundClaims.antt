@@ -50,7 +50,8 @@ shelved r c e = go (is_ready r.state) refl (is-named (shelved_copy r) c e)
 absent : (r : CopyRow) (c : ℕ) → names (absent_copy r) c ≡ true → (r.copy ≡ c) × ((r.condition ≡ Missing) ⊎ (r.condition ≡ Withdrawn))
 absent r c e = go r.condition refl (is-named (absent_copy r) c e)
   where
-    go : (s : Condition) → r.condition ≡ s → cond (is_present s) None (Some r.copy) ≡ Some c → (r.copy ≡ c) × ((r.condition ≡ Missing) ⊎ (r.condition ≡ Withdrawn))
+    go : (s : Condition) → r.condition ≡ s → cond (is_present s) None (Some r.copy) ≡ Some c → (r.copy ≡ c)
+        × ((r.condition ≡ Missing) ⊎ (r.condition ≡ Withdrawn))
     go Present is named = let never : ⊥ = cc in absurd never
     go Missing is named = let same : r.copy ≡ c = cc in (same, inl is)
     go Withdrawn is named = let same : r.copy ≡ c = cc in (same, inr is)
@@ -97,10 +98,12 @@ module _ (H : History) (rows : Tables) (legal : IsLegal H) (are : AreAuditTables
       (λ r s in_r in_s e f. let p : place H c ≡ HoldShelf r.hold = on-shelf r in_r e in let q : place H c ≡ HoldShelf s.hold = on-shelf s in_s f in cc)
 
   transits-once : count_by (λ r. names (travelling_copy r) c) rows.transits ≤ 1
-  transits-once = counted-once (λ r. names (travelling_copy r) c) (λ r. r.copy) rows.transits are.transits.rise (λ r s in_r in_s e f. (on-way r in_r e).0 ∙ sym (on-way s in_s f).0)
+  transits-once = counted-once (λ r. names (travelling_copy r) c) (λ r. r.copy) rows.transits are.transits.rise
+      (λ r s in_r in_s e f. (on-way r in_r e).0 ∙ sym (on-way s in_s f).0)
 
   copies-once : count_by (λ r. names (absent_copy r) c) rows.copies ≤ 1
-  copies-once = counted-once (λ r. names (absent_copy r) c) (λ r. r.copy) rows.copies are.copies.rise (λ r s in_r in_s e f. (gone r in_r e).0 ∙ sym (gone s in_s f).0)
+  copies-once = counted-once (λ r. names (absent_copy r) c) (λ r. r.copy) rows.copies are.copies.rise
+      (λ r s in_r in_s e f. (gone r in_r e).0 ∙ sym (gone s in_s f).0)
 
   -- ---- claims of two kinds would name two places
 
@@ -122,11 +125,15 @@ module _ (H : History) (rows : Tables) (legal : IsLegal H) (are : AreAuditTables
 
   pub claimed-once : IsClaimedOnce rows c
   claimed-once =
-      one-of-four (count_by (λ r. names (lent_copy r) c) rows.loans) (count_by (λ r. names (shelved_copy r) c) rows.holds) (count_by (λ r. names (travelling_copy r) c) rows.transits) (count_by (λ r. names (absent_copy r) c) rows.copies)
+      one-of-four (count_by (λ r. names (lent_copy r) c) rows.loans) (count_by (λ r. names (shelved_copy r) c) rows.holds)
+      (count_by (λ r. names (travelling_copy r) c) rows.transits) (count_by (λ r. names (absent_copy r) c) rows.copies)
       loans-once holds-once transits-once copies-once
       (λ x y. let p : place H c ≡ Loan (loan-there x).0 = (loan-there x).1 in let q : place H c ≡ HoldShelf (hold-there y).0 = (hold-there y).1 in cc)
-      (λ x y. let p : place H c ≡ Loan (loan-there x).0 = (loan-there x).1 in let q : place H c ≡ Transit (transit-there y).0 (transit-there y).1 = (transit-there y).2 in cc)
+      (λ x y. let p : place H c ≡ Loan (loan-there x).0 = (loan-there x).1 in let q : place H c ≡ Transit (transit-there y).0
+      (transit-there y).1 = (transit-there y).2 in cc)
       (λ x y. not-gone (Loan (loan-there x).0) (loan-there x).1 (λ e. let never : ⊥ = cc in never) (λ e. let never : ⊥ = cc in never) (gone-there y))
-      (λ x y. let p : place H c ≡ HoldShelf (hold-there x).0 = (hold-there x).1 in let q : place H c ≡ Transit (transit-there y).0 (transit-there y).1 = (transit-there y).2 in cc)
+      (λ x y. let p : place H c ≡ HoldShelf (hold-there x).0 = (hold-there x).1 in let q : place H c ≡ Transit (transit-there y).0
+      (transit-there y).1 = (transit-there y).2 in cc)
       (λ x y. not-gone (HoldShelf (hold-there x).0) (hold-there x).1 (λ e. let never : ⊥ = cc in never) (λ e. let never : ⊥ = cc in never) (gone-there y))
-      (λ x y. not-gone (Transit (transit-there x).0 (transit-there x).1) (transit-there x).2 (λ e. let never : ⊥ = cc in never) (λ e. let never : ⊥ = cc in never) (gone-there y))
+      (λ x y. not-gone (Transit (transit-there x).0 (transit-there x).1) (transit-there x).2
+      (λ e. let never : ⊥ = cc in never) (λ e. let never : ⊥ = cc in never) (gone-there y))

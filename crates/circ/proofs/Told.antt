@@ -23,19 +23,24 @@ use Rattle.terms.proofs.Fronts.{front-after}
 use Rattle.circ.specs.Reporting.{TellsOf}
 
 module _ {S : Type 0} (g : Ghosts S) (old new : Held S) (report : Report) (WentOut : List ℕ → Type 0) where
-  pub tells-report : (HasCleanDisk (state g new) → (H : History) → Shows (state g old) H → IsThere H report × WentOut (report_text H report) × Shows (state g new) H)
+  pub tells-report : (HasCleanDisk (state g new) → (H : History) → Shows (state g old) H → IsThere H report × WentOut (report_text H report)
+      × Shows (state g new) H)
       → TellsOf report g old new WentOut Done
   tells-report told = inl (record { exit_is = refl; shown = told })
 
-  pub tells-unknown : (refusal : Refusal) → refusal ≡ UnknownBranch → (HasCleanDisk (state g new) → (H : History) → Shows (state g old) H → IsUnknown H report × Shows (state g new) H)
+  pub tells-unknown : (refusal : Refusal) → refusal ≡ UnknownBranch
+      → (HasCleanDisk (state g new) → (H : History) → Shows (state g old) H → IsUnknown H report × Shows (state g new) H)
       → WentOut (reply_line (Denied refusal)) → TellsOf report g old new WentOut Refused
   tells-unknown refusal is unknown line =
       inr (inl (record { exit_is = refl; line = subst (λ (x : Refusal). WentOut (reply_line (Denied x))) is line; unknown = unknown }))
 
-  pub tells-fault : (sent : List ℕ) → (HasCleanDisk (state g new) → (H : History) → Shows (state g old) H → IsFront sent (report_text H report)) → (fault : Fault)
+  pub tells-fault : (sent : List ℕ)
+      → (HasCleanDisk (state g new) → (H : History) → Shows (state g old) H → IsFront sent (report_text H report)) → (fault : Fault)
       → (HasCleanDisk (state g new) → fault ≡ Stored → (H : History) → Shows (state g old) H → ⊥)
-      → (HasCleanDisk (state g new) → IsTrue (state g new).is_open → Stays (state g old) (state g new)) → WentOut (sent ++ fault_line (fault_number fault)) → TellsOf report g old new WentOut Faulted
-  tells-fault sent front fault sound undone line = inr (inr (record { sent = sent; front = front; fault = fault; exit_is = refl; line = line; sound = sound; undone = undone }))
+      → (HasCleanDisk (state g new) → IsTrue (state g new).is_open → Stays (state g old) (state g new))
+      → WentOut (sent ++ fault_line (fault_number fault)) → TellsOf report g old new WentOut Faulted
+  tells-fault sent front fault sound undone line =
+      inr (inr (record { sent = sent; front = front; fault = fault; exit_is = refl; line = line; sound = sound; undone = undone }))
 
 -- the line went out whole, or a beginning of it, after these bytes
 module _ {E : Type 0} (Tells : (List ℕ → Type 0) → Exit → Type 0) (r : Result Exit E) (a b c : Option (List ℕ)) (sent line : List ℕ) (exit : Exit)

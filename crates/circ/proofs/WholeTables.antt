@@ -32,7 +32,8 @@ open_alone (x ∷ rows) copy = go (is_none x.ended) refl (open_alone rows copy)
         → count_by (lends copy) (cond b (x ∷ filter (λ r. is_none r.ended) rows) (filter (λ r. is_none r.ended) rows)) ≡ count_by (lends copy) (x ∷ rows)
     go true is rest =
         let all : count_by (lends copy) (x ∷ rows) ≡ weight (lends copy x) + count_by (lends copy) rows = counted-cons (lends copy) x rows in
-        let some : count_by (lends copy) (x ∷ filter (λ r. is_none r.ended) rows) ≡ weight (lends copy x) + count_by (lends copy) (filter (λ r. is_none r.ended) rows) = counted-cons (lends copy) x (filter (λ r. is_none r.ended) rows) in
+        let some : count_by (lends copy) (x ∷ filter (λ r. is_none r.ended) rows) ≡ weight (lends copy x) + count_by (lends copy)
+        (filter (λ r. is_none r.ended) rows) = counted-cons (lends copy) x (filter (λ r. is_none r.ended) rows) in
         omega (arith, all, some, rest)
     go false is rest =
         let all : count_by (lends copy) (x ∷ rows) ≡ weight (lends copy x) + count_by (lends copy) rows = counted-cons (lends copy) x rows in
@@ -68,7 +69,8 @@ module _ (P : Picture) (all some : Tables) (whole : AreTables P all) (are : AreA
   open_loans = filter (λ r. is_none r.ended) all.loans
 
   loans_are : some.loans ≡ open_loans
-  loans_are = one_rows (λ r. r.loan) P.loans (λ r. r.ended ≡ None) some.loans open_loans are.loans (open_pass P.loans open_loans (tested_rows (λ r. r.loan) P.loans (λ r. is_none r.ended) all.loans whole.loans))
+  loans_are = one_rows (λ r. r.loan) P.loans (λ r. r.ended ≡ None) some.loans open_loans are.loans
+      (open_pass P.loans open_loans (tested_rows (λ r. r.loan) P.loans (λ r. is_none r.ended) all.loans whole.loans))
 
   loans_claim : (copy : ℕ) → count_by (λ r. names (lent_copy r) copy) some.loans ≡ count_by (λ r. names (lent_copy r) copy) all.loans
   loans_claim copy = ap (count_by (λ r. names (lent_copy r) copy)) loans_are ∙ open_alone all.loans copy
@@ -81,7 +83,8 @@ module _ (P : Picture) (all some : Tables) (whole : AreTables P all) (are : AreA
     holds = holds_are;
     transits = transits_are;
     lines = lines_are;
-    claims = λ copy i. loans_claim copy i + count_by (λ r. names (shelved_copy r) copy) (holds_are i) + count_by (λ r. names (travelling_copy r) copy) (transits_are i) + count_by (λ r. names (absent_copy r) copy) (copies_are i);
+    claims = λ copy i. loans_claim copy i + count_by (λ r. names (shelved_copy r) copy) (holds_are i) + count_by
+        (λ r. names (travelling_copy r) copy) (transits_are i) + count_by (λ r. names (absent_copy r) copy) (copies_are i);
   }
 
 -- ---- so each law is one
@@ -103,12 +106,16 @@ module _ (a b : Tables) (like : AreLike a b) where
   bound_as : (hold : ℕ) → IsBound a hold → IsBound b hold
   bound_as hold bound = record {
     fit = subst (λ (t : List CopyRow × List HoldRow). All (λ r. r.hold ≡ hold → is_fit t.0 r ≡ true) t.1) (λ i. (like.copies i, like.holds i)) bound.fit;
-    served = subst (λ (t : List CopyRow × (List HoldRow × List TransitRow)). All (λ r. r.hold ≡ Some hold → serves t.0 r (hold_row t.1.0 hold) ≡ true) t.1.1) (λ i. (like.copies i, (like.holds i, like.transits i))) bound.served;
+    served = subst (λ (t : List CopyRow × (List HoldRow × List TransitRow)). All
+        (λ r. r.hold ≡ Some hold → serves t.0 r (hold_row t.1.0 hold) ≡ true) t.1.1)
+        (λ i. (like.copies i, (like.holds i, like.transits i))) bound.served;
     once = subst (λ (rows : List TransitRow). count_by (λ r. names r.hold hold) rows ≤ 1) like.transits bound.once;
   }
 
   balanced_as : (patron : ℕ) → IsBalanced a patron → IsBalanced b patron
-  balanced_as patron = subst (λ (t : List PatronRow × List LineRow). All (λ r. r.patron ≡ patron → r.owed + sum_by (λ l. credit l patron) t.1 ≡ sum_by (λ l. charge l patron) t.1) t.0) (λ i. (like.patrons i, like.lines i))
+  balanced_as patron = subst (λ (t : List PatronRow × List LineRow). All
+      (λ r. r.patron ≡ patron → r.owed + sum_by (λ l. credit l patron) t.1 ≡ sum_by (λ l. charge l patron) t.1) t.0)
+      (λ i. (like.patrons i, like.lines i))
 
   pub sound_as : IsSound a → IsSound b
   sound_as sound = record {
@@ -122,8 +129,12 @@ least_as : (Law Same : ℕ → Type 0) (n : ℕ) → ((m : ℕ) → Law m → Sa
 least_as Law Same n to from least = record { broken = λ law. least.broken (from law); below = λ m less. to m (least.below m less) }
 
 pub broken_as : (a b : Tables) → AreLike a b → (finding : Finding) → IsFirstBroken a finding → IsFirstBroken b finding
-broken_as a b like (Claims copy) first = least_as (IsClaimedOnce a) (IsClaimedOnce b) copy (claimed_as a b like) (claimed_as b a (like_back a b like) copy) first
-broken_as a b like (Binding hold) first = (λ copy. claimed_as a b like copy (first.0 copy), least_as (IsBound a) (IsBound b) hold (bound_as a b like) (bound_as b a (like_back a b like) hold) first.1)
+broken_as a b like (Claims copy) first =
+    least_as (IsClaimedOnce a) (IsClaimedOnce b) copy (claimed_as a b like) (claimed_as b a (like_back a b like) copy) first
+broken_as a b like (Binding hold) first = (
+  λ copy. claimed_as a b like copy (first.0 copy),
+  least_as (IsBound a) (IsBound b) hold (bound_as a b like) (bound_as b a (like_back a b like) hold) first.1,
+)
 broken_as a b like (Balance patron) first = (
   λ copy. claimed_as a b like copy (first.0 copy),
   λ hold. bound_as a b like hold (first.1 hold),

@@ -1,6 +1,7 @@
 -- What is said to a copies file that is taken in: a line for each row, how the reading ended, and
 -- how many rows were accepted and refused.
-use Rattle.std.specs.Prelude.{◌≡◌, ◌⊎◌, ◌≤◌, ◌<◌, ◌+◌, ◌==◌, ℕ, Bool, true, false, not, if◌then◌else◌, List, [], ◌∷◌, ◌++◌, length, filter, map, take, Option, Some, None, Result, Ok, IfOk, OnErr, codes, decimal}
+use Rattle.std.specs.Prelude.{◌≡◌, ◌⊎◌, ◌≤◌, ◌<◌, ◌+◌, ◌==◌, ℕ, Bool, true, false, not, if◌then◌else◌, List, [], ◌∷◌, ◌++◌, length, filter}
+use Rattle.std.specs.Prelude.{map, take, Option, Some, None, Result, Ok, IfOk, OnErr, codes, decimal}
 use Rattle.std.specs.Io.KnownBytes.{Appends, Keeps}
 use Rattle.store.specs.Library.{Ghosts, Held, state, IsClean, IsOpen}
 use Rattle.terms.specs.Texts.{refusal_number, fault_number}
@@ -19,7 +20,7 @@ use Rattle.front.specs.Copies.{IsReading}
 use Rattle.front.specs.declared.copies.CopyRow.{CopyRow}
 use Rattle.front.specs.declared.copies.CopyEnd.{CopyEnd}
 use Rattle.front.specs.declared.copies.CopyEnd.TheVariants.{Whole, Bad, Read, Memory}
-use Rattle.circ.specs.declared.importing.Counts.{Counts}
+use Rattle.circ.specs.declared.importing.Tally.{Tally}
 use Rattle.desk.specs.Running.{ShowsHeadline}
 use Rattle.circ.specs.declared.lines.Exit.{Exit}
 use Rattle.circ.specs.declared.lines.Exit.TheVariants.{Done, Refused, Faulted, NotUnderstood}
@@ -72,7 +73,7 @@ abbrev pub refused_in : List Reply → ℕ
 refused_in replies = length (filter is_refusal replies)
 
 -- The counts with the row of this reply.
-abbrev pub with_row : Counts → Reply → Counts
+abbrev pub with_row : Tally → Reply → Tally
 with_row counts (Denied refusal) = record { accepted = counts.accepted; refused = counts.refused + 1 }
 with_row counts _ = record { accepted = counts.accepted + 1; refused = counts.refused }
 
@@ -157,7 +158,7 @@ pub record ImportsCut {S : Type 0} (rows : List CopyRow)
 
 -- A row was handled, counted and told: `had` and `has` are the counts before and after. Or the desk
 -- met a fault.
-pub record ImportsRow {S E : Type 0} (row : CopyRow) (had has : Counts)
+pub record ImportsRow {S E : Type 0} (row : CopyRow) (had has : Tally)
     (g : Ghosts S) (old new : Held S) (before after : Option (List ℕ))
     (result : Result (Option Fault) E) : Type 0 where
   pub clean : IsClean g new → IsClean g old

@@ -1,5 +1,6 @@
 //! What a program is asked to do, by its first words.
 
+use crate::serving::Web;
 use desk::Report;
 use hall_schedule::WORKERS;
 use std::alloc::Global;
@@ -37,10 +38,7 @@ pub enum Run<'a> {
     /// workers, each of which serves so many connections.
     Serve {
         path: &'a str,
-        port: u16,
-        workers: usize,
-        each: u32,
-        desk_key: CardKey,
+        web: Web,
     },
     /// `send PORT DESKKEY KEY WORDS..`: one request of the desk, to a program that serves the web.
     Send {
@@ -166,10 +164,12 @@ fn read_serve<'a>(alloc: Global, words: &'a [String]) -> Result<Option<Run<'a>>,
     match CardKey::new(alloc, desk_key.as_str())? {
         Some(desk_key) => Ok(Some(Run::Serve {
             path: path.as_str(),
-            port,
-            workers,
-            each,
-            desk_key,
+            web: Web {
+                port,
+                workers,
+                each,
+                desk_key,
+            },
         })),
         None => Ok(None),
     }

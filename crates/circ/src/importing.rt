@@ -21,28 +21,28 @@ use terms::{Caller, Command, Fault, Key, Reply, Request, write_bytes, write_piec
 
 /// How many rows were accepted, and how many refused.
 #[derive(Clone, Copy, Debug, PartialEq, Eq)]
-struct Counts {
+struct Tally {
     accepted: u32,
     refused: u32,
 }
 
 /// Before the first row.
-const NO_ROWS: Counts = Counts {
+const NO_ROWS: Tally = Tally {
     accepted: 0,
     refused: 0,
 };
 
 /// The counts with one row more.
-fn counted(counts: Counts, reply: &Reply) -> Counts
+fn counted(counts: Tally, reply: &Reply) -> Tally
     requires room { counts.accepted + counts.refused < MOST_ROWS }
     ensures { result ≡ with_row counts reply.now }
 {
     match reply {
-        Reply::Refused(_) => Counts {
+        Reply::Refused(_) => Tally {
             refused: counts.refused + 1,
             ..counts
         },
-        _ => Counts {
+        _ => Tally {
             accepted: counts.accepted + 1,
             ..counts
         },
@@ -91,7 +91,7 @@ fn write_end<W: Write>(writer: &mut W, end: CopyEnd) -> Result<(), WriteFault>
 }
 
 /// Writes the last line: how many rows were accepted, and how many refused. It takes no memory.
-fn write_counts<W: Write>(writer: &mut W, counts: Counts) -> Result<(), WriteFault>
+fn write_counts<W: Write>(writer: &mut W, counts: Tally) -> Result<(), WriteFault>
     ensures { Writes (counts_line counts.accepted counts.refused)
         (W.contents writer.old) (W.contents writer.new) result }
 {
@@ -126,7 +126,7 @@ fn exit_at(end: CopyEnd, refused: u32) -> Exit
 }
 
 /// Tells how the reading ended, and how many rows were accepted and refused. It takes no memory.
-fn tell_end<W: Write>(writer: &mut W, end: CopyEnd, counts: Counts) -> Result<Exit, WriteFault>
+fn tell_end<W: Write>(writer: &mut W, end: CopyEnd, counts: Tally) -> Result<Exit, WriteFault>
     ensures { EndsWith (end_exit end counts.refused)
         (end_line end ++ counts_line counts.accepted counts.refused)
         (W.contents writer.old) (W.contents writer.new) result }
@@ -137,7 +137,7 @@ fn tell_end<W: Write>(writer: &mut W, end: CopyEnd, counts: Counts) -> Result<Ex
 }
 
 /// Tells a fault, and how many rows were accepted and refused before it. It takes no memory.
-fn tell_stop<W: Write>(writer: &mut W, fault: Fault, counts: Counts) -> Result<Exit, WriteFault>
+fn tell_stop<W: Write>(writer: &mut W, fault: Fault, counts: Tally) -> Result<Exit, WriteFault>
     ensures { EndsWith Exit.Faulted
         (fault_line (fault_number fault) ++ counts_line counts.accepted counts.refused)
         (W.contents writer.old) (W.contents writer.new) result }
@@ -167,7 +167,7 @@ fn import_row<S: Alter, W: Write>(
     desk: &mut Desk<S>,
     alloc: Global,
     row: CopyRow,
-    counts: &mut Counts,
+    counts: &mut Tally,
     writer: &mut W,
 ) -> Result<Option<Fault>, WriteFault>
     requires room { counts.old.accepted + counts.old.refused < MOST_ROWS }

@@ -21,4 +21,4 @@ pub use migrating::migrate;
 pub use reports::report;
 pub use requests::one;
 pub use sending::send;
-pub use serving::serve;
+pub use serving::{Web, serve};

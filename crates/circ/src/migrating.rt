@@ -11,8 +11,8 @@ use store::Store;
 /// Brings a library to the newest schema and writes one line: `schema N`, also where it was of that
 /// already, or `fault N`.
 ///
-/// The line, the end and what the tables show are said in `specs/Migrating`: after a fault they show
-/// what they showed, as long as the database is open; and whatever may leave of them when the
+/// The line, the end and what the tables show are said in `specs/Migrating`: after a fault they
+/// show what they showed, as long as the database is open; and whatever may leave of them when the
 /// program is stopped is that, or the same list of accepted requests in the newest schema. Where a
 /// write fails, a beginning of the line went out.
 pub fn migrate<S: Alter, W: Write>(

@@ -14,11 +14,11 @@ use crate::lines::{
     Exit, WriteFault, not_understood, out_of_memory, tell_port, tell_service_fault, tell_threads,
 };
 use desk::Desk;
-use hall::{DeskSide, Ended, Hall, HallFault, Left, Opened, Opening, Why, Worker};
+use hall::{DeskSide, Ended, Hall, HallFault, Left, Opened, Opening, Routes, Why, Worker};
 use hall_schedule::WORKERS;
 use sqlite::Alter;
 use std::alloc::Global;
-use std::io::{Read, Write};
+use std::io::{BufWriter, Read, Write};
 use std::marker::Brand;
 use std::net::{Shutdown, TcpListener, TcpStream};
 use std::sync::{Arc, Mutex, Wait};
@@ -52,6 +52,19 @@ fn end(mut stream: &TcpStream) {
     }
 }
 
+/// How the web is to be served.
+#[derive(Drop)]
+pub struct Web {
+    /// The port, which is told once the hall is open.
+    pub port: u16,
+    /// How many workers there are to be: 1 to 8.
+    pub workers: usize,
+    /// How many connections each of them serves.
+    pub each: u32,
+    /// The key by which a request is known as the desk's.
+    pub desk_key: CardKey,
+}
+
 /// What the threads of the workers share.
 #[derive(Drop)]
 struct Shared<J: Opening> {
@@ -72,8 +85,16 @@ impl<J: Opening> Shared<J> {
         self.waiting.lock(rt).pop()
     }
 
-    /// A worker waits for a connection, and serves it. One that can't be had is passed over.
-    fn serve_next<R: Wait>(&self, rt: &R, alloc: Global, worker: &mut Worker<J>) {
+    /// A worker waits for a connection, and serves it: the answer goes out in one write where it
+    /// fits into 8 KiB, and in pieces where no memory is left to hold it together. A connection
+    /// that can't be had is passed over.
+    fn serve_next<R: Wait>(
+        &self,
+        rt: &R,
+        alloc: Global,
+        routes: Option<&Routes>,
+        worker: &mut Worker<J>,
+    ) {
         let Ok((stream, _)) = self.listener.accept() else {
             return;
         };
@@ -81,17 +102,36 @@ impl<J: Opening> Shared<J> {
         if stream.set_read_timeout(wait).is_err() || stream.set_write_timeout(wait).is_err() {
             return;
         }
-        match worker.serve(rt, alloc, &self.desk_key, &mut &stream, &mut &stream) {
-            Ok(()) => end(&stream),
-            Err(_) => {}
+        let is_answered = match BufWriter::new(alloc, &stream) {
+            Ok(mut writer) => {
+                let key = &self.desk_key;
+                let told = worker.serve(rt, alloc, routes, key, &mut &stream, &mut writer);
+                let is_answered = told.is_ok() && writer.flush().is_ok();
+                // What couldn't go out is not tried again.
+                let _ = writer.into_parts();
+                is_answered
+            }
+            Err(_) => {
+                let key = &self.desk_key;
+                let told = worker.serve(rt, alloc, routes, key, &mut &stream, &mut &stream);
+                told.is_ok()
+            }
+        };
+        if is_answered {
+            end(&stream);
         }
     }
 
-    /// A worker serves so many connections, and leaves.
+    /// A worker serves so many connections, and leaves. It makes the routes once, and tries again
+    /// at the next connection where there was no memory for them.
     fn work<R: Wait>(&self, rt: &R, alloc: Global, each: u32) -> Option<Left<J>> {
         let mut worker = self.next(rt)?;
+        let mut routes = None;
         for _ in 0..each {
-            self.serve_next(rt, alloc, &mut worker);
+            if routes.is_none() {
+                routes = Routes::new(alloc).ok();
+            }
+            self.serve_next(rt, alloc, routes.as_ref(), &mut worker);
         }
         Some(worker.leave(rt))
     }
@@ -100,19 +140,24 @@ impl<J: Opening> Shared<J> {
 /// The thread of a worker, which gives its end.
 type Working<J> = JoinHandle<Option<Left<J>>>;
 
-/// The workers of a hall: threads, and the ends of those that have none.
+/// The workers of a hall: what their threads share, the threads, and the ends of those that have
+/// none.
 #[derive(Drop)]
 struct Crew<J: Opening> {
+    shared: Arc<Shared<J>, Global>,
     threads: Vec<Working<J>>,
     left: Vec<Left<J>>,
+    /// How many connections each of them serves.
+    each: u32,
 }
 
-/// What all threads share before there are workers, and room for these.
-fn share<J: Opening>(
+/// A crew before there are workers, with room for these.
+fn crew_for<J: Opening>(
     alloc: Global,
     listener: TcpListener,
     desk_key: CardKey,
-) -> Result<(Arc<Shared<J>, Global>, Crew<J>), Memory> {
+    each: u32,
+) -> Result<Crew<J>, Memory> {
     let threads = Vec::with_capacity(alloc, WORKERS as usize)?;
     let left = Vec::with_capacity(alloc, WORKERS as usize)?;
     let waiting = Mutex::new(Vec::new(alloc));
@@ -124,7 +169,12 @@ fn share<J: Opening>(
             desk_key,
         },
     )?;
-    Ok((shared, Crew { threads, left }))
+    Ok(Crew {
+        shared,
+        threads,
+        left,
+        each,
+    })
 }
 
 /// A thread for a worker that has not begun, if it can be made.
@@ -143,19 +193,17 @@ fn start<J: Opening + Send + Sync + 'static, R: Threads + Wait + Copy + Send + '
 fn start_all<J: Opening + Send + Sync + 'static, R: Threads + Wait + Copy + Send + 'static>(
     rt: R,
     alloc: Global,
-    shared: &Arc<Shared<J>, Global>,
-    count: usize,
-    each: u32,
     crew: &mut Crew<J>,
+    count: usize,
 ) -> bool {
     let mut are_whole = true;
     for _ in 0..count {
-        match start(rt, alloc, shared, each) {
+        match start(rt, alloc, &crew.shared, crew.each) {
             Some(handle) => {
                 let _ = crew.threads.push(handle);
             }
             None => {
-                if let Some(left) = shared.work(&rt, alloc, 0) {
+                if let Some(left) = crew.shared.work(&rt, alloc, 0) {
                     let _ = crew.left.push(left);
                 }
                 are_whole = false;
@@ -179,14 +227,19 @@ fn take_in<J: Opening>(ended: &mut Ended<J>, left: Left<J>, parts: u64) -> u64
     }
 }
 
-/// Waits until the threads have ended, and takes in the ends of all workers. Tells how many took part
-/// in the hall.
+/// Waits until the threads have ended, and takes in the ends of all workers. Tells how many took
+/// part in the hall.
 fn take_in_all<J: Opening, R: Threads>(rt: &R, ended: &mut Ended<J>, crew: Crew<J>) -> u64
     ensures same { (ended.new.handled ≡ ended.old.handled)
         × (ended.new.heard.got ≡ ended.old.heard.got) × (ended.new.board ≡ ended.old.board) }
     ensures parts { TookParts ended.old.handled ended.old.heard.got ended.old.board.shown result }
 {
-    let Crew { threads, left } = crew;
+    let Crew {
+        shared: _,
+        threads,
+        left,
+        each: _,
+    } = crew;
     let mut parts = 0;
     'left: for left in left {
         parts = take_in(ended, left, parts);
@@ -208,16 +261,13 @@ struct Met<S: Alter> {
     are_whole: bool,
 }
 
-/// Runs a hall: each worker serves so many connections in a thread of its own, and this thread is
-/// the desk's.
+/// Runs a hall: each worker has a thread of the crew, and this thread is the desk's.
 fn run<J: Opening + Send + Sync + 'static, S: Alter, R: Threads + Wait + Copy + Send + 'static>(
     rt: R,
     alloc: Global,
     side: DeskSide<J, S>,
     workers: Vec<Worker<J>>,
-    shared: &Arc<Shared<J>, Global>,
     crew: Crew<J>,
-    each: u32,
 ) -> Met<S>
     requires { OpensWith J.shows S.Store side.desk side.publisher.shown }
     ensures { ServesWorkers J.shows (length workers.items) result.are_whole
@@ -225,8 +275,8 @@ fn run<J: Opening + Send + Sync + 'static, S: Alter, R: Threads + Wait + Copy + 
 {
     let mut crew = crew;
     let count = workers.len();
-    shared.put(&rt, workers);
-    let have_threads = start_all(rt, alloc, shared, count, each, &mut crew);
+    crew.shared.put(&rt, workers);
+    let have_threads = start_all(rt, alloc, &mut crew, count);
     let (desk, mut ended, fault) = side.desk_loop(&rt, alloc);
     let parts = take_in_all(&rt, &mut ended, crew);
     ended.close(&rt);
@@ -270,10 +320,8 @@ fn serve_hall<
     alloc: Global,
     side: DeskSide<J, S>,
     workers: Vec<Worker<J>>,
-    shared: &Arc<Shared<J>, Global>,
     crew: Crew<J>,
     port: u16,
-    each: u32,
     writer: &mut W,
 ) -> (Desk<S>, Result<Exit, WriteFault>)
     requires { OpensWith J.shows S.Store side.desk side.publisher.shown }
@@ -286,15 +334,17 @@ fn serve_hall<
                 desk,
                 fault,
                 are_whole,
-            } = run(rt, alloc, side, workers, shared, crew, each);
+            } = run(rt, alloc, side, workers, crew);
             (desk, tell_end(writer, are_whole, fault))
         }
         Err(fault) => {
+            let mut crew = crew;
+            crew.each = 0;
             let Met {
                 desk,
                 fault: _,
                 are_whole: _,
-            } = run(rt, alloc, side, workers, shared, crew, 0);
+            } = run(rt, alloc, side, workers, crew);
             (desk, Err(fault))
         }
     }
@@ -323,57 +373,55 @@ fn open_and_serve<
     opened: Opened,
     desk: Desk<S>,
     listener: TcpListener,
-    port: u16,
-    workers: usize,
-    each: u32,
-    desk_key: CardKey,
+    web: Web,
     writer: &mut W,
 ) -> (Desk<S>, Result<Exit, WriteFault>)
     requires name { (opened.queue ≡ J.name) × (opened.blank ≡ J.book) }
     requires shows { (H : History) → J.shows H → Shows (state S.Store desk) H }
     requires every { (H : History) → Shows (state S.Store desk) H → J.shows H }
-    ensures { ServesPort port workers S.Store desk result.0
+    ensures { ServesPort web.port web.workers S.Store desk result.0
         (W.contents writer.old) (W.contents writer.new) result.1 }
 {
-    let (shared, crew) = match share::<J>(alloc, listener, desk_key) {
-        Ok(all) => all,
+    let Web {
+        port,
+        workers,
+        each,
+        desk_key,
+    } = web;
+    let crew = match crew_for::<J>(alloc, listener, desk_key, each) {
+        Ok(crew) => crew,
         Err(_) => return (desk, out_of_memory(writer)),
     };
     match Hall::new::<J, S, R>(&rt, alloc, opened, desk, workers) {
-        Ok((side, workers)) => {
-            serve_hall(rt, alloc, side, workers, &shared, crew, port, each, writer)
-        }
+        Ok((side, workers)) => serve_hall(rt, alloc, side, workers, crew, port, writer),
         Err(HallFault { why, desk }) => (desk, tell_why(writer, why)),
     }
 }
 
-/// Serves the web with 1 to 8 workers, each in a thread of its own: tells the port once the hall is
-/// open, has each worker serve so many connections, and hands the desk back. A connection that can't
-/// be had counts as one.
+/// Serves the web, each worker in a thread of its own: tells the port once the hall is open, has
+/// each worker serve its connections, and hands the desk back. A connection that can't be had
+/// counts as one.
 ///
-/// At the end a line tells that a thread could not be made, whose worker left at once, or that the end
-/// of a worker could not be taken in, and the last one the fault that closed the hall. What was handled
-/// is what the workers submitted, and what they answered is what each list of accepted requests gives
-/// that the tables showed. Where the hall can't be opened that fault stands alone; for another number
-/// of workers the line is that of words that aren't understood.
+/// At the end a line tells that a thread could not be made, whose worker left at once, or that the
+/// end of a worker could not be taken in, and the last one the fault that closed the hall. What was
+/// handled is what the workers submitted, and what they answered is what each list of accepted
+/// requests gives that the tables showed. Where the hall can't be opened that fault stands alone;
+/// for another number of workers the line is that of words that aren't understood.
 pub fn serve<S: Alter, W: Write, R: Threads + Wait + Copy + Send + 'static>(
     rt: R,
     alloc: Global,
     desk: Desk<S>,
     listener: TcpListener,
-    port: u16,
-    workers: usize,
-    each: u32,
-    desk_key: CardKey,
+    web: Web,
     writer: &mut W,
 ) -> (Desk<S>, Result<Exit, WriteFault>)
-    ensures { ServesPort port workers S.Store desk result.0
+    ensures { ServesPort web.port web.workers S.Store desk result.0
         (W.contents writer.old) (W.contents writer.new) result.1 }
 {
     match Opened::new(alloc) {
-        Ok(opened) => open_and_serve::<Brand, S, W, R>(
-            rt, alloc, opened, desk, listener, port, workers, each, desk_key, writer,
-        ),
+        Ok(opened) => {
+            open_and_serve::<Brand, S, W, R>(rt, alloc, opened, desk, listener, web, writer)
+        }
         Err(_) => (desk, out_of_memory(writer)),
     }
 }

@@ -1,5 +1,6 @@
--- Totals of the numbers of a page, and the rows that are looked at by them.
-use Rattle.std.proofs.Common.{◌≡◌, ◌≢◌, ◌⊎◌, ℕ, ◌+◌, ◌*◌, ◌^◌, ◌<◌, ◌≤◌, Bool, true, false, cond, List, length, get_or, take, replicate, Option, Some, None, refl, sym, ◌∙◌, ap, subst, inl, inr, eqb, arith}
+-- Totals of the numbers of a span, and the rows that are looked at by them.
+use Rattle.std.proofs.Common.{◌≡◌, ◌≢◌, ◌⊎◌, ℕ, ◌+◌, ◌*◌, ◌^◌, ◌<◌, ◌≤◌, Bool, true, false, cond, List, length, get_or, take, replicate}
+use Rattle.std.proofs.Common.{Option, Some, None, refl, sym, ◌∙◌, ap, subst, inl, inr, eqb, arith}
 use Rattle.std.specs.Prelude.{nat_lt, All, sum_by, IfSome}
 use Rattle.std.proofs.lemmas.Bool.{cases_lt, eqb-true, eq-eqb, ltb-true, ltb-false}
 use Rattle.std.proofs.lemmas.List.{length-replicate, get_or-replicate, get_or_past}
@@ -7,8 +8,9 @@ use Rattle.std.proofs.lemmas.List.Sums.{sum_by_more}
 use Rattle.terms.specs.declared.row.LineRow.{LineRow}
 use Rattle.terms.specs.declared.row.PatronRow.{PatronRow}
 use Rattle.circ_audit.specs.declared.balance.Totals.{Totals}
-use Rattle.circ_audit.specs.declared.pages.Look.{Look}
-use Rattle.circ_audit.specs.Pages.{page_of, place_of, lesser_of, IsBelow, FailsOn, LooksAt, Sums, AreWithin, Adds, AddsRows, broken_after, next_after, is_right, LooksAtRows}
+use Rattle.circ_audit.specs.declared.spans.Look.{Look}
+use Rattle.circ_audit.specs.Spans.{span_of, place_of, lesser_of, IsBelow, FailsOn, LooksAt, Sums, AreWithin, Adds, AddsRows, broken_after}
+use Rattle.circ_audit.specs.Spans.{next_after, is_right, LooksAtRows}
 use Rattle.circ_audit.proofs.Firsts.{fails-more, fails-same, all-before, all-last, all-with}
 
 -- A list of nothing but zeros.
@@ -22,7 +24,7 @@ zero-at size k = go (cases_lt k size)
 -- The same amounts in other words.
 pub adds-same : (f g : ℕ → ℕ) (old new : Totals) → ((n : ℕ) → f n ≡ g n) → Adds f old new → Adds g old new
 adds-same f g old new same adds = record {
-  page = adds.page;
+  span = adds.span;
   sums = λ sum sums n on. adds.sums sum sums n on ∙ ap (λ m. sum n + m) (same n);
   within = adds.within;
 }
@@ -30,7 +32,7 @@ adds-same f g old new same adds = record {
 -- Nothing was added.
 pub adds-nothing : (f : ℕ → ℕ) (w : Totals) → ((n : ℕ) → f n ≡ 0) → Adds f w w
 adds-nothing f w none = record {
-  page = refl;
+  span = refl;
   sums = λ sum sums n on. sums n on ∙ (let z : f n ≡ 0 = none n in omega (arith, z));
   within = λ most within k. let le = within k in omega (arith, le);
 }
@@ -39,10 +41,11 @@ adds-nothing f w none = record {
 pub adds-more : (amount : LineRow → ℕ → ℕ) (rows : List LineRow) (i : ℕ) (r : LineRow) (old mid new : Totals) → i < length rows → r ≡ get_or rows i r
     → AddsRows amount (take i rows) old mid → Adds (amount r) mid new → AddsRows amount (take (i + 1) rows) old new
 adds-more amount rows i r old mid new lt is before one = record {
-  page = one.page ∙ before.page;
+  span = one.span ∙ before.span;
   sums = λ sum sums n on.
       one.sums (λ m. sum m + sum_by (λ q. amount q m) (take i rows)) (before.sums sum sums) n on
-      ∙ (let more : sum_by (λ q. amount q n) (take (i + 1) rows) ≡ sum_by (λ q. amount q n) (take i rows) + amount (get_or rows i r) n = sum_by_more (λ q. amount q n) rows i r lt in
+      ∙ (let more : sum_by (λ q. amount q n) (take (i + 1) rows) ≡ sum_by (λ q. amount q n) (take i rows) + amount
+      (get_or rows i r) n = sum_by_more (λ q. amount q n) rows i r lt in
       let same : amount r n ≡ amount (get_or rows i r) n = ap (λ (q : LineRow). amount q n) is in
       omega (arith, more, same));
 }
@@ -53,7 +56,8 @@ within-more amount i mid new within adds k = let le = adds.within (i * 2 ^ 64) w
 
 -- ---- patrons
 
-module _ (charges credits : Totals) (charged credited : ℕ → ℕ) (charges_are : Sums charges charged) (credits_are : Sums credits credited) (one_page : credits.page ≡ charges.page) where
+module _ (charges credits : Totals) (charged credited : ℕ → ℕ) (charges_are : Sums charges charged) (credits_are : Sums credits credited)
+    (one_span : credits.span ≡ charges.span) where
   -- The row owes the difference, if it is of this patron.
   abbrev Owes : ℕ → PatronRow → Type 0
   Owes n r = r.patron ≡ n → r.owed + credited n ≡ charged n
@@ -61,18 +65,18 @@ module _ (charges credits : Totals) (charged credited : ℕ → ℕ) (charges_ar
   owes-other : (r : PatronRow) (m : ℕ) → m ≢ r.patron → Owes m r
   owes-other r m other same = absurd (other (sym same))
 
-  -- On the page, the row is right by the totals exactly if it owes the difference.
-  right-owes : (r : PatronRow) → page_of r.patron ≡ charges.page → is_right r charges credits ≡ true → (m : ℕ) → Owes m r
+  -- On the span, the row is right by the totals exactly if it owes the difference.
+  right-owes : (r : PatronRow) → span_of r.patron ≡ charges.span → is_right r charges credits ≡ true → (m : ℕ) → Owes m r
   right-owes r on right m same =
       let equal : r.owed + get_or credits.sums (place_of r.patron) 0 ≡ get_or charges.sums (place_of r.patron) 0 = eqb-true _ _ right in
-      let c : get_or credits.sums (place_of r.patron) 0 ≡ credited r.patron = credits_are r.patron (on ∙ sym one_page) in
+      let c : get_or credits.sums (place_of r.patron) 0 ≡ credited r.patron = credits_are r.patron (on ∙ sym one_span) in
       let d : get_or charges.sums (place_of r.patron) 0 ≡ charged r.patron = charges_are r.patron on in
       let here : r.owed + credited r.patron ≡ charged r.patron = omega (arith, equal, c, d) in
       subst (λ (n : ℕ). r.owed + credited n ≡ charged n) same here
 
-  wrong-owes : (r : PatronRow) → page_of r.patron ≡ charges.page → is_right r charges credits ≡ false → Owes r.patron r → ⊥
+  wrong-owes : (r : PatronRow) → span_of r.patron ≡ charges.span → is_right r charges credits ≡ false → Owes r.patron r → ⊥
   wrong-owes r on wrong owes =
-      let c : get_or credits.sums (place_of r.patron) 0 ≡ credited r.patron = credits_are r.patron (on ∙ sym one_page) in
+      let c : get_or credits.sums (place_of r.patron) 0 ≡ credited r.patron = credits_are r.patron (on ∙ sym one_span) in
       let d : get_or charges.sums (place_of r.patron) 0 ≡ charged r.patron = charges_are r.patron on in
       let here : r.owed + credited r.patron ≡ charged r.patron = owes refl in
       let equal : r.owed + get_or credits.sums (place_of r.patron) 0 ≡ get_or charges.sums (place_of r.patron) 0 = omega (arith, here, c, d) in
@@ -80,8 +84,9 @@ module _ (charges credits : Totals) (charged credited : ℕ → ℕ) (charges_ar
       let never : ⊥ = cc in never
 
   module _ (rows : List PatronRow) (i : ℕ) (r : PatronRow) (lt : i < length rows) (is : r ≡ get_or rows i r) (old new : Look)
-      (broken : new.broken ≡ broken_after charges.page (is_right r charges credits) r.patron old.broken) (next : new.next ≡ next_after charges.page r.patron old.next)
-      (before : LooksAt (λ n. All (Owes n) (take i rows)) charges.page old) where
+      (broken : new.broken ≡ broken_after charges.span (is_right r charges credits) r.patron old.broken)
+      (next : new.next ≡ next_after charges.span r.patron old.next)
+      (before : LooksAt (λ n. All (Owes n) (take i rows)) charges.span old) where
     -- The law of the rows up to this one.
     abbrev Next : ℕ → Type 0
     Next n = All (Owes n) (take (i + 1) rows)
@@ -92,49 +97,73 @@ module _ (charges credits : Totals) (charged credited : ℕ → ℕ) (charges_ar
     on-other : (m : ℕ) → m ≢ r.patron → All (Owes m) (take i rows) → Next m
     on-other m other all = all-with rows i r lt is (Owes m) all (owes-other r m other)
 
-    broken-more : FailsOn Next charges.page new.broken
-    broken-more = subst (λ (o : Option ℕ). FailsOn Next charges.page o) (sym broken) (go (eqb (page_of r.patron) charges.page) refl (is_right r charges credits) refl)
+    broken-more : FailsOn Next charges.span new.broken
+    broken-more = subst (λ (o : Option ℕ). FailsOn Next charges.span o) (sym broken)
+        (go (eqb (span_of r.patron) charges.span) refl (is_right r charges credits) refl)
       where
-        kept : ((m : ℕ) → page_of m ≡ charges.page → Owes m r) → FailsOn Next charges.page old.broken
-        kept keeps = fails-same (λ n. page_of n ≡ charges.page → All (Owes n) (take i rows)) (λ n. page_of n ≡ charges.page → Next n) old.broken (λ m law on. back m (law on)) (λ m law on. all-with rows i r lt is (Owes m) (law on) (keeps m on)) before.broken
+        kept : ((m : ℕ) → span_of m ≡ charges.span → Owes m r) → FailsOn Next charges.span old.broken
+        kept keeps = fails-same (λ n. span_of n ≡ charges.span → All (Owes n) (take i rows))
+            (λ n. span_of n ≡ charges.span → Next n) old.broken (λ m law on. back m (law on))
+            (λ m law on. all-with rows i r lt is (Owes m) (law on) (keeps m on)) before.broken
 
-        go : (b : Bool) → eqb (page_of r.patron) charges.page ≡ b → (right : Bool) → is_right r charges credits ≡ right
-            → FailsOn Next charges.page (cond b (cond right old.broken (Some (lesser_of old.broken r.patron))) old.broken)
-        go false e right f = kept (λ m on same. let yes' : eqb (page_of r.patron) charges.page ≡ true = eq-eqb _ _ (ap page_of same ∙ on) in let never : ⊥ = cc in absurd never)
+        go : (b : Bool) → eqb (span_of r.patron) charges.span ≡ b → (right : Bool) → is_right r charges credits ≡ right
+            → FailsOn Next charges.span (cond b (cond right old.broken (Some (lesser_of old.broken r.patron))) old.broken)
+        go false e right f = kept (λ m on same. let yes' : eqb (span_of r.patron) charges.span ≡ true = eq-eqb _ _
+            (ap span_of same ∙ on) in let never : ⊥ = cc in absurd never)
         go true e true f = kept (λ m on. right-owes r (eqb-true _ _ e) f m)
         go true e false f =
-            fails-more (λ n. page_of n ≡ charges.page → All (Owes n) (take i rows)) (λ n. page_of n ≡ charges.page → Next n) old.broken r.patron (λ m law on. back m (law on)) (λ m other law on. on-other m other (law on))
+            fails-more (λ n. span_of n ≡ charges.span → All (Owes n) (take i rows))
+            (λ n. span_of n ≡ charges.span → Next n) old.broken r.patron (λ m law on. back m (law on))
+            (λ m other law on. on-other m other (law on))
             (λ law. wrong-owes r (eqb-true _ _ e) f (all-last rows i r lt is (Owes r.patron) (law (eqb-true _ _ e)))) before.broken
 
     -- The next number, with this one.
-    next-more : (o : Option ℕ) → ((n : ℕ) → charges.page < page_of n → IsBelow n o → All (Owes n) (take i rows)) → IfSome o (λ n. charges.page < page_of n)
-        → IfSome (next_after charges.page r.patron o) (λ n. charges.page < page_of n) × ((n : ℕ) → charges.page < page_of n → IsBelow n (next_after charges.page r.patron o) → Next n)
-    next-more o between ahead = go (nat_lt charges.page (page_of r.patron)) refl
+    next-more : (o : Option ℕ) → ((n : ℕ) → charges.span < span_of n → IsBelow n o → All (Owes n) (take i rows)) → IfSome o (λ n. charges.span < span_of n)
+        → IfSome (next_after charges.span r.patron o) (λ n. charges.span < span_of n)
+        × ((n : ℕ) → charges.span < span_of n → IsBelow n (next_after charges.span r.patron o) → Next n)
+    next-more o between ahead = go (nat_lt charges.span (span_of r.patron)) refl
       where
-        go : (b : Bool) → nat_lt charges.page (page_of r.patron) ≡ b
-            → IfSome (cond b (Some (lesser_of o r.patron)) o) (λ n. charges.page < page_of n) × ((n : ℕ) → charges.page < page_of n → IsBelow n (cond b (Some (lesser_of o r.patron)) o) → Next n)
-        go false e = (ahead, λ n later below. on-other n (λ same. let le : page_of r.patron ≤ charges.page = ltb-false _ _ e in let at : page_of n ≡ page_of r.patron = ap page_of same in omega (arith, later, le, at)) (between n later below))
+        go : (b : Bool) → nat_lt charges.span (span_of r.patron) ≡ b
+            → IfSome (cond b (Some (lesser_of o r.patron)) o) (λ n. charges.span < span_of n)
+            × ((n : ℕ) → charges.span < span_of n → IsBelow n (cond b (Some (lesser_of o r.patron)) o) → Next n)
+        go false e = (
+          ahead,
+          λ n later below. on-other n
+              (λ same. let le : span_of r.patron ≤ charges.span = ltb-false _ _ e in let at : span_of n ≡ span_of r.patron = ap span_of
+              same in omega (arith, later, le, at)) (between n later below),
+        )
         go true e = sooner o between ahead (ltb-true _ _ e)
           where
-            sooner : (o : Option ℕ) → ((n : ℕ) → charges.page < page_of n → IsBelow n o → All (Owes n) (take i rows)) → IfSome o (λ n. charges.page < page_of n) → charges.page < page_of r.patron
-                → (charges.page < page_of (lesser_of o r.patron)) × ((n : ℕ) → charges.page < page_of n → n < lesser_of o r.patron → Next n)
+            sooner : (o : Option ℕ) → ((n : ℕ) → charges.span < span_of n → IsBelow n o → All (Owes n) (take i rows))
+                → IfSome o (λ n. charges.span < span_of n) → charges.span < span_of r.patron
+                → (charges.span < span_of (lesser_of o r.patron)) × ((n : ℕ) → charges.span < span_of n → n < lesser_of o r.patron → Next n)
             sooner None between ahead later = (later, λ n on below. on-other n (λ same. omega (arith, below, same)) (between n on tt))
             sooner (Some k) between ahead later = at (nat_lt r.patron k) refl
               where
-                at : (b : Bool) → nat_lt r.patron k ≡ b → (charges.page < page_of (cond b r.patron k)) × ((n : ℕ) → charges.page < page_of n → n < cond b r.patron k → Next n)
-                at true f = let less : r.patron < k = ltb-true _ _ f in (later, λ n on below. on-other n (λ same. omega (arith, below, same)) (between n on (omega (arith, below, less))))
-                at false f = let le : k ≤ r.patron = ltb-false _ _ f in (ahead, λ n on below. on-other n (λ same. omega (arith, below, same, le)) (between n on below))
+                at : (b : Bool) → nat_lt r.patron k ≡ b → (charges.span < span_of (cond b r.patron k))
+                    × ((n : ℕ) → charges.span < span_of n → n < cond b r.patron k → Next n)
+                at true f = let less : r.patron < k = ltb-true _ _ f in
+                    (later, λ n on below. on-other n (λ same. omega (arith, below, same)) (between n on (omega (arith, below, less))))
+                at false f = let le : k ≤ r.patron = ltb-false _ _ f in
+                    (ahead, λ n on below. on-other n (λ same. omega (arith, below, same, le)) (between n on below))
 
     -- One row of a patron more was looked at.
-    pub looked-more : LooksAt Next charges.page new
-    looked-more = record { broken = broken-more; ahead = subst (λ (o : Option ℕ). IfSome o (λ n. charges.page < page_of n)) (sym next) (n.0); between = subst (λ (o : Option ℕ). (n : ℕ) → charges.page < page_of n → IsBelow n o → Next n) (sym next) (n.1) }
+    pub looked-more : LooksAt Next charges.span new
+    looked-more = record {
+      broken = broken-more;
+      ahead = subst (λ (o : Option ℕ). IfSome o (λ n. charges.span < span_of n)) (sym next)
+          (n.0);
+      between = subst (λ (o : Option ℕ). (n : ℕ) → charges.span < span_of n → IsBelow n o → Next n) (sym next) (n.1);
+    }
       where
-        n : IfSome (next_after charges.page r.patron old.next) (λ n. charges.page < page_of n) × ((n : ℕ) → charges.page < page_of n → IsBelow n (next_after charges.page r.patron old.next) → Next n)
+        n : IfSome (next_after charges.span r.patron old.next) (λ n. charges.span < span_of n)
+            × ((n : ℕ) → charges.span < span_of n → IsBelow n (next_after charges.span r.patron old.next) → Next n)
         n = next-more old.next before.between before.ahead
 
 -- One row of a patron more was looked at.
 pub rows-more : (rows : List PatronRow) (i : ℕ) (r : PatronRow) (charges credits : Totals) (old new : Look) → i < length rows → r ≡ get_or rows i r
-    → new.broken ≡ broken_after charges.page (is_right r charges credits) r.patron old.broken → new.next ≡ next_after charges.page r.patron old.next
+    → new.broken ≡ broken_after charges.span (is_right r charges credits) r.patron old.broken → new.next ≡ next_after charges.span r.patron old.next
     → LooksAtRows (take i rows) charges credits old → LooksAtRows (take (i + 1) rows) charges credits new
-rows-more rows i r charges credits old new lt is broken next before charged credited charges_are credits_are one_page =
-    looked-more charges credits charged credited charges_are credits_are one_page rows i r lt is old new broken next (before charged credited charges_are credits_are one_page)
+rows-more rows i r charges credits old new lt is broken next before charged credited charges_are credits_are one_span =
+    looked-more charges credits charged credited charges_are credits_are one_span rows i r lt is old new broken next
+    (before charged credited charges_are credits_are one_span)

@@ -6,7 +6,7 @@ use Rattle.terms.specs.declared.row.TransitRow.{TransitRow}
 use Rattle.terms.specs.declared.tables.Tables.{Tables}
 use Rattle.circ_audit.specs.Rows.{hold_row, is_fit, serves}
 use Rattle.circ_audit.specs.Sound.{IsFit, IsServed, IsServedOnce, IsBound, FailsFirst}
-use Rattle.circ_audit.specs.Pages.{first_after, first_named, earlier_of}
+use Rattle.circ_audit.specs.Spans.{first_after, first_named, earlier_of}
 use Rattle.circ_audit.proofs.Firsts.{fails-same, fails-both, row-breaks, row-keeps}
 
 -- The law of the rows of holds, and of those of transits.
@@ -37,7 +37,8 @@ module _ (t : Tables) (i : ℕ) (first : Option ℕ) where
   served-more rows r lt is before = named r.hold refl
     where
       named : (o : Option ℕ) → r.hold ≡ o → FailsFirst (AreServed t (take (i + 1) rows)) (first_named (λ h. serves t.copies r (hold_row t.holds h)) o first)
-      named None none = row-keeps rows i r lt is (λ h q. q.hold ≡ Some h → serves t.copies q (hold_row t.holds h) ≡ true) first (λ m same. let never : ⊥ = cc in absurd never) before
+      named None none = row-keeps rows i r lt is (λ h q. q.hold ≡ Some h → serves t.copies q (hold_row t.holds h) ≡ true) first
+          (λ m same. let never : ⊥ = cc in absurd never) before
       named (Some n) some = go (serves t.copies r (hold_row t.holds n)) refl
         where
           go : (b : Bool) → serves t.copies r (hold_row t.holds n) ≡ b → FailsFirst (AreServed t (take (i + 1) rows)) (first_after b n first)
@@ -50,7 +51,8 @@ module _ (t : Tables) (i : ℕ) (first : Option ℕ) where
               (λ served. let yes' : serves t.copies r (hold_row t.holds n) ≡ true = served some in let never : ⊥ = cc in never) before
 
 -- The three parts of a binding together.
-pub bound-first : (t : Tables) (a b c : Option ℕ) → FailsFirst (IsFit t) a → FailsFirst (IsServed t) b → FailsFirst (IsServedOnce t) c → FailsFirst (IsBound t) (earlier_of (earlier_of a b) c)
+pub bound-first : (t : Tables) (a b c : Option ℕ) → FailsFirst (IsFit t) a → FailsFirst (IsServed t) b → FailsFirst (IsServedOnce t) c
+    → FailsFirst (IsBound t) (earlier_of (earlier_of a b) c)
 bound-first t a b c fit served once =
     fails-same (λ h. (IsFit t h × IsServed t h) × IsServedOnce t h) (IsBound t) (earlier_of (earlier_of a b) c)
     (λ h bound. ((bound.fit, bound.served), bound.once)) (λ h parts. record { fit = parts.0.0; served = parts.0.1; once = parts.1 })

@@ -1,12 +1,13 @@
 -- The least number of which a law doesn't hold.
-use Rattle.std.proofs.Common.{◌≡◌, ◌≢◌, ◌⊎◌, ℕ, ◌+◌, ◌<◌, ◌≤◌, Bool, true, false, cond, Option, Some, None, List, length, take, get_or, refl, sym, ◌∙◌, subst, inl, inr, arith}
+use Rattle.std.proofs.Common.{◌≡◌, ◌≢◌, ◌⊎◌, ℕ, ◌+◌, ◌<◌, ◌≤◌, Bool, true, false, cond, Option, Some, None, List, length, take, get_or}
+use Rattle.std.proofs.Common.{refl, sym, ◌∙◌, subst, inl, inr, arith}
 use Rattle.std.specs.Prelude.{All}
 use Rattle.std.proofs.lemmas.List.{length-take, take-take, get_or-take}
 use Rattle.std.proofs.lemmas.List.Elements.{All-take, All-more}
 use Rattle.std.proofs.lemmas.Bool.{cases_eq, cases_lt, ltb-true, ltb-false}
 use Rattle.std.specs.Prelude.{nat_lt}
 use Rattle.circ_audit.specs.Sound.{IsLeastBroken, FailsFirst}
-use Rattle.circ_audit.specs.Pages.{page_of, lesser_of, earlier_of, IsBelow, FailsOn}
+use Rattle.circ_audit.specs.Spans.{span_of, lesser_of, earlier_of, IsBelow, FailsOn}
 
 -- One more number of which it doesn't hold: `Next` is the law after it.
 pub fails-more : (Law Next : ℕ → Type 0) (first : Option ℕ) (n : ℕ) → ((m : ℕ) → Next m → Law m) → ((m : ℕ) → m ≢ n → Law m → Next m) → (Next n → ⊥)
@@ -15,11 +16,17 @@ fails-more Law Next None n back on wrong all = record { broken = wrong; below = 
 fails-more Law Next (Some k) n back on wrong least = go (nat_lt n k) refl
   where
     go : (b : Bool) → nat_lt n k ≡ b → FailsFirst Next (Some (cond b n k))
-    go true e = let lt : n < k = ltb-true n k e in record { broken = wrong; below = λ m below. on m (λ same. omega (arith, below, same)) (least.below m (omega (arith, below, lt))) }
-    go false e = let le : k ≤ n = ltb-false n k e in record { broken = λ next. least.broken (back k next); below = λ m below. on m (λ same. omega (arith, below, same, le)) (least.below m below) }
+    go true e = let lt : n < k = ltb-true n k e in
+        record { broken = wrong; below = λ m below. on m (λ same. omega (arith, below, same)) (least.below m (omega (arith, below, lt))) }
+    go false e = let le : k ≤ n = ltb-false n k e in
+        record {
+          broken = λ next. least.broken (back k next);
+          below = λ m below. on m (λ same. omega (arith, below, same, le)) (least.below m below);
+        }
 
 -- The same law in other words.
-pub fails-same : (Law Next : ℕ → Type 0) (first : Option ℕ) → ((m : ℕ) → Next m → Law m) → ((m : ℕ) → Law m → Next m) → FailsFirst Law first → FailsFirst Next first
+pub fails-same : (Law Next : ℕ → Type 0) (first : Option ℕ) → ((m : ℕ) → Next m → Law m) → ((m : ℕ) → Law m → Next m) → FailsFirst Law first
+    → FailsFirst Next first
 fails-same Law Next None back on all = λ n. on n (all n)
 fails-same Law Next (Some k) back on least = record { broken = λ next. least.broken (back k next); below = λ m lt. on m (least.below m lt) }
 
@@ -31,32 +38,35 @@ fails-both P Q None (Some n) p q = record { broken = λ both. q.broken both.1; b
 fails-both P Q (Some k) (Some n) p q = go (nat_lt n k) refl
   where
     go : (b : Bool) → nat_lt n k ≡ b → FailsFirst (λ m. P m × Q m) (Some (cond b n k))
-    go true e = let lt : n < k = ltb-true n k e in record { broken = λ both. q.broken both.1; below = λ m below. (p.below m (omega (arith, below, lt)), q.below m below) }
-    go false e = let le : k ≤ n = ltb-false n k e in record { broken = λ both. p.broken both.0; below = λ m below. (p.below m below, q.below m (omega (arith, below, le))) }
+    go true e = let lt : n < k = ltb-true n k e in
+        record { broken = λ both. q.broken both.1; below = λ m below. (p.below m (omega (arith, below, lt)), q.below m below) }
+    go false e = let le : k ≤ n = ltb-false n k e in
+        record { broken = λ both. p.broken both.0; below = λ m below. (p.below m below, q.below m (omega (arith, below, le))) }
 
--- ---- page by page
+-- ---- span by span
 
-module _ (Law : ℕ → Type 0) (page : ℕ) (before : (m : ℕ) → page_of m < page → Law m) where
-  -- What is found on a page is the least of all, where the law holds of the pages before.
-  pub found-on : (n : ℕ) → FailsOn Law page (Some n) → IsLeastBroken Law n
-  found-on n least = go (cases_eq (page_of n) page)
+module _ (Law : ℕ → Type 0) (span : ℕ) (before : (m : ℕ) → span_of m < span → Law m) where
+  -- What is found on a span is the least of all, where the law holds of the spans before.
+  pub found-on : (n : ℕ) → FailsOn Law span (Some n) → IsLeastBroken Law n
+  found-on n least = go (cases_eq (span_of n) span)
     where
-      go : (page_of n ≡ page) ⊎ (page_of n ≢ page) → IsLeastBroken Law n
+      go : (span_of n ≡ span) ⊎ (span_of n ≢ span) → IsLeastBroken Law n
       go (inr other) = absurd (least.broken (λ same. absurd (other same)))
       go (inl same) = record { broken = λ law. least.broken (λ _. law); below = below }
         where
           below : (m : ℕ) → m < n → Law m
-          below m lt = at (cases_lt (page_of m) page)
+          below m lt = at (cases_lt (span_of m) span)
             where
-              at : (page_of m < page) ⊎ (page ≤ page_of m) → Law m
+              at : (span_of m < span) ⊎ (span ≤ span_of m) → Law m
               at (inl earlier) = before m earlier
               at (inr le) = least.below m lt (omega (arith, le, same, lt))
 
-  -- Where nothing is found on the page, the law holds of all pages before that of the next number.
-  pub none-on : (next : Option ℕ) → ((n : ℕ) → page_of n ≡ page → Law n) → ((n : ℕ) → page < page_of n → IsBelow n next → Law n) → (n : ℕ) → IsBelow n next → Law n
-  none-on next here between n below = go (cases_lt (page_of n) page) (cases_lt page (page_of n))
+  -- Where nothing is found on the span, the law holds of all spans before that of the next number.
+  pub none-on : (next : Option ℕ) → ((n : ℕ) → span_of n ≡ span → Law n) → ((n : ℕ) → span < span_of n → IsBelow n next → Law n) → (n : ℕ)
+      → IsBelow n next → Law n
+  none-on next here between n below = go (cases_lt (span_of n) span) (cases_lt span (span_of n))
     where
-      go : (page_of n < page) ⊎ (page ≤ page_of n) → (page < page_of n) ⊎ (page_of n ≤ page) → Law n
+      go : (span_of n < span) ⊎ (span ≤ span_of n) → (span < span_of n) ⊎ (span_of n ≤ span) → Law n
       go (inl earlier) c = before n earlier
       go (inr le) (inl later) = between n later below
       go (inr le) (inr ge) = here n (omega (arith, le, ge))
@@ -78,14 +88,16 @@ module _ {R : Type 0} (rows : List R) (i : ℕ) (x : R) (lt : i < length rows) (
   pub row-breaks : (Q : ℕ → R → Type 0) (first : Option ℕ) (n : ℕ) → ((m : ℕ) → m ≢ n → Q m x) → (Q n x → ⊥)
       → FailsFirst (λ m. All (Q m) (take i rows)) first → FailsFirst (λ m. All (Q m) (take (i + 1) rows)) (Some (lesser_of first n))
   row-breaks Q first n others wrong before =
-      fails-more (λ m. All (Q m) (take i rows)) (λ m. All (Q m) (take (i + 1) rows)) first n (λ m. all-before (Q m)) (λ m other all. all-with (Q m) all (others m other))
+      fails-more (λ m. All (Q m) (take i rows)) (λ m. All (Q m) (take (i + 1) rows)) first n (λ m. all-before (Q m))
+      (λ m other all. all-with (Q m) all (others m other))
       (λ all. wrong (all-last (Q n) all)) before
 
   -- The row breaks no law.
   pub row-keeps : (Q : ℕ → R → Type 0) (first : Option ℕ) → ((m : ℕ) → Q m x)
       → FailsFirst (λ m. All (Q m) (take i rows)) first → FailsFirst (λ m. All (Q m) (take (i + 1) rows)) first
   row-keeps Q first keeps before =
-      fails-same (λ m. All (Q m) (take i rows)) (λ m. All (Q m) (take (i + 1) rows)) first (λ m. all-before (Q m)) (λ m all. all-with (Q m) all (keeps m)) before
+      fails-same (λ m. All (Q m) (take i rows)) (λ m. All (Q m) (take (i + 1) rows)) first (λ m. all-before (Q m))
+      (λ m all. all-with (Q m) all (keeps m)) before
 
 -- ---- what is found of a law
 

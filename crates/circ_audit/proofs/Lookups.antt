@@ -1,7 +1,7 @@
 -- Rows that are looked up by their numbers, where these rise.
-use Rattle.std.proofs.Common.{◌≡◌, ◌≢◌, ◌⊎◌, ℕ, zero, suc, ◌<◌, ◌≤◌, Bool, true, false, List, [], ◌∷◌, length, get_or, Some, None, Ok, Err, refl, sym, ◌∙◌, ap, subst, inl, inr, eqb, arith}
+use Rattle.std.proofs.Common.{◌≡◌, ◌≢◌, ◌⊎◌, ℕ, zero, suc, ◌<◌, ◌≤◌, Bool, true, false, List, [], ◌∷◌, length, get_or, Some, None, Ok, Err}
+use Rattle.std.proofs.Common.{refl, sym, ◌∙◌, ap, subst, inl, inr, eqb, arith}
 use Rattle.std.specs.Prelude.{find}
-use Rattle.std.specs.List.{AllByRecursion}
 use Rattle.std.specs.List.Sorted.{IsBinarySearchResult, IsNonDecreasingBy}
 use Rattle.std.specs.Ordering.{nat_cmp, ordering_index}
 use Rattle.std.proofs.lemmas.Cmp.{ranked}
@@ -34,11 +34,14 @@ not-eqb m n differ = go (eqb m n) refl
 module _ {R : Type 0} (number_of : R → ℕ) (rows : List R) (rise : Rise number_of rows) (n : ℕ) where
   -- A row with the number is the one that is found.
   pub row-found : (place : ℕ) (x : R) → place < length rows → get_or rows place x ≡ x → number_of x ≡ n → find (λ r. eqb (number_of r) n) rows ≡ Some x
-  row-found place x within is has = find-at (λ r. eqb (number_of r) n) rows place x within is (eq-eqb (number_of x) n has) (λ k below. not-eqb (number_of (get_or rows k x)) n (differs k below))
+  row-found place x within is has =
+      find-at (λ r. eqb (number_of r) n) rows place x within is (eq-eqb (number_of x) n has)
+      (λ k below. not-eqb (number_of (get_or rows k x)) n (differs k below))
     where
       differs : (k : ℕ) → k < place → number_of (get_or rows k x) ≢ n
       differs k below same =
-          let less : number_of (get_or rows k x) < number_of (get_or rows place x) = ordered-at (λ r s. number_of r < number_of s) rows k place x below within rise in
+          let less : number_of (get_or rows k x) < number_of (get_or rows place x) =
+          ordered-at (λ r s. number_of r < number_of s) rows k place x below within rise in
           let at : number_of (get_or rows place x) ≡ number_of x = ap number_of is in
           omega (arith, less, at, has, same)
 
@@ -47,16 +50,19 @@ module _ {R : Type 0} (number_of : R → ℕ) (rows : List R) (rise : Rise numbe
   comparisons-rise i j d le within = go (cases_eq i j)
     where
       go : (i ≡ j) ⊎ (i ≢ j) → ordering_index (nat_cmp (number_of (get_or rows i d)) n) ≤ ordering_index (nat_cmp (number_of (get_or rows j d)) n)
-      go (inl same) = subst (λ (k : ℕ). ordering_index (nat_cmp (number_of (get_or rows i d)) n) ≤ ordering_index (nat_cmp (number_of (get_or rows k d)) n)) same (omega arith)
+      go (inl same) = subst (λ (k : ℕ). ordering_index (nat_cmp (number_of (get_or rows i d)) n) ≤ ordering_index
+          (nat_cmp (number_of (get_or rows k d)) n)) same (omega arith)
       go (inr other) =
-          let less : number_of (get_or rows i d) < number_of (get_or rows j d) = ordered-at (λ r s. number_of r < number_of s) rows i j d (omega (arith, le, other)) within rise in
+          let less : number_of (get_or rows i d) < number_of (get_or rows j d) =
+          ordered-at (λ r s. number_of r < number_of s) rows i j d (omega (arith, le, other)) within rise in
           compared (number_of (get_or rows i d)) (number_of (get_or rows j d)) less
         where
           compared : (a b : ℕ) → a < b → ordering_index (nat_cmp a n) ≤ ordering_index (nat_cmp b n)
           compared a b less = grind (arith, nat_tests)
 
   -- A binary search ends at the row with the number.
-  pub searched-found : (place : ℕ) (x : R) → place < length rows → x ≡ get_or rows place x → IsBinarySearchResult (λ r. nat_cmp (number_of r) n) rows (Ok place) → Some x ≡ find (λ r. eqb (number_of r) n) rows
+  pub searched-found : (place : ℕ) (x : R) → place < length rows → x ≡ get_or rows place x
+      → IsBinarySearchResult (λ r. nat_cmp (number_of r) n) rows (Ok place) → Some x ≡ find (λ r. eqb (number_of r) n) rows
   searched-found place x within is equal =
       let has : number_of (get_or rows place x) ≡ n = ranked (number_of (get_or rows place x)) n _ (sym (equal x)) in
       sym (row-found place x within (sym is) (ap number_of is ∙ has))
@@ -72,5 +78,8 @@ module _ {R : Type 0} (number_of : R → ℕ) (rows : List R) (rise : Rise numbe
           ⊥_of same = go (cases_lt k gap)
             where
               go : (k < gap) ⊎ (gap ≤ k) → ⊥
-              go (inl before) = let less : number_of (get_or rows k d) < n = ranked (number_of (get_or rows k d)) n _ (sym ((parted comparisons-rise).0 k d (omega arith) before)) in omega (arith, less, same)
-              go (inr from) = let more : n < number_of (get_or rows k d) = ranked (number_of (get_or rows k d)) n _ (sym ((parted comparisons-rise).1 k d from within)) in omega (arith, more, same)
+              go (inl before) = let less : number_of (get_or rows k d) < n =
+                  ranked (number_of (get_or rows k d)) n _ (sym ((parted comparisons-rise).0 k d (omega arith) before)) in
+                  omega (arith, less, same)
+              go (inr from) = let more : n < number_of (get_or rows k d) =
+                  ranked (number_of (get_or rows k d)) n _ (sym ((parted comparisons-rise).1 k d from within)) in omega (arith, more, same)

@@ -1,3 +1,3 @@
 pub mod Rows
 pub mod Sound
-pub mod Pages
+pub mod Spans

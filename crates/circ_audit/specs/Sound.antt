@@ -1,5 +1,5 @@
 -- The three laws of sound tables, and the first of them that is broken.
-use Rattle.std.specs.Prelude.{◌≡◌, ◌↔◌, ℕ, ◌+◌, ◌<◌, ◌≤◌, true, List, [], ◌∷◌, All, count_by, sum_by, Option, Some, Result, Ok, Err, MatchOption}
+use Rattle.std.specs.Prelude.{◌≡◌, ◌↔◌, ℕ, ◌+◌, ◌<◌, ◌≤◌, true, All, count_by, sum_by, Option, Some, Result, Ok, Err, MatchOption}
 use Rattle.terms.specs.declared.tables.Tables.{Tables}
 use Rattle.circ_audit.specs.declared.auditing.Finding.{Finding}
 use Rattle.circ_audit.specs.declared.auditing.Finding.TheVariants.{Claims, Binding, Balance}

@@ -5,7 +5,7 @@ ghost use Rattle.circ_audit.specs.Sound.{Audits};
 use crate::balance::Balanced;
 use crate::bindings::first_unbound;
 use crate::claims::ClaimedOnce;
-use crate::pages::first_broken;
+use crate::spans::first_broken;
 use terms::{CopyId, HoldId, PatronId, Tables};
 
 /// The first law that is broken, with the least number of which it is.

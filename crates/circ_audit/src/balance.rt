@@ -3,39 +3,39 @@
 ghost use Rattle.std.specs.Prelude.{◌≡◌, ◌-◌, ◌^◌, ◌==◌, slice_index};
 ghost use Rattle.std.specs.Prelude.{if◌then◌else◌};
 ghost use Rattle.circ_audit.specs.Rows.{charge, credit};
-ghost use Rattle.circ_audit.specs.Pages.{place_of, Sums, AreWithin, Adds, AddsRows};
-ghost use Rattle.circ_audit.specs.Pages.{broken_after, next_after, is_right, LooksAtRows};
+ghost use Rattle.circ_audit.specs.Spans.{place_of, Sums, AreWithin, Adds, AddsRows};
+ghost use Rattle.circ_audit.specs.Spans.{broken_after, next_after, is_right, LooksAtRows};
 ghost use Rattle.circ_audit.specs.Sound.{IsBalanced};
 
-use crate::pages::{Law, Look, PAGE, lesser, page_of};
 use crate::rows::is_charge;
+use crate::spans::{Law, Look, SPAN, lesser, span_of};
 use terms::{LineRow, PatronRow, Tables};
 
-/// Totals of the numbers of a page, in cents.
+/// Totals of the numbers of a span, in cents.
 #[derive(Drop)]
 pub struct Totals {
-    page: u16,
+    span: u16,
     sums: [u128; 65_536],
 }
 
 impl Totals {
-    /// The page with nothing added.
-    fn new(page: u16) -> Totals
-        ensures page { result.page ≡ page }
+    /// The span with nothing added.
+    fn new(span: u16) -> Totals
+        ensures span { result.span ≡ span }
         ensures sums { Sums result (λ n. 0) }
         ensures within { AreWithin 0 result }
     {
         let sums = [0; 65_536];
-        Totals { page, sums }
+        Totals { span, sums }
     }
 
-    /// Adds an amount to the total of a number, if it is of the page.
+    /// Adds an amount to the total of a number, if it is of the span.
     fn add(&mut self, number: u32, amount: u64)
         requires { AreWithin (2 ^ 128 - 2 ^ 64) self.old }
         ensures { Adds (λ n. if number == n then amount else 0) self.old self.new }
     {
-        if page_of(number) == self.page {
-            self.sums[(number % PAGE) as usize] += u128::from(amount);
+        if span_of(number) == self.span {
+            self.sums[(number % SPAN) as usize] += u128::from(amount);
         }
     }
 
@@ -43,7 +43,7 @@ impl Totals {
     fn of(&self, number: u32) -> u128
         ensures { result ≡ slice_index self.now.sums (place_of number) }
     {
-        self.sums[(number % PAGE) as usize]
+        self.sums[(number % SPAN) as usize]
     }
 }
 
@@ -75,7 +75,7 @@ fn add_lines(lines: &[LineRow], charges: &mut Totals, credits: &mut Totals)
     }
 }
 
-/// Whether a patron of the page owes the charges less the credits.
+/// Whether a patron of the span owes the charges less the credits.
 fn is_right(row: &PatronRow, charges: &Totals, credits: &Totals) -> bool
     ensures { result ≡ is_right row.now charges.now credits.now }
 {
@@ -85,24 +85,24 @@ fn is_right(row: &PatronRow, charges: &Totals, credits: &Totals) -> bool
     credited <= charged && charged - credited == u128::from(row.owed.number())
 }
 
-/// Looks at the row of a patron: is it of the page, and right, or of a later page?
+/// Looks at the row of a patron: is it of the span, and right, or of a later span?
 fn look_at(row: &PatronRow, charges: &Totals, credits: &Totals, look: &mut Look)
-    ensures broken { look.new.broken ≡ broken_after charges.now.page
+    ensures broken { look.new.broken ≡ broken_after charges.now.span
         (is_right row.now charges.now credits.now) row.now.patron look.old.broken }
-    ensures next { look.new.next ≡ next_after charges.now.page row.now.patron look.old.next }
+    ensures next { look.new.next ≡ next_after charges.now.span row.now.patron look.old.next }
 {
     let patron = row.patron.number();
-    let page = page_of(patron);
-    if page == charges.page {
+    let span = span_of(patron);
+    if span == charges.span {
         if !is_right(row, charges, credits) {
             look.broken = lesser(look.broken, patron);
         }
-    } else if page > charges.page {
+    } else if span > charges.span {
         look.next = lesser(look.next, patron);
     }
 }
 
-/// Looks at the patrons of the page, by their charges and credits.
+/// Looks at the patrons of the span, by their charges and credits.
 fn look_at_patrons(rows: &[PatronRow], charges: &Totals, credits: &Totals) -> Look
     ensures { LooksAtRows rows.now charges.now credits.now result }
 {
@@ -122,9 +122,9 @@ pub struct Balanced;
 impl Law for Balanced {
     ghost keeps = { IsBalanced };
 
-    fn look(tables: &Tables, page: u16) -> Look {
-        let mut charges = Totals::new(page);
-        let mut credits = Totals::new(page);
+    fn look(tables: &Tables, span: u16) -> Look {
+        let mut charges = Totals::new(span);
+        let mut credits = Totals::new(span);
         add_lines(tables.lines.as_slice(), &mut charges, &mut credits);
         look_at_patrons(tables.patrons.as_slice(), &charges, &credits)
     }

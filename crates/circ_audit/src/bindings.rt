@@ -2,11 +2,11 @@
 
 ghost use Rattle.std.specs.Prelude.{◌≡◌};
 ghost use Rattle.circ_audit.specs.Rows.{copy_row, hold_row, is_titled, is_copy_of, is_fit, serves};
-ghost use Rattle.circ_audit.specs.Pages.{first_after, first_named, earlier_of};
+ghost use Rattle.circ_audit.specs.Spans.{first_after, first_named, earlier_of};
 ghost use Rattle.circ_audit.specs.Sound.{IsServedOnce, IsBound, FailsFirst, IsFit, IsServed};
 
-use crate::pages::{Law, Look, first_broken, lesser};
 use crate::rows::{is_ready, is_waiting};
+use crate::spans::{Law, Look, first_broken, lesser};
 use crate::window::{Names, Window};
 use terms::{CopyId, CopyRow, HoldId, HoldRow, Rows, Tables, TitleId, TransitRow};
 
@@ -135,8 +135,8 @@ struct ServedOnce;
 impl Law for ServedOnce {
     ghost keeps = { IsServedOnce };
 
-    fn look(tables: &Tables, page: u16) -> Look {
-        let mut window = Window::new(page);
+    fn look(tables: &Tables, span: u16) -> Look {
+        let mut window = Window::new(span);
         window.tally::<HoldId, TransitRow>(tables.transits.as_slice());
         window.look()
     }

@@ -4,8 +4,8 @@ ghost use Rattle.std.specs.Prelude.{Some};
 ghost use Rattle.circ_audit.specs.Rows.{lent_copy, shelved_copy, travelling_copy, absent_copy};
 ghost use Rattle.circ_audit.specs.Sound.{IsClaimedOnce};
 
-use crate::pages::{Law, Look};
 use crate::rows::{is_present, is_ready};
+use crate::spans::{Law, Look};
 use crate::window::{Names, Window};
 use terms::{CopyId, CopyRow, HoldRow, LoanRow, Tables, TransitRow};
 
@@ -63,8 +63,8 @@ pub struct ClaimedOnce;
 impl Law for ClaimedOnce {
     ghost keeps = { IsClaimedOnce };
 
-    fn look(tables: &Tables, page: u16) -> Look {
-        let mut window = Window::new(page);
+    fn look(tables: &Tables, span: u16) -> Look {
+        let mut window = Window::new(span);
         window.tally::<CopyId, LoanRow>(tables.loans.as_slice());
         window.tally::<CopyId, HoldRow>(tables.holds.as_slice());
         window.tally::<CopyId, TransitRow>(tables.transits.as_slice());

@@ -1,7 +1,7 @@
-//! The calls of the layers below, with no clauses, and generic over the store: the program promises nothing more than they
-//! do, so its proof carries nothing of theirs.
+//! The calls of the layers below, with no clauses, and generic over the store: the program promises
+//! nothing more than they do, so its proof carries nothing of theirs.
 
-use circ::{Exit, Report, WriteFault};
+use circ::{Exit, Report, Web, WriteFault};
 use desk::Desk;
 use sqlite::{Alter, FileFrom, FileStore, Start};
 use sqlite_disk::Disk;
@@ -44,8 +44,8 @@ pub fn open_tables<S: Start>(
     Ok(open(rt, path, start)?.into_store())
 }
 
-/// Copies the database's log into the file, so that the file alone is the library; where that fails, the log stays beside it and
-/// nothing is lost.
+/// Copies the database's log into the file, so that the file alone is the library; where that
+/// fails, the log stays beside it and nothing is lost.
 pub fn close<D: Disk + Drop>(desk: Desk<FileStore<D>>) {
     close_tables(desk.into_store());
 }
@@ -104,21 +104,16 @@ pub fn migrate<S: Alter, W: Write>(
     circ::migrate(store, alloc, writer)
 }
 
-/// Serves the web with so many workers, each of which serves so many connections. It gives the desk back.
+/// Serves the web, and gives the desk back.
 pub fn serve<S: Alter, W: Write, R: Threads + Wait + Copy + Send + 'static>(
     rt: R,
     alloc: Global,
     desk: Desk<S>,
     listener: TcpListener,
-    port: u16,
-    workers: usize,
-    each: u32,
-    desk_key: CardKey,
+    web: Web,
     writer: &mut W,
 ) -> (Desk<S>, Result<Exit, WriteFault>) {
-    circ::serve(
-        rt, alloc, desk, listener, port, workers, each, desk_key, writer,
-    )
+    circ::serve(rt, alloc, desk, listener, web, writer)
 }
 
 /// Sends one request over the connection, and writes its line.

@@ -1,5 +1,5 @@
-//! The program `circ`: the circulation desk of a town library, by words and over the web. What scripts read goes to standard output, and what is said of it
-//! for a person to standard error.
+//! The program `circ`: the circulation desk of a town library, by words and over the web. What
+//! scripts read goes to standard output, and what is said of it for a person to standard error.
 #![tactic(auto)]
 
 mod calls;
@@ -9,9 +9,9 @@ use calls::{
     FileDesk, audit, close, close_tables, create, import, migrate, no_network, not_understood, one,
     open, open_any, open_tables, out_of_memory, report, send, serve, tell_fault, unreadable,
 };
-use circ::{Exit, Report, Run, WriteFault, read_run};
-use messages::{Line, Noting};
-use notes::{say, say_migrating, say_unwritten};
+use circ::{Exit, Report, Run, Web, WriteFault, read_run};
+use messages::{Noting, ToldLine};
+use notes::{say, say_begun, say_unwritten};
 use sqlite::{Start, Wary};
 use std::fs::File;
 use std::io::{BufWriter, ErrorKind, Write};
@@ -21,6 +21,12 @@ use std::sync::Wait;
 use std::thread::Threads;
 use std::{env, fs, io};
 use terms::{CardKey, Fault, Key};
+
+/// What is said where all holds and loans of an older library are written anew.
+const MIGRATES: &str = "the library is being brought to the newest schema";
+
+/// What is said where a library is opened to be served: the line that it listens comes after it.
+const OPENS: &str = "the library is being opened, and the pages of its patrons are made";
 
 /// Whether there is no file yet, or one with no bytes.
 fn is_new(rt: &HostRuntime, path: &str) -> bool {
@@ -39,7 +45,8 @@ fn open_or_create<S: Start>(rt: &HostRuntime, path: &str, start: S) -> Result<Fi
     }
 }
 
-/// The library in the file. Where there is no file, or one with no bytes, there is no library: 93, and no file is made.
+/// The library in the file. Where there is no file, or one with no bytes, there is no library: 93,
+/// and no file is made.
 fn find<S: Start>(rt: &HostRuntime, path: &str, start: S) -> Result<FileDesk<S>, Fault> {
     if is_new(rt, path) {
         return Err(Fault::Stored);
@@ -105,7 +112,8 @@ fn report_on<S: Start, W: Write>(
     }
 }
 
-/// The audit of the library in the file. Where there is no file, or one with no bytes, there is no library: 93, and no file is made.
+/// The audit of the library in the file. Where there is no file, or one with no bytes, there is no
+/// library: 93, and no file is made.
 fn audit_on<S: Start, W: Write>(
     rt: &HostRuntime,
     start: S,
@@ -125,7 +133,8 @@ fn audit_on<S: Start, W: Write>(
     }
 }
 
-/// Brings the library in the file to the newest schema. Where there is no file, or one with no bytes, there is no library: 93, and no file is made.
+/// Brings the library in the file to the newest schema. Where there is no file, or one with no
+/// bytes, there is no library: 93, and no file is made.
 fn migrate_in<S: Start, W: Write>(
     rt: &HostRuntime,
     start: S,
@@ -138,7 +147,7 @@ fn migrate_in<S: Start, W: Write>(
     match open_any(rt, path, start) {
         Ok(mut store) => {
             // A note that can't be written keeps no library back.
-            let _ = say_migrating(rt, path);
+            let _ = say_begun(rt, path, MIGRATES);
             let told = migrate(&mut store, rt.alloc(), writer);
             close_tables(store);
             told
@@ -153,28 +162,17 @@ fn serve_on<S: Start, W: Write, R: Threads + Wait + Copy + Send + 'static>(
     threads: R,
     start: S,
     path: &str,
-    port: u16,
-    workers: usize,
-    each: u32,
-    desk_key: CardKey,
+    web: Web,
     writer: &mut W,
 ) -> Result<Exit, WriteFault> {
+    // A note that can't be written keeps nobody from being served.
+    let _ = say_begun(rt, path, OPENS);
     let desk = match open_or_create(rt, path, start) {
         Ok(desk) => desk,
         Err(fault) => return tell_fault(writer, fault),
     };
-    let (desk, told) = match TcpListener::bind(rt, (Ipv4Addr::LOCALHOST, port)) {
-        Ok(listener) => serve(
-            threads,
-            rt.alloc(),
-            desk,
-            listener,
-            port,
-            workers,
-            each,
-            desk_key,
-            writer,
-        ),
+    let (desk, told) = match TcpListener::bind(rt, (Ipv4Addr::LOCALHOST, web.port)) {
+        Ok(listener) => serve(threads, rt.alloc(), desk, listener, web, writer),
         Err(_) => (desk, no_network(writer)),
     };
     close(desk);
@@ -196,7 +194,8 @@ fn send_to<W: Write>(
     }
 }
 
-/// The words after the program's name. An argument that is not UTF-8 gives no words, which are not understood.
+/// The words after the program's name. An argument that is not UTF-8 gives no words, which are not
+/// understood.
 fn words_of(rt: &HostRuntime) -> Result<Vec<String>, Fault> {
     let mut words = Vec::new(rt.alloc());
     match env::args(rt) {
@@ -211,7 +210,8 @@ fn words_of(rt: &HostRuntime) -> Result<Vec<String>, Fault> {
     }
 }
 
-/// Whether the lines of a run go out at once, so that what was told was done: those of a copies file and of the web.
+/// Whether the lines of a run go out at once, so that what was told was done: those of a copies
+/// file and of the web.
 fn tells_at_once(words: &[String]) -> bool {
     match words.first() {
         Some(run) => run.as_str() == "import" || run.as_str() == "serve",
@@ -233,15 +233,7 @@ fn do_run<S: Start, W: Write, R: Threads + Wait + Copy + Send + 'static>(
         Run::Report { path, report } => report_on(rt, start, path, &report, writer),
         Run::Audit { path } => audit_on(rt, start, path, writer),
         Run::Migrate { path } => migrate_in(rt, start, path, writer),
-        Run::Serve {
-            path,
-            port,
-            workers,
-            each,
-            desk_key,
-        } => serve_on(
-            rt, threads, start, path, port, workers, each, desk_key, writer,
-        ),
+        Run::Serve { path, web } => serve_on(rt, threads, start, path, web, writer),
         Run::Send {
             port,
             desk_key,
@@ -270,8 +262,14 @@ fn answer<S: Start, W: Write, R: Threads + Wait + Copy + Send + 'static>(
     }
 }
 
-/// The end of a run, with what it means said on standard error: where that takes nothing, the lines and the status tell enough.
-fn end(rt: &HostRuntime, told: &Line, words: &[String], exit: Result<Exit, WriteFault>) -> Exit {
+/// The end of a run, with what it means said on standard error: where that takes nothing, the lines
+/// and the status tell enough.
+fn end(
+    rt: &HostRuntime,
+    told: &ToldLine,
+    words: &[String],
+    exit: Result<Exit, WriteFault>,
+) -> Exit {
     match exit {
         Ok(exit) => {
             let _ = say(rt, told, words);

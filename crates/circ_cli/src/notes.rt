@@ -1,6 +1,6 @@
 //! What the program says for a person on standard error.
 
-use messages::{Line, explain};
+use messages::{ToldLine, explain};
 use sqlite::types::ValueRef;
 use sqlite::{Alter, Connection, Error, ErrorCode};
 use std::fs::{self, File};
@@ -30,7 +30,8 @@ fn schema_of<S: Alter>(conn: &mut Connection<S>) -> Option<i64> {
     None
 }
 
-/// What is known of a file that begins as a database, by opening it once more: the run has let go of it. A run that was to bring it forward isn't named as the remedy.
+/// What is known of a file that begins as a database, by opening it once more: the run has let go
+/// of it. A run that was to bring it forward isn't named as the remedy.
 fn cause_inside(rt: &HostRuntime, path: &str, migrates: bool) -> &'static str {
     let schema = match Connection::open(rt, path) {
         Ok(mut conn) => schema_of(&mut conn),
@@ -45,7 +46,8 @@ fn cause_inside(rt: &HostRuntime, path: &str, migrates: bool) -> &'static str {
             "the library is of an older schema still"
         }
         Some(schema) if schema >= 1 && schema < i64::from(SCHEMA) => {
-            "the library is of an older schema: make a backup of it, and then bring it forward by circ migrate FILE"
+            "the library is of an older schema: make a backup of it, and then bring it forward by \
+             circ migrate FILE"
         }
         _ => "the file is there, and begins as a library",
     }
@@ -89,7 +91,7 @@ fn write_cause<W: Write>(writer: &mut W, path: &str, cause: &str) -> Result<(), 
 }
 
 /// Says what the line means, and of a fault of the database what is known of the library's file.
-pub fn say(rt: &HostRuntime, told: &Line, words: &[String]) -> Result<(), WriteFault> {
+pub fn say(rt: &HostRuntime, told: &ToldLine, words: &[String]) -> Result<(), WriteFault> {
     let mut writer = rt.stderr();
     explain(&mut writer, told, words, SCHEMA)?;
     let is_of_database = told.as_bytes().starts_with(b"fault 91")
@@ -102,18 +104,14 @@ pub fn say(rt: &HostRuntime, told: &Line, words: &[String]) -> Result<(), WriteF
     }
 }
 
-/// Says on a terminal that the library is being brought to the newest schema: of a large one all
-/// holds are written anew, and meanwhile nothing else is told.
-pub fn say_migrating(rt: &HostRuntime, path: &str) -> Result<(), WriteFault> {
+/// Says on a terminal what has begun with the library's file and may take long, since meanwhile
+/// nothing else is told.
+pub fn say_begun(rt: &HostRuntime, path: &str, begun: &str) -> Result<(), WriteFault> {
     let mut writer = rt.stderr();
     if !writer.is_terminal() {
         return Ok(());
     }
-    write_cause(
-        &mut writer,
-        path,
-        "the library is being brought to the newest schema",
-    )
+    write_cause(&mut writer, path, begun)
 }
 
 /// Says that a line could not be written.

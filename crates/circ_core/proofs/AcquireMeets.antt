@@ -60,7 +60,8 @@ module _ (H : History) (inv : Invariant H) (c t k home price : ℕ) (text : List
   kept_same : (h : ℕ) → kept_for H h ≡ find (λ x. is_kept_for (place_now x) h) (cond (is_none (copy_of H c)) (c ∷ copies H) (copies H))
   kept_same h = find-same _ _ (λ x. place_same (λ _ p. is_kept_for p h) (λ _. refl) x) (copies H) ∙ go (is_none (copy_of H c)) refl
     where
-      go : (x : Bool) → is_none (copy_of H c) ≡ x → find (λ y. is_kept_for (place_now y) h) (copies H) ≡ find (λ y. is_kept_for (place_now y) h) (cond x (c ∷ copies H) (copies H))
+      go : (x : Bool) → is_none (copy_of H c) ≡ x
+          → find (λ y. is_kept_for (place_now y) h) (copies H) ≡ find (λ y. is_kept_for (place_now y) h) (cond x (c ∷ copies H) (copies H))
       go true e =
           let nowhere : place H c ≡ Nowhere = inv.unknown c (is_none-None (copy_of H c) e) in
           let off : is_kept_for (place_now c) h ≡ false = sym (place_same (λ _ p. is_kept_for p h) (λ _. refl) c) ∙ ap (λ p. is_kept_for p h) nowhere in
@@ -78,17 +79,21 @@ module _ (H : History) (inv : Invariant H) (c t k home price : ℕ) (text : List
   new_copy : List RowChange
   new_copy = PutCopy (record { copy = c; title = t; kind = k; home = home; price = price; condition = Present }) ∷ []
 
-  titles_keep : (s : List ℕ) → title_of H t ≡ Some s → (n : ℕ) → title_row H n ≡ option_map (title_columns n) (option_or (title_of H n) (cond (t == n) (Some text) None))
+  titles_keep : (s : List ℕ) → title_of H t ≡ Some s → (n : ℕ)
+      → title_row H n ≡ option_map (title_columns n) (option_or (title_of H n) (cond (t == n) (Some text) None))
   titles_keep s e n = keep_old title_columns (title_of H) t text s n e
 
   titles_put : title_of H t ≡ None → (n : ℕ)
-      → put (title_row H) t (Some (record { title = t; text = text })) n ≡ option_map (title_columns n) (option_or (title_of H n) (cond (t == n) (Some text) None))
+      → put (title_row H) t (Some (record { title = t; text = text })) n ≡ option_map (title_columns n)
+      (option_or (title_of H n) (cond (t == n) (Some text) None))
   titles_put e n = put_new title_columns (title_of H) t text _ n e refl
 
   -- The columns of a copy are those of its place now.
   columns_now : (n : ℕ) (o : Option CopyFacts) → option_map (copy_columns H n) o
       ≡ option_map (λ r. record { copy = n; title = r.title; kind = r.kind; home = r.home; price = r.price; condition = condition_at (place_now n) }) o
-  columns_now n o = ap (λ x. option_map (λ r. record { copy = n; title = r.title; kind = r.kind; home = r.home; price = r.price; condition = x }) o) (place_same (λ _ p. condition_at p) (λ _. refl) n)
+  columns_now n o = ap (λ x. option_map
+      (λ r. record { copy = n; title = r.title; kind = r.kind; home = r.home; price = r.price; condition = x }) o)
+      (place_same (λ _ p. condition_at p) (λ _. refl) n)
 
   abbrev copy_now : ℕ → Option CopyRow
   copy_now n = option_map (λ r. record { copy = n; title = r.title; kind = r.kind; home = r.home; price = r.price; condition = condition_at (place_now n) })
@@ -97,20 +102,23 @@ module _ (H : History) (inv : Invariant H) (c t k home price : ℕ) (text : List
   copies_keep : (r : CopyFacts) → copy_of H c ≡ Some r → (n : ℕ) → copy_row H n ≡ copy_now n
   copies_keep r e n = keep_old (copy_columns H) (copy_of H) c facts_now r n e ∙ columns_now n (option_or (copy_of H n) (cond (c == n) (Some facts_now) None))
 
-  copies_put : copy_of H c ≡ None → (n : ℕ) → put (copy_row H) c (Some (record { copy = c; title = t; kind = k; home = home; price = price; condition = Present })) n ≡ copy_now n
+  copies_put : copy_of H c ≡ None → (n : ℕ)
+      → put (copy_row H) c (Some (record { copy = c; title = t; kind = k; home = home; price = price; condition = Present })) n ≡ copy_now n
   copies_put e n =
       put_new (copy_columns H) (copy_of H) c facts_now _ n e
       (ap (λ x. record { copy = c; title = t; kind = k; home = home; price = price; condition = x }) (sym (ap condition_at (inv.unknown c e))))
       ∙ columns_now n (option_or (copy_of H n) (cond (c == n) (Some facts_now) None))
 
-  holds_keep : (n : ℕ) → hold_row H n ≡ hold_by n (hold_of H n) (state H n) (find (λ x. is_kept_for (place_now x) n) (cond (is_none (copy_of H c)) (c ∷ copies H) (copies H))) (limit H n)
+  holds_keep : (n : ℕ) → hold_row H n ≡ hold_by n (hold_of H n) (state H n)
+      (find (λ x. is_kept_for (place_now x) n) (cond (is_none (copy_of H c)) (c ∷ copies H) (copies H))) (limit H n)
   holds_keep n = ap (λ z. hold_by n (hold_of H n) (state H n) z (limit H n)) (kept_same n)
 
   transits_keep : (n : ℕ) → transit_at n (place H n) ≡ transit_at n (place_now n)
   transits_keep n = place_same transit_at (λ _. refl) n
 
   acquire_leads : (x : Option (List ℕ)) → title_of H t ≡ x → (y : Option CopyFacts) → copy_of H c ≡ y
-      → Leads H (Acquire c t k home price text) (rows_unless (option_map (title_columns t) x) new_title ++ rows_unless (option_map (copy_columns H c) y) new_copy)
+      → Leads H (Acquire c t k home price text)
+      (rows_unless (option_map (title_columns t) x) new_title ++ rows_unless (option_map (copy_columns H c) y) new_copy)
   unfolding new_title new_copy
   acquire_leads (Some s) e (Some r) f owner key = record {
     meta = refl;

@@ -37,7 +37,10 @@ sent_put (course.Transit g k) copy x c = elim (copy == c) as (λ _. Option Trans
 
 -- An arrival changes the rows of holds and transits, and no others.
 pub arrival_changed : (way : Course) (copy until : ℕ) (P : Picture)
-    → changed (arrival_rows way copy until) P ≡ record P { holds = λ h. ready_put way copy until (P.holds h) h; transits = λ c. sent_put way copy (P.transits c) c }
+    → changed (arrival_rows way copy until) P ≡ record P {
+      holds = λ h. ready_put way copy until (P.holds h) h;
+      transits = λ c. sent_put way copy (P.transits c) c;
+    }
 arrival_changed (course.HoldShelf r) copy until P = refl
 arrival_changed course.Shelf copy until P = refl
 arrival_changed (course.Transit g k) copy until P = refl
@@ -46,7 +49,8 @@ arrival_changed (course.Transit g k) copy until P = refl
 
 module _ (H : History) (inv : Invariant H) (n : ℕ) (f : CopyFacts) (there : copy_of H n ≡ Some f) (q : Place) where
   -- A hold that the copy neither leaves nor reaches has the copy that it had.
-  pub kept-other : (k : ℕ) → is_kept_for (place H n) k ≡ false → is_kept_for q k ≡ false → find (λ x. is_kept_for (moved n q (place H) x) k) (copies H) ≡ kept_for H k
+  pub kept-other : (k : ℕ) → is_kept_for (place H n) k ≡ false → is_kept_for q k ≡ false
+      → find (λ x. is_kept_for (moved n q (place H) x) k) (copies H) ≡ kept_for H k
   kept-other k off e = find-same _ _ (λ x. go x (n == x) refl) (copies H)
     where
       go : (x : ℕ) (y : Bool) → (n == x) ≡ y → is_kept_for (elim y as (λ _. Place) [ true ↦ q | false ↦ place H x ]) k ≡ is_kept_for (place H x) k
@@ -76,10 +80,12 @@ module _ (H : History) (inv : Invariant H) (n : ℕ) (f : CopyFacts) (there : co
       (find (λ x. is_kept_for (moved n q (place H) x) h) (copies H)) (elim (is_kept_for q h) as (λ _. Option ℕ) [ true ↦ limit_now H h | false ↦ limit H h ])
 
   -- The hold that the copy reaches becomes ready, and every other that it doesn't leave stays as it was.
-  pub arrive : (way : Course) → Suits H b way → Limits H way until → (h : ℕ) → is_kept_for (place H n) h ≡ false → ready_put way n until (hold_row H h) h ≡ arrived_row (place_by way b) h
+  pub arrive : (way : Course) → Suits H b way → Limits H way until → (h : ℕ) → is_kept_for (place H n) h ≡ false
+      → ready_put way n until (hold_row H h) h ≡ arrived_row (place_by way b) h
   arrive (course.HoldShelf r) s l h off = go (r.hold == h) refl
     where
-      here : Some (readied r n until) ≡ hold_by r.hold (hold_of H r.hold) (Some Ready) (find (λ x. is_kept_for (moved n (HoldShelf r.hold) (place H) x) r.hold) (copies H)) (limit_now H r.hold)
+      here : Some (readied r n until) ≡ hold_by r.hold (hold_of H r.hold) (Some Ready)
+          (find (λ x. is_kept_for (moved n (HoldShelf r.hold) (place H) x) r.hold) (copies H)) (limit_now H r.hold)
       here =
           ap (λ x. Some (readied x n until)) (sym s.2)
           ∙ sym (ap (λ o. hold_by r.hold o (Some Ready) (Some n) (Some until)) s.1)
@@ -89,13 +95,18 @@ module _ (H : History) (inv : Invariant H) (n : ℕ) (f : CopyFacts) (there : co
       go : (x : Bool) → (r.hold == h) ≡ x
           → (elim x as (λ _. Option HoldRow) [ true ↦ Some (readied r n until) | false ↦ hold_row H h ])
           ≡ hold_by h (hold_of H h) (elim x as (λ _. Option HoldState) [ true ↦ Some Ready | false ↦ state H h ])
-          (find (λ y. is_kept_for (moved n (HoldShelf r.hold) (place H) y) h) (copies H)) (elim x as (λ _. Option ℕ) [ true ↦ limit_now H h | false ↦ limit H h ])
+          (find (λ y. is_kept_for (moved n (HoldShelf r.hold) (place H) y) h) (copies H))
+          (elim x as (λ _. Option ℕ) [ true ↦ limit_now H h | false ↦ limit H h ])
       go true e =
-          subst (λ m. Some (readied r n until) ≡ hold_by m (hold_of H m) (Some Ready) (find (λ y. is_kept_for (moved n (HoldShelf r.hold) (place H) y) m) (copies H)) (limit_now H m))
+          subst (λ m. Some (readied r n until) ≡ hold_by m (hold_of H m) (Some Ready)
+          (find (λ y. is_kept_for (moved n (HoldShelf r.hold) (place H) y) m) (copies H)) (limit_now H m))
           (eqb-true r.hold h e) here
       go false e = ap (λ k. hold_by h (hold_of H h) (state H h) k (limit H h)) (sym (kept-other H inv n f there (HoldShelf r.hold) h off e))
-  arrive course.Shelf s l h off = ap (λ k. hold_by h (hold_of H h) (state H h) k (limit H h)) (sym (kept-other H inv n f there (place_by course.Shelf b) h off refl))
-  arrive (course.Transit g k) s l h off = ap (λ x. hold_by h (hold_of H h) (state H h) x (limit H h)) (sym (kept-other H inv n f there (place_by (course.Transit g k) b) h off refl))
+  arrive course.Shelf s l h off =
+      ap (λ k. hold_by h (hold_of H h) (state H h) k (limit H h)) (sym (kept-other H inv n f there (place_by course.Shelf b) h off refl))
+  arrive (course.Transit g k) s l h off =
+      ap (λ x. hold_by h (hold_of H h) (state H h) x (limit H h))
+      (sym (kept-other H inv n f there (place_by (course.Transit g k) b) h off refl))
 
 -- ---- the rows of transits and copies
 
@@ -112,7 +123,8 @@ over (course.Transit g k) x e = tt
 
 module _ (H : History) (n b : ℕ) where
   -- The copy is on its way exactly if the course sends it.
-  pub sends : (way : Course) (before : ℕ → Option TransitRow) → IsOver way (before n) → ((c : ℕ) → (n == c) ≡ false → before c ≡ transit_at c (place H c)) → (c : ℕ)
+  pub sends : (way : Course) (before : ℕ → Option TransitRow) → IsOver way (before n)
+      → ((c : ℕ) → (n == c) ≡ false → before c ≡ transit_at c (place H c)) → (c : ℕ)
       → sent_put way n (before c) c ≡ transit_at c (moved n (place_by way b) (place H) c)
   sends way before left others c = go (n == c) refl way left
     where
@@ -134,7 +146,8 @@ module _ (H : History) (n b : ℕ) where
   present_there (course.Transit g k) = refl
 
   -- A copy that was present stays so.
-  pub stays_present : (way : Course) → condition_at (place H n) ≡ Present → (c : ℕ) → condition_at (place H c) ≡ condition_at (moved n (place_by way b) (place H) c)
+  pub stays_present : (way : Course) → condition_at (place H n) ≡ Present → (c : ℕ)
+      → condition_at (place H c) ≡ condition_at (moved n (place_by way b) (place H) c)
   stays_present way was c = go (n == c) refl
     where
       go : (x : Bool) → (n == c) ≡ x → condition_at (place H c) ≡ condition_at (elim x as (λ _. Place) [ true ↦ place_by way b | false ↦ place H c ])

@@ -65,7 +65,8 @@ module _ (H : History) (inv : Invariant H) (b pickup : ℕ) (name : List ℕ) wh
     lines = λ _. refl;
   }
 
-  pub branch_meets : (row : Option BranchRow) → row ≡ branch_row H b → Meets H (Branch b pickup name) (branch_checks row b pickup name) Done (branch_rows row b pickup name)
+  pub branch_meets : (row : Option BranchRow) → row ≡ branch_row H b
+      → Meets H (Branch b pickup name) (branch_checks row b pickup name) Done (branch_rows row b pickup name)
   unfolding branch_facts new_branch
   branch_meets row w = record {
     same = (refl, refl, λ _. (refl, (rw w (differs_branch-same (branch_of H b))), λ _. tt));

@@ -30,13 +30,16 @@ open_weekday (false ∷ xs) e = (0, omega arith, refl)
 module _ (H : History) (b : ℕ) (closings : Closings) (w : AreClosedDays (picture H) b closings) where
   weekly_same : closings.weekly ≡ week_of H b
   weekly_same =
-      let f : (f : BranchFacts) × (branch_of H b ≡ Some f) × (branch_columns H b f ≡ w.row) = option_map-is (branch_columns H b) (branch_of H b) w.row w.there in
+      let f : (f : BranchFacts) × (branch_of H b ≡ Some f) × (branch_columns H b f ≡ w.row) =
+      option_map-is (branch_columns H b) (branch_of H b) w.row w.there in
       w.weekly ∙ ap (λ r. r.week) (sym f.2)
 
   open_same : (d : ℕ) → opens closings.weekly closings.single d ≡ is_open H b d
   open_same d =
-      ap (λ week. elim (nat_le FIRST_DAY d && (nat_le d LAST_DAY && not (slice_index_or week (weekday d) false))) as (λ _. Bool) [ true ↦ not (is_single closings.single d) | false ↦ false ]) weekly_same
-      ∙ ap (λ x. elim (nat_le FIRST_DAY d && (nat_le d LAST_DAY && not (slice_index_or (week_of H b) (weekday d) false))) as (λ _. Bool) [ true ↦ not x | false ↦ false ]) (w.single d)
+      ap (λ week. elim (nat_le FIRST_DAY d && (nat_le d LAST_DAY && not (slice_index_or week (weekday d) false))) as (λ _. Bool)
+      [ true ↦ not (is_single closings.single d) | false ↦ false ]) weekly_same
+      ∙ ap (λ x. elim (nat_le FIRST_DAY d && (nat_le d LAST_DAY && not (slice_index_or (week_of H b) (weekday d) false))) as (λ _. Bool)
+      [ true ↦ not x | false ↦ false ]) (w.single d)
 
   -- the two tests are one function
   one_test : opens closings.weekly closings.single ≡ is_open H b
@@ -61,7 +64,8 @@ module _ (H : History) (b : ℕ) (closings : Closings) (w : AreClosedDays (pictu
       ap is_none found.1
 
 -- The due day on the rows is the least open day of the history.
-pub due_from-is : (H : History) (b : ℕ) (o : Option Closings) → IsCalendarOf (picture H) b o → not (has_branch H b) ≡ false → (from : ℕ) → due_from o from ≡ least (is_open H b) from
+pub due_from-is : (H : History) (b : ℕ) (o : Option Closings) → IsCalendarOf (picture H) b o → not (has_branch H b) ≡ false → (from : ℕ)
+    → due_from o from ≡ least (is_open H b) from
 unfolding due_from
 due_from-is H b (Some closings) w has from = least_is H b closings w from
 due_from-is H b None w has from = let no_branch : not (has_branch H b) ≡ true = sym (calendar_there H b None w) in let never : ⊥ = cc in absurd never

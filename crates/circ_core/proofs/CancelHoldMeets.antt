@@ -123,7 +123,9 @@ module _ (H : History) (inv : Invariant H) (h : ℕ) where
       serves : (x : ℕ) (b : ℕ) → place H x ≡ Transit b (Some h) → Serves (place H x) h
       serves x b e = rw e refl
 
-      go : (x : Bool) → (t.copy == n) ≡ x → (elim x as (λ _. Option TransitRow) [ true ↦ Some (record t { hold = None }) | false ↦ transit_row H n ]) ≡ transit_at n (goes_on H h (place H n))
+      go : (x : Bool) → (t.copy == n) ≡ x
+          → (elim x as (λ _. Option TransitRow) [ true ↦ Some (record t { hold = None }) | false ↦ transit_row H n ]) ≡ transit_at n
+          (goes_on H h (place H n))
       go true e = subst (λ m. Some (record t { hold = None }) ≡ transit_at m (goes_on H h (place H m))) (eqb-true _ _ e)
           (sym (ap (transit_at t.copy) (ap (goes_on H h) at ∙ travels H h t.goal)))
       go false e =
@@ -138,18 +140,22 @@ module _ (H : History) (inv : Invariant H) (h : ℕ) where
       hold_by n (hold_of H n) (elim gone as (λ _. Option HoldState) [ true ↦ Some Cancelled | false ↦ state H n ])
       (find (λ y. is_kept_for (goes_on H h (place H y)) n) (copies H)) (limit H n)
 
-  one_cancelled : (f : HoldFacts) → hold_of H h ≡ Some f → (n : ℕ) → put (hold_row H) h (Some (finished (hold_columns H h Waiting f) Cancelled)) n ≡ hold_after_it n (h == n)
+  one_cancelled : (f : HoldFacts) → hold_of H h ≡ Some f → (n : ℕ)
+      → put (hold_row H) h (Some (finished (hold_columns H h Waiting f) Cancelled)) n ≡ hold_after_it n (h == n)
   one_cancelled f e n = go (h == n) refl
     where
       here : Some (finished (hold_columns H h Waiting f) Cancelled) ≡ hold_after_it h true
       here = sym (ap (option_map (hold_with h Cancelled None None)) e)
 
-      go : (x : Bool) → (h == n) ≡ x → (elim x as (λ _. Option HoldRow) [ true ↦ Some (finished (hold_columns H h Waiting f) Cancelled) | false ↦ hold_row H n ]) ≡ hold_after_it n x
+      go : (x : Bool) → (h == n) ≡ x
+          → (elim x as (λ _. Option HoldRow) [ true ↦ Some (finished (hold_columns H h Waiting f) Cancelled) | false ↦ hold_row H n ])
+          ≡ hold_after_it n x
       go true d = subst (λ m. Some (finished (hold_columns H h Waiting f) Cancelled) ≡ hold_after_it m true) (eqb-true _ _ d) here
       go false d =
           ap (λ k. hold_by n (hold_of H n) (state H n) k (limit H n)) (sym (find-same _ _ (λ y. same_kept H h (place H y) n) (copies H)))
 
-  copies_same : (n : ℕ) → (picture H).copies n ≡ option_map (λ x. record (copy_columns H n x) { condition = condition_at (goes_on H h (place H n)) }) (copy_of H n)
+  copies_same : (n : ℕ) → (picture H).copies n ≡ option_map
+      (λ x. record (copy_columns H n x) { condition = condition_at (goes_on H h (place H n)) }) (copy_of H n)
   copies_same n = ap (λ k. option_map (λ x. record (copy_columns H n x) { condition = k }) (copy_of H n)) (same_condition H h (place H n))
 
   lead : (f : HoldFacts) → hold_of H h ≡ Some f → (o : Option TransitRow) → IsTravelFor (picture H) h o → (owner : Owner) (key : List ℕ)

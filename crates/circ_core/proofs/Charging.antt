@@ -1,5 +1,6 @@
 -- What one charge more, or two, makes of the accounts and their lines.
-use Rattle.std.proofs.Common.{◌≡◌, ℕ, zero, suc, ◌+◌, ◌-◌, ◌≤◌, ◌==◌, Bool, true, false, cond, ◌&&◌, List, [], ◌∷◌, ◌++◌, length, refl, sym, ◌∙◌, ap, subst, arith}
+use Rattle.std.proofs.Common.{◌≡◌, ℕ, zero, suc, ◌+◌, ◌-◌, ◌≤◌, ◌==◌, Bool, true, false, cond, ◌&&◌, List, [], ◌∷◌, ◌++◌, length, refl, sym}
+use Rattle.std.proofs.Common.{◌∙◌, ap, subst, arith}
 use Rattle.std.specs.Prelude.{Option, Some, option_map, filter}
 use Rattle.std.proofs.lemmas.Bool.{eqb-true, eq-eqb}
 use Rattle.std.proofs.lemmas.List.{append-nil, append_assoc}
@@ -35,16 +36,23 @@ Covers xs q = credits (filter (λ x. x.patron == q) xs) ≤ charges (filter (λ 
 module _ (xs : List Line) (x : Line) (q : ℕ) where
   charges_split : charges (filter (λ y. y.patron == q) (xs ++ x ∷ [])) ≡ charges (filter (λ y. y.patron == q) xs) + charges (cond (x.patron == q) (x ∷ []) [])
   charges_split =
-      rw (filter-append (λ y. y.patron == q) xs (x ∷ []), sum_by-append (λ y. charge y.sort y.amount) (filter (λ y. y.patron == q) xs) (cond (x.patron == q) (x ∷ []) [])) refl
+      rw (
+        filter-append (λ y. y.patron == q) xs (x ∷ []),
+        sum_by-append (λ y. charge y.sort y.amount) (filter (λ y. y.patron == q) xs) (cond (x.patron == q) (x ∷ []) []),
+      ) refl
 
   credits_split : credits (filter (λ y. y.patron == q) (xs ++ x ∷ [])) ≡ credits (filter (λ y. y.patron == q) xs) + credits (cond (x.patron == q) (x ∷ []) [])
   credits_split =
-      rw (filter-append (λ y. y.patron == q) xs (x ∷ []), sum_by-append (λ y. credit y.sort y.amount) (filter (λ y. y.patron == q) xs) (cond (x.patron == q) (x ∷ []) [])) refl
+      rw (
+        filter-append (λ y. y.patron == q) xs (x ∷ []),
+        sum_by-append (λ y. credit y.sort y.amount) (filter (λ y. y.patron == q) xs) (cond (x.patron == q) (x ∷ []) []),
+      ) refl
 
 -- The patron of a charge owes so much more, and nobody else owes anything else.
 owed-more : (xs : List Line) (x : Line) → credit x.sort x.amount ≡ 0 → charge x.sort x.amount ≡ x.amount → Covers xs x.patron
     → (owed_in (xs ++ x ∷ []) x.patron ≡ owed_in xs x.patron + x.amount) × Covers (xs ++ x ∷ []) x.patron
-owed-more xs x no_credit is_charge covers = go (x.patron == x.patron) (eq-eqb x.patron x.patron refl) (charges_split xs x x.patron) (credits_split xs x x.patron)
+owed-more xs x no_credit is_charge covers =
+    go (x.patron == x.patron) (eq-eqb x.patron x.patron refl) (charges_split xs x x.patron) (credits_split xs x x.patron)
   where
     go : (b : Bool) → b ≡ true
         → charges (filter (λ y. y.patron == x.patron) (xs ++ x ∷ [])) ≡ charges (filter (λ y. y.patron == x.patron) xs) + charges (cond b (x ∷ []) [])
@@ -106,7 +114,8 @@ pub record ShowsLines (H : History) (xs : List Line) (P Q : Picture) : Type 0 wh
   pub holds1 : Q.holds1 ≡ P.holds1
   pub transits : Q.transits ≡ P.transits
 
-module _ (H : History) (inv : Invariant H) (p l : ℕ) (f : PatronFacts) (enrolled : patron_of H p ≡ Some f) (q : LoanRow) (by : q.patron ≡ p) (number : q.loan ≡ l)
+module _ (H : History) (inv : Invariant H) (p l : ℕ) (f : PatronFacts) (enrolled : patron_of H p ≡ Some f) (q : LoanRow) (by : q.patron ≡ p)
+    (number : q.loan ≡ l)
     (fine price : ℕ) (small_fine : fine ≤ 100000) (small_price : price ≤ 1000000) (P : Picture) (meta_is : P.meta ≡ meta_row H)
     (patrons_are : (k : ℕ) → P.patrons k ≡ patron_row H k) (lines_are : (k : ℕ) → P.lines k ≡ line_row H k) where
   -- No debt comes near the most that a column holds.
@@ -118,14 +127,16 @@ module _ (H : History) (inv : Invariant H) (p l : ℕ) (f : PatronFacts) (enroll
 
   -- The patron's row is put with the debt that the lines leave.
   patron-put : (xs : List Line) → owed_in xs p ≡ owed H p + fine + price → ((k : ℕ) → (p == k) ≡ false → owed_in xs k ≡ owed H k) → (k : ℕ)
-      → put P.patrons p (Some (charged (patron_columns H p f) fine price)) k ≡ option_map (λ x. record (patron_columns H k x) { owed = owed_in xs k }) (patron_of H k)
+      → put P.patrons p (Some (charged (patron_columns H p f) fine price)) k ≡ option_map
+      (λ x. record (patron_columns H k x) { owed = owed_in xs k }) (patron_of H k)
   patron-put xs own others k = go (p == k) refl
     where
       go : (b : Bool) → (p == k) ≡ b
           → (elim b as (λ _. Option PatronRow) [ true ↦ Some (charged (patron_columns H p f) fine price) | false ↦ P.patrons k ])
           ≡ option_map (λ x. record (patron_columns H k x) { owed = owed_in xs k }) (patron_of H k)
       go true e =
-          subst (λ n. Some (charged (patron_columns H p f) fine price) ≡ option_map (λ x. record (patron_columns H n x) { owed = owed_in xs n }) (patron_of H n)) (eqb-true p k e)
+          subst (λ n. Some (charged (patron_columns H p f) fine price) ≡ option_map
+          (λ x. record (patron_columns H n x) { owed = owed_in xs n }) (patron_of H n)) (eqb-true p k e)
           (ap (λ n. Some (record (patron_columns H p f) { owed = n })) (new_debt ∙ sym own)
           ∙ sym (ap (option_map (λ x. record (patron_columns H p x) { owed = owed_in xs p })) enrolled))
       go false e = patrons_are k ∙ ap (λ n. option_map (λ x. record (patron_columns H k x) { owed = n }) (patron_of H k)) (sym (others k e))
@@ -139,8 +150,11 @@ module _ (H : History) (p l : ℕ) where
   one sort m = record { patron = p; day = today H; sort = sort; amount = suc m; loan = Some l }
 
   module _ (inv : Invariant H) (f : PatronFacts) (enrolled : patron_of H p ≡ Some f) (q : LoanRow) (by : q.patron ≡ p) (number : q.loan ≡ l)
-      (P : Picture) (meta_is : P.meta ≡ meta_row H) (patrons_are : (k : ℕ) → P.patrons k ≡ patron_row H k) (lines_are : (k : ℕ) → P.lines k ≡ line_row H k) where
-    line_is : (n : ℕ) (sort : Sort) (m : ℕ) → ◌≡◌ {A = LineRow} (record { line = n; patron = q.patron; day = today H; sort = sort; amount = suc m; loan = Some q.loan }) (line_columns H n (one sort m))
+      (P : Picture) (meta_is : P.meta ≡ meta_row H) (patrons_are : (k : ℕ) → P.patrons k ≡ patron_row H k)
+      (lines_are : (k : ℕ) → P.lines k ≡ line_row H k) where
+    line_is : (n : ℕ) (sort : Sort) (m : ℕ)
+        → ◌≡◌ {A = LineRow} (record { line = n; patron = q.patron; day = today H; sort = sort; amount = suc m; loan = Some q.loan })
+        (line_columns H n (one sort m))
     line_is n sort m = rw (by, number) refl
 
     -- The tables after the charges, by whether each of the two is zero.
@@ -149,14 +163,23 @@ module _ (H : History) (p l : ℕ) where
         (elim (x && y) as (λ _. List RowChange) [
           | true ↦ []
           | false ↦
-              PutMeta (record (meta_row H) { next_line = next_line H + (elim x as (λ _. ℕ) [ true ↦ 0 | false ↦ 1 ]) + (elim y as (λ _. ℕ) [ true ↦ 0 | false ↦ 1 ]) })
+              PutMeta (record (meta_row H) {
+                next_line = next_line H + (elim x as (λ _. ℕ) [ true ↦ 0 | false ↦ 1 ]) + (elim y as (λ _. ℕ) [ true ↦ 0 | false ↦ 1 ]);
+              })
               ∷ PutPatron (charged (patron_columns H p f) fine price)
               ∷ ((elim x as (λ _. List RowChange) [
                 | true ↦ []
                 | false ↦ PutLine (record { line = next_line H; patron = q.patron; day = today H; sort = Fine; amount = fine; loan = Some q.loan }) ∷ []
               ]) ++ (elim y as (λ _. List RowChange) [
                 | true ↦ []
-                | false ↦ PutLine (record { line = next_line H + (elim x as (λ _. ℕ) [ true ↦ 0 | false ↦ 1 ]); patron = q.patron; day = today H; sort = Price; amount = price; loan = Some q.loan }) ∷ []
+                | false ↦ PutLine (record {
+                  line = next_line H + (elim x as (λ _. ℕ) [ true ↦ 0 | false ↦ 1 ]);
+                  patron = q.patron;
+                  day = today H;
+                  sort = Price;
+                  amount = price;
+                  loan = Some q.loan;
+                }) ∷ []
               ]))
         ])
         P
@@ -164,12 +187,14 @@ module _ (H : History) (p l : ℕ) where
     abbrev after : ℕ → ℕ → Picture
     after fine price = changed (account_rows (meta_row H) (patron_columns H p f) q fine price) P
 
-    by_bools : (fine price : ℕ) (x y : Bool) → (fine == 0) ≡ x → (price == 0) ≡ y → (xs : List Line) → ShowsLines H xs P (after_by fine price x y) → ShowsLines H xs P (after fine price)
+    by_bools : (fine price : ℕ) (x y : Bool) → (fine == 0) ≡ x → (price == 0) ≡ y → (xs : List Line)
+        → ShowsLines H xs P (after_by fine price x y) → ShowsLines H xs P (after fine price)
     by_bools fine price x y d e xs s =
         subst (λ a. ShowsLines H xs P (after_by fine price a (price == 0))) (sym d) (subst (λ b. ShowsLines H xs P (after_by fine price x b)) (sym e) s)
 
     -- One charge.
-    one_shows : (sort : Sort) (m : ℕ) → charge sort (suc m) ≡ suc m → credit sort (suc m) ≡ 0 → (fine price : ℕ) → fine ≤ 100000 → price ≤ 1000000 → fine + price ≡ suc m → (Q : Picture)
+    one_shows : (sort : Sort) (m : ℕ) → charge sort (suc m) ≡ suc m → credit sort (suc m) ≡ 0 → (fine price : ℕ) → fine ≤ 100000
+        → price ≤ 1000000 → fine + price ≡ suc m → (Q : Picture)
         → Q.meta ≡ record (meta_row H) { next_line = next_line H + 1 }
         → ((k : ℕ) → Q.patrons k ≡ put P.patrons p (Some (charged (patron_columns H p f) fine price)) k)
         → ((k : ℕ) → Q.lines k ≡ put P.lines (next_line H) (Some (line_columns H (next_line H) (one sort m))) k)
@@ -177,10 +202,12 @@ module _ (H : History) (p l : ℕ) where
         × ((k : ℕ) → Q.patrons k ≡ option_map (λ x. record (patron_columns H k x) { owed = owed_in (lines H ++ one sort m ∷ []) k }) (patron_of H k))
         × ((k : ℕ) → Q.lines k ≡ option_map (line_columns H k) (nth_line (lines H ++ one sort m ∷ []) k))
     one_shows sort m is_charge no_credit fine price small_fine small_price sum Q meta patrons lines_q =
-        let more : (owed_in (lines H ++ one sort m ∷ []) p ≡ owed H p + suc m) × Covers (lines H ++ one sort m ∷ []) p = owed-more (lines H) (one sort m) no_credit is_charge (inv.covered p) in (
+        let more : (owed_in (lines H ++ one sort m ∷ []) p ≡ owed H p + suc m) × Covers (lines H ++ one sort m ∷ []) p =
+        owed-more (lines H) (one sort m) no_credit is_charge (inv.covered p) in (
           meta ∙ ap (λ n. record (meta_row H) { next_line = n + 1 }) (sym (length-added (lines H) (one sort m))),
           (λ k. patrons k
-              ∙ patron-put H inv p l f enrolled q by number fine price small_fine small_price P meta_is patrons_are lines_are (lines H ++ one sort m ∷ []) (omega (arith, more.0, sum))
+              ∙ patron-put H inv p l f enrolled q by number fine price small_fine small_price P meta_is patrons_are lines_are
+              (lines H ++ one sort m ∷ []) (omega (arith, more.0, sum))
               (λ n e. owed-kept (lines H) (one sort m) n e) k),
           (λ k. lines_q k ∙ put-same P.lines (line_row H) (next_line H) (Some (line_columns H (next_line H) (one sort m))) lines_are k
               ∙ line-put H (lines H) (one sort m) (next_line H) refl k),
@@ -189,7 +216,8 @@ module _ (H : History) (p l : ℕ) where
     pub shows : (fine price : ℕ) → fine ≤ 100000 → price ≤ 1000000 → ShowsLines H (lines_with fine price) P (after fine price)
     shows zero zero _ _ = record {
       meta = meta_is ∙ ap (λ n. record (meta_row H) { next_line = n + 1 }) (ap length (sym (append-nil (lines H))));
-      patrons = λ k. patrons_are k ∙ ap (λ n. option_map (λ x. record (patron_columns H k x) { owed = n }) (patron_of H k)) (ap (λ xs. owed_in xs k) (sym (append-nil (lines H))));
+      patrons = λ k. patrons_are k ∙ ap (λ n. option_map (λ x. record (patron_columns H k x) { owed = n }) (patron_of H k))
+          (ap (λ xs. owed_in xs k) (sym (append-nil (lines H))));
       lines = λ k. lines_are k ∙ ap (λ xs. option_map (line_columns H k) (nth_line xs k)) (sym (append-nil (lines H)));
       branches = refl;
       closed_days = refl;
@@ -254,17 +282,29 @@ module _ (H : History) (p l : ℕ) where
         let first = owed-more (lines H) x refl refl (inv.covered p) in
         let second = owed-more (lines H ++ x ∷ []) y refl refl first.1 in
         let split : lines H ++ (x ∷ y ∷ []) ≡ (lines H ++ x ∷ []) ++ y ∷ [] = sym (append_assoc (lines H) (x ∷ []) (y ∷ [])) in
-        let long : length (lines H ++ (x ∷ y ∷ [])) ≡ next_line H + 1 = ap length split ∙ length-added (lines H ++ x ∷ []) y ∙ ap (λ k. k + 1) (length-added (lines H) x) in
+        let long : length (lines H ++ (x ∷ y ∷ [])) ≡ next_line H + 1 =
+        ap length split ∙ length-added (lines H ++ x ∷ []) y ∙ ap (λ k. k + 1) (length-added (lines H) x) in
         by_bools (suc m) (suc n) false false (is_suc m) (is_suc n) (lines_with (suc m) (suc n)) (record {
           meta = ap (λ k. record (meta_row H) { next_line = k + 1 }) (sym long);
           patrons = λ k. patron-put H inv p l f enrolled q by number (suc m) (suc n) a b P meta_is patrons_are lines_are (lines H ++ (x ∷ y ∷ []))
               (ap (λ xs. owed_in xs p) split ∙ second.0 ∙ omega (arith, first.0))
               (λ j e. ap (λ xs. owed_in xs j) split ∙ owed-kept (lines H ++ x ∷ []) y j e ∙ owed-kept (lines H) x j e) k;
           lines = λ k.
-              ap (λ z. put (put P.lines (next_line H) (Some z)) (next_line H + 1) (Some (record { line = next_line H + 1; patron = q.patron; day = today H; sort = Price; amount = suc n; loan = Some q.loan })) k) (line_is (next_line H) Fine m)
-              ∙ ap (λ z. put (put P.lines (next_line H) (Some (line_columns H (next_line H) x))) (next_line H + 1) (Some z) k) (line_is (next_line H + 1) Price n)
-              ∙ put-same (put P.lines (next_line H) (Some (line_columns H (next_line H) x))) (rows_in H (lines H ++ x ∷ [])) (next_line H + 1) (Some (line_columns H (next_line H + 1) y))
-              (λ j. put-same P.lines (line_row H) (next_line H) (Some (line_columns H (next_line H) x)) lines_are j ∙ line-put H (lines H) x (next_line H) refl j) k
+              ap (λ z. put (put P.lines (next_line H) (Some z)) (next_line H + 1)
+              (Some (record {
+                line = next_line H + 1;
+                patron = q.patron;
+                day = today H;
+                sort = Price;
+                amount = suc n;
+                loan = Some q.loan;
+              })) k) (line_is (next_line H) Fine m)
+              ∙ ap (λ z. put (put P.lines (next_line H) (Some (line_columns H (next_line H) x))) (next_line H + 1) (Some z) k)
+              (line_is (next_line H + 1) Price n)
+              ∙ put-same (put P.lines (next_line H) (Some (line_columns H (next_line H) x))) (rows_in H (lines H ++ x ∷ []))
+              (next_line H + 1) (Some (line_columns H (next_line H + 1) y))
+              (λ j. put-same P.lines (line_row H) (next_line H) (Some (line_columns H (next_line H) x)) lines_are j
+              ∙ line-put H (lines H) x (next_line H) refl j) k
               ∙ line-put H (lines H ++ x ∷ []) y (next_line H + 1) (ap (λ j. j + 1) (length-added (lines H) x)) k
               ∙ ap (λ xs. option_map (line_columns H k) (nth_line xs k)) (sym split);
           branches = refl;

@@ -19,7 +19,8 @@ use Rattle.model.specs.Accounts.{Line, lines, fine_line, fine_at, fine_now}
 use Rattle.model.specs.Answers.{routed}
 use Rattle.model.specs.History.{History, today, CopyFacts, copy_of, branch_of}
 use Rattle.model.specs.Invariant.{Invariant}
-use Rattle.model.specs.Picture.{picture, meta_row, branch_row, branch_columns, closed_day, kind_row, rule_row, patron_row, title_row, copy_row, copy_columns, hold_row, transit_row, transit_at, condition_at, line_row}
+use Rattle.model.specs.Picture.{picture, meta_row, branch_row, branch_columns, closed_day, kind_row, rule_row, patron_row, title_row}
+use Rattle.model.specs.Picture.{copy_row, copy_columns, hold_row, transit_row, transit_at, condition_at, line_row}
 use Rattle.model.specs.Places.{Place, Nowhere, Shelf, HoldShelf, Transit, Loan, MissingCopy, WithdrawnCopy, place, route, home_of, title_of_copy, is_kept_for}
 use Rattle.model.specs.Refusals.{checks, has_branch, is_on_loan, is_on_hold_shelf, is_withdrawn, lacks_lines}
 use Rattle.model.specs.Requests.{IsLegal}
@@ -41,7 +42,8 @@ use Rattle.circ_core.specs.Views.{IsLoanOf, IsFirstOf, IsFirstFor, IsLenderView,
 use Rattle.circ_core.proofs.Arriving.{ready_put, sent_put, arrival_changed, arrived_row, arrive, IsOver, over, sends, stays_present, present_there}
 use Rattle.circ_core.proofs.Charging.{ShowsLines}
 use Rattle.circ_core.proofs.Claims.{loan_claims, hold_claims, hold_none, IsKept}
-use Rattle.circ_core.proofs.EndingMeets.{IsLent, lent, fine_same, loan_ended, one_ends, none_ends, fine_line-is, fine_line-none, fine_at-is, fine_at-none, fine_lines, line-count, lacks_same, charges_show}
+use Rattle.circ_core.proofs.EndingMeets.{IsLent, lent, fine_same, loan_ended, one_ends, none_ends, fine_line-is, fine_line-none, fine_at-is}
+use Rattle.circ_core.proofs.EndingMeets.{fine_at-none, fine_lines, line-count, lacks_same, charges_show}
 use Rattle.circ_core.proofs.CheckOutMeets.{withdrawn_at}
 use Rattle.circ_core.proofs.Meets.{Meets, SameChecks, Leads}
 use Rattle.circ_core.proofs.RoutingMeets.{place_by, Limits, LeadsTo, by_rows, limits, limit_there, told_same}
@@ -101,7 +103,8 @@ pub record HasLeft (H : History) (c b : ℕ) (way : Course) (P : Picture) : Type
   pub rules1 : P.rules1 ≡ (λ _ _. None)
   pub patrons : P.patrons ≡ patron_row H
   pub titles : P.titles ≡ title_row H
-  pub copies : (n : ℕ) → P.copies n ≡ option_map (λ r. record (copy_columns H n r) { condition = condition_at (moved c (place_by way b) (place H) n) }) (copy_of H n)
+  pub copies : (n : ℕ) → P.copies n ≡ option_map
+      (λ r. record (copy_columns H n r) { condition = condition_at (moved c (place_by way b) (place H) n) }) (copy_of H n)
   pub loans : (n : ℕ) → P.loans n ≡ loan_ended H c n
   pub loans1 : P.loans1 ≡ (λ _. None)
   pub holds : P.holds ≡ hold_row H
@@ -116,7 +119,8 @@ module _ (H : History) (inv : Invariant H) (c b : ℕ) (f : CopyFacts) (there : 
       → copy_row H n ≡ option_map (λ r. record (copy_columns H n r) { condition = condition_at (moved c (place_by way b) (place H) n) }) (copy_of H n)
   copies_stay way present n = ap (λ x. option_map (λ r. record (copy_columns H n r) { condition = x }) (copy_of H n)) (stays_present H c b way present n)
 
-  lent_leaves : (way : Course) (q : LoanRow) → IsLent H c q → (transit : Option TransitRow) (copy : Option CopyRow) → HasLeft H c b way (changed (left_rows (Some q) transit copy way c (today H)) (picture H))
+  lent_leaves : (way : Course) (q : LoanRow) → IsLent H c q → (transit : Option TransitRow) (copy : Option CopyRow)
+      → HasLeft H c b way (changed (left_rows (Some q) transit copy way c (today H)) (picture H))
   lent_leaves way q l transit copy = record {
     meta = refl;
     branches = refl;
@@ -200,9 +204,11 @@ module _ (H : History) (inv : Invariant H) (c b : ℕ) (f : CopyFacts) (there : 
     where
       go : (x : Bool) → (c == n) ≡ x
           → (elim x as (λ _. Option CopyRow) [ true ↦ Some (record (copy_columns H c f) { condition = Present }) | false ↦ copy_row H n ])
-          ≡ option_map (λ r. record (copy_columns H n r) { condition = condition_at (elim x as (λ _. Place) [ true ↦ place_by way b | false ↦ place H n ]) }) (copy_of H n)
+          ≡ option_map (λ r. record (copy_columns H n r)
+          { condition = condition_at (elim x as (λ _. Place) [ true ↦ place_by way b | false ↦ place H n ]) }) (copy_of H n)
       go true e =
-          subst (λ m. Some (record (copy_columns H c f) { condition = Present }) ≡ option_map (λ r. record (copy_columns H m r) { condition = condition_at (place_by way b) }) (copy_of H m)) (eqb-true c n e)
+          subst (λ m. Some (record (copy_columns H c f) { condition = Present }) ≡ option_map
+          (λ r. record (copy_columns H m r) { condition = condition_at (place_by way b) }) (copy_of H m)) (eqb-true c n e)
           (ap (λ x. Some (record (copy_columns H c f) { condition = x })) (sym (present_there H c b way))
           ∙ sym (ap (λ o. option_map (λ r. record (copy_columns H c r) { condition = condition_at (place_by way b) }) o) there))
       go false e = refl
@@ -213,7 +219,8 @@ module _ (H : History) (inv : Invariant H) (c b : ℕ) (f : CopyFacts) (there : 
   still_leaves way off kept still = go (condition_at (place H c)) refl
     where
       go : (d : Condition) → condition_at (place H c) ≡ d
-          → HasLeft H c b way (changed (elim d as (λ _. List RowChange) [ Missing ↦ PutCopy (record (copy_columns H c f) { condition = Present }) ∷ [] | _ ↦ [] ]) (picture H))
+          → HasLeft H c b way (changed (elim d as (λ _. List RowChange)
+          [ Missing ↦ PutCopy (record (copy_columns H c f) { condition = Present }) ∷ [] | _ ↦ [] ]) (picture H))
       go Missing e = record {
         meta = refl;
         branches = refl;
@@ -253,8 +260,10 @@ module _ (H : History) (inv : Invariant H) (c b : ℕ) (f : CopyFacts) (there : 
       go Withdrawn e = absurd (not_withdrawn (place H c) kept e)
 
   -- Wherever the copy was.
-  pub leaves : (way : Course) (loan : Option LoanRow) (transit : Option TransitRow) (copy : Option CopyRow) → IsLoanOf (picture H) c loan → transit ≡ transit_row H c
-      → copy ≡ Some (copy_columns H c f) → is_withdrawn (place H c) ≡ false → HasLeft H c b way (changed (left_rows loan transit copy way c (today H)) (picture H))
+  pub leaves : (way : Course) (loan : Option LoanRow) (transit : Option TransitRow) (copy : Option CopyRow) → IsLoanOf (picture H) c loan
+      → transit ≡ transit_row H c
+      → copy ≡ Some (copy_columns H c f) → is_withdrawn (place H c) ≡ false
+      → HasLeft H c b way (changed (left_rows loan transit copy way c (today H)) (picture H))
   leaves way (Some q) transit copy l t row kept = lent_leaves way q (lent H inv c q l) transit copy
   leaves way None (Some t) copy l is row kept =
       away_leaves way (sym (loan_claims H inv c None l)) (present_away (place H c) t c (sym is))
@@ -268,7 +277,8 @@ module _ (H : History) (legal : IsLegal H) (inv : Invariant H) (c : ℕ) (rows :
   abbrev lines_now : List Line
   lines_now = lines H ++ fine_line H (grace_of H) (place H c)
 
-  fine_is : (loan : Option LoanRow) → IsLoanOf (picture H) c loan → IsLenderView (picture H) loan rows → fine_due loan rows.lender (today H) ≡ fine_at H (grace_of H) (place H c)
+  fine_is : (loan : Option LoanRow) → IsLoanOf (picture H) c loan → IsLenderView (picture H) loan rows
+      → fine_due loan rows.lender (today H) ≡ fine_at H (grace_of H) (place H c)
   fine_is (Some q) l w =
       let x : IsLent H c q = lent H inv c q l in
       fine_same H legal inv c q x rows w ∙ sym (fine_at-is H legal inv c q x)
@@ -279,7 +289,8 @@ module _ (H : History) (legal : IsLegal H) (inv : Invariant H) (c : ℕ) (rows :
   lines_counted (Some q) l w =
       let x : IsLent H c q = lent H inv c q l in
       let count : length (fine_line H (grace_of H) (place H c)) ≡ lines_for (fine_due (Some q) rows.lender (today H)) =
-      ap length (fine_line-is H legal inv c q x) ∙ line-count H q.patron _ (Some q.loan) (fine_now H (grace_of H) q.loan) ∙ ap lines_for (sym (fine_same H legal inv c q x rows w)) in
+      ap length (fine_line-is H legal inv c q x) ∙ line-count H q.patron _ (Some q.loan) (fine_now H (grace_of H) q.loan)
+      ∙ ap lines_for (sym (fine_same H legal inv c q x rows w)) in
       omega (arith, count)
   lines_counted None l w = ap length (fine_line-none H (place H c) (sym (loan_claims H inv c None l)))
 
@@ -293,7 +304,9 @@ module _ (H : History) (legal : IsLegal H) (inv : Invariant H) (c : ℕ) (rows :
       → ShowsLines H lines_now P (changed (charge_rows (meta_row H) rows.patron loan (fine_due loan rows.lender (today H)) 0) P)
   fine_shows (Some q) l w P meta patrons of_lines =
       let x : IsLent H c q = lent H inv c q l in
-      subst (λ xs. ShowsLines H xs P (changed (charge_rows (meta_row H) rows.patron (Some q) (fine_due (Some q) rows.lender (today H)) 0) P)) (sym (fine_lines H legal inv c q x))
+      subst (λ xs. ShowsLines H xs P
+      (changed (charge_rows (meta_row H) rows.patron (Some q) (fine_due (Some q) rows.lender (today H)) 0) P))
+      (sym (fine_lines H legal inv c q x))
       (charges_show H legal inv c q x rows w 0 (omega arith) P meta patrons of_lines)
   fine_shows None l w P meta patrons of_lines =
       subst (λ xs. ShowsLines H xs P (changed (charge_rows (meta_row H) rows.patron None 0 0) P)) (sym same)
@@ -367,7 +380,8 @@ module _ (H : History) (legal : IsLegal H) (c b : ℕ) (v : View) (w : IsCheckIn
   abbrev way : Course
   way = check_in_course v b
 
-  module _ (known : not (has_branch H b) ≡ false) (f : CopyFacts) (there : copy_of H c ≡ Some f) (kept : is_withdrawn (place H c) ≡ false) (off : is_on_hold_shelf (place H c) ≡ false) where
+  module _ (known : not (has_branch H b) ≡ false) (f : CopyFacts) (there : copy_of H c ≡ Some f) (kept : is_withdrawn (place H c) ≡ false)
+      (off : is_on_hold_shelf (place H c) ≡ false) where
     to_there : LeadsTo H b way (route H c b)
     to_there =
         let home : home_in v.copy ≡ home_of H c = ap home_in (copy_is f there) ∙ sym (ap (λ o. unwrap_or (option_map (λ r. r.home) o) 0) there) in
@@ -384,7 +398,8 @@ module _ (H : History) (legal : IsLegal H) (c b : ℕ) (v : View) (w : IsCheckIn
     reply_same =
         ap (λ m. CheckedIn (fine_due v.loan v.lender m.today) (routed_by way b until)) w.meta
         ∙ ap (λ n. CheckedIn n (routed_by way b until)) (fine_is H legal inv c v v.loan w.at.loan w.lender)
-        ∙ ap (λ r. CheckedIn (fine_at H (grace_of H) (place H c)) r) (told_same H inv b v w.here today_is known way to_there.1 ∙ ap (λ p. routed H p) to_there.0)
+        ∙ ap (λ r. CheckedIn (fine_at H (grace_of H) (place H c)) r)
+        (told_same H inv b v w.here today_is known way to_there.1 ∙ ap (λ p. routed H p) to_there.0)
 
     -- The tables once the copy has left, and once it has arrived.
     abbrev gone : Picture
@@ -402,7 +417,8 @@ module _ (H : History) (legal : IsLegal H) (c b : ℕ) (v : View) (w : IsCheckIn
         ++ charge_rows m v.patron v.loan (fine_due v.loan v.lender m.today) 0) (picture H)) w.meta
         ∙ changed-append (left_rows v.loan v.transit v.copy way c (today H) ++ arrival_rows way c until)
         (charge_rows (meta_row H) v.patron v.loan (fine_due v.loan v.lender (today H)) 0) (picture H)
-        ∙ ap charged_at (changed-append (left_rows v.loan v.transit v.copy way c (today H)) (arrival_rows way c until) (picture H) ∙ arrival_changed way c until gone)
+        ∙ ap charged_at (changed-append (left_rows v.loan v.transit v.copy way c (today H)) (arrival_rows way c until) (picture H)
+        ∙ arrival_changed way c until gone)
 
     left : HasLeft H c b way gone
     left = leaves H inv c b f there way v.loan v.transit v.copy w.at.loan w.at.transit (copy_is f there) kept

@@ -1,7 +1,8 @@
 -- Check-out meets the history.
 use Rattle.model.specs.Sights.{sight}
 use Rattle.terms.specs.declared.limits.TheConstants.{LAST_NUMBER}
-use Rattle.std.proofs.Common.{◌≡◌, ℕ, ◌+◌, ◌-◌, ◌≤◌, ◌<◌, ◌==◌, nat_lt, nat_le, Bool, true, false, cond, not, ◌⊎◌, inl, inr, List, [], ◌∷◌, refl, sym, ◌∙◌, ap, subst, arith}
+use Rattle.std.proofs.Common.{◌≡◌, ℕ, ◌+◌, ◌-◌, ◌≤◌, ◌<◌, ◌==◌, nat_lt, nat_le, Bool, true, false, cond, not, ◌⊎◌, inl, inr, List, [], ◌∷◌}
+use Rattle.std.proofs.Common.{refl, sym, ◌∙◌, ap, subst, arith}
 use Rattle.std.specs.Prelude.{Option, Some, None, option_map, option_and_then, unwrap_or, is_none, find}
 use Rattle.std.proofs.lemmas.Bool.{eqb-true, cases_lt, lt-ltb, le-ltb, le-leb, lt-leb}
 use Rattle.terms.specs.declared.row.MetaRow.{MetaRow}
@@ -17,7 +18,8 @@ use Rattle.terms.specs.declared.reply.Reply.TheVariants.{Lent}
 use Rattle.circ_core.specs.declared.changes.RowChange.TheVariants.{PutMeta, PutLoan}
 use Rattle.circ_core.specs.declared.views.View.{View}
 use Rattle.circ_core.specs.Condition.{is_missing as is_missing_row, is_withdrawn as is_withdrawn_row}
-use Rattle.circ_core.specs.CheckOut.{filled_hold, has_more, loans_allowed, check_out_checks, period_of, renewals_of, rate_of, cap_of, grace_in, period_end, loan_due, due_in, new_loan, fill_rows, check_out_rows}
+use Rattle.circ_core.specs.CheckOut.{filled_hold, has_more, loans_allowed, check_out_checks, period_of, renewals_of, rate_of, cap_of}
+use Rattle.circ_core.specs.CheckOut.{grace_in, period_end, loan_due, due_in, new_loan, fill_rows, check_out_rows}
 use Rattle.circ_core.specs.Debt.{debt_allowed, owed_by}
 use Rattle.circ_core.specs.Holds.{finished}
 use Rattle.terms.specs.Pictures.{put}
@@ -35,13 +37,16 @@ use Rattle.circ_core.proofs.PatronCounts.{open_loans-count, others_none, others_
 use Rattle.circ_core.proofs.Standing.{FillsAs, Standing, standing_shelf, standing_hold}
 use Rattle.circ_core.proofs.Rising.{find-same}
 use Rattle.model.specs.Calendar.{least}
-use Rattle.model.specs.History.{History, today, is_open, Terms, rule_of, PatronFacts, patron_of, CopyFacts, copy_of, copies, loans, next_loan, HoldFacts, hold_of}
-use Rattle.model.specs.Places.{Place, Nowhere, Shelf, HoldShelf, Transit, Loan, MissingCopy, WithdrawnCopy, place, state, fills, fills_from, is_kept_for, kept_for, limit, title_of_copy, is_begun}
+use Rattle.model.specs.History.{History, today, is_open, Terms, rule_of, PatronFacts, patron_of, CopyFacts, copy_of, copies, loans}
+use Rattle.model.specs.History.{next_loan, HoldFacts, hold_of}
+use Rattle.model.specs.Places.{Place, Nowhere, Shelf, HoldShelf, Transit, Loan, MissingCopy, WithdrawnCopy, place, state, fills, fills_from}
+use Rattle.model.specs.Places.{is_kept_for, kept_for, limit, title_of_copy, is_begun}
 use Rattle.model.specs.Loans.{LoanFacts, loan_of, terms_for, no_terms, first_due, due, renewals, ended}
 use Rattle.model.specs.Accounts.{owed}
 use Rattle.model.specs.Checks.{Check}
 use Rattle.model.specs.Refusals.{checks, refusal, has_branch, is_withdrawn, is_missing, is_on_loan, is_in_transit, has_other_hold, kind_now}
-use Rattle.model.specs.Picture.{picture, meta_row, rule_row, loan_row, hold_row, transit_at, condition_at, rule_columns, patron_columns, copy_columns, hold_columns, hold_by, hold_with, loan_with}
+use Rattle.model.specs.Picture.{picture, meta_row, rule_row, loan_row, hold_row, transit_at, condition_at, rule_columns, patron_columns}
+use Rattle.model.specs.Picture.{copy_columns, hold_columns, hold_by, hold_with, loan_with}
 use Rattle.model.proofs.Passing.{passed}
 
 -- ---- small facts
@@ -53,12 +58,14 @@ lt-le a b = go (cases_lt b a)
     go (inl lt) = le-ltb a (b + 1) (omega (arith, lt)) ∙ sym (lt-leb a b lt)
     go (inr le) = lt-ltb a (b + 1) (omega (arith, le)) ∙ sym (le-leb a b le)
 
-pub withdrawn_at : (H : History) (c : ℕ) (r : CopyFacts) (x : Place) → is_withdrawn_row (Some (record (copy_columns H c r) { condition = condition_at x })) ≡ is_withdrawn x
+pub withdrawn_at : (H : History) (c : ℕ) (r : CopyFacts) (x : Place)
+    → is_withdrawn_row (Some (record (copy_columns H c r) { condition = condition_at x })) ≡ is_withdrawn x
 withdrawn_at H c r MissingCopy = refl
 withdrawn_at H c r WithdrawnCopy = refl
 withdrawn_at H c r _ = refl
 
-pub lost_at : (H : History) (c : ℕ) (r : CopyFacts) (x : Place) → is_missing_row (Some (record (copy_columns H c r) { condition = condition_at x })) ≡ is_missing x
+pub lost_at : (H : History) (c : ℕ) (r : CopyFacts) (x : Place)
+    → is_missing_row (Some (record (copy_columns H c r) { condition = condition_at x })) ≡ is_missing x
 lost_at H c r MissingCopy = refl
 lost_at H c r WithdrawnCopy = refl
 lost_at H c r _ = refl
@@ -77,18 +84,22 @@ module _ (H : History) (inv : Invariant H) (p c b : ℕ) (v : View) (w : IsCheck
   title_is r there = ap (λ o. unwrap_or (option_map (λ f. f.title) o) 0) there
 
   first_is : (r : CopyFacts) → copy_of H c ≡ Some r → IsFirstOf (picture H) (title_of_copy H c) v.first
-  first_is r there = subst (λ t. IsFirstOf (picture H) t v.first) (sym (title_is r there)) (subst (λ o. IsFirstFor (picture H) o v.first) (copy_is r there) w.first)
+  first_is r there = subst (λ t. IsFirstOf (picture H) t v.first) (sym (title_is r there))
+      (subst (λ o. IsFirstFor (picture H) o v.first) (copy_is r there) w.first)
 
   own_is : (r : CopyFacts) → copy_of H c ≡ Some r → IsCount (IsActiveOn (picture H) p (title_of_copy H c)) v.own_holds
   own_is r there =
-      subst (λ t. IsCount (IsActiveOn (picture H) p t) v.own_holds) (sym (title_is r there)) (subst (λ o. AreHoldsFor (picture H) p o v.own_holds) (copy_is r there) w.own_holds)
+      subst (λ t. IsCount (IsActiveOn (picture H) p t) v.own_holds) (sym (title_is r there))
+      (subst (λ o. AreHoldsFor (picture H) p o v.own_holds) (copy_is r there) w.own_holds)
 
   -- A copy that is claimed by nothing else stands.
-  stands : (r : CopyFacts) → copy_of H c ≡ Some r → is_withdrawn (place H c) ≡ false → is_missing (place H c) ≡ false → is_on_loan (place H c) ≡ false → is_in_transit (place H c) ≡ false
+  stands : (r : CopyFacts) → copy_of H c ≡ Some r → is_withdrawn (place H c) ≡ false → is_missing (place H c) ≡ false
+      → is_on_loan (place H c) ≡ false → is_in_transit (place H c) ≡ false
       → Standing H p c b v.copy v.hold v.first
   stands r there = go (place H c) refl
     where
-      go : (x : Place) → place H c ≡ x → is_withdrawn x ≡ false → is_missing x ≡ false → is_on_loan x ≡ false → is_in_transit x ≡ false → Standing H p c b v.copy v.hold v.first
+      go : (x : Place) → place H c ≡ x → is_withdrawn x ≡ false → is_missing x ≡ false → is_on_loan x ≡ false → is_in_transit x ≡ false
+          → Standing H p c b v.copy v.hold v.first
       go (Shelf n) at d e f g = standing_shelf H inv p c b r there v.copy v.hold v.first w.at.copy w.at.hold (first_is r there) n at
       go (HoldShelf h) at d e f g = standing_hold H inv p c b r there v.copy v.hold v.first w.at.copy w.at.hold (first_is r there) h at
       go Nowhere at d e f g = absurd ((inv.acquired c r there).0 at)
@@ -136,8 +147,10 @@ module _ (H : History) (inv : Invariant H) (p c b : ℕ) (v : View) (w : IsCheck
   loan_now = loan_with (next_loan H) due_now terms_now.renewals None facts_now
 
   module _ (q : PatronFacts) (enrolled : patron_of H p ≡ Some q) (r : CopyFacts) (there : copy_of H c ≡ Some r) (has : not (has_branch H b) ≡ false) where
-    terms_same : (A : Type 0) (f : Option RuleRow → A) (g : Terms → A) → ((o : Option Terms) → f (option_map (rule_columns H q.kind r.kind) o) ≡ g (unwrap_or o no_terms)) → f v.rule ≡ g terms_now
-    terms_same A f g go = ap f (rule_is q enrolled r there) ∙ go (rule_of H q.kind r.kind) ∙ ap (λ o. g (unwrap_or o no_terms)) (sym (terms_is q enrolled r there))
+    terms_same : (A : Type 0) (f : Option RuleRow → A) (g : Terms → A)
+        → ((o : Option Terms) → f (option_map (rule_columns H q.kind r.kind) o) ≡ g (unwrap_or o no_terms)) → f v.rule ≡ g terms_now
+    terms_same A f g go = ap f (rule_is q enrolled r there) ∙ go (rule_of H q.kind r.kind)
+        ∙ ap (λ o. g (unwrap_or o no_terms)) (sym (terms_is q enrolled r there))
 
     period_same : period_of v.rule ≡ terms_now.period
     period_same = terms_same ℕ period_of (λ t. t.period) go
@@ -222,13 +235,16 @@ module _ (H : History) (inv : Invariant H) (p c b : ℕ) (v : View) (w : IsCheck
                         more_same r there (filled_hold v.hold v.first) (st.fill p33 p36),
                         λ p50. (
                           refl,
-                          (ap is_none (rule_is q enrolled r there) ∙ is_none-map (rule_columns H q.kind r.kind) (rule_of H q.kind r.kind) ∙ ap is_none (sym (terms_is q enrolled r there))),
+                          (ap is_none (rule_is q enrolled r there) ∙ is_none-map (rule_columns H q.kind r.kind) (rule_of H q.kind r.kind)
+                              ∙ ap is_none (sym (terms_is q enrolled r there))),
                           λ p16. (
                             refl,
-                            (ap (λ n. nat_le n v.open_loans) (loans_now q enrolled r there) ∙ ap (λ n. nat_le (kind_now H p).loans n) (open_loans-count H inv p v.open_loans w.open_loans)),
+                            (ap (λ n. nat_le n v.open_loans) (loans_now q enrolled r there)
+                                ∙ ap (λ n. nat_le (kind_now H p).loans n) (open_loans-count H inv p v.open_loans w.open_loans)),
                             λ p37. (
                               refl,
-                              (ap (λ n. nat_lt n (owed_by v.patron)) (debt_now q enrolled r there) ∙ ap (λ n. nat_lt (kind_now H p).debt n) (owed_now q enrolled r there)),
+                              (ap (λ n. nat_lt n (owed_by v.patron)) (debt_now q enrolled r there)
+                                  ∙ ap (λ n. nat_lt (kind_now H p).debt n) (owed_now q enrolled r there)),
                               λ p38.
                                   (refl, (ap (λ m. nat_lt LAST_NUMBER m.next_loan) w.meta ∙ lt-le LAST_NUMBER (loans H)), λ p70. (due_there p16, tt)),
                             ),
@@ -326,7 +342,8 @@ module _ (H : History) (inv : Invariant H) (p c b : ℕ) (v : View) (w : IsCheck
 
   filled_lead : (q : HoldRow) → hold_row H q.hold ≡ Some q → (n : ℕ) → q.hold ≡ n → Some (finished q Filled) ≡ hold_at n true
   filled_lead q row n e =
-      let is : (s : HoldState) × (f : HoldFacts) × (state H q.hold ≡ Some s) × (hold_of H q.hold ≡ Some f) × (hold_columns H q.hold s f ≡ q) = hold_row-is H q.hold q row in
+      let is : (s : HoldState) × (f : HoldFacts) × (state H q.hold ≡ Some s) × (hold_of H q.hold ≡ Some f)
+      × (hold_columns H q.hold s f ≡ q) = hold_row-is H q.hold q row in
       ap (λ x. Some (finished x Filled)) (sym is.4)
       ∙ sym (ap (option_map (hold_with q.hold Filled None None)) is.3)
       ∙ ap (λ m. hold_at m true) e
@@ -344,7 +361,8 @@ module _ (H : History) (inv : Invariant H) (p c b : ℕ) (v : View) (w : IsCheck
   meta_now : MetaRow
   meta_now = record (meta_row H) { next_loan = next_loan H + 1 }
 
-  lead : (o : Option HoldRow) → FillsAs H p c o → condition_at (place H c) ≡ condition_at (Loan (next_loan H)) → transit_at c (place H c) ≡ None → (ow : Owner) (key : List ℕ)
+  lead : (o : Option HoldRow) → FillsAs H p c o → condition_at (place H c) ≡ condition_at (Loan (next_loan H))
+      → transit_at c (place H c) ≡ None → (ow : Owner) (key : List ℕ)
       → SameRows (changed (PutMeta meta_now ∷ PutLoan loan_now ∷ fill_rows o) (picture H)) (picture (event ow key (CheckOut p c b) ∷ H))
   unfolding meta_now
   lead None f present still ow key = record {
@@ -356,7 +374,9 @@ module _ (H : History) (inv : Invariant H) (p c b : ℕ) (v : View) (w : IsCheck
     rules1 = λ _ _. refl;
     patrons = λ _. refl;
     titles = λ _. refl;
-    copies = λ n. ap (λ x. option_map (λ r. record { copy = n; title = r.title; kind = r.kind; home = r.home; price = r.price; condition = x }) (copy_of H n)) (copies_lead present n);
+    copies = λ n. ap (λ x. option_map
+        (λ r. record { copy = n; title = r.title; kind = r.kind; home = r.home; price = r.price; condition = x }) (copy_of H n))
+        (copies_lead present n);
     loans = loans_lead;
     loans1 = λ _. refl;
     holds = holds_none f;
@@ -373,7 +393,9 @@ module _ (H : History) (inv : Invariant H) (p c b : ℕ) (v : View) (w : IsCheck
     rules1 = λ _ _. refl;
     patrons = λ _. refl;
     titles = λ _. refl;
-    copies = λ n. ap (λ x. option_map (λ r. record { copy = n; title = r.title; kind = r.kind; home = r.home; price = r.price; condition = x }) (copy_of H n)) (copies_lead present n);
+    copies = λ n. ap (λ x. option_map
+        (λ r. record { copy = n; title = r.title; kind = r.kind; home = r.home; price = r.price; condition = x }) (copy_of H n))
+        (copies_lead present n);
     loans = loans_lead;
     loans1 = λ _. refl;
     holds = holds_some q f;

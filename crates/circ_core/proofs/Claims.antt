@@ -33,7 +33,8 @@ hold_row-is H h q e =
     let b : (r : HoldFacts) × (hold_of H h ≡ Some r) × (hold_columns H h a.0 r ≡ q) = option_map-is (hold_columns H h a.0) (hold_of H h) q a.2 in
     (a.0, b.0, a.1, b.1, b.2)
 
-pub hold_row-from : (H : History) (h : ℕ) (s : HoldState) (r : HoldFacts) → state H h ≡ Some s → hold_of H h ≡ Some r → hold_row H h ≡ Some (hold_columns H h s r)
+pub hold_row-from : (H : History) (h : ℕ) (s : HoldState) (r : HoldFacts) → state H h ≡ Some s → hold_of H h ≡ Some r
+    → hold_row H h ≡ Some (hold_columns H h s r)
 hold_row-from H h s r e f =
     ap (λ o. option_and_then (λ x. option_map (hold_columns H h x) (hold_of H h)) o) e ∙ ap (λ o. option_map (hold_columns H h s) o) f
 
@@ -104,7 +105,8 @@ module _ (H : History) (inv : Invariant H) (c : ℕ) (r : CopyFacts) (there : co
   -- The row that names a copy is that of the hold on whose shelf it stands.
   pub named-is : (q : HoldRow) → hold_row H q.hold ≡ Some q → q.copy ≡ Some c → place H c ≡ HoldShelf q.hold
   named-is q row names =
-      let is : (s : HoldState) × (f : HoldFacts) × (state H q.hold ≡ Some s) × (hold_of H q.hold ≡ Some f) × (hold_columns H q.hold s f ≡ q) = hold_row-is H q.hold q row in
+      let is : (s : HoldState) × (f : HoldFacts) × (state H q.hold ≡ Some s) × (hold_of H q.hold ≡ Some f)
+      × (hold_columns H q.hold s f ≡ q) = hold_row-is H q.hold q row in
       let kept : kept_for H q.hold ≡ Some c = if_ready-is is.0 (kept_for H q.hold) c (ap (λ x. x.copy) is.4 ∙ names) in
       kept-is (place H c) q.hold (find-passes (λ x. is_kept_for (place H x) q.hold) (copies H) c kept)
 
@@ -117,7 +119,8 @@ module _ (H : History) (inv : Invariant H) (c : ℕ) (r : CopyFacts) (there : co
       serves x e = rw e refl
 
   -- The row of the hold on whose shelf the copy stands names it.
-  pub shelf_row : (h : ℕ) → place H c ≡ HoldShelf h → (f : HoldFacts) × (hold_of H h ≡ Some f) × (hold_row H h ≡ Some (hold_columns H h Ready f)) × (kept_for H h ≡ Some c)
+  pub shelf_row : (h : ℕ) → place H c ≡ HoldShelf h → (f : HoldFacts) × (hold_of H h ≡ Some f)
+      × (hold_row H h ≡ Some (hold_columns H h Ready f)) × (kept_for H h ≡ Some c)
   shelf_row h at =
       let serves : Serves (place H c) h = rw at refl in
       let ready : state H h ≡ Some Ready = rw at at (inv.bound.fits c h serves) in

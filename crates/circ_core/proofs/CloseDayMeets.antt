@@ -64,7 +64,8 @@ module _ (H : History) (inv : Invariant H) (b d : ℕ) (rows : View) (w : IsClos
       both true = refl
       both false = refl
 
-      go : (x : Bool) → (elim (x && (d == n)) as (λ _. Bool) [ true ↦ true | false ↦ is_single (singles_of H m) n ]) ≡ is_single (cond x (d ∷ singles_of H m) (singles_of H m)) n
+      go : (x : Bool) → (elim (x && (d == n)) as (λ _. Bool) [ true ↦ true | false ↦ is_single (singles_of H m) n ]) ≡ is_single
+          (cond x (d ∷ singles_of H m) (singles_of H m)) n
       go true = both (d == n)
       go false = refl
 
@@ -104,14 +105,16 @@ module _ (H : History) (inv : Invariant H) (b d : ℕ) (rows : View) (w : IsClos
     };
   }
 
-  open_lead : (m n : ℕ) → put_pair (λ x y. is_single (singles_of H x) y) b d false m n ≡ is_single (cond (b == m) (filter (λ e. not (d == e)) (singles_of H m)) (singles_of H m)) n
+  open_lead : (m n : ℕ) → put_pair (λ x y. is_single (singles_of H x) y) b d false m n ≡ is_single
+      (cond (b == m) (filter (λ e. not (d == e)) (singles_of H m)) (singles_of H m)) n
   open_lead m n = go (b == m)
     where
       both : (y : Bool) → (elim y as (λ _. Bool) [ true ↦ false | false ↦ is_single (singles_of H m) n ]) ≡ cond y false (is_single (singles_of H m) n)
       both true = refl
       both false = refl
 
-      go : (x : Bool) → (elim (x && (d == n)) as (λ _. Bool) [ true ↦ false | false ↦ is_single (singles_of H m) n ]) ≡ is_single (cond x (filter (λ e. not (d == e)) (singles_of H m)) (singles_of H m)) n
+      go : (x : Bool) → (elim (x && (d == n)) as (λ _. Bool) [ true ↦ false | false ↦ is_single (singles_of H m) n ]) ≡ is_single
+          (cond x (filter (λ e. not (d == e)) (singles_of H m)) (singles_of H m)) n
       go true = both (d == n) ∙ sym (taken d n (singles_of H m))
       go false = refl
 

@@ -1,5 +1,6 @@
 -- Counts of rows are lengths of the model's lists.
-use Rattle.std.proofs.Common.{◌≡◌, ℕ, zero, suc, ◌≤◌, ◌<◌, ◌==◌, Bool, true, false, cond, ◌||◌, ◌⊎◌, inl, inr, List, [], ◌∷◌, ◌++◌, length, refl, sym, ◌∙◌, arith, append-nil}
+use Rattle.std.proofs.Common.{◌≡◌, ℕ, zero, suc, ◌≤◌, ◌<◌, ◌==◌, Bool, true, false, cond, ◌||◌, ◌⊎◌, inl, inr, List, [], ◌∷◌, ◌++◌, length}
+use Rattle.std.proofs.Common.{refl, sym, ◌∙◌, arith, append-nil}
 use Rattle.std.specs.Prelude.{filter}
 use Rattle.std.specs.List.{list_any, IsDistinct, AllByRecursion}
 use Rattle.std.proofs.lemmas.Bool.{eqb-true, eq-eqb, or_cases, false_from_ne_true, cases_lt}
@@ -16,11 +17,13 @@ pub any_filter-some : (f g : ℕ → Bool) (xs : List ℕ) → list_any g (filte
 any_filter-some f g [] e = let never : ⊥ = cc in absurd never
 any_filter-some f g (x ∷ xs) e = go (λ q. any_filter-some f g xs q) (f x) refl e
   where
-    or_go : (list_any g (filter f xs) ≡ true → (y : ℕ) × (f y ≡ true) × (g y ≡ true)) → f x ≡ true → (b : Bool) → g x ≡ b → (b || list_any g (filter f xs)) ≡ true → (y : ℕ) × (f y ≡ true) × (g y ≡ true)
+    or_go : (list_any g (filter f xs) ≡ true → (y : ℕ) × (f y ≡ true) × (g y ≡ true)) → f x ≡ true → (b : Bool) → g x ≡ b
+        → (b || list_any g (filter f xs)) ≡ true → (y : ℕ) × (f y ≡ true) × (g y ≡ true)
     or_go ih p true q r = (x, p, q)
     or_go ih p false q r = ih r
 
-    go : (list_any g (filter f xs) ≡ true → (y : ℕ) × (f y ≡ true) × (g y ≡ true)) → (b : Bool) → f x ≡ b → list_any g (cond b (x ∷ filter f xs) (filter f xs)) ≡ true → (y : ℕ) × (f y ≡ true) × (g y ≡ true)
+    go : (list_any g (filter f xs) ≡ true → (y : ℕ) × (f y ≡ true) × (g y ≡ true)) → (b : Bool) → f x ≡ b
+        → list_any g (cond b (x ∷ filter f xs) (filter f xs)) ≡ true → (y : ℕ) × (f y ≡ true) × (g y ≡ true)
     go ih true p q = or_go ih p (g x) refl q
     go ih false p q = ih q
 
@@ -71,7 +74,8 @@ numbers_to-below (suc n) h e = go (λ q. numbers_to-below n h q) (or_cases _ _ (
     last true p q = let same : h ≡ suc n = eqb-true h (suc n) p in omega (arith, same)
     last false p q = let never : ⊥ = cc in absurd never
 
-    go : (list_any (λ y. h == y) (numbers_to n) ≡ true → h ≤ n) → (list_any (λ y. h == y) (numbers_to n) ≡ true) ⊎ (list_any (λ y. h == y) (suc n ∷ []) ≡ true) → h ≤ suc n
+    go : (list_any (λ y. h == y) (numbers_to n) ≡ true → h ≤ n) → (list_any (λ y. h == y) (numbers_to n) ≡ true)
+        ⊎ (list_any (λ y. h == y) (suc n ∷ []) ≡ true) → h ≤ suc n
     go ih (inl q) = let le : h ≤ n = ih q in omega (arith, le)
     go ih (inr q) = last (h == suc n) refl q
 
@@ -103,7 +107,8 @@ any_filter-any f g (x ∷ xs) e = go (λ q. any_filter-any f g xs q) (f x) e
     or_same ih true q = refl
     or_same ih false q = ih q
 
-    go : (list_any g (filter f xs) ≡ true → list_any g xs ≡ true) → (b : Bool) → list_any g (cond b (x ∷ filter f xs) (filter f xs)) ≡ true → (g x || list_any g xs) ≡ true
+    go : (list_any g (filter f xs) ≡ true → list_any g xs ≡ true) → (b : Bool) → list_any g (cond b (x ∷ filter f xs) (filter f xs)) ≡ true
+        → (g x || list_any g xs) ≡ true
     go ih true q = or_same ih (g x) q
     go ih false q = or_later (g x) (ih q)
 
@@ -128,10 +133,12 @@ distinct-numbers f (suc n) = rw (filter-append f (numbers_to n) (suc n ∷ [])) 
 pub count-length : (P : ℕ → Type 0) (f : ℕ → Bool) (m n : ℕ) → ((k : ℕ) → P k → (f k ≡ true) × (1 ≤ k) × (k ≤ m)) → ((k : ℕ) → f k ≡ true → P k)
     → IsCount P n → n ≡ length (filter f (numbers_to m))
 count-length P f m n to from w =
-    sym w.count ∙ length-from_same_keys nat_eq_equiv w.keys (filter f (numbers_to m)) w.once (distinct-numbers f m) (λ q. both q (list_any (λ y. q == y) w.keys) (list_any (λ y. q == y) (filter f (numbers_to m))) refl refl)
+    sym w.count ∙ length-from_same_keys nat_eq_equiv w.keys (filter f (numbers_to m)) w.once (distinct-numbers f m)
+    (λ q. both q (list_any (λ y. q == y) w.keys) (list_any (λ y. q == y) (filter f (numbers_to m))) refl refl)
   where
     in_keys : (q : ℕ) → list_any (λ y. q == y) w.keys ≡ true → list_any (λ y. q == y) (filter f (numbers_to m)) ≡ true
-    in_keys q e = let p : (f q ≡ true) × (1 ≤ q) × (q ≤ m) = to q (w.sound q e) in any_filter-from f (λ y. q == y) (numbers_to m) q (numbers_to-has m q p.1 p.2) p.0 (eq-eqb q q refl)
+    in_keys q e = let p : (f q ≡ true) × (1 ≤ q) × (q ≤ m) = to q (w.sound q e) in
+        any_filter-from f (λ y. q == y) (numbers_to m) q (numbers_to-has m q p.1 p.2) p.0 (eq-eqb q q refl)
 
     in_filter : (q : ℕ) → list_any (λ y. q == y) (filter f (numbers_to m)) ≡ true → list_any (λ y. q == y) w.keys ≡ true
     in_filter q e =

@@ -25,7 +25,8 @@ shut-least c from shut = go (least (is_open c) from) refl
         let never : ⊥ = cc in absurd never
     go None found = found
 
-pub found_by : (calendar : Option Closings) (from : ℕ) (found : Option ℕ) → IfSome found (λ due. IsDueFrom calendar from due) → IfNone found (IsShutFrom calendar from)
+pub found_by : (calendar : Option Closings) (from : ℕ) (found : Option ℕ) → IfSome found (λ due. IsDueFrom calendar from due)
+    → IfNone found (IsShutFrom calendar from)
     → found ≡ due_from calendar from
 unfolding due_from
 found_by (Some c) from (Some due) is shut = sym (least_open-least c from due is)

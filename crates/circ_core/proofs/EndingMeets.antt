@@ -1,7 +1,8 @@
 -- The end of a copy's loan, with its fine, meets the history.
 use Rattle.model.specs.Sights.{sight}
 use Rattle.terms.specs.declared.limits.TheConstants.{LAST_NUMBER}
-use Rattle.std.proofs.Common.{◌≡◌, ℕ, zero, suc, ◌+◌, ◌≤◌, ◌<◌, ◌==◌, nat_lt, ◌⊎◌, inl, inr, Bool, true, false, cond, List, [], ◌++◌, length, refl, sym, ◌∙◌, ap, subst, arith}
+use Rattle.std.proofs.Common.{◌≡◌, ℕ, zero, suc, ◌+◌, ◌≤◌, ◌<◌, ◌==◌, nat_lt, ◌⊎◌, inl, inr, Bool, true, false, cond, List, [], ◌++◌}
+use Rattle.std.proofs.Common.{length, refl, sym, ◌∙◌, ap, subst, arith}
 use Rattle.std.specs.Prelude.{Option, Some, None, option_map, unwrap_or, is_none}
 use Rattle.std.specs.Option.{option_or}
 use Rattle.std.proofs.lemmas.Bool.{eqb-true, eq-eqb, cases_lt, lt-ltb, le-ltb}
@@ -77,14 +78,17 @@ module _ (H : History) (legal : IsLegal H) (inv : Invariant H) (c : ℕ) (q : Lo
   fine_by None w = absurd (legal-lenders H legal q.loan l.facts l.made (is_none-None _ (no_branch w)))
     where
       no_branch : (picture H).branches q.branch ≡ None → is_none (branch_of H l.facts.branch) ≡ true
-      no_branch e = sym (is_none-map (branch_columns H q.branch) (branch_of H l.facts.branch)) ∙ ap (λ x. is_none (option_map (branch_columns H q.branch) (branch_of H x.branch))) l.row ∙ ap is_none e
+      no_branch e = sym (is_none-map (branch_columns H q.branch) (branch_of H l.facts.branch))
+          ∙ ap (λ x. is_none (option_map (branch_columns H q.branch) (branch_of H x.branch))) l.row ∙ ap is_none e
 
   -- The fine on the rows is that of the history.
   pub fine_same : (rows : View) → IsLenderView (picture H) (Some q) rows → fine_due (Some q) rows.lender (today H) ≡ fine_now H (grace_of H) q.loan
   fine_same rows w =
       fine_by rows.lender w.calendar
       ∙ ap (λ x. fine_for (late (is_open H x.branch) x.due (today H)) x.rate x.cap x.grace) (sym l.row)
-      ∙ sym (ap (λ o. unwrap_or (option_map (λ r. fine_for (late (is_open H r.branch) (due H q.loan) (today H)) r.terms.rate r.terms.cap (unwrap_or (option_map (λ x. x.terms.grace) o) 0)) o) 0) l.made)
+      ∙ sym (ap (λ o. unwrap_or (option_map
+      (λ r. fine_for (late (is_open H r.branch) (due H q.loan) (today H)) r.terms.rate r.terms.cap
+      (unwrap_or (option_map (λ x. x.terms.grace) o) 0)) o) 0) l.made)
 
   pub fine-small : fine_now H (grace_of H) q.loan ≤ 100000
   fine-small = fine_now-small H (legal-MoneyLaws H legal) (legal-SettingLaws H legal) q.loan
@@ -93,7 +97,8 @@ module _ (H : History) (legal : IsLegal H) (inv : Invariant H) (c : ℕ) (q : Lo
 
 -- A loan's row after a check-in or missing of the copy.
 abbrev pub loan_ended : History → ℕ → ℕ → Option LoanRow
-loan_ended H c n = option_map (λ x. record (loan_columns H n x) { ended = option_or (ended H n) (cond (is_loan_of_copy H n c) (Some (today H)) None) }) (loan_of H n)
+loan_ended H c n = option_map (λ x.
+    record (loan_columns H n x) { ended = option_or (ended H n) (cond (is_loan_of_copy H n c) (Some (today H)) None) }) (loan_of H n)
 
 module _ (H : History) (inv : Invariant H) (c : ℕ) where
   ends_not : (n : ℕ) → (place H c ≡ Loan n → ⊥) → loan_row H n ≡ loan_ended H c n
@@ -113,7 +118,11 @@ module _ (H : History) (inv : Invariant H) (c : ℕ) where
       go (Some r) e =
           ap (option_map (loan_columns H n)) e ∙ ap (λ o. Some (record (loan_columns H n r) { ended = o })) (same r e (ended H n) refl)
           ∙ sym (ap (option_map (λ x. record (loan_columns H n x) { ended = option_or (ended H n) (cond (is_loan_of_copy H n c) (Some (today H)) None) })) e)
-      go None e = ap (option_map (loan_columns H n)) e ∙ sym (ap (option_map (λ x. record (loan_columns H n x) { ended = option_or (ended H n) (cond (is_loan_of_copy H n c) (Some (today H)) None) })) e)
+      go None e = ap (option_map (loan_columns H n)) e
+          ∙ sym (ap (option_map (λ x. record (loan_columns H n x) {
+            ended = option_or (ended H n)
+                (cond (is_loan_of_copy H n c) (Some (today H)) None);
+          })) e)
 
   -- Of a copy that isn't on loan no loan ends.
   pub none_ends : is_on_loan (place H c) ≡ false → (n : ℕ) → loan_row H n ≡ loan_ended H c n
@@ -129,7 +138,9 @@ module _ (H : History) (inv : Invariant H) (c : ℕ) where
           ap (λ (x : LoanRow). Some (record x { ended = Some (today H) })) (sym l.row)
           ∙ sym (ap (option_map (λ x. record (loan_columns H q.loan x) { ended = Some (today H) })) l.made)
           ∙ sym (ap (λ b. option_map (λ x. record (loan_columns H q.loan x) { ended = option_or None (cond b (Some (today H)) None) }) (loan_of H q.loan)) is)
-          ∙ sym (ap (λ o. option_map (λ x. record (loan_columns H q.loan x) { ended = option_or o (cond (is_loan_of_copy H q.loan c) (Some (today H)) None) }) (loan_of H q.loan)) l.unended)
+          ∙ sym (ap (λ o. option_map (λ x.
+          record (loan_columns H q.loan x) { ended = option_or o (cond (is_loan_of_copy H q.loan c) (Some (today H)) None) })
+          (loan_of H q.loan)) l.unended)
 
       go : (b : Bool) → (q.loan == n) ≡ b → (elim b as (λ _. Option LoanRow) [ true ↦ Some (ended_loan q (today H)) | false ↦ loan_row H n ]) ≡ loan_ended H c n
       go true e = subst (λ k. Some (ended_loan q (today H)) ≡ loan_ended H c k) (eqb-true _ _ e) here
@@ -161,12 +172,14 @@ lt-suc a b c e = go (cases_lt a c)
     go (inr le) = le-ltb (a + 1) b (omega (arith, le, e)) ∙ sym (le-ltb a c le)
 
 -- The numbers that are left suffice on the rows as they do in the history.
-pub lacks_same : (H : History) (fine price : ℕ) (xs : List Line) → length xs ≡ lines_for fine + lines_for price → lacks_numbers (meta_row H) fine price ≡ lacks_lines H (sight H) (length xs)
+pub lacks_same : (H : History) (fine price : ℕ) (xs : List Line) → length xs ≡ lines_for fine + lines_for price
+    → lacks_numbers (meta_row H) fine price ≡ lacks_lines H (sight H) (length xs)
 lacks_same H fine price xs e = lt-suc LAST_NUMBER (next_line H + lines_for fine + lines_for price) (length (lines H) + length xs) (omega (arith, e))
 
 module _ (H : History) (legal : IsLegal H) (inv : Invariant H) (c : ℕ) (q : LoanRow) (l : IsLent H c q) where
   pub fine_line-is : fine_line H (grace_of H) (place H c) ≡ line_of H q.patron Fine (Some q.loan) (fine_now H (grace_of H) q.loan)
-  fine_line-is = ap (fine_line H (grace_of H)) l.here ∙ ap (λ n. line_of H n Fine (Some q.loan) (fine_now H (grace_of H) q.loan)) (borrower-is H legal inv c q l)
+  fine_line-is = ap (fine_line H (grace_of H)) l.here
+      ∙ ap (λ n. line_of H n Fine (Some q.loan) (fine_now H (grace_of H) q.loan)) (borrower-is H legal inv c q l)
 
   pub fine_at-is : fine_at H (grace_of H) (place H c) ≡ fine_now H (grace_of H) q.loan
   fine_at-is = ap (fine_at H (grace_of H)) l.here
@@ -179,7 +192,8 @@ module _ (H : History) (legal : IsLegal H) (inv : Invariant H) (c : ℕ) (q : Lo
   fine_lines = ap (λ xs. lines H ++ xs) (fine_line-is ∙ sym (append-nil (line_of H q.patron Fine (Some q.loan) (fine_now H (grace_of H) q.loan))))
 
   -- The lines of the history after the fine and the price.
-  pub both_lines : lines H ++ (fine_line H (grace_of H) (place H c) ++ price_line H c (place H c)) ≡ lines_with H q.patron q.loan (fine_now H (grace_of H) q.loan) (price_of H c)
+  pub both_lines : lines H ++ (fine_line H (grace_of H) (place H c) ++ price_line H c (place H c)) ≡ lines_with H q.patron q.loan
+      (fine_now H (grace_of H) q.loan) (price_of H c)
   both_lines = rw (fine_line-is, price_line-is) refl
 
   -- The fine and a price are charged as the history has it, on any tables that show its account and numbers.

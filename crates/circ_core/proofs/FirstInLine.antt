@@ -12,7 +12,8 @@ use Rattle.model.specs.Invariant.{Invariant}
 use Rattle.circ_core.proofs.Rising.{filter-none, filter-first}
 use Rattle.circ_core.proofs.Claims.{hold_row-is, hold_row-from}
 use Rattle.model.specs.History.{History, HoldFacts, today, has_begun, hold_of, holds, CopyFacts, copy_of, copies}
-use Rattle.model.specs.Places.{Place, Nowhere, Shelf, HoldShelf, Transit, Loan, MissingCopy, WithdrawnCopy as Withdrawn, is_bound_for, is_waiting, is_begun, place, state, line, is_coming_by, title_of_hold}
+use Rattle.model.specs.Places.{Place, Nowhere, Shelf, HoldShelf, Transit, Loan, MissingCopy, WithdrawnCopy as Withdrawn, is_bound_for}
+use Rattle.model.specs.Places.{is_waiting, is_begun, place, state, line, is_coming_by, title_of_hold}
 use Rattle.model.specs.Picture.{picture, hold_columns, transit_at}
 
 -- ---- lists
@@ -25,7 +26,8 @@ list_any-member f (x ∷ xs) c has e = go (λ q. list_any-member f xs c q e) (c 
     or_true true b p = refl
     or_true false b p = p
 
-    go : (list_any (λ y. c == y) xs ≡ true → list_any f xs ≡ true) → (b : Bool) → (c == x) ≡ b → (b || list_any (λ y. c == y) xs) ≡ true → (f x || list_any f xs) ≡ true
+    go : (list_any (λ y. c == y) xs ≡ true → list_any f xs ≡ true) → (b : Bool) → (c == x) ≡ b → (b || list_any (λ y. c == y) xs) ≡ true
+        → (f x || list_any f xs) ≡ true
     go ih true p q = let same : c ≡ x = eqb-true c x p in let here : f x ≡ true = rw same at e in rw here refl
     go ih false p q = or_true (f x) (list_any f xs) (ih q)
 
@@ -81,7 +83,8 @@ not-true false e = refl
 
 module _ (H : History) (inv : Invariant H) (t : ℕ) where
   abbrev stands : ℕ → Bool
-  stands h = elim (title_of_hold H h == t) [ true ↦ is_waiting (state H h) && (not (is_coming_by H (place H) (state H) (is_begun H) h) && is_begun H h) | false ↦ false ]
+  stands h = elim (title_of_hold H h == t)
+      [ true ↦ is_waiting (state H h) && (not (is_coming_by H (place H) (state H) (is_begun H) h) && is_begun H h) | false ↦ false ]
 
   both : (x y : Bool) → ◌≡◌ {A = Bool} (elim x [ true ↦ y | false ↦ false ]) true → (x ≡ true) × (y ≡ true)
   both true y e = (refl, e)
@@ -101,7 +104,8 @@ module _ (H : History) (inv : Invariant H) (t : ℕ) where
 
   stands-row : (h : ℕ) → stands h ≡ true → (f : HoldFacts) × (hold_of H h ≡ Some f) × InLine (picture H) t h (hold_columns H h Waiting f)
   stands-row h e =
-      let parts : (title_of_hold H h == t ≡ true) × ((is_waiting (state H h) && (not (is_coming_by H (place H) (state H) (is_begun H) h) && is_begun H h)) ≡ true) = both _ _ e in
+      let parts : (title_of_hold H h == t ≡ true)
+      × ((is_waiting (state H h) && (not (is_coming_by H (place H) (state H) (is_begun H) h) && is_begun H h)) ≡ true) = both _ _ e in
       let more : (is_waiting (state H h) ≡ true) × ((not (is_coming_by H (place H) (state H) (is_begun H) h) && is_begun H h) ≡ true) = and_parts _ _ parts.1 in
       let free : (not (is_coming_by H (place H) (state H) (is_begun H) h) ≡ true) × (is_begun H h ≡ true) = and_parts _ _ more.1 in
       let waits : state H h ≡ Some Waiting = waiting-is (state H h) more.0 in
@@ -117,13 +121,16 @@ module _ (H : History) (inv : Invariant H) (t : ℕ) where
           alone = λ c x row names.
               let bound : is_bound_for (place H c) h ≡ true = transit-is c (place H c) x h row names in
               let at : (b : ℕ) × (place H c ≡ Transit b (Some h)) = bound-is (place H c) h bound in
-              let has : list_any (λ x. c == x) (copies H) ≡ true = known c (λ no. let clash : Nowhere ≡ Transit at.0 (Some h) = sym no ∙ at.1 in let never : ⊥ = cc in never) in
-              let coming : is_coming_by H (place H) (state H) (is_begun H) h ≡ true = list_any-member (λ y. is_bound_for (place H y) h) (copies H) c has bound in
+              let has : list_any (λ x. c == x) (copies H) ≡ true =
+              known c (λ no. let clash : Nowhere ≡ Transit at.0 (Some h) = sym no ∙ at.1 in let never : ⊥ = cc in never) in
+              let coming : is_coming_by H (place H) (state H) (is_begun H) h ≡ true =
+              list_any-member (λ y. is_bound_for (place H y) h) (copies H) c has bound in
               let never : ⊥ = cc in never;
         },
       )
 
-  row-stands : (h : ℕ) (q : HoldRow) → InLine (picture H) t h q → (stands h ≡ true) × (1 ≤ h) × (h ≤ holds H) × ((f : HoldFacts) × (hold_of H h ≡ Some f) × (hold_columns H h Waiting f ≡ q))
+  row-stands : (h : ℕ) (q : HoldRow) → InLine (picture H) t h q → (stands h ≡ true) × (1 ≤ h) × (h ≤ holds H)
+      × ((f : HoldFacts) × (hold_of H h ≡ Some f) × (hold_columns H h Waiting f ≡ q))
   row-stands h q w =
       let is : (s : HoldState) × (f : HoldFacts) × (state H h ≡ Some s) × (hold_of H h ≡ Some f) × (hold_columns H h s f ≡ q) = hold_row-is H h q w.there in
       let waits : is.0 ≡ Waiting = ap (λ x. x.state) is.4 ∙ w.waits in
@@ -131,8 +138,12 @@ module _ (H : History) (inv : Invariant H) (t : ℕ) where
       let alone : is_coming_by H (place H) (state H) (is_begun H) h ≡ false = go (is_coming_by H (place H) (state H) (is_begun H) h) refl in
       let begun : is_begun H h ≡ true =
       ap (λ o. has_begun (today H) (option_and_then (λ r. r.first_day) o)) is.3 ∙ ap (λ x. has_begun (today H) x.first_day) is.4 ∙ w.begun in
-      let row : hold_columns H h Waiting is.1 ≡ q = ap (λ s. hold_columns H h s is.1) (sym waits) ∙ is.4 in
-      (both-from _ _ (eq-eqb _ _ title) (and_from _ _ (ap is_waiting (is.2 ∙ ap Some waits)) (and_from _ _ (ap not alone) begun)), (inv.made_hold h is.1 is.3).0, (inv.made_hold h is.1 is.3).1, (is.1, is.3, row))
+      let row : hold_columns H h Waiting is.1 ≡ q = ap (λ s. hold_columns H h s is.1) (sym waits) ∙ is.4 in (
+        both-from _ _ (eq-eqb _ _ title) (and_from _ _ (ap is_waiting (is.2 ∙ ap Some waits)) (and_from _ _ (ap not alone) begun)),
+        (inv.made_hold h is.1 is.3).0,
+        (inv.made_hold h is.1 is.3).1,
+        (is.1, is.3, row),
+      )
     where
       go : (b : Bool) → is_coming_by H (place H) (state H) (is_begun H) h ≡ b → b ≡ false
       go true e =
@@ -142,12 +153,16 @@ module _ (H : History) (inv : Invariant H) (t : ℕ) where
       go false e = refl
 
   pub line_none : IsFirstOf (picture H) t None → line H t ≡ []
-  line_none w = filter-none stands (holds H) (λ h low high. false_from_ne_true (stands h) (λ e. let r : (f : HoldFacts) × (hold_of H h ≡ Some f) × InLine (picture H) t h (hold_columns H h Waiting f) = stands-row h e in w h (hold_columns H h Waiting r.0) r.2))
+  line_none w = filter-none stands (holds H)
+      (λ h low high. false_from_ne_true (stands h)
+      (λ e. let r : (f : HoldFacts) × (hold_of H h ≡ Some f)
+      × InLine (picture H) t h (hold_columns H h Waiting f) = stands-row h e in w h (hold_columns H h Waiting r.0) r.2))
 
   pub line_some : (q : HoldRow) → IsFirstOf (picture H) t (Some q)
       → ((hs : List ℕ) × (line H t ≡ q.hold ∷ hs)) × ((f : HoldFacts) × (hold_of H q.hold ≡ Some f) × (hold_columns H q.hold Waiting f ≡ q))
   line_some q w =
-      let r : (stands q.hold ≡ true) × (1 ≤ q.hold) × (q.hold ≤ holds H) × ((f : HoldFacts) × (hold_of H q.hold ≡ Some f) × (hold_columns H q.hold Waiting f ≡ q)) = row-stands q.hold q w.0 in (
+      let r : (stands q.hold ≡ true) × (1 ≤ q.hold) × (q.hold ≤ holds H)
+      × ((f : HoldFacts) × (hold_of H q.hold ≡ Some f) × (hold_columns H q.hold Waiting f ≡ q)) = row-stands q.hold q w.0 in (
         filter-first stands (holds H) q.hold r.1 r.2 r.0
             (λ h low less. false_from_ne_true (stands h) (λ e.
             let s : (f : HoldFacts) × (hold_of H h ≡ Some f) × InLine (picture H) t h (hold_columns H h Waiting f) = stands-row h e in

@@ -67,7 +67,8 @@ module _ (H : History) (c : ℕ) (to : Place) (no_shelf : is_on_hold_shelf to �
       go : (x : Bool) → (c == n) ≡ x
           → (elim x as (λ _. Option CopyRow) [ true ↦ Some (record (copy_columns H c r) { condition = condition_at to }) | false ↦ copy_row H n ])
           ≡ option_map (λ y. record (copy_columns H n y) { condition = condition_at (gone_to x n) }) (copy_of H n)
-      go true d = subst (λ m. Some (record (copy_columns H c r) { condition = condition_at to }) ≡ option_map (λ y. record (copy_columns H m y) { condition = condition_at to }) (copy_of H m)) (eqb-true c n d)
+      go true d = subst (λ m. Some (record (copy_columns H c r) { condition = condition_at to }) ≡ option_map
+          (λ y. record (copy_columns H m y) { condition = condition_at to }) (copy_of H m)) (eqb-true c n d)
           (sym (ap (option_map (λ y. record (copy_columns H c y) { condition = condition_at to })) there))
       go false d = refl
 

@@ -17,10 +17,12 @@ use Rattle.circ_core.proofs.Rows.{is_none-map, there-is, put_pair_set}
 module _ (H : History) (k c days : ℕ) where
   -- The terms of each rule, by whether it is the one that is there.
   graced : (t : Terms) → rule_of H k c ≡ Some t → (m n : ℕ)
-      → cond ((k == m) && (c == n)) (Some (with_grace days t)) (rule_of H m n) ≡ cond ((k == m) && (c == n)) (option_map (with_grace days) (rule_of H m n)) (rule_of H m n)
+      → cond ((k == m) && (c == n)) (Some (with_grace days t)) (rule_of H m n) ≡ cond ((k == m) && (c == n))
+      (option_map (with_grace days) (rule_of H m n)) (rule_of H m n)
   graced t ruled m n = go ((k == m) && (c == n)) refl
     where
-      go : (b : Bool) → ((k == m) && (c == n)) ≡ b → cond b (Some (with_grace days t)) (rule_of H m n) ≡ cond b (option_map (with_grace days) (rule_of H m n)) (rule_of H m n)
+      go : (b : Bool) → ((k == m) && (c == n)) ≡ b
+          → cond b (Some (with_grace days t)) (rule_of H m n) ≡ cond b (option_map (with_grace days) (rule_of H m n)) (rule_of H m n)
       go true e =
           let both : ((k == m) ≡ true) × ((c == n) ≡ true) = and_parts _ _ e in
           let first : k ≡ m = eqb-true k m both.0 in

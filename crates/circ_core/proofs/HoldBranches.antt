@@ -20,7 +20,8 @@ branch_stays H (Branch n pickup name) b known = go (branch_of H b) _ known
 branch_stays H _ b known = known
 
 hold_step : (H : History) (o : Owner) (x : Command) (made : Option HoldFacts) (h : ℕ) (r : HoldFacts) → hold_made x ≡ made → refusal H o x ≡ None
-    → ((q : HoldFacts) → hold_of H h ≡ Some q → not (has_branch H q.branch) ≡ false) → hold_after H made h (hold_of H h) ≡ Some r → not (has_branch H r.branch) ≡ false
+    → ((q : HoldFacts) → hold_of H h ≡ Some q → not (has_branch H q.branch) ≡ false) → hold_after H made h (hold_of H h) ≡ Some r
+    → not (has_branch H r.branch) ≡ false
 hold_step H o x (Some made) h r is ok before at = go (next_hold H == h) at
   where
     go : (b : Bool) → cond b (Some made) (hold_of H h) ≡ Some r → not (has_branch H r.branch) ≡ false
@@ -33,4 +34,5 @@ hold_step H o x None h r is ok before at = before r at
 pub hold-branch : (H : History) → IsLegal H → (h : ℕ) (r : HoldFacts) → hold_of H h ≡ Some r → not (has_branch H r.branch) ≡ false
 hold-branch [] legal h r made = let never : ⊥ = cc in absurd never
 hold-branch (e ∷ H) legal h r made =
-    branch_stays H e.command r.branch (hold_step H e.owner e.command (hold_made e.command) h r refl legal.0.unrefused (λ q was. hold-branch H legal.1 h q was) made)
+    branch_stays H e.command r.branch
+    (hold_step H e.owner e.command (hold_made e.command) h r refl legal.0.unrefused (λ q was. hold-branch H legal.1 h q was) made)

@@ -30,13 +30,16 @@ module _ (H : History) (lenders : HaveLenders H) (o : Owner) where
   stays (Branch n pickup name) b e = none-or (branch_of H b) _ e
   stays _ b e = e
 
-  step : (x : Command) → refusal H o x ≡ None → (l : ℕ) (r : LoanFacts) → loan_after H x l (loan_of H l) ≡ Some r → branch_after x r.branch (branch_of H r.branch) ≡ None → ⊥
+  step : (x : Command) → refusal H o x ≡ None → (l : ℕ) (r : LoanFacts) → loan_after H x l (loan_of H l) ≡ Some r
+      → branch_after x r.branch (branch_of H r.branch) ≡ None → ⊥
   step (CheckOut p n b) ok l r e none = go (next_loan H == l) e
     where
       there : not (has_branch H b) ≡ false
       there = (passed (checks H o (CheckOut p n b)) ok).0
 
-      go : (x : Bool) → cond x (Some (record { copy = n; patron = p; branch = b; made = today H; terms = unwrap_or (terms_for H p n) no_terms })) (loan_of H l) ≡ Some r → ⊥
+      go : (x : Bool) → cond x (Some
+          (record { copy = n; patron = p; branch = b; made = today H; terms = unwrap_or (terms_for H p n) no_terms }))
+          (loan_of H l) ≡ Some r → ⊥
       go true f =
           let same : ◌≡◌ {A = LoanFacts} (record { copy = n; patron = p; branch = b; made = today H; terms = unwrap_or (terms_for H p n) no_terms }) r = cc in
           some-not (branch_of H b) there (ap (λ m. branch_of H m) (ap (λ y. y.branch) same) ∙ none)

@@ -37,7 +37,8 @@ use Rattle.circ_core.proofs.Rows.{none-map, some-is}
 use Rattle.circ_core.proofs.Claims.{loan_claims, transit_claims}
 use Rattle.circ_core.proofs.CheckOutMeets.{withdrawn_at, lost_at}
 use Rattle.circ_core.proofs.Charging.{lines_with, owed_in}
-use Rattle.circ_core.proofs.EndingMeets.{IsLent, lent, fine_same, fine_line-is, price_line-is, fine_line-none, line-count, lacks_same, none_ends, one_ends, both_lines, charges_show}
+use Rattle.circ_core.proofs.EndingMeets.{IsLent, lent, fine_same, fine_line-is, price_line-is, fine_line-none, line-count, lacks_same}
+use Rattle.circ_core.proofs.EndingMeets.{none_ends, one_ends, both_lines, charges_show}
 use Rattle.circ_core.proofs.Gone.{shelf_claims, kept_by, copies_gone, transits_still, transits_over, holds_all_stay, holds_again}
 
 -- The tables after some changes and then others.
@@ -69,8 +70,11 @@ module _ (H : History) (legal : IsLegal H) (inv : Invariant H) (c : ℕ) (r : Co
       let l : IsLent H c q = lent H inv c q w in
       lacks_same H (fine_due (Some q) rows.lender (today H)) r.price (lines_by H (Missing c))
       (length-append (fine_line H (grace_of H) (place H c)) (price_line H c (place H c))
-      ∙ ap (λ n. n + length (price_line H c (place H c))) (ap length (fine_line-is H legal inv c q l) ∙ line-count H q.patron _ (Some q.loan) (fine_now H (grace_of H) q.loan) ∙ ap lines_for (sym (fine_same H legal inv c q l rows v)))
-      ∙ ap (λ n. lines_for (fine_due (Some q) rows.lender (today H)) + n) (ap length (price_line-is H legal inv c q l) ∙ line-count H q.patron _ (Some q.loan) (price_of H c) ∙ ap lines_for price_is))
+      ∙ ap (λ n. n + length (price_line H c (place H c)))
+      (ap length (fine_line-is H legal inv c q l) ∙ line-count H q.patron _ (Some q.loan) (fine_now H (grace_of H) q.loan)
+      ∙ ap lines_for (sym (fine_same H legal inv c q l rows v)))
+      ∙ ap (λ n. lines_for (fine_due (Some q) rows.lender (today H)) + n)
+      (ap length (price_line-is H legal inv c q l) ∙ line-count H q.patron _ (Some q.loan) (price_of H c) ∙ ap lines_for price_is))
   numbers_same None w rows v = lacks_same H 0 0 (lines_by H (Missing c)) (ap length (no_lines (off_loan None w refl)))
 
   reply_same : (o : Option LoanRow) → IsLoanOf (picture H) c o → (rows : View) → IsLenderView (picture H) o rows
@@ -89,8 +93,10 @@ module _ (H : History) (legal : IsLegal H) (inv : Invariant H) (c : ℕ) (r : Co
   abbrev freed : Option LoanRow → Option HoldRow → Option TransitRow → Picture
   freed loan hold transit = changed (condition_rows (Some row) condition.Missing ++ release_rows loan hold transit (today H)) (picture H)
 
-  lead_on : (q : LoanRow) → IsLent H c q → (hold : Option HoldRow) (transit : Option TransitRow) (rows : View) → IsLenderView (picture H) (Some q) rows → (owner : Owner) (key : List ℕ)
-      → SameRows (changed (charge_rows (meta_row H) rows.patron (Some q) (fine_due (Some q) rows.lender (today H)) r.price) (freed (Some q) hold transit)) (picture (event owner key (Missing c) ∷ H))
+  lead_on : (q : LoanRow) → IsLent H c q → (hold : Option HoldRow) (transit : Option TransitRow) (rows : View)
+      → IsLenderView (picture H) (Some q) rows → (owner : Owner) (key : List ℕ)
+      → SameRows (changed (charge_rows (meta_row H) rows.patron (Some q) (fine_due (Some q) rows.lender (today H)) r.price)
+      (freed (Some q) hold transit)) (picture (event owner key (Missing c) ∷ H))
   lead_on q l hold transit rows v owner key =
       let off : is_on_hold_shelf (place H c) ≡ false = ap is_on_hold_shelf l.here in
       let still : is_in_transit (place H c) ≡ false = ap is_in_transit l.here in
@@ -117,10 +123,13 @@ module _ (H : History) (legal : IsLegal H) (inv : Invariant H) (c : ℕ) (r : Co
 
   -- Off loan only the copy's row changes, and those of a hold or a transit.
   lead_off : is_on_loan (place H c) ≡ false → (P : Picture) → P.meta ≡ meta_row H → P.branches ≡ (picture H).branches → P.closed_days ≡ (picture H).closed_days
-      → P.kinds ≡ (picture H).kinds → P.rules ≡ (picture H).rules → P.rules1 ≡ (picture H).rules1 → P.patrons ≡ (picture H).patrons → P.titles ≡ (picture H).titles
-      → ((n : ℕ) → P.copies n ≡ (freed None None None).copies n) → P.loans ≡ (picture H).loans → P.loans1 ≡ (picture H).loans1 → P.holds1 ≡ (picture H).holds1 → P.lines ≡ (picture H).lines
+      → P.kinds ≡ (picture H).kinds → P.rules ≡ (picture H).rules → P.rules1 ≡ (picture H).rules1 → P.patrons ≡ (picture H).patrons
+      → P.titles ≡ (picture H).titles
+      → ((n : ℕ) → P.copies n ≡ (freed None None None).copies n) → P.loans ≡ (picture H).loans → P.loans1 ≡ (picture H).loans1
+      → P.holds1 ≡ (picture H).holds1 → P.lines ≡ (picture H).lines
       → (owner : Owner) (key : List ℕ)
-      → ((n : ℕ) → P.holds n ≡ (picture (event owner key (Missing c) ∷ H)).holds n) → ((n : ℕ) → P.transits n ≡ (picture (event owner key (Missing c) ∷ H)).transits n)
+      → ((n : ℕ) → P.holds n ≡ (picture (event owner key (Missing c) ∷ H)).holds n)
+      → ((n : ℕ) → P.transits n ≡ (picture (event owner key (Missing c) ∷ H)).transits n)
       → SameRows P (picture (event owner key (Missing c) ∷ H))
   lead_off off P m b d k u u1 p t copies_p loans_p loans1_p holds1_p lines_p owner key holds_p transits_p =
       let same : lines H ≡ lines H ++ lines_by H (Missing c) = sym (ap (λ xs. lines H ++ xs) (no_lines off) ∙ append-nil (lines H)) in
@@ -142,18 +151,23 @@ module _ (H : History) (legal : IsLegal H) (inv : Invariant H) (c : ℕ) (r : Co
         lines = λ n. ap (λ f. f n) lines_p ∙ ap (λ xs. option_map (line_columns H n) (nth_line xs n)) same;
       }
 
-  lead_by : (loan : Option LoanRow) → IsLoanOf (picture H) c loan → (hold : Option HoldRow) → IsHoldOf (picture H) c hold → (transit : Option TransitRow) → transit ≡ transit_row H c
+  lead_by : (loan : Option LoanRow) → IsLoanOf (picture H) c loan → (hold : Option HoldRow) → IsHoldOf (picture H) c hold
+      → (transit : Option TransitRow) → transit ≡ transit_row H c
       → (rows : View) → IsLenderView (picture H) loan rows → (owner : Owner) (key : List ℕ)
-      → SameRows (changed (charge_rows (meta_row H) rows.patron loan (fine_due loan rows.lender (today H)) (price_due loan (Some row))) (freed loan hold transit)) (picture (event owner key (Missing c) ∷ H))
+      → SameRows (changed (charge_rows (meta_row H) rows.patron loan (fine_due loan rows.lender (today H)) (price_due loan (Some row)))
+      (freed loan hold transit)) (picture (event owner key (Missing c) ∷ H))
   lead_by (Some q) w hold x transit y rows v owner key = lead_on q (lent H inv c q w) hold transit rows v owner key
   lead_by None w (Some q) x transit y rows v owner key =
       let k = kept_by H inv c r there q x in
-      rw v.patron (lead_off (off_loan None w refl) (freed None (Some q) transit) refl refl refl refl refl refl refl refl (λ _. refl) refl refl refl refl owner key
+      rw v.patron (lead_off (off_loan None w refl) (freed None (Some q) transit) refl refl refl refl refl refl refl refl
+      (λ _. refl) refl refl refl refl owner key
       (holds_again H c MissingCopy refl refl q k) (transits_still H c MissingCopy refl refl (ap is_in_transit k.here)))
   lead_by None w None x (Some t) y rows v owner key =
       let off : is_on_hold_shelf (place H c) ≡ false = sym (shelf_claims H inv c r there None x) in
       let copy : t.copy ≡ c = travels (place H c) t y in
-      rw (v.patron, copy) (lead_off (off_loan None w refl) (changed (condition_rows (Some row) condition.Missing ++ TakeTransit c ∷ []) (picture H)) refl refl refl refl refl refl refl refl (λ _. refl) refl refl refl refl owner key
+      rw (v.patron, copy) (lead_off (off_loan None w refl)
+      (changed (condition_rows (Some row) condition.Missing ++ TakeTransit c ∷ []) (picture H)) refl refl refl refl refl refl refl refl
+      (λ _. refl) refl refl refl refl owner key
       (holds_all_stay H c MissingCopy refl refl off) (transits_over H c MissingCopy refl refl))
     where
       travels : (p : Place) (t : TransitRow) → Some t ≡ transit_at c p → t.copy ≡ c
@@ -174,7 +188,8 @@ module _ (H : History) (legal : IsLegal H) (inv : Invariant H) (c : ℕ) (v : Vi
   copy_here : (r : CopyFacts) → copy_of H c ≡ Some r → v.copy ≡ Some (copy_columns H c r)
   copy_here r there = w.at.copy ∙ ap (option_map (copy_columns H c)) there
 
-  numbers_here : (r : CopyFacts) → copy_of H c ≡ Some r → lacks_numbers v.meta (fine_in v) (price_in v) ≡ lacks_lines H (sight H) (length (lines_by H (Missing c)))
+  numbers_here : (r : CopyFacts) → copy_of H c ≡ Some r
+      → lacks_numbers v.meta (fine_in v) (price_in v) ≡ lacks_lines H (sight H) (length (lines_by H (Missing c)))
   numbers_here r there =
       ap (λ m. lacks_numbers m (fine_due v.loan v.lender m.today) (price_in v)) w.meta
       ∙ ap (λ o. lacks_numbers (meta_row H) (fine_due v.loan v.lender (today H)) (price_due v.loan o)) (copy_here r there)

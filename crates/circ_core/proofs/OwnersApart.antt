@@ -50,7 +50,8 @@ module _ (H : History) (p : ℕ) where
 
   loans_apart : (l : ℕ) → LoansApart H p l
   loans_apart l = record {
-    others = λ r e q. ap (λ x. first_failing ((UnknownLoan, not x) ∷ after_first (checks H Desk (Renew l)))) (and_false (is_some (loan_of H l)) _ (own_loan l r false e q));
+    others = λ r e q. ap (λ x. first_failing ((UnknownLoan, not x) ∷ after_first (checks H Desk (Renew l))))
+        (and_false (is_some (loan_of H l)) _ (own_loan l r false e q));
     own = λ r e q. loan_table l (ap (λ x. is_some (loan_of H l) && x) (own_loan l r true e q));
     none = λ e. let gone : loan_of H l ≡ None = map-none (loan_columns H l) (loan_of H l) e in
         loan_table l (ap (λ o. is_some o && is_own H (Reader p) (borrower H l)) gone ∙ sym (ap (λ o. is_some o && true) gone));
@@ -82,7 +83,8 @@ module _ (H : History) (p : ℕ) where
 
   holds_apart : Invariant H → (h : ℕ) → HoldsApart H p h
   holds_apart inv h = record {
-    others = λ r e q. ap (λ x. first_failing ((UnknownHold, not x) ∷ after_first (checks H Desk (CancelHold h)))) (and_false (is_some (hold_of H h)) _ (own_hold h r false e q));
+    others = λ r e q. ap (λ x. first_failing ((UnknownHold, not x) ∷ after_first (checks H Desk (CancelHold h))))
+        (and_false (is_some (hold_of H h)) _ (own_hold h r false e q));
     own = λ r e q. hold_table h (ap (λ x. is_some (hold_of H h) && x) (own_hold h r true e q));
     none = λ e. let gone : hold_of H h ≡ None = no_hold inv h e in
         hold_table h (ap (λ o. is_some o && is_own H (Reader p) (patron_of_hold H h)) gone ∙ sym (ap (λ o. is_some o && true) gone));

@@ -1,6 +1,7 @@
 -- What the counts of a patron's open loans and active holds tell.
 use Rattle.model.specs.Sights.{sight}
-use Rattle.std.proofs.Common.{◌≡◌, ℕ, suc, ◌≤◌, ◌==◌, nat_lt, Bool, true, false, not, ◌&&◌, ◌||◌, ◌⊎◌, inl, inr, List, [], ◌∷◌, length, refl, sym, ◌∙◌, ap, subst, arith}
+use Rattle.std.proofs.Common.{◌≡◌, ℕ, suc, ◌≤◌, ◌==◌, nat_lt, Bool, true, false, not, ◌&&◌, ◌||◌, ◌⊎◌, inl, inr, List, [], ◌∷◌, length}
+use Rattle.std.proofs.Common.{refl, sym, ◌∙◌, ap, subst, arith}
 use Rattle.std.specs.Prelude.{Option, Some, None, option_map, unwrap_or, is_some, is_none}
 use Rattle.std.specs.List.{list_any, IsDistinct}
 use Rattle.std.proofs.lemmas.Bool.{eqb-true, eq-eqb, and_parts, and_from, false_from_ne_true, lt-ltb}
@@ -92,10 +93,12 @@ module _ (H : History) (inv : Invariant H) (p : ℕ) where
   pub holds-some : (t n : ℕ) → IsCount (IsActiveOn (picture H) p t) n → nat_lt 0 n ≡ has_hold_on H (sight H) p t
   holds-some t n w = ap (λ k. nat_lt 0 k) (sym w.count) ∙ go w.keys w.sound w.whole
     where
-      go : (ks : List ℕ) → ((k : ℕ) → list_any (λ y. k == y) ks ≡ true → IsActiveOn (picture H) p t k) → ((k : ℕ) → IsActiveOn (picture H) p t k → list_any (λ y. k == y) ks ≡ true)
+      go : (ks : List ℕ) → ((k : ℕ) → list_any (λ y. k == y) ks ≡ true → IsActiveOn (picture H) p t k)
+          → ((k : ℕ) → IsActiveOn (picture H) p t k → list_any (λ y. k == y) ks ≡ true)
           → nat_lt 0 (length ks) ≡ has_hold_on H (sight H) p t
       go [] sound whole = sym (false_from_ne_true _ (λ e.
-          let who : (h : ℕ) × (is_own_hold h ≡ true) × ((title_of_hold H h == t) ≡ true) = any_filter-some is_own_hold (λ h. title_of_hold H h == t) (numbers_to (holds H)) e in
+          let who : (h : ℕ) × (is_own_hold h ≡ true) × ((title_of_hold H h == t) ≡ true) =
+          any_filter-some is_own_hold (λ h. title_of_hold H h == t) (numbers_to (holds H)) e in
           let has : list_any (λ y. who.0 == y) [] ≡ true = whole who.0 (hold-from t who.0 who.1 who.2) in let never : ⊥ = cc in never))
       go (k ∷ ks) sound whole =
           let q : (is_own_hold k ≡ true) × ((title_of_hold H k == t) ≡ true) × (1 ≤ k) × (k ≤ holds H) = hold-to t k (sound k (rw (eq-eqb k k refl) refl)) in
@@ -120,13 +123,16 @@ module _ (H : History) (inv : Invariant H) (p : ℕ) where
   loan-of_title t (Some row) w =
       let at : (opens_loan row.loan ≡ true) × (1 ≤ row.loan) × (row.loan ≤ loans H) = loan-to row.loan (row, w.0, w.1.by, w.1.unended) in
       let is : (r : LoanFacts) × (loan_of H row.loan ≡ Some r) × (loan_columns H row.loan r ≡ row) = loan_row-is H row.loan row w.0 in
-      let x : (x : CopyFacts) × (copy_of H row.copy ≡ Some x) × (copy_columns H row.copy x ≡ w.1.copy) = option_map-is (copy_columns H row.copy) (copy_of H row.copy) w.1.copy w.1.lent in
+      let x : (x : CopyFacts) × (copy_of H row.copy ≡ Some x) × (copy_columns H row.copy x ≡ w.1.copy) =
+      option_map-is (copy_columns H row.copy) (copy_of H row.copy) w.1.copy w.1.lent in
       let title : title_of_loan H row.loan ≡ t =
       ap (λ o. unwrap_or (option_map (λ r. title_of_copy H r.copy) o) 0) is.1 ∙ ap (λ y. title_of_copy H y.copy) is.2
       ∙ ap (λ o. unwrap_or (option_map (λ y. y.title) o) 0) x.1 ∙ ap (λ y. y.title) x.2 ∙ w.1.of_title in
-      sym (any_filter-from opens_loan (λ l. title_of_loan H l == t) (numbers_to (loans H)) row.loan (numbers_to-has (loans H) row.loan at.1 at.2) at.0 (eq-eqb _ _ title))
+      sym (any_filter-from opens_loan (λ l. title_of_loan H l == t) (numbers_to (loans H)) row.loan
+      (numbers_to-has (loans H) row.loan at.1 at.2) at.0 (eq-eqb _ _ title))
   loan-of_title t None w = sym (false_from_ne_true _ (λ e.
-      let who : (l : ℕ) × (opens_loan l ≡ true) × ((title_of_loan H l == t) ≡ true) = any_filter-some opens_loan (λ l. title_of_loan H l == t) (numbers_to (loans H)) e in
+      let who : (l : ℕ) × (opens_loan l ≡ true) × ((title_of_loan H l == t) ≡ true) =
+      any_filter-some opens_loan (λ l. title_of_loan H l == t) (numbers_to (loans H)) e in
       let open_one : IsOpenBy (picture H) p who.0 = loan-from who.0 who.1 in
       let is : (r : LoanFacts) × (loan_of H who.0 ≡ Some r) × (loan_columns H who.0 r ≡ open_one.0) = loan_row-is H who.0 open_one.0 open_one.1 in
       let still : ended H who.0 ≡ None = ap (λ y. y.ended) is.2 ∙ open_one.3 in
@@ -164,7 +170,8 @@ module _ (H : History) (inv : Invariant H) (p : ℕ) where
     pub others_none : (n : ℕ) → IsCount (IsActiveOn (picture H) p t) n → ((h : ℕ) → fills h ≡ false) → nat_lt 0 n ≡ list_any is_other_hold (active_holds H p)
     others_none n w off = ap (λ k. nat_lt 0 k) (sym w.count) ∙ go w.keys w.sound w.whole
       where
-        go : (ks : List ℕ) → ((k : ℕ) → list_any (λ y. k == y) ks ≡ true → IsActiveOn (picture H) p t k) → ((k : ℕ) → IsActiveOn (picture H) p t k → list_any (λ y. k == y) ks ≡ true)
+        go : (ks : List ℕ) → ((k : ℕ) → list_any (λ y. k == y) ks ≡ true → IsActiveOn (picture H) p t k)
+            → ((k : ℕ) → IsActiveOn (picture H) p t k → list_any (λ y. k == y) ks ≡ true)
             → nat_lt 0 (length ks) ≡ list_any is_other_hold (active_holds H p)
         go [] sound whole = sym (false_from_ne_true _ (λ e.
             let o : (h : ℕ) × IsActiveOn (picture H) p t h × (fills h ≡ false) = other-is e in
@@ -187,11 +194,13 @@ module _ (H : History) (inv : Invariant H) (p : ℕ) where
         ne : (a b : ℕ) → (g == a) ≡ true → (a == b) ≡ false → (g == b) ≡ false
         ne a b e f = let same : g ≡ a = eqb-true g a e in rw same f
 
-        two : (k j : ℕ) → IsActiveOn (picture H) p t k → IsActiveOn (picture H) p t j → (k == j) ≡ false → (b : Bool) → (g == k) ≡ b → list_any is_other_hold (active_holds H p) ≡ true
+        two : (k j : ℕ) → IsActiveOn (picture H) p t k → IsActiveOn (picture H) p t j → (k == j) ≡ false → (b : Bool) → (g == k) ≡ b
+            → list_any is_other_hold (active_holds H p) ≡ true
         two k j a b e true q = other-from j b (only j ∙ ne k j q e)
         two k j a b e false q = other-from k a (only k ∙ q)
 
-        go : (ks : List ℕ) → IsDistinct ◌==◌ ks → ((k : ℕ) → list_any (λ y. k == y) ks ≡ true → IsActiveOn (picture H) p t k) → ((k : ℕ) → IsActiveOn (picture H) p t k → list_any (λ y. k == y) ks ≡ true)
+        go : (ks : List ℕ) → IsDistinct ◌==◌ ks → ((k : ℕ) → list_any (λ y. k == y) ks ≡ true → IsActiveOn (picture H) p t k)
+            → ((k : ℕ) → IsActiveOn (picture H) p t k → list_any (λ y. k == y) ks ≡ true)
             → nat_lt 1 (length ks) ≡ list_any is_other_hold (active_holds H p)
         go [] once sound whole = let has : list_any (λ y. g == y) [] ≡ true = whole g own in let never : ⊥ = cc in absurd never
         go (k ∷ []) once sound whole = sym (false_from_ne_true _ (λ e.

@@ -74,7 +74,15 @@ module _ (H : History) (inv : Invariant H) (p k : ℕ) (card_key name : List ℕ
       → Meets H (Patron p k card_key name) (patron_checks rows p k card_key name) Done (patron_rows rows p k card_key name)
   unfolding patron_facts new_patron
   patron_meets rows w = record {
-    same = (refl, refl, λ _. (refl, (ap is_none w.kind ∙ is_none-map (kind_columns H k) (kind_of H k)), λ _. (refl, (rw w.patron (differs_patron-same (patron_of H p))), λ _. tt)));
+    same = (
+      refl,
+      refl,
+      λ _. (
+        refl,
+        (ap is_none w.kind ∙ is_none-map (kind_columns H k) (kind_of H k)),
+        λ _. (refl, (rw w.patron (differs_patron-same (patron_of H p))), λ _. tt),
+      ),
+    );
     due = λ _. refl;
     leads = λ _ owner key. rw w.patron (patron_leads (patron_of H p) refl owner key);
   }

@@ -71,7 +71,8 @@ module _ (H : History) (inv : Invariant H) (p t b : ℕ) (first_day : Option ℕ
   holds_lead : (n : ℕ) → put (hold_row H) (next_hold H) (Some (new_hold (next_hold H) p t b first_day)) n ≡ hold_at n (next_hold H == n)
   holds_lead n = go (next_hold H == n) refl
     where
-      go : (x : Bool) → (next_hold H == n) ≡ x → (elim x as (λ _. Option HoldRow) [ true ↦ Some (new_hold (next_hold H) p t b first_day) | false ↦ hold_row H n ]) ≡ hold_at n x
+      go : (x : Bool) → (next_hold H == n) ≡ x
+          → (elim x as (λ _. Option HoldRow) [ true ↦ Some (new_hold (next_hold H) p t b first_day) | false ↦ hold_row H n ]) ≡ hold_at n x
       go true e = ap (λ k. Some (new_hold k p t b first_day)) (eqb-true _ _ e)
       go false e = refl
 

@@ -61,7 +61,8 @@ module _ (H : History) (legal : IsLegal H) (inv : Invariant H) (l : ℕ) (v : Vi
     empty_same : (t : ℕ) (o : Option HoldRow) → IsFirstOf (picture H) t o → is_some o ≡ not (is_empty (line H t))
     empty_same t None f = sym (ap (λ hs. not (is_empty hs)) (line_none H inv t f))
     empty_same t (Some q) f =
-        let first : ((hs : List ℕ) × (line H t ≡ q.hold ∷ hs)) × ((f : HoldFacts) × (hold_of H q.hold ≡ Some f) × (hold_columns H q.hold Waiting f ≡ q)) = line_some H inv t q f in
+        let first : ((hs : List ℕ) × (line H t ≡ q.hold ∷ hs))
+        × ((f : HoldFacts) × (hold_of H q.hold ≡ Some f) × (hold_columns H q.hold Waiting f ≡ q)) = line_some H inv t q f in
         sym (ap (λ hs. not (is_empty hs)) first.0.1)
 
     line_same : ended H l ≡ None → is_some v.first ≡ not (is_empty (line H (title_of_loan H l)))
@@ -148,7 +149,8 @@ module _ (H : History) (legal : IsLegal H) (inv : Invariant H) (l : ℕ) (v : Vi
 
     here : Some loan_now ≡ loan_at l true
     here =
-        ap (λ n. Some (record (loan_columns H l r) { due = day; renewals_left = n })) (fewer (unwrap_or (option_map (λ y. y.terms.renewals) (loan_of H l)) 0) (renewals H l))
+        ap (λ n. Some (record (loan_columns H l r) { due = day; renewals_left = n }))
+        (fewer (unwrap_or (option_map (λ y. y.terms.renewals) (loan_of H l)) 0) (renewals H l))
         ∙ ap (λ o. Some (record (loan_columns H l r) {
           due = unwrap_or o (due H l);
           renewals_left = unwrap_or (option_map (λ y. y.terms.renewals) (loan_of H l)) 0 - (renewals H l + 1);

@@ -8,7 +8,8 @@ use Rattle.terms.specs.declared.row.HoldState.TheVariants.{Waiting}
 use Rattle.terms.specs.declared.row.TransitRow.{TransitRow}
 use Rattle.model.specs.Calendar.{least}
 use Rattle.model.specs.History.{History, today, is_open, BranchFacts, branch_of, HoldFacts, hold_of}
-use Rattle.model.specs.Places.{Place, Nowhere, Shelf, HoldShelf, Transit, Loan, MissingCopy, WithdrawnCopy, place, state, line, route, route_from, route_to, limit_now, home_of, goal_of, title_of_copy, is_begun}
+use Rattle.model.specs.Places.{Place, Nowhere, Shelf, HoldShelf, Transit, Loan, MissingCopy, WithdrawnCopy, place, state, line, route}
+use Rattle.model.specs.Places.{route_from, route_to, limit_now, home_of, goal_of, title_of_copy, is_begun}
 use Rattle.model.specs.Invariant.{Invariant, Serves}
 use Rattle.model.specs.Refusals.{has_branch}
 use Rattle.model.specs.Answers.{routed}
@@ -44,10 +45,13 @@ abbrev pub LeadsTo : History → ℕ → Course → Place → Type 0
 LeadsTo H b way p = (place_by way b ≡ p) × Suits H b way
 
 module _ (H : History) (b home : ℕ) where
-  toward : (q : HoldRow) (f : HoldFacts) → hold_of H q.hold ≡ Some f → hold_columns H q.hold Waiting f ≡ q → state H q.hold ≡ Some Waiting → (g : ℕ) → goal_of H q.hold ≡ g
+  toward : (q : HoldRow) (f : HoldFacts) → hold_of H q.hold ≡ Some f → hold_columns H q.hold Waiting f ≡ q → state H q.hold ≡ Some Waiting
+      → (g : ℕ) → goal_of H q.hold ≡ g
       → LeadsTo H b (course_for home b (Some q)) (elim (g == b) as (λ _. Place) [ true ↦ HoldShelf q.hold | false ↦ Transit g (Some q.hold) ])
   toward q f made row waits g goal =
-      let r : LeadsTo H b (course_for home b (Some q)) (elim (q.branch == b) as (λ _. Place) [ true ↦ HoldShelf q.hold | false ↦ Transit q.branch (Some q.hold) ]) = go (q.branch == b) refl in
+      let r : LeadsTo H b (course_for home b (Some q))
+      (elim (q.branch == b) as (λ _. Place) [ true ↦ HoldShelf q.hold | false ↦ Transit q.branch (Some q.hold) ]) =
+      go (q.branch == b) refl in
       (r.0 ∙ ap (λ n. elim (n == b) as (λ _. Place) [ true ↦ HoldShelf q.hold | false ↦ Transit n (Some q.hold) ]) branch, r.1)
     where
       branch : q.branch ≡ g
@@ -76,31 +80,38 @@ module _ (H : History) (inv : Invariant H) (c b home : ℕ) (at_home : home ≡ 
       go true = (refl, tt)
       go false = (refl, tt)
   by_line (Some q) w =
-      let l : ((hs : List ℕ) × (line H (title_of_copy H c) ≡ q.hold ∷ hs)) × ((f : HoldFacts) × (hold_of H q.hold ≡ Some f) × (hold_columns H q.hold Waiting f ≡ q)) =
+      let l : ((hs : List ℕ) × (line H (title_of_copy H c) ≡ q.hold ∷ hs))
+      × ((f : HoldFacts) × (hold_of H q.hold ≡ Some f) × (hold_columns H q.hold Waiting f ≡ q)) =
       line_some H inv (title_of_copy H c) q w in
       let waits : state H q.hold ≡ Some Waiting = (line-head H (title_of_copy H c) q.hold l.0.0 l.0.1).0 in
-      let r : LeadsTo H b (course_for home b (Some q)) (elim (goal_of H q.hold == b) as (λ _. Place) [ true ↦ HoldShelf q.hold | false ↦ Transit (goal_of H q.hold) (Some q.hold) ]) =
+      let r : LeadsTo H b (course_for home b (Some q))
+      (elim (goal_of H q.hold == b) as (λ _. Place) [ true ↦ HoldShelf q.hold | false ↦ Transit (goal_of H q.hold) (Some q.hold) ]) =
       toward H b home q l.1.0 l.1.1 l.1.2 waits (goal_of H q.hold) refl in
       (r.0 ∙ sym (ap (λ x. route_to H (place H) (state H) (is_begun H) c b x) l.0.1), r.1)
 
   -- The course by the rows leads where routing leads.
-  pub by_rows : (transit : Option TransitRow) (coming first : Option HoldRow) → transit ≡ transit_row H c → coming ≡ coming_in (picture H) transit → IsFirstOf (picture H) (title_of_copy H c) first
+  pub by_rows : (transit : Option TransitRow) (coming first : Option HoldRow) → transit ≡ transit_row H c
+      → coming ≡ coming_in (picture H) transit → IsFirstOf (picture H) (title_of_copy H c) first
       → LeadsTo H b (course_of home coming first b) (route H c b)
   by_rows transit coming first travels comes w = go (place H c) refl (comes ∙ ap (λ o. coming_in (picture H) o) travels)
     where
-      free : (p : Place) → coming ≡ None → route_from H (place H) (state H) (is_begun H) c b p ≡ route_to H (place H) (state H) (is_begun H) c b (line H (title_of_copy H c))
+      free : (p : Place) → coming ≡ None
+          → route_from H (place H) (state H) (is_begun H) c b p ≡ route_to H (place H) (state H) (is_begun H) c b
+          (line H (title_of_copy H c))
           → LeadsTo H b (course_of home coming first b) (route_from H (place H) (state H) (is_begun H) c b p)
       free p none same =
           let r : LeadsTo H b (course_for home b first) (route_to H (place H) (state H) (is_begun H) c b (line H (title_of_copy H c))) = by_line first w in
           subst (λ o. LeadsTo H b (course_for home b (served o first)) (route_from H (place H) (state H) (is_begun H) c b p)) (sym none) (r.0 ∙ sym same, r.1)
 
-      go : (p : Place) → place H c ≡ p → coming ≡ coming_in (picture H) (transit_at c p) → LeadsTo H b (course_of home coming first b) (route_from H (place H) (state H) (is_begun H) c b p)
+      go : (p : Place) → place H c ≡ p → coming ≡ coming_in (picture H) (transit_at c p)
+          → LeadsTo H b (course_of home coming first b) (route_from H (place H) (state H) (is_begun H) c b p)
       go (Transit g (Some h)) at come =
           let serves : Serves (place H c) h = rw at refl in
           let fits : (state H h ≡ Some Waiting) × (goal_of H h ≡ g) = rw at at (inv.bound.fits c h serves) in
           let made : (f : HoldFacts) × (hold_of H h ≡ Some f) = inv.placed h Waiting fits.0 in
           let row : coming ≡ Some (hold_columns H h Waiting made.0) = come ∙ hold_row-from H h Waiting made.0 fits.0 made.1 in
-          subst (λ o. LeadsTo H b (course_for home b (served o first)) (elim (g == b) as (λ _. Place) [ true ↦ HoldShelf h | false ↦ Transit g (Some h) ])) (sym row)
+          subst (λ o. LeadsTo H b (course_for home b (served o first))
+          (elim (g == b) as (λ _. Place) [ true ↦ HoldShelf h | false ↦ Transit g (Some h) ])) (sym row)
           (toward H b home (hold_columns H h Waiting made.0) made.0 made.1 refl fits.0 g fits.1)
       go (Transit g None) at come = free (Transit g None) come refl
       go Nowhere at come = free Nowhere come refl
@@ -118,7 +129,8 @@ Limits H (course.HoldShelf r) until = limit_now H r.hold ≡ Some until
 Limits H course.Shelf until = Unit {0}
 Limits H (course.Transit g k) until = Unit {0}
 
-module _ (H : History) (inv : Invariant H) (b : ℕ) (v : View) (w : IsBranchView (picture H) b v.branch v.calendar) (now : v.meta.today ≡ today H) (known : not (has_branch H b) ≡ false) where
+module _ (H : History) (inv : Invariant H) (b : ℕ) (v : View) (w : IsBranchView (picture H) b v.branch v.calendar)
+    (now : v.meta.today ≡ today H) (known : not (has_branch H b) ≡ false) where
   pickup_same : pickup_of v.branch ≡ unwrap_or (option_map (λ r. r.pickup) (branch_of H b)) 0
   pickup_same = ap pickup_of w.branch ∙ go (branch_of H b)
     where
@@ -133,7 +145,8 @@ module _ (H : History) (inv : Invariant H) (b : ℕ) (v : View) (w : IsBranchVie
       let r : (r : BranchFacts) × (branch_of H b ≡ Some r) = some-is (branch_of H b) known in
       let short : r.0.pickup ≤ 60 = inv.pickups b r.0 r.1 in
       let same : pickup_of v.branch ≡ r.0.pickup = pickup_same ∙ ap (λ o. unwrap_or (option_map (λ f. f.pickup) o) 0) r.1 in
-      due_from-there H inv b v.calendar w.calendar known (v.meta.today + pickup_of v.branch) (omega (arith, now, inv.today_from)) (omega (arith, now, same, short, inv.today_to))
+      due_from-there H inv b v.calendar w.calendar known (v.meta.today + pickup_of v.branch) (omega (arith, now, inv.today_from))
+      (omega (arith, now, same, short, inv.today_to))
   limit_there course.Shelf = refl
   limit_there (course.Transit g h) = refl
 

@@ -56,7 +56,8 @@ pub put_pair_set : {A B : Type 0} (row : ℕ → ℕ → A → B) (facts : ℕ �
 put_pair_set {A} {B} row facts j k x m n = go ((j == m) && (k == n)) refl
   where
     go : (b : Bool) → ((j == m) && (k == n)) ≡ b
-        → ◌≡◌ {A = Option B} (elim b [ true ↦ Some (row j k x) | false ↦ option_map (row m n) (facts m n) ]) (option_map (row m n) (cond b (Some x) (facts m n)))
+        → ◌≡◌ {A = Option B} (elim b [ true ↦ Some (row j k x) | false ↦ option_map (row m n) (facts m n) ])
+        (option_map (row m n) (cond b (Some x) (facts m n)))
     go true e =
         let both : ((j == m) ≡ true) × ((k == n) ≡ true) = and_parts _ _ e in
         let first : j ≡ m = eqb-true j m both.0 in

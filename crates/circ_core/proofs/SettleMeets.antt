@@ -1,6 +1,7 @@
 -- Pay and waive meet the history.
 use Rattle.terms.specs.declared.limits.TheConstants.{LAST_NUMBER}
-use Rattle.std.proofs.Common.{◌≡◌, ℕ, zero, suc, ◌+◌, ◌-◌, ◌==◌, Bool, true, false, cond, not, ◌||◌, List, [], ◌∷◌, ◌++◌, length, refl, sym, ◌∙◌, ap, subst, arith}
+use Rattle.std.proofs.Common.{◌≡◌, ℕ, zero, suc, ◌+◌, ◌-◌, ◌==◌, Bool, true, false, cond, not, ◌||◌, List, [], ◌∷◌, ◌++◌, length, refl, sym}
+use Rattle.std.proofs.Common.{◌∙◌, ap, subst, arith}
 use Rattle.std.specs.Prelude.{Option, Some, None, option_map, is_none, filter, nat_lt}
 use Rattle.std.proofs.lemmas.Bool.{eqb-true, eq-eqb, or_parts}
 use Rattle.std.proofs.lemmas.List.Elements.{filter-append}
@@ -58,7 +59,9 @@ module _ (H : History) (p m : ℕ) (sort : Sort) (no_charge : charge sort (suc m
   abbrev owed_now : ℕ → ℕ
   owed_now q = charges (filter (λ x. x.patron == q) lines_now) - credits (filter (λ x. x.patron == q) lines_now)
 
-  owed_split : (q : ℕ) → owed_now q ≡ (charges (account H q) + charges (cond (p == q) (added ∷ []) [])) - (credits (account H q) + credits (cond (p == q) (added ∷ []) []))
+  owed_split : (q : ℕ) → owed_now
+      q ≡ (charges (account H q) + charges (cond (p == q) (added ∷ []) [])) - (credits (account H q) + credits
+      (cond (p == q) (added ∷ []) []))
   owed_split q =
       rw (
         filter-append (λ x. x.patron == q) (lines H) (added ∷ []),
@@ -70,14 +73,18 @@ module _ (H : History) (p m : ℕ) (sort : Sort) (no_charge : charge sort (suc m
   owed_less : owed_now p ≡ owed H p - suc m
   owed_less = go (p == p) (eq-eqb p p refl) (owed_split p)
     where
-      go : (b : Bool) → b ≡ true → owed_now p ≡ (charges (account H p) + charges (cond b (added ∷ []) [])) - (credits (account H p) + credits (cond b (added ∷ []) [])) → owed_now p ≡ owed H p - suc m
+      go : (b : Bool) → b ≡ true → owed_now
+          p ≡ (charges (account H p) + charges (cond b (added ∷ []) [])) - (credits (account H p) + credits (cond b (added ∷ []) []))
+          → owed_now p ≡ owed H p - suc m
       go true e s = s ∙ omega (arith, no_charge, is_credit)
       go false e s = let never : ⊥ = cc in absurd never
 
   owed_kept : (q : ℕ) → (p == q) ≡ false → owed_now q ≡ owed H q
   owed_kept q e = go (p == q) e (owed_split q)
     where
-      go : (b : Bool) → b ≡ false → owed_now q ≡ (charges (account H q) + charges (cond b (added ∷ []) [])) - (credits (account H q) + credits (cond b (added ∷ []) [])) → owed_now q ≡ owed H q
+      go : (b : Bool) → b ≡ false → owed_now
+          q ≡ (charges (account H q) + charges (cond b (added ∷ []) [])) - (credits (account H q) + credits (cond b (added ∷ []) []))
+          → owed_now q ≡ owed H q
       go true f s = let never : ⊥ = cc in absurd never
       go false f s = s ∙ omega arith
 
@@ -85,7 +92,8 @@ module _ (H : History) (p m : ℕ) (sort : Sort) (no_charge : charge sort (suc m
   lines_lead k = go (next_line H == k) refl
     where
       go : (b : Bool) → (next_line H == k) ≡ b
-          → (elim b as (λ _. Option LineRow) [ true ↦ Some (line_columns H (next_line H) added) | false ↦ line_row H k ]) ≡ option_map (line_columns H k) (nth_line lines_now k)
+          → (elim b as (λ _. Option LineRow) [ true ↦ Some (line_columns H (next_line H) added) | false ↦ line_row H k ]) ≡ option_map
+          (line_columns H k) (nth_line lines_now k)
       go true e =
           let same : next_line H ≡ k = eqb-true _ _ e in
           ap (λ n. Some (line_columns H n added)) same ∙ sym (ap (option_map (line_columns H k)) (nth-added (lines H) added k same))
@@ -103,7 +111,8 @@ module _ (H : History) (p m : ℕ) (sort : Sort) (no_charge : charge sort (suc m
           ≡ option_map (λ x. record { patron = n; kind = x.kind; card_key = x.card_key; name = x.name; owed = owed_now n }) (patron_of H n)) (eqb-true p q e)
           (ap (λ n. Some (record (patron_columns H p r) { owed = n })) (sym owed_less)
           ∙ sym (ap (option_map (λ x. record { patron = p; kind = x.kind; card_key = x.card_key; name = x.name; owed = owed_now p })) there))
-      go false e = ap (λ n. option_map (λ x. record { patron = q; kind = x.kind; card_key = x.card_key; name = x.name; owed = n }) (patron_of H q)) (sym (owed_kept q e))
+      go false e = ap (λ n. option_map (λ x. record { patron = q; kind = x.kind; card_key = x.card_key; name = x.name; owed = n })
+          (patron_of H q)) (sym (owed_kept q e))
 
   meta_lead : record (meta_row H) { next_line = next_line H + 1 } ≡ record (meta_row H) { next_line = length lines_now + 1 }
   meta_lead = ap (λ n. record (meta_row H) { next_line = n + 1 }) (sym (length-added (lines H) added))
@@ -127,7 +136,8 @@ module _ (H : History) (p : ℕ) (rows : View) (w : IsAccountView (picture H) p 
     ),
   )
 
-  pay_lead : (r : PatronFacts) → patron_of H p ≡ Some r → (n : ℕ) → (n == 0) ≡ false → Leads H (Pay p n) (settled (meta_row H) (Some (patron_columns H p r)) p Payment n)
+  pay_lead : (r : PatronFacts) → patron_of H p ≡ Some r → (n : ℕ) → (n == 0) ≡ false
+      → Leads H (Pay p n) (settled (meta_row H) (Some (patron_columns H p r)) p Payment n)
   pay_lead r there zero e owner key = let never : ⊥ = cc in absurd never
   pay_lead r there (suc m) e owner key = record {
     meta = meta_lead H p m Payment refl refl;
@@ -147,7 +157,8 @@ module _ (H : History) (p : ℕ) (rows : View) (w : IsAccountView (picture H) p 
     lines = lines_lead H p m Payment refl refl;
   }
 
-  waive_lead : (r : PatronFacts) → patron_of H p ≡ Some r → (n : ℕ) → (n == 0) ≡ false → Leads H (Waive p n) (settled (meta_row H) (Some (patron_columns H p r)) p Waiver n)
+  waive_lead : (r : PatronFacts) → patron_of H p ≡ Some r → (n : ℕ) → (n == 0) ≡ false
+      → Leads H (Waive p n) (settled (meta_row H) (Some (patron_columns H p r)) p Waiver n)
   waive_lead r there zero e owner key = let never : ⊥ = cc in absurd never
   waive_lead r there (suc m) e owner key = record {
     meta = meta_lead H p m Waiver refl refl;

@@ -12,7 +12,8 @@ use Rattle.model.specs.Invariant.{Invariant, Serves}
 use Rattle.circ_core.proofs.Claims.{IsKept, hold_claims, hold_none, hold_row-from}
 use Rattle.circ_core.proofs.FirstInLine.{line_none, line_some}
 use Rattle.model.specs.History.{History, HoldFacts, hold_of, CopyFacts, copy_of}
-use Rattle.model.specs.Places.{Shelf, HoldShelf, place, state, line, fills, fills_from, fills_first, goal_of, title_of_copy, title_of_hold, patron_of_hold, is_begun}
+use Rattle.model.specs.Places.{Shelf, HoldShelf, place, state, line, fills, fills_from, fills_first, goal_of, title_of_copy, title_of_hold}
+use Rattle.model.specs.Places.{patron_of_hold, is_begun}
 use Rattle.model.specs.Refusals.{is_elsewhere, is_kept_for_other, is_wanted_by_other, is_first_other, is_on_hold_shelf}
 use Rattle.model.specs.Picture.{picture, hold_row, hold_columns, copy_row, transit_at, condition_at}
 
@@ -25,7 +26,8 @@ pub record Standing (H : History) (p c b : ℕ) (copy : Option CopyRow) (hold fi
   pub elsewhere : not (stands_at hold copy == b) ≡ is_elsewhere H b (place H c)
   pub other : is_of_other hold p ≡ is_kept_for_other H p (place H c)
   pub wanted : is_wanted hold first p ≡ is_wanted_by_other H p (line H (title_of_copy H c)) (place H c)
-  pub fill : is_kept_for_other H p (place H c) ≡ false → is_wanted_by_other H p (line H (title_of_copy H c)) (place H c) ≡ false → FillsAs H p c (filled_hold hold first)
+  pub fill : is_kept_for_other H p (place H c) ≡ false → is_wanted_by_other H p (line H (title_of_copy H c)) (place H c) ≡ false
+      → FillsAs H p c (filled_hold hold first)
   pub present : condition_at (place H c) ≡ Present
   pub still : transit_at c (place H c) ≡ None
 
@@ -34,14 +36,16 @@ not-false true e = refl
 not-false false e = let never : ⊥ = cc in absurd never
 
 module _ (H : History) (inv : Invariant H) (p c b : ℕ) (r : CopyFacts) (there : copy_of H c ≡ Some r)
-    (copy : Option CopyRow) (hold first : Option HoldRow) (is_copy : copy ≡ copy_row H c) (is_hold : IsHoldOf (picture H) c hold) (is_first : IsFirstOf (picture H) (title_of_copy H c) first) where
+    (copy : Option CopyRow) (hold first : Option HoldRow) (is_copy : copy ≡ copy_row H c) (is_hold : IsHoldOf (picture H) c hold)
+    (is_first : IsFirstOf (picture H) (title_of_copy H c) first) where
   -- ---- on the shelf
 
   home-is : (n : ℕ) → place H c ≡ Shelf n → stands_at None copy ≡ n
   home-is n at = ap (λ o. stands_at None o) is_copy ∙ go (copy_of H c) there ∙ inv.at_home c n at
     where
       go : (o : Option CopyFacts) → o ≡ Some r
-          → stands_at None (option_map (λ f. record { copy = c; title = f.title; kind = f.kind; home = f.home; price = f.price; condition = condition_at (place H c) }) o)
+          → stands_at None (option_map (λ f.
+          record { copy = c; title = f.title; kind = f.kind; home = f.home; price = f.price; condition = condition_at (place H c) }) o)
           ≡ unwrap_or (option_map (λ f. f.home) o) 0
       go (Some f) e = refl
       go None e = refl
@@ -49,19 +53,25 @@ module _ (H : History) (inv : Invariant H) (p c b : ℕ) (r : CopyFacts) (there 
   first_other : (o : Option HoldRow) → IsFirstOf (picture H) (title_of_copy H c) o → is_of_other o p ≡ is_first_other H p (line H (title_of_copy H c))
   first_other None w = sym (ap (λ l. is_first_other H p l) (line_none H inv (title_of_copy H c) w))
   first_other (Some q) w =
-      let l : ((hs : List ℕ) × (line H (title_of_copy H c) ≡ q.hold ∷ hs)) × ((f : HoldFacts) × (hold_of H q.hold ≡ Some f) × (hold_columns H q.hold Waiting f ≡ q)) = line_some H inv (title_of_copy H c) q w in
+      let l : ((hs : List ℕ) × (line H (title_of_copy H c) ≡ q.hold ∷ hs))
+      × ((f : HoldFacts) × (hold_of H q.hold ≡ Some f) × (hold_columns H q.hold Waiting f ≡ q)) =
+      line_some H inv (title_of_copy H c) q w in
       let patron : patron_of_hold H q.hold ≡ q.patron = ap (λ o. unwrap_or (option_map (λ f. f.patron) o) 0) l.1.1 ∙ ap (λ x. x.patron) l.1.2 in
       ap (λ n. not (n == p)) (sym patron) ∙ sym (ap (λ l. is_first_other H p l) l.0.1)
 
   shelf_fill : (n : ℕ) → place H c ≡ Shelf n → (o : Option HoldRow) → IsFirstOf (picture H) (title_of_copy H c) o → is_of_other o p ≡ false → FillsAs H p c o
   shelf_fill n at None w e = λ h.
-      ap (λ x. fills_from H (place H) (state H) (is_begun H) p c x h) at ∙ ap (λ l. fills_first H (place H) (state H) (is_begun H) p l h) (line_none H inv (title_of_copy H c) w)
+      ap (λ x. fills_from H (place H) (state H) (is_begun H) p c x h) at
+      ∙ ap (λ l. fills_first H (place H) (state H) (is_begun H) p l h) (line_none H inv (title_of_copy H c) w)
   shelf_fill n at (Some q) w e =
-      let l : ((hs : List ℕ) × (line H (title_of_copy H c) ≡ q.hold ∷ hs)) × ((f : HoldFacts) × (hold_of H q.hold ≡ Some f) × (hold_columns H q.hold Waiting f ≡ q)) = line_some H inv (title_of_copy H c) q w in
+      let l : ((hs : List ℕ) × (line H (title_of_copy H c) ≡ q.hold ∷ hs))
+      × ((f : HoldFacts) × (hold_of H q.hold ≡ Some f) × (hold_columns H q.hold Waiting f ≡ q)) =
+      line_some H inv (title_of_copy H c) q w in
       let patron : patron_of_hold H q.hold ≡ q.patron = ap (λ o. unwrap_or (option_map (λ f. f.patron) o) 0) l.1.1 ∙ ap (λ x. x.patron) l.1.2 in
       let own : (q.patron == p) ≡ true = not-false _ e in
       let own' : (patron_of_hold H q.hold == p) ≡ true = ap (λ n. n == p) patron ∙ own in (
-        (λ h. ap (λ x. fills_from H (place H) (state H) (is_begun H) p c x h) at ∙ ap (λ l. fills_first H (place H) (state H) (is_begun H) p l h) l.0.1 ∙ and_true (q.hold == h) _ own'),
+        (λ h. ap (λ x. fills_from H (place H) (state H) (is_begun H) p c x h) at
+            ∙ ap (λ l. fills_first H (place H) (state H) (is_begun H) p l h) l.0.1 ∙ and_true (q.hold == h) _ own'),
         (q, w.0.there, eqb-true _ _ own, w.0.on_title, inl w.0.waits),
         w.0.there,
       )

@@ -12,7 +12,9 @@ use Rattle.terms.specs.declared.row.KeptRow.{KeptRow}
 use Rattle.terms.specs.declared.command.Owner.{Owner}
 use Rattle.terms.specs.Pictures.{Picture, put}
 use Rattle.model.specs.History.{History, today, HoldFacts, hold_of, CopyFacts, copy_of, copies}
-use Rattle.model.specs.Places.{Place, Nowhere, HoldShelf, place, state, line, is_ready, is_kept_for, kept_for, route, route_from, route_to, limit, limit_now, limit_at, unshelved_to, place_unshelved, state_unshelved, goal_of, home_of, title_of_copy, is_begun}
+use Rattle.model.specs.Places.{Place, Nowhere, HoldShelf, place, state, line, is_ready, is_kept_for, kept_for, route, route_from, route_to}
+use Rattle.model.specs.Places.{limit, limit_now, limit_at, unshelved_to, place_unshelved, state_unshelved, goal_of, home_of, title_of_copy}
+use Rattle.model.specs.Places.{is_begun}
 use Rattle.model.specs.Invariant.{Invariant, Serves}
 use Rattle.model.specs.Requests.{IsLegal}
 use Rattle.model.specs.Refusals.{checks, has_branch, has_hold}
@@ -29,7 +31,8 @@ use Rattle.circ_core.specs.Decides.{event}
 use Rattle.circ_core.specs.Holds.{finished}
 use Rattle.circ_core.specs.Routing.{home_in, number_in, readied, arrival_rows, shelf_limit}
 use Rattle.circ_core.specs.Tables.{change, changed, SameRows}
-use Rattle.circ_core.specs.Unshelve.{is_ready_row, limit_in, pickup_branch, unshelve_checks, unshelve_cancelled_checks, course_unshelved, ended_hold, next_limit, unshelve_rows, unshelve_reply}
+use Rattle.circ_core.specs.Unshelve.{is_ready_row, limit_in, pickup_branch, unshelve_checks, unshelve_cancelled_checks, course_unshelved}
+use Rattle.circ_core.specs.Unshelve.{ended_hold, next_limit, unshelve_rows, unshelve_reply}
 use Rattle.circ_core.specs.Views.{IsFirstOf, IsFirstFor, IsBranchView, IsPickupView, IsUnshelveView}
 use Rattle.circ_core.proofs.Arriving.{ready_put, sent_put, arrival_changed, arrive, over, sends, stays_present}
 use Rattle.circ_core.proofs.Claims.{kept-is, hold_row-from, shelf_row}
@@ -49,25 +52,29 @@ module _ (H : History) (inv : Invariant H) (g c : ℕ) (f : CopyFacts) (there : 
   unshelved_moved x = go (is_kept_for (place H x) g) refl (c == x) refl
     where
       go : (y : Bool) → is_kept_for (place H x) g ≡ y → (z : Bool) → (c == x) ≡ z
-          → (elim y as (λ _. Place) [ true ↦ route H x (goal_of H g) | false ↦ place H x ]) ≡ (elim z as (λ _. Place) [ true ↦ route H c (goal_of H g) | false ↦ place H x ])
+          → (elim y as (λ _. Place) [ true ↦ route H x (goal_of H g) | false ↦ place H x ]) ≡ (elim z as (λ _. Place)
+          [ true ↦ route H c (goal_of H g) | false ↦ place H x ])
       go true e true d = ap (λ m. route H m (goal_of H g)) (sym (eqb-true c x d))
       go true e false d =
           let same : c ≡ x = inv.bound.once c x g (serves c at) (serves x (kept-is (place H x) g e)) in
           let on : (c == x) ≡ true = eq-eqb c x same in
           let never : ⊥ = cc in absurd never
       go false e true d =
-          let here : is_kept_for (place H x) g ≡ true = ap (λ m. is_kept_for (place H m) g) (sym (eqb-true c x d)) ∙ ap (λ p. is_kept_for p g) at ∙ eq-eqb g g refl in
+          let here : is_kept_for (place H x) g ≡ true =
+          ap (λ m. is_kept_for (place H m) g) (sym (eqb-true c x d)) ∙ ap (λ p. is_kept_for p g) at ∙ eq-eqb g g refl in
           let never : ⊥ = cc in absurd never
       go false e false d = refl
 
-  module _ (h_facts : HoldFacts) (made : hold_of H g ≡ Some h_facts) (ready : state H g ≡ Some Ready) (ends : HoldState) (final : is_ready (Some ends) ≡ false) (b until : ℕ) where
+  module _ (h_facts : HoldFacts) (made : hold_of H g ≡ Some h_facts) (ready : state H g ≡ Some Ready) (ends : HoldState)
+      (final : is_ready (Some ends) ≡ false) (b until : ℕ) where
     -- The row of the hold that ends.
     abbrev ended_row : HoldRow
     ended_row = finished (hold_columns H g Ready h_facts) ends
 
     abbrev row_at : Bool → Place → ℕ → Option HoldRow
     row_at x q h =
-        hold_by h (hold_of H h) (elim x as (λ _. Option HoldState) [ true ↦ Some ends | false ↦ elim (is_kept_for q h) as (λ _. Option HoldState) [ true ↦ Some Ready | false ↦ state H h ] ])
+        hold_by h (hold_of H h) (elim x as (λ _. Option HoldState)
+        [ true ↦ Some ends | false ↦ elim (is_kept_for q h) as (λ _. Option HoldState) [ true ↦ Some Ready | false ↦ state H h ] ])
         (find (λ y. is_kept_for (moved c q (place H) y) h) (copies H)) (elim (is_kept_for q h) as (λ _. Option ℕ) [ true ↦ limit_now H h | false ↦ limit H h ])
 
     -- A hold that ends has neither copy nor limit.
@@ -91,36 +98,45 @@ module _ (H : History) (inv : Invariant H) (g c : ℕ) (f : CopyFacts) (there : 
     other_hold course.Shelf s x = refl
     other_hold (course.Transit n k) s x = refl
 
-    holds_moved : (way : Course) → Suits H b way → Limits H way until → (h : ℕ) → ready_put way c until (put (hold_row H) g (Some ended_row) h) h ≡ row_at (g == h) (place_by way b) h
+    holds_moved : (way : Course) → Suits H b way → Limits H way until → (h : ℕ)
+        → ready_put way c until (put (hold_row H) g (Some ended_row) h) h ≡ row_at (g == h) (place_by way b) h
     holds_moved way s l h = go (g == h) refl
       where
-        go : (x : Bool) → (g == h) ≡ x → ready_put way c until (elim x as (λ _. Option HoldRow) [ true ↦ Some ended_row | false ↦ hold_row H h ]) h ≡ row_at x (place_by way b) h
+        go : (x : Bool) → (g == h) ≡ x
+            → ready_put way c until (elim x as (λ _. Option HoldRow) [ true ↦ Some ended_row | false ↦ hold_row H h ]) h ≡ row_at x
+            (place_by way b) h
         go true e =
             subst (λ m. ready_put way c until (Some ended_row) m ≡ row_at true (place_by way b) m) (eqb-true g h e)
             (other_hold way s (Some ended_row)
-            ∙ ended_at (find (λ y. is_kept_for (moved c (place_by way b) (place H) y) g) (copies H)) (elim (is_kept_for (place_by way b) g) as (λ _. Option ℕ) [ true ↦ limit_now H g | false ↦ limit H g ]))
+            ∙ ended_at (find (λ y. is_kept_for (moved c (place_by way b) (place H) y) g) (copies H))
+            (elim (is_kept_for (place_by way b) g) as (λ _. Option ℕ) [ true ↦ limit_now H g | false ↦ limit H g ]))
         go false e = arrive H inv c f there b until way s l h (ap (λ p. is_kept_for p h) at ∙ e)
 
     -- The rows of the holds are those that the history has, once the hold has ended.
     pub holds_lead : (way : Course) → LeadsTo H b way (route H c (goal_of H g)) → Limits H way until → (h : ℕ)
         → ready_put way c until (put (hold_row H) g (Some ended_row) h) h
-        ≡ hold_by h (hold_of H h) (state_unshelved H (place H) (state H) (is_begun H) g ends (kept_for H g) h) (find (λ y. is_kept_for (place_unshelved H (place H) (state H) (is_begun H) g y) h) (copies H))
+        ≡ hold_by h (hold_of H h) (state_unshelved H (place H) (state H) (is_begun H) g ends (kept_for H g) h)
+        (find (λ y. is_kept_for (place_unshelved H (place H) (state H) (is_begun H) g y) h) (copies H))
         (limit_at H (unshelved_to H g (kept_for H g)) h (limit H h))
     holds_lead way to l h =
         holds_moved way to.1 l h
         ∙ ap (λ q. row_at (g == h) q h) to.0
-        ∙ ap (λ k. hold_by h (hold_of H h) (state_unshelved H (place H) (state H) (is_begun H) g ends (Some c) h) k (limit_at H (route H c (goal_of H g)) h (limit H h)))
+        ∙ ap (λ k. hold_by h (hold_of H h) (state_unshelved H (place H) (state H) (is_begun H) g ends (Some c) h) k
+        (limit_at H (route H c (goal_of H g)) h (limit H h)))
         (sym (find-same _ _ (λ y. ap (λ p. is_kept_for p h) (unshelved_moved y)) (copies H)))
-        ∙ ap (λ o. hold_by h (hold_of H h) (state_unshelved H (place H) (state H) (is_begun H) g ends o h) (find (λ y. is_kept_for (place_unshelved H (place H) (state H) (is_begun H) g y) h) (copies H))
+        ∙ ap (λ o. hold_by h (hold_of H h) (state_unshelved H (place H) (state H) (is_begun H) g ends o h)
+        (find (λ y. is_kept_for (place_unshelved H (place H) (state H) (is_begun H) g y) h) (copies H))
         (limit_at H (unshelved_to H g o) h (limit H h))) (sym (shelf_row H inv c f there g at).3)
 
-    pub transits_lead : (way : Course) → LeadsTo H b way (route H c (goal_of H g)) → (x : ℕ) → sent_put way c (transit_row H x) x ≡ transit_at x (place_unshelved H (place H) (state H) (is_begun H) g x)
+    pub transits_lead : (way : Course) → LeadsTo H b way (route H c (goal_of H g)) → (x : ℕ)
+        → sent_put way c (transit_row H x) x ≡ transit_at x (place_unshelved H (place H) (state H) (is_begun H) g x)
     transits_lead way to x =
         sends H c b way (transit_row H) (over way (transit_row H c) (ap (λ p. transit_at c p) at)) (λ y e. refl) x
         ∙ ap (λ q. transit_at x (moved c q (place H) x)) to.0
         ∙ ap (λ p. transit_at x p) (sym (unshelved_moved x))
 
-    pub copies_lead : (way : Course) → LeadsTo H b way (route H c (goal_of H g)) → (x : ℕ) → condition_at (place H x) ≡ condition_at (place_unshelved H (place H) (state H) (is_begun H) g x)
+    pub copies_lead : (way : Course) → LeadsTo H b way (route H c (goal_of H g)) → (x : ℕ)
+        → condition_at (place H x) ≡ condition_at (place_unshelved H (place H) (state H) (is_begun H) g x)
     copies_lead way to x =
         stays_present H c b way (ap condition_at at) x
         ∙ ap (λ q. condition_at (moved c q (place H) x)) to.0
@@ -139,7 +155,8 @@ module _ (H : History) (legal : IsLegal H) (g : ℕ) (v : View) (w : IsUnshelveV
   unknown_same : is_none v.hold ≡ not (has_hold H Desk g)
   unknown_same = ap is_none w.hold ∙ go (hold_of H g) refl (state H g) refl
     where
-      go : (o : Option HoldFacts) → hold_of H g ≡ o → (s : Option HoldState) → state H g ≡ s → is_none (option_and_then (λ t. option_map (hold_columns H g t) o) s) ≡ not (is_some o && true)
+      go : (o : Option HoldFacts) → hold_of H g ≡ o → (s : Option HoldState) → state H g ≡ s
+          → is_none (option_and_then (λ t. option_map (hold_columns H g t) o) s) ≡ not (is_some o && true)
       go (Some f) e (Some s) d = refl
       go (Some f) e None d = let r : (s : HoldState) × (state H g ≡ Some s) = inv.stated g f e in let never : ⊥ = cc in absurd never
       go None e (Some s) d = let r : (f : HoldFacts) × (hold_of H g ≡ Some f) = inv.placed g s d in let never : ⊥ = cc in absurd never
@@ -209,7 +226,8 @@ module _ (H : History) (legal : IsLegal H) (g : ℕ) (v : View) (w : IsUnshelveV
                   ∙ ap (λ o. option_map (copy_columns H c) o) e
                   ),
             )
-        go c at None e = let gone : place H c ≡ Nowhere = inv.unknown c e in let clash : Nowhere ≡ HoldShelf g = sym gone ∙ at in let never : ⊥ = cc in absurd never
+        go c at None e = let gone : place H c ≡ Nowhere = inv.unknown c e in let clash : Nowhere ≡ HoldShelf g = sym gone ∙ at in
+            let never : ⊥ = cc in absurd never
 
     abbrev way : Course
     way = course_unshelved v
@@ -223,7 +241,8 @@ module _ (H : History) (legal : IsLegal H) (g : ℕ) (v : View) (w : IsUnshelveV
     here_is : IsBranchView (picture H) branch v.branch v.calendar
     here_is = go v.hold k.3 w.here
       where
-        go : (o : Option HoldRow) → o ≡ Some (hold_columns H g Ready k.0) → IsPickupView (picture H) o v.branch v.calendar → IsBranchView (picture H) (pickup_branch o) v.branch v.calendar
+        go : (o : Option HoldRow) → o ≡ Some (hold_columns H g Ready k.0) → IsPickupView (picture H) o v.branch v.calendar
+            → IsBranchView (picture H) (pickup_branch o) v.branch v.calendar
         go (Some r) e x = x
         go None e x = let never : ⊥ = cc in absurd never
 
@@ -244,8 +263,10 @@ module _ (H : History) (legal : IsLegal H) (g : ℕ) (v : View) (w : IsUnshelveV
       to_there =
           let home : home_in v.copy ≡ home_of H s.0 = ap home_in s.5 ∙ sym (ap (λ o. unwrap_or (option_map (λ r. r.home) o) 0) s.3) in
           let title : s.1.title ≡ title_of_copy H s.0 = sym (ap (λ o. unwrap_or (option_map (λ r. r.title) o) 0) s.3) in
-          let first : IsFirstOf (picture H) (title_of_copy H s.0) v.first = subst (λ t. IsFirstOf (picture H) t v.first) title (subst (λ o. IsFirstFor (picture H) o v.first) s.5 w.first) in
-          let r : LeadsTo H branch way (route_to H (place H) (state H) (is_begun H) s.0 branch (line H (title_of_copy H s.0))) = by_line H inv s.0 branch (home_in v.copy) home v.first first in (
+          let first : IsFirstOf (picture H) (title_of_copy H s.0) v.first =
+          subst (λ t. IsFirstOf (picture H) t v.first) title (subst (λ o. IsFirstFor (picture H) o v.first) s.5 w.first) in
+          let r : LeadsTo H branch way (route_to H (place H) (state H) (is_begun H) s.0 branch (line H (title_of_copy H s.0))) =
+          by_line H inv s.0 branch (home_in v.copy) home v.first first in (
             r.0
                 ∙ ap (λ n. route_to H (place H) (state H) (is_begun H) s.0 n (line H (title_of_copy H s.0))) branch_is
                 ∙ sym (ap (λ p. route_from H (place H) (state H) (is_begun H) s.0 (goal_of H g) p) s.2),
@@ -277,10 +298,19 @@ module _ (H : History) (legal : IsLegal H) (g : ℕ) (v : View) (w : IsUnshelveV
       abbrev tables_after : HoldState → (Owner → List ℕ → Option KeptRow) → Picture
       tables_after ends kept = record (picture H) {
         copies = λ n. option_map
-            (λ r. record { copy = n; title = r.title; kind = r.kind; home = r.home; price = r.price; condition = condition_at (place_unshelved H (place H) (state H) (is_begun H) g n) })
+            (λ r. record {
+              copy = n;
+              title = r.title;
+              kind = r.kind;
+              home = r.home;
+              price = r.price;
+              condition
+                  = condition_at (place_unshelved H (place H) (state H) (is_begun H) g n);
+            })
             (copy_of H n);
         holds = λ h. hold_by h (hold_of H h) (state_unshelved H (place H) (state H) (is_begun H) g ends (kept_for H g) h)
-            (find (λ y. is_kept_for (place_unshelved H (place H) (state H) (is_begun H) g y) h) (copies H)) (limit_at H (unshelved_to H g (kept_for H g)) h (limit H h));
+            (find (λ y. is_kept_for (place_unshelved H (place H) (state H) (is_begun H) g y) h) (copies H))
+            (limit_at H (unshelved_to H g (kept_for H g)) h (limit H h));
         transits = λ n. transit_at n (place_unshelved H (place H) (state H) (is_begun H) g n);
         kept = kept;
       }
@@ -298,7 +328,8 @@ module _ (H : History) (legal : IsLegal H) (g : ℕ) (v : View) (w : IsUnshelveV
             rules1 = λ _ _. refl;
             patrons = λ _. refl;
             titles = λ _. refl;
-            copies = λ n. ap (λ x. option_map (λ r. record { copy = n; title = r.title; kind = r.kind; home = r.home; price = r.price; condition = x }) (copy_of H n))
+            copies = λ n. ap (λ x. option_map
+                (λ r. record { copy = n; title = r.title; kind = r.kind; home = r.home; price = r.price; condition = x }) (copy_of H n))
                 (copies_lead H inv g s.0 s.1 s.3 s.2 k.0 k.2 k.1 ends final branch until way to_there n);
             loans = λ _. refl;
             loans1 = λ _. refl;
@@ -341,7 +372,8 @@ module _ (H : History) (legal : IsLegal H) (g : ℕ) (v : View) (w : IsUnshelveV
     leads = λ ok. let p = passed (checks H Desk (Unshelve g)) ok in let k : IsThere Ready = stands_ready p.0 p.1.0 in expired_lead k (on_shelf k);
   }
 
-  pub unshelve_cancelled_meets : Meets H (UnshelveCancelled g) (unshelve_cancelled_checks v) (unshelve_reply v (next_limit v)) (unshelve_rows v Cancelled (next_limit v))
+  pub unshelve_cancelled_meets : Meets H (UnshelveCancelled g) (unshelve_cancelled_checks v) (unshelve_reply v (next_limit v))
+      (unshelve_rows v Cancelled (next_limit v))
   unshelve_cancelled_meets = record {
     same = cancelled_same;
     due = λ ok. let p = passed (checks H Desk (UnshelveCancelled g)) ok in let k : IsThere Ready = stands_ready p.0 p.1.0 in reply_same k (on_shelf k);

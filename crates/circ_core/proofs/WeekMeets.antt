@@ -34,7 +34,8 @@ module _ (H : History) (b : ℕ) (closed : List Bool) where
       go true e = let same : b ≡ n = eqb-true b n e in let there' : branch_of H n ≡ Some r = rw same at there in rw (there', same) refl
       go false e = refl
 
-  week_leads : (o : Option BranchFacts) → branch_of H b ≡ o → not (is_some o) ≡ false → Leads H (Week b closed) (week_rows (option_map (branch_columns H b) o) closed)
+  week_leads : (o : Option BranchFacts) → branch_of H b ≡ o → not (is_some o) ≡ false
+      → Leads H (Week b closed) (week_rows (option_map (branch_columns H b) o) closed)
   week_leads (Some r) e ok owner key = record {
     meta = refl;
     branches = week_set r e;

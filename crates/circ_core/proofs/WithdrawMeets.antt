@@ -32,8 +32,15 @@ module _ (H : History) (inv : Invariant H) (c : ℕ) (v : View) (w : IsCopyView 
         let r : (x : CopyFacts) × (copy_of H c ≡ Some x) = some-is (copy_of H c) p13 in (
           refl,
           (ap is_withdrawn_row (copy_is r.0 r.1) ∙ withdrawn_at H c r.0 (place H c)),
-          λ p35.
-              (refl, loan_claims H inv c v.loan w.loan, λ p31. (refl, transit_claims H inv c v.transit w.transit, λ p32. (refl, shelf_claims H inv c r.0 r.1 v.hold w.hold, λ p33. tt))),
+          λ p35. (
+            refl,
+            loan_claims H inv c v.loan w.loan,
+            λ p31. (
+              refl,
+              transit_claims H inv c v.transit w.transit,
+              λ p32. (refl, shelf_claims H inv c r.0 r.1 v.hold w.hold, λ p33. tt),
+            ),
+          ),
         ),
   )
 

@@ -5,7 +5,9 @@ use Rattle.terms.specs.declared.reply.Reply.TheVariants.{Done, Held, Lent, Owed}
 use Rattle.terms.specs.declared.row.Sort.TheVariants.{Payment, Waiver}
 use Rattle.terms.specs.declared.row.HoldState.TheVariants.{Cancelled, Expired}
 use Rattle.terms.specs.declared.command.Command.{Command}
-use Rattle.terms.specs.declared.command.Command.TheVariants.{BeginDay, Branch, Week, Kind, Rule, Grace, Patron, Acquire, CheckOut, CheckIn, Renew, PlaceHold, CancelHold, Unshelve, UnshelveCancelled, Missing, Withdraw, CloseDay, OpenDay, Pay, Waive, Page}
+use Rattle.terms.specs.declared.command.Command.TheVariants.{BeginDay, Branch, Week, Kind, Rule, Grace, Patron, Acquire, CheckOut, CheckIn}
+use Rattle.terms.specs.declared.command.Command.TheVariants.{Renew, PlaceHold, CancelHold, Unshelve, UnshelveCancelled, Missing, Withdraw}
+use Rattle.terms.specs.declared.command.Command.TheVariants.{CloseDay, OpenDay, Pay, Waive, Page}
 use Rattle.circ_core.specs.declared.changes.Decision.{Decision}
 use Rattle.circ_core.specs.declared.views.View.{View}
 use Rattle.circ_core.specs.Decided.{Decided}
@@ -50,7 +52,8 @@ DecidesOn v (CheckOut patron copy branch) decided =
 DecidesOn v (CheckIn copy branch) decided =
     Decided (check_in_checks v branch) (check_in_reply v branch (check_in_limit v branch)) (check_in_rows v copy branch (check_in_limit v branch)) decided
 DecidesOn v (Renew loan) decided = Decided (renew_checks v) (Lent loan (renewed_due_in v)) (renewed_rows v.loan (renewed_due_in v)) decided
-DecidesOn v (PlaceHold patron title branch first_day) decided = Decided (place_hold_checks v first_day) (Held v.meta.next_hold) (place_hold_rows v patron title branch first_day) decided
+DecidesOn v (PlaceHold patron title branch first_day) decided =
+    Decided (place_hold_checks v first_day) (Held v.meta.next_hold) (place_hold_rows v patron title branch first_day) decided
 DecidesOn v (CancelHold hold) decided = Decided (cancel_hold_checks v) Done (cancel_hold_rows v) decided
 DecidesOn v (Unshelve hold) decided = Decided (unshelve_checks v) (unshelve_reply v (next_limit v)) (unshelve_rows v Expired (next_limit v)) decided
 DecidesOn v (UnshelveCancelled hold) decided =

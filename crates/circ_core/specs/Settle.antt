@@ -25,7 +25,8 @@ new_line meta patron sort amount = record { line = meta.next_line; patron = patr
 -- The next number is given, the patron owes so much less, and the line is made.
 abbrev pub settled : MetaRow → Option PatronRow → ℕ → Sort → ℕ → List RowChange
 settled meta (Some row) patron sort amount =
-    PutMeta (record meta { next_line = meta.next_line + 1 }) ∷ PutPatron (record row { owed = row.owed - amount }) ∷ PutLine (new_line meta patron sort amount) ∷ []
+    PutMeta (record meta { next_line = meta.next_line + 1 }) ∷ PutPatron (record row { owed = row.owed - amount })
+    ∷ PutLine (new_line meta patron sort amount) ∷ []
 settled meta None patron sort amount = []
 
 abbrev pub settle_rows : View → ℕ → Sort → ℕ → List RowChange

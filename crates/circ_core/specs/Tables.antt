@@ -2,7 +2,9 @@
 use Rattle.std.specs.Prelude.{◌≡◌, ℕ, true, false, List, [], ◌∷◌, Option, Some, None}
 use Rattle.terms.specs.Pictures.{Picture, put, put_pair}
 use Rattle.circ_core.specs.declared.changes.RowChange.{RowChange}
-use Rattle.circ_core.specs.declared.changes.RowChange.TheVariants.{PutMeta, PutBranch, PutClosedDay, TakeClosedDay, PutKind, PutRule, PutPatron, PutTitle, PutCopy, PutLoan, PutHold, PutTransit, TakeTransit, PutLine}
+use Rattle.circ_core.specs.declared.changes.RowChange.TheVariants.{PutMeta, PutBranch, PutClosedDay, TakeClosedDay, PutKind, PutRule}
+use Rattle.circ_core.specs.declared.changes.RowChange.TheVariants.{PutPatron, PutTitle, PutCopy, PutLoan, PutHold, PutTransit, TakeTransit}
+use Rattle.circ_core.specs.declared.changes.RowChange.TheVariants.{PutLine}
 
 -- The tables after one change: one row of one table is put whole, or taken away, by its key.
 abbrev pub change : RowChange → Picture → Picture

@@ -47,7 +47,8 @@ fn find_again<'a>(copy: &Option<CopyRow>) -> Changes<'a>
 
 /// The row that changes where the copy was: a loan, a travel, or among the missing.
 fn leave<'a>(view: &View, course: &Course, copy: CopyId, today: Day) -> Changes<'a>
-    ensures rows { result ≡ left_rows view.now.loan view.now.transit view.now.copy course.now copy today }
+    ensures rows { result
+        ≡ left_rows view.now.loan view.now.transit view.now.copy course.now copy today }
     ensures few { length result ≤ 1 }
 {
     match &view.loan {

@@ -7,7 +7,8 @@ ghost use Rattle.terms.specs.declared.reply.Reply.TheVariants.{Lent};
 ghost use Rattle.model.specs.Checks.{first_failing};
 ghost use Rattle.circ_core.specs.CheckOut.{stands_at, is_of_other, filled_hold, is_wanted};
 ghost use Rattle.circ_core.specs.CheckOut.{has_more, loans_allowed, check_out_checks, period_of};
-ghost use Rattle.circ_core.specs.CheckOut.{renewals_of, rate_of, cap_of, grace_in, loan_due, due_in};
+ghost use Rattle.circ_core.specs.CheckOut.{renewals_of, rate_of, cap_of, grace_in, loan_due};
+ghost use Rattle.circ_core.specs.CheckOut.{due_in};
 ghost use Rattle.circ_core.specs.CheckOut.{check_out_rows, new_loan};
 ghost use Rattle.circ_core.specs.Renew.{is_late};
 

@@ -44,11 +44,16 @@ module _ (more : List Table) (others : List Index) where
   meta_selects = (_, _, refl)
 
   -- so that it is not refused as a text
-  pub meta_understood : (old new : State) (f : CompileError) → old.now.schema ≡ grown more others → FailsToQuery all_meta_text [] old new (SqlInputError f) ⊎ IsTooLate all_meta_text [] old new (SqlInputError f) → ⊥
+  pub meta_understood : (old new : State) (f : CompileError) → old.now.schema ≡ grown more others
+      → FailsToQuery all_meta_text [] old new (SqlInputError f) ⊎ IsTooLate all_meta_text [] old new (SqlInputError f) → ⊥
   unfolding FailsToQuery IsNotRun
   meta_understood old new f is (inl (inl (inl h))) = elim h.0 [
     | inl bad ↦ subst IsPlain bad.1 (all_meta_plain more others old.now.schema is)
-    | inr other ↦ elim other.2 [ inl many ↦ let e = many.1 in cc | inr more ↦ elim more [ inl given ↦ let e = given.1 in cc | inr clock ↦ let e = clock.1 in cc ] ]
+    | inr other ↦ elim other.2 [
+      | inl many ↦ let e = many.1 in cc
+      | inr more ↦ elim more
+          [ inl given ↦ let e = given.1 in cc | inr clock ↦ let e = clock.1 in cc ]
+    ]
   ]
   meta_understood old new f is (inl (inl (inr h))) = not_store h.0 f h.1
   meta_understood old new f is (inl (inr h)) =
@@ -60,7 +65,8 @@ module _ (more : List Table) (others : List Index) where
   meta_understood old new f is (inr late) = let e = late.4 in cc
 
   -- where the one row names a schema, it alone is shown
-  pub named_alone : (old new : State) (rows : List Row) → Shown all_meta_text [] old new rows → (maps : Maps) → Holds (grown more others) old.now maps → (n : ℕ) → (names : NamesSchema maps n) → rows ≡ names.row ∷ []
+  pub named_alone : (old new : State) (rows : List Row) → Shown all_meta_text [] old new rows → (maps : Maps)
+      → Holds (grown more others) old.now maps → (n : ℕ) → (names : NamesSchema maps n) → rows ≡ names.row ∷ []
   named_alone old new rows h maps holds n names = only_meta more others old new rows h maps holds names.key names.row names.there names.alone
 
   -- and it has the column of the number

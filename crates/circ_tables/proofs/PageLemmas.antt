@@ -34,7 +34,8 @@ there most m good rows first v has = let at = first.sound v has in (at.0, at.1)
 -- ---- what is kept, by callers and keys
 
 -- a row of such a page is one of the map
-pub kept_there : (good : Row → _) (m : Map) (rows : List Row) → FirstRowsBy PairBelow PAGE_ROWS m good rows → (v : Row) → Has rows v → (k : Row) × (m k ≡ Some v)
+pub kept_there : (good : Row → _) (m : Map) (rows : List Row) → FirstRowsBy PairBelow PAGE_ROWS m good rows → (v : Row) → Has rows v
+    → (k : Row) × (m k ≡ Some v)
 kept_there good m rows first v has = let at = first.sound v has in (at.0, at.1)
 
 abbrev first_kept_text : List ℕ
@@ -43,17 +44,22 @@ first_kept_text = FIRST_KEPT_TEXT.now
 abbrev first_kept_tests : List Term
 first_kept_tests = []
 
-first_kept_is : (command_of (understood schema first_kept_text) ≡ Select (record { lets = []; body = in_order_up_to kept.tree first_kept_tests (each_column 1 kept) by_pair (lit (Int (pos PAGE_ROWS))) }) (names_of kept)) × IsPlain (understood schema first_kept_text) × (reads_listing schema first_kept_text ≡ false)
+first_kept_is : (command_of (understood schema first_kept_text) ≡ Select
+    (record { lets = []; body = in_order_up_to kept.tree first_kept_tests (each_column 1 kept) by_pair (lit (Int (pos PAGE_ROWS))) })
+    (names_of kept)) × IsPlain (understood schema first_kept_text) × (reads_listing schema first_kept_text ≡ false)
 unfolding understood everything
 first_kept_is = (refl, (refl, refl), refl)
 
 pub first_kept_plain : (s : Schema) → s ≡ schema → IsPlain (understood s first_kept_text)
 first_kept_plain s e = subst (λ z. IsPlain (understood z first_kept_text)) (sym e) first_kept_is.1
 
-pub first_kept_found : (old new : State) (rows : List Row) → Shown first_kept_text ([]) old new rows → (maps : Maps) → Holds schema old.now maps → FirstRowsBy PairBelow PAGE_ROWS (maps kept_place) is_any rows × IsUnchanged old new
+pub first_kept_found : (old new : State) (rows : List Row) → Shown first_kept_text ([]) old new rows → (maps : Maps)
+    → Holds schema old.now maps → FirstRowsBy PairBelow PAGE_ROWS (maps kept_place) is_any rows × IsUnchanged old new
 first_kept_found =
-    page_sorted kept first_kept_tests by_pair ([]) is_any (λ r. refl) (λ r. refl) PairBelow PAGE_ROWS (λ x y p q _ _ tie. pair_tells (column x 1) (column x 2) (column y 1) (column y 2) p q tie)
-    (λ x y less. pair_below (column x 1) (column x 2) (column y 1) (column y 2) less) (λ l. refl) schema kept_place (names_of kept) first_kept_text refl first_kept_is.0 first_kept_is.1 first_kept_is.2
+    page_sorted kept first_kept_tests by_pair ([]) is_any (λ r. refl) (λ r. refl) PairBelow PAGE_ROWS
+    (λ x y p q _ _ tie. pair_tells (column x 1) (column x 2) (column y 1) (column y 2) p q tie)
+    (λ x y less. pair_below (column x 1) (column x 2) (column y 1) (column y 2) less) (λ l. refl) schema kept_place
+    (names_of kept) first_kept_text refl first_kept_is.0 first_kept_is.1 first_kept_is.2
 
 abbrev kept_after_text : List ℕ
 kept_after_text = KEPT_AFTER_TEXT.now
@@ -61,17 +67,23 @@ kept_after_text = KEPT_AFTER_TEXT.now
 abbrev kept_after_tests : List Term
 kept_after_tests = op2 (Compare Eq Binary) (col 1 1) (col 0 0) ∷ op2 (Compare Gt Binary) (col 1 2) (col 0 1) ∷ []
 
-kept_after_is : (command_of (understood schema kept_after_text) ≡ Select (record { lets = []; body = in_order_up_to kept.tree kept_after_tests (each_column 1 kept) by_pair (lit (Int (pos PAGE_ROWS))) }) (names_of kept)) × IsPlain (understood schema kept_after_text) × (reads_listing schema kept_after_text ≡ false)
+kept_after_is : (command_of (understood schema kept_after_text) ≡ Select
+    (record { lets = []; body = in_order_up_to kept.tree kept_after_tests (each_column 1 kept) by_pair (lit (Int (pos PAGE_ROWS))) })
+    (names_of kept)) × IsPlain (understood schema kept_after_text) × (reads_listing schema kept_after_text ≡ false)
 unfolding understood everything
 kept_after_is = (refl, (refl, refl), refl)
 
 pub kept_after_plain : (s : Schema) → s ≡ schema → IsPlain (understood s kept_after_text)
 kept_after_plain s e = subst (λ z. IsPlain (understood z kept_after_text)) (sym e) kept_after_is.1
 
-pub kept_after_found : (a : ℕ) (b : List ℕ) → (old new : State) (rows : List Row) → Shown kept_after_text (Int (pos a) ∷ Text b ∷ []) old new rows → (maps : Maps) → Holds schema old.now maps → FirstRowsBy PairBelow PAGE_ROWS (maps kept_place) (is_kept_after a b) rows × IsUnchanged old new
+pub kept_after_found : (a : ℕ) (b : List ℕ) → (old new : State) (rows : List Row)
+    → Shown kept_after_text (Int (pos a) ∷ Text b ∷ []) old new rows → (maps : Maps) → Holds schema old.now maps
+    → FirstRowsBy PairBelow PAGE_ROWS (maps kept_place) (is_kept_after a b) rows × IsUnchanged old new
 kept_after_found a b =
-    page_sorted kept kept_after_tests by_pair (Int (pos a) ∷ Text b ∷ []) (is_kept_after a b) (λ r. refl) (λ r. refl) PairBelow PAGE_ROWS (λ x y p q _ _ tie. pair_tells (column x 1) (column x 2) (column y 1) (column y 2) p q tie)
-    (λ x y less. pair_below (column x 1) (column x 2) (column y 1) (column y 2) less) (λ l. refl) schema kept_place (names_of kept) kept_after_text refl kept_after_is.0 kept_after_is.1 kept_after_is.2
+    page_sorted kept kept_after_tests by_pair (Int (pos a) ∷ Text b ∷ []) (is_kept_after a b) (λ r. refl) (λ r. refl) PairBelow PAGE_ROWS
+    (λ x y p q _ _ tie. pair_tells (column x 1) (column x 2) (column y 1) (column y 2) p q tie)
+    (λ x y less. pair_below (column x 1) (column x 2) (column y 1) (column y 2) less) (λ l. refl) schema kept_place
+    (names_of kept) kept_after_text refl kept_after_is.0 kept_after_is.1 kept_after_is.2
 
 abbrev kept_past_text : List ℕ
 kept_past_text = KEPT_PAST_TEXT.now
@@ -79,14 +91,19 @@ kept_past_text = KEPT_PAST_TEXT.now
 abbrev kept_past_tests : List Term
 kept_past_tests = op2 (Compare Gt Binary) (col 1 1) (col 0 0) ∷ []
 
-kept_past_is : (command_of (understood schema kept_past_text) ≡ Select (record { lets = []; body = in_order_up_to kept.tree kept_past_tests (each_column 1 kept) by_pair (lit (Int (pos PAGE_ROWS))) }) (names_of kept)) × IsPlain (understood schema kept_past_text) × (reads_listing schema kept_past_text ≡ false)
+kept_past_is : (command_of (understood schema kept_past_text) ≡ Select
+    (record { lets = []; body = in_order_up_to kept.tree kept_past_tests (each_column 1 kept) by_pair (lit (Int (pos PAGE_ROWS))) })
+    (names_of kept)) × IsPlain (understood schema kept_past_text) × (reads_listing schema kept_past_text ≡ false)
 unfolding understood everything
 kept_past_is = (refl, (refl, refl), refl)
 
 pub kept_past_plain : (s : Schema) → s ≡ schema → IsPlain (understood s kept_past_text)
 kept_past_plain s e = subst (λ z. IsPlain (understood z kept_past_text)) (sym e) kept_past_is.1
 
-pub kept_past_found : (a : ℕ) → (old new : State) (rows : List Row) → Shown kept_past_text (Int (pos a) ∷ []) old new rows → (maps : Maps) → Holds schema old.now maps → FirstRowsBy PairBelow PAGE_ROWS (maps kept_place) (is_after a) rows × IsUnchanged old new
+pub kept_past_found : (a : ℕ) → (old new : State) (rows : List Row) → Shown kept_past_text (Int (pos a) ∷ []) old new rows → (maps : Maps)
+    → Holds schema old.now maps → FirstRowsBy PairBelow PAGE_ROWS (maps kept_place) (is_after a) rows × IsUnchanged old new
 kept_past_found a =
-    page_sorted kept kept_past_tests by_pair (Int (pos a) ∷ []) (is_after a) (λ r. refl) (λ r. refl) PairBelow PAGE_ROWS (λ x y p q _ _ tie. pair_tells (column x 1) (column x 2) (column y 1) (column y 2) p q tie)
-    (λ x y less. pair_below (column x 1) (column x 2) (column y 1) (column y 2) less) (λ l. refl) schema kept_place (names_of kept) kept_past_text refl kept_past_is.0 kept_past_is.1 kept_past_is.2
+    page_sorted kept kept_past_tests by_pair (Int (pos a) ∷ []) (is_after a) (λ r. refl) (λ r. refl) PairBelow PAGE_ROWS
+    (λ x y p q _ _ tie. pair_tells (column x 1) (column x 2) (column y 1) (column y 2) p q tie)
+    (λ x y less. pair_below (column x 1) (column x 2) (column y 1) (column y 2) less) (λ l. refl) schema kept_place
+    (names_of kept) kept_past_text refl kept_past_is.0 kept_past_is.1 kept_past_is.2

@@ -38,27 +38,38 @@ module _ {s : Schema} {at : ℕ} {t : Table} (is : IsPaired s at t) where
   key_is r = ap (map (column r)) is.primary
 
   -- the row of a key
-  pub pair_gets : (a b : Value) → is_plain a ≡ true → is_plain b ≡ true → (old new : State) (o : Option Row) → FindsRow (get_text t) (a ∷ b ∷ []) old new o → (maps : Maps) → Holds s old.now maps → (maps at (a ∷ b ∷ []) ≡ o) × IsUnchanged old new
+  pub pair_gets : (a b : Value) → is_plain a ≡ true → is_plain b ≡ true → (old new : State) (o : Option Row)
+      → FindsRow (get_text t) (a ∷ b ∷ []) old new o → (maps : Maps) → Holds s old.now maps → (maps at (a ∷ b ∷ []) ≡ o)
+      × IsUnchanged old new
   pair_gets a b p q =
-      get_row s at t is.fixed.listed by_key (each_column 1 t) (a ∷ b ∷ []) (a ∷ b ∷ []) (finds_two t a b is.primary p q) (is.shows (a ∷ b ∷ [])) (names_of t) (get_text t)
+      get_row s at t is.fixed.listed by_key (each_column 1 t) (a ∷ b ∷ []) (a ∷ b ∷ []) (finds_two t a b is.primary p q)
+      (is.shows (a ∷ b ∷ [])) (names_of t) (get_text t)
       is.get.command_is is.get.bare is.get.unlisted
 
   -- a row is put, and one is taken
-  pub pair_puts : are_apart s.tables ≡ true → (a b : Value) (cells : Row) → Fills t cells (put_terms t) (put_shows t) (length t.columns + 1) (length t.columns) (a ∷ b ∷ []) cells
+  pub pair_puts : are_apart s.tables ≡ true → (a b : Value) (cells : Row)
+      → Fills t cells (put_terms t) (put_shows t) (length t.columns + 1) (length t.columns) (a ∷ b ∷ []) cells
       → (old new : State) → (count : ℕ) × ExecutesInside 0 (put_text t) cells old new (Ok count) → Steps s old new (λ maps. put_at maps at (a ∷ b ∷ []) cells)
   pair_puts apart a b cells fills old new done =
-      put_steps s apart at t is.fixed cells (put_terms t) (put_shows t) (length t.columns + 1) (length t.columns) (a ∷ b ∷ []) cells fills (put_text t) is.put.command_is is.put.bare old new done.0 done.1
+      put_steps s apart at t is.fixed cells (put_terms t) (put_shows t) (length t.columns + 1) (length t.columns) (a ∷ b ∷ []) cells fills
+      (put_text t) is.put.command_is is.put.bare old new done.0 done.1
 
-  pub pair_takes : are_apart s.tables ≡ true → (a b : Value) → is_plain a ≡ true → is_plain b ≡ true → (old new : State) → (count : ℕ) × ExecutesInside 0 (take_text t) (a ∷ b ∷ []) old new (Ok count) → Steps s old new (λ maps. take_at maps at (a ∷ b ∷ []))
-  pair_takes apart a b p q old new done = take_steps s at t is.fixed by_key (a ∷ b ∷ []) (a ∷ b ∷ []) (finds_two t a b is.primary p q) apart (take_text t) is.take.command_is is.take.bare old new done.0 done.1
+  pub pair_takes : are_apart s.tables ≡ true → (a b : Value) → is_plain a ≡ true → is_plain b ≡ true → (old new : State) → (count : ℕ)
+      × ExecutesInside 0 (take_text t) (a ∷ b ∷ []) old new (Ok count) → Steps s old new (λ maps. take_at maps at (a ∷ b ∷ []))
+  pair_takes apart a b p q old new done =
+      take_steps s at t is.fixed by_key (a ∷ b ∷ []) (a ∷ b ∷ []) (finds_two t a b is.primary p q) apart
+      (take_text t) is.take.command_is is.take.bare old new done.0 done.1
 
   -- all rows
-  pub pair_listed : (old new : State) (rows : List Row) → Shown (all_text t) [] old new rows → (maps : Maps) → Holds s old.now maps → ListedBy PairBelow (maps at) is_any rows × IsUnchanged old new
+  pub pair_listed : (old new : State) (rows : List Row) → Shown (all_text t) [] old new rows → (maps : Maps) → Holds s old.now maps
+      → ListedBy PairBelow (maps at) is_any rows × IsUnchanged old new
   pair_listed =
       sorted_found t [] by_pair [] is_any (λ r. refl) (is.shows []) PairBelow
       (λ x y p q _ _ tie.
-      key_is x ∙ pair_tells (column x 1) (column x 2) (column y 1) (column y 2) (sym (ap (list_all is_plain) (key_is x)) ∙ p) (sym (ap (list_all is_plain) (key_is y)) ∙ q) tie ∙ sym (key_is y))
-      (λ x y less. rw (is.first_cell x, is.first_cell y, is.second_cell x, is.second_cell y) (pair_below (column x 1) (column x 2) (column y 1) (column y 2) less))
+      key_is x ∙ pair_tells (column x 1) (column x 2) (column y 1) (column y 2) (sym (ap (list_all is_plain) (key_is x)) ∙ p)
+      (sym (ap (list_all is_plain) (key_is y)) ∙ q) tie ∙ sym (key_is y))
+      (λ x y less. rw (is.first_cell x, is.first_cell y, is.second_cell x, is.second_cell y)
+      (pair_below (column x 1) (column x 2) (column y 1) (column y 2) less))
       s at (names_of t) (all_text t) is.fixed.listed is.all.command_is is.all.bare is.all.unlisted
 
   -- a row is found under the columns of its key
@@ -69,12 +80,23 @@ module _ {s : Schema} {at : ℕ} {t : Table} (is : IsPaired s at t) where
 
 -- ---- what a put fills
 
-pub closed_day_fills : (a b : ℤ) → Fills closed_days (Int a ∷ Int b ∷ []) (put_terms closed_days) (put_shows closed_days) 3 2 (Int a ∷ Int b ∷ []) (Int a ∷ Int b ∷ [])
-closed_day_fills a b = double_fills closed_days (Int a) (Int b) [] (put_terms closed_days) (put_shows closed_days) 3 2 refl refl refl refl refl refl (λ there rest. refl) (λ there r new p q. rw p refl) (λ there r new. refl) (λ id. refl)
+pub closed_day_fills : (a b : ℤ)
+    → Fills closed_days (Int a ∷ Int b ∷ []) (put_terms closed_days) (put_shows closed_days) 3 2 (Int a ∷ Int b ∷ []) (Int a ∷ Int b ∷ [])
+closed_day_fills a b = double_fills closed_days (Int a) (Int b) [] (put_terms closed_days)
+    (put_shows closed_days) 3 2 refl refl refl refl refl refl (λ there rest. refl) (λ there r new p q. rw p refl) (λ there r new. refl)
+    (λ id. refl)
 
-pub rule_fills : (a b c d e f h : ℤ) → Fills rules (Int a ∷ Int b ∷ Int c ∷ Int d ∷ Int e ∷ Int f ∷ Int h ∷ []) (put_terms rules) (put_shows rules) 8 7 (Int a ∷ Int b ∷ []) (Int a ∷ Int b ∷ Int c ∷ Int d ∷ Int e ∷ Int f ∷ Int h ∷ [])
+pub rule_fills : (a b c d e f h : ℤ)
+    → Fills rules (Int a ∷ Int b ∷ Int c ∷ Int d ∷ Int e ∷ Int f ∷ Int h ∷ []) (put_terms rules) (put_shows rules) 8 7 (Int a ∷ Int b ∷ [])
+    (Int a ∷ Int b ∷ Int c ∷ Int d ∷ Int e ∷ Int f ∷ Int h ∷ [])
 rule_fills a b c d e f h =
-    double_fills rules (Int a) (Int b) (Int c ∷ Int d ∷ Int e ∷ Int f ∷ Int h ∷ []) (put_terms rules) (put_shows rules) 8 7 refl refl refl refl refl refl (λ there rest. refl) (λ there r new p q. rw (p, q) refl) (λ there r new. refl) (λ id. refl)
+    double_fills rules (Int a) (Int b) (Int c ∷ Int d ∷ Int e ∷ Int f ∷ Int h ∷ []) (put_terms rules)
+    (put_shows rules) 8 7 refl refl refl refl refl refl (λ there rest. refl) (λ there r new p q. rw (p, q) refl) (λ there r new. refl)
+    (λ id. refl)
 
-pub kept_fills : (a : ℤ) (b c d : List ℕ) → Fills kept (Int a ∷ Text b ∷ Text c ∷ Text d ∷ []) (put_terms kept) (put_shows kept) 5 4 (Int a ∷ Text b ∷ []) (Int a ∷ Text b ∷ Text c ∷ Text d ∷ [])
-kept_fills a b c d = double_fills kept (Int a) (Text b) (Text c ∷ Text d ∷ []) (put_terms kept) (put_shows kept) 5 4 refl refl refl refl refl refl (λ there rest. refl) (λ there r new p q. rw (p, q) refl) (λ there r new. refl) (λ id. refl)
+pub kept_fills : (a : ℤ) (b c d : List ℕ)
+    → Fills kept (Int a ∷ Text b ∷ Text c ∷ Text d ∷ []) (put_terms kept) (put_shows kept) 5 4 (Int a ∷ Text b ∷ [])
+    (Int a ∷ Text b ∷ Text c ∷ Text d ∷ [])
+kept_fills a b c d = double_fills kept (Int a) (Text b) (Text c ∷ Text d ∷ []) (put_terms kept)
+    (put_shows kept) 5 4 refl refl refl refl refl refl (λ there rest. refl) (λ there r new p q. rw (p, q) refl) (λ there r new. refl)
+    (λ id. refl)

@@ -21,14 +21,17 @@ apart (suc zero) = refl
 apart (suc (suc zero)) = refl
 apart (suc (suc (suc n))) = refl
 
-pub puts_of : {S T : Type 0} {text : List ℕ} {given : Row} {g : Ghosts S} {old new : Transaction S} {result : Result T Fault} (since : ℕ) (change : Maps → Maps) (Needs : Type 0) (draw : Picture → Picture)
+pub puts_of : {S T : Type 0} {text : List ℕ} {given : Row} {g : Ghosts S} {old new : Transaction S} {result : Result T Fault} (since : ℕ)
+    (change : Maps → Maps) (Needs : Type 0) (draw : Picture → Picture)
     → ((n : ℕ) → HasTable since n → (a b : State) → (count : ℕ) × ExecutesInside 0 text given a b (Ok count) → Steps (schema_at n) a b change)
-    → ((n : ℕ) → HasTable since n → (a b : State) → Needs → Steps (schema_at n) a b change → Draws n a b draw) → Runs text given g old new result → Puts since change Needs draw g old new result
+    → ((n : ℕ) → HasTable since n → (a b : State) → Needs → Steps (schema_at n) a b change → Draws n a b draw)
+    → Runs text given g old new result → Puts since change Needs draw g old new result
 puts_of {g = g} {old = old} {new = new} {result = result} since change Needs draw step drawn is = record {
   changes = record {
     works = is.works;
     steps = λ clean begun. on_ok result (λ one n has. step n has (state g old.conn.now) (state g new.conn.now) one) (is.runs clean begun);
-    draws = λ clean begun need. on_ok result (λ one n has. drawn n has _ _ need (step n has (state g old.conn.now) (state g new.conn.now) one)) (is.runs clean begun);
+    draws = λ clean begun need. on_ok result
+        (λ one n has. drawn n has _ _ need (step n has (state g old.conn.now) (state g new.conn.now) one)) (is.runs clean begun);
     fault = is.fault;
   };
   leaves = is.leaves;

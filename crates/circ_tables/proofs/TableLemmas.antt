@@ -24,19 +24,22 @@ pub closed_days_within : IsWithin closed_days
 closed_days_within maps P is legal = days_encoded (maps closed_days.place) P is.closed_days legal
 
 -- a row that stands under its key
-within : {R : Type 0} (cells : R → Row) (Good : R → Type 0) (o : Option R) → ((r : R) → o ≡ Some r → Good r) → (v : Row) → Some v ≡ option_map cells o → (r : R) × Good r × (v ≡ cells r)
+within : {R : Type 0} (cells : R → Row) (Good : R → Type 0) (o : Option R) → ((r : R) → o ≡ Some r → Good r) → (v : Row)
+    → Some v ≡ option_map cells o → (r : R) × Good r × (v ≡ cells r)
 within cells Good None own v is = absurd (let e : Some v ≡ None = is in cc)
 within cells Good (Some r) own v is = (r, own r refl, (let e : Some v ≡ Some (cells r) = is in let same : v ≡ cells r = cc in same))
 
 pub rules_within : IsWithin rules
 rules_within maps P is legal k v e =
     let key = is.rules.only k v e in
-    within rules.cells rules.IsLegal (P.rules key.0.0 key.0.1) (λ r there. (legal.rules key.0.0 key.0.1 r there).2) v (sym e ∙ ap (maps rules.place) key.2 ∙ is.rules.there key.0 key.1)
+    within rules.cells rules.IsLegal (P.rules key.0.0 key.0.1) (λ r there. (legal.rules key.0.0 key.0.1 r there).2) v
+    (sym e ∙ ap (maps rules.place) key.2 ∙ is.rules.there key.0 key.1)
 
 pub rules1_within : IsWithin rules1
 rules1_within maps P is legal k v e =
     let key = is.rules1.only k v e in
-    within rules1.cells rules1.IsLegal (P.rules1 key.0.0 key.0.1) (λ r there. (legal.rules1 key.0.0 key.0.1 r there).2) v (sym e ∙ ap (maps rules1.place) key.2 ∙ is.rules1.there key.0 key.1)
+    within rules1.cells rules1.IsLegal (P.rules1 key.0.0 key.0.1) (λ r there. (legal.rules1 key.0.0 key.0.1 r there).2) v
+    (sym e ∙ ap (maps rules1.place) key.2 ∙ is.rules1.there key.0 key.1)
 
 -- what is kept within the limits is text
 pub texts_of : (r : KeptRow) → IsKeptRow r → HasTexts r
@@ -49,5 +52,6 @@ has_texts (Some r) own = texts_of r (own r refl)
 pub kept_within : IsWithin kept
 kept_within maps P is legal k v e =
     let key = is.kept.only k v e in
-    let it = within kept_cells IsKeptRow (P.kept key.0.0 key.0.1) (λ r there. (legal.kept key.0.0 key.0.1 r there).2) v (sym e ∙ ap (maps kept.place) key.2 ∙ is.kept.there key.0 key.1) in
+    let it = within kept_cells IsKeptRow (P.kept key.0.0 key.0.1) (λ r there. (legal.kept key.0.0 key.0.1 r there).2) v
+    (sym e ∙ ap (maps kept.place) key.2 ∙ is.kept.there key.0 key.1) in
     (it.0, (it.1.0, it.1.1, texts_of it.0 it.1), it.2)

@@ -1,5 +1,6 @@
 -- The first in line is one of two rows: the hold that begins first, and the least of those whose first day has come.
-use Rattle.std.proofs.Common.{arith, ◌≡◌, ◌⊎◌, ◌&&◌, ◌≤◌, ◌<◌, inl, inr, ℕ, pos, Bool, true, false, [], ◌∷◌, map, Option, Some, None, refl, sym, ap, subst, ◌∙◌, true≢false, Ordering, Less, Equal, Greater}
+use Rattle.std.proofs.Common.{arith, ◌≡◌, ◌⊎◌, ◌&&◌, ◌≤◌, ◌<◌, inl, inr, ℕ, pos, Bool, true, false, [], ◌∷◌, map, Option, Some, None, refl}
+use Rattle.std.proofs.Common.{sym, ap, subst, ◌∙◌, true≢false, Ordering, Less, Equal, Greater}
 use Rattle.std.specs.Prelude.{MatchBool, MatchOption, IfSome}
 use Rattle.std.specs.Option.{option_to_list}
 use Rattle.std.specs.Ordering.{ordering_then}
@@ -116,7 +117,9 @@ module _ (db : Database) (maps : Maps) (held : Holds shape.schema db maps) (titl
 
         go : (w ≡ hold_cells hold) ⊎ BeginsBefore (hold_cells hold) w → ⊥
         go (inl same) = let clash : Null ≡ number day = sym none ∙ ap (λ v. column v 7) same ∙ own in cc
-        go (inr less) = never_before day (value_cmp (number hold.hold) (column w 0)) (ap (λ v. ordering_then v (value_cmp (number hold.hold) (column w 0))) (ap (λ x. value_cmp x Null) (sym own) ∙ ap (value_cmp (optional hold.first_day)) (sym none)) ∙ less)
+        go (inr less) = never_before day (value_cmp (number hold.hold) (column w 0))
+            (ap (λ v. ordering_then v (value_cmp (number hold.hold) (column w 0)))
+            (ap (λ x. value_cmp x Null) (sym own) ∙ ap (value_cmp (optional hold.first_day)) (sym none)) ∙ less)
 
     no_earlier : (day : ℕ) → hold.first_day ≡ Some day → today < day → (k w : Row) → m k ≡ Some w → IsWaiting w → has_come today w ≡ true → ⊥
     no_earlier day is late k w e waits come = go (first.2 k w e waits)
@@ -132,12 +135,14 @@ module _ (db : Database) (maps : Maps) (held : Holds shape.schema db maps) (titl
             let le : day ≤ today = up_to_if day today (subst (λ (v : Value). is_up_to v today ≡ true) (ap (λ v. column v 7) same ∙ own) up_to) in
             omega (arith, le, late)
         go (inr less) =
-            let before : ordering_then (value_cmp (number day) (column w 7)) (value_cmp (number hold.hold) (column w 0)) ≡ Less = ap (λ x. ordering_then (value_cmp x (column w 7)) (value_cmp (number hold.hold) (column w 0))) (sym own) ∙ less in
+            let before : ordering_then (value_cmp (number day) (column w 7)) (value_cmp (number hold.hold) (column w 0)) ≡ Less =
+            ap (λ x. ordering_then (value_cmp x (column w 7)) (value_cmp (number hold.hold) (column w 0))) (sym own) ∙ less in
             later_still day today (column w 7) late (then_less (value_cmp (number day) (column w 7)) (value_cmp (number hold.hold) (column w 0)) before) up_to
 
     -- where its first day is to come, nobody stands in line
     pub nobody_yet : Later today hold → FirstOf m IsInLine []
-    nobody_yet late = λ k w e line. elim line.1 [ inl free ↦ has_day late.0 late.1 k w e line.0 free | inr come ↦ no_earlier late.0 late.1 late.2 k w e line.0 come ]
+    nobody_yet late = λ k w e line. elim line.1
+        [ inl free ↦ has_day late.0 late.1 k w e line.0 free | inr come ↦ no_earlier late.0 late.1 late.2 k w e line.0 come ]
 
     module _ (begun : Begun today hold) where
       stands : IsInLine (hold_cells hold)
@@ -150,7 +155,8 @@ module _ (db : Database) (maps : Maps) (held : Holds shape.schema db maps) (titl
           by_number : (w ≡ hold_cells hold) ⊎ BeginsBefore (hold_cells hold) w → hold.first_day ≡ None → (w ≡ hold_cells hold) ⊎ FirstBelow (hold_cells hold) w
           by_number (inl same) none = inl same
           by_number (inr less) none =
-              let tied : value_cmp (optional hold.first_day) (column w 7) ≡ Equal = ap (λ o. value_cmp (optional o) (column w 7)) none ∙ ap (value_cmp Null) (absent_is (column w 7) free) ∙ nothing_tied in
+              let tied : value_cmp (optional hold.first_day) (column w 7) ≡ Equal =
+              ap (λ o. value_cmp (optional o) (column w 7)) none ∙ ap (value_cmp Null) (absent_is (column w 7) free) ∙ nothing_tied in
               inr (ap (λ o. ordering_then o (value_cmp (number hold.hold) (column w 0))) (sym tied) ∙ less)
 
           go : Begun today hold → (w ≡ hold_cells hold) ⊎ FirstBelow (hold_cells hold) w
@@ -158,7 +164,12 @@ module _ (db : Database) (maps : Maps) (held : Holds shape.schema db maps) (titl
           go (inr day) = absurd (has_day day.0 day.1 k w e waits free)
 
       alone : FirstOf m HasCome [] → FirstOf m IsInLine (hold_cells hold ∷ [])
-      alone none = (first.0, stands, λ k w e line. elim line.1 [ inl free ↦ free_after k w e line.0 free | inr come ↦ absurd (none k w e (line.0, come)) ], refl)
+      alone none = (
+        first.0,
+        stands,
+        λ k w e line. elim line.1 [ inl free ↦ free_after k w e line.0 free | inr come ↦ absurd (none k w e (line.0, come)) ],
+        refl,
+      )
 
       before : (row : HoldRow) → FirstOf m HasCome (hold_cells row ∷ []) → hold.hold < row.hold → FirstOf m IsInLine (hold_cells hold ∷ [])
       before row come less = (
@@ -179,13 +190,19 @@ module _ (db : Database) (maps : Maps) (held : Holds shape.schema db maps) (titl
       instead row come le = (
         come.0,
         (come.1.0, inr come.1.1),
-        λ k w e line. elim line.1 [ inl free ↦ after k w e (cases_lt row.hold hold.hold) (free_after k w e line.0 free) | inr now ↦ come.2 k w e (line.0, now) ],
+        λ k w e line. elim line.1 [
+          | inl free ↦ after k w e (cases_lt row.hold hold.hold)
+              (free_after k w e line.0 free)
+          | inr now ↦ come.2 k w e (line.0, now)
+        ],
         refl,
       )
         where
-          after : (k w : Row) → m k ≡ Some w → (row.hold < hold.hold) ⊎ (hold.hold ≤ row.hold) → (w ≡ hold_cells hold) ⊎ FirstBelow (hold_cells hold) w → (w ≡ hold_cells row) ⊎ FirstBelow (hold_cells row) w
+          after : (k w : Row) → m k ≡ Some w → (row.hold < hold.hold) ⊎ (hold.hold ≤ row.hold) → (w ≡ hold_cells hold)
+              ⊎ FirstBelow (hold_cells hold) w → (w ≡ hold_cells row) ⊎ FirstBelow (hold_cells row) w
           after k w e (inl less) (inl same) = inr (subst (λ v. FirstBelow (hold_cells row) v) (sym same) (number_less row.hold hold.hold less))
-          after k w e (inl less) (inr more) = inr (value_cmp_total.trans (number row.hold) (number hold.hold) (column w 0) (number_less row.hold hold.hold less) more)
+          after k w e (inl less) (inr more) =
+              inr (value_cmp_total.trans (number row.hold) (number hold.hold) (column w 0) (number_less row.hold hold.hold less) more)
           after k w e (inr other) (inl same) =
               let one : row.hold ≡ hold.hold = omega (arith, le, other) in
               inl (same_number k w come.0.0 (hold_cells row) e come.0.1 (ap (λ v. column v 0) same ∙ ap number (sym one)))
@@ -193,14 +210,18 @@ module _ (db : Database) (maps : Maps) (held : Holds shape.schema db maps) (titl
               let one : hold.hold ≡ row.hold = omega (arith, le, other) in
               inr (subst (λ n. value_cmp (number n) (column w 0) ≡ Less) one more)
 
-      pub in_turn : (other : Option HoldRow) (result : HoldRow) → FirstOf m HasCome (map hold_cells (option_to_list other)) → MatchOption other (result ≡ hold) (λ row. ((result ≡ hold) × (hold.hold < row.hold)) ⊎ ((result ≡ row) × (row.hold ≤ hold.hold)))
+      pub in_turn : (other : Option HoldRow) (result : HoldRow) → FirstOf m HasCome (map hold_cells (option_to_list other))
+          → MatchOption other (result ≡ hold)
+          (λ row. ((result ≡ hold) × (hold.hold < row.hold)) ⊎ ((result ≡ row) × (row.hold ≤ hold.hold)))
           → FirstOf m IsInLine (hold_cells result ∷ [])
       in_turn None result come is = subst (λ r. FirstOf m IsInLine (hold_cells r ∷ [])) (sym is) (alone come)
       in_turn (Some row) result come (inl is) = subst (λ r. FirstOf m IsInLine (hold_cells r ∷ [])) (sym is.0) (before row come is.1)
       in_turn (Some row) result come (inr is) = subst (λ r. FirstOf m IsInLine (hold_cells r ∷ [])) (sym is.0) (instead row come is.1)
 
 -- the lesser of two rows within their limits is within them
-pub lesser_legal : (hold : HoldRow) (other : Option HoldRow) (result : HoldRow) → IsHold hold → IfSome other IsHold → MatchOption other (result ≡ hold) (λ row. ((result ≡ hold) × (hold.hold < row.hold)) ⊎ ((result ≡ row) × (row.hold ≤ hold.hold))) → IsHold result
+pub lesser_legal : (hold : HoldRow) (other : Option HoldRow) (result : HoldRow) → IsHold hold → IfSome other IsHold
+    → MatchOption other (result ≡ hold) (λ row. ((result ≡ hold) × (hold.hold < row.hold)) ⊎ ((result ≡ row) × (row.hold ≤ hold.hold)))
+    → IsHold result
 lesser_legal hold None result good legal is = subst IsHold (sym is) good
 lesser_legal hold (Some row) result good legal (inl is) = subst IsHold (sym is.0) good
 lesser_legal hold (Some row) result good legal (inr is) = subst IsHold (sym is.0) legal

@@ -51,12 +51,14 @@ branches_are = record {
   keyed = λ k. refl;
   first_cell = λ r. refl;
   from_one = λ r legal. legal.0.0;
-  fills = λ r. single_fills shape.branches (pos r.branch) (drop 1 (branch_cells r)) (put_terms shape.branches) (put_shows shape.branches) 5 4 refl refl refl refl (λ there rest. refl) (λ there r new. refl) (λ id. refl);
+  fills = λ r. single_fills shape.branches (pos r.branch) (drop 1 (branch_cells r)) (put_terms shape.branches)
+      (put_shows shape.branches) 5 4 refl refl refl refl (λ there rest. refl) (λ there r new. refl) (λ id. refl);
   back = λ v. record { branch = nat_of (column v 0); pickup = nat_of (column v 1); week = closed_by (text_of (column v 2)); name = text_of (column v 3) };
   back_is = λ r legal i. record { branch = r.branch; pickup = r.pickup; week = closed_by-mask_text r.week legal.2.seven i; name = r.name };
   rows_are = λ maps P is. is.branches;
   legal = λ P is. is.branches;
   with_rows = λ P u. record P { branches = u };
   set_is = λ P k row. refl;
-  framed = λ maps P m u is held. from_list _ _ (with_held (all_held P) shape.branches_place (λ w. IsEncoded Any number_key branch_cells w u) m maps (to_list _ _ is) held);
+  framed = λ maps P m u is held. from_list _ _
+      (with_held (all_held P) shape.branches_place (λ w. IsEncoded Any number_key branch_cells w u) m maps (to_list _ _ is) held);
 }

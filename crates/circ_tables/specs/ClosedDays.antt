@@ -27,7 +27,8 @@ closed_days = record {
   set = λ P k row. record P { closed_days = put_pair P.closed_days k.0 k.1 (is_some row) };
 }
 
-texts_are : (more : List SqlTable) (others : List Index) → IsCalm (grown more others) → IsAimed (grown more others) shape.closed_days → IsPaired (grown more others) shape.closed_days_place shape.closed_days
+texts_are : (more : List SqlTable) (others : List Index) → IsCalm (grown more others) → IsAimed (grown more others) shape.closed_days
+    → IsPaired (grown more others) shape.closed_days_place shape.closed_days
 unfolding understood everything
 texts_are more others calm aimed = record {
   fixed = record {
@@ -48,4 +49,6 @@ texts_are more others calm aimed = record {
 }
 
 pub closed_days_are : (n : ℕ) → shape.HasTable 1 n → IsPaired (shape.schema_at n) shape.closed_days_place shape.closed_days
-closed_days_are = in_each shape.closed_days_place shape.closed_days texts_are (shape.since_first (λ n. IsAimed (shape.schema_at n) shape.closed_days) (λ r new. or_false _) (λ r new. or_false _) (λ r new. or_false _))
+closed_days_are = in_each shape.closed_days_place shape.closed_days texts_are
+    (shape.since_first (λ n. IsAimed (shape.schema_at n) shape.closed_days) (λ r new. or_false _) (λ r new. or_false _)
+    (λ r new. or_false _))

@@ -62,12 +62,21 @@ copies_are = record {
   keyed = λ k. refl;
   first_cell = λ r. refl;
   from_one = λ r legal. legal.0.0;
-  fills = λ r. single_fills shape.copies (pos r.copy) (drop 1 (copy_cells r)) (put_terms shape.copies) (put_shows shape.copies) 7 6 refl refl refl refl (λ there rest. refl) (λ there r new. refl) (λ id. refl);
-  back = λ v. record { copy = nat_of (column v 0); title = nat_of (column v 1); kind = nat_of (column v 2); home = nat_of (column v 3); price = nat_of (column v 4); condition = condition_of (nat_of (column v 5)) };
+  fills = λ r. single_fills shape.copies (pos r.copy) (drop 1 (copy_cells r)) (put_terms shape.copies)
+      (put_shows shape.copies) 7 6 refl refl refl refl (λ there rest. refl) (λ there r new. refl) (λ id. refl);
+  back = λ v. record {
+    copy = nat_of (column v 0);
+    title = nat_of (column v 1);
+    kind = nat_of (column v 2);
+    home = nat_of (column v 3);
+    price = nat_of (column v 4);
+    condition = condition_of (nat_of (column v 5));
+  };
   back_is = λ r _ i. record { copy = r.copy; title = r.title; kind = r.kind; home = r.home; price = r.price; condition = condition_back r.condition i };
   rows_are = λ maps P is. is.copies;
   legal = λ P is. is.copies;
   with_rows = λ P u. record P { copies = u };
   set_is = λ P k row. refl;
-  framed = λ maps P m u is held. from_list _ _ (with_held (all_held P) shape.copies_place (λ w. IsEncoded Any number_key copy_cells w u) m maps (to_list _ _ is) held);
+  framed = λ maps P m u is held. from_list _ _
+      (with_held (all_held P) shape.copies_place (λ w. IsEncoded Any number_key copy_cells w u) m maps (to_list _ _ is) held);
 }

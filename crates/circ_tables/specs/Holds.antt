@@ -64,16 +64,40 @@ texts_are more others = record {
 pub holds_are : IsNumberTable holds (λ r. r.hold)
 holds_are = record {
   newest = shape.has_second;
-  texts = shape.since_second (λ n. IsNumbered (shape.schema_at n) shape.holds_place shape.holds) (texts_are [] []) (texts_are (shape.tables_after shape.second 3) (shape.indexes_after shape.second 3));
+  texts = shape.since_second (λ n. IsNumbered (shape.schema_at n) shape.holds_place shape.holds) (texts_are [] [])
+      (texts_are (shape.tables_after shape.second 3) (shape.indexes_after shape.second 3));
   keyed = λ k. refl;
   first_cell = λ r. refl;
   from_one = λ r legal. legal.0.0;
-  fills = λ r. single_fills shape.holds (pos r.hold) (drop 1 (hold_cells r)) (put_terms shape.holds) (put_shows shape.holds) 9 8 refl refl (ap (λ b. b && (suits_kind Integer (optional r.limit_day) && (suits_kind Integer (optional r.first_day) && true))) (optional_suits r.copy) ∙ ap (λ b. b && (suits_kind Integer (optional r.first_day) && true)) (optional_suits r.limit_day) ∙ ap (λ b. b && true) (optional_suits r.first_day)) refl (λ there rest. refl) (λ there r new. refl) (λ id. refl);
-  back = λ v. record { hold = nat_of (column v 0); patron = nat_of (column v 1); title = nat_of (column v 2); branch = nat_of (column v 3); state = state_of (nat_of (column v 4)); copy = option_of (column v 5); limit_day = option_of (column v 6); first_day = option_of (column v 7) };
-  back_is = λ r _ i. record { hold = r.hold; patron = r.patron; title = r.title; branch = r.branch; state = state_back r.state i; copy = option_back r.copy i; limit_day = option_back r.limit_day i; first_day = option_back r.first_day i };
+  fills = λ r. single_fills shape.holds (pos r.hold) (drop 1 (hold_cells r)) (put_terms shape.holds) (put_shows shape.holds) 9 8 refl refl
+      (ap (λ b. b && (suits_kind Integer (optional r.limit_day) && (suits_kind Integer (optional r.first_day) && true)))
+      (optional_suits r.copy) ∙ ap (λ b. b && (suits_kind Integer (optional r.first_day) && true)) (optional_suits r.limit_day)
+      ∙ ap (λ b. b && true) (optional_suits r.first_day)) refl (λ there rest. refl) (λ there r new. refl) (λ id. refl);
+  back = λ v. record {
+    hold = nat_of (column v 0);
+    patron = nat_of (column v 1);
+    title = nat_of (column v 2);
+    branch = nat_of (column v 3);
+    state = state_of (nat_of (column v 4));
+    copy = option_of (column v 5);
+    limit_day = option_of (column v 6);
+    first_day =
+        option_of (column v 7);
+  };
+  back_is = λ r _ i. record {
+    hold = r.hold;
+    patron = r.patron;
+    title = r.title;
+    branch = r.branch;
+    state = state_back r.state i;
+    copy = option_back r.copy i;
+    limit_day = option_back r.limit_day i;
+    first_day = option_back r.first_day i;
+  };
   rows_are = λ maps P is. is.holds;
   legal = λ P is. is.holds;
   with_rows = λ P u. record P { holds = u };
   set_is = λ P k row. refl;
-  framed = λ maps P m u is held. from_list _ _ (with_held (all_held P) shape.holds_place (λ w. IsEncoded Any number_key hold_cells w u) m maps (to_list _ _ is) held);
+  framed = λ maps P m u is held. from_list _ _
+      (with_held (all_held P) shape.holds_place (λ w. IsEncoded Any number_key hold_cells w u) m maps (to_list _ _ is) held);
 }

@@ -53,12 +53,32 @@ holds1_are = record {
   keyed = λ k. refl;
   first_cell = λ r. refl;
   from_one = λ r legal. legal.0.0;
-  fills = λ r. single_fills shape.holds1 (pos r.hold) (drop 1 (hold1_cells r)) (put_terms shape.holds1) (put_shows shape.holds1) 8 7 refl refl (ap (λ b. b && (suits_kind Integer (optional r.limit_day) && true)) (optional_suits r.copy) ∙ ap (λ b. b && true) (optional_suits r.limit_day)) refl (λ there rest. refl) (λ there r new. refl) (λ id. refl);
-  back = λ v. record { hold = nat_of (column v 0); patron = nat_of (column v 1); title = nat_of (column v 2); branch = nat_of (column v 3); state = state_of (nat_of (column v 4)); copy = option_of (column v 5); limit_day = option_of (column v 6) };
-  back_is = λ r _ i. record { hold = r.hold; patron = r.patron; title = r.title; branch = r.branch; state = state_back r.state i; copy = option_back r.copy i; limit_day = option_back r.limit_day i };
+  fills = λ r. single_fills shape.holds1 (pos r.hold) (drop 1 (hold1_cells r)) (put_terms shape.holds1)
+      (put_shows shape.holds1) 8 7 refl refl
+      (ap (λ b. b && (suits_kind Integer (optional r.limit_day) && true)) (optional_suits r.copy)
+      ∙ ap (λ b. b && true) (optional_suits r.limit_day)) refl (λ there rest. refl) (λ there r new. refl) (λ id. refl);
+  back = λ v. record {
+    hold = nat_of (column v 0);
+    patron = nat_of (column v 1);
+    title = nat_of (column v 2);
+    branch = nat_of (column v 3);
+    state = state_of (nat_of (column v 4));
+    copy = option_of (column v 5);
+    limit_day = option_of (column v 6);
+  };
+  back_is = λ r _ i. record {
+    hold = r.hold;
+    patron = r.patron;
+    title = r.title;
+    branch = r.branch;
+    state = state_back r.state i;
+    copy = option_back r.copy i;
+    limit_day = option_back r.limit_day i;
+  };
   rows_are = λ maps P is. is.holds1;
   legal = λ P is. is.holds1;
   with_rows = λ P u. record P { holds1 = u };
   set_is = λ P k row. refl;
-  framed = λ maps P m u is held. from_list _ _ (with_held (all_held P) shape.holds1_place (λ w. IsEncoded Any number_key hold1_cells w u) m maps (to_list _ _ is) held);
+  framed = λ maps P m u is held. from_list _ _
+      (with_held (all_held P) shape.holds1_place (λ w. IsEncoded Any number_key hold1_cells w u) m maps (to_list _ _ is) held);
 }

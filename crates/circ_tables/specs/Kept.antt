@@ -28,7 +28,8 @@ kept = record {
   set = λ P k row. record P { kept = put_kept P.kept k.0 k.1 row };
 }
 
-texts_are : (more : List SqlTable) (others : List Index) → IsCalm (grown more others) → IsAimed (grown more others) shape.kept → IsPaired (grown more others) shape.kept_place shape.kept
+texts_are : (more : List SqlTable) (others : List Index) → IsCalm (grown more others) → IsAimed (grown more others) shape.kept
+    → IsPaired (grown more others) shape.kept_place shape.kept
 unfolding understood everything
 texts_are more others calm aimed = record {
   fixed = record {
@@ -49,4 +50,5 @@ texts_are more others calm aimed = record {
 }
 
 pub kept_are : (n : ℕ) → shape.HasTable 1 n → IsPaired (shape.schema_at n) shape.kept_place shape.kept
-kept_are = in_each shape.kept_place shape.kept texts_are (shape.since_first (λ n. IsAimed (shape.schema_at n) shape.kept) (λ r new. or_false _) (λ r new. or_false _) (λ r new. or_false _))
+kept_are = in_each shape.kept_place shape.kept texts_are
+    (shape.since_first (λ n. IsAimed (shape.schema_at n) shape.kept) (λ r new. or_false _) (λ r new. or_false _) (λ r new. or_false _))

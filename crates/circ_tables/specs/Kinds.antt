@@ -50,12 +50,14 @@ kinds_are = record {
   keyed = λ k. refl;
   first_cell = λ r. refl;
   from_one = λ r legal. legal.0.0;
-  fills = λ r. single_fills shape.kinds (pos r.kind) (drop 1 (kind_cells r)) (put_terms shape.kinds) (put_shows shape.kinds) 5 4 refl refl refl refl (λ there rest. refl) (λ there r new. refl) (λ id. refl);
+  fills = λ r. single_fills shape.kinds (pos r.kind) (drop 1 (kind_cells r)) (put_terms shape.kinds)
+      (put_shows shape.kinds) 5 4 refl refl refl refl (λ there rest. refl) (λ there r new. refl) (λ id. refl);
   back = λ v. record { kind = nat_of (column v 0); loans = nat_of (column v 1); holds = nat_of (column v 2); debt = nat_of (column v 3) };
   back_is = λ r _ i. record { kind = r.kind; loans = r.loans; holds = r.holds; debt = r.debt };
   rows_are = λ maps P is. is.kinds;
   legal = λ P is. is.kinds;
   with_rows = λ P u. record P { kinds = u };
   set_is = λ P k row. refl;
-  framed = λ maps P m u is held. from_list _ _ (with_held (all_held P) shape.kinds_place (λ w. IsEncoded Any number_key kind_cells w u) m maps (to_list _ _ is) held);
+  framed = λ maps P m u is held. from_list _ _
+      (with_held (all_held P) shape.kinds_place (λ w. IsEncoded Any number_key kind_cells w u) m maps (to_list _ _ is) held);
 }

@@ -65,12 +65,21 @@ lines_are = record {
   keyed = λ k. refl;
   first_cell = λ r. refl;
   from_one = λ r legal. legal.0.0;
-  fills = λ r. single_fills shape.lines (pos r.line) (drop 1 (line_cells r)) (put_terms shape.lines) (put_shows shape.lines) 7 6 refl refl (ap (λ b. b && true) (optional_suits r.loan)) refl (λ there rest. refl) (λ there r new. refl) (λ id. refl);
-  back = λ v. record { line = nat_of (column v 0); patron = nat_of (column v 1); day = nat_of (column v 2); sort = sort_of (nat_of (column v 3)); amount = nat_of (column v 4); loan = option_of (column v 5) };
+  fills = λ r. single_fills shape.lines (pos r.line) (drop 1 (line_cells r)) (put_terms shape.lines) (put_shows shape.lines) 7 6 refl refl
+      (ap (λ b. b && true) (optional_suits r.loan)) refl (λ there rest. refl) (λ there r new. refl) (λ id. refl);
+  back = λ v. record {
+    line = nat_of (column v 0);
+    patron = nat_of (column v 1);
+    day = nat_of (column v 2);
+    sort = sort_of (nat_of (column v 3));
+    amount = nat_of (column v 4);
+    loan = option_of (column v 5);
+  };
   back_is = λ r _ i. record { line = r.line; patron = r.patron; day = r.day; sort = sort_back r.sort i; amount = r.amount; loan = option_back r.loan i };
   rows_are = λ maps P is. is.lines;
   legal = λ P is. is.lines;
   with_rows = λ P u. record P { lines = u };
   set_is = λ P k row. refl;
-  framed = λ maps P m u is held. from_list _ _ (with_held (all_held P) shape.lines_place (λ w. IsEncoded Any number_key line_cells w u) m maps (to_list _ _ is) held);
+  framed = λ maps P m u is held. from_list _ _
+      (with_held (all_held P) shape.lines_place (λ w. IsEncoded Any number_key line_cells w u) m maps (to_list _ _ is) held);
 }

@@ -51,12 +51,41 @@ loans1_are = record {
   keyed = λ k. refl;
   first_cell = λ r. refl;
   from_one = λ r legal. legal.0.0;
-  fills = λ r. single_fills shape.loans1 (pos r.loan) (drop 1 (loan1_cells r)) (put_terms shape.loans1) (put_shows shape.loans1) 12 11 refl refl (ap (λ b. b && true) (optional_suits r.ended)) refl (λ there rest. refl) (λ there r new. refl) (λ id. refl);
-  back = λ v. record { loan = nat_of (column v 0); copy = nat_of (column v 1); patron = nat_of (column v 2); branch = nat_of (column v 3); made = nat_of (column v 4); due = nat_of (column v 5); period = nat_of (column v 6); renewals_left = nat_of (column v 7); rate = nat_of (column v 8); cap = nat_of (column v 9); ended = option_of (column v 10) };
-  back_is = λ r _ i. record { loan = r.loan; copy = r.copy; patron = r.patron; branch = r.branch; made = r.made; due = r.due; period = r.period; renewals_left = r.renewals_left; rate = r.rate; cap = r.cap; ended = option_back r.ended i };
+  fills = λ r. single_fills shape.loans1 (pos r.loan) (drop 1 (loan1_cells r)) (put_terms shape.loans1)
+      (put_shows shape.loans1) 12 11 refl refl (ap (λ b. b && true) (optional_suits r.ended)) refl (λ there rest. refl)
+      (λ there r new. refl) (λ id. refl);
+  back = λ v. record {
+    loan = nat_of (column v 0);
+    copy = nat_of (column v 1);
+    patron = nat_of (column v 2);
+    branch = nat_of (column v 3);
+    made = nat_of (column v 4);
+    due = nat_of (column v 5);
+    period = nat_of (column v 6);
+    renewals_left = nat_of (column v 7);
+    rate =
+        nat_of (column v 8);
+    cap = nat_of (column v 9);
+    ended = option_of (column v 10);
+  };
+  back_is = λ r _ i. record {
+    loan = r.loan;
+    copy = r.copy;
+    patron = r.patron;
+    branch = r.branch;
+    made = r.made;
+    due = r.due;
+    period
+        = r.period;
+    renewals_left = r.renewals_left;
+    rate = r.rate;
+    cap = r.cap;
+    ended = option_back r.ended i;
+  };
   rows_are = λ maps P is. is.loans1;
   legal = λ P is. is.loans1;
   with_rows = λ P u. record P { loans1 = u };
   set_is = λ P k row. refl;
-  framed = λ maps P m u is held. from_list _ _ (with_held (all_held P) shape.loans1_place (λ w. IsEncoded Any number_key loan1_cells w u) m maps (to_list _ _ is) held);
+  framed = λ maps P m u is held. from_list _ _
+      (with_held (all_held P) shape.loans1_place (λ w. IsEncoded Any number_key loan1_cells w u) m maps (to_list _ _ is) held);
 }

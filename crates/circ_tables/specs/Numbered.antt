@@ -1,5 +1,7 @@
--- What has to be computed of the texts of a table that is keyed by one number. It is the same list of `refl` for each table, and holds of each schema that begins with the tables up to its own.
-use Rattle.std.specs.Prelude.{codes, true, refl, None, ◌≡◌, ◌+◌, ◌-◌, ◌≤◌, ℕ, zero, suc, pos, negsuc, false, List, [], ◌∷◌, ◌++◌, length, map, slice_get, Option, Some}
+-- What has to be computed of the texts of a table that is keyed by one number. It is the same list of `refl` for each table, and holds of
+-- each schema that begins with the tables up to its own.
+use Rattle.std.specs.Prelude.{codes, true, refl, None, ◌≡◌, ◌+◌, ◌-◌, ◌≤◌, ℕ, zero, suc, pos, negsuc, false, List, [], ◌∷◌, ◌++◌, length}
+use Rattle.std.specs.Prelude.{map, slice_get, Option, Some}
 use Rattle.std.proofs.Common.{sym, subst}
 use Rattle.std.specs.List.{range_with_len}
 use Rattle.sqlite.specs.Order.{Row, column}
@@ -110,21 +112,24 @@ pub record AreTexts (t : Table) (texts : Texts) : Type 0 where
   pub first : texts.first.now ≡ first_text t
   pub page : texts.page.now ≡ page_text t
 
--- A table of typed rows that is keyed by one number, which the newest schema has: its texts in each schema that has it, and what ties the rows to SQL and to the picture. A row can be read back from its columns, and it has a place in the picture.
+-- A table of typed rows that is keyed by one number, which the newest schema has: its texts in each schema that has it, and what ties the
+-- rows to SQL and to the picture. A row can be read back from its columns, and it has a place in the picture.
 pub record IsNumberTable {R : Type 0} (t : typed.Table ℕ R) (number_of : R → ℕ) : Type 0 where
   pub newest : HasTable t.since SCHEMA
   pub texts : (n : ℕ) → HasTable t.since n → IsNumbered (schema_at n) t.place t.shape
   pub keyed : (k : ℕ) → t.key k ≡ number_key k
   pub first_cell : (r : R) → column (t.cells r) 0 ≡ number (number_of r)
   pub from_one : (r : R) → t.IsLegal r → 1 ≤ number_of r
-  pub fills : (r : R) → Fills t.shape (t.cells r) (put_terms t.shape) (put_shows t.shape) (length t.shape.columns + 1) (length t.shape.columns) (number_key (number_of r)) (t.cells r)
+  pub fills : (r : R) → Fills t.shape (t.cells r) (put_terms t.shape) (put_shows t.shape) (length t.shape.columns + 1)
+      (length t.shape.columns) (number_key (number_of r)) (t.cells r)
   pub back : Row → R
   pub back_is : (r : R) → t.IsLegal r → back (t.cells r) ≡ r
   pub rows_are : (maps : Maps) (P : Picture) → Encodes maps P → IsEncoded Any number_key t.cells (maps t.place) (t.rows P)
   pub legal : (P : Picture) → InLimits P → (k : ℕ) (r : R) → t.rows P k ≡ Some r → (number_of r ≡ k) × t.IsLegal r
   pub with_rows : Picture → (ℕ → Option R) → Picture
   pub set_is : (P : Picture) (k : ℕ) (row : Option R) → t.set P k row ≡ with_rows P (put_in (t.rows P) k row)
-  pub framed : (maps : Maps) (P : Picture) (m : Map) (u : ℕ → Option R) → Encodes maps P → IsEncoded Any number_key t.cells m u → Encodes (with_map maps t.place m) (with_rows P u)
+  pub framed : (maps : Maps) (P : Picture) (m : Map) (u : ℕ → Option R) → Encodes maps P → IsEncoded Any number_key t.cells m u
+      → Encodes (with_map maps t.place m) (with_rows P u)
 
 -- A schema that begins with the tables and indexes of another; with those of step 1.
 abbrev pub grown_from : Schema → List Table → List Index → Schema
@@ -141,7 +146,8 @@ schema_grown (suc (suc zero)) = refl
 schema_grown (suc (suc (suc n))) = refl
 
 -- So what is so of each schema that does is so of that of a number.
-pub in_each : (at : ℕ) (t : Table) → ((more : List Table) (others : List Index) → IsNumbered (grown more others) at t) → (n : ℕ) → HasTable 1 n → IsNumbered (schema_at n) at t
+pub in_each : (at : ℕ) (t : Table) → ((more : List Table) (others : List Index) → IsNumbered (grown more others) at t) → (n : ℕ)
+    → HasTable 1 n → IsNumbered (schema_at n) at t
 in_each at t is n has = subst (λ s. IsNumbered s at t) (sym (schema_grown n)) (is (later_tables n) (later_indexes n))
 
 -- What a column holds, as it is read back.

@@ -75,8 +75,11 @@ pub are_calm : (n : ℕ) → HasTable 1 n → IsCalm (schema_at n)
 are_calm = since_first (λ n. IsCalm (schema_at n)) (λ keys depth tree olds news. refl) (λ keys depth tree olds news. refl) (λ keys depth tree olds news. refl)
 
 -- What the texts are in each schema that begins with the tables of step 1 they are in that of a number.
-pub in_each : (at : ℕ) (t : Table) → ((more : List Table) (others : List Index) → IsCalm (grown more others) → IsAimed (grown more others) t → IsPaired (grown more others) at t)
+pub in_each : (at : ℕ) (t : Table)
+    → ((more : List Table) (others : List Index) → IsCalm (grown more others) → IsAimed (grown more others) t
+    → IsPaired (grown more others) at t)
     → ((n : ℕ) → HasTable 1 n → IsAimed (schema_at n) t) → (n : ℕ) → HasTable 1 n → IsPaired (schema_at n) at t
 in_each at t is aimed n has =
     let same = schema_grown n in
-    subst (λ s. IsPaired s at t) (sym same) (is (later_tables n) (later_indexes n) (subst IsCalm same (are_calm n has)) (subst (λ s. IsAimed s t) same (aimed n has)))
+    subst (λ s. IsPaired s at t) (sym same)
+    (is (later_tables n) (later_indexes n) (subst IsCalm same (are_calm n has)) (subst (λ s. IsAimed s t) same (aimed n has)))

@@ -50,12 +50,20 @@ patrons_are = record {
   keyed = λ k. refl;
   first_cell = λ r. refl;
   from_one = λ r legal. legal.0.0;
-  fills = λ r. single_fills shape.patrons (pos r.patron) (drop 1 (patron_cells r)) (put_terms shape.patrons) (put_shows shape.patrons) 6 5 refl refl refl refl (λ there rest. refl) (λ there r new. refl) (λ id. refl);
-  back = λ v. record { patron = nat_of (column v 0); kind = nat_of (column v 1); card_key = text_of (column v 2); name = text_of (column v 3); owed = nat_of (column v 4) };
+  fills = λ r. single_fills shape.patrons (pos r.patron) (drop 1 (patron_cells r)) (put_terms shape.patrons)
+      (put_shows shape.patrons) 6 5 refl refl refl refl (λ there rest. refl) (λ there r new. refl) (λ id. refl);
+  back = λ v. record {
+    patron = nat_of (column v 0);
+    kind = nat_of (column v 1);
+    card_key = text_of (column v 2);
+    name = text_of (column v 3);
+    owed = nat_of (column v 4);
+  };
   back_is = λ r _ i. record { patron = r.patron; kind = r.kind; card_key = r.card_key; name = r.name; owed = r.owed };
   rows_are = λ maps P is. is.patrons;
   legal = λ P is. is.patrons;
   with_rows = λ P u. record P { patrons = u };
   set_is = λ P k row. refl;
-  framed = λ maps P m u is held. from_list _ _ (with_held (all_held P) shape.patrons_place (λ w. IsEncoded Any number_key patron_cells w u) m maps (to_list _ _ is) held);
+  framed = λ maps P m u is held. from_list _ _
+      (with_held (all_held P) shape.patrons_place (λ w. IsEncoded Any number_key patron_cells w u) m maps (to_list _ _ is) held);
 }

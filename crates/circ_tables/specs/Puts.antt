@@ -35,7 +35,8 @@ pub record Runs {S T : Type 0} (text : List ℕ) (given : Row)
       → OnErr result (IsKeptOrUndone (state g old.conn.now) (state g new.conn.now))
   pub fault : IfErr result (λ fault. fault ≡ Database)
 
--- The maps of the tables are changed so, and the picture that they show, in each schema that has the tables that are there since one. The change of the picture may need something of the row. Its one fault is 91.
+-- The maps of the tables are changed so, and the picture that they show, in each schema that has the tables that are there since one. The
+-- change of the picture may need something of the row. Its one fault is 91.
 pub record ChangesRows {S T : Type 0} (since : ℕ) (change : Maps → Maps) (Needs : Type 0) (draw : Picture → Picture)
     (g : Ghosts S) (old new : Transaction S) (result : Result T Fault) : Type 0 where
   pub works : Works g old new

@@ -1,5 +1,6 @@
 -- What a call that reads leaves, and what it says of a row.
-use Rattle.std.specs.Prelude.{◌≡◌, ◌≢◌, ◌⊎◌, ◌≤◌, ◌<◌, ℕ, Bool, false, List, map, length, Option, Some, None, is_some, option_map, Err, Result, IfOk, IfErr, IfSome, IsTrue, IsUtf8}
+use Rattle.std.specs.Prelude.{◌≡◌, ◌≢◌, ◌⊎◌, ◌≤◌, ◌<◌, ℕ, Bool, false, List, map, length, Option, Some, None, option_map, Err}
+use Rattle.std.specs.Prelude.{Result, IfOk, IfErr, IfSome, IsTrue, IsUtf8}
 use Rattle.std.specs.List.{All}
 use Rattle.std.specs.Option.{option_to_list}
 use Rattle.std.specs.Result.{result_err}
@@ -26,13 +27,14 @@ use Rattle.terms.specs.declared.limits.TheConstants.{SCHEMA}
 use Rattle.terms.specs.declared.row.MetaRow.{MetaRow}
 use Rattle.terms.specs.declared.row.KeptRow.{KeptRow}
 use Rattle.circ_tables.specs.declared.kept.KeptReply.{KeptReply}
-use Rattle.circ_tables.specs.Cells.{number, number_key, pair_key, kept_key, meta_cells, kept_cells}
+use Rattle.circ_tables.specs.Cells.{number, number_key, kept_key, meta_cells, kept_cells}
 use Rattle.circ_tables.specs.Encoding.{HasPicture, HasPictureAt, AreEncoded, reply_of, HasTexts, day_cells, IsClosedDay}
 use Rattle.circ_tables.specs.Selections.{AreClosedDays}
 use Rattle.sqlite.specs.Table.{Table as Shape}
 use Rattle.circ_tables.specs.Shape.{schema, schema_at, HasTable, meta_place, closed_days_place, kept_place}
 
--- A table of typed rows: its shape and place, the schema since which it is there, the key of a row, its columns, its limits, its rows in a picture, and the picture with another row, or none, under a key.
+-- A table of typed rows: its shape and place, the schema since which it is there, the key of a row, its columns, its limits, its rows in a
+-- picture, and the picture with another row, or none, under a key.
 pub record Table (K R : Type 0) : Type 1 where
   pub shape : Shape
   pub place : ℕ
@@ -208,21 +210,13 @@ pub record GetsMeta {S : Type 0} (g : Ghosts S) (old new : Held S) (result : Res
 -- The same, asked inside a transaction, over the tables of each schema. Where the row comes, nothing is changed, so that the transaction goes on.
 pub record GetsMetaInside {S : Type 0} (g : Ghosts S) (old new : Transaction S) (result : Result MetaRow Fault) : Type 0 where
   pub works : WorksInside g old new
-  pub gets : (n : ℕ) → HasTable 1 n → OfMapsAt (schema_at n) (λ maps row. maps meta_place (number_key 1) ≡ Some (meta_cells row)) g old.conn.now new.conn.now result
+  pub gets : (n : ℕ) → HasTable 1 n
+      → OfMapsAt (schema_at n) (λ maps row. maps meta_place (number_key 1) ≡ Some (meta_cells row)) g old.conn.now new.conn.now result
   pub limits : IfOk result IsMeta
   pub stored : (n : ℕ) → HasTable 1 n → IsStoredAt (schema_at n) (λ maps. (r : MetaRow) → IsMeta r → maps meta_place (number_key 1) ≡ Some (meta_cells r)
       → ¬ IsLone (maps meta_place) r) g old.conn.now new.conn.now result
   pub shows : (n : ℕ) → HasTable 1 n → OfPictureAt n (λ P row. row ≡ P.meta) g old.conn.now new.conn.now result
   pub sound : (n : ℕ) → HasTable 1 n → IsSoundAt n (λ P. IsMeta P.meta) g old.conn.now new.conn.now result
-
--- Whether a branch is closed singly on a day. No row is read, so none is outside its limits.
-pub record GetsDay {S : Type 0} (branch day : ℕ)
-    (g : Ghosts S) (old new : Held S) (result : Result Bool Fault) : Type 0 where
-  pub looks : Looks g old new
-  pub gets : OfMaps (λ maps there. is_some (maps closed_days_place (pair_key branch day)) ≡ there) g old new result
-  pub shows : OfPicture (λ P there. there ≡ P.closed_days branch day) g old new result
-  pub sound : result ≢ Err Stored
-  pub view : Views (λ P there. there ≡ P.closed_days branch day) g old new result
 
 -- What is kept under a caller's key, if anything is.
 pub record GetsKept {S : Type 0} (owner : Owner) (key : List ℕ)
@@ -297,13 +291,15 @@ pub record Lists {S K R L : Type 0} (t : Table K R) (items : L → List R) (Foun
   pub sound : IsSoundIn InLimits g old new result
   pub read : Reading (result_err result) (state g old) (state g new)
 
--- The same, asked inside a transaction, over the tables of each schema that has this one. Where the rows come, nothing is changed, so that the transaction goes on.
+-- The same, asked inside a transaction, over the tables of each schema that has this one. Where the rows come, nothing is changed, so that
+-- the transaction goes on.
 pub record ListsInside {S K R L : Type 0} (t : Table K R) (items : L → List R) (Found : Map → List Row → Type 0)
     (g : Ghosts S) (old new : Transaction S) (result : Result L Fault) : Type 0 where
   pub works : WorksInside g old new
   pub lists : (n : ℕ) → HasTable t.since n → OfMapsAt (schema_at n) (λ maps l. Found (maps t.place) (map t.cells (items l))) g old.conn.now new.conn.now result
   pub limits : IfOk result (λ l. All t.IsLegal (items l))
-  pub stored : (n : ℕ) → HasTable t.since n → IsStoredAt (schema_at n) (λ maps. ¬ AreEncoded t.cells t.IsLegal (maps t.place)) g old.conn.now new.conn.now result
+  pub stored : (n : ℕ) → HasTable t.since n
+      → IsStoredAt (schema_at n) (λ maps. ¬ AreEncoded t.cells t.IsLegal (maps t.place)) g old.conn.now new.conn.now result
 
 -- The days on which a branch is closed singly.
 pub record ListsDays {S L : Type 0} (items : L → List ℕ) (branch : ℕ)

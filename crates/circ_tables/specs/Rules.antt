@@ -33,7 +33,8 @@ texts_are = record {
     uncounted = refl;
     calm = λ keys depth tree olds news. refl;
     target = λ r new. or_false _;
-    alone = alone_by_index shape.schema shape.rules_place shape.rules _ refl (inr (inr (inr (inr (inr (inr (inr (inr (inr (inr (inr (inr (inr (inr (inr (inr (inl refl))))))))))))))))) refl refl refl;
+    alone = alone_by_index shape.schema shape.rules_place shape.rules _ refl
+        (inr (inr (inr (inr (inr (inr (inr (inr (inr (inr (inr (inr (inr (inr (inr (inr (inl refl))))))))))))))))) refl refl refl;
   };
   primary = refl;
   first_cell = λ r. refl;

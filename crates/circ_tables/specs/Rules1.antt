@@ -28,7 +28,8 @@ rules1 = record {
   set = λ P k row. record P { rules1 = put_pair P.rules1 k.0 k.1 row };
 }
 
-texts_are : (more : List SqlTable) (others : List Index) → IsCalm (grown more others) → IsAimed (grown more others) shape.rules1 → IsPaired (grown more others) shape.rules1_place shape.rules1
+texts_are : (more : List SqlTable) (others : List Index) → IsCalm (grown more others) → IsAimed (grown more others) shape.rules1
+    → IsPaired (grown more others) shape.rules1_place shape.rules1
 unfolding understood everything
 texts_are more others calm aimed = record {
   fixed = record {
@@ -49,4 +50,5 @@ texts_are more others calm aimed = record {
 }
 
 pub rules1_are : (n : ℕ) → shape.HasTable 1 n → IsPaired (shape.schema_at n) shape.rules1_place shape.rules1
-rules1_are = in_each shape.rules1_place shape.rules1 texts_are (shape.since_first (λ n. IsAimed (shape.schema_at n) shape.rules1) (λ r new. or_false _) (λ r new. or_false _) (λ r new. or_false _))
+rules1_are = in_each shape.rules1_place shape.rules1 texts_are
+    (shape.since_first (λ n. IsAimed (shape.schema_at n) shape.rules1) (λ r new. or_false _) (λ r new. or_false _) (λ r new. or_false _))

@@ -50,12 +50,14 @@ titles_are = record {
   keyed = λ k. refl;
   first_cell = λ r. refl;
   from_one = λ r legal. legal.0.0;
-  fills = λ r. single_fills shape.titles (pos r.title) (drop 1 (title_cells r)) (put_terms shape.titles) (put_shows shape.titles) 3 2 refl refl refl refl (λ there rest. refl) (λ there r new. refl) (λ id. refl);
+  fills = λ r. single_fills shape.titles (pos r.title) (drop 1 (title_cells r)) (put_terms shape.titles)
+      (put_shows shape.titles) 3 2 refl refl refl refl (λ there rest. refl) (λ there r new. refl) (λ id. refl);
   back = λ v. record { title = nat_of (column v 0); text = text_of (column v 1) };
   back_is = λ r _ i. record { title = r.title; text = r.text };
   rows_are = λ maps P is. is.titles;
   legal = λ P is. is.titles;
   with_rows = λ P u. record P { titles = u };
   set_is = λ P k row. refl;
-  framed = λ maps P m u is held. from_list _ _ (with_held (all_held P) shape.titles_place (λ w. IsEncoded Any number_key title_cells w u) m maps (to_list _ _ is) held);
+  framed = λ maps P m u is held. from_list _ _
+      (with_held (all_held P) shape.titles_place (λ w. IsEncoded Any number_key title_cells w u) m maps (to_list _ _ is) held);
 }

@@ -51,12 +51,15 @@ transits_are = record {
   keyed = λ k. refl;
   first_cell = λ r. refl;
   from_one = λ r legal. legal.0.0;
-  fills = λ r. single_fills shape.transits (pos r.copy) (drop 1 (transit_cells r)) (put_terms shape.transits) (put_shows shape.transits) 4 3 refl refl (ap (λ b. b && true) (optional_suits r.hold)) refl (λ there rest. refl) (λ there r new. refl) (λ id. refl);
+  fills = λ r. single_fills shape.transits (pos r.copy) (drop 1 (transit_cells r)) (put_terms shape.transits)
+      (put_shows shape.transits) 4 3 refl refl (ap (λ b. b && true) (optional_suits r.hold)) refl (λ there rest. refl) (λ there r new. refl)
+      (λ id. refl);
   back = λ v. record { copy = nat_of (column v 0); goal = nat_of (column v 1); hold = option_of (column v 2) };
   back_is = λ r _ i. record { copy = r.copy; goal = r.goal; hold = option_back r.hold i };
   rows_are = λ maps P is. is.transits;
   legal = λ P is. is.transits;
   with_rows = λ P u. record P { transits = u };
   set_is = λ P k row. refl;
-  framed = λ maps P m u is held. from_list _ _ (with_held (all_held P) shape.transits_place (λ w. IsEncoded Any number_key transit_cells w u) m maps (to_list _ _ is) held);
+  framed = λ maps P m u is held. from_list _ _
+      (with_held (all_held P) shape.transits_place (λ w. IsEncoded Any number_key transit_cells w u) m maps (to_list _ _ is) held);
 }

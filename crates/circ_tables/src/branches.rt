@@ -40,7 +40,8 @@ impl Numbered for BranchRow {
 
     fn texts() -> Texts {
         Texts {
-            put: "INSERT INTO branches VALUES (?1, ?2, ?3, ?4) ON CONFLICT (branch) DO UPDATE SET pickup = ?2, week = ?3, name = ?4",
+            put: "INSERT INTO branches VALUES (?1, ?2, ?3, ?4) \
+                  ON CONFLICT (branch) DO UPDATE SET pickup = ?2, week = ?3, name = ?4",
             take: "DELETE FROM branches WHERE branch = ?1",
             get: "SELECT * FROM branches WHERE branch = ?1",
             all: "SELECT * FROM branches ORDER BY branch",

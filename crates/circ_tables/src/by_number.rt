@@ -1,5 +1,5 @@
-//! A table that is keyed by one number: what it has to say of itself, and the calls that follow from
-//! that.
+//! A table that is keyed by one number: what it has to say of itself, and the calls that follow
+//! from that.
 
 ghost use Rattle.std.specs.Option.{option_to_list};
 ghost use Rattle.std.specs.Prelude.{◌≡◌, ◌<◌, ◌^◌, ℕ};
@@ -77,7 +77,8 @@ pub trait Put {
 
     /// Runs a text on the columns of the row. 91.
     fn run_with<S: Alter>(&self, tx: &mut Transaction<'_, S>, sql: &str) -> Result<(), Fault>
-        ensures { Runs sql.now (Self.Row.table.cells (entry self.now)) S.Store tx.old tx.new result };
+        ensures { Runs sql.now (Self.Row.table.cells (entry self.now))
+            S.Store tx.old tx.new result };
 }
 
 /// Puts a row. 91, also where it breaks what the table has to keep.
@@ -123,8 +124,8 @@ pub fn every_row<T: Numbered, S: Alter>(
 /// How many rows a page of a list has, but for its last one. The texts of pages name it too.
 pub const PAGE_ROWS: usize = 1000;
 
-/// The least number of a row that comes after this one. That this one has 32 bits is said too, since
-/// what is answered fits 64 for it.
+/// The least number of a row that comes after this one. That this one has 32 bits is said too,
+/// since what is answered fits 64 for it.
 fn least_after(after: u32) -> i64
     ensures least { result ≡ least_after after }
     ensures range { after < 2 ^ 32 }

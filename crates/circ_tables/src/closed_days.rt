@@ -4,10 +4,10 @@ ghost use Rattle.std.specs.Prelude.{◌≡◌, ◌≢◌, Err, IfOk, [], map};
 ghost use Rattle.sql_maps.specs.Maps.{ListedBy, PairBelow};
 ghost use Rattle.circ_tables.specs.ClosedDays.{closed_days};
 ghost use Rattle.circ_tables.specs.Puts.{PutsRow, TakesRow};
-ghost use Rattle.circ_tables.specs.Reading.{GetsDay, Lists, ListsDays};
+ghost use Rattle.circ_tables.specs.Reading.{Lists, ListsDays};
 ghost use Rattle.circ_tables.specs.Selections.{is_any};
 
-use crate::call::{first_row, run};
+use crate::call::run;
 use crate::cell::{branch_at, day_at, has_width};
 use crate::list::{Table, rows_of};
 use calendar::Day;
@@ -61,22 +61,6 @@ pub fn take_closed_day<S: Alter>(
         "DELETE FROM closed_days WHERE branch = ?1 AND day = ?2",
         params![branch.number(), day.number()],
     )
-}
-
-/// Whether the branch is closed singly on the day. 91.
-pub fn has_closed_day<S: Alter>(
-    conn: &mut Connection<S>,
-    branch: BranchId,
-    day: Day,
-) -> Result<bool, Fault>
-    ensures { GetsDay branch day S.Store conn.old conn.new result }
-{
-    let row = first_row(
-        conn,
-        "SELECT * FROM closed_days WHERE branch = ?1 AND day = ?2",
-        params![branch.number(), day.number()],
-    )?;
-    Ok(row.is_some())
 }
 
 /// All rows of `closed_days`, by branch and then by day. 90, 91, 93.

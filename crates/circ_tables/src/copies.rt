@@ -44,7 +44,9 @@ impl Numbered for CopyRow {
 
     fn texts() -> Texts {
         Texts {
-            put: "INSERT INTO copies VALUES (?1, ?2, ?3, ?4, ?5, ?6) ON CONFLICT (copy) DO UPDATE SET title = ?2, kind = ?3, home = ?4, price = ?5, condition = ?6",
+            put: "INSERT INTO copies VALUES (?1, ?2, ?3, ?4, ?5, ?6) \
+                  ON CONFLICT (copy) DO UPDATE SET title = ?2, kind = ?3, home = ?4, price = ?5, \
+                  condition = ?6",
             take: "DELETE FROM copies WHERE copy = ?1",
             get: "SELECT * FROM copies WHERE copy = ?1",
             all: "SELECT * FROM copies ORDER BY copy",

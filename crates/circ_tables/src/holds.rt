@@ -58,7 +58,9 @@ impl Numbered for HoldRow {
 
     fn texts() -> Texts {
         Texts {
-            put: "INSERT INTO holds2 VALUES (?1, ?2, ?3, ?4, ?5, ?6, ?7, ?8) ON CONFLICT (hold) DO UPDATE SET patron = ?2, title = ?3, branch = ?4, state = ?5, copy = ?6, limit_day = ?7, first_day = ?8",
+            put: "INSERT INTO holds2 VALUES (?1, ?2, ?3, ?4, ?5, ?6, ?7, ?8) \
+                  ON CONFLICT (hold) DO UPDATE SET patron = ?2, title = ?3, branch = ?4, \
+                  state = ?5, copy = ?6, limit_day = ?7, first_day = ?8",
             take: "DELETE FROM holds2 WHERE hold = ?1",
             get: "SELECT * FROM holds2 WHERE hold = ?1",
             all: "SELECT * FROM holds2 ORDER BY hold",
@@ -111,7 +113,8 @@ pub fn ready_hold_of<S: Alter>(
 
 /// The text of `first_waiting`.
 pub const FIRST_WAITING_TEXT: &str =
-    "SELECT * FROM holds2 WHERE title = ?1 AND state = 0 AND NOT EXISTS (SELECT * FROM transits WHERE transits.hold = holds2.hold) ORDER BY first_day, hold LIMIT 1";
+    "SELECT * FROM holds2 WHERE title = ?1 AND state = 0 AND NOT EXISTS (SELECT * FROM transits \
+     WHERE transits.hold = holds2.hold) ORDER BY first_day, hold LIMIT 1";
 
 /// The waiting hold for a title that no copy travels for and that begins first: one without a first
 /// day before all others, then one of the earliest first day; of these the least number. 91, 93.
@@ -130,7 +133,9 @@ fn first_waiting<S: Alter>(
 
 /// The text of `first_begun`.
 pub const FIRST_BEGUN_TEXT: &str =
-    "SELECT * FROM holds2 WHERE title = ?1 AND state = 0 AND first_day >= 0 AND first_day <= ?2 AND NOT EXISTS (SELECT * FROM transits WHERE transits.hold = holds2.hold) ORDER BY hold LIMIT 1";
+    "SELECT * FROM holds2 WHERE title = ?1 AND state = 0 AND first_day >= 0 AND first_day <= ?2 \
+     AND NOT EXISTS (SELECT * FROM transits WHERE transits.hold = holds2.hold) \
+     ORDER BY hold LIMIT 1";
 
 /// The waiting hold of the least number for a title that no copy travels for and whose first day
 /// has come. 91, 93.

@@ -43,7 +43,9 @@ impl Numbered for HoldRow1 {
 
     fn texts() -> Texts {
         Texts {
-            put: "INSERT INTO holds VALUES (?1, ?2, ?3, ?4, ?5, ?6, ?7) ON CONFLICT (hold) DO UPDATE SET patron = ?2, title = ?3, branch = ?4, state = ?5, copy = ?6, limit_day = ?7",
+            put: "INSERT INTO holds VALUES (?1, ?2, ?3, ?4, ?5, ?6, ?7) \
+                  ON CONFLICT (hold) DO UPDATE SET patron = ?2, title = ?3, branch = ?4, \
+                  state = ?5, copy = ?6, limit_day = ?7",
             take: "DELETE FROM holds WHERE hold = ?1",
             get: "SELECT * FROM holds WHERE hold = ?1",
             all: "SELECT * FROM holds ORDER BY hold",

@@ -52,7 +52,8 @@ pub fn put_kept<S: Alter>(tx: &mut Transaction<'_, S>, row: &KeptPut<'_>) -> Res
 {
     run(
         tx,
-        "INSERT INTO kept VALUES (?1, ?2, ?3, ?4) ON CONFLICT (caller, key) DO UPDATE SET text = ?3, reply = ?4",
+        "INSERT INTO kept VALUES (?1, ?2, ?3, ?4) ON CONFLICT (caller, \
+         key) DO UPDATE SET text = ?3, reply = ?4",
         params![
             owner_number(row.caller),
             row.key.as_str(),

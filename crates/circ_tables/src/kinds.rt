@@ -19,7 +19,8 @@ impl Table for KindRow {
 
     ghost table = { kinds };
 
-    /// A row of `kinds`: up to 200 loans and 200 holds, and a debt limit up to 1,000,000 cents. 91, 93.
+    /// A row of `kinds`: up to 200 loans and 200 holds, and a debt limit up to 1,000,000 cents. 91,
+    /// 93.
     fn read(row: &Row, _memory: ()) -> Result<KindRow, Fault> {
         has_width(row, 4)?;
         Ok(KindRow {
@@ -42,7 +43,8 @@ impl Numbered for KindRow {
 
     fn texts() -> Texts {
         Texts {
-            put: "INSERT INTO kinds VALUES (?1, ?2, ?3, ?4) ON CONFLICT (kind) DO UPDATE SET loans = ?2, holds = ?3, debt = ?4",
+            put: "INSERT INTO kinds VALUES (?1, ?2, ?3, ?4) \
+                  ON CONFLICT (kind) DO UPDATE SET loans = ?2, holds = ?3, debt = ?4",
             take: "DELETE FROM kinds WHERE kind = ?1",
             get: "SELECT * FROM kinds WHERE kind = ?1",
             all: "SELECT * FROM kinds ORDER BY kind",

@@ -51,7 +51,9 @@ impl Numbered for LineRow {
 
     fn texts() -> Texts {
         Texts {
-            put: "INSERT INTO lines VALUES (?1, ?2, ?3, ?4, ?5, ?6) ON CONFLICT (line) DO UPDATE SET patron = ?2, day = ?3, sort = ?4, amount = ?5, loan = ?6",
+            put: "INSERT INTO lines VALUES (?1, ?2, ?3, ?4, ?5, ?6) \
+                  ON CONFLICT (line) DO UPDATE SET patron = ?2, day = ?3, sort = ?4, amount = ?5, \
+                  loan = ?6",
             take: "DELETE FROM lines WHERE line = ?1",
             get: "SELECT * FROM lines WHERE line = ?1",
             all: "SELECT * FROM lines ORDER BY line",

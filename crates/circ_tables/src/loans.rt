@@ -5,7 +5,8 @@ ghost use Rattle.sql_maps.specs.Pages.{FirstRows};
 ghost use Rattle.circ_tables.specs.Copies.{copies};
 ghost use Rattle.circ_tables.specs.Loans.{loans, loans_are};
 ghost use Rattle.circ_tables.specs.Reading.{Counts, Lists, Selects};
-ghost use Rattle.circ_tables.specs.Selections.{LendsTitle, is_open_by, is_open_of, is_overdue_after};
+ghost use Rattle.circ_tables.specs.Selections.{LendsTitle, is_open_by, is_open_of};
+ghost use Rattle.circ_tables.specs.Selections.{is_overdue_after};
 ghost use Rattle.circ_tables.specs.Shape.{copies_place, loans_place};
 ghost use Rattle.circ_tables.specs.declared.by_number.TheConstants.{PAGE_ROWS};
 
@@ -62,7 +63,10 @@ impl Numbered for LoanRow {
 
     fn texts() -> Texts {
         Texts {
-            put: "INSERT INTO loans3 VALUES (?1, ?2, ?3, ?4, ?5, ?6, ?7, ?8, ?9, ?10, ?11, ?12) ON CONFLICT (loan) DO UPDATE SET copy = ?2, patron = ?3, branch = ?4, made = ?5, due = ?6, period = ?7, renewals_left = ?8, rate = ?9, cap = ?10, ended = ?11, grace = ?12",
+            put: "INSERT INTO loans3 VALUES (?1, ?2, ?3, ?4, ?5, ?6, ?7, ?8, ?9, ?10, ?11, ?12) \
+                  ON CONFLICT (loan) DO UPDATE SET copy = ?2, patron = ?3, branch = ?4, made = ?5, \
+                  due = ?6, period = ?7, renewals_left = ?8, rate = ?9, cap = ?10, ended = ?11, \
+                  grace = ?12",
             take: "DELETE FROM loans3 WHERE loan = ?1",
             get: "SELECT * FROM loans3 WHERE loan = ?1",
             all: "SELECT * FROM loans3 ORDER BY loan",
@@ -122,7 +126,8 @@ pub fn open_loan_of<S: Alter>(
 
 /// The text of `open_loan_of_title`.
 pub const OPEN_LOAN_OF_TITLE_TEXT: &str =
-    "SELECT * FROM loans3 WHERE patron = ?1 AND ended IS NULL AND EXISTS (SELECT * FROM copies WHERE copies.copy = loans3.copy AND copies.title = ?2) ORDER BY loan LIMIT 1";
+    "SELECT * FROM loans3 WHERE patron = ?1 AND ended IS NULL AND EXISTS (SELECT * FROM copies \
+     WHERE copies.copy = loans3.copy AND copies.title = ?2) ORDER BY loan LIMIT 1";
 
 /// The open loan of a patron of some copy of the title, the least number first, if there is one.
 /// 91, 93.
@@ -181,7 +186,8 @@ pub fn open_loans_by<S: Alter>(
 
 /// The text of `overdue_loans_after`.
 pub const OVERDUE_LOANS_AFTER_TEXT: &str =
-    "SELECT * FROM loans3 WHERE branch = ?1 AND ended IS NULL AND due < ?2 AND loan > ?3 ORDER BY loan LIMIT 1000";
+    "SELECT * FROM loans3 WHERE branch = ?1 AND ended IS NULL AND due < ?2 AND loan > ?3 \
+     ORDER BY loan LIMIT 1000";
 
 /// The first open loans that the branch made, that were due before the day and whose numbers are
 /// above this one, the least number first: all of them, or as many as a page has. 90, 91, 93.

@@ -50,7 +50,9 @@ impl Numbered for LoanRow1 {
 
     fn texts() -> Texts {
         Texts {
-            put: "INSERT INTO loans VALUES (?1, ?2, ?3, ?4, ?5, ?6, ?7, ?8, ?9, ?10, ?11) ON CONFLICT (loan) DO UPDATE SET copy = ?2, patron = ?3, branch = ?4, made = ?5, due = ?6, period = ?7, renewals_left = ?8, rate = ?9, cap = ?10, ended = ?11",
+            put: "INSERT INTO loans VALUES (?1, ?2, ?3, ?4, ?5, ?6, ?7, ?8, ?9, ?10, ?11) \
+                  ON CONFLICT (loan) DO UPDATE SET copy = ?2, patron = ?3, branch = ?4, made = ?5, \
+                  due = ?6, period = ?7, renewals_left = ?8, rate = ?9, cap = ?10, ended = ?11",
             take: "DELETE FROM loans WHERE loan = ?1",
             get: "SELECT * FROM loans WHERE loan = ?1",
             all: "SELECT * FROM loans ORDER BY loan",

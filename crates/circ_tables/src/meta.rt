@@ -80,7 +80,9 @@ pub fn put_meta<S: Alter>(tx: &mut Transaction<'_, S>, row: &MetaRow) -> Result<
 {
     run(
         tx,
-        "INSERT INTO meta VALUES (?1, ?2, ?3, ?4, ?5, ?6) ON CONFLICT (id) DO UPDATE SET schema = ?2, today = ?3, next_loan = ?4, next_hold = ?5, next_line = ?6",
+        "INSERT INTO meta VALUES (?1, ?2, ?3, ?4, ?5, ?6) \
+         ON CONFLICT (id) DO UPDATE SET schema = ?2, today = ?3, next_loan = ?4, next_hold = ?5, \
+         next_line = ?6",
         params![
             1u32,
             row.schema,

@@ -42,7 +42,9 @@ impl Numbered for PatronRow {
 
     fn texts() -> Texts {
         Texts {
-            put: "INSERT INTO patrons VALUES (?1, ?2, ?3, ?4, ?5) ON CONFLICT (patron) DO UPDATE SET kind = ?2, card_key = ?3, name = ?4, owed = ?5",
+            put: "INSERT INTO patrons VALUES (?1, ?2, ?3, ?4, ?5) \
+                  ON CONFLICT (patron) DO UPDATE SET kind = ?2, card_key = ?3, name = ?4, \
+                  owed = ?5",
             take: "DELETE FROM patrons WHERE patron = ?1",
             get: "SELECT * FROM patrons WHERE patron = ?1",
             all: "SELECT * FROM patrons ORDER BY patron",

@@ -24,8 +24,8 @@ impl Table for RuleRow {
 
     ghost table = { rules };
 
-    /// A row of `rules3`: a period of 1 to 365 days, up to 99 renewals, a rate up to 10,000 and a cap up
-    /// to 100,000 cents, and up to 365 grace days. 91, 93.
+    /// A row of `rules3`: a period of 1 to 365 days, up to 99 renewals, a rate up to 10,000 and a
+    /// cap up to 100,000 cents, and up to 365 grace days. 91, 93.
     fn read(row: &Row, _memory: ()) -> Result<RuleRow, Fault> {
         has_width(row, 7)?;
         Ok(RuleRow {
@@ -48,7 +48,8 @@ pub fn put_rule<S: Alter>(tx: &mut Transaction<'_, S>, row: &RuleRow) -> Result<
     let cap = money(row.cap);
     run(
         tx,
-        "INSERT INTO rules3 VALUES (?1, ?2, ?3, ?4, ?5, ?6, ?7) ON CONFLICT (kind, copy_kind) DO UPDATE SET period = ?3, renewals = ?4, rate = ?5, cap = ?6, grace = ?7",
+        "INSERT INTO rules3 VALUES (?1, ?2, ?3, ?4, ?5, ?6, ?7) ON CONFLICT (kind, \
+         copy_kind) DO UPDATE SET period = ?3, renewals = ?4, rate = ?5, cap = ?6, grace = ?7",
         params![
             row.kind.number(),
             row.copy_kind.number(),

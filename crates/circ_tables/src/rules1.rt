@@ -37,8 +37,8 @@ impl Table for RuleRow1 {
     }
 }
 
-/// All rows of `rules`, asked inside a transaction, which goes on: by the kind of patron and then by
-/// the kind of copy. 90, 91, 93.
+/// All rows of `rules`, asked inside a transaction, which goes on: by the kind of patron and then
+/// by the kind of copy. 90, 91, 93.
 pub fn rules_inside<S: Alter>(
     tx: &mut Transaction<'_, S>,
     alloc: Global,

@@ -43,7 +43,8 @@ impl Numbered for TransitRow {
 
     fn texts() -> Texts {
         Texts {
-            put: "INSERT INTO transits VALUES (?1, ?2, ?3) ON CONFLICT (copy) DO UPDATE SET goal = ?2, hold = ?3",
+            put: "INSERT INTO transits VALUES (?1, ?2, ?3) \
+                  ON CONFLICT (copy) DO UPDATE SET goal = ?2, hold = ?3",
             take: "DELETE FROM transits WHERE copy = ?1",
             get: "SELECT * FROM transits WHERE copy = ?1",
             all: "SELECT * FROM transits ORDER BY copy",

@@ -1,4 +1,5 @@
-//! Copies files as readers bring them: rows that aren't good, a row too many, and reads that fail at each byte.
+//! Copies files as readers bring them: rows that aren't good, a row too many, and reads that fail
+//! at each byte.
 
 use crate::calls::{copies, import};
 use crate::cut_lines::BEES;
@@ -15,8 +16,8 @@ use test_library::{counts, ground, store_of};
 /// A header and a good row.
 const BEGUN: &str = "copy,title,text,kind,home,price,end\n50,500,Maps,1,1,1500,end\n";
 
-/// Rows that aren't good: a field too few, a number with a zero before it, another closing word, and
-/// no title.
+/// Rows that aren't good: a field too few, a number with a zero before it, another closing word,
+/// and no title.
 const BAD: [&str; 4] = [
     "51,500,Maps,1,1500,end\n",
     "062,500,Maps,1,1,1500,end\n",
@@ -30,8 +31,8 @@ fn ended_lines(bytes: &[u8]) -> usize {
 }
 
 /// How a file whose second row is bad is read where the reader fails after some of its bytes: its
-/// first row is there once its line has ended, and the end is told once the bad line has ended, if a
-/// line's end ends it at all.
+/// first row is there once its line has ended, and the end is told once the bad line has ended, if
+/// a line's end ends it at all.
 fn breaks(rt: &impl Abort, alloc: Global, bytes: &[u8], lines: usize) {
     for size in 0..bytes.len() + 1 {
         let front = &bytes[..size];

@@ -206,7 +206,8 @@ fn cuts_the_lines_of_rows(rt: HostRuntime) -> Result<(), Fail> {
     Ok(())
 }
 
-/// What is told of a reader that fails, of a file that can't be opened, and where there is no memory.
+/// What is told of a reader that fails, of a file that can't be opened, and where there is no
+/// memory.
 fn tells<S: Alter>(desk: &mut Desk<S>, alloc: Global, bytes: &mut Vec<u8>) -> Result<bool, Fail> {
     let reader = Drip::failing(BEES.as_bytes());
     let ends = (import(desk, alloc, reader, bytes)?, unreadable(bytes)?);

@@ -1,5 +1,6 @@
-//! Tests of the lines, reports, audits and copies files of `circ` that the program on files cannot show, in a crate of their own, so
-//! that the crates below are proved once: readers and writers that fail, rows that aren't good, limits on steps, and audits of any rows.
+//! Tests of the lines, reports, audits and copies files of `circ` that the program on files cannot
+//! show, in a crate of their own, so that the crates below are proved once: readers and writers
+//! that fail, rows that aren't good, limits on steps, and audits of any rows.
 #![tactic(auto)]
 
 #[cfg(test)]

@@ -1,4 +1,5 @@
-//! Limits on the steps of the database, over memory: what a copies file and a report tell of the fault.
+//! Limits on the steps of the database, over memory: what a copies file and a report tell of the
+//! fault.
 
 use crate::calls::{import, report};
 use circ::{Exit, Report};
@@ -35,7 +36,8 @@ fn limited_report(
     Ok((ended, bytes))
 }
 
-/// The bytes are a beginning of the report and then the line of the fault. How long the beginning is.
+/// The bytes are a beginning of the report and then the line of the fault. How long the beginning
+/// is.
 fn is_cut(rt: &impl Abort, bytes: &[u8], limit: u64) -> usize {
     let front = bytes.strip_suffix(b"fault 91\n").unwrap_or(b"?");
     assert!(rt; LATE.as_bytes().starts_with(front), "at {limit}");

@@ -1,17 +1,14 @@
 -- The reply of a decision is no refusal, whatever rows it is made on.
-use Rattle.std.proofs.Common.{◌≡◌, ℕ, Bool, true, false, List, refl, sym, ◌∙◌, ap, Some, None}
+use Rattle.std.proofs.Common.{◌≡◌, ℕ, Bool, true, false, refl, ◌∙◌, ap, Some, None}
 use Rattle.std.specs.Prelude.{Option, Ok}
 use Rattle.terms.specs.declared.refusal.Refusal.{Refusal}
 use Rattle.terms.specs.declared.reply.Reply.{Reply}
-use Rattle.terms.specs.declared.reply.Reply.TheVariants.{Refused, Done}
+use Rattle.terms.specs.declared.reply.Reply.TheVariants.{Refused}
 use Rattle.terms.specs.declared.row.LoanRow.{LoanRow}
 use Rattle.terms.specs.declared.command.Command.{Command}
 use Rattle.terms.specs.declared.command.Command.TheVariants.{Missing}
-use Rattle.model.specs.Checks.{Check}
 use Rattle.circ_core.specs.declared.changes.Decision.{Decision}
-use Rattle.circ_core.specs.declared.changes.RowChange.{RowChange}
 use Rattle.circ_core.specs.declared.views.View.{View}
-use Rattle.circ_core.specs.Decided.{Decided}
 use Rattle.circ_core.specs.Deciding.{DecidesOn}
 use Rattle.circ_core.specs.Missing.{lost_reply}
 

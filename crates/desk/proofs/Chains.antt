@@ -1,5 +1,5 @@
 -- Requests that were handled one after another.
-use Rattle.std.proofs.Common.{◌≡◌, List, [], ◌∷◌, ◌++◌, refl, sym, subst}
+use Rattle.std.proofs.Common.{◌≡◌, List, [], ◌∷◌, ◌++◌, refl, subst}
 use Rattle.std.specs.Prelude.{Ok}
 use Rattle.store.specs.Library.{Ghosts, Held}
 use Rattle.terms.specs.declared.command.Request.{Request}
@@ -14,7 +14,8 @@ module _ {S : Type 0} (g : Ghosts S) where
   handled-none (a ∷ more) old none = let never : ⊥ = cc in never
 
   -- One request more.
-  pub handled-last : (rs : List Request) (told : List Reply) (r : Request) (a : Reply) (old mid new : Held S) → HandledAll g rs told old mid → Handled r g mid new (Ok a)
+  pub handled-last : (rs : List Request) (told : List Reply) (r : Request) (a : Reply) (old mid new : Held S) → HandledAll g rs told old mid
+      → Handled r g mid new (Ok a)
       → HandledAll g (rs ++ r ∷ []) (told ++ a ∷ []) old new
   handled-last [] [] r a old mid new done last = (new, subst (λ was. Handled r g was new (Ok a)) done last, refl)
   handled-last [] (b ∷ bs) r a old mid new done last = absurd done

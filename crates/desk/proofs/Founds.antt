@@ -41,7 +41,8 @@ reads-as {B = B} a b x r one = record {
     given (Err e) p = tt
 
 -- Nothing was asked yet.
-pub found-nothing : {S : Type 0} {g : Ghosts S} {a : Held S} {Is : Picture → Unit {0} → Type 0} → ((P : Picture) → InLimits P → Is P tt) → Found Is g a a (Ok tt)
+pub found-nothing : {S : Type 0} {g : Ghosts S} {a : Held S} {Is : Picture → Unit {0} → Type 0} → ((P : Picture) → InLimits P → Is P tt)
+    → Found Is g a a (Ok tt)
 found-nothing is = record {
   reads = record { clean = λ disk. disk; answered = λ disk tables. refl; same = λ disk is_open tables. refl; left = λ disk tables trees may. may };
   shown = λ disk P shown legal. (is P legal, refl);
@@ -76,7 +77,8 @@ module _ {S A : Type 0} {g : Ghosts S} {a b : Held S} {Is : Picture → A → Ty
 
   module _ {B : Type 0} {c : Held S} {Then : Picture → B → Type 0} where
     -- One read after another.
-    pub found-then : {C : Type 0} {Wanted : Picture → C → Type 0} {y : B} {z : C} → Found Then g b c (Ok y) → ((P : Picture) → InLimits P → Is P x → Then P y → Wanted P z) → Found Wanted g a c (Ok z)
+    pub found-then : {C : Type 0} {Wanted : Picture → C → Type 0} {y : B} {z : C} → Found Then g b c (Ok y)
+        → ((P : Picture) → InLimits P → Is P x → Then P y → Wanted P z) → Found Wanted g a c (Ok z)
     found-then {y = y} {z = z} second f = record {
       reads = reads-then (state g a) (state g b) (state g c) x (Ok z) first.reads (reads-as (state g b) (state g c) y (Ok z) second.reads);
       shown = λ disk P shown legal.
@@ -87,11 +89,13 @@ module _ {S A : Type 0} {g : Ghosts S} {a b : Held S} {Is : Picture → A → Ty
     }
 
     -- The fault of a read is handed on.
-    pub found-fault : {C : Type 0} {Wanted : Picture → C → Type 0} {fault : Fault} (r : Result C Fault) → IsErr r × IsErrAnd r (λ e. e ≡ fault) → Found Then g b c (Err fault) → Found Wanted g a c r
+    pub found-fault : {C : Type 0} {Wanted : Picture → C → Type 0} {fault : Fault} (r : Result C Fault) → IsErr r
+        × IsErrAnd r (λ e. e ≡ fault) → Found Then g b c (Err fault) → Found Wanted g a c r
     found-fault (Ok z) is second = let never : ⊥ = cc (is.0) in absurd never
     found-fault {C} {fault = fault} (Err e) is second =
         let same : e ≡ fault = is.1 in
-        let again : Reads {A = C} (state g b) (state g c) (Err e) = record { clean = second.reads.clean; answered = λ disk tables. tt; same = second.reads.same; left = second.reads.left } in
+        let again : Reads {A = C} (state g b) (state g c) (Err e) =
+        record { clean = second.reads.clean; answered = λ disk tables. tt; same = second.reads.same; left = second.reads.left } in
         record {
           reads = reads-then (state g a) (state g b) (state g c) x (Err e) first.reads again;
           shown = λ disk. tt;
@@ -102,5 +106,6 @@ module _ {S A : Type 0} {g : Ghosts S} {a b : Held S} {Is : Picture → A → Ty
         }
 
 -- A fault is that of what was asked.
-pub found-err : {S A B : Type 0} {g : Ghosts S} {a b : Held S} {Is : Picture → A → Type 0} {Wanted : Picture → B → Type 0} {fault : Fault} (r : Result B Fault) → IsErr r × IsErrAnd r (λ e. e ≡ fault) → Found Is g a b (Err fault) → Found Wanted g a b r
+pub found-err : {S A B : Type 0} {g : Ghosts S} {a b : Held S} {Is : Picture → A → Type 0} {Wanted : Picture → B → Type 0} {fault : Fault}
+    (r : Result B Fault) → IsErr r × IsErrAnd r (λ e. e ≡ fault) → Found Is g a b (Err fault) → Found Wanted g a b r
 found-err r is asked = found-fault (found-nothing {Is = λ _ _. Unit {0}} (λ _ _. tt)) r is asked

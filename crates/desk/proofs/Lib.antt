@@ -3,7 +3,7 @@ pub mod Unchanged
 pub mod Accepted
 pub mod Looking
 pub mod Founds
-pub mod Settling
+pub mod RefusingAnothers
 pub mod Owning
 pub mod Leads
 pub mod Handled

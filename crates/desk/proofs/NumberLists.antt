@@ -1,5 +1,6 @@
 -- Lists of numbers that rise, above a number and after a page.
-use Rattle.std.proofs.Common.{◌≡◌, ℕ, zero, suc, ◌≤◌, ◌<◌, ◌+◌, ◌-◌, ◌==◌, nat_lt, Bool, true, false, cond, ◌||◌, ◌⊎◌, inl, inr, List, [], ◌∷◌, ◌++◌, length, map, slice_get, refl, sym, ◌∙◌, ap, subst, arith}
+use Rattle.std.proofs.Common.{◌≡◌, ℕ, zero, suc, ◌≤◌, ◌<◌, ◌+◌, ◌-◌, ◌==◌, nat_lt, Bool, true, false, cond, ◌||◌, ◌⊎◌, inl, inr, List, []}
+use Rattle.std.proofs.Common.{◌∷◌, ◌++◌, length, map, slice_get, refl, sym, ◌∙◌, ap, subst, arith}
 use Rattle.std.specs.Prelude.{Some, option_map, filter}
 use Rattle.std.proofs.lemmas.Bool.{eq-eqb, or_cases, ltb-true, lt-ltb}
 use Rattle.std.proofs.lemmas.List.{length-append}
@@ -17,11 +18,13 @@ pub has-filter : (f : ℕ → Bool) (xs : List ℕ) (k : ℕ) → has k (filter 
 has-filter f [] k e = let never : ⊥ = cc in absurd never
 has-filter f (x ∷ xs) k e = go (λ q. has-filter f xs k q) (f x) refl e
   where
-    first : f x ≡ true → (k ≡ x) ⊎ (has k (filter f xs) ≡ true) → (has k (filter f xs) ≡ true → (has k xs ≡ true) × (f k ≡ true)) → (has k (x ∷ xs) ≡ true) × (f k ≡ true)
+    first : f x ≡ true → (k ≡ x) ⊎ (has k (filter f xs) ≡ true) → (has k (filter f xs) ≡ true → (has k xs ≡ true) × (f k ≡ true))
+        → (has k (x ∷ xs) ≡ true) × (f k ≡ true)
     first p (inl same) ih = (subst (λ (m : ℕ). has m (x ∷ xs) ≡ true) (sym same) (has-first x xs), ap f same ∙ p)
     first p (inr more) ih = let it = ih more in (has-later k x xs it.0, it.1)
 
-    go : (has k (filter f xs) ≡ true → (has k xs ≡ true) × (f k ≡ true)) → (b : Bool) → f x ≡ b → has k (cond b (x ∷ filter f xs) (filter f xs)) ≡ true → (has k (x ∷ xs) ≡ true) × (f k ≡ true)
+    go : (has k (filter f xs) ≡ true → (has k xs ≡ true) × (f k ≡ true)) → (b : Bool) → f x ≡ b
+        → has k (cond b (x ∷ filter f xs) (filter f xs)) ≡ true → (has k (x ∷ xs) ≡ true) × (f k ≡ true)
     go ih true p q = first p (has-cases k x (filter f xs) q) ih
     go ih false p q = let it = ih q in (has-later k x xs it.0, it.1)
 
@@ -55,7 +58,8 @@ rises-filter f (x ∷ xs) up = go (rises-filter f xs up.1) (f x)
     go ih true = (each-below x (filter f xs) (λ k e. below-each x xs up.0 k (has-filter f xs k e).0), ih)
     go ih false = ih
 
-pub rises-append : (xs ys : List ℕ) → Rise (λ (k : ℕ). k) xs → Rise (λ (k : ℕ). k) ys → ((j k : ℕ) → has j xs ≡ true → has k ys ≡ true → j < k) → Rise (λ (k : ℕ). k) (xs ++ ys)
+pub rises-append : (xs ys : List ℕ) → Rise (λ (k : ℕ). k) xs → Rise (λ (k : ℕ). k) ys
+    → ((j k : ℕ) → has j xs ≡ true → has k ys ≡ true → j < k) → Rise (λ (k : ℕ). k) (xs ++ ys)
 rises-append [] ys up also below = also
 rises-append (x ∷ xs) ys up also below = (
   each-below x (xs ++ ys) (λ k e. later k (has-either xs ys k e)),
@@ -79,7 +83,8 @@ pub above-zero : (xs : List ℕ) → ((k : ℕ) → has k xs ≡ true → 1 ≤ 
 above-zero [] low = refl
 above-zero (x ∷ xs) low =
     let first : 0 < x = let le : 1 ≤ x = low x (has-first x xs) in omega (arith, le) in
-    ap (λ (b : Bool). cond b (x ∷ above 0 xs) (above 0 xs)) (lt-ltb 0 x first) ∙ ap (λ (ys : List ℕ). x ∷ ys) (above-zero xs (λ k e. low k (has-later k x xs e)))
+    ap (λ (b : Bool). cond b (x ∷ above 0 xs) (above 0 xs)) (lt-ltb 0 x first)
+    ∙ ap (λ (ys : List ℕ). x ∷ ys) (above-zero xs (λ k e. low k (has-later k x xs e)))
 
 -- ---- how many
 
@@ -114,11 +119,13 @@ module _ {R : Type 0} (number_of : R → ℕ) where
       one k n mine (inr none) = let never : ⊥ = cc in absurd never
   last-is (r ∷ s ∷ rows) at n up end is =
       let next : at ≡ suc (length rows) = omega (arith, end) in
-      let got : option_map number_of (slice_get (r ∷ s ∷ rows) (suc (length rows))) ≡ Some n = subst (λ (i : ℕ). option_map number_of (slice_get (r ∷ s ∷ rows) i) ≡ Some n) next is in
+      let got : option_map number_of (slice_get (r ∷ s ∷ rows) (suc (length rows))) ≡ Some n =
+      subst (λ (i : ℕ). option_map number_of (slice_get (r ∷ s ∷ rows) i) ≡ Some n) next is in
       let more = last-is (s ∷ rows) (length rows) n up.1 (omega arith) got in
       let less : number_of r < n = all-above number_of (number_of r) (s ∷ rows) up.0 n more.1 in
       (λ k e. one k less more.0 (has-cases k (number_of r) (map number_of (s ∷ rows)) e), has-later n (number_of r) (map number_of (s ∷ rows)) more.1)
     where
-      one : (k : ℕ) → number_of r < n → ((j : ℕ) → has j (map number_of (s ∷ rows)) ≡ true → j ≤ n) → (k ≡ number_of r) ⊎ (has k (map number_of (s ∷ rows)) ≡ true) → k ≤ n
+      one : (k : ℕ) → number_of r < n → ((j : ℕ) → has j (map number_of (s ∷ rows)) ≡ true → j ≤ n) → (k ≡ number_of r)
+          ⊎ (has k (map number_of (s ∷ rows)) ≡ true) → k ≤ n
       one k less most (inl same) = omega (arith, same, less)
       one k less most (inr later) = most k later

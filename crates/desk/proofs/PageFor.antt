@@ -24,9 +24,11 @@ module _ (patron : ℕ) (card_key : List ℕ) where
 
   pub page_for-same : (H K : History) → AgreesOn H K patron → page_for H patron card_key ≡ page_for K patron card_key
   unfolding shown_by
-  page_for-same H K agrees = ap (λ (o : Option PatronFacts). shown_by o (page H patron)) agrees.patron ∙ ap (shown_by (patron_of K patron)) (page-same H K patron agrees)
+  page_for-same H K agrees = ap (λ (o : Option PatronFacts). shown_by o (page H patron)) agrees.patron
+      ∙ ap (shown_by (patron_of K patron)) (page-same H K patron agrees)
 
-  pub shows-page : {S : Type 0} {g : Ghosts S} {old new : Held S} {r : Result Reply Fault} → Learns (IsPageFor patron card_key) g old new r → ShowsPage patron card_key g old new r
+  pub shows-page : {S : Type 0} {g : Ghosts S} {old new : Held S} {r : Result Reply Fault} → Learns (IsPageFor patron card_key) g old new r
+      → ShowsPage patron card_key g old new r
   shows-page {r = r} learnt = record {
     page = learnt;
     own = λ disk. if-ok _ _ r (λ reply is H shows K agrees. is H shows tt ∙ page_for-same H K agrees) (learnt.shown disk);

@@ -1,5 +1,6 @@
 -- The rows of a page are the first of the history's numbers above the one that it begins after.
-use Rattle.std.proofs.Common.{◌≡◌, ℕ, suc, ◌≤◌, ◌<◌, ◌+◌, ◌-◌, ◌^◌, min, Bool, true, ◌⊎◌, inl, inr, List, [], ◌∷◌, ◌++◌, length, map, slice_get, append_assoc, append-nil, refl, sym, ◌∙◌, ap, subst, arith}
+use Rattle.std.proofs.Common.{◌≡◌, ℕ, suc, ◌≤◌, ◌<◌, ◌+◌, ◌-◌, ◌^◌, min, Bool, true, ◌⊎◌, inl, inr, List, [], ◌∷◌, ◌++◌, length, map}
+use Rattle.std.proofs.Common.{slice_get, append_assoc, append-nil, refl, sym, ◌∙◌, ap, subst, arith}
 use Rattle.std.specs.Prelude.{Option, Some, None, option_map, filter}
 use Rattle.std.specs.List.{Contains}
 use Rattle.std.proofs.lemmas.List.{map-append, length-append}
@@ -23,8 +24,10 @@ last-there x (y ∷ xs) =
     let same : length (x ∷ y ∷ xs) - 1 ≡ suc (length (y ∷ xs) - 1) = omega arith in
     (more.0, subst (λ (i : ℕ). slice_get (x ∷ y ∷ xs) i ≡ Some more.0) (sym same) more.1)
 
-module _ {R : Type 0} (t : ℕ → Option R) (number_of : R → ℕ) (Passes : R → Type 0) (test : ℕ → Bool) (n : ℕ) (numbered : (k : ℕ) (r : R) → t k ≡ Some r → number_of r ≡ k)
-    (to : (k : ℕ) (r : R) → t k ≡ Some r → Passes r → (test k ≡ true) × (1 ≤ k) × (k ≤ n)) (from : (k : ℕ) → test k ≡ true → (r : R) × (t k ≡ Some r) × Passes r) where
+module _ {R : Type 0} (t : ℕ → Option R) (number_of : R → ℕ) (Passes : R → Type 0) (test : ℕ → Bool) (n : ℕ)
+    (numbered : (k : ℕ) (r : R) → t k ≡ Some r → number_of r ≡ k)
+    (to : (k : ℕ) (r : R) → t k ≡ Some r → Passes r → (test k ≡ true) × (1 ≤ k) × (k ≤ n))
+    (from : (k : ℕ) → test k ≡ true → (r : R) × (t k ≡ Some r) × Passes r) where
   abbrev numbers : List ℕ
   numbers = filter test (numbers_to n)
 
@@ -32,7 +35,8 @@ module _ {R : Type 0} (t : ℕ → Option R) (number_of : R → ℕ) (Passes : R
   pub above-all : above 0 numbers ≡ numbers
   above-all = above-zero numbers (λ k e. let w = from k (passing-below test n k e).0 in (to k w.0 w.1 w.2).1)
 
-  module _ (after : ℕ) (PassesAfter : R → Type 0) (fine : (r : R) → PassesAfter r → Passes r × (after < number_of r)) (back : (r : R) → Passes r → after < number_of r → PassesAfter r)
+  module _ (after : ℕ) (PassesAfter : R → Type 0) (fine : (r : R) → PassesAfter r → Passes r × (after < number_of r))
+      (back : (r : R) → Passes r → after < number_of r → PassesAfter r)
       (rows : List R) (page : AreFirstRows t number_of PassesAfter rows) where
     of-row : (k : ℕ) → has k (map number_of rows) ≡ true → (has k numbers ≡ true) × (after < k)
     of-row k e =
@@ -46,7 +50,8 @@ module _ {R : Type 0} (t : ℕ → Option R) (number_of : R → ℕ) (Passes : R
         (filter-has test (numbers_to n) k (numbers_to-has n k q.1 q.2) q.0, omega (arith, less, same))
 
     -- A number above is that of a row of the page, or the page is full and it comes after all of them.
-    to-row : (k : ℕ) → has k numbers ≡ true → after < k → (has k (map number_of rows) ≡ true) ⊎ ((length rows ≡ PAGE_ROWS) × ((s : R) → Contains rows s → number_of s < k))
+    to-row : (k : ℕ) → has k numbers ≡ true → after < k → (has k (map number_of rows) ≡ true)
+        ⊎ ((length rows ≡ PAGE_ROWS) × ((s : R) → Contains rows s → number_of s < k))
     to-row k e less =
         let w : (r : R) × (t k ≡ Some r) × Passes r = from k (passing-below test n k e).0 in
         let same : number_of w.0 ≡ k = numbered k w.0 w.1 in
@@ -101,7 +106,9 @@ module _ {R : Type 0} (t : ℕ → Option R) (number_of : R → ℕ) (Passes : R
         go [] e = let none : length rows ≡ 0 = ap (λ (ys : List R). length ys) e in (left_after None numbers, page-splits None (omega (arith, none)))
         go (x ∷ xs) e =
             let it = last-there x xs in
-            let end : IsLast number_of rows (Some (number_of it.0)) = subst (λ (ys : List R). option_map number_of (slice_get ys (length ys - 1)) ≡ Some (number_of it.0)) (sym e) (ap (option_map number_of) it.1) in
+            let end : IsLast number_of rows (Some (number_of it.0)) =
+            subst (λ (ys : List R). option_map number_of (slice_get ys (length ys - 1)) ≡ Some (number_of it.0)) (sym e)
+            (ap (option_map number_of) it.1) in
             (left_after (Some (number_of it.0)) numbers, page-splits (Some (number_of it.0)) end)
 
     -- The last one of a page is above the number that it begins after.
@@ -109,7 +116,8 @@ module _ {R : Type 0} (t : ℕ → Option R) (number_of : R → ℕ) (Passes : R
     page-goes-on last end = (of-row last (last-is number_of rows (length rows - 1) last page.rise refl end).1).1
 
     -- What the page told, where its lines went out.
-    pub page-told : (line : ℕ → List ℕ) (told : Told) (sent : List ℕ) → told.rows ≡ length rows → IsLast number_of rows told.last → sent ≡ report_lines (map (λ r. line (number_of r)) rows) → IsPage line numbers after told sent
+    pub page-told : (line : ℕ → List ℕ) (told : Told) (sent : List ℕ) → told.rows ≡ length rows → IsLast number_of rows told.last
+        → sent ≡ report_lines (map (λ r. line (number_of r)) rows) → IsPage line numbers after told sent
     page-told line told sent count end lines = record {
       some = map number_of rows;
       split = page-splits told.last end;
@@ -158,14 +166,17 @@ module _ (line : ℕ → List ℕ) (numbers : List ℕ) where
         ap (λ (xs : List ℕ). report_lines (map line xs)) so_far.split ∙ lines-then line so_far.done (above after numbers)
         ∙ (λ i. sym so_far.lines i ++ sym (append-nil (report_lines (map line (above after numbers)))) i)
 
-    module _ (few : length numbers ≤ 2 ^ 32) (told : Told) (n : ℕ) (sum : n ≡ min (count + told.rows) (2 ^ 64 - 1)) (more : List ℕ) (page : IsPage line numbers after told more) where
+    module _ (few : length numbers ≤ 2 ^ 32) (told : Told) (n : ℕ) (sum : n ≡ min (count + told.rows) (2 ^ 64 - 1)) (more : List ℕ)
+        (page : IsPage line numbers after told more) where
       counted : n ≡ length (so_far.done ++ page.some)
       counted =
           let one : count ≡ length so_far.done = so_far.count_is in
           let two : told.rows ≡ length page.some = page.count in
           let both : length (so_far.done ++ page.some) ≡ length so_far.done + length page.some = length-append so_far.done page.some in
-          let all : length numbers ≡ length so_far.done + length (above after numbers) = ap (λ (xs : List ℕ). length xs) so_far.split ∙ length-append so_far.done (above after numbers) in
-          let part : length (above after numbers) ≡ length page.some + length (left_after told.last numbers) = ap (λ (xs : List ℕ). length xs) page.split ∙ length-append page.some (left_after told.last numbers) in
+          let all : length numbers ≡ length so_far.done + length (above after numbers) =
+          ap (λ (xs : List ℕ). length xs) so_far.split ∙ length-append so_far.done (above after numbers) in
+          let part : length (above after numbers) ≡ length page.some + length (left_after told.last numbers) =
+          ap (λ (xs : List ℕ). length xs) page.split ∙ length-append page.some (left_after told.last numbers) in
           omega (arith, sum, one, two, both, all, part, few)
 
       whole : numbers ≡ (so_far.done ++ page.some) ++ left_after told.last numbers
@@ -187,11 +198,14 @@ module _ (line : ℕ → List ℕ) (numbers : List ℕ) where
       -- The last page.
       pub so-far-all : told.last ≡ None → AreAllRows line numbers n (sent ++ more)
       so-far-all is =
-          let done : numbers ≡ so_far.done ++ page.some = whole ∙ ap (λ (o : Option ℕ). (so_far.done ++ page.some) ++ left_after o numbers) is ∙ append-nil (so_far.done ++ page.some) in
+          let done : numbers ≡ so_far.done ++ page.some =
+          whole ∙ ap (λ (o : Option ℕ). (so_far.done ++ page.some) ++ left_after o numbers) is
+          ∙ append-nil (so_far.done ++ page.some) in
           (counted ∙ sym (ap (λ (xs : List ℕ). length xs) done), lines ∙ sym (ap (λ (xs : List ℕ). report_lines (map line xs)) done))
 
 -- What the rows of a page are to be, of all lines that are left.
-pub page-lines : {R : Type 0} (line : ℕ → List ℕ) (number_of : R → ℕ) (rows : List R) (given : List ℕ) (after : ℕ) (sent : List ℕ) → sent ≡ [] → (rest : List ℕ) × (above after given ≡ map number_of rows ++ rest)
+pub page-lines : {R : Type 0} (line : ℕ → List ℕ) (number_of : R → ℕ) (rows : List R) (given : List ℕ) (after : ℕ) (sent : List ℕ)
+    → sent ≡ [] → (rest : List ℕ) × (above after given ≡ map number_of rows ++ rest)
     → (tail : List ℕ) × (report_lines (map line (above after given)) ≡ sent ++ (report_lines (map (λ r. line (number_of r)) rows) ++ tail))
 page-lines line number_of rows given after sent none begins = (
   report_lines (map line begins.0),

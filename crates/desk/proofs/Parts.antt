@@ -9,7 +9,7 @@ use Rattle.terms.specs.Writing.{AppendsFront}
 use Rattle.terms.specs.declared.fault.Fault.{Fault}
 use Rattle.terms.specs.declared.fault.Fault.TheVariants.{Memory, Stored}
 use Rattle.model.specs.History.{History}
-use Rattle.desk.specs.Answering.{Shows, Looks, LearnsIf}
+use Rattle.desk.specs.Answering.{Shows, DeskLooks, LearnsIf}
 use Rattle.desk.specs.Parts.{IsFront, WritesPart, WritesText}
 use Rattle.desk.specs.declared.reporting.ReportFault.{ReportFault}
 use Rattle.desk.specs.declared.reporting.ReportFault.TheVariants.{Refused, Faulted, NotWritten}
@@ -24,12 +24,14 @@ nothing-front xs = (xs, refl)
 front-then : (xs ys zs rest all : List ℕ) → all ≡ xs ++ (zs ++ rest) → IsFront ys zs → IsFront (xs ++ ys) all
 front-then xs ys zs rest all is front = (
   front.0 ++ rest,
-  is ∙ ap (λ (t : List ℕ). xs ++ (t ++ rest)) front.1 ∙ ap (λ (t : List ℕ). xs ++ t) (append_assoc ys front.0 rest) ∙ sym (append_assoc xs ys (front.0 ++ rest)),
+  is ∙ ap (λ (t : List ℕ). xs ++ (t ++ rest)) front.1 ∙ ap (λ (t : List ℕ). xs ++ t) (append_assoc ys front.0 rest)
+      ∙ sym (append_assoc xs ys (front.0 ++ rest)),
 )
 
 -- ---- calls that only look, whatever their errors are
 
-looks-on : {T U E F : Type 0} (old mid new : State) (x : T) (r : Result U F) → Looks {T = T} {E = E} old mid (Ok x) → Looks {T = U} {E = F} mid new r → Looks {T = U} {E = F} old new r
+looks-on : {T U E F : Type 0} (old mid new : State) (x : T) (r : Result U F) → DeskLooks {T = T} {E = E} old mid (Ok x)
+    → DeskLooks {T = U} {E = F} mid new r → DeskLooks {T = U} {E = F} old new r
 looks-on old mid new x r first next = record {
   clean = λ disk. first.clean (next.clean disk);
   stays = λ disk. on-ok r (λ stays H shows. stays H (first.stays (next.clean disk) H shows)) (next.stays disk);
@@ -38,7 +40,7 @@ looks-on old mid new x r first next = record {
   nothing = nothing-then old mid new x r next.clean first.nothing next.nothing;
 }
 
-pub looks-so : {T U E F : Type 0} (old new : State) (x : T) (r : Result U F) → Looks {T = T} {E = E} old new (Ok x) → Looks {T = U} {E = F} old new r
+pub looks-so : {T U E F : Type 0} (old new : State) (x : T) (r : Result U F) → DeskLooks {T = T} {E = E} old new (Ok x) → DeskLooks {T = U} {E = F} old new r
 looks-so old new x r looks = record {
   clean = looks.clean;
   stays = λ disk. on-ok-any r (looks.stays disk);
@@ -47,10 +49,17 @@ looks-so old new x r looks = record {
   nothing = nothing-as old new x r looks.nothing;
 }
 
-looks-failed : {T U E F : Type 0} (old new : State) (e : E) (f : F) → Looks {T = T} {E = E} old new (Err e) → Looks {T = U} {E = F} old new (Err f)
-looks-failed old new e f looks = record { clean = looks.clean; stays = λ disk. tt; undone = looks.undone; left = looks.left; nothing = nothing-failed old new e f looks.nothing }
+looks-failed : {T U E F : Type 0} (old new : State) (e : E) (f : F) → DeskLooks {T = T} {E = E} old new (Err e) → DeskLooks {T = U} {E = F} old new (Err f)
+looks-failed old new e f looks =
+    record {
+      clean = looks.clean;
+      stays = λ disk. tt;
+      undone = looks.undone;
+      left = looks.left;
+      nothing = nothing-failed old new e f looks.nothing;
+    }
 
-looks-still : {T E : Type 0} (s : State) (r : Result T E) → Looks {T = T} {E = E} s s r
+looks-still : {T E : Type 0} (s : State) (r : Result T E) → DeskLooks {T = T} {E = E} s s r
 looks-still s r = record {
   clean = λ disk. disk;
   stays = λ disk. on-ok-any r (λ H shows. shows);
@@ -63,8 +72,10 @@ looks-still s r = record {
 
 module _ {S : Type 0} {g : Ghosts S} {o n : Held S} {a b : Option (List ℕ)} where
   -- What is made of an answer.
-  pub gives-part : {T U : Type 0} {If Given : History → Type 0} {Is : History → T → List ℕ → Type 0} {Wanted : History → U → List ℕ → Type 0} {all wanted : History → List ℕ} {x : T} {y : U}
-      → WritesPart If Is all g o n a b (Ok x) → ((H : History) → IsAnyList H → Given H → If H) → ((H : History) → IsAnyList H → Given H → (s : List ℕ) → Is H x s → Wanted H y s)
+  pub gives-part : {T U : Type 0} {If Given : History → Type 0} {Is : History → T → List ℕ → Type 0}
+      {Wanted : History → U → List ℕ → Type 0} {all wanted : History → List ℕ} {x : T} {y : U}
+      → WritesPart If Is all g o n a b (Ok x) → ((H : History) → IsAnyList H → Given H → If H)
+      → ((H : History) → IsAnyList H → Given H → (s : List ℕ) → Is H x s → Wanted H y s)
       → WritesPart Given Wanted wanted g o n a b (Ok y)
   gives-part {x = x} {y = y} part needs f = record {
     sent = part.sent;
@@ -78,7 +89,8 @@ module _ {S : Type 0} {g : Ghosts S} {o n : Held S} {a b : Option (List ℕ)} wh
   }
 
   -- An error is that of whatever was asked.
-  pub handed-part : {T U : Type 0} {If : History → Type 0} {Is : History → T → List ℕ → Type 0} {Wanted : History → U → List ℕ → Type 0} {all : History → List ℕ} {why : ReportFault} (r : Result U ReportFault)
+  pub handed-part : {T U : Type 0} {If : History → Type 0} {Is : History → T → List ℕ → Type 0} {Wanted : History → U → List ℕ → Type 0}
+      {all : History → List ℕ} {why : ReportFault} (r : Result U ReportFault)
       → IsErr r × IsErrAnd r (λ e. e ≡ why) → WritesPart If Is all g o n a b (Err why) → WritesPart If Wanted all g o n a b r
   handed-part (Ok y) is part = let never : ⊥ = cc (is.0) in absurd never
   handed-part {T} {U} {why = why} (Err e) is part =
@@ -94,14 +106,16 @@ module _ {S : Type 0} {g : Ghosts S} {o n : Held S} {a b : Option (List ℕ)} wh
       }
 
 -- Of what the first part learnt follows what the second needs; `all` is the first's bytes, what the second was to write, and what may come after it.
-pub then-part : {S T U : Type 0} {g : Ghosts S} {o m n : Held S} {a b c : Option (List ℕ)} {If Need Given : History → Type 0} {Is : History → T → List ℕ → Type 0} {Then Wanted : History → U → List ℕ → Type 0}
+pub then-part : {S T U : Type 0} {g : Ghosts S} {o m n : Held S} {a b c : Option (List ℕ)} {If Need Given : History → Type 0}
+    {Is : History → T → List ℕ → Type 0} {Then Wanted : History → U → List ℕ → Type 0}
     {first_all rest all : History → List ℕ} {x : T} {r : Result U ReportFault}
     → (first : WritesPart If Is first_all g o m a b (Ok x)) → WritesPart Need Then rest g m n b c r
     → ((H : History) → IsAnyList H → Given H → If H) → ((H : History) → IsAnyList H → Given H → Is H x first.sent → Need H)
     → ((H : History) → IsAnyList H → Given H → Is H x first.sent → (tail : List ℕ) × (all H ≡ first.sent ++ (rest H ++ tail)))
     → ((H : History) → IsAnyList H → Given H → Is H x first.sent → (y : U) (s : List ℕ) → Then H y s → Wanted H y (first.sent ++ s))
     → WritesPart Given Wanted all g o n a c r
-then-part {g = g} {o = o} {m = m} {n = n} {a = a} {b = b} {c = c} {Given = Given} {Is = Is} {rest = rest} {all = all} {x = x} {r = r} first second needs step whole gives =
+then-part {g = g} {o = o} {m = m} {n = n} {a = a} {b = b} {c = c} {Given = Given} {Is = Is} {rest = rest} {all = all} {x = x} {r = r} first
+    second needs step whole gives =
     let was : HasCleanDisk (state g n) → (H : History) → Shows (state g o) H → Given H → Is H x first.sent = λ disk H shows given.
     first.told (second.looks.clean disk) H shows (needs H (shows.legal, shows.forms) given) in
     let still : HasCleanDisk (state g n) → (H : History) → Shows (state g o) H → Shows (state g m) H = λ disk. first.looks.stays (second.looks.clean disk) in
@@ -124,7 +138,8 @@ then-part {g = g} {o = o} {m = m} {n = n} {a = a} {b = b} {c = c} {Given = Given
     }
 
 -- The same of whatever is made of an answer: no more than what went out is said of it.
-pub answered-part : {S T U V : Type 0} {g : Ghosts S} {o m n : Held S} {a b c : Option (List ℕ)} {If Need Given : History → Type 0} {Is : History → T → List ℕ → Type 0} {Then : History → U → List ℕ → Type 0} {Wanted : History → V → List ℕ → Type 0}
+pub answered-part : {S T U V : Type 0} {g : Ghosts S} {o m n : Held S} {a b c : Option (List ℕ)} {If Need Given : History → Type 0}
+    {Is : History → T → List ℕ → Type 0} {Then : History → U → List ℕ → Type 0} {Wanted : History → V → List ℕ → Type 0}
     {first_all rest all : History → List ℕ} {x : T} {y : U} {z : V}
     → (first : WritesPart If Is first_all g o m a b (Ok x)) → WritesPart Need Then rest g m n b c (Ok y)
     → ((H : History) → IsAnyList H → Given H → If H) → ((H : History) → IsAnyList H → Given H → Is H x first.sent → Need H)
@@ -163,8 +178,10 @@ module _ {S : Type 0} {g : Ghosts S} {o n : Held S} where
   }
 
   -- Nor does one that met a fault.
-  pub fault-part : {T U : Type 0} {If Given : History → Type 0} {Is : History → T → Type 0} {Wanted : History → U → List ℕ → Type 0} {all : History → List ℕ} {fault : Fault} (a : Option (List ℕ)) (r : Result U ReportFault)
-      → IsErr r × IsErrAnd r (λ e. e ≡ Faulted fault) → LearnsIf If Is g o n (Err fault) → ((H : History) → IsAnyList H → Given H → If H) → WritesPart Given Wanted all g o n a a r
+  pub fault-part : {T U : Type 0} {If Given : History → Type 0} {Is : History → T → Type 0} {Wanted : History → U → List ℕ → Type 0}
+      {all : History → List ℕ} {fault : Fault} (a : Option (List ℕ)) (r : Result U ReportFault)
+      → IsErr r × IsErrAnd r (λ e. e ≡ Faulted fault) → LearnsIf If Is g o n (Err fault) → ((H : History) → IsAnyList H → Given H → If H)
+      → WritesPart Given Wanted all g o n a a r
   fault-part a (Ok y) is learnt needs = let never : ⊥ = cc (is.0) in absurd never
   fault-part {all = all} {fault = fault} a (Err e) is learnt needs =
       let same : e ≡ Faulted fault = is.1 in
@@ -183,7 +200,8 @@ module _ {S : Type 0} {g : Ghosts S} {o n : Held S} where
 
 module _ {S : Type 0} {g : Ghosts S} {s : Held S} {If : History → Type 0} where
   -- Bytes went out.
-  pub wrote-part : {T : Type 0} {all : History → List ℕ} {x : T} {a b : Option (List ℕ)} (bytes : List ℕ) → Appends a b bytes → WritesPart If (λ H y sent. sent ≡ bytes) all g s s a b (Ok x)
+  pub wrote-part : {T : Type 0} {all : History → List ℕ} {x : T} {a b : Option (List ℕ)} (bytes : List ℕ) → Appends a b bytes
+      → WritesPart If (λ H y sent. sent ≡ bytes) all g s s a b (Ok x)
   wrote-part {x = x} bytes wrote = record {
     sent = bytes;
     wrote = wrote;
@@ -196,7 +214,8 @@ module _ {S : Type 0} {g : Ghosts S} {s : Held S} {If : History → Type 0} wher
   }
 
   -- A write failed.
-  pub cut-part : {T : Type 0} {Is : History → T → List ℕ → Type 0} {a b : Option (List ℕ)} (bytes : List ℕ) (r : Result T ReportFault) → IsErr r × IsErrAnd r (λ e. e ≡ NotWritten) → AppendsFront a b bytes
+  pub cut-part : {T : Type 0} {Is : History → T → List ℕ → Type 0} {a b : Option (List ℕ)} (bytes : List ℕ) (r : Result T ReportFault)
+      → IsErr r × IsErrAnd r (λ e. e ≡ NotWritten) → AppendsFront a b bytes
       → WritesPart If Is (λ H. bytes) g s s a b r
   cut-part bytes (Ok x) is front = let never : ⊥ = cc (is.0) in absurd never
   cut-part bytes (Err e) is front =
@@ -213,7 +232,8 @@ module _ {S : Type 0} {g : Ghosts S} {s : Held S} {If : History → Type 0} wher
       }
 
   -- No memory was left.
-  pub memory-part : {T : Type 0} {Is : History → T → List ℕ → Type 0} {all : History → List ℕ} (a : Option (List ℕ)) (r : Result T ReportFault) → IsErr r × IsErrAnd r (λ e. e ≡ Faulted Memory)
+  pub memory-part : {T : Type 0} {Is : History → T → List ℕ → Type 0} {all : History → List ℕ} (a : Option (List ℕ))
+      (r : Result T ReportFault) → IsErr r × IsErrAnd r (λ e. e ≡ Faulted Memory)
       → WritesPart If Is all g s s a a r
   memory-part a (Ok x) is = let never : ⊥ = cc (is.0) in absurd never
   memory-part {all = all} a (Err e) is =
@@ -231,16 +251,20 @@ module _ {S : Type 0} {g : Ghosts S} {s : Held S} {If : History → Type 0} wher
 
 -- ---- a text that was made and then written
 
-module _ {S Z : Type 0} {g : Ghosts S} {o n : Held S} {If : History → Type 0} {text : History → List ℕ} {line : String Z} {a b : Option (List ℕ)} {bytes : List ℕ}
+module _ {S Z : Type 0} {g : Ghosts S} {o n : Held S} {If : History → Type 0} {text : History → List ℕ} {line : String Z}
+    {a b : Option (List ℕ)} {bytes : List ℕ}
     (learnt : LearnsIf If (λ H made. string_bytes made ≡ text H) g o n (Ok line)) (same : bytes ≡ string_bytes line) where
   pub text-told : {T : Type 0} (x : T) → Appends a b bytes → WritesText If text g o n a b (Ok x)
   text-told x wrote =
-      then-part (learnt-part {all = text} a learnt) (wrote-part {If = IsAnyList} {all = λ _. bytes} bytes wrote) (λ H list given. given) (λ H list given is. list)
+      then-part (learnt-part {all = text} a learnt) (wrote-part {If = IsAnyList} {all = λ _. bytes} bytes wrote) (λ H list given. given)
+      (λ H list given is. list)
       (λ H list given is. ([], sym is.0 ∙ sym same ∙ sym (append-nil bytes) ∙ ap (λ (t : List ℕ). t ++ (bytes ++ [])) (sym is.1)))
       (λ H list given is y s sent. ap (λ (t : List ℕ). t ++ s) is.1 ∙ sent ∙ same ∙ is.0)
 
-  pub text-cut : {T : Type 0} {Is : History → T → List ℕ → Type 0} (r : Result T ReportFault) → IsErr r × IsErrAnd r (λ e. e ≡ NotWritten) → AppendsFront a b bytes → WritesPart If Is text g o n a b r
+  pub text-cut : {T : Type 0} {Is : History → T → List ℕ → Type 0} (r : Result T ReportFault) → IsErr r × IsErrAnd r (λ e. e ≡ NotWritten)
+      → AppendsFront a b bytes → WritesPart If Is text g o n a b r
   text-cut r is front =
-      then-part (learnt-part {all = text} a learnt) (cut-part {If = IsAnyList} {Is = λ H y sent. ⊥} bytes r is front) (λ H list given. given) (λ H list given is. list)
+      then-part (learnt-part {all = text} a learnt) (cut-part {If = IsAnyList} {Is = λ H y sent. ⊥} bytes r is front)
+      (λ H list given. given) (λ H list given is. list)
       (λ H list given is. ([], sym is.0 ∙ sym same ∙ sym (append-nil bytes) ∙ ap (λ (t : List ℕ). t ++ (bytes ++ [])) (sym is.1)))
       (λ H list given is y s never. absurd never)

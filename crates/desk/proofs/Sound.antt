@@ -42,7 +42,8 @@ ready-copy H legal r is = let one = has-one-copy H legal r.hold r is.0 is.1 in (
 
 pub ready-limit : (H : History) → IsLegal H → HasForms H → (r : HoldRow) → IsReadyRow r H → (day : ℕ) × (r.limit_day ≡ Some day)
 ready-limit H legal forms r is =
-    let row : (s : HoldState) × (f : HoldFacts) × (state H r.hold ≡ Some s) × (hold_of H r.hold ≡ Some f) × (hold_columns H r.hold s f ≡ r) = hold_row-is H r.hold r is.0 in
+    let row : (s : HoldState) × (f : HoldFacts) × (state H r.hold ≡ Some s) × (hold_of H r.hold ≡ Some f)
+    × (hold_columns H r.hold s f ≡ r) = hold_row-is H r.hold r is.0 in
     let ready : row.0 ≡ Ready = ap (λ (y : HoldRow). y.state) row.4 ∙ is.1 in
     let until = limit-is H r.hold legal (forms-whole H forms) (row.2 ∙ ap Some ready) in
     (until.0, sym (ap (λ (y : HoldRow). y.limit_day) row.4) ∙ ap (λ (s : HoldState). if_ready (Some s) (limit H r.hold)) ready ∙ until.1)

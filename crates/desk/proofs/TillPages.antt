@@ -1,5 +1,6 @@
 -- The lines of a day, page by page.
-use Rattle.std.proofs.Common.{◌≡◌, ℕ, suc, ◌≤◌, ◌<◌, ◌+◌, ◌-◌, ◌*◌, ◌^◌, min, true, ◌⊎◌, inl, inr, List, [], ◌∷◌, ◌++◌, length, map, refl, sym, ◌∙◌, ap, subst, arith}
+use Rattle.std.proofs.Common.{◌≡◌, ℕ, suc, ◌≤◌, ◌<◌, ◌+◌, ◌-◌, ◌*◌, ◌^◌, min, true, ◌⊎◌, inl, inr, List, [], ◌∷◌, ◌++◌, length, map, refl}
+use Rattle.std.proofs.Common.{sym, ◌∙◌, ap, subst, arith}
 use Rattle.std.specs.Prelude.{Some, None}
 use Rattle.std.specs.List.{Contains, AllByRecursion}
 use Rattle.std.proofs.lemmas.Bool.{cases_lt}
@@ -65,7 +66,8 @@ module _ {R : Type 0} where
   all-append P (x ∷ xs) ys all more = (all.0, all-append P xs ys all.1 more)
 
   module _ (number_of : R → ℕ) where
-    rise-append : (xs ys : List R) → Rise number_of xs → Rise number_of ys → ((r s : R) → Contains xs r → Contains ys s → number_of r < number_of s) → Rise number_of (xs ++ ys)
+    rise-append : (xs ys : List R) → Rise number_of xs → Rise number_of ys
+        → ((r s : R) → Contains xs r → Contains ys s → number_of r < number_of s) → Rise number_of (xs ++ ys)
     rise-append [] ys up also below = also
     rise-append (x ∷ xs) ys up also below = (
       all-append (λ s. number_of x < number_of s) xs ys up.0 (λ s at. below x s (contains-first x xs) at),
@@ -89,7 +91,8 @@ no-lines P d after legal first = record {
   rise = tt;
 }
 
-module _ (P : Picture) (d after : ℕ) (legal : InLimits P) (done rows : List LineRow) (before : AreLinesTo P d after done) (page : AreLinesAfter P d after rows) where
+module _ (P : Picture) (d after : ℕ) (legal : InLimits P) (done rows : List LineRow) (before : AreLinesTo P d after done)
+    (page : AreLinesAfter P d after rows) where
   joined-rise : Rise (λ r. r.line) (done ++ rows)
   joined-rise = rise-append (λ (r : LineRow). r.line) done rows before.rise page.rise (λ r s at there.
       let low : r.line ≤ after = (before.sound r at).1.1 in
@@ -133,7 +136,10 @@ module _ (P : Picture) (d after : ℕ) (legal : InLimits P) (done rows : List Li
             let low : r.line ≤ after = (before.sound r there).1.1 in
             let on : after < last = lines-go-on in
             ((before.sound r there).0, ((before.sound r there).1.0, omega (arith, low, on)))
-        | inr there ↦ ((page.sound r there).0, ((page.sound r there).1.0, greatest.0 r.line (contains-has (λ (q : LineRow). q.line) rows r there.0 there.1 there.2)))
+        | inr there ↦ (
+          (page.sound r there).0,
+          ((page.sound r there).1.0, greatest.0 r.line (contains-has (λ (q : LineRow). q.line) rows r there.0 there.1 there.2)),
+        )
       ];
       whole = λ n r there passes. elim (cases_lt after r.line) [
         | inl high ↦ elim (page.whole n r there (passes.0, high)) [
@@ -161,13 +167,15 @@ pub record AreSumsTo (P : Picture) (d after : ℕ) (sums : Sums) (pages : ℕ) :
   pub few : pages ≤ after
 
 -- Sums that stay at the largest number, added one after another.
-pub capped-then : (s : Sort) (before rows : List LineRow) (sum : ℕ) → sum ≡ capped_sum s before → min (sum + rows_sum s rows) (2 ^ 128 - 1) ≡ capped_sum s (before ++ rows)
+pub capped-then : (s : Sort) (before rows : List LineRow) (sum : ℕ) → sum ≡ capped_sum s before
+    → min (sum + rows_sum s rows) (2 ^ 128 - 1) ≡ capped_sum s (before ++ rows)
 capped-then s before rows sum is =
     let all : rows_sum s (before ++ rows) ≡ rows_sum s before + rows_sum s rows = sum-append s before rows in
     omega (arith, is, all)
 
 -- What the sums of a page add.
-pub sums-then : (before rows : List LineRow) (sums : Sums) → sums ≡ capped_sums before → (f p q w : ℕ) → f ≡ min (sums.fines + rows_sum Fine rows) (2 ^ 128 - 1) → p ≡ min (sums.prices + rows_sum Price rows) (2 ^ 128 - 1)
+pub sums-then : (before rows : List LineRow) (sums : Sums) → sums ≡ capped_sums before → (f p q w : ℕ)
+    → f ≡ min (sums.fines + rows_sum Fine rows) (2 ^ 128 - 1) → p ≡ min (sums.prices + rows_sum Price rows) (2 ^ 128 - 1)
     → q ≡ min (sums.payments + rows_sum Payment rows) (2 ^ 128 - 1) → w ≡ min (sums.waivers + rows_sum Waiver rows) (2 ^ 128 - 1)
     → record { fines = f; prices = p; payments = q; waivers = w } ≡ capped_sums (before ++ rows)
 sums-then before rows sums is f p q w one two three four = λ i. record {
@@ -180,7 +188,8 @@ sums-then before rows sums is f p q w one two three four = λ i. record {
 -- ---- no sum is too large
 
 -- Rows of rising numbers above one, each of less than 2^52 cents, have less than that for each number.
-few-cents : (s : Sort) (low high : ℕ) (rows : List LineRow) → low ≤ high → Rise (λ r. r.line) rows → ((r : LineRow) → Contains rows r → (low < r.line) × (r.line ≤ high) × (r.amount ≤ 4503599627370495))
+few-cents : (s : Sort) (low high : ℕ) (rows : List LineRow) → low ≤ high → Rise (λ r. r.line) rows
+    → ((r : LineRow) → Contains rows r → (low < r.line) × (r.line ≤ high) × (r.amount ≤ 4503599627370495))
     → rows_sum s rows + low * 4503599627370495 ≤ high * 4503599627370495
 few-cents s low high [] le up within = let none : rows_sum s [] ≡ 0 = refl in omega (arith, le, none)
 few-cents s low high (x ∷ rows) le up within =
@@ -189,7 +198,8 @@ few-cents s low high (x ∷ rows) le up within =
     let up_to : x.line ≤ high = first.1 in
     let cents : x.amount ≤ 4503599627370495 = first.2 in
     let rest : rows_sum s rows + x.line * 4503599627370495 ≤ high * 4503599627370495 =
-    few-cents s x.line high rows up_to up.1 (λ r at. let it = within r (contains-later x r rows at) in (above-first (λ (q : LineRow). q.line) x rows up.0 r at, it.1, it.2)) in
+    few-cents s x.line high rows up_to up.1
+    (λ r at. let it = within r (contains-later x r rows at) in (above-first (λ (q : LineRow). q.line) x rows up.0 r at, it.1, it.2)) in
     omega (arith, on, cents, rest, sum-cons s x rows)
 
 -- The sums of all lines of a day are those of the picture: 2^32 lines of 2^52 cents stay far below 2^128.
@@ -206,7 +216,9 @@ sums-of P d legal rows all sums is = record {
     exact : (s : Sort) (n : ℕ) → n ≡ capped_sum s rows → n ≡ rows_sum s rows
     exact s n same =
         let few : rows_sum s rows + 0 * 4503599627370495 ≤ LAST_NUMBER * 4503599627370495 =
-        few-cents s 0 LAST_NUMBER rows (omega arith) all.rise (λ r at. let it = (legal.lines r.line r (all.sound r at).0).1 in let one : 1 ≤ r.line = it.0.0 in (omega (arith, one), it.0.1, it.3)) in
+        few-cents s 0 LAST_NUMBER rows (omega arith) all.rise
+        (λ r at. let it = (legal.lines r.line r (all.sound r at).0).1 in let one : 1 ≤ r.line = it.0.0 in
+        (omega (arith, one), it.0.1, it.3)) in
         omega (arith, same, few)
 
 -- After a history they are its sums.
@@ -219,6 +231,7 @@ days-sums H d sums of = λ i. record {
 }
 
 -- What was found of the day's lines is the report of every history that the tables show.
-pub till-learnt : {S T : Type 0} {g : Ghosts S} {a b : Held S} {d : ℕ} {r : Result T Fault} (bytes : T → List ℕ) → Found (λ P text. IsTillText P d (bytes text)) g a b r → Learns (λ H text. bytes text ≡ till H d) g a b r
+pub till-learnt : {S T : Type 0} {g : Ghosts S} {a b : Held S} {d : ℕ} {r : Result T Fault} (bytes : T → List ℕ)
+    → Found (λ P text. IsTillText P d (bytes text)) g a b r → Learns (λ H text. bytes text ≡ till H d) g a b r
 till-learnt {d = d} bytes found =
     learns-on (looked found legal-rows legal-rows) (λ _ _ _. tt) (λ H legal _ text is. is.2 ∙ ap (till_words d) (days-sums H d is.0 is.1))

@@ -1,6 +1,6 @@
 -- Calls that change nothing, whatever rows the tables have.
 use Rattle.std.proofs.Common.{◌≡◌, inl, inr, refl, sym, ◌∙◌, ap, subst}
-use Rattle.std.specs.Prelude.{Result, Ok, Err, OnOk, OnErr, IfOk}
+use Rattle.std.specs.Prelude.{Result, Ok, Err, OnErr, IfOk}
 use Rattle.std.specs.Result.{IsErr, IsErrAnd}
 use Rattle.sqlite.specs.Effect.{Database}
 use Rattle.store.specs.Library.{Ghosts, Held, State, state, HasCleanDisk, HasTables, IsAsItWas, IsClean, IsOpen}
@@ -12,9 +12,8 @@ use Rattle.terms.specs.declared.fault.Fault.{Fault}
 use Rattle.terms.specs.declared.refusal.Refusal.{Refusal}
 use Rattle.terms.specs.declared.reply.Reply.{Reply}
 use Rattle.terms.specs.declared.reply.Reply.TheVariants.{Refused}
-use Rattle.model.specs.History.{History}
 use Rattle.model.specs.Picture.{picture}
-use Rattle.desk.specs.Answering.{ChangesNothing, HandlesAny, Shows, Stays}
+use Rattle.desk.specs.Answering.{ChangesNothing, HandlesAny, Stays}
 use Rattle.desk.proofs.Results.{on-ok, on-err, on-ok-any, on-err-any, if-ok-any}
 
 -- ---- the database is as it was
@@ -62,11 +61,13 @@ pub nothing-asked : {T E : Type 0} (s : State) (r : Result T E) → ChangesNothi
 nothing-asked s r = record { answered = λ disk tables. on-ok-any r (as-it-was s); failed = λ disk is_open tables. on-err-any r (as-it-was s) }
 
 -- One call after another that was answered.
-pub nothing-then : {T U E F : Type 0} (a b c : State) (x : T) (r : Result U F) → (HasCleanDisk c → HasCleanDisk b) → ChangesNothing {T = T} {E = E} a b (Ok x) → ChangesNothing {T = U} {E = F} b c r
+pub nothing-then : {T U E F : Type 0} (a b c : State) (x : T) (r : Result U F) → (HasCleanDisk c → HasCleanDisk b)
+    → ChangesNothing {T = T} {E = E} a b (Ok x) → ChangesNothing {T = U} {E = F} b c r
     → ChangesNothing {T = U} {E = F} a c r
 nothing-then a b c x r clean first next = record {
   answered = λ disk tables. let one = first.answered (clean disk) tables in on-ok r (as-then a b c one) (next.answered disk (tables-as a b one tables));
-  failed = λ disk is_open tables. let one = first.answered (clean disk) tables in on-err r (as-then a b c one) (next.failed disk is_open (tables-as a b one tables));
+  failed = λ disk is_open tables. let one = first.answered (clean disk) tables in
+      on-err r (as-then a b c one) (next.failed disk is_open (tables-as a b one tables));
 }
 
 -- Whatever is made of an answer.
@@ -92,7 +93,8 @@ module _ {S : Type 0} (g : Ghosts S) where
   }
 
   -- A request after a call that changed nothing.
-  pub any-after : {T E : Type 0} (a b c : Held S) (x : T) (r : Result Reply Fault) → (IsClean g c → IsClean g b) → ChangesNothing {T = T} {E = E} (state g a) (state g b) (Ok x) → HandlesAny g b c r
+  pub any-after : {T E : Type 0} (a b c : Held S) (x : T) (r : Result Reply Fault) → (IsClean g c → IsClean g b)
+      → ChangesNothing {T = T} {E = E} (state g a) (state g b) (Ok x) → HandlesAny g b c r
       → HandlesAny g a c r
   any-after a b c x r clean first next = record {
     tables = λ disk tables. next.tables disk (tables-as (state g a) (state g b) (first.answered (clean disk) tables) tables);
@@ -104,22 +106,26 @@ module _ {S : Type 0} (g : Ghosts S) where
         on-err r (as-then (state g a) (state g b) (state g c) one) (next.failed disk is_open (tables-as (state g a) (state g b) one tables));
   }
     where
-      refused-then : {P Q : Type 0} (q : Result Reply Fault) → (P → Q) → IfOk q (λ reply. (refusal : Refusal) → reply ≡ Refused refusal → P) → IfOk q (λ reply. (refusal : Refusal) → reply ≡ Refused refusal → Q)
+      refused-then : {P Q : Type 0} (q : Result Reply Fault) → (P → Q) → IfOk q (λ reply. (refusal : Refusal) → reply ≡ Refused refusal → P)
+          → IfOk q (λ reply. (refusal : Refusal) → reply ≡ Refused refusal → Q)
       refused-then (Ok reply) f same = λ refusal is. f (same refusal is)
       refused-then (Err fault) f same = tt
 
   -- A fault of a call before it is the fault of the request.
-  pub any-fault : {T : Type 0} (a b : Held S) (fault : Fault) (r : Result Reply Fault) → IsErr r × IsErrAnd r (λ e. e ≡ fault) → ChangesNothing {T = T} {E = Fault} (state g a) (state g b) (Err fault)
+  pub any-fault : {T : Type 0} (a b : Held S) (fault : Fault) (r : Result Reply Fault) → IsErr r × IsErrAnd r (λ e. e ≡ fault)
+      → ChangesNothing {T = T} {E = Fault} (state g a) (state g b) (Err fault)
       → HandlesAny g a b r
   any-fault a b fault (Ok reply) is nothing = let never : ⊥ = cc (is.0) in absurd never
   any-fault a b fault (Err e) is nothing = any-nothing a b (Err e) (nothing-failed (state g a) (state g b) fault e nothing)
 
   -- A fault after which nothing is changed.
-  pub any-failed : (a b : Held S) (fault : Fault) (r : Result Reply Fault) → IsErr r × IsErrAnd r (λ e. e ≡ fault) → (IsClean g b → IsOpen g b → IsAsItWas (state g a) (state g b)) → HandlesAny g a b r
+  pub any-failed : (a b : Held S) (fault : Fault) (r : Result Reply Fault) → IsErr r × IsErrAnd r (λ e. e ≡ fault)
+      → (IsClean g b → IsOpen g b → IsAsItWas (state g a) (state g b)) → HandlesAny g a b r
   any-failed a b fault (Ok reply) is same = let never : ⊥ = cc (is.0) in absurd never
   any-failed a b fault (Err e) is same = record { tables = λ disk tables. tt; refused = λ disk tables. tt; failed = λ disk is_open tables. same disk is_open }
 
   -- After a fault a history is shown still.
   pub any-undone : (a b : Held S) (r : Result Reply Fault) → HandlesAny g a b r → IsClean g b → IsOpen g b → OnErr r (Stays (state g a) (state g b))
   any-undone a b (Ok reply) any disk is_open = tt
-  any-undone a b (Err fault) any disk is_open = λ H shows. stays-as (state g a) (state g b) (any.failed disk is_open (tables-of (state g a) (picture H) shows.tables.now)) H shows
+  any-undone a b (Err fault) any disk is_open =
+      λ H shows. stays-as (state g a) (state g b) (any.failed disk is_open (tables-of (state g a) (picture H) shows.tables.now)) H shows

@@ -39,7 +39,8 @@ use Rattle.desk.proofs.Leads.{added-none}
 -- ---- one change more
 
 -- The patrons of the changes up to the next one.
-pub patrons-next : (xs : List RowChange) (i : ℕ) (x : RowChange) → slice_get xs i ≡ Some x → patrons_put (take (i + 1) xs) ≡ patrons_put (take i xs) ++ cons_option (patron_put x) []
+pub patrons-next : (xs : List RowChange) (i : ℕ) (x : RowChange) → slice_get xs i ≡ Some x
+    → patrons_put (take (i + 1) xs) ≡ patrons_put (take i xs) ++ cons_option (patron_put x) []
 patrons-next xs i x at =
     ap patrons_put (take_more xs i x (slice_get_within xs i x at) ∙ ap (λ y. take i xs ++ y ∷ []) (get_or_from_slice_get xs i x x at))
     ∙ filter_map-append patron_put (take i xs) (x ∷ [])
@@ -92,7 +93,8 @@ neither false y e = (refl, e)
 
 none-of : (p : ℕ) (o : Option ℕ) (qs : List ℕ) → list_any (λ q. q == p) (cons_option o qs) ≡ false
     → ((q : ℕ) → o ≡ Some q → (q == p) ≡ false) × (list_any (λ q. q == p) qs ≡ false)
-none-of p (Some x) qs out = let parts = neither (x == p) (list_any (λ q. q == p) qs) out in (λ q same. ap (λ y. y == p) (sym (some-same x q same)) ∙ parts.0, parts.1)
+none-of p (Some x) qs out = let parts = neither (x == p) (list_any (λ q. q == p) qs) out in
+    (λ q same. ap (λ y. y == p) (sym (some-same x q same)) ∙ parts.0, parts.1)
 none-of p None qs out = (λ q same. absurd (none-some q same), out)
 
 changes-keep : (xs : List RowChange) (P : Picture) (p : ℕ) → list_any (λ q. q == p) (patrons_put xs) ≡ false → KeepsOwnRows P (changed xs P) p
@@ -138,7 +140,8 @@ module _ (patron : ℕ) where
 
   own_page-same : (H K : History) → AgreesOn H K patron → own_page H patron ≡ own_page K patron
   unfolding shown_by
-  own_page-same H K agrees = ap (λ (o : Option PatronFacts). shown_by o (page H patron)) agrees.patron ∙ ap (shown_by (patron_of K patron)) (page-same H K patron agrees)
+  own_page-same H K agrees = ap (λ (o : Option PatronFacts). shown_by o (page H patron)) agrees.patron
+      ∙ ap (shown_by (patron_of K patron)) (page-same H K patron agrees)
 
 -- The page of a patron whom a request doesn't touch is what it was.
 pub page-kept : (H : History) (r : Request) (touched : List ℕ) → IsLegal H → KeepsOthers touched H (after_one H r)

@@ -23,12 +23,14 @@ use Rattle.desk.proofs.Founds.{Found}
 use Rattle.desk.proofs.Looking.{IsAnyList}
 use Rattle.desk.proofs.Parts.{nothing-front, fault-part, learnt-part, then-part, looks-so}
 
-module _ {S T : Type 0} {g : Ghosts S} {o n : Held S} {a b : Option (List ℕ)} {text : History → List ℕ} (r : Result T ReportFault) (part : WritesText IsAny text g o n a b r) where
+module _ {S T : Type 0} {g : Ghosts S} {o n : Held S} {a b : Option (List ℕ)} {text : History → List ℕ} (r : Result T ReportFault)
+    (part : WritesText IsAny text g o n a b r) where
   -- What went out, where all of it did.
   out : HasCleanDisk (state g n) → OnOk r ((H : History) → Shows (state g o) H → Appends a b (text H))
   out disk = go r (part.told disk)
     where
-      go : (q : Result T ReportFault) → IfOk q (λ _. (H : History) → Shows (state g o) H → IsAny H → part.sent ≡ text H) → OnOk q ((H : History) → Shows (state g o) H → Appends a b (text H))
+      go : (q : Result T ReportFault) → IfOk q (λ _. (H : History) → Shows (state g o) H → IsAny H → part.sent ≡ text H)
+          → OnOk q ((H : History) → Shows (state g o) H → Appends a b (text H))
       go (Ok x) told = λ H shows. subst (Appends a b) (told H shows tt) part.wrote
       go (Err e) told = tt
 
@@ -36,7 +38,9 @@ module _ {S T : Type 0} {g : Ghosts S} {o n : Held S} {a b : Option (List ℕ)} 
   front : OnErr r (SendsFront text g o n a b)
   front = go r part.front
     where
-      go : (q : Result T ReportFault) → (HasCleanDisk (state g n) → OnErr q ((H : History) → Shows (state g o) H → IsAny H → IsFront part.sent (text H))) → OnErr q (SendsFront text g o n a b)
+      go : (q : Result T ReportFault)
+          → (HasCleanDisk (state g n) → OnErr q ((H : History) → Shows (state g o) H → IsAny H → IsFront part.sent (text H)))
+          → OnErr q (SendsFront text g o n a b)
       go (Ok x) f = tt
       go (Err e) f = record { sent = part.sent; wrote = part.wrote; front = λ disk H shows. f disk H shows tt }
 
@@ -61,7 +65,8 @@ module _ {S T : Type 0} {g : Ghosts S} {o n : Held S} {a b : Option (List ℕ)} 
   }
 
   -- The till report.
-  pub till-of : {day : ℕ} → ((H : History) → text H ≡ till H day) → (HasCleanDisk (state g n) → r ≡ Err (Faulted Stored) → (P : Picture) → HasPicture (state g o).now P → InLimits P → ⊥)
+  pub till-of : {day : ℕ} → ((H : History) → text H ≡ till H day)
+      → (HasCleanDisk (state g n) → r ≡ Err (Faulted Stored) → (P : Picture) → HasPicture (state g o).now P → InLimits P → ⊥)
       → WritesTill day g o n a b r
   till-of {day} same stored = record {
     written = λ disk. same_out (out disk);
@@ -76,7 +81,8 @@ module _ {S T : Type 0} {g : Ghosts S} {o n : Held S} {a b : Option (List ℕ)} 
       same_out : OnOk r ((H : History) → Shows (state g o) H → Appends a b (text H)) → OnOk r ((H : History) → Shows (state g o) H → Appends a b (till H day))
       same_out = go r
         where
-          go : (q : Result T ReportFault) → OnOk q ((H : History) → Shows (state g o) H → Appends a b (text H)) → OnOk q ((H : History) → Shows (state g o) H → Appends a b (till H day))
+          go : (q : Result T ReportFault) → OnOk q ((H : History) → Shows (state g o) H → Appends a b (text H))
+              → OnOk q ((H : History) → Shows (state g o) H → Appends a b (till H day))
           go (Ok x) f = λ H shows. subst (Appends a b) (same H) (f H shows)
           go (Err e) f = tt
 
@@ -89,7 +95,8 @@ module _ {S T : Type 0} {g : Ghosts S} {o n : Held S} {a b : Option (List ℕ)} 
 
 module _ {S A : Type 0} {g : Ghosts S} {o m : Held S} {Is : History → A → Type 0} {text : History → List ℕ} {branch : ℕ} where
   -- The branch was looked up, and the report written.
-  pub report-after : {T : Type 0} {n : Held S} {a b : Option (List ℕ)} {x : A} {r : Result T ReportFault} {If : History → Type 0} {named : History → List ℕ} → Learns Is g o m (Ok x) → WritesText If named g m n a b r
+  pub report-after : {T : Type 0} {n : Held S} {a b : Option (List ℕ)} {x : A} {r : Result T ReportFault} {If : History → Type 0}
+      {named : History → List ℕ} → Learns Is g o m (Ok x) → WritesText If named g m n a b r
       → ((H : History) → IsAnyList H → Is H x → HasBranch H branch × If H × (named H ≡ text H)) → WritesReport text branch g o n a b r
   report-after {a = a} {r = r} {named = named} first second all =
       report-there r
@@ -99,7 +106,9 @@ module _ {S A : Type 0} {g : Ghosts S} {o m : Held S} {Is : History → A → Ty
       (λ disk H shows. (all H (shows.legal, shows.forms) (first.shown (second.looks.clean disk) H shows tt)).0)
 
   -- There is no such branch.
-  pub report-unknown : {T : Type 0} {x : A} (a : Option (List ℕ)) → Learns Is g o m (Ok x) → ((H : History) → Is H x → (picture H).branches branch ≡ None) → WritesReport {T = T} text branch g o m a a (Err (Refused UnknownBranch))
+  pub report-unknown : {T : Type 0} {x : A} (a : Option (List ℕ)) → Learns Is g o m (Ok x)
+      → ((H : History) → Is H x → (picture H).branches branch ≡ None)
+      → WritesReport {T = T} text branch g o m a a (Err (Refused UnknownBranch))
   report-unknown {T} {x} a first none = record {
     written = λ disk. tt;
     known = λ disk. tt;
@@ -112,7 +121,8 @@ module _ {S A : Type 0} {g : Ghosts S} {o m : Held S} {Is : History → A → Ty
   }
 
   -- A fault came before anything was written.
-  pub report-fault : {T : Type 0} {fault : Fault} (a : Option (List ℕ)) (r : Result T ReportFault) → IsErr r × IsErrAnd r (λ e. e ≡ Faulted fault) → Learns Is g o m (Err fault) → WritesReport text branch g o m a a r
+  pub report-fault : {T : Type 0} {fault : Fault} (a : Option (List ℕ)) (r : Result T ReportFault) → IsErr r
+      × IsErrAnd r (λ e. e ≡ Faulted fault) → Learns Is g o m (Err fault) → WritesReport text branch g o m a a r
   report-fault a (Ok x) is first = let never : ⊥ = cc (is.0) in absurd never
   report-fault {T} {fault} a (Err e) is first =
       let same : e ≡ Faulted fault = is.1 in
@@ -131,7 +141,8 @@ module _ {S A : Type 0} {g : Ghosts S} {o m : Held S} {Is : History → A → Ty
 -- ---- when a till report is told as damaged
 
 -- The fault of a read is the read's.
-pub stored-read : {S A T : Type 0} {g : Ghosts S} {o n : Held S} {Is : Picture → A → Type 0} {fault : Fault} (r : Result T ReportFault) → IsErr r × IsErrAnd r (λ e. e ≡ Faulted fault) → Found Is g o n (Err fault)
+pub stored-read : {S A T : Type 0} {g : Ghosts S} {o n : Held S} {Is : Picture → A → Type 0} {fault : Fault} (r : Result T ReportFault)
+    → IsErr r × IsErrAnd r (λ e. e ≡ Faulted fault) → Found Is g o n (Err fault)
     → HasCleanDisk (state g n) → r ≡ Err (Faulted Stored) → (P : Picture) → HasPicture (state g o).now P → InLimits P → ⊥
 stored-read (Ok x) is read = λ disk told. let never : ⊥ = cc (is.0) in absurd never
 stored-read {fault = fault} (Err e) is read = λ disk told.

@@ -57,7 +57,7 @@ pub record ChangesNothing {T E : Type 0} (old new : State) (result : Result T E)
 
 -- A call that only looks at the tables. As in the records below, the promises are for a disk that
 -- gives back what was written to it, up to the end of the call.
-pub record Looks {T E : Type 0} (old new : State) (result : Result T E) : Type 0 where
+pub record DeskLooks {T E : Type 0} (old new : State) (result : Result T E) : Type 0 where
   -- a disk that is sound at the end was sound at the start
   pub clean : HasCleanDisk new → HasCleanDisk old
   -- the tables show what they showed
@@ -80,7 +80,7 @@ pub record LearnsIf {S A : Type 0} (If : History → Type 0) (Is : History → A
   pub sound : IsClean g new → result ≡ Err Stored → (H : History) → Shows (state g old) H → If H
       → ⊥
   -- whatever the outcome, the tables show what they showed
-  pub looks : Looks (state g old) (state g new) result
+  pub looks : DeskLooks (state g old) (state g new) result
 
 -- Of any list of accepted requests.
 abbrev pub Learns : {S A : Type 0} → (History → A → Type 0)
@@ -90,9 +90,9 @@ Learns = LearnsIf (λ _. Unit {0})
 -- ---- parts of an answer
 
 -- A refusal of the owner's own, or none beyond those of the desk.
-abbrev pub Settles : Owner → Command → History → Option Refusal → Type 0
-Settles o c H (Some refused) = refusal H o c ≡ Some refused
-Settles o c H None = refusal H o c ≡ refusal H Desk c
+abbrev pub RefusesAnothers : Owner → Command → History → Option Refusal → Type 0
+RefusesAnothers o c H (Some refused) = refusal H o c ≡ Some refused
+RefusesAnothers o c H None = refusal H o c ≡ refusal H Desk c
 
 -- Whether the caller is the desk, or a patron who shows the own card key.
 abbrev pub Knows : Caller → History → Bool → Type 0

@@ -9,12 +9,12 @@ use Rattle.desk.specs.Written.{HasBranch}
 use Rattle.desk.specs.declared.overdue.Lender.{Lender}
 
 -- The calendar is that of the branch, and the day is today.
-abbrev pub Counts : Lender → History → Type 0
-Counts lender H = CountsFor H lender.branch lender.calendar lender.today
+abbrev pub CountsForLender : Lender → History → Type 0
+CountsForLender lender H = CountsFor H lender.branch lender.calendar lender.today
 
 -- This is the row of a loan.
 abbrev pub IsLateRow : Lender → LoanRow → History → Type 0
-IsLateRow lender r H = ((picture H).loans r.loan ≡ Some r) × Counts lender H
+IsLateRow lender r H = ((picture H).loans r.loan ≡ Some r) × CountsForLender lender H
 
 -- These are rows of loans.
 abbrev pub AreLateRows : Lender → List LoanRow → History → Type 0
@@ -22,5 +22,5 @@ AreLateRows lender rows H = (r : LoanRow) → Contains rows r → IsLateRow lend
 
 -- It was read of the branch, if there is the branch.
 abbrev pub IsLender : ℕ → History → Option Lender → Type 0
-IsLender branch H (Some lender) = HasBranch H branch × (lender.branch ≡ branch) × Counts lender H
+IsLender branch H (Some lender) = HasBranch H branch × (lender.branch ≡ branch) × CountsForLender lender H
 IsLender branch H None = (picture H).branches branch ≡ None

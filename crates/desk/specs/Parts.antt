@@ -1,5 +1,6 @@
 -- The parts of a report, as they go out one after another.
-use Rattle.std.specs.Prelude.{◌≡◌, ◌<◌, ◌-◌, ℕ, nat_lt, List, [], ◌++◌, map, filter, length, slice_get, Option, Some, None, option_map, Result, Err, IfOk, OnErr}
+use Rattle.std.specs.Prelude.{◌≡◌, ◌<◌, ◌-◌, ℕ, nat_lt, List, [], ◌++◌, map, filter, length, slice_get, Option, Some, None, option_map}
+use Rattle.std.specs.Prelude.{Result, Err, IfOk, OnErr}
 use Rattle.std.specs.Io.KnownBytes.{Appends}
 use Rattle.store.specs.Library.{Ghosts, Held, state, IsClean}
 use Rattle.circ_tables.specs.declared.by_number.TheConstants.{PAGE_ROWS}
@@ -7,7 +8,7 @@ use Rattle.terms.specs.declared.fault.Fault.TheVariants.{Stored}
 use Rattle.terms.specs.declared.refusal.Refusal.{Refusal}
 use Rattle.model.specs.History.{History}
 use Rattle.model.specs.Reports.{report_lines}
-use Rattle.desk.specs.Answering.{Shows, Stays, Looks}
+use Rattle.desk.specs.Answering.{Shows, Stays, DeskLooks}
 use Rattle.desk.specs.declared.reporting.ReportFault.{ReportFault}
 use Rattle.desk.specs.declared.reporting.ReportFault.TheVariants.{Refused, Faulted, NotWritten}
 use Rattle.desk.specs.declared.reporting.Told.{Told}
@@ -43,7 +44,7 @@ pub record WritesPart {S T : Type 0} (If : History → Type 0) (Is : History →
   -- after a failed write the tables show what they showed
   pub stays : IsClean g new → result ≡ Err NotWritten → Stays (state g old) (state g new)
   -- whatever the outcome, as long as the database is open
-  pub looks : Looks (state g old) (state g new) result
+  pub looks : DeskLooks (state g old) (state g new) result
 
 -- A text of the list was written.
 abbrev pub WritesText : {S T : Type 0} → (History → Type 0) → (History → List ℕ)

@@ -11,7 +11,7 @@ use Rattle.terms.specs.declared.refusal.Refusal.TheVariants.{UnknownBranch}
 use Rattle.model.specs.History.{History}
 use Rattle.model.specs.Picture.{picture}
 use Rattle.model.specs.Reports.{overdue, till, shelf}
-use Rattle.desk.specs.Answering.{Shows, Looks}
+use Rattle.desk.specs.Answering.{Shows, DeskLooks}
 use Rattle.desk.specs.Written.{HasBranch, SendsFront}
 use Rattle.desk.specs.declared.reporting.ReportFault.{ReportFault}
 use Rattle.desk.specs.declared.reporting.ReportFault.TheVariants.{Refused, Faulted, NotWritten}
@@ -63,4 +63,4 @@ pub record WritesAnyReport {S T : Type 0} (report : Report)
   pub stays : IsClean g new → result ≡ Err NotWritten → (H : History) → Shows (state g old) H
       → IsThere H report × Shows (state g new) H
   -- whatever the outcome, the tables show what they showed
-  pub looks : Looks (state g old) (state g new) result
+  pub looks : DeskLooks (state g old) (state g new) result

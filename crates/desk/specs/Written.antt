@@ -12,7 +12,7 @@ use Rattle.terms.specs.declared.row.BranchRow.{BranchRow}
 use Rattle.model.specs.History.{History}
 use Rattle.model.specs.Picture.{picture}
 use Rattle.model.specs.Reports.{till}
-use Rattle.desk.specs.Answering.{Shows, Looks}
+use Rattle.desk.specs.Answering.{Shows, DeskLooks}
 use Rattle.desk.specs.Parts.{IsFront}
 use Rattle.desk.specs.declared.reporting.ReportFault.{ReportFault}
 use Rattle.desk.specs.declared.reporting.ReportFault.TheVariants.{Refused, Faulted, NotWritten}
@@ -56,7 +56,7 @@ pub record WritesReport {S T : Type 0} (text : History → List ℕ) (branch : �
   pub stays : IsClean g new → result ≡ Err NotWritten → (H : History) → Shows (state g old) H
       → HasBranch H branch × Shows (state g new) H
   -- whatever the outcome, the tables show what they showed
-  pub looks : Looks (state g old) (state g new) result
+  pub looks : DeskLooks (state g old) (state g new) result
 
 -- The till report of a day was written, or a write or the database failed.
 pub record WritesTill {S T : Type 0} (day : ℕ)
@@ -80,4 +80,4 @@ pub record WritesTill {S T : Type 0} (day : ℕ)
   pub stays : IsClean g new → result ≡ Err NotWritten → (H : History) → Shows (state g old) H
       → Shows (state g new) H
   -- whatever the outcome, the tables show what they showed
-  pub looks : Looks (state g old) (state g new) result
+  pub looks : DeskLooks (state g old) (state g new) result

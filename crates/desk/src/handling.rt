@@ -11,7 +11,7 @@ ghost use Rattle.model.specs.Requests.{may_send as may_send_command, is_page};
 ghost use Rattle.desk.specs.Answering.{Handled, repeated, Records, AnswersCommand, AnswersByKey};
 ghost use Rattle.desk.specs.Answering.{HandlesAny, IsViewFor, TouchesOnly};
 
-use crate::callers::{is_known, may_send, settle};
+use crate::callers::{is_known, may_send, refusal_for_another};
 use crate::paging::show;
 use crate::touching::{Touched, touched_by};
 use circ_core::{Changes, View, decide};
@@ -90,7 +90,7 @@ fn answer<S: Alter>(
         S.Store store.old store.new result }
     ensures any { HandlesAny S.Store store.old store.new result }
 {
-    if let Some(refusal) = settle(store, &owner, command)? {
+    if let Some(refusal) = refusal_for_another(store, &owner, command)? {
         return Ok(Reply::Refused(refusal));
     }
     let view = store.view_for(alloc, command)?;
@@ -147,8 +147,8 @@ fn has_forms(request: &Request)
 }
 
 /// The reply to a request: 81 for a caller who may not send it; the page, which looks at no key;
-/// the kept reply or 80 for a key that was used, and else what becomes of the command. Where that is
-/// accepted, `touched` is set to the patrons whose own rows it changed.
+/// the kept reply or 80 for a key that was used, and else what becomes of the command. Where that
+/// is accepted, `touched` is set to the patrons whose own rows it changed.
 pub(crate) fn handle_touching<S: Alter>(
     store: &mut Store<S>,
     alloc: Global,

@@ -72,8 +72,8 @@ impl<S: Alter> Desk<S> {
         handle(&mut self.store, alloc, request)
     }
 
-    /// The reply to a request as `handle` gives it, and the patrons whose pages the request may have
-    /// changed; everybody else's page and card key are what they were. Where the request was
+    /// The reply to a request as `handle` gives it, and the patrons whose pages the request may
+    /// have changed; everybody else's page and card key are what they were. Where the request was
     /// refused, repeated or a page, nobody is named. 90, 91 or 93 in its place.
     pub fn handle_touching(
         &mut self,
@@ -115,8 +115,8 @@ impl<S: Alter> Desk<S> {
         show_own(&mut self.store, alloc, patron, card_key)
     }
 
-    /// The enrolled patrons, the least number first. 90, 91; 93 doesn't come where the tables show a
-    /// list of accepted requests.
+    /// The enrolled patrons, the least number first. 90, 91; 93 doesn't come where the tables show
+    /// a list of accepted requests.
     pub fn patrons(&mut self, alloc: Global) -> Result<Vec<PatronId>, Fault>
         ensures { Learns (λ H patrons. AreEnrolled H patrons.items)
             S.Store self.old self.new result }
@@ -124,8 +124,9 @@ impl<S: Alter> Desk<S> {
         patrons(&mut self.store, alloc)
     }
 
-    /// The page of a patron with the card key that opens it, as the desk sees them; none where there
-    /// is no such patron. 90, 91; 93 doesn't come where the tables show a list of accepted requests.
+    /// The page of a patron with the card key that opens it, as the desk sees them; none where
+    /// there is no such patron. 90, 91; 93 doesn't come where the tables show a list of accepted
+    /// requests.
     pub fn own_page(&mut self, alloc: Global, patron: PatronId) -> Result<Option<OwnPage>, Fault>
         ensures { Learns (λ H page. page ≡ own_page_of H patron)
             S.Store self.old self.new result }
@@ -148,8 +149,8 @@ impl<S: Alter> Desk<S> {
         till(&mut self.store, alloc, day, writer)
     }
 
-    /// Writes the shelf report of a branch: its ready holds, by number, page by page; 10 where there
-    /// is no such branch, and then nothing is written. 90, 91, 93, or a write failed: then a
+    /// Writes the shelf report of a branch: its ready holds, by number, page by page; 10 where
+    /// there is no such branch, and then nothing is written. 90, 91, 93, or a write failed: then a
     /// beginning of it may have gone out.
     pub fn shelf<W: Write>(
         &mut self,

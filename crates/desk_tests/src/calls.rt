@@ -1,5 +1,5 @@
-//! The calls under test, with no clauses: so a test with many of them is proved fast. Each is generic over the database's
-//! store, so that what it is proved from stays small.
+//! The calls under test, with no clauses: so a test with many of them is proved fast. Each is
+//! generic over the database's store, so that what it is proved from stays small.
 
 use desk::Desk;
 use sqlite::{Alter, Connection, FileStore, Options};

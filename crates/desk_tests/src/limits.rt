@@ -1,4 +1,5 @@
-//! Limits on the steps of the database, over memory: one request is refused, and what follows is answered as ever.
+//! Limits on the steps of the database, over memory: one request is refused, and what follows is
+//! answered as ever.
 
 use desk::Desk;
 use sqlite::MemStore;
@@ -65,7 +66,8 @@ fn a_limit_on_steps_refuses_and_changes_nothing(rt: HostRuntime) -> Result<(), F
     Ok(())
 }
 
-/// One request under a limit: where it meets a fault, that is the database's, and no row is changed. The desk with no limit, and whether there was one.
+/// One request under a limit: where it meets a fault, that is the database's, and no row is
+/// changed. The desk with no limit, and whether there was one.
 fn is_stopped(
     rt: &impl Abort,
     alloc: Global,
@@ -83,8 +85,8 @@ fn is_stopped(
     Ok((desk, true))
 }
 
-/// A script on a new library, of which one request is asked under a limit first: every answer and all rows are those without it. Whether that
-/// request met a fault.
+/// A script on a new library, of which one request is asked under a limit first: every answer and
+/// all rows are those without it. Whether that request met a fault.
 fn is_stopped_once(
     rt: &impl Abort,
     alloc: Global,
@@ -105,7 +107,8 @@ fn is_stopped_once(
     Ok(stopped)
 }
 
-/// One request of a script under each limit, from 1 up to the first under which it meets no fault: how many there were.
+/// One request of a script under each limit, from 1 up to the first under which it meets no fault:
+/// how many there were.
 fn stops(
     rt: &impl Abort,
     alloc: Global,

@@ -1,4 +1,5 @@
-//! Lists of requests, by the desk and by patrons; a patron's own page; all rows; and what is opened or made.
+//! Lists of requests, by the desk and by patrons; a patron's own page; all rows; and what is opened
+//! or made.
 
 use crate::calls::{create, page};
 use desk::Desk;
@@ -69,7 +70,8 @@ fn serves_patrons_their_own(rt: HostRuntime) -> Result<(), Fail> {
     let mut desk = ground(alloc)?;
     serves(&rt, alloc, &mut desk)?;
     let found = counts(&mut store_of(desk), alloc)?;
-    // next loan; branches, closed days, kinds, rules, patrons, titles, copies; loans, holds, transits, lines; kept, and by patrons
+    // next loan; branches, closed days, kinds, rules, patrons, titles, copies; loans, holds,
+    // transits, lines; kept, and by patrons
     assert!(rt; found == [3, 2, 1, 1, 2, 3, 3, 4, 2, 1, 1, 1, 24, 3]);
     Ok(())
 }

@@ -1,6 +1,7 @@
-//! Migrations of a library of an older schema that are stopped: a fuse in one of its two files blows at each call in turn, and what was
-//! not synced is lost, or not; or the database may take only so many steps. The tables are then the old ones, or those that a whole
-//! step leaves, and the migration is made afterwards.
+//! Migrations of a library of an older schema that are stopped: a fuse in one of its two files
+//! blows at each call in turn, and what was not synced is lost, or not; or the database may take
+//! only so many steps. The tables are then the old ones, or those that a whole step leaves, and the
+//! migration is made afterwards.
 
 use crate::calls::{connection_of, limit_steps, migrate};
 use sqlite::{Alter, Connection, Files};
@@ -15,7 +16,8 @@ use test_library::{
     rows_of,
 };
 
-/// An older library: its schema, what makes it of the small one of the newest schema, and the first day of its first hold.
+/// An older library: its schema, what makes it of the small one of the newest schema, and the first
+/// day of its first hold.
 #[derive(Clone, Copy)]
 struct Older {
     schema: u32,
@@ -151,7 +153,8 @@ fn are_whole(
     Ok(())
 }
 
-/// The rows are whole, and the newest where the migration was told as done; else it is made, and then they are. The schema that was found.
+/// The rows are whole, and the newest where the migration was told as done; else it is made, and
+/// then they are. The schema that was found.
 fn judge<S: Alter + Drop>(
     rt: &impl Abort,
     alloc: Global,
@@ -212,7 +215,8 @@ impl Hits {
     }
 }
 
-/// One stop, after which each of the files may lose what was not synced; whether the migration was told as done.
+/// One stop, after which each of the files may lose what was not synced; whether the migration was
+/// told as done.
 fn one_stop(
     rt: &impl Abort,
     alloc: Global,
@@ -293,8 +297,9 @@ fn a_stop_at_each_call_of_the_database_leaves_whole_steps(rt: HostRuntime) -> Re
     Ok(())
 }
 
-/// The migration under each limit on steps, from 1 up to the first under which it is made: until then the rows are those of a whole step,
-/// or the old ones. How often it left the schema that the library had.
+/// The migration under each limit on steps, from 1 up to the first under which it is made: until
+/// then the rows are those of a whole step, or the old ones. How often it left the schema that the
+/// library had.
 fn limits(rt: &impl Abort, alloc: Global, library: Older) -> Result<u64, Fail> {
     let mut conn = connection(ground(alloc)?);
     made_older(&mut conn, library)?;

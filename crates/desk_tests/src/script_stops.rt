@@ -1,5 +1,5 @@
-//! Stops of scripts: a fuse in one of the two files of a library blows at each call in turn, and what was not synced is lost, or
-//! not.
+//! Stops of scripts: a fuse in one of the two files of a library blows at each call in turn, and
+//! what was not synced is lost, or not.
 
 use crate::calls::connection_of;
 use crate::limits::shown;
@@ -29,7 +29,8 @@ fn pictures(alloc: Global, script: &str) -> Result<Vec<String>, Fail> {
     Ok(all)
 }
 
-/// A script: how many of its requests were answered before the database told a fault, and the store as it is left.
+/// A script: how many of its requests were answered before the database told a fault, and the store
+/// as it is left.
 fn stopped<S: Alter + Drop>(
     rt: &impl Abort,
     alloc: Global,
@@ -48,7 +49,8 @@ fn stopped<S: Alter + Drop>(
     Ok((answered, store_of(desk)))
 }
 
-/// A script over two files: how many of its requests were answered, and the files as they were written.
+/// A script over two files: how many of its requests were answered, and the files as they were
+/// written.
 fn stopped_in<D: Disk + Drop>(
     rt: &impl Abort,
     alloc: Global,
@@ -59,8 +61,8 @@ fn stopped_in<D: Disk + Drop>(
     Ok((answered, into_files(store)))
 }
 
-/// The requests of a script from the first that had no answer on are asked again, under the same keys: they are answered
-/// as ever, and the rows are then these.
+/// The requests of a script from the first that had no answer on are asked again, under the same
+/// keys: they are answered as ever, and the rows are then these.
 fn finished<S: Alter + Drop>(
     rt: &impl Abort,
     alloc: Global,
@@ -79,8 +81,8 @@ fn finished<S: Alter + Drop>(
     Ok(())
 }
 
-/// After a stop the rows are those of what was accepted, or of that and the request in work; the rest of the script is answered
-/// afterwards.
+/// After a stop the rows are those of what was accepted, or of that and the request in work; the
+/// rest of the script is answered afterwards.
 fn is_finished<S: Alter + Drop>(
     rt: &impl Abort,
     alloc: Global,
@@ -100,14 +102,16 @@ fn is_finished<S: Alter + Drop>(
     finished(rt, alloc, conn, (script, answered), last)
 }
 
-/// How often the script was stopped before it was answered whole, and how often something was lost then that was not synced.
+/// How often the script was stopped before it was answered whole, and how often something was lost
+/// then that was not synced.
 #[derive(Clone, Copy)]
 struct Hits {
     stops: u64,
     losses: u64,
 }
 
-/// One stop, after which each of the files may lose what was not synced; whether the script was answered whole, and whether something was lost.
+/// One stop, after which each of the files may lose what was not synced; whether the script was
+/// answered whole, and whether something was lost.
 fn is_left_right(
     rt: &impl Abort,
     alloc: Global,
@@ -137,7 +141,8 @@ fn is_restarted(
     is_finished(rt, alloc, store, (script, answered), pictures)
 }
 
-/// Every way to leave the files at one stop; whether the script was answered whole, and how often something was lost.
+/// Every way to leave the files at one stop; whether the script was answered whole, and how often
+/// something was lost.
 fn every_end(
     rt: &impl Abort,
     alloc: Global,
@@ -156,7 +161,8 @@ fn every_end(
     Ok((is_whole, losses))
 }
 
-/// The fuse blows at each call of the script in turn, until it is answered whole; how many stops were before it.
+/// The fuse blows at each call of the script in turn, until it is answered whole; how many stops
+/// were before it.
 fn stops_in(
     rt: &impl Abort,
     alloc: Global,
@@ -227,7 +233,8 @@ fn a_stop_of_loans_with_grace_days_and_without(rt: HostRuntime) -> Result<(), Fa
     withstands_stops(&rt, rt.alloc(), GRACE)
 }
 
-/// The one line, if there is one, and the one loan, as the rows of a picture have them, and what the patron owes.
+/// The one line, if there is one, and the one loan, as the rows of a picture have them, and what
+/// the patron owes.
 fn tells(picture: &str, (line, loan, owed): (&str, &str, &str)) -> bool {
     picture.contains(line) && picture.contains(loan) && picture.contains(owed)
 }

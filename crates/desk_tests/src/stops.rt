@@ -13,8 +13,8 @@ use test_library::{
     options, request, rows, store_of,
 };
 
-/// The rows of the small library, table by table, with three that a check-out changes: a part of `meta`, the last of
-/// `kept`, behind which stand no holds, and the loans.
+/// The rows of the small library, table by table, with three that a check-out changes: a part of
+/// `meta`, the last of `kept`, behind which stand no holds, and the loans.
 fn tables(alloc: Global, next: &str, loans: &str, kept: &str) -> Result<String, Fail> {
     Ok(format!(in alloc;
         "\n1|3|20514|{next}|1|1|;\
@@ -78,7 +78,8 @@ fn shown<S: Alter + Drop>(alloc: Global, store: Store<S>) -> Result<String, Fail
     rows(alloc, &mut connection_of(store))
 }
 
-/// What was told is the loan or fault 91, and the rows are those after it, or before it where it was not told.
+/// What was told is the loan or fault 91, and the rows are those after it, or before it where it
+/// was not told.
 fn judge(rt: &impl Abort, alloc: Global, told: &str, found: &str) -> Result<bool, Fail> {
     let is_lent = told == "loan 1 due 2026-03-09";
     assert!(rt; is_lent || told == "fault 91", "{told}");
@@ -101,7 +102,8 @@ fn shown_in<D: Disk + Drop>(alloc: Global, files: Files<D>) -> Result<String, Fa
     shown(alloc, open_files(alloc, files, options())?)
 }
 
-/// The desk is dropped with its files as they were written, save that each may lose what was not synced.
+/// The desk is dropped with its files as they were written, save that each may lose what was not
+/// synced.
 fn dropped(
     rt: &impl Abort,
     alloc: Global,
@@ -127,7 +129,8 @@ fn repeated<S: Alter + Drop>(
     Ok(())
 }
 
-/// The rows are those of what was told; then the same request with the same key is answered with the loan, and is done once.
+/// The rows are those of what was told; then the same request with the same key is answered with
+/// the loan, and is done once.
 fn is_repeated<S: Alter + Drop>(
     rt: &impl Abort,
     alloc: Global,
@@ -164,7 +167,8 @@ fn every_end(
     restarted(rt, alloc, fused(alloc, base, fuse)?)
 }
 
-/// The fuse blows at each call of the check-out in turn, until the loan is told; how many stops were before it.
+/// The fuse blows at each call of the check-out in turn, until the loan is told; how many stops
+/// were before it.
 fn stops(rt: &impl Abort, alloc: Global, is_log: bool) -> Result<u64, Fail> {
     let base = filled(alloc)?;
     let open = calls_of_open(alloc, &base, is_log)?;

@@ -1,6 +1,7 @@
 -- The records of a file, and the rows that they are.
 use Rattle.front.specs.declared.copies.TheConstants.{MOST_ROWS}
-use Rattle.std.proofs.Common.{if◌then◌else◌, ◌≡◌, ◌≢◌, ◌⊎◌, inl, inr, ◌∙◌, ◌<◌, ◌≤◌, ◌+◌, ◌++◌, ℕ, Bool, true, false, refl, sym, ap, subst, List, [], ◌∷◌, length, Option, Some, None, arith, zero, suc}
+use Rattle.std.proofs.Common.{if◌then◌else◌, ◌≡◌, ◌≢◌, ◌⊎◌, inl, inr, ◌∙◌, ◌<◌, ◌≤◌, ◌+◌, ◌++◌, ℕ, Bool, true, false, refl, sym, ap, subst}
+use Rattle.std.proofs.Common.{List, [], ◌∷◌, length, Option, Some, None, arith, zero, suc}
 use Rattle.std.proofs.lemmas.List.{append-nil, length-append}
 use Rattle.csv.specs.Machine.{Read as Found, ends_at_end, is_end, next_record, step, fields_after, field_after}
 use Rattle.csv.specs.Reading.{Reached, ReadRecord, default_config, records_from, source_of, strip_bom}
@@ -28,13 +29,17 @@ at_end false fields p e = absurd (cc)
 shorter : (cfg : Config) (s : State) (fields : Fields) (field xs : List ℕ) (p : Found) → next_record cfg s fields field xs ≡ Some p → IsShorter xs p
 unfolding next_record
 shorter cfg s fields field [] p e = let h = at_end (ends_at_end s) (fields ++ field ∷ []) p e in inr (refl, h.0, h.1)
-shorter cfg s fields field (c ∷ rest) p e = go (is_end (step cfg s c).1) refl (λ later. shorter cfg (step cfg s c).0 (fields_after (step cfg s c).1 fields field) (field_after (step cfg s c).1 c field) rest p later)
+shorter cfg s fields field (c ∷ rest) p e =
+    go (is_end (step cfg s c).1) refl
+    (λ later. shorter cfg (step cfg s c).0 (fields_after (step cfg s c).1 fields field) (field_after (step cfg s c).1 c field) rest p later)
   where
     less : IsShorter rest p → IsShorter (c ∷ rest) p
     less (inl h) = inl (omega (arith, h))
     less (inr h) = let none : length p.2 ≡ 0 = ap length h.2 in inl (omega (arith, none))
 
-    go : (b : Bool) → is_end (step cfg s c).1 ≡ b → (next_record cfg (step cfg s c).0 (fields_after (step cfg s c).1 fields field) (field_after (step cfg s c).1 c field) rest ≡ Some p → IsShorter rest p) → IsShorter (c ∷ rest) p
+    go : (b : Bool) → is_end (step cfg s c).1 ≡ b
+        → (next_record cfg (step cfg s c).0 (fields_after (step cfg s c).1 fields field)
+        (field_after (step cfg s c).1 c field) rest ≡ Some p → IsShorter rest p) → IsShorter (c ∷ rest) p
     go true q more =
         let same : Some (fields_after (step cfg s c).1 fields field, (step cfg s c).0, rest) ≡ Some p = rw q at e in
         let one : (fields_after (step cfg s c).1 fields field, (step cfg s c).0, rest) ≡ p = cc in
@@ -50,7 +55,8 @@ none_left : (cfg : Config) (r : Fields) (rs : List Fields) (s s2 : State) (xs ys
 unfolding Reached next_record
 none_left cfg r rs s s2 xs ys hs hx h = let bad = rw (hs, hx) at h.1 in absurd (cc)
 
-splits : (cfg : Config) (n : ℕ) (s : State) (xs : List ℕ) (rs : List Fields) (s2 : State) (ys : List ℕ) → length xs < n → Reached cfg s xs rs s2 ys → Splits cfg n s xs rs s2 ys
+splits : (cfg : Config) (n : ℕ) (s : State) (xs : List ℕ) (rs : List Fields) (s2 : State) (ys : List ℕ) → length xs < n
+    → Reached cfg s xs rs s2 ys → Splits cfg n s xs rs s2 ys
 unfolding Reached records_from
 splits cfg n s xs [] s2 ys long h = (n, rw (h.0, h.1) refl)
 splits cfg zero s xs (r ∷ rs) s2 ys long h = absurd (omega arith)
@@ -59,7 +65,8 @@ splits cfg (suc n) s xs (r ∷ rs) s2 ys long h = go rs (shorter cfg s [] [] xs 
     first : (m : ℕ) → records_from cfg n h.0.1 h.0.2 ≡ rs ++ records_from cfg m s2 ys → records_from cfg (suc n) s xs ≡ (r ∷ rs) ++ records_from cfg m s2 ys
     first m e = rw (h.1, h.2, e) refl
 
-    go : (qs : List Fields) → IsShorter xs h.0 → Reached cfg h.0.1 h.0.2 rs s2 ys → (length h.0.2 < n → Splits cfg n h.0.1 h.0.2 rs s2 ys) → Splits cfg (suc n) s xs (r ∷ rs) s2 ys
+    go : (qs : List Fields) → IsShorter xs h.0 → Reached cfg h.0.1 h.0.2 rs s2 ys → (length h.0.2 < n → Splits cfg n h.0.1 h.0.2 rs s2 ys)
+        → Splits cfg (suc n) s xs (r ∷ rs) s2 ys
     go qs (inl less) rest more = let m = more (omega (arith, less)) in (m.0, first m.0 m.1)
     go qs (inr end) rest more = done rs refl
       where
@@ -72,7 +79,8 @@ clash : (n : ℕ) (g : Fields) (row : CopyRow) → IsNoRow g ⊎ (MOST_ROWS ≤ 
 clash n g row (inl bad) good few = bad.none row good
 clash n g row (inr many) good few = omega (arith, many, few)
 
-once : (before : ℕ) (others : List Fields) (rows rows_too : List CopyRow) (end end_too : CopyEnd) → HaveRows before others rows end → HaveRows before others rows_too end_too
+once : (before : ℕ) (others : List Fields) (rows rows_too : List CopyRow) (end end_too : CopyEnd) → HaveRows before others rows end
+    → HaveRows before others rows_too end_too
     → (rows ≡ rows_too) × (end ≡ end_too)
 once before [] [] [] end end_too h k = (refl, h ∙ sym k)
 once before [] [] (r ∷ rs) end end_too h k = absurd k
@@ -93,21 +101,24 @@ files_read_once (header ∷ others) rows rows_too end end_too (inr h) (inl k) = 
 files_read_once (header ∷ others) rows rows_too end end_too (inr h) (inr k) = once 0 others rows rows_too end end_too h.1 k.1
 
 -- records and rows that grow at their ends
-rows_more : (before : ℕ) (others : List Fields) (rows : List CopyRow) (f : Fields) (row : CopyRow) → HaveRows before others rows Whole → IsRow f row → before + length rows < MOST_ROWS
+rows_more : (before : ℕ) (others : List Fields) (rows : List CopyRow) (f : Fields) (row : CopyRow) → HaveRows before others rows Whole
+    → IsRow f row → before + length rows < MOST_ROWS
     → HaveRows before (others ++ f ∷ []) (rows ++ row ∷ []) Whole
 rows_more before [] [] f row h good few = (good, omega (arith, few), refl)
 rows_more before [] (r ∷ rs) f row h good few = absurd h
 rows_more before (g ∷ others) [] f row h good few = let bad = h.1 in absurd (cc)
 rows_more before (g ∷ others) (r ∷ rs) f row h good few = (h.0, h.1, rows_more (before + 1) others rs f row h.2 good (omega (arith, few)))
 
-rows_bad : (before : ℕ) (others : List Fields) (rows : List CopyRow) (f : Fields) (number : ℕ) → HaveRows before others rows Whole → IsNoRow f ⊎ (MOST_ROWS ≤ before + length rows)
+rows_bad : (before : ℕ) (others : List Fields) (rows : List CopyRow) (f : Fields) (number : ℕ) → HaveRows before others rows Whole
+    → IsNoRow f ⊎ (MOST_ROWS ≤ before + length rows)
     → number ≡ before + length rows + 1 → HaveRows before (others ++ f ∷ []) rows (Bad number)
 rows_bad before [] [] f number h (inl bad) n = (inl bad, ap Bad (omega (arith, n)))
 rows_bad before [] [] f number h (inr many) n = (inr (omega (arith, many)), ap Bad (omega (arith, n)))
 rows_bad before [] (r ∷ rs) f number h bad n = absurd h
 rows_bad before (g ∷ others) [] f number h bad n = let other = h.1 in absurd (cc)
 rows_bad before (g ∷ others) (r ∷ rs) f number h (inl bad) n = (h.0, h.1, rows_bad (before + 1) others rs f number h.2 (inl bad) (omega (arith, n)))
-rows_bad before (g ∷ others) (r ∷ rs) f number h (inr many) n = (h.0, h.1, rows_bad (before + 1) others rs f number h.2 (inr (omega (arith, many))) (omega (arith, n)))
+rows_bad before (g ∷ others) (r ∷ rs) f number h (inr many) n =
+    (h.0, h.1, rows_bad (before + 1) others rs f number h.2 (inr (omega (arith, many))) (omega (arith, n)))
 
 from_first : (f : Fields) (n : ℕ) → IsNoRow f ⊎ (MOST_ROWS ≤ n) → IsNoRow f ⊎ (MOST_ROWS ≤ 0 + n)
 from_first f n (inl bad) = inl bad
@@ -120,7 +131,8 @@ rows_first before (g ∷ others) more [] h = tt
 rows_first before (g ∷ others) more (r ∷ rs) h = (h.0, rows_first (before + 1) others more rs h.2)
 
 -- what comes after the end changes nothing
-bad_before : (before : ℕ) (others more : List Fields) (rows : List CopyRow) (number : ℕ) → HaveRows before others rows (Bad number) → HaveRows before (others ++ more) rows (Bad number)
+bad_before : (before : ℕ) (others more : List Fields) (rows : List CopyRow) (number : ℕ) → HaveRows before others rows (Bad number)
+    → HaveRows before (others ++ more) rows (Bad number)
 bad_before before [] more [] number h = absurd (cc)
 bad_before before [] more (r ∷ rs) number h = absurd h
 bad_before before (g ∷ others) more [] number h = h
@@ -156,7 +168,8 @@ few_more f rows new t =
     let few = t.3 in
     omega (arith, size, few)
 
-pub read_ended : {R : Type 0} (rem : R → Option (List ℕ)) (state : State) (src : Option (List ℕ)) (a b : Reader R) (rows new : List CopyRow) (f : Fields) (end : CopyEnd)
+pub read_ended : {R : Type 0} (rem : R → Option (List ℕ)) (state : State) (src : Option (List ℕ)) (a b : Reader R) (rows new : List CopyRow)
+    (f : Fields) (end : CopyEnd)
     → a.config ≡ default_config → HasRead state src a.state (source_of rem a) rows → ReadRecord rem a b true f → Takes f rows new (Some end)
     → IsRestReading state src new end
 read_ended rem state None a b rows new f end config h r t = tt
@@ -164,19 +177,37 @@ read_ended rem state (Some bytes) a b rows new f end config h r t =
     let m = rows-more rem a b f default_config state bytes h.0 h.2 config h.1 h.3 r in
     go m end t
   where
-    go : (z : List ℕ) × (source_of rem b ≡ Some z) × Reached default_config state bytes (h.2 ++ f ∷ []) b.state z → (was : CopyEnd) → Takes f rows new (Some was) → IsRestReading state (Some bytes) new was
+    go : (z : List ℕ) × (source_of rem b ≡ Some z) × Reached default_config state bytes (h.2 ++ f ∷ []) b.state z → (was : CopyEnd)
+        → Takes f rows new (Some was) → IsRestReading state (Some bytes) new was
     go m Whole t = absurd t
-    go m (Bad number) t = (h.2 ++ f ∷ [], b.state, m.0, m.2, (λ e. absurd (cc)), subst (λ xs. HaveRows 0 (h.2 ++ f ∷ []) xs (Bad number)) (sym t.0) (rows_bad 0 h.2 rows f number h.4 (from_first f (length rows) t.1) (let n = t.2 in omega (arith, n))))
+    go m (Bad number) t = (
+      h.2 ++ f ∷ [],
+      b.state,
+      m.0,
+      m.2,
+      (λ e. absurd (cc)),
+      subst (λ xs. HaveRows 0 (h.2 ++ f ∷ []) xs (Bad number)) (sym t.0)
+          (rows_bad 0 h.2 rows f number h.4 (from_first f (length rows) t.1) (let n = t.2 in omega (arith, n))),
+    )
     go m Read t = absurd t
-    go m Memory t = (h.2 ++ f ∷ [], b.state, m.0, m.2, (λ e. absurd (cc)), subst (λ xs. BeginWith (h.2 ++ f ∷ []) xs) (sym t) (rows_first 0 h.2 (f ∷ []) rows h.4))
+    go m Memory t = (
+      h.2 ++ f ∷ [],
+      b.state,
+      m.0,
+      m.2,
+      (λ e. absurd (cc)),
+      subst (λ xs. BeginWith (h.2 ++ f ∷ []) xs) (sym t) (rows_first 0 h.2 (f ∷ []) rows h.4),
+    )
 
 pub read_broken : {R : Type 0} (rem : R → Option (List ℕ)) (state : State) (src : Option (List ℕ)) (a : Reader R) (rows : List CopyRow) (end : CopyEnd)
     → HasRead state src a.state (source_of rem a) rows → (end ≡ Read) ⊎ (end ≡ Memory) → IsRestReading state src rows end
 read_broken rem state None a rows end h e = tt
 read_broken rem state (Some bytes) a rows end h (inl e) =
-    subst (λ was. IsRestReading state (Some bytes) rows was) (sym e) (h.2, a.state, h.0, h.3, (λ bad. absurd (cc)), subst (λ xs. BeginWith xs rows) (append-nil h.2) (rows_first 0 h.2 [] rows h.4))
+    subst (λ was. IsRestReading state (Some bytes) rows was) (sym e)
+    (h.2, a.state, h.0, h.3, (λ bad. absurd (cc)), subst (λ xs. BeginWith xs rows) (append-nil h.2) (rows_first 0 h.2 [] rows h.4))
 read_broken rem state (Some bytes) a rows end h (inr e) =
-    subst (λ was. IsRestReading state (Some bytes) rows was) (sym e) (h.2, a.state, h.0, h.3, (λ bad. absurd (cc)), subst (λ xs. BeginWith xs rows) (append-nil h.2) (rows_first 0 h.2 [] rows h.4))
+    subst (λ was. IsRestReading state (Some bytes) rows was) (sym e)
+    (h.2, a.state, h.0, h.3, (λ bad. absurd (cc)), subst (λ xs. BeginWith xs rows) (append-nil h.2) (rows_first 0 h.2 [] rows h.4))
 
 pub read_all : {R : Type 0} (rem : R → Option (List ℕ)) (state : State) (src : Option (List ℕ)) (a b : Reader R) (rows : List CopyRow)
     → a.config ≡ default_config → HasRead state src a.state (source_of rem a) rows → ReadRecord rem a b false [] → IsRestReading state src rows Whole
@@ -194,7 +225,8 @@ unfolding records_from
 next_end cfg zero s ys e = refl
 next_end cfg (suc m) s ys e = rw e refl
 
-joined : (cfg : Config) (s s1 s2 : State) (xs ys zs : List ℕ) (header : Fields) (others : List Fields) → Reached cfg s xs (header ∷ []) s1 ys → Reached cfg s1 ys others s2 zs
+joined : (cfg : Config) (s s1 s2 : State) (xs ys zs : List ℕ) (header : Fields) (others : List Fields)
+    → Reached cfg s xs (header ∷ []) s1 ys → Reached cfg s1 ys others s2 zs
     → Reached cfg s xs (header ∷ others) s2 zs
 unfolding Reached
 joined cfg s s1 s2 xs ys zs header others h more = (h.0, h.1, h.2, rw (h.3.0, h.3.1) more)
@@ -205,7 +237,8 @@ first_told more others (r ∷ rs) h = (refl, first_before others more (r ∷ rs)
 
 told : (more : List Fields) (others : List Fields) (rows : List CopyRow) (end : CopyEnd) → (end ≡ Whole → more ≡ []) → TellsRows others rows end
     → Tells (header_fields ∷ (others ++ more)) rows end
-told more others rows Whole none h = let gone = none refl in inr (refl, subst (λ xs. HaveRows 0 xs rows Whole) (sym (ap (λ (xs : List Fields). others ++ xs) gone ∙ append-nil others)) h)
+told more others rows Whole none h = let gone = none refl in
+    inr (refl, subst (λ xs. HaveRows 0 xs rows Whole) (sym (ap (λ (xs : List Fields). others ++ xs) gone ∙ append-nil others)) h)
 told more others rows (Bad number) none h = inr (refl, bad_before 0 others more rows number h)
 told more others rows Read none h = first_told more others rows h
 told more others rows Memory none h = first_told more others rows h
@@ -223,7 +256,8 @@ header_read rem None a b header plain state src r = tt
 header_read rem (Some bytes) a b header plain state src r =
     rows-more rem a b header default_config st.StartRecord (strip_bom bytes) (strip_bom bytes) [] plain.config src (sym state, refl) r
 
-pub with_header : (known : Option (List ℕ)) (state : State) (left : Option (List ℕ)) (header : Fields) (rows : List CopyRow) (end : CopyEnd) → HasHeader known state left header
+pub with_header : (known : Option (List ℕ)) (state : State) (left : Option (List ℕ)) (header : Fields) (rows : List CopyRow) (end : CopyEnd)
+    → HasHeader known state left header
     → header ≡ header_fields → IsRestReading state left rows end → IsReading known rows end
 with_header None state left header rows end h same rest = tt
 with_header (Some bytes) state None header rows end h same rest = absurd (cc h.1)
@@ -232,11 +266,13 @@ with_header (Some bytes) state (Some ys) header rows end h same rest =
     let first = subst (λ zs. Reached default_config st.StartRecord (strip_bom bytes) (header ∷ []) state zs) (sym same_bytes) h.2 in
     let all = joined default_config st.StartRecord state rest.1 (strip_bom bytes) ys rest.2 header rest.0 first rest.3 in
     let m = splits default_config (length (strip_bom bytes) + 1) st.StartRecord (strip_bom bytes) (header ∷ rest.0) rest.1 rest.2 (omega arith) all in
-    let records_are : records_in bytes ≡ header_fields ∷ (rest.0 ++ records_from default_config m.0 rest.1 rest.2) = m.1 ∙ ap (λ (f : Fields). f ∷ (rest.0 ++ records_from default_config m.0 rest.1 rest.2)) same in
+    let records_are : records_in bytes ≡ header_fields ∷ (rest.0 ++ records_from default_config m.0 rest.1 rest.2) =
+    m.1 ∙ ap (λ (f : Fields). f ∷ (rest.0 ++ records_from default_config m.0 rest.1 rest.2)) same in
     subst (λ all. Tells all rows end) (sym records_are)
     (told (records_from default_config m.0 rest.1 rest.2) rest.0 rows end (λ e. next_end default_config m.0 rest.1 rest.2 (rest.4 e)) rest.5)
 
-pub other_header : (known : Option (List ℕ)) (state : State) (left : Option (List ℕ)) (header : Fields) → HasHeader known state left header → header ≢ header_fields → IsReading known [] (Bad 0)
+pub other_header : (known : Option (List ℕ)) (state : State) (left : Option (List ℕ)) (header : Fields) → HasHeader known state left header
+    → header ≢ header_fields → IsReading known [] (Bad 0)
 other_header None state left header h other = tt
 other_header (Some bytes) state left header h other =
     let m = splits default_config (length (strip_bom bytes) + 1) st.StartRecord (strip_bom bytes) (header ∷ []) state h.0 (omega arith) h.2 in
@@ -247,5 +283,7 @@ pub no_header : {R : Type 0} (rem : R → Option (List ℕ)) (known : Option (Li
 no_header rem None a b fields plain state src r = tt
 no_header rem (Some bytes) a b fields plain state src r =
     let none = rows-end rem a b fields default_config (strip_bom bytes) plain.config src r in
-    let records_are : records_in bytes ≡ [] = next_end default_config (length (strip_bom bytes) + 1) st.StartRecord (strip_bom bytes) (subst (λ s. next_record default_config s [] [] (strip_bom bytes) ≡ None) state none) in
+    let records_are : records_in bytes ≡ [] =
+    next_end default_config (length (strip_bom bytes) + 1) st.StartRecord (strip_bom bytes)
+    (subst (λ s. next_record default_config s [] [] (strip_bom bytes) ≡ None) state none) in
     subst (λ all. Tells all [] (Bad 0)) (sym records_are) (refl, refl)

@@ -1,5 +1,6 @@
 -- The fields of a row, each at its place.
-use Rattle.std.proofs.Common.{◌⊎◌, inl, inr, ◌≤◌, ◌≡◌, ◌∙◌, ◌<◌, ◌+◌, ◌^◌, ℕ, true, false, refl, sym, ap, subst, List, [], ◌∷◌, length, Option, Some, None, arith, zero, suc, get_or}
+use Rattle.std.proofs.Common.{◌⊎◌, inl, inr, ◌≤◌, ◌≡◌, ◌∙◌, ◌<◌, ◌+◌, ◌^◌, ℕ, true, false, refl, sym, ap, subst, List, [], ◌∷◌, length}
+use Rattle.std.proofs.Common.{Option, Some, None, arith, zero, suc, get_or}
 use Rattle.std.specs.Prelude.{codes, IfSome, IsUtf8}
 use Rattle.std.specs.Borrow.{Bor}
 use Rattle.std.specs.Fmt.{decimal}
@@ -90,7 +91,8 @@ seven (_ ∷ _ ∷ _ ∷ _ ∷ _ ∷ _ ∷ []) a b c d e f g long = absurd (cc)
 seven (p ∷ q ∷ r ∷ s ∷ t ∷ u ∷ v ∷ []) a b c d e f g long = λ h0 h1 h2 h3 h4 h5 h6. cc
 seven (_ ∷ _ ∷ _ ∷ _ ∷ _ ∷ _ ∷ _ ∷ _ ∷ _) a b c d e f g long = absurd (omega (arith, long))
 
-row_is : (fields : Fields) (row : CopyRow) (text : List ℕ) → length fields ≡ 7 → field_at fields 6 ≡ Some (codes "end") → field_at fields 2 ≡ Some text → IsName text
+row_is : (fields : Fields) (row : CopyRow) (text : List ℕ) → length fields ≡ 7 → field_at fields 6 ≡ Some (codes "end")
+    → field_at fields 2 ≡ Some text → IsName text
     → row.text ≡ text → HasNumbers fields row → IsRow fields row
 row_is fields row text long closed there good same numbers =
     let name : IsName row.text = subst IsName (sym same) good in
@@ -100,7 +102,8 @@ row_is fields row text long closed there good same numbers =
       seven fields _ _ _ _ _ _ _ long numbers.copy.1 numbers.title.1 found numbers.kind.1 numbers.home.1 numbers.price.1 closed,
     )
 
-pub row_made : (fields : Fields) (found : Option CopyRow) (text : List ℕ) → length fields ≡ 7 → field_at fields 6 ≡ Some (codes "end") → field_at fields 2 ≡ Some text → IsName text
+pub row_made : (fields : Fields) (found : Option CopyRow) (text : List ℕ) → length fields ≡ 7 → field_at fields 6 ≡ Some (codes "end")
+    → field_at fields 2 ≡ Some text → IsName text
     → IfSome found (λ row. row.text ≡ text) → IfSome found (λ row. HasNumbers fields row) → IfSome found (λ row. IsRow fields row)
 row_made fields None text long closed there good same numbers = tt
 row_made fields (Some row) text long closed there good same numbers = row_is fields row text long closed there good same numbers
@@ -123,5 +126,6 @@ same_row fields a b ha hb =
     let kind = decimal_injective a.kind b.kind (omega (arith, ha, hb)) (omega (arith, ha, hb)) k in
     let home = decimal_injective a.home b.home (omega (arith, ha, hb)) (omega (arith, ha, hb)) o in
     let price = decimal_injective a.price b.price (omega (arith, ha, hb)) (omega (arith, ha, hb)) p in
-    let made : make a.copy a.title a.text a.kind a.home a.price ≡ make b.copy b.title b.text b.kind b.home b.price = rw (copy, title, x, kind, home, price) refl in
+    let made : make a.copy a.title a.text a.kind a.home a.price ≡ make b.copy b.title b.text b.kind b.home b.price =
+    rw (copy, title, x, kind, home, price) refl in
     made

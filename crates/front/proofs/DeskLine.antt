@@ -1,5 +1,6 @@
 -- What the command line of the desk makes of the words of a command.
-use Rattle.std.proofs.Common.{◌≡◌, ◌∙◌, ◌&&◌, ℕ, Bool, true, false, refl, sym, subst, ap, ap₂, List, [], ◌∷◌, ◌++◌, ◌<◌, map, length, drop, get_or, zero, suc, arith, Option, Some, None}
+use Rattle.std.proofs.Common.{◌≡◌, ◌∙◌, ◌&&◌, ℕ, Bool, true, false, refl, sym, subst, ap, ap₂, List, [], ◌∷◌, ◌++◌, ◌<◌, map, length, drop}
+use Rattle.std.proofs.Common.{get_or, zero, suc, arith, Option, Some, None}
 use Rattle.std.specs.Prelude.{find, fold, option_map}
 use Rattle.std.specs.List.{list_any}
 use Rattle.clap.proofs.OnLiterals.{clap_on_literals}
@@ -9,10 +10,11 @@ use Rattle.clap.specs.declared.parser.matches.Found.{Found}
 use Rattle.clap.specs.declared.parser.matches.ArgMatches.{ArgMatches}
 use Rattle.clap.specs.declared.builder.command.Command.{Command}
 use Rattle.std.proofs.lemmas.List.{length-map}
-use Rattle.terms.specs.Commands.{Column, Line, column, commands, parts_in}
+use Rattle.terms.specs.Commands.{Column, CommandEntry, column, commands, parts_in}
 use Rattle.terms.specs.declared.form.PartForm.{PartForm}
 use Rattle.clap.specs.Walk.{first_of, rows_of, Names, Row, Text, Walk, answers_to, nothing_held, walk, walk_from, walked}
-use Rattle.clap.specs.Simple.{App, Shape, built, built_leaf, inherited, is_simple, HasMatchesOf, app_of, subcommand_rows_of, label_of, names_of, marked_built, with_leaf_noted, subcommand_of}
+use Rattle.clap.specs.Simple.{App, Shape, built, built_leaf, inherited, is_simple, HasMatchesOf, app_of, subcommand_rows_of, label_of}
+use Rattle.clap.specs.Simple.{names_of, marked_built, with_leaf_noted, subcommand_of}
 use Rattle.clap.specs.Takes.{takes, turn_passes, walk_passes}
 use Rattle.std.specs.Str.{bytes_eq}
 use Rattle.std.proofs.lemmas.Slice.Eq.{bytes_eq-Decides}
@@ -46,7 +48,7 @@ record IsMet (form : Form) : Type 0 where
   named : (leaf form).name ≡ form.0
   takes : Takes (leaf form) form.1
 
-abbrev AreMet : List Line → Type 0
+abbrev AreMet : List CommandEntry → Type 0
 AreMet [] = Unit {0}
 AreMet (form ∷ rest) = IsMet (form.0, names_in form.1) × AreMet rest
 
@@ -59,7 +61,7 @@ unfolding clap_on_literals
 is_simple_desk = refl
 
 -- a command that is found is met
-met_in : (forms : List Line) → AreMet forms → (name : Text) (parts : List Column) → parts_in forms name ≡ Some parts → IsMet (name, names_in parts)
+met_in : (forms : List CommandEntry) → AreMet forms → (name : Text) (parts : List Column) → parts_in forms name ≡ Some parts → IsMet (name, names_in parts)
 unfolding parts_in
 met_in [] met name parts e = absurd (cc)
 met_in (form ∷ rest) met name parts e = go (bytes_eq form.0 name) refl (λ h. met_in rest met.1 name parts h)
@@ -74,7 +76,8 @@ met_in (form ∷ rest) met name parts e = go (bytes_eq form.0 name) refl (λ h. 
 
 -- the line stops at the name, and leaves the other words to the command
 walk-name : (form : Form) → IsMet form → (ws : List Text) → walk top.rules names nothing_held (form.0 ∷ ws) ≡ stopped form.0 ws
-walk-name form met ws = ap (λ (v : Walk). fold (walked top.rules names) v ws) met.walk ∙ sym (walk_stopped top.rules names (walk_from nothing_held) form.0 [] ws)
+walk-name form met ws = ap (λ (v : Walk). fold (walked top.rules names) v ws) met.walk
+    ∙ sym (walk_stopped top.rules names (walk_from nothing_held) form.0 [] ws)
 
 -- once it stopped, each word passes
 stopped_passes : (name : Text) (seen ws : List Text) → walk_passes top names (stopped name seen) ws ≡ true
@@ -113,7 +116,8 @@ met_by words parts shape = met_in commands are_met shape.name parts shape.known
 counted : (words : List Text) (parts : List Column) → (shape : HasShape words parts) → length shape.others ≡ length (names_in parts)
 counted words parts shape = shape.count ∙ sym (length-map parts (λ (part : Column). part.0))
 
-plain_after : (words : List Text) (name : Text) (others : List Text) → words ≡ name ∷ others → list_any begins_with_hyphen words ≡ false → list_any begins_with_hyphen others ≡ false
+plain_after : (words : List Text) (name : Text) (others : List Text) → words ≡ name ∷ others → list_any begins_with_hyphen words ≡ false
+    → list_any begins_with_hyphen others ≡ false
 plain_after words name others joined plain =
     let e : list_any begins_with_hyphen (name ∷ others) ≡ false = subst (λ (ws : List Text). list_any begins_with_hyphen ws ≡ false) joined plain in
     (or_false (begins_with_hyphen name) (list_any begins_with_hyphen others) e).1
@@ -124,7 +128,8 @@ taken-by_shape words parts shape =
     ∙ takes-words (shape.name, names_in parts) (met_by words parts shape) shape.others (counted words parts shape)
     (plain_after words shape.name shape.others shape.joined shape.plain)
 
-rows-by_shape : (words : List Text) (parts : List Column) → (shape : HasShape words parts) → subcommand_of desk words ≡ Some (shape.name, rows_by (names_in parts) shape.others)
+rows-by_shape : (words : List Text) (parts : List Column) → (shape : HasShape words parts)
+    → subcommand_of desk words ≡ Some (shape.name, rows_by (names_in parts) shape.others)
 rows-by_shape words parts shape =
     ap (subcommand_of desk) shape.joined
     ∙ subcommand_of-words (shape.name, names_in parts) (met_by words parts shape) shape.others (counted words parts shape)
@@ -135,12 +140,14 @@ first_values found [] = refl
 first_values found (id ∷ ids) = ap₂ (λ (x : Option Text) (xs : List (Option Text)). x ∷ xs) (first_value-rows found id) (first_values found ids)
 
 -- what the matches hold is the words after the name
-pub values-by_shape : (words : List Text) (parts : List Column) → HasShape words parts → (o : Option (Text × List Row)) (found : Found) → o ≡ subcommand_of desk words
+pub values-by_shape : (words : List Text) (parts : List Column) → HasShape words parts → (o : Option (Text × List Row)) (found : Found)
+    → o ≡ subcommand_of desk words
     → Some (rows_of found) ≡ option_map (λ p. p.1) o → map (first_value found) (names_in parts) ≡ map Some (drop 1 words)
 values-by_shape words parts shape o found is rows =
     let ids = names_in parts in
     let met = met_by words parts shape in
-    let known : option_map (λ p. p.1) o ≡ Some (rows_by ids shape.others) = ap (option_map (λ (p : Text × List Row). p.1)) (is ∙ rows-by_shape words parts shape) in
+    let known : option_map (λ p. p.1) o ≡ Some (rows_by ids shape.others) =
+    ap (option_map (λ (p : Text × List Row). p.1)) (is ∙ rows-by_shape words parts shape) in
     let both : Some (rows_of found) ≡ Some (rows_by ids shape.others) = rows ∙ known in
     let same : rows_of found ≡ rows_by ids shape.others = cc in
     let rest : drop 1 words ≡ shape.others = ap (drop 1) shape.joined in
@@ -148,13 +155,16 @@ values-by_shape words parts shape o found is rows =
     ∙ (ap (λ (rs : List Row). map (λ id. first_of id rs) ids) same
     ∙ (values_by ids shape.others (counted words parts shape) (distinct_by (leaf (shape.name, ids)) ids met.takes) ∙ sym (ap (map Some) rest)))
 
-pub rows_there : (words : List Text) (parts : List Column) → HasShape words parts → (o : Option (Text × List Row)) → o ≡ subcommand_of desk words → None ≡ option_map (λ p. p.1) o → ⊥
+pub rows_there : (words : List Text) (parts : List Column) → HasShape words parts → (o : Option (Text × List Row))
+    → o ≡ subcommand_of desk words → None ≡ option_map (λ p. p.1) o → ⊥
 rows_there words parts shape o is none =
-    let known : option_map (λ p. p.1) o ≡ Some (rows_by (names_in parts) shape.others) = ap (option_map (λ (p : Text × List Row). p.1)) (is ∙ rows-by_shape words parts shape) in
+    let known : option_map (λ p. p.1) o ≡ Some (rows_by (names_in parts) shape.others) =
+    ap (option_map (λ (p : Text × List Row). p.1)) (is ∙ rows-by_shape words parts shape) in
     absurd (cc)
 
 -- what a parse of the line gives
-pub rows-parsed : (line : Command) (words : List Text) (m : ArgMatches) → IsApp line desk → HasMatchesOf (app_of line) words m → subcommand_rows_of m ≡ subcommand_of desk words
+pub rows-parsed : (line : Command) (words : List Text) (m : ArgMatches) → IsApp line desk → HasMatchesOf (app_of line) words m
+    → subcommand_rows_of m ≡ subcommand_of desk words
 rows-parsed line words m same h = (h (ap is_simple same.app ∙ is_simple_desk)).1 ∙ ap (λ (a : App). subcommand_of a words) same.app
 
 pub Somes-same : (xs ys : List Text) → map Some xs ≡ map Some ys → xs ≡ ys
@@ -164,7 +174,8 @@ Somes-same (x ∷ xs) [] e = absurd (cc)
 Somes-same (x ∷ xs) (y ∷ ys) e = ap₂ (λ (z : Text) (zs : List Text). z ∷ zs) (cc) (Somes-same xs ys (cc))
 
 -- a part that was given no word
-pub none-given : (f : Text → Option Text) (parts : List PartForm) (i : ℕ) (d : PartForm) (found : List Text) → i < length parts → f (get_or parts i d).name.now ≡ None
+pub none-given : (f : Text → Option Text) (parts : List PartForm) (i : ℕ) (d : PartForm) (found : List Text) → i < length parts
+    → f (get_or parts i d).name.now ≡ None
     → map Some found ≡ map f (names_in (map column parts)) → ⊥
 none-given f [] i d found lt none e = absurd (omega arith)
 none-given f (p ∷ parts) i d [] lt none e = absurd (cc)

@@ -25,7 +25,8 @@ module _ (listed : CommandsAreListed) where
   no_words [] command none h = let joined = (shape_of [] command h).1.joined in absurd (cc)
   no_words (word ∷ words) command none h = absurd (omega arith)
 
-  pub no_parts : {A : Type 0} (words : List (String A)) (d : String A) (command : Command) → 0 < length words → parts_in commands (string_bytes (get_or words 0 d)) ≡ None
+  pub no_parts : {A : Type 0} (words : List (String A)) (d : String A) (command : Command) → 0 < length words
+      → parts_in commands (string_bytes (get_or words 0 d)) ≡ None
       → IsUnderstoodAs (texts_of words) command → ⊥
   no_parts [] d command some none h = absurd (omega arith)
   no_parts (word ∷ words) d command some none h =
@@ -54,4 +55,11 @@ pub shape-made : {A : Type 0} (words : List (String A)) (d : String A) (parts : 
     → HasShape (texts_of words) parts
 shape-made [] d parts some known count plain = absurd (omega arith)
 shape-made (word ∷ words) d parts some known count plain =
-    record { name = string_bytes word; others = texts_of words; joined = refl; known = known; count = omega (arith, count, length-map words string_bytes); plain = plain }
+    record {
+      name = string_bytes word;
+      others = texts_of words;
+      joined = refl;
+      known = known;
+      count = omega (arith, count, length-map words string_bytes);
+      plain = plain;
+    }

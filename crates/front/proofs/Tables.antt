@@ -1,5 +1,6 @@
 -- What the loops over the table of commands keep.
-use Rattle.std.proofs.Common.{◌≡◌, ◌∙◌, ◌<◌, ◌≤◌, ◌+◌, ℕ, true, false, refl, ap, List, [], ◌∷◌, map, length, take, drop, get_or, add-one, drop-cons, drop_of_length-le}
+use Rattle.std.proofs.Common.{◌≡◌, ◌∙◌, ◌<◌, ◌≤◌, ◌+◌, ℕ, true, false, refl, ap, List, [], ◌∷◌, map, length, take, drop, get_or, add-one}
+use Rattle.std.proofs.Common.{drop-cons, drop_of_length-le}
 use Rattle.std.specs.Prelude.{fold, String, string_bytes}
 use Rattle.std.specs.List.{list_any}
 use Rattle.front.specs.Understood.{begins_with_hyphen, texts_of}
@@ -31,7 +32,8 @@ pub hyphen-here : {A : Type 0} (words : List (String A)) (i : ℕ) (d : String A
     → list_any begins_with_hyphen (texts_of (drop i words)) ≡ true
 hyphen-here words i d lt hit = rw (drop-cons words i d lt, hit) refl
 
-pub hyphen-later : {A : Type 0} (words : List (String A)) (i : ℕ) (d : String A) → i < length words → begins_with_hyphen (string_bytes (get_or words i d)) ≡ false
+pub hyphen-later : {A : Type 0} (words : List (String A)) (i : ℕ) (d : String A) → i < length words
+    → begins_with_hyphen (string_bytes (get_or words i d)) ≡ false
     → list_any begins_with_hyphen (texts_of (drop i words)) ≡ list_any begins_with_hyphen (texts_of (drop (i + 1) words))
 hyphen-later words i d lt miss = rw (add-one, drop-cons words i d lt, miss) refl
 

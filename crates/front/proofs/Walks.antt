@@ -1,5 +1,6 @@
 -- What `clap` makes of the words of a command: it takes them, and each argument has the word at its place.
-use Rattle.std.proofs.Common.{◌≡◌, ◌∙◌, ◌+◌, ◌&&◌, ◌||◌, ℕ, Bool, cond, true, false, refl, sym, ap, ap₂, List, [], ◌∷◌, ◌++◌, map, length, Option, Some, None, append-nil, append_assoc, arith}
+use Rattle.std.proofs.Common.{◌≡◌, ◌∙◌, ◌+◌, ◌&&◌, ◌||◌, ℕ, Bool, cond, true, false, refl, sym, ap, ap₂, List, [], ◌∷◌, ◌++◌, map, length}
+use Rattle.std.proofs.Common.{Option, Some, None, append-nil, append_assoc, arith}
 use Rattle.std.specs.Prelude.{not, min, fold}
 use Rattle.std.specs.List.{list_all, list_any}
 use Rattle.std.specs.Str.{bytes_eq}
@@ -8,7 +9,8 @@ use Rattle.std.proofs.lemmas.Slice.Eq.{bytes_eq-Decides}
 use Rattle.std.proofs.lemmas.List.{map-append}
 use Rattle.clap.proofs.WalkLemmas.{list_any-map}
 use Rattle.clap.specs.Lexer.{long_of, short_of, usize_max}
-use Rattle.clap.specs.Walk.{Held, Row, Rule, Text, Walk, arg_by_id, arg_by_index, at_row, has_row, idle, more_values, nothing_held, rows_after, with_default, is_empty, first_of, reading_by, settled, settled_rows, walk, walked}
+use Rattle.clap.specs.Walk.{Held, Row, Rule, Text, Walk, arg_by_id, arg_by_index, at_row, has_row, idle, more_values, nothing_held}
+use Rattle.clap.specs.Walk.{rows_after, with_default, is_empty, first_of, reading_by, settled, settled_rows, walk, walked}
 use Rattle.clap.specs.Simple.{Shape, filled, with_index}
 use Rattle.clap.specs.Takes.{default_passes, is_given, level_passes, settle_passes, turn_passes, walk_passes}
 use Rattle.clap.specs.declared.parser.matches.ValueSource.TheVariants.{CommandLine}
@@ -263,9 +265,11 @@ parts_of s ids e =
       subcommand = not_true _ g.1;
     }
 
-pub rows_are : (s : Shape) (ids ws : List Text) → Takes s ids → length ws ≡ length ids → list_any begins_with_hyphen ws ≡ false → rows_after s.rules [] ws ≡ rows_by ids ws
+pub rows_are : (s : Shape) (ids ws : List Text) → Takes s ids → length ws ≡ length ids → list_any begins_with_hyphen ws ≡ false
+    → rows_after s.rules [] ws ≡ rows_by ids ws
 rows_are s ids ws t long plain =
-    let e : (settled s.rules (walk s.rules [] nothing_held ws).held).rows ≡ rows_by ids ws = walk-rows s.rules nothing_held 1 [] ids ws refl t.placed long plain in
+    let e : (settled s.rules (walk s.rules [] nothing_held ws).held).rows ≡ rows_by ids ws =
+    walk-rows s.rules nothing_held 1 [] ids ws refl t.placed long plain in
     ap (λ (rows : List Row). fold with_default rows s.rules) e ∙ with_defaults-same (rows_by ids ws) s.rules (parts_of s ids t.fits).defaults
 
 pub level_passes-words : (s : Shape) (ids ws : List Text) → Takes s ids → length ws ≡ length ids → list_any begins_with_hyphen ws ≡ false

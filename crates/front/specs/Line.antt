@@ -4,7 +4,7 @@ use Rattle.std.specs.List.{list_any}
 use Rattle.front.specs.Understood.{begins_with_hyphen}
 use Rattle.clap.specs.Words.{App, Rule, Text, app_of, new_app, new_rule, with_rule, with_subcommand}
 use Rattle.clap.specs.Simple.{new_shape}
-use Rattle.terms.specs.Commands.{Column, Line, commands, parts_in}
+use Rattle.terms.specs.Commands.{Column, CommandEntry, commands, parts_in}
 use Rattle.clap.specs.declared.builder.command.Command.{Command}
 use Rattle.clap.specs.declared.builder.command.Command.TheViews.{out-Command}
 
@@ -25,7 +25,7 @@ abbrev pub command_app : Text → List Text → App
 command_app name ids = fold with_required (new_app name) ids
 
 -- The line with one more command.
-abbrev pub with_form : App → Line → App
+abbrev pub with_form : App → CommandEntry → App
 with_form line form = with_subcommand line (command_app form.0 (names_in form.1)).top
 
 -- A line with no command yet, whose first word is the name of a command.
@@ -33,7 +33,7 @@ abbrev pub empty_app : App
 empty_app = record { top = record (new_shape (codes "desk")) { no_binary_name = true }; subs = [] }
 
 -- The line of these commands.
-abbrev pub line_app : List Line → App
+abbrev pub line_app : List CommandEntry → App
 line_app forms = fold with_form empty_app forms
 
 -- The command line of the desk.

@@ -6,12 +6,16 @@ ghost use Rattle.terms.specs.Commands.{column, line as form_line};
 ghost use Rattle.front.specs.Line.{command_app, empty_app, line_app, names_in, with_required};
 ghost use Rattle.front.specs.Line.{with_form as with_one_form, IsApp};
 
-use clap::{Arg, Command as Line};
+use clap::{Arg, Command as CommandLine};
 use std::alloc::Global;
 use terms::{CommandForm, Memory};
 
 /// The line with one more argument, which is positional and required.
-fn with_argument<'a>(alloc: Global, line: Line<'a>, id: &'a str) -> Result<Line<'a>, Memory>
+fn with_argument<'a>(
+    alloc: Global,
+    line: CommandLine<'a>,
+    id: &'a str,
+) -> Result<CommandLine<'a>, Memory>
     ensures { IfOk result (λ more. (app : App) → IsApp line.entry app
         → IsApp more (with_required app id.entry.now)) }
 {
@@ -19,11 +23,11 @@ fn with_argument<'a>(alloc: Global, line: Line<'a>, id: &'a str) -> Result<Line<
 }
 
 /// A command of the line, with an argument for each of its parts.
-fn subcommand<'a>(alloc: Global, form: CommandForm) -> Result<Line<'a>, Memory>
+fn subcommand<'a>(alloc: Global, form: CommandForm) -> Result<CommandLine<'a>, Memory>
     ensures { IfOk result (λ line. IsApp line
         (command_app form.name.now (names_in (map column form.parts.now)))) }
 {
-    let mut line = Line::new(alloc, form.name);
+    let mut line = CommandLine::new(alloc, form.name);
     for part in form.parts {
         line = with_argument(alloc, line, part.name)?;
     }
@@ -31,14 +35,18 @@ fn subcommand<'a>(alloc: Global, form: CommandForm) -> Result<Line<'a>, Memory>
 }
 
 /// A line with no command yet, whose first word is the name of a command.
-fn empty_line<'a>(alloc: Global) -> Line<'a>
+fn empty_line<'a>(alloc: Global) -> CommandLine<'a>
     ensures { IsApp result empty_app }
 {
-    Line::new(alloc, "desk").no_binary_name(true)
+    CommandLine::new(alloc, "desk").no_binary_name(true)
 }
 
 /// The line with one more command.
-fn with_form<'a>(alloc: Global, line: Line<'a>, form: CommandForm) -> Result<Line<'a>, Memory>
+fn with_form<'a>(
+    alloc: Global,
+    line: CommandLine<'a>,
+    form: CommandForm,
+) -> Result<CommandLine<'a>, Memory>
     ensures { IfOk result (λ more. (app : App) → IsApp line.entry app
         → IsApp more (with_one_form app (form_line form))) }
 {
@@ -46,7 +54,7 @@ fn with_form<'a>(alloc: Global, line: Line<'a>, form: CommandForm) -> Result<Lin
 }
 
 /// The command line of the desk: one level of subcommands.
-pub fn desk_line<'a>(alloc: Global, forms: &[CommandForm]) -> Result<Line<'a>, Memory>
+pub fn desk_line<'a>(alloc: Global, forms: &[CommandForm]) -> Result<CommandLine<'a>, Memory>
     ensures { IfOk result (λ line. IsApp line (line_app (map form_line forms.now))) }
 {
     let mut line = empty_line(alloc);

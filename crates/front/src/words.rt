@@ -91,7 +91,8 @@ fn words_given<'a>(
         (λ found. map Some (texts found.items) ≡ map (first_value (found_of given.now))
         (names_in (map column parts.now)))) }
     ensures refused { IfOk result (λ some. IfNone some ((found : List Text)
-        → map Some found ≢ map (first_value (found_of given.now)) (names_in (map column parts.now)))) }
+        → map Some found ≢ map (first_value (found_of given.now))
+        (names_in (map column parts.now)))) }
 {
     let mut words = Vec::new(alloc);
     for part in parts {

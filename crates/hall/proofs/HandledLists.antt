@@ -1,5 +1,6 @@
 -- What was handled, and what a worker submitted.
-use Rattle.std.proofs.Common.{◌≡◌, ℕ, ◌+◌, ◌≤◌, true, false, true≢false, cond, List, [], ◌∷◌, ◌++◌, length, take, drop, sym, refl, ap, ◌∙◌, eqb, arith, length-append}
+use Rattle.std.proofs.Common.{◌≡◌, ℕ, ◌+◌, ◌≤◌, true, false, true≢false, cond, List, [], ◌∷◌, ◌++◌, length, take, drop, sym, refl, ap, ◌∙◌}
+use Rattle.std.proofs.Common.{eqb, arith, length-append}
 use Rattle.std.proofs.lemmas.Bool.Decides.{nat_tests}
 use Rattle.std.proofs.lemmas.List.{append-nil, take-append-drop, take-append-le, drop-append-le, map-append}
 use Rattle.std.proofs.Math.Seq.{take-append-add}
@@ -17,12 +18,17 @@ submissions-append (Leave w ∷ xs) ys = submissions-append xs ys
 
 own-append : (w : ℕ) (xs ys : List Submission) → own w (xs ++ ys) ≡ own w xs ++ own w ys
 own-append w [] ys = refl
-own-append w (s ∷ xs) ys = elim (eqb s.worker w) as (λ b. cond b (s ∷ own w (xs ++ ys)) (own w (xs ++ ys)) ≡ cond b (s ∷ own w xs) (own w xs) ++ own w ys) [ true ↦ ap (λ r. s ∷ r) (own-append w xs ys) | false ↦ own-append w xs ys ]
+own-append w (s ∷ xs) ys = elim (eqb s.worker w) as (λ b. cond b (s ∷ own w (xs ++ ys)) (own w (xs ++ ys)) ≡ cond b (s ∷ own w xs)
+    (own w xs) ++ own w ys) [ true ↦ ap (λ r. s ∷ r) (own-append w xs ys) | false ↦ own-append w xs ys ]
 
 pub submissions_of : (w : ℕ) (ms : List Message) → submissions (of w ms) ≡ own w (submissions ms)
 submissions_of w [] = refl
-submissions_of w (Submit s ∷ ms) = elim (eqb s.worker w) as (λ b. submissions (cond b (Submit s ∷ of w ms) (of w ms)) ≡ cond b (s ∷ own w (submissions ms)) (own w (submissions ms))) [ true ↦ ap (λ r. s ∷ r) (submissions_of w ms) | false ↦ submissions_of w ms ]
-submissions_of w (Leave v ∷ ms) = elim (eqb v w) as (λ b. submissions (cond b (Leave v ∷ of w ms) (of w ms)) ≡ own w (submissions ms)) [ true ↦ submissions_of w ms | false ↦ submissions_of w ms ]
+submissions_of w (Submit s ∷ ms) =
+    elim (eqb s.worker w) as (λ b. submissions (cond b (Submit s ∷ of w ms) (of w ms)) ≡ cond b (s ∷ own w (submissions ms))
+    (own w (submissions ms))) [ true ↦ ap (λ r. s ∷ r) (submissions_of w ms) | false ↦ submissions_of w ms ]
+submissions_of w (Leave v ∷ ms) =
+    elim (eqb v w) as (λ b. submissions (cond b (Leave v ∷ of w ms) (of w ms)) ≡ own w (submissions ms))
+    [ true ↦ submissions_of w ms | false ↦ submissions_of w ms ]
 
 drop_all : (xs : List Submission) → drop (length xs) xs ≡ []
 drop_all [] = refl
@@ -65,9 +71,13 @@ gone_now w got =
 pub handled_same : (n : ℕ) (got : List Message) (x : Message) → n ≤ length (submissions got) → handled n (got ++ x ∷ []) ≡ handled n got
 handled_same n got x le = ap (take n) (submissions-append got (x ∷ [])) ∙ take-append-le n (submissions got) (submissions (x ∷ [])) le
 
-pub handled_more : (n : ℕ) (got : List Message) (s : Submission) → n ≡ length (submissions got) → handled (n + 1) (got ++ Submit s ∷ []) ≡ handled n got ++ s ∷ []
+pub handled_more : (n : ℕ) (got : List Message) (s : Submission) → n ≡ length (submissions got)
+    → handled (n + 1) (got ++ Submit s ∷ []) ≡ handled n got ++ s ∷ []
 handled_more n got s e =
-    ap (take (n + 1)) (submissions-append got (Submit s ∷ [])) ∙ (ap (λ k. take (k + 1) (submissions got ++ s ∷ [])) e ∙ (take-append-add (submissions got) (s ∷ []) 1 ∙ ap (λ l. l ++ s ∷ []) (sym (ap (λ k. take k (submissions got)) e ∙ all_of (submissions got)))))
+    ap (take (n + 1)) (submissions-append got (Submit s ∷ []))
+    ∙ (ap (λ k. take (k + 1) (submissions got ++ s ∷ [])) e
+    ∙ (take-append-add (submissions got) (s ∷ []) 1
+    ∙ ap (λ l. l ++ s ∷ []) (sym (ap (λ k. take k (submissions got)) e ∙ all_of (submissions got)))))
 
 pub count_submit : (got : List Message) (s : Submission) → length (submissions (got ++ Submit s ∷ [])) ≡ length (submissions got) + 1
 count_submit got s = ap length (submissions-append got (Submit s ∷ [])) ∙ length-append (submissions got) (s ∷ [])
@@ -79,7 +89,9 @@ count_leave got w = ap length (submissions-append got (Leave w ∷ [])) ∙ (len
 pub rest_more : (n m : ℕ) (got got' : List Message) (s : Submission) → got' ≡ got ++ Submit s ∷ [] → m ≡ n → n ≤ length (submissions got)
     → requests (unhandled m got') ≡ requests (unhandled n got) ++ s.request ∷ []
 rest_more n m got got' s e same le =
-    let is : unhandled m got' ≡ unhandled n got ++ s ∷ [] = ap (λ k. unhandled k got') same ∙ (ap (unhandled n) e ∙ (ap (drop n) (submissions-append got (Submit s ∷ [])) ∙ drop-append-le n (submissions got) (s ∷ []) le)) in
+    let is : unhandled m got' ≡ unhandled n got ++ s ∷ [] =
+    ap (λ k. unhandled k got') same
+    ∙ (ap (unhandled n) e ∙ (ap (drop n) (submissions-append got (Submit s ∷ [])) ∙ drop-append-le n (submissions got) (s ∷ []) le)) in
     ap requests is ∙ map-append (λ (x : Submission). x.request) (unhandled n got) (s ∷ [])
 
 -- where all were handled there is no rest
@@ -87,7 +99,8 @@ pub no_rest : (n : ℕ) (got : List Message) → n ≡ length (submissions got) 
 no_rest n got e = ap requests (ap (λ k. drop k (submissions got)) e ∙ drop_all (submissions got))
 
 pub rest_kept : (n : ℕ) (got got' : List Message) (w : ℕ) → got' ≡ got ++ Leave w ∷ [] → requests (unhandled n got') ≡ requests (unhandled n got)
-rest_kept n got got' w e = ap (λ l. requests (unhandled n l)) e ∙ ap (λ l. requests (drop n l)) (submissions-append got (Leave w ∷ []) ∙ append-nil (submissions got))
+rest_kept n got got' w e = ap (λ l. requests (unhandled n l)) e
+    ∙ ap (λ l. requests (drop n l)) (submissions-append got (Leave w ∷ []) ∙ append-nil (submissions got))
 
 -- one more submission was received, and not handled
 pub submit_same : (n m : ℕ) (got got' : List Message) (s : Submission) → got' ≡ got ++ Submit s ∷ [] → m ≡ n → n ≤ length (submissions got)
@@ -104,7 +117,8 @@ submit_more n m got got' s e one whole =
     let more : handled m got' ≡ handled n got ++ s ∷ [] = ap (λ k. handled k got') one ∙ (ap (handled (n + 1)) e ∙ handled_more n got s whole) in
     (omega (arith, one, whole), ap requests more ∙ map-append (λ (x : Submission). x.request) (handled n got) (s ∷ []))
 
-pub leave_kept : (n : ℕ) (got got' : List Message) (w : ℕ) → got' ≡ got ++ Leave w ∷ [] → n ≤ length (submissions got) → (length (submissions got') ≡ length (submissions got)) × (handled n got' ≡ handled n got)
+pub leave_kept : (n : ℕ) (got got' : List Message) (w : ℕ) → got' ≡ got ++ Leave w ∷ [] → n ≤ length (submissions got)
+    → (length (submissions got') ≡ length (submissions got)) × (handled n got' ≡ handled n got)
 leave_kept n got got' w e le = (ap (λ x. length (submissions x)) e ∙ count_leave got w, ap (handled n) e ∙ handled_same n got (Leave w) le)
 
 pub stays_gone : (got got' : List Message) (x : Message) → got' ≡ got ++ x ∷ [] → (w : ℕ) → is_open (of w got) ≡ false → is_open (of w got') ≡ false
@@ -119,7 +133,8 @@ open_more (Submit t ∷ xs) s h = open_more xs s h
 open_more (Leave w ∷ xs) s h = absurd (true≢false (sym h))
 
 -- the end of a worker after one more submission
-pub posted : (v w : View) (s : Submission) (n : ℕ) → w ≡ sent_more v (Submit s) → is_open v.sent ≡ true → length v.sent ≡ n → (is_open w.sent ≡ true) × (length w.sent ≡ n + 1)
+pub posted : (v w : View) (s : Submission) (n : ℕ) → w ≡ sent_more v (Submit s) → is_open v.sent ≡ true → length v.sent ≡ n
+    → (is_open w.sent ≡ true) × (length w.sent ≡ n + 1)
 posted v w s n e opened long =
     let is : w.sent ≡ v.sent ++ Submit s ∷ [] = ap (λ (u : View). u.sent) e in
     (ap is_open is ∙ open_more v.sent s opened, ap length is ∙ (length-append v.sent (Submit s ∷ []) ∙ ap (λ k. k + 1) long))

@@ -12,8 +12,8 @@ use Rattle.terms.specs.declared.fault.ServiceFault.TheVariants.{Met, Closed}
 use Rattle.terms.specs.declared.reply.Reply.{Reply}
 use Rattle.model.specs.History.{History}
 use Rattle.model.specs.Requests.{after, after_one}
-use Rattle.desk.specs.Answering.{Shows, Stays, Looks, LeavesOneOf}
-use Rattle.desk.specs.Running.{Handles, ShowsHeadline}
+use Rattle.desk.specs.Answering.{Shows, Stays, DeskLooks, LeavesOneOf}
+use Rattle.desk.specs.Running.{Handles}
 use Rattle.desk.proofs.Looking.{leaves-first}
 use Rattle.desk.proofs.Shown.{shows-headline}
 use Rattle.model.specs.Picture.{picture}
@@ -51,7 +51,7 @@ module _ {S : Type 0} (g : Ghosts S) where
   }
 
   -- whatever came of a look, the tables show what they showed, as long as the database is open
-  stays-any : (a b : Held S) (r : Result (Unit {0}) Fault) → Looks (state g a) (state g b) r → IsClean g b → IsOpen g b → Stays (state g a) (state g b)
+  stays-any : (a b : Held S) (r : Result (Unit {0}) Fault) → DeskLooks (state g a) (state g b) r → IsClean g b → IsOpen g b → Stays (state g a) (state g b)
   stays-any a b (Ok x) looks disk is_open = looks.stays disk
   stays-any a b (Err e) looks disk is_open = looks.undone disk is_open
 
@@ -60,7 +60,8 @@ module _ {S : Type 0} (g : Ghosts S) where
   if-some (Some x) P Q f h = f h
 
   -- some were handled after a look at the tables
-  pub handled-after-look : (first rest : List Request) (a b c : Held S) (fault : Option ServiceFault) → LooksOnly g a b (Ok tt) → HandledFirst first rest g b c fault → HandledFirst first rest g a c fault
+  pub handled-after-look : (first rest : List Request) (a b c : Held S) (fault : Option ServiceFault) → LooksOnly g a b (Ok tt)
+      → HandledFirst first rest g b c fault → HandledFirst first rest g a c fault
   handled-after-look first rest a b c fault l h = record {
     clean = λ disk. l.looks.clean (h.clean disk);
     shown = λ disk e H shows. h.shown disk e H (l.looks.stays (h.clean disk) H shows);
@@ -88,7 +89,8 @@ module _ {S : Type 0} (g : Ghosts S) where
       stored disk is H shows (inr want) = let never : Memory ≡ Stored = sym want ∙ is in absurd (cc)
 
   -- and then the hall isn't opened; nor where the board has no place for a reader
-  pub unopened : (a b : Held S) (fault : ServiceFault) → IsMet (MeetsFaultOf g a b) fault ⊎ (LooksOnly g a b (Ok tt) × (fault ≡ Closed)) → HandledFirst [] [] g a b (Some fault)
+  pub unopened : (a b : Held S) (fault : ServiceFault) → IsMet (MeetsFaultOf g a b) fault ⊎ (LooksOnly g a b (Ok tt) × (fault ≡ Closed))
+      → HandledFirst [] [] g a b (Some fault)
   unopened a b fault (inl found) = subst (λ (f : ServiceFault). HandledFirst [] [] g a b (Some f)) (sym found.1) (after-look a b found.0 found.2)
   unopened a b fault (inr met) =
       let looks = met.0.looks in
@@ -101,15 +103,18 @@ module _ {S : Type 0} (g : Ghosts S) where
         left = λ disk H shows. leaves-first (state g b) (picture H) (picture H) (looks.left disk H shows);
       }
 
-  module _ (first rest : List Request) (request : Request) (a b m : Held S) (reply : Reply) (h : HandledFirst first rest g a b None) (d : Handles request g b m (Ok reply)) where
+  module _ (first rest : List Request) (request : Request) (a b m : Held S) (reply : Reply) (h : HandledFirst first rest g a b None)
+      (d : Handles request g b m (Ok reply)) where
     -- what the tables show once it is handled
     made-shows : IsClean g m → (H : History) → Shows (state g a) H → Shows (state g m) (after H (first ++ request ∷ []))
-    made-shows disk H shows = subst (Shows (state g m)) (sym (after-last first H request)) (d.handled.replied disk (after H first) (h.shown (d.handled.clean disk) refl H shows)).1
+    made-shows disk H shows = subst (Shows (state g m)) (sym (after-last first H request))
+        (d.handled.replied disk (after H first) (h.shown (d.handled.clean disk) refl H shows)).1
 
     -- one more was handled, and shown
     pub handled-more : (rest' : List Request) (c : Held S) → LooksOnly g m c (Ok tt) → HandledFirst (first ++ request ∷ []) rest' g a c None
     handled-more rest' c l =
-        let now : IsClean g c → (H : History) → Shows (state g a) H → Shows (state g c) (after H (first ++ request ∷ [])) = λ disk H shows. l.looks.stays disk (after H (first ++ request ∷ [])) (made-shows (l.looks.clean disk) H shows) in
+        let now : IsClean g c → (H : History) → Shows (state g a) H → Shows (state g c) (after H (first ++ request ∷ [])) =
+        λ disk H shows. l.looks.stays disk (after H (first ++ request ∷ [])) (made-shows (l.looks.clean disk) H shows) in
         record {
           clean = λ disk. h.clean (d.handled.clean (l.looks.clean disk));
           shown = λ disk e. now disk;
@@ -120,7 +125,8 @@ module _ {S : Type 0} (g : Ghosts S) where
         }
 
     -- one more was handled, but the board can't show it
-    handled-unshown : (rest' : List Request) (c : Held S) (fault : Fault) → MeetsFaultOf g m c fault → HandledFirst (first ++ request ∷ []) rest' g a c (Some (Met fault))
+    handled-unshown : (rest' : List Request) (c : Held S) (fault : Fault) → MeetsFaultOf g m c fault
+        → HandledFirst (first ++ request ∷ []) rest' g a c (Some (Met fault))
     handled-unshown rest' c fault l =
         let looks = l.looks.looks in
         record {
@@ -129,16 +135,19 @@ module _ {S : Type 0} (g : Ghosts S) where
           headline = λ disk e. let never : ⊥ = cc in absurd never;
           sound = λ disk e H shows. stored disk (met-is fault Stored e) H (made-shows (looks.clean disk) H shows) l.cause;
           undone = λ disk is_open H shows. stays-any m c l.looked looks disk is_open (after H (first ++ request ∷ [])) (made-shows (looks.clean disk) H shows);
-          left = λ disk H shows. leaves-first (state g c) (picture (after H (first ++ request ∷ []))) (picture (after H ((first ++ request ∷ []) ++ take 1 rest')))
+          left = λ disk H shows. leaves-first (state g c) (picture (after H (first ++ request ∷ [])))
+              (picture (after H ((first ++ request ∷ []) ++ take 1 rest')))
               (looks.left disk (after H (first ++ request ∷ [])) (made-shows (looks.clean disk) H shows));
         }
       where
-        stored : IsClean g c → fault ≡ Stored → (H : History) → Shows (state g m) (after H (first ++ request ∷ [])) → (l.looked ≡ Err fault) ⊎ (fault ≡ Memory) → ⊥
+        stored : IsClean g c → fault ≡ Stored → (H : History) → Shows (state g m) (after H (first ++ request ∷ [])) → (l.looked ≡ Err fault)
+            ⊎ (fault ≡ Memory) → ⊥
         stored disk is H shows (inl met) = l.looks.sound disk (met ∙ ap Err is) (after H (first ++ request ∷ [])) shows tt
         stored disk is H shows (inr want) = let never : Memory ≡ Stored = sym want ∙ is in absurd (cc)
 
   -- a fault came
-  fault-met : (first rest : List Request) (request : Request) (a b c : Held S) (fault : Fault) → rest ≡ [] → HandledFirst first rest g a b None → Handles request g b c (Err fault)
+  fault-met : (first rest : List Request) (request : Request) (a b c : Held S) (fault : Fault) → rest ≡ []
+      → HandledFirst first rest g a b None → Handles request g b c (Err fault)
       → HandledFirst first (rest ++ request ∷ []) g a c (Some (Met fault))
   fault-met first rest request a b c fault none h d = record {
     clean = λ disk. h.clean (d.handled.clean disk);
@@ -148,14 +157,18 @@ module _ {S : Type 0} (g : Ghosts S) where
         let is : fault ≡ Stored = met-is fault Stored e in
         d.handled.sound disk (ap Err is) (after H first) (h.shown (d.handled.clean disk) refl H shows);
     undone = λ disk is_open H shows. d.handled.undone disk is_open (after H first) (h.shown (d.handled.clean disk) refl H shows);
-    left = λ disk H shows. subst (LeavesOneOf (state g c) (after H first)) (sym (ap (λ (l : List Request). after H (first ++ take 1 (l ++ request ∷ []))) none ∙ after-last first H request))
+    left = λ disk H shows. subst (LeavesOneOf (state g c) (after H first))
+        (sym (ap (λ (l : List Request). after H (first ++ take 1 (l ++ request ∷ []))) none ∙ after-last first H request))
         (d.handled.left disk (after H first) (h.shown (d.handled.clean disk) refl H shows));
   }
 
   -- what may be there after one more of the rest
-  still-leaves : (s : State) (H : History) (first rest : List Request) (request : Request) → LeavesOneOf s (after H first) (after H (first ++ take 1 rest)) → LeavesOneOf s (after H first) (after H (first ++ take 1 (rest ++ request ∷ [])))
+  still-leaves : (s : State) (H : History) (first rest : List Request) (request : Request)
+      → LeavesOneOf s (after H first) (after H (first ++ take 1 rest))
+      → LeavesOneOf s (after H first) (after H (first ++ take 1 (rest ++ request ∷ [])))
   still-leaves s H first [] request left =
-      let same : LeavesOneOf s (after H first) (after H first) = subst (λ (l : List Request). LeavesOneOf s (after H first) (after H l)) (append-nil first) left in
+      let same : LeavesOneOf s (after H first) (after H first) =
+      subst (λ (l : List Request). LeavesOneOf s (after H first) (after H l)) (append-nil first) left in
       λ trees may. let found = same trees may in (found.0, ⊎_elim (λ one. inl one) (λ other. inl other) found.1, found.2)
   still-leaves s H first (x ∷ xs) request left = left
 
@@ -164,7 +177,8 @@ module _ {S : Type 0} (g : Ghosts S) where
   still-left held H K shows = λ trees may. let found = shows.tables.left trees may in (found.0, inl found.1, found.2)
 
   -- the count has come to its end
-  closed-now : (first rest : List Request) (request : Request) (a b : Held S) → rest ≡ [] → HandledFirst first rest g a b None → HandledFirst first (rest ++ request ∷ []) g a b (Some Closed)
+  closed-now : (first rest : List Request) (request : Request) (a b : Held S) → rest ≡ [] → HandledFirst first rest g a b None
+      → HandledFirst first (rest ++ request ∷ []) g a b (Some Closed)
   closed-now first rest request a b none h = record {
     clean = h.clean;
     shown = λ disk e. let never : ⊥ = cc in absurd never;
@@ -175,7 +189,8 @@ module _ {S : Type 0} (g : Ghosts S) where
   }
 
   -- it was closed before
-  closed-on : (first rest : List Request) (request : Request) (a b : Held S) (fault : ServiceFault) → HandledFirst first rest g a b (Some fault) → HandledFirst first (rest ++ request ∷ []) g a b (Some fault)
+  closed-on : (first rest : List Request) (request : Request) (a b : Held S) (fault : ServiceFault)
+      → HandledFirst first rest g a b (Some fault) → HandledFirst first (rest ++ request ∷ []) g a b (Some fault)
   closed-on first rest request a b fault h = record {
     clean = h.clean;
     shown = h.shown;
@@ -185,45 +200,67 @@ module _ {S : Type 0} (g : Ghosts S) where
     left = λ disk H shows. still-leaves (state g b) H first rest request (h.left disk H shows);
   }
 
-  passed-over : (n : ℕ) (first rest : List Request) (request : Request) (a b : Held S) (before : Option ServiceFault) (fault : ServiceFault) → (before ≡ None → rest ≡ [])
-      → (before ≡ Some fault) ⊎ ((before ≡ None) × (fault ≡ Closed) × (2 ^ 64 ≤ n + 1)) → HandledFirst first rest g a b before → HandledFirst first (rest ++ request ∷ []) g a b (Some fault)
+  passed-over : (n : ℕ) (first rest : List Request) (request : Request) (a b : Held S) (before : Option ServiceFault) (fault : ServiceFault)
+      → (before ≡ None → rest ≡ [])
+      → (before ≡ Some fault) ⊎ ((before ≡ None) × (fault ≡ Closed) × (2 ^ 64 ≤ n + 1)) → HandledFirst first rest g a b before
+      → HandledFirst first (rest ++ request ∷ []) g a b (Some fault)
   passed-over n first rest request a b before fault all (inl same) h = closed-on first rest request a b fault (subst (HandledFirst first rest g a b) same h)
   passed-over n first rest request a b before fault all (inr now) h =
-      subst (λ (f : ServiceFault). HandledFirst first (rest ++ request ∷ []) g a b (Some f)) (sym now.1) (closed-now first rest request a b (all now.0) (subst (HandledFirst first rest g a b) now.0 h))
+      subst (λ (f : ServiceFault). HandledFirst first (rest ++ request ∷ []) g a b (Some f)) (sym now.1)
+      (closed-now first rest request a b (all now.0) (subst (HandledFirst first rest g a b) now.0 h))
 
   -- one more submission was received
-  pub submission-kept : (a b c : Held S) (n m : ℕ) (before after' : Option ServiceFault) (got got' : List Message) (s : Submission) → got' ≡ got ++ Submit s ∷ []
+  pub submission-kept : (a b c : Held S) (n m : ℕ) (before after' : Option ServiceFault) (got got' : List Message) (s : Submission)
+      → got' ≡ got ++ Submit s ∷ []
       → TakesNext s.request g b c n m before after' → n ≤ length (submissions got) → (before ≡ None → n ≡ length (submissions got))
       → HandledFirst (requests (handled n got)) (requests (unhandled n got)) g a b before
-      → (m ≤ length (submissions got')) × (after' ≡ None → m ≡ length (submissions got')) × HandledFirst (requests (handled m got')) (requests (unhandled m got')) g a c after'
+      → (m ≤ length (submissions got')) × (after' ≡ None → m ≡ length (submissions got'))
+      × HandledFirst (requests (handled m got')) (requests (unhandled m got')) g a c after'
   submission-kept a b c n m before after' got got' s e (inl t) le all h =
       let first = requests (handled n got) in
       let rest = requests (unhandled n got) in
       let rest' = requests (unhandled m got') in
       let k = submit_more n m got got' s e t.counted (all t.was) in
-      let done = handled-more first rest s.request a b t.made t.reply (subst (HandledFirst first rest g a b) t.was h) t.handles rest' c t.looks in
-      (omega (arith, k.0), (λ none. k.0), subst (λ (x : List Request). HandledFirst x rest' g a c after') (sym k.1) (subst (HandledFirst (first ++ s.request ∷ []) rest' g a c) (sym t.is) done))
+      let done = handled-more first rest s.request a b t.made t.reply (subst (HandledFirst first rest g a b) t.was h) t.handles rest' c t.looks in (
+        omega (arith, k.0),
+        (λ none. k.0),
+        subst (λ (x : List Request). HandledFirst x rest' g a c after') (sym k.1)
+            (subst (HandledFirst (first ++ s.request ∷ []) rest' g a c) (sym t.is) done),
+      )
   submission-kept a b c n m before after' got got' s e (inr (inl t)) le all h =
       let first = requests (handled n got) in
       let rest = requests (unhandled n got) in
       let rest' = requests (unhandled m got') in
       let k = submit_more n m got got' s e t.counted (all t.was) in
-      let done = handled-unshown first rest s.request a b t.made t.reply (subst (HandledFirst first rest g a b) t.was h) t.handles rest' c t.met t.looks in
-      (omega (arith, k.0), (λ none. k.0), subst (λ (x : List Request). HandledFirst x rest' g a c after') (sym k.1) (subst (HandledFirst (first ++ s.request ∷ []) rest' g a c) (sym t.is) done))
+      let done = handled-unshown first rest s.request a b t.made t.reply (subst (HandledFirst first rest g a b) t.was h) t.handles rest' c t.met t.looks in (
+        omega (arith, k.0),
+        (λ none. k.0),
+        subst (λ (x : List Request). HandledFirst x rest' g a c after') (sym k.1)
+            (subst (HandledFirst (first ++ s.request ∷ []) rest' g a c) (sym t.is) done),
+      )
   submission-kept a b c n m before after' got got' s e (inr (inr (inl t))) le all h =
       let first = requests (handled n got) in
       let rest = requests (unhandled n got) in
       let k = submit_same n m got got' s e t.counted le in
       let met = fault-met first rest s.request a b c t.met (no_rest n got (all t.was)) (subst (HandledFirst first rest g a b) t.was h) t.handles in
       let here : HandledFirst first (rest ++ s.request ∷ []) g a c after' = subst (HandledFirst first (rest ++ s.request ∷ []) g a c) (sym t.is) met in
-      let more : HandledFirst first (requests (unhandled m got')) g a c after' = subst (λ (x : List Request). HandledFirst first x g a c after') (sym (rest_more n m got got' s e t.counted le)) here in
-      (k.0, (λ none. absurd (none-some after' (Met t.met) none t.is)), subst (λ (x : List Request). HandledFirst x (requests (unhandled m got')) g a c after') (sym k.1) more)
+      let more : HandledFirst first (requests (unhandled m got')) g a c after' =
+      subst (λ (x : List Request). HandledFirst first x g a c after') (sym (rest_more n m got got' s e t.counted le)) here in (
+        k.0,
+        (λ none. absurd (none-some after' (Met t.met) none t.is)),
+        subst (λ (x : List Request). HandledFirst x (requests (unhandled m got')) g a c after') (sym k.1) more,
+      )
   submission-kept a b c n m before after' got got' s e (inr (inr (inr t))) le all h =
       let first = requests (handled n got) in
       let rest = requests (unhandled n got) in
       let k = submit_same n m got got' s e t.counted le in
       let past = passed-over n first rest s.request a b before t.fault (λ none. no_rest n got (all none)) t.was h in
-      let same : HandledFirst first (rest ++ s.request ∷ []) g a c (Some t.fault) = subst (λ (x : Held S). HandledFirst first (rest ++ s.request ∷ []) g a x (Some t.fault)) (sym t.same) past in
+      let same : HandledFirst first (rest ++ s.request ∷ []) g a c (Some t.fault) =
+      subst (λ (x : Held S). HandledFirst first (rest ++ s.request ∷ []) g a x (Some t.fault)) (sym t.same) past in
       let here : HandledFirst first (rest ++ s.request ∷ []) g a c after' = subst (HandledFirst first (rest ++ s.request ∷ []) g a c) (sym t.is) same in
-      let more : HandledFirst first (requests (unhandled m got')) g a c after' = subst (λ (x : List Request). HandledFirst first x g a c after') (sym (rest_more n m got got' s e t.counted le)) here in
-      (k.0, (λ none. absurd (none-some after' t.fault none t.is)), subst (λ (x : List Request). HandledFirst x (requests (unhandled m got')) g a c after') (sym k.1) more)
+      let more : HandledFirst first (requests (unhandled m got')) g a c after' =
+      subst (λ (x : List Request). HandledFirst first x g a c after') (sym (rest_more n m got got' s e t.counted le)) here in (
+        k.0,
+        (λ none. absurd (none-some after' t.fault none t.is)),
+        subst (λ (x : List Request). HandledFirst x (requests (unhandled m got')) g a c after') (sym k.1) more,
+      )

@@ -8,7 +8,8 @@ use Rattle.terms.specs.declared.fault.ServiceFault.TheVariants.{Met, Closed}
 use Rattle.hall.specs.declared.hall.Why.TheVariants.{Faulted}
 use Rattle.hall.specs.Openings.{LooksOnly, MeetsFaultOf, IsMet, IsUnopened, can_be_workers}
 
-module _ {S : Type 0} (g : Ghosts S) (workers : ℕ) (old new : Held S) (fault : ServiceFault) (within : can_be_workers workers ≡ true) (looks : LooksOnly g old new (Ok tt)) where
+module _ {S : Type 0} (g : Ghosts S) (workers : ℕ) (old new : Held S) (fault : ServiceFault) (within : can_be_workers workers ≡ true)
+    (looks : LooksOnly g old new (Ok tt)) where
   cause : (fault ≡ Met Memory) ⊎ (fault ≡ Closed) → IsMet (MeetsFaultOf g old new) fault ⊎ (LooksOnly g old new (Ok tt) × (fault ≡ Closed))
   cause (inl want) = inl (Memory, want, record { looked = Ok tt; looks = looks; cause = inr refl })
   cause (inr closed) = inr (looks, closed)

@@ -27,7 +27,8 @@ use Rattle.board.specs.declared.entry.Seen.{Seen}
 use Rattle.board.specs.Showing.{StartsWith, GoesOn, IsTold, requests}
 use Rattle.board.proofs.Beginnings.{goes_self}
 use Rattle.board.proofs.Telling.{told-reply}
-use Rattle.hall.specs.Serving.{Working, shown_page, page_by_desk, page_asked, IsOwnPage, IsPageSeen, IsReplied, IsReplyFor, IsReplyTo, IsGivenReply, IsGivenFor, IsGivenTo, IsPageFault, IsFaultFor, IsFaultTo, TellsPage, Meets}
+use Rattle.hall.specs.Serving.{Working, shown_page, page_by_desk, page_asked, IsOwnPage, IsPageSeen, IsReplied, IsReplyFor, IsReplyTo}
+use Rattle.hall.specs.Serving.{IsGivenReply, IsGivenFor, IsGivenTo, IsPageFault, IsFaultFor, IsFaultTo, TellsPage, Meets}
 
 abbrev asked_page : Option PatronFacts → List ℕ → Reply
 asked_page row text = elim (first_failing ((UnknownPatron, not (is_some row)) ∷ [])) as (λ _. Reply) [ Some refused ↦ Refused refused | None ↦ Shown text ]
@@ -38,13 +39,16 @@ board_page row text = option_map (λ r. record { card_key = r.card_key; reply = 
 by-card-key : (card_key : List ℕ) (row : Option PatronFacts) (text : List ℕ) → shown_page (board_page row text) (Some card_key)
     ≡ elim (unwrap_or (option_map (λ r. bytes_eq r.card_key card_key) row) false) [ true ↦ asked_page row text | false ↦ Refused NotAllowed ]
 by-card-key card_key None text = refl
-by-card-key card_key (Some r) text = elim (bytes_eq r.card_key card_key) as (λ b. cond b (Shown text) (Refused NotAllowed) ≡ elim b as (λ _. Reply) [ true ↦ Shown text | false ↦ Refused NotAllowed ]) [ true ↦ refl | false ↦ refl ]
+by-card-key card_key (Some r) text =
+    elim (bytes_eq r.card_key card_key) as (λ b. cond b (Shown text) (Refused NotAllowed) ≡ elim b as (λ _. Reply)
+    [ true ↦ Shown text | false ↦ Refused NotAllowed ]) [ true ↦ refl | false ↦ refl ]
 
 -- by a card key
 pub page-shown : (H : History) (patron : ℕ) (card_key : List ℕ) → shown_page (own_page H patron) (Some card_key) ≡ page_for H patron card_key
 page-shown H patron card_key = by-card-key card_key (patron_of H patron) (page H patron)
 
-pub own-page : (H : History) (patron : ℕ) (card_key : List ℕ) (reply : Reply) → reply ≡ shown_page (own_page H patron) (Some card_key) → IsOwnPage patron card_key H reply
+pub own-page : (H : History) (patron : ℕ) (card_key : List ℕ) (reply : Reply) → reply ≡ shown_page (own_page H patron) (Some card_key)
+    → IsOwnPage patron card_key H reply
 own-page H patron card_key reply is =
     let same : reply ≡ page_for H patron card_key = is ∙ page-shown H patron card_key in
     record { page = same; own = λ K agrees. same ∙ page_for-same patron card_key H K agrees }
@@ -57,7 +61,8 @@ by-desk (Some r) text = refl
 pub page-replied : (H : History) (request : Request) (patron : ℕ) → page_asked request ≡ Some patron → shown_page (own_page H patron) None ≡ reply_to H request
 page-replied H request patron asked = by request.caller request.command asked
   where
-    by : (caller : Caller) (command : Command) → page_by_desk caller command ≡ Some patron → shown_page (own_page H patron) None ≡ reply_to H (record { caller = caller; key = request.key; command = command })
+    by : (caller : Caller) (command : Command) → page_by_desk caller command ≡ Some patron
+        → shown_page (own_page H patron) None ≡ reply_to H (record { caller = caller; key = request.key; command = command })
     by Desk (Page q) is =
         let same : q ≡ patron = cc in
         by-desk (patron_of H patron) (page H patron) ∙ ap (λ n. reply_to H (record { caller = Desk; key = request.key; command = Page n })) (sym same)
@@ -67,18 +72,32 @@ page-replied H request patron asked = by request.caller request.command asked
 
 module _ (old : Working) where
   pub nothing-met : Meets Nothing old old (Some (answer.Refused NotAllowed))
-  nothing-met = record { on = goes_self old.seen; once = refl; told = record { outcome = Ok (Refused NotAllowed); answer_is = refl; reply = (refl, refl); fault = tt } }
+  nothing-met = record {
+    on = goes_self old.seen;
+    once = refl;
+    told = record { outcome = Ok (Refused NotAllowed); answer_is = refl; reply = (refl, refl); fault = tt };
+  }
 
   module _ (new : Working) (told : Answer) (on : GoesOn new.seen old.seen) (same : new.post ≡ old.post) (patron : ℕ) where
     pub page-met : (card_key : List ℕ) → TellsPage patron (Some card_key) new.seen told → Meets (asked.Page patron card_key) old new (Some told)
-    page-met card_key t = record { on = on; once = same; told = record { outcome = t.outcome; answer_is = t.answer_is; reply = by t.outcome t.reply; fault = t.fault } }
+    page-met card_key t = record {
+      on = on;
+      once = same;
+      told = record { outcome = t.outcome; answer_is = t.answer_is; reply = by t.outcome t.reply; fault = t.fault };
+    }
       where
         by : (o : Result Reply ServiceFault) → IfOk o (IsPageSeen patron (Some card_key) new.seen) → IfOk o (IsReplyTo (asked.Page patron card_key) old new)
         by (Ok reply) h = (same, h)
         by (Err fault) h = tt
 
-    pub desk-page-met : (request : Request) → page_asked request ≡ Some patron → TellsPage patron None new.seen told → Meets (asked.Request request) old new (Some told)
-    desk-page-met request asks t = record { on = on; once = inl same; told = record { outcome = t.outcome; answer_is = t.answer_is; reply = by t.outcome t.reply; fault = faulted t.outcome t.fault } }
+    pub desk-page-met : (request : Request) → page_asked request ≡ Some patron → TellsPage patron None new.seen told
+        → Meets (asked.Request request) old new (Some told)
+    desk-page-met request asks t =
+        record {
+          on = on;
+          once = inl same;
+          told = record { outcome = t.outcome; answer_is = t.answer_is; reply = by t.outcome t.reply; fault = faulted t.outcome t.fault };
+        }
       where
         faulted : (o : Result Reply ServiceFault) → IfErr o IsPageFault → IfErr o (IsFaultTo (asked.Request request))
         faulted (Ok reply) h = tt
@@ -100,10 +119,13 @@ module _ (H : History) (all : Seen) (told : IsTold H all) (old new : Working) (o
       let at : all.entries ≡ r.replied.front ++ e ∷ (r.replied.rest ++ here.0) = here.1 ∙ append_assoc r.replied.front (e ∷ r.replied.rest) here.0 in
       record {
         replied = r;
-        given = sym r.replied.reply_is ∙ (told-reply H all r.replied.front e (r.replied.rest ++ here.0) told at ∙ ap (reply_to (after H (requests r.replied.front))) r.replied.request_is);
+        given = sym r.replied.reply_is
+            ∙ (told-reply H all r.replied.front e (r.replied.rest ++ here.0) told at
+            ∙ ap (reply_to (after H (requests r.replied.front))) r.replied.request_is);
       }
 
-  seen-page : (patron : ℕ) (shown : Option (List ℕ)) → IsPageSeen patron shown new.seen reply → reply ≡ shown_page (own_page (after H (requests new.seen.entries)) patron) shown
+  seen-page : (patron : ℕ) (shown : Option (List ℕ)) → IsPageSeen patron shown new.seen reply
+      → reply ≡ shown_page (own_page (after H (requests new.seen.entries)) patron) shown
   seen-page patron shown p = p.reply_is ∙ ap (λ o. shown_page o shown) (told.pages new.seen on p.looked patron)
 
   pub given-to : (a : Asked) → IsReplyTo a old new reply → IsGivenTo H old new reply a

@@ -26,12 +26,16 @@ pub read-status : (bytes : Option (List ℕ)) (r : Reading) (status : WebStatus)
 read-status None r status e h = tt
 read-status (Some all) r status e h = subst (λ (x : Reading). UnlessFaulted x (ChecksHead all x)) e h
 
-module _ {E : Type 0} (desk_key : List ℕ) (bytes : Option (List ℕ)) (old new : Working) (before after : Option (List ℕ)) (r : Result (Unit {0}) E) (answer : Answer) (sends : Writes (answer_bytes answer) before after r) where
-  served : GoesOn new.seen old.seen → (new.post ≡ old.post) ⊎ ((request : Requested) × (web : WebRequest) × IfSome bytes (λ all. ChecksHead all (Ok web)) × (asked_of desk_key web ≡ Request request) × (new.post ≡ submitted old.post request))
+module _ {E : Type 0} (desk_key : List ℕ) (bytes : Option (List ℕ)) (old new : Working) (before after : Option (List ℕ))
+    (r : Result (Unit {0}) E) (answer : Answer) (sends : Writes (answer_bytes answer) before after r) where
+  served : GoesOn new.seen old.seen → (new.post ≡ old.post)
+      ⊎ ((request : Requested) × (web : WebRequest) × IfSome bytes (λ all. ChecksHead all (Ok web))
+      × (asked_of desk_key web ≡ Request request) × (new.post ≡ submitted old.post request))
       → Answers desk_key bytes old new answer → Serves desk_key bytes old new before after r
   served on once answers = record { on = on; once = once; told = whole r sends.all; broken = cut r sends.front }
     where
-      whole : (q : Result (Unit {0}) E) → OnOk q (Appends before after (answer_bytes answer)) → OnOk q ((a : Answer) × Answers desk_key bytes old new a × Appends before after (answer_bytes a))
+      whole : (q : Result (Unit {0}) E) → OnOk q (Appends before after (answer_bytes answer))
+          → OnOk q ((a : Answer) × Answers desk_key bytes old new a × Appends before after (answer_bytes a))
       whole (Ok x) out = (answer, answers, out)
       whole (Err e) out = tt
 
@@ -42,15 +46,18 @@ module _ {E : Type 0} (desk_key : List ℕ) (bytes : Option (List ℕ)) (old new
 
   -- nothing was asked of the hall
   untouched : new ≡ old → Answers desk_key bytes old new answer → Serves desk_key bytes old new before after r
-  untouched same answers = served (subst (λ (w : Working). GoesOn w.seen old.seen) (sym same) (goes_self old.seen)) (inl (ap (λ (w : Working). w.post) same)) answers
+  untouched same answers = served (subst (λ (w : Working). GoesOn w.seen old.seen) (sym same) (goes_self old.seen))
+      (inl (ap (λ (w : Working). w.post) same)) answers
 
-  pub status-served : (status : WebStatus) → new ≡ old → answer ≡ Failed status → IfSome bytes (λ all. ChecksHead all (Err (Status status))) → Serves desk_key bytes old new before after r
+  pub status-served : (status : WebStatus) → new ≡ old → answer ≡ Failed status → IfSome bytes (λ all. ChecksHead all (Err (Status status)))
+      → Serves desk_key bytes old new before after r
   status-served status same is read = untouched same (inl (record { status = status; read = read; answer_is = is }))
 
   pub want-served : new ≡ old → answer ≡ Faulted (Met Memory) → Serves desk_key bytes old new before after r
   want-served same is = untouched same (inr (inl is))
 
-  pub request-served : (web : WebRequest) (asked : Asked) (met : Option Answer) → asked ≡ asked_of desk_key web → IfSome bytes (λ all. ChecksHead all (Ok web)) → met ≡ Some answer → Meets asked old new met
+  pub request-served : (web : WebRequest) (asked : Asked) (met : Option Answer) → asked ≡ asked_of desk_key web
+      → IfSome bytes (λ all. ChecksHead all (Ok web)) → met ≡ Some answer → Meets asked old new met
       → Serves desk_key bytes old new before after r
   request-served web asked met is read some meets = served meets.on (once asked is meets.once) (inr (inr (record {
     request = web;
@@ -59,7 +66,8 @@ module _ {E : Type 0} (desk_key : List ℕ) (bytes : Option (List ℕ)) (old new
   })))
     where
       once : (a : Asked) → a ≡ asked_of desk_key web → SubmitsAsked a old.post new.post
-          → (new.post ≡ old.post) ⊎ ((request : Requested) × (w : WebRequest) × IfSome bytes (λ all. ChecksHead all (Ok w)) × (asked_of desk_key w ≡ Request request) × (new.post ≡ submitted old.post request))
+          → (new.post ≡ old.post) ⊎ ((request : Requested) × (w : WebRequest) × IfSome bytes (λ all. ChecksHead all (Ok w))
+          × (asked_of desk_key w ≡ Request request) × (new.post ≡ submitted old.post request))
       once Nothing e same = inl same
       once (Page patron card_key) e same = inl same
       once (Request request) e (inl same) = inl same

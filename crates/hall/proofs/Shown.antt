@@ -1,5 +1,6 @@
 -- What the board shows of what was handled.
-use Rattle.std.proofs.Common.{◌≡◌, ℕ, ◌+◌, ◌<◌, true, false, cond, List, [], ◌∷◌, ◌++◌, length, map, Option, None, inl, inr, sym, refl, ap, ◌∙◌, subst, eqb, arith}
+use Rattle.std.proofs.Common.{◌≡◌, ℕ, ◌+◌, ◌<◌, true, false, cond, List, [], ◌∷◌, ◌++◌, length, map, Option, None, inl, inr, sym, refl, ap}
+use Rattle.std.proofs.Common.{◌∙◌, subst, eqb, arith}
 use Rattle.std.proofs.lemmas.List.Sums.{sum_by-cons}
 use Rattle.std.proofs.lemmas.List.{map-append}
 use Rattle.std.specs.Prelude.{Result, Ok, Err, IsSome, IfSome, MatchResult}
@@ -24,7 +25,8 @@ use Rattle.hall.specs.declared.messages.Message.{Message}
 use Rattle.hall.specs.declared.messages.Message.TheVariants.{Submit, Leave}
 use Rattle.hall.specs.Queue.{of, is_open, submissions, own, handled, unhandled, requests, IsNext}
 use Rattle.hall.specs.Openings.{ToldBy}
-use Rattle.hall.specs.Handling.{submission_of, AreShown, ShowsAfter, PutsPages, IsDue, HandledFirst, TakesNext, ClosedBy, MayHandle, MayTake, ShowsNext, TakesMessage, BoardShows, Stands, Finishes, shown_by}
+use Rattle.hall.specs.Handling.{submission_of, AreShown, ShowsAfter, PutsPages, IsDue, HandledFirst, TakesNext, ClosedBy, MayHandle}
+use Rattle.hall.specs.Handling.{MayTake, ShowsNext, TakesMessage, BoardShows, StandsOpen, Finishes, shown_by}
 use Rattle.hall.proofs.HandledLists.{submissions_of, submissions-append, all_of, leave_kept, rest_kept, no_rest}
 use Rattle.hall.proofs.Pages.{no-page-before}
 use Rattle.hall.proofs.Progress.{after-last, submission-kept}
@@ -35,7 +37,9 @@ own-count w [] = refl
 own-count w (e ∷ es) =
     let rest = own-count w es in
     sum_by-cons (λ (d : Entry). cond (eqb d.worker w) 1 0) e es
-    ∙ (elim (eqb e.worker w) as (λ b. cond b 1 0 + count_own w es ≡ length (cond b (submission_of e ∷ own w (map submission_of es)) (own w (map submission_of es)))) [ true ↦ omega (arith, rest) | false ↦ omega (arith, rest) ])
+    ∙ (elim (eqb e.worker w) as (λ b. cond b 1 0 + count_own w es ≡ length
+    (cond b (submission_of e ∷ own w (map submission_of es)) (own w (map submission_of es))))
+    [ true ↦ omega (arith, rest) | false ↦ omega (arith, rest) ])
 
 pub same-requests : (es : List Entry) → entry_requests es ≡ requests (map submission_of es)
 same-requests [] = refl
@@ -51,16 +55,21 @@ all-handled : (n : ℕ) (got : List Message) → n ≡ length (submissions got) 
 all-handled n got whole = ap (λ k. handled k got) whole ∙ all_of (submissions got)
 
 -- the number of a submission that was just received, where all before it are shown
-pub due-number : (n : ℕ) (got : List Message) (s : Submission) (shown : List Entry) → IsNext got (Submit s) → n ≡ length (submissions got) → AreShown shown (handled n got) → s.number ≡ count_own s.worker shown + 1
+pub due-number : (n : ℕ) (got : List Message) (s : Submission) (shown : List Entry) → IsNext got (Submit s) → n ≡ length (submissions got)
+    → AreShown shown (handled n got) → s.number ≡ count_own s.worker shown + 1
 due-number n got s shown next whole is =
     let all = all-handled n got whole in
     let long : length (of s.worker got) ≡ count_own s.worker shown =
-    sym (open-length (of s.worker got) next.0) ∙ (ap length (submissions_of s.worker got) ∙ (ap (λ l. length (own s.worker l)) (sym (is ∙ all)) ∙ sym (own-count s.worker shown))) in
+    sym (open-length (of s.worker got) next.0)
+    ∙ (ap length (submissions_of s.worker got)
+    ∙ (ap (λ l. length (own s.worker l)) (sym (is ∙ all)) ∙ sym (own-count s.worker shown))) in
     next.1 ∙ ap (λ k. k + 1) long
 
 -- the board after one more submission
-pub board-kept : {S : Type 0} (lists : History → Type 0) (g : Ghosts S) (c : Held S) (n m : ℕ) (before after' : Option ServiceFault) (got got' : List Message) (s : Submission) (old new : Result Publishing Stopped) → got' ≡ got ++ Submit s ∷ []
-    → (before ≡ None → n ≡ length (submissions got)) → (after' ≡ None → m ≡ length (submissions got')) → BoardShows old (handled n got) before → ShowsNext lists g c old new s after' → BoardShows new (handled m got') after'
+pub board-kept : {S : Type 0} (lists : History → Type 0) (g : Ghosts S) (c : Held S) (n m : ℕ) (before after' : Option ServiceFault)
+    (got got' : List Message) (s : Submission) (old new : Result Publishing Stopped) → got' ≡ got ++ Submit s ∷ []
+    → (before ≡ None → n ≡ length (submissions got)) → (after' ≡ None → m ≡ length (submissions got'))
+    → BoardShows old (handled n got) before → ShowsNext lists g c old new s after' → BoardShows new (handled m got') after'
 board-kept lists g c n m before after' got got' s (Ok p) (Ok q) e all all' shows next =
     let more : submissions got' ≡ submissions got ++ s ∷ [] = ap submissions e ∙ submissions-append got (Submit s ∷ []) in
     (next.0, next.1, next.2 ∙ (ap (λ l. l ++ s ∷ []) (shows.2 ∙ all-handled n got (all shows.0)) ∙ (sym more ∙ sym (all-handled m got' (all' next.0)))))
@@ -73,7 +82,8 @@ board-kept lists g c n m before after' got got' s (Err w) (Err v) e all all' sho
 module _ {S : Type 0} (g : Ghosts S) (lists : History → Type 0) where
   -- a submission that was handled is due to be shown
   pub is-due : (old made : Held S) (shown : Seen) (s : Submission) (reply : Reply) (touched : List ℕ) → s.number ≡ count_own s.worker shown.entries + 1
-      → ToldBy lists g old shown → ShowsAfter lists g old (entry_requests shown.entries) → HandlesTouching s.request g old made (Ok (reply, touched)) → IsDue lists g made shown s reply touched
+      → ToldBy lists g old shown → ShowsAfter lists g old (entry_requests shown.entries)
+      → HandlesTouching s.request g old made (Ok (reply, touched)) → IsDue lists g made shown s reply touched
   is-due old made shown s reply touched number told list handles =
       let was : IsClean g made → IsClean g old = handles.handles.handled.clean in
       record {
@@ -87,7 +97,8 @@ module _ {S : Type 0} (g : Ghosts S) (lists : History → Type 0) where
       }
 
   -- one that is due may be shown
-  pub may-follow : (desk : Held S) (shown now : Seen) (s : Submission) (reply : Reply) (touched : List ℕ) → is_worker s.worker ≡ true → IsDue lists g desk shown s reply touched → now ≡ shown
+  pub may-follow : (desk : Held S) (shown now : Seen) (s : Submission) (reply : Reply) (touched : List ℕ) → is_worker s.worker ≡ true
+      → IsDue lists g desk shown s reply touched → now ≡ shown
       → IsNextEntry now.entries (record { worker = s.worker; number = s.number; request = s.request; reply = reply })
   may-follow desk shown now s reply touched worker due same =
       let e : Entry = record { worker = s.worker; number = s.number; request = s.request; reply = reply } in
@@ -95,7 +106,8 @@ module _ {S : Type 0} (g : Ghosts S) (lists : History → Type 0) where
       subst (λ (l : Seen). IsNextEntry l.entries e) (sym same) next
 
   -- what is shown with it, once its pages are looked up, is what the list makes it
-  pub told-next : (desk now : Held S) (shown next : Seen) (s : Submission) (reply : Reply) (touched : List ℕ) (before put : List (ℕ × OwnPage)) → IsDue lists g desk shown s reply touched → before ≡ []
+  pub told-next : (desk now : Held S) (shown next : Seen) (s : Submission) (reply : Reply) (touched : List ℕ)
+      (before put : List (ℕ × OwnPage)) → IsDue lists g desk shown s reply touched → before ≡ []
       → Learns {A = Unit {0}} (λ H _. PutsPages touched before put H) g desk now (Ok tt)
       → ShowsMore shown put (record { worker = s.worker; number = s.number; request = s.request; reply = reply }) next → ToldBy lists g now next
   told-next desk now shown next s reply touched before put due blank learnt more disk H first =
@@ -111,14 +123,18 @@ module _ {S : Type 0} (g : Ghosts S) (lists : History → Type 0) where
       (λ q. puts q (own_page K q) (no-page-before K s.request q) (λ out. sym (given.kept q out)) ∙ ap (λ (L : History). own_page L q) (sym list-is))
 
   -- the tables show each list with the requests, as far as the board shows them
-  pub shows-after : (old desk : Held S) (shown : List Entry) (all : List Submission) (rest : List Request) (fault : Option ServiceFault) → (IsClean g old → (H : History) → lists H → Shows (state g old) H)
+  pub shows-after : (old desk : Held S) (shown : List Entry) (all : List Submission) (rest : List Request) (fault : Option ServiceFault)
+      → (IsClean g old → (H : History) → lists H → Shows (state g old) H)
       → HandledFirst (requests all) rest g old desk fault → fault ≡ None → AreShown shown all → ShowsAfter lists g desk (entry_requests shown)
   shows-after old desk shown all rest fault tables h none is disk H first =
-      subst (λ (l : List Request). Shows (state g desk) (after H l)) (sym (same-requests shown ∙ ap requests is)) (h.shown disk none H (tables (h.clean disk) H first))
+      subst (λ (l : List Request). Shows (state g desk) (after H l)) (sym (same-requests shown ∙ ap requests is))
+      (h.shown disk none H (tables (h.clean disk) H first))
 
   -- the next submission may be handled, where the hall isn't closed
-  pub may-be-next : (old desk : Held S) (n : ℕ) (got : List Message) (s : Submission) (fault : Option ServiceFault) (board : Result Publishing Stopped) (rest : List Request)
-      → (IsClean g old → (H : History) → lists H → Shows (state g old) H) → IsNext got (Submit s) → (fault ≡ None → n ≡ length (submissions got)) → HandledFirst (requests (handled n got)) rest g old desk fault
+  pub may-be-next : (old desk : Held S) (n : ℕ) (got : List Message) (s : Submission) (fault : Option ServiceFault)
+      (board : Result Publishing Stopped) (rest : List Request)
+      → (IsClean g old → (H : History) → lists H → Shows (state g old) H) → IsNext got (Submit s)
+      → (fault ≡ None → n ≡ length (submissions got)) → HandledFirst (requests (handled n got)) rest g old desk fault
       → BoardShows board (handled n got) fault → ToldBy lists g desk (shown_by board) → MayHandle lists g desk fault board s
   may-be-next old desk n got s fault (Ok p) rest tables next all h shows told = (
     shows.0,
@@ -133,20 +149,23 @@ module _ {S : Type 0} (g : Ghosts S) (lists : History → Type 0) where
 
   -- what is shown next, after a board that shows something
   pub shows-next : (desk : Held S) (old : Publishing) (new : Result Publishing Stopped) (s : Submission) (fault : Option ServiceFault)
-      → MatchResult new (λ (p : Publishing). (fault ≡ None) × (p.pages ≡ []) × AreShown p.shown.entries (map submission_of old.shown.entries ++ s ∷ []) × ToldBy lists g desk p.shown)
+      → MatchResult new (λ (p : Publishing). (fault ≡ None) × (p.pages ≡ [])
+      × AreShown p.shown.entries (map submission_of old.shown.entries ++ s ∷ []) × ToldBy lists g desk p.shown)
       (λ (b : Stopped). IsSome fault × (b.shown ≡ old.shown)) → ShowsNext lists g desk (Ok old) new s fault
   shows-next desk old (Ok p) s fault h = h
   shows-next desk old (Err w) s fault h = h
 
   -- a disk that is clean after it was clean before
-  still-clean : (request : Request) (old new : Held S) (n m : ℕ) (before after' : Option ServiceFault) → TakesNext request g old new n m before after' → IsClean g new → IsClean g old
+  still-clean : (request : Request) (old new : Held S) (n m : ℕ) (before after' : Option ServiceFault)
+      → TakesNext request g old new n m before after' → IsClean g new → IsClean g old
   still-clean request old new n m before after' (inl t) disk = t.handles.handled.clean (t.looks.looks.clean disk)
   still-clean request old new n m before after' (inr (inl t)) disk = t.handles.handled.clean (t.looks.looks.looks.clean disk)
   still-clean request old new n m before after' (inr (inr (inl t))) disk = t.handles.handled.clean disk
   still-clean request old new n m before after' (inr (inr (inr t))) disk = subst (λ (x : Held S). IsClean g x) t.same disk
 
   -- what is shown after one submission more is what the lists make it
-  pub told-kept : (old new : Held S) (shown shows : Result Publishing Stopped) (s : Submission) (fault : Option ServiceFault) → (IsClean g new → IsClean g old) → ToldBy lists g old (shown_by shown)
+  pub told-kept : (old new : Held S) (shown shows : Result Publishing Stopped) (s : Submission) (fault : Option ServiceFault)
+      → (IsClean g new → IsClean g old) → ToldBy lists g old (shown_by shown)
       → ShowsNext lists g new shown shows s fault → ToldBy lists g new (shown_by shows)
   told-kept old new (Ok p) (Ok q) s fault clean told next = next.3
   told-kept old new (Err w) (Ok q) s fault clean told next = absurd next
@@ -157,21 +176,28 @@ module _ {S : Type 0} (g : Ghosts S) (lists : History → Type 0) where
 
 module _ {S : Type 0} (g : Ghosts S) where
   -- it may be taken
-  pub may-take : (lists : History → Type 0) (old desk : Held S) (n : ℕ) (fault : Option ServiceFault) (got : List Message) (board : Result Publishing Stopped) (message : Message)
-      → (IsClean g old → (H : History) → lists H → Shows (state g old) H) → IsNext got message → Stands lists g old desk n fault got board → MayTake lists g desk fault board message
-  may-take lists old desk n fault got board (Submit s) tables next h = may-be-next g lists old desk n got s fault board (requests (unhandled n got)) tables next h.all h.desk h.shown h.told
+  pub may-take : (lists : History → Type 0) (old desk : Held S) (n : ℕ) (fault : Option ServiceFault) (got : List Message)
+      (board : Result Publishing Stopped) (message : Message)
+      → (IsClean g old → (H : History) → lists H → Shows (state g old) H) → IsNext got message → StandsOpen lists g old desk n fault got board
+      → MayTake lists g desk fault board message
+  may-take lists old desk n fault got board (Submit s) tables next h =
+      may-be-next g lists old desk n got s fault board (requests (unhandled n got)) tables next h.all h.desk h.shown h.told
   may-take lists old desk n fault got board (Leave w) tables next h = tt
 
   -- how the desk stands once it is taken
-  pub message-kept : (lists : History → Type 0) (old b c : Held S) (n m : ℕ) (before after' : Option ServiceFault) (got got' : List Message) (board board' : Result Publishing Stopped) (message : Message) → got' ≡ got ++ message ∷ []
-      → TakesMessage lists message g b c n m before after' board board' → Stands lists g old b n before got board → Stands lists g old c m after' got' board'
+  pub message-kept : (lists : History → Type 0) (old b c : Held S) (n m : ℕ) (before after' : Option ServiceFault) (got got' : List Message)
+      (board board' : Result Publishing Stopped) (message : Message) → got' ≡ got ++ message ∷ []
+      → TakesMessage lists message g b c n m before after' board board' → StandsOpen lists g old b n before got board
+      → StandsOpen lists g old c m after' got' board'
   message-kept lists old b c n m before after' got got' board board' (Submit s) e t h =
       let k = submission-kept g old b c n m before after' got got' s e t.0 h.counted h.all h.desk in
       record {
         counted = k.0;
         all = k.1;
-        cause = cause-kept g old b c n m before after' got got' s board board' e h.counted h.all (λ none. open-shows board (handled n got) before none h.shown) (λ f is. closed-shows lists g c board board' s after' f is t.1)
-            (λ none. subst (λ (l : List Request). HandledFirst (requests (handled n got)) l g old b None) (no_rest n got (h.all none)) (subst (HandledFirst (requests (handled n got)) (requests (unhandled n got)) g old b) none h.desk)) t.0 h.cause;
+        cause = cause-kept g old b c n m before after' got got' s board board' e h.counted h.all
+            (λ none. open-shows board (handled n got) before none h.shown) (λ f is. closed-shows lists g c board board' s after' f is t.1)
+            (λ none. subst (λ (l : List Request). HandledFirst (requests (handled n got)) l g old b None) (no_rest n got (h.all none))
+            (subst (HandledFirst (requests (handled n got)) (requests (unhandled n got)) g old b) none h.desk)) t.0 h.cause;
         desk = k.2;
         shown = board-kept lists g c n m before after' got got' s board board' e h.all k.1 h.shown t.1;
         told = told-kept g lists b c board board' s after' (still-clean g lists s.request b c n m before after' t.0) h.told t.1;
@@ -179,7 +205,7 @@ module _ {S : Type 0} (g : Ghosts S) where
   message-kept lists old b c n m before after' got got' board board' (Leave w) e t h =
       let k = leave_kept n got got' w e h.counted in
       let rest = rest_kept n got got' w e in
-      let now : Stands lists g old b n before got' board = record {
+      let now : StandsOpen lists g old b n before got' board = record {
         counted = omega (arith, k.0, h.counted);
         all = λ f. h.all f ∙ sym k.0;
         cause = cause-left g old n got got' b (shown_by board).entries before rest k.1 h.cause;
@@ -188,13 +214,15 @@ module _ {S : Type 0} (g : Ghosts S) where
         shown = subst (λ (l : List Submission). BoardShows board l before) (sym k.1) h.shown;
         told = h.told;
       } in
-      subst (λ (d : Held S). Stands lists g old d m after' got' board') (sym t.0)
-      (subst (λ (j : ℕ). Stands lists g old b j after' got' board') (sym t.1)
-      (subst (λ (f : Option ServiceFault). Stands lists g old b n f got' board') (sym t.2) (subst (λ (x : Result Publishing Stopped). Stands lists g old b n before got' x) (sym t.3) now)))
+      subst (λ (d : Held S). StandsOpen lists g old d m after' got' board') (sym t.0)
+      (subst (λ (j : ℕ). StandsOpen lists g old b j after' got' board') (sym t.1)
+      (subst (λ (f : Option ServiceFault). StandsOpen lists g old b n f got' board') (sym t.2)
+      (subst (λ (x : Result Publishing Stopped). StandsOpen lists g old b n before got' x) (sym t.3) now)))
 
   -- what stands once each worker has left
-  pub finishes : (lists : History → Type 0) (workers n : ℕ) (got : List Message) (entries : List Entry) (old now : Held S) (fault : Option ServiceFault) (board : Result Publishing Stopped) → ((k : ℕ) → k < workers → is_open (of (k + 1) got) ≡ false)
-      → entries ≡ (shown_by board).entries → Stands lists g old now n fault got board → Finishes workers n got entries g old now fault
+  pub finishes : (lists : History → Type 0) (workers n : ℕ) (got : List Message) (entries : List Entry) (old now : Held S)
+      (fault : Option ServiceFault) (board : Result Publishing Stopped) → ((k : ℕ) → k < workers → is_open (of (k + 1) got) ≡ false)
+      → entries ≡ (shown_by board).entries → StandsOpen lists g old now n fault got board → Finishes workers n got entries g old now fault
   finishes lists workers n got entries old now fault board gone same h = record {
     gone = gone;
     counted = h.counted;

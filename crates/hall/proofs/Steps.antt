@@ -11,7 +11,8 @@ use Rattle.hall.specs.declared.messages.View.{View}
 use Rattle.hall.specs.Serving.{Working, IsReplied, submitted}
 
 -- A beginning that has no more of a worker than what stands before an entry of it ends before that.
-before-entry : (w : ℕ) (front : List Entry) (e : Entry) (rest seen : List Entry) → e.worker ≡ w → StartsWith (front ++ e ∷ rest) seen → count_own w seen ≡ count_own w front → StartsWith front seen
+before-entry : (w : ℕ) (front : List Entry) (e : Entry) (rest seen : List Entry) → e.worker ≡ w → StartsWith (front ++ e ∷ rest) seen
+    → count_own w seen ≡ count_own w front → StartsWith front seen
 before-entry w [] e rest [] mine s same = ([], refl)
 before-entry w (f ∷ fs) e rest [] mine s same = (f ∷ fs, refl)
 before-entry w [] e rest (y ∷ ys) mine s same =
@@ -35,25 +36,33 @@ before-entry w (f ∷ fs) e rest (y ∷ ys) mine s same =
     tail h = cc
 
 -- What the worker saw before it submitted stands before its submission.
-pub later-than : (old mid new : List Entry) (w k n : ℕ) (request : Request) (reply : Reply) → StartsWith mid old → StartsWith new mid → count_own w mid ≡ k → n ≡ k + 1 → (r : IsReply new w n request reply) → StartsWith r.front old
+pub later-than : (old mid new : List Entry) (w k n : ℕ) (request : Request) (reply : Reply) → StartsWith mid old → StartsWith new mid
+    → count_own w mid ≡ k → n ≡ k + 1 → (r : IsReply new w n request reply) → StartsWith r.front old
 later-than old mid new w k n request reply on next all number r =
     let same : count_own w mid ≡ count_own w r.front = omega (arith, all, number, r.next) in
     starts_on r.front mid old (before-entry w r.front r.entry r.rest mid r.worker_is (subst (λ l. StartsWith l mid) r.seen_is next) same) on
 
 -- What was submitted and came back is the reply.
-pub replied : (old mid sent new : Working) (request own other : Request) (reply : Reply) → mid.post ≡ old.post → GoesOn mid.seen old.seen → count_own old.post.worker mid.seen.entries ≡ length old.post.sent
+pub replied : (old mid sent new : Working) (request own other : Request) (reply : Reply) → mid.post ≡ old.post → GoesOn mid.seen old.seen
+    → count_own old.post.worker mid.seen.entries ≡ length old.post.sent
     → sent ≡ record mid { post = submitted mid.post other } → new.post ≡ sent.post → GoesOn new.seen sent.seen → own ≡ request → other ≡ own
     → IsReply new.seen.entries sent.post.worker (length sent.post.sent) own reply → IsReplied request old new reply
 replied old mid sent new request own other reply same on all is after' next made clone r =
-    let posts : sent.post ≡ submitted old.post request = ap (λ (w : Working). w.post) is ∙ (ap (λ v. submitted v other) same ∙ ap (submitted old.post) (clone ∙ made)) in
-    let long : length sent.post.sent ≡ length old.post.sent + 1 = ap (λ (v : View). length v.sent) posts ∙ length-append old.post.sent (Submit (record { worker = old.post.worker; number = length old.post.sent + 1; request = request }) ∷ []) in
+    let posts : sent.post ≡ submitted old.post request =
+    ap (λ (w : Working). w.post) is ∙ (ap (λ v. submitted v other) same ∙ ap (submitted old.post) (clone ∙ made)) in
+    let long : length sent.post.sent ≡ length old.post.sent + 1 =
+    ap (λ (v : View). length v.sent) posts
+    ∙ length-append old.post.sent (Submit (record { worker = old.post.worker; number = length old.post.sent + 1; request = request })
+    ∷ []) in
     let mine : sent.post.worker ≡ old.post.worker = ap (λ (v : View). v.worker) posts in
     let seen : GoesOn new.seen mid.seen = subst (λ (w : Working). GoesOn new.seen w.seen) is next in
     let here : IsReply new.seen.entries old.post.worker (length old.post.sent + 1) request reply =
     subst (λ w. IsReply new.seen.entries w (length old.post.sent + 1) request reply) mine
-    (subst (λ n. IsReply new.seen.entries sent.post.worker n request reply) long (subst (λ (q : Request). IsReply new.seen.entries sent.post.worker (length sent.post.sent) q reply) made r)) in
+    (subst (λ n. IsReply new.seen.entries sent.post.worker n request reply) long
+    (subst (λ (q : Request). IsReply new.seen.entries sent.post.worker (length sent.post.sent) q reply) made r)) in
     record {
       submits = after' ∙ posts;
       replied = here;
-      later = later-than old.seen.entries mid.seen.entries new.seen.entries old.post.worker (length old.post.sent) (length old.post.sent + 1) request reply on.0 seen.0 all refl here;
+      later = later-than old.seen.entries mid.seen.entries new.seen.entries old.post.worker (length old.post.sent)
+          (length old.post.sent + 1) request reply on.0 seen.0 all refl here;
     }

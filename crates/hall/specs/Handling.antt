@@ -1,5 +1,6 @@
 -- What the desk of a hall has done, after the submissions that it handled.
-use Rattle.std.specs.Prelude.{◌≡◌, ◌⊎◌, ℕ, ◌+◌, ◌^◌, ◌<◌, ◌≤◌, ◌==◌, false, List, [], ◌∷◌, ◌++◌, length, map, take, Option, None, Some, Result, Ok, Err, IfSome, IsSome}
+use Rattle.std.specs.Prelude.{◌≡◌, ◌⊎◌, ℕ, ◌+◌, ◌^◌, ◌<◌, ◌≤◌, ◌==◌, false, List, [], ◌∷◌, ◌++◌, length, map, take, Option, None, Some}
+use Rattle.std.specs.Prelude.{Result, Ok, Err, IfSome, IsSome}
 use Rattle.std.specs.List.{list_any}
 use Rattle.store.specs.Library.{Ghosts, Held, state, IsClean, IsOpen}
 use Rattle.terms.specs.declared.command.Request.{Request}
@@ -239,7 +240,7 @@ BoardShows (Err b) handled fault = IsSome fault
 
 -- How the desk of an open hall stands, after these messages: what it handled, what closed it, and
 -- what the board shows.
-pub record Stands {S : Type 0} (lists : History → Type 0) (g : Ghosts S) (old new : Held S) (n : ℕ)
+pub record StandsOpen {S : Type 0} (lists : History → Type 0) (g : Ghosts S) (old new : Held S) (n : ℕ)
     (fault : Option ServiceFault) (got : List Message) (board : Result Publishing Stopped) : Type 0 where
   -- the handled ones are among those received
   pub counted : n ≤ length (submissions got)

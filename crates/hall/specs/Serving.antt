@@ -1,5 +1,6 @@
 -- What a worker knows, submits and answers.
-use Rattle.std.specs.Prelude.{◌≡◌, ◌⊎◌, ℕ, ◌+◌, if◌then◌else◌, bytes_eq, List, length, map, Option, Some, None, Result, Ok, Err, IfOk, IfErr, IfSome, OnOk, OnErr}
+use Rattle.std.specs.Prelude.{◌≡◌, ◌⊎◌, ℕ, ◌+◌, if◌then◌else◌, bytes_eq, List, length, map, Option, Some, None, Result, Ok, Err, IfOk}
+use Rattle.std.specs.Prelude.{IfErr, IfSome, OnOk, OnErr}
 use Rattle.std.specs.Io.KnownBytes.{Appends, Keeps}
 use Rattle.store.specs.Library.{Ghosts, Held, IsClean}
 use Rattle.terms.specs.Writing.{AppendsFront}

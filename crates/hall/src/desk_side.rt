@@ -28,8 +28,8 @@ use std::sync::{Arc, Wait};
 use std::thread;
 use terms::{Fault, PatronId, Reply, ServiceFault};
 
-/// The side of the desk in a hall, for the thread that owns the database. It is not `Drop`: end it by
-/// `desk_loop`.
+/// The side of the desk in a hall, for the thread that owns the database. It is not `Drop`: end it
+/// by `desk_loop`.
 pub struct DeskSide<J: Opening, S: Alter> {
     pub(crate) inbox: Inbox<J>,
     pub(crate) desk: Desk<S>,
@@ -274,20 +274,20 @@ impl<J: Opening, S: Alter> DeskSide<J, S> {
         self.desk.limit_steps(limit);
     }
 
-    /// Handles what the workers submit, in the order in which it comes, until each of them has left,
-    /// and hands the desk back. Each one that was handled is shown on the board, with the pages that
-    /// it may have changed, before the next is handled.
+    /// Handles what the workers submit, in the order in which it comes, until each of them has
+    /// left, and hands the desk back. Each one that was handled is shown on the board, with the
+    /// pages that it may have changed, before the next is handled.
     ///
     /// A fault of the desk closes the hall: the worker whose request met it is told that fault, and
     /// for each other submission waiting or later its worker is told 92. So does a board that can't
     /// show what was handled, for want of memory or because a page could not be had: then all are
     /// told 92. The loop goes on until each worker has left, and gives the fault. So the hall was
-    /// closed exactly where there is a fault; where there is none, every submission was handled. 90,
-    /// 91 and 93 as the desk gives them; 92 where 2^64 - 1 submissions were handled and one more
-    /// came. Closing takes no memory, and the board stays as it was shown last; it is in what is
-    /// left. Where the disk gave back what was written to it, all that was shown is what each list of
-    /// accepted requests makes it that the opening names: each reply at its place, and the pages with
-    /// each beginning. So is what a worker answers that has seen a beginning of it.
+    /// closed exactly where there is a fault; where there is none, every submission was handled.
+    /// 90, 91 and 93 as the desk gives them; 92 where 2^64 - 1 submissions were handled and one
+    /// more came. Closing takes no memory, and the board stays as it was shown last; it is in what
+    /// is left. Where the disk gave back what was written to it, all that was shown is what each
+    /// list of accepted requests makes it that the opening names: each reply at its place, and the
+    /// pages with each beginning. So is what a worker answers that has seen a beginning of it.
     pub fn desk_loop<R: Wait>(
         self,
         rt: &R,

@@ -32,11 +32,11 @@ impl<J: Opening> Ended<J> {
     }
 
     /// Takes in the end of a worker that has left. It refuses nothing and waits for nobody. Where
-    /// the desk received the worker's Leave, the handled submissions of the worker are a beginning of
-    /// what it submitted, and all of it where all that came was handled.
+    /// the desk received the worker's Leave, the handled submissions of the worker are a beginning
+    /// of what it submitted, and all of it where all that came was handled.
     ///
-    /// It answers whether the worker took part in this hall, as each of its workers did: then the desk
-    /// received its Leave, and what it had seen is a beginning of what was shown.
+    /// It answers whether the worker took part in this hall, as each of its workers did: then the
+    /// desk received its Leave, and what it had seen is a beginning of what was shown.
     pub fn take_in(&mut self, left: Left<J>) -> bool
         ensures same { (self.new.handled ≡ self.old.handled)
             × (self.new.heard.got ≡ self.old.heard.got) × (self.new.board ≡ self.old.board) }

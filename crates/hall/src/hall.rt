@@ -34,8 +34,8 @@ use terms::{Fault, Memory, PatronId, Refusal, ServiceFault};
 pub enum Why {
     /// 21: there are to be no workers, or more than 8.
     Refused(Refusal),
-    /// 90, 91 or 93: a page could not be had, or no memory is left; 92: the board has no place for a
-    /// reader.
+    /// 90, 91 or 93: a page could not be had, or no memory is left; 92: the board has no place for
+    /// a reader.
     Faulted(ServiceFault),
 }
 
@@ -135,8 +135,8 @@ fn hire_all<J: Opening, R: Wait>(
 /// What `Hall::new` gives, but for the desk and the board.
 type Hired<J> = (Inbox<J>, Arc<Notices, Global>, Vec<Worker<J>>);
 
-/// The workers of a hall, and what they share with the desk. 90; 92 where the board has no place for
-/// a reader.
+/// The workers of a hall, and what they share with the desk. 90; 92 where the board has no place
+/// for a reader.
 fn hire<J: Opening, R: Wait>(
     rt: &R,
     alloc: Global,
@@ -240,7 +240,8 @@ impl Hall {
     }
 
     /// Opens a hall of 1 to 8 workers over the desk of a new library in memory, on a queue and a
-    /// board that were just made. Its tables show the empty list of accepted requests, and nobody has a page.
+    /// board that were just made. Its tables show the empty list of accepted requests, and nobody
+    /// has a page.
     ///
     /// 21 for another number of workers; else 90 or 91 where there is no library, and 90 to 92 as
     /// `new` gives them.

@@ -17,4 +17,5 @@ pub use ends::{Heard, Inbox, Opened, Post};
 pub use hall::{Hall, HallFault, Why};
 pub use messages::{LAST_SUBMISSION, Message, Sent, Submission, View};
 pub use opening::Opening;
+pub use web::Routes;
 pub use worker::{Left, Worker};

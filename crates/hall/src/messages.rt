@@ -6,8 +6,8 @@ use std::collections::LinkedList;
 /// The number of the last submission that a worker may make.
 pub const LAST_SUBMISSION: u64 = 1 << 50;
 
-/// A request, with the worker that submits it and its number among that worker's submissions, from 1
-/// to 2^50 without a gap.
+/// A request, with the worker that submits it and its number among that worker's submissions, from
+/// 1 to 2^50 without a gap.
 #[derive(Drop)]
 pub struct Submission {
     pub worker: WorkerId,

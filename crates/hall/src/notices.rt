@@ -68,8 +68,8 @@ impl Notices {
         }
     }
 
-    /// Tells a worker why this submission has no reply, and wakes it. Of one worker's only the first
-    /// is told, since each later one isn't handled because the hall is closed.
+    /// Tells a worker why this submission has no reply, and wakes it. Of one worker's only the
+    /// first is told, since each later one isn't handled because the hall is closed.
     pub(crate) fn tell<R: Wait>(&self, rt: &R, worker: WorkerId, number: u64, fault: ServiceFault) {
         let _ = self.place(worker).notice.set(rt, Notice { number, fault });
         self.wake(worker);

@@ -1,6 +1,7 @@
 //! The side of a worker.
 
-ghost use Rattle.std.specs.Prelude.{◌≡◌, length, MatchResult, MatchBool, IfOk, IfSome, OnOk, option_map};
+ghost use Rattle.std.specs.Prelude.{◌≡◌, length, MatchResult, MatchBool, IfOk, IfSome, OnOk};
+ghost use Rattle.std.specs.Prelude.{option_map};
 ghost use Rattle.std.specs.Arc.{arc_value};
 ghost use Rattle.terms.specs.Writing.{Writes};
 ghost use Rattle.terms.specs.declared.fault.ServiceFault.TheVariants.{Closed};
@@ -25,7 +26,7 @@ use std::sync::{Arc, Wait};
 use terms::{
     Caller, CardKey, Command, Fault, Memory, PatronId, Refusal, Reply, Request, ServiceFault,
 };
-use web::{Answer, Asked, WebFault, read_request, write_answer};
+use web::{Answer, Asked, Routes, WebFault, read_request, write_answer};
 
 /// A worker of a hall. Contracts see what it sent, and what it has seen of the handled list.
 #[derive(Drop)]
@@ -195,7 +196,7 @@ impl<J: Opening> Worker<J> {
 
     /// Waits until its last submission is on the board: then the worker has seen all that it
     /// submitted. A fault says that it never will be.
-    fn settle<R: Wait>(&mut self, rt: &R) -> Result<(), Lost>
+    fn catch_up<R: Wait>(&mut self, rt: &R) -> Result<(), Lost>
         ensures same { self.new.post ≡ self.old.post }
         ensures on { GoesOn self.new.seen self.old.seen }
         ensures all { OnOk result
@@ -222,7 +223,8 @@ impl<J: Opening> Worker<J> {
     }
 
     /// Submits a request under the worker's next number, from 1 to 2^50, and waits for a free place
-    /// in the queue. 92, and nothing is submitted, where the numbers are used up or the desk is gone.
+    /// in the queue. 92, and nothing is submitted, where the numbers are used up or the desk is
+    /// gone.
     fn submit<R: Wait>(&mut self, rt: &R, request: SharedRequest) -> Result<(), ServiceFault>
         ensures { MatchResult result
             (λ _. self.new ≡ record self.old { post = submitted self.old.post request })
@@ -282,7 +284,7 @@ impl<J: Opening> Worker<J> {
         ensures found { IfOk result (λ entry. IsReplied request self.old self.new
             (arc_value entry).reply) }
     {
-        match self.settle(rt) {
+        match self.catch_up(rt) {
             Ok(()) => {}
             Err(Lost::Told(_)) => return Err(Lost::Told(ServiceFault::Closed)),
             Err(Lost::Untold) => return Err(Lost::Told(ServiceFault::Met(Fault::Memory))),
@@ -321,8 +323,8 @@ impl<J: Opening> Worker<J> {
         }
     }
 
-    /// The reply to a look at the page of a patron, from the board: by the card key that is shown, or
-    /// by the desk. 90 or 92 in its place.
+    /// The reply to a look at the page of a patron, from the board: by the card key that is shown,
+    /// or by the desk. 90 or 92 in its place.
     fn answer_from_board(
         &mut self,
         alloc: Global,
@@ -362,18 +364,19 @@ impl<J: Opening> Worker<J> {
 
     /// Serves one connection: reads its request, and writes its answer.
     ///
-    /// The answer is that of the request as the bytes make it, or the status of the first check that
-    /// they fail. A page is shown from the board, without waiting for the desk; 90 in its place where
-    /// no memory is left to look at it, and 92 where the board is gone. Every other request is
-    /// submitted, and its reply comes from the board once the desk has handled it; 90, 91, 92 or 93 in
-    /// its place: the fault that it met, or 92 where the hall is closed or the worker's numbers are
-    /// used up. A connection breaks where a read or a write fails, or no memory is left for the
-    /// answer: then nothing or a beginning of the answer went out. Where no memory is left to read
-    /// it, the answer is fault 90.
+    /// The answer is that of the request as the bytes make it, or the status of the first check
+    /// that they fail. A page is shown from the board, without waiting for the desk; 90 in its
+    /// place where no memory is left to look at it, and 92 where the board is gone. Every other
+    /// request is submitted, and its reply comes from the board once the desk has handled it; 90,
+    /// 91, 92 or 93 in its place: the fault that it met, or 92 where the hall is closed or the
+    /// worker's numbers are used up. A connection breaks where a read or a write fails, or no
+    /// memory is left for the answer: then nothing or a beginning of the answer went out. Where no
+    /// memory is left to read it, or there are no routes for want of it, the answer is fault 90.
     pub fn serve<I: Read, O: Write, R: Wait>(
         &mut self,
         rt: &R,
         alloc: Global,
+        routes: Option<&Routes>,
         desk_key: &CardKey,
         reader: &mut I,
         writer: &mut O,
@@ -381,7 +384,7 @@ impl<J: Opening> Worker<J> {
         ensures { Serves desk_key.now (I.remaining reader.old) self.old self.new
             (O.contents writer.old) (O.contents writer.new) result }
     {
-        let answer = match read_request(alloc, reader) {
+        let answer = match read_request(alloc, routes, reader) {
             Ok(request) => self.answer(rt, alloc, request.asked(desk_key)),
             Err(WebFault::Status(status)) => Some(Answer::Failed(status)),
             Err(WebFault::Memory) => Some(Answer::Faulted(ServiceFault::Met(Fault::Memory))),

@@ -1,5 +1,6 @@
 -- Schedules of submissions, handlings, publishings and looks, and what they make.
-use Rattle.std.specs.Prelude.{◌≡◌, ℕ, ◌+◌, ◌-◌, ◌≤◌, Bool, true, List, [], ◌∷◌, ◌++◌, length, map, take, set, if◌then◌else◌, ◌==◌, ◌&&◌, nat_lt, nat_le, slice_index, slice_index_or, count_by, filter, fold}
+use Rattle.std.specs.Prelude.{◌≡◌, ℕ, ◌+◌, ◌-◌, ◌≤◌, Bool, true, List, [], ◌∷◌, ◌++◌, length, map, take, set, if◌then◌else◌, ◌==◌, ◌&&◌}
+use Rattle.std.specs.Prelude.{nat_lt, nat_le, slice_index, slice_index_or, count_by, filter, fold}
 use Rattle.std.specs.List.{list_all}
 use Rattle.std.specs.declared.vec.Vec.{Vec}
 use Rattle.std.specs.declared.alloc.Global.{Global}
@@ -32,11 +33,26 @@ lists_of = map (λ (v : Vec ℕ Global). v.items)
 
 -- What the world holds.
 abbrev pub state_of : World → State
-state_of w = record { taken = w.taken; submitted = lists_of w.submitted; queue = w.queue.items; handled = w.handled.items; published = w.published; seen = w.seen }
+state_of w = record {
+  taken = w.taken;
+  submitted = lists_of w.submitted;
+  queue = w.queue.items;
+  handled = w.handled.items;
+  published = w.published;
+  seen = w.seen;
+}
 
 -- Before the first event: nothing was submitted, shown or seen.
 abbrev pub start : State
-start = record { taken = 0; submitted = [] ∷ [] ∷ [] ∷ [] ∷ [] ∷ [] ∷ [] ∷ [] ∷ []; queue = []; handled = []; published = 0; seen = 0 ∷ 0 ∷ 0 ∷ 0 ∷ 0 ∷ 0 ∷ 0 ∷ 0 ∷ [] }
+start = record {
+  taken = 0;
+  submitted = [] ∷ [] ∷ [] ∷ [] ∷ [] ∷ [] ∷ [] ∷ [] ∷ [];
+  queue = [];
+  handled = [];
+  published = 0;
+  seen = 0 ∷ 0
+      ∷ 0 ∷ 0 ∷ 0 ∷ 0 ∷ 0 ∷ 0 ∷ [];
+}
 
 -- Workers have the numbers from 1 on.
 abbrev pub is_worker : ℕ → Bool
@@ -68,7 +84,11 @@ ticked s = record s { taken = s.taken + 1 }
 
 -- Request r of worker w was put at the end of that worker's list and of the queue, with how many handled ones the worker has seen.
 abbrev pub submitted_by : State → ℕ → ℕ → State
-submitted_by s w r = record s { taken = s.taken + 1; submitted = set s.submitted (w - 1) (list_at s w ++ r ∷ []); queue = s.queue ++ record { worker = w; request = r; seen = seen_at s w } ∷ [] }
+submitted_by s w r = record s {
+  taken = s.taken + 1;
+  submitted = set s.submitted (w - 1) (list_at s w ++ r ∷ []);
+  queue = s.queue ++ record { worker = w; request = r; seen = seen_at s w } ∷ [];
+}
 
 -- The front of this queue was moved to the end of the handled list.
 abbrev pub handle : State → List Item → State

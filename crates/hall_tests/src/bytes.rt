@@ -18,8 +18,8 @@ pub fn answer(alloc: Global, text: &str) -> Option<String> {
     ).ok()
 }
 
-/// Serves one connection, with the desk's key; the writer takes so many bytes. What it took, and whether an answer went out
-/// whole.
+/// Serves one connection, with the desk's key; the writer takes so many bytes. What it took, and
+/// whether an answer went out whole.
 pub fn served<J: Opening, R: Wait, I: Read + Drop>(
     rt: &R,
     alloc: Global,

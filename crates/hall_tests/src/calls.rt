@@ -6,7 +6,7 @@ ghost use Rattle.model.specs.History.{History};
 ghost use Rattle.hall.specs.Openings.{OpensWith};
 
 use desk::Desk;
-use hall::{DeskSide, Ended, Hall, HallFault, Left, Opened, Opening, Worker};
+use hall::{DeskSide, Ended, Hall, HallFault, Left, Opened, Opening, Routes, Worker};
 use sqlite::{Alter, Connection, MemStore};
 use std::alloc::Global;
 use std::io::{Read, Write};
@@ -21,8 +21,8 @@ pub fn open_queue(alloc: Global) -> Result<Opened, Memory> {
     Opened::new(alloc)
 }
 
-/// The hall of so many workers, whose opening names no list of accepted requests; or the number that says why there is none, and
-/// the desk.
+/// The hall of so many workers, whose opening names no list of accepted requests; or the number
+/// that says why there is none, and the desk.
 pub fn open_hall<J: Opening, S: Alter, R: Wait>(
     rt: &R,
     alloc: Global,
@@ -93,7 +93,8 @@ pub fn serve<J: Opening, R: Wait, I: Read, O: Write>(
     reader: &mut I,
     writer: &mut O,
 ) -> bool {
-    match worker.serve(rt, alloc, desk_key, reader, writer) {
+    let routes = Routes::new(alloc).ok();
+    match worker.serve(rt, alloc, routes.as_ref(), desk_key, reader, writer) {
         Ok(()) => true,
         Err(_) => false,
     }
@@ -104,8 +105,8 @@ pub fn leave<J: Opening, R: Wait>(rt: &R, worker: Worker<J>) -> Left<J> {
     worker.leave(rt)
 }
 
-/// Takes in the end of a worker, and tells whether the desk was told that it left, and it took part in
-/// the hall.
+/// Takes in the end of a worker, and tells whether the desk was told that it left, and it took part
+/// in the hall.
 pub fn take_in<J: Opening>(ended: &mut Ended<J>, left: Left<J>) -> bool {
     let is_told = left.is_told;
     let took_part = ended.take_in(left);
@@ -119,8 +120,8 @@ pub fn close<J: Opening, R: Wait>(rt: &R, ended: Ended<J>) -> u64 {
     handled
 }
 
-/// Has a request handled, and then looks up the page of a patron, each under a limit of steps for each call of the database:
-/// whether the request was handled, and the fault that came.
+/// Has a request handled, and then looks up the page of a patron, each under a limit of steps for
+/// each call of the database: whether the request was handled, and the fault that came.
 pub fn handle_and_look(
     desk: &mut Desk<MemStore>,
     alloc: Global,

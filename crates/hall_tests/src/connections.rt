@@ -1,4 +1,5 @@
-//! Connections of one worker, over readers that fail after some bytes and writers that take some bytes.
+//! Connections of two workers, over readers that fail after some bytes and writers that take some
+//! bytes.
 
 ghost use Rattle.std.specs.Prelude.{◌≡◌};
 ghost use Rattle.model.specs.History.{History};
@@ -6,7 +7,8 @@ ghost use Rattle.model.specs.History.{History};
 use crate::bytes::{answer, gets, served};
 use crate::calls::{close, connection, handle_all, leave, open_hall, open_queue, take_in};
 use crate::hostile::{TRIED, withstands_all};
-use crate::library::library;
+use crate::library::{HOLDS, library};
+use crate::tests::rows_of_run;
 use hall::{Left, Opened, Opening, Worker};
 use std::alloc::Global;
 use std::marker::Brand;
@@ -25,17 +27,29 @@ const HELD: &str = "200 OK {\"reply\":\"hold 1\"}";
 
 pub const ANNS_PAGE: &str = "200 OK {\"reply\":\"patron 1 owed 0 name Ann Bell\"}";
 
-/// Requests one after another, each with the status and the body of its answer.
-const ANSWERED: [(&str, &str); 14] = [
+/// A request, with the status and the body of its answer.
+type Asked = (&'static str, &'static str);
+
+/// A patron's page with that hold.
+const BO_LOOKS: Asked = (
+    "GET /patrons/2 HTTP/1.1\r\nCard-Key: cardkey00002\r\n\r\n",
+    "200 OK {\"reply\":\"patron 2 owed 0 name Bo Carr\\nhold 1 at 1 waiting title 100 Rivers of the North\"}",
+);
+
+/// The page of another patron, which is the same before and after.
+const ANN_LOOKS: Asked = (
+    "GET /patrons/1 HTTP/1.1\r\nCard-Key: cardkey00001\r\n\r\n",
+    ANNS_PAGE,
+);
+
+/// A head that is cut in its middle.
+const CUT_HEAD: Asked = ("GET /patrons/1 HT", "400 Bad Request {\"status\":400}");
+
+/// Requests one after another.
+const ANSWERED: [Asked; 14] = [
     (HOLD, HELD),
-    (
-        "GET /patrons/2 HTTP/1.1\r\nCard-Key: cardkey00002\r\n\r\n",
-        "200 OK {\"reply\":\"patron 2 owed 0 name Bo Carr\\nhold 1 at 1 waiting title 100 Rivers of the North\"}",
-    ),
-    (
-        "GET /patrons/1 HTTP/1.1\r\nCard-Key: cardkey00001\r\n\r\n",
-        ANNS_PAGE,
-    ),
+    BO_LOOKS,
+    ANN_LOOKS,
     (
         "GET /patrons/2 HTTP/1.1\r\nCard-Key: cardkey00001\r\n\r\n",
         "403 Forbidden {\"refusal\":81}",
@@ -76,32 +90,58 @@ const ANSWERED: [(&str, &str); 14] = [
         "POST /patrons/4/holds HTTP/1.1\r\nCard-Key: cardkey00004\r\nRequest-Key: h1\r\nContent-Length: 44\r\n\r\n{\"branch\":1,\"from\":\"2026-03-02\",\"title\":100}",
         "409 Conflict {\"refusal\":23}",
     ),
-    ("GET /patrons/1 HT", "400 Bad Request {\"status\":400}"),
+    CUT_HEAD,
 ];
 
-/// What is done with the worker.
+/// What the first of two workers is asked for: a hold between looks at pages.
+const ASKED_OF_ONE: [Asked; 4] = [ANN_LOOKS, (HOLD, HELD), BO_LOOKS, ANN_LOOKS];
+
+/// What the second one is asked for after that.
+const ASKED_OF_TWO: [Asked; 3] = [CUT_HEAD, BO_LOOKS, ANN_LOOKS];
+
+/// What is done with two workers.
 #[derive(Clone, Copy)]
 enum Deed {
-    /// Each kind of request is answered.
+    /// Each kind of request is answered by the first.
     Answers,
+    /// The first answers a hold and shows it; the second is sent a cut head, and shows the hold
+    /// too.
+    Shares,
     /// A hold's answer is cut after each of its bytes, and then had whole.
     Cuts,
-    /// Reads fail after each byte of a hold; another hold is the first. A read that would fail after
-    /// the last byte isn't made.
+    /// Reads fail after each byte of a hold; another hold is the first. A read that would fail
+    /// after the last byte isn't made.
     Breaks,
     /// What hostile clients send is withstood.
     Withstands,
 }
 
-/// How many of the requests get their answers.
-fn answers<J: Opening, R: Wait>(rt: &R, alloc: Global, worker: &mut Worker<J>) -> Option<usize> {
+/// How many of these requests get their answers.
+fn answers<J: Opening, R: Wait>(
+    rt: &R,
+    alloc: Global,
+    worker: &mut Worker<J>,
+    asked: &[Asked],
+) -> Option<usize> {
     let mut count = 0usize;
-    for (request, text) in ANSWERED {
+    for (request, text) in asked {
         if gets(rt, alloc, worker, request, text)? {
             count = count.wrapping_add(1);
         }
     }
     Some(count)
+}
+
+/// How many of the requests to the one worker, and then to the other, get their answers.
+fn shares<J: Opening, R: Wait>(
+    rt: &R,
+    alloc: Global,
+    one: &mut Worker<J>,
+    two: &mut Worker<J>,
+) -> Option<usize> {
+    let first = answers(rt, alloc, one, &ASKED_OF_ONE)?;
+    let second = answers(rt, alloc, two, &ASKED_OF_TWO)?;
+    Some(first.saturating_add(second))
 }
 
 /// How often a hold's answer is cut after as many bytes as the writer takes; and whether it is had
@@ -144,24 +184,37 @@ fn breaks<J: Opening, R: Wait>(rt: &R, alloc: Global, worker: &mut Worker<J>) ->
     Some(count)
 }
 
-/// The only worker does this, and leaves.
+/// How often it went well.
+fn does<J: Opening, R: Wait>(
+    rt: &R,
+    alloc: Global,
+    one: &mut Worker<J>,
+    two: &mut Worker<J>,
+    deed: Deed,
+) -> Option<usize> {
+    match deed {
+        Deed::Answers => answers(rt, alloc, one, &ANSWERED),
+        Deed::Shares => shares(rt, alloc, one, two),
+        Deed::Cuts => cuts(rt, alloc, one),
+        Deed::Breaks => breaks(rt, alloc, one),
+        Deed::Withstands => withstands_all(rt, alloc, one),
+    }
+}
+
+/// Two workers do this, and leave.
 fn work<J: Opening, R: Wait>(
     rt: &R,
     alloc: Global,
     mut all: Vec<Worker<J>>,
     deed: Deed,
-) -> Option<(Left<J>, usize)> {
-    let mut worker = all.pop()?;
-    let count = match deed {
-        Deed::Answers => answers(rt, alloc, &mut worker),
-        Deed::Cuts => cuts(rt, alloc, &mut worker),
-        Deed::Breaks => breaks(rt, alloc, &mut worker),
-        Deed::Withstands => withstands_all(rt, alloc, &mut worker),
-    };
-    Some((leave(rt, worker), count?))
+) -> Option<(Left<J>, Left<J>, usize)> {
+    let mut two = all.pop()?;
+    let mut one = all.pop()?;
+    let count = does(rt, alloc, &mut one, &mut two, deed);
+    Some((leave(rt, one), leave(rt, two), count?))
 }
 
-/// A hall of one, and a desk beside it: how often it went well, how many submissions were handled,
+/// A hall of two, and a desk beside it: how often it went well, how many submissions were handled,
 /// and all rows at the end.
 fn meet<J: Opening + Send + Sync + 'static, R: Threads + Wait + Abort + Copy + Send + 'static>(
     rt: R,
@@ -172,11 +225,11 @@ fn meet<J: Opening + Send + Sync + 'static, R: Threads + Wait + Abort + Copy + S
     requires name { (opened.queue ≡ J.name) × (opened.blank ≡ J.book) }
     requires none { (H : History) → J.shows H → ⊥ }
 {
-    let Ok((side, all)) = open_hall::<J, _, R>(&rt, alloc, opened, library(alloc)?, 1) else {
+    let Ok((side, all)) = open_hall::<J, _, R>(&rt, alloc, opened, library(alloc)?, 2) else {
         return Err("a hall".into());
     };
     let started = thread::spawn(&rt, move || work(&rt, alloc, all, deed)).ok();
-    // the desk would wait for a worker that has no thread for ever
+    // the desk would wait for workers that have no thread for ever
     assert!(&rt; started.is_some(), "no thread");
     let (desk, mut ended, fault) = handle_all(&rt, alloc, side);
     let met = match started {
@@ -184,7 +237,10 @@ fn meet<J: Opening + Send + Sync + 'static, R: Threads + Wait + Abort + Copy + S
         None => None,
     };
     let count = match met {
-        Some((left, count)) => take_in(&mut ended, left).then_some(count),
+        Some((one, two, count)) => {
+            let took_part = take_in(&mut ended, one) && take_in(&mut ended, two);
+            if took_part { Some(count) } else { None }
+        }
         None => None,
     };
     let handled = close(&rt, ended);
@@ -193,8 +249,8 @@ fn meet<J: Opening + Send + Sync + 'static, R: Threads + Wait + Abort + Copy + S
     Ok((count.ok_or("answers")?, handled, text))
 }
 
-/// A worker that tells a fault to some kind of request, or breaks each connection, fails here: no clause says when there is no
-/// memory.
+/// A worker that tells a fault to some kind of request, or breaks each connection, fails here: no
+/// clause says when there is no memory.
 #[test]
 fn answers_each_kind_of_request(rt: HostRuntime) -> Result<(), Fail> {
     let alloc = rt.alloc();
@@ -203,6 +259,19 @@ fn answers_each_kind_of_request(rt: HostRuntime) -> Result<(), Fail> {
         count == ANSWERED.len() && handled == 5,
         "{count} {handled}"
     );
+    Ok(())
+}
+
+/// A hold by the one worker is on its patron's page at both, another's page is as before, and a cut
+/// head at the other worker changes nothing: the rows are those with that hold.
+#[test]
+fn two_workers_show_one_hold(rt: HostRuntime) -> Result<(), Fail> {
+    let alloc = rt.alloc();
+    let met = meet::<Brand, _>(rt, alloc, open_queue(alloc)?, Deed::Shares)?;
+    let (count, handled, text) = met;
+    assert!(&rt; count == 7 && handled == 1, "{count} {handled}");
+    let wanted = rows_of_run(&rt, alloc, &[2], HOLDS)?;
+    assert!(&rt; text.as_str() == wanted.as_str());
     Ok(())
 }
 

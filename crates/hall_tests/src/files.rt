@@ -1,5 +1,5 @@
-//! Halls over a library in two files, which are opened again afterwards: nothing stops them, or a fuse in one of the files blows
-//! at each call in turn.
+//! Halls over a library in two files, which are opened again afterwards: nothing stops them, or a
+//! fuse in one of the files blows at each call in turn.
 
 use crate::calls::connection;
 use crate::reopened::{Faults, Tried, run_over};
@@ -22,7 +22,8 @@ const LINES: [&str; 2] = [
     "desk k2 renew 1 -> loan 1 due 2026-03-16",
 ];
 
-/// The rows of the small library before the two requests and after each of them, over memory and with no hall.
+/// The rows of the small library before the two requests and after each of them, over memory and
+/// with no hall.
 fn pictures(alloc: Global) -> Result<[String; 3], Fail> {
     let mut conn = connection(ground(alloc)?);
     let ground = rows(alloc, &mut conn)?;
@@ -45,8 +46,8 @@ fn run_in<D: Disk + Drop, R: Threads + Wait + Abort + Copy + Send + 'static>(
     run_over(rt, alloc, desk, None)
 }
 
-/// How many of the two requests were answered: once the files have stopped there is a fault for each, 92 for those after the first,
-/// and what the board shows is a page still.
+/// How many of the two requests were answered: once the files have stopped there is a fault for
+/// each, 92 for those after the first, and what the board shows is a page still.
 fn answered(rt: &impl Abort, faults: Option<Faults>) -> Result<usize, Fail> {
     let (lending, renewing, page) = faults.ok_or("an answer")?;
     assert!(rt; page == None, "{page:?}");
@@ -57,8 +58,8 @@ fn answered(rt: &impl Abort, faults: Option<Faults>) -> Result<usize, Fail> {
     Ok(0)
 }
 
-/// The rows in the files are those of what was answered, or of that and the request in work; and a hall over them that nothing
-/// stops answers both requests, each of which is done once.
+/// The rows in the files are those of what was answered, or of that and the request in work; and a
+/// hall over them that nothing stops answers both requests, each of which is done once.
 fn goes_on<R: Threads + Wait + Abort + Copy + Send + 'static>(
     rt: R,
     alloc: Global,
@@ -95,15 +96,28 @@ fn fault_after(count: usize) -> Option<ServiceFault> {
     }
 }
 
-/// One stop, after which the files may have lost what was not synced: how many requests were answered. A hall whose pages can't be read
-/// for it isn't opened.
+/// The files after a stop, and whether something was lost that was not synced.
+fn kept(
+    alloc: Global,
+    files: Files<Fuse<Memory>>,
+    loses: bool,
+) -> Result<(Files<Memory>, bool), Fail> {
+    let log = files.log.inner().bytes().len();
+    let db = files.db.inner().bytes().len();
+    let files = left(alloc, files, (loses, loses))?;
+    let is_lost = files.log.bytes().len() != log || files.db.bytes().len() != db;
+    Ok((files, is_lost))
+}
+
+/// One stop, after which the files may have lost what was not synced: how many requests were
+/// answered, and whether something was lost. A hall whose pages can't be read for it isn't opened.
 fn stopped<R: Threads + Wait + Abort + Copy + Send + 'static>(
     rt: R,
     alloc: Global,
     files: Files<Fuse<Memory>>,
     loses: bool,
     pictures: &[String; 3],
-) -> Result<usize, Fail> {
+) -> Result<(usize, bool), Fail> {
     let (count, desk) = match run_in(rt, alloc, files)? {
         Ok((faults, desk, fault)) => {
             let count = answered(&rt, faults)?;
@@ -115,31 +129,34 @@ fn stopped<R: Threads + Wait + Abort + Copy + Send + 'static>(
             (0, desk)
         }
     };
-    let files = left(alloc, into_files(store_of(desk)), (loses, loses))?;
+    let (files, is_lost) = kept(alloc, into_files(store_of(desk)), loses)?;
     goes_on(rt, alloc, files, count, pictures)?;
-    Ok(count)
+    Ok((count, is_lost))
 }
 
-/// The fuse blows at each call of the hall in turn, until all is answered: how many stops left each number of requests
-/// answered.
+/// The fuse blows at each call of the hall in turn, until all is answered: how many stops left each
+/// number of requests answered, and after how many something was lost.
 fn stops_in<R: Threads + Wait + Abort + Copy + Send + 'static>(
     rt: R,
     alloc: Global,
     base: &Files<Memory>,
     is_log: bool,
     pictures: &[String; 3],
-) -> Result<[u64; 3], Fail> {
+) -> Result<([u64; 3], u64), Fail> {
     let mut counts = [0u64; 3];
+    let mut losses = 0u64;
     let open = calls_of_open(alloc, base, is_log)?;
     for at in 1..2_000u64 {
         let fuse = (is_log, open.saturating_add(at));
         for loses in [false, true] {
-            let count = stopped(rt, alloc, fused(alloc, base, fuse)?, loses, pictures)?;
+            let files = fused(alloc, base, fuse)?;
+            let (count, is_lost) = stopped(rt, alloc, files, loses, pictures)?;
+            losses = losses.saturating_add(u64::from(is_lost));
             let place = counts.get_mut(count).ok_or("a count")?;
             *place = place.wrapping_add(1);
         }
         if counts[2] == 2 {
-            return Ok(counts);
+            return Ok((counts, losses));
         }
     }
     Err("the hall was always stopped".into())
@@ -169,12 +186,13 @@ fn a_stopped_hall_leaves_what_it_answered(rt: HostRuntime) -> Result<(), Fail> {
     let alloc = rt.alloc();
     let base = filled(alloc)?;
     let pictures = pictures(alloc)?;
-    let mut between = 0u64;
+    let (mut between, mut lost) = (0u64, 0u64);
     for is_log in [true, false] {
-        let counts = stops_in(rt, alloc, &base, is_log, &pictures)?;
+        let (counts, losses) = stops_in(rt, alloc, &base, is_log, &pictures)?;
         assert!(&rt; counts[0] > 0, "{is_log} {counts:?}");
         between = between.wrapping_add(counts[1]);
+        lost = lost.wrapping_add(losses);
     }
-    assert!(&rt; between > 0);
+    assert!(&rt; between > 0 && lost > 0, "{between} {lost}");
     Ok(())
 }

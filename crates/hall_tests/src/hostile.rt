@@ -45,8 +45,8 @@ const HOSTILE: [&str; 15] = [
 /// How many bytes before its end a request with too much in it may be known to be malformed.
 const SOONER: usize = 6;
 
-/// Whether a request gets no answer where the read after some of its bytes fails, or this one where they
-/// are too many already; and this answer where no read fails.
+/// Whether a request gets no answer where the read after some of its bytes fails, or this one where
+/// they are too many already; and this answer where no read fails.
 fn is_broken_anywhere<J: Opening, R: Wait>(
     rt: &R,
     alloc: Global,
@@ -87,8 +87,8 @@ fn is_cut_anywhere<J: Opening, R: Wait>(
     Some(true)
 }
 
-/// Whether a request gets its answer, or none where reads fail, at each byte, and writes; and Ann's page
-/// is shown as ever after it.
+/// Whether a request gets its answer, or none where reads fail, at each byte, and writes; and Ann's
+/// page is shown as ever after it.
 fn withstands<J: Opening, R: Wait>(
     rt: &R,
     alloc: Global,

@@ -1,5 +1,5 @@
-//! Tests of the hall in threads, in a crate of their own, so that the crates below are proved once: workers and a desk over
-//! the queue, and what the tables show afterwards.
+//! Tests of the hall in threads, in a crate of their own, so that the crates below are proved once:
+//! workers and a desk over the queue, and what the tables show afterwards.
 #![tactic(auto)]
 
 #[cfg(test)]

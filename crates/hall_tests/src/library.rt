@@ -8,8 +8,8 @@ use std::test::Fail;
 use terms::Request;
 use test_library::{in_memory, request, run};
 
-/// The requests that make the library: the desk, a key, words, and with a bar before it a last word that has blanks. There are eight
-/// patrons, who may have fifty holds each, and three titles.
+/// The requests that make the library: the desk, a key, words, and with a bar before it a last word
+/// that has blanks. There are eight patrons, who may have fifty holds each, and three titles.
 const GROUND: &str = "desk g1 begin-day 2026-03-02
 desk g2 branch 1 5|Main
 desk g3 week 1 ooooooc
@@ -104,7 +104,8 @@ pub fn page_bytes(alloc: Global, worker: u64) -> Option<String> {
     ).ok()
 }
 
-/// The patrons of the holds, by number: since each hold gets the next number, the order in which the requests were handled.
+/// The patrons of the holds, by number: since each hold gets the next number, the order in which
+/// the requests were handled.
 pub fn order(alloc: Global, conn: &mut Connection<MemStore>) -> Result<Vec<i64>, Fail> {
     let mut patrons = Vec::new(alloc);
     for row in &conn.query_all("SELECT patron FROM holds2 ORDER BY hold", &[])? {

@@ -1,4 +1,5 @@
-//! A hall over a new library in memory, whose tables show the empty list: each reply and each page is the one of the rules.
+//! A hall over a new library in memory, whose tables show the empty list: each reply and each page
+//! is the one of the rules.
 
 ghost use Rattle.std.specs.Prelude.{◌≡◌, []};
 ghost use Rattle.model.specs.History.{History};
@@ -35,7 +36,8 @@ const LENT: &str =
 /// How many are asked.
 const COUNT: usize = 34;
 
-/// What is asked for, one after another, each with the status and the body of its answer by the rules.
+/// What is asked for, one after another, each with the status and the body of its answer by the
+/// rules.
 const STORY: [(Asks, &str); COUNT] = [
     // nobody is enrolled
     (Asks::Page(1, 1), NOT_ALLOWED),
@@ -196,8 +198,8 @@ fn work<J: Opening, R: Wait>(
     Some((leave(rt, one), leave(rt, two), count))
 }
 
-/// A hall of two over a new library, and a desk beside it: how many answers were right, and how many
-/// submissions were handled.
+/// A hall of two over a new library, and a desk beside it: how many answers were right, and how
+/// many submissions were handled.
 fn meet<J: Opening + Send + Sync + 'static, R: Threads + Wait + Abort + Copy + Send + 'static>(
     rt: R,
     alloc: Global,

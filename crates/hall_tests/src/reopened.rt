@@ -42,7 +42,8 @@ const BOS_PAGE: Asked = (
 /// The faults that come in the place of the loan, of its renewal, and of another patron's page.
 pub type Faults = (Option<u32>, Option<u32>, Option<u32>);
 
-/// The fault that comes in the place of the answer, where any does. None where something else comes.
+/// The fault that comes in the place of the answer, where any does. None where something else
+/// comes.
 fn fault_of<J: Opening, R: Wait>(
     rt: &R,
     alloc: Global,
@@ -98,8 +99,8 @@ fn take_both<J: Opening>(ended: &mut Ended<J>, served: Served<J>) -> Option<Faul
     faults.filter(|_| took_part)
 }
 
-/// What the workers of a hall were told, its desk, and the fault that closed it; or the number for which it was not opened, and the
-/// desk.
+/// What the workers of a hall were told, its desk, and the fault that closed it; or the number for
+/// which it was not opened, and the desk.
 pub type Tried<S> = Result<(Option<Faults>, Desk<S>, Option<ServiceFault>), (u32, Desk<S>)>;
 
 /// A hall of two workers over a desk, whose database has a limit on its steps or none.

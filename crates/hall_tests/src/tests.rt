@@ -27,8 +27,8 @@ fn held(page: &str) -> usize {
     page.split("\\nhold ").count().saturating_sub(1)
 }
 
-/// Places so many holds of the patron, and looks at the page after each: how many were answered, and
-/// shown at once.
+/// Places so many holds of the patron, and looks at the page after each: how many were answered,
+/// and shown at once.
 fn place_all<J: Opening, R: Wait>(
     rt: &R,
     alloc: Global,
@@ -82,8 +82,8 @@ fn start_all<J: Opening + Send + Sync + 'static, R: Threads + Wait + Abort + Cop
     Some(threads)
 }
 
-/// Of each worker whether the desk was told that it left, and how many of its holds were answered and
-/// shown.
+/// Of each worker whether the desk was told that it left, and how many of its holds were answered
+/// and shown.
 type Told = Vec<(bool, Option<u64>)>;
 
 /// What a hall has come to.
@@ -135,8 +135,14 @@ fn meet<J: Opening + Send + Sync + 'static, R: Threads + Wait + Abort + Copy + S
     }
 }
 
-/// The rows of a library whose desk handles one list: of each worker its requests in turn, in the order that these numbers tell.
-fn rows_of_run(rt: &impl Abort, alloc: Global, order: &[i64], titles: u64) -> Result<String, Fail> {
+/// The rows of a library whose desk handles one list: of each worker its requests in turn, in the
+/// order that these numbers tell.
+pub fn rows_of_run(
+    rt: &impl Abort,
+    alloc: Global,
+    order: &[i64],
+    titles: u64,
+) -> Result<String, Fail> {
     let mut desk = library_of(alloc, titles)?;
     let mut next = [1u64; 9];
     let mut list = Vec::new(alloc);
@@ -210,8 +216,9 @@ fn eight_workers(rt: HostRuntime) -> Result<(), Fail> {
     run_hall::<Brand, _>(rt, rt.alloc(), open_queue(rt.alloc())?, 8, 50)
 }
 
-/// Where the first worker's list ends under a limit of steps: how many of its requests are shown, how
-/// many are handled, what the worker is told of the next one, and the fault that closes the hall.
+/// Where the first worker's list ends under a limit of steps: how many of its requests are shown,
+/// how many are handled, what the worker is told of the next one, and the fault that closes the
+/// hall.
 #[derive(Clone, Copy)]
 struct Cut {
     shown: usize,
@@ -259,8 +266,8 @@ fn run_limited(alloc: Global, limit: u64) -> Result<Option<Wanted>, Fail> {
     Ok(None)
 }
 
-/// What the worker's patron is answered for the hold of this title, from 1 on: the reply of those that
-/// are shown, then what is told of the next, then 92.
+/// What the worker's patron is answered for the hold of this title, from 1 on: the reply of those
+/// that are shown, then what is told of the next, then 92.
 fn is_answered(alloc: Global, cut: Cut, title: u64, text: &str) -> Option<bool> {
     let shown = cut.shown as u64;
     if title <= shown {

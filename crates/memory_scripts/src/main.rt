@@ -1,6 +1,8 @@
-//! Scripts on a small library in memory, for the toolchain's runs in which one request for memory is refused. A request that met a fault is
-//! asked again: so the program prints the same rows in each such run that it ends well, unless a fault changed something, or was told for another
-//! cause; and on standard error how many requests met a fault. Where it has no memory for its own work it ends badly.
+//! Scripts on a small library in memory, for the toolchain's runs in which one request for memory
+//! is refused. A request that met a fault is asked again: so the program prints the same rows in
+//! each such run that it ends well, unless a fault changed something, or was told for another
+//! cause; and on standard error how many requests met a fault. Where it has no memory for its own
+//! work it ends badly.
 #![tactic(auto)]
 
 use desk::Desk;
@@ -22,7 +24,8 @@ enum Told {
     Wrong,
 }
 
-/// How a script went on: its rows at the end and how many requests were refused memory, or where something was wrong.
+/// How a script went on: its rows at the end and how many requests were refused memory, or where
+/// something was wrong.
 #[derive(Drop)]
 enum Played {
     Whole(String, u32),

@@ -1,7 +1,7 @@
 //! What a line means.
 
 use crate::meanings::{meaning, saying};
-use crate::noting::Line;
+use crate::noting::ToldLine;
 use crate::usage::write_usage;
 use std::io::Write;
 use terms::{WriteFault, write_pieces};
@@ -35,11 +35,12 @@ fn text_of(line: &[u8]) -> Option<&'static str> {
     }
 }
 
-/// Says what the line means, where it tells of a refusal, a fault, or that the words were not understood: in one line, or the usage of the
-/// words. The words are those of the run after the program's name.
+/// Says what the line means, where it tells of a refusal, a fault, or that the words were not
+/// understood: in one line, or the usage of the words. The words are those of the run after the
+/// program's name.
 pub fn explain<W: Write>(
     writer: &mut W,
-    line: &Line,
+    line: &ToldLine,
     words: &[String],
     schema: u32,
 ) -> Result<(), WriteFault> {

@@ -1,5 +1,5 @@
-//! What the program says for a person on standard error, beside the lines that scripts read: what a refusal or a fault means, and
-//! how words are written.
+//! What the program says for a person on standard error, beside the lines that scripts read: what a
+//! refusal or a fault means, and how words are written.
 #![tactic(auto)]
 
 mod explaining;
@@ -9,5 +9,5 @@ mod usage;
 
 pub use explaining::explain;
 pub use meanings::meaning;
-pub use noting::{Line, Noting};
+pub use noting::{Noting, ToldLine};
 pub use usage::{VERSION, write_usage};

@@ -158,7 +158,8 @@ const MEANINGS: [Entry; 40] = [
     },
     Entry {
         number: 91,
-        text: "the database refused a call: another process has the file, it can't be written, or the disk is full",
+        text: "the database refused a call: another process has the file, it can't be written, or \
+               the disk is full",
     },
     Entry {
         number: 92,
@@ -166,7 +167,8 @@ const MEANINGS: [Entry; 40] = [
     },
     Entry {
         number: 93,
-        text: "no library: the file is absent, empty, of another kind or schema, or has a damaged row",
+        text: "no library: the file is absent, empty, of another kind or schema, or has a damaged \
+               row",
     },
 ];
 
@@ -192,7 +194,8 @@ const SAYINGS: [Phrase; 6] = [
     },
     Phrase {
         line: "unsound claims ",
-        text: "two claims or more are made on the copy of this number, which can be in one place alone",
+        text: "two claims or more are made on the copy of this number, which can be in one place \
+               alone",
     },
     Phrase {
         line: "unsound binding ",

@@ -7,14 +7,14 @@ const KEPT: usize = 40;
 
 /// The beginning of a line.
 #[derive(Clone, Copy)]
-pub struct Line {
+pub struct ToldLine {
     bytes: [u8; KEPT],
     length: usize,
 }
 
-impl Line {
-    fn new() -> Line {
-        Line {
+impl ToldLine {
+    fn new() -> ToldLine {
+        ToldLine {
             bytes: [0; KEPT],
             length: 0,
         }
@@ -46,12 +46,13 @@ impl Line {
     }
 }
 
-/// A writer that keeps the last line that tells of a refusal or a fault, or that words were not understood.
+/// A writer that keeps the last line that tells of a refusal or a fault, or that words were not
+/// understood.
 #[derive(Drop)]
 pub struct Noting<W> {
     writer: W,
-    line: Line,
-    told: Line,
+    line: ToldLine,
+    told: ToldLine,
 }
 
 impl<W> Noting<W> {
@@ -59,13 +60,13 @@ impl<W> Noting<W> {
     pub fn new(writer: W) -> Noting<W> {
         Noting {
             writer,
-            line: Line::new(),
-            told: Line::new(),
+            line: ToldLine::new(),
+            told: ToldLine::new(),
         }
     }
 
     /// The line that is kept; an empty one where there is none.
-    pub fn told(&self) -> Line {
+    pub fn told(&self) -> ToldLine {
         self.told
     }
 
@@ -75,7 +76,7 @@ impl<W> Noting<W> {
                 if self.line.tells() {
                     self.told = self.line;
                 }
-                self.line = Line::new();
+                self.line = ToldLine::new();
             } else {
                 self.line.push(*byte);
             }

@@ -44,7 +44,8 @@ fn write_all<W: Write>(writer: &mut W) -> Result<(), WriteFault> {
     Ok(())
 }
 
-/// The run that handles the desk's words, as far as these, and where they begin among the words of a run.
+/// The run that handles the desk's words, as far as these, and where they begin among the words of
+/// a run.
 fn handler(words: &[String]) -> (&'static str, usize) {
     match words.first() {
         Some(word) if word.as_str() == "send" => ("usage: circ send PORT DESKKEY KEY ", 4),
@@ -52,7 +53,8 @@ fn handler(words: &[String]) -> (&'static str, usize) {
     }
 }
 
-/// Says how the command that is meant is written, or else all runs and commands, the version and the schema of its libraries.
+/// Says how the command that is meant is written, or else all runs and commands, the version and
+/// the schema of its libraries.
 pub fn write_usage<W: Write>(
     writer: &mut W,
     words: &[String],

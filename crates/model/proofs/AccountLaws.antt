@@ -6,16 +6,18 @@ use Rattle.std.proofs.lemmas.Bool.{eqb-true}
 use Rattle.std.proofs.lemmas.List.Elements.{filter-append}
 use Rattle.terms.specs.declared.command.Owner.{Owner}
 use Rattle.terms.specs.declared.row.Sort.{Sort}
-use Rattle.terms.specs.declared.row.Sort.TheVariants.{Fine, Price, Payment, Waiver}
+use Rattle.terms.specs.declared.row.Sort.TheVariants.{Fine, Price}
 use Rattle.terms.specs.declared.command.Command.{Command}
-use Rattle.terms.specs.declared.command.Command.TheVariants.{Patron, CheckOut, CheckIn, Missing, Pay, Waive}
+use Rattle.terms.specs.declared.command.Command.TheVariants.{Patron, CheckOut}
 use Rattle.model.specs.History.{History, today, patron_of, patron_after, next_loan}
 use Rattle.model.specs.Places.{Place, Loan, place}
 use Rattle.model.specs.Loans.{LoanFacts, loan_of, loan_after, ended, grace_of, terms_for, no_terms}
-use Rattle.model.specs.Accounts.{Line, line_of, lines, lines_after, fine_line, price_line, fine_now, price_of, borrower, account}
+use Rattle.model.specs.Accounts.{Line, Posting, Returned, Lost, Settled, NoPosting, posting, line_of, lines, lines_after, fine_line}
+use Rattle.model.specs.Accounts.{price_line, fine_now, price_of, borrower, account}
 use Rattle.model.specs.Refusals.{checks, refusal, has_patron}
 use Rattle.model.specs.Requests.{IsLegal}
 use Rattle.model.proofs.Passing.{passed}
+use Rattle.model.proofs.Postings.{settling}
 use Rattle.model.proofs.LoanLaws.{LoanLaws, legal-LoanLaws}
 
 pub record AccountLaws (H : History) : Type 0 where
@@ -36,13 +38,16 @@ module _ (H : History) (inv : AccountLaws H) (loans_ok : LoanLaws H) (o : Owner)
   enrolled (Patron n k card_key name) p e = none-or (patron_of H p) _ e
   enrolled _ p e = e
 
-  borrowers-step : (x : Command) → refusal H o x ≡ None → (l : ℕ) (r : LoanFacts) → loan_after H x l (loan_of H l) ≡ Some r → patron_after x r.patron (patron_of H r.patron) ≡ None → ⊥
+  borrowers-step : (x : Command) → refusal H o x ≡ None → (l : ℕ) (r : LoanFacts) → loan_after H x l (loan_of H l) ≡ Some r
+      → patron_after x r.patron (patron_of H r.patron) ≡ None → ⊥
   borrowers-step (CheckOut p n b) ok l r e none = go (next_loan H == l) e
     where
       k : not (has_patron H p) ≡ false
       k = (passed (checks H o (CheckOut p n b)) ok).1.0
 
-      go : (x : Bool) → cond x (Some (record { copy = n; patron = p; branch = b; made = today H; terms = unwrap_or (terms_for H p n) no_terms })) (loan_of H l) ≡ Some r → ⊥
+      go : (x : Bool) → cond x (Some
+          (record { copy = n; patron = p; branch = b; made = today H; terms = unwrap_or (terms_for H p n) no_terms }))
+          (loan_of H l) ≡ Some r → ⊥
       go true f =
           let same : ◌≡◌ {A = LoanFacts} (record { copy = n; patron = p; branch = b; made = today H; terms = unwrap_or (terms_for H p n) no_terms }) r = cc in
           some-not (patron_of H p) k (ap (λ m. patron_of H m) (ap (λ y. y.patron) same) ∙ none)
@@ -79,16 +84,22 @@ module _ (H : History) (inv : AccountLaws H) (loans_ok : LoanLaws H) (o : Owner)
   paid-other : (q p : ℕ) → not (has_patron H q) ≡ false → patron_of H p ≡ None → q ≡ p → ⊥
   paid-other q p has none same = some-not (patron_of H q) has (ap (λ m. patron_of H m) same ∙ none)
 
-  strangers-step : (x : Command) → refusal H o x ≡ None → (p : ℕ) → patron_after x p (patron_of H p) ≡ None → filter (λ y. y.patron == p) (lines_after H x (lines H)) ≡ []
-  strangers-step (CheckIn c b) ok p none = grown p (fine_line H (grace_of H) (place H c)) none (fine-other c p (place H c) refl none)
-  strangers-step (Missing c) ok p none =
+  -- A patron who isn't enrolled has no line after a posting either.
+  strangers-then : (x : Command) (made : Posting) → posting x ≡ made → refusal H o x ≡ None → (p : ℕ) → patron_of H p ≡ None
+      → filter (λ y. y.patron == p) (lines_after H made (lines H)) ≡ []
+  strangers-then x (Returned c) e ok p none = grown p (fine_line H (grace_of H) (place H c)) none (fine-other c p (place H c) refl none)
+  strangers-then x (Lost c) e ok p none =
       grown p (fine_line H (grace_of H) (place H c) ++ price_line H c (place H c)) none
       (filter-append (λ x. x.patron == p) (fine_line H (grace_of H) (place H c)) (price_line H c (place H c))
-      ∙ ap (λ xs. xs ++ filter (λ x. x.patron == p) (price_line H c (place H c))) (fine-other c p (place H c) refl none) ∙ price-other c p (place H c) refl none)
-  strangers-step (Pay q n) ok p none = grown p (line_of H q Payment None n) none (line-other q p Payment None n (paid-other q p (passed (checks H o (Pay q n)) ok).0 none))
-  strangers-step (Waive q n) ok p none = grown p (line_of H q Waiver None n) none (line-other q p Waiver None n (paid-other q p (passed (checks H o (Waive q n)) ok).0 none))
-  strangers-step (Patron n k card_key name) ok p none = inv.strangers p (enrolled (Patron n k card_key name) p none)
-  strangers-step _ ok p none = inv.strangers p none
+      ∙ ap (λ xs. xs ++ filter (λ x. x.patron == p) (price_line H c (place H c))) (fine-other c p (place H c) refl none)
+      ∙ price-other c p (place H c) refl none)
+  strangers-then x (Settled q sort n) e ok p none =
+      grown p (line_of H q sort None n) none (line-other q p sort None n (paid-other q p (settling H o x q n sort ok e).patron none))
+  strangers-then x NoPosting e ok p none = inv.strangers p none
+
+  strangers-step : (x : Command) → refusal H o x ≡ None → (p : ℕ) → patron_after x p (patron_of H p) ≡ None
+      → filter (λ y. y.patron == p) (lines_after H (posting x) (lines H)) ≡ []
+  strangers-step x ok p none = strangers-then x (posting x) refl ok p (enrolled x p none)
 
 pub legal-AccountLaws : (H : History) → IsLegal H → AccountLaws H
 legal-AccountLaws [] legal = record { borrowers = λ l r e. let never : ⊥ = cc in absurd never; strangers = λ p e. refl }

@@ -1,21 +1,21 @@
 -- For every patron of a legal history charges are payments and waivers and what is owed.
-use Rattle.std.proofs.Common.{◌≡◌, ℕ, zero, suc, ◌+◌, ◌≤◌, ◌==◌, Bool, true, false, cond, ◌||◌, List, [], ◌∷◌, ◌++◌, refl, sym, append-nil, arith}
+use Rattle.std.proofs.Common.{◌≡◌, ℕ, zero, suc, ◌+◌, ◌≤◌, ◌==◌, Bool, true, false, cond, ◌||◌, List, [], ◌∷◌, refl, arith}
 use Rattle.std.specs.Prelude.{Option, None, filter, nat_lt}
 use Rattle.std.proofs.lemmas.List.Elements.{filter-append}
 use Rattle.std.proofs.lemmas.List.Sums.{sum_by-append}
 use Rattle.std.proofs.lemmas.Bool.{ltb-false, eqb-true, or_parts}
 use Rattle.terms.specs.declared.command.Owner.{Owner}
 use Rattle.terms.specs.declared.row.Sort.{Sort}
-use Rattle.terms.specs.declared.row.Sort.TheVariants.{Fine, Price, Payment, Waiver}
+use Rattle.terms.specs.declared.row.Sort.TheVariants.{Fine, Price}
 use Rattle.terms.specs.declared.command.Command.{Command}
-use Rattle.terms.specs.declared.command.Command.TheVariants.{CheckIn, Missing, Pay, Waive}
 use Rattle.model.specs.History.{History}
 use Rattle.model.specs.Places.{Place, Loan, place}
 use Rattle.model.specs.Loans.{grace_of}
-use Rattle.model.specs.Accounts.{Line, line_of, lines, lines_by, lines_after, fine_line, price_line, account, charge, credit, charges, credits, owed}
-use Rattle.model.specs.Refusals.{refusal, checks}
+use Rattle.model.specs.Accounts.{Line, Posting, Returned, Lost, Settled, NoPosting, posting, line_of, lines, lines_posted, fine_line}
+use Rattle.model.specs.Accounts.{price_line, account, charge, credit, charges, credits, owed}
+use Rattle.model.specs.Refusals.{refusal}
 use Rattle.model.specs.Requests.{IsLegal}
-use Rattle.model.proofs.Passing.{passed}
+use Rattle.model.proofs.Postings.{settlement, settling, lines-event}
 
 -- The lines among these that are the patron's.
 abbrev pub of_patron : ℕ → List Line → List Line
@@ -71,36 +71,36 @@ line_covers H p q (suc n) s c le covers = own_covers H p q (suc n) s (q == p) re
 amount_le : (H : History) (p n : ℕ) → ((n == 0) || nat_lt (owed H p) n) ≡ false → n ≤ owed H p
 amount_le H p n e = ltb-false _ _ (or_parts _ _ e).1
 
-new_covers : (H : History) (o : Owner) (c : Command) (p : ℕ) → refusal H o c ≡ None → Covers (account H p)
-    → credits (account H p) + credits (of_patron p (lines_by H c)) ≤ charges (account H p) + charges (of_patron p (lines_by H c))
-new_covers H o (CheckIn c b) p ok covers = omega (arith, covers, fine_line_credit H p (place H c))
-new_covers H o (Missing c) p ok covers =
-    rw (filter-append (λ x. x.patron == p) (fine_line H (grace_of H) (place H c)) (price_line H c (place H c)), sum_by-append (λ x. credit x.sort x.amount) (of_patron p (fine_line H (grace_of H) (place H c))) (of_patron p (price_line H c (place H c))))
-    (omega (arith, covers, fine_line_credit H p (place H c), price_line_credit H c p (place H c)))
-new_covers H o (Pay q n) p ok covers = line_covers H p q n Payment (λ k. refl) (amount_le H q n (passed (checks H o (Pay q n)) ok).1.0) covers
-new_covers H o (Waive q n) p ok covers = line_covers H p q n Waiver (λ k. refl) (amount_le H q n (passed (checks H o (Waive q n)) ok).1.0) covers
-new_covers H o _ p ok covers = omega (arith, covers)
+abbrev new_lines : History → Posting → ℕ → List Line
+new_lines H made p = of_patron p (lines_posted H (place H) (grace_of H) made)
 
--- The account grows by the patron's new lines.
-pub lines-event : (H : History) (c : Command) → lines_after H c (lines H) ≡ lines H ++ lines_by H c
-lines-event H (CheckIn c b) = refl
-lines-event H (Missing c) = refl
-lines-event H (Pay p n) = refl
-lines-event H (Waive p n) = refl
-lines-event H _ = sym (append-nil _)
+new_covers : (H : History) (o : Owner) (x : Command) (made : Posting) → posting x ≡ made → (p : ℕ) → refusal H o x ≡ None → Covers (account H p)
+    → credits (account H p) + credits (new_lines H made p) ≤ charges (account H p) + charges (new_lines H made p)
+new_covers H o x (Returned c) e p ok covers = omega (arith, covers, fine_line_credit H p (place H c))
+new_covers H o x (Lost c) e p ok covers =
+    rw (
+      filter-append (λ x. x.patron == p) (fine_line H (grace_of H) (place H c)) (price_line H c (place H c)),
+      sum_by-append (λ x. credit x.sort x.amount) (of_patron p (fine_line H (grace_of H) (place H c)))
+          (of_patron p (price_line H c (place H c))),
+    )
+    (omega (arith, covers, fine_line_credit H p (place H c), price_line_credit H c p (place H c)))
+new_covers H o x (Settled q sort n) e p ok covers =
+    line_covers H p q n sort (settlement x q n sort e).credits (amount_le H q n (settling H o x q n sort ok e).amount) covers
+new_covers H o x NoPosting e p ok covers = omega (arith, covers)
 
 -- ---- every legal history
 
 pub account_covers : (H : History) (p : ℕ) → IsLegal H → Covers (account H p)
 account_covers [] p legal = omega arith
 account_covers (e ∷ H) p legal =
+    let made = posting e.command in
     rw (
-      lines-event H e.command,
-      filter-append (λ x. x.patron == p) (lines H) (lines_by H e.command),
-      sum_by-append (λ x. credit x.sort x.amount) (account H p) (of_patron p (lines_by H e.command)),
-      sum_by-append (λ x. charge x.sort x.amount) (account H p) (of_patron p (lines_by H e.command)),
+      lines-event H made,
+      filter-append (λ x. x.patron == p) (lines H) (lines_posted H (place H) (grace_of H) made),
+      sum_by-append (λ x. credit x.sort x.amount) (account H p) (new_lines H made p),
+      sum_by-append (λ x. charge x.sort x.amount) (account H p) (new_lines H made p),
     )
-    (new_covers H e.owner e.command p legal.0.unrefused (account_covers H p legal.1))
+    (new_covers H e.owner e.command made refl p legal.0.unrefused (account_covers H p legal.1))
 
 -- Charges are payments and waivers plus what is owed.
 pub balance : (H : History) (p : ℕ) → IsLegal H → charges (account H p) ≡ credits (account H p) + owed H p

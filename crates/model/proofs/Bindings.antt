@@ -9,8 +9,12 @@ use Rattle.terms.specs.declared.row.HoldState.{HoldState}
 use Rattle.terms.specs.declared.row.HoldState.TheVariants.{Waiting, Ready, Filled, Cancelled, Expired}
 use Rattle.terms.specs.declared.command.Command.{Command}
 use Rattle.terms.specs.declared.command.Command.TheVariants.{Acquire, CheckOut, CheckIn, CancelHold, Unshelve, UnshelveCancelled, Missing, Withdraw}
-use Rattle.model.specs.History.{Event, History, copy_of, CopyFacts, copies, copies_after, copy_after, holds, holds_after, next_hold, HoldFacts, hold_made, hold_of, hold_after, numbers_to}
-use Rattle.model.specs.Places.{Place, Nowhere, Shelf, HoldShelf, Transit, Loan, MissingCopy, WithdrawnCopy, place, state, place_after, state_made, line, route, route_from, route_to, state_at, is_kept_for, is_bound_for, is_waiting, is_ready, is_begun, is_coming_by, title_of_hold, title_of_copy, goal_of, home_of, fills_from, fills_by, fills_first, kept_for_by, place_let_go, place_unshelved, state_unshelved}
+use Rattle.model.specs.History.{Event, History, copy_of, CopyFacts, copies, copies_after, copy_after, holds, holds_after, next_hold}
+use Rattle.model.specs.History.{HoldFacts, hold_made, hold_of, hold_after, numbers_to}
+use Rattle.model.specs.Places.{Place, Nowhere, Shelf, HoldShelf, Transit, Loan, MissingCopy, WithdrawnCopy, place, state, place_after}
+use Rattle.model.specs.Places.{state_made, line, route, route_from, route_to, state_at, is_kept_for, is_bound_for, is_waiting, is_ready}
+use Rattle.model.specs.Places.{is_begun, is_coming_by, title_of_hold, title_of_copy, goal_of, home_of, fills_from, fills_by, fills_first}
+use Rattle.model.specs.Places.{kept_for_by, place_let_go, place_unshelved, state_unshelved}
 use Rattle.model.specs.Refusals.{refusal, checks, is_on_hold_shelf}
 use Rattle.model.proofs.Passing.{passed}
 use Rattle.model.proofs.MadeHolds.{moves-nothing}
@@ -46,7 +50,8 @@ pub record IsBound (H : History) : Type 0 where
   pub nowhere : (c : ℕ) → is_none (copy_of H c) ≡ true → place H c ≡ Nowhere
   pub unplaced : (h : ℕ) → hold_of H h ≡ None → state H h ≡ None
 
-unheld_at : (H : History) (made : Option HoldFacts) (h : ℕ) → (holds H < h → hold_of H h ≡ None) → holds_after made (holds H) < h → hold_after H made h (hold_of H h) ≡ None
+unheld_at : (H : History) (made : Option HoldFacts) (h : ℕ) → (holds H < h → hold_of H h ≡ None) → holds_after made (holds H) < h
+    → hold_after H made h (hold_of H h) ≡ None
 unheld_at H (Some made) h rest late = go (next_hold H == h) refl
   where
     go : (x : Bool) → (next_hold H == h) ≡ x → cond x (Some made) (hold_of H h) ≡ None
@@ -85,9 +90,11 @@ not-true true e = let never : ⊥ = cc in absurd never
 not-true false e = refl
 
 -- The first in line waits, and no copy is coming for it.
-pub line-head : (H : History) (t h : ℕ) (hs : List ℕ) → line H t ≡ h ∷ hs → (state H h ≡ Some Waiting) × (is_coming_by H (place H) (state H) (is_begun H) h ≡ false)
+pub line-head : (H : History) (t h : ℕ) (hs : List ℕ) → line H t ≡ h ∷ hs → (state H h ≡ Some Waiting)
+    × (is_coming_by H (place H) (state H) (is_begun H) h ≡ false)
 line-head H t h hs e =
-    let passes : (title_of_hold H h == t ≡ true) × ((is_waiting (state H h) && (not (is_coming_by H (place H) (state H) (is_begun H) h) && is_begun H h)) ≡ true) =
+    let passes : (title_of_hold H h == t ≡ true)
+    × ((is_waiting (state H h) && (not (is_coming_by H (place H) (state H) (is_begun H) h) && is_begun H h)) ≡ true) =
     both _ _ (filter-head _ (numbers_to (holds H)) h hs e) in
     let parts : (is_waiting (state H h) ≡ true) × ((not (is_coming_by H (place H) (state H) (is_begun H) h) && is_begun H h) ≡ true) = and_parts _ _ passes.1 in
     (waiting-is _ parts.0, not-true _ (and_parts (not (is_coming_by H (place H) (state H) (is_begun H) h)) (is_begun H h) parts.1).0)
@@ -101,7 +108,8 @@ there H d p at somewhere inv = go (is_none (copy_of H d)) refl
     go false e = refl
 
 -- No copy serves a hold that waits and isn't coming.
-unserved_at : (H : History) (d h : ℕ) (p : Place) → place H d ≡ p → IsBound H → state H h ≡ Some Waiting → is_coming_by H (place H) (state H) (is_begun H) h ≡ false
+unserved_at : (H : History) (d h : ℕ) (p : Place) → place H d ≡ p → IsBound H → state H h ≡ Some Waiting
+    → is_coming_by H (place H) (state H) (is_begun H) h ≡ false
     → Serves p h → Fits (goal_of H) p h (state H h) → ⊥
 unserved_at H d h (HoldShelf g) at inv waits coming serves fits = let no_more : Some Ready ≡ Some Waiting = sym fits ∙ waits in cc
 unserved_at H d h (Transit b (Some g)) at inv waits coming serves fits =
@@ -110,7 +118,8 @@ unserved_at H d h (Transit b (Some g)) at inv waits coming serves fits =
     false-ne g h other serves
 unserved_at H d h _ at inv waits coming serves fits = serves
 
-pub unserved : (H : History) (h d : ℕ) → IsBound H → state H h ≡ Some Waiting → is_coming_by H (place H) (state H) (is_begun H) h ≡ false → Serves (place H d) h → ⊥
+pub unserved : (H : History) (h d : ℕ) → IsBound H → state H h ≡ Some Waiting → is_coming_by H (place H) (state H) (is_begun H) h ≡ false
+    → Serves (place H d) h → ⊥
 unserved H h d inv waits coming serves = unserved_at H d h (place H d) refl inv waits coming serves (inv.bound.fits d h serves)
 
 -- ---- where routing sends a copy
@@ -205,7 +214,8 @@ module _ (H : History) (n : ℕ) (q : Place) (inv : IsBound H) (goes : GoesTo H 
   -- A copy that goes where routing sends it keeps the bindings.
   arrive-bound : Bound (goal_of H) (moved n q (place H)) (λ h. state_at H (place H) (state H) (is_begun H) q h)
   arrive-bound = move-bound (goal_of H) (place H) (state H) _ inv.bound n q (arrive-others H n q goes)
-      (λ h serves. let g : ((d : ℕ) → n ≢ d → Serves (place H d) h → ⊥) × (state H h ≡ Some Waiting) × ToGoal H q h = goes h serves in (arrive-fits H n q goes q h serves g.1 g.2, g.0))
+      (λ h serves. let g : ((d : ℕ) → n ≢ d → Serves (place H d) h → ⊥) × (state H h ≡ Some Waiting)
+      × ToGoal H q h = goes h serves in (arrive-fits H n q goes q h serves g.1 g.2, g.0))
       arrive-ready
 
 -- ---- commands
@@ -266,14 +276,16 @@ missing-bound H o k n inv = leave-bound H n MissingCopy Waiting (λ h. is_kept_f
 
 -- ---- check-out
 
-fills_first_alone : (H : History) (t p d h : ℕ) (hs : List ℕ) → line H t ≡ hs → IsBound H → fills_first H (place H) (state H) (is_begun H) p hs h ≡ true → Serves (place H d) h → ⊥
+fills_first_alone : (H : History) (t p d h : ℕ) (hs : List ℕ) → line H t ≡ hs → IsBound H
+    → fills_first H (place H) (state H) (is_begun H) p hs h ≡ true → Serves (place H d) h → ⊥
 fills_first_alone H t p d h [] at inv e s = let never : ⊥ = cc in never
 fills_first_alone H t p d h (g ∷ gs) at inv e s =
     let head : (state H g ≡ Some Waiting) × (is_coming_by H (place H) (state H) (is_begun H) g ≡ false) = line-head H t g gs at in
     let same : g ≡ h = eqb-true g h (and_parts _ _ e).0 in
     unserved H g d inv head.0 head.1 (rw same s)
 
-fills_alone : (H : History) (n d p h : ℕ) (at : Place) → place H n ≡ at → IsBound H → fills_from H (place H) (state H) (is_begun H) p n at h ≡ true → n ≢ d → Serves (place H d) h → ⊥
+fills_alone : (H : History) (n d p h : ℕ) (at : Place) → place H n ≡ at → IsBound H
+    → fills_from H (place H) (state H) (is_begun H) p n at h ≡ true → n ≢ d → Serves (place H d) h → ⊥
 fills_alone H n d p h (HoldShelf g) at inv e ne s = ne (inv.bound.once n d h (rw at (eqb-true g h e)) s)
 fills_alone H n d p h (Shelf b) at inv e ne s = fills_first_alone H (title_of_copy H n) p d h (line H (title_of_copy H n)) refl inv e s
 fills_alone H n d p h _ at inv e ne s = let never : ⊥ = cc in never
@@ -289,10 +301,12 @@ withdraw-bound H o k n inv ok = leave-bound H n WithdrawnCopy Waiting (λ h. fal
     (λ d h e ne s. let never : ⊥ = cc in never)
     (λ h at. absurd (off_shelf H n (passed (checks H o (Withdraw n)) ok).1.1.1.1.0 h at))
 
-acquire-bound : (H : History) (o : Owner) (k : List ℕ) (n t kind home price : ℕ) (text : List ℕ) → IsBound H → BoundAfter H o k (Acquire n t kind home price text)
+acquire-bound : (H : History) (o : Owner) (k : List ℕ) (n t kind home price : ℕ) (text : List ℕ) → IsBound H
+    → BoundAfter H o k (Acquire n t kind home price text)
 acquire-bound H o k n t kind home price text inv = go (is_none (copy_of H n)) refl
   where
-    go : (b : Bool) → is_none (copy_of H n) ≡ b → Bound (goal_of H) (λ c. elim b as (λ _. Place) [ true ↦ moved n (Shelf home) (place H) c | false ↦ place H c ]) (state H)
+    go : (b : Bool) → is_none (copy_of H n) ≡ b
+        → Bound (goal_of H) (λ c. elim b as (λ _. Place) [ true ↦ moved n (Shelf home) (place H) c | false ↦ place H c ]) (state H)
     go true e = leave-bound H n (Shelf home) Waiting (λ h. false) inv (λ h s. s) (λ e. cc) (λ d h e ne s. let never : ⊥ = cc in never)
         (λ h at. let off : Nowhere ≡ HoldShelf h = sym (inv.nowhere n e) ∙ at in let never : ⊥ = cc in absurd never)
     go false e = inv.bound
@@ -301,7 +315,8 @@ acquire-bound H o k n t kind home price text inv = go (is_none (copy_of H n)) re
 
 -- A hold that a copy serves was placed.
 served_old : (H : History) (c h : ℕ) → IsBound H → Serves (place H c) h → (next_hold H == h) ≡ false
-served_old H c h inv serves = ne-eqb (next_hold H) h (λ same. go (place H c) serves (inv.bound.fits c h serves) (inv.unplaced h (unheld H h (omega (arith, same)))))
+served_old H c h inv serves = ne-eqb (next_hold H) h
+    (λ same. go (place H c) serves (inv.bound.fits c h serves) (inv.unplaced h (unheld H h (omega (arith, same)))))
   where
     go : (p : Place) → Serves p h → Fits (goal_of H) p h (state H h) → state H h ≡ None → ⊥
     go (HoldShelf g) s f none = let never : ⊥ = cc in never
@@ -311,10 +326,12 @@ served_old H c h inv serves = ne-eqb (next_hold H) h (λ same. go (place H c) se
 -- What is bound after a command and the hold that it makes.
 abbrev BoundBy : History → Command → Option HoldFacts → Type 0
 BoundBy H c made =
-    Bound (λ h. unwrap_or (option_map (λ r. r.branch) (hold_after H made h (hold_of H h))) 0) (place_after H (place H) (state H) (is_begun H) c) (λ h. state_made H (place H) (state H) (is_begun H) made c h)
+    Bound (λ h. unwrap_or (option_map (λ r. r.branch) (hold_after H made h (hold_of H h))) 0)
+    (place_after H (place H) (state H) (is_begun H) c) (λ h. state_made H (place H) (state H) (is_begun H) made c h)
 
 new_hold-bound : (H : History) (c : Command) (made : HoldFacts) → IsBound H
-    → Bound (λ h. unwrap_or (option_map (λ r. r.branch) (hold_after H (Some made) h (hold_of H h))) 0) (place H) (λ h. state_made H (place H) (state H) (is_begun H) (Some made) c h)
+    → Bound (λ h. unwrap_or (option_map (λ r. r.branch) (hold_after H (Some made) h (hold_of H h))) 0) (place H)
+    (λ h. state_made H (place H) (state H) (is_begun H) (Some made) c h)
 new_hold-bound H c made inv = record {
   once = inv.bound.once;
   fits = λ c h serves. fits (place H c) h (served_old H c h inv serves) serves (inv.bound.fits c h serves);
@@ -331,18 +348,21 @@ new_hold-bound H c made inv = record {
     goal_new h false e = refl
 
     fits : (at : Place) (h : ℕ) → (next_hold H == h) ≡ false → Serves at h → Fits (goal_of H) at h (state H h)
-        → Fits (λ g. unwrap_or (option_map (λ r. r.branch) (hold_after H (Some made) g (hold_of H g))) 0) at h (state_made H (place H) (state H) (is_begun H) (Some made) c h)
+        → Fits (λ g. unwrap_or (option_map (λ r. r.branch) (hold_after H (Some made) g (hold_of H g))) 0) at h
+        (state_made H (place H) (state H) (is_begun H) (Some made) c h)
     fits (HoldShelf g) h old serves f = state_new h (next_hold H == h) old ∙ f
     fits (Transit d (Some g)) h old serves f = (state_new h (next_hold H == h) old ∙ f.0, goal_new h (next_hold H == h) old ∙ f.1)
     fits _ h old serves f = absurd serves
 
-    kept : (h : ℕ) (x : Bool) → ◌≡◌ {A = Option HoldState} (elim x [ true ↦ Some Waiting | false ↦ state H h ]) (Some Ready) → (c : ℕ) × (place H c ≡ HoldShelf h)
+    kept : (h : ℕ) (x : Bool) → ◌≡◌ {A = Option HoldState} (elim x [ true ↦ Some Waiting | false ↦ state H h ]) (Some Ready) → (c : ℕ)
+        × (place H c ≡ HoldShelf h)
     kept h true e = let never : ⊥ = cc in absurd never
     kept h false e = inv.bound.kept h e
 
 -- ---- cancel-hold
 
-let_go : (H : History) (g h : ℕ) (at : Place) → (state H g ≡ Some Waiting) → Fits (goal_of H) at h (state H h) → Serves (place_let_go H (place H) (state H) (is_begun H) g at) h
+let_go : (H : History) (g h : ℕ) (at : Place) → (state H g ≡ Some Waiting) → Fits (goal_of H) at h (state H h)
+    → Serves (place_let_go H (place H) (state H) (is_begun H) g at) h
     → Serves at h × ((g == h) ≡ false)
 let_go H g h (HoldShelf j) waits f s = (s, ne-eqb g h (λ same. let ready : state H g ≡ Some Ready = rw same f in let never : ⊥ = cc in never))
 let_go H g h (Transit b (Some j)) waits f s = go (g == j) refl s
@@ -375,7 +395,8 @@ ended_other : (ends : HoldState) (s : Option HoldState) (x : Bool) → x ≡ fal
 ended_other ends s true e = let never : ⊥ = cc in absurd never
 ended_other ends s false e = refl
 
-let_go_fits : (H : History) (g h : ℕ) (at : Place) → (g == h) ≡ false → Fits (goal_of H) at h (state H h) → Serves (place_let_go H (place H) (state H) (is_begun H) g at) h
+let_go_fits : (H : History) (g h : ℕ) (at : Place) → (g == h) ≡ false → Fits (goal_of H) at h (state H h)
+    → Serves (place_let_go H (place H) (state H) (is_begun H) g at) h
     → Fits (goal_of H) (place_let_go H (place H) (state H) (is_begun H) g at) h (ended_as Cancelled (state H h) (g == h))
 let_go_fits H g h (HoldShelf j) other f s = ended_other Cancelled _ (g == h) other ∙ f
 let_go_fits H g h (Transit b (Some j)) other f s = go (g == j) s
@@ -399,11 +420,13 @@ cancel-bound H o k g inv ok = record {
     old : (c h : ℕ) → Serves (place_let_go H (place H) (state H) (is_begun H) g (place H c)) h → Fits (goal_of H) (place H c) h (state H h)
     old c h s = go (place H c) (inv.bound.fits c h) s
       where
-        go : (at : Place) → (Serves at h → Fits (goal_of H) at h (state H h)) → Serves (place_let_go H (place H) (state H) (is_begun H) g at) h → Fits (goal_of H) at h (state H h)
+        go : (at : Place) → (Serves at h → Fits (goal_of H) at h (state H h))
+            → Serves (place_let_go H (place H) (state H) (is_begun H) g at) h → Fits (goal_of H) at h (state H h)
         go (HoldShelf j) f s = f s
         go (Transit b (Some j)) f s = two (g == j) s
           where
-            two : (x : Bool) → Serves (elim x as (λ _. Place) [ true ↦ Transit b None | false ↦ Transit b (Some j) ]) h → (state H h ≡ Some Waiting) × (goal_of H h ≡ b)
+            two : (x : Bool) → Serves (elim x as (λ _. Place) [ true ↦ Transit b None | false ↦ Transit b (Some j) ]) h
+                → (state H h ≡ Some Waiting) × (goal_of H h ≡ b)
             two true s = absurd s
             two false s = f s
         go _ f s = absurd s
@@ -411,7 +434,8 @@ cancel-bound H o k g inv ok = record {
     was : (c h : ℕ) → Serves (place_let_go H (place H) (state H) (is_begun H) g (place H c)) h → Serves (place H c) h × ((g == h) ≡ false)
     was c h s = let_go H g h (place H c) waits (old c h s) s
 
-    kept : (h : ℕ) (x : Bool) → ended_as Cancelled (state H h) x ≡ Some Ready → (c : ℕ) × (place_let_go H (place H) (state H) (is_begun H) g (place H c) ≡ HoldShelf h)
+    kept : (h : ℕ) (x : Bool) → ended_as Cancelled (state H h) x ≡ Some Ready → (c : ℕ)
+        × (place_let_go H (place H) (state H) (is_begun H) g (place H c) ≡ HoldShelf h)
     kept h true e = let never : ⊥ = cc in absurd never
     kept h false e = let on : (c : ℕ) × (place H c ≡ HoldShelf h) = inv.bound.kept h e in (on.0, rw on.1 refl)
 
@@ -451,7 +475,8 @@ kept-found H n g inv at = go (kept_for_by H (place H) (state H) (is_begun H) g) 
         let on : place H m ≡ HoldShelf g = kept-is (place H m) g (find-some (λ c. is_kept_for (place H c) g) (copies H) m e) in
         ap Some (inv.bound.once m n g (rw on refl) (rw at refl))
 
-along : (goal : ℕ → ℕ) (pl pl' : ℕ → Place) (st st' : ℕ → Option HoldState) → ((c : ℕ) → pl c ≡ pl' c) → ((h : ℕ) → st h ≡ st' h) → Bound goal pl st → Bound goal pl' st'
+along : (goal : ℕ → ℕ) (pl pl' : ℕ → Place) (st st' : ℕ → Option HoldState) → ((c : ℕ) → pl c ≡ pl' c) → ((h : ℕ) → st h ≡ st' h)
+    → Bound goal pl st → Bound goal pl' st'
 along goal pl pl' st st' p q b =
     let ps : pl ≡ pl' = λ i. λ c. p c i in
     let qs : st ≡ st' = λ i. λ h. q h i in
@@ -509,7 +534,8 @@ module _ (H : History) (g n : ℕ) (ends : HoldState) (inv : IsBound H) (at : pl
   state-unshelved h = rw (kept-found H n g inv at) refl
 
   -- A ready hold ends, and its copy goes where routing sends it.
-  unshelved-bound : Bound (goal_of H) (place_unshelved H (place H) (state H) (is_begun H) g) (state_unshelved H (place H) (state H) (is_begun H) g ends (kept_for_by H (place H) (state H) (is_begun H) g))
+  unshelved-bound : Bound (goal_of H) (place_unshelved H (place H) (state H) (is_begun H) g)
+      (state_unshelved H (place H) (state H) (is_begun H) g ends (kept_for_by H (place H) (state H) (is_begun H) g))
   unshelved-bound = along (goal_of H) _ _ _ _ place-unshelved state-unshelved unshelve-moved
 
 unshelve-bound : (H : History) (o : Owner) (k : List ℕ) (g : ℕ) → IsBound H → refusal H o (Unshelve g) ≡ None → BoundAfter H o k (Unshelve g)
@@ -517,7 +543,8 @@ unshelve-bound H o k g inv ok =
     let on : (c : ℕ) × (place H c ≡ HoldShelf g) = inv.bound.kept g (ready-is _ (not-false _ (passed (checks H o (Unshelve g)) ok).1.0)) in
     unshelved-bound H g on.0 Expired inv on.1 (λ e. cc)
 
-unshelve_cancelled-bound : (H : History) (o : Owner) (k : List ℕ) (g : ℕ) → IsBound H → refusal H o (UnshelveCancelled g) ≡ None → BoundAfter H o k (UnshelveCancelled g)
+unshelve_cancelled-bound : (H : History) (o : Owner) (k : List ℕ) (g : ℕ) → IsBound H → refusal H o (UnshelveCancelled g) ≡ None
+    → BoundAfter H o k (UnshelveCancelled g)
 unshelve_cancelled-bound H o k g inv ok =
     let on : (c : ℕ) × (place H c ≡ HoldShelf g) = inv.bound.kept g (ready-is _ (not-false _ (passed (checks H o (UnshelveCancelled g)) ok).1.0)) in
     unshelved-bound H g on.0 Cancelled inv on.1 (λ e. cc)
@@ -533,7 +560,8 @@ moved-bound H o k (Missing n) inv ok = missing-bound H o k n inv
 moved-bound H o k (Withdraw n) inv ok = withdraw-bound H o k n inv ok
 moved-bound H o k _ inv ok = inv.bound
 
-made-bound : (H : History) (o : Owner) (k : List ℕ) (c : Command) (made : Option HoldFacts) → hold_made c ≡ made → IsBound H → refusal H o c ≡ None → BoundBy H c made
+made-bound : (H : History) (o : Owner) (k : List ℕ) (c : Command) (made : Option HoldFacts) → hold_made c ≡ made → IsBound H
+    → refusal H o c ≡ None → BoundBy H c made
 made-bound H o k c (Some made) e inv ok = along _ _ _ _ _ (λ x. sym ((moves-nothing H c made e).places x)) (λ h. refl) (new_hold-bound H c made inv)
 made-bound H o k c None e inv ok = moved-bound H o k c inv ok
 

@@ -2,7 +2,7 @@
 use Rattle.calendar.specs.declared.limits.TheConstants.{FIRST_DAY, LAST_DAY}
 use Rattle.std.proofs.Common.{◌≡◌, ℕ, zero, suc, ◌+◌, ◌-◌, ◌≤◌, Bool, true, false, not, ◌&&◌, refl, ap, sym, subst, ◌∙◌, arith}
 use Rattle.std.specs.Prelude.{Some, nat_le, if◌then◌else◌}
-use Rattle.calendar.specs.Openings.{Closings, is_open, is_weekly, IsLeastOpen, open_among, open_days_after}
+use Rattle.calendar.specs.Openings.{Closings, is_open, is_weekly, open_among}
 use Rattle.calendar.specs.Openings as openings
 use Rattle.std.proofs.lemmas.Bool.{and_parts}
 use Rattle.std.proofs.lemmas.Bool.Decides.{nat_tests}
@@ -11,7 +11,9 @@ use Rattle.model.specs.Calendars.{SameOpenDays, SameLeastDay, SameLateDays, Cale
 use Rattle.model.proofs.Least.{least-IsLeast, IsLeast-least}
 
 -- two ways to say: in the calendar, and closed neither on its weekday nor singly
-both_ways : (low high weekly single : Bool) → (elim (low && (high && not weekly)) as (λ _. Bool) [ true ↦ not single | false ↦ false ]) ≡ ((low && high) && (not weekly && not single))
+both_ways : (low high weekly single : Bool)
+    → (elim (low && (high && not weekly)) as (λ _. Bool) [ true ↦ not single | false ↦ false ]) ≡ ((low && high)
+    && (not weekly && not single))
 both_ways true true true single = refl
 both_ways true true false single = refl
 both_ways true false weekly single = refl

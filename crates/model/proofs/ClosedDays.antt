@@ -36,9 +36,11 @@ distinct [] e = tt
 distinct (x ∷ xs) e = let parts : (has_day xs x ≡ false) × (has_repeat xs ≡ false) = or_parts _ _ e in (apart x xs parts.0, distinct xs parts.1)
 
 -- A list of the days that a branch has closed singly, each once, is as long as any other.
-pub as-many : (H : History) → Invariant H → (b : ℕ) (days : List ℕ) → has_repeat days ≡ false → ((d : ℕ) → has_day days d ≡ is_single (singles_of H b) d) → length days ≡ length (singles_of H b)
+pub as-many : (H : History) → Invariant H → (b : ℕ) (days : List ℕ) → has_repeat days ≡ false
+    → ((d : ℕ) → has_day days d ≡ is_single (singles_of H b) d) → length days ≡ length (singles_of H b)
 as-many H inv b days once same =
-    length-from_same_keys nat_eq_equiv days (singles_of H b) (distinct days once) (inv.singles_once b) (λ q. same_any q days ∙ same q ∙ sym (same_any q (singles_of H b)))
+    length-from_same_keys nat_eq_equiv days (singles_of H b) (distinct days once) (inv.singles_once b)
+    (λ q. same_any q days ∙ same q ∙ sym (same_any q (singles_of H b)))
 
 -- No branch is closed singly on more days than it can be.
 pub closes-few : (H : History) → IsLegal H → ClosesFewDays (picture H)

@@ -84,7 +84,8 @@ reply_text-near : (reply : Reply) → reply_text reply ≡ near_reply reply
 unfolding reply_text reply_words routed_words
 reply_text-near (Lent loan due) = ap (λ text. join_with_byte 32 (codes "loan" ∷ decimal loan ∷ codes "due" ∷ text ∷ [])) (day_text-near due)
 reply_text-near (CheckedIn fine (HoldShelf hold branch until)) =
-    ap (λ text. join_with_byte 32 (codes "fine" ∷ decimal fine ∷ codes "ready" ∷ decimal hold ∷ codes "at" ∷ decimal branch ∷ codes "until" ∷ text ∷ [])) (day_text-near until)
+    ap (λ text. join_with_byte 32 (codes "fine" ∷ decimal fine ∷ codes "ready" ∷ decimal hold ∷ codes "at" ∷ decimal branch ∷ codes "until"
+    ∷ text ∷ [])) (day_text-near until)
 reply_text-near (Moved (HoldShelf hold branch until)) =
     ap (λ text. join_with_byte 32 (codes "ready" ∷ decimal hold ∷ codes "at" ∷ decimal branch ∷ codes "until" ∷ text ∷ [])) (day_text-near until)
 reply_text-near _ = refl

@@ -6,7 +6,8 @@ use Rattle.terms.specs.declared.command.Owner.{Owner}
 use Rattle.terms.specs.declared.command.Command.{Command}
 use Rattle.terms.specs.declared.command.Command.TheVariants.{CheckOut, Renew}
 use Rattle.model.specs.Calendar.{least, IsLeast}
-use Rattle.model.specs.History.{History, today, is_open, week_of, singles_of, BranchFacts, branch_of, Terms, rule_of, PatronFacts, patron_of, CopyFacts, copy_of, next_loan}
+use Rattle.model.specs.History.{History, today, is_open, week_of, singles_of, BranchFacts, branch_of, Terms, rule_of, PatronFacts}
+use Rattle.model.specs.History.{patron_of, CopyFacts, copy_of, next_loan}
 use Rattle.model.specs.Places.{goal_of, limit_now}
 use Rattle.model.specs.Loans.{LoanFacts, loan_of, loan_after, due, due_after, terms_for, no_terms, first_due, renewed_due}
 use Rattle.model.specs.Refusals.{refusal, checks}
@@ -21,7 +22,8 @@ use Rattle.model.proofs.SettingLaws.{SettingLaws, CalendarLaws, legal-CalendarLa
 open-soon : (H : History) (b more : ℕ) → CalendarLaws H → more ≤ 365 → (e : ℕ) × (least (is_open H b) (today H + more) ≡ Some e)
 open-soon H b more inv short =
     let w = inv.weekdays b in
-    open-exists (week_of H b) (singles_of H b) w.0 (today H + more) w.1 w.2 (inv.settings.few_singles b) (omega (arith, inv.settings.today_from)) (omega (arith, inv.settings.today_to, short))
+    open-exists (week_of H b) (singles_of H b) w.0 (today H + more) w.1 w.2 (inv.settings.few_singles b)
+    (omega (arith, inv.settings.today_from)) (omega (arith, inv.settings.today_to, short))
 
 none-not : {A : Type 0} (o : Option A) → is_none o ≡ false → (x : A) × (o ≡ Some x)
 none-not (Some x) e = (x, refl)
@@ -31,7 +33,8 @@ none-not None e = let never : ⊥ = cc in absurd never
 pub rule-of_terms : (H : History) (settings : SettingLaws H) (p c : ℕ) (t : Terms) → terms_for H p c ≡ Some t → (t.period ≤ 365) × (t.cap ≤ 100000)
 rule-of_terms H settings p c t e = go (patron_of H p) (copy_of H c) e
   where
-    go : (x : Option PatronFacts) (y : Option CopyFacts) → option_and_then (λ q. option_and_then (λ r. rule_of H q.kind r.kind) y) x ≡ Some t → (t.period ≤ 365) × (t.cap ≤ 100000)
+    go : (x : Option PatronFacts) (y : Option CopyFacts)
+        → option_and_then (λ q. option_and_then (λ r. rule_of H q.kind r.kind) y) x ≡ Some t → (t.period ≤ 365) × (t.cap ≤ 100000)
     go (Some q) (Some r) f = settings.terms q.kind r.kind t f
     go (Some q) None f = let never : ⊥ = cc in absurd never
     go None y f = let never : ⊥ = cc in absurd never
@@ -86,9 +89,11 @@ check_out-due H o p c b l r inv ok before e = go (next_loan H == l) e
     first = first_due-is H o p c b inv ok
 
     set : IsLeast (is_open H b) (today H + (unwrap_or (terms_for H p c) no_terms).period) (unwrap_or (first_due H p c b) 0)
-    set = subst (λ x. IsLeast (is_open H b) (today H + (unwrap_or (terms_for H p c) no_terms).period) (unwrap_or x 0)) (sym first.1) (least-IsLeast (is_open H b) (today H + (unwrap_or (terms_for H p c) no_terms).period) first.0 first.1)
+    set = subst (λ x. IsLeast (is_open H b) (today H + (unwrap_or (terms_for H p c) no_terms).period) (unwrap_or x 0)) (sym first.1)
+        (least-IsLeast (is_open H b) (today H + (unwrap_or (terms_for H p c) no_terms).period) first.0 first.1)
 
-    go : (x : Bool) → cond x (Some (record { copy = c; patron = p; branch = b; made = today H; terms = unwrap_or (terms_for H p c) no_terms })) (loan_of H l) ≡ Some r
+    go : (x : Bool) → cond x (Some
+        (record { copy = c; patron = p; branch = b; made = today H; terms = unwrap_or (terms_for H p c) no_terms })) (loan_of H l) ≡ Some r
         → elim x as (λ _. Type 0) [
           | true ↦ IsLeast (is_open H r.branch) (today H + r.terms.period) (elim x as (λ _. ℕ) [ true ↦ unwrap_or (first_due H p c b) 0 | false ↦ due H l ])
           | false ↦ IsDue H l r (elim x as (λ _. ℕ) [ true ↦ unwrap_or (first_due H p c b) 0 | false ↦ due H l ])
@@ -98,11 +103,14 @@ check_out-due H o p c b l r inv ok before e = go (next_loan H == l) e
         subst (λ q. IsLeast (is_open H q.branch) (today H + q.terms.period) (unwrap_or (first_due H p c b) 0)) same set
     go false f = before r f
 
-renewed-is : (H : History) (l d : ℕ) (r : LoanFacts) → loan_of H l ≡ Some r → is_none (renewed_due H l d) ≡ false → IsLeast (is_open H r.branch) (d + r.terms.period) (unwrap_or (renewed_due H l d) d)
+renewed-is : (H : History) (l d : ℕ) (r : LoanFacts) → loan_of H l ≡ Some r → is_none (renewed_due H l d) ≡ false
+    → IsLeast (is_open H r.branch) (d + r.terms.period) (unwrap_or (renewed_due H l d) d)
 renewed-is H l d r e there =
-    let is : renewed_due H l d ≡ least (is_open H r.branch) (d + r.terms.period) = ap (option_and_then (λ q. least (is_open H q.branch) (d + q.terms.period))) e in
+    let is : renewed_due H l d ≡ least (is_open H r.branch) (d + r.terms.period) =
+    ap (option_and_then (λ q. least (is_open H q.branch) (d + q.terms.period))) e in
     let found : (x : ℕ) × (renewed_due H l d ≡ Some x) = none-not _ there in
-    subst (λ x. IsLeast (is_open H r.branch) (d + r.terms.period) (unwrap_or x d)) (sym found.1) (least-IsLeast (is_open H r.branch) (d + r.terms.period) found.0 (sym is ∙ found.1))
+    subst (λ x. IsLeast (is_open H r.branch) (d + r.terms.period) (unwrap_or x d)) (sym found.1)
+    (least-IsLeast (is_open H r.branch) (d + r.terms.period) found.0 (sym is ∙ found.1))
 
 renew-due : (H : History) (o : Owner) (n l : ℕ) (r : LoanFacts) → refusal H o (Renew n) ≡ None → loan_of H l ≡ Some r → IsDue H l r (due H l)
     → DueAfter H (Renew n) l r (due_after H (Renew n) l (due H l))
@@ -113,7 +121,8 @@ renew-due H o n l r ok e before = go (n == l) refl
 
     go : (x : Bool) → (n == l) ≡ x
         → elim x as (λ _. Type 0) [
-          | true ↦ IsLeast (is_open H r.branch) (due H l + r.terms.period) (elim x as (λ _. ℕ) [ true ↦ unwrap_or (renewed_due H l (due H l)) (due H l) | false ↦ due H l ])
+          | true ↦ IsLeast (is_open H r.branch) (due H l + r.terms.period)
+              (elim x as (λ _. ℕ) [ true ↦ unwrap_or (renewed_due H l (due H l)) (due H l) | false ↦ due H l ])
           | false ↦ IsDue H l r (elim x as (λ _. ℕ) [ true ↦ unwrap_or (renewed_due H l (due H l)) (due H l) | false ↦ due H l ])
         ]
     go true same = renewed-is H l (due H l) r e (subst (λ m. is_none (renewed_due H m (due H m)) ≡ false) (eqb-true n l same) there)
@@ -128,4 +137,6 @@ due-step H o l r _ inv ok before e = before r e
 -- Every due day is the least open day from the end of its period.
 pub due-is : (H : History) (l : ℕ) (r : LoanFacts) → IsLegal H → HasWholeWeeks H → loan_of H l ≡ Some r → IsDue H l r (due H l)
 due-is [] l r legal whole e = let never : ⊥ = cc in absurd never
-due-is (e ∷ H) l r legal whole made = due-step H e.owner l r e.command (legal-CalendarLaws H legal.1 whole.1) legal.0.unrefused (λ q was. due-is H l q legal.1 whole.1 was) made
+due-is (e ∷ H) l r legal whole made =
+    due-step H e.owner l r e.command (legal-CalendarLaws H legal.1 whole.1) legal.0.unrefused
+    (λ q was. due-is H l q legal.1 whole.1 was) made

@@ -8,7 +8,8 @@ use Rattle.terms.specs.declared.row.HoldState.TheVariants.{Waiting, Ready, Fille
 use Rattle.terms.specs.declared.command.Command.{Command}
 use Rattle.terms.specs.declared.command.Command.TheVariants.{CheckOut, CheckIn, CancelHold, Unshelve, UnshelveCancelled, Missing}
 use Rattle.model.specs.History.{History, HoldFacts, hold_made, next_hold}
-use Rattle.model.specs.Places.{Place, HoldShelf, Shelf, place, state, line, route, is_kept_for, title_of_copy, goal_of, fills_from, fills_by, fills_first, kept_for_by, state_unshelved, state_moved, state_made, is_begun}
+use Rattle.model.specs.Places.{Place, HoldShelf, Shelf, place, state, line, route, is_kept_for, title_of_copy, goal_of, fills_from}
+use Rattle.model.specs.Places.{fills_by, fills_first, kept_for_by, state_unshelved, state_moved, state_made, is_begun}
 use Rattle.model.specs.Refusals.{refusal, checks}
 use Rattle.model.proofs.Passing.{passed}
 use Rattle.model.specs.Invariant.{Fits}
@@ -62,7 +63,8 @@ module _ (H : History) (h : ℕ) (s : HoldState) (inv : IsBound H) (settled : Is
       go true e = absurd (not_waiting (route-goes H n b inv h (rw (kept-is (route H n b) h e) refl)).1)
       go false e = is
 
-  unshelved-stays : (g : ℕ) (ends : HoldState) (found : Option ℕ) → state H g ≡ Some Ready → state_unshelved H (place H) (state H) (is_begun H) g ends found h ≡ Some s
+  unshelved-stays : (g : ℕ) (ends : HoldState) (found : Option ℕ) → state H g ≡ Some Ready
+      → state_unshelved H (place H) (state H) (is_begun H) g ends found h ≡ Some s
   unshelved-stays g ends found ready = go found (g == h) refl
     where
       other : (g == h) ≡ true → ⊥
@@ -78,12 +80,16 @@ module _ (H : History) (h : ℕ) (s : HoldState) (inv : IsBound H) (settled : Is
   moved-stays o (CheckIn n b) ok = arrived-stays n b
   moved-stays o (CancelHold g) ok =
       left-stays Cancelled (g == h) (λ e. not_waiting (rw (← eqb-true g h e) (waiting-is _ (not-false _ (passed (checks H o (CancelHold g)) ok).1.0))))
-  moved-stays o (Unshelve g) ok = unshelved-stays g Expired (kept_for_by H (place H) (state H) (is_begun H) g) (ready-is _ (not-false _ (passed (checks H o (Unshelve g)) ok).1.0))
+  moved-stays o (Unshelve g) ok =
+      unshelved-stays g Expired (kept_for_by H (place H) (state H) (is_begun H) g)
+      (ready-is _ (not-false _ (passed (checks H o (Unshelve g)) ok).1.0))
   moved-stays o (UnshelveCancelled g) ok =
-      unshelved-stays g Cancelled (kept_for_by H (place H) (state H) (is_begun H) g) (ready-is _ (not-false _ (passed (checks H o (UnshelveCancelled g)) ok).1.0))
+      unshelved-stays g Cancelled (kept_for_by H (place H) (state H) (is_begun H) g)
+      (ready-is _ (not-false _ (passed (checks H o (UnshelveCancelled g)) ok).1.0))
   moved-stays o (Missing n) ok =
       left-stays Waiting (is_kept_for (place H n) h)
-      (λ e. let f : Fits (goal_of H) (HoldShelf h) h (state H h) = rw (kept-is (place H n) h e) at (inv.bound.fits n h (rw (kept-is (place H n) h e) refl)) in not_ready f)
+      (λ e. let f : Fits (goal_of H) (HoldShelf h) h
+      (state H h) = rw (kept-is (place H n) h e) at (inv.bound.fits n h (rw (kept-is (place H n) h e) refl)) in not_ready f)
   moved-stays o _ ok = is
 
   made-stays : (o : Owner) (c : Command) (made : Option HoldFacts) → refusal H o c ≡ None → state_made H (place H) (state H) (is_begun H) made c h ≡ Some s

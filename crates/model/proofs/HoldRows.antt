@@ -8,7 +8,8 @@ use Rattle.terms.specs.declared.row.HoldState.{HoldState}
 use Rattle.terms.specs.declared.row.HoldState.TheVariants.{Waiting, Ready, Filled, Cancelled, Expired}
 use Rattle.model.specs.Checks.{is_within}
 use Rattle.model.specs.History.{History, today, loans, loans_after, next_loan, HoldFacts, hold_made, hold_of, hold_after, holds, holds_after, next_hold}
-use Rattle.model.specs.Places.{place, state, state_moved, state_made, state_at, state_unshelved, route, route_by, kept_for_by, is_kept_for, goal_of, fills_by, is_begun}
+use Rattle.model.specs.Places.{place, state, state_moved, state_made, state_at, state_unshelved, route, route_by, kept_for_by, is_kept_for}
+use Rattle.model.specs.Places.{goal_of, fills_by, is_begun}
 use Rattle.model.specs.Loans.{LoanFacts, loan_of, loan_after, terms_for, no_terms}
 use Rattle.model.specs.Picture.{hold_row, hold_columns}
 use Rattle.model.specs.Requests.{IsLegal}
@@ -19,7 +20,8 @@ use Rattle.model.proofs.LoanLaws.{legal-LoanLaws}
 
 -- ---- numbers
 
-hold-step : (H : History) (made : Option HoldFacts) (h : ℕ) → 1 ≤ h → h ≤ holds_after made (holds H) → (h ≤ holds H → (r : HoldFacts) × (hold_of H h ≡ Some r)) → (r : HoldFacts) × (hold_after H made h (hold_of H h) ≡ Some r)
+hold-step : (H : History) (made : Option HoldFacts) (h : ℕ) → 1 ≤ h → h ≤ holds_after made (holds H)
+    → (h ≤ holds H → (r : HoldFacts) × (hold_of H h ≡ Some r)) → (r : HoldFacts) × (hold_after H made h (hold_of H h) ≡ Some r)
 hold-step H (Some made) h low high before = go (next_hold H == h) refl
   where
     go : (x : Bool) → (next_hold H == h) ≡ x → (r : HoldFacts) × (cond x (Some made) (hold_of H h) ≡ Some r)
@@ -32,11 +34,14 @@ pub hold-numbered : (H : History) (h : ℕ) → 1 ≤ h → h ≤ holds H → (r
 hold-numbered [] h low high = let never : ⊥ = omega (arith, low, high) in absurd never
 hold-numbered (e ∷ H) h low high = hold-step H (hold_made e.command) h low high (λ le. hold-numbered H h low le)
 
-loan-step : (H : History) (x : Command) (l : ℕ) → 1 ≤ l → l ≤ loans_after x (loans H) → (l ≤ loans H → (r : LoanFacts) × (loan_of H l ≡ Some r)) → (r : LoanFacts) × (loan_after H x l (loan_of H l) ≡ Some r)
+loan-step : (H : History) (x : Command) (l : ℕ) → 1 ≤ l → l ≤ loans_after x (loans H)
+    → (l ≤ loans H → (r : LoanFacts) × (loan_of H l ≡ Some r)) → (r : LoanFacts) × (loan_after H x l (loan_of H l) ≡ Some r)
 loan-step H (CheckOut p c b) l low high before = go (next_loan H == l) refl
   where
     go : (x : Bool) → (next_loan H == l) ≡ x
-        → (r : LoanFacts) × (cond x (Some (record { copy = c; patron = p; branch = b; made = today H; terms = unwrap_or (terms_for H p c) no_terms })) (loan_of H l) ≡ Some r)
+        → (r : LoanFacts) × (cond x (Some
+        (record { copy = c; patron = p; branch = b; made = today H; terms = unwrap_or (terms_for H p c) no_terms }))
+        (loan_of H l) ≡ Some r)
     go true e = (record { copy = c; patron = p; branch = b; made = today H; terms = unwrap_or (terms_for H p c) no_terms }, refl)
     go false e = before (omega (arith, high, false-ne (next_loan H) l e))
 loan-step H _ l low high before = before high
@@ -56,7 +61,8 @@ left-stated : (s : Option HoldState) (ends : HoldState) (b : Bool) → IsStated 
 left-stated s ends true there = (ends, refl)
 left-stated s ends false there = there
 
-unshelved-stated : (H : History) (g : ℕ) (ends : HoldState) (found : Option ℕ) (h : ℕ) → IsStated (state H h) → IsStated (state_unshelved H (place H) (state H) (is_begun H) g ends found h)
+unshelved-stated : (H : History) (g : ℕ) (ends : HoldState) (found : Option ℕ) (h : ℕ) → IsStated (state H h)
+    → IsStated (state_unshelved H (place H) (state H) (is_begun H) g ends found h)
 unshelved-stated H g ends None h there = left-stated (state H h) ends (g == h) there
 unshelved-stated H g ends (Some c) h there =
     left-stated (state_at H (place H) (state H) (is_begun H) (route_by H (place H) (state H) (is_begun H) c (goal_of H g)) h) ends (g == h)
@@ -71,7 +77,8 @@ moved-state H (UnshelveCancelled g) h before = unshelved-stated H g Cancelled (k
 moved-state H (Missing c) h before = left-stated (state H h) Waiting (is_kept_for (place H c) h) before
 moved-state H _ h before = before
 
-state-step : (H : History) (x : Command) (made : Option HoldFacts) (h : ℕ) (r : HoldFacts) → hold_after H made h (hold_of H h) ≡ Some r → ((q : HoldFacts) → hold_of H h ≡ Some q → IsStated (state H h))
+state-step : (H : History) (x : Command) (made : Option HoldFacts) (h : ℕ) (r : HoldFacts) → hold_after H made h (hold_of H h) ≡ Some r
+    → ((q : HoldFacts) → hold_of H h ≡ Some q → IsStated (state H h))
     → IsStated (state_made H (place H) (state H) (is_begun H) made x h)
 state-step H x (Some made) h r e before = go (next_hold H == h) e
   where

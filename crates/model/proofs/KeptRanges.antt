@@ -3,7 +3,8 @@ use Rattle.model.specs.Sights.{sight}
 use Rattle.calendar.specs.declared.limits.TheConstants.{FIRST_DAY, LAST_DAY}
 use Rattle.terms.specs.declared.limits.TheConstants.{LAST_NUMBER}
 use Rattle.std.proofs.Common.{◌≡◌, ℕ, zero, suc, ◌+◌, ◌≤◌, ◌<◌, ◌==◌, Bool, true, false, not, ◌&&◌, List, [], ◌∷◌, ◌++◌, length, refl, sym, ap, subst, arith}
-use Rattle.std.specs.Prelude.{Option, Some, None, is_some, is_none, option_map, option_and_then, unwrap_or, IsUtf8, IfSome, bytes_eq, IsTrue, nat_le, nat_lt, slice_index_or}
+use Rattle.std.specs.Prelude.{Option, Some, None, is_some, is_none, option_map, option_and_then, unwrap_or, IsUtf8, IfSome, bytes_eq}
+use Rattle.std.specs.Prelude.{IsTrue, nat_le, nat_lt, slice_index_or}
 use Rattle.std.proofs.lemmas.Bool.{and_parts, or_parts, leb-true, leb-false, ltb-false}
 use Rattle.std.proofs.lemmas.Slice.Eq.{bytes_eq-Decides}
 use Rattle.calendar.specs.Days.{IsDayNumber}
@@ -19,12 +20,13 @@ use Rattle.terms.specs.declared.command.Owner.TheVariants.{Desk, Patron as Reade
 use Rattle.terms.specs.declared.command.Command.{Command}
 use Rattle.terms.specs.declared.command.Command.TheVariants.{CheckOut, CheckIn, Renew, PlaceHold, Unshelve, UnshelveCancelled, Missing, Pay, Waive, Page}
 use Rattle.terms.specs.declared.row.Sort.{Sort}
-use Rattle.terms.specs.declared.row.Sort.TheVariants.{Fine, Price, Payment, Waiver}
+use Rattle.terms.specs.declared.row.Sort.TheVariants.{Fine, Price}
 use Rattle.model.specs.Calendar.{is_single, opens, least, IsLeast}
 use Rattle.model.specs.History.{History, today, is_open, week_of, singles_of, loans, holds, HoldFacts, hold_of, branch_of, patron_of, CopyFacts, copy_of}
 use Rattle.model.specs.Places.{Place, Shelf, HoldShelf, Transit, Loan, place, state, is_ready, route, kept_for, goal_of, limit_now}
 use Rattle.model.specs.Loans.{LoanFacts, loan_of, due, grace_of, first_due, terms_for, no_terms}
-use Rattle.model.specs.Accounts.{Line, line_of, lines, lines_after, fine_line, price_line, fine_now, fine_at, price_of, borrower, owed}
+use Rattle.model.specs.Accounts.{Line, Posting, Returned, Lost, Settled, NoPosting, posting, line_of, lines, lines_after, fine_line}
+use Rattle.model.specs.Accounts.{price_line, fine_now, fine_at, price_of, borrower, owed}
 use Rattle.model.specs.Answers.{routed, unshelved, missed, accepted}
 use Rattle.model.specs.Invariant.{Invariant}
 use Rattle.model.specs.Refusals.{refusal, checks, is_bad_amount, is_own}
@@ -33,6 +35,7 @@ use Rattle.model.specs.DueDays.{HasWholeWeeks, IsDue, sets_due, period_end}
 use Rattle.model.specs.Forms.{HasForms}
 use Rattle.model.specs.Picture.{nth_line}
 use Rattle.model.proofs.Passing.{passed}
+use Rattle.model.proofs.Postings.{settling}
 use Rattle.model.proofs.Bindings.{not-false, ready-is, kept-found}
 use Rattle.model.proofs.Legal.{legal-bound}
 use Rattle.model.proofs.Least.{least-IsLeast}
@@ -52,7 +55,8 @@ use Rattle.model.proofs.LendingRanges.{LendingRanges, PlaceIn, legal-LendingRang
 open-day : (week : List Bool) (singles : List ℕ) (d : ℕ) → opens week singles d ≡ true → IsDayNumber d
 open-day week singles d e = go (nat_le FIRST_DAY d) (nat_le d LAST_DAY) (not (slice_index_or week (weekday d) false)) refl refl e
   where
-    go : (a b c : Bool) → nat_le FIRST_DAY d ≡ a → nat_le d LAST_DAY ≡ b → (elim (a && (b && c)) as (λ _. Bool) [ true ↦ not (is_single singles d) | false ↦ false ]) ≡ true → IsDayNumber d
+    go : (a b c : Bool) → nat_le FIRST_DAY d ≡ a → nat_le d LAST_DAY ≡ b
+        → (elim (a && (b && c)) as (λ _. Bool) [ true ↦ not (is_single singles d) | false ↦ false ]) ≡ true → IsDayNumber d
     go true true c p q f = (leb-true _ _ p, leb-true _ _ q)
     go true false c p q f = let never : ⊥ = cc in absurd never
     go false b c p q f = let never : ⊥ = cc in absurd never
@@ -66,7 +70,9 @@ pub due-in : (H : History) (l : ℕ) (r : LoanFacts) (d : ℕ) → IsDue H l r d
 due-in [] l r d is = absurd is
 due-in (e ∷ H) l r d is = go (sets_due H e.command l) (due-in H l r d) is
   where
-    go : (x : Bool) → (IsDue H l r d → IsDayNumber d) → (elim x as (λ _. Type 0) [ true ↦ IsLeast (is_open H r.branch) (period_end H e.command l r) d | false ↦ IsDue H l r d ]) → IsDayNumber d
+    go : (x : Bool) → (IsDue H l r d → IsDayNumber d)
+        → (elim x as (λ _. Type 0) [ true ↦ IsLeast (is_open H r.branch) (period_end H e.command l r) d | false ↦ IsDue H l r d ])
+        → IsDayNumber d
     go true before set = least-in H r.branch (period_end H e.command l r) d set
     go false before old = before old
 
@@ -111,8 +117,10 @@ module _ (H : History) (legal : IsLegal H) (forms : HasForms H) where
   loan-in : (c l : ℕ) → place H c ≡ Loan l → IsLarge (borrower H l) × IsGiven l
   loan-in c l at =
       let r = inv.on_loan c l at in
-      let made = inv.made_loan l r.0 r.1 in
-      (subst IsLarge (sym (ap (λ y. unwrap_or (option_map (λ q. q.patron) y) 0) r.1)) (lending.loans l r.0 r.1).1, (made.0, omega (arith, made.1, inv.loans_left)))
+      let made = inv.made_loan l r.0 r.1 in (
+        subst IsLarge (sym (ap (λ y. unwrap_or (option_map (λ q. q.patron) y) 0) r.1)) (lending.loans l r.0 r.1).1,
+        (made.0, omega (arith, made.1, inv.loans_left)),
+      )
 
   fine-le : (l : ℕ) → fine_now H (grace_of H) l ≤ 100000
   fine-le l = fine-small H (legal-MoneyLaws H legal) (legal-SettingLaws H legal) l
@@ -138,20 +146,16 @@ module _ (H : History) (legal : IsLegal H) (forms : HasForms H) where
       let low : n ≤ owed H p = ltb-false _ _ (or_parts (n == 0) (nat_lt (owed H p) n) good).1 in
       ((settings.patrons p patron.0 patron.1).0, omega (arith, low, owed-le p))
 
-  lines-step : (o : Owner) (x : Command) → refusal H o x ≡ None → AreIn (lines H) → AreIn (lines_after H x (lines H))
-  lines-step o (CheckIn c b) ok was = append-in (lines H) (fine_line H (grace_of H) (place H c)) was (fine-in c (place H c) refl)
-  lines-step o (Missing c) ok was =
+  lines-step : (o : Owner) (x : Command) (made : Posting) → posting x ≡ made → refusal H o x ≡ None → AreIn (lines H) → AreIn (lines_after H made (lines H))
+  lines-step o x (Returned c) e ok was = append-in (lines H) (fine_line H (grace_of H) (place H c)) was (fine-in c (place H c) refl)
+  lines-step o x (Lost c) e ok was =
       append-in (lines H) (fine_line H (grace_of H) (place H c) ++ price_line H c (place H c)) was
       (append-in (fine_line H (grace_of H) (place H c)) (price_line H c (place H c)) (fine-in c (place H c) refl) (price-in c (place H c) refl))
-  lines-step o (Pay p n) ok was =
-      let pass = passed (checks H o (Pay p n)) ok in
-      let paid = paid-in o p n pass.0 pass.1.0 in
-      append-in (lines H) (line_of H p Payment None n) was (line-in p Payment None n paid.0 paid.1 tt)
-  lines-step o (Waive p n) ok was =
-      let pass = passed (checks H o (Waive p n)) ok in
-      let paid = paid-in o p n pass.0 pass.1.0 in
-      append-in (lines H) (line_of H p Waiver None n) was (line-in p Waiver None n paid.0 paid.1 tt)
-  lines-step o _ ok was = was
+  lines-step o x (Settled p sort n) e ok was =
+      let pass = settling H o x p n sort ok e in
+      let paid = paid-in o p n pass.patron pass.amount in
+      append-in (lines H) (line_of H p sort None n) was (line-in p sort None n paid.0 paid.1 tt)
+  lines-step o x NoPosting e ok was = was
 
   -- ---- replies
 
@@ -190,7 +194,8 @@ module _ (H : History) (legal : IsLegal H) (forms : HasForms H) where
       let copy = inv.bound.kept h (ready-is (state H h) ready) in
       let found : kept_for H h ≡ Some copy.0 = kept-found H copy.0 h (legal-bound H legal) copy.1 in
       let known = copy-known H inv copy.0 (λ e. let never : ⊥ = cc in never) in
-      routed-kept (route H (unwrap_or (kept_for H h) 0) (goal_of H h)) (subst (λ y. PlaceIn (route H (unwrap_or y 0) (goal_of H h))) (sym found) (handed_in copy.0 (goal_of H h) known.0 known.1))
+      routed-kept (route H (unwrap_or (kept_for H h) 0) (goal_of H h))
+      (subst (λ y. PlaceIn (route H (unwrap_or y 0) (goal_of H h))) (sym found) (handed_in copy.0 (goal_of H h) known.0 known.1))
 
   missed-kept : (c : ℕ) (at : Place) → IsKept (missed H (grace_of H) c at)
   missed-kept c (Loan l) = (omega (arith, fine-le l), omega (arith, price-le c))
@@ -228,8 +233,10 @@ module _ (H : History) (legal : IsLegal H) (forms : HasForms H) where
       let copy = there (copy_of H c) (not-false _ (passed (checks H o (CheckIn c b)) ok).1.0) in
       (omega (arith, fine_at-le (place H c)), routed-kept (route H c b) (handed_in c b copy.0 copy.1))
   accepted-kept o (Renew l) ok changes =
-      let pass = passed (checks H o (Renew l)) ok in
-      (loan-number l (and_parts (is_some (loan_of H l)) (is_own H o (borrower H l)) (not-false _ pass.0)).0, renewed-kept l (due H l) (loan_of H l) pass.1.1.1.1.1.1.0)
+      let pass = passed (checks H o (Renew l)) ok in (
+        loan-number l (and_parts (is_some (loan_of H l)) (is_own H o (borrower H l)) (not-false _ pass.0)).0,
+        renewed-kept l (due H l) (loan_of H l) pass.1.1.1.1.1.1.0,
+      )
   accepted-kept o (PlaceHold p t b d) ok changes =
       let room : holds H < LAST_NUMBER = leb-false _ _ (passed (checks H o (PlaceHold p t b d)) ok).1.1.1.1.1.1.1.0 in
       omega (arith, room)
@@ -249,7 +256,7 @@ module _ (H : History) (legal : IsLegal H) (forms : HasForms H) where
 
 pub legal-lines : (H : History) → IsLegal H → HasForms H → AreIn (lines H)
 legal-lines [] legal forms = tt
-legal-lines (e ∷ H) legal forms = lines-step H legal.1 forms.2 e.owner e.command legal.0.unrefused (legal-lines H legal.1 forms.2)
+legal-lines (e ∷ H) legal forms = lines-step H legal.1 forms.2 e.owner e.command (posting e.command) refl legal.0.unrefused (legal-lines H legal.1 forms.2)
 
 -- What is kept for an owner's key.
 abbrev KeptIn : Owner → List ℕ → Kept → Type 0

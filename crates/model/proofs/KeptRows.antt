@@ -9,7 +9,9 @@ use Rattle.std.proofs.lemmas.List.Elements.{filter-append, filter_agree}
 use Rattle.terms.specs.declared.command.Command.{Command}
 use Rattle.terms.specs.declared.command.Command.TheVariants.{Patron, Acquire, CheckOut}
 use Rattle.terms.specs.declared.row.HoldState.{HoldState}
-use Rattle.model.specs.History.{Event, History, numbers_to, PatronFacts, patron_of, patron_after, title_of, title_after, CopyFacts, copy_of, copy_after, loans, loans_after, next_loan, HoldFacts, hold_made, hold_of, hold_after, holds, holds_after, next_hold, today}
+use Rattle.model.specs.History.{Event, History, numbers_to, PatronFacts, patron_of, patron_after, title_of, title_after, CopyFacts, copy_of}
+use Rattle.model.specs.History.{copy_after, loans, loans_after, next_loan, HoldFacts, hold_made, hold_of, hold_after, holds, holds_after}
+use Rattle.model.specs.History.{next_hold, today}
 use Rattle.model.specs.Places.{state, is_waiting, is_ready, title_of_copy, title_of_hold}
 use Rattle.model.specs.Loans.{LoanFacts, loan_of, loan_after, terms_for, no_terms, ended, due, renewals_left, open_loans, title_of_loan}
 use Rattle.model.specs.Accounts.{charges, credits, owed}
@@ -53,7 +55,9 @@ set-stays n k last made o x next old e = go (n == k) refl
 
 loan-stays : (x : Command) (H : History) → Invariant H → (l : ℕ) (r : LoanFacts) → loan_of H l ≡ Some r → loan_after H x l (loan_of H l) ≡ Some r
 loan-stays (CheckOut p c b) H inv l r e =
-    set-stays (next_loan H) l (loans H) (record { copy = c; patron = p; branch = b; made = today H; terms = unwrap_or (terms_for H p c) no_terms }) (loan_of H l) r refl (inv.made_loan l r e).1 e
+    set-stays (next_loan H) l (loans H)
+    (record { copy = c; patron = p; branch = b; made = today H; terms = unwrap_or (terms_for H p c) no_terms }) (loan_of H l) r refl
+    (inv.made_loan l r e).1 e
 loan-stays _ H inv l r e = e
 
 hold-stays : (made : Option HoldFacts) (H : History) → Invariant H → (h : ℕ) (r : HoldFacts) → hold_of H h ≡ Some r → hold_after H made h (hold_of H h) ≡ Some r
@@ -75,7 +79,8 @@ loans-more : (x : Command) (n : ℕ) (test : ℕ → Bool) → test (n + 1) ≡ 
 loans-more (CheckOut p c b) n test off = one-more test n off
 loans-more _ n test off = refl
 
-holds-more : (made : Option HoldFacts) (n : ℕ) (test : ℕ → Bool) → test (n + 1) ≡ false → filter test (numbers_to (holds_after made n)) ≡ filter test (numbers_to n)
+holds-more : (made : Option HoldFacts) (n : ℕ) (test : ℕ → Bool) → test (n + 1) ≡ false
+    → filter test (numbers_to (holds_after made n)) ≡ filter test (numbers_to n)
 holds-more (Some made) n test off = one-more test n off
 holds-more None n test off = refl
 
@@ -149,7 +154,8 @@ module _ (e : Event) (H : History) (p : ℕ) (legal : IsLegal (e ∷ H)) (keeps 
     where
       unknown : patron_of H p ≡ None → (o : Option PatronFacts) → patron_of (e ∷ H) p ≡ o → patron_of (e ∷ H) p ≡ None
       unknown at (Some f) now =
-          absurd (none-some (patron_columns (e ∷ H) p f) (sym (ap (option_map (patron_columns H p)) at) ∙ keeps.patron ∙ ap (option_map (patron_columns (e ∷ H) p)) now))
+          absurd (none-some (patron_columns (e ∷ H) p f)
+          (sym (ap (option_map (patron_columns H p)) at) ∙ keeps.patron ∙ ap (option_map (patron_columns (e ∷ H) p)) now))
       unknown at None now = now
 
       go : (o : Option PatronFacts) → patron_of H p ≡ o → SamePatron
@@ -166,7 +172,8 @@ module _ (e : Event) (H : History) (p : ℕ) (legal : IsLegal (e ∷ H)) (keeps 
 
   own-loan : (l : ℕ) (f : LoanFacts) → loan_of (e ∷ H) l ≡ Some f → f.patron ≡ p → SameLoan H (e ∷ H) l f
   own-loan l f at own =
-      let was = map-some (loan_columns H l) (loan_of H l) (loan_columns (e ∷ H) l f) (keeps.loans l (loan_columns (e ∷ H) l f) (ap (option_map (loan_columns (e ∷ H) l)) at) own) in
+      let was = map-some (loan_columns H l) (loan_of H l) (loan_columns (e ∷ H) l f)
+      (keeps.loans l (loan_columns (e ∷ H) l f) (ap (option_map (loan_columns (e ∷ H) l)) at) own) in
       let facts : was.0 ≡ f = some-same was.0 f (sym (loan-stays e.command H old l was.0 was.1) ∙ at) in
       record {
         before = was.1 ∙ ap Some facts;
@@ -183,13 +190,15 @@ module _ (e : Event) (H : History) (p : ℕ) (legal : IsLegal (e ∷ H)) (keeps 
       none-before at (Some f) was = absurd (none-some f (sym at ∙ loan-stays e.command H old l f was))
       none-before at None was = was
 
-      others : (f : LoanFacts) → loan_of (e ∷ H) l ≡ Some f → (f.patron == p) ≡ false → (o : Option LoanFacts) → loan_of H l ≡ o → own_open p o (ended H l) ≡ false
+      others : (f : LoanFacts) → loan_of (e ∷ H) l ≡ Some f → (f.patron == p) ≡ false → (o : Option LoanFacts) → loan_of H l ≡ o
+          → own_open p o (ended H l) ≡ false
       others f at d (Some g) was =
           let same : g ≡ f = some-same g f (sym (loan-stays e.command H old l g was) ∙ at) in
           ap (λ (r : LoanFacts). (r.patron == p) && is_none (ended H l)) same ∙ ap (λ b. b && is_none (ended H l)) d
       others f at d None was = refl
 
-      by : (f : LoanFacts) → loan_of (e ∷ H) l ≡ Some f → (b : Bool) → (f.patron == p) ≡ b → own_open p (loan_of H l) (ended H l) ≡ own_open p (Some f) (ended (e ∷ H) l)
+      by : (f : LoanFacts) → loan_of (e ∷ H) l ≡ Some f → (b : Bool) → (f.patron == p) ≡ b
+          → own_open p (loan_of H l) (ended H l) ≡ own_open p (Some f) (ended (e ∷ H) l)
       by f at true d =
           let same = own-loan l f at (eqb-true f.patron p d) in
           ap (λ o. own_open p o (ended H l)) same.before ∙ ap (own_open p (Some f)) same.ends
@@ -201,7 +210,8 @@ module _ (e : Event) (H : History) (p : ℕ) (legal : IsLegal (e ∷ H)) (keeps 
 
   loans-same : open_loans H p ≡ open_loans (e ∷ H) p
   loans-same =
-      sym (loans-more e.command (loans H) (λ l. own_open p (loan_of H l) (ended H l)) (ap (λ o. own_open p o (ended H (loans H + 1))) (no-loan H old (loans H + 1) refl)))
+      sym (loans-more e.command (loans H) (λ l. own_open p (loan_of H l) (ended H l))
+      (ap (λ o. own_open p o (ended H (loans H + 1))) (no-loan H old (loans H + 1) refl)))
       ∙ filter_agree (λ l. own_open p (loan_of H l) (ended H l)) (λ l. own_open p (loan_of (e ∷ H) l) (ended (e ∷ H) l)) loan-test (numbers_to (loans (e ∷ H)))
 
   lent : (l : ℕ) → list_any (λ k. k == l) (open_loans H p) ≡ true → (f : LoanFacts) × SameLoan H (e ∷ H) l f
@@ -262,13 +272,15 @@ module _ (e : Event) (H : History) (p : ℕ) (legal : IsLegal (e ∷ H)) (keeps 
       idle : (K : History) → Invariant K → hold_of K h ≡ None → own_active p (hold_of K h) (state K h) ≡ false
       idle K inv none = ap (own_active p (hold_of K h)) (no-state K inv h none) ∙ and-false _
 
-      others : (f : HoldFacts) → hold_of (e ∷ H) h ≡ Some f → (f.patron == p) ≡ false → (o : Option HoldFacts) → hold_of H h ≡ o → own_active p (hold_of H h) (state H h) ≡ false
+      others : (f : HoldFacts) → hold_of (e ∷ H) h ≡ Some f → (f.patron == p) ≡ false → (o : Option HoldFacts) → hold_of H h ≡ o
+          → own_active p (hold_of H h) (state H h) ≡ false
       others f at d (Some g) was =
           let same : g ≡ f = some-same g f (sym (hold-stays (hold_made e.command) H old h g was) ∙ at) in
           ap (λ o. own_active p o (state H h)) (was ∙ ap Some same) ∙ ap (λ b. b && (is_waiting (state H h) || is_ready (state H h))) d
       others f at d None was = idle H old was
 
-      by : (f : HoldFacts) → hold_of (e ∷ H) h ≡ Some f → (b : Bool) → (f.patron == p) ≡ b → own_active p (hold_of H h) (state H h) ≡ own_active p (Some f) (state (e ∷ H) h)
+      by : (f : HoldFacts) → hold_of (e ∷ H) h ≡ Some f → (b : Bool) → (f.patron == p) ≡ b
+          → own_active p (hold_of H h) (state H h) ≡ own_active p (Some f) (state (e ∷ H) h)
       by f at true d =
           let same = own-hold h f at (eqb-true f.patron p d) in
           ap (λ o. own_active p o (state H h)) same.before ∙ ap (own_active p (Some f)) same.states
@@ -281,8 +293,10 @@ module _ (e : Event) (H : History) (p : ℕ) (legal : IsLegal (e ∷ H)) (keeps 
   holds-same : active_holds H p ≡ active_holds (e ∷ H) p
   holds-same =
       let none = no-hold H old (holds H + 1) refl in
-      sym (holds-more (hold_made e.command) (holds H) (λ h. own_active p (hold_of H h) (state H h)) (ap (own_active p (hold_of H (holds H + 1))) (no-state H old (holds H + 1) none) ∙ and-false _))
-      ∙ filter_agree (λ h. own_active p (hold_of H h) (state H h)) (λ h. own_active p (hold_of (e ∷ H) h) (state (e ∷ H) h)) hold-test (numbers_to (holds (e ∷ H)))
+      sym (holds-more (hold_made e.command) (holds H) (λ h. own_active p (hold_of H h) (state H h))
+      (ap (own_active p (hold_of H (holds H + 1))) (no-state H old (holds H + 1) none) ∙ and-false _))
+      ∙ filter_agree (λ h. own_active p (hold_of H h) (state H h)) (λ h. own_active p (hold_of (e ∷ H) h) (state (e ∷ H) h)) hold-test
+      (numbers_to (holds (e ∷ H)))
 
   held : (h : ℕ) → list_any (λ k. k == h) (active_holds H p) ≡ true → (f : HoldFacts) × SameHold H (e ∷ H) h f
   held h among = go (hold_of H h) refl
@@ -316,7 +330,8 @@ module _ (e : Event) (H : History) (p : ℕ) (legal : IsLegal (e ∷ H)) (keeps 
     dues = λ l among. (lent l among).1.dues;
     renewals = λ l among. (lent l among).1.renewals;
     lent_titles = λ l among. let same = lent l among in let title = lent-title l same.0 same.1 in title.1 ∙ sym title.2;
-    lent_texts = λ l among. let same = lent l among in let title = lent-title l same.0 same.1 in ap (title_of H) title.1 ∙ title.3 ∙ sym (ap (title_of (e ∷ H)) title.2);
+    lent_texts = λ l among. let same = lent l among in let title = lent-title l same.0 same.1 in
+        ap (title_of H) title.1 ∙ title.3 ∙ sym (ap (title_of (e ∷ H)) title.2);
     holds = holds-same;
     held = λ h among. let same = held h among in same.1.before ∙ sym same.1.later;
     states = λ h among. (held h among).1.states;

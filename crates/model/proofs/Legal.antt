@@ -9,7 +9,9 @@ use Rattle.terms.specs.declared.row.HoldState.TheVariants.{Waiting, Ready, Fille
 use Rattle.terms.specs.declared.command.Command.{Command}
 use Rattle.terms.specs.declared.command.Command.TheVariants.{Acquire, CheckOut, CheckIn, CancelHold, Unshelve, UnshelveCancelled, Missing, Withdraw}
 use Rattle.model.specs.History.{History, copy_of, CopyFacts, HoldFacts, hold_made, hold_of, hold_after, next_hold}
-use Rattle.model.specs.Places.{Place, Nowhere, Shelf, HoldShelf, Transit, place, state, line, route, is_kept_for, title_of_copy, goal_of, fills_from, fills_by, fills_first, kept_for_by, place_let_go, place_unshelved, state_unshelved, state_moved, state_made, is_begun}
+use Rattle.model.specs.Places.{Place, Nowhere, Shelf, HoldShelf, Transit, place, state, line, route, is_kept_for, title_of_copy, goal_of}
+use Rattle.model.specs.Places.{fills_from, fills_by, fills_first, kept_for_by, place_let_go, place_unshelved, state_unshelved, state_moved}
+use Rattle.model.specs.Places.{state_made, is_begun}
 use Rattle.model.specs.Refusals.{refusal, checks}
 use Rattle.model.specs.Laws.{IsBinding}
 use Rattle.model.specs.Requests.{IsLegal}
@@ -31,9 +33,11 @@ pub none_before : (o : Option CopyFacts) (p : Option CopyFacts) → is_none (opt
 none_before None p e = (refl, e)
 none_before (Some x) p e = let never : ⊥ = cc in absurd never
 
-acquire-nowhere : (H : History) (n x home : ℕ) (r : CopyFacts) (y b : Bool) → IsBound H → (n == x) ≡ y → is_none (option_or (copy_of H x) (cond y (Some r) None)) ≡ true
+acquire-nowhere : (H : History) (n x home : ℕ) (r : CopyFacts) (y b : Bool) → IsBound H → (n == x) ≡ y
+    → is_none (option_or (copy_of H x) (cond y (Some r) None)) ≡ true
     → elim b as (λ _. Place) [ true ↦ elim y as (λ _. Place) [ true ↦ Shelf home | false ↦ place H x ] | false ↦ place H x ] ≡ Nowhere
-acquire-nowhere H n x home r true b inv e none = let no_row : is_none (Some r) ≡ true = (none_before (copy_of H x) (Some r) none).1 in let never : ⊥ = cc in absurd never
+acquire-nowhere H n x home r true b inv e none = let no_row : is_none (Some r) ≡ true = (none_before (copy_of H x) (Some r) none).1 in
+    let never : ⊥ = cc in absurd never
 acquire-nowhere H n x home r false true inv e none = inv.nowhere x (none_before (copy_of H x) None none).0
 acquire-nowhere H n x home r false false inv e none = inv.nowhere x (none_before (copy_of H x) None none).0
 
@@ -58,12 +62,14 @@ event-nowhere H o k _ inv ok x none = inv.nowhere x none
 pub some-none : {A : Type 0} (s : Option A) (x : A) → s ≡ Some x → s ≡ None → ⊥
 some-none s x e f = let both : Some x ≡ None = sym e ∙ f in let never : ⊥ = cc in never
 
-fills_first-placed : (H : History) (t p h : ℕ) (hs : List ℕ) → line H t ≡ hs → fills_first H (place H) (state H) (is_begun H) p hs h ≡ true → state H h ≡ None → ⊥
+fills_first-placed : (H : History) (t p h : ℕ) (hs : List ℕ) → line H t ≡ hs → fills_first H (place H) (state H) (is_begun H) p hs h ≡ true
+    → state H h ≡ None → ⊥
 fills_first-placed H t p h [] at e none = let never : ⊥ = cc in never
 fills_first-placed H t p h (g ∷ gs) at e none =
     some-none (state H g) Waiting (line-head H t g gs at).0 (rw (eqb-true g h (and_parts _ _ e).0) none)
 
-pub fills-placed : (H : History) (n p h : ℕ) (at : Place) → place H n ≡ at → IsBound H → fills_from H (place H) (state H) (is_begun H) p n at h ≡ true → state H h ≡ None → ⊥
+pub fills-placed : (H : History) (n p h : ℕ) (at : Place) → place H n ≡ at → IsBound H
+    → fills_from H (place H) (state H) (is_begun H) p n at h ≡ true → state H h ≡ None → ⊥
 fills-placed H n p h (HoldShelf g) at inv e none =
     let f : Fits (goal_of H) (HoldShelf g) h (state H h) = rw at at (inv.bound.fits n h (rw at (eqb-true g h e))) in some-none _ Ready f none
 fills-placed H n p h (Shelf b) at inv e none = fills_first-placed H (title_of_copy H n) p h (line H (title_of_copy H n)) refl e none
@@ -93,20 +99,26 @@ module _ (H : History) (h : ℕ) (none : state H h ≡ None) where
       go None false e = rw (e, state_unshelved) none
       go (Some c) false e = rw (e, state_unshelved) (arrived-unplaced c (goal_of H g) inv)
 
-moved-unplaced : (H : History) (o : Owner) (c : Command) → IsBound H → refusal H o c ≡ None → (h : ℕ) → hold_of H h ≡ None → state_moved H (place H) (state H) (is_begun H) c h ≡ None
+moved-unplaced : (H : History) (o : Owner) (c : Command) → IsBound H → refusal H o c ≡ None → (h : ℕ) → hold_of H h ≡ None
+    → state_moved H (place H) (state H) (is_begun H) c h ≡ None
 moved-unplaced H o (CheckOut p n b) inv ok h late =
-    left-unplaced H h (inv.unplaced h late) Filled (fills_by H (place H) (state H) (is_begun H) p n h) (λ e. fills-placed H n p h (place H n) refl inv e (inv.unplaced h late))
+    left-unplaced H h (inv.unplaced h late) Filled (fills_by H (place H) (state H) (is_begun H) p n h)
+    (λ e. fills-placed H n p h (place H n) refl inv e (inv.unplaced h late))
 moved-unplaced H o (CheckIn n b) inv ok h late = arrived-unplaced H h (inv.unplaced h late) n b inv
 moved-unplaced H o (CancelHold g) inv ok h late =
     left-unplaced H h (inv.unplaced h late) Cancelled (g == h)
     (λ e. some-none _ Waiting (rw (← eqb-true g h e) (waiting-is _ (not-false _ (passed (checks H o (CancelHold g)) ok).1.0))) (inv.unplaced h late))
 moved-unplaced H o (Unshelve g) inv ok h late =
-    unshelved-unplaced H h (inv.unplaced h late) g Expired (kept_for_by H (place H) (state H) (is_begun H) g) inv (ready-is _ (not-false _ (passed (checks H o (Unshelve g)) ok).1.0))
+    unshelved-unplaced H h (inv.unplaced h late) g Expired (kept_for_by H (place H) (state H) (is_begun H) g) inv
+    (ready-is _ (not-false _ (passed (checks H o (Unshelve g)) ok).1.0))
 moved-unplaced H o (UnshelveCancelled g) inv ok h late =
-    unshelved-unplaced H h (inv.unplaced h late) g Cancelled (kept_for_by H (place H) (state H) (is_begun H) g) inv (ready-is _ (not-false _ (passed (checks H o (UnshelveCancelled g)) ok).1.0))
+    unshelved-unplaced H h (inv.unplaced h late) g Cancelled (kept_for_by H (place H) (state H) (is_begun H) g) inv
+    (ready-is _ (not-false _ (passed (checks H o (UnshelveCancelled g)) ok).1.0))
 moved-unplaced H o (Missing n) inv ok h late =
     left-unplaced H h (inv.unplaced h late) Waiting (is_kept_for (place H n) h)
-    (λ e. let f : Fits (goal_of H) (HoldShelf h) h (state H h) = rw (kept-is (place H n) h e) at (inv.bound.fits n h (rw (kept-is (place H n) h e) refl)) in some-none _ Ready f (inv.unplaced h late))
+    (λ e. let f : Fits (goal_of H) (HoldShelf h) h
+    (state H h) = rw (kept-is (place H n) h e) at (inv.bound.fits n h (rw (kept-is (place H n) h e) refl)) in some-none _ Ready f
+    (inv.unplaced h late))
 moved-unplaced H o _ inv ok h late = inv.unplaced h late
 
 event-unplaced : (H : History) (o : Owner) (c : Command) (made : Option HoldFacts) → IsBound H → refusal H o c ≡ None

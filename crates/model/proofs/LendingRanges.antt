@@ -9,7 +9,8 @@ use Rattle.terms.specs.Limits.{IsSmall, IsLarge, IsGiven}
 use Rattle.terms.specs.declared.command.Owner.{Owner}
 use Rattle.terms.specs.declared.command.Command.{Command}
 use Rattle.terms.specs.declared.command.Command.TheVariants.{CheckOut, CheckIn, Missing}
-use Rattle.model.specs.History.{History, today, Terms, rule_of, PatronFacts, patron_of, title_of, CopyFacts, copy_of, next_loan, HoldFacts, hold_made, hold_of, hold_after, next_hold}
+use Rattle.model.specs.History.{History, today, Terms, rule_of, PatronFacts, patron_of, title_of, CopyFacts, copy_of, next_loan, HoldFacts}
+use Rattle.model.specs.History.{hold_made, hold_of, hold_after, next_hold}
 use Rattle.model.specs.Places.{Place, Shelf, HoldShelf, Transit, Loan, place, state, route_by, goal_of, home_of, is_begun}
 use Rattle.model.specs.Loans.{LoanFacts, loan_of, loan_after, ended, ended_after, is_loan_of_copy, terms_for, no_terms}
 use Rattle.model.specs.Invariant.{Invariant}
@@ -72,10 +73,17 @@ module _ (H : History) (inv : Invariant H) (settings : SettingRanges H) (before 
       let copy = there (copy_of H c) (not-false _ pass.1.1.0) in
       let branch = there _ (not-false _ pass.0) in
       let t = checked_out-terms H o p c b ok in
-      let terms : TermsIn (unwrap_or (terms_for H p c) no_terms) = subst (λ y. TermsIn (unwrap_or y no_terms)) (sym t.1) (terms-in H inv settings p c t.0 t.1) in
+      let terms : TermsIn (unwrap_or (terms_for H p c) no_terms) =
+      subst (λ y. TermsIn (unwrap_or y no_terms)) (sym t.1) (terms-in H inv settings p c t.0 t.1) in
       let made : LoanFacts = record { copy = c; patron = p; branch = b; made = today H; terms = unwrap_or (terms_for H p c) no_terms } in
       set-if LoanIn (next_loan H == l) made (loan_of H l)
-      (λ _. ((settings.copies c copy.0 copy.1).0, (settings.patrons p patron.0 patron.1).0, (settings.branches b branch.0 branch.1).0, today-in H inv settings, terms)) (before.loans l) r e
+      (λ _. (
+        (settings.copies c copy.0 copy.1).0,
+        (settings.patrons p patron.0 patron.1).0,
+        (settings.branches b branch.0 branch.1).0,
+        today-in H inv settings,
+        terms,
+      )) (before.loans l) r e
   loans-step _ ok l r e = before.loans l r e
 
   ended-now : (l c d : ℕ) → option_or (ended H l) (cond (is_loan_of_copy H l c) (Some (today H)) None) ≡ Some d → IsDayNumber d
@@ -99,14 +107,20 @@ module _ (H : History) (inv : Invariant H) (settings : SettingRanges H) (before 
       let low : d ≤ LAST_TODAY = leb-true _ _ pass.1 in
       (omega (arith, inv.today_from, later), omega (arith, low))
 
-  holds-step : (x : Command) (made : Option HoldFacts) → hold_made x ≡ made → refusal H o x ≡ None → (h : ℕ) (r : HoldFacts) → hold_after H made h (hold_of H h) ≡ Some r → HoldIn r
+  holds-step : (x : Command) (made : Option HoldFacts) → hold_made x ≡ made → refusal H o x ≡ None → (h : ℕ) (r : HoldFacts)
+      → hold_after H made h (hold_of H h) ≡ Some r → HoldIn r
   holds-step x (Some made) is ok h r e =
       let pass = placeable H o x made ok is in
       let patron = there (patron_of H made.patron) (not-false _ pass.patron) in
       let title = there-not (title_of H made.title) pass.title in
       let branch = there _ (not-false _ pass.branch) in
       set-if HoldIn (next_hold H == h) made (hold_of H h)
-      (λ _. ((settings.patrons made.patron patron.0 patron.1).0, (settings.titles made.title title.0 title.1).0, (settings.branches made.branch branch.0 branch.1).0, first_day-in made.first_day pass.later)) (before.holds h) r e
+      (λ _. (
+        (settings.patrons made.patron patron.0 patron.1).0,
+        (settings.titles made.title title.0 title.1).0,
+        (settings.branches made.branch branch.0 branch.1).0,
+        first_day-in made.first_day pass.later,
+      )) (before.holds h) r e
     where
       there-not : {A : Type 0} (y : Option A) → is_none y ≡ false → (x : A) × (y ≡ Some x)
       there-not (Some x) f = (x, refl)

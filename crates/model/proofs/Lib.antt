@@ -4,6 +4,7 @@ mod RowsLending
 mod RowsGrace
 mod RowsHolds
 mod RowsReports
+mod RowsClosedDays
 pub mod Passing
 pub mod MadeHolds
 pub mod Least
@@ -21,7 +22,6 @@ pub mod Line
 pub mod AccountLaws
 pub mod PlaceLaws
 pub mod Invariants
-mod RowsClosedDays
 pub mod OpenDays
 pub mod SettingLaws
 pub mod DueDayLaws
@@ -32,6 +32,7 @@ pub mod HoldRows
 pub mod CalendarsMeet
 pub mod SettingRanges
 pub mod PlaceSteps
+pub mod Postings
 pub mod LendingRanges
 pub mod KeptRanges
 pub mod RowRanges

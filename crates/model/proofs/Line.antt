@@ -1,5 +1,6 @@
 -- A hold that an accepted command takes out of its title's line otherwise than by cancelling was the first of that line.
-use Rattle.std.proofs.Common.{◌≡◌, ℕ, ◌==◌, Bool, true, false, ◌||◌, ◌⊎◌, ◌≢◌, inl, inr, List, [], ◌∷◌, refl, sym, ◌∙◌, ap, subst, cond, not, ◌&&◌, ◌≤◌, ◌<◌, nat_lt, nat_le, le-leb, arith}
+use Rattle.std.proofs.Common.{◌≡◌, ℕ, ◌==◌, Bool, true, false, ◌||◌, ◌⊎◌, ◌≢◌, inl, inr, List, [], ◌∷◌, refl, sym, ◌∙◌, ap, subst, cond}
+use Rattle.std.proofs.Common.{not, ◌&&◌, ◌≤◌, ◌<◌, nat_lt, nat_le, le-leb, arith}
 use Rattle.std.specs.Prelude.{Option, Some, None, is_none, unwrap_or, option_map, option_and_then}
 use Rattle.std.specs.List.{list_any}
 use Rattle.std.proofs.lemmas.Bool.{eqb-true, eq-eqb, leb-true, ltb-true, and_parts}
@@ -9,8 +10,12 @@ use Rattle.terms.specs.declared.row.HoldState.{HoldState}
 use Rattle.terms.specs.declared.row.HoldState.TheVariants.{Waiting, Ready, Filled, Cancelled, Expired}
 use Rattle.terms.specs.declared.command.Command.{Command}
 use Rattle.terms.specs.declared.command.Command.TheVariants.{Acquire, CheckOut, CheckIn, BeginDay, CancelHold, Unshelve, UnshelveCancelled, Missing, Withdraw}
-use Rattle.model.specs.History.{Event, History, today, today_after, has_begun, copies, copies_after, copy_of, next_hold, HoldFacts, hold_made, hold_of, hold_after, holds, holds_after, numbers_to}
-use Rattle.model.specs.Places.{Place, Nowhere, Shelf, HoldShelf, Transit, Loan, MissingCopy, WithdrawnCopy, place, state, line, route, route_to, route_from, is_kept_for, is_bound_for, is_coming, is_waiting, is_begun, first_day_of, title_of_hold, title_of_copy, goal_of, home_of, fills_from, fills_by, fills_first, kept_for_by, place_let_go, place_unshelved, place_after, state_unshelved, state_made}
+use Rattle.model.specs.History.{Event, History, today, today_after, has_begun, copies, copies_after, copy_of, next_hold, HoldFacts}
+use Rattle.model.specs.History.{hold_made, hold_of, hold_after, holds, holds_after, numbers_to}
+use Rattle.model.specs.Places.{Place, Nowhere, Shelf, HoldShelf, Transit, Loan, MissingCopy, WithdrawnCopy, place, state, line, route}
+use Rattle.model.specs.Places.{route_to, route_from, is_kept_for, is_bound_for, is_coming, is_waiting, is_begun, first_day_of}
+use Rattle.model.specs.Places.{title_of_hold, title_of_copy, goal_of, home_of, fills_from, fills_by, fills_first, kept_for_by, place_let_go}
+use Rattle.model.specs.Places.{place_unshelved, place_after, state_unshelved, state_made}
 use Rattle.model.specs.Refusals.{refusal, checks}
 use Rattle.model.proofs.Passing.{passed}
 use Rattle.model.proofs.MadeHolds.{moves-nothing}
@@ -18,7 +23,8 @@ use Rattle.model.specs.Invariant.{Serves}
 use Rattle.model.proofs.Moves.{moved, ne-eqb}
 use Rattle.model.specs.Laws.{stands_in_line}
 use Rattle.model.specs.Requests.{IsLegal}
-use Rattle.model.proofs.Bindings.{IsBound, event, kept-is, kept-found, arrived, left, unserved, clash, ready-is, waiting-is, not-false, not-true, both, filter-head}
+use Rattle.model.proofs.Bindings.{IsBound, event, kept-is, kept-found, arrived, left, unserved, clash, ready-is, waiting-is, not-false}
+use Rattle.model.proofs.Bindings.{not-true, both, filter-head}
 use Rattle.model.proofs.Legal.{legal-bound, some-none}
 use Rattle.model.proofs.LoanLaws.{legal-LoanLaws}
 use Rattle.model.proofs.Members.{filter-passes, filter-has, numbers-has}
@@ -38,7 +44,8 @@ abbrev pub IsFirstInLine : History → ℕ → Type 0
 IsFirstInLine H h = (t : ℕ) × (hs : List ℕ) × (line H t ≡ h ∷ hs)
 
 -- Where routing has a copy serve h, the copy served it before or h was the first of its line.
-route_to-serves : (H : History) (n b h : ℕ) (hs : List ℕ) → line H (title_of_copy H n) ≡ hs → Serves (route_to H (place H) (state H) (is_begun H) n b hs) h → IsFirstInLine H h
+route_to-serves : (H : History) (n b h : ℕ) (hs : List ℕ) → line H (title_of_copy H n) ≡ hs
+    → Serves (route_to H (place H) (state H) (is_begun H) n b hs) h → IsFirstInLine H h
 route_to-serves H n b h [] at s = absurd (go (home_of H n == b) s)
   where
     go : (x : Bool) → Serves (elim x as (λ _. Place) [ true ↦ Shelf b | false ↦ Transit (home_of H n) None ]) h → ⊥
@@ -50,7 +57,8 @@ route_to-serves H n b h (g ∷ gs) at s = (title_of_copy H n, gs, at ∙ ap (λ 
     go true s = s
     go false s = s
 
-route_from-serves : (H : History) (n b h : ℕ) (p : Place) → place H n ≡ p → Serves (route_from H (place H) (state H) (is_begun H) n b p) h → Serves (place H n) h ⊎ IsFirstInLine H h
+route_from-serves : (H : History) (n b h : ℕ) (p : Place) → place H n ≡ p → Serves (route_from H (place H) (state H) (is_begun H) n b p) h
+    → Serves (place H n) h ⊎ IsFirstInLine H h
 route_from-serves H n b h (Transit g (Some j)) at s = inl (rw at (go (g == b) s))
   where
     go : (x : Bool) → Serves (elim x as (λ _. Place) [ true ↦ HoldShelf j | false ↦ Transit g (Some j) ]) h → j ≡ h
@@ -84,7 +92,8 @@ module _ (H : History) (h : ℕ) (inv : IsBound H) (stands : WaitsForCopy H h) w
   quiet [] places none = refl
   quiet (x ∷ xs) places none = go (is_bound_for (places x) h) refl (quiet xs places none)
     where
-      go : (b : Bool) → is_bound_for (places x) h ≡ b → list_any (λ c. is_bound_for (places c) h) xs ≡ false → (b || list_any (λ c. is_bound_for (places c) h) xs) ≡ false
+      go : (b : Bool) → is_bound_for (places x) h ≡ b → list_any (λ c. is_bound_for (places c) h) xs ≡ false
+          → (b || list_any (λ c. is_bound_for (places c) h) xs) ≡ false
       go true e rest = absurd (none x (bound-serves (places x) e))
       go false e rest = rest
 
@@ -110,7 +119,8 @@ module _ (H : History) (h : ℕ) (inv : IsBound H) (stands : WaitsForCopy H h) w
   -- h stands in line after a command and the hold that it makes.
   abbrev StandsAfter : Command → Option HoldFacts → Type 0
   StandsAfter c made =
-      (state_made H (place H) (state H) (is_begun H) made c h ≡ Some Waiting) × (list_any (λ x. is_bound_for (place_after H (place H) (state H) (is_begun H) c x) h) (copies_after H c (copies H)) ≡ false)
+      (state_made H (place H) (state H) (is_begun H) made c h ≡ Some Waiting)
+      × (list_any (λ x. is_bound_for (place_after H (place H) (state H) (is_begun H) c x) h) (copies_after H c (copies H)) ≡ false)
 
   next-after : (o : Owner) (k : List ℕ) (c : Command) → Next o k c → StandsAfter c (hold_made c) ⊎ IsFirstInLine H h
   next-after o k c (inl still) = inl (still.waits, still.uncoming)
@@ -166,7 +176,12 @@ module _ (H : History) (h : ℕ) (inv : IsBound H) (stands : WaitsForCopy H h) w
       stays false = stands.waits
 
   acquire-line : (o : Owner) (k : List ℕ) (n t kind home price : ℕ) (text : List ℕ) → WaitsForCopy (event o k (Acquire n t kind home price text) ∷ H) h
-  acquire-line o k n t kind home price text = record { waits = stands.waits; uncoming = quiet (copies (event o k (Acquire n t kind home price text) ∷ H)) _ (λ c s. none c (is_none (copy_of H n)) s) }
+  acquire-line o k n t kind home price text =
+      record {
+        waits = stands.waits;
+        uncoming = quiet (copies (event o k (Acquire n t kind home price text) ∷ H)) _
+            (λ c s. none c (is_none (copy_of H n)) s);
+      }
     where
       none : (c : ℕ) (x : Bool) → Serves (elim x as (λ _. Place) [ true ↦ moved n (Shelf home) (place H) c | false ↦ place H c ]) h → ⊥
       none c true s = move-quiet n (Shelf home) (λ r. r) c s
@@ -177,7 +192,8 @@ module _ (H : History) (h : ℕ) (inv : IsBound H) (stands : WaitsForCopy H h) w
   new_hold-line c made e =
       let still = moves-nothing H c made e in (
         stays (next_hold H == h),
-        ap (list_any (λ x. is_bound_for (place_after H (place H) (state H) (is_begun H) c x) h)) still.copies ∙ quiet (copies H) _ (λ x s. nobody x (subst (λ p. Serves p h) (still.places x) s)),
+        ap (list_any (λ x. is_bound_for (place_after H (place H) (state H) (is_begun H) c x) h)) still.copies
+            ∙ quiet (copies H) _ (λ x s. nobody x (subst (λ p. Serves p h) (still.places x) s)),
       )
     where
       stays : (x : Bool) → left (state H h) Waiting x ≡ Some Waiting
@@ -213,7 +229,8 @@ module _ (H : History) (h : ℕ) (inv : IsBound H) (stands : WaitsForCopy H h) w
         go true e = let two : Some Waiting ≡ Some Ready = sym stands.waits ∙ (rw (← eqb-true g h e) ready) in let never : ⊥ = cc in absurd never
         go false e = refl
 
-    unshelved-waits : (Serves (route H n (goal_of H g)) h → ⊥) → state_unshelved H (place H) (state H) (is_begun H) g ends (kept_for_by H (place H) (state H) (is_begun H) g) h ≡ Some Waiting
+    unshelved-waits : (Serves (route H n (goal_of H g)) h → ⊥)
+        → state_unshelved H (place H) (state H) (is_begun H) g ends (kept_for_by H (place H) (state H) (is_begun H) g) h ≡ Some Waiting
     unshelved-waits off = rw (kept-found H n g inv at, state_unshelved, other_hold) (arrived-waits (route H n (goal_of H g)) off)
 
     unshelved-quiet : (Serves (route H n (goal_of H g)) h → ⊥) → (c : ℕ) → Serves (place_unshelved H (place H) (state H) (is_begun H) g c) h → ⊥
@@ -235,7 +252,10 @@ module _ (H : History) (h : ℕ) (inv : IsBound H) (stands : WaitsForCopy H h) w
       on = inv.bound.kept g ready
 
       go : ((Serves (route H on.0 (goal_of H g)) h → ⊥) ⊎ IsFirstInLine H h) → Next o k (Unshelve g)
-      go (inl off) = inl (record { waits = unshelved-waits g on.0 Expired on.1 ready off; uncoming = quiet (copies H) _ (unshelved-quiet g on.0 Expired on.1 ready off) })
+      go (inl off) = inl (record {
+        waits = unshelved-waits g on.0 Expired on.1 ready off;
+        uncoming = quiet (copies H) _ (unshelved-quiet g on.0 Expired on.1 ready off);
+      })
       go (inr first) = inr first
 
   unshelve_cancelled-line : (o : Owner) (k : List ℕ) (g : ℕ) → refusal H o (UnshelveCancelled g) ≡ None → Next o k (UnshelveCancelled g)
@@ -248,7 +268,10 @@ module _ (H : History) (h : ℕ) (inv : IsBound H) (stands : WaitsForCopy H h) w
       on = inv.bound.kept g ready
 
       go : ((Serves (route H on.0 (goal_of H g)) h → ⊥) ⊎ IsFirstInLine H h) → Next o k (UnshelveCancelled g)
-      go (inl off) = inl (record { waits = unshelved-waits g on.0 Cancelled on.1 ready off; uncoming = quiet (copies H) _ (unshelved-quiet g on.0 Cancelled on.1 ready off) })
+      go (inl off) = inl (record {
+        waits = unshelved-waits g on.0 Cancelled on.1 ready off;
+        uncoming = quiet (copies H) _ (unshelved-quiet g on.0 Cancelled on.1 ready off);
+      })
       go (inr first) = inr first
 
   moved-line : (o : Owner) (k : List ℕ) (c : Command) → refusal H o c ≡ None → c ≢ CancelHold h → StandsAfter c None ⊎ IsFirstInLine H h
@@ -262,13 +285,15 @@ module _ (H : History) (h : ℕ) (inv : IsBound H) (stands : WaitsForCopy H h) w
   moved-line o k (UnshelveCancelled g) ok ne = next-after o k (UnshelveCancelled g) (unshelve_cancelled-line o k g ok)
   moved-line o k _ ok ne = inl (stands.waits, stands.uncoming)
 
-  made-line : (o : Owner) (k : List ℕ) (c : Command) (made : Option HoldFacts) → hold_made c ≡ made → refusal H o c ≡ None → c ≢ CancelHold h → StandsAfter c made ⊎ IsFirstInLine H h
+  made-line : (o : Owner) (k : List ℕ) (c : Command) (made : Option HoldFacts) → hold_made c ≡ made → refusal H o c ≡ None
+      → c ≢ CancelHold h → StandsAfter c made ⊎ IsFirstInLine H h
   made-line o k c (Some made) e ok ne = inl (new_hold-line c made e)
   made-line o k c None e ok ne = moved-line o k c ok ne
 
   -- After an accepted command h stands in line still, or it was the first, or the command cancelled it.
   pub event-line : (o : Owner) (k : List ℕ) (c : Command) → refusal H o c ≡ None → c ≢ CancelHold h → Next o k c
-  event-line o k c ok ne = elim (made-line o k c (hold_made c) refl ok ne) [ inl still ↦ inl (record { waits = still.0; uncoming = still.1 }) | inr first ↦ inr first ]
+  event-line o k c ok ne = elim (made-line o k c (hold_made c) refl ok ne)
+      [ inl still ↦ inl (record { waits = still.0; uncoming = still.1 }) | inr first ↦ inr first ]
 
 -- ---- the law
 
@@ -302,17 +327,22 @@ stays-begun e H h ok old begun =
 
 in-line : (H : History) (t h : ℕ) → stands_in_line H t h ≡ true → (title_of_hold H h ≡ t) × StandsInLine H h
 in-line H t h e =
-    let parts : ((title_of_hold H h == t) ≡ true) × ((is_waiting (state H h) && (not (is_coming H h) && is_begun H h)) ≡ true) = both _ _ (filter-passes _ h (numbers_to (holds H)) e) in
+    let parts : ((title_of_hold H h == t) ≡ true) × ((is_waiting (state H h) && (not (is_coming H h) && is_begun H h)) ≡ true) =
+    both _ _ (filter-passes _ h (numbers_to (holds H)) e) in
     let stands : (is_waiting (state H h) ≡ true) × ((not (is_coming H h) && is_begun H h) ≡ true) = and_parts _ _ parts.1 in
     let free : (not (is_coming H h) ≡ true) × (is_begun H h ≡ true) = and_parts _ _ stands.1 in
     (eqb-true _ _ parts.0, record { waits = record { waits = waiting-is _ stands.0; uncoming = not-true _ free.0 }; begun = free.1 })
 
 line-in : (H : History) (t h : ℕ) → 1 ≤ h → h ≤ holds H → title_of_hold H h ≡ t → StandsInLine H h → stands_in_line H t h ≡ true
 line-in H t h low high title stands =
-    let test : (elim (title_of_hold H h == t) as (λ _. Bool) [ true ↦ is_waiting (state H h) && (not (is_coming H h) && is_begun H h) | false ↦ false ]) ≡ true =
+    let test : (elim (title_of_hold H h == t) as (λ _. Bool)
+    [ true ↦ is_waiting (state H h) && (not (is_coming H h) && is_begun H h) | false ↦ false ]) ≡ true =
     ap (λ x. elim x as (λ _. Bool) [ true ↦ is_waiting (state H h) && (not (is_coming H h) && is_begun H h) | false ↦ false ]) (eq-eqb _ _ title)
-    ∙ ap (λ x. is_waiting x && (not (is_coming H h) && is_begun H h)) stands.waits.waits ∙ ap (λ x. not x && is_begun H h) stands.waits.uncoming ∙ stands.begun in
-    filter-has (λ g. elim (title_of_hold H g == t) as (λ _. Bool) [ true ↦ is_waiting (state H g) && (not (is_coming H g) && is_begun H g) | false ↦ false ]) h (numbers_to (holds H)) test (numbers-has (holds H) h low high)
+    ∙ ap (λ x. is_waiting x && (not (is_coming H h) && is_begun H h)) stands.waits.waits
+    ∙ ap (λ x. not x && is_begun H h) stands.waits.uncoming ∙ stands.begun in
+    filter-has (λ g. elim (title_of_hold H g == t) as (λ _. Bool)
+    [ true ↦ is_waiting (state H g) && (not (is_coming H g) && is_begun H g) | false ↦ false ]) h (numbers_to (holds H)) test
+    (numbers-has (holds H) h low high)
 
 -- Who leaves a line otherwise than by cancelling was its first.
 pub served-first : (e : Event) (H : History) (t h : ℕ) → IsLegal (e ∷ H) → e.command ≢ CancelHold h
@@ -336,7 +366,9 @@ served-first e H t h legal other before gone = go (event-line H h bound was.1.wa
     go (inl still) =
         let title : title_of_hold (e ∷ H) h ≡ t = ap (λ o. unwrap_or (option_map (λ r. r.title) o) 0) (hold-kept H (hold_made e.command) h made.1) ∙ was.0 in
         let grow : holds H ≤ holds_after (hold_made e.command) (holds H) = holds-grow (hold_made e.command) (holds H) in
-        let stays : stands_in_line (e ∷ H) t h ≡ true = line-in (e ∷ H) t h made.0 (omega (arith, made.1, grow)) title (record { waits = still; begun = stays-begun e H h legal.0.unrefused made.1 was.1.begun }) in
+        let stays : stands_in_line (e ∷ H) t h ≡ true =
+        line-in (e ∷ H) t h made.0 (omega (arith, made.1, grow)) title
+        (record { waits = still; begun = stays-begun e H h legal.0.unrefused made.1 was.1.begun }) in
         absurd (clash _ stays gone)
     go (inr first) =
         let title : title_of_hold H h ≡ first.0 = eqb-true _ _ (both _ _ (filter-head _ (numbers_to (holds H)) h first.1 first.2)).0 in

@@ -6,9 +6,13 @@ use Rattle.std.proofs.lemmas.Bool.{eqb-true, eq-eqb, and_parts}
 use Rattle.terms.specs.declared.command.Owner.{Owner}
 use Rattle.terms.specs.declared.row.HoldState.{HoldState}
 use Rattle.terms.specs.declared.command.Command.{Command}
-use Rattle.terms.specs.declared.command.Command.TheVariants.{BeginDay, Acquire, CheckOut, CheckIn, Renew, CancelHold, Unshelve, UnshelveCancelled, Missing, Withdraw}
-use Rattle.model.specs.History.{History, today, CopyFacts, copy_of, copy_after, loans, loans_after, next_loan, HoldFacts, hold_made, hold_of, hold_after, holds, holds_after, next_hold}
-use Rattle.model.specs.Places.{Place, Nowhere, Shelf, HoldShelf, Transit, Loan, MissingCopy, WithdrawnCopy, place, state, place_after, place_let_go, place_unshelved, is_kept_for, route_by, route_from, route_to, line_by, goal_of, home_of, title_of_copy, is_begun}
+use Rattle.terms.specs.declared.command.Command.TheVariants.{BeginDay, Acquire, CheckOut, CheckIn, Renew, CancelHold, Unshelve}
+use Rattle.terms.specs.declared.command.Command.TheVariants.{UnshelveCancelled, Missing, Withdraw}
+use Rattle.model.specs.History.{History, today, CopyFacts, copy_of, copy_after, loans, loans_after, next_loan, HoldFacts, hold_made}
+use Rattle.model.specs.History.{hold_of, hold_after, holds, holds_after, next_hold}
+use Rattle.model.specs.Places.{Place, Nowhere, Shelf, HoldShelf, Transit, Loan, MissingCopy, WithdrawnCopy, place, state, place_after}
+use Rattle.model.specs.Places.{place_let_go, place_unshelved, is_kept_for, route_by, route_from, route_to, line_by, goal_of, home_of}
+use Rattle.model.specs.Places.{title_of_copy, is_begun}
 use Rattle.model.specs.Loans.{LoanFacts, loan_of, loan_after, ended, ended_after, is_loan_of_copy, renewals, renewals_after, terms_for, no_terms}
 use Rattle.model.specs.Refusals.{checks, refusal, is_own, is_on_loan, has_copy}
 use Rattle.model.specs.Accounts.{borrower}
@@ -35,7 +39,8 @@ none-or (Some x) b e = let never : ⊥ = cc in absurd never
 none-or None b e = (refl, e)
 
 -- A routed copy is on no loan.
-route_to-free : (H : History) (places : ℕ → Place) (states : ℕ → Option HoldState) (begun : ℕ → Bool) (c b : ℕ) (hs : List ℕ) → is_on_loan (route_to H places states begun c b hs) ≡ false
+route_to-free : (H : History) (places : ℕ → Place) (states : ℕ → Option HoldState) (begun : ℕ → Bool) (c b : ℕ) (hs : List ℕ)
+    → is_on_loan (route_to H places states begun c b hs) ≡ false
 route_to-free H places states begun c b (h ∷ hs) = go (goal_of H h == b)
   where
     go : (x : Bool) → is_on_loan (elim x as (λ _. Place) [ true ↦ HoldShelf h | false ↦ Transit (goal_of H h) (Some h) ]) ≡ false
@@ -47,7 +52,8 @@ route_to-free H places states begun c b [] = go (home_of H c == b)
     go true = refl
     go false = refl
 
-route_from-free : (H : History) (places : ℕ → Place) (states : ℕ → Option HoldState) (begun : ℕ → Bool) (c b : ℕ) (p : Place) → is_on_loan (route_from H places states begun c b p) ≡ false
+route_from-free : (H : History) (places : ℕ → Place) (states : ℕ → Option HoldState) (begun : ℕ → Bool) (c b : ℕ) (p : Place)
+    → is_on_loan (route_from H places states begun c b p) ≡ false
 route_from-free H places states begun c b (Transit g (Some h)) = go (g == b)
   where
     go : (x : Bool) → is_on_loan (elim x as (λ _. Place) [ true ↦ HoldShelf h | false ↦ Transit g (Some h) ]) ≡ false
@@ -61,7 +67,9 @@ module _ (H : History) (inv : LoanLaws H) (o : Owner) where
   made_loan-step : (x : Command) (l : ℕ) (r : LoanFacts) → loan_after H x l (loan_of H l) ≡ Some r → (1 ≤ l) × (l ≤ loans_after x (loans H))
   made_loan-step (CheckOut p c b) l r e = go (next_loan H == l) refl e
     where
-      go : (x : Bool) → (next_loan H == l) ≡ x → cond x (Some (record { copy = c; patron = p; branch = b; made = today H; terms = unwrap_or (terms_for H p c) no_terms })) (loan_of H l) ≡ Some r
+      go : (x : Bool) → (next_loan H == l) ≡ x
+          → cond x (Some (record { copy = c; patron = p; branch = b; made = today H; terms = unwrap_or (terms_for H p c) no_terms }))
+          (loan_of H l) ≡ Some r
           → (1 ≤ l) × (l ≤ loans H + 1)
       go true d f = let same : next_loan H ≡ l = eqb-true _ _ d in (omega (arith, same), omega (arith, same))
       go false d f = let m : (1 ≤ l) × (l ≤ loans H) = inv.made_loan l r f in (m.0, omega (arith, m.1))
@@ -90,7 +98,8 @@ module _ (H : History) (inv : LoanLaws H) (o : Owner) where
       ap (λ x. option_or x (cond (is_loan_of_copy H l c) (Some (today H)) None)) (inv.fresh_loan l lt).1
       ∙ ap (λ x. cond x (Some (today H)) None) (not_of l c (no_loan l lt))
 
-  fresh_loan-step : (x : Command) → refusal H o x ≡ None → (l : ℕ) → loans_after x (loans H) < l → (renewals_after x l (renewals H l) ≡ 0) × (ended_after H x l (ended H l) ≡ None)
+  fresh_loan-step : (x : Command) → refusal H o x ≡ None → (l : ℕ) → loans_after x (loans H) < l → (renewals_after x l (renewals H l) ≡ 0)
+      × (ended_after H x l (ended H l) ≡ None)
   fresh_loan-step (CheckOut p c b) ok l lt = inv.fresh_loan l (omega (arith, lt))
   fresh_loan-step (CheckIn c b) ok l lt = ((inv.fresh_loan l lt).0, ended_fresh l c lt)
   fresh_loan-step (Missing c) ok l lt = ((inv.fresh_loan l lt).0, ended_fresh l c lt)
@@ -117,7 +126,8 @@ module _ (H : History) (inv : LoanLaws H) (o : Owner) where
   unshelved-loan : (g c l : ℕ) → place_unshelved H (place H) (state H) (is_begun H) g c ≡ Loan l → place H c ≡ Loan l
   unshelved-loan g c l e = go (is_kept_for (place H c) g) e
     where
-      go : (x : Bool) → (elim x as (λ _. Place) [ true ↦ route_by H (place H) (state H) (is_begun H) c (goal_of H g) | false ↦ place H c ]) ≡ Loan l → place H c ≡ Loan l
+      go : (x : Bool) → (elim x as (λ _. Place) [ true ↦ route_by H (place H) (state H) (is_begun H) c (goal_of H g) | false ↦ place H c ])
+          ≡ Loan l → place H c ≡ Loan l
       go true f = absurd (free-ne _ l (route_from-free H (place H) (state H) (is_begun H) c (goal_of H g) (place H c)) f)
       go false f = f
 
@@ -147,7 +157,9 @@ module _ (H : History) (inv : LoanLaws H) (o : Owner) where
   on_loan-step : (x : Command) → refusal H o x ≡ None → (c l : ℕ) → after x c ≡ Loan l → OnLoan x c l
   on_loan-step (Acquire n t k home price text) ok c l e = go (is_none (copy_of H n)) (n == c) e
     where
-      go : (x y : Bool) → (elim x as (λ _. Place) [ true ↦ (elim y as (λ _. Place) [ true ↦ Shelf home | false ↦ place H c ]) | false ↦ place H c ]) ≡ Loan l → OnLoan (Acquire n t k home price text) c l
+      go : (x y : Bool) → (elim x as (λ _. Place)
+          [ true ↦ (elim y as (λ _. Place) [ true ↦ Shelf home | false ↦ place H c ]) | false ↦ place H c ]) ≡ Loan l
+          → OnLoan (Acquire n t k home price text) c l
       go true true f = let never : ⊥ = cc in absurd never
       go true false f = inv.on_loan c l f
       go false y f = inv.on_loan c l f
@@ -161,7 +173,13 @@ module _ (H : History) (inv : LoanLaws H) (o : Owner) where
           let is : (next_loan H == l) ≡ true = eq-eqb _ _ f in
           let above : loans H < l = omega (arith, f) in (
             record { copy = n; patron = p; branch = b; made = today H; terms = unwrap_or (terms_for H p n) no_terms },
-            ap (λ x. cond x (Some (record { copy = n; patron = p; branch = b; made = today H; terms = unwrap_or (terms_for H p n) no_terms })) (loan_of H l)) is,
+            ap (λ x. cond x (Some (record {
+              copy = n;
+              patron = p;
+              branch = b;
+              made = today H;
+              terms = unwrap_or (terms_for H p n) no_terms;
+            })) (loan_of H l)) is,
             same,
             (inv.fresh_loan l above).1,
           )
@@ -169,8 +187,18 @@ module _ (H : History) (inv : LoanLaws H) (o : Owner) where
       old_at : OnLoan (BeginDay 0) c l → OnLoan (CheckOut p n b) c l
       old_at w =
           let m : (1 ≤ l) × (l ≤ loans H) = inv.made_loan l w.0 w.1 in
-          let other : (next_loan H == l) ≡ false = ne (next_loan H == l) refl m.1 in
-          (w.0, ap (λ x. cond x (Some (record { copy = n; patron = p; branch = b; made = today H; terms = unwrap_or (terms_for H p n) no_terms })) (loan_of H l)) other ∙ w.1, w.2, w.3)
+          let other : (next_loan H == l) ≡ false = ne (next_loan H == l) refl m.1 in (
+            w.0,
+            ap (λ x. cond x (Some (record {
+              copy = n;
+              patron = p;
+              branch = b;
+              made = today H;
+              terms = unwrap_or (terms_for H p n) no_terms;
+            })) (loan_of H l)) other ∙ w.1,
+            w.2,
+            w.3,
+          )
         where
           ne : (x : Bool) → (next_loan H == l) ≡ x → l ≤ loans H → x ≡ false
           ne true d le = let same : next_loan H ≡ l = eqb-true _ _ d in absurd (omega (arith, same, le))
@@ -181,7 +209,9 @@ module _ (H : History) (inv : LoanLaws H) (o : Owner) where
       go false d f = old_at (inv.on_loan c l f)
   on_loan-step (CheckIn n b) ok c l e = go (n == c) refl e
     where
-      go : (x : Bool) → (n == c) ≡ x → (elim x as (λ _. Place) [ true ↦ route_by H (place H) (state H) (is_begun H) n b | false ↦ place H c ]) ≡ Loan l → OnLoan (CheckIn n b) c l
+      go : (x : Bool) → (n == c) ≡ x
+          → (elim x as (λ _. Place) [ true ↦ route_by H (place H) (state H) (is_begun H) n b | false ↦ place H c ]) ≡ Loan l
+          → OnLoan (CheckIn n b) c l
       go true d f = absurd (free-ne _ l (route_from-free H (place H) (state H) (is_begun H) n b (place H n)) f)
       go false d f = let w : OnLoan (BeginDay 0) c l = inv.on_loan c l f in (w.0, w.1, w.2, goes_on n c l d w.0 w.1 w.2 w.3)
   on_loan-step (Missing n) ok c l e = go (n == c) refl e
@@ -232,7 +262,8 @@ module _ (H : History) (inv : LoanLaws H) (o : Owner) where
       ap (λ x. elim (is_kept_for x g) as (λ _. Place) [ true ↦ route_by H (place H) (state H) (is_begun H) c (goal_of H g) | false ↦ place H c ]) at ∙ at
 
   -- A command that wants its copy to be there touches none that isn't.
-  untouched : (n c : ℕ) (q : Place) → not (has_copy H n) ≡ false → copy_of H c ≡ None → (elim (n == c) as (λ _. Place) [ true ↦ q | false ↦ place H c ]) ≡ Nowhere
+  untouched : (n c : ℕ) (q : Place) → not (has_copy H n) ≡ false → copy_of H c ≡ None
+      → (elim (n == c) as (λ _. Place) [ true ↦ q | false ↦ place H c ]) ≡ Nowhere
   untouched n c q has e = go (n == c) refl
     where
       go : (x : Bool) → (n == c) ≡ x → (elim x as (λ _. Place) [ true ↦ q | false ↦ place H c ]) ≡ Nowhere
@@ -247,7 +278,8 @@ module _ (H : History) (inv : LoanLaws H) (o : Owner) where
       let at : place H r.copy ≡ Loan l = inv.open_loan l r e none in go (copy_of H n) (n == r.copy) refl refl at
     where
       go : (y : Option CopyFacts) (x : Bool) → copy_of H n ≡ y → (n == r.copy) ≡ x → place H r.copy ≡ Loan l
-          → (elim (is_none y) as (λ _. Place) [ true ↦ (elim x as (λ _. Place) [ true ↦ Shelf home | false ↦ place H r.copy ]) | false ↦ place H r.copy ]) ≡ Loan l
+          → (elim (is_none y) as (λ _. Place)
+          [ true ↦ (elim x as (λ _. Place) [ true ↦ Shelf home | false ↦ place H r.copy ]) | false ↦ place H r.copy ]) ≡ Loan l
       go None true d f at =
           let no_place : place H n ≡ Nowhere = inv.unknown n d in
           let no_place' : place H r.copy ≡ Nowhere = subst (λ m. place H m ≡ Nowhere) (eqb-true n r.copy f) no_place in
@@ -295,7 +327,8 @@ module _ (H : History) (inv : LoanLaws H) (o : Owner) where
   unknown-step : (x : Command) → refusal H o x ≡ None → (c : ℕ) → copy_after x c (copy_of H c) ≡ None → after x c ≡ Nowhere
   unknown-step (Acquire n t k home price text) ok c e = go (n == c) (is_none (copy_of H n)) (copy_of H c) refl e
     where
-      go : (x z : Bool) (y : Option CopyFacts) → copy_of H c ≡ y → option_or y (cond x (Some (record { title = t; kind = k; home = home; price = price })) None) ≡ None
+      go : (x z : Bool) (y : Option CopyFacts) → copy_of H c ≡ y
+          → option_or y (cond x (Some (record { title = t; kind = k; home = home; price = price })) None) ≡ None
           → (elim z as (λ _. Place) [ true ↦ (elim x as (λ _. Place) [ true ↦ Shelf home | false ↦ place H c ]) | false ↦ place H c ]) ≡ Nowhere
       go x z (Some f) d g = let never : ⊥ = cc in absurd never
       go true z None d g = let never : ⊥ = cc in absurd never

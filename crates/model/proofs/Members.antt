@@ -37,7 +37,8 @@ pub filter-has : (test : ℕ → Bool) (h : ℕ) (xs : List ℕ) → test h ≡ 
 filter-has test h [] p e = let never : ⊥ = cc in absurd never
 filter-has test h (x ∷ xs) p e = go (λ q. filter-has test h xs p q) (x == h) refl (test x) refl e
   where
-    go : (has xs h ≡ true → has (filter test xs) h ≡ true) → (b : Bool) → (x == h) ≡ b → (y : Bool) → test x ≡ y → (b || has xs h) ≡ true → has (cond y (x ∷ filter test xs) (filter test xs)) h ≡ true
+    go : (has xs h ≡ true → has (filter test xs) h ≡ true) → (b : Bool) → (x == h) ≡ b → (y : Bool) → test x ≡ y → (b || has xs h) ≡ true
+        → has (cond y (x ∷ filter test xs) (filter test xs)) h ≡ true
     go ih true q true r s = or-left (x == h) _ q
     go ih true q false r s = let on : test x ≡ true = subst (λ y. test y ≡ true) (sym (eqb-true x h q)) p in let never : ⊥ = cc in absurd never
     go ih false q true r s = or-right (x == h) _ (ih s)

@@ -1,25 +1,27 @@
 -- In every legal history: fines, prices and debts are bounded, and numbers aren't past their end.
 use Rattle.terms.specs.declared.limits.TheConstants.{LAST_NUMBER}
-use Rattle.std.proofs.Common.{◌≡◌, ℕ, zero, suc, ◌+◌, ◌*◌, ◌≤◌, ◌<◌, ◌==◌, nat_le, Bool, true, false, cond, List, [], ◌∷◌, ◌++◌, length, length-append, refl, ap, subst, arith}
+use Rattle.std.proofs.Common.{◌≡◌, ℕ, zero, suc, ◌+◌, ◌*◌, ◌≤◌, ◌<◌, ◌==◌, nat_le, Bool, true, false, cond, List, [], ◌∷◌, ◌++◌, length}
+use Rattle.std.proofs.Common.{length-append, refl, ap, subst, arith}
 use Rattle.std.specs.Prelude.{Option, Some, None, option_map, unwrap_or, filter, min}
 use Rattle.std.proofs.lemmas.List.Sums.{sum_by-append, sum_by-cons}
-use Rattle.std.proofs.lemmas.Bool.{ltb-false, leb-false}
+use Rattle.std.proofs.lemmas.Bool.{leb-false}
 use Rattle.terms.specs.Money.{fine_for}
 use Rattle.terms.specs.declared.command.Owner.{Owner}
 use Rattle.terms.specs.declared.command.Command.{Command}
-use Rattle.terms.specs.declared.command.Command.TheVariants.{CheckOut, CheckIn, Missing, Pay, Waive}
+use Rattle.terms.specs.declared.command.Command.TheVariants.{CheckOut}
 use Rattle.terms.specs.declared.row.Sort.{Sort}
-use Rattle.terms.specs.declared.row.Sort.TheVariants.{Fine, Price, Payment, Waiver}
+use Rattle.terms.specs.declared.row.Sort.TheVariants.{Fine, Price}
 use Rattle.model.specs.Calendar.{late}
 use Rattle.model.specs.History.{History, today, is_open, loans, loans_after, next_loan, HoldFacts, hold_made, holds, holds_after, CopyFacts, copy_of}
 use Rattle.model.specs.Places.{Place, Loan, place}
 use Rattle.model.specs.Loans.{LoanFacts, loan_of, loan_after, due, grace_of, terms_for, no_terms}
-use Rattle.model.specs.Accounts.{Line, fine_now, price_of, borrower, line_of, fine_line, price_line, lines_by, lines_after, lines, charge, charges, owed}
+use Rattle.model.specs.Accounts.{Line, Posting, Returned, Lost, Settled, NoPosting, posting, fine_now, price_of, borrower, line_of}
+use Rattle.model.specs.Accounts.{fine_line, price_line, lines_posted, lines_after, lines, charge, charges, owed}
 use Rattle.model.specs.Refusals.{refusal, checks}
 use Rattle.model.specs.Requests.{IsLegal}
 use Rattle.model.proofs.Passing.{passed}
 use Rattle.model.proofs.MadeHolds.{placeable}
-use Rattle.model.proofs.Balance.{lines-event}
+use Rattle.model.proofs.Postings.{settlement, lines-event, lines-numbered}
 use Rattle.model.proofs.SettingLaws.{SettingLaws, legal-SettingLaws}
 use Rattle.model.proofs.DueDayLaws.{checked_out-terms, rule-of_terms}
 
@@ -42,7 +44,9 @@ module _ (H : History) (inv : MoneyLaws H) (settings : SettingLaws H) where
   pub fine-small : (l : ℕ) → fine_now H (grace_of H) l ≤ 100000
   fine-small l = go (loan_of H l) refl
     where
-      go : (y : Option LoanFacts) → loan_of H l ≡ y → unwrap_or (option_map (λ r. fine_for (late (is_open H r.branch) (due H l) (today H)) r.terms.rate r.terms.cap (grace_of H l)) y) 0 ≤ 100000
+      go : (y : Option LoanFacts) → loan_of H l ≡ y
+          → unwrap_or (option_map (λ r. fine_for (late (is_open H r.branch) (due H l) (today H)) r.terms.rate r.terms.cap (grace_of H l)) y)
+          0 ≤ 100000
       go (Some r) e = omega (arith, inv.caps l r e, fine-le (late (is_open H r.branch) (due H l) (today H)) r.terms.rate r.terms.cap (grace_of H l))
       go None e = omega arith
 
@@ -72,34 +76,17 @@ module _ (H : History) (inv : MoneyLaws H) (settings : SettingLaws H) where
   append-small : (xs ys : List Line) → AreSmall xs → AreSmall ys → AreSmall (xs ++ ys)
   append-small xs ys a b = rw (sum_by-append (λ x. charge x.sort x.amount) xs ys, length-append xs ys) (omega (arith, a, b))
 
-  new-small : (x : Command) → AreSmall (lines_by H x)
-  new-small (CheckIn c b) = fine_line-small (place H c)
-  new-small (Missing c) = append-small (fine_line H (grace_of H) (place H c)) (price_line H c (place H c)) (fine_line-small (place H c)) (price_line-small c (place H c))
-  new-small (Pay p n) = line-small p Payment None n (omega arith)
-  new-small (Waive p n) = line-small p Waiver None n (omega arith)
-  new-small _ = omega arith
+  new-small : (x : Command) (made : Posting) → posting x ≡ made → AreSmall (lines_posted H (place H) (grace_of H) made)
+  new-small x (Returned c) e = fine_line-small (place H c)
+  new-small x (Lost c) e = append-small (fine_line H (grace_of H) (place H c)) (price_line H c (place H c)) (fine_line-small (place H c))
+      (price_line-small c (place H c))
+  new-small x (Settled p sort n) e = line-small p sort None n (omega (arith, (settlement x p n sort e).charges n))
+  new-small x NoPosting e = omega arith
 
-  charged-step : (x : Command) → AreSmall (lines_after H x (lines H))
-  charged-step x = rw (lines-event H x) (append-small (lines H) (lines_by H x) inv.charged (new-small x))
-
-  one-line : (p : ℕ) (s : Sort) (n : ℕ) → length (line_of H p s None n) ≤ 1
-  one-line p s zero = omega arith
-  one-line p s (suc n) = omega arith
-
-  left-step : (o : Owner) (x : Command) → refusal H o x ≡ None → length (lines_after H x (lines H)) ≤ LAST_NUMBER
-  left-step o (CheckIn c b) ok =
-      let room : length (lines H) + length (lines_by H (CheckIn c b)) ≤ LAST_NUMBER = ltb-false _ _ (passed (checks H o (CheckIn c b)) ok).1.1.1.1.0 in
-      rw (length-append (lines H) (lines_by H (CheckIn c b))) room
-  left-step o (Missing c) ok =
-      let room : length (lines H) + length (lines_by H (Missing c)) ≤ LAST_NUMBER = ltb-false _ _ (passed (checks H o (Missing c)) ok).1.1.1.0 in
-      rw (length-append (lines H) (lines_by H (Missing c))) room
-  left-step o (Pay p n) ok =
-      let room : length (lines H) + 1 ≤ LAST_NUMBER = ltb-false _ _ (passed (checks H o (Pay p n)) ok).1.1.0 in
-      rw (length-append (lines H) (line_of H p Payment None n)) (omega (arith, room, one-line p Payment n))
-  left-step o (Waive p n) ok =
-      let room : length (lines H) + 1 ≤ LAST_NUMBER = ltb-false _ _ (passed (checks H o (Waive p n)) ok).1.1.0 in
-      rw (length-append (lines H) (line_of H p Waiver None n)) (omega (arith, room, one-line p Waiver n))
-  left-step o _ ok = inv.lines_left
+  charged-step : (x : Command) → AreSmall (lines_after H (posting x) (lines H))
+  charged-step x =
+      let made = posting x in
+      rw (lines-event H made) (append-small (lines H) (lines_posted H (place H) (grace_of H) made) inv.charged (new-small x made refl))
 
   loans-step : (o : Owner) (x : Command) → refusal H o x ≡ None → loans_after x (loans H) ≤ LAST_NUMBER
   loans-step o (CheckOut p c b) ok =
@@ -118,7 +105,9 @@ module _ (H : History) (inv : MoneyLaws H) (settings : SettingLaws H) where
           let t = checked_out-terms H o p c b ok in
           rw t.1 (rule-of_terms H settings p c t.0 t.1).1
 
-      go : (x : Bool) → cond x (Some (record { copy = c; patron = p; branch = b; made = today H; terms = unwrap_or (terms_for H p c) no_terms })) (loan_of H l) ≡ Some r → r.terms.cap ≤ 100000
+      go : (x : Bool) → cond x (Some
+          (record { copy = c; patron = p; branch = b; made = today H; terms = unwrap_or (terms_for H p c) no_terms }))
+          (loan_of H l) ≡ Some r → r.terms.cap ≤ 100000
       go true f =
           let same : ◌≡◌ {A = LoanFacts} (record { copy = c; patron = p; branch = b; made = today H; terms = unwrap_or (terms_for H p c) no_terms }) r = cc in
           subst (λ q. q ≤ 100000) (ap (λ q. q.terms.cap) same) small
@@ -140,7 +129,7 @@ legal-MoneyLaws (e ∷ H) legal =
     record {
       caps = caps-step H inv settings e.owner e.command ok;
       charged = charged-step H inv settings e.command;
-      lines_left = left-step H inv settings e.owner e.command ok;
+      lines_left = lines-numbered H e.owner e.command inv.lines_left ok;
       loans_left = loans-step H inv settings e.owner e.command ok;
       holds_left = holds-step H inv settings e.owner e.command (hold_made e.command) refl ok;
     }
@@ -151,7 +140,8 @@ some-charged : (p : ℕ) (xs : List Line) → charges (filter (λ x. x.patron ==
 some-charged p [] = omega arith
 some-charged p (x ∷ xs) = go (x.patron == p) (some-charged p xs)
   where
-    go : (b : Bool) → charges (filter (λ y. y.patron == p) xs) ≤ charges xs → charges (cond b (x ∷ filter (λ y. y.patron == p) xs) (filter (λ y. y.patron == p) xs)) ≤ charges (x ∷ xs)
+    go : (b : Bool) → charges (filter (λ y. y.patron == p) xs) ≤ charges xs
+        → charges (cond b (x ∷ filter (λ y. y.patron == p) xs) (filter (λ y. y.patron == p) xs)) ≤ charges (x ∷ xs)
     go true le = omega (arith, le, sum_by-cons (λ y. charge y.sort y.amount) x xs, sum_by-cons (λ y. charge y.sort y.amount) x (filter (λ y. y.patron == p) xs))
     go false le = omega (arith, le, sum_by-cons (λ y. charge y.sort y.amount) x xs)
 

@@ -1,6 +1,7 @@
 -- Where a branch is open on some weekday and has few single closed days, an open day isn't far.
 use Rattle.calendar.specs.declared.limits.TheConstants.{FIRST_DAY, LAST_DAY}
-use Rattle.std.proofs.Common.{◌≡◌, ℕ, zero, suc, ◌+◌, ◌-◌, ◌*◌, ◌%◌, ◌≤◌, ◌<◌, ◌==◌, Bool, true, false, cond, not, ◌&&◌, ◌||◌, List, [], ◌∷◌, length, refl, sym, ap, ◌∙◌, subst, arith, le-leb}
+use Rattle.std.proofs.Common.{◌≡◌, ℕ, zero, suc, ◌+◌, ◌-◌, ◌*◌, ◌%◌, ◌≤◌, ◌<◌, ◌==◌, Bool, true, false, cond, not, ◌&&◌, ◌||◌, List, []}
+use Rattle.std.proofs.Common.{◌∷◌, length, refl, sym, ap, ◌∙◌, subst, arith, le-leb}
 use Rattle.std.specs.Prelude.{Option, Some, filter, nat_le, slice_index_or}
 use Rattle.std.proofs.lemmas.Bool.{eqb-true}
 use Rattle.calendar.specs.Openings.{weekday}
@@ -46,7 +47,8 @@ without-shorter : (x : ℕ) (s : List ℕ) → is_single s x ≡ true → length
 without-shorter x [] e = let never : ⊥ = cc in absurd never
 without-shorter x (y ∷ s) e = go (λ q. without-shorter x s q) (y == x) e
   where
-    go : (is_single s x ≡ true → length (without x s) < length s) → (b : Bool) → (b || is_single s x) ≡ true → length (cond (not b) (y ∷ without x s) (without x s)) < suc (length s)
+    go : (is_single s x ≡ true → length (without x s) < length s) → (b : Bool) → (b || is_single s x) ≡ true
+        → length (cond (not b) (y ∷ without x s) (without x s)) < suc (length s)
     go ih true q = omega (arith, length-filter-le (λ k. not (k == x)) s)
     go ih false q = omega (arith, ih q)
 
@@ -83,7 +85,8 @@ module _ (f : ℕ → ℕ) (injective : (j k : ℕ) → f j ≡ f k → j ≡ k)
 
 -- ---- an open day
 
-opens-is : (week : List Bool) (s : List ℕ) (d : ℕ) → FIRST_DAY ≤ d → d ≤ LAST_DAY → slice_index_or week (weekday d) false ≡ false → is_single s d ≡ false → opens week s d ≡ true
+opens-is : (week : List Bool) (s : List ℕ) (d : ℕ) → FIRST_DAY ≤ d → d ≤ LAST_DAY → slice_index_or week (weekday d) false ≡ false
+    → is_single s d ≡ false → opens week s d ≡ true
 opens-is week s d low high open_weekday none =
     go (nat_le FIRST_DAY d) (nat_le d LAST_DAY) (slice_index_or week (weekday d) false) (is_single s d) (le-leb _ _ low) (le-leb _ _ high) open_weekday none
   where
@@ -106,4 +109,5 @@ open-exists week s w d small open_weekday few low high =
     gap (λ k. next_weekday d w + 7 * k) (λ j k same. omega (arith, same)) 401 s (omega (arith, few)) in
     let day : weekday (next_weekday d w + 7 * hole.0) ≡ w = omega (arith, small) in
     least-exists (opens week s) d (next_weekday d w + 7 * hole.0) (omega arith) (omega (arith, hole.1, high))
-    (opens-is week s (next_weekday d w + 7 * hole.0) (omega (arith, low)) (omega (arith, hole.1, high)) (ap (λ i. slice_index_or week i false) day ∙ open_weekday) hole.2)
+    (opens-is week s (next_weekday d w + 7 * hole.0) (omega (arith, low)) (omega (arith, hole.1, high))
+    (ap (λ i. slice_index_or week i false) day ∙ open_weekday) hole.2)

@@ -43,8 +43,10 @@ module _ (H K : History) (p : ℕ) (agree : AgreesOn H K p) where
   pub page-same : page H p ≡ page K p
   page-same =
       let patron : patron_line H p ≡ patron_line K p = rw (agree.patron, agree.debt) refl in
-      let loans : map (loan_line H) (open_loans H p) ≡ map (loan_line K) (open_loans K p) = map-same (loan_line H) (loan_line K) (open_loans H p) loan-same ∙ ap (map (loan_line K)) agree.loans in
-      let holds : map (hold_line H) (active_holds H p) ≡ map (hold_line K) (active_holds K p) = map-same (hold_line H) (hold_line K) (active_holds H p) hold-same ∙ ap (map (hold_line K)) agree.holds in
+      let loans : map (loan_line H) (open_loans H p) ≡ map (loan_line K) (open_loans K p) =
+      map-same (loan_line H) (loan_line K) (open_loans H p) loan-same ∙ ap (map (loan_line K)) agree.loans in
+      let holds : map (hold_line H) (active_holds H p) ≡ map (hold_line K) (active_holds K p) =
+      map-same (hold_line H) (hold_line K) (active_holds H p) hold-same ∙ ap (map (hold_line K)) agree.holds in
       ap (λ x. join_with_byte 10 (x ∷ map (loan_line H) (open_loans H p) ++ map (hold_line H) (active_holds H p))) patron
       ∙ ap (λ xs. join_with_byte 10 (patron_line K p ∷ xs ++ map (hold_line H) (active_holds H p))) loans
       ∙ ap (λ xs. join_with_byte 10 (patron_line K p ∷ map (loan_line K) (open_loans K p) ++ xs)) holds

@@ -8,7 +8,9 @@ use Rattle.terms.specs.declared.row.HoldState.TheVariants.{Waiting}
 use Rattle.terms.specs.declared.command.Command.{Command}
 use Rattle.terms.specs.declared.command.Command.TheVariants.{Acquire, CheckOut, CheckIn, CancelHold, Unshelve, UnshelveCancelled, Missing, Withdraw}
 use Rattle.model.specs.History.{History, numbers_to, CopyFacts, copy_of, copy_after, next_loan, HoldFacts, hold_made, hold_of, hold_after, holds, next_hold}
-use Rattle.model.specs.Places.{Place, Nowhere, Shelf, HoldShelf, Transit, Loan, MissingCopy, WithdrawnCopy, place, state, place_after, place_let_go, place_unshelved, is_kept_for, route_by, route_from, route_to, line_by, goal_of, home_of, title_of_copy, title_of_hold, is_begun}
+use Rattle.model.specs.Places.{Place, Nowhere, Shelf, HoldShelf, Transit, Loan, MissingCopy, WithdrawnCopy, place, state, place_after}
+use Rattle.model.specs.Places.{place_let_go, place_unshelved, is_kept_for, route_by, route_from, route_to, line_by, goal_of, home_of}
+use Rattle.model.specs.Places.{title_of_copy, title_of_hold, is_begun}
 use Rattle.model.specs.Invariant.{Serves, Fits, Bound}
 use Rattle.model.proofs.Bindings.{filter-head, both}
 use Rattle.model.proofs.MadeHolds.{moves-nothing}
@@ -27,22 +29,32 @@ module _ (H : History) where
   abbrev RouteOk : ℕ → Place → Type 0
   RouteOk c q = (q ≡ Nowhere → ⊥) × ((n : ℕ) → q ≡ Shelf n → home_of H c ≡ n) × ((h : ℕ) → Serves q h → title_of_hold H h ≡ title_of_copy H c)
 
-  route_to-ok : (c b : ℕ) (hs : List ℕ) → line_by H (place H) (state H) (is_begun H) (title_of_copy H c) ≡ hs → RouteOk c (route_to H (place H) (state H) (is_begun H) c b hs)
+  route_to-ok : (c b : ℕ) (hs : List ℕ) → line_by H (place H) (state H) (is_begun H) (title_of_copy H c) ≡ hs
+      → RouteOk c (route_to H (place H) (state H) (is_begun H) c b hs)
   route_to-ok c b (h ∷ hs) e = go (goal_of H h == b)
     where
       title : title_of_hold H h ≡ title_of_copy H c
       title = line-title (title_of_copy H c) h hs e
 
       go : (x : Bool) → RouteOk c (elim x as (λ _. Place) [ true ↦ HoldShelf h | false ↦ Transit (goal_of H h) (Some h) ])
-      go true = ((λ q. let never : ⊥ = cc in never), (λ n q. let never : ⊥ = cc in absurd never), (λ k s. subst (λ m. title_of_hold H m ≡ title_of_copy H c) s title))
-      go false = ((λ q. let never : ⊥ = cc in never), (λ n q. let never : ⊥ = cc in absurd never), (λ k s. subst (λ m. title_of_hold H m ≡ title_of_copy H c) s title))
+      go true = (
+        (λ q. let never : ⊥ = cc in never),
+        (λ n q. let never : ⊥ = cc in absurd never),
+        (λ k s. subst (λ m. title_of_hold H m ≡ title_of_copy H c) s title),
+      )
+      go false = (
+        (λ q. let never : ⊥ = cc in never),
+        (λ n q. let never : ⊥ = cc in absurd never),
+        (λ k s. subst (λ m. title_of_hold H m ≡ title_of_copy H c) s title),
+      )
   route_to-ok c b [] e = go (home_of H c == b) refl
     where
       go : (x : Bool) → (home_of H c == b) ≡ x → RouteOk c (elim x as (λ _. Place) [ true ↦ Shelf b | false ↦ Transit (home_of H c) None ])
       go true d = ((λ q. let never : ⊥ = cc in never), (λ n q. let same : b ≡ n = cc in eqb-true _ _ d ∙ same), (λ k s. absurd s))
       go false d = ((λ q. let never : ⊥ = cc in never), (λ n q. let never : ⊥ = cc in absurd never), (λ k s. absurd s))
 
-  route-ok : (c b : ℕ) (p : Place) → ((h : ℕ) → Serves p h → title_of_hold H h ≡ title_of_copy H c) → RouteOk c (route_from H (place H) (state H) (is_begun H) c b p)
+  route-ok : (c b : ℕ) (p : Place) → ((h : ℕ) → Serves p h → title_of_hold H h ≡ title_of_copy H c)
+      → RouteOk c (route_from H (place H) (state H) (is_begun H) c b p)
   route-ok c b (Transit g (Some h)) t = go (g == b)
     where
       go : (x : Bool) → RouteOk c (elim x as (λ _. Place) [ true ↦ HoldShelf h | false ↦ Transit g (Some h) ])
@@ -62,7 +74,8 @@ module _ (H : History) (inv : PlaceLaws H) (loans_ok : LoanLaws H) (bound : Boun
   was_ok c = (inv.somewhere c, inv.at_home c, inv.of_title c)
 
   routed_ok : (c b : ℕ) → PlaceOk c (route_by H (place H) (state H) (is_begun H) c b)
-  routed_ok c b = let r : RouteOk H c (route_from H (place H) (state H) (is_begun H) c b (place H c)) = route-ok H c b (place H c) (inv.of_title c) in ((λ e. absurd (r.0 e)), r.1, r.2)
+  routed_ok c b = let r : RouteOk H c (route_from H (place H) (state H) (is_begun H) c b (place H c)) =
+      route-ok H c b (place H c) (inv.of_title c) in ((λ e. absurd (r.0 e)), r.1, r.2)
 
   moved_ok : (n c : ℕ) (q : Place) → PlaceOk n q → PlaceOk c (elim (n == c) as (λ _. Place) [ true ↦ q | false ↦ place H c ])
   moved_ok n c q w = go (n == c) refl
@@ -98,8 +111,10 @@ module _ (H : History) (inv : PlaceLaws H) (loans_ok : LoanLaws H) (bound : Boun
   step_ok (Acquire n t k home price text) c ne = absurd (ne n t k home price text refl)
   step_ok (CheckOut p n b) c ne = moved_ok n c (Loan (next_loan H)) (loan_ok n)
   step_ok (CheckIn n b) c ne = moved_ok n c (route_by H (place H) (state H) (is_begun H) n b) (routed_ok n b)
-  step_ok (Missing n) c ne = moved_ok n c MissingCopy (plain_ok n MissingCopy (λ e. let never : ⊥ = cc in never) (λ m e. let never : ⊥ = cc in never) (λ h s. s))
-  step_ok (Withdraw n) c ne = moved_ok n c WithdrawnCopy (plain_ok n WithdrawnCopy (λ e. let never : ⊥ = cc in never) (λ m e. let never : ⊥ = cc in never) (λ h s. s))
+  step_ok (Missing n) c ne = moved_ok n c MissingCopy
+      (plain_ok n MissingCopy (λ e. let never : ⊥ = cc in never) (λ m e. let never : ⊥ = cc in never) (λ h s. s))
+  step_ok (Withdraw n) c ne = moved_ok n c WithdrawnCopy
+      (plain_ok n WithdrawnCopy (λ e. let never : ⊥ = cc in never) (λ m e. let never : ⊥ = cc in never) (λ h s. s))
   step_ok (CancelHold h) c ne = let_go_ok h c (place H c) (was_ok c)
   step_ok (Unshelve g) c ne = unshelved_ok g c
   step_ok (UnshelveCancelled g) c ne = unshelved_ok g c
@@ -112,10 +127,12 @@ module _ (H : History) (inv : PlaceLaws H) (loans_ok : LoanLaws H) (bound : Boun
   title_in y = unwrap_or (option_map (λ r. r.title) y) 0
 
   abbrev OkAs : Option CopyFacts → (ℕ → Option HoldFacts) → Place → Type 0
-  OkAs copy hold q = (q ≡ Nowhere → copy ≡ None) × ((n : ℕ) → q ≡ Shelf n → home_in copy ≡ n) × ((h : ℕ) → Serves q h → unwrap_or (option_map (λ r. r.title) (hold h)) 0 ≡ title_in copy)
+  OkAs copy hold q = (q ≡ Nowhere → copy ≡ None) × ((n : ℕ) → q ≡ Shelf n → home_in copy ≡ n)
+      × ((h : ℕ) → Serves q h → unwrap_or (option_map (λ r. r.title) (hold h)) 0 ≡ title_in copy)
 
   -- A copy that stays where it is.
-  stays_ok : (c : ℕ) (f : CopyFacts) (x : Bool) (z : Option CopyFacts) → copy_of H c ≡ z → (z ≡ None → x ≡ false) → OkAs (option_or z (cond x (Some f) None)) (hold_of H) (place H c)
+  stays_ok : (c : ℕ) (f : CopyFacts) (x : Bool) (z : Option CopyFacts) → copy_of H c ≡ z → (z ≡ None → x ≡ false)
+      → OkAs (option_or z (cond x (Some f) None)) (hold_of H) (place H c)
   stays_ok c f x None e ne =
       let at : place H c ≡ Nowhere = loans_ok.unknown c e in
       let off : x ≡ false = ne refl in (
@@ -144,7 +161,8 @@ module _ (H : History) (inv : PlaceLaws H) (loans_ok : LoanLaws H) (bound : Boun
       go None false z e d f = stays_ok c (record { title = t; kind = k; home = home; price = price }) false z f (λ _. refl)
       go (Some y) false z e d f = stays_ok c (record { title = t; kind = k; home = home; price = price }) false z f (λ _. refl)
       go (Some y) true None e d f = let some : copy_of H c ≡ Some y = subst (λ m. copy_of H m ≡ Some y) (eqb-true n c d) e in let never : ⊥ = cc in absurd never
-      go (Some y) true (Some g) e d f = stays_ok c (record { title = t; kind = k; home = home; price = price }) true (Some g) f (λ q. let never : ⊥ = cc in absurd never)
+      go (Some y) true (Some g) e d f =
+          stays_ok c (record { title = t; kind = k; home = home; price = price }) true (Some g) f (λ q. let never : ⊥ = cc in absurd never)
 
   -- A hold that a copy serves was placed.
   served_placed : (unplaced : (h : ℕ) → hold_of H h ≡ None → state H h ≡ None) (c h : ℕ) → Serves (place H c) h → h ≤ holds H
@@ -164,7 +182,8 @@ module _ (H : History) (inv : PlaceLaws H) (loans_ok : LoanLaws H) (bound : Boun
       go (Some f) e = (loans_ok.made_hold h f e).1
       go None e = absurd (stated (place H c) s (bound.fits c h s) (unplaced h e))
 
-  new_hold_ok : (unplaced : (h : ℕ) → hold_of H h ≡ None → state H h ≡ None) (made : HoldFacts) (c : ℕ) → OkAs (copy_of H c) (λ h. hold_after H (Some made) h (hold_of H h)) (place H c)
+  new_hold_ok : (unplaced : (h : ℕ) → hold_of H h ≡ None → state H h ≡ None) (made : HoldFacts) (c : ℕ)
+      → OkAs (copy_of H c) (λ h. hold_after H (Some made) h (hold_of H h)) (place H c)
   new_hold_ok unplaced made c = (inv.somewhere c, inv.at_home c, (λ h s. title_at h s ∙ inv.of_title c h s))
     where
       old : (h : ℕ) → h ≤ holds H → (x : Bool) → (next_hold H == h) ≡ x → x ≡ false
@@ -172,7 +191,8 @@ module _ (H : History) (inv : PlaceLaws H) (loans_ok : LoanLaws H) (bound : Boun
       old h le false d = refl
 
       title_at : (h : ℕ) → Serves (place H c) h → unwrap_or (option_map (λ r. r.title) (hold_after H (Some made) h (hold_of H h))) 0 ≡ title_of_hold H h
-      title_at h s = ap (λ x. unwrap_or (option_map (λ r. r.title) (cond x (Some made) (hold_of H h))) 0) (old h (served_placed unplaced c h s) (next_hold H == h) refl)
+      title_at h s = ap (λ x. unwrap_or (option_map (λ r. r.title) (cond x (Some made) (hold_of H h))) 0)
+          (old h (served_placed unplaced c h s) (next_hold H == h) refl)
 
   moved-step : (x : Command) (c : ℕ) → OkAs (copy_after x c (copy_of H c)) (hold_of H) (after x c)
   moved-step (Acquire n t k home price text) c = acquire_ok n t k home price c text

@@ -9,7 +9,9 @@ use Rattle.terms.specs.declared.command.Command.{Command}
 use Rattle.terms.specs.declared.command.Command.TheVariants.{Acquire, CheckOut, CheckIn, CancelHold, Unshelve, UnshelveCancelled, Missing, Withdraw}
 use Rattle.terms.specs.declared.row.HoldState.TheVariants.{Waiting}
 use Rattle.model.specs.History.{History, numbers_to, BranchFacts, branch_of, CopyFacts, copy_of, loans, next_loan, HoldFacts, hold_of, holds}
-use Rattle.model.specs.Places.{Place, Nowhere, Shelf, HoldShelf, Transit, Loan, MissingCopy, WithdrawnCopy, place, state, place_after, place_let_go, place_unshelved, is_kept_for, is_waiting, is_begun, is_coming_by, line_by, route_by, route_from, route_to, goal_of, home_of, title_of_copy}
+use Rattle.model.specs.Places.{Place, Nowhere, Shelf, HoldShelf, Transit, Loan, MissingCopy, WithdrawnCopy, place, state, place_after}
+use Rattle.model.specs.Places.{place_let_go, place_unshelved, is_kept_for, is_waiting, is_begun, is_coming_by, line_by, route_by}
+use Rattle.model.specs.Places.{route_from, route_to, goal_of, home_of, title_of_copy}
 use Rattle.model.specs.Invariant.{Invariant}
 use Rattle.model.specs.Refusals.{refusal, checks}
 use Rattle.model.proofs.Passing.{passed}

@@ -9,16 +9,19 @@ use Rattle.terms.specs.Texts.{request_text}
 use Rattle.terms.specs.declared.command.Owner.{Owner}
 use Rattle.terms.specs.declared.command.Owner.TheVariants.{Patron as Reader}
 use Rattle.terms.specs.declared.command.Command.{Command}
-use Rattle.terms.specs.declared.command.Command.TheVariants.{Branch, Kind, Rule, Grace, Patron, Acquire, CheckOut, CheckIn, Missing, Pay, Waive}
+use Rattle.terms.specs.declared.command.Command.TheVariants.{Branch, Kind, Rule, Grace, Patron, Acquire, CheckOut}
 use Rattle.terms.specs.declared.row.Sort.{Sort}
-use Rattle.terms.specs.declared.row.Sort.TheVariants.{Fine, Price, Payment, Waiver}
+use Rattle.terms.specs.declared.row.Sort.TheVariants.{Fine, Price}
 use Rattle.terms.specs.declared.row.HoldState.{HoldState}
 use Rattle.terms.specs.declared.row.HoldState.TheVariants.{Waiting, Ready, Filled, Cancelled, Expired}
 use Rattle.model.specs.Calendar.{is_single}
-use Rattle.model.specs.History.{History, today, singles_of, BranchFacts, branch_of, branch_after, KindFacts, kind_of, kind_after, Terms, rule_of, rule_after, PatronFacts, patron_of, patron_after, title_of, title_after, CopyFacts, copy_of, copy_after, copies, next_loan, HoldFacts, hold_made, hold_of, hold_after, next_hold}
+use Rattle.model.specs.History.{History, today, singles_of, BranchFacts, branch_of, branch_after, KindFacts, kind_of, kind_after, Terms}
+use Rattle.model.specs.History.{rule_of, rule_after, PatronFacts, patron_of, patron_after, title_of, title_after, CopyFacts, copy_of}
+use Rattle.model.specs.History.{copy_after, copies, next_loan, HoldFacts, hold_made, hold_of, hold_after, next_hold}
 use Rattle.model.specs.Places.{Place, Nowhere, HoldShelf, Transit, Loan, place, state, is_kept_for, kept_for, goal_of, home_of}
 use Rattle.model.specs.Loans.{LoanFacts, loan_of, loan_after, grace_of, terms_for, no_terms}
-use Rattle.model.specs.Accounts.{Line, line_of, lines, lines_after, fine_line, price_line, fine_now, price_of, borrower}
+use Rattle.model.specs.Accounts.{Line, Posting, Returned, Lost, Settled, NoPosting, posting, line_of, lines, lines_after, fine_line}
+use Rattle.model.specs.Accounts.{price_line, fine_now, price_of, borrower}
 use Rattle.model.specs.Answers.{accepted}
 use Rattle.model.specs.Picture.{picture, rule_columns, patron_columns, copy_columns, loan_columns, hold_columns, if_ready, nth_line, line_columns, kept_columns}
 use Rattle.model.specs.Invariant.{Invariant, Fits}
@@ -27,6 +30,7 @@ use Rattle.model.specs.Requests.{IsLegal, is_enrolled, Kept, kept_of}
 use Rattle.model.specs.References.{HasReferences}
 use Rattle.model.proofs.Passing.{passed}
 use Rattle.model.proofs.MadeHolds.{placeable}
+use Rattle.model.proofs.Postings.{settling}
 use Rattle.model.proofs.Bindings.{not-false, kept-is, find-some}
 use Rattle.model.proofs.ClaimsLaw.{map-some, hold-facts, transit-place}
 use Rattle.model.proofs.Invariants.{legal-Invariant}
@@ -140,7 +144,8 @@ module _ (H : History) (inv : Invariant H) (before : ReferenceLaws H) (o : Owner
       (record { period = period; renewals = renewals; rate = rate; cap = most; grace = 0 }) (rule_of H k c)
       (λ d. subst (λ a. IsThere (kind_of H a)) (eqb-true n k (and_parts (n == k)
       (m == c) d).0) known) (before.rules k c) t e
-  rules-step (Grace n m days) ok k c t e = graced (λ _. IsThere (kind_of H k)) ((n == k) && (m == c)) days (rule_of H k c) (before.rules k c) (λ _ there. there) t e
+  rules-step (Grace n m days) ok k c t e =
+      graced (λ _. IsThere (kind_of H k)) ((n == k) && (m == c)) days (rule_of H k c) (before.rules k c) (λ _ there. there) t e
   rules-step x ok k c t e = kind-stays x k (kind_of H k) (before.rules k c t e)
 
   patrons-step : (x : Command) → refusal H o x ≡ None → (p : ℕ) (r : PatronFacts)
@@ -310,23 +315,19 @@ module _ (H : History) (inv : Invariant H) (before : ReferenceLaws H) (o : Owner
     lines-stay x ys a.1,
   )
 
-  lines-step : (x : Command) → refusal H o x ≡ None
-      → AllByRecursion (LineThere (patron_of H) (loan_of H)) (lines_after H x (lines H))
-  lines-step (CheckIn c b) ok = all-append _ (lines H) (fine_line H (grace_of H) (place H c)) before.lines
+  lines-step : (x : Command) (made : Posting) → posting x ≡ made → refusal H o x ≡ None
+      → AllByRecursion (LineThere (patron_of H) (loan_of H)) (lines_after H made (lines H))
+  lines-step x (Returned c) e ok = all-append _ (lines H) (fine_line H (grace_of H) (place H c)) before.lines
       (fine-there c (place H c) refl)
-  lines-step (Missing c) ok =
+  lines-step x (Lost c) e ok =
       all-append _ (lines H) (fine_line H (grace_of H) (place H c) ++ price_line H c (place H c)) before.lines
       (all-append _ (fine_line H (grace_of H) (place H c)) (price_line H c (place H c)) (fine-there c
       (place H c) refl) (price-there c (place H c) refl))
-  lines-step (Pay p n) ok =
-      all-append _ (lines H) (line_of H p Payment None n) before.lines
-      (line-there p Payment None n (not-false _ (passed (checks H o (Pay p n)) ok).0)
-      (λ l e. absurd (none-some l e)))
-  lines-step (Waive p n) ok =
-      all-append _ (lines H) (line_of H p Waiver None n) before.lines
-      (line-there p Waiver None n (not-false _ (passed (checks H o (Waive p n)) ok).0)
-      (λ l e. absurd (none-some l e)))
-  lines-step _ ok = before.lines
+  lines-step x (Settled p sort n) e ok =
+      all-append _ (lines H) (line_of H p sort None n) before.lines
+      (line-there p sort None n (not-false _ (settling H o x p n sort ok e).patron)
+      (λ l f. absurd (none-some l f)))
+  lines-step x NoPosting e ok = before.lines
 
 -- ---- every legal history
 
@@ -374,7 +375,7 @@ legal-ReferenceLaws (e ∷ H) legal =
           (place_after-keeps H inv (GoesThere (branch_of H))
           (places-keep H inv before e.owner) e.owner e.command ok c);
       lines = lines-stay H inv before e.owner e.command (lines (e ∷ H))
-          (lines-step H inv before e.owner e.command ok);
+          (lines-step H inv before e.owner e.command (posting e.command) refl ok);
       callers = λ p key x f. callers-step H before.callers e.owner e.command e.key
           legal.0.enrolled p key
           (record { text = request_text e.command; reply = accepted H e.command }) x f;

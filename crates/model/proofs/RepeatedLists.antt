@@ -45,17 +45,20 @@ first_ones-leave [] H = refl
 first_ones-leave (r ∷ rs) H = go (repeats H r) refl (first_ones-leave rs (after_one H r))
   where
     go : (b : Bool) → repeats H r ≡ b → after (after_one H r) (first_ones (after_one H r) rs) ≡ after (after_one H r) rs
-        → after H (elim b as (λ _. List Request) [ true ↦ first_ones (after_one H r) rs | false ↦ r ∷ first_ones (after_one H r) rs ]) ≡ after (after_one H r) rs
+        → after H (elim b as (λ _. List Request) [ true ↦ first_ones (after_one H r) rs | false ↦ r ∷ first_ones (after_one H r) rs ])
+        ≡ after (after_one H r) rs
     go true e rest = ap (λ K. after K (first_ones (after_one H r) rs)) (sym (repeat-stays H r e)) ∙ rest
     go false e rest = rest
 
 -- ---- rows of a copies file
 
 -- A row adds nothing exactly if its key is kept or it is refused.
-adds-row : (H : History) (x : CopiesRow) → adds H (row_request x) ≡ (is_none (kept_of H Desk (request_text (row_command x))) && is_none (refusal H Desk (row_command x)))
+adds-row : (H : History) (x : CopiesRow)
+    → adds H (row_request x) ≡ (is_none (kept_of H Desk (request_text (row_command x))) && is_none (refusal H Desk (row_command x)))
 adds-row H x = go (is_none (kept_of H Desk (request_text (row_command x))))
   where
-    go : (b : Bool) → (elim b as (λ _. Bool) [ true ↦ is_none (refusal H Desk (row_command x)) | false ↦ false ]) ≡ (b && is_none (refusal H Desk (row_command x)))
+    go : (b : Bool) → (elim b as (λ _. Bool) [ true ↦ is_none (refusal H Desk (row_command x)) | false ↦ false ]) ≡ (b
+        && is_none (refusal H Desk (row_command x)))
     go true = refl
     go false = refl
 
@@ -88,11 +91,16 @@ either-later false true false d f g e = g refl
 either-later false false c d f g e = let never : ⊥ = cc in absurd never
 
 -- A row that is refused is refused after another row.
-still_refused : (H : History) (x y : CopiesRow) → is_none (refusal H Desk (row_command x)) ≡ false → is_none (refusal (event_of (row_request y) ∷ H) Desk (row_command x)) ≡ false
+still_refused : (H : History) (x y : CopiesRow) → is_none (refusal H Desk (row_command x)) ≡ false
+    → is_none (refusal (event_of (row_request y) ∷ H) Desk (row_command x)) ≡ false
 still_refused H x y e =
-    let before : passes (not (is_within_limits (row_command x))) (not (has_branch H x.home)) (differs_title H x.title x.text || differs_copy H x.copy x.title x.kind x.home x.price) ≡ false =
-    sym (none-failing (not (is_within_limits (row_command x))) (not (has_branch H x.home)) (differs_title H x.title x.text || differs_copy H x.copy x.title x.kind x.home x.price)) ∙ e in
-    none-failing (not (is_within_limits (row_command x))) (not (has_branch H x.home)) (differs_title (event_of (row_request y) ∷ H) x.title x.text || differs_copy (event_of (row_request y) ∷ H) x.copy x.title x.kind x.home x.price)
+    let before : passes (not (is_within_limits (row_command x))) (not (has_branch H x.home))
+    (differs_title H x.title x.text || differs_copy H x.copy x.title x.kind x.home x.price) ≡ false =
+    sym (none-failing (not (is_within_limits (row_command x))) (not (has_branch H x.home))
+    (differs_title H x.title x.text || differs_copy H x.copy x.title x.kind x.home x.price)) ∙ e in
+    none-failing (not (is_within_limits (row_command x))) (not (has_branch H x.home))
+    (differs_title (event_of (row_request y) ∷ H) x.title x.text
+    || differs_copy (event_of (row_request y) ∷ H) x.copy x.title x.kind x.home x.price)
     ∙ refused-later (not (is_within_limits (row_command x))) (not (has_branch H x.home)) _ _
     (either-later (differs_title H x.title x.text) (differs_copy H x.copy x.title x.kind x.home x.price) _ _
     (differs-later (λ t. not (bytes_eq t x.text)) (title_of H x.title) _)
@@ -112,8 +120,10 @@ settled-later H x y e = adds-row (after_one H (row_request y)) x ∙ go (kept_of
     both-false false b f = refl
 
     go : (o : Option Kept) → kept_of H Desk (request_text (row_command x)) ≡ o → (is_none o && is_none (refusal H Desk (row_command x))) ≡ false
-        → (is_none (kept_of (after_one H (row_request y)) Desk (request_text (row_command x))) && is_none (refusal (after_one H (row_request y)) Desk (row_command x))) ≡ false
-    go (Some k) d f = ap (λ o. is_none o && is_none (refusal (after_one H (row_request y)) Desk (row_command x))) (kept-one H (row_request y) Desk (request_text (row_command x)) k d)
+        → (is_none (kept_of (after_one H (row_request y)) Desk (request_text (row_command x)))
+        && is_none (refusal (after_one H (row_request y)) Desk (row_command x))) ≡ false
+    go (Some k) d f = ap (λ o. is_none o && is_none (refusal (after_one H (row_request y)) Desk (row_command x)))
+        (kept-one H (row_request y) Desk (request_text (row_command x)) k d)
     go None d f = both-false _ _ (refused f (adds H (row_request y)) refl)
 
 -- A row adds nothing right after itself.

@@ -30,11 +30,13 @@ same_owner-self Desk = refl
 same_owner-self (Reader p) = eq-eqb p p refl
 
 -- An owner's key that is kept stays kept with its text and reply.
-kept-event : (H : History) (r : Request) (o : Owner) (k : List ℕ) (x : Kept) → kept_of H (owner_of r.caller) r.key ≡ None → kept_of H o k ≡ Some x → kept_of (event_of r ∷ H) o k ≡ Some x
+kept-event : (H : History) (r : Request) (o : Owner) (k : List ℕ) (x : Kept) → kept_of H (owner_of r.caller) r.key ≡ None
+    → kept_of H o k ≡ Some x → kept_of (event_of r ∷ H) o k ≡ Some x
 kept-event H r o k x fresh kept = go (same_owner (owner_of r.caller) o && bytes_eq r.key k) refl
   where
     go : (b : Bool) → (same_owner (owner_of r.caller) o && bytes_eq r.key k) ≡ b
-        → (elim b as (λ _. Option Kept) [ true ↦ Some (record { text = request_text r.command; reply = accepted H r.command }) | false ↦ kept_of H o k ]) ≡ Some x
+        → (elim b as (λ _. Option Kept)
+        [ true ↦ Some (record { text = request_text r.command; reply = accepted H r.command }) | false ↦ kept_of H o k ]) ≡ Some x
     go true e =
         let parts : (same_owner (owner_of r.caller) o ≡ true) × (bytes_eq r.key k ≡ true) = and_parts _ _ e in
         let owner : owner_of r.caller ≡ o = same_owner-is _ _ parts.0 in
@@ -59,9 +61,12 @@ abbrev pub kept_by : History → Request → Kept
 kept_by H r = record { text = request_text r.command; reply = accepted H r.command }
 
 kept-new : (H : History) (r : Request) → kept_of (event_of r ∷ H) (owner_of r.caller) r.key ≡ Some (kept_by H r)
-kept-new H r = go (same_owner (owner_of r.caller) (owner_of r.caller)) (bytes_eq r.key r.key) (same_owner-self (owner_of r.caller)) ((bytes_eq-Decides r.key r.key).1 refl)
+kept-new H r = go (same_owner (owner_of r.caller) (owner_of r.caller)) (bytes_eq r.key r.key) (same_owner-self (owner_of r.caller))
+    ((bytes_eq-Decides r.key r.key).1 refl)
   where
-    go : (x y : Bool) → x ≡ true → y ≡ true → (elim (x && y) as (λ _. Option Kept) [ true ↦ Some (kept_by H r) | false ↦ kept_of H (owner_of r.caller) r.key ]) ≡ Some (kept_by H r)
+    go : (x y : Bool) → x ≡ true → y ≡ true
+        → (elim (x && y) as (λ _. Option Kept) [ true ↦ Some (kept_by H r) | false ↦ kept_of H (owner_of r.caller) r.key ]) ≡ Some
+        (kept_by H r)
     go true true e f = refl
     go false y e f = let never : ⊥ = cc in absurd never
     go true false e f = let never : ⊥ = cc in absurd never
@@ -78,7 +83,8 @@ reply_at true true a k H r e f = let never : ⊥ = cc in absurd never
 reply_at false y a k H r e f = let never : ⊥ = cc in absurd never
 
 -- An allowed request that is no page is replied to by its key.
-reply-by_key : (H : History) (r : Request) → is_allowed H r.caller r.command ≡ true → is_page r.command ≡ false → reply_to H r ≡ reply_by_key H r (kept_of H (owner_of r.caller) r.key)
+reply-by_key : (H : History) (r : Request) → is_allowed H r.caller r.command ≡ true → is_page r.command ≡ false
+    → reply_to H r ≡ reply_by_key H r (kept_of H (owner_of r.caller) r.key)
 reply-by_key H r allowed changes = reply_at _ _ (answer H (owner_of r.caller) r.command) (kept_of H (owner_of r.caller) r.key) H r allowed changes
 
 answer-accepted : (H : History) (o : Owner) (r : Request) → refusal H o r.command ≡ None → answer H o r.command ≡ accepted H r.command
@@ -94,7 +100,8 @@ reply-first H r e =
 
 -- ---- the reply of its repetition
 
-pub repeat-reply : (H : History) (r : Request) (x : Kept) → is_allowed H r.caller r.command ≡ true → is_page r.command ≡ false → kept_of H (owner_of r.caller) r.key ≡ Some x
+pub repeat-reply : (H : History) (r : Request) (x : Kept) → is_allowed H r.caller r.command ≡ true → is_page r.command ≡ false
+    → kept_of H (owner_of r.caller) r.key ≡ Some x
     → x.text ≡ request_text r.command → reply_to H r ≡ x.reply
 repeat-reply H r x allowed changes kept text =
     reply-by_key H r allowed changes ∙ ap (reply_by_key H r) kept
@@ -110,7 +117,10 @@ pub acts_once : (H : History) (first again : Request) (between : List Request) �
     → is_page again.command ≡ false → is_allowed (after H (first ∷ between)) again.caller again.command ≡ true
     → (after_one (after H (first ∷ between)) again ≡ after H (first ∷ between)) × (reply_to (after H (first ∷ between)) again ≡ reply_to H first)
 acts_once H first again between adding owner key text changes allowed = (
-  ap (λ b. elim b as (λ _. History) [ true ↦ event_of again ∷ after (after_one H first) between | false ↦ after (after_one H first) between ]) (repeat-adds_not (after (after_one H first) between) again (kept_by H first) kept (adds (after (after_one H first) between) again) refl),
+  ap (λ b. elim b as (λ _. History)
+      [ true ↦ event_of again ∷ after (after_one H first) between | false ↦ after (after_one H first) between ])
+      (repeat-adds_not (after (after_one H first) between) again (kept_by H first) kept
+      (adds (after (after_one H first) between) again) refl),
   repeat-reply (after (after_one H first) between) again (kept_by H first) allowed changes kept (sym text) ∙ sym (reply-first H first adding),
 )
   where

@@ -17,7 +17,8 @@ use Rattle.terms.specs.declared.row.HoldState.TheVariants.{Waiting, Ready, Fille
 use Rattle.terms.specs.declared.row.TransitRow.{TransitRow}
 use Rattle.terms.specs.declared.row.LineRow.{LineRow}
 use Rattle.terms.specs.declared.row.KeptRow.{KeptRow}
-use Rattle.model.specs.History.{History, BranchFacts, branch_of, KindFacts, kind_of, Terms, rule_of, PatronFacts, patron_of, title_of, CopyFacts, copy_of, HoldFacts, hold_of}
+use Rattle.model.specs.History.{History, branch_of, kind_of, rule_of, patron_of, title_of}
+use Rattle.model.specs.History.{copy_of}
 use Rattle.model.specs.Places.{Place, Nowhere, Shelf, HoldShelf, Transit, Loan, MissingCopy, WithdrawnCopy, place, state, is_kept_for, kept_for, limit, goal_of}
 use Rattle.model.specs.Loans.{LoanFacts, loan_of, due, ended, renewals, renewals_left}
 use Rattle.model.specs.Accounts.{lines}
@@ -25,7 +26,8 @@ use Rattle.model.specs.Invariant.{Invariant}
 use Rattle.model.specs.Requests.{IsLegal, kept_of}
 use Rattle.model.specs.DueDays.{HasWholeWeeks, IsLimit, comes_to_shelf}
 use Rattle.model.specs.Forms.{HasForms}
-use Rattle.model.specs.Picture.{picture, branch_columns, kind_columns, rule_columns, patron_columns, copy_columns, loan_columns, if_ready, transit_at, nth_line, line_columns, kept_columns}
+use Rattle.model.specs.Picture.{picture, branch_columns, kind_columns, rule_columns, patron_columns, copy_columns, loan_columns, if_ready}
+use Rattle.model.specs.Picture.{transit_at, nth_line, line_columns, kept_columns}
 use Rattle.model.proofs.Bindings.{kept-is, find-some}
 use Rattle.model.proofs.ClaimsLaw.{map-some, hold-facts}
 use Rattle.model.proofs.DueDayLaws.{due-is}
@@ -44,10 +46,12 @@ limit-in (e ∷ H) h d is = go (comes_to_shelf H e.command h) (limit-in H h d) i
   where
     go : (x : Bool) → (IsLimit H h d → IsDayNumber d)
         → (elim x as (λ _. Type 0) [
-          | true ↦ Rattle.model.specs.Calendar.IsLeast (Rattle.model.specs.History.is_open H (goal_of H h)) (Rattle.model.specs.History.today H + unwrap_or (option_map (λ r. r.pickup) (branch_of H (goal_of H h))) 0) d
+          | true ↦ Rattle.model.specs.Calendar.IsLeast (Rattle.model.specs.History.is_open H (goal_of H h))
+              (Rattle.model.specs.History.today H + unwrap_or (option_map (λ r. r.pickup) (branch_of H (goal_of H h))) 0) d
           | false ↦ IsLimit H h d
         ]) → IsDayNumber d
-    go true before set = least-in H (goal_of H h) (Rattle.model.specs.History.today H + unwrap_or (option_map (λ r. r.pickup) (branch_of H (goal_of H h))) 0) d set
+    go true before set = least-in H (goal_of H h)
+        (Rattle.model.specs.History.today H + unwrap_or (option_map (λ r. r.pickup) (branch_of H (goal_of H h))) 0) d set
     go false before old = before old
 
 module _ (H : History) (legal : IsLegal H) (forms : HasForms H) where

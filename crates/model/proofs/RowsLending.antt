@@ -1,7 +1,8 @@
 -- Worked examples of lending: due days, renewals, fines, accounts and keys.
 use Rattle.std.specs.Prelude.{◌≡◌, List, [], ◌∷◌, ◌++◌, length, codes, refl, None}
 use Rattle.std.specs.Fmt.{digits}
-use Rattle.terms.specs.declared.command.Command.TheVariants.{BeginDay, Branch, Week, CloseDay, OpenDay, Kind, Rule, Acquire, CheckOut, CheckIn, Renew, PlaceHold, CancelHold, Missing, Withdraw, Pay, Waive, Page}
+use Rattle.terms.specs.declared.command.Command.TheVariants.{BeginDay, Branch, Week, CloseDay, OpenDay, Kind, Rule, Acquire, CheckOut}
+use Rattle.terms.specs.declared.command.Command.TheVariants.{CheckIn, Renew, PlaceHold, CancelHold, Missing, Withdraw, Pay, Waive, Page}
 use Rattle.terms.specs.declared.command.Request.{Request}
 use Rattle.terms.specs.Texts.{request_text, command_words, reply_text, reply_words, routed_words}
 use Rattle.model.specs.History.{loans}
@@ -76,7 +77,8 @@ missing_copy_is_charged = gives refl
 -- Who owes more than the limit of the kind may not renew; who owes just that may.
 debt_stops_renewals : Gives ground
     (desk (CheckOut 1 10 1 ∷ CheckOut 1 11 1 ∷ Missing 11 ∷ Renew 1 ∷ Pay 1 1999 ∷ Renew 1 ∷ Pay 1 1 ∷ Renew 1 ∷ []))
-    ("loan 1 due 2026-03-09" ∷ "loan 2 due 2026-03-09" ∷ "fine 0 price 2500" ∷ "refused 38" ∷ "owed 501" ∷ "refused 38" ∷ "owed 500" ∷ "loan 1 due 2026-03-16" ∷ [])
+    ("loan 1 due 2026-03-09" ∷ "loan 2 due 2026-03-09" ∷ "fine 0 price 2500" ∷ "refused 38" ∷ "owed 501" ∷ "refused 38" ∷ "owed 500"
+    ∷ "loan 1 due 2026-03-16" ∷ [])
 unfolding digits reply_text reply_words routed_words
 debt_stops_renewals = gives refl
 
@@ -95,7 +97,9 @@ unfolding digits reply_text reply_words routed_words request_text command_words
 payment_is_booked_once = gives refl
 
 -- The fine, the price and the payment are the three lines of that account.
-payment_is_one_line : length (account (after ground (desk (CheckOut 1 10 1 ∷ BeginDay 20529 ∷ Missing 10 ∷ []) ++ by_desk (codes "p1") (Pay 1 2600) ∷ by_desk (codes "p1") (Pay 1 2600) ∷ [])) 1) ≡ 3
+payment_is_one_line : length (account
+    (after ground (desk (CheckOut 1 10 1 ∷ BeginDay 20529 ∷ Missing 10 ∷ []) ++ by_desk (codes "p1") (Pay 1 2600)
+    ∷ by_desk (codes "p1") (Pay 1 2600) ∷ [])) 1) ≡ 3
 unfolding digits
 payment_is_one_line = refl
 
@@ -166,15 +170,18 @@ patrons_see_their_own = gives refl
 -- The rows of a copies file that come again change nothing, and another text of a title is refused.
 copies_file_comes_again : Gives ground
     (by_file (Acquire 50 500 1 1 1500 (codes "Maps, Old and New")) ∷ by_file (Acquire 51 500 1 2 1500 (codes "Maps, Old and New"))
-    ∷ by_file (Acquire 50 500 1 1 1500 (codes "Maps, Old and New")) ∷ by_file (Acquire 51 500 1 2 1500 (codes "Maps, Old and New")) ∷ by_file (Acquire 52 501 2 1 700 (codes "Winter Bees"))
-    ∷ by_file (Acquire 50 500 1 1 1500 (codes "Maps, Old and New")) ∷ by_file (Acquire 51 500 1 2 1500 (codes "Maps, Old and New")) ∷ by_file (Acquire 52 501 2 1 700 (codes "Winter Birds")) ∷ [])
+    ∷ by_file (Acquire 50 500 1 1 1500 (codes "Maps, Old and New")) ∷ by_file (Acquire 51 500 1 2 1500 (codes "Maps, Old and New"))
+    ∷ by_file (Acquire 52 501 2 1 700 (codes "Winter Bees"))
+    ∷ by_file (Acquire 50 500 1 1 1500 (codes "Maps, Old and New")) ∷ by_file (Acquire 51 500 1 2 1500 (codes "Maps, Old and New"))
+    ∷ by_file (Acquire 52 501 2 1 700 (codes "Winter Birds")) ∷ [])
     ("ok" ∷ "ok" ∷ "ok" ∷ "ok" ∷ "ok" ∷ "ok" ∷ "ok" ∷ "refused 20" ∷ [])
 unfolding digits reply_text reply_words routed_words request_text command_words
 copies_file_comes_again = gives refl
 
 -- A row of a copies file that is refused doesn't stop the next.
 copies_file_goes_on : Gives ground
-    (by_file (Acquire 60 600 1 1 900 (codes "Tall Ships")) ∷ by_file (Acquire 60 600 1 1 900 (codes "Tall Ships")) ∷ by_file (Acquire 61 600 1 9 900 (codes "Tall Ships"))
+    (by_file (Acquire 60 600 1 1 900 (codes "Tall Ships")) ∷ by_file (Acquire 60 600 1 1 900 (codes "Tall Ships"))
+    ∷ by_file (Acquire 61 600 1 9 900 (codes "Tall Ships"))
     ∷ by_file (Acquire 61 600 1 2 1000001 (codes "Tall Ships")) ∷ by_file (Acquire 61 600 1 2 900 (codes "Tall Ships")) ∷ [])
     ("ok" ∷ "ok" ∷ "refused 10" ∷ "refused 21" ∷ "ok" ∷ [])
 unfolding digits reply_text reply_words routed_words request_text command_words

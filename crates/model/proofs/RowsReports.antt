@@ -21,7 +21,9 @@ unfolding digits
 page_shows_holds = refl
 
 -- A page with a hold from a later day on, before that day and on it.
-page_shows_first_days : map (λ H. page H 2) (after ground (desk (PlaceHold 2 100 1 (Some 20517) ∷ [])) ∷ after ground (desk (PlaceHold 2 100 1 (Some 20517) ∷ BeginDay 20517 ∷ [])) ∷ [])
+page_shows_first_days : map (λ H. page H 2)
+    (after ground (desk (PlaceHold 2 100 1 (Some 20517) ∷ [])) ∷ after ground (desk (PlaceHold 2 100 1 (Some 20517) ∷ BeginDay 20517 ∷ []))
+    ∷ [])
     ≡ map (λ line. codes "patron 2 owed 0 name Bo Carr" ++ 10 ∷ line)
     (codes "hold 1 at 1 waiting from 2026-03-05 title 100 Rivers of the North" ∷ codes "hold 1 at 1 waiting from 2026-03-05 title 100 Rivers of the North" ∷ [])
 unfolding digits day_text civil_of

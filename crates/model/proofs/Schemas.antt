@@ -10,12 +10,16 @@ use Rattle.terms.specs.declared.row.HoldRow1.{HoldRow1}
 use Rattle.terms.specs.declared.row.HoldState.{HoldState}
 use Rattle.terms.specs.Limits.{InLimits, IsRule1, IsLoan1, IsHold1}
 use Rattle.terms.specs.Schemas.{IsOfSchema1, IsOfSchema2, carried, carried_rule, carried_loan, led_to_2, led_to_3}
-use Rattle.model.specs.History.{Event, History, Terms, rule_of, rule_after, PatronFacts, patron_of, CopyFacts, copy_of, next_loan, HoldFacts, has_begun, hold_made, hold_of, hold_after, next_hold, today}
+use Rattle.model.specs.History.{Event, History, Terms, rule_of, rule_after, PatronFacts, patron_of, CopyFacts, copy_of, next_loan}
+use Rattle.model.specs.History.{HoldFacts, has_begun, hold_made, hold_of, hold_after, next_hold, today}
 use Rattle.model.specs.Places.{place, place_after, state, state_after, kept_for, limit, limit_after_by, first_day_of, is_begun}
 use Rattle.model.specs.Loans.{LoanFacts, loan_of, loan_after, terms_for, no_terms, grace_of}
 use Rattle.model.specs.Picture.{picture, rule_row, rule_columns, loan_row, loan_columns, hold_row, hold_with, hold_by}
-use Rattle.model.specs.Schemas.{AreOf, kept_of_by, IsLegalBy, OldListsStand, is_of_schema_2, AreOfSchema2, IsLegal2, no_grace, FinesWithoutGrace, lines2, sight2, is_of_schema_1, AreOfSchema1, begun_at_once, place1, state1, limit1, lines1, sight1, Schema1IsWithinSchema2, rule1_columns, loan1_columns, hold1_columns, picture1, picture2, OldTablesAreLed}
-use Rattle.model.specs.Accounts.{lines, lines_then}
+use Rattle.model.specs.Schemas.{AreOf, kept_of_by, IsLegalBy, OldListsStand, is_of_schema_2, AreOfSchema2, IsLegal2, no_grace}
+use Rattle.model.specs.Schemas.{FinesWithoutGrace, lines2, sight2, is_of_schema_1, AreOfSchema1, begun_at_once, place1, state1, limit1}
+use Rattle.model.specs.Schemas.{lines1, sight1, Schema1IsWithinSchema2, rule1_columns, loan1_columns, hold1_columns, picture1, picture2}
+use Rattle.model.specs.Schemas.{OldTablesAreLed}
+use Rattle.model.specs.Accounts.{posting, lines, lines_then}
 use Rattle.model.specs.Sights.{Sight, sight}
 use Rattle.model.specs.Checks.{first_failing}
 use Rattle.model.specs.Refusals.{checks_by}
@@ -39,7 +43,8 @@ module _ (is_of : Command → Bool) (sight_of : History → Sight) (same : (H : 
       let before = kept-same H old.1 o k in
       λ i. kept_after e (accepted_by H (shown i) e.command) o k (before i)
 
-  accepted-still : (e : Event) (H : History) → AreOf is_of H → IsAcceptedBy e H (first_failing (checks_by H (sight_of H) e.owner e.command)) (kept_of_by sight_of H e.owner e.key) → IsAccepted e H
+  accepted-still : (e : Event) (H : History) → AreOf is_of H
+      → IsAcceptedBy e H (first_failing (checks_by H (sight_of H) e.owner e.command)) (kept_of_by sight_of H e.owner e.key) → IsAccepted e H
   accepted-still e H old was = record {
     changes = was.changes;
     enrolled = was.enrolled;
@@ -52,7 +57,8 @@ module _ (is_of : Command → Bool) (sight_of : History → Sight) (same : (H : 
   legal-still [] legal = tt
   legal-still (e ∷ H) legal = (accepted-still e H (are-of H legal.2) legal.1, legal-still H legal.2)
 
-  accepted-back : (e : Event) (H : History) → AreOf is_of H → IsAccepted e H → IsAcceptedBy e H (first_failing (checks_by H (sight_of H) e.owner e.command)) (kept_of_by sight_of H e.owner e.key)
+  accepted-back : (e : Event) (H : History) → AreOf is_of H → IsAccepted e H
+      → IsAcceptedBy e H (first_failing (checks_by H (sight_of H) e.owner e.command)) (kept_of_by sight_of H e.owner e.key)
   accepted-back e H old is = record {
     changes = is.changes;
     enrolled = is.enrolled;
@@ -82,7 +88,8 @@ module _ (is_of : Command → Bool) (sight_of : History → Sight) (same : (H : 
 rule-plain-by : (H : History) (x : Command) (k c : ℕ) → IsTrue (is_of_schema_2 x) → ((t : Terms) → rule_of H k c ≡ Some t → t.grace ≡ 0)
     → (t : Terms) → rule_after x k c (rule_of H k c) ≡ Some t → t.grace ≡ 0
 rule-plain-by H (Rule n m period renewals rate most) k c old before t e =
-    set-if (λ q. q.grace ≡ 0) ((n == k) && (m == c)) (record { period = period; renewals = renewals; rate = rate; cap = most; grace = 0 }) (rule_of H k c) (λ _. refl) before t e
+    set-if (λ q. q.grace ≡ 0) ((n == k) && (m == c)) (record { period = period; renewals = renewals; rate = rate; cap = most; grace = 0 })
+    (rule_of H k c) (λ _. refl) before t e
 rule-plain-by H (Grace n m days) k c old before t e = let never : ⊥ = cc in absurd never
 rule-plain-by H _ k c old before t e = before t e
 
@@ -97,7 +104,8 @@ terms-plain H p c old = go (patron_of H p) (copy_of H c)
     of_rule k m (Some t) e = rule-plain H old k m t e
     of_rule k m None e = refl
 
-    go : (x : Option PatronFacts) (y : Option CopyFacts) → (unwrap_or (option_and_then (λ q. option_and_then (λ r. rule_of H q.kind r.kind) y) x) no_terms).grace ≡ 0
+    go : (x : Option PatronFacts) (y : Option CopyFacts)
+        → (unwrap_or (option_and_then (λ q. option_and_then (λ r. rule_of H q.kind r.kind) y) x) no_terms).grace ≡ 0
     go (Some q) (Some r) = of_rule q.kind r.kind (rule_of H q.kind r.kind) refl
     go (Some q) None = refl
     go None y = refl
@@ -105,7 +113,8 @@ terms-plain H p c old = go (patron_of H p) (copy_of H c)
 loan-plain-by : (H : History) (x : Command) (l : ℕ) → AreOfSchema2 H → ((r : LoanFacts) → loan_of H l ≡ Some r → r.terms.grace ≡ 0)
     → (r : LoanFacts) → loan_after H x l (loan_of H l) ≡ Some r → r.terms.grace ≡ 0
 loan-plain-by H (CheckOut p c b) l old before r e =
-    set-if (λ q. q.terms.grace ≡ 0) (next_loan H == l) (record { copy = c; patron = p; branch = b; made = today H; terms = unwrap_or (terms_for H p c) no_terms }) (loan_of H l)
+    set-if (λ q. q.terms.grace ≡ 0) (next_loan H == l)
+    (record { copy = c; patron = p; branch = b; made = today H; terms = unwrap_or (terms_for H p c) no_terms }) (loan_of H l)
     (λ _. terms-plain H p c old) before r e
 loan-plain-by H _ l old before r e = before r e
 
@@ -127,7 +136,7 @@ lines2-same [] old = refl
 lines2-same (e ∷ H) old =
     let graces = grace-same H old.1 in
     let ended = lines2-same H old.1 in
-    λ i. lines_then H (place H) (graces i) e.command (ended i)
+    λ i. lines_then H (place H) (graces i) (posting e.command) (ended i)
 
 -- They show what they showed.
 sight2-same : (H : History) → AreOfSchema2 H → sight2 H ≡ sight H
@@ -165,7 +174,8 @@ within-schema-2 [] old = tt
 within-schema-2 (e ∷ H) old = (within-by e.command old.0, within-schema-2 H old.1)
 
 -- With the commands of schema 1 no hold has a first day.
-no-first_day-by : (H : History) (c : Command) (h : ℕ) → IsTrue (is_of_schema_1 c) → first_day_of H h ≡ None → option_and_then (λ r. r.first_day) (hold_after H (hold_made c) h (hold_of H h)) ≡ None
+no-first_day-by : (H : History) (c : Command) (h : ℕ) → IsTrue (is_of_schema_1 c) → first_day_of H h ≡ None
+    → option_and_then (λ r. r.first_day) (hold_after H (hold_made c) h (hold_of H h)) ≡ None
 no-first_day-by H (PlaceHold p t b None) h old before = go (next_hold H == h)
   where
     go : (x : Bool) → option_and_then (λ r. r.first_day) (cond x (Some (record { patron = p; title = t; branch = b; first_day = None })) (hold_of H h)) ≡ None
@@ -203,7 +213,7 @@ lines1-same (e ∷ H) old =
     let before = places-same H old.1 in
     let graces = grace-same H (within-schema-2 H old.1) in
     let ended = lines1-same H old.1 in
-    λ i. lines_then H (before.0 i) (graces i) e.command (ended i)
+    λ i. lines_then H (before.0 i) (graces i) (posting e.command) (ended i)
 
 -- They show what they showed.
 sight1-same : (H : History) → AreOfSchema1 H → sight1 H ≡ sight H

@@ -1,7 +1,8 @@
 -- In every legal history: what was set is within its limits, no day is closed twice, and a branch that isn't there has no closed days.
 use Rattle.calendar.specs.declared.limits.TheConstants.{MOST_CLOSED_DAYS, FIRST_DAY}
 use Rattle.terms.specs.declared.limits.TheConstants.{LAST_TODAY}
-use Rattle.std.proofs.Common.{◌≡◌, ℕ, suc, ◌≤◌, ◌<◌, ◌==◌, Bool, true, false, cond, not, ◌&&◌, List, [], ◌∷◌, length, replicate, refl, sym, ap, ◌∙◌, subst, arith}
+use Rattle.std.proofs.Common.{◌≡◌, ℕ, suc, ◌≤◌, ◌<◌, ◌==◌, Bool, true, false, cond, not, ◌&&◌, List, [], ◌∷◌, length, replicate, refl, sym}
+use Rattle.std.proofs.Common.{ap, ◌∙◌, subst, arith}
 use Rattle.std.specs.Prelude.{Option, Some, None, is_some, filter, nat_le, nat_lt, slice_index_or}
 use Rattle.std.specs.Option.{option_or}
 use Rattle.std.specs.List.{list_all, IsDistinct, AllByRecursion}
@@ -11,7 +12,8 @@ use Rattle.terms.specs.declared.command.Command.{Command}
 use Rattle.terms.specs.declared.command.Command.TheVariants.{BeginDay, Branch, Week, CloseDay, OpenDay, Rule, Grace, Acquire}
 use Rattle.model.specs.Calendar.{is_single}
 use Rattle.model.specs.Checks.{is_within, is_within_limits, is_small_number, is_large_number}
-use Rattle.model.specs.History.{History, today, today_after, week_of, week_after, singles_of, singles_after, BranchFacts, branch_of, branch_after, Terms, rule_of, rule_after, CopyFacts, copy_of, copy_after}
+use Rattle.model.specs.History.{History, today, today_after, week_of, week_after, singles_of, singles_after, BranchFacts, branch_of}
+use Rattle.model.specs.History.{branch_after, Terms, rule_of, rule_after, CopyFacts, copy_of, copy_after}
 use Rattle.model.specs.Refusals.{refusal, checks, has_branch}
 use Rattle.model.specs.Requests.{IsLegal}
 use Rattle.model.specs.DueDays.{IsWholeWeek, HasWholeWeeks}
@@ -39,14 +41,16 @@ within-le low high n e = leb-true _ _ (and_parts _ _ e).1
 
 rule-short : (n m period renewals rate most : ℕ) → is_within_limits (Rule n m period renewals rate most) ≡ true → (period ≤ 365) × (most ≤ 100000)
 rule-short n m period renewals rate most e =
-    let rest : (is_within 1 365 period ≡ true) × ((is_within 0 99 renewals && (is_within 0 10000 rate && is_within 0 100000 most)) ≡ true) = and_parts _ _ (and_parts _ _ (and_parts _ _ e).1).1 in
+    let rest : (is_within 1 365 period ≡ true) × ((is_within 0 99 renewals && (is_within 0 10000 rate && is_within 0 100000 most)) ≡ true) =
+    and_parts _ _ (and_parts _ _ (and_parts _ _ e).1).1 in
     (within-le 1 365 period rest.0, within-le 0 100000 most (and_parts _ _ (and_parts _ _ rest.1).1).1)
 
 branch-short : (n pickup : ℕ) (name : List ℕ) → is_within_limits (Branch n pickup name) ≡ true → pickup ≤ 60
 branch-short n pickup name e = within-le 0 60 pickup (and_parts _ _ e).1
 
 price-small : (c t k home price : ℕ) (text : List ℕ) → is_within_limits (Acquire c t k home price text) ≡ true → price ≤ 1000000
-price-small c t k home price text e = within-le 0 1000000 price (and_parts (is_small_number k) _ (and_parts (is_large_number t) _ (and_parts (is_large_number c) _ e).1).1).1
+price-small c t k home price text e =
+    within-le 0 1000000 price (and_parts (is_small_number k) _ (and_parts (is_large_number t) _ (and_parts (is_large_number c) _ e).1).1).1
 
 -- ---- days once
 
@@ -66,7 +70,8 @@ apart-filter : (test : ℕ → Bool) (x : ℕ) (s : List ℕ) → AllByRecursion
 apart-filter test x [] a = tt
 apart-filter test x (y ∷ s) a = go (test y) (apart-filter test x s a.1)
   where
-    go : (b : Bool) → AllByRecursion (λ y. (x == y) ≡ false) (filter test s) → AllByRecursion (λ y. (x == y) ≡ false) (cond b (y ∷ filter test s) (filter test s))
+    go : (b : Bool) → AllByRecursion (λ y. (x == y) ≡ false) (filter test s)
+        → AllByRecursion (λ y. (x == y) ≡ false) (cond b (y ∷ filter test s) (filter test s))
     go true rest = (a.0, rest)
     go false rest = rest
 
@@ -95,7 +100,8 @@ module _ (H : History) (inv : SettingLaws H) (o : Owner) where
       room = leb-false _ _ (passed (checks H o (CloseDay n d)) ok).1.1.1.0
 
       go : (x : Bool) → (n == b) ≡ x → length (cond x (d ∷ singles_of H b) (singles_of H b)) ≤ MOST_CLOSED_DAYS
-      go true e = let here : length (singles_of H b) < MOST_CLOSED_DAYS = subst (λ m. length (singles_of H m) < MOST_CLOSED_DAYS) (eqb-true n b e) room in omega (arith, here)
+      go true e = let here : length (singles_of H b) < MOST_CLOSED_DAYS =
+          subst (λ m. length (singles_of H m) < MOST_CLOSED_DAYS) (eqb-true n b e) room in omega (arith, here)
       go false e = inv.few_singles b
   few-step (OpenDay n d) ok b = go (n == b)
     where
@@ -161,12 +167,14 @@ module _ (H : History) (inv : SettingLaws H) (o : Owner) where
       limits : is_within_limits (Rule n m period renewals rate most) ≡ true
       limits = not-false _ (passed (checks H o (Rule n m period renewals rate most)) ok).0
 
-      go : (x : Bool) → cond x (Some (record { period = period; renewals = renewals; rate = rate; cap = most; grace = 0 })) (rule_of H k c) ≡ Some t → (t.period ≤ 365) × (t.cap ≤ 100000)
+      go : (x : Bool) → cond x (Some (record { period = period; renewals = renewals; rate = rate; cap = most; grace = 0 }))
+          (rule_of H k c) ≡ Some t → (t.period ≤ 365) × (t.cap ≤ 100000)
       go true f =
           let same : ◌≡◌ {A = Terms} (record { period = period; renewals = renewals; rate = rate; cap = most; grace = 0 }) t = cc in
           subst (λ q. (q.period ≤ 365) × (q.cap ≤ 100000)) same (rule-short n m period renewals rate most limits)
       go false f = inv.terms k c t f
-  terms-step (Grace n m days) ok k c t e = graced (λ q. (q.period ≤ 365) × (q.cap ≤ 100000)) ((n == k) && (m == c)) days (rule_of H k c) (inv.terms k c) (λ z was. was) t e
+  terms-step (Grace n m days) ok k c t e =
+      graced (λ q. (q.period ≤ 365) × (q.cap ≤ 100000)) ((n == k) && (m == c)) days (rule_of H k c) (inv.terms k c) (λ z was. was) t e
   terms-step _ ok k c t e = inv.terms k c t e
 
   pickups-step : (x : Command) → refusal H o x ≡ None → (b : ℕ) (r : BranchFacts) → branch_after x b (branch_of H b) ≡ Some r → r.pickup ≤ 60
@@ -175,7 +183,8 @@ module _ (H : History) (inv : SettingLaws H) (o : Owner) where
       limits : is_within_limits (Branch n pickup name) ≡ true
       limits = not-false _ (passed (checks H o (Branch n pickup name)) ok).0
 
-      go : (y : Option BranchFacts) (x : Bool) → branch_of H b ≡ y → option_or y (cond x (Some (record { pickup = pickup; name = name })) None) ≡ Some r → r.pickup ≤ 60
+      go : (y : Option BranchFacts) (x : Bool) → branch_of H b ≡ y
+          → option_or y (cond x (Some (record { pickup = pickup; name = name })) None) ≡ Some r → r.pickup ≤ 60
       go (Some z) x d f = inv.pickups b r (d ∙ f)
       go None true d f =
           let same : ◌≡◌ {A = BranchFacts} (record { pickup = pickup; name = name }) r = cc in
@@ -189,7 +198,8 @@ module _ (H : History) (inv : SettingLaws H) (o : Owner) where
       limits : is_within_limits (Acquire n t k home price text) ≡ true
       limits = not-false _ (passed (checks H o (Acquire n t k home price text)) ok).0
 
-      go : (y : Option CopyFacts) (x : Bool) → copy_of H c ≡ y → option_or y (cond x (Some (record { title = t; kind = k; home = home; price = price })) None) ≡ Some r → r.price ≤ 1000000
+      go : (y : Option CopyFacts) (x : Bool) → copy_of H c ≡ y
+          → option_or y (cond x (Some (record { title = t; kind = k; home = home; price = price })) None) ≡ Some r → r.price ≤ 1000000
       go (Some z) x d f = inv.prices c r (d ∙ f)
       go None true d f =
           let same : ◌≡◌ {A = CopyFacts} (record { title = t; kind = k; home = home; price = price }) r = cc in
@@ -240,11 +250,13 @@ not-all [] e = let never : ⊥ = cc in absurd never
 not-all (true ∷ xs) e = let r : (w : ℕ) × (w < length xs) × (slice_index_or xs w false ≡ false) = not-all xs e in (suc r.0, omega (arith, r.1), r.2)
 not-all (false ∷ xs) e = (0, omega arith, refl)
 
-weekdays-step : (H : History) (o : Owner) (x : Command) (b : ℕ) → IsWholeWeek x → refusal H o x ≡ None → HasOpenWeekday (week_of H b) → HasOpenWeekday (week_after x b (week_of H b))
+weekdays-step : (H : History) (o : Owner) (x : Command) (b : ℕ) → IsWholeWeek x → refusal H o x ≡ None → HasOpenWeekday (week_of H b)
+    → HasOpenWeekday (week_after x b (week_of H b))
 weekdays-step H o (Week n closed) b whole ok before = go (n == b)
   where
     some : HasOpenWeekday closed
-    some = let w : (w : ℕ) × (w < length closed) × (slice_index_or closed w false ≡ false) = not-all closed (passed (checks H o (Week n closed)) ok).1.0 in (w.0, omega (arith, w.1, whole), w.2)
+    some = let w : (w : ℕ) × (w < length closed) × (slice_index_or closed w false ≡ false) =
+        not-all closed (passed (checks H o (Week n closed)) ok).1.0 in (w.0, omega (arith, w.1, whole), w.2)
 
     go : (x : Bool) → HasOpenWeekday (cond x closed (week_of H b))
     go true = some

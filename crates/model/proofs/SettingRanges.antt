@@ -14,7 +14,9 @@ use Rattle.terms.specs.declared.command.Command.{Command}
 use Rattle.terms.specs.declared.command.Command.TheVariants.{Branch, Week, CloseDay, OpenDay, Kind, Rule, Grace, Patron, Acquire}
 use Rattle.model.specs.Calendar.{is_single}
 use Rattle.model.specs.Checks.{is_within, is_within_limits, is_small_number, is_large_number}
-use Rattle.model.specs.History.{History, week_of, week_after, singles_of, singles_after, BranchFacts, branch_of, branch_after, KindFacts, kind_of, kind_after, Terms, with_grace, rule_of, rule_after, PatronFacts, patron_of, patron_after, title_of, title_after, CopyFacts, copy_of, copy_after}
+use Rattle.model.specs.History.{History, week_of, week_after, singles_of, singles_after, BranchFacts, branch_of, branch_after, KindFacts}
+use Rattle.model.specs.History.{kind_of, kind_after, Terms, with_grace, rule_of, rule_after, PatronFacts, patron_of, patron_after, title_of}
+use Rattle.model.specs.History.{title_after, CopyFacts, copy_of, copy_after}
 use Rattle.model.specs.Refusals.{refusal, checks, has_branch}
 use Rattle.model.specs.Requests.{IsLegal}
 use Rattle.model.specs.Forms.{HasForms}
@@ -64,16 +66,19 @@ pub none-some : {A : Type 0} (y : A) → ◌≡◌ {A = Option A} None (Some y) 
 none-some y e = let never : ⊥ = cc in never
 
 -- The row that is set if the test tells so, else the row before.
-pub set-if : {A : Type 0} (P : A → Type 0) (x : Bool) (f : A) (y : Option A) → (x ≡ true → P f) → ((z : A) → y ≡ Some z → P z) → (r : A) → cond x (Some f) y ≡ Some r → P r
+pub set-if : {A : Type 0} (P : A → Type 0) (x : Bool) (f : A) (y : Option A) → (x ≡ true → P f) → ((z : A) → y ≡ Some z → P z) → (r : A)
+    → cond x (Some f) y ≡ Some r → P r
 set-if P true f y new old r e = subst P (some-same f r e) (new refl)
 set-if P false f y new old r e = old r e
 
 -- A row that is set under its key keeps to what it has to if the new one does under that key, and the old one did.
-pub set-at : {A : Type 0} (P : ℕ → A → Type 0) (n k : ℕ) (f : A) (y : Option A) → P n f → ((z : A) → y ≡ Some z → P k z) → (r : A) → cond (n == k) (Some f) y ≡ Some r → P k r
+pub set-at : {A : Type 0} (P : ℕ → A → Type 0) (n k : ℕ) (f : A) (y : Option A) → P n f → ((z : A) → y ≡ Some z → P k z) → (r : A)
+    → cond (n == k) (Some f) y ≡ Some r → P k r
 set-at P n k f y new old r e = set-if (P k) (n == k) f y (λ d. subst (λ m. P m f) (eqb-true n k d) new) old r e
 
 -- The same for a row that is made once and stays.
-pub make-at : {A : Type 0} (P : ℕ → A → Type 0) (n k : ℕ) (f : A) (y : Option A) → P n f → ((z : A) → y ≡ Some z → P k z) → (r : A) → option_or y (cond (n == k) (Some f) None) ≡ Some r → P k r
+pub make-at : {A : Type 0} (P : ℕ → A → Type 0) (n k : ℕ) (f : A) (y : Option A) → P n f → ((z : A) → y ≡ Some z → P k z) → (r : A)
+    → option_or y (cond (n == k) (Some f) None) ≡ Some r → P k r
 make-at P n k f (Some z) new old r e = old r e
 make-at P n k f None new old r e = set-at P n k f None new (λ z d. absurd (none-some z d)) r e
 
@@ -109,7 +114,8 @@ rule-within n m period renewals rate most e =
 grace-within : (n m days : ℕ) → is_within_limits (Grace n m days) ≡ true → days ≤ 365
 grace-within n m days e = (within 0 365 days (and_parts (is_small_number m) (is_within 0 365 days) (and_parts (is_small_number n) _ e).1).1).1
 
-copy-within : (c t k home price : ℕ) (text : List ℕ) → is_within_limits (Acquire c t k home price text) ≡ true → IsLarge c × IsLarge t × IsSmall k × (price ≤ 1000000)
+copy-within : (c t k home price : ℕ) (text : List ℕ) → is_within_limits (Acquire c t k home price text) ≡ true → IsLarge c × IsLarge t
+    × IsSmall k × (price ≤ 1000000)
 copy-within c t k home price text e =
     let a = and_parts (is_large_number c) _ e in
     let b = and_parts (is_large_number t) _ a.1 in
@@ -127,7 +133,8 @@ single-filter : (test : ℕ → Bool) (s : List ℕ) (d : ℕ) → is_single (fi
 single-filter test [] d e = e
 single-filter test (x ∷ s) d e = go (test x) (x == d) refl (single-filter test s d) e
   where
-    go : (a b : Bool) → (x == d) ≡ b → (is_single (filter test s) d ≡ true → is_single s d ≡ true) → is_single (cond a (x ∷ filter test s) (filter test s)) d ≡ true → (b || is_single s d) ≡ true
+    go : (a b : Bool) → (x == d) ≡ b → (is_single (filter test s) d ≡ true → is_single s d ≡ true)
+        → is_single (cond a (x ∷ filter test s) (filter test s)) d ≡ true → (b || is_single s d) ≡ true
     go a true q rest f = refl
     go true false q rest f = let later : is_single (filter test s) d ≡ true = rw q at f in rest later
     go false false q rest f = rest f
@@ -146,7 +153,8 @@ module _ (H : History) (inv : SettingRanges H) (o : Owner) where
   branches-step : (x : Command) → IsCommand x → refusal H o x ≡ None → (b : ℕ) (r : BranchFacts) → branch_after x b (branch_of H b) ≡ Some r → BranchIn b r
   branches-step (Branch n pickup name) form ok b r e =
       let limits = and_parts (is_small_number n) (is_within 0 60 pickup) (not-false _ (passed (checks H o (Branch n pickup name)) ok).0) in
-      make-at BranchIn n b (record { pickup = pickup; name = name }) (branch_of H b) (within 1 99 n limits.0, (within 0 60 pickup limits.1).1, form.1.1.0) (inv.branches b) r e
+      make-at BranchIn n b (record { pickup = pickup; name = name }) (branch_of H b)
+      (within 1 99 n limits.0, (within 0 60 pickup limits.1).1, form.1.1.0) (inv.branches b) r e
   branches-step _ form ok b r e = inv.branches b r e
 
   weeks-step : (x : Command) → IsCommand x → refusal H o x ≡ None → (b : ℕ) → AreWeekdays (week_after x b (week_of H b))
@@ -157,7 +165,8 @@ module _ (H : History) (inv : SettingRanges H) (o : Owner) where
       go false = inv.weeks b
   weeks-step _ form ok b = inv.weeks b
 
-  singles-step : (x : Command) → IsCommand x → refusal H o x ≡ None → (b d : ℕ) → is_single (singles_after x b (singles_of H b)) d ≡ true → IsSmall b × IsDayNumber d
+  singles-step : (x : Command) → IsCommand x → refusal H o x ≡ None → (b d : ℕ) → is_single (singles_after x b (singles_of H b)) d ≡ true
+      → IsSmall b × IsDayNumber d
   singles-step (CloseDay n day) form ok b d e = go (n == b) refl e
     where
       small : IsSmall n
@@ -189,7 +198,8 @@ module _ (H : History) (inv : SettingRanges H) (o : Owner) where
       let terms : Terms = record { period = period; renewals = renewals; rate = rate; cap = most; grace = 0 } in
       let new : RuleIn n m terms = (limits.0, limits.1, (limits.2, limits.3, limits.4, limits.5, omega arith)) in
       set-if (RuleIn k c) ((n == k) && (m == c)) terms (rule_of H k c)
-      (λ d. let q = and_parts _ _ d in subst (λ b. RuleIn k b terms) (eqb-true m c q.1) (subst (λ a. RuleIn a m terms) (eqb-true n k q.0) new)) (inv.rules k c) t e
+      (λ d. let q = and_parts _ _ d in subst (λ b. RuleIn k b terms) (eqb-true m c q.1)
+      (subst (λ a. RuleIn a m terms) (eqb-true n k q.0) new)) (inv.rules k c) t e
   rules-step (Grace n m days) ok k c t e =
       let most = grace-within n m days (not-false _ (passed (checks H o (Grace n m days)) ok).0) in
       graced (RuleIn k c) ((n == k) && (m == c)) days (rule_of H k c) (inv.rules k c) (λ z was. (was.0, was.1, (was.2.0, was.2.1, was.2.2, was.2.3, most))) t e
@@ -198,7 +208,8 @@ module _ (H : History) (inv : SettingRanges H) (o : Owner) where
   patrons-step : (x : Command) → IsCommand x → refusal H o x ≡ None → (p : ℕ) (r : PatronFacts) → patron_after x p (patron_of H p) ≡ Some r → PatronIn p r
   patrons-step (Patron n k card_key name) form ok p r e =
       let limits = and_parts (is_large_number n) (is_small_number k) (not-false _ (passed (checks H o (Patron n k card_key name)) ok).0) in
-      make-at PatronIn n p (record { kind = k; card_key = card_key; name = name }) (patron_of H p) (within 1 9999999 n limits.0, within 1 99 k limits.1, form.1.1.0, form.1.1.1.0) (inv.patrons p) r e
+      make-at PatronIn n p (record { kind = k; card_key = card_key; name = name }) (patron_of H p)
+      (within 1 9999999 n limits.0, within 1 99 k limits.1, form.1.1.0, form.1.1.1.0) (inv.patrons p) r e
   patrons-step _ form ok p r e = inv.patrons p r e
 
   titles-step : (x : Command) → IsCommand x → refusal H o x ≡ None → (t : ℕ) (text : List ℕ) → title_after x t (title_of H t) ≡ Some text → TitleIn t text
@@ -211,7 +222,8 @@ module _ (H : History) (inv : SettingRanges H) (o : Owner) where
   copies-step (Acquire n t k home price text) ok c r e =
       let pass = passed (checks H o (Acquire n t k home price text)) ok in
       let limits = copy-within n t k home price text (not-false _ pass.0) in
-      make-at CopyIn n c (record { title = t; kind = k; home = home; price = price }) (copy_of H c) (limits.0, limits.1, limits.2, small-branch home pass.1.0, limits.3) (inv.copies c) r e
+      make-at CopyIn n c (record { title = t; kind = k; home = home; price = price }) (copy_of H c)
+      (limits.0, limits.1, limits.2, small-branch home pass.1.0, limits.3) (inv.copies c) r e
   copies-step _ ok c r e = inv.copies c r e
 
 -- ---- every legal history

@@ -52,33 +52,43 @@ abbrev pub price_line : History → ℕ → Place → List Line
 price_line H c (Loan l) = line_of H (borrower H l) Price (Some l) (price_of H c)
 price_line H c _ = []
 
--- The lines that a command makes, by where copies are and the grace days of loans.
-abbrev pub lines_made : History → (ℕ → Place) → (ℕ → ℕ) → Command → List Line
-lines_made H places graces (CheckIn c b) = fine_line H graces (places c)
-lines_made H places graces (Missing c) = fine_line H graces (places c) ++ price_line H c (places c)
-lines_made H places graces (Pay p n) = line_of H p Payment None n
-lines_made H places graces (Waive p n) = line_of H p Waiver None n
-lines_made H places graces _ = []
+-- What a command posts to accounts: what a copy that comes back costs, or one that is lost, or what settles a part of what a patron owes.
+pub data Posting : Type 0 where
+  Returned : ℕ → Posting
+  Lost : ℕ → Posting
+  Settled : ℕ → Sort → ℕ → Posting
+  NoPosting : Posting
+
+abbrev pub posting : Command → Posting
+posting (CheckIn c b) = Returned c
+posting (Missing c) = Lost c
+posting (Pay p n) = Settled p Payment n
+posting (Waive p n) = Settled p Waiver n
+posting _ = NoPosting
+
+-- The lines of a posting, by where copies are and the grace days of loans.
+abbrev pub lines_posted : History → (ℕ → Place) → (ℕ → ℕ) → Posting → List Line
+lines_posted H places graces (Returned c) = fine_line H graces (places c)
+lines_posted H places graces (Lost c) = fine_line H graces (places c) ++ price_line H c (places c)
+lines_posted H places graces (Settled p sort n) = line_of H p sort None n
+lines_posted H places graces NoPosting = []
 
 -- The lines that a command makes.
 abbrev pub lines_by : History → Command → List Line
-lines_by H c = lines_made H (place H) (grace_of H) c
+lines_by H c = lines_posted H (place H) (grace_of H) (posting c)
 
--- A command adds its lines at the end.
-abbrev pub lines_then : History → (ℕ → Place) → (ℕ → ℕ) → Command → List Line → List Line
-lines_then H places graces (CheckIn c b) before = before ++ lines_made H places graces (CheckIn c b)
-lines_then H places graces (Missing c) before = before ++ lines_made H places graces (Missing c)
-lines_then H places graces (Pay p n) before = before ++ lines_made H places graces (Pay p n)
-lines_then H places graces (Waive p n) before = before ++ lines_made H places graces (Waive p n)
-lines_then H places graces _ before = before
+-- A posting adds its lines at the end.
+abbrev pub lines_then : History → (ℕ → Place) → (ℕ → ℕ) → Posting → List Line → List Line
+lines_then H places graces NoPosting before = before
+lines_then H places graces made before = before ++ lines_posted H places graces made
 
-abbrev pub lines_after : History → Command → List Line → List Line
-lines_after H c before = lines_then H (place H) (grace_of H) c before
+abbrev pub lines_after : History → Posting → List Line → List Line
+lines_after H made before = lines_then H (place H) (grace_of H) made before
 
 -- All lines of all patrons, the oldest first.
 abbrev pub lines : History → List Line
 lines [] = []
-lines (e ∷ H) = lines_after H e.command (lines H)
+lines (e ∷ H) = lines_after H (posting e.command) (lines H)
 
 -- The number of the next line.
 abbrev pub next_line : History → ℕ

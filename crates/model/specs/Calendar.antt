@@ -1,6 +1,7 @@
 -- Days on which a branch is open. A day is the number of days since 1970-01-01.
 use Rattle.calendar.specs.declared.limits.TheConstants.{FIRST_DAY, LAST_DAY}
-use Rattle.std.specs.Prelude.{ℕ, zero, suc, ◌+◌, ◌-◌, ◌<◌, ◌≤◌, Bool, true, false, not, ◌&&◌, ◌==◌, nat_le, if◌then◌else◌, List, slice_index_or, Option, Some, None, IsTrue, IsFalse}
+use Rattle.std.specs.Prelude.{ℕ, zero, suc, ◌+◌, ◌-◌, ◌<◌, ◌≤◌, Bool, true, false, not, ◌&&◌, ◌==◌, nat_le, if◌then◌else◌, List}
+use Rattle.std.specs.Prelude.{slice_index_or, Option, Some, None, IsTrue, IsFalse}
 use Rattle.std.specs.List.{list_any}
 use Rattle.calendar.specs.Openings.{weekday}
 

@@ -1,6 +1,7 @@
 -- Tables of checks, and the limits of numbers.
 use Rattle.std.specs.Prelude.{ℕ, nat_le, Bool, true, false, ◌&&◌, List, [], ◌∷◌, Option, Some, None}
-use Rattle.terms.specs.declared.limits.TheConstants.{LAST_SMALL_NUMBER, LAST_LARGE_NUMBER, LONGEST_PERIOD, LONGEST_PICKUP, MOST_RENEWALS, MOST_GRACE, MOST_ALLOWED, HIGHEST_RATE, HIGHEST_CAP, HIGHEST_PRICE, HIGHEST_DEBT}
+use Rattle.terms.specs.declared.limits.TheConstants.{LAST_SMALL_NUMBER, LAST_LARGE_NUMBER, LONGEST_PERIOD, LONGEST_PICKUP, MOST_RENEWALS}
+use Rattle.terms.specs.declared.limits.TheConstants.{MOST_GRACE, MOST_ALLOWED, HIGHEST_RATE, HIGHEST_CAP, HIGHEST_PRICE, HIGHEST_DEBT}
 use Rattle.terms.specs.declared.refusal.Refusal.{Refusal}
 use Rattle.terms.specs.declared.command.Command.{Command}
 use Rattle.terms.specs.declared.command.Command.TheVariants.{Branch, Kind, Rule, Grace, Patron, Acquire}
@@ -29,9 +30,12 @@ is_large_number n = is_within 1 LAST_LARGE_NUMBER n
 -- The numbers of the command that have limits are within them.
 abbrev pub is_within_limits : Command → Bool
 is_within_limits (Branch branch pickup name) = is_small_number branch && is_within 0 LONGEST_PICKUP pickup
-is_within_limits (Kind kind loans holds debt) = is_small_number kind && (is_within 0 MOST_ALLOWED loans && (is_within 0 MOST_ALLOWED holds && is_within 0 HIGHEST_DEBT debt))
+is_within_limits (Kind kind loans holds debt) =
+    is_small_number kind && (is_within 0 MOST_ALLOWED loans && (is_within 0 MOST_ALLOWED holds && is_within 0 HIGHEST_DEBT debt))
 is_within_limits (Rule kind copy_kind period renewals rate cap) =
-    is_small_number kind && (is_small_number copy_kind && (is_within 1 LONGEST_PERIOD period && (is_within 0 MOST_RENEWALS renewals && (is_within 0 HIGHEST_RATE rate && is_within 0 HIGHEST_CAP cap))))
+    is_small_number kind && (is_small_number copy_kind
+    && (is_within 1 LONGEST_PERIOD period
+    && (is_within 0 MOST_RENEWALS renewals && (is_within 0 HIGHEST_RATE rate && is_within 0 HIGHEST_CAP cap))))
 is_within_limits (Grace kind copy_kind days) = is_small_number kind && (is_small_number copy_kind && is_within 0 MOST_GRACE days)
 is_within_limits (Patron patron kind card_key name) = is_large_number patron && is_small_number kind
 is_within_limits (Acquire copy title kind home price text) =

@@ -4,7 +4,8 @@ use Rattle.terms.specs.declared.limits.TheConstants.{LAST_TODAY, LAST_NUMBER, LO
 use Rattle.std.specs.Prelude.{◌≡◌, ℕ, ◌*◌, ◌≤◌, ◌<◌, ◌==◌, true, false, [], length, replicate, Option, Some, None}
 use Rattle.std.specs.List.{list_any, IsDistinct}
 use Rattle.terms.specs.declared.row.HoldState.{HoldState}
-use Rattle.model.specs.History.{History, today, week_of, singles_of, BranchFacts, branch_of, Terms, rule_of, patron_of, HoldFacts, hold_of, holds, CopyFacts, copy_of, copies, loans}
+use Rattle.model.specs.History.{History, today, week_of, singles_of, BranchFacts, branch_of, Terms, rule_of, patron_of, HoldFacts, hold_of}
+use Rattle.model.specs.History.{holds, CopyFacts, copy_of, copies, loans}
 use Rattle.model.specs.Places.{Place, Nowhere, Shelf, HoldShelf, Transit, Loan, place, state, goal_of, home_of, title_of_hold, title_of_copy}
 use Rattle.model.specs.Loans.{LoanFacts, loan_of, ended, renewals}
 use Rattle.model.specs.Accounts.{lines, account, charges, credits, owed}

@@ -49,7 +49,8 @@ standing_words false first_day = waiting_words first_day
 -- The line of an active hold. A hold that is coming is shown as waiting.
 abbrev pub hold_line_by : History → Sight → ℕ → List ℕ
 hold_line_by H s h =
-    spaced (codes "hold" ∷ decimal h ∷ codes "at" ∷ decimal (goal_of H h) ∷ standing_words (is_ready (s.state h)) (first_day_of H h) ++ title_words H (title_of_hold H h))
+    spaced (codes "hold" ∷ decimal h ∷ codes "at" ∷ decimal (goal_of H h) ∷ standing_words (is_ready (s.state h)) (first_day_of H h)
+    ++ title_words H (title_of_hold H h))
 
 abbrev pub hold_line : History → ℕ → List ℕ
 hold_line H h = hold_line_by H (sight H) h

@@ -20,7 +20,8 @@ use Rattle.terms.specs.declared.row.KeptRow.{KeptRow}
 use Rattle.terms.specs.Texts.{reply_text}
 pub use Rattle.terms.specs.Pictures.{Picture}
 use Rattle.model.specs.Calendar.{is_single}
-use Rattle.model.specs.History.{History, today, week_of, singles_of, BranchFacts, branch_of, KindFacts, kind_of, Terms, rule_of, PatronFacts, patron_of, title_of, CopyFacts, copy_of, next_loan, next_hold, HoldFacts, hold_of}
+use Rattle.model.specs.History.{History, today, week_of, singles_of, BranchFacts, branch_of, KindFacts, kind_of, Terms, rule_of}
+use Rattle.model.specs.History.{PatronFacts, patron_of, title_of, CopyFacts, copy_of, next_loan, next_hold, HoldFacts, hold_of}
 use Rattle.model.specs.Places.{Place, Transit, MissingCopy, WithdrawnCopy, place, state, is_ready, kept_for, limit}
 use Rattle.model.specs.Loans.{LoanFacts, loan_of, due, ended, renewals_left}
 use Rattle.model.specs.Accounts.{Line, lines, next_line, owed}

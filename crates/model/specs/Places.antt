@@ -1,12 +1,14 @@
 -- Where each copy is, how each hold stands, and the lines of the titles.
-use Rattle.std.specs.Prelude.{ℕ, ◌+◌, ◌==◌, Bool, true, false, ◌&&◌, not, List, [], ◌∷◌, filter, find, Option, Some, None, is_none, option_map, option_and_then, unwrap_or}
+use Rattle.std.specs.Prelude.{ℕ, ◌+◌, ◌==◌, Bool, true, false, ◌&&◌, not, List, [], ◌∷◌, filter, find, Option, Some, None, is_none}
+use Rattle.std.specs.Prelude.{option_map, option_and_then, unwrap_or}
 use Rattle.std.specs.List.{list_any}
 use Rattle.terms.specs.declared.command.Command.{Command}
 use Rattle.terms.specs.declared.command.Command.TheVariants.{Acquire, CheckOut, CheckIn, CancelHold, Unshelve, UnshelveCancelled, Missing, Withdraw}
 use Rattle.terms.specs.declared.row.HoldState.{HoldState}
 use Rattle.terms.specs.declared.row.HoldState.TheVariants.{Waiting, Ready, Filled, Cancelled, Expired}
 use Rattle.model.specs.Calendar.{least}
-use Rattle.model.specs.History.{History, numbers_to, today, is_open, branch_of, copy_of, copies, next_loan, HoldFacts, has_begun, hold_made, holds, next_hold, hold_of}
+use Rattle.model.specs.History.{History, numbers_to, today, is_open, branch_of, copy_of, copies, next_loan, HoldFacts, has_begun, hold_made}
+use Rattle.model.specs.History.{holds, next_hold, hold_of}
 
 -- The one place that a copy is in: on the shelf of a branch, on the hold shelf for a hold, in transit to a branch
 -- for a hold or for none, on a loan, missing or withdrawn. A copy never acquired is nowhere.
@@ -88,7 +90,8 @@ module _ (H : History) (places : ℕ → Place) (states : ℕ → Option HoldSta
 
   -- The waiting holds of the title that aren't coming and have begun, least number first.
   abbrev pub line_by : ℕ → List ℕ
-  line_by t = filter (λ h. elim (title_of_hold H h == t) [ true ↦ is_waiting (states h) && (not (is_coming_by h) && begun h) | false ↦ false ]) (numbers_to (holds H))
+  line_by t = filter (λ h. elim (title_of_hold H h == t)
+      [ true ↦ is_waiting (states h) && (not (is_coming_by h) && begun h) | false ↦ false ]) (numbers_to (holds H))
 
   -- The first in line gets the copy, at once or by transit; with no line it goes home.
   abbrev pub route_to : ℕ → ℕ → List ℕ → Place

@@ -1,20 +1,30 @@
 -- Which check of a command fails first.
 use Rattle.calendar.specs.declared.limits.TheConstants.{MOST_CLOSED_DAYS}
 use Rattle.terms.specs.declared.limits.TheConstants.{LAST_TODAY, LAST_NUMBER}
-use Rattle.std.specs.Prelude.{ℕ, ◌+◌, ◌==◌, nat_le, nat_lt, Bool, true, false, ◌&&◌, ◌||◌, not, List, [], ◌∷◌, filter, length, Option, Some, None, is_some, is_none, option_map, unwrap_or, bytes_eq}
+use Rattle.std.specs.Prelude.{ℕ, ◌+◌, ◌==◌, nat_le, nat_lt, Bool, true, false, ◌&&◌, ◌||◌, not, List, [], ◌∷◌, filter, length, Option, Some}
+use Rattle.std.specs.Prelude.{None, is_some, is_none, option_map, unwrap_or, bytes_eq}
 use Rattle.std.specs.List.{list_any, list_all}
 use Rattle.terms.specs.declared.command.Owner.{Owner}
 use Rattle.terms.specs.declared.command.Owner.TheVariants.{Desk, Patron as Reader}
 use Rattle.terms.specs.declared.command.Command.{Command}
-use Rattle.terms.specs.declared.command.Command.TheVariants.{BeginDay, Branch, Week, CloseDay, OpenDay, Kind, Rule, Grace, Patron, Acquire, CheckOut, CheckIn, Renew, PlaceHold, CancelHold, Unshelve, UnshelveCancelled, Missing, Withdraw, Pay, Waive, Page}
+use Rattle.terms.specs.declared.command.Command.TheVariants.{BeginDay, Branch, Week, CloseDay, OpenDay, Kind, Rule, Grace, Patron, Acquire}
+use Rattle.terms.specs.declared.command.Command.TheVariants.{CheckOut, CheckIn, Renew, PlaceHold, CancelHold, Unshelve, UnshelveCancelled}
+use Rattle.terms.specs.declared.command.Command.TheVariants.{Missing, Withdraw, Pay, Waive, Page}
 use Rattle.terms.specs.declared.refusal.Refusal.{Refusal}
-use Rattle.terms.specs.declared.refusal.Refusal.TheVariants.{UnknownBranch, UnknownPatron, UnknownTitle, UnknownCopy, UnknownLoan, UnknownHold, NoRule, UnknownKind, OtherContent, OutOfLimits, AllWeekdaysClosed, BadDay, AlreadyClosed, NotClosed, Elsewhere, OnLoan, InTransit, OnHoldShelf, CopyMissing, CopyWithdrawn, HoldWaits, TooManyLoans, OwesTooMuch, PastCalendar, LoanEnded, Overdue, NoRenewalsLeft, AlreadyHolds, TooManyHolds, HasOnLoan, WrongHoldState, LimitNotPassed, BadAmount, NumbersUsedUp}
+use Rattle.terms.specs.declared.refusal.Refusal.TheVariants.{UnknownBranch, UnknownPatron, UnknownTitle, UnknownCopy, UnknownLoan}
+use Rattle.terms.specs.declared.refusal.Refusal.TheVariants.{UnknownHold, NoRule, UnknownKind, OtherContent, OutOfLimits, AllWeekdaysClosed}
+use Rattle.terms.specs.declared.refusal.Refusal.TheVariants.{BadDay, AlreadyClosed, NotClosed, Elsewhere, OnLoan, InTransit, OnHoldShelf}
+use Rattle.terms.specs.declared.refusal.Refusal.TheVariants.{CopyMissing, CopyWithdrawn, HoldWaits, TooManyLoans, OwesTooMuch, PastCalendar}
+use Rattle.terms.specs.declared.refusal.Refusal.TheVariants.{LoanEnded, Overdue, NoRenewalsLeft, AlreadyHolds, TooManyHolds, HasOnLoan}
+use Rattle.terms.specs.declared.refusal.Refusal.TheVariants.{WrongHoldState, LimitNotPassed, BadAmount, NumbersUsedUp}
 use Rattle.model.specs.Calendar.{is_single}
 use Rattle.model.specs.Checks.{Check, first_failing, is_within_limits}
-use Rattle.model.specs.History.{History, numbers_to, today, singles_of, branch_of, KindFacts, kind_of, rule_of, patron_of, title_of, copy_of, loans, holds, hold_of}
-use Rattle.model.specs.Places.{Place, Shelf, HoldShelf, Transit, Loan, MissingCopy, WithdrawnCopy, title_of_copy, title_of_hold, patron_of_hold, goal_of, is_waiting, is_ready}
+use Rattle.model.specs.History.{History, numbers_to, today, singles_of, branch_of, KindFacts, kind_of, rule_of, patron_of, title_of}
+use Rattle.model.specs.History.{copy_of, loans, holds, hold_of}
+use Rattle.model.specs.Places.{Place, Shelf, HoldShelf, Transit, Loan, MissingCopy, WithdrawnCopy, title_of_copy, title_of_hold}
+use Rattle.model.specs.Places.{patron_of_hold, goal_of, is_waiting, is_ready}
 use Rattle.model.specs.Loans.{loan_of, due, ended, terms_for, renewed_due, renewals_left, open_loans, has_on_loan, title_of_loan}
-use Rattle.model.specs.Accounts.{lines_made, borrower}
+use Rattle.model.specs.Accounts.{Returned, Lost, lines_posted, borrower}
 use Rattle.model.specs.Sights.{Sight, sight, line_seen, fills_seen, owed_seen}
 
 -- ---- tests on a history
@@ -193,33 +203,38 @@ checks_by H s o (Rule k c period renewals rate cap) =
     (OutOfLimits, not (is_within_limits (Rule k c period renewals rate cap))) ∷ (UnknownKind, is_none (kind_of H k)) ∷ []
 checks_by H s o (Grace k c days) = (OutOfLimits, not (is_within_limits (Grace k c days))) ∷ (NoRule, is_none (rule_of H k c)) ∷ []
 checks_by H s o (Patron p k card_key name) =
-    (OutOfLimits, not (is_within_limits (Patron p k card_key name))) ∷ (UnknownKind, is_none (kind_of H k)) ∷ (OtherContent, differs_patron H p k card_key name) ∷ []
+    (OutOfLimits, not (is_within_limits (Patron p k card_key name))) ∷ (UnknownKind, is_none (kind_of H k))
+    ∷ (OtherContent, differs_patron H p k card_key name) ∷ []
 checks_by H s o (Acquire c t k home price text) =
     (OutOfLimits, not (is_within_limits (Acquire c t k home price text))) ∷ (UnknownBranch, not (has_branch H home))
     ∷ (OtherContent, differs_title H t text || differs_copy H c t k home price) ∷ []
 checks_by H s o (CheckOut p c b) =
     (UnknownBranch, not (has_branch H b)) ∷ (UnknownPatron, not (has_patron H p)) ∷ (UnknownCopy, not (has_copy H c))
-    ∷ (CopyWithdrawn, is_withdrawn (s.place c)) ∷ (CopyMissing, is_missing (s.place c)) ∷ (OnLoan, is_on_loan (s.place c)) ∷ (InTransit, is_in_transit (s.place c))
-    ∷ (Elsewhere, is_elsewhere H b (s.place c)) ∷ (OnHoldShelf, is_kept_for_other H p (s.place c)) ∷ (HoldWaits, is_wanted_by_other H p (line_seen H s (title_of_copy H c)) (s.place c))
+    ∷ (CopyWithdrawn, is_withdrawn (s.place c)) ∷ (CopyMissing, is_missing (s.place c)) ∷ (OnLoan, is_on_loan (s.place c))
+    ∷ (InTransit, is_in_transit (s.place c))
+    ∷ (Elsewhere, is_elsewhere H b (s.place c)) ∷ (OnHoldShelf, is_kept_for_other H p (s.place c))
+    ∷ (HoldWaits, is_wanted_by_other H p (line_seen H s (title_of_copy H c)) (s.place c))
     ∷ (AlreadyHolds, has_other_hold H s p c) ∷ (NoRule, is_none (terms_for H p c)) ∷ (TooManyLoans, has_all_loans H p)
     ∷ (OwesTooMuch, owes_too_much H s p) ∷ (NumbersUsedUp, nat_le LAST_NUMBER (loans H)) ∷ []
 checks_by H s o (CheckIn c b) =
-    (UnknownBranch, not (has_branch H b)) ∷ (UnknownCopy, not (has_copy H c)) ∷ (CopyWithdrawn, is_withdrawn (s.place c)) ∷ (OnHoldShelf, is_on_hold_shelf (s.place c))
-    ∷ (NumbersUsedUp, lacks_lines H s (length (lines_made H s.place s.grace (CheckIn c b)))) ∷ []
+    (UnknownBranch, not (has_branch H b)) ∷ (UnknownCopy, not (has_copy H c)) ∷ (CopyWithdrawn, is_withdrawn (s.place c))
+    ∷ (OnHoldShelf, is_on_hold_shelf (s.place c))
+    ∷ (NumbersUsedUp, lacks_lines H s (length (lines_posted H s.place s.grace (Returned c)))) ∷ []
 checks_by H s o (Renew l) =
     (UnknownLoan, not (has_loan H o l)) ∷ (LoanEnded, is_some (ended H l)) ∷ (Overdue, nat_lt (due H l) (today H))
     ∷ (HoldWaits, not (is_empty (line_seen H s (title_of_loan H l))))
     ∷ (NoRenewalsLeft, renewals_left H l == 0) ∷ (OwesTooMuch, owes_too_much H s (borrower H l)) ∷ (PastCalendar, is_none (renewed_due H l (due H l))) ∷ []
 checks_by H s o (PlaceHold p t b d) =
     (UnknownPatron, not (has_patron H p)) ∷ (UnknownTitle, is_none (title_of H t)) ∷ (UnknownBranch, not (has_branch H b)) ∷ (BadDay, is_bad_first_day H d)
-    ∷ (AlreadyHolds, has_hold_on H s p t) ∷ (HasOnLoan, has_on_loan H p t) ∷ (TooManyHolds, has_all_holds H s p) ∷ (NumbersUsedUp, nat_le LAST_NUMBER (holds H)) ∷ []
+    ∷ (AlreadyHolds, has_hold_on H s p t) ∷ (HasOnLoan, has_on_loan H p t) ∷ (TooManyHolds, has_all_holds H s p)
+    ∷ (NumbersUsedUp, nat_le LAST_NUMBER (holds H)) ∷ []
 checks_by H s o (CancelHold h) = (UnknownHold, not (has_hold H o h)) ∷ (WrongHoldState, not (is_waiting (s.state h))) ∷ []
 checks_by H s o (Unshelve h) =
     (UnknownHold, not (has_hold H o h)) ∷ (WrongHoldState, not (is_ready (s.state h))) ∷ (LimitNotPassed, nat_le (today H) (unwrap_or (s.limit h) 0)) ∷ []
 checks_by H s o (UnshelveCancelled h) = (UnknownHold, not (has_hold H o h)) ∷ (WrongHoldState, not (is_ready (s.state h))) ∷ []
 checks_by H s o (Missing c) =
     (UnknownCopy, not (has_copy H c)) ∷ (CopyWithdrawn, is_withdrawn (s.place c)) ∷ (CopyMissing, is_missing (s.place c))
-    ∷ (NumbersUsedUp, lacks_lines H s (length (lines_made H s.place s.grace (Missing c)))) ∷ []
+    ∷ (NumbersUsedUp, lacks_lines H s (length (lines_posted H s.place s.grace (Lost c)))) ∷ []
 checks_by H s o (Withdraw c) =
     (UnknownCopy, not (has_copy H c)) ∷ (CopyWithdrawn, is_withdrawn (s.place c)) ∷ (OnLoan, is_on_loan (s.place c)) ∷ (InTransit, is_in_transit (s.place c))
     ∷ (OnHoldShelf, is_on_hold_shelf (s.place c)) ∷ []

@@ -1,5 +1,6 @@
 -- Requests one after another: callers, keys, and what each adds to the history.
-use Rattle.std.specs.Prelude.{◌≡◌, ℕ, ◌==◌, Bool, true, false, ◌&&◌, not, IsTrue, IsFalse, List, [], ◌∷◌, Option, Some, None, is_some, is_none, option_map, unwrap_or, bytes_eq}
+use Rattle.std.specs.Prelude.{◌≡◌, ℕ, ◌==◌, Bool, true, false, ◌&&◌, not, IsTrue, IsFalse, List, [], ◌∷◌, Option, Some, None, is_some}
+use Rattle.std.specs.Prelude.{is_none, option_map, unwrap_or, bytes_eq}
 use Rattle.terms.specs.declared.command.Owner.{Owner}
 use Rattle.terms.specs.declared.command.Owner.TheVariants.{Desk, Patron as Reader}
 use Rattle.terms.specs.declared.command.Caller.{Caller}
@@ -110,7 +111,8 @@ abbrev pub is_enrolled : History → Owner → Bool
 is_enrolled H Desk = true
 is_enrolled H (Reader p) = is_some (patron_of H p)
 
--- The event was accepted after the list before it: it changes something, its owner is there and may send the command, which isn't refused, and nothing is kept for its key.
+-- The event was accepted after the list before it: it changes something, its owner is there and may send the command, which isn't refused,
+-- and nothing is kept for its key.
 pub record IsAcceptedBy (e : Event) (H : History) (refused : Option Refusal) (kept : Option Kept) : Type 0 where
   pub changes : IsFalse (is_page e.command)
   pub enrolled : IsTrue (is_enrolled H e.owner)

@@ -15,7 +15,7 @@ use Rattle.terms.specs.declared.row.HoldState.{HoldState}
 use Rattle.terms.specs.declared.command.Owner.{Owner}
 use Rattle.model.specs.History.{History}
 use Rattle.model.specs.Places.{Place, Nowhere, place, place_after, state_after, limit_after_by}
-use Rattle.model.specs.Accounts.{Line, lines_then}
+use Rattle.model.specs.Accounts.{Line, posting, lines_then}
 use Rattle.model.specs.Sights.{Sight, sight}
 use Rattle.model.specs.Checks.{first_failing}
 use Rattle.model.specs.Refusals.{checks_by}
@@ -75,7 +75,7 @@ FinesWithoutGrace = (days rate cap : ℕ) → fine_for days rate cap 0 ≡ min (
 -- The lines of all accounts.
 abbrev pub lines2 : History → List Line
 lines2 [] = []
-lines2 (e ∷ H) = lines_then H (place H) no_grace e.command (lines2 H)
+lines2 (e ∷ H) = lines_then H (place H) no_grace (posting e.command) (lines2 H)
 
 -- What a list showed.
 abbrev pub sight2 : History → Sight
@@ -118,7 +118,7 @@ limit1 (e ∷ H) h = limit_after_by H (place1 H) (state1 H) begun_at_once e.comm
 -- The lines of all accounts.
 abbrev pub lines1 : History → List Line
 lines1 [] = []
-lines1 (e ∷ H) = lines_then H (place1 H) no_grace e.command (lines1 H)
+lines1 (e ∷ H) = lines_then H (place1 H) no_grace (posting e.command) (lines1 H)
 
 -- What a list showed.
 abbrev pub sight1 : History → Sight
@@ -171,7 +171,13 @@ hold_row1 H h = option_map hold1_columns (hold_row H h)
 
 -- What the tables of schema 2 hold: the rules and the loans stand in its own tables, and every other row is that of the newest schema.
 abbrev pub picture2 : History → Picture
-picture2 H = record (picture H) { meta = record (meta_row H) { schema = 2 }; rules = λ _ _. None; rules1 = rule_row1 H; loans = λ _. None; loans1 = loan_row1 H }
+picture2 H = record (picture H) {
+  meta = record (meta_row H) { schema = 2 };
+  rules = λ _ _. None;
+  rules1 = rule_row1 H;
+  loans = λ _. None;
+  loans1 = loan_row1 H;
+}
 
 -- What those of schema 1 hold: the holds stand in its own table, and every other row is that of schema 2.
 abbrev pub picture1 : History → Picture

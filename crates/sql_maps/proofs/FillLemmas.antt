@@ -61,11 +61,13 @@ cast_all_same (c ∷ cs) (v ∷ vs) h = let parts = and_parts (suits_kind c.kind
 pub row_same : (table : Table) (x : Value) (vs : Row) → suits_kind Integer x ≡ true → suit table.columns vs ≡ true → cast_row table (x ∷ vs) ≡ x ∷ vs
 row_same table x vs p h = rw (cast_same Integer x p, cast_all_same table.columns vs h)
 
-chosen_as : (table : Table) → table.is_counted ≡ false → (top : ℤ) (rows : List Row) (row : Row) → with_rowid (rowids_for table top) rows row ≡ with_rowid Chosen rows row
+chosen_as : (table : Table) → table.is_counted ≡ false → (top : ℤ) (rows : List Row) (row : Row)
+    → with_rowid (rowids_for table top) rows row ≡ with_rowid Chosen rows row
 chosen_as table uncounted top rows row = ap (λ b. with_rowid (cond b (Above top) Chosen) rows row) uncounted
 
 -- a table that is keyed by its rowid
-module _ (table : Table) (b : ℤ) (vs : Row) (terms shows : List Term) (width place : ℕ) (uncounted : table.is_counted ≡ false) (primary : table.primary ≡ 0 ∷ []) (suits : suit table.columns (Null ∷ vs) ≡ true)
+module _ (table : Table) (b : ℤ) (vs : Row) (terms shows : List Term) (width place : ℕ) (uncounted : table.is_counted ≡ false)
+    (primary : table.primary ≡ 0 ∷ []) (suits : suit table.columns (Null ∷ vs) ≡ true)
     (once : value_rows (stamped table (Int b ∷ vs)) width (length terms / width) terms ≡ (Int b ∷ Null ∷ vs) ∷ [])
     (id_at : (there : Value) (rest : Row) → column ((Int b ∷ vs) ++ there ∷ rest) place ≡ there)
     (shows_are : (there : Value) (r new : Row) → shown_of shows ((Int b ∷ vs) ++ there ∷ shown table new) r ≡ rowid r ∷ rowid r ∷ Null ∷ vs)
@@ -76,22 +78,31 @@ module _ (table : Table) (b : ℤ) (vs : Row) (terms shows : List Term) (width p
     stored = λ id. Int id ∷ Null ∷ vs;
     plain_key = refl;
     once = once;
-    chosen = λ top rows. (b, chosen_as table uncounted top rows (cast_row table (Int b ∷ Null ∷ vs)) ∙ ap (with_rowid Chosen rows) (row_same table (Int b) (Null ∷ vs) refl suits), ap (map (column (Int b ∷ Null ∷ vs))) primary);
+    chosen = λ top rows. (
+      b,
+      chosen_as table uncounted top rows (cast_row table (Int b ∷ Null ∷ vs))
+          ∙ ap (with_rowid Chosen rows) (row_same table (Int b) (Null ∷ vs) refl suits),
+      ap (map (column (Int b ∷ Null ∷ vs))) primary,
+    );
     id_at = id_at;
-    again = λ id there r new e same. ap (λ row. cast_row table (drop 1 row)) (shows_are there r new ∙ ap (λ v. rowid r ∷ v ∷ Null ∷ vs) e) ∙ row_same table (Int id) (Null ∷ vs) refl suits;
+    again = λ id there r new e same. ap (λ row. cast_row table (drop 1 row)) (shows_are there r new ∙ ap (λ v. rowid r ∷ v ∷ Null ∷ vs) e)
+        ∙ row_same table (Int id) (Null ∷ vs) refl suits;
     first = λ there r new. ap (λ row. id_in (rowid row)) (shows_are there r new);
     same_key = λ id r e same. ap (map (column (Int id ∷ Null ∷ vs))) primary ∙ ap (λ v. v ∷ []) (sym e) ∙ sym (ap (map (column r)) primary) ∙ same;
     firm = λ id. row_same table (Int id) (Null ∷ vs) refl suits;
-    cells_are = λ id same. let key : Int id ∷ [] ≡ Int b ∷ [] = sym (ap (map (column (Int id ∷ Null ∷ vs))) primary) ∙ same in let is : id ≡ b = cc in cells_are id ∙ ap (λ n. Int n ∷ vs) is;
+    cells_are = λ id same. let key : Int id ∷ [] ≡ Int b ∷ [] = sym (ap (map (column (Int id ∷ Null ∷ vs))) primary) ∙ same in
+        let is : id ≡ b = cc in cells_are id ∙ ap (λ n. Int n ∷ vs) is;
     id_is = λ id. refl;
   }
 
 -- a table that is keyed by two columns
-module _ (table : Table) (a c : Value) (vs : Row) (terms shows : List Term) (width place : ℕ) (uncounted : table.is_counted ≡ false) (primary : table.primary ≡ 1 ∷ 2 ∷ []) (suits : suit table.columns (a ∷ c ∷ vs) ≡ true)
+module _ (table : Table) (a c : Value) (vs : Row) (terms shows : List Term) (width place : ℕ) (uncounted : table.is_counted ≡ false)
+    (primary : table.primary ≡ 1 ∷ 2 ∷ []) (suits : suit table.columns (a ∷ c ∷ vs) ≡ true)
     (plain_a : is_plain a ≡ true) (plain_c : is_plain c ≡ true)
     (once : value_rows (stamped table (a ∷ c ∷ vs)) width (length terms / width) terms ≡ (Null ∷ a ∷ c ∷ vs) ∷ [])
     (id_at : (there : Value) (rest : Row) → column ((a ∷ c ∷ vs) ++ there ∷ rest) place ≡ there)
-    (shows_are : (there : Value) (r new : Row) → column r 1 ≡ a → column r 2 ≡ c → shown_of shows ((a ∷ c ∷ vs) ++ there ∷ shown table new) r ≡ rowid r ∷ rowid r ∷ a ∷ c ∷ vs)
+    (shows_are : (there : Value) (r new : Row) → column r 1 ≡ a → column r 2 ≡ c
+    → shown_of shows ((a ∷ c ∷ vs) ++ there ∷ shown table new) r ≡ rowid r ∷ rowid r ∷ a ∷ c ∷ vs)
     (first : (there : Value) (r new : Row) → id_in (rowid (shown_of shows ((a ∷ c ∷ vs) ++ there ∷ shown table new) r)) ≡ id_in (rowid r))
     (cells_are : (id : ℤ) → cells table (Int id ∷ a ∷ c ∷ vs) ≡ a ∷ c ∷ vs) where
   pub double_fills : Fills table (a ∷ c ∷ vs) terms shows width place (a ∷ c ∷ []) (a ∷ c ∷ vs)
@@ -100,13 +111,19 @@ module _ (table : Table) (a c : Value) (vs : Row) (terms shows : List Term) (wid
     stored = λ id. Int id ∷ a ∷ c ∷ vs;
     plain_key = rw (plain_a, plain_c) refl;
     once = once;
-    chosen = λ top rows. (next_rowid rows, chosen_as table uncounted top rows (cast_row table (Null ∷ a ∷ c ∷ vs)) ∙ ap (with_rowid Chosen rows) (row_same table Null (a ∷ c ∷ vs) refl suits), ap (map (column (Int (next_rowid rows) ∷ a ∷ c ∷ vs))) primary);
+    chosen = λ top rows. (
+      next_rowid rows,
+      chosen_as table uncounted top rows (cast_row table (Null ∷ a ∷ c ∷ vs))
+          ∙ ap (with_rowid Chosen rows) (row_same table Null (a ∷ c ∷ vs) refl suits),
+      ap (map (column (Int (next_rowid rows) ∷ a ∷ c ∷ vs))) primary,
+    );
     id_at = id_at;
     again = λ id there r new e same.
         let key : column r 1 ∷ column r 2 ∷ [] ≡ a ∷ c ∷ [] = sym (ap (map (column r)) primary) ∙ same in
         let first : column r 1 ≡ a = cc in
         let second : column r 2 ≡ c = cc in
-        ap (λ row. cast_row table (drop 1 row)) (shows_are there r new first second ∙ ap (λ v. rowid r ∷ v ∷ a ∷ c ∷ vs) e) ∙ row_same table (Int id) (a ∷ c ∷ vs) refl suits;
+        ap (λ row. cast_row table (drop 1 row)) (shows_are there r new first second ∙ ap (λ v. rowid r ∷ v ∷ a ∷ c ∷ vs) e)
+        ∙ row_same table (Int id) (a ∷ c ∷ vs) refl suits;
     first = first;
     same_key = λ id r e same. ap (map (column (Int id ∷ a ∷ c ∷ vs))) primary;
     firm = λ id. row_same table (Int id) (a ∷ c ∷ vs) refl suits;

@@ -50,13 +50,16 @@ pub record Finds (table : Table) (tests : List Term) (params k : Row) : Type 0 w
 abbrev pub rowids_shown : List Term
 rowids_shown = col 1 0 ∷ []
 
-module _ (schema : Schema) (at : ℕ) (table : Table) (fixed : Fixed schema at table) (tests : List Term) (params k : Row) (finds : Finds table tests params k) where
+module _ (schema : Schema) (at : ℕ) (table : Table) (fixed : Fixed schema at table) (tests : List Term) (params k : Row)
+    (finds : Finds table tests params k) where
   abbrev pub take_command : Command
   take_command = Delete at (record { lets = []; body = over table.tree tests rowids_shown })
 
-  removed : (keys : Keys) (db next : Trees) (rows : List Row) → IsShaped shape.Table (db table.tree) → ((r : Row) → Has (db table.tree) r → list_all is_plain (key_at table r) ≡ true)
+  removed : (keys : Keys) (db next : Trees) (rows : List Row) → IsShaped shape.Table (db table.tree)
+      → ((r : Row) → Has (db table.tree) r → list_all is_plain (key_at table r) ≡ true)
       → IsProgramAnswer [] (over table.tree tests rowids_shown) db params rows
-      → Edited schema keys db (edit_of db table (ids_of rows) Given 0 []) (Ok next) → Takes table (db table.tree) (next table.tree) k × Leaves schema table db next
+      → Edited schema keys db (edit_of db table (ids_of rows) Given 0 []) (Ok next) → Takes table (db table.tree) (next table.tree) k
+      × Leaves schema table db next
   removed keys db next rows shaped whole answer h =
       let a = edit_done schema at table fixed keys db next (edit_of db table (ids_of rows) Given 0 []) h in
       let trees : next table.tree ≡ without_all (db table.tree) (ids_of rows) = a.rows in (
@@ -68,13 +71,15 @@ module _ (schema : Schema) (at : ℕ) (table : Table) (fixed : Fixed schema at t
                 λ same.
                     let one = has_answer table.tree tests rowids_shown db params rows answer x old (finds.hits x same) in
                     let gone = mapped_has (λ r. id_in (rowid r)) rows (rowid x ∷ []) one in
-                    true≢false (sym (is_rowid (id_in (rowid x)) x (int_is (rowid x) (int_at (db table.tree) x shaped old))) ∙ left_apart (ids_of rows) (db table.tree) x left (id_in (rowid x)) gone),
+                    true≢false (sym (is_rowid (id_in (rowid x)) x (int_is (rowid x) (int_at (db table.tree) x shaped old)))
+                    ∙ left_apart (ids_of rows) (db table.tree) x left (id_in (rowid x)) gone),
               );
           kept = λ x old other. subst (λ l. Has l x) (sym trees) (left_has (ids_of rows) (db table.tree) x old (λ i in_ids. false_from_ne_true _ (λ clash.
               let s = has_mapped (λ r. id_in (rowid r)) rows i in_ids in
               let r = answer_has table.tree tests rowids_shown db params rows answer s.0 s.1 in
               let id : i ≡ id_in (rowid r.0) = s.2 ∙ ap (λ row. id_in (rowid row)) r.3 in
-              let alike : rowid x ≡ rowid r.0 = rowid_is i x (int_at (db table.tree) x shaped old) clash ∙ ap Int id ∙ sym (int_is (rowid r.0) (int_at (db table.tree) r.0 shaped r.1)) in
+              let alike : rowid x ≡ rowid r.0 = rowid_is i x (int_at (db table.tree) x shaped old) clash ∙ ap Int id
+              ∙ sym (int_is (rowid r.0) (int_at (db table.tree) r.0 shaped r.1)) in
               let same = one_row (db table.tree) x r.0 shaped.0 old r.1 alike in
               other (ap (key_at table) same ∙ finds.hit r.0 (whole r.0 r.1) r.2))));
         },
@@ -84,7 +89,8 @@ module _ (schema : Schema) (at : ℕ) (table : Table) (fixed : Fixed schema at t
         },
       )
 
-  pub take_done : (text : List ℕ) (old new : State) (count : ℕ) → old.now.schema ≡ schema → command_of (understood schema text) ≡ take_command → IsPlain (understood schema text)
+  pub take_done : (text : List ℕ) (old new : State) (count : ℕ) → old.now.schema ≡ schema
+      → command_of (understood schema text) ≡ take_command → IsPlain (understood schema text)
       → IsShaped shape.Table (old.now.trees table.tree) → ((r : Row) → Has (old.now.trees table.tree) r → list_all is_plain (key_at table r) ≡ true)
       → Executes text params old new (Ok count)
       → (new.now.schema ≡ schema) × Takes table (old.now.trees table.tree) (new.now.trees table.tree) k × Leaves schema table old.now.trees new.now.trees
@@ -92,7 +98,8 @@ module _ (schema : Schema) (at : ℕ) (table : Table) (fixed : Fixed schema at t
   take_done text old new count has is bare shaped whole h =
       let w = runs_as text params old new schema has take_command is bare count h in
       let sql = statement_of text (understood schema text) in
-      let changed = subst (λ s. Does old.step_limit (mode_of old) params (record old.now { schema = s }) sql None take_command (Ok (w.tally, new.now))) has w.changed in
+      let changed = subst (λ s. Does old.step_limit (mode_of old) params (record old.now { schema = s }) sql None take_command
+      (Ok (w.tally, new.now))) has w.changed in
       let done = went (rw fixed.listed at changed) in
       let now : new.now ≡ record { schema = schema; trees = done.0.trees } = ap (λ (p : Tally × Database). p.1) (same_value (went (went done.2).2).2) in
       let rows = went done.1 in
@@ -108,7 +115,8 @@ module _ (schema : Schema) (at : ℕ) (table : Table) (fixed : Fixed schema at t
         w.marks,
       )
 
-  pub take_holds : are_apart schema.tables ≡ true → (text : List ℕ) → command_of (understood schema text) ≡ take_command → IsPlain (understood schema text) → (old new : State) (count : ℕ)
+  pub take_holds : are_apart schema.tables ≡ true → (text : List ℕ) → command_of (understood schema text) ≡ take_command
+      → IsPlain (understood schema text) → (old new : State) (count : ℕ)
       → Executes text params old new (Ok count) → (maps : Maps) → Holds schema old.now maps → Holds schema new.now (take_at maps at k)
   take_holds apart text is bare old new count h maps holds =
       let is_map = holds.tables at table fixed.listed in
@@ -117,7 +125,8 @@ module _ (schema : Schema) (at : ℕ) (table : Table) (fixed : Fixed schema at t
       holds_after schema at table old.now new.now maps _ apart fixed.listed holds did.4 did.0 did.2 after
 
 -- WHERE a = ?1
-pub finds_one : (table : Table) (a : Value) → table.primary ≡ 0 ∷ [] → is_plain a ≡ true → Finds table (op2 (Compare Eq Binary) (col 1 0) (col 0 0) ∷ []) (a ∷ []) (a ∷ [])
+pub finds_one : (table : Table) (a : Value) → table.primary ≡ 0 ∷ [] → is_plain a ≡ true
+    → Finds table (op2 (Compare Eq Binary) (col 1 0) (col 0 0) ∷ []) (a ∷ []) (a ∷ [])
 finds_one table a primary plain = record {
   plain_key = and_from _ _ plain refl;
   hit = λ r whole good.

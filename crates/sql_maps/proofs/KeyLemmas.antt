@@ -1,5 +1,6 @@
 -- SQL's equality of whole numbers and texts is equality.
-use Rattle.std.proofs.Common.{◌≡◌, ℕ, ℤ, Bool, true, false, ◌||◌, cond, List, [], ◌∷◌, map, Ordering, Less, Equal, Greater, refl, sym, ap, subst, ◌∙◌, true≢false, Some}
+use Rattle.std.proofs.Common.{◌≡◌, ℕ, ℤ, Bool, true, false, ◌||◌, cond, List, [], ◌∷◌, map, Ordering, Less, Equal, Greater, refl, sym, ap}
+use Rattle.std.proofs.Common.{subst, ◌∙◌, true≢false, Some}
 use Rattle.std.specs.List.{list_all}
 use Rattle.std.specs.Ordering.{is_eq, is_ne, int_cmp, MatchOrdering}
 use Rattle.std.proofs.lemmas.Bool.{and_parts, and_from}
@@ -62,7 +63,8 @@ same_equal a p = rw (plain_whole a p, tied_itself value_cmp_total a)
 
 pub same_differ : (a : Value) → differ a a ≡ false
 unfolding binary
-same_differ a = elim (is_null a || is_null a) as (λ b. is_true (cond b Null (from_truth (Some (is_ne (value_cmp a a))))) ≡ false) [ true ↦ refl | false ↦ rw (tied_itself value_cmp_total a) ]
+same_differ a = elim (is_null a || is_null a) as (λ b. is_true (cond b Null (from_truth (Some (is_ne (value_cmp a a))))) ≡ false)
+    [ true ↦ refl | false ↦ rw (tied_itself value_cmp_total a) ]
 
 pub not_differ : (a b : Value) → is_plain a ≡ true → is_plain b ≡ true → differ a b ≡ false → a ≡ b
 unfolding binary
@@ -74,7 +76,8 @@ not_differ a b p q h = same_cmp a b p q (went (value_cmp a b) (rw (plain_whole a
     went Greater h = sym h
 
 -- rows agree on plain keys exactly where the keys are the same
-pub agree_same : (ps : List ℕ) (a b : Row) → list_all is_plain (map (column a) ps) ≡ true → list_all is_plain (map (column b) ps) ≡ true → agree plain ps a ps b ≡ true
+pub agree_same : (ps : List ℕ) (a b : Row) → list_all is_plain (map (column a) ps) ≡ true → list_all is_plain (map (column b) ps) ≡ true
+    → agree plain ps a ps b ≡ true
     → map (column a) ps ≡ map (column b) ps
 unfolding first_key
 agree_same [] a b pa pb h = refl

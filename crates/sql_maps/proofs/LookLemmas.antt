@@ -1,5 +1,6 @@
 -- Look-ups by columns that are no key.
-use Rattle.std.proofs.Common.{arith, ◌≤◌, None, ◌≡◌, ℕ, pos, negsuc, Bool, false, List, [], ◌∷◌, map, filter, length, min, slice_get, Option, Some, Ok, Err, Result, codes, refl, sym, ap, subst, ◌∙◌}
+use Rattle.std.proofs.Common.{arith, ◌≤◌, None, ◌≡◌, ℕ, pos, negsuc, Bool, false, List, [], ◌∷◌, map, filter, length, min, slice_get}
+use Rattle.std.proofs.Common.{Option, Some, Ok, Err, Result, codes, refl, sym, ap, subst, ◌∙◌}
 use Rattle.std.specs.Prelude.{take, IfOk}
 use Rattle.sqlite.specs.declared.types.Value.TheVariants.{Int}
 use Rattle.sqlite.specs.Order.{Row, column}
@@ -38,30 +39,38 @@ pub record Looks (schema : Schema) (at : ℕ) (table : Table) (tests : List Term
   pub key_cell : (r : Row) → column (cells table r) 0 ≡ rowid r
   pub as_cells : (given : Row) (l : List Row) → map (shown_of (each_column 1 table) given) l ≡ map (cells table) l
 
-module _ (schema : Schema) (at : ℕ) (table : Table) (tests : List Term) (names : List (List ℕ)) (text : List ℕ) (given : Row) (good : Row → Bool) (reads : (r : Row) → passes tests given r ≡ good (cells table r)) where
-  pub first_gives : Looks schema at table tests (lit (Int (pos 1))) names text → (old new : State) (r : Result Row Error) → QueriesRow text given old new r → (maps : Maps) → Holds schema old.now maps → GivesFirst (maps at) good r
+module _ (schema : Schema) (at : ℕ) (table : Table) (tests : List Term) (names : List (List ℕ)) (text : List ℕ) (given : Row)
+    (good : Row → Bool) (reads : (r : Row) → passes tests given r ≡ good (cells table r)) where
+  pub first_gives : Looks schema at table tests (lit (Int (pos 1))) names text → (old new : State) (r : Result Row Error)
+      → QueriesRow text given old new r → (maps : Maps) → Holds schema old.now maps → GivesFirst (maps at) good r
   first_gives looks old new (Ok row) h maps held =
       let is = held.tables at table looks.listed in
       let first = (first_as text given old new schema held.schema_is _ looks.command looks.bare looks.unlisted row h).1 in
       let out = ordered table.tree tests (each_column 1 table) (lit (Int (pos 1))) old.now.trees given (row ∷ first.0) is.shaped.0 first.1 in
-      let all = first_is table (old.now.trees table.tree) (maps at) is (passes tests given) good reads looks.single looks.key_cell (row ∷ first.0) (out ∙ ap (take 1) (looks.as_cells given _)) in
+      let all = first_is table (old.now.trees table.tree) (maps at) is (passes tests given) good reads looks.single looks.key_cell
+      (row ∷ first.0) (out ∙ ap (take 1) (looks.as_cells given _)) in
       (all.0, all.1, all.2, refl)
   first_gives looks old new (Err e) h maps held = λ none.
       let is = held.tables at table looks.listed in
       let empty = none_shown text given old new schema held.schema_is looks.bare (subst (λ x. QueriesRow text given old new (Err x)) none h) in
       let read = reads_as text given old new schema held.schema_is _ looks.command looks.bare looks.unlisted [] empty in
       let out = ordered table.tree tests (each_column 1 table) (lit (Int (pos 1))) old.now.trees given [] is.shaped.0 read.answer in
-      first_is table (old.now.trees table.tree) (maps at) is (passes tests given) good reads looks.single looks.key_cell [] (out ∙ ap (take 1) (looks.as_cells given _))
+      first_is table (old.now.trees table.tree) (maps at) is (passes tests given) good reads looks.single looks.key_cell []
+      (out ∙ ap (take 1) (looks.as_cells given _))
 
-  pub list_gives : Looks schema at table tests (lit (Int (negsuc 0))) names text → (old new : State) (rows : List Row) → Shown text given old new rows → (maps : Maps) → Holds schema old.now maps → Listed (maps at) good rows
+  pub list_gives : Looks schema at table tests (lit (Int (negsuc 0))) names text → (old new : State) (rows : List Row)
+      → Shown text given old new rows → (maps : Maps) → Holds schema old.now maps → Listed (maps at) good rows
   list_gives looks old new rows h maps held =
       let is = held.tables at table looks.listed in
       let read = reads_as text given old new schema held.schema_is _ looks.command looks.bare looks.unlisted rows h in
       let out = ordered table.tree tests (each_column 1 table) (lit (Int (negsuc 0))) old.now.trees given rows is.shaped.0 read.answer in
       listed_is table (old.now.trees table.tree) (maps at) is (passes tests given) good reads looks.single looks.key_cell rows (out ∙ looks.as_cells given _)
 
-  pub count_gives : (listed : slice_get schema.tables at ≡ Some table) (command : command_of (understood schema text) ≡ Select (record { lets = []; body = counting table.tree tests }) (codes "COUNT(*)" ∷ [])) (bare : IsPlain (understood schema text)) (unlisted : reads_listing schema text ≡ false)
-      (single : (r : Row) → key_at table r ≡ rowid r ∷ []) (key_cell : (r : Row) → column (cells table r) 0 ≡ rowid r) (old new : State) (r : Result Row Error) → QueriesRow text given old new r → (maps : Maps) → Holds schema old.now maps → GivesCount (maps at) good r
+  pub count_gives : (listed : slice_get schema.tables at ≡ Some table)
+      (command : command_of (understood schema text) ≡ Select (record { lets = []; body = counting table.tree tests })
+      (codes "COUNT(*)" ∷ [])) (bare : IsPlain (understood schema text)) (unlisted : reads_listing schema text ≡ false)
+      (single : (r : Row) → key_at table r ≡ rowid r ∷ []) (key_cell : (r : Row) → column (cells table r) 0 ≡ rowid r) (old new : State)
+      (r : Result Row Error) → QueriesRow text given old new r → (maps : Maps) → Holds schema old.now maps → GivesCount (maps at) good r
   count_gives listed command bare unlisted single key_cell old new (Ok row) h maps held =
       let is = held.tables at table listed in
       let first = (first_as text given old new schema held.schema_is _ command bare unlisted row h).1 in
@@ -71,22 +80,30 @@ module _ (schema : Schema) (at : ℕ) (table : Table) (tests : List Term) (names
   count_gives listed command bare unlisted single key_cell old new (Err e) h maps held = tt
 
   -- the row that a text found first, or none
-  pub first_found : Looks schema at table tests (lit (Int (pos 1))) names text → (old new : State) (o : Option Row) → FindsRow text given old new o → (maps : Maps) → Holds schema old.now maps
+  pub first_found : Looks schema at table tests (lit (Int (pos 1))) names text → (old new : State) (o : Option Row)
+      → FindsRow text given old new o → (maps : Maps) → Holds schema old.now maps
       → First (maps at) good (option_to_list o) × IsUnchanged old new
-  first_found looks old new (Some row) h maps held = (first_gives looks old new (Ok row) h maps held, row_unchanged text given old new schema held.schema_is looks.bare row h)
+  first_found looks old new (Some row) h maps held =
+      (first_gives looks old new (Ok row) h maps held, row_unchanged text given old new schema held.schema_is looks.bare row h)
   first_found looks old new None h maps held = (
     first_gives looks old new (Err QueryReturnedNoRows) h maps held refl,
     shown_unchanged text given old new schema held.schema_is looks.bare [] (none_shown text given old new schema held.schema_is looks.bare h),
   )
 
-  pub list_found : Looks schema at table tests (lit (Int (negsuc 0))) names text → (old new : State) (rows : List Row) → Shown text given old new rows → (maps : Maps) → Holds schema old.now maps
+  pub list_found : Looks schema at table tests (lit (Int (negsuc 0))) names text → (old new : State) (rows : List Row)
+      → Shown text given old new rows → (maps : Maps) → Holds schema old.now maps
       → Listed (maps at) good rows × IsUnchanged old new
-  list_found looks old new rows h maps held = (list_gives looks old new rows h maps held, shown_unchanged text given old new schema held.schema_is looks.bare rows h)
+  list_found looks old new rows h maps held =
+      (list_gives looks old new rows h maps held, shown_unchanged text given old new schema held.schema_is looks.bare rows h)
 
   -- a count that fits 32 bits
-  pub count_found : (listed : slice_get schema.tables at ≡ Some table) (command : command_of (understood schema text) ≡ Select (record { lets = []; body = counting table.tree tests }) (codes "COUNT(*)" ∷ [])) (bare : IsPlain (understood schema text))
-      (unlisted : reads_listing schema text ≡ false) (single : (r : Row) → key_at table r ≡ rowid r ∷ []) (key_cell : (r : Row) → column (cells table r) 0 ≡ rowid r) (old new : State)
-      → (n : ℕ) → (row : Row) × FindsRow text given old new (Some row) × (column row 0 ≡ Int (pos n)) × (n ≤ 4294967295) → (maps : Maps) → Holds schema old.now maps → Count (maps at) good n × IsUnchanged old new
+  pub count_found : (listed : slice_get schema.tables at ≡ Some table)
+      (command : command_of (understood schema text) ≡ Select (record { lets = []; body = counting table.tree tests })
+      (codes "COUNT(*)" ∷ [])) (bare : IsPlain (understood schema text))
+      (unlisted : reads_listing schema text ≡ false) (single : (r : Row) → key_at table r ≡ rowid r ∷ [])
+      (key_cell : (r : Row) → column (cells table r) 0 ≡ rowid r) (old new : State)
+      → (n : ℕ) → (row : Row) × FindsRow text given old new (Some row) × (column row 0 ≡ Int (pos n)) × (n ≤ 4294967295) → (maps : Maps)
+      → Holds schema old.now maps → Count (maps at) good n × IsUnchanged old new
   count_found listed command bare unlisted single key_cell old new n found maps held =
       let all = count_gives listed command bare unlisted single key_cell old new (Ok found.0) found.1 maps held in
       let first : Int (pos n) ≡ Int (pos (min all.0 9223372036854775807)) = sym found.2 ∙ ap (λ r. column r 0) all.2 in

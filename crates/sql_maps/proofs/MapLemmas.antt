@@ -1,5 +1,6 @@
 -- The maps that a database holds, after a put or a take.
-use Rattle.std.proofs.Common.{◌≡◌, ◌≢◌, inl, inr, ℕ, zero, suc, not, ◌&&◌, Bool, true, false, cond, List, [], ◌∷◌, slice_get, Some, None, refl, sym, ap, subst, ◌∙◌, true≢false}
+use Rattle.std.proofs.Common.{◌≡◌, ◌≢◌, inl, inr, ℕ, zero, suc, not, ◌&&◌, Bool, true, false, cond, List, [], ◌∷◌, slice_get, Some, None}
+use Rattle.std.proofs.Common.{refl, sym, ap, subst, ◌∙◌, true≢false}
 use Rattle.std.specs.Prelude.{◌==◌, if◌then◌else◌}
 use Rattle.std.specs.List.{list_all}
 use Rattle.std.proofs.lemmas.Bool.{and_parts, and_from, false_from_ne_true, cases_Bool}
@@ -46,7 +47,11 @@ pub puts_map : (table : Table) (old new : List Row) (m : Map) (k v : Row) → Is
     → IsShaped shape.Table new → IsMap table new (put m k v)
 puts_map table old new m k v is plain p shaped = record {
   shaped = shaped;
-  plain = λ r h. elim (p.rest r h) [ inl same ↦ ap (λ x. list_all is_plain (key_at table x)) same ∙ ap (list_all is_plain) p.keyed ∙ plain | inr there ↦ is.plain r there.0 ];
+  plain = λ r h. elim (p.rest r h) [
+    | inl same ↦ ap (λ x. list_all is_plain (key_at table x)) same ∙ ap (list_all is_plain) p.keyed
+        ∙ plain
+    | inr there ↦ is.plain r there.0
+  ];
   sound = λ r h. elim (p.rest r h) [
     | inl same ↦
         let hit : same_key (key_at table r) k ≡ true = ap (λ j. same_key j k) (ap (key_at table) same ∙ p.keyed) ∙ same_keys k plain in
@@ -103,19 +108,22 @@ are_apart (t ∷ ts) = list_all (λ u. not (u.tree == t.tree)) ts && are_apart t
 not_same : (m n : ℕ) → not (m == n) ≡ true → m ≢ n
 not_same m n h e = true≢false (sym h ∙ ap not ((Decides-eqb m n).1 e))
 
-pub apart_at : (ts : List Table) → are_apart ts ≡ true → (i at : ℕ) (t table : Table) → slice_get ts i ≡ Some t → slice_get ts at ≡ Some table → i ≢ at → t.tree ≢ table.tree
+pub apart_at : (ts : List Table) → are_apart ts ≡ true → (i at : ℕ) (t table : Table) → slice_get ts i ≡ Some t
+    → slice_get ts at ≡ Some table → i ≢ at → t.tree ≢ table.tree
 apart_at [] h i at t table p q other = absurd (let e = p in cc)
 apart_at (u ∷ ts) h zero zero t table p q other = absurd (other refl)
 apart_at (u ∷ ts) h zero (suc at) t table p q other =
     let same : u ≡ t = cc in
-    λ e. not_same table.tree u.tree (test_has (λ w. not (w.tree == u.tree)) ts table (and_parts _ _ h).0 (has_got ts at table q)) (sym e ∙ ap (λ (w : Table). w.tree) (sym same))
+    λ e. not_same table.tree u.tree (test_has (λ w. not (w.tree == u.tree)) ts table (and_parts _ _ h).0 (has_got ts at table q))
+    (sym e ∙ ap (λ (w : Table). w.tree) (sym same))
 apart_at (u ∷ ts) h (suc i) zero t table p q other =
     let same : u ≡ table = cc in
     λ e. not_same t.tree u.tree (test_has (λ w. not (w.tree == u.tree)) ts t (and_parts _ _ h).0 (has_got ts i t p)) (e ∙ ap (λ (w : Table). w.tree) (sym same))
 apart_at (u ∷ ts) h (suc i) (suc at) t table p q other = apart_at ts (and_parts _ _ h).1 i at t table p q (λ e. other (ap suc e))
 
 -- a write of one table, seen in all maps
-pub holds_after : (schema : Schema) (at : ℕ) (table : Table) (db next : Database) (maps : Maps) (m : Map) → are_apart schema.tables ≡ true → slice_get schema.tables at ≡ Some table → Holds schema db maps
+pub holds_after : (schema : Schema) (at : ℕ) (table : Table) (db next : Database) (maps : Maps) (m : Map) → are_apart schema.tables ≡ true
+    → slice_get schema.tables at ≡ Some table → Holds schema db maps
     → IsDatabase next → next.schema ≡ schema → Leaves schema table db.trees next.trees → IsMap table (next.trees table.tree) m
     → Holds schema next (λ i j. if i == at then m j else maps i j)
 holds_after schema at table db next maps m apart listed holds sound has left is = record {
@@ -129,7 +137,10 @@ holds_after schema at table db next maps m apart listed holds sound has left is 
         subst (λ b. IsMap t (next.trees t.tree) (λ j. cond b (m j) (maps i j))) (sym here) (subst (λ (u : Table). IsMap u (next.trees u.tree) m) same is)
     | inr other ↦
         let differ : i ≢ at = λ e. true≢false (sym ((Decides-eqb i at).1 e) ∙ other) in
-        let same : next.trees t.tree ≡ db.trees t.tree = all_has _ schema.tables t left.others (has_got schema.tables i t there) (apart_at schema.tables apart i at t table there listed differ) in
-        subst (λ b. IsMap t (next.trees t.tree) (λ j. cond b (m j) (maps i j))) (sym other) (subst (λ rows. IsMap t rows (maps i)) (sym same) (holds.tables i t there))
+        let same : next.trees t.tree ≡ db.trees t.tree =
+        all_has _ schema.tables t left.others (has_got schema.tables i t there)
+        (apart_at schema.tables apart i at t table there listed differ) in
+        subst (λ b. IsMap t (next.trees t.tree) (λ j. cond b (m j) (maps i j))) (sym other)
+        (subst (λ rows. IsMap t rows (maps i)) (sym same) (holds.tables i t there))
   ];
 }

@@ -1,5 +1,7 @@
 -- A selection in the order of columns that are no rowid.
-use Rattle.std.proofs.Common.{inl, inr, ◌≡◌, ℕ, pos, negsuc, take, Bool, true, false, cond, List, [], ◌∷◌, map, filter, flat_map, IsPermutation, Some, slice_get, refl, sym, ap, subst, ◌∙◌, true≢false, Ordering, Less, Equal, Greater, is_eq, is_gt}
+use Rattle.std.proofs.Common.{inl, inr, ◌≡◌, ℕ, pos, negsuc, take, Bool, true, false, cond, List, [], ◌∷◌, map, filter, flat_map}
+use Rattle.std.proofs.Common.{IsPermutation, Some, slice_get, refl, sym, ap, subst, ◌∙◌, true≢false, Ordering, Less, Equal, Greater, is_eq}
+use Rattle.std.proofs.Common.{is_gt}
 use Rattle.std.specs.List.{AllByRecursion, list_all}
 use Rattle.std.specs.Cmp.{IsTotalOrder}
 use Rattle.std.specs.Ordering.{ordering_reverse}
@@ -44,13 +46,15 @@ module _ {X : Type 0} (cmp : X → X → Ordering) (total : IsTotalOrder cmp) wh
   all-insert : (P : X → Type 0) (new : X) (xs : List X) → P new → AllByRecursion P xs → AllByRecursion P (insert_sorted cmp new xs)
   all-insert P new [] h all = (h, tt)
   all-insert P new (x ∷ xs) h all =
-      elim (is_gt (cmp new x)) as (λ b. AllByRecursion P (cond b (x ∷ insert_sorted cmp new xs) (new ∷ x ∷ xs))) [ true ↦ (all.0, all-insert P new xs h all.1) | false ↦ (h, all) ]
+      elim (is_gt (cmp new x)) as (λ b. AllByRecursion P (cond b (x ∷ insert_sorted cmp new xs) (new ∷ x ∷ xs)))
+      [ true ↦ (all.0, all-insert P new xs h all.1) | false ↦ (h, all) ]
 
   all-sort : (P : X → Type 0) (xs : List X) → AllByRecursion P xs → AllByRecursion P (sort_by cmp xs)
   all-sort P [] all = tt
   all-sort P (x ∷ xs) all = all-insert P x _ all.0 (all-sort P xs all.1)
 
-  rises-insert : (new : X) (xs : List X) → AllByRecursion (λ y. is_eq (cmp new y) ≡ false) xs → IsAscending (λ a b. cmp a b ≡ Less) xs → IsAscending (λ a b. cmp a b ≡ Less) (insert_sorted cmp new xs)
+  rises-insert : (new : X) (xs : List X) → AllByRecursion (λ y. is_eq (cmp new y) ≡ false) xs → IsAscending (λ a b. cmp a b ≡ Less) xs
+      → IsAscending (λ a b. cmp a b ≡ Less) (insert_sorted cmp new xs)
   rises-insert new [] apart up = (tt, tt)
   rises-insert new (x ∷ xs) apart up = go (cmp new x) refl (rises-insert new xs apart.1 up.1)
     where
@@ -75,7 +79,8 @@ same_mapped f g same (x ∷ xs) = λ i. same x i ∷ same_mapped f g same xs i
 -- ---- the rows that pass, in the order of ORDER BY
 
 -- of a query that keeps the stored rows that pass, each in the slots that are its own
-module _ (table : Table) (q : Query) (env : Row → List Row) (p good : Row → Bool) (reads : (r : Row) → p r ≡ good (cells table r)) (Before : Row → Row → Type 0) where
+module _ (table : Table) (q : Query) (env : Row → List Row) (p good : Row → Bool) (reads : (r : Row) → p r ≡ good (cells table r))
+    (Before : Row → Row → Type 0) where
   abbrev shown_env : Row → Output
   shown_env r = output q (env r)
 
@@ -83,7 +88,8 @@ module _ (table : Table) (q : Query) (env : Row → List Row) (p good : Row → 
   abbrev pub rows_cmp : Row → Row → Ordering
   rows_cmp x y = output_cmp q (shown_env x) (shown_env y)
 
-  module _ (tells : (x y : Row) → list_all is_plain (key_at table x) ≡ true → list_all is_plain (key_at table y) ≡ true → p x ≡ true → p y ≡ true → is_eq (rows_cmp x y) ≡ true → key_at table x ≡ key_at table y)
+  module _ (tells : (x y : Row) → list_all is_plain (key_at table x) ≡ true → list_all is_plain (key_at table y) ≡ true → p x ≡ true
+      → p y ≡ true → is_eq (rows_cmp x y) ≡ true → key_at table x ≡ key_at table y)
       (before : (x y : Row) → rows_cmp x y ≡ Less → Before (cells table x) (cells table y)) where
     no_ties : (rows : List Row) (m : Map) → IsMap table rows m → (xs : List Row) → ((x : Row) → Has xs x → Has rows x × (p x ≡ true))
         → IsAscending (λ a b. value_cmp (rowid a) (rowid b) ≡ Less) xs → IsAscending (λ a b. is_eq (rows_cmp a b) ≡ false) xs
@@ -110,11 +116,13 @@ module _ (table : Table) (q : Query) (env : Row → List Row) (p good : Row → 
     abbrev pub sorted_rows : List Row → List Row
     sorted_rows rows = sort_by rows_cmp (filter p rows)
 
-    pub sorted_answer : (rows : List Row) (m : Map) → IsMap table rows m → (db : Trees) (given : Row) (out : List Row) (a : IsAnswer q db given out) → a.kept ≡ map shown_env (filter p rows)
+    pub sorted_answer : (rows : List Row) (m : Map) → IsMap table rows m
+        → (db : Trees) (given : Row) (out : List Row) (a : IsAnswer q db given out) → a.kept ≡ map shown_env (filter p rows)
         → out ≡ page q given (map (λ r. eval_all q.project (env r)) (sorted_rows rows))
     sorted_answer rows m is db given out a kept =
         let apart = ascending-map (λ a b. is_eq (output_cmp q a b) ≡ false) shown_env (filter p rows) (good_apart rows m is) in
-        let sorted = sorted_is-sort_by (output_cmp q) (output_cmp_total q) (map shown_env (filter p rows)) a.ordered apart (subst (λ k. IsPermutation k a.ordered) kept a.same) a.sorted in
+        let sorted = sorted_is-sort_by (output_cmp q) (output_cmp_total q) (map shown_env (filter p rows)) a.ordered apart
+        (subst (λ k. IsPermutation k a.ordered) kept a.same) a.sorted in
         a.shown ∙ ap (λ l. page q given (map (λ (o : Output). o.1) l)) (sorted ∙ sort_by-map (output_cmp q) shown_env (filter p rows))
         ∙ ap (page q given) (mapped_twice shown_env (λ (o : Output). o.1) (sorted_rows rows))
 
@@ -131,11 +139,14 @@ module _ (table : Table) (q : Query) (env : Row → List Row) (p good : Row → 
               let r = is.whole k v e in
               let there = has_permuted all (filter p rows) r.0 mixed (has_kept p rows r.0 r.1 (reads r.0 ∙ ap good r.3 ∙ fine)) in
               subst (Has (map (cells table) all)) r.3 (mapped_has (cells table) all r.0 there);
-          rises = ascending-map Before (cells table) all (ascending_weaker (λ a b. rows_cmp a b ≡ Less) (λ a b. Before (cells table a) (cells table b)) before all (rises-sorted rows_cmp total_rows (filter p rows) (good_apart rows m is)));
+          rises = ascending-map Before (cells table) all
+              (ascending_weaker (λ a b. rows_cmp a b ≡ Less) (λ a b. Before (cells table a) (cells table b)) before all
+              (rises-sorted rows_cmp total_rows (filter p rows) (good_apart rows m is)));
         }
 
 -- of a query on one table
-module _ (table : Table) (tests : List Term) (order : List (Term × Key)) (most : Term) (given : Row) (good : Row → Bool) (reads : (r : Row) → passes tests given r ≡ good (cells table r))
+module _ (table : Table) (tests : List Term) (order : List (Term × Key)) (most : Term) (given : Row) (good : Row → Bool)
+    (reads : (r : Row) → passes tests given r ≡ good (cells table r))
     (as_cells : (r : Row) → shown_of (each_column 1 table) given r ≡ cells table r) (Before : Row → Row → Type 0) where
   abbrev pub ordering_query : Query
   ordering_query = in_order_up_to table.tree tests (each_column 1 table) order most
@@ -146,7 +157,8 @@ module _ (table : Table) (tests : List Term) (order : List (Term × Key)) (most 
   abbrev pub table_cmp : Row → Row → Ordering
   table_cmp = rows_cmp table ordering_query row_env (passes tests given) good reads Before
 
-  module _ (tells : (x y : Row) → list_all is_plain (key_at table x) ≡ true → list_all is_plain (key_at table y) ≡ true → passes tests given x ≡ true → passes tests given y ≡ true
+  module _ (tells : (x y : Row) → list_all is_plain (key_at table x) ≡ true → list_all is_plain (key_at table y) ≡ true
+      → passes tests given x ≡ true → passes tests given y ≡ true
       → is_eq (table_cmp x y) ≡ true → key_at table x ≡ key_at table y)
       (before : (x y : Row) → table_cmp x y ≡ Less → Before (cells table x) (cells table y)) where
     abbrev pub table_rows : List Row → List Row
@@ -155,18 +167,22 @@ module _ (table : Table) (tests : List Term) (order : List (Term × Key)) (most 
     abbrev pub all_rows : Trees → List Row
     all_rows db = map (cells table) (table_rows (db table.tree))
 
-    ordered_rows : (db : Trees) (m : Map) → IsMap table (db table.tree) m → (out : List Row) → IsProgramAnswer [] ordering_query db given out → out ≡ page ordering_query given (all_rows db)
+    ordered_rows : (db : Trees) (m : Map) → IsMap table (db table.tree) m → (out : List Row)
+        → IsProgramAnswer [] ordering_query db given out → out ≡ page ordering_query given (all_rows db)
     ordered_rows db m is out h =
         let q = ordering_query in
         let a = h Null in
         let kept = filter (passes tests given) (db table.tree) in
-        let staged = a.grouped ∙ ap (λ rows. flat_map (λ r. cond (passes tests given r) (row_env r ∷ []) []) rows) (plain_overlay db table.tree) ∙ matched (passes tests given) row_env (db table.tree) in
-        sorted_answer table q row_env (passes tests given) good reads Before tells before (db table.tree) m is (overlay db []) given out a (a.distinct ∙ ap (map (output q)) staged ∙ mapped_twice row_env (output q) kept)
+        let staged = a.grouped ∙ ap (λ rows. flat_map (λ r. cond (passes tests given r) (row_env r ∷ []) []) rows)
+        (plain_overlay db table.tree) ∙ matched (passes tests given) row_env (db table.tree) in
+        sorted_answer table q row_env (passes tests given) good reads Before tells before (db table.tree) m is (overlay db []) given out a
+        (a.distinct ∙ ap (map (output q)) staged ∙ mapped_twice row_env (output q) kept)
         ∙ ap (page q given) (same_mapped (λ r. shown_of (each_column 1 table) given r) (cells table) as_cells (table_rows (db table.tree)))
 
     -- of the rows that a text shows: all in this order, and which of them those are
     pub sorted_shown : (schema : Schema) (at : ℕ) (names : List (List ℕ)) (text : List ℕ) → slice_get schema.tables at ≡ Some table
-        → command_of (understood schema text) ≡ Select (record { lets = []; body = ordering_query }) names → IsPlain (understood schema text) → reads_listing schema text ≡ false
+        → command_of (understood schema text) ≡ Select (record { lets = []; body = ordering_query }) names
+        → IsPlain (understood schema text) → reads_listing schema text ≡ false
         → (old new : State) (rows : List Row) → Shown text given old new rows → (maps : Maps) → Holds schema old.now maps
         → (rows ≡ page ordering_query given (all_rows old.now.trees)) × ListedBy Before (maps at) good (all_rows old.now.trees) × IsUnchanged old new
     sorted_shown schema at names text listed command bare unlisted old new rows h maps held =
@@ -177,20 +193,25 @@ module _ (table : Table) (tests : List Term) (order : List (Term × Key)) (most 
           shown_unchanged text given old new schema held.schema_is bare rows h,
         )
 
-module _ (table : Table) (tests : List Term) (order : List (Term × Key)) (given : Row) (good : Row → Bool) (reads : (r : Row) → passes tests given r ≡ good (cells table r))
+module _ (table : Table) (tests : List Term) (order : List (Term × Key)) (given : Row) (good : Row → Bool)
+    (reads : (r : Row) → passes tests given r ≡ good (cells table r))
     (as_cells : (r : Row) → shown_of (each_column 1 table) given r ≡ cells table r) (Before : Row → Row → Type 0) where
   -- where all of them are shown
   abbrev whole : Term
   whole = lit (Int (negsuc 0))
 
-  pub sorted_found : (tells : (x y : Row) → list_all is_plain (key_at table x) ≡ true → list_all is_plain (key_at table y) ≡ true → passes tests given x ≡ true → passes tests given y ≡ true
+  pub sorted_found : (tells : (x y : Row) → list_all is_plain (key_at table x) ≡ true → list_all is_plain (key_at table y) ≡ true
+      → passes tests given x ≡ true → passes tests given y ≡ true
       → is_eq (table_cmp table tests order whole given good reads as_cells Before x y) ≡ true → key_at table x ≡ key_at table y)
       (before : (x y : Row) → table_cmp table tests order whole given good reads as_cells Before x y ≡ Less → Before (cells table x) (cells table y))
       (schema : Schema) (at : ℕ) (names : List (List ℕ)) (text : List ℕ) → slice_get schema.tables at ≡ Some table
-      → command_of (understood schema text) ≡ Select (record { lets = []; body = in_order_of table.tree tests (each_column 1 table) order }) names → IsPlain (understood schema text) → reads_listing schema text ≡ false
-      → (old new : State) (rows : List Row) → Shown text given old new rows → (maps : Maps) → Holds schema old.now maps → ListedBy Before (maps at) good rows × IsUnchanged old new
+      → command_of (understood schema text) ≡ Select (record { lets = []; body = in_order_of table.tree tests (each_column 1 table) order })
+      names → IsPlain (understood schema text) → reads_listing schema text ≡ false
+      → (old new : State) (rows : List Row) → Shown text given old new rows → (maps : Maps) → Holds schema old.now maps
+      → ListedBy Before (maps at) good rows × IsUnchanged old new
   sorted_found tells before schema at names text listed command bare unlisted old new rows h maps held =
-      let it = sorted_shown table tests order whole given good reads as_cells Before tells before schema at names text listed command bare unlisted old new rows h maps held in
+      let it = sorted_shown table tests order whole given good reads as_cells Before tells before schema at names text listed command bare
+      unlisted old new rows h maps held in
       (subst (ListedBy Before (maps at) good) (sym it.0) it.1, it.2)
 
   -- where as many are shown as a page has
@@ -198,13 +219,18 @@ module _ (table : Table) (tests : List Term) (order : List (Term × Key)) (given
     abbrev so_many : Term
     so_many = lit (Int (pos most))
 
-    pub page_sorted : (tells : (x y : Row) → list_all is_plain (key_at table x) ≡ true → list_all is_plain (key_at table y) ≡ true → passes tests given x ≡ true → passes tests given y ≡ true
+    pub page_sorted : (tells : (x y : Row) → list_all is_plain (key_at table x) ≡ true → list_all is_plain (key_at table y) ≡ true
+        → passes tests given x ≡ true → passes tests given y ≡ true
         → is_eq (table_cmp table tests order so_many given good reads as_cells Before x y) ≡ true → key_at table x ≡ key_at table y)
         (before : (x y : Row) → table_cmp table tests order so_many given good reads as_cells Before x y ≡ Less → Before (cells table x) (cells table y))
         (cut : (l : List Row) → page (in_order_up_to table.tree tests (each_column 1 table) order so_many) given l ≡ take most l)
         (schema : Schema) (at : ℕ) (names : List (List ℕ)) (text : List ℕ) → slice_get schema.tables at ≡ Some table
-        → command_of (understood schema text) ≡ Select (record { lets = []; body = in_order_up_to table.tree tests (each_column 1 table) order so_many }) names → IsPlain (understood schema text) → reads_listing schema text ≡ false
-        → (old new : State) (rows : List Row) → Shown text given old new rows → (maps : Maps) → Holds schema old.now maps → FirstRowsBy Before most (maps at) good rows × IsUnchanged old new
+        → command_of (understood schema text) ≡ Select
+        (record { lets = []; body = in_order_up_to table.tree tests (each_column 1 table) order so_many }) names
+        → IsPlain (understood schema text) → reads_listing schema text ≡ false
+        → (old new : State) (rows : List Row) → Shown text given old new rows → (maps : Maps) → Holds schema old.now maps
+        → FirstRowsBy Before most (maps at) good rows × IsUnchanged old new
     page_sorted tells before cut schema at names text listed command bare unlisted old new rows h maps held =
-        let it = sorted_shown table tests order so_many given good reads as_cells Before tells before schema at names text listed command bare unlisted old new rows h maps held in
+        let it = sorted_shown table tests order so_many given good reads as_cells Before tells before schema at names text listed command
+        bare unlisted old new rows h maps held in
         (subst (FirstRowsBy Before most (maps at) good) (sym (it.0 ∙ cut _)) (first_listed Before most (maps at) good _ it.1), it.2)

@@ -1,5 +1,6 @@
 -- A selection of no more rows than it is to have, in an order that is that of the key.
-use Rattle.std.proofs.Common.{◌≡◌, ◌⊎◌, ◌≤◌, inl, inr, ℕ, zero, suc, pos, Bool, true, false, cond, List, [], ◌∷◌, map, filter, flat_map, length, take, IsPermutation, Some, slice_get, refl, sym, ap, subst, ◌∙◌, arith, Less}
+use Rattle.std.proofs.Common.{◌≡◌, ◌⊎◌, ◌≤◌, inl, inr, ℕ, zero, suc, pos, Bool, true, false, cond, List, [], ◌∷◌, map, filter, flat_map}
+use Rattle.std.proofs.Common.{length, take, IsPermutation, Some, slice_get, refl, sym, ap, subst, ◌∙◌, arith, Less}
 use Rattle.std.specs.List.{AllByRecursion}
 use Rattle.sqlite.specs.declared.types.Value.TheVariants.{Null, Int}
 use Rattle.sqlite_value.specs.Order.{value_cmp}
@@ -40,7 +41,8 @@ module _ {X : Type 0} (Before : X → X → Type 0) where
   has_taken (suc n) (y ∷ xs) x (inl same) = inl same
   has_taken (suc n) (y ∷ xs) x (inr more) = inr (has_taken n xs x more)
 
-  taken_or_after : (n : ℕ) (xs : List X) → IsAscending Before xs → (x : X) → Has xs x → Has (take n xs) x ⊎ ((length (take n xs) ≡ n) × ((w : X) → Has (take n xs) w → Before w x))
+  taken_or_after : (n : ℕ) (xs : List X) → IsAscending Before xs → (x : X) → Has xs x → Has (take n xs) x
+      ⊎ ((length (take n xs) ≡ n) × ((w : X) → Has (take n xs) w → Before w x))
   taken_or_after zero xs up x there = inr (refl, λ w none. absurd none)
   taken_or_after (suc n) [] up x there = absurd there
   taken_or_after (suc n) (y ∷ xs) up x (inl same) = inl (inl same)
@@ -71,7 +73,8 @@ module _ {X : Type 0} (Before : X → X → Type 0) where
   taken_few (suc n) (x ∷ xs) = let less = taken_few n xs in omega (arith, less)
 
 -- the first rows of all that are listed
-pub first_listed : (Before : Row → Row → Type 0) (most : ℕ) (m : Map) (good : Row → Bool) (all : List Row) → ListedBy Before m good all → FirstRowsBy Before most m good (take most all)
+pub first_listed : (Before : Row → Row → Type 0) (most : ℕ) (m : Map) (good : Row → Bool) (all : List Row) → ListedBy Before m good all
+    → FirstRowsBy Before most m good (take most all)
 first_listed Before most m good all is = record {
   sound = λ v there. is.sound v (has_taken Before most all v there);
   whole = λ k v e fine. taken_or_after Before most all is.rises v (is.whole k v e fine);
@@ -90,7 +93,8 @@ module _ (tree : ℕ) (tests shows : List Term) (order : List (Term × Key)) (mo
   KeepsOrder = (x y : Row) → passes tests given x ≡ true → passes tests given y ≡ true → value_cmp (rowid x) (rowid y) ≡ Less
       → output_cmp paged (output paged (given ∷ x ∷ [])) (output paged (given ∷ y ∷ [])) ≡ Less
 
-  in_this_order : KeepsOrder → (xs : List Row) → ((x : Row) → Has xs x → passes tests given x ≡ true) → IsAscending (λ x y. value_cmp (rowid x) (rowid y) ≡ Less) xs
+  in_this_order : KeepsOrder → (xs : List Row) → ((x : Row) → Has xs x → passes tests given x ≡ true)
+      → IsAscending (λ x y. value_cmp (rowid x) (rowid y) ≡ Less) xs
       → IsAscending (λ x y. output_cmp paged (output paged (given ∷ x ∷ [])) (output paged (given ∷ y ∷ [])) ≡ Less) xs
   in_this_order keeps [] pass up = tt
   in_this_order keeps (x ∷ xs) pass up = (
@@ -107,18 +111,23 @@ module _ (tree : ℕ) (tests shows : List Term) (order : List (Term × Key)) (mo
       let a = h Null in
       let env = λ (r : Row). given ∷ r ∷ [] in
       let good = filter (passes tests given) (db tree) in
-      let staged = a.grouped ∙ ap (λ rows. flat_map (λ r. cond (passes tests given r) (env r ∷ []) []) rows) (plain_overlay db tree) ∙ matched (passes tests given) env (db tree) in
+      let staged = a.grouped ∙ ap (λ rows. flat_map (λ r. cond (passes tests given r) (env r ∷ []) []) rows) (plain_overlay db tree)
+      ∙ matched (passes tests given) env (db tree) in
       let kept : a.kept ≡ map (output q) (map env good) = a.distinct ∙ ap (map (output q)) staged in
       let up : IsAscending (λ x y. output_cmp q x y ≡ Less) (map (output q) (map env good)) =
       ascending-map (λ x y. output_cmp q x y ≡ Less) (output q) (map env good) (ascending-map (λ x y. output_cmp q (output q x) (output q y) ≡ Less) env good
-      (in_this_order keeps good (λ x there. (has_filtered (passes tests given) (db tree) x there).1) (ascending-filter _ (passes tests given) (db tree) rise))) in
-      let same = sorted_unique (output_cmp q) (output_cmp_total q) (map (output q) (map env good)) a.ordered up (subst (λ k. IsPermutation k a.ordered) kept a.same) a.sorted in
+      (in_this_order keeps good (λ x there. (has_filtered (passes tests given) (db tree) x there).1)
+      (ascending-filter _ (passes tests given) (db tree) rise))) in
+      let same = sorted_unique (output_cmp q) (output_cmp_total q) (map (output q) (map env good)) a.ordered up
+      (subst (λ k. IsPermutation k a.ordered) kept a.same) a.sorted in
       a.shown ∙ ap (λ l. page q given (map (λ (o : Output). o.1) l)) same ∙ ap (page q given) (twice q env good)
 
 -- what has to be computed of the text of a page
-pub record Pages (schema : Schema) (at : ℕ) (table : Table) (tests : List Term) (order : List (Term × Key)) (most : ℕ) (names : List (List ℕ)) (text : List ℕ) : Type 0 where
+pub record Pages (schema : Schema) (at : ℕ) (table : Table) (tests : List Term) (order : List (Term × Key)) (most : ℕ)
+    (names : List (List ℕ)) (text : List ℕ) : Type 0 where
   pub listed : slice_get schema.tables at ≡ Some table
-  pub command : command_of (understood schema text) ≡ Select (record { lets = []; body = in_order_up_to table.tree tests (each_column 1 table) order (lit (Int (pos most))) }) names
+  pub command : command_of (understood schema text) ≡ Select
+      (record { lets = []; body = in_order_up_to table.tree tests (each_column 1 table) order (lit (Int (pos most))) }) names
   pub bare : IsPlain (understood schema text)
   pub unlisted : reads_listing schema text ≡ false
   pub single : (r : Row) → key_at table r ≡ rowid r ∷ []
@@ -126,9 +135,12 @@ pub record Pages (schema : Schema) (at : ℕ) (table : Table) (tests : List Term
   pub as_cells : (given : Row) (l : List Row) → map (shown_of (each_column 1 table) given) l ≡ map (cells table) l
   pub cut : (given : Row) (l : List Row) → page (in_order_up_to table.tree tests (each_column 1 table) order (lit (Int (pos most)))) given l ≡ take most l
 
-module _ (schema : Schema) (at : ℕ) (table : Table) (tests : List Term) (order : List (Term × Key)) (most : ℕ) (names : List (List ℕ)) (text : List ℕ) (given : Row) (good : Row → Bool)
-    (reads : (r : Row) → passes tests given r ≡ good (cells table r)) (keeps : KeepsOrder table.tree tests (each_column 1 table) order (lit (Int (pos most))) given) where
-  pub page_found : Pages schema at table tests order most names text → (old new : State) (rows : List Row) → Shown text given old new rows → (maps : Maps) → Holds schema old.now maps
+module _ (schema : Schema) (at : ℕ) (table : Table) (tests : List Term) (order : List (Term × Key)) (most : ℕ) (names : List (List ℕ))
+    (text : List ℕ) (given : Row) (good : Row → Bool)
+    (reads : (r : Row) → passes tests given r ≡ good (cells table r))
+    (keeps : KeepsOrder table.tree tests (each_column 1 table) order (lit (Int (pos most))) given) where
+  pub page_found : Pages schema at table tests order most names text → (old new : State) (rows : List Row) → Shown text given old new rows
+      → (maps : Maps) → Holds schema old.now maps
       → FirstRows most (maps at) good rows × IsUnchanged old new
   page_found pages old new rows h maps held =
       let is = held.tables at table pages.listed in

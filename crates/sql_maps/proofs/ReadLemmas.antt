@@ -97,17 +97,20 @@ module _ (sql : List ℕ) (params : Row) (old new : State) (schema : Schema) (ha
   row_left (Err e) (inl h) = query_left e h
   row_left (Err e) (inr h) = inl (unchanged_keeps old new (shown_unchanged [] h.1))
 
-  pub all_left : (r : Result (Vec TheRow Global) Error) → IfOk r (λ rows. Shown sql params old new rows.items) → IfErr r (FailsToQuery sql params old new) → IsKeptOrUndone old new
+  pub all_left : (r : Result (Vec TheRow Global) Error) → IfOk r (λ rows. Shown sql params old new rows.items)
+      → IfErr r (FailsToQuery sql params old new) → IsKeptOrUndone old new
   all_left (Ok rows) h f = inl (unchanged_keeps old new (shown_unchanged rows.items h))
   all_left (Err e) h f = query_left e f
 
-module _ (schema : Schema) (at : ℕ) (table : Table) (listed : slice_get schema.tables at ≡ Some table) (tests shows : List Term) (params k : Row) (finds : Finds table tests params k)
+module _ (schema : Schema) (at : ℕ) (table : Table) (listed : slice_get schema.tables at ≡ Some table) (tests shows : List Term)
+    (params k : Row) (finds : Finds table tests params k)
     (shows_cells : (r : Row) → shown_of shows params r ≡ cells table r) (names : List (List ℕ)) where
   abbrev pub get_command : Command
   get_command = Select (record { lets = []; body = over table.tree tests shows }) names
 
   -- each row that is shown is the map's
-  pub got : (db : Trees) (m : Map) (out : List Row) → IsMap table (db table.tree) m → IsProgramAnswer [] (over table.tree tests shows) db params out → (v : Row) → Has out v → m k ≡ Some v
+  pub got : (db : Trees) (m : Map) (out : List Row) → IsMap table (db table.tree) m
+      → IsProgramAnswer [] (over table.tree tests shows) db params out → (v : Row) → Has out v → m k ≡ Some v
   got db m out is answer v there =
       let r = answer_has table.tree tests shows db params out answer v there in
       ap m (sym (finds.hit r.0 (is.plain r.0 r.1) r.2)) ∙ is.sound r.0 r.1 ∙ ap Some (sym (shows_cells r.0) ∙ sym r.3)
@@ -120,8 +123,10 @@ module _ (schema : Schema) (at : ℕ) (table : Table) (listed : slice_get schema
       go None e = refl
       go (Some v) e = let r = is.whole k v e in absurd (has_answer table.tree tests shows db params [] answer r.0 r.1 (finds.hits r.0 r.2))
 
-  module _ (sql : List ℕ) (is : command_of (understood schema sql) ≡ get_command) (bare : IsPlain (understood schema sql)) (unlisted : reads_listing schema sql ≡ false) (old new : State) where
-    pub get_some : (row : Row) → QueriesRow sql params old new (Ok row) → (maps : Maps) → Holds schema old.now maps → (maps at k ≡ Some row) × IsUnchanged old new
+  module _ (sql : List ℕ) (is : command_of (understood schema sql) ≡ get_command) (bare : IsPlain (understood schema sql))
+      (unlisted : reads_listing schema sql ≡ false) (old new : State) where
+    pub get_some : (row : Row) → QueriesRow sql params old new (Ok row) → (maps : Maps) → Holds schema old.now maps → (maps at k ≡ Some row)
+        × IsUnchanged old new
     get_some row h maps holds =
         let first = (first_as sql params old new schema holds.schema_is get_command is bare unlisted row h).1 in (
           got old.now.trees (maps at) (row ∷ first.0) (holds.tables at table listed) first.1 row (inl refl),
@@ -139,5 +144,6 @@ module _ (schema : Schema) (at : ℕ) (table : Table) (listed : slice_get schema
     get_row None h maps holds = get_no h maps holds
 
 -- a text that only reads commits nothing
-pub commits_nothing : (sql : List ℕ) (params : Row) (old new : State) → IsPlain (understood old.now.schema sql) → Survives old new (CommitsShowing sql params old) → Survives old new (λ _. ⊥)
+pub commits_nothing : (sql : List ℕ) (params : Row) (old new : State) → IsPlain (understood old.now.schema sql)
+    → Survives old new (CommitsShowing sql params old) → Survives old new (λ _. ⊥)
 commits_nothing sql params old new bare = survives_weaker old new _ _ (λ _ db. never_commits sql params old db bare)

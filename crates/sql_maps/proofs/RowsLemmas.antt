@@ -30,7 +30,8 @@ not_true false h = refl
 -- what is left has none of the rowids
 pub left_apart : (ids : List ℤ) (rows : List Row) (x : Row) → Has (without_all rows ids) x → (id : ℤ) → Has ids id → has_rowid id x ≡ false
 left_apart [] rows x h id in_ids = absurd in_ids
-left_apart (i ∷ ids) rows x h id (inl same) = rw same (not_true _ (has_filtered (λ r. not (has_rowid i r)) rows x (without_all_has ids (without_rowid i rows) x h)).1)
+left_apart (i ∷ ids) rows x h id (inl same) =
+    rw same (not_true _ (has_filtered (λ r. not (has_rowid i r)) rows x (without_all_has ids (without_rowid i rows) x h)).1)
 left_apart (i ∷ ids) rows x h id (inr later) = left_apart ids (without_rowid i rows) x h id later
 
 pub left_has : (ids : List ℤ) (rows : List Row) (x : Row) → Has rows x → ((id : ℤ) → Has ids id → has_rowid id x ≡ false) → Has (without_all rows ids) x

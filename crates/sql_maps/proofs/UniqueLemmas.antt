@@ -1,5 +1,6 @@
 -- A key names one row, by the rowid or by a unique index.
-use Rattle.std.proofs.Common.{◌≡◌, inl, inr, ℕ, Bool, true, false, not, ◌&&◌, ◌||◌, cond, List, [], ◌∷◌, slice_get, Some, refl, sym, ap, ◌∙◌, true≢false, Ordering, Less, Equal, Greater}
+use Rattle.std.proofs.Common.{◌≡◌, inl, inr, ℕ, Bool, true, false, not, ◌&&◌, ◌||◌, cond, List, [], ◌∷◌, slice_get, Some, refl, sym, ap}
+use Rattle.std.proofs.Common.{◌∙◌, true≢false, Ordering, Less, Equal, Greater}
 use Rattle.std.specs.Ordering.{is_eq, is_ne}
 use Rattle.std.specs.List.{list_any}
 use Rattle.std.proofs.lemmas.Bool.{and_parts, or_parts}
@@ -39,8 +40,10 @@ none_of p (y ∷ xs) x h (inl same) = ap p same ∙ (or_parts _ _ h).0
 none_of p (y ∷ xs) x h (inr there) = none_of p xs x (or_parts _ _ h).1 there
 
 -- a unique index makes its key name one row
-pub alone_by_index : (s : Schema) (at : ℕ) (table : Table) (i : Index) → slice_get s.tables at ≡ Some table → Has s.indexes i → guards i table ≡ true → i.order ≡ plain → i.columns ≡ table.primary
-    → (db : Trees) → Fits s db → (x y : Row) → Has (db table.tree) x → Has (db table.tree) y → agree plain table.primary x table.primary y ≡ true → differ (rowid x) (rowid y) ≡ false
+pub alone_by_index : (s : Schema) (at : ℕ) (table : Table) (i : Index) → slice_get s.tables at ≡ Some table → Has s.indexes i
+    → guards i table ≡ true → i.order ≡ plain → i.columns ≡ table.primary
+    → (db : Trees) → Fits s db → (x y : Row) → Has (db table.tree) x → Has (db table.tree) y
+    → agree plain table.primary x table.primary y ≡ true → differ (rowid x) (rowid y) ≡ false
 alone_by_index s at table i listed there guarded order columns db fits x y hx hy same =
     let keeps = all_has _ s.tables table (fits.rules Unique (λ e. cc)) (has_got s.tables at table listed) in
     let good = test_has (λ j. not (guards j table && clashes j.order j.columns (db table.tree) y)) s.indexes i (all_has _ (db table.tree) y keeps hy) there in

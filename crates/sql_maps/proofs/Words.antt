@@ -43,7 +43,13 @@ in_order_up_to tree tests shows order most = record (over tree tests shows) { or
 -- how many rows pass
 abbrev pub counting : ℕ → List Term → Query
 counting tree tests = record (over tree tests (col 1 0 ∷ [])) {
-  group = Some (record { keys = []; collations = []; aggregates = record { op = CountRows; distinct = false; collation = Binary; argument = lit Null } ∷ []; having = [] });
+  group = Some (record {
+    keys = [];
+    collations = [];
+    aggregates
+        = record { op = CountRows; distinct = false; collation = Binary; argument = lit Null } ∷ [];
+    having = [];
+  });
 }
 
 -- one row came in, in place of the one that had its key

@@ -1,5 +1,6 @@
 -- What an upsert and a delete by key do to a table, whichever table it is.
-use Rattle.std.proofs.Common.{◌≡◌, ◌≢◌, ◌⊎◌, inl, inr, ℕ, ◌/◌, ℤ, true, false, List, [], ◌∷◌, ◌++◌, map, drop, length, slice_get, Option, Some, None, Ok, Err, Result, refl, sym, ap, subst, ◌∙◌, true≢false}
+use Rattle.std.proofs.Common.{◌≡◌, ◌≢◌, ◌⊎◌, inl, inr, ℕ, ◌/◌, ℤ, true, false, List, [], ◌∷◌, ◌++◌, map, drop, length, slice_get, Option}
+use Rattle.std.proofs.Common.{Some, None, Ok, Err, Result, refl, sym, ap, subst, ◌∙◌, true≢false}
 use Rattle.std.specs.Prelude.{if◌then◌else◌}
 use Rattle.std.specs.List.{AllByRecursion, list_all}
 use Rattle.std.proofs.lemmas.Bool.{and_parts, and_from, false_from_ne_true}
@@ -38,7 +39,8 @@ use Rattle.sqlite.specs.Source.TheVariants.{Values}
 use Rattle.sqlite.specs.State.{State, Executes, Shows, mode_of}
 use Rattle.sqlite.specs.Does.{Does, Tally}
 use Rattle.sqlite_schema.specs.declared.schema.Keys.TheVariants.{Enforced}
-use Rattle.sqlite.specs.Rows.{Puts as PutsOne, Edited, Task, Tries, TriesEach, Updates, Clears, Written, rowids_for, stamped, shown, Counts, InsertsOr, count_of, nothing, joined, higher}
+use Rattle.sqlite.specs.Rows.{Puts as PutsOne, Edited, Task, Tries, TriesEach, Updates, Clears, Written, rowids_for, stamped, shown, Counts}
+use Rattle.sqlite.specs.Rows.{InsertsOr, count_of, nothing, joined, higher}
 use Rattle.sqlite.specs.Effect.{value_rows, Database, IsDatabase}
 use Rattle.sql_maps.specs.Maps.{key_at, cells, is_plain}
 use Rattle.sql_maps.proofs.Words.{over, Puts}
@@ -65,7 +67,8 @@ pub record Fixed (schema : Schema) (at : ℕ) (table : Table) : Type 0 where
   -- the rows that a clause on the key meets are those with the key
   pub target : (r new : Row) → conflicts (Some table.primary) schema.indexes table new r ≡ agree plain table.primary r table.primary new
   -- no two rows have one key
-  pub alone : (db : Trees) → Fits schema db → (x y : Row) → Has (db table.tree) x → Has (db table.tree) y → agree plain table.primary x table.primary y ≡ true → differ (rowid x) (rowid y) ≡ false
+  pub alone : (db : Trees) → Fits schema db → (x y : Row) → Has (db table.tree) x → Has (db table.tree) y
+      → agree plain table.primary x table.primary y ≡ true → differ (rowid x) (rowid y) ≡ false
 
 -- the upsert of one row, by the terms that it computes
 pub record Fills (table : Table) (params : Row) (terms shows : List Term) (width : ℕ) (id_place : ℕ) (k v : Row) : Type 0 where
@@ -74,9 +77,11 @@ pub record Fills (table : Table) (params : Row) (terms shows : List Term) (width
   pub stored : ℤ → Row
   pub plain_key : list_all is_plain k ≡ true
   pub once : value_rows (stamped table params) width (length terms / width) terms ≡ source ∷ []
-  pub chosen : (top : ℤ) (rows : List Row) → (id : ℤ) × (with_rowid (rowids_for table top) rows (cast_row table source) ≡ stored id) × (key_at table (stored id) ≡ k)
+  pub chosen : (top : ℤ) (rows : List Row) → (id : ℤ) × (with_rowid (rowids_for table top) rows (cast_row table source) ≡ stored id)
+      × (key_at table (stored id) ≡ k)
   pub id_at : (there : Value) (rest : Row) → column (params ++ there ∷ rest) id_place ≡ there
-  pub again : (id : ℤ) (there : Value) (r new : Row) → rowid r ≡ Int id → key_at table r ≡ k → cast_row table (drop 1 (shown_of shows (params ++ there ∷ shown table new) r)) ≡ stored id
+  pub again : (id : ℤ) (there : Value) (r new : Row) → rowid r ≡ Int id → key_at table r ≡ k
+      → cast_row table (drop 1 (shown_of shows (params ++ there ∷ shown table new) r)) ≡ stored id
   -- what is read of the old row before the cast
   pub first : (there : Value) (r new : Row) → id_in (rowid (shown_of shows (params ++ there ∷ shown table new) r)) ≡ id_in (rowid r)
   pub same_key : (id : ℤ) (r : Row) → rowid r ≡ Int id → key_at table r ≡ k → key_at table (stored id) ≡ k
@@ -98,7 +103,8 @@ module _ (schema : Schema) (at : ℕ) (table : Table) (fixed : Fixed schema at t
 
   pub inserted : (keys : Keys) (db next : Trees) (new : Row) (k v : Row) → cast_row table new ≡ new → key_at table new ≡ k → cells table new ≡ v
       → ((x : Row) → Has (db table.tree) x → key_at table x ≢ key_at table new)
-      → Edited schema keys db (edit_of db table [] Given 0 (new ∷ [])) (Ok next) → Puts table (db table.tree) (next table.tree) k v × Leaves schema table db next
+      → Edited schema keys db (edit_of db table [] Given 0 (new ∷ [])) (Ok next) → Puts table (db table.tree) (next table.tree) k v
+      × Leaves schema table db next
   inserted keys db next new k v firm keyed is apart h =
       let a = edit_done keys db next (edit_of db table [] Given 0 (new ∷ [])) h in
       let rows : next table.tree ≡ put_row new (db table.tree) = a.rows ∙ ap (λ r. put_row r (db table.tree)) firm in
@@ -125,7 +131,8 @@ module _ (schema : Schema) (at : ℕ) (table : Table) (fixed : Fixed schema at t
     pub replaced : (keys : Keys) (db next : Trees) (old new : Row) (rows : List Row) → IsShaped shape.TheVariants.Table (db table.tree)
         → Has (db table.tree) old → key_at table old ≡ k
         → IsProgramAnswer [] (over table.tree (id_test id_place) shows) db (abbrev_given (rowid old) new) rows
-        → Edited schema keys db (edit_of db table (ids_of rows) Given 1 rows) (Ok next) → Puts table (db table.tree) (next table.tree) k v × Leaves schema table db next
+        → Edited schema keys db (edit_of db table (ids_of rows) Given 1 rows) (Ok next) → Puts table (db table.tree) (next table.tree) k v
+        × Leaves schema table db next
     replaced keys db next old new rows shaped there key answer h =
         let params' = abbrev_given (rowid old) new in
         let id = id_in (rowid old) in
@@ -150,9 +157,14 @@ module _ (schema : Schema) (at : ℕ) (table : Table) (fixed : Fixed schema at t
         let is_row : made (shown_of shows params' old) ≡ row = fills.again id (rowid old) old new id_is key in
         let new_is : (x : Row) → Has news x → x ≡ row = λ x h. let it = has_mapped made rows x h in it.2 ∙ ap made (found it.0 it.1) ∙ is_row in
         let has_new : Has news row = subst (Has news) is_row (mapped_has made rows (shown_of shows params' old) one) in
-        let ids_is : (i : ℤ) → Has (ids_of rows) i → i ≡ id = λ i h. let it = has_mapped (λ r. id_in (rowid r)) rows i h in it.2 ∙ ap (λ r. id_in (rowid r)) (found it.0 it.1) ∙ fills.first (rowid old) old new in
-        let has_id : Has (ids_of rows) id = subst (Has (ids_of rows)) (fills.first (rowid old) old new) (mapped_has (λ r. id_in (rowid r)) rows (shown_of shows params' old) one) in
-        let shaped' : IsShaped shape.TheVariants.Table (next table.tree) = subst (IsShaped shape.TheVariants.Table) (sym trees) (shaped_put news left keyed (shaped_left (ids_of rows) (db table.tree) shaped)) in
+        let ids_is : (i : ℤ) → Has (ids_of rows) i → i ≡ id = λ i h. let it = has_mapped (λ r. id_in (rowid r)) rows i h in
+        it.2 ∙ ap (λ r. id_in (rowid r)) (found it.0 it.1) ∙ fills.first (rowid old) old new in
+        let has_id : Has (ids_of rows) id =
+        subst (Has (ids_of rows)) (fills.first (rowid old) old new)
+        (mapped_has (λ r. id_in (rowid r)) rows (shown_of shows params' old) one) in
+        let shaped' : IsShaped shape.TheVariants.Table (next table.tree) =
+        subst (IsShaped shape.TheVariants.Table) (sym trees)
+        (shaped_put news left keyed (shaped_left (ids_of rows) (db table.tree) shaped)) in
         let here : Has (next table.tree) row = subst (λ l. Has l row) (sym trees) (put_all_adds news left row fresh has_new) in (
           record {
             row = row;
@@ -165,7 +177,8 @@ module _ (schema : Schema) (at : ℕ) (table : Table) (fixed : Fixed schema at t
                 without_all_has (ids_of rows) (db table.tree) x in_left,
                 λ same.
                     let plain_x : list_all is_plain (key_at table x) ≡ true = ap (list_all is_plain) (same ∙ row_key) ∙ fills.plain_key in
-                    let alike = not_differ (rowid x) (rowid row) (int_plain (rowid x) (int_at (next table.tree) x shaped' h)) (int_plain (rowid row) (int_at (next table.tree) row shaped' here))
+                    let alike = not_differ (rowid x) (rowid row) (int_plain (rowid x) (int_at (next table.tree) x shaped' h))
+                    (int_plain (rowid row) (int_at (next table.tree) row shaped' here))
                     (fixed.alone next a.fits x row h here (same_agree table.primary x row plain_x same)) in
                     let clash = is_rowid id x (alike ∙ fills.id_is id) in
                     let apart = left_apart (ids_of rows) (db table.tree) x in_left id has_id in
@@ -173,7 +186,9 @@ module _ (schema : Schema) (at : ℕ) (table : Table) (fixed : Fixed schema at t
               )
             ];
             kept = λ x in_old other.
-                subst (λ l. Has l x) (sym trees) (put_all_keeps news left x fresh (left_has (ids_of rows) (db table.tree) x in_old (λ i in_ids. false_from_ne_true _ (λ clash.
+                subst (λ l. Has l x) (sym trees)
+                (put_all_keeps news left x fresh
+                (left_has (ids_of rows) (db table.tree) x in_old (λ i in_ids. false_from_ne_true _ (λ clash.
                 let at_old : rowid x ≡ rowid old = rowid_is i x (int_at (db table.tree) x shaped in_old) clash ∙ ap Int (ids_is i in_ids) ∙ sym id_is in
                 let same = one_row (db table.tree) x old shaped.0 in_old there at_old in
                 other (ap (key_at table) same ∙ key ∙ sym row_key)))));
@@ -181,11 +196,15 @@ module _ (schema : Schema) (at : ℕ) (table : Table) (fixed : Fixed schema at t
           record { shaped = λ _. shaped'; others = a.tables },
         )
       where
-        picked : (r old new : Row) → is_int (rowid r) ≡ true → is_int (rowid old) ≡ true → passes (id_test id_place) (abbrev_given (rowid old) new) r ≡ true → rowid r ≡ rowid old
-        picked r old new p q h = equal_same (rowid r) (rowid old) (int_plain _ p) (int_plain _ q) (subst (λ w. equal Binary (rowid r) w ≡ true) (fills.id_at (rowid old) (shown table new)) (and_parts _ _ h).0)
+        picked : (r old new : Row) → is_int (rowid r) ≡ true → is_int (rowid old) ≡ true
+            → passes (id_test id_place) (abbrev_given (rowid old) new) r ≡ true → rowid r ≡ rowid old
+        picked r old new p q h = equal_same (rowid r) (rowid old) (int_plain _ p) (int_plain _ q)
+            (subst (λ w. equal Binary (rowid r) w ≡ true) (fills.id_at (rowid old) (shown table new)) (and_parts _ _ h).0)
 
         picks : (old new : Row) → is_int (rowid old) ≡ true → passes (id_test id_place) (abbrev_given (rowid old) new) old ≡ true
-        picks old new p = and_from _ _ (subst (λ w. equal Binary (rowid old) w ≡ true) (sym (fills.id_at (rowid old) (shown table new))) (same_equal (rowid old) (int_plain _ p))) refl
+        picks old new p = and_from _ _
+            (subst (λ w. equal Binary (rowid old) w ≡ true) (sym (fills.id_at (rowid old) (shown table new)))
+            (same_equal (rowid old) (int_plain _ p))) refl
 
     abbrev upsert : List Upsert
     upsert = record { target = Some table.primary; update = Some (record { lets = []; body = over table.tree (id_test id_place) shows }) } ∷ []
@@ -213,9 +232,11 @@ module _ (schema : Schema) (at : ℕ) (table : Table) (fixed : Fixed schema at t
         let trees : one.trees ≡ next.0 = ap (λ (it : Written). it.trees) (same_value next.2) in
         let apart : (x : Row) → Has (db table.tree) x → key_at table x ≢ key_at table new =
         λ x there same. met.complete x there (fixed.target x new ∙ same_agree table.primary x new (whole x there) same) in
-        subst (λ t. Puts table (db table.tree) (t table.tree) k v × Leaves schema table db t) (sym trees) (inserted keys db next.0 new k v firm (new_key top db) is apart next.1)
+        subst (λ t. Puts table (db table.tree) (t table.tree) k v × Leaves schema table db t) (sym trees)
+        (inserted keys db next.0 new k v firm (new_key top db) is apart next.1)
 
-    cleared : (limit : Option ℕ) (keys : Keys) (db : Trees) (new : Row) (others : List Row) (one : Written) → Clears (task_of limit keys) Abort new db others (Ok one) → PutsOne (task_of limit keys) new db (Ok one)
+    cleared : (limit : Option ℕ) (keys : Keys) (db : Trees) (new : Row) (others : List Row) (one : Written)
+        → Clears (task_of limit keys) Abort new db others (Ok one) → PutsOne (task_of limit keys) new db (Ok one)
     cleared limit keys db new [] one h = h
     cleared limit keys db new (x ∷ more) one h = h
 
@@ -225,23 +246,27 @@ module _ (schema : Schema) (at : ℕ) (table : Table) (fixed : Fixed schema at t
         → Puts table (db table.tree) (one.trees table.tree) k v × Leaves schema table db one.trees
     tried limit keys db top one shaped whole (inl refused) = absurd (let e = refused.1 in cc)
     tried limit keys db top one shaped whole (inr (Some why, judged, never)) = absurd (let e = never in cc)
-    tried limit keys db top one shaped whole (inr (None, judged, ([], met, (others, clear, puts)))) = put_new limit keys db top one whole met (cleared limit keys db (new_row top db) others one puts)
+    tried limit keys db top one shaped whole (inr (None, judged, ([], met, (others, clear, puts)))) =
+        put_new limit keys db top one whole met (cleared limit keys db (new_row top db) others one puts)
     tried limit keys db top one shaped whole (inr (None, judged, (there ∷ more, met, resolves))) =
         let new = new_row top db in
         let r = met.sound there (inl refl) in
         let key : key_at table r.0 ≡ k =
-        agree_same table.primary r.0 new (whole r.0 r.1) (ap (list_all is_plain) (new_key top db) ∙ fills.plain_key) (sym (fixed.target r.0 new) ∙ r.2) ∙ new_key top db in
+        agree_same table.primary r.0 new (whole r.0 r.1) (ap (list_all is_plain) (new_key top db) ∙ fills.plain_key)
+        (sym (fixed.target r.0 new) ∙ r.2) ∙ new_key top db in
         let q : Program = record { lets = []; body = over table.tree (id_test id_place) shows } in
         let updates = subst (λ w. Updates (task_of limit keys) q (params ++ w ∷ shown table new) db (Ok one)) (ap rowid r.3) resolves in
         let answer = went updates in
         let next = went answer.2 in
         let trees : one.trees ≡ next.0 = ap (λ (it : Written). it.trees) (same_value next.2) in
-        subst (λ t. Puts table (db table.tree) (t table.tree) k v × Leaves schema table db t) (sym trees) (replaced keys db next.0 r.0 new answer.0 shaped r.1 key answer.1.answer next.1)
+        subst (λ t. Puts table (db table.tree) (t table.tree) k v × Leaves schema table db t) (sym trees)
+        (replaced keys db next.0 r.0 new answer.0 shaped r.1 key answer.1.answer next.1)
 
     abbrev pub put_command : Command
     put_command = InsertOr at Abort (Values terms width) upsert
 
-    uncounted : (limit : Option ℕ) (keys : Keys) (db : Trees) (counter : Option Row) (top : ℤ) (next : Trees) → Counts (task_of limit keys) db counter top (Ok next) → next ≡ db
+    uncounted : (limit : Option ℕ) (keys : Keys) (db : Trees) (counter : Option Row) (top : ℤ) (next : Trees)
+        → Counts (task_of limit keys) db counter top (Ok next) → next ≡ db
     uncounted limit keys db counter top next h = same_value (rw fixed.uncounted at h)
 
     inserts : (limit : Option ℕ) (keys : Keys) (db : Trees) (a : Written) → IsShaped shape.TheVariants.Table (db table.tree)
@@ -258,18 +283,22 @@ module _ (schema : Schema) (at : ℕ) (table : Table) (fixed : Fixed schema at t
         let last = went each.2 in
         let tallied : each.0 ≡ (joined (nothing db) one.0, higher top (new_row top db)) = same_value one.2 in
         let same : a.trees ≡ one.0.trees =
-        ap (λ (w : Written). w.trees) (same_value last.2) ∙ uncounted limit keys each.0.0.trees counted.0 each.0.1 last.0 last.1 ∙ ap (λ (p : Written × ℤ). p.0.trees) tallied in
+        ap (λ (w : Written). w.trees) (same_value last.2) ∙ uncounted limit keys each.0.0.trees counted.0 each.0.1 last.0 last.1
+        ∙ ap (λ (p : Written × ℤ). p.0.trees) tallied in
         subst (λ t. Puts table (db table.tree) (t table.tree) k v × Leaves schema table db t) (sym same) (tried limit keys db top one.0 shaped whole one.1)
 
-    pub put_done : (text : List ℕ) (old new : State) (count : ℕ) → old.now.schema ≡ schema → command_of (understood schema text) ≡ put_command → IsPlain (understood schema text)
-        → IsShaped shape.TheVariants.Table (old.now.trees table.tree) → ((r : Row) → Has (old.now.trees table.tree) r → list_all is_plain (key_at table r) ≡ true)
+    pub put_done : (text : List ℕ) (old new : State) (count : ℕ) → old.now.schema ≡ schema
+        → command_of (understood schema text) ≡ put_command → IsPlain (understood schema text)
+        → IsShaped shape.TheVariants.Table (old.now.trees table.tree)
+        → ((r : Row) → Has (old.now.trees table.tree) r → list_all is_plain (key_at table r) ≡ true)
         → Executes text params old new (Ok count)
         → (new.now.schema ≡ schema) × Puts table (old.now.trees table.tree) (new.now.trees table.tree) k v × Leaves schema table old.now.trees new.now.trees
         × Shows old new new.now (if old.in_transaction then old.committed else new.now) old.in_transaction × IsDatabase new.now × (new.marks ≡ old.marks)
     put_done text old new count has is bare shaped whole h =
         let w = runs_as text params old new schema has put_command is bare count h in
         let sql = statement_of text (understood schema text) in
-        let changed = subst (λ s. Does old.step_limit (mode_of old) params (record old.now { schema = s }) sql None put_command (Ok (w.tally, new.now))) has w.changed in
+        let changed = subst (λ s. Does old.step_limit (mode_of old) params (record old.now { schema = s }) sql None put_command
+        (Ok (w.tally, new.now))) has w.changed in
         let done = went (rw fixed.listed at changed) in
         let now : new.now ≡ record { schema = schema; trees = done.0.trees } = ap (λ (p : Tally × Database). p.1) (same_value (went (went done.2).2).2) in
         let it = inserts old.step_limit Enforced old.now.trees done.0 shaped whole done.1 in

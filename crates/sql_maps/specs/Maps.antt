@@ -1,5 +1,6 @@
 -- A table of a database as a map from its key to its row.
-use Rattle.std.specs.Prelude.{◌≡◌, ◌≢◌, ◌⊎◌, ◌≤◌, ℕ, ℤ, List, [], ◌∷◌, length, map, Bool, true, false, None, Some, Option, bytes_eq, ◌&&◌, ◌==◌, if◌then◌else◌, slice_get, IsTrue}
+use Rattle.std.specs.Prelude.{◌≡◌, ◌≢◌, ◌⊎◌, ◌≤◌, ℕ, ℤ, List, [], ◌∷◌, length, map, Bool, true, false, None, Some, Option, bytes_eq, ◌&&◌}
+use Rattle.std.specs.Prelude.{◌==◌, if◌then◌else◌, slice_get, IsTrue}
 use Rattle.std.specs.List.{list_all, range_with_len}
 use Rattle.std.specs.Ordering.{int_eq, ordering_then}
 use Rattle.std.specs.declared.cmp.Ordering.TheVariants.{Less}
@@ -104,7 +105,8 @@ pub record Moves (before after : Schema) (old new : State) : Type 0 where
 abbrev pub First : Map → (Row → Bool) → List Row → Type 0
 First m good [] = (k v : Row) → m k ≡ Some v → good v ≡ false
 First m good (v ∷ more) =
-    ((k : Row) × (m k ≡ Some v)) × (good v ≡ true) × ((k w : Row) → m k ≡ Some w → good w ≡ true → (w ≡ v) ⊎ (value_cmp (column v 0) (column w 0) ≡ Less)) × (more ≡ [])
+    ((k : Row) × (m k ≡ Some v)) × (good v ≡ true)
+    × ((k w : Row) → m k ≡ Some w → good w ≡ true → (w ≡ v) ⊎ (value_cmp (column v 0) (column w 0) ≡ Less)) × (more ≡ [])
 
 -- the first column of the one is below that of the other
 abbrev pub FirstBelow : Row → Row → Type 0

@@ -1,5 +1,6 @@
 -- Rows that are carried over from one table to another.
-use Rattle.std.proofs.Common.{◌≡◌, ◌≢◌, ℕ, ◌<◌, ◌≤◌, ◌⊎◌, inl, inr, leb, Bool, true, false, cond, List, [], ◌∷◌, length, refl, sym, ap, subst, ◌∙◌, arith, true≢false}
+use Rattle.std.proofs.Common.{◌≡◌, ◌≢◌, ℕ, ◌<◌, ◌≤◌, ◌⊎◌, inl, inr, leb, Bool, true, false, cond, List, [], ◌∷◌, length, refl, sym, ap}
+use Rattle.std.proofs.Common.{subst, ◌∙◌, arith, true≢false}
 use Rattle.std.specs.Prelude.{Option, Some, None, option_map}
 use Rattle.std.proofs.Math.Path.{fun_ext}
 use Rattle.std.proofs.lemmas.Bool.{cases_Bool, cases_lt, false_from_ne_true, le-leb, lt-leb}
@@ -36,22 +37,32 @@ module _ {K : Type 0} (same : K → K → Bool) (own : (k : K) → same k k ≡ 
 
     pub taken_none : (page : List R) (f : K → Option R) (k : K) → f k ≡ None → all_taken page f k ≡ None
     taken_none [] f k none = none
-    taken_none (r ∷ more) f k none = taken_none more (put_by same f (key_of r) None) k (elim (alike (key_of r) k) [ inl is ↦ put_here f (key_of r) None k is | inr other ↦ put_elsewhere f (key_of r) None k other ∙ none ])
+    taken_none (r ∷ more) f k none =
+        taken_none more (put_by same f (key_of r) None) k
+        (elim (alike (key_of r) k) [
+          | inl is ↦ put_here f (key_of r) None k is
+          | inr other ↦ put_elsewhere f (key_of r) None k other
+              ∙ none
+        ])
 
     pub taken_there : (page : List R) (f : K → Option R) (r : R) → Has page r → all_taken page f (key_of r) ≡ None
     taken_there [] f r never = absurd never
-    taken_there (x ∷ more) f r (inl is) = taken_none more (put_by same f (key_of x) None) (key_of r) (put_here f (key_of x) None (key_of r) (ap key_of (sym is)))
+    taken_there (x ∷ more) f r (inl is) =
+        taken_none more (put_by same f (key_of x) None) (key_of r) (put_here f (key_of x) None (key_of r) (ap key_of (sym is)))
     taken_there (x ∷ more) f r (inr there) = taken_there more (put_by same f (key_of x) None) r there
 
     pub taken_elsewhere : (page : List R) (f : K → Option R) (k : K) → ((r : R) → Has page r → key_of r ≢ k) → all_taken page f k ≡ f k
     taken_elsewhere [] f k other = refl
-    taken_elsewhere (x ∷ more) f k other = taken_elsewhere more (put_by same f (key_of x) None) k (λ r there. other r (inr there)) ∙ put_elsewhere f (key_of x) None k (other x (inl refl))
+    taken_elsewhere (x ∷ more) f k other = taken_elsewhere more (put_by same f (key_of x) None) k (λ r there. other r (inr there))
+        ∙ put_elsewhere f (key_of x) None k (other x (inl refl))
 
     pub put_nowhere : (page : List R) (g : K → Option N) (k : K) → ((r : R) → Has page r → key_of r ≢ k) → all_put page g k ≡ g k
     put_nowhere [] g k other = refl
-    put_nowhere (x ∷ more) g k other = put_nowhere more (put_by same g (key_of x) (Some (carried x))) k (λ r there. other r (inr there)) ∙ put_elsewhere g (key_of x) (Some (carried x)) k (other x (inl refl))
+    put_nowhere (x ∷ more) g k other = put_nowhere more (put_by same g (key_of x) (Some (carried x))) k (λ r there. other r (inr there))
+        ∙ put_elsewhere g (key_of x) (Some (carried x)) k (other x (inl refl))
 
-    put_stays : (page : List R) (g : K → Option N) (k : K) (n : N) → ((r : R) → Has page r → key_of r ≡ k → carried r ≡ n) → g k ≡ Some n → all_put page g k ≡ Some n
+    put_stays : (page : List R) (g : K → Option N) (k : K) (n : N) → ((r : R) → Has page r → key_of r ≡ k → carried r ≡ n) → g k ≡ Some n
+        → all_put page g k ≡ Some n
     put_stays [] g k n each is = is
     put_stays (x ∷ more) g k n each is =
         put_stays more (put_by same g (key_of x) (Some (carried x))) k n (λ r there. each r (inr there)) (elim (alike (key_of x) k) [
@@ -59,15 +70,19 @@ module _ {K : Type 0} (same : K → K → Bool) (own : (k : K) → same k k ≡ 
           | inr other ↦ put_elsewhere g (key_of x) (Some (carried x)) k other ∙ is
         ])
 
-    pub put_there : (page : List R) (g : K → Option N) (k : K) (n : N) → ((r : R) → Has page r → key_of r ≡ k → carried r ≡ n) → (r : R) → Has page r → key_of r ≡ k → all_put page g k ≡ Some n
+    pub put_there : (page : List R) (g : K → Option N) (k : K) (n : N) → ((r : R) → Has page r → key_of r ≡ k → carried r ≡ n) → (r : R)
+        → Has page r → key_of r ≡ k → all_put page g k ≡ Some n
     put_there [] g k n each r never mine = absurd never
     put_there (x ∷ more) g k n each r (inl is) mine =
         let here : key_of x ≡ k = ap key_of (sym is) ∙ mine in
-        put_stays more (put_by same g (key_of x) (Some (carried x))) k n (λ s there. each s (inr there)) (put_here g (key_of x) (Some (carried x)) k here ∙ ap Some (each x (inl refl) here))
-    put_there (x ∷ more) g k n each r (inr there) mine = put_there more (put_by same g (key_of x) (Some (carried x))) k n (λ s before. each s (inr before)) r there mine
+        put_stays more (put_by same g (key_of x) (Some (carried x))) k n (λ s there. each s (inr there))
+        (put_here g (key_of x) (Some (carried x)) k here ∙ ap Some (each x (inl refl) here))
+    put_there (x ∷ more) g k n each r (inr there) mine =
+        put_there more (put_by same g (key_of x) (Some (carried x))) k n (λ s before. each s (inr before)) r there mine
 
     -- A page that has every row of the table.
-    module _ (f : K → Option R) (page : List R) (sound : (r : R) → Has page r → f (key_of r) ≡ Some r) (whole : (k : K) (r : R) → f k ≡ Some r → Has page r × (key_of r ≡ k)) where
+    module _ (f : K → Option R) (page : List R) (sound : (r : R) → Has page r → f (key_of r) ≡ Some r)
+        (whole : (k : K) (r : R) → f k ≡ Some r → Has page r × (key_of r ≡ k)) where
       pub whole_taken : all_taken page f ≡ λ _. None
       whole_taken = fun_ext (λ k. at k (f k) refl)
         where
@@ -85,7 +100,8 @@ module _ {K : Type 0} (same : K → K → Bool) (own : (k : K) → same k k ≡ 
               ap carried one
 
           at : (k : K) (o : Option R) → f k ≡ o → all_put page (λ _. None) k ≡ option_map carried o
-          at k None e = put_nowhere page (λ _. None) k (λ r has mine. (let both : None ≡ Some r = sym e ∙ ap f (sym mine) ∙ sound r has in let never : ⊥ = cc in never))
+          at k None e = put_nowhere page (λ _. None) k
+              (λ r has mine. (let both : None ≡ Some r = sym e ∙ ap f (sym mine) ∙ sound r has in let never : ⊥ = cc in never))
           at k (Some r) e = let it = whole k r e in put_there page (λ _. None) k (carried r) (alone k r e) r it.0 it.1
 
 -- The rows that are left above a number, and those that were carried over up to it.
@@ -110,7 +126,8 @@ module _ {R N : Type 0} (carried : R → N) (f : ℕ → Option R) (after k : �
   carried_high high = ap (λ b. cond b (option_map carried (f k)) None) (lt-leb k after high)
 
 -- Rows under numbers, up to one of which they are carried over.
-module _ (same : ℕ → ℕ → Bool) (own : (k : ℕ) → same k k ≡ true) (told : (j k : ℕ) → same j k ≡ true → j ≡ k) {R N : Type 0} (number_of : R → ℕ) (carried : R → N) where
+module _ (same : ℕ → ℕ → Bool) (own : (k : ℕ) → same k k ≡ true) (told : (j k : ℕ) → same j k ≡ true → j ≡ k) {R N : Type 0}
+    (number_of : R → ℕ) (carried : R → N) where
   module _ (f : ℕ → Option R) (numbered : AreNumbered f number_of) where
     -- Nothing is carried over yet.
     pub none_left : left_above 0 f ≡ f
@@ -202,16 +219,20 @@ module _ (same : ℕ → ℕ → Bool) (own : (k : ℕ) → same k k ≡ true) (
         pub next_left : all_taken same own told number_of carried page (left_above after f) ≡ left_above (number_of last) f
         next_left = fun_ext at
           where
-            between : (k : ℕ) → after < k → k ≤ number_of last → (o : Option R) → f k ≡ o → all_taken same own told number_of carried page (left_above after f) k ≡ None
+            between : (k : ℕ) → after < k → k ≤ number_of last → (o : Option R) → f k ≡ o
+                → all_taken same own told number_of carried page (left_above after f) k ≡ None
             between k high low None e = taken_none same own told number_of carried page (left_above after f) k (left_high f after k high ∙ e)
             between k high low (Some r) e =
-                subst (λ n. all_taken same own told number_of carried page (left_above after f) n ≡ None) (numbered k r e).0 (taken_there same own told number_of carried page (left_above after f) r (met k r e high low))
+                subst (λ n. all_taken same own told number_of carried page (left_above after f) n ≡ None) (numbered k r e).0
+                (taken_there same own told number_of carried page (left_above after f) r (met k r e high low))
 
             at : (k : ℕ) → all_taken same own told number_of carried page (left_above after f) k ≡ left_above (number_of last) f k
             at k = elim (cases_lt after k) [
-              | inr low ↦ taken_none same own told number_of carried page (left_above after f) k (left_low f after k low) ∙ sym (left_low f (number_of last) k (omega (arith, low, more)))
+              | inr low ↦ taken_none same own told number_of carried page (left_above after f) k (left_low f after k low)
+                  ∙ sym (left_low f (number_of last) k (omega (arith, low, more)))
               | inl high ↦ elim (cases_lt (number_of last) k) [
-                | inl past ↦ taken_elsewhere same own told number_of carried page (left_above after f) k (high_elsewhere k past) ∙ left_high f after k high ∙ sym (left_high f (number_of last) k past)
+                | inl past ↦ taken_elsewhere same own told number_of carried page (left_above after f) k (high_elsewhere k past)
+                    ∙ left_high f after k high ∙ sym (left_high f (number_of last) k past)
                 | inr within ↦ between k high within (f k) refl ∙ sym (left_low f (number_of last) k within)
               ]
             ]
@@ -226,9 +247,13 @@ module _ (same : ℕ → ℕ → Bool) (own : (k : ℕ) → same k k ≡ true) (
                 let one : s ≡ r = cc in
                 ap carried one
 
-            between : (k : ℕ) → after < k → k ≤ number_of last → (o : Option R) → f k ≡ o → all_put same own told number_of carried page (carried_to carried after f) k ≡ option_map carried o
-            between k high low None e = put_nowhere same own told number_of carried page (carried_to carried after f) k (none_elsewhere k e) ∙ carried_high carried f after k high
-            between k high low (Some r) e = put_there same own told number_of carried page (carried_to carried after f) k (carried r) (same_row k r e) r (met k r e high low) (numbered k r e).0
+            between : (k : ℕ) → after < k → k ≤ number_of last → (o : Option R) → f k ≡ o
+                → all_put same own told number_of carried page (carried_to carried after f) k ≡ option_map carried o
+            between k high low None e = put_nowhere same own told number_of carried page (carried_to carried after f) k (none_elsewhere k e)
+                ∙ carried_high carried f after k high
+            between k high low (Some r) e =
+                put_there same own told number_of carried page (carried_to carried after f) k (carried r) (same_row k r e) r
+                (met k r e high low) (numbered k r e).0
 
             at : (k : ℕ) → all_put same own told number_of carried page (carried_to carried after f) k ≡ carried_to carried (number_of last) f k
             at k = elim (cases_lt after k) [
@@ -236,7 +261,8 @@ module _ (same : ℕ → ℕ → Bool) (own : (k : ℕ) → same k k ≡ true) (
                   put_nowhere same own told number_of carried page (carried_to carried after f) k (low_elsewhere k low) ∙ carried_low carried f after k low
                   ∙ sym (carried_low carried f (number_of last) k (omega (arith, low, more)))
               | inl high ↦ elim (cases_lt (number_of last) k) [
-                | inl past ↦ put_nowhere same own told number_of carried page (carried_to carried after f) k (high_elsewhere k past) ∙ carried_high carried f after k high ∙ sym (carried_high carried f (number_of last) k past)
+                | inl past ↦ put_nowhere same own told number_of carried page (carried_to carried after f) k (high_elsewhere k past)
+                    ∙ carried_high carried f after k high ∙ sym (carried_high carried f (number_of last) k past)
                 | inr within ↦ between k high within (f k) refl ∙ sym (carried_low carried f (number_of last) k within)
               ]
             ]

@@ -38,16 +38,19 @@ nothing_listed image db none (inl adopted) =
     absurd (omega (arith, some, never))
 nothing_listed image db none (inr empty) = empty.1.1
 
-pub opened_over : {S : Type 0} (g : Ghosts S) (image : Image) (conn it : Held S) → Connects image (state g conn) → OpensLibrary g conn it → OpensOver image (state g it)
+pub opened_over : {S : Type 0} (g : Ghosts S) (image : Image) (conn it : Held S) → Connects image (state g conn) → OpensLibrary g conn it
+    → OpensOver image (state g it)
 opened_over g image conn it connects opens clean is =
     let early : HasCleanDisk (state g conn) = omega (arith, opens.survives.clean) in
     let from = connects early in
     let same = opens.same clean is in
     let found = finds_same image (state g conn) (state g it) same.1 from.found in
     let sound : IsDatabase (state g it).committed = subst IsDatabase (sym same.1) (from.live from.opens.is_open).1 in
-    let known = λ (n : ℕ) (at : IsKnown n) (P : Picture) (h : HasPictureAt n (state g it).committed P). opens.found clean is n at P (subst (λ d. HasPictureAt n d P) same.1 h) in
+    let known = λ (n : ℕ) (at : IsKnown n) (P : Picture) (h : HasPictureAt n (state g it).committed P). opens.found clean is n at P
+    (subst (λ d. HasPictureAt n d P) same.1 h) in
     let shown = λ (n : ℕ) (at : IsKnown n) (db : Database) (P : Picture) (held : HoldsDatabase image db.trees) (shows : HasPictureAt n db P).
-    (known n at P (subst (λ d. HasPictureAt n d P) (sym (same_database (state g it).committed db sound shows.holds.sound (found.holds db.trees held))) shows)).0 in
+    (known n at P (subst (λ d. HasPictureAt n d P)
+    (sym (same_database (state g it).committed db sound shows.holds.sound (found.holds db.trees held))) shows)).0 in
     let newest : IsKnown SCHEMA = (omega arith, omega arith) in
     record {
       found = found;
@@ -55,10 +58,12 @@ opened_over g image conn it connects opens clean is =
       settled = same.0 ∙ sym same.1;
       known = known;
       shown = shown;
-      either = λ P Q held. ∥∥₁_map held (λ one. elim one.1 [ inl h ↦ inl (shown SCHEMA newest one.0 P one.2 h) | inr h ↦ inr (shown SCHEMA newest one.0 Q one.2 h) ]);
+      either = λ P Q held. ∥∥₁_map held
+          (λ one. elim one.1 [ inl h ↦ inl (shown SCHEMA newest one.0 P one.2 h) | inr h ↦ inr (shown SCHEMA newest one.0 Q one.2 h) ]);
     }
 
-pub created_over : {S : Type 0} (g : Ghosts S) (image : Image) (conn it : Held S) → Connects image (state g conn) → CreatesLibrary g conn it → CreatesOver image (state g it)
+pub created_over : {S : Type 0} (g : Ghosts S) (image : Image) (conn it : Held S) → Connects image (state g conn) → CreatesLibrary g conn it
+    → CreatesOver image (state g it)
 created_over g image conn it connects creates clean none =
     let from = connects (creates.clean clean) in
     let listed = ap (λ (d : Database). d.trees catalog_tree) from.opens.clean ∙ nothing_listed image (state g conn).committed.trees none from.found.reads in

@@ -32,7 +32,8 @@ use Rattle.store.proofs.MetRows.{has_at}
 use Rattle.store.proofs.PagedRows.{empty_if}
 
 -- The key of a stored row is of whole numbers and texts.
-keys_plain : (db : Database) (maps : Maps) → Holds schema db maps → (k v : Row) → maps kept.place k ≡ Some v → (is_plain (column v 0) ≡ true) × (is_plain (column v 1) ≡ true)
+keys_plain : (db : Database) (maps : Maps) → Holds schema db maps → (k v : Row) → maps kept.place k ≡ Some v
+    → (is_plain (column v 0) ≡ true) × (is_plain (column v 1) ≡ true)
 keys_plain db maps holds k v e =
     let is = holds.tables kept.place kept.shape (kept_are SCHEMA has_first).fixed.listed in
     let row = is.whole k v e in
@@ -44,19 +45,22 @@ keys_plain db maps holds k v e =
 
 -- A row after another is of a later key of the same caller, or of a later caller.
 after_split : (r : KeptRow) (v : Row) → is_plain (column v 0) ≡ true → is_plain (column v 1) ≡ true → PairBelow (kept_cells r) v
-    → (is_kept_after (owner_number r.caller) r.key v ≡ true) ⊎ ((is_after (owner_number r.caller) v ≡ true) × (value_cmp (number (owner_number r.caller)) (column v 0) ≡ Less))
+    → (is_kept_after (owner_number r.caller) r.key v ≡ true)
+    ⊎ ((is_after (owner_number r.caller) v ≡ true) × (value_cmp (number (owner_number r.caller)) (column v 0) ≡ Less))
 after_split r v p q below = elim (then_less (value_cmp (number (owner_number r.caller)) (column v 0)) (value_cmp (Text r.key) (column v 1)) below) [
   | inl less ↦ inr (from_alone _ (above_from (column v 0) (number (owner_number r.caller)) p refl less), less)
   | inr tied ↦
       let same : number (owner_number r.caller) ≡ column v 0 = same_cmp (number (owner_number r.caller)) (column v 0) refl p (ap is_eq tied.0) in
-      inl (and_from _ _ (ap (λ w. equal Binary w (number (owner_number r.caller))) (sym same) ∙ same_equal (number (owner_number r.caller)) refl) (from_alone _ (above_from (column v 1) (Text r.key) q refl tied.1)))
+      inl (and_from _ _ (ap (λ w. equal Binary w (number (owner_number r.caller))) (sym same)
+      ∙ same_equal (number (owner_number r.caller)) refl) (from_alone _ (above_from (column v 1) (Text r.key) q refl tied.1)))
 ]
 
 -- ---- page by page
 
 -- Each row is that of a row within its limits, or comes after each row of the page, of which there is one at least.
 abbrev pub AreKeptMet : List KeptRow → Maps → Type 0
-AreKeptMet page maps = (k v : Row) → maps kept.place k ≡ Some v → ((r : KeptRow) × kept.IsLegal r × (v ≡ kept_cells r)) ⊎ ((0 < length page) × ((w : Row) → Has (map kept_cells page) w → PairBelow w v))
+AreKeptMet page maps = (k v : Row) → maps kept.place k ≡ Some v → ((r : KeptRow) × kept.IsLegal r × (v ≡ kept_cells r))
+    ⊎ ((0 < length page) × ((w : Row) → Has (map kept_cells page) w → PairBelow w v))
 
 module _ (maps : Maps) (page : List KeptRow) (limits : All kept.IsLegal page) where
   on_page : (v : Row) → Has (map kept_cells page) v → (r : KeptRow) × kept.IsLegal r × (v ≡ kept_cells r)
@@ -66,11 +70,16 @@ module _ (maps : Maps) (page : List KeptRow) (limits : All kept.IsLegal page) wh
   pub first_met : FirstRowsBy PairBelow PAGE_ROWS (maps kept.place) is_any (map kept_cells page) → AreKeptMet page maps
   first_met first k v e = elim (first.whole k v e refl) [
     | inl has ↦ inl (on_page v has)
-    | inr rest ↦ inr (let full : length (map kept_cells page) ≡ PAGE_ROWS = rest.0 in let same = length-map page kept_cells in omega (arith, full, same), rest.1)
+    | inr rest ↦ inr (
+      let full : length (map kept_cells page) ≡ PAGE_ROWS = rest.0 in let same = length-map page kept_cells in
+          omega (arith, full, same),
+      rest.1,
+    )
   ]
 
 -- One page more.
-pub more_kept_met : (maps : Maps) (page next : List KeptRow) (last : KeptRow) → slice_get page (length page - 1) ≡ Some last → AreKeptMet page maps → IsKeptPage (PairBelow (kept_cells last)) next maps → AreKeptMet next maps
+pub more_kept_met : (maps : Maps) (page next : List KeptRow) (last : KeptRow) → slice_get page (length page - 1) ≡ Some last
+    → AreKeptMet page maps → IsKeptPage (PairBelow (kept_cells last)) next maps → AreKeptMet next maps
 more_kept_met maps page next last end met is k v e = elim (met k v e) [
   | inl legal ↦ inl legal
   | inr later ↦ elim (is.whole k v e (later.1 (kept_cells last) (mapped_has kept_cells page last (has_at page (length page - 1) last end)))) [
@@ -93,7 +102,8 @@ none_last page none = empty_if (λ r. owner_number r.caller) page (ap (option_ma
 module _ (db : Database) (maps : Maps) (holds : Holds schema db maps) (last : KeptRow) (more : List KeptRow) (limits : All kept.IsLegal more)
     (first : FirstRowsBy PairBelow PAGE_ROWS (maps kept.place) (is_kept_after (owner_number last.caller) last.key) (map kept_cells more)) where
   split : (k v : Row) → maps kept.place k ≡ Some v → PairBelow (kept_cells last) v
-      → (is_kept_after (owner_number last.caller) last.key v ≡ true) ⊎ ((is_after (owner_number last.caller) v ≡ true) × (value_cmp (number (owner_number last.caller)) (column v 0) ≡ Less))
+      → (is_kept_after (owner_number last.caller) last.key v ≡ true)
+      ⊎ ((is_after (owner_number last.caller) v ≡ true) × (value_cmp (number (owner_number last.caller)) (column v 0) ≡ Less))
   split k v e below = let plain = keys_plain db maps holds k v e in after_split last v plain.0 plain.1 below
 
   -- The caller has more that is kept: all of later callers comes after it.
@@ -113,22 +123,32 @@ module _ (db : Database) (maps : Maps) (holds : Holds schema db maps) (last : Ke
       before w v has less =
           let it = has_mapped kept_cells more w has in
           let good = (first.sound w has).2 in
-          let own = same_if (owner_number it.0.caller) (owner_number last.caller) (and_parts _ _ (subst (λ u. is_kept_after (owner_number last.caller) last.key u ≡ true) it.2 good)).0 in
-          subst (λ u. PairBelow u v) (sym it.2) (ap (λ o. ordering_then o (value_cmp (Text it.0.key) (column v 1))) (subst (λ (n : ℕ). value_cmp (number n) (column v 0) ≡ Less) (sym own) less))
+          let own = same_if (owner_number it.0.caller) (owner_number last.caller)
+          (and_parts _ _ (subst (λ u. is_kept_after (owner_number last.caller) last.key u ≡ true) it.2 good)).0 in
+          subst (λ u. PairBelow u v) (sym it.2)
+          (ap (λ o. ordering_then o (value_cmp (Text it.0.key) (column v 1)))
+          (subst (λ (n : ℕ). value_cmp (number n) (column v 0) ≡ Less) (sym own) less))
 
   -- The caller has no more: what is kept of later callers comes next.
-  pub page_past_caller : length more ≡ 0 → (past : List KeptRow) → All kept.IsLegal past → FirstRowsBy PairBelow PAGE_ROWS (maps kept.place) (is_after (owner_number last.caller)) (map kept_cells past)
+  pub page_past_caller : length more ≡ 0 → (past : List KeptRow) → All kept.IsLegal past
+      → FirstRowsBy PairBelow PAGE_ROWS (maps kept.place) (is_after (owner_number last.caller)) (map kept_cells past)
       → IsKeptPage (PairBelow (kept_cells last)) past maps
   page_past_caller none past fine next = record {
     limits = fine;
     whole = λ k v e below. elim (split k v e below) [
       | inl mine ↦ elim (first.whole k v e mine) [
-        | inl has ↦ (let it = has_mapped kept_cells more v has in let at = contains_had more it.0 it.1 in let lt : at.0 < length more = at.1 in absurd (omega (arith, lt, none)))
-        | inr rest ↦ (let full : length (map kept_cells more) ≡ PAGE_ROWS = rest.0 in let same = length-map more kept_cells in absurd (omega (arith, full, none, same)))
+        | inl has ↦ (let it = has_mapped kept_cells more v has in let at = contains_had more it.0 it.1 in let lt : at.0 < length
+            more = at.1 in absurd (omega (arith, lt, none)))
+        | inr rest ↦ (let full : length (map kept_cells more) ≡ PAGE_ROWS = rest.0 in let same = length-map more kept_cells in
+            absurd (omega (arith, full, none, same)))
       ]
       | inr other ↦ elim (next.whole k v e other.0) [
         | inl has ↦ inl has
-        | inr rest ↦ inr (let full : length (map kept_cells past) ≡ PAGE_ROWS = rest.0 in let same = length-map past kept_cells in omega (arith, full, same), rest.1)
+        | inr rest ↦ inr (
+          let full : length (map kept_cells past) ≡ PAGE_ROWS = rest.0 in let same = length-map past kept_cells in
+              omega (arith, full, same),
+          rest.1,
+        )
       ]
     ];
   }

@@ -1,6 +1,7 @@
 -- One part of a step after another, inside a transaction.
-use Rattle.std.proofs.Common.{◌≡◌, ◌==◌, ◌<◌, ◌∙◌, ℕ, zero, suc, List, [], ◌∷◌, length, map, ltb, cond, inl, inr, ◌⊎◌, Option, Some, None, true, false, refl, sym, ap, subst, arith, IsTrue, true≢false}
-use Rattle.std.specs.Prelude.{Result, Ok, Err, IfErr, OnOk, option_map, slice_get}
+use Rattle.std.proofs.Common.{◌≡◌, ◌==◌, ◌<◌, ◌∙◌, ℕ, zero, suc, List, [], ◌∷◌, length, map, ltb, cond, inl, inr, ◌⊎◌, Option, Some, None}
+use Rattle.std.proofs.Common.{true, false, refl, sym, ap, subst, arith, IsTrue, true≢false}
+use Rattle.std.specs.Prelude.{Result, Ok, Err, IfErr, option_map, slice_get}
 use Rattle.std.specs.List.{All}
 use Rattle.std.specs.Result.{IsErr, IsErrAnd}
 use Rattle.std.proofs.Math.Path.{fun_ext}
@@ -9,7 +10,7 @@ use Rattle.sqlite.specs.Effect.{Database}
 use Rattle.sqlite.specs.Held.{state}
 use Rattle.sqlite.specs.Order.{Row, column}
 use Rattle.sqlite.specs.Schema.{Schema}
-use Rattle.sqlite.specs.State.{State, HasCleanDisk}
+use Rattle.sqlite.specs.State.{HasCleanDisk}
 use Rattle.sqlite.specs.Store.{Ghosts}
 use Rattle.sqlite.specs.declared.transaction.Transaction.{Transaction}
 use Rattle.sql_maps.specs.Maps.{Map, Maps, IsMap, IsFreeFrom, Holds, ListedBy, PairBelow, same_key, put as put_map, put_at}
@@ -34,12 +35,13 @@ use Rattle.circ_tables.specs.Rules.{rules}
 use Rattle.circ_tables.specs.Rules1.{rules1}
 use Rattle.circ_tables.specs.SchemaNumber.{NamesSchema}
 use Rattle.circ_tables.specs.Selections.{is_any}
-use Rattle.circ_tables.specs.Shape.{HasTable, has_third, schema_at, meta, meta_place, rules1_place, loans1_place, holds1_place, holds_place, rules_place, loans_place}
+use Rattle.circ_tables.specs.Shape.{HasTable, has_third, schema_at, meta, meta_place, rules1_place, loans1_place, holds1_place, holds_place}
+use Rattle.circ_tables.specs.Shape.{rules_place, loans_place}
 use Rattle.circ_tables.proofs.TableLemmas.{rules1_within}
 use Rattle.store.specs.Legal.{HasLegal}
 use Rattle.store.specs.Library.{HasTablesAt}
 use Rattle.store.specs.Lists.{AreAllOf}
-use Rattle.store.specs.Migrating.{LeadsInside, NamesInside, CarriesAll, MovesPage, IsToCarry, AreMoved, AreNamed, AreLedOn, AreLedIfNamed, move_rows, all_over}
+use Rattle.store.specs.Migrating.{LeadsInside, NamesInside, CarriesAll, MovesPage, IsToCarry, AreMoved, AreNamed, AreLedIfNamed, move_rows, all_over}
 use Rattle.store.specs.Routes.{rules_route, rules_carried}
 use Rattle.store.specs.Schemas.{IsKnown}
 use Rattle.store.proofs.OpenLemmas.{of_known}
@@ -50,21 +52,25 @@ use Rattle.store.proofs.Steps.{then, keeps_then}
 
 -- ---- a part that ended well, and then another
 
-module _ {S T U : Type 0} (g : Ghosts S) {old mid new : Transaction S} {x : T} {r : Result U Fault} {from at to : ℕ} {Led1 Led2 : Maps → Maps → Type 0} {Ready1 Ready2 : Picture → Type 0} {c1 c2 : Picture → Picture} where
+module _ {S T U : Type 0} (g : Ghosts S) {old mid new : Transaction S} {x : T} {r : Result U Fault} {from at to : ℕ}
+    {Led1 Led2 : Maps → Maps → Type 0} {Ready1 Ready2 : Picture → Type 0} {c1 c2 : Picture → Picture} where
   pub leads_then : (Led : Maps → Maps → Type 0) (Ready : Picture → Type 0) (change : Picture → Picture) → ((a b c : Maps) → Led1 a b → Led2 b c → Led a c)
       → ((P : Picture) → Ready P → Ready1 P × Ready2 (c1 P)) → ((P : Picture) → c2 (c1 P) ≡ change P)
       → LeadsInside from at Led1 Ready1 c1 g old mid (Ok x) → LeadsInside at to Led2 Ready2 c2 g mid new r → LeadsInside from to Led Ready change g old new r
   leads_then Led Ready change glue parts same one two = record {
     same_reference = two.same_reference ∙ one.same_reference;
     survives = then _ _ _ one.survives two.survives;
-    kept = λ clean begun there. keeps_then _ _ _ (one.kept (early clean) begun there) (two.kept clean (one.inside (early clean) begun there) (between clean begun there));
+    kept = λ clean begun there. keeps_then _ _ _ (one.kept (early clean) begun there)
+        (two.kept clean (one.inside (early clean) begun there) (between clean begun there));
     inside = λ clean begun there. two.inside clean (one.inside (early clean) begun there) (between clean begun there);
     rows = λ clean begun maps holds.
         let it = one.rows (early clean) begun maps holds in
         on_ok r (λ e. (e.0, e.1, glue maps it.0 e.0 it.2 e.2)) (two.rows clean (one.inside (early clean) begun (maps, holds)) it.0 it.1);
     leads = λ clean begun P shown ready.
         let are = parts P ready in
-        on_ok r (subst (HasPictureAt to (state g new.conn.now).now) (same P)) (two.leads clean (one.inside (early clean) begun (shown.maps, shown.holds)) (c1 P) (one.leads (early clean) begun P shown are.0) are.1);
+        on_ok r (subst (HasPictureAt to (state g new.conn.now).now) (same P))
+        (two.leads clean (one.inside (early clean) begun (shown.maps, shown.holds)) (c1 P)
+        (one.leads (early clean) begun P shown are.0) are.1);
     sound = λ clean begun told P shown ready.
         let are = parts P ready in
         two.sound clean (one.inside (early clean) begun (shown.maps, shown.holds)) told (c1 P) (one.leads (early clean) begun P shown are.0) are.1;
@@ -73,12 +79,16 @@ module _ {S T U : Type 0} (g : Ghosts S) {old mid new : Transaction S} {x : T} {
       early : HasCleanDisk (state g new.conn.now) → HasCleanDisk (state g mid.conn.now)
       early clean = omega (arith, two.survives.clean)
 
-      between : HasCleanDisk (state g new.conn.now) → IsTrue (state g old.conn.now).in_transaction → HasTablesAt from (state g old.conn.now).now → HasTablesAt at (state g mid.conn.now).now
+      between : HasCleanDisk (state g new.conn.now) → IsTrue (state g old.conn.now).in_transaction
+          → HasTablesAt from (state g old.conn.now).now → HasTablesAt at (state g mid.conn.now).now
       between clean begun there = let it = one.rows (early clean) begun there.0 there.1 in (it.0, it.1)
 
 -- A part that failed, whose fault is handed on.
-pub leads_failed : {S T U : Type 0} (g : Ghosts S) {old new : Transaction S} {fault : Fault} (r : Result U Fault) {from at to : ℕ} {Led1 Led : Maps → Maps → Type 0} {Ready1 Ready : Picture → Type 0} {c1 change : Picture → Picture}
-    → IsErr r × IsErrAnd r (λ e. e ≡ fault) → ((P : Picture) → Ready P → Ready1 P) → LeadsInside {S = S} {T = T} from at Led1 Ready1 c1 g old new (Err fault) → LeadsInside from to Led Ready change g old new r
+pub leads_failed : {S T U : Type 0} (g : Ghosts S) {old new : Transaction S} {fault : Fault}
+    (r : Result U Fault) {from at to : ℕ} {Led1 Led : Maps → Maps → Type 0} {Ready1 Ready : Picture → Type 0}
+    {c1 change : Picture → Picture}
+    → IsErr r × IsErrAnd r (λ e. e ≡ fault) → ((P : Picture) → Ready P → Ready1 P)
+    → LeadsInside {S = S} {T = T} from at Led1 Ready1 c1 g old new (Err fault) → LeadsInside from to Led Ready change g old new r
 leads_failed g (Ok x) is parts one = absurd (let none = is.0 in cc)
 leads_failed {T = T} g {fault = fault} (Err e) is parts one = record {
   same_reference = one.same_reference;
@@ -116,7 +126,8 @@ cut_holds : (s : Schema) (db : Database) (maps : Maps) → Holds s db maps → H
 cut_holds s db maps holds = record {
   sound = holds.sound;
   schema_is = holds.schema_is;
-  tables = λ at table there. subst (λ (m : Map). IsMap table (db.trees table.tree) m) (sym (cut_is (length s.tables) maps at (got_below s.tables at table there))) (holds.tables at table there);
+  tables = λ at table there. subst (λ (m : Map). IsMap table (db.trees table.tree) m)
+      (sym (cut_is (length s.tables) maps at (got_below s.tables at table there))) (holds.tables at table there);
 }
 
 -- Only the database refuses it.
@@ -125,7 +136,8 @@ not_stored (Ok x) fault told = cc
 not_stored (Err e) fault told = let same : e ≡ Stored = cc in let never : DatabaseFault ≡ Stored = sym fault ∙ same in cc
 
 -- The tables of another schema were made beside those of one.
-pub made_leads : {S T : Type 0} (g : Ghosts S) {old new : Transaction S} (r : Result T Fault) (from to place : ℕ) → length (schema_at from).tables ≡ place → (IsReady : Picture → Type 0)
+pub made_leads : {S T : Type 0} (g : Ghosts S) {old new : Transaction S} (r : Result T Fault) (from to place : ℕ)
+    → length (schema_at from).tables ≡ place → (IsReady : Picture → Type 0)
     → ((maps : Maps) (P : Picture) → Encodes maps P → IsReady P → Encodes (cut place maps) P) → Makes (schema_at from) (schema_at to) g old new r
     → LeadsInside from to (λ maps now. (at : ℕ) → at < place → now at ≡ maps at) IsReady (λ P. P) g old new r
 made_leads g {old} {new} r from to place long IsReady encodes made = record {
@@ -133,8 +145,15 @@ made_leads g {old} {new} r from to place long IsReady encodes made = record {
   survives = made.works.survives;
   kept = λ clean begun there. made.works.kept clean;
   inside = λ clean begun there. on_ok r (λ moves. moves.is_inside) (made.moves clean begun);
-  rows = λ clean begun maps holds. on_ok r (λ moves. (cut place maps, moves.maps (cut place maps) (free maps) (held maps holds), cut_is place maps)) (made.moves clean begun);
-  leads = λ clean begun P shown ready. on_ok r (λ moves. record { maps = cut place shown.maps; holds = moves.maps (cut place shown.maps) (free shown.maps) (held shown.maps shown.holds); encodes = encodes shown.maps P shown.encodes ready }) (made.moves clean begun);
+  rows = λ clean begun maps holds. on_ok r
+      (λ moves. (cut place maps, moves.maps (cut place maps) (free maps) (held maps holds), cut_is place maps)) (made.moves clean begun);
+  leads = λ clean begun P shown ready. on_ok r
+      (λ moves. record {
+        maps = cut place shown.maps;
+        holds = moves.maps (cut place shown.maps) (free shown.maps) (held shown.maps shown.holds);
+        encodes =
+            encodes shown.maps P shown.encodes ready;
+      }) (made.moves clean begun);
   sound = λ clean begun told P shown ready. not_stored r made.fault told;
 }
   where
@@ -142,7 +161,8 @@ made_leads g {old} {new} r from to place long IsReady encodes made = record {
     free maps = subst (λ n. IsFreeFrom n (cut place maps)) (sym long) (cut_free place maps)
 
     held : (maps : Maps) → Holds (schema_at from) (state g old.conn.now).now maps → Holds (schema_at from) (state g old.conn.now).now (cut place maps)
-    held maps holds = subst (λ n. Holds (schema_at from) (state g old.conn.now).now (cut n maps)) long (cut_holds (schema_at from) (state g old.conn.now).now maps holds)
+    held maps holds = subst (λ n. Holds (schema_at from) (state g old.conn.now).now (cut n maps)) long
+        (cut_holds (schema_at from) (state g old.conn.now).now maps holds)
 
 -- A table that is made has no row.
 none_encoded : {K R : Type 0} {key : K → Row} {cells : R → Row} {t : K → Option R} → ((k : K) → t k ≡ None) → IsEncoded Any key cells (λ j. None) t
@@ -212,11 +232,20 @@ meta_key n known db maps holds = of_known (λ maps. (k v : Row) → maps meta_pl
     (λ more others maps holds k v e. let it = (holds.tables meta_place meta refl).whole k v e in sym it.2 ∙ ap (λ w. column w 0 ∷ []) it.3) n known maps holds
 
 -- Where the one row that named a schema is put, it names the one that it is put with.
-put_names : (n m : ℕ) → IsKnown n → (db : Database) (maps : Maps) → Holds (schema_at n) db maps → NamesSchema maps m → (row new : MetaRow) → maps meta_place (number_key 1) ≡ Some (meta_cells row)
+put_names : (n m : ℕ) → IsKnown n → (db : Database) (maps : Maps) → Holds (schema_at n) db maps → NamesSchema maps m → (row new : MetaRow)
+    → maps meta_place (number_key 1) ≡ Some (meta_cells row)
     → NamesSchema (put_at maps meta_place (number_key 1) (meta_cells new)) new.schema
-put_names n m known db maps holds names row new there = record { key = number_key 1; row = meta_cells new; there = refl; alone = λ k v e. at k v (cases_Bool (same_key k (number_key 1))) e; schema = refl }
+put_names n m known db maps holds names row new there =
+    record {
+      key = number_key 1;
+      row = meta_cells new;
+      there = refl;
+      alone = λ k v e. at k v (cases_Bool (same_key k (number_key 1))) e;
+      schema = refl;
+    }
   where
-    at : (k v : Row) → (same_key k (number_key 1) ≡ true) ⊎ (same_key k (number_key 1) ≡ false) → cond (same_key k (number_key 1)) (Some (meta_cells new)) (maps meta_place k) ≡ Some v → v ≡ meta_cells new
+    at : (k v : Row) → (same_key k (number_key 1) ≡ true) ⊎ (same_key k (number_key 1) ≡ false)
+        → cond (same_key k (number_key 1)) (Some (meta_cells new)) (maps meta_place k) ≡ Some v → v ≡ meta_cells new
     at k v (inl hit) e =
         let both : Some (meta_cells new) ≡ Some v = ap (λ b. cond b (Some (meta_cells new)) (maps meta_place k)) (sym hit) ∙ e in
         let same : meta_cells new ≡ v = cc in
@@ -228,7 +257,8 @@ put_names n m known db maps holds names row new there = record { key = number_ke
         absurd (true≢false (sym (subst (λ j. same_key j (number_key 1) ≡ true) (sym key) refl) ∙ miss))
 
 -- The row of `meta` could not be read.
-pub names_unread : {S U : Type 0} (g : Ghosts S) {old new : Transaction S} {fault : Fault} (r : Result U Fault) (n : ℕ) → IsKnown n → IsErr r × IsErrAnd r (λ e. e ≡ fault) → GetsMetaInside g old new (Err fault) → NamesInside n g old new r
+pub names_unread : {S U : Type 0} (g : Ghosts S) {old new : Transaction S} {fault : Fault} (r : Result U Fault) (n : ℕ) → IsKnown n
+    → IsErr r × IsErrAnd r (λ e. e ≡ fault) → GetsMetaInside g old new (Err fault) → NamesInside n g old new r
 names_unread {S} g {old} {new} {fault} r n known is read = leads_failed g r is (λ P ready. ready) failed
   where
     failed : NamesInside {S = S} {T = MetaRow} n g old new (Err fault)
@@ -244,11 +274,14 @@ names_unread {S} g {old} {new} {fault} r n known is read = leads_failed g r is (
 
 -- The row is put with another schema.
 abbrev pub PutsNamed : {S T : Type 0} → MetaRow → ℕ → Ghosts S → Transaction S → Transaction S → Result T Fault → Type 0
-PutsNamed row n = ChangesRows 1 (λ maps. put_at maps meta_place (number_key 1) (meta_cells (record row { schema = n }))) (Unit {0}) (λ P. record P { meta = record row { schema = n } })
+PutsNamed row n = ChangesRows 1 (λ maps. put_at maps meta_place (number_key 1) (meta_cells (record row { schema = n }))) (Unit {0})
+    (λ P. record P { meta = record row { schema = n } })
 
-module _ {S T U : Type 0} (g : Ghosts S) {old mid new : Transaction S} {row : MetaRow} (n : ℕ) (known : IsKnown n) (read : GetsMetaInside g old mid (Ok row)) where
+module _ {S T U : Type 0} (g : Ghosts S) {old mid new : Transaction S} {row : MetaRow} (n : ℕ) (known : IsKnown n)
+    (read : GetsMetaInside g old mid (Ok row)) where
   -- It could not be put.
-  pub names_not_put : {fault : Fault} (r : Result U Fault) → IsErr r × IsErrAnd r (λ e. e ≡ fault) → PutsNamed {T = T} row n g mid new (Err fault) → NamesInside n g old new r
+  pub names_not_put : {fault : Fault} (r : Result U Fault) → IsErr r × IsErrAnd r (λ e. e ≡ fault)
+      → PutsNamed {T = T} row n g mid new (Err fault) → NamesInside n g old new r
   names_not_put {fault} r is put = leads_failed g r is (λ P ready. ready) failed
     where
       failed : NamesInside {S = S} {T = T} n g old new (Err fault)
@@ -292,7 +325,8 @@ module _ {S T U : Type 0} (g : Ghosts S) {old mid new : Transaction S} {row : Me
       early : HasCleanDisk (state g new.conn.now) → HasCleanDisk (state g mid.conn.now)
       early clean = omega (arith, put.works.survives.clean)
 
-      between : HasCleanDisk (state g new.conn.now) → IsTrue (state g old.conn.now).in_transaction → HasTablesAt n (state g old.conn.now).now → IsTrue (state g mid.conn.now).in_transaction
+      between : HasCleanDisk (state g new.conn.now) → IsTrue (state g old.conn.now).in_transaction
+          → HasTablesAt n (state g old.conn.now).now → IsTrue (state g mid.conn.now).in_transaction
       between clean begun there = (read_there n _ _ begun there (read.gets n known (early clean))).0
 
 -- ---- a whole step
@@ -369,12 +403,16 @@ comes_before r s = IsPairBefore (r.kind, r.copy_kind) (s.kind, s.copy_kind)
 pub own_rules : (P : Picture) → InLimits P → (k : Pair) (r : RuleRow1) → P.rules1 k.0 k.1 ≡ Some r → ((r.kind, r.copy_kind) ≡ k) × IsRule1 r
 own_rules P legal k r e = let mine = legal.rules1 k.0 k.1 r e in ((λ i. (mine.0 i, mine.1 i)), mine.2)
 
-rules_listed : (maps : Maps) (P : Picture) → Encodes maps P → InLimits P → (rows : List RuleRow1) → All IsRule1 rows → ListedBy PairBelow (maps rules1_place) is_any (map rule1_cells rows) → AreAllOf rules1 (λ r. (r.kind, r.copy_kind)) comes_before P rows
+rules_listed : (maps : Maps) (P : Picture) → Encodes maps P → InLimits P → (rows : List RuleRow1) → All IsRule1 rows
+    → ListedBy PairBelow (maps rules1_place) is_any (map rule1_cells rows)
+    → AreAllOf rules1 (λ r. (r.kind, r.copy_kind)) comes_before P rows
 rules_listed =
-    all_are rules1 (λ r. (r.kind, r.copy_kind)) comes_before Any rule1_told (λ a b p q less. pair_before a.kind a.copy_kind b.kind b.copy_kind less) (λ maps P is. is.rules1)
+    all_are rules1 (λ r. (r.kind, r.copy_kind)) comes_before Any rule1_told
+    (λ a b p q less. pair_before a.kind a.copy_kind b.kind b.copy_kind less) (λ maps P is. is.rules1)
     (λ P legal k r e. let mine = own_rules P legal k r e in (tt, mine.0, mine.1))
 
-pub rules_unread : {S L : Type 0} {g : Ghosts S} {old new : Transaction S} {items : L → List RuleRow1} {fault : Fault} → ListsInside {L = L} rules1 items (λ m. ListedBy PairBelow m is_any) g old new (Err fault)
+pub rules_unread : {S L : Type 0} {g : Ghosts S} {old new : Transaction S} {items : L → List RuleRow1} {fault : Fault}
+    → ListsInside {L = L} rules1 items (λ m. ListedBy PairBelow m is_any) g old new (Err fault)
     → LeadsInside {S = S} {T = L} 3 3 (AreMoved rules1 rules) (IsToCarry rules) (all_over rules1 rules_route) g old new (Err fault)
 rules_unread read = record {
   same_reference = read.works.same_reference;
@@ -383,10 +421,13 @@ rules_unread read = record {
   inside = λ clean begun there. tt;
   rows = λ clean begun maps holds. tt;
   leads = λ clean begun P shown ready. tt;
-  sound = λ clean begun told P shown ready. read.stored 3 (omega arith, omega arith) clean told shown.maps shown.holds (rules1_within shown.maps P shown.encodes ready.0);
+  sound = λ clean begun told P shown ready. read.stored 3 (omega arith, omega arith) clean told shown.maps shown.holds
+      (rules1_within shown.maps P shown.encodes ready.0);
 }
 
-pub rules_moved : {S L T : Type 0} (g : Ghosts S) {old mid new : Transaction S} {items : L → List RuleRow1} {l : L} (r : Result T Fault) → ListsInside rules1 items (λ m. ListedBy PairBelow m is_any) g old mid (Ok l) → MovesPage rules1 rules rules_route (items l) g mid new r
+pub rules_moved : {S L T : Type 0} (g : Ghosts S) {old mid new : Transaction S} {items : L → List RuleRow1} {l : L} (r : Result T Fault)
+    → ListsInside rules1 items (λ m. ListedBy PairBelow m is_any) g old mid (Ok l)
+    → MovesPage rules1 rules rules_route (items l) g mid new r
     → CarriesAll rules1 rules rules_route g old new r
 rules_moved g {old} {mid} {new} {items} {l} r read moves = record {
   same_reference = moves.works.same_reference ∙ read.works.same_reference;
@@ -404,7 +445,8 @@ rules_moved g {old} {mid} {new} {items} {l} r read moves = record {
       let seen = read.lists 3 has (early clean) shown.maps shown.holds in
       on_ok r (λ draws. subst (HasPictureAt 3 (state g new.conn.now).now)
       (list_over rules_carried P (own_rules P ready.0) ready.1 (items l) (rules_listed shown.maps P shown.encodes ready.0 (items l) read.limits seen.0))
-      ((draws 3 has_third).picture P (subst (λ d. HasPictureAt 3 d P) (sym seen.1.0.now_is) shown))) (moves.draws clean (between clean begun (shown.maps, shown.holds)).0 tt);
+      ((draws 3 has_third).picture P (subst (λ d. HasPictureAt 3 d P) (sym seen.1.0.now_is) shown)))
+      (moves.draws clean (between clean begun (shown.maps, shown.holds)).0 tt);
   sound = λ clean begun told P shown ready. not_stored r moves.fault told;
 }
   where
@@ -414,5 +456,6 @@ rules_moved g {old} {mid} {new} {items} {l} r read moves = record {
     early : HasCleanDisk (state g new.conn.now) → HasCleanDisk (state g mid.conn.now)
     early clean = omega (arith, moves.works.survives.clean)
 
-    between : HasCleanDisk (state g new.conn.now) → IsTrue (state g old.conn.now).in_transaction → HasTablesAt 3 (state g old.conn.now).now → IsTrue (state g mid.conn.now).in_transaction × HasTablesAt 3 (state g mid.conn.now).now
+    between : HasCleanDisk (state g new.conn.now) → IsTrue (state g old.conn.now).in_transaction → HasTablesAt 3 (state g old.conn.now).now
+        → IsTrue (state g mid.conn.now).in_transaction × HasTablesAt 3 (state g mid.conn.now).now
     between clean begun there = read_there 3 _ _ begun there (read.lists 3 has (early clean))

@@ -1,5 +1,6 @@
 -- Rows of a table that were met page by page, whether the tables show a picture or not.
-use Rattle.std.proofs.Common.{◌≡◌, ℕ, zero, suc, ◌+◌, ◌-◌, ◌<◌, ◌≤◌, ◌⊎◌, inl, inr, ℤ, pos, negsuc, true, List, [], ◌∷◌, length, map, Ok, Less, Greater, refl, sym, ◌∙◌, ap, subst, arith}
+use Rattle.std.proofs.Common.{◌≡◌, ℕ, zero, suc, ◌+◌, ◌-◌, ◌<◌, ◌≤◌, ◌⊎◌, inl, inr, ℤ, pos, negsuc, true, List, [], ◌∷◌, length, map, Ok}
+use Rattle.std.proofs.Common.{Less, Greater, refl, sym, ◌∙◌, ap, subst, arith}
 use Rattle.std.specs.Prelude.{Option, Some, None, IsTrue, option_map, slice_get, unwrap_or}
 use Rattle.std.specs.List.{All}
 use Rattle.std.specs.Cmp.{int_cmp_is}
@@ -44,7 +45,8 @@ has_at (x ∷ rows) (suc i) r e = inr (has_at rows i r e)
 later : (a : ℕ) (n : ℤ) → value_cmp (Int (pos a)) (Int n) ≡ Less → is_least (Int n) (pos (a + 1)) ≡ true
 later a (pos b) less = let lt : a < b = below a b less in if_least b (a + 1) (omega (arith, lt))
 later a (negsuc b) less =
-    let greater : value_cmp (Int (pos a)) (Int (negsuc b)) ≡ Greater = value_cmp-Int (pos a) (negsuc b) ∙ sym (int_cmp_is (pos a) (negsuc b) Greater (omega (arith, ints))) in
+    let greater : value_cmp (Int (pos a)) (Int (negsuc b)) ≡ Greater =
+    value_cmp-Int (pos a) (negsuc b) ∙ sym (int_cmp_is (pos a) (negsuc b) Greater (omega (arith, ints))) in
     let never : ⊥ = cc in
     absurd never
 
@@ -66,7 +68,8 @@ module _ {R : Type 0} (t : Table ℕ R) where
 
 module _ {R : Type 0} {t : Table ℕ R} {number_of : R → ℕ} (table : IsNumberTable t number_of) where
   -- The key of a stored row is a number.
-  pub key_is : (n : ℕ) → HasTable t.since n → (db : Database) (maps : Maps) → Holds (schema_at n) db maps → (k v : Row) → maps t.place k ≡ Some v → (n : ℤ) × (column v 0 ≡ Int n)
+  pub key_is : (n : ℕ) → HasTable t.since n → (db : Database) (maps : Maps) → Holds (schema_at n) db maps → (k v : Row)
+      → maps t.place k ≡ Some v → (n : ℤ) × (column v 0 ≡ Int n)
   key_is n has db maps holds k v e =
       let texts = table.texts n has in
       let is = holds.tables t.place t.shape texts.listed in
@@ -81,8 +84,10 @@ module _ {R : Type 0} {t : Table ℕ R} {number_of : R → ℕ} (table : IsNumbe
       go (Text x) same int = let never : ⊥ = cc in absurd never
       go (Blob x) same int = let never : ⊥ = cc in absurd never
 
-  pub page_met : (after : Option ℕ) {S L : Type 0} {items : L → List R} {g : Ghosts S} {l : L} {a b : Held S} → Lists t items (λ m. FirstRows PAGE_ROWS m (is_next after)) g a b (Ok l)
-      → Reviews (λ P (x : L). AreNumbered (t.rows P) number_of × AreRowsAfter (t.rows P) number_of (unwrap_or after 0) (items x)) (IsMapPage t after (items l)) g a b (Ok l)
+  pub page_met : (after : Option ℕ) {S L : Type 0} {items : L → List R} {g : Ghosts S} {l : L} {a b : Held S}
+      → Lists t items (λ m. FirstRows PAGE_ROWS m (is_next after)) g a b (Ok l)
+      → Reviews (λ P (x : L). AreNumbered (t.rows P) number_of × AreRowsAfter (t.rows P) number_of (unwrap_or after 0) (items x))
+      (IsMapPage t after (items l)) g a b (Ok l)
   page_met after is = record {
     view = page_seen table after is;
     met = λ clean maps holds. record { limits = is.limits; first = (is.lists clean maps holds).0; keys = key_is SCHEMA table.newest _ maps holds };
@@ -98,7 +103,8 @@ module _ {R : Type 0} {t : Table ℕ R} {number_of : R → ℕ} (table : IsNumbe
       | inr legal ↦ legal
       | inl next ↦ elim (is.first.whole k v e next) [
         | inl has ↦ on_page v has
-        | inr rest ↦ (let full : length (map t.cells page) ≡ PAGE_ROWS = rest.0 in let same = length-map page t.cells in absurd (omega (arith, full, none, same)))
+        | inr rest ↦ (let full : length (map t.cells page) ≡ PAGE_ROWS = rest.0 in let same = length-map page t.cells in
+            absurd (omega (arith, full, none, same)))
       ]
     ]
 
@@ -124,7 +130,8 @@ module _ {R : Type 0} {t : Table ℕ R} {number_of : R → ℕ} (table : IsNumbe
             let key = is.keys k v e in
             from_alone _
             (subst (λ w. is_least w (pos (number_of last + 1)) ≡ true) (sym key.1)
-            (later (number_of last) key.0 (subst (λ w. value_cmp (Int (pos (number_of last))) w ≡ Less) key.1 (subst (λ w. value_cmp w (column v 0) ≡ Less) (table.first_cell last) less))))
+            (later (number_of last) key.0 (subst (λ w. value_cmp (Int (pos (number_of last))) w ≡ Less) key.1
+            (subst (λ w. value_cmp w (column v 0) ≡ Less) (table.first_cell last) less))))
 
     -- The same, where the number is named.
     pub next_met : (last : ℕ) → option_map number_of (slice_get page (length page - 1)) ≡ Some last → AreMetSoFar t (Some last) (pages + 1) maps

@@ -22,33 +22,41 @@ use Rattle.store.specs.Library.{HasTablesAt}
 use Rattle.store.specs.Lists.{AreAllOf}
 use Rattle.store.specs.Migrating.{Route, IsRoute, put_by, move_one, move_all, all_over}
 use Rattle.store.specs.Pages.{AreRowsAfter, AreNumbered}
-use Rattle.store.proofs.CarriedRows.{left_above, carried_to, all_taken, all_put, whole_taken, whole_put, none_left, none_carried, all_left, all_carried, next_left, next_carried}
+use Rattle.store.proofs.CarriedRows.{left_above, carried_to, all_taken, all_put, whole_taken, whole_put, none_left, none_carried, all_left}
+use Rattle.store.proofs.CarriedRows.{all_carried, next_left, next_carried}
 use Rattle.store.proofs.PageLemmas.{page_are}
 use Rattle.store.proofs.PagedRows.{last_is, last_there}
 
 module _ {K R N : Type 0} {old : Table K R} {new : Table K N} {route : Route K R N} (over : IsRoute old new route) where
   one_moved : (r : R) (P : Picture) (f : K → Option R) (g : K → Option N)
-      → move_one old new route r (route.with_both P f g) ≡ route.with_both P (put_by route.same f (route.key_of r) None) (put_by route.same g (route.key_of r) (Some (route.carried r)))
+      → move_one old new route r (route.with_both P f g) ≡ route.with_both P (put_by route.same f (route.key_of r) None)
+      (put_by route.same g (route.key_of r) (Some (route.carried r)))
   one_moved r P f g =
       ap (λ k. old.set (new.set (route.with_both P f g) k (Some (route.carried r))) (route.key_of r) None) (over.key_is r)
-      ∙ ap (λ Q. old.set Q (route.key_of r) None) (over.put_in P f g (route.key_of r) (route.carried r)) ∙ over.taken P f (put_by route.same g (route.key_of r) (Some (route.carried r))) (route.key_of r)
+      ∙ ap (λ Q. old.set Q (route.key_of r) None) (over.put_in P f g (route.key_of r) (route.carried r))
+      ∙ over.taken P f (put_by route.same g (route.key_of r) (Some (route.carried r))) (route.key_of r)
 
   pub all_moved : (page : List R) (P : Picture) (f : K → Option R) (g : K → Option N)
-      → move_all old new route page (route.with_both P f g) ≡ route.with_both P (all_taken route.same over.own over.met route.key_of route.carried page f) (all_put route.same over.own over.met route.key_of route.carried page g)
+      → move_all old new route page (route.with_both P f g) ≡ route.with_both P
+      (all_taken route.same over.own over.met route.key_of route.carried page f)
+      (all_put route.same over.own over.met route.key_of route.carried page g)
   all_moved [] P f g = refl
   all_moved (r ∷ more) P f g =
-      ap (move_all old new route more) (one_moved r P f g) ∙ all_moved more P (put_by route.same f (route.key_of r) None) (put_by route.same g (route.key_of r) (Some (route.carried r)))
+      ap (move_all old new route more) (one_moved r P f g)
+      ∙ all_moved more P (put_by route.same f (route.key_of r) None) (put_by route.same g (route.key_of r) (Some (route.carried r)))
 
   -- Each row of the old table stands under its own key, and lies within its limits.
   abbrev pub AreOwn : Picture → Type 0
   AreOwn P = (k : K) (r : R) → old.rows P k ≡ Some r → (route.key_of r ≡ k) × old.IsLegal r
 
   -- All rows were listed, and moved.
-  pub list_over : (P : Picture) → AreOwn P → ((k : K) → new.rows P k ≡ None) → {Before : R → R → Type 0} (page : List R) → AreAllOf old route.key_of Before P page → move_all old new route page P ≡ all_over old route P
+  pub list_over : (P : Picture) → AreOwn P → ((k : K) → new.rows P k ≡ None) → {Before : R → R → Type 0} (page : List R)
+      → AreAllOf old route.key_of Before P page → move_all old new route page P ≡ all_over old route P
   list_over P own none page are =
       ap (move_all old new route page) (sym (over.same P) ∙ ap (route.with_both P (old.rows P)) (fun_ext none))
       ∙ all_moved page P (old.rows P) (λ _. None)
-      ∙ ap₂ (route.with_both P) (whole_taken route.same over.own over.met route.key_of route.carried (old.rows P) page sound whole) (whole_put route.same over.own over.met route.key_of route.carried (old.rows P) page sound whole)
+      ∙ ap₂ (route.with_both P) (whole_taken route.same over.own over.met route.key_of route.carried (old.rows P) page sound whole)
+      (whole_put route.same over.own over.met route.key_of route.carried (old.rows P) page sound whole)
     where
       sound : (r : R) → Has page r → old.rows P (route.key_of r) ≡ Some r
       sound r has = are.sound r (contains_had page r has)
@@ -58,7 +66,8 @@ module _ {K R N : Type 0} {old : Table K R} {new : Table K N} {route : Route K R
 
   -- The rows of the picture that it leaves lie within their limits.
   pub all_over_limits : (P : Picture) → InLimits P → AreOwn P → InLimits (all_over old route P)
-  all_over_limits P legal own = over.limits P (λ _. None) (λ k. option_map route.carried (old.rows P k)) legal (λ k r e. absurd (let never : ⊥ = cc in never)) (λ k n e. new_there k n (old.rows P k) refl e)
+  all_over_limits P legal own = over.limits P (λ _. None) (λ k. option_map route.carried (old.rows P k)) legal
+      (λ k r e. absurd (let never : ⊥ = cc in never)) (λ k n e. new_there k n (old.rows P k) refl e)
     where
       new_there : (k : K) (n : N) (o : Option R) → old.rows P k ≡ o → option_map route.carried o ≡ Some n → (route.new_key n ≡ k) × new.IsLegal n
       new_there k n None is e = let never : ⊥ = cc in absurd never
@@ -82,7 +91,8 @@ module _ {R N : Type 0} {old : Table ℕ R} {new : Table ℕ N} {route : Route �
 
     module _ (after : ℕ) (page : List R) (are : AreRowsAfter (old.rows (over_to after P)) route.key_of after page) where
       left : AreRowsAfter (left_above after (old.rows P)) route.key_of after page
-      left = subst (λ (f : ℕ → Option R). AreRowsAfter f route.key_of after page) (over.old_rows P (left_above after (old.rows P)) (carried_to route.carried after (old.rows P))) are
+      left = subst (λ (f : ℕ → Option R). AreRowsAfter f route.key_of after page)
+          (over.old_rows P (left_above after (old.rows P)) (carried_to route.carried after (old.rows P))) are
 
       -- An empty page is the last.
       pub over_all : length page ≡ 0 → over_to after P ≡ all_over old route P
@@ -114,7 +124,8 @@ module _ {R N : Type 0} {old : Table ℕ R} {new : Table ℕ N} {route : Route �
       left_there k r true e = let never : ⊥ = cc in absurd never
       left_there k r false e = e
 
-      new_there : (k : ℕ) (n : N) (b : _) (o : Option R) → old.rows P k ≡ o → cond b (option_map route.carried o) None ≡ Some n → (route.new_key n ≡ k) × new.IsLegal n
+      new_there : (k : ℕ) (n : N) (b : _) (o : Option R) → old.rows P k ≡ o → cond b (option_map route.carried o) None ≡ Some n
+          → (route.new_key n ≡ k) × new.IsLegal n
       new_there k n true None is e = let never : ⊥ = cc in absurd never
       new_there k n true (Some r) is e =
           let it = table.legal P legal k r is in
@@ -125,21 +136,27 @@ module _ {R N : Type 0} {old : Table ℕ R} {new : Table ℕ N} {route : Route �
 -- ---- reads inside the transaction
 
 -- After a read the transaction goes on over the same tables.
-pub read_there : (n : ℕ) {Found : Maps → Type 0} (a b : State) → IsTrue a.in_transaction → HasTablesAt n a.now → ((maps : Maps) → Holds (schema_at n) a.now maps → Found maps × IsUnchanged a b) → IsTrue b.in_transaction × HasTablesAt n b.now
+pub read_there : (n : ℕ) {Found : Maps → Type 0} (a b : State) → IsTrue a.in_transaction → HasTablesAt n a.now
+    → ((maps : Maps) → Holds (schema_at n) a.now maps → Found maps × IsUnchanged a b) → IsTrue b.in_transaction × HasTablesAt n b.now
 read_there n a b inside there lists =
     let still = (lists there.0 there.1).1.0 in
     (subst IsTrue (sym still.mode) inside, (there.0, subst (λ d. Holds (schema_at n) d there.0) (sym still.now_is) there.1))
 
 module _ {R N : Type 0} {old : Table ℕ R} {new : Table ℕ N} {route : Route ℕ R N} (over : IsRoute old new route) (table : IsNumberTable old route.key_of) where
-  pub read_page : (after : Option ℕ) (P : Picture) → InLimits P → (page : List R) → All old.IsLegal page → (a b : State) → HasPictureAt new.since a.now (over_to over (unwrap_or after 0) P)
+  pub read_page : (after : Option ℕ) (P : Picture) → InLimits P → (page : List R) → All old.IsLegal page → (a b : State)
+      → HasPictureAt new.since a.now (over_to over (unwrap_or after 0) P)
       → ((maps : Maps) → Holds (schema_at new.since) a.now maps → FirstRows PAGE_ROWS (maps old.place) (is_next after) (map old.cells page) × IsUnchanged a b)
-      → AreRowsAfter (old.rows (over_to over (unwrap_or after 0) P)) route.key_of (unwrap_or after 0) page × HasPictureAt new.since b.now (over_to over (unwrap_or after 0) P)
+      → AreRowsAfter (old.rows (over_to over (unwrap_or after 0) P)) route.key_of (unwrap_or after 0) page
+      × HasPictureAt new.since b.now (over_to over (unwrap_or after 0) P)
   read_page after P legal page limits a b shown lists =
       let Q = over_to over (unwrap_or after 0) P in
-      let it = lists shown.maps shown.holds in
-      ((page_are table shown.maps Q shown.encodes (over_limits over P legal table (unwrap_or after 0)) after page limits it.0).1, subst (λ d. HasPictureAt new.since d Q) (sym it.1.0.now_is) shown)
+      let it = lists shown.maps shown.holds in (
+        (page_are table shown.maps Q shown.encodes (over_limits over P legal table (unwrap_or after 0)) after page limits it.0).1,
+        subst (λ d. HasPictureAt new.since d Q) (sym it.1.0.now_is) shown,
+      )
 
   -- No row that is left lies out of its limits.
-  pub read_sound : (after : ℕ) (P : Picture) → InLimits P → {db : Database} → HasPictureAt new.since db (over_to over after P) → ((maps : Maps) → Holds (schema_at new.since) db maps → ¬ AreEncoded old.cells old.IsLegal (maps old.place)) → ⊥
+  pub read_sound : (after : ℕ) (P : Picture) → InLimits P → {db : Database} → HasPictureAt new.since db (over_to over after P)
+      → ((maps : Maps) → Holds (schema_at new.since) db maps → ¬ AreEncoded old.cells old.IsLegal (maps old.place)) → ⊥
   read_sound after P legal shown stored =
       stored shown.maps shown.holds (are_encoded table shown.maps (over_to over after P) shown.encodes (over_limits over P legal table after))

@@ -19,11 +19,11 @@ use Rattle.circ_tables.specs.Reading.{Table}
 use Rattle.circ_tables.specs.Selections.{is_any, is_next}
 use Rattle.circ_tables.specs.Shape.{schema_at, HasTable}
 use Rattle.circ_tables.specs.declared.by_number.TheConstants.{PAGE_ROWS}
-use Rattle.store.specs.Legal.{HasLegal}
 use Rattle.store.specs.Migrating.{Route, IsRoute, AreMoved, move_row, move_rows}
 use Rattle.store.proofs.MetRows.{AreMetSoFar, IsMapPage, none_met, key_is, all_met, next_met}
 
--- Each row that the table had is there still, or is that of a row within its limits; of those that are there the same is known as where they are only read; and all but the two tables stand as they stood.
+-- Each row that the table had is there still, or is that of a row within its limits; of those that are there the same is known as where
+-- they are only read; and all but the two tables stand as they stood.
 pub record AreMovedSoFar {R N : Type 0} (t : Table ℕ R) (to : Table ℕ N) (after : Option ℕ) (pages : ℕ) (was : Maps) (db : Database) : Type 0 where
   pub maps : Maps
   pub holds : Holds (schema_at to.since) db maps
@@ -32,13 +32,17 @@ pub record AreMovedSoFar {R N : Type 0} (t : Table ℕ R) (to : Table ℕ N) (af
   pub others : (at : ℕ) → (at == t.place) ≡ false → (at == to.place) ≡ false → maps at ≡ was at
 
 -- Nothing was moved yet.
-pub none_moved : {R N : Type 0} (t : Table ℕ R) (to : Table ℕ N) (was : Maps) (db : Database) → Holds (schema_at to.since) db was → AreMovedSoFar t to None 0 was db
+pub none_moved : {R N : Type 0} (t : Table ℕ R) (to : Table ℕ N) (was : Maps) (db : Database) → Holds (schema_at to.since) db was
+    → AreMovedSoFar t to None 0 was db
 none_moved t to was db holds = record { maps = was; holds = holds; met = none_met t was; moved = λ k v e. inl e; others = λ at aside apart. refl }
 
 -- A page of the rows that are there.
-pub page_moved : {R : Type 0} {t : Table ℕ R} {number_of : R → ℕ} (table : IsNumberTable t number_of) (n : ℕ) (has : HasTable t.since n) (after : Option ℕ) (page : List R) → All t.IsLegal page → (a b : State) (maps : Maps) → Holds (schema_at n) a.now maps
-    → ((maps : Maps) → Holds (schema_at n) a.now maps → FirstRows PAGE_ROWS (maps t.place) (is_next after) (map t.cells page) × IsUnchanged a b) → IsMapPage t after page maps
-page_moved table n has after page limits a b maps holds lists = record { limits = limits; first = (lists maps holds).0; keys = key_is table n has a.now maps holds }
+pub page_moved : {R : Type 0} {t : Table ℕ R} {number_of : R → ℕ} (table : IsNumberTable t number_of) (n : ℕ) (has : HasTable t.since n)
+    (after : Option ℕ) (page : List R) → All t.IsLegal page → (a b : State) (maps : Maps) → Holds (schema_at n) a.now maps
+    → ((maps : Maps) → Holds (schema_at n) a.now maps → FirstRows PAGE_ROWS (maps t.place) (is_next after) (map t.cells page)
+    × IsUnchanged a b) → IsMapPage t after page maps
+page_moved table n has after page limits a b maps holds lists =
+    record { limits = limits; first = (lists maps holds).0; keys = key_is table n has a.now maps holds }
 
 -- ---- in the maps
 
@@ -54,7 +58,8 @@ module _ {K R N : Type 0} {old : Table K R} {new : Table K N} {route : Route K R
   after_row r maps k =
       let it = route.carried r in
       let with_it = put (maps new.place) (new.key (route.new_key it)) (new.cells it) k in
-      ap (λ b. cond b (cond (same_key k (old.key (route.key_of r))) None (cond (old.place == new.place) with_it (maps old.place k))) (cond (old.place == new.place) with_it (maps old.place k))) (eq-eqb old.place old.place refl)
+      ap (λ b. cond b (cond (same_key k (old.key (route.key_of r))) None (cond (old.place == new.place) with_it (maps old.place k)))
+      (cond (old.place == new.place) with_it (maps old.place k))) (eq-eqb old.place old.place refl)
       ∙ ap (λ b. cond (same_key k (old.key (route.key_of r))) None (cond b with_it (maps old.place k))) over.apart
 
   -- Another table.
@@ -63,7 +68,8 @@ module _ {K R N : Type 0} {old : Table K R} {new : Table K N} {route : Route K R
       let it = route.carried r in
       let with_it = put (maps new.place) (new.key (route.new_key it)) (new.cells it) k in
       let put_in = cond (at == new.place) with_it (maps at k) in
-      ap (λ b. cond b (cond (same_key k (old.key (route.key_of r))) None (cond (old.place == new.place) with_it (maps old.place k))) put_in) aside ∙ ap (λ b. cond b with_it (maps at k)) apart)
+      ap (λ b. cond b (cond (same_key k (old.key (route.key_of r))) None (cond (old.place == new.place) with_it (maps old.place k))) put_in)
+      aside ∙ ap (λ b. cond b with_it (maps at k)) apart)
 
   pub beside_rows : (page : List R) (maps : Maps) (at : ℕ) → (at == old.place) ≡ false → (at == new.place) ≡ false → rows_moved page maps at ≡ maps at
   beside_rows [] maps at aside apart = refl
@@ -88,7 +94,8 @@ module _ {K R N : Type 0} {old : Table K R} {new : Table K N} {route : Route K R
     | inr miss ↦ inl (after_row r maps k ∙ ap (λ b. cond b None (maps old.place k)) miss ∙ e)
   ]
 
-  pub rows_are : (page : List R) (maps : Maps) (k v : Row) → maps old.place k ≡ Some v → (rows_moved page maps old.place k ≡ Some v) ⊎ ((r : R) × Has page r × (k ≡ old.key (route.key_of r)))
+  pub rows_are : (page : List R) (maps : Maps) (k v : Row) → maps old.place k ≡ Some v → (rows_moved page maps old.place k ≡ Some v)
+      ⊎ ((r : R) × Has page r × (k ≡ old.key (route.key_of r)))
   rows_are [] maps k v e = inl e
   rows_are (r ∷ more) maps k v e = elim (row_is r maps k v e) [
     | inr key ↦ inr (r, inl refl, key)
@@ -99,7 +106,8 @@ module _ {K R N : Type 0} {old : Table K R} {new : Table K N} {route : Route K R
   ]
 
   -- All rows of the table were listed, and moved.
-  pub listed_moved : (page : List R) (maps : Maps) → All old.IsLegal page → ListedBy PairBelow (maps old.place) is_any (map old.cells page) → AreMoved old new maps (rows_moved page maps)
+  pub listed_moved : (page : List R) (maps : Maps) → All old.IsLegal page → ListedBy PairBelow (maps old.place) is_any (map old.cells page)
+      → AreMoved old new maps (rows_moved page maps)
   listed_moved page maps limits listed = record {
     legal = λ k v e.
         let it = has_mapped old.cells page v (listed.whole k v e refl) in
@@ -111,14 +119,16 @@ module _ {K R N : Type 0} {old : Table K R} {new : Table K N} {route : Route K R
 
 module _ {R N : Type 0} {old : Table ℕ R} {new : Table ℕ N} {route : Route ℕ R N} (over : IsRoute old new route) (table : IsNumberTable old route.key_of) where
   -- A row stands under its number alone.
-  key_is_own : (db : Database) (maps : Maps) → Holds (schema_at new.since) db maps → (k : Row) (r : R) → maps old.place k ≡ Some (old.cells r) → k ≡ old.key (route.key_of r)
+  key_is_own : (db : Database) (maps : Maps) → Holds (schema_at new.since) db maps → (k : Row) (r : R)
+      → maps old.place k ≡ Some (old.cells r) → k ≡ old.key (route.key_of r)
   key_is_own db maps holds k r e =
       let texts = table.texts new.since over.was_there in
       let it = (holds.tables old.place old.shape texts.listed).whole k (old.cells r) e in
       let cell = sym (texts.key_cell it.0) ∙ ap (λ v. column v 0) it.3 ∙ table.first_cell r in
       sym it.2 ∙ ap (map (column it.0)) texts.primary ∙ ap (λ w. w ∷ []) cell ∙ sym (table.keyed (route.key_of r))
 
-  module _ (after : Option ℕ) (pages : ℕ) (was : Maps) (db : Database) (so_far : AreMovedSoFar old new after pages was db) (page : List R) (is : IsMapPage old after page so_far.maps) where
+  module _ (after : Option ℕ) (pages : ℕ) (was : Maps) (db : Database) (so_far : AreMovedSoFar old new after pages was db) (page : List R)
+      (is : IsMapPage old after page so_far.maps) where
     -- A page that is empty is the last: all rows that there were lay within their limits.
     pub all_rows_moved : length page ≡ 0 → AreMoved old new was so_far.maps
     all_rows_moved none = record {
@@ -135,7 +145,8 @@ module _ {R N : Type 0} {old : Table ℕ R} {new : Table ℕ N} {route : Route �
         (r, All-contains old.IsLegal page r is.limits (contains_had page r has), let same : v ≡ old.cells r = cc in same)
 
     -- One page more.
-    pub next_moved : (last : ℕ) → option_map route.key_of (slice_get page (length page - 1)) ≡ Some last → (a b : State) → a.now ≡ db → Steps (schema_at new.since) a b (move_rows old new route page) → AreMovedSoFar old new (Some last) (pages + 1) was b.now
+    pub next_moved : (last : ℕ) → option_map route.key_of (slice_get page (length page - 1)) ≡ Some last → (a b : State) → a.now ≡ db
+        → Steps (schema_at new.since) a b (move_rows old new route page) → AreMovedSoFar old new (Some last) (pages + 1) was b.now
     next_moved last end a b same steps =
         let met = next_met table so_far.maps after pages so_far.met page is last end in
         record {

@@ -52,7 +52,8 @@ module _ {R : Type 0} (number_of : R → ℕ) where
 
   pub one_rows : (t : ℕ → Option R) (Passes : R → Type 0) (xs ys : List R) → AreRows t number_of Passes xs → AreRows t number_of Passes ys → xs ≡ ys
   one_rows t Passes xs ys first other =
-      one_list xs ys first.rise other.rise (λ r there. let it = first.sound r (contains_had xs r there) in has_contained ys r (other.whole (number_of r) r it.0 it.1))
+      one_list xs ys first.rise other.rise
+      (λ r there. let it = first.sound r (contains_had xs r there) in has_contained ys r (other.whole (number_of r) r it.0 it.1))
       (λ r there. let it = other.sound r (contains_had ys r there) in has_contained xs r (first.whole (number_of r) r it.0 it.1))
 
   -- Those of all rows that a test lets through.

@@ -24,7 +24,9 @@ grown_at : (n : ℕ) → (more : List Table) × (others : List Index) × (schema
 grown_at n = (later_tables n, later_indexes n, schema_grown n)
 
 -- so what is said of all schemas that do is said of it
-pub of_known : (Is : Maps → Type 0) (db : Database) → ((more : List Table) (others : List Index) (maps : Maps) → Holds (grown more others) db maps → Is maps) → (n : ℕ) → IsKnown n → (maps : Maps) → Holds (schema_at n) db maps → Is maps
+pub of_known : (Is : Maps → Type 0) (db : Database)
+    → ((more : List Table) (others : List Index) (maps : Maps) → Holds (grown more others) db maps → Is maps) → (n : ℕ) → IsKnown n
+    → (maps : Maps) → Holds (schema_at n) db maps → Is maps
 of_known Is db all n known maps holds = let it = grown_at n in all it.0 it.1 maps (subst (λ (s : Schema). Holds s db maps) it.2 holds)
 
 -- the tables of a picture name its schema
@@ -38,11 +40,14 @@ names_once maps m n one other =
     cc
 
 pub refuses : {S : Type 0} (g : Ghosts S) (conn last : Held S) → Survives (state g conn) (state g last) (λ _. ⊥)
-    → (HasCleanDisk (state g last) → (more : List Table) (others : List Index) (maps : Maps) → Holds (grown more others) (state g conn).now maps → (named : ℕ) → IsKnown named → ¬ NamesSchema maps named) → RefusesLibrary g conn
+    → (HasCleanDisk (state g last) → (more : List Table) (others : List Index) (maps : Maps)
+    → Holds (grown more others) (state g conn).now maps → (named : ℕ) → IsKnown named → ¬ NamesSchema maps named)
+    → RefusesLibrary g conn
 refuses g conn last survives unnamed = record {
   last = last;
   survives = survives;
   unnamed = λ clean. of_known (λ maps. (named : ℕ) → IsKnown named → ¬ NamesSchema maps named) (state g conn).now (unnamed clean);
   unknown = λ clean n at P shown known.
-      of_known (λ maps. (named : ℕ) → IsKnown named → ¬ NamesSchema maps named) (state g conn).now (unnamed clean) n at shown.maps shown.holds P.meta.schema known (picture_names shown.maps P shown.encodes);
+      of_known (λ maps. (named : ℕ) → IsKnown named → ¬ NamesSchema maps named) (state g conn).now
+      (unnamed clean) n at shown.maps shown.holds P.meta.schema known (picture_names shown.maps P shown.encodes);
 }

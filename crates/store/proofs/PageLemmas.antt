@@ -30,7 +30,8 @@ use Rattle.circ_tables.specs.Loans.{loans_are}
 use Rattle.circ_tables.specs.Holds.{holds_are}
 use Rattle.circ_tables.specs.Lines.{lines_are}
 use Rattle.circ_tables.specs.declared.by_number.TheConstants.{PAGE_ROWS}
-use Rattle.circ_tables.proofs.CellLemmas.{is_least, least_if, if_least, same_if, if_same, none_if, if_none, ready_if, if_ready, below_if, if_below, above_if, if_above, alone, from_alone, both, from_both}
+use Rattle.circ_tables.proofs.CellLemmas.{is_least, least_if, if_least, same_if, if_same, none_if, if_none, ready_if, if_ready, below_if}
+use Rattle.circ_tables.proofs.CellLemmas.{if_below, above_if, if_above, alone, from_alone, both, from_both}
 use Rattle.circ_tables.proofs.InverseLemmas.{told}
 use Rattle.circ_tables.proofs.DayLemmas.{below}
 use Rattle.circ_tables.proofs.ShownLemmas.{one_found, stands, rows_rise}
@@ -40,7 +41,8 @@ use Rattle.store.proofs.ListLemmas.{rise_is}
 
 module _ {R : Type 0} {t : Table ℕ R} {number_of : R → ℕ} (table : IsNumberTable t number_of) where
   are_first : (maps : Maps) (P : Picture) → Encodes maps P → InLimits P → (good : Row → Bool) (Passes : R → Type 0)
-      → ((r : R) → t.IsLegal r → good (t.cells r) ≡ true → Passes r) → ((r : R) → Passes r → good (t.cells r) ≡ true) → (rows : List R) → All t.IsLegal rows → FirstRows PAGE_ROWS (maps t.place) good (map t.cells rows)
+      → ((r : R) → t.IsLegal r → good (t.cells r) ≡ true → Passes r) → ((r : R) → Passes r → good (t.cells r) ≡ true) → (rows : List R)
+      → All t.IsLegal rows → FirstRows PAGE_ROWS (maps t.place) good (map t.cells rows)
       → AreFirstRows (t.rows P) number_of Passes rows
   are_first maps P is legal good Passes to from rows limits first = record {
     sound = λ r there.
@@ -56,7 +58,9 @@ module _ {R : Type 0} {t : Table ℕ R} {number_of : R → ℕ} (table : IsNumbe
         sym (length-map rows t.cells) ∙ rest.0,
         λ s there.
             let less = rest.1 (t.cells s) (mapped_has t.cells rows s (has_contained rows s there)) in
-            let under = below (number_of s) (number_of r) (subst (λ v. value_cmp v (number (number_of r)) ≡ Less) (table.first_cell s) (subst (λ v. value_cmp (column (t.cells s) 0) v ≡ Less) (table.first_cell r) less)) in
+            let under = below (number_of s) (number_of r)
+            (subst (λ v. value_cmp v (number (number_of r)) ≡ Less) (table.first_cell s)
+            (subst (λ v. value_cmp (column (t.cells s) 0) v ≡ Less) (table.first_cell r) less)) in
             let mine = (table.legal P legal n r e).0 in
             omega (arith, under, mine),
       )
@@ -66,13 +70,16 @@ module _ {R : Type 0} {t : Table ℕ R} {number_of : R → ℕ} (table : IsNumbe
   }
 
 module _ (maps : Maps) (P : Picture) (is : Encodes maps P) (legal : InLimits P) where
-  pub ready_after_are : (branch after : ℕ) (rows : List HoldRow) → All IsHold rows → FirstRows PAGE_ROWS (maps holds_place) (is_ready_after branch after) (map hold_cells rows) → AreReadyAfter P branch after rows
+  pub ready_after_are : (branch after : ℕ) (rows : List HoldRow) → All IsHold rows
+      → FirstRows PAGE_ROWS (maps holds_place) (is_ready_after branch after) (map hold_cells rows) → AreReadyAfter P branch after rows
   ready_after_are branch after =
       are_first holds_are maps P is legal (is_ready_after branch after) (λ r. (r.branch ≡ branch) × (r.state ≡ Ready) × (after < r.hold))
-      (λ r legal good. let first = and_parts _ _ good in let tests = both _ _ first.1 in (same_if r.branch branch first.0, ready_if r.state tests.0, above_if r.hold after tests.1))
+      (λ r legal good. let first = and_parts _ _ good in let tests = both _ _ first.1 in
+      (same_if r.branch branch first.0, ready_if r.state tests.0, above_if r.hold after tests.1))
       (λ r passes. and_from _ _ (if_same r.branch branch passes.0) (from_both _ _ (if_ready r.state passes.1) (if_above r.hold after passes.2)))
 
-  pub overdue_after_are : (branch day after : ℕ) (rows : List LoanRow) → All IsLoan rows → FirstRows PAGE_ROWS (maps loans_place) (is_overdue_after branch day after) (map loan_cells rows)
+  pub overdue_after_are : (branch day after : ℕ) (rows : List LoanRow) → All IsLoan rows
+      → FirstRows PAGE_ROWS (maps loans_place) (is_overdue_after branch day after) (map loan_cells rows)
       → AreOverdueAfter P branch day after rows
   overdue_after_are branch day after =
       are_first loans_are maps P is legal (is_overdue_after branch day after)
@@ -82,12 +89,15 @@ module _ (maps : Maps) (P : Picture) (is : Encodes maps P) (legal : InLimits P) 
       let second = and_parts _ _ first.1 in
       let tests = both _ _ second.1 in
       (same_if r.branch branch first.0, none_if r.ended second.0, below_if r.due day tests.0, above_if r.loan after tests.1))
-      (λ r passes. and_from _ _ (if_same r.branch branch passes.0) (and_from _ _ (if_none r.ended passes.1) (from_both _ _ (if_below r.due day passes.2) (if_above r.loan after passes.3))))
+      (λ r passes. and_from _ _ (if_same r.branch branch passes.0)
+      (and_from _ _ (if_none r.ended passes.1) (from_both _ _ (if_below r.due day passes.2) (if_above r.loan after passes.3))))
 
-  pub lines_after_are : (day after : ℕ) (rows : List LineRow) → All IsLine rows → FirstRows PAGE_ROWS (maps lines_place) (is_line_after day after) (map line_cells rows) → AreLinesAfter P day after rows
+  pub lines_after_are : (day after : ℕ) (rows : List LineRow) → All IsLine rows
+      → FirstRows PAGE_ROWS (maps lines_place) (is_line_after day after) (map line_cells rows) → AreLinesAfter P day after rows
   lines_after_are day after =
       are_first lines_are maps P is legal (is_line_after day after) (λ r. (r.day ≡ day) × (after < r.line))
-      (λ r legal good. let tests = both _ _ good in (same_if r.day day tests.0, above_if r.line after tests.1)) (λ r passes. from_both _ _ (if_same r.day day passes.0) (if_above r.line after passes.1))
+      (λ r legal good. let tests = both _ _ good in (same_if r.day day tests.0, above_if r.line after tests.1))
+      (λ r passes. from_both _ _ (if_same r.day day passes.0) (if_above r.line after passes.1))
 
 -- a page of all rows of a table, from 1 on
 module _ {R : Type 0} {t : Table ℕ R} {number_of : R → ℕ} (table : IsNumberTable t number_of) where
@@ -100,23 +110,33 @@ module _ {R : Type 0} {t : Table ℕ R} {number_of : R → ℕ} (table : IsNumbe
 
   pub above : (after : Option ℕ) (r : R) → t.IsLegal r → is_next after (t.cells r) ≡ true → unwrap_or after 0 < number_of r
   above None r legal good = let one : 1 ≤ number_of r = table.from_one r legal in omega (arith, one)
-  above (Some n) r legal good = let least : n + 1 ≤ number_of r = least_if (number_of r) (n + 1) (subst (λ v. is_least v (pos (n + 1)) ≡ true) (table.first_cell r) (alone _ good)) in omega (arith, least)
+  above (Some n) r legal good = let least : n + 1 ≤ number_of r =
+      least_if (number_of r) (n + 1) (subst (λ v. is_least v (pos (n + 1)) ≡ true) (table.first_cell r) (alone _ good)) in
+      omega (arith, least)
 
   passes : (after : Option ℕ) (r : R) → unwrap_or after 0 < number_of r → is_next after (t.cells r) ≡ true
   passes None r more = refl
-  passes (Some n) r more = from_alone _ (subst (λ v. is_least v (pos (n + 1)) ≡ true) (sym (table.first_cell r)) (if_least (number_of r) (n + 1) (omega (arith, more))))
+  passes (Some n) r more = from_alone _
+      (subst (λ v. is_least v (pos (n + 1)) ≡ true) (sym (table.first_cell r)) (if_least (number_of r) (n + 1) (omega (arith, more))))
 
   -- a page of them, where the maps encode the picture
-  pub page_are : (maps : Maps) (P : Picture) → Encodes maps P → InLimits P → (after : Option ℕ) (rows : List R) → All t.IsLegal rows → FirstRows PAGE_ROWS (maps t.place) (is_next after) (map t.cells rows)
+  pub page_are : (maps : Maps) (P : Picture) → Encodes maps P → InLimits P → (after : Option ℕ) (rows : List R) → All t.IsLegal rows
+      → FirstRows PAGE_ROWS (maps t.place) (is_next after) (map t.cells rows)
       → AreNumbered (t.rows P) number_of × AreRowsAfter (t.rows P) number_of (unwrap_or after 0) rows
-  page_are maps P shown legal after rows limits first = (numbered P legal, are_first table maps P shown legal (is_next after) (λ r. unwrap_or after 0 < number_of r) (above after) (passes after) rows limits first)
+  page_are maps P shown legal after rows limits first = (
+    numbered P legal,
+    are_first table maps P shown legal (is_next after) (λ r. unwrap_or after 0 < number_of r) (above after)
+        (passes after) rows limits first,
+  )
 
-  pub page_seen : (after : Option ℕ) → {S L : Type 0} {items : L → List R} {g : Ghosts S} {r : Result L Fault} {a b : Held S} → Lists t items (λ m. FirstRows PAGE_ROWS m (is_next after)) g a b r
+  pub page_seen : (after : Option ℕ) → {S L : Type 0} {items : L → List R} {g : Ghosts S} {r : Result L Fault} {a b : Held S}
+      → Lists t items (λ m. FirstRows PAGE_ROWS m (is_next after)) g a b r
       → Views (λ P l. AreNumbered (t.rows P) number_of × AreRowsAfter (t.rows P) number_of (unwrap_or after 0) (items l)) g a b r
   page_seen after is =
       rows_seen (λ P rows. AreNumbered (t.rows P) number_of × AreRowsAfter (t.rows P) number_of (unwrap_or after 0) rows)
       (λ maps P shown legal. page_are maps P shown legal after) is
 
 -- rows that are read and of which nothing is said
-pub passed_over : {S R L : Type 0} {K : Type 0} {t : Table K R} {items : L → List R} {Found : Map → List Row → Type 0} {g : Ghosts S} {r : Result L Fault} {a b : Held S} → Lists t items Found g a b r → Views IsPassedOver g a b r
+pub passed_over : {S R L : Type 0} {K : Type 0} {t : Table K R} {items : L → List R} {Found : Map → List Row → Type 0} {g : Ghosts S}
+    {r : Result L Fault} {a b : Held S} → Lists t items Found g a b r → Views IsPassedOver g a b r
 passed_over is = rows_seen (λ P rows. Unit {0}) (λ maps P shown legal rows limits found. tt) is

@@ -19,13 +19,15 @@ rises_filtered number_of test [] rise = tt
 rises_filtered number_of test (r ∷ rows) rise = go (test r) (rises_filtered number_of test rows rise.1)
   where
     above : AllByRecursion (λ s. number_of r < number_of s) (filter test rows)
-    above = all_from (λ s. number_of r < number_of s) (filter test rows) (λ s there. all_has (λ z. number_of r < number_of z) rows s rise.0 (has_filtered test rows s there).0)
+    above = all_from (λ s. number_of r < number_of s) (filter test rows)
+        (λ s there. all_has (λ z. number_of r < number_of z) rows s rise.0 (has_filtered test rows s there).0)
 
     go : (b : Bool) → Rise number_of (filter test rows) → Rise number_of (cond b (r ∷ filter test rows) (filter test rows))
     go true more = (above, more)
     go false more = more
 
-rises_joined : {R : Type 0} (number_of : R → ℕ) (rows more : List R) → Rise number_of rows → Rise number_of more → ((r s : R) → Has rows r → Has more s → number_of r < number_of s) → Rise number_of (rows ++ more)
+rises_joined : {R : Type 0} (number_of : R → ℕ) (rows more : List R) → Rise number_of rows → Rise number_of more
+    → ((r s : R) → Has rows r → Has more s → number_of r < number_of s) → Rise number_of (rows ++ more)
 rises_joined number_of [] more rise next less = next
 rises_joined number_of (r ∷ rows) more rise next less = (above, rises_joined number_of rows more rise.1 next (λ q s there. less q s (inr there)))
   where
@@ -37,18 +39,21 @@ rises_joined number_of (r ∷ rows) more rise next less = (above, rises_joined n
     above = joined rows rise.0
 
 -- The last of rows in order is there, and has the greatest number.
-pub last_is : {R : Type 0} (number_of : R → ℕ) (rows : List R) → Rise number_of rows → (r : R) → slice_get rows (length rows - 1) ≡ Some r → Has rows r × ((s : R) → Has rows s → number_of s ≤ number_of r)
+pub last_is : {R : Type 0} (number_of : R → ℕ) (rows : List R) → Rise number_of rows → (r : R) → slice_get rows (length rows - 1) ≡ Some r
+    → Has rows r × ((s : R) → Has rows s → number_of s ≤ number_of r)
 last_is number_of [] rise r e = let never : ⊥ = cc in absurd never
 last_is number_of (x ∷ []) rise r e = let same : x ≡ r = cc in (inl (sym same), at same)
   where
     at : x ≡ r → (s : _) → Has (x ∷ []) s → number_of s ≤ number_of r
-    at same s (inl is) = let one : number_of s ≡ number_of x = ap number_of is in let two : number_of x ≡ number_of r = ap number_of same in omega (arith, one, two)
+    at same s (inl is) = let one : number_of s ≡ number_of x = ap number_of is in let two : number_of x ≡ number_of r = ap number_of same in
+        omega (arith, one, two)
     at same s (inr none) = absurd none
 last_is number_of (x ∷ y ∷ rows) rise r e =
     let same : length (x ∷ y ∷ rows) - 1 ≡ suc (length (y ∷ rows) - 1) = omega arith in
     with_first (last_is number_of (y ∷ rows) rise.1 r (subst (λ (i : ℕ). slice_get (x ∷ y ∷ rows) i ≡ Some r) same e))
   where
-    with_first : Has (y ∷ rows) r × ((s : _) → Has (y ∷ rows) s → number_of s ≤ number_of r) → Has (x ∷ y ∷ rows) r × ((s : _) → Has (x ∷ y ∷ rows) s → number_of s ≤ number_of r)
+    with_first : Has (y ∷ rows) r × ((s : _) → Has (y ∷ rows) s → number_of s ≤ number_of r) → Has (x ∷ y ∷ rows) r
+        × ((s : _) → Has (x ∷ y ∷ rows) s → number_of s ≤ number_of r)
     with_first more = (inr more.0, at)
       where
         at : (s : _) → Has (x ∷ y ∷ rows) s → number_of s ≤ number_of r
@@ -70,10 +75,12 @@ empty_if number_of (x ∷ rows) none = let never : ⊥ = there x rows none in ab
         there y rows (subst (λ (i : ℕ). option_map number_of (slice_get (x ∷ y ∷ rows) i) ≡ None) same none)
 
 -- One that has a last row.
-pub last_there : {R : Type 0} (number_of : R → ℕ) (rows : List R) (n : ℕ) → option_map number_of (slice_get rows (length rows - 1)) ≡ Some n → (r : R) × (slice_get rows (length rows - 1) ≡ Some r) × (number_of r ≡ n)
+pub last_there : {R : Type 0} (number_of : R → ℕ) (rows : List R) (n : ℕ) → option_map number_of (slice_get rows (length rows - 1)) ≡ Some n
+    → (r : R) × (slice_get rows (length rows - 1) ≡ Some r) × (number_of r ≡ n)
 last_there number_of rows n is = go (slice_get rows (length rows - 1)) refl is
   where
-    go : (o : Option _) → slice_get rows (length rows - 1) ≡ o → option_map number_of o ≡ Some n → (r : _) × (slice_get rows (length rows - 1) ≡ Some r) × (number_of r ≡ n)
+    go : (o : Option _) → slice_get rows (length rows - 1) ≡ o → option_map number_of o ≡ Some n → (r : _)
+        × (slice_get rows (length rows - 1) ≡ Some r) × (number_of r ≡ n)
     go (Some r) e same = (r, e, let at : number_of r ≡ n = cc in at)
     go None e same = let never : ⊥ = cc in absurd never
 
@@ -134,7 +141,8 @@ module _ {R : Type 0} (t : ℕ → Option R) (number_of : R → ℕ) (test : R �
           less : after < number_of last
           less = above_after last greatest.0
 
-          sound : AreNumbered t number_of → (r : R) → Contains (kept ++ filter test page) r → (t (number_of r) ≡ Some r) × ((test r ≡ true) × (number_of r ≤ number_of last))
+          sound : AreNumbered t number_of → (r : R) → Contains (kept ++ filter test page) r → (t (number_of r) ≡ Some r)
+              × ((test r ≡ true) × (number_of r ≤ number_of last))
           sound numbered r there = elim (Contains-append_cases kept (filter test page) r there) [
             | inl before ↦
                 let it = (so_far.rows_are numbered).sound r before in
@@ -145,13 +153,15 @@ module _ {R : Type 0} (t : ℕ → Option R) (number_of : R → ℕ) (test : R �
                 ((is.sound r (contains_had page r it.0)).0, (it.1, greatest.1 r it.0))
           ]
 
-          whole : AreNumbered t number_of → (n : ℕ) (r : R) → t n ≡ Some r → (test r ≡ true) × (number_of r ≤ number_of last) → Contains (kept ++ filter test page) r
+          whole : AreNumbered t number_of → (n : ℕ) (r : R) → t n ≡ Some r → (test r ≡ true) × (number_of r ≤ number_of last)
+              → Contains (kept ++ filter test page) r
           whole numbered n r e passes = go (cases_lt after (number_of r))
             where
               go : (after < number_of r) ⊎ (number_of r ≤ after) → Contains (kept ++ filter test page) r
               go (inr low) = Contains-append_left kept (filter test page) r ((so_far.rows_are numbered).whole n r e (passes.0, low))
               go (inl high) = elim (is.whole n r e high) [
-                | inl there ↦ Contains-append_right kept (filter test page) r (contains_had (filter test page) r (has_kept test page r (has_contained page r there) passes.0))
+                | inl there ↦ Contains-append_right kept (filter test page) r
+                    (contains_had (filter test page) r (has_kept test page r (has_contained page r there) passes.0))
                 | inr rest ↦
                     let under : number_of last < n = rest.1 last (contains_had page last greatest.0) in
                     let own : number_of r ≡ n = (numbered n r e).0 in
@@ -160,19 +170,22 @@ module _ {R : Type 0} (t : ℕ → Option R) (number_of : R → ℕ) (test : R �
               ]
 
           rise : AreNumbered t number_of → Rise number_of (kept ++ filter test page)
-          rise numbered = rises_joined number_of kept (filter test page) (so_far.rows_are numbered).rise (rises_filtered number_of test page is.rise) (λ r s before new.
+          rise numbered = rises_joined number_of kept (filter test page) (so_far.rows_are numbered).rise
+              (rises_filtered number_of test page is.rise) (λ r s before new.
               let low : number_of r ≤ after = ((so_far.rows_are numbered).sound r (contains_had kept r before)).1.1 in
               let high : after < number_of s = above_after s (has_filtered test page s new).0 in
               omega (arith, low, high))
 
     -- The same, where the number and the rows are named.
-    pub next_so_far : (last : ℕ) → option_map number_of (slice_get page (length page - 1)) ≡ Some last → (more : List R) → more ≡ kept ++ filter test page → AreSoFar last (pages + 1) more
+    pub next_so_far : (last : ℕ) → option_map number_of (slice_get page (length page - 1)) ≡ Some last → (more : List R) → more ≡ kept
+        ++ filter test page → AreSoFar last (pages + 1) more
     next_so_far last end more is =
         let it = last_there number_of page last end in
         subst (λ (n : ℕ). AreSoFar n (pages + 1) more) it.2 (subst (λ (l : List R). AreSoFar (number_of it.0) (pages + 1) l) (sym is) (more_so_far it.0 it.1))
 
 -- Rows that a test lets through are all, where it lets each through.
-pub all_pass : {R : Type 0} (t : ℕ → Option R) (number_of : R → ℕ) (rows : List R) → AreTestedRows t number_of (λ _. true) rows → AreRows t number_of AllPass rows
+pub all_pass : {R : Type 0} (t : ℕ → Option R) (number_of : R → ℕ) (rows : List R) → AreTestedRows t number_of (λ _. true) rows
+    → AreRows t number_of AllPass rows
 all_pass t number_of rows are = record {
   sound = λ r there. ((are.sound r there).0, tt);
   whole = λ n r e passes. are.whole n r e refl;
@@ -180,7 +193,8 @@ all_pass t number_of rows are = record {
 }
 
 -- Loans that have not ended, as the row says it.
-pub open_pass : (t : ℕ → Option LoanRow) (rows : List LoanRow) → AreTestedRows t (λ r. r.loan) (λ r. is_none r.ended) rows → AreRows t (λ r. r.loan) (λ r. r.ended ≡ None) rows
+pub open_pass : (t : ℕ → Option LoanRow) (rows : List LoanRow) → AreTestedRows t (λ r. r.loan) (λ r. is_none r.ended) rows
+    → AreRows t (λ r. r.loan) (λ r. r.ended ≡ None) rows
 open_pass t rows are = record {
   sound = λ r there. let it = are.sound r there in (it.0, ended r.ended it.1);
   whole = λ n r e passes. are.whole n r e (ap is_none passes);

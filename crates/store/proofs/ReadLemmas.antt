@@ -36,8 +36,10 @@ pub read_then : {fault : Option Fault} (a b c : State) → Reading None a b → 
 read_then a b c one two = record {
   clean = λ h. one.clean (two.clean h);
   mode = λ h. two.mode (one.mode h);
-  leaves = λ h is maps holds. let same = one.same refl (two.clean h) maps holds in undone_then a b c same (two.leaves h is maps (held_still a b maps same holds));
-  crash = λ h maps holds trees may. one.crash (two.clean h) maps holds trees (two.crash h maps (held_still a b maps (one.same refl (two.clean h) maps holds) holds) trees may);
+  leaves = λ h is maps holds. let same = one.same refl (two.clean h) maps holds in
+      undone_then a b c same (two.leaves h is maps (held_still a b maps same holds));
+  crash = λ h maps holds trees may. one.crash (two.clean h) maps holds trees
+      (two.crash h maps (held_still a b maps (one.same refl (two.clean h) maps holds) holds) trees may);
   same = λ is h maps holds. let same = one.same refl (two.clean h) maps holds in same_then a b c same (two.same is h maps (held_still a b maps same holds));
   sound = λ is h P shown legal few. two.sound is h P (shown_still a b P (one.same refl (two.clean h) shown.maps shown.holds) shown) legal few;
 }
@@ -75,21 +77,25 @@ legal_if Good None own = tt
 legal_if Good (Some r) own = own r refl
 
 -- a read that ended well, and then a step that failed
-pub read_fails : {fault : Option Fault} (a b : State) → Reading None a b → (fault ≡ Some Stored → HasCleanDisk b → (P : Picture) → HasPicture a.now P → InLimits P → ClosesFewDays P → ⊥) → Reading fault a b
+pub read_fails : {fault : Option Fault} (a b : State) → Reading None a b
+    → (fault ≡ Some Stored → HasCleanDisk b → (P : Picture) → HasPicture a.now P → InLimits P → ClosesFewDays P → ⊥) → Reading fault a b
 read_fails a b one sound = record { clean = one.clean; mode = one.mode; leaves = one.leaves; crash = one.crash; same = λ _. one.same refl; sound = sound }
 
 -- a fault that is handed on
-pub read_err : {A : Type 0} (r : Result A Fault) (fault : Fault) (a b : State) → IsErr r × IsErrAnd r (λ e. e ≡ fault) → Reading (Some fault) a b → Reading (result_err r) a b
+pub read_err : {A : Type 0} (r : Result A Fault) (fault : Fault) (a b : State) → IsErr r × IsErrAnd r (λ e. e ≡ fault)
+    → Reading (Some fault) a b → Reading (result_err r) a b
 read_err (Ok x) fault a b is one = absurd (let none = is.0 in cc)
 read_err (Err e) fault a b is one = subst (λ f. Reading (Some f) a b) (sym is.1) one
 
 -- what is read and that the tables are as they were
-pub shown_same : {A : Type 0} (Q : A → Picture → Type 0) (r : Result A Fault) (a b : State) → HasCleanDisk b → Reading (result_err r) a b → (HasCleanDisk b → IfOk r (λ x. (P : Picture) → HasPicture a.now P → InLimits P → Q x P))
+pub shown_same : {A : Type 0} (Q : A → Picture → Type 0) (r : Result A Fault) (a b : State) → HasCleanDisk b → Reading (result_err r) a b
+    → (HasCleanDisk b → IfOk r (λ x. (P : Picture) → HasPicture a.now P → InLimits P → Q x P))
     → IfOk r (λ x. (P : Picture) → HasPicture a.now P → InLimits P → Q x P × (b.now ≡ a.now))
 shown_same Q (Ok x) a b clean one got = λ P shown legal. (got clean P shown legal, (one.same refl clean shown.maps shown.holds).now)
 shown_same Q (Err e) a b clean one got = tt
 
-pub sound_of : {A : Type 0} (r : Result A Fault) (a b : State) → Reading (result_err r) a b → HasCleanDisk b → r ≡ Err Stored → (P : Picture) → HasPicture a.now P → InLimits P → ClosesFewDays P → ⊥
+pub sound_of : {A : Type 0} (r : Result A Fault) (a b : State) → Reading (result_err r) a b → HasCleanDisk b → r ≡ Err Stored
+    → (P : Picture) → HasPicture a.now P → InLimits P → ClosesFewDays P → ⊥
 sound_of r a b one clean is P shown legal few = one.sound (ap result_err is) clean P shown legal few
 
 -- ---- what a store says of a read
@@ -99,7 +105,9 @@ ok_then (Ok x) f h = f x h
 ok_then (Err e) f h = tt
 
 -- of a row of a key
-pub looked_of : {K R S : Type 0} (t : Table K R) (key : K) (g : Ghosts S) (legal : (P : Picture) → InLimits P → (r : R) → t.rows P key ≡ Some r → t.IsLegal r) (old new : Held S) (result : Result (Option R) Fault)
+pub looked_of : {K R S : Type 0} (t : Table K R) (key : K) (g : Ghosts S)
+    (legal : (P : Picture) → InLimits P → (r : R) → t.rows P key ≡ Some r → t.IsLegal r) (old new : Held S)
+    (result : Result (Option R) Fault)
     → (IsTrue (state g old).is_open → (state g old).now ≡ (state g old).committed) → Gets t key g old new result → Finds t key g old new result
 looked_of t key g legal old new result settled is = record {
   reads = reads_of result (state g old) (state g new) settled is.view.read;
@@ -108,8 +116,11 @@ looked_of t key g legal old new result settled is = record {
 }
 
 -- the same where all rows lie within their limits
-pub looked_row : {K R S : Type 0} (t : Table K R) (key : K) (g : Ghosts S) (legal : (P : Picture) → InLimits P → (r : R) → t.rows P key ≡ Some r → t.IsLegal r) (old new : Held S) (result : Result (Option R) Fault)
-    → (IsTrue (state g old).is_open → (state g old).now ≡ (state g old).committed) → Gets t key g old new result → Looked InLimits (λ P row. row ≡ t.rows P key) InLimits g old new result
+pub looked_row : {K R S : Type 0} (t : Table K R) (key : K) (g : Ghosts S)
+    (legal : (P : Picture) → InLimits P → (r : R) → t.rows P key ≡ Some r → t.IsLegal r) (old new : Held S)
+    (result : Result (Option R) Fault)
+    → (IsTrue (state g old).is_open → (state g old).now ≡ (state g old).committed) → Gets t key g old new result
+    → Looked InLimits (λ P row. row ≡ t.rows P key) InLimits g old new result
 looked_row t key g legal old new result settled is =
     let found = looked_of t key g legal old new result settled is in
     record {
@@ -127,19 +138,24 @@ looked_view Is g old new result settled is = record {
   sound = λ clean err P shown good. is.read.sound (ap result_err err) clean P shown good.0 good.1;
 }
 
-list_same : {R L : Type 0} (items : L → List R) (Good : R → Type 0) (Found : Maps → List R → Type 0) (Are : Picture → List R → Type 0) → ((maps : Maps) (P : Picture) → Encodes maps P → InLimits P → (rows : List R) → All Good rows → Found maps rows → Are P rows)
-    → (r : Result L Fault) (a b : State) → IfOk r (λ l. (maps : Maps) → Holds schema a.now maps → Found maps (items l) × IsUnchanged a b) → IfOk r (λ l. All Good (items l))
+list_same : {R L : Type 0} (items : L → List R) (Good : R → Type 0) (Found : Maps → List R → Type 0) (Are : Picture → List R → Type 0)
+    → ((maps : Maps) (P : Picture) → Encodes maps P → InLimits P → (rows : List R) → All Good rows → Found maps rows → Are P rows)
+    → (r : Result L Fault) (a b : State) → IfOk r (λ l. (maps : Maps) → Holds schema a.now maps → Found maps (items l) × IsUnchanged a b)
+    → IfOk r (λ l. All Good (items l))
     → IfOk r (λ l. (P : Picture) → HasPicture a.now P → InLimits P → Are P (items l) × (b.now ≡ a.now))
-list_same items Good Found Are are (Ok l) a b got limits = λ P shown legal. let all = got shown.maps shown.holds in (are shown.maps P shown.encodes legal (items l) limits all.0, all.1.0.now_is)
+list_same items Good Found Are are (Ok l) a b got limits = λ P shown legal. let all = got shown.maps shown.holds in
+    (are shown.maps P shown.encodes legal (items l) limits all.0, all.1.0.now_is)
 list_same items Good Found Are are (Err e) a b got limits = tt
 
 -- of a list
 pub looked_list : {K R L S : Type 0} (t : Table K R) (items : L → List R) (Found : Map → List Row → Type 0) (Are : Picture → List R → Type 0)
     → ((maps : Maps) (P : Picture) → Encodes maps P → InLimits P → (rows : List R) → All t.IsLegal rows → Found (maps t.place) (map t.cells rows) → Are P rows)
     → (g : Ghosts S) (old new : Held S) (result : Result L Fault)
-    → (IsTrue (state g old).is_open → (state g old).now ≡ (state g old).committed) → Lists t items Found g old new result → Looked InLimits (λ P l. Are P (items l)) InLimits g old new result
+    → (IsTrue (state g old).is_open → (state g old).now ≡ (state g old).committed) → Lists t items Found g old new result
+    → Looked InLimits (λ P l. Are P (items l)) InLimits g old new result
 looked_list t items Found Are are g old new result settled is = record {
   reads = reads_of result (state g old) (state g new) settled is.read;
-  shown = λ clean. list_same items t.IsLegal (λ maps rows. Found (maps t.place) (map t.cells rows)) Are are result (state g old) (state g new) (is.lists clean) is.limits;
+  shown = λ clean. list_same items t.IsLegal (λ maps rows. Found (maps t.place) (map t.cells rows)) Are are result (state g old)
+      (state g new) (is.lists clean) is.limits;
   sound = λ clean err P shown legal. is.sound clean P shown legal err;
 }

@@ -42,38 +42,50 @@ if_both (Err e) f h i = tt
 
 infixr 10 ◌⨟◌
 -- one table after another
-pub ◌⨟◌ : {S A B : Type 0} {g : Ghosts S} {Is : Picture → A → Type 0} {Met : Maps → Type 0} {Then : Picture → B → Type 0} {More : Maps → Type 0} {x : A} {r : Result B Fault} {a b c : Held S}
+pub ◌⨟◌ : {S A B : Type 0} {g : Ghosts S} {Is : Picture → A → Type 0} {Met : Maps → Type 0} {Then : Picture → B → Type 0}
+    {More : Maps → Type 0} {x : A} {r : Result B Fault} {a b c : Held S}
     → Reviews Is Met g a b (Ok x) → Reviews Then More g b c r → Reviews (λ P y. Is P x × Then P y) (λ maps. Met maps × More maps) g a c r
 ◌⨟◌ {g = g} {r = r} {a = a} {b = b} one two = record {
   view = views.◌⨾◌ one.view two.view;
   met = λ clean.
       let before = two.view.read.clean clean in
-      if_ok r (λ y got maps holds. (one.met before maps holds, got maps (held_still (state g a) (state g b) maps (one.view.read.same refl before maps holds) holds))) (two.met clean);
+      if_ok r (λ y got maps holds. (
+        one.met before maps holds,
+        got maps (held_still (state g a) (state g b) maps (one.view.read.same refl before maps holds) holds),
+      )) (two.met clean);
 }
 
 -- what was seen and met is what is wanted
-pub tells : {S A B : Type 0} {g : Ghosts S} {Is : Picture → A → Type 0} {Met : Maps → Type 0} {Wanted : Picture → B → Type 0} {Told : Maps → Type 0} {x : A} {y : B} {a b : Held S}
+pub tells : {S A B : Type 0} {g : Ghosts S} {Is : Picture → A → Type 0} {Met : Maps → Type 0} {Wanted : Picture → B → Type 0}
+    {Told : Maps → Type 0} {x : A} {y : B} {a b : Held S}
     → Reviews Is Met g a b (Ok x) → ((P : Picture) → Is P x → Wanted P y) → ((maps : Maps) → Met maps → Told maps) → Reviews Wanted Told g a b (Ok y)
 tells seen f to = record { view = views.gives seen.view f; met = λ clean maps holds. to maps (seen.met clean maps holds) }
 
 -- a fault that is handed on
-pub faults : {S A B : Type 0} {g : Ghosts S} {Is : Picture → A → Type 0} {Wanted : Picture → B → Type 0} {Told : Maps → Type 0} (r : Result B Fault) (fault : Fault) {a b : Held S}
+pub faults : {S A B : Type 0} {g : Ghosts S} {Is : Picture → A → Type 0} {Wanted : Picture → B → Type 0} {Told : Maps → Type 0}
+    (r : Result B Fault) (fault : Fault) {a b : Held S}
     → IsErr r × IsErrAnd r (λ e. e ≡ fault) → Views Is g a b (Err fault) → Reviews Wanted Told g a b r
 faults (Ok x) fault is seen = absurd (let none = is.0 in cc)
 faults (Err e) fault is seen = record { view = fails (Err e) fault is seen; met = λ clean. tt }
 
 -- rows that were read, and are taken where they are in order
-pub rows_taken : {S A R : Type 0} {g : Ghosts S} {Is : Picture → A → Type 0} {Met : Maps → Type 0} {Wanted : Picture → List R → Type 0} {Told : Maps → Type 0} {x : A} {a b : Held S}
-    (Before : R → R → Type 0) (rows : List R) (r : Result (List R) Fault) → IfOk r (λ taken. (taken ≡ rows) × IsOrdered Before rows) → IfErr r (λ fault. (fault ≡ Stored) × ¬ IsOrdered Before rows)
-    → Reviews Is Met g a b (Ok x) → ((P : Picture) → Is P x → Wanted P rows × IsOrdered Before rows) → ((maps : Maps) → Met maps → Told maps) → Reviews Wanted Told g a b r
-rows_taken Before rows (Ok l) ok err seen are to = record { view = taken Before rows (Ok l) ok err seen.view are; met = λ clean maps holds. to maps (seen.met clean maps holds) }
+pub rows_taken : {S A R : Type 0} {g : Ghosts S} {Is : Picture → A → Type 0} {Met : Maps → Type 0} {Wanted : Picture → List R → Type 0}
+    {Told : Maps → Type 0} {x : A} {a b : Held S}
+    (Before : R → R → Type 0) (rows : List R) (r : Result (List R) Fault) → IfOk r (λ taken. (taken ≡ rows) × IsOrdered Before rows)
+    → IfErr r (λ fault. (fault ≡ Stored) × ¬ IsOrdered Before rows)
+    → Reviews Is Met g a b (Ok x) → ((P : Picture) → Is P x → Wanted P rows × IsOrdered Before rows)
+    → ((maps : Maps) → Met maps → Told maps) → Reviews Wanted Told g a b r
+rows_taken Before rows (Ok l) ok err seen are to =
+    record { view = taken Before rows (Ok l) ok err seen.view are; met = λ clean maps holds. to maps (seen.met clean maps holds) }
 rows_taken Before rows (Err fault) ok err seen are to = record { view = taken Before rows (Err fault) ok err seen.view are; met = λ clean. tt }
 
 -- what was seen of it, and that an answer comes only where no row is damaged
-pub viewed : {S A : Type 0} {g : Ghosts S} {Is : Picture → A → Type 0} {Met : Maps → Type 0} {r : Result A Fault} {a b : Held S} → Reviews Is Met g a b r → Views Is g a b r
+pub viewed : {S A : Type 0} {g : Ghosts S} {Is : Picture → A → Type 0} {Met : Maps → Type 0} {r : Result A Fault} {a b : Held S}
+    → Reviews Is Met g a b r → Views Is g a b r
 viewed is = is.view
 
-pub answers_legal : {S A : Type 0} {g : Ghosts S} {Is : Picture → A → Type 0} (r : Result A Fault) {a b : Held S} → Reviews Is HasLegalTables g a b r → AnswersLegal g a b r
+pub answers_legal : {S A : Type 0} {g : Ghosts S} {Is : Picture → A → Type 0} (r : Result A Fault) {a b : Held S}
+    → Reviews Is HasLegalTables g a b r → AnswersLegal g a b r
 answers_legal (Ok x) is = λ clean. is.met clean
 answers_legal (Err e) is = λ clean. tt
 
@@ -85,7 +97,8 @@ if_fails P (Err e) fault is = tt
 -- ---- whole tables
 
 -- all rows were listed, each within its limits
-pub listed : {S K R L : Type 0} {t : Table K R} {items : L → List R} {Before : Row → Row → Type 0} {Is : Picture → L → Type 0} {g : Ghosts S} {r : Result L Fault} {a b : Held S}
+pub listed : {S K R L : Type 0} {t : Table K R} {items : L → List R} {Before : Row → Row → Type 0} {Is : Picture → L → Type 0}
+    {g : Ghosts S} {r : Result L Fault} {a b : Held S}
     → Lists t items (λ m. ListedBy Before m is_any) g a b r → Views Is g a b r → Reviews Is (HasLegal t) g a b r
 listed {t = t} {items = items} {r = r} is seen = record {
   view = seen;
@@ -95,7 +108,8 @@ listed {t = t} {items = items} {r = r} is seen = record {
 }
 
 -- the one row of `meta`
-pub lone_met : {S : Type 0} {g : Ghosts S} {r : Result MetaRow Fault} {a b : Held S} → GetsMeta g a b r → Reviews (λ P row. row ≡ P.meta) (λ maps. AreEncoded meta_cells IsMeta (maps meta_place)) g a b r
+pub lone_met : {S : Type 0} {g : Ghosts S} {r : Result MetaRow Fault} {a b : Held S} → GetsMeta g a b r
+    → Reviews (λ P row. row ≡ P.meta) (λ maps. AreEncoded meta_cells IsMeta (maps meta_place)) g a b r
 lone_met {r = r} is = record {
   view = is.view;
   met = λ clean. if_both r (λ row got limits maps holds k v e. (row, limits, got maps holds k v e)) (is.alone clean) is.limits;
@@ -105,36 +119,50 @@ lone_met {r = r} is = record {
 
 -- the caller has more that is kept
 pub more_of_caller : {S L : Type 0} {items : L → List KeptRow} {g : Ghosts S} {l : L} {a b : Held S} (last : KeptRow) → 0 < length (items l)
-    → Lists kept items (λ m. FirstRowsBy PairBelow PAGE_ROWS m (is_kept_after (owner_number last.caller) last.key)) g a b (Ok l) → OverMaps (λ page. IsKeptPage (PairBelow (kept_cells last)) (items page)) g a b (Ok l)
-more_of_caller {items = items} {l = l} last some is = λ clean maps holds. page_of_caller _ maps holds last (items l) is.limits (is.lists clean maps holds).0 some
+    → Lists kept items (λ m. FirstRowsBy PairBelow PAGE_ROWS m (is_kept_after (owner_number last.caller) last.key)) g a b (Ok l)
+    → OverMaps (λ page. IsKeptPage (PairBelow (kept_cells last)) (items page)) g a b (Ok l)
+more_of_caller {items = items} {l = l} last some is =
+    λ clean maps holds. page_of_caller _ maps holds last (items l) is.limits (is.lists clean maps holds).0 some
 
 -- the caller has no more
 pub past_caller : {S L : Type 0} {items : L → List KeptRow} {g : Ghosts S} {l : L} {r : Result L Fault} {a b c : Held S} (last : KeptRow) → length (items l) ≡ 0
     → Lists kept items (λ m. FirstRowsBy PairBelow PAGE_ROWS m (is_kept_after (owner_number last.caller) last.key)) g a b (Ok l)
-    → Lists kept items (λ m. FirstRowsBy PairBelow PAGE_ROWS m (is_after (owner_number last.caller))) g b c r → OverMaps (λ page. IsKeptPage (PairBelow (kept_cells last)) (items page)) g a c r
+    → Lists kept items (λ m. FirstRowsBy PairBelow PAGE_ROWS m (is_after (owner_number last.caller))) g b c r
+    → OverMaps (λ page. IsKeptPage (PairBelow (kept_cells last)) (items page)) g a c r
 past_caller {items = items} {g = g} {l = l} {r = r} {a = a} {b = b} last none one two = λ clean.
     let before = two.read.clean clean in
     if_both r (λ past got fine maps holds.
-    page_past_caller _ maps holds last (items l) one.limits (one.lists before maps holds).0 none (items past) fine (got maps (held_still (state g a) (state g b) maps (one.read.same refl before maps holds) holds)).0)
+    page_past_caller _ maps holds last (items l) one.limits (one.lists before maps holds).0 none (items past) fine
+    (got maps (held_still (state g a) (state g b) maps (one.read.same refl before maps holds) holds)).0)
     (two.lists clean) two.limits
 
 -- the first page
-pub begun : {S L : Type 0} {items : L → List KeptRow} {g : Ghosts S} {l : L} {a b : Held S} → Lists kept items (λ m. FirstRowsBy PairBelow PAGE_ROWS m is_any) g a b (Ok l) → Reviews {A = Unit {0}} IsPassedOver (AreKeptMet (items l)) g a b (Ok tt)
-begun {items = items} {l = l} is = record { view = views.gives (passed_over is) (λ P all. tt); met = λ clean maps holds. first_met maps (items l) is.limits (is.lists clean maps holds).0 }
+pub begun : {S L : Type 0} {items : L → List KeptRow} {g : Ghosts S} {l : L} {a b : Held S}
+    → Lists kept items (λ m. FirstRowsBy PairBelow PAGE_ROWS m is_any) g a b (Ok l)
+    → Reviews {A = Unit {0}} IsPassedOver (AreKeptMet (items l)) g a b (Ok tt)
+begun {items = items} {l = l} is =
+    record {
+      view = views.gives (passed_over is) (λ P all. tt);
+      met = λ clean maps holds. first_met maps (items l) is.limits (is.lists clean maps holds).0;
+    }
 
 -- one page more
-pub gone_on : {S L : Type 0} (items : L → List KeptRow) {g : Ghosts S} {l : L} {a b c : Held S} (page : List KeptRow) (last : KeptRow) → slice_get page (length page - 1) ≡ Some last
-    → Reviews {A = Unit {0}} IsPassedOver (AreKeptMet page) g a b (Ok tt) → Views IsPassedOver g b c (Ok l) → OverMaps (λ next. IsKeptPage (PairBelow (kept_cells last)) (items next)) g b c (Ok l)
+pub gone_on : {S L : Type 0} (items : L → List KeptRow) {g : Ghosts S} {l : L} {a b c : Held S} (page : List KeptRow) (last : KeptRow)
+    → slice_get page (length page - 1) ≡ Some last
+    → Reviews {A = Unit {0}} IsPassedOver (AreKeptMet page) g a b (Ok tt) → Views IsPassedOver g b c (Ok l)
+    → OverMaps (λ next. IsKeptPage (PairBelow (kept_cells last)) (items next)) g b c (Ok l)
     → Reviews {A = Unit {0}} IsPassedOver (AreKeptMet (items l)) g a c (Ok tt)
 gone_on items {g = g} {l = l} {a = a} {b = b} page last end so_far seen is = record {
   view = views.gives (views.◌⨾◌ so_far.view seen) (λ P all. tt);
   met = λ clean maps holds.
       let before = seen.read.clean clean in
-      more_kept_met maps page (items l) last end (so_far.met before maps holds) (is clean maps (held_still (state g a) (state g b) maps (so_far.view.read.same refl before maps holds) holds));
+      more_kept_met maps page (items l) last end (so_far.met before maps holds)
+      (is clean maps (held_still (state g a) (state g b) maps (so_far.view.read.same refl before maps holds) holds));
 }
 
 -- given up: the database is at fault
-pub given_up : {S A B : Type 0} {g : Ghosts S} {Is : Picture → A → Type 0} {Met : Maps → Type 0} {Wanted : Picture → B → Type 0} {Told : Maps → Type 0} {x : A} {a b : Held S} → Reviews Is Met g a b (Ok x) → Reviews Wanted Told g a b (Err Database)
+pub given_up : {S A B : Type 0} {g : Ghosts S} {Is : Picture → A → Type 0} {Met : Maps → Type 0} {Wanted : Picture → B → Type 0}
+    {Told : Maps → Type 0} {x : A} {a b : Held S} → Reviews Is Met g a b (Ok x) → Reviews Wanted Told g a b (Err Database)
 given_up {g = g} {a = a} {b = b} is = record {
   view = record { read = read_fails (state g a) (state g b) is.view.read (λ e. let never : ⊥ = cc in absurd never); shown = λ clean. tt };
   met = λ clean. tt;

@@ -1,21 +1,19 @@
 -- The steps from schema to schema, one and all that are due.
 use Rattle.std.proofs.Common.{◌≡◌, ◌<◌, ◌≤◌, ◌+◌, ◌⊎◌, ◌^◌, ◌∙◌, inl, inr, ℕ, zero, suc, List, refl, sym, ap, subst, arith, IsTrue}
-use Rattle.std.specs.Prelude.{Result, Ok, Err, IfOk, OnOk, OnErr, ◌-◌}
+use Rattle.std.specs.Prelude.{Result, Ok, Err, IfOk, ◌-◌}
 use Rattle.std.specs.Result.{IsErr, IsErrAnd}
 use Rattle.std.proofs.lemmas.Bool.{cases_lt}
 use Rattle.sqlite.specs.Effect.{Database}
 use Rattle.sqlite.specs.Held.{Held, state}
-use Rattle.sqlite.specs.State.{State, HasCleanDisk, IsUnchanged, Survives}
+use Rattle.sqlite.specs.State.{State, HasCleanDisk, IsUnchanged}
 use Rattle.sqlite.specs.Store.{Ghosts}
 use Rattle.sqlite.specs.Table.{Table}
-use Rattle.sqlite.specs.Tree.{Trees}
 use Rattle.sqlite.specs.declared.transaction.Transaction.{Transaction}
 use Rattle.sqlite_schema.specs.declared.schema.Index.{Index}
 use Rattle.sql_maps.specs.Maps.{Maps, Holds}
-use Rattle.sql_maps.proofs.CallLemmas.{on_ok}
 use Rattle.terms.specs.Limits.{InLimits}
 use Rattle.terms.specs.Pictures.{Picture}
-use Rattle.terms.specs.Schemas.{IsOfSchema, IsOfSchema1, IsOfSchema2, led_on, led_by, led_to_2}
+use Rattle.terms.specs.Schemas.{IsOfSchema, led_on, led_by, led_to_2}
 use Rattle.terms.specs.declared.fault.Fault.{Fault}
 use Rattle.terms.specs.declared.fault.Fault.TheVariants.{Stored}
 use Rattle.terms.specs.declared.limits.TheConstants.{SCHEMA}
@@ -24,12 +22,12 @@ use Rattle.circ_tables.specs.Numbered.{grown}
 use Rattle.circ_tables.specs.SchemaNumber.{NamesSchema, TellsSchemaInside}
 use Rattle.circ_tables.specs.Shape.{schema_at, since_first}
 use Rattle.circ_tables.proofs.InverseLemmas.{schema_told}
-use Rattle.store.specs.Commit.{Brings, HasDone}
-use Rattle.store.specs.Library.{HasTablesAt, IsAsItWas}
-use Rattle.store.specs.Migrating.{IsLibrary, IsAtSomeSchema, AreThere, AreLedOn, AreLedUp, LeadsFrom, LeadsOn, LeadsOnInside, Leads, StepsOn, IsLedInPart, IsNotLedUp, CannotBeLed, Migrates}
+use Rattle.store.specs.Library.{HasTablesAt}
+use Rattle.store.specs.Migrating.{IsLibrary, IsAtSomeSchema, AreThere, AreLedOn, AreLedUp, LeadsFrom, LeadsOn, LeadsOnInside, Leads}
+use Rattle.store.specs.Migrating.{StepsOn, IsNotLedUp, CannotBeLed, Migrates}
 use Rattle.store.specs.Routes.{holds_carried}
 use Rattle.store.specs.Schemas.{IsKnown, IsOlder, next_schema}
-use Rattle.store.specs.Stops.{Leaves, KeepsPicture, KeepsPictureAt}
+use Rattle.store.specs.Stops.{Leaves, KeepsPictureAt}
 use Rattle.store.proofs.MigrateLemmas.{all_over_limits}
 use Rattle.store.proofs.OpenLemmas.{of_known, picture_names, names_once}
 use Rattle.store.proofs.Steps.{then, keeps_then}
@@ -59,7 +57,9 @@ library_there n known db P is = record {
 
 -- ---- a step inside a transaction
 
-module _ (a b : State) (n : ℕ) (named : (more : List Table) (others : List Index) (maps : Maps) → Holds (grown more others) a.now maps → NamesSchema maps n × IsUnchanged a b) where
+module _ (a b : State) (n : ℕ)
+    (named : (more : List Table) (others : List Index) (maps : Maps) → Holds (grown more others) a.now maps → NamesSchema maps n
+    × IsUnchanged a b) where
   -- What is told is named by the tables of each schema, and nothing is changed.
   told_of : (m : ℕ) → IsKnown m → (maps : Maps) → Holds (schema_at m) a.now maps → NamesSchema maps n × IsUnchanged a b
   told_of m known maps holds = of_known (λ maps. NamesSchema maps n × IsUnchanged a b) a.now named m known maps holds
@@ -69,13 +69,18 @@ module _ (a b : State) (n : ℕ) (named : (more : List Table) (others : List Ind
   told_library m known P is = sym (of_schema m P is.1) ∙ schema_told is.0.maps P n is.0.encodes (told_of m known is.0.maps is.0.holds).0
 
 -- The schema that tables name can be told.
-pub can_be_told : (db : Database) → ((more : List Table) (others : List Index) (maps : Maps) → Holds (grown more others) db maps → (n : ℕ) → n < 2 ^ 32 → ¬ NamesSchema maps n) → (m : ℕ) → IsKnown m → (P : Picture) → HasPictureAt m db P
+pub can_be_told : (db : Database)
+    → ((more : List Table) (others : List Index) (maps : Maps) → Holds (grown more others) db maps → (n : ℕ) → n < 2 ^ 32
+    → ¬ NamesSchema maps n) → (m : ℕ) → IsKnown m → (P : Picture) → HasPictureAt m db P
     → P.meta.schema < 2 ^ 32 → ⊥
-can_be_told db stored m known P shown less = of_known (λ maps. (n : ℕ) → n < 2 ^ 32 → ¬ NamesSchema maps n) db stored m known shown.maps shown.holds P.meta.schema less (picture_names shown.maps P shown.encodes)
+can_be_told db stored m known P shown less =
+    of_known (λ maps. (n : ℕ) → n < 2 ^ 32 → ¬ NamesSchema maps n) db stored m known shown.maps shown.holds P.meta.schema less
+    (picture_names shown.maps P shown.encodes)
 
 module _ {S : Type 0} (g : Ghosts S) {old mid : Transaction S} where
   -- It could not be told.
-  pub untold : {fault : Fault} (r : Result ℕ Fault) → IsErr r × IsErrAnd r (λ e. e ≡ fault) → TellsSchemaInside g old mid (Err fault) → LeadsOnInside g old mid r
+  pub untold : {fault : Fault} (r : Result ℕ Fault) → IsErr r × IsErrAnd r (λ e. e ≡ fault) → TellsSchemaInside g old mid (Err fault)
+      → LeadsOnInside g old mid r
   untold (Ok x) is read = absurd (let none = is.0 in cc)
   untold {fault} (Err e) is read = record {
     same_reference = read.works.same_reference;
@@ -93,7 +98,8 @@ module _ {S : Type 0} (g : Ghosts S) {old mid : Transaction S} where
   }
 
   module _ (n : ℕ) (read : TellsSchemaInside g old mid (Ok n)) where
-    told : HasCleanDisk (state g mid.conn.now) → (m : ℕ) → IsKnown m → (maps : Maps) → Holds (schema_at m) (state g old.conn.now).now maps → NamesSchema maps n × IsUnchanged (state g old.conn.now) (state g mid.conn.now)
+    told : HasCleanDisk (state g mid.conn.now) → (m : ℕ) → IsKnown m → (maps : Maps) → Holds (schema_at m) (state g old.conn.now).now maps
+        → NamesSchema maps n × IsUnchanged (state g old.conn.now) (state g mid.conn.now)
     told clean = told_of (state g old.conn.now) (state g mid.conn.now) n (read.named clean)
 
     library_is : HasCleanDisk (state g mid.conn.now) → (m : ℕ) → IsKnown m → (P : Picture) → IsLibrary m (state g old.conn.now).now P → m ≡ n
@@ -137,19 +143,28 @@ module _ {S : Type 0} (g : Ghosts S) {old mid : Transaction S} where
       late : HasCleanDisk (state g new.conn.now) → HasCleanDisk (state g mid.conn.now)
       late clean = omega (arith, led.survives.clean)
 
-      there_at : HasCleanDisk (state g mid.conn.now) → (m : ℕ) → AreThere m (state g old.conn.now).now → HasTablesAt n (state g mid.conn.now).now × IsUnchanged (state g old.conn.now) (state g mid.conn.now)
+      there_at : HasCleanDisk (state g mid.conn.now) → (m : ℕ) → AreThere m (state g old.conn.now).now
+          → HasTablesAt n (state g mid.conn.now).now × IsUnchanged (state g old.conn.now) (state g mid.conn.now)
       there_at clean m there =
           let it = told clean m there.known there.maps there.holds in
-          let same : n ≡ m = there.named n it.0 older in
-          ((there.maps, subst (λ d. Holds (schema_at n) d there.maps) (sym it.1.0.now_is) (subst (λ k. Holds (schema_at k) (state g old.conn.now).now there.maps) (sym same) there.holds)), it.1)
+          let same : n ≡ m = there.named n it.0 older in (
+            (
+              there.maps,
+              subst (λ d. Holds (schema_at n) d there.maps) (sym it.1.0.now_is)
+                  (subst (λ k. Holds (schema_at k) (state g old.conn.now).now there.maps) (sym same) there.holds),
+            ),
+            it.1,
+          )
 
-      library_at : HasCleanDisk (state g mid.conn.now) → (m : ℕ) → IsKnown m → (P : Picture) → IsLibrary m (state g old.conn.now).now P → (m ≡ n) × IsLibrary n (state g mid.conn.now).now P × IsUnchanged (state g old.conn.now) (state g mid.conn.now)
+      library_at : HasCleanDisk (state g mid.conn.now) → (m : ℕ) → IsKnown m → (P : Picture) → IsLibrary m (state g old.conn.now).now P
+          → (m ≡ n) × IsLibrary n (state g mid.conn.now).now P × IsUnchanged (state g old.conn.now) (state g mid.conn.now)
       library_at clean m known P library =
           let it = told clean m known library.0.maps library.0.holds in
           let same = library_is clean m known P library in
           (same, subst (λ d. IsLibrary n d P) (sym it.1.0.now_is) (subst (λ k. IsLibrary k (state g old.conn.now).now P) same library), it.1)
 
-      led_is : (to : ℕ) → HasCleanDisk (state g new.conn.now) → IsTrue (state g old.conn.now).in_transaction → LeadsFrom n g mid new (Ok to) → to ≡ next_schema n → LeadsOn to (state g old.conn.now).now (state g new.conn.now).now
+      led_is : (to : ℕ) → HasCleanDisk (state g new.conn.now) → IsTrue (state g old.conn.now).in_transaction → LeadsFrom n g mid new (Ok to)
+          → to ≡ next_schema n → LeadsOn to (state g old.conn.now).now (state g new.conn.now).now
       led_is to clean begun leads next = record {
         leads = λ m known P library.
             let it = library_at (late clean) m known P library in
@@ -158,7 +173,9 @@ module _ {S : Type 0} (g : Ghosts S) {old mid : Transaction S} where
         rows = λ m was_older maps holds names.
             let it = told (late clean) m (of_older m was_older) maps holds in
             let same : n ≡ m = names_once maps n m it.0 names in
-            let moved = leads.rows clean (subst IsTrue (sym it.1.0.mode) begun) maps (subst (λ d. Holds (schema_at n) d maps) (sym it.1.0.now_is) (subst (λ k. Holds (schema_at k) (state g old.conn.now).now maps) (sym same) holds)) in
+            let moved = leads.rows clean (subst IsTrue (sym it.1.0.mode) begun) maps
+            (subst (λ d. Holds (schema_at n) d maps) (sym it.1.0.now_is)
+            (subst (λ k. Holds (schema_at k) (state g old.conn.now).now maps) (sym same) holds)) in
             subst (λ k. (to ≡ next_schema k) × ((now : Maps) × Holds (schema_at (next_schema k)) (state g new.conn.now).now now × AreLedOn k maps now)) same
             (next, (moved.0, moved.1, moved.2 n it.0));
         same = λ m known maps holds names.
@@ -182,10 +199,13 @@ module _ {S : Type 0} (g : Ghosts S) {old mid : Transaction S} where
             led.sound clean (subst IsTrue (sym it.2.0.mode) begun) is P it.1.0 (it.1.1, it.1.2);
       }
         where
-          led_is_by : HasCleanDisk (state g new.conn.now) → IsTrue (state g old.conn.now).in_transaction → (to : ℕ) → LeadsFrom n g mid new (Ok to) → to ≡ next_schema n → LeadsOn to (state g old.conn.now).now (state g new.conn.now).now
+          led_is_by : HasCleanDisk (state g new.conn.now) → IsTrue (state g old.conn.now).in_transaction → (to : ℕ)
+              → LeadsFrom n g mid new (Ok to) → to ≡ next_schema n → LeadsOn to (state g old.conn.now).now (state g new.conn.now).now
           led_is_by clean begun to = led_is to clean begun
 
-          each : (r : Result ℕ Fault) → ((to : ℕ) → LeadsFrom n g mid new (Ok to) → to ≡ next_schema n → LeadsOn to (state g old.conn.now).now (state g new.conn.now).now) → LeadsFrom n g mid new r → IfOk r (λ to. to ≡ next_schema n)
+          each : (r : Result ℕ Fault) → ((to : ℕ) → LeadsFrom n g mid new (Ok to) → to ≡ next_schema n
+              → LeadsOn to (state g old.conn.now).now (state g new.conn.now).now) → LeadsFrom n g mid new r
+              → IfOk r (λ to. to ≡ next_schema n)
               → IfOk r (λ to. LeadsOn to (state g old.conn.now).now (state g new.conn.now).now)
           each (Ok to) so leads next = so to leads next
           each (Err e) so leads next = tt
@@ -219,7 +239,8 @@ second_library old new P is shown =
     )
 
 -- What a step that led to an older schema was made from.
-from_first : (to : ℕ) (old new : Database) → LeadsOn to old new → to < SCHEMA → (n : ℕ) → IsKnown n → (P : Picture) → IsLibrary n old P → (n ≡ 1) × IsLibrary 2 new (led_on n P)
+from_first : (to : ℕ) (old new : Database) → LeadsOn to old new → to < SCHEMA → (n : ℕ) → IsKnown n → (P : Picture) → IsLibrary n old P
+    → (n ≡ 1) × IsLibrary 2 new (led_on n P)
 from_first to old new led less = since_first (λ n. (P : Picture) → IsLibrary n old P → (n ≡ 1) × IsLibrary 2 new (led_on n P))
     (λ P is. (refl, second_library old new P is (led.leads 1 (omega arith, omega arith) P is).1))
     (λ P is. let next = (led.leads 2 (omega arith, omega arith) P is).0 in absurd (omega (arith, next, less)))
@@ -290,8 +311,10 @@ not_damaged to old db led less cannot =
     let there = cannot.there in
     let named = led.named cannot.at there.known there.maps there.holds in
     elim (named_is named.0 named.2) [
-      | inr newest ↦ (let next = (led.same cannot.at there.known there.maps there.holds (subst (NamesSchema there.maps) newest named.1)).0 in omega (arith, next, less))
-      | inl older ↦ cannot.damaged (led.rows cannot.at cannot.older there.maps there.holds (subst (NamesSchema there.maps) (there.named named.0 named.1 older) named.1)).1.2.legal
+      | inr newest ↦ (let next = (led.same cannot.at there.known there.maps there.holds
+          (subst (NamesSchema there.maps) newest named.1)).0 in omega (arith, next, less))
+      | inl older ↦ cannot.damaged (led.rows cannot.at cannot.older there.maps there.holds
+          (subst (NamesSchema there.maps) (there.named named.0 named.1 older) named.1)).1.2.legal
     ]
 
 module _ {S : Type 0} (g : Ghosts S) (settled : Settles g) {old mid : Held S} where
@@ -322,22 +345,26 @@ module _ {S : Type 0} (g : Ghosts S) (settled : Settles g) {old mid : Held S} wh
     sound = λ clean told n known P is. (let never : ⊥ = cc in never);
   }
     where
-      newest_led : LeadsOn to (state g old).now (state g mid).now → (n : ℕ) → IsKnown n → (P : Picture) → IsLibrary n (state g old).now P → HasPictureAt SCHEMA (state g mid).now (led_by (SCHEMA - n) n P)
+      newest_led : LeadsOn to (state g old).now (state g mid).now → (n : ℕ) → IsKnown n → (P : Picture) → IsLibrary n (state g old).now P
+          → HasPictureAt SCHEMA (state g mid).now (led_by (SCHEMA - n) n P)
       newest_led made = since_first (λ n. (P : Picture) → IsLibrary n (state g old).now P → HasPictureAt SCHEMA (state g mid).now (led_by (SCHEMA - n) n P))
           (λ P is. let next = (made.leads 1 (omega arith, omega arith) P is).0 in absurd (omega (arith, next, most)))
           (λ P is. (made.leads 2 (omega arith, omega arith) P is).1)
           (λ P is. (made.leads 3 (omega arith, omega arith) P is).1)
 
-      newest_rows : LeadsOn to (state g old).now (state g mid).now → (n : ℕ) → IsOlder n → (maps : Maps) → Holds (schema_at n) (state g old).now maps → NamesSchema maps n
+      newest_rows : LeadsOn to (state g old).now (state g mid).now → (n : ℕ) → IsOlder n → (maps : Maps)
+          → Holds (schema_at n) (state g old).now maps → NamesSchema maps n
           → (now : Maps) × Holds (schema_at SCHEMA) (state g mid).now now × AreLedUp n maps now
-      newest_rows made n older = since_first (λ n. (maps : Maps) → Holds (schema_at n) (state g old).now maps → NamesSchema maps n → (now : Maps) × Holds (schema_at SCHEMA) (state g mid).now now × AreLedUp n maps now)
+      newest_rows made n older = since_first (λ n. (maps : Maps) → Holds (schema_at n) (state g old).now maps → NamesSchema maps n
+          → (now : Maps) × Holds (schema_at SCHEMA) (state g mid).now now × AreLedUp n maps now)
           (λ maps holds names. let next = (made.rows 1 (omega arith, omega arith) maps holds names).0 in absurd (omega (arith, next, most)))
           (λ maps holds names. (made.rows 2 (omega arith, omega arith) maps holds names).1)
           (λ maps holds names. (maps, subst (λ d. Holds (schema_at 3) d maps) (sym (made.same 3 newest_known maps holds names).1) holds, tt))
           n (of_older n older)
 
   -- It failed.
-  pub first_failed : {T : Type 0} {fault : Fault} (r : Result T Fault) → IsErr r × IsErrAnd r (λ e. e ≡ fault) → StepsOn g old mid (Err fault) → Migrates g old mid r
+  pub first_failed : {T : Type 0} {fault : Fault} (r : Result T Fault) → IsErr r × IsErrAnd r (λ e. e ≡ fault)
+      → StepsOn g old mid (Err fault) → Migrates g old mid r
   first_failed (Ok x) is step = absurd (let none = is.0 in cc)
   first_failed {T} {fault} (Err e) is step = record {
     clean = λ clean. omega (arith, step.survives.clean, clean);
@@ -350,7 +377,8 @@ module _ {S : Type 0} (g : Ghosts S) (settled : Settles g) {old mid : Held S} wh
         let same = step.undone clean is_open n there in
         inl (record {
           now = same.0;
-          left = λ trees may. let it = leaves_committed g settled mid (λ db. db ≡ (state g old).now) is_open same.1 trees may in inr (it.2 ∙ ap (λ (db : Database). db.trees) it.1);
+          left = λ trees may. let it = leaves_committed g settled mid (λ db. db ≡ (state g old).now) is_open same.1 trees may in
+              inr (it.2 ∙ ap (λ (db : Database). db.trees) it.1);
         });
     stop = λ clean n known P keeps of legal trees may. elim (step.survives.crash clean trees may) [
       | inl before ↦ let it = keeps.left trees before in (it.0, as_it_was it.0 n known P it.1, it.2)
@@ -367,19 +395,27 @@ module _ {S : Type 0} (g : Ghosts S) (settled : Settles g) {old mid : Held S} wh
         step.sound clean (ap failed same) n known P library;
   }
     where
-      at_first : (n : ℕ) → IsKnown n → (P : Picture) → IsLibrary n (state g old).now P → KeepsPictureAt n (state g mid) P → (steps : ℕ) × IsNotLedUp n steps × KeepsPictureAt (n + steps) (state g mid) (led_by steps n P)
-      at_first = since_first (λ n. (P : Picture) → IsLibrary n (state g old).now P → KeepsPictureAt n (state g mid) P → (steps : ℕ) × IsNotLedUp n steps × KeepsPictureAt (n + steps) (state g mid) (led_by steps n P))
-          (λ P is keeps. (0, (omega arith, λ older. omega arith), keeps)) (λ P is keeps. (0, (omega arith, λ older. omega arith), keeps)) (λ P is keeps. (0, (omega arith, λ older. older.1), keeps))
+      at_first : (n : ℕ) → IsKnown n → (P : Picture) → IsLibrary n (state g old).now P → KeepsPictureAt n (state g mid) P → (steps : ℕ)
+          × IsNotLedUp n steps × KeepsPictureAt (n + steps) (state g mid) (led_by steps n P)
+      at_first = since_first (λ n. (P : Picture) → IsLibrary n (state g old).now P → KeepsPictureAt n (state g mid) P → (steps : ℕ)
+          × IsNotLedUp n steps × KeepsPictureAt (n + steps) (state g mid) (led_by steps n P))
+          (λ P is keeps. (0, (omega arith, λ older. omega arith), keeps)) (λ P is keeps. (0, (omega arith, λ older. omega arith), keeps))
+          (λ P is keeps. (0, (omega arith, λ older. older.1), keeps))
 
 module _ {S : Type 0} (g : Ghosts S) (settled : Settles g) {old mid new : Held S} (to : ℕ) (less : to < SCHEMA) (first : StepsOn g old mid (Ok to)) where
   -- What two steps leave after a stop.
-  both_stopped : {r : Result ℕ Fault} → StepsOn g mid new r → HasCleanDisk (state g new) → (n : ℕ) → IsKnown n → (P : Picture) → KeepsPictureAt n (state g old) P → IsOfSchema n P → InLimits P → Leaves (state g new) (IsAtSomeSchema n P)
+  both_stopped : {r : Result ℕ Fault} → StepsOn g mid new r → HasCleanDisk (state g new) → (n : ℕ) → IsKnown n → (P : Picture)
+      → KeepsPictureAt n (state g old) P → IsOfSchema n P → InLimits P → Leaves (state g new) (IsAtSomeSchema n P)
   both_stopped second clean n known P keeps of legal trees may = elim (second.survives.crash clean trees may) [
     | inr brought ↦
         let is : IsLibrary n (state g old).now P = (keeps.now, of, legal) in
         let led = (first.done early n (library_there n known (state g old).now P is)).made in
-        let it = from_first to (state g old).now (state g mid).now led less n known P is in
-        (brought.0, subst (λ k. IsLibrary 2 (state g mid).now (led_on k P) → IsAtSomeSchema k P brought.0) (sym it.0) (λ here. (2, (omega arith, (brought.1.1.leads 2 (omega arith, omega arith) (led_on 1 P) here).1))) it.1, brought.2)
+        let it = from_first to (state g old).now (state g mid).now led less n known P is in (
+          brought.0,
+          subst (λ k. IsLibrary 2 (state g mid).now (led_on k P) → IsAtSomeSchema k P brought.0) (sym it.0)
+              (λ here. (2, (omega arith, (brought.1.1.leads 2 (omega arith, omega arith) (led_on 1 P) here).1))) it.1,
+          brought.2,
+        )
     | inl between ↦ elim (first.survives.crash early trees between) [
       | inl before ↦ let it = keeps.left trees before in (it.0, as_it_was it.0 n known P it.1, it.2)
       | inr brought ↦ (brought.0, brought_one (state g old).now brought.0 brought.1 n known P (keeps.now, of, legal), brought.2)
@@ -398,7 +434,8 @@ module _ {S : Type 0} (g : Ghosts S) (settled : Settles g) {old mid new : Held S
         let it = from_first to (state g old).now (state g mid).now (first.done early n (library_there n known (state g old).now P is)).made less n known P is in
         let done = second.done clean 2 (library_there 2 (omega arith, omega arith) (state g mid).now (led_on n P) it.1) in
         open_keeps g settled SCHEMA (state g new).now new (led_by (SCHEMA - n) n P) done.is_open refl done.committed
-        (subst (λ k. IsLibrary 2 (state g mid).now (led_on k P) → HasPictureAt SCHEMA (state g new).now (led_by (SCHEMA - k) k P)) (sym it.0) (λ here. (done.made.leads 2 (omega arith, omega arith) (led_on 1 P) here).1) it.1);
+        (subst (λ k. IsLibrary 2 (state g mid).now (led_on k P) → HasPictureAt SCHEMA (state g new).now (led_by (SCHEMA - k) k P))
+        (sym it.0) (λ here. (done.made.leads 2 (omega arith, omega arith) (led_on 1 P) here).1) it.1);
     legal = λ clean n there.
         let early : HasCleanDisk (state g mid) = omega (arith, second.survives.clean, clean) in
         let made = (first.done early n there).made in
@@ -417,9 +454,11 @@ module _ {S : Type 0} (g : Ghosts S) (settled : Settles g) {old mid new : Held S
     sound = λ clean told n known P is. (let never : ⊥ = cc in never);
   }
     where
-      both_rows : LeadsOn to (state g old).now (state g mid).now → LeadsOn last (state g mid).now (state g new).now → (n : ℕ) → IsOlder n → (maps : Maps) → Holds (schema_at n) (state g old).now maps → NamesSchema maps n
+      both_rows : LeadsOn to (state g old).now (state g mid).now → LeadsOn last (state g mid).now (state g new).now → (n : ℕ) → IsOlder n
+          → (maps : Maps) → Holds (schema_at n) (state g old).now maps → NamesSchema maps n
           → (now : Maps) × Holds (schema_at SCHEMA) (state g new).now now × AreLedUp n maps now
-      both_rows made next n older = since_first (λ n. (maps : Maps) → Holds (schema_at n) (state g old).now maps → NamesSchema maps n → (now : Maps) × Holds (schema_at SCHEMA) (state g new).now now × AreLedUp n maps now)
+      both_rows made next n older = since_first (λ n. (maps : Maps) → Holds (schema_at n) (state g old).now maps → NamesSchema maps n
+          → (now : Maps) × Holds (schema_at SCHEMA) (state g new).now now × AreLedUp n maps now)
           (λ maps holds names.
           let one = (made.rows 1 (omega arith, omega arith) maps holds names).1 in
           let two = (next.rows 2 (omega arith, omega arith) one.0 one.1 one.2.named).1 in
@@ -429,7 +468,8 @@ module _ {S : Type 0} (g : Ghosts S) (settled : Settles g) {old mid new : Held S
           n (of_older n older)
 
   -- The second failed.
-  pub second_failed : {T : Type 0} {fault : Fault} (r : Result T Fault) → IsErr r × IsErrAnd r (λ e. e ≡ fault) → StepsOn g mid new (Err fault) → Migrates g old new r
+  pub second_failed : {T : Type 0} {fault : Fault} (r : Result T Fault) → IsErr r × IsErrAnd r (λ e. e ≡ fault)
+      → StepsOn g mid new (Err fault) → Migrates g old new r
   second_failed (Ok x) is second = absurd (let none = is.0 in cc)
   second_failed {T} {fault} (Err e) is second = record {
     clean = λ clean. omega (arith, first.survives.clean, second.survives.clean, clean);
@@ -437,9 +477,11 @@ module _ {S : Type 0} (g : Ghosts S) (settled : Settles g) {old mid new : Held S
     legal = λ clean n there. tt;
     undone = λ clean is_open n known P library.
         let early : HasCleanDisk (state g mid) = omega (arith, second.survives.clean, clean) in
-        let it = from_first to (state g old).now (state g mid).now (first.done early n (library_there n known (state g old).now P library)).made less n known P library in
+        let it = from_first to (state g old).now (state g mid).now
+        (first.done early n (library_there n known (state g old).now P library)).made less n known P library in
         let same = second.undone clean is_open 2 (library_there 2 (omega arith, omega arith) (state g mid).now (led_on n P) it.1) in
-        subst (λ k. IsLibrary 2 (state g mid).now (led_on k P) → (steps : ℕ) × IsNotLedUp k steps × KeepsPictureAt (k + steps) (state g new) (led_by steps k P)) (sym it.0)
+        subst (λ k. IsLibrary 2 (state g mid).now (led_on k P) → (steps : ℕ) × IsNotLedUp k steps
+        × KeepsPictureAt (k + steps) (state g new) (led_by steps k P)) (sym it.0)
         (λ here. (1, (omega arith, λ older. omega arith), open_keeps g settled 2 (state g mid).now new (led_on 1 P) is_open same.0 same.1 here.0)) it.1;
     nothing = λ clean is_open n there.
         let early : HasCleanDisk (state g mid) = omega (arith, second.survives.clean, clean) in
@@ -452,7 +494,8 @@ module _ {S : Type 0} (g : Ghosts S) (settled : Settles g) {old mid new : Held S
         absurd (not_damaged to (state g old).now (state g mid).now (first.done early cannot.at cannot.there).made less cannot);
     sound = λ clean told n known P library.
         let early : HasCleanDisk (state g mid) = omega (arith, second.survives.clean, clean) in
-        let it = from_first to (state g old).now (state g mid).now (first.done early n (library_there n known (state g old).now P library)).made less n known P library in
+        let it = from_first to (state g old).now (state g mid).now
+        (first.done early n (library_there n known (state g old).now P library)).made less n known P library in
         let named : e ≡ Stored = cc in
         let same : fault ≡ Stored = sym is.1 ∙ named in
         let failed : Fault → Result ℕ Fault = λ f. Err f in

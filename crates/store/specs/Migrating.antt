@@ -1,5 +1,6 @@
 -- How a library of an older schema is led to the newest one.
-use Rattle.std.specs.Prelude.{◌≡◌, ◌⊎◌, ◌<◌, ◌≤◌, ◌+◌, ◌-◌, ◌^◌, ◌==◌, ◌&&◌, ℕ, zero, suc, Bool, true, false, List, [], ◌∷◌, Option, Some, None, option_map, Err, Result, IfOk, OnOk, OnErr, IsTrue}
+use Rattle.std.specs.Prelude.{◌≡◌, ◌⊎◌, ◌<◌, ◌≤◌, ◌+◌, ◌-◌, ◌^◌, ◌==◌, ℕ, zero, suc, Bool, true, false, List, [], ◌∷◌, Option, Some}
+use Rattle.std.specs.Prelude.{None, option_map, Err, Result, IfOk, OnOk, OnErr, IsTrue}
 use Rattle.sqlite.specs.Effect.{Database}
 use Rattle.sqlite.specs.Held.{Held, state}
 use Rattle.sqlite.specs.State.{State, HasCleanDisk, KeepsCommit, Survives}
@@ -14,7 +15,7 @@ use Rattle.terms.specs.declared.fault.Fault.{Fault}
 use Rattle.terms.specs.declared.fault.Fault.TheVariants.{Stored}
 use Rattle.terms.specs.declared.limits.TheConstants.{SCHEMA}
 use Rattle.circ_tables.specs.Cells.{meta_cells}
-use Rattle.circ_tables.specs.Encoding.{HasPicture, HasPictureAt, AreEncoded}
+use Rattle.circ_tables.specs.Encoding.{HasPictureAt, AreEncoded}
 use Rattle.circ_tables.specs.Holds1.{holds1}
 use Rattle.circ_tables.specs.Loans1.{loans1}
 use Rattle.circ_tables.specs.Puts.{ChangesRows}
@@ -30,7 +31,8 @@ use Rattle.store.specs.Stops.{Leaves, KeepsPicture, KeepsPictureAt}
 
 -- ---- rows that are carried over
 
--- From a table to that of the next schema: the key of a row in each and what tells two keys apart, what a row becomes, and the picture with these rows in the two tables.
+-- From a table to that of the next schema: the key of a row in each and what tells two keys apart, what a row becomes, and the picture with
+-- these rows in the two tables.
 pub record Route (K R N : Type 0) : Type 0 where
   pub key_of : R → K
   pub new_key : N → K
@@ -51,8 +53,10 @@ pub record IsRoute {K R N : Type 0} (old : Table K R) (new : Table K N) (route :
   pub met : (j k : K) → route.same j k ≡ true → j ≡ k
   pub same : (P : Picture) → route.with_both P (old.rows P) (new.rows P) ≡ P
   pub old_rows : (P : Picture) (f : K → Option R) (g : K → Option N) → old.rows (route.with_both P f g) ≡ f
-  pub taken : (P : Picture) (f : K → Option R) (g : K → Option N) (k : K) → old.set (route.with_both P f g) k None ≡ route.with_both P (put_by route.same f k None) g
-  pub put_in : (P : Picture) (f : K → Option R) (g : K → Option N) (k : K) (n : N) → new.set (route.with_both P f g) k (Some n) ≡ route.with_both P f (put_by route.same g k (Some n))
+  pub taken : (P : Picture) (f : K → Option R) (g : K → Option N) (k : K)
+      → old.set (route.with_both P f g) k None ≡ route.with_both P (put_by route.same f k None) g
+  pub put_in : (P : Picture) (f : K → Option R) (g : K → Option N) (k : K) (n : N)
+      → new.set (route.with_both P f g) k (Some n) ≡ route.with_both P f (put_by route.same g k (Some n))
   pub key_is : (r : R) → route.new_key (route.carried r) ≡ route.key_of r
   pub legal : (r : R) → old.IsLegal r → new.IsLegal (route.carried r)
   pub limits : (P : Picture) (f : K → Option R) (g : K → Option N) → InLimits P → ((k : K) (r : R) → f k ≡ Some r → (route.key_of r ≡ k) × old.IsLegal r)
@@ -68,7 +72,8 @@ module _ {K R N : Type 0} (old : Table K R) (new : Table K N) (route : Route K R
   move_all (r ∷ more) P = move_all more (move_one r P)
 
   abbrev pub move_row : R → Maps → Maps
-  move_row r maps = take_at (put_at maps new.place (new.key (route.new_key (route.carried r))) (new.cells (route.carried r))) old.place (old.key (route.key_of r))
+  move_row r maps = take_at (put_at maps new.place (new.key (route.new_key (route.carried r))) (new.cells (route.carried r))) old.place
+      (old.key (route.key_of r))
 
   abbrev pub move_rows : List R → Maps → Maps
   move_rows [] maps = maps
@@ -81,7 +86,9 @@ module _ {K R N : Type 0} (old : Table K R) (new : Table K N) (route : Route K R
   abbrev pub MovesPage : {S T : Type 0} → List R → Ghosts S → Transaction S → Transaction S → Result T Fault → Type 0
   MovesPage page = ChangesRows new.since (move_rows page) (Unit {0}) (move_all page)
 
--- A library is led in the transaction from the tables of one schema to those of another, or the same. Where the first are there nothing is committed, and after an answer the transaction goes on, over the others; what an answer says of their maps is so whatever they show. Where they show a picture that is ready for it they show the other afterwards, and then no fault of a stored row comes.
+-- A library is led in the transaction from the tables of one schema to those of another, or the same. Where the first are there nothing is
+-- committed, and after an answer the transaction goes on, over the others; what an answer says of their maps is so whatever they show.
+-- Where they show a picture that is ready for it they show the other afterwards, and then no fault of a stored row comes.
 pub record LeadsInside {S T : Type 0} (from to : ℕ) (AreLed : Maps → Maps → Type 0) (IsReady : Picture → Type 0) (change : Picture → Picture)
     (g : Ghosts S) (old new : Transaction S) (result : Result T Fault) : Type 0 where
   pub same_reference : new.conn.ghost_name ≡ old.conn.ghost_name
@@ -133,7 +140,8 @@ NamesInside n = LeadsInside n n (AreNamed n) (λ P. IsMeta P.meta) (λ P. record
 abbrev pub IsLibrary : ℕ → Database → Picture → Type 0
 IsLibrary n db P = HasPictureAt n db P × IsOfSchema n P × InLimits P
 
--- Of the rows of tables of an older schema that are carried over or changed by the step that leads it on none is damaged: of schema 1 the holds, of schema 2 the rules and the loans, and that of `meta`.
+-- Of the rows of tables of an older schema that are carried over or changed by the step that leads it on none is damaged: of schema 1 the
+-- holds, of schema 2 the rules and the loans, and that of `meta`.
 abbrev pub CanBeLed : ℕ → Maps → Type 0
 CanBeLed (suc zero) maps = AreEncoded meta_cells IsMeta (maps meta_place) × HasLegal holds1 maps
 CanBeLed (suc (suc zero)) maps = AreEncoded meta_cells IsMeta (maps meta_place) × HasLegal rules1 maps × HasLegal loans1 maps
@@ -145,7 +153,8 @@ IsLeft (suc zero) at = (at < holds_place) × ((at == meta_place) ≡ false) × (
 IsLeft (suc (suc zero)) at = (at < rules_place) × ((at == meta_place) ≡ false) × ((at == rules1_place) ≡ false) × ((at == loans1_place) ≡ false)
 IsLeft _ at = Unit {0}
 
--- The maps of an older schema were led to these: none of the rows that were carried over or changed was damaged, the next schema is named, and each other table stands as it stood.
+-- The maps of an older schema were led to these: none of the rows that were carried over or changed was damaged, the next schema is named,
+-- and each other table stands as it stood.
 pub record AreLedOn (n : ℕ) (maps now : Maps) : Type 0 where
   pub legal : CanBeLed n maps
   pub named : NamesSchema now (next_schema n)
@@ -166,7 +175,9 @@ pub record AreThere (n : ℕ) (db : Database) : Type 0 where
   pub holds : Holds (schema_at n) db maps
   pub named : (m : ℕ) → NamesSchema maps m → IsOlder m → m ≡ n
 
--- A library was led on by a step, to the schema that it names now: from tables that show one to those of the same in the next schema, and those of the newest stay. Whatever they show, no damaged row is passed over; where the newest is named the database is the same; and where none is named that is known nothing is led on.
+-- A library was led on by a step, to the schema that it names now: from tables that show one to those of the same in the next schema, and
+-- those of the newest stay. Whatever they show, no damaged row is passed over; where the newest is named the database is the same; and
+-- where none is named that is known nothing is led on.
 pub record LeadsOn (to : ℕ) (old new : Database) : Type 0 where
   pub leads : (n : ℕ) → IsKnown n → (P : Picture) → IsLibrary n old P → (to ≡ next_schema n) × HasPictureAt (next_schema n) new (led_on n P)
   pub rows : (n : ℕ) → IsOlder n → (maps : Maps) → Holds (schema_at n) old maps → NamesSchema maps n
@@ -191,7 +202,8 @@ pub record LeadsOnInside {S : Type 0} (g : Ghosts S) (old new : Transaction S) (
 abbrev pub Leads : Database → Database → Type 0
 Leads old new = (to : ℕ) × LeadsOn to old new
 
--- It was made in one transaction: where the tables are there, it is made and committed, or nothing is; and whatever a stop leaves is what was there or what the step brings.
+-- It was made in one transaction: where the tables are there, it is made and committed, or nothing is; and whatever a stop leaves is what
+-- was there or what the step brings.
 pub record StepsOn {S : Type 0} (g : Ghosts S) (old new : Held S) (result : Result ℕ Fault) : Type 0 where
   pub idle : new.in_transaction ≡ false
   pub done : HasCleanDisk (state g new) → (n : ℕ) → AreThere n (state g old).now → IfOk result (λ to. HasDone (LeadsOn to) (state g old) (state g new))
@@ -200,7 +212,8 @@ pub record StepsOn {S : Type 0} (g : Ghosts S) (old new : Held S) (result : Resu
   pub survives : Survives (state g old) (state g new) (Brings Leads (state g old).now)
   pub sound : HasCleanDisk (state g new) → result ≡ Err Stored → (n : ℕ) → IsKnown n → (P : Picture) → ¬ IsLibrary n (state g old).now P
 
--- The number of the schema was asked for, and nothing is changed: it is the one that the picture names. No fault of a stored row comes where it names one of 32 bits.
+-- The number of the schema was asked for, and nothing is changed: it is the one that the picture names. No fault of a stored row comes
+-- where it names one of 32 bits.
 pub record TellsSchema {S : Type 0} (g : Ghosts S) (old new : Held S) (result : Result ℕ Fault) : Type 0 where
   pub clean : HasCleanDisk (state g new) → HasCleanDisk (state g old)
   pub idle : new.in_transaction ≡ false
@@ -251,7 +264,9 @@ pub record IsLedInPart (old new : State) : Type 0 where
 abbrev pub IsNotLedUp : ℕ → ℕ → Type 0
 IsNotLedUp n steps = (n + steps ≤ SCHEMA) × (IsOlder n → n + steps < SCHEMA)
 
--- A library was led to the newest schema, step after step, or it was of that already and is as it was. After a fault it is of the schema that the last whole step led to, and the one that met the fault changed nothing, as long as the database is open; and a stop leaves what was there or what some of the steps lead it to. It is led on only where no row that is to be carried over is damaged.
+-- A library was led to the newest schema, step after step, or it was of that already and is as it was. After a fault it is of the schema
+-- that the last whole step led to, and the one that met the fault changed nothing, as long as the database is open; and a stop leaves what
+-- was there or what some of the steps lead it to. It is led on only where no row that is to be carried over is damaged.
 pub record Migrates {S T : Type 0} (g : Ghosts S) (old new : Held S) (result : Result T Fault) : Type 0 where
   pub clean : HasCleanDisk (state g new) → HasCleanDisk (state g old)
   pub led : HasCleanDisk (state g new) → OnOk result ((n : ℕ) → IsKnown n → (P : Picture) → IsLibrary n (state g old).now P

@@ -26,7 +26,8 @@ pub record Reads {A : Type 0} (old new : State) (result : Result A Fault) : Type
 abbrev pub IsReadable : Picture → Type 0
 IsReadable P = InLimits P × ClosesFewDays P
 
--- What a call of a store that only reads says: where the picture of the tables is as the call needs it, what was found is so in it; no fault of a stored row comes where all rows of the picture can be read.
+-- What a call of a store that only reads says: where the picture of the tables is as the call needs it, what was found is so in it; no
+-- fault of a stored row comes where all rows of the picture can be read.
 pub record Looked {S A : Type 0} (Needs : Picture → Type 0) (Is : Picture → A → Type 0) (Readable : Picture → Type 0)
     (g : Ghosts S) (old new : Held S) (result : Result A Fault) : Type 0 where
   pub reads : Reads (state g old) (state g new) result

@@ -27,7 +27,13 @@ pair_met j k same =
 
 -- The holds of schema 1 become those of schema 2.
 abbrev pub holds_route : Route ℕ HoldRow1 HoldRow
-holds_route = record { key_of = λ r. r.hold; new_key = λ r. r.hold; same = λ j k. j == k; carried = carried; with_both = λ P f g. record P { holds = g; holds1 = f } }
+holds_route = record {
+  key_of = λ r. r.hold;
+  new_key = λ r. r.hold;
+  same = λ j k. j == k;
+  carried = carried;
+  with_both = λ P f g. record P { holds = g; holds1 = f };
+}
 
 pub holds_carried : IsRoute holds1 holds holds_route
 holds_carried = record {
@@ -64,7 +70,13 @@ holds_carried = record {
 
 -- The loans of schema 2 become those of schema 3.
 abbrev pub loans_route : Route ℕ LoanRow1 LoanRow
-loans_route = record { key_of = λ r. r.loan; new_key = λ r. r.loan; same = λ j k. j == k; carried = carried_loan; with_both = λ P f g. record P { loans = g; loans1 = f } }
+loans_route = record {
+  key_of = λ r. r.loan;
+  new_key = λ r. r.loan;
+  same = λ j k. j == k;
+  carried = carried_loan;
+  with_both = λ P f g. record P { loans = g; loans1 = f };
+}
 
 pub loans_carried : IsRoute loans1 loans loans_route
 loans_carried = record {
@@ -101,7 +113,14 @@ loans_carried = record {
 
 -- So do the rules.
 abbrev pub rules_route : Route Pair RuleRow1 RuleRow
-rules_route = record { key_of = λ r. (r.kind, r.copy_kind); new_key = λ r. (r.kind, r.copy_kind); same = λ a b. (a.0 == b.0) && (a.1 == b.1); carried = carried_rule; with_both = λ P f g. record P { rules = λ k c. g (k, c); rules1 = λ k c. f (k, c) } }
+rules_route = record {
+  key_of = λ r. (r.kind, r.copy_kind);
+  new_key = λ r. (r.kind, r.copy_kind);
+  same = λ a b. (a.0 == b.0)
+      && (a.1 == b.1);
+  carried = carried_rule;
+  with_both = λ P f g. record P { rules = λ k c. g (k, c); rules1 = λ k c. f (k, c) };
+}
 
 pub rules_carried : IsRoute rules1 rules rules_route
 rules_carried = record {

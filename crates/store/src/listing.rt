@@ -13,6 +13,7 @@ ghost use Rattle.circ_tables.specs.Kept.{kept};
 ghost use Rattle.circ_tables.specs.Kinds.{kinds};
 ghost use Rattle.circ_tables.specs.Rules.{rules};
 
+use crate::idle::holds_committed;
 use crate::pages::{EachRow, NoRow, OpenLoans, Sift, pass_over_kept, read_pages};
 use crate::store::Store;
 use circ_tables::{all_closed_days, all_kept, all_rules, every_row, get_meta};
@@ -52,8 +53,8 @@ struct Dealings {
 
 /// All rows of `branches`. 90, 91, 93.
 fn branches<S: Alter>(conn: &mut Connection<S>, alloc: Global) -> Result<Rows<BranchRow>, Fault>
-    ensures { Reviews (λ P rows. AreRows P.branches (λ r. r.branch) AllPass rows) (HasLegal branches)
-        S.Store conn.old conn.new result }
+    ensures { Reviews (λ P rows. AreRows P.branches (λ r. r.branch) AllPass rows)
+        (HasLegal branches) S.Store conn.old conn.new result }
 {
     let found = every_row::<BranchRow, S>(conn, alloc, alloc)?;
     Rows::new(found)
@@ -208,8 +209,7 @@ impl<S: Alter> Store<S> {
         ensures looked { Looked InLimits AreTables IsReadable S.Store self.old self.new result }
         ensures legal { AnswersLegal S.Store self.old self.new result }
     {
-        let is_idle = self.conn.is_autocommit();
-        prove!(is_idle);
+        holds_committed(&self.conn);
         all_tables(&mut self.conn, alloc)
     }
 
@@ -223,8 +223,7 @@ impl<S: Alter> Store<S> {
             S.Store self.old self.new result }
         ensures legal { AnswersLegal S.Store self.old self.new result }
     {
-        let is_idle = self.conn.is_autocommit();
-        prove!(is_idle);
+        holds_committed(&self.conn);
         audit_tables(&mut self.conn, alloc)
     }
 
@@ -233,8 +232,7 @@ impl<S: Alter> Store<S> {
         ensures { Looked InLimits (λ P rows. AreRows P.patrons (λ r. r.patron) AllPass rows)
             IsReadable S.Store self.old self.new result }
     {
-        let is_idle = self.conn.is_autocommit();
-        prove!(is_idle);
+        holds_committed(&self.conn);
         read_pages::<PatronRow, EachRow, S>(&mut self.conn, alloc, alloc)
     }
 }

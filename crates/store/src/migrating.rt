@@ -10,6 +10,7 @@ ghost use Rattle.store.specs.Routes.{holds_route, holds_carried, loans_route, lo
 ghost use Rattle.store.specs.Routes.{rules_route, rules_carried};
 ghost use Rattle.store.specs.Schemas.{IsKnown};
 
+use crate::idle::holds_committed;
 use crate::pages::last_of;
 use circ_tables::{
     Numbered, Table, get_meta_inside, make_second, make_third, next_rows_inside, put_meta, put_row,
@@ -183,8 +184,8 @@ fn lead_to_2<S: Alter>(tx: &mut Transaction<'_, S>, alloc: Global) -> Result<u32
     name_schema(tx, 2)
 }
 
-/// Leads the tables of schema 2 to those of schema 3, which has rules and loans with grace days. 90,
-/// 91, 93.
+/// Leads the tables of schema 2 to those of schema 3, which has rules and loans with grace days.
+/// 90, 91, 93.
 fn lead_to_3<S: Alter>(tx: &mut Transaction<'_, S>, alloc: Global) -> Result<u32, Fault>
     ensures leads { LeadsFrom 2 S.Store tx.old tx.new result }
     ensures told { IfOk result (λ told. told ≡ 3) }
@@ -215,8 +216,7 @@ pub(crate) fn step<S: Alter>(conn: &mut Connection<S>, alloc: Global) -> Result<
     requires { conn.old.in_transaction ≡ false }
     ensures { StepsOn S.Store conn.old conn.new result }
 {
-    let is_idle = conn.is_autocommit();
-    prove!(is_idle);
+    holds_committed(conn);
     let mut tx = conn.transaction();
     let schema = lead_on(&mut tx, alloc)?;
     match tx.commit() {
@@ -231,7 +231,6 @@ pub(crate) fn schema<S: Alter>(conn: &mut Connection<S>) -> Result<u32, Fault>
     requires { conn.old.in_transaction ≡ false }
     ensures { TellsSchema S.Store conn.old conn.new result }
 {
-    let is_idle = conn.is_autocommit();
-    prove!(is_idle);
+    holds_committed(conn);
     schema_of(conn)
 }

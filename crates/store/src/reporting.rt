@@ -7,6 +7,7 @@ ghost use Rattle.store.specs.Lists.{AreLoansBy, AreHoldsBy};
 ghost use Rattle.store.specs.Pages.{AreReadyAfter, AreOverdueAfter, AreLinesAfter};
 ghost use Rattle.store.specs.Reads.{Looked, IsReadable};
 
+use crate::idle::holds_committed;
 use crate::store::Store;
 use crate::viewing::calendar_of;
 use calendar::{Calendar, Day};
@@ -27,8 +28,7 @@ impl<S: Alter> Store<S> {
         ensures { Looked InLimits (λ P rows. AreLoansBy P patron rows.items) InLimits
             S.Store self.old self.new result }
     {
-        let is_idle = self.conn.is_autocommit();
-        prove!(is_idle);
+        holds_committed(&self.conn);
         open_loans_by(&mut self.conn, alloc, patron)
     }
 
@@ -37,8 +37,7 @@ impl<S: Alter> Store<S> {
         ensures { Looked InLimits (λ P rows. AreHoldsBy P patron rows.items) InLimits
             S.Store self.old self.new result }
     {
-        let is_idle = self.conn.is_autocommit();
-        prove!(is_idle);
+        holds_committed(&self.conn);
         active_holds_by(&mut self.conn, alloc, patron)
     }
 
@@ -53,8 +52,7 @@ impl<S: Alter> Store<S> {
         ensures { Looked InLimits (λ P rows. AreReadyAfter P branch after rows.items) InLimits
             S.Store self.old self.new result }
     {
-        let is_idle = self.conn.is_autocommit();
-        prove!(is_idle);
+        holds_committed(&self.conn);
         ready_holds_after(&mut self.conn, alloc, branch, after)
     }
 
@@ -70,8 +68,7 @@ impl<S: Alter> Store<S> {
         ensures { Looked InLimits (λ P rows. AreOverdueAfter P branch day after rows.items) InLimits
             S.Store self.old self.new result }
     {
-        let is_idle = self.conn.is_autocommit();
-        prove!(is_idle);
+        holds_committed(&self.conn);
         overdue_loans_after(&mut self.conn, alloc, branch, day, after)
     }
 
@@ -81,8 +78,7 @@ impl<S: Alter> Store<S> {
         ensures { Looked InLimits (λ P rows. AreLinesAfter P day after rows.items) InLimits
             S.Store self.old self.new result }
     {
-        let is_idle = self.conn.is_autocommit();
-        prove!(is_idle);
+        holds_committed(&self.conn);
         lines_after(&mut self.conn, alloc, day, after)
     }
 
@@ -91,8 +87,7 @@ impl<S: Alter> Store<S> {
         ensures { Looked InLimits (λ P row. row ≡ P.meta) InLimits
             S.Store self.old self.new result }
     {
-        let is_idle = self.conn.is_autocommit();
-        prove!(is_idle);
+        holds_committed(&self.conn);
         get_meta(&mut self.conn)
     }
 
@@ -101,8 +96,7 @@ impl<S: Alter> Store<S> {
         ensures { Looked InLimits (λ P row. row ≡ P.branches branch) InLimits
             S.Store self.old self.new result }
     {
-        let is_idle = self.conn.is_autocommit();
-        prove!(is_idle);
+        holds_committed(&self.conn);
         get_row::<BranchRow, S>(&mut self.conn, alloc, branch)
     }
 
@@ -111,8 +105,7 @@ impl<S: Alter> Store<S> {
         ensures { Looked InLimits (λ P row. row ≡ P.titles title) InLimits
             S.Store self.old self.new result }
     {
-        let is_idle = self.conn.is_autocommit();
-        prove!(is_idle);
+        holds_committed(&self.conn);
         get_row::<TitleRow, S>(&mut self.conn, alloc, title)
     }
 
@@ -121,8 +114,7 @@ impl<S: Alter> Store<S> {
         ensures { Looked InLimits (λ P row. row ≡ P.copies copy) InLimits
             S.Store self.old self.new result }
     {
-        let is_idle = self.conn.is_autocommit();
-        prove!(is_idle);
+        holds_committed(&self.conn);
         get_row::<CopyRow, S>(&mut self.conn, (), copy)
     }
 
@@ -131,8 +123,7 @@ impl<S: Alter> Store<S> {
         ensures { Looked InLimits (λ P calendar. IsCalendarOf P branch calendar) IsReadable
             S.Store self.old self.new result }
     {
-        let is_idle = self.conn.is_autocommit();
-        prove!(is_idle);
+        holds_committed(&self.conn);
         calendar_of(&mut self.conn, alloc, branch)
     }
 }

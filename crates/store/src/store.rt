@@ -14,6 +14,7 @@ ghost use Rattle.circ_tables.specs.Patrons.{patrons};
 ghost use Rattle.circ_tables.specs.Loans.{loans};
 ghost use Rattle.circ_tables.specs.Holds.{holds};
 
+use crate::idle::holds_committed;
 use crate::{changing, migrating, viewing};
 use circ_core::{Changes, View};
 use circ_tables::{KeptReply, get_kept, get_row, schema_of, second_begin};
@@ -97,8 +98,7 @@ impl<S: Alter> Store<S> {
             S.Store self.old self.new result }
         ensures only { IfOk result (HasOnly command.now) }
     {
-        let is_idle = self.conn.is_autocommit();
-        prove!(is_idle);
+        holds_committed(&self.conn);
         viewing::view_for(&mut self.conn, alloc, command)
     }
 
@@ -126,8 +126,7 @@ impl<S: Alter> Store<S> {
     pub fn migrate(&mut self, alloc: Global) -> Result<(), Fault>
         ensures { Migrates S.Store self.old self.new result }
     {
-        let is_idle = self.conn.is_autocommit();
-        prove!(is_idle);
+        holds_committed(&self.conn);
         if migrating::step(&mut self.conn, alloc)? < SCHEMA {
             migrating::step(&mut self.conn, alloc)?;
         }
@@ -140,8 +139,7 @@ impl<S: Alter> Store<S> {
             (λ P kept. kept ≡ option_map reply_of (P.kept owner key.now))
             (λ P. InLimits P × IsOwner owner) S.Store self.old self.new result }
     {
-        let is_idle = self.conn.is_autocommit();
-        prove!(is_idle);
+        holds_committed(&self.conn);
         get_kept(&mut self.conn, owner, key)
     }
 
@@ -149,8 +147,7 @@ impl<S: Alter> Store<S> {
     pub fn patron(&mut self, alloc: Global, patron: PatronId) -> Result<Option<PatronRow>, Fault>
         ensures { Finds patrons patron S.Store self.old self.new result }
     {
-        let is_idle = self.conn.is_autocommit();
-        prove!(is_idle);
+        holds_committed(&self.conn);
         get_row::<PatronRow, S>(&mut self.conn, alloc, patron)
     }
 
@@ -158,8 +155,7 @@ impl<S: Alter> Store<S> {
     pub fn loan(&mut self, loan: LoanId) -> Result<Option<LoanRow>, Fault>
         ensures { Finds loans loan S.Store self.old self.new result }
     {
-        let is_idle = self.conn.is_autocommit();
-        prove!(is_idle);
+        holds_committed(&self.conn);
         get_row::<LoanRow, S>(&mut self.conn, (), loan)
     }
 
@@ -167,8 +163,7 @@ impl<S: Alter> Store<S> {
     pub fn hold(&mut self, hold: HoldId) -> Result<Option<HoldRow>, Fault>
         ensures { Finds holds hold S.Store self.old self.new result }
     {
-        let is_idle = self.conn.is_autocommit();
-        prove!(is_idle);
+        holds_committed(&self.conn);
         get_row::<HoldRow, S>(&mut self.conn, (), hold)
     }
 

@@ -295,7 +295,7 @@ fn copy_view<S: Alter>(conn: &mut Connection<S>, number: CopyId) -> Result<View,
 }
 
 /// What the end of a loan asks of it.
-struct Lender {
+struct LoanEnd {
     lender: Option<Calendar>,
     patron: Option<PatronRow>,
 }
@@ -305,13 +305,13 @@ fn lender_of<S: Alter>(
     conn: &mut Connection<S>,
     alloc: Global,
     loan: &Option<LoanRow>,
-) -> Result<Lender, Fault>
+) -> Result<LoanEnd, Fault>
     ensures { Views (λ P it. IsLenderOf P loan.now it.lender
         × (it.patron ≡ borrower_in P loan.now)) S.Store conn.old conn.new result }
 {
     let lender = lender_calendar(conn, alloc, loan)?;
     let patron = borrower_of(conn, alloc, loan)?;
-    Ok(Lender { lender, patron })
+    Ok(LoanEnd { lender, patron })
 }
 
 fn patron_view<S: Alter>(
@@ -579,7 +579,7 @@ fn check_in_view<S: Alter>(
     let calendar = calendar_from(conn, alloc, number, &branch)?;
     let at = copy_view(conn, copy)?;
     let end = lender_of(conn, alloc, &at.loan)?;
-    let Lender { lender, patron } = end;
+    let LoanEnd { lender, patron } = end;
     let coming = coming_hold(conn, &at.transit)?;
     let first = first_for(conn, &at.copy, meta.today)?;
     Ok(View {
@@ -630,7 +630,7 @@ fn missing_view<S: Alter>(
     let meta = get_meta(conn)?;
     let at = copy_view(conn, copy)?;
     let end = lender_of(conn, alloc, &at.loan)?;
-    let Lender { lender, patron } = end;
+    let LoanEnd { lender, patron } = end;
     Ok(View {
         meta,
         lender,

@@ -1,5 +1,6 @@
-//! The calls under test, with no clauses, so that a test with many of them is proved fast. Each is generic over the database's
-//! store, and gives numbers in place of rows, so that what it is proved from stays small.
+//! The calls under test, with no clauses, so that a test with many of them is proved fast. Each is
+//! generic over the database's store, and gives numbers in place of rows, so that what it is proved
+//! from stays small.
 
 use calendar::Day;
 use circ_tables as tables;
@@ -87,14 +88,6 @@ pub fn get_line<S: Alter>(conn: &mut Connection<S>, line: u32) -> Result<Option<
         Some(row) => Ok(Some(row.line.number())),
         None => Ok(None),
     }
-}
-
-pub fn has_closed_day<S: Alter>(
-    conn: &mut Connection<S>,
-    branch: BranchId,
-    day: Day,
-) -> Result<bool, Fault> {
-    tables::has_closed_day(conn, branch, day)
 }
 
 pub fn open_loan_of<S: Alter>(conn: &mut Connection<S>, copy: u32) -> Result<Option<u32>, Fault> {

@@ -1,6 +1,7 @@
-//! Selections and lists over a small library, by answers worked out by hand, and rows that were damaged past the calls. All other calls
-//! are those that the program makes, and are tested with it. What holds the connection has few ends, since each would let it go: the
-//! work is done by functions that borrow it.
+//! Selections and lists over a small library, by answers worked out by hand, and rows that were
+//! damaged past the calls. All other calls are those that the program makes, and are tested with
+//! it. What holds the connection has few ends, since each would let it go: the work is done by
+//! functions that borrow it.
 
 use crate::calls::*;
 use calendar::Day;
@@ -13,8 +14,8 @@ use terms::{
     PatronId, PatronRow, TitleRow, TransitRow,
 };
 
-/// Rows of the tables that are asked, the greatest key first. Of the loans of copy 10 one is over, and two are open; of title 100's line
-/// the first hold's copy travels.
+/// Rows of the tables that are asked, the greatest key first. Of the loans of copy 10 one is over,
+/// and two are open; of title 100's line the first hold's copy travels.
 const ROWS: &str = "\
 INSERT INTO closed_days VALUES (3, 20795), (2, 20800), (1, 20810), (1, 20801), (1, 20795);\
 INSERT INTO copies VALUES (15, 100, 4, 1, 2500, 0), (14, 101, 4, 1, 2500, 0), (13, 102, 4, 1, 2500, 0), (12, 101, 4, 1, 2500, 0), (11, 100, 4, 1, 2500, 0), (10, 100, 4, 1, 2500, 2);\
@@ -255,13 +256,12 @@ fn finds_days<S: Alter>(
         closed_days_of(conn, alloc, 1)?,
         &[20_795, 20_801, 20_810],
     );
-    assert!(rt; has_closed_day(conn, BranchId::new(2), day(20_800)?)?);
-    assert!(rt; !has_closed_day(conn, BranchId::new(2), day(20_801)?)?);
+    lists(rt, closed_days_of(conn, alloc, 2)?, &[20_800]);
     Ok(())
 }
 
-/// Lines of titles. Of 103, hold 23 has no first day, but a copy travels for it, and 24 has none either; of 104 each hold has one; that
-/// of 105 is no longer waiting.
+/// Lines of titles. Of 103, hold 23 has no first day, but a copy travels for it, and 24 has none
+/// either; of 104 each hold has one; that of 105 is no longer waiting.
 const LINES: &str = "\
 INSERT INTO holds2 VALUES (25, 4, 103, 1, 0, NULL, NULL, 20790), (24, 4, 103, 1, 0, NULL, NULL, NULL), (23, 4, 103, 1, 0, NULL, NULL, NULL), (22, 4, 103, 1, 0, NULL, NULL, 20795), (21, 4, 103, 1, 0, NULL, NULL, 20800);\
 INSERT INTO holds2 VALUES (34, 4, 104, 1, 0, NULL, NULL, 20796), (33, 4, 104, 1, 0, NULL, NULL, 20795), (32, 4, 104, 1, 0, NULL, NULL, 20795), (31, 4, 104, 1, 0, NULL, NULL, 20800);\

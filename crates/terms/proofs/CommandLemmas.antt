@@ -1,5 +1,6 @@
 -- What the words after a name have to be, by the kinds that the table has under it.
-use Rattle.std.proofs.Common.{◌≡◌, ◌∙◌, ◌<◌, ◌≤◌, ◌+◌, ◌^◌, ℕ, Bool, true, refl, sym, ap, subst, List, [], ◌∷◌, length, map, get_or, Option, Some, None, zero, suc, drop, drop-cons, drop_of_length-le, arith}
+use Rattle.std.proofs.Common.{◌≡◌, ◌∙◌, ◌<◌, ◌≤◌, ◌+◌, ◌^◌, ℕ, Bool, true, refl, sym, ap, subst, List, [], ◌∷◌, length, map, get_or, Option}
+use Rattle.std.proofs.Common.{Some, None, zero, suc, drop, drop-cons, drop_of_length-le, arith}
 use Rattle.std.specs.Prelude.{slice_get}
 use Rattle.std.specs.Borrow.{Bor}
 use Rattle.std.specs.Fmt.{decimal}
@@ -58,7 +59,8 @@ have_kinds_under name others command h =
     subst (λ (ks : List PartKind). HaveKinds ks others) kinds
     (subst (λ (ws : List Text). HaveKinds (map kind_of (said command).1) ws) others_are (have_kinds (said command).1 h.0.0 h.0.1))
 
-kind_at : (kinds : List PartKind) (words : List (Bor Text)) (k : ℕ) (d : Bor Text) (wanted : PartKind) → HaveKinds kinds (texts words) → slice_get kinds k ≡ Some wanted
+kind_at : (kinds : List PartKind) (words : List (Bor Text)) (k : ℕ) (d : Bor Text) (wanted : PartKind) → HaveKinds kinds (texts words)
+    → slice_get kinds k ≡ Some wanted
     → HasKind wanted (get_or words k d).now
 kind_at [] words k d wanted have e = absurd (cc)
 kind_at (x ∷ kinds) [] k d wanted have e = absurd have
@@ -69,13 +71,19 @@ kind_at (x ∷ kinds) (word ∷ words) (suc k) d wanted have e = kind_at kinds w
 pub no_amount : (name : Text) (words : List (Bor Text)) (k : ℕ) (d : Bor Text) → slice_get (kinds_under name) k ≡ Some kind.Amount
     → IsNoNumber (get_or words k d).now → IsNoCommand name (texts words)
 no_amount name words k d e isnt =
-    record { none = λ command h. let p = kind_at (kinds_under name) words k d kind.Amount (have_kinds_under name (texts words) command h) e in isnt.none p.0 p.1 p.2 }
+    record {
+      none = λ command h. let p = kind_at (kinds_under name) words k d kind.Amount
+          (have_kinds_under name (texts words) command h) e in isnt.none p.0 p.1 p.2;
+    }
 
 -- a word that isn't the day that the name asks for at its place
 pub no_day : (name : Text) (words : List (Bor Text)) (k : ℕ) (d : Bor Text) → slice_get (kinds_under name) k ≡ Some kind.Day
     → IsNoDay (get_or words k d).now → IsNoCommand name (texts words)
 no_day name words k d e isnt =
-    record { none = λ command h. let p = kind_at (kinds_under name) words k d kind.Day (have_kinds_under name (texts words) command h) e in isnt.none p.0 p.1 p.2 }
+    record {
+      none = λ command h. let p = kind_at (kinds_under name) words k d kind.Day
+          (have_kinds_under name (texts words) command h) e in isnt.none p.0 p.1 p.2;
+    }
 
 -- n texts from the place i on
 abbrev pub listing : ℕ → ℕ → List (Bor Text) → Bor Text → List Text

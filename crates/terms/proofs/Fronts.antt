@@ -1,5 +1,6 @@
 -- Bytes that go out one after another.
-use Rattle.std.proofs.Common.{◌≡◌, ℕ, suc, ◌<◌, List, [], ◌++◌, Bor, Option, None, Some, append_assoc, append-nil, sym, ◌∙◌, ap, subst, length, take, drop, get_or, take-append-drop}
+use Rattle.std.proofs.Common.{◌≡◌, ℕ, suc, ◌<◌, List, [], ◌++◌, Bor, Option, None, Some, append_assoc, append-nil, sym, ◌∙◌, ap, subst}
+use Rattle.std.proofs.Common.{length, take, drop, get_or, take-append-drop}
 use Rattle.std.proofs.Math.Seq.{drop-cons}
 use Rattle.std.proofs.lemmas.Grind.{flat_map-append}
 use Rattle.std.proofs.KnownBytes.{Appends-trans}
@@ -60,11 +61,13 @@ failed-first (Ok x) a b xs ys p = tt
 failed-first (Err e) a b xs ys p = front-before a b xs ys p
 
 -- a write whose first part went out, by what became of the other part
-pub second-out : {T E : Type 0} (r : Result T E) (a b c : Option (List ℕ)) (xs ys : List ℕ) → Appends a b xs → OnOk r (Appends b c ys) → OnOk r (Appends a c (xs ++ ys))
+pub second-out : {T E : Type 0} (r : Result T E) (a b c : Option (List ℕ)) (xs ys : List ℕ) → Appends a b xs → OnOk r (Appends b c ys)
+    → OnOk r (Appends a c (xs ++ ys))
 second-out (Ok x) a b c xs ys p q = Appends-trans a b c xs ys p q
 second-out (Err e) a b c xs ys p q = tt
 
-pub second-failed : {T E : Type 0} (r : Result T E) (a b c : Option (List ℕ)) (xs ys : List ℕ) → Appends a b xs → OnErr r (AppendsFront b c ys) → OnErr r (AppendsFront a c (xs ++ ys))
+pub second-failed : {T E : Type 0} (r : Result T E) (a b c : Option (List ℕ)) (xs ys : List ℕ) → Appends a b xs
+    → OnErr r (AppendsFront b c ys) → OnErr r (AppendsFront a c (xs ++ ys))
 second-failed (Ok x) a b c xs ys p q = tt
 second-failed (Err e) a b c xs ys p q = front-after a b c xs ys p q
 

@@ -9,7 +9,8 @@ all-at P (r ∷ rows) zero j d less lt all = absurd (omega (arith, less))
 all-at P (r ∷ rows) (suc k) zero d less lt all = all.0
 all-at P (r ∷ rows) (suc k) (suc j) d less lt all = all-at P rows k j d (omega (arith, less)) (omega (arith, lt)) all.1
 
-all-more : {R : Type 0} (P : R → Type 0) (rows : List R) (k : ℕ) (d : R) → k < length rows → AllByRecursion P (take k rows) → P (get_or rows k d) → AllByRecursion P (take (suc k) rows)
+all-more : {R : Type 0} (P : R → Type 0) (rows : List R) (k : ℕ) (d : R) → k < length rows → AllByRecursion P (take k rows)
+    → P (get_or rows k d) → AllByRecursion P (take (suc k) rows)
 all-more P [] k d lt all is = absurd (omega (arith, lt))
 all-more P (r ∷ rows) zero d lt all is = (is, tt)
 all-more P (r ∷ rows) (suc k) d lt all is = (all.0, all-more P rows k d (omega (arith, lt)) all.1 is)
@@ -20,7 +21,8 @@ one-ordered Before [] = tt
 one-ordered Before (r ∷ rows) = (tt, tt)
 
 -- A row that the last one comes before.
-pub more-ordered : {R : Type 0} (Before : R → R → Type 0) → ((r s t : R) → Before r s → Before s t → Before r t) → (rows : List R) (n : ℕ) (d : R) → suc n < length rows
+pub more-ordered : {R : Type 0} (Before : R → R → Type 0) → ((r s t : R) → Before r s → Before s t → Before r t)
+    → (rows : List R) (n : ℕ) (d : R) → suc n < length rows
     → IsOrdered Before (take (suc n) rows) → Before (get_or rows n d) (get_or rows (suc n) d) → IsOrdered Before (take (suc (suc n)) rows)
 more-ordered Before on [] n d lt order less = absurd (omega (arith, lt))
 more-ordered Before on (r ∷ []) n d lt order less = absurd (omega (arith, lt))
@@ -37,7 +39,8 @@ all-get P (r ∷ rows) zero d lt all = all.0
 all-get P (r ∷ rows) (suc j) d lt all = all-get P rows j d (omega (arith, lt)) all.1
 
 -- Each row comes before each later one.
-pub ordered-at : {R : Type 0} (Before : R → R → Type 0) (rows : List R) (i j : ℕ) (d : R) → i < j → j < length rows → IsOrdered Before rows → Before (get_or rows i d) (get_or rows j d)
+pub ordered-at : {R : Type 0} (Before : R → R → Type 0) (rows : List R) (i j : ℕ) (d : R) → i < j → j < length rows → IsOrdered Before rows
+    → Before (get_or rows i d) (get_or rows j d)
 ordered-at Before [] i j d less lt order = absurd (omega (arith, lt))
 ordered-at Before (r ∷ rows) i zero d less lt order = absurd (omega (arith, less))
 ordered-at Before (r ∷ rows) zero (suc j) d less lt order = all-get (Before r) rows j d (omega (arith, lt)) order.0
@@ -48,13 +51,15 @@ all-as P Q to [] all = tt
 all-as P Q to (r ∷ rows) all = (to r all.0, all-as P Q to rows all.1)
 
 -- What is in one order is in another that follows from it.
-pub ordered-as : {R : Type 0} (Before After : R → R → Type 0) → ((r s : R) → Before r s → After r s) → (rows : List R) → IsOrdered Before rows → IsOrdered After rows
+pub ordered-as : {R : Type 0} (Before After : R → R → Type 0) → ((r s : R) → Before r s → After r s) → (rows : List R)
+    → IsOrdered Before rows → IsOrdered After rows
 ordered-as Before After to [] order = tt
 ordered-as Before After to (r ∷ rows) order = (all-as (Before r) (After r) (to r) rows order.0, ordered-as Before After to rows order.1)
 
 -- ---- neighbours, as they are read
 
-module _ {R : Type 0} (Before : R → R → Type 0) (rows : List R) (at : ℕ) (x y : R) (from : 1 ≤ at) (lt : at < length rows) (here : x ≡ get_or rows (at - 1) x) (next : y ≡ get_or rows at y) where
+module _ {R : Type 0} (Before : R → R → Type 0) (rows : List R) (at : ℕ) (x y : R) (from : 1 ≤ at) (lt : at < length rows)
+    (here : x ≡ get_or rows (at - 1) x) (next : y ≡ get_or rows at y) where
   get-same : (rows : List R) (k : ℕ) (d e : R) → k < length rows → get_or rows k d ≡ get_or rows k e
   get-same [] k d e lt = absurd (omega (arith, lt))
   get-same (r ∷ rows) zero d e lt = refl

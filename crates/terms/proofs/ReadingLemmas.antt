@@ -1,5 +1,6 @@
 -- What a reader takes off the front of a text, and the texts of the forms of replies.
-use Rattle.std.proofs.Common.{◌≡◌, ◌≢◌, ℕ, ◌<◌, ◌^◌, List, ◌∷◌, ◌++◌, Option, Some, None, IfSome, IfNone, IsSome, IsSomeAnd, Bor, length, get_or, drop, ap, sym, ◌∙◌, refl, arith}
+use Rattle.std.proofs.Common.{◌≡◌, ◌≢◌, ℕ, ◌<◌, ◌^◌, List, ◌∷◌, ◌++◌, Option, Some, None, IfSome, IfNone, IsSome, IsSomeAnd, Bor, length}
+use Rattle.std.proofs.Common.{get_or, drop, ap, sym, ◌∙◌, refl, arith}
 use Rattle.std.specs.Prelude.{codes}
 use Rattle.std.specs.Option.{MatchOption}
 use Rattle.std.specs.Fmt.{decimal}
@@ -20,7 +21,8 @@ use Rattle.terms.proofs.ReplyTextLemmas.{reply_texts_differ}
 pub dropped : (text word ys rest : List ℕ) (n : ℕ) → n ≡ length word → rest ≡ drop n text → text ≡ word ++ ys → rest ≡ ys
 dropped text word ys rest n long is e = is ∙ (ap (drop n) e ∙ drop_at word ys n (sym long))
 
-pub stripped : (bs rest : List ℕ) (r : Option (Bor (List ℕ))) → MatchOption r ((y : List ℕ) → bs ≢ 32 ∷ y) (λ x. bs ≡ 32 ∷ x.now) → bs ≡ 32 ∷ rest → IsSomeAnd r (λ x. x.now ≡ rest)
+pub stripped : (bs rest : List ℕ) (r : Option (Bor (List ℕ))) → MatchOption r ((y : List ℕ) → bs ≢ 32 ∷ y) (λ x. bs ≡ 32 ∷ x.now) → bs ≡ 32
+    ∷ rest → IsSomeAnd r (λ x. x.now ≡ rest)
 stripped bs rest None h e = absurd (h rest e)
 stripped bs rest (Some x) h e = cc
 
@@ -46,7 +48,9 @@ pub shelf_text : (branch : ℕ) → reply_text (Moved (Shelf branch)) ≡ number
 unfolding reply_text reply_words routed_words
 shelf_text branch = refl
 
-pub hold_shelf_text : (hold branch until : ℕ) → reply_text (Moved (HoldShelf hold branch until)) ≡ number_and_text (codes "ready") hold (number_and_text (codes "at") branch (dated_text (codes "until") until))
+pub hold_shelf_text : (hold branch until : ℕ)
+    → reply_text (Moved (HoldShelf hold branch until)) ≡ number_and_text (codes "ready") hold
+    (number_and_text (codes "at") branch (dated_text (codes "until") until))
 unfolding reply_text reply_words routed_words
 hold_shelf_text hold branch until = refl
 

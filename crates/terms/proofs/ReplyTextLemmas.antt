@@ -9,7 +9,8 @@ use Rattle.terms.specs.declared.reply.Routed.TheVariants.{Shelf, HoldShelf, Tran
 use Rattle.terms.specs.declared.reply.Reply.{Reply}
 use Rattle.terms.specs.declared.reply.Reply.TheVariants.{Done, Lent, CheckedIn, Held, Moved, Lost, Owed, Shown, Refused}
 use Rattle.terms.specs.Forms.{has_no_space}
-use Rattle.terms.proofs.WordLemmas.{first_word, other_words, first_word-append, other_words-append, no_space-append, no_space-decimal, number, number-decimal, day_below, day_below-day_text}
+use Rattle.terms.proofs.WordLemmas.{first_word, other_words, first_word-append, other_words-append, no_space-append, no_space-decimal}
+use Rattle.terms.proofs.WordLemmas.{number, number-decimal, day_below, day_below-day_text}
 
 -- where the copy goes, by the words that tell it
 routed_back : List ℕ → Routed

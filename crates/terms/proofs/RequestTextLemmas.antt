@@ -11,7 +11,8 @@ use Rattle.terms.specs.declared.command.Command.{Command}
 use Rattle.terms.specs.declared.form.PartKind.{PartKind}
 use Rattle.terms.specs.declared.form.PartKind.TheVariants as kind
 use Rattle.terms.proofs.TableLemmas.{are_apart, command_from, is_low, is_spaceless, told}
-use Rattle.terms.proofs.WordLemmas.{both_true, closed_by, closed_by-mask_text, day_below, day_below-day_text, first_word, first_word-append, no_space-card_key, no_space-decimal, number, number-decimal, other_words, other_words-append}
+use Rattle.terms.proofs.WordLemmas.{both_true, closed_by, closed_by-mask_text, day_below, day_below-day_text, first_word, first_word-append}
+use Rattle.terms.proofs.WordLemmas.{no_space-card_key, no_space-decimal, number, number-decimal, other_words, other_words-append}
 
 -- no word but the last has a space
 AreApart : List (List ℕ) → Type 0
@@ -54,7 +55,8 @@ words-apart w (part ∷ other ∷ parts) plain h e =
     (plain, words-apart (word_of part) (other ∷ parts) (spaceless part h.0 both.0) h.1 both.1)
 
 -- the name is the first word
-first_word-joined : (w : List ℕ) (parts : List Part) → has_no_space w ≡ true → are_apart parts ≡ true → first_word (join_with_byte 32 (w ∷ map word_of parts)) ≡ w
+first_word-joined : (w : List ℕ) (parts : List Part) → has_no_space w ≡ true → are_apart parts ≡ true
+    → first_word (join_with_byte 32 (w ∷ map word_of parts)) ≡ w
 first_word-joined w [] plain e = absurd (false≢true e)
 first_word-joined w (part ∷ parts) plain e = first_word-append w (join_with_byte 32 (word_of part ∷ map word_of parts)) plain
 
@@ -123,7 +125,8 @@ unfolding request_text
 request_texts_differ a b ha hb e =
     let names : (said a).0 ≡ (said b).0 = sym (first_word-request_text a) ∙ (ap first_word e ∙ first_word-request_text b) in
     let kinds = kinds-same a b names in
-    let long : length (command_words a) ≡ length (command_words b) = words-length a ∙ (ap (λ (ks : List PartKind). suc (length ks)) kinds ∙ sym (words-length b)) in
+    let long : length (command_words a) ≡ length (command_words b) =
+    words-length a ∙ (ap (λ (ks : List PartKind). suc (length ks)) kinds ∙ sym (words-length b)) in
     let words = words-same a b (joined-once (command_words a) (command_words b) long (command_words-apart a ha) (command_words-apart b hb) e) in
     let parts : (said a).1 ≡ (said b).1 = sym (parts_from-words (said a).1 ha) ∙ (ap₂ parts_from kinds words ∙ parts_from-words (said b).1 hb) in
     sym (told a).back ∙ (ap₂ command_from names parts ∙ (told b).back)

@@ -1,5 +1,6 @@
 -- What is seen of each command in turn: how it stands in the table, that its words can be told apart, and that it is made again from its name and parts.
-use Rattle.std.proofs.Common.{◌≡◌, ◌<◌, ◌≤◌, ◌+◌, ℕ, List, [], ◌∷◌, Bool, true, false, ◌&&◌, map, get_or, length, drop, add-one, drop-cons, drop_of_length-le, refl, Some, None}
+use Rattle.std.proofs.Common.{◌≡◌, ◌<◌, ◌≤◌, ◌+◌, ℕ, List, [], ◌∷◌, Bool, true, false, ◌&&◌, map, get_or, length, drop, add-one, drop-cons}
+use Rattle.std.proofs.Common.{drop_of_length-le, refl, Some, None}
 use Rattle.std.specs.Prelude.{if◌then◌else◌, codes, nat_lt}
 use Rattle.std.specs.List.{list_all}
 use Rattle.std.specs.Str.{bytes_eq}
@@ -8,7 +9,9 @@ use Rattle.terms.specs.Commands.{Column, IsListed, Text, commands, kind_of, line
 use Rattle.terms.specs.Texts.{Part, Number, Amount, Day, Mask, CardKey, Name, said}
 use Rattle.terms.specs.declared.command.Command.{Command}
 use Rattle.terms.specs.declared.form.CommandForm.{CommandForm}
-use Rattle.terms.specs.declared.command.Command.TheVariants.{BeginDay, Branch, Week, CloseDay, OpenDay, Kind, Rule, Grace, Patron, Acquire, CheckOut, CheckIn, Renew, PlaceHold, CancelHold, Unshelve, UnshelveCancelled, Missing, Withdraw, Pay, Waive, Page}
+use Rattle.terms.specs.declared.command.Command.TheVariants.{BeginDay, Branch, Week, CloseDay, OpenDay, Kind, Rule, Grace, Patron, Acquire}
+use Rattle.terms.specs.declared.command.Command.TheVariants.{CheckOut, CheckIn, Renew, PlaceHold, CancelHold, Unshelve, UnshelveCancelled}
+use Rattle.terms.specs.declared.command.Command.TheVariants.{Missing, Withdraw, Pay, Waive, Page}
 
 -- each byte is ASCII
 abbrev pub is_low : List ℕ → Bool

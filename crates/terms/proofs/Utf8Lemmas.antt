@@ -11,7 +11,8 @@ use Rattle.std.proofs.lemmas.Fmt.{IsAscii-decimal}
 use Rattle.calendar.specs.Days.{IsDayNumber, day_text, date_text}
 use Rattle.calendar.proofs.DayLemmas.{day_text-written}
 use Rattle.terms.specs.Forms.{has_no_space, is_alphanumeric, is_card_key}
-use Rattle.terms.specs.Texts.{Part, Number, Amount, Day, Mask, CardKey, Name, said, word_of, mask_text, command_words, request_text, routed_words, reply_words, reply_text}
+use Rattle.terms.specs.Texts.{Part, Number, Amount, Day, Mask, CardKey, Name, said, word_of, mask_text, command_words, request_text}
+use Rattle.terms.specs.Texts.{routed_words, reply_words, reply_text}
 use Rattle.terms.specs.Laws.{IsPart, AreParts, IsCommand, IsNumber, IsAmount, IsRouted, IsKept}
 use Rattle.terms.specs.declared.command.Command.{Command}
 use Rattle.terms.specs.declared.reply.Routed.{Routed}
@@ -54,7 +55,8 @@ date-low y m d a b c =
 pub day-IsUtf8 : (n : ℕ) → IsDayNumber n → IsUtf8 (day_text n)
 day-IsUtf8 n h =
     let date = day_text-written n (omega (arith, h)) in
-    subst IsUtf8 (sym date.6) (low-IsUtf8 (date_text date.0 date.1 date.2) (date-low date.0 date.1 date.2 date.3 (omega (arith, date.4)) (omega (arith, date.5))))
+    subst IsUtf8 (sym date.6) (low-IsUtf8 (date_text date.0 date.1 date.2)
+    (date-low date.0 date.1 date.2 date.3 (omega (arith, date.4)) (omega (arith, date.5))))
 
 letter-low : (b : Bool) → nat_lt (if b then 99 else 111) 128 ≡ true
 letter-low true = refl
@@ -116,8 +118,16 @@ routed-are : (r : Routed) → IsRouted r → AreUtf8 (routed_words r)
 unfolding routed_words
 routed-are (Shelf branch) h =
     (low-IsUtf8 (codes "shelf") refl, (number-IsUtf8 branch h, tt))
-routed-are (HoldShelf hold branch until) h =
-    (low-IsUtf8 (codes "ready") refl, (number-IsUtf8 hold h.0, (low-IsUtf8 (codes "at") refl, (number-IsUtf8 branch h.1, (low-IsUtf8 (codes "until") refl, (day-IsUtf8 until h.2, tt))))))
+routed-are (HoldShelf hold branch until) h = (
+  low-IsUtf8 (codes "ready") refl,
+  (
+    number-IsUtf8 hold h.0,
+    (
+      low-IsUtf8 (codes "at") refl,
+      (number-IsUtf8 branch h.1, (low-IsUtf8 (codes "until") refl, (day-IsUtf8 until h.2, tt))),
+    ),
+  ),
+)
 routed-are (Transit goal (Some hold)) h =
     (low-IsUtf8 (codes "transit") refl, (number-IsUtf8 goal h.0, (low-IsUtf8 (codes "for") refl, (number-IsUtf8 hold h.1, tt))))
 routed-are (Transit goal None) h =

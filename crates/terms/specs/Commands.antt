@@ -34,17 +34,17 @@ kind_of (Name _) = kind.Name
 abbrev pub Column : Type 0
 Column = Text × PartKind
 
-abbrev pub Line : Type 0
-Line = Text × List Column
+abbrev pub CommandEntry : Type 0
+CommandEntry = Text × List Column
 
 abbrev pub column : PartForm → Column
 column part = (part.name.now, part.kind)
 
-abbrev pub line : CommandForm → Line
+abbrev pub line : CommandForm → CommandEntry
 line form = (form.name.now, map column form.parts.now)
 
 -- The table.
-abbrev pub commands : List Line
+abbrev pub commands : List CommandEntry
 commands =
     (codes "begin-day", (codes "day", kind.Day) ∷ [])
     ∷ (codes "branch", (codes "branch", kind.Number) ∷ (codes "pickup", kind.Number) ∷ (codes "name", kind.Name) ∷ [])
@@ -80,7 +80,7 @@ commands =
     ∷ []
 
 -- The parts of the command with this name.
-unfoldable pub parts_in : List Line → Text → Option (List Column)
+unfoldable pub parts_in : List CommandEntry → Text → Option (List Column)
 parts_in [] name = None
 parts_in (first ∷ rest) name = if bytes_eq first.0 name then Some first.1 else parts_in rest name
 

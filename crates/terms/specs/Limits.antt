@@ -7,7 +7,9 @@ use Rattle.terms.specs.Forms.{IsName, is_card_key, IsKey}
 use Rattle.terms.specs.Texts.{reply_text}
 use Rattle.terms.specs.Laws.{IsAmount, IsKept}
 use Rattle.terms.specs.Pictures.{Picture}
-use Rattle.terms.specs.declared.limits.TheConstants.{LAST_SMALL_NUMBER, LAST_LARGE_NUMBER, LAST_NUMBER, LAST_NEXT_NUMBER, LONGEST_PERIOD, LONGEST_PICKUP, MOST_RENEWALS, MOST_GRACE, MOST_ALLOWED, HIGHEST_RATE, HIGHEST_CAP, HIGHEST_PRICE, HIGHEST_DEBT}
+use Rattle.terms.specs.declared.limits.TheConstants.{LAST_SMALL_NUMBER, LAST_LARGE_NUMBER, LAST_NUMBER, LAST_NEXT_NUMBER, LONGEST_PERIOD}
+use Rattle.terms.specs.declared.limits.TheConstants.{LONGEST_PICKUP, MOST_RENEWALS, MOST_GRACE, MOST_ALLOWED, HIGHEST_RATE, HIGHEST_CAP}
+use Rattle.terms.specs.declared.limits.TheConstants.{HIGHEST_PRICE, HIGHEST_DEBT}
 use Rattle.terms.specs.declared.reply.Reply.{Reply}
 use Rattle.terms.specs.declared.command.Owner.{Owner}
 use Rattle.terms.specs.declared.command.Owner.TheVariants.{Desk, Patron}
@@ -59,7 +61,8 @@ abbrev pub IsKind : KindRow → Type 0
 IsKind r = IsSmall r.kind × (r.loans ≤ MOST_ALLOWED) × (r.holds ≤ MOST_ALLOWED) × (r.debt ≤ HIGHEST_DEBT)
 
 abbrev pub IsRule : RuleRow → Type 0
-IsRule r = IsSmall r.kind × IsSmall r.copy_kind × IsPeriod r.period × (r.renewals ≤ MOST_RENEWALS) × (r.rate ≤ HIGHEST_RATE) × (r.cap ≤ HIGHEST_CAP) × (r.grace ≤ MOST_GRACE)
+IsRule r = IsSmall r.kind × IsSmall r.copy_kind × IsPeriod r.period × (r.renewals ≤ MOST_RENEWALS) × (r.rate ≤ HIGHEST_RATE)
+    × (r.cap ≤ HIGHEST_CAP) × (r.grace ≤ MOST_GRACE)
 
 abbrev pub IsRule1 : RuleRow1 → Type 0
 IsRule1 r = IsSmall r.kind × IsSmall r.copy_kind × IsPeriod r.period × (r.renewals ≤ MOST_RENEWALS) × (r.rate ≤ HIGHEST_RATE) × (r.cap ≤ HIGHEST_CAP)
@@ -84,7 +87,8 @@ IsLoan1 r =
     × (r.renewals_left ≤ MOST_RENEWALS) × (r.rate ≤ HIGHEST_RATE) × (r.cap ≤ HIGHEST_CAP) × IfSome r.ended IsDayNumber
 
 abbrev pub IsHold : HoldRow → Type 0
-IsHold r = IsGiven r.hold × IsLarge r.patron × IsLarge r.title × IsSmall r.branch × IfSome r.copy IsLarge × IfSome r.limit_day IsDayNumber × IfSome r.first_day IsDayNumber
+IsHold r = IsGiven r.hold × IsLarge r.patron × IsLarge r.title × IsSmall r.branch × IfSome r.copy IsLarge × IfSome r.limit_day IsDayNumber
+    × IfSome r.first_day IsDayNumber
 
 abbrev pub IsHold1 : HoldRow1 → Type 0
 IsHold1 r = IsGiven r.hold × IsLarge r.patron × IsLarge r.title × IsSmall r.branch × IfSome r.copy IsLarge × IfSome r.limit_day IsDayNumber

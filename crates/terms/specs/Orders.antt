@@ -31,7 +31,8 @@ IsKeptBefore r s = (owner_number r.caller < owner_number s.caller) ⊎ ((r.calle
 pub rise-on : {R : Type 0} (number_of : R → ℕ) (r s t : R) → number_of r < number_of s → number_of s < number_of t → number_of r < number_of t
 rise-on number_of r s t less more = omega (arith, less, more)
 
-pub pair-on : {R : Type 0} (key_of : R → ℕ × ℕ) (r s t : R) → IsPairBefore (key_of r) (key_of s) → IsPairBefore (key_of s) (key_of t) → IsPairBefore (key_of r) (key_of t)
+pub pair-on : {R : Type 0} (key_of : R → ℕ × ℕ) (r s t : R) → IsPairBefore (key_of r) (key_of s) → IsPairBefore (key_of s) (key_of t)
+    → IsPairBefore (key_of r) (key_of t)
 pair-on key_of r s t (inl less) (inl more) = inl (omega (arith, less, more))
 pair-on key_of r s t (inl less) (inr tied) = let same = tied.0 in inl (omega (arith, less, same))
 pair-on key_of r s t (inr tied) (inl more) = let same = tied.0 in inl (omega (arith, more, same))

@@ -18,7 +18,9 @@ use Rattle.terms.specs.declared.row.TransitRow.{TransitRow}
 use Rattle.terms.specs.declared.row.LineRow.{LineRow}
 use Rattle.terms.specs.declared.row.KeptRow.{KeptRow}
 
--- The tables: for each key, the row or none. A single closed day is there or not. `holds` are those of the table of schema 2, and `holds1` those of the table that schema 1 has and that is empty from then on; `rules` and `loans` those of schema 3, and `rules1` and `loans1` those that schemas 1 and 2 have.
+-- The tables: for each key, the row or none. A single closed day is there or not. `holds` are those of the table of schema 2, and `holds1`
+-- those of the table that schema 1 has and that is empty from then on; `rules` and `loans` those of schema 3, and `rules1` and `loans1`
+-- those that schemas 1 and 2 have.
 pub record Picture : Type 0 where
   pub meta : MetaRow
   pub branches : ℕ → Option BranchRow

@@ -1,5 +1,5 @@
 -- How the tables of one schema are led to those of the next.
-use Rattle.std.specs.Prelude.{◌≡◌, ℕ, zero, suc, Option, None, option_map}
+use Rattle.std.specs.Prelude.{◌≡◌, ℕ, zero, suc, None, option_map}
 use Rattle.terms.specs.declared.row.RuleRow.{RuleRow}
 use Rattle.terms.specs.declared.row.RuleRow1.{RuleRow1}
 use Rattle.terms.specs.declared.row.LoanRow.{LoanRow}
@@ -10,7 +10,17 @@ use Rattle.terms.specs.Pictures.{Picture}
 
 -- A hold of schema 1 as schema 2 has it: with no first day.
 abbrev pub carried : HoldRow1 → HoldRow
-carried r = record { hold = r.hold; patron = r.patron; title = r.title; branch = r.branch; state = r.state; copy = r.copy; limit_day = r.limit_day; first_day = None }
+carried r = record {
+  hold = r.hold;
+  patron = r.patron;
+  title = r.title;
+  branch = r.branch;
+  state = r.state;
+  copy = r.copy;
+  limit_day
+      = r.limit_day;
+  first_day = None;
+}
 
 -- A rule and a loan of schema 2 as schema 3 has them: with no grace days.
 abbrev pub carried_rule : RuleRow1 → RuleRow

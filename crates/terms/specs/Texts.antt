@@ -4,7 +4,9 @@ use Rattle.std.specs.Fmt.{decimal}
 use Rattle.std.specs.List.{join_with_byte}
 use Rattle.calendar.specs.Days.{day_text}
 use Rattle.terms.specs.declared.command.Command.{Command}
-use Rattle.terms.specs.declared.command.Command.TheVariants.{BeginDay, Branch, Week, CloseDay, OpenDay, Kind, Rule, Grace, Patron, Acquire, CheckOut, CheckIn, Renew, PlaceHold, CancelHold, Unshelve, UnshelveCancelled, Missing, Withdraw, Pay, Waive, Page}
+use Rattle.terms.specs.declared.command.Command.TheVariants.{BeginDay, Branch, Week, CloseDay, OpenDay, Kind, Rule, Grace, Patron, Acquire}
+use Rattle.terms.specs.declared.command.Command.TheVariants.{CheckOut, CheckIn, Renew, PlaceHold, CancelHold, Unshelve, UnshelveCancelled}
+use Rattle.terms.specs.declared.command.Command.TheVariants.{Missing, Withdraw, Pay, Waive, Page}
 use Rattle.terms.specs.declared.refusal.Refusal.{Refusal}
 use Rattle.terms.specs.declared.refusal.Refusal.TheVariants as refusal
 use Rattle.terms.specs.declared.fault.Fault.{Fault}
@@ -52,7 +54,8 @@ said (Week branch week) = (codes "week", Number branch ∷ Mask week ∷ [])
 said (CloseDay branch day) = (codes "close-day", Number branch ∷ Day day ∷ [])
 said (OpenDay branch day) = (codes "open-day", Number branch ∷ Day day ∷ [])
 said (Kind kind loans holds debt) = (codes "kind", Number kind ∷ Number loans ∷ Number holds ∷ Amount debt ∷ [])
-said (Rule kind copy_kind period renewals rate cap) = (codes "rule", Number kind ∷ Number copy_kind ∷ Number period ∷ Number renewals ∷ Amount rate ∷ Amount cap ∷ [])
+said (Rule kind copy_kind period renewals rate cap) =
+    (codes "rule", Number kind ∷ Number copy_kind ∷ Number period ∷ Number renewals ∷ Amount rate ∷ Amount cap ∷ [])
 said (Grace kind copy_kind days) = (codes "grace", Number kind ∷ Number copy_kind ∷ Number days ∷ [])
 said (Patron patron kind card_key name) = (codes "patron", Number patron ∷ Number kind ∷ CardKey card_key ∷ Name name ∷ [])
 said (Acquire copy title kind home price text) = (codes "acquire", Number copy ∷ Number title ∷ Number kind ∷ Number home ∷ Amount price ∷ Name text ∷ [])

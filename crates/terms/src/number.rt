@@ -88,7 +88,8 @@ pub type Days = Number<thing::Day>;
 /// How many loans, holds or renewals are allowed or left.
 pub type Count = Number<thing::Counted>;
 
-/// An amount of money, in whole cents. None is so large that a column of the tables couldn't hold it.
+/// An amount of money, in whole cents. None is so large that a column of the tables couldn't hold
+/// it.
 #[derive(Clone, Copy, Debug, PartialEq, Eq)]
 pub struct Cents(u64);
 

@@ -1,5 +1,5 @@
-//! A reader and a writer of bytes in memory for tests: they take and give their bytes in pieces, and fail after them. They
-//! tell the proof nothing, as a socket doesn't.
+//! A reader and a writer of bytes in memory for tests: they take and give their bytes in pieces,
+//! and fail after them. They tell the proof nothing, as a socket doesn't.
 #![tactic(auto)]
 
 use std::alloc::Global;

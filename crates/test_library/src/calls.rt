@@ -1,5 +1,5 @@
-//! Calls of the layers below, with no clauses: so a test with many of them is proved fast. Each is generic over the database's
-//! store, so that what it is proved from stays small.
+//! Calls of the layers below, with no clauses: so a test with many of them is proved fast. Each is
+//! generic over the database's store, so that what it is proved from stays small.
 
 use desk::Desk;
 use sqlite::{Alter, Connection, FileStore, Files, MemStore, Options};
@@ -67,7 +67,8 @@ pub fn into_files<D: Disk + Drop>(store: Store<FileStore<D>>) -> Files<D> {
     store.into_files()
 }
 
-/// The two files of a store, with the log of its database copied into the other; none where that fails.
+/// The two files of a store, with the log of its database copied into the other; none where that
+/// fails.
 pub fn close<D: Disk + Drop>(store: Store<FileStore<D>>) -> Option<Files<D>> {
     store.close()
 }
@@ -82,8 +83,8 @@ pub fn desk_over<S: Alter + Drop>(store: Store<S>) -> Result<Desk<S>, Fault> {
     Desk::new(store)
 }
 
-/// The next number of a loan, how many rows each other table has, in the order of the schema, and how many of the kept ones are
-/// patrons'.
+/// The next number of a loan, how many rows each other table has, in the order of the schema, and
+/// how many of the kept ones are patrons'.
 pub fn counts<S: Alter>(store: &mut Store<S>, alloc: Global) -> Result<[usize; 14], Fault> {
     let all = store.tables(alloc)?;
     let kept = all.kept.as_slice();

@@ -9,7 +9,8 @@ use std::io;
 use std::test::Fail;
 use store::Store;
 
-/// How the files are opened. Little is kept in memory, so that a check-out reads and writes the files early and copies the log at its end.
+/// How the files are opened. Little is kept in memory, so that a check-out reads and writes the
+/// files early and copies the log at its end.
 pub fn options() -> Options {
     Options {
         cache_pages: 4,

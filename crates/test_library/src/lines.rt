@@ -1,4 +1,5 @@
-//! A small library, lists of requests by lines, and looks at rows. Expected answers are those of the rules, worked out by hand.
+//! A small library, lists of requests by lines, and looks at rows. Expected answers are those of
+//! the rules, worked out by hand.
 
 use crate::calls::{desk_over, in_memory, open, run};
 use desk::Desk;
@@ -9,8 +10,9 @@ use std::alloc::Global;
 use std::test::Fail;
 use terms::{Caller, CardKey, Fault, Key, PatronId, Reply, Request, read_number};
 
-/// Fifteen requests that make a small library: three patrons, two branches, four copies of three titles. In each line the
-/// caller, the key, the words with a bar before a last word that has blanks, and behind the arrow the answer.
+/// Fifteen requests that make a small library: three patrons, two branches, four copies of three
+/// titles. In each line the caller, the key, the words with a bar before a last word that has
+/// blanks, and behind the arrow the answer.
 pub const GROUND: &str = "desk g1 begin-day 2026-03-02 -> ok
 desk g2 branch 1 5|Main -> ok
 desk g3 branch 2 3|Harbour -> ok
@@ -105,8 +107,8 @@ fn tells(alloc: Global, reply: &Reply, line: &str) -> Result<(), Fail> {
     }
 }
 
-/// The lines are run as one list: each answer that came is the expected one. The fault that ended the list, and how many
-/// answers there were before it.
+/// The lines are run as one list: each answer that came is the expected one. The fault that ended
+/// the list, and how many answers there were before it.
 pub fn runs<S: Alter>(
     alloc: Global,
     desk: &mut Desk<S>,

@@ -14,10 +14,13 @@ desk s4 check-in 10 1 -> fine 0 shelf 1
 desk s5 page 1 -> patron 1 owed 2600 name Ann Bell
 desk s6 check-out 1 11 1 -> refused 38";
 
-/// What was lost is paid, once.
+/// After all of that, what was lost is paid, once.
 pub const PAID: &str = "desk s1 check-out 1 10 1 -> loan 1 due 2026-03-09
 desk s2 begin-day 2026-03-17 -> ok
 desk s3 missing 10 -> fine 100 price 2500
+desk s4 check-in 10 1 -> fine 0 shelf 1
+desk s5 page 1 -> patron 1 owed 2600 name Ann Bell
+desk s6 check-out 1 11 1 -> refused 38
 desk p1 pay 1 2600 -> owed 0
 desk p1 pay 1 2600 -> owed 0
 desk p1 pay 1 2500 -> refused 80

@@ -10,13 +10,15 @@ use Rattle.web.specs.declared.fault.WebStatus.TheVariants.{BadRequest, NotFound,
 
 -- the pieces of the fields that every message has
 pub fields_written : (digits : List ℕ) (size : ℕ) → digits ≡ decimal size
-    → (codes "Content-Type: application/json" ++ (13 ∷ 10 ∷ codes "Content-Length: ")) ++ (digits ++ (13 ∷ 10 ∷ (codes "Connection: close" ++ (13 ∷ 10 ∷ 13 ∷ 10 ∷ [])))) ≡ fields_text size
+    → (codes "Content-Type: application/json" ++ (13 ∷ 10 ∷ codes "Content-Length: "))
+    ++ (digits ++ (13 ∷ 10 ∷ (codes "Connection: close" ++ (13 ∷ 10 ∷ 13 ∷ 10 ∷ [])))) ≡ fields_text size
 unfolding fields_text
 fields_written digits size e = rw e refl
 
 -- the pieces of the first line and the keys of what the client sends
 pub sending_written : (d k desk_key key : List ℕ) → d ≡ desk_key → k ≡ key
-    → (codes "POST /desk HTTP/1.1" ++ (13 ∷ 10 ∷ (codes "Host: 127.0.0.1" ++ (13 ∷ 10 ∷ codes "Desk-Key: ")))) ++ (d ++ ((13 ∷ 10 ∷ codes "Request-Key: ") ++ (k ++ (13 ∷ 10 ∷ []))))
+    → (codes "POST /desk HTTP/1.1" ++ (13 ∷ 10 ∷ (codes "Host: 127.0.0.1" ++ (13 ∷ 10 ∷ codes "Desk-Key: "))))
+    ++ (d ++ ((13 ∷ 10 ∷ codes "Request-Key: ") ++ (k ++ (13 ∷ 10 ∷ []))))
     ≡ send_start desk_key key
 unfolding send_start
 sending_written d k desk_key key e f = rw (e, f) refl
@@ -35,7 +37,8 @@ unfolding one_member serde_json_on_literals
 status_member n = refl
 
 -- the same answer with its parts as the code has them
-pub same_answer : (code status : ℕ) (line allow body text : List ℕ) → code ≡ status → line ≡ allow → body ≡ text → answer_text code line body ≡ answer_text status allow text
+pub same_answer : (code status : ℕ) (line allow body text : List ℕ) → code ≡ status → line ≡ allow → body ≡ text
+    → answer_text code line body ≡ answer_text status allow text
 same_answer code status line allow body text a b c = cc
 
 pub refusal_body : (number n : ℕ) → number ≡ n → codes "{\"refusal\":" ++ (decimal number ++ (125 ∷ [])) ≡ number_member (codes "refusal") n
@@ -47,7 +50,8 @@ fault_body number n e = ap (λ (m : ℕ). codes "{\"fault\":" ++ (decimal m ++ (
 pub status_body : (number n : ℕ) → number ≡ n → codes "{\"status\":" ++ (decimal number ++ (125 ∷ [])) ≡ number_member (codes "status") n
 status_body number n e = ap (λ (m : ℕ). codes "{\"status\":" ++ (decimal m ++ (125 ∷ []))) e ∙ status_member n
 
-pub allowed : (status : WebStatus) (method m : List ℕ) → status ≡ MethodNotAllowed method → m ≡ method → codes "Allow: " ++ (m ++ (13 ∷ 10 ∷ [])) ≡ allow_line status
+pub allowed : (status : WebStatus) (method m : List ℕ) → status ≡ MethodNotAllowed method → m ≡ method → codes "Allow: "
+    ++ (m ++ (13 ∷ 10 ∷ [])) ≡ allow_line status
 allowed status method m is e = ap (λ (x : List ℕ). codes "Allow: " ++ (x ++ (13 ∷ 10 ∷ []))) e ∙ ap allow_line (sym is)
 
 -- bytes that are the same bytes

@@ -12,7 +12,8 @@ use Rattle.web.specs.Bodies.{FillsAll}
 use Rattle.web.specs.Heads.{Fills}
 
 -- a read gave nothing, and there was room
-pub fill_ended : (old mid new : Option (List ℕ)) (first before after got : List ℕ) (start filled n : ℕ) → start ≤ length first → filled < length before → length before ≡ length first
+pub fill_ended : (old mid new : Option (List ℕ)) (first before after got : List ℕ) (start filled n : ℕ) → start ≤ length first
+    → filled < length before → length before ≡ length first
     → Consumes old mid got → take filled before ≡ take start first ++ got → n ≡ 0 → Fills mid new before after filled n
     → (x : List ℕ) × Consumes old new x × IsAtEnd new × (start + length x < length first)
 fill_ended old mid new first before after got start filled n s room same taken holds zero f =
@@ -40,22 +41,27 @@ short_front : (front first after left got rest : List ℕ) (size kept : ℕ) →
 short_front front first after left got rest size kept k same long is holds =
     let p : take kept first ≡ front = same ∙ (ap (λ (m : ℕ). take m front) k ∙ take-length front) in
     let a : after ≡ front ++ got = holds ∙ ap (λ (x : List ℕ). x ++ got) p in
-    let whole : front ++ left ≡ after ++ rest = ap (λ (x : List ℕ). front ++ x) is ∙ (sym (append_assoc front got rest) ∙ ap (λ (x : List ℕ). x ++ rest) (sym a)) in
+    let whole : front ++ left ≡ after ++ rest =
+    ap (λ (x : List ℕ). front ++ x) is ∙ (sym (append_assoc front got rest) ∙ ap (λ (x : List ℕ). x ++ rest) (sym a)) in
     let n = ap length whole in
     (omega (arith, n, length-append after rest, long), ap (take size) whole ∙ front_is after rest size (sym long))
 
 -- it holds the whole body
-long_front : (front first after left got : List ℕ) (size kept : ℕ) → kept ≡ size → size ≤ length front → take kept first ≡ take kept front → length first ≡ size → length after ≡ size
+long_front : (front first after left got : List ℕ) (size kept : ℕ) → kept ≡ size → size ≤ length front → take kept first ≡ take kept front
+    → length first ≡ size → length after ≡ size
     → after ≡ take kept first ++ got → (size ≤ length (front ++ left)) × (take size (front ++ left) ≡ after)
 long_front front first after left got size kept k fits same wide long holds =
     let l = ap length holds in
     let m = length-take-le kept first (omega (arith, k, wide)) in
     let nil : got ≡ [] = nil_is got (omega (arith, l, m, k, long, length-append (take kept first) got)) in
-    let a : after ≡ take size front = holds ∙ (ap (λ (x : List ℕ). take kept first ++ x) nil ∙ (append-nil (take kept first) ∙ (same ∙ ap (λ (m : ℕ). take m front) k))) in
+    let a : after ≡ take size front =
+    holds ∙ (ap (λ (x : List ℕ). take kept first ++ x) nil
+    ∙ (append-nil (take kept first) ∙ (same ∙ ap (λ (m : ℕ). take m front) k))) in
     (omega (arith, length-append front left, fits), take-append-le size front left fits ∙ sym a)
 
 -- the buffer holds the body
-pub body_whole : (old new : Option (List ℕ)) (front first after tail : List ℕ) (size kept n : ℕ) → kept ≡ min (length front) size → take kept first ≡ take kept front → length first ≡ size
+pub body_whole : (old new : Option (List ℕ)) (front first after tail : List ℕ) (size kept n : ℕ) → kept ≡ min (length front) size
+    → take kept first ≡ take kept front → length first ≡ size
     → length after ≡ size → n ≡ size → FillsAll old new first after kept true
     → IfSome old (λ left. (size ≤ length (front ++ left)) × (take n (after ++ tail) ≡ take size (front ++ left)))
 body_whole None new front first after tail size kept n k same wide long is f = tt

@@ -34,7 +34,8 @@ when-ok : {A E : Type 0} (r : Result A E) (x : A) (P : A → Type 0) (Q : E → 
 when-ok r x P Q e p = subst (λ (s : Result _ _). MatchResult s P Q) (sym e) p
 
 -- the body came in whole
-pub whole_checked : (old : Option (List ℕ)) (method target front body : List ℕ) (fields : List NamedValue) (size : ℕ) (r : Reading) → Ok size ≡ body_length fields
+pub whole_checked : (old : Option (List ℕ)) (method target front body : List ℕ) (fields : List NamedValue) (size : ℕ) (r : Reading)
+    → Ok size ≡ body_length fields
     → IfSome old (λ left. (size ≤ length (front ++ left)) × (body ≡ take size (front ++ left)))
     → UnlessFaulted r (ChecksTarget method target fields body r) → IfSome old (λ left. UnlessFaulted r (ChecksLength method target fields (front ++ left) r))
 whole_checked None method target front body fields size r is all told = tt
@@ -44,7 +45,8 @@ whole_checked (Some left) method target front body fields size r is all told =
     (when-true (nat_le size (length (front ++ left))) _ _ (at_most _ _ all.0) (subst (λ (b : List ℕ). ChecksTarget method target fields b r) all.1 p))) told
 
 -- the same with the parts as the code has them
-pub head_checked : (old : Option (List ℕ)) (m method t target fr front body : List ℕ) (f fields : List NamedValue) (size : ℕ) (r : Reading) → m ≡ method → t ≡ target → fr ≡ front → f ≡ fields
+pub head_checked : (old : Option (List ℕ)) (m method t target fr front body : List ℕ) (f fields : List NamedValue) (size : ℕ) (r : Reading)
+    → m ≡ method → t ≡ target → fr ≡ front → f ≡ fields
     → Ok size ≡ body_length f → IfSome old (λ left. (size ≤ length (fr ++ left)) × (body ≡ take size (fr ++ left)))
     → UnlessFaulted r (ChecksTarget m t f body r) → IfSome old (λ left. UnlessFaulted r (ChecksLength method target fields (front ++ left) r))
 head_checked old m method t target fr front body f fields size r a b c d is all told =
@@ -54,12 +56,14 @@ head_checked old m method t target fr front body f fields size r a b c d is all 
     let e3 = subst (λ (x : List NamedValue). IfSome old (λ left. UnlessFaulted r (ChecksLength method target x (fr ++ left) r))) d e2 in
     subst (λ (x : List ℕ). IfSome old (λ left. UnlessFaulted r (ChecksLength method target fields (x ++ left) r))) c e3
 
-few_fields : (bytes : List ℕ) (headers : List HeaderSpan) (count : ℕ) (h : RequestHead) → count ≤ length headers → map (header_bytes bytes) (take count headers) ≡ map name_and_value h.fields → length h.fields ≡ count
+few_fields : (bytes : List ℕ) (headers : List HeaderSpan) (count : ℕ) (h : RequestHead) → count ≤ length headers
+    → map (header_bytes bytes) (take count headers) ≡ map name_and_value h.fields → length h.fields ≡ count
 few_fields bytes headers count h fits same =
     let n = ap length same in
     omega (arith, n, length-map (take count headers) (header_bytes bytes), length-map h.fields name_and_value, length-take-le count headers fits)
 
-has_head : (bytes left all : List ℕ) (headers : List HeaderSpan) (spans : RequestSpans) (h : RequestHead) → all ≡ bytes ++ left → IsRequestAt bytes headers spans h → IsRequestWithin bytes headers spans
+has_head : (bytes left all : List ℕ) (headers : List HeaderSpan) (spans : RequestSpans) (h : RequestHead) → all ≡ bytes ++ left
+    → IsRequestAt bytes headers spans h → IsRequestWithin bytes headers spans
     → length bytes ≤ HEAD_BYTES → length headers ≤ HEAD_FIELDS → HasHead all h (drop spans.len bytes ++ left)
 has_head bytes left all headers spans h whole is within long many = record {
   reads = (is.reads.0, whole ∙ (ap (λ (x : List ℕ). x ++ left) is.reads.1 ∙ append_assoc (print_request h) (drop spans.len bytes) left));
@@ -68,17 +72,22 @@ has_head bytes left all headers spans h whole is within long many = record {
 }
 
 -- the head was read, and what follows was checked
-pub head_read : (old mid : Option (List ℕ)) (bytes : List ℕ) (headers : List HeaderSpan) (spans : RequestSpans) (r : Reading) → Consumes old mid bytes → IsRequestOf bytes headers spans
+pub head_read : (old mid : Option (List ℕ)) (bytes : List ℕ) (headers : List HeaderSpan) (spans : RequestSpans) (r : Reading)
+    → Consumes old mid bytes → IsRequestOf bytes headers spans
     → IsRequestWithin bytes headers spans → length bytes ≤ HEAD_BYTES → length headers ≤ HEAD_FIELDS
-    → IfSome mid (λ left. UnlessFaulted r (ChecksLength (span_bytes bytes spans.method) (span_bytes bytes spans.path) (map (header_bytes bytes) (take spans.headers headers)) (drop spans.len bytes ++ left) r))
+    → IfSome mid (λ left. UnlessFaulted r
+    (ChecksLength (span_bytes bytes spans.method) (span_bytes bytes spans.path) (map (header_bytes bytes) (take spans.headers headers))
+    (drop spans.len bytes ++ left) r))
     → IfSome old (λ all. UnlessFaulted r (ChecksHead all r))
 head_read None mid bytes headers spans r taken is within long many told = tt
 head_read (Some all) None bytes headers spans r taken is within long many told = elim taken [ ]
 head_read (Some all) (Some left) bytes headers spans r taken is within long many told =
     let h = is.0 in
     let rest = drop spans.len bytes ++ left in
-    unless-map r (λ (p : ChecksLength (span_bytes bytes spans.method) (span_bytes bytes spans.path) (map (header_bytes bytes) (take spans.headers headers)) rest r).
-    let p1 = subst (λ (x : List ℕ). ChecksLength x (span_bytes bytes spans.path) (map (header_bytes bytes) (take spans.headers headers)) rest r) is.1.method p in
+    unless-map r (λ (p : ChecksLength (span_bytes bytes spans.method) (span_bytes bytes spans.path)
+    (map (header_bytes bytes) (take spans.headers headers)) rest r).
+    let p1 = subst (λ (x : List ℕ). ChecksLength x (span_bytes bytes spans.path)
+    (map (header_bytes bytes) (take spans.headers headers)) rest r) is.1.method p in
     let p2 = subst (λ (x : List ℕ). ChecksLength h.method x (map (header_bytes bytes) (take spans.headers headers)) rest r) is.1.path p1 in
     let p3 = subst (λ (x : List NamedValue). ChecksLength h.method h.target x rest r) is.1.fields p2 in
     inr (h, rest, has_head bytes left all headers spans h taken is.1 within long many, p3)) told

@@ -1,5 +1,6 @@
 -- Lists of values that are texts.
-use Rattle.std.proofs.Common.{◌≡◌, ℕ, zero, suc, ◌+◌, ◌<◌, ◌≤◌, List, [], ◌∷◌, ◌++◌, length, get_or, take, map, ap, sym, ◌∙◌, refl, arith, Option, Some, None, take_all}
+use Rattle.std.proofs.Common.{◌≡◌, ℕ, zero, suc, ◌+◌, ◌<◌, ◌≤◌, List, [], ◌∷◌, ◌++◌, length, get_or, take, map, ap, sym, ◌∙◌, refl, arith}
+use Rattle.std.proofs.Common.{Option, Some, None, take_all}
 use Rattle.std.proofs.lemmas.List.{take_more, map-append}
 use Rattle.std.specs.declared.alloc.Global.{Global}
 use Rattle.serde_json.specs.Data.{Data, null, boolean, number, string, array, object, Items, item}
@@ -13,7 +14,8 @@ use Rattle.web.specs.declared.limits.TheConstants.{MOST_WORDS}
 use Rattle.web.specs.Json.{IsJson, IsTextList, texts_data, data_text}
 
 -- a value that is no text
-pub no_texts : (values : List Value) (i : ℕ) (d : Value) (texts : List (List ℕ)) → i < length values → data_text (view (get_or values i d)) ≡ None → items_view values ≡ texts_data texts → ⊥
+pub no_texts : (values : List Value) (i : ℕ) (d : Value) (texts : List (List ℕ)) → i < length values
+    → data_text (view (get_or values i d)) ≡ None → items_view values ≡ texts_data texts → ⊥
 no_texts [] i d texts h none e = omega (arith, h)
 no_texts (v ∷ vs) i d [] h none e = cc
 no_texts (v ∷ vs) zero d (t ∷ ts) h none e =
@@ -103,14 +105,16 @@ texts_length (v ∷ vs) (t ∷ ts) e =
     ap suc (texts_length vs ts rest)
 
 -- a list of texts is as long as the value is
-pub list_length : (body : List ℕ) (d : Data) (values : List Value) (texts : List (List ℕ)) → IsJson body d → Some (items_view values) ≡ as_array d → IsTextList body texts → length values ≡ length texts
+pub list_length : (body : List ℕ) (d : Data) (values : List Value) (texts : List (List ℕ)) → IsJson body d
+    → Some (items_view values) ≡ as_array d → IsTextList body texts → length values ≡ length texts
 list_length body d values texts json is list =
     let a = is_array d (items_view values) is in
     let b = json_same body d (array (texts_data texts)) json list.json in
     let e : items_view values ≡ texts_data texts = cc in
     texts_length values texts e
 
-some_texts : {V : Type 0} (f : V → List (List ℕ)) (o : Option V) (body : List ℕ) (d : Data) (values : List Value) → IsJson body d → Some (items_view values) ≡ as_array d
+some_texts : {V : Type 0} (f : V → List (List ℕ)) (o : Option V) (body : List ℕ) (d : Data) (values : List Value) → IsJson body d
+    → Some (items_view values) ≡ as_array d
     → 1 ≤ length values → length values ≤ MOST_WORDS → IfSome o (λ v. items_view values ≡ texts_data (f v)) → IfSome o (λ v. IsTextList body (f v))
 some_texts f None body d values json is some few e = tt
 some_texts f (Some v) body d values json is some few e =
@@ -118,8 +122,10 @@ some_texts f (Some v) body d values json is some few e =
     let n = texts_length values (f v) e in
     record { json = record { text = json.text; reads = json.reads ∙ ap Some a }; some = omega (arith, n); few = omega (arith, n) }
 
-pub read_list : {V E : Type 0} (f : V → List (List ℕ)) (r : Result (Option V) E) (body : List ℕ) (d : Data) (values : List Value) → IsJson body d → Some (items_view values) ≡ as_array d
-    → 1 ≤ length values → length values ≤ MOST_WORDS → IfOk r (λ o. IfSome o (λ v. items_view values ≡ texts_data (f v))) → IfOk r (λ o. IfSome o (λ v. IsTextList body (f v)))
+pub read_list : {V E : Type 0} (f : V → List (List ℕ)) (r : Result (Option V) E) (body : List ℕ) (d : Data) (values : List Value)
+    → IsJson body d → Some (items_view values) ≡ as_array d
+    → 1 ≤ length values → length values ≤ MOST_WORDS → IfOk r (λ o. IfSome o (λ v. items_view values ≡ texts_data (f v)))
+    → IfOk r (λ o. IfSome o (λ v. IsTextList body (f v)))
 read_list f (Err e) body d values json is some few h = tt
 read_list f (Ok o) body d values json is some few h = some_texts f o body d values json is some few h
 
@@ -132,7 +138,8 @@ none_texts None body d values json is h = λ texts list.
     h texts (cc)
 
 pub no_list : {V E : Type 0} (r : Result (Option V) E) (body : List ℕ) (d : Data) (values : List Value) → IsJson body d → Some (items_view values) ≡ as_array d
-    → IfOk r (λ o. IfNone o ((texts : List (List ℕ)) → items_view values ≡ texts_data texts → ⊥)) → IfOk r (λ o. IfNone o ((texts : List (List ℕ)) → IsTextList body texts → ⊥))
+    → IfOk r (λ o. IfNone o ((texts : List (List ℕ)) → items_view values ≡ texts_data texts → ⊥))
+    → IfOk r (λ o. IfNone o ((texts : List (List ℕ)) → IsTextList body texts → ⊥))
 no_list (Err e) body d values json is h = tt
 no_list (Ok o) body d values json is h = none_texts o body d values json is h
 

@@ -18,8 +18,10 @@ told_body None old fields front size told h = tt
 told_body (Some body) None fields front size told h = tt
 told_body (Some body) (Some left) fields front size told h = record { size = size; told = told; whole = h.0; body_is = h.1 }
 
-pub told_read : {A E : Type 0} (r : Result (Option (Vec ℕ A)) E) (old : Option (List ℕ)) (fields : List NamedValue) (front : List ℕ) (size : ℕ) → TellsLength fields size
-    → IfOk r (λ o. IfSome old (λ left. HasBody (front ++ left) size o)) → IfOk r (λ o. IfSome o (λ body. IfSome old (λ left. HasToldBody fields (front ++ left) body.items)))
+pub told_read : {A E : Type 0} (r : Result (Option (Vec ℕ A)) E) (old : Option (List ℕ)) (fields : List NamedValue) (front : List ℕ)
+    (size : ℕ) → TellsLength fields size
+    → IfOk r (λ o. IfSome old (λ left. HasBody (front ++ left) size o))
+    → IfOk r (λ o. IfSome o (λ body. IfSome old (λ left. HasToldBody fields (front ++ left) body.items)))
 told_read (Err e) old fields front size told h = tt
 told_read (Ok o) old fields front size told h = told_body o old fields front size told h
 
@@ -35,7 +37,8 @@ same_body (Some left) fields f front fr body b e1 e2 e3 h = record {
 }
 
 -- the head was read, and the rest after it
-answer_read : (old mid : Option (List ℕ)) (bytes : List ℕ) (headers : List HeaderSpan) (spans : ResponseSpans) (status : ℕ) (body : List ℕ) → Consumes old mid bytes → IsResponseOf bytes headers spans
+answer_read : (old mid : Option (List ℕ)) (bytes : List ℕ) (headers : List HeaderSpan) (spans : ResponseSpans) (status : ℕ) (body : List ℕ)
+    → Consumes old mid bytes → IsResponseOf bytes headers spans
     → status ≡ spans.code → IfSome mid (λ left. HasToldBody (map (header_bytes bytes) (take spans.headers headers)) (drop spans.len bytes ++ left) body)
     → IfSome old (λ all. IsAnswer all status body)
 answer_read None mid bytes headers spans status body taken is code told = tt
@@ -48,9 +51,11 @@ answer_read (Some all) (Some left) bytes headers spans status body taken is code
   has_body = subst (λ (x : List NamedValue). HasToldBody x (drop spans.len bytes ++ left) body) is.1.fields told;
 }
 
-pub answer_is : {E : Type 0} (r : Result Answered E) (old mid : Option (List ℕ)) (bytes : List ℕ) (headers : List HeaderSpan) (spans : ResponseSpans) → Consumes old mid bytes → IsResponseOf bytes headers spans
+pub answer_is : {E : Type 0} (r : Result Answered E) (old mid : Option (List ℕ)) (bytes : List ℕ) (headers : List HeaderSpan)
+    (spans : ResponseSpans) → Consumes old mid bytes → IsResponseOf bytes headers spans
     → IfOk r (λ a. a.status ≡ spans.code)
-    → IfOk r (λ a. IfSome mid (λ left. HasToldBody (map (header_bytes bytes) (take spans.headers headers)) (drop spans.len bytes ++ left) (string_bytes a.body)))
+    → IfOk r (λ a. IfSome mid (λ left. HasToldBody (map (header_bytes bytes) (take spans.headers headers)) (drop spans.len bytes ++ left)
+    (string_bytes a.body)))
     → IfOk r (λ a. IfSome old (λ all. IsAnswer all a.status (string_bytes a.body)))
 answer_is (Err e) old mid bytes headers spans taken is code told = tt
 answer_is (Ok a) old mid bytes headers spans taken is code told = answer_read old mid bytes headers spans a.status (string_bytes a.body) taken is code told

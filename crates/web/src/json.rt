@@ -87,7 +87,8 @@ pub(crate) struct AskedHold {
 
 /// The hold that a value asks for.
 fn hold_of(value: &Value) -> Option<AskedHold>
-    ensures some { IfSome result (λ asked. IsHold (view value.now) asked.branch asked.title asked.first_day
+    ensures some { IfSome result (λ asked.
+        IsHold (view value.now) asked.branch asked.title asked.first_day
         × IsNumber asked.branch × IsNumber asked.title × IfSome asked.first_day IsDayNumber) }
     ensures none { IfNone result ((b t : ℕ) (d : Option ℕ) → IsNumber b → IsNumber t
         → IfSome d IsDayNumber → IsHold (view value.now) b t d → ⊥) }

@@ -25,5 +25,6 @@ pub use fault::{WebFault, WebStatus};
 pub use laws::requests_read_once;
 pub use receiving::{AnswerFault, Answered, read_answer};
 pub use request::{WebRequest, read_request};
+pub use routes::Routes;
 pub use sending::{SendFault, write_send};
 pub use written::Json;

@@ -14,7 +14,7 @@ use crate::fields::{Fields, Found, body_length};
 use crate::head::read_head;
 use crate::keys::{card_key, outside_key};
 use crate::limits::{HEAD_BYTES, HEAD_FIELDS};
-use crate::routes::{Route, route_of};
+use crate::routes::{Route, Routes};
 use httparse::spans::{EMPTY_HEADER_SPAN, HeaderSpan, RequestSpans};
 use std::alloc::Global;
 use std::io::Read;
@@ -137,6 +137,7 @@ fn check_method(
 /// The check of the target, and those after.
 fn check_target(
     alloc: Global,
+    routes: &Routes,
     method: &[u8],
     target: &[u8],
     fields: &Fields<'_>,
@@ -149,7 +150,7 @@ fn check_target(
     let Ok(target) = str::from_utf8(target) else {
         return Err(WebFault::Status(WebStatus::NotFound));
     };
-    match route_of(alloc, target)? {
+    match routes.route_of(target) {
         Some(route) => check_method(alloc, &route, method, fields, body),
         None => Err(WebFault::Status(WebStatus::NotFound)),
     }
@@ -158,6 +159,7 @@ fn check_target(
 /// The checks after that of the head, whose parts the spans name.
 fn check_head<R: Read>(
     alloc: Global,
+    routes: &Routes,
     reader: &mut R,
     bytes: &[u8],
     headers: &[HeaderSpan],
@@ -177,6 +179,7 @@ fn check_head<R: Read>(
     };
     check_target(
         alloc,
+        routes,
         spans.method.of(bytes),
         spans.path.of(bytes),
         &fields,
@@ -201,6 +204,7 @@ pub(crate) fn room_for_fields(alloc: Global, size: usize) -> Result<Vec<HeaderSp
 /// Reads a request with room for its head.
 fn read_with<R: Read>(
     alloc: Global,
+    routes: &Routes,
     reader: &mut R,
     buf: &mut [u8],
     headers: &mut [HeaderSpan],
@@ -213,17 +217,25 @@ fn read_with<R: Read>(
     let Some((spans, filled)) = read_head(reader, buf, headers)? else {
         return Err(WebFault::Status(WebStatus::BadRequest));
     };
-    check_head(alloc, reader, &buf[..filled], headers, spans)
+    check_head(alloc, routes, reader, &buf[..filled], headers, spans)
 }
 
 /// Reads one request: its head, within 8,192 bytes and 32 fields, and its body. A request that
 /// fails a check is refused with the status of the first that it fails, however the reader cuts the
-/// bytes. Nothing is read once the body is whole.
-pub fn read_request<R: Read>(alloc: Global, reader: &mut R) -> Result<WebRequest, WebFault>
+/// bytes. Nothing is read once the body is whole. 90 where no memory is left, also for the routes,
+/// of which there are none then.
+pub fn read_request<R: Read>(
+    alloc: Global,
+    routes: Option<&Routes>,
+    reader: &mut R,
+) -> Result<WebRequest, WebFault>
     ensures { IfSome (R.remaining reader.old)
         (λ bytes. UnlessFaulted result (ChecksHead bytes result)) }
 {
+    let Some(routes) = routes else {
+        return Err(WebFault::Memory);
+    };
     let mut buf = room_for_bytes(alloc, HEAD_BYTES)?;
     let mut headers = room_for_fields(alloc, HEAD_FIELDS)?;
-    read_with(alloc, reader, &mut buf, &mut headers)
+    read_with(alloc, routes, reader, &mut buf, &mut headers)
 }

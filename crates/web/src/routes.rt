@@ -12,6 +12,7 @@ ghost use Rattle.web.specs.declared.routes.Route.TheVariants as route;
 use http::Method;
 use matchit::{InsertError, Router};
 use std::alloc::{AllocError, Global};
+use std::marker::Model;
 use terms::{HoldId, LoanId, Memory, PatronId, read_number};
 
 /// What a target names, with the numbers in it.
@@ -234,17 +235,42 @@ fn read_target(pattern: Pattern, target: &str) -> Option<Route>
     }
 }
 
-/// The route whose target this is, if there is one: a route has one target.
-pub(crate) fn route_of(alloc: Global, target: &str) -> Result<Option<Route>, Memory>
-    ensures some { IfOk result (λ o. IfSome o (λ r. IsRoute r × (target.now ≡ target_of r))) }
-    ensures none { IfOk result (λ o. IfNone o
-        ((r : Said) → IsRoute r → target.now ≡ target_of r → ⊥)) }
-{
-    let Ok(router) = route_table(alloc) else {
-        return Err(AllocError);
-    };
-    match pattern_of(&router, target) {
-        Some(pattern) => Ok(read_target(pattern, target)),
-        None => Ok(None),
+/// The routes, by their patterns. Whoever reads many requests makes them once.
+#[derive(Drop)]
+pub struct Routes {
+    router: Router<Pattern>,
+}
+
+impl Model for Routes {
+    ghost use Rattle.matchit.specs.Router.{RouteOf};
+    ghost use Rattle.matchit.specs.Rows.{RowsOf};
+    ghost use Rattle.web.specs.Routes.{ChoosesRoutes};
+    ghost use Rattle.web.specs.declared.routes.Pattern.{Pattern};
+
+    ghost Value = { RowsOf (RouteOf Pattern) };
+
+    ghost view = { λ r. r.router };
+
+    ghost invariant = { λ r. ChoosesRoutes r.router };
+}
+
+impl Routes {
+    /// The routes of the desk and of patrons' pages, holds and loans. 90.
+    pub fn new(alloc: Global) -> Result<Routes, Memory> {
+        match route_table(alloc) {
+            Ok(router) => Ok(Routes { router }),
+            Err(_) => Err(AllocError),
+        }
+    }
+
+    /// The route whose target this is, if there is one: a route has one target.
+    pub(crate) fn route_of(&self, target: &str) -> Option<Route>
+        ensures some { IfSome result (λ r. IsRoute r × (target.now ≡ target_of r)) }
+        ensures none { IfNone result ((r : Said) → IsRoute r → target.now ≡ target_of r → ⊥) }
+    {
+        match pattern_of(&self.router, target) {
+            Some(pattern) => read_target(pattern, target),
+            None => None,
+        }
     }
 }

@@ -12,7 +12,7 @@ use terms::{
 };
 use test_bytes::{Drip, Narrow};
 use web::{
-    Answer, AnswerFault, WebFault, WebRequest, WebStatus, read_answer, read_request,
+    Answer, AnswerFault, Routes, WebFault, WebRequest, WebStatus, read_answer, read_request,
     requests_read_once, write_answer, write_send,
 };
 
@@ -52,7 +52,8 @@ fn written(alloc: Global, answer: &Answer) -> Result<String, Fail> {
 
 /// What a request is read as: its words, or the answer to one that fails a check.
 fn request_told(alloc: Global, reader: &mut Drip<'_>) -> Result<String, Fail> {
-    match read_request(alloc, reader) {
+    let routes = Routes::new(alloc)?;
+    match read_request(alloc, Some(&routes), reader) {
         Ok(request) => said(alloc, &request),
         Err(WebFault::Status(status)) => written(alloc, &Answer::Failed(status)),
         Err(WebFault::Read) => Ok(String::from_str(alloc, "failed")?),

@@ -17,4 +17,5 @@ set_at g last a w e is =
 pub returns : goal.returns
 returns c =
     let same = c.number-worker.ensures.value in
-    set_at arc_value c.args.last.now c.args.entry c.number-worker.result (same ∙ ap (λ (e : Entry). e.worker) c.deref.ensures) (ap is_worker same ∙ c.number-worker.ensures.limits)
+    set_at arc_value c.args.last.now c.args.entry c.number-worker.result (same ∙ ap (λ (e : Entry). e.worker) c.deref.ensures)
+    (ap is_worker same ∙ c.number-worker.ensures.limits)

@@ -11,7 +11,8 @@ Numbered y m d z = IsCivilDate y m d × (days_from_civil y m d ≡ z)
 
 numbered : (date : Date) (y m d : ℕ) (z : ℤ) → date.year ≡ pos y → date.month ≡ m → date.day ≡ d → epoch_day date ≡ z → Numbered (pos y) m d z
 numbered date y m d z a g h f =
-    subst (λ (v : ℤ). Numbered v m d z) a (subst (λ (v : ℕ). Numbered date.year v d z) g (subst (λ (v : ℕ). Numbered date.year date.month v z) h (civil date, f)))
+    subst (λ (v : ℤ). Numbered v m d z) a
+    (subst (λ (v : ℕ). Numbered date.year v d z) g (subst (λ (v : ℕ). Numbered date.year date.month v z) h (civil date, f)))
 
 pub returns-else-number-lt0-clause-some : goal.returns-else-number-lt0-clause-some
 returns-else-number-lt0-clause-some c =
@@ -20,4 +21,5 @@ returns-else-number-lt0-clause-some c =
     let z = c.to_unix_epoch_day-number.result in
     let is : z ≡ epoch_day c.to_plain.result = c.to_unix_epoch_day-number.ensures.value in
     let same : epoch_day c.to_plain.result ≡ epoch_day date = ap epoch_day c.to_plain.ensures in
-    numbered date c.args.year c.args.month c.args.day _ (omega (arith, ints, made.0)) (omega (arith, ints, made.1)) (omega (arith, ints, made.2)) (sym same ∙ sym is ∙ grind (arith, ints))
+    numbered date c.args.year c.args.month c.args.day _ (omega (arith, ints, made.0)) (omega (arith, ints, made.1))
+    (omega (arith, ints, made.2)) (sym same ∙ sym is ∙ grind (arith, ints))

@@ -12,7 +12,8 @@ loop-index-init g c =
     let same = c.number-2.ensures.value in
     let cost = c.count_below-from.ensures.cost in
     record {
-      reached = IsReached-first (record { weekly = c.args.weekly; single = c.args.singles.now }) c.args.day c.count_below-from.result c.open_from-open.result (rw day.value at day.bound) p
+      reached = IsReached-first (record { weekly = c.args.weekly; single = c.args.singles.now }) c.args.day c.count_below-from.result
+          c.open_from-open.result (rw day.value at day.bound) p
           (omega (arith, same, first.from)) (omega (arith, same, first.near)) first.open (rw same at first.closed);
       used = omega arith;
     }
@@ -29,13 +30,15 @@ loop-index-preserved g c =
           let later = w.open_from-open-then-single-open.ensures in
           record {
             reached = subst (IsReached closings c.args.day (c.loop-index.index + 1)) (sym w.open-is)
-                (IsReached-next closings c.args.day c.loop-index.index c.loop-index.open c.number-single.result _ before.reached (omega (arith, within, c.len-index-end.ensures)) is w.if-single-open.true c.number-single.ensures.bound
+                (IsReached-next closings c.args.day c.loop-index.index c.loop-index.open c.number-single.result _ before.reached
+                (omega (arith, within, c.len-index-end.ensures)) is w.if-single-open.true c.number-single.ensures.bound
                 later.from later.near later.open later.closed);
             used = omega (arith, ticked, before.used);
           }
       | else-single-open w ↦ record {
         reached = subst (IsReached closings c.args.day (c.loop-index.index + 1)) (sym w.open-is)
-            (IsReached-before closings c.args.day c.loop-index.index c.loop-index.open c.number-single.result before.reached is c.if-open-single.false w.if-single-open.false);
+            (IsReached-before closings c.args.day c.loop-index.index c.loop-index.open c.number-single.result before.reached is
+            c.if-open-single.false w.if-single-open.false);
         used = omega (arith, ticked, before.used);
       }
     ]
@@ -43,7 +46,8 @@ loop-index-preserved g c =
 pub returns-then-open-single-clause-first : goal.returns-then-open-single-clause-first
 returns-then-open-single-clause-first g c =
     let is = sym c.at.ensures.day ∙ sym c.number-single.ensures.value in
-    IsOpenFrom-reached _ c.args.day c.loop-index.index c.loop-index.open c.requires.rising c.loop-index.invariant.reached (λ lt. omega (arith, is, c.if-open-single.true))
+    IsOpenFrom-reached _ c.args.day c.loop-index.index c.loop-index.open c.requires.rising c.loop-index.invariant.reached
+    (λ lt. omega (arith, is, c.if-open-single.true))
 
 pub returns-clause-first : goal.returns-clause-first
 returns-clause-first g c =

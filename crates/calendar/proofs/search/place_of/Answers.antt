@@ -11,7 +11,8 @@ differs x d r e f same = let t = (Decides-eqb x d).1 same in cc
 pub returns-else-place-len-clause-missing : goal.returns-else-place-len-clause-missing
 returns-else-place-len-clause-missing g c =
     let p = rw c.number.ensures.value at c.count_below-place.ensures.below in
-    has_day-IsPlaceFor c.args.singles.now c.args.day c.count_below-place.result (IsPlaceFor-apart c.args.singles.now c.args.day c.count_below-place.result c.requires.rising p
+    has_day-IsPlaceFor c.args.singles.now c.args.day c.count_below-place.result
+    (IsPlaceFor-apart c.args.singles.now c.args.day c.count_below-place.result c.requires.rising p
     (λ lt same. elim c.else-place-len.branch [
       | else-place-len-via-then-place-len+else-eq w ↦ differs _ _ _ w.eq.ensures w.if-eq.false (w.at.ensures.day ∙ same)
       | else-place-len-via-else-place-len w ↦ absurd (omega (arith, w.if-place-len.false, c.len.ensures))

@@ -11,7 +11,8 @@ pub returns-in-Err : goal.returns-in-Err
 returns-in-Err g c = record {
   clean = c.in-Err.ensures.looked.reads.clean;
   written = said-whole (SaysOf g.S.Store c.args.store.now c.audit_tables.new.self) c.tell_fault.result _ _ (fault_line (fault_number c.in-Err.fault)) Faulted
-      (says-faulted g.S.Store c.args.store.now c.audit_tables.new.self c.in-Err.fault c.in-Err.ensures.looked) c.tell_fault.ensures.exit_is c.tell_fault.ensures.writes.all;
+      (says-faulted g.S.Store c.args.store.now c.audit_tables.new.self c.in-Err.fault c.in-Err.ensures.looked) c.tell_fault.ensures.exit_is
+      c.tell_fault.ensures.writes.all;
   left = read-left (state g.S.Store c.args.store.now) (state g.S.Store c.audit_tables.new.self) c.in-Err.ensures.looked.reads;
   cut = said-cut (SaysOf g.S.Store c.args.store.now c.audit_tables.new.self) c.tell_fault.result _ _ (fault_line (fault_number c.in-Err.fault)) Faulted
       (says-faulted g.S.Store c.args.store.now c.audit_tables.new.self c.in-Err.fault c.in-Err.ensures.looked) c.tell_fault.ensures.writes.front;
@@ -21,20 +22,24 @@ pub returns-in-Ok-audit : goal.returns-in-Ok-audit
 returns-in-Ok-audit g c = record {
   clean = c.in-Ok.ensures.looked.reads.clean;
   written = said-whole (SaysOf g.S.Store c.args.store.now c.audit_tables.new.self) c.tell_sound.result _ _ sound_line Done
-      (says-sound g.S.Store c.args.store.now c.audit_tables.new.self c.in-Ok.tables c.in-Ok.ensures.looked c.in-Ok.ensures.legal c.in-Ok-audit.ensures) c.tell_sound.ensures.exit_is c.tell_sound.ensures.writes.all;
+      (says-sound g.S.Store c.args.store.now c.audit_tables.new.self c.in-Ok.tables c.in-Ok.ensures.looked c.in-Ok.ensures.legal
+      c.in-Ok-audit.ensures) c.tell_sound.ensures.exit_is c.tell_sound.ensures.writes.all;
   left = read-left (state g.S.Store c.args.store.now) (state g.S.Store c.audit_tables.new.self) c.in-Ok.ensures.looked.reads;
   cut = said-cut (SaysOf g.S.Store c.args.store.now c.audit_tables.new.self) c.tell_sound.result _ _ sound_line Done
-      (says-sound g.S.Store c.args.store.now c.audit_tables.new.self c.in-Ok.tables c.in-Ok.ensures.looked c.in-Ok.ensures.legal c.in-Ok-audit.ensures) c.tell_sound.ensures.writes.front;
+      (says-sound g.S.Store c.args.store.now c.audit_tables.new.self c.in-Ok.tables c.in-Ok.ensures.looked c.in-Ok.ensures.legal
+      c.in-Ok-audit.ensures) c.tell_sound.ensures.writes.front;
 }
 
 pub returns : goal.returns
 returns g c = record {
   clean = c.in-Ok.ensures.looked.reads.clean;
   written = said-whole (SaysOf g.S.Store c.args.store.now c.audit_tables.new.self) c.tell_finding.result _ _ (finding_line c.in-Err-audit.finding) Refused
-      (says-unsound g.S.Store c.args.store.now c.audit_tables.new.self c.legal_tables_are_sound.ensures c.in-Ok.tables c.in-Err-audit.finding c.in-Ok.ensures.looked c.in-Ok.ensures.legal c.in-Err-audit.ensures)
+      (says-unsound g.S.Store c.args.store.now c.audit_tables.new.self c.legal_tables_are_sound.ensures c.in-Ok.tables
+      c.in-Err-audit.finding c.in-Ok.ensures.looked c.in-Ok.ensures.legal c.in-Err-audit.ensures)
       c.tell_finding.ensures.exit_is c.tell_finding.ensures.writes.all;
   left = read-left (state g.S.Store c.args.store.now) (state g.S.Store c.audit_tables.new.self) c.in-Ok.ensures.looked.reads;
   cut = said-cut (SaysOf g.S.Store c.args.store.now c.audit_tables.new.self) c.tell_finding.result _ _ (finding_line c.in-Err-audit.finding) Refused
-      (says-unsound g.S.Store c.args.store.now c.audit_tables.new.self c.legal_tables_are_sound.ensures c.in-Ok.tables c.in-Err-audit.finding c.in-Ok.ensures.looked c.in-Ok.ensures.legal c.in-Err-audit.ensures)
+      (says-unsound g.S.Store c.args.store.now c.audit_tables.new.self c.legal_tables_are_sound.ensures c.in-Ok.tables
+      c.in-Err-audit.finding c.in-Ok.ensures.looked c.in-Ok.ensures.legal c.in-Err-audit.ensures)
       c.tell_finding.ensures.writes.front;
 }

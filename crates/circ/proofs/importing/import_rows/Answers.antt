@@ -7,7 +7,7 @@ use Rattle.std.specs.Io.KnownBytes.{Appends}
 use Rattle.desk.proofs.Looking.{on-err, on-err-any}
 use Rattle.desk.proofs.Shown.{shows-headline}
 use Rattle.circ.specs.Importing.{end_line, end_exit, counts_line, ImportsOf}
-use Rattle.circ.specs.declared.importing.Counts.{Counts}
+use Rattle.circ.specs.declared.importing.Tally.{Tally}
 use Rattle.terms.specs.Texts.{fault_number}
 use Rattle.circ.specs.Lines.{fault_line}
 use Rattle.circ.specs.declared.lines.Exit.TheVariants.{Faulted}
@@ -26,8 +26,12 @@ rows-init g c = record { parted = refl; many = search rules; so_far = far-none g
 pub import_row-requires : goal.import_row-requires
 import_row-requires g c = let far = c.rows.invariant.so_far in
     let all : List CopyRow = c.args.rows.items in
-    let at = within all c.rows.yielded (into_iter_items c.rows.row-iterator) (into_iter_items c.next.new.self) c.in-Some.row (c.rows.invariant.parted ∙ c.into_iter-row-iterator.ensures.into_iter_gives.0) c.in-Some.ensures.steps.0 in
-    record { room = room-for g.S.Store c.args.desk.now c.rows.desk c.rows.yielded c.rows.counts (g.W.Write.contents c.args.writer.now) (g.W.Write.contents c.rows.writer) all c.in-Some.row far at c.requires.few }
+    let at = within all c.rows.yielded (into_iter_items c.rows.row-iterator) (into_iter_items c.next.new.self) c.in-Some.row
+    (c.rows.invariant.parted ∙ c.into_iter-row-iterator.ensures.into_iter_gives.0) c.in-Some.ensures.steps.0 in
+    record {
+      room = room-for g.S.Store c.args.desk.now c.rows.desk c.rows.yielded c.rows.counts (g.W.Write.contents c.args.writer.now)
+          (g.W.Write.contents c.rows.writer) all c.in-Some.row far at c.requires.few;
+    }
 
 pub returns-in_err-fault : goal.returns-in_err-fault
 returns-in_err-fault g c = record {
@@ -36,10 +40,12 @@ returns-in_err-fault g c = record {
   written = search rules;
   cut = let far = c.rows.invariant.so_far in
       let all : List CopyRow = c.args.rows.items in
-      let at = within all c.rows.yielded (into_iter_items c.rows.row-iterator) (into_iter_items c.next.new.self) c.in-Some.row (c.rows.invariant.parted ∙ c.into_iter-row-iterator.ensures.into_iter_gives.0) c.in-Some.ensures.steps.0 in
+      let at = within all c.rows.yielded (into_iter_items c.rows.row-iterator) (into_iter_items c.next.new.self) c.in-Some.row
+      (c.rows.invariant.parted ∙ c.into_iter-row-iterator.ensures.into_iter_gives.0) c.in-Some.ensures.steps.0 in
       let one = c.in_err-fault.ensures.cut in
       on-err-any c.from_residual.result
-      (inr (imports-cut g.S.Store c.args.desk.now c.rows.desk c.import_row.new.desk all c.rows.yielded c.rows.counts (g.W.Write.contents c.args.writer.now) (g.W.Write.contents c.rows.writer) c.in-Some.row far at
+      (inr (imports-cut g.S.Store c.args.desk.now c.rows.desk c.import_row.new.desk all c.rows.yielded c.rows.counts
+      (g.W.Write.contents c.args.writer.now) (g.W.Write.contents c.rows.writer) c.in-Some.row far at
       (g.W.Write.contents c.import_row.new.writer) one.0 one.1 one.2));
 }
 
@@ -49,22 +55,28 @@ returns-in-Some-2 g c = record {
   headline = shows-headline _;
   written = let far = c.rows.invariant.so_far in
       let all : List CopyRow = c.args.rows.items in
-      let at = within all c.rows.yielded (into_iter_items c.rows.row-iterator) (into_iter_items c.next.new.self) c.in-Some.row (c.rows.invariant.parted ∙ c.into_iter-row-iterator.ensures.into_iter_gives.0) c.in-Some.ensures.steps.0 in
+      let at = within all c.rows.yielded (into_iter_items c.rows.row-iterator) (into_iter_items c.next.new.self) c.in-Some.row
+      (c.rows.invariant.parted ∙ c.into_iter-row-iterator.ensures.into_iter_gives.0) c.in-Some.ensures.steps.0 in
       let fault = c.in-Some-2.fault in
       let is = ap Ok c.in-Some-2.is in
       let kept = c.in_ok-fault.ensures.silent fault is in
       let a = g.W.Write.contents c.args.writer.now in
       let b = g.W.Write.contents c.rows.writer in
       let d = g.W.Write.contents c.tell_stop.new.writer in
-      ends-as (λ exit. ImportsOf all c.args.end g.S.Store c.args.desk.now c.import_row.new.desk (Appends a d) exit) c.tell_stop.result Faulted c.tell_stop.ensures.exit_is c.tell_stop.ensures.writes.all
-      (λ wrote. inr (imports-some g.S.Store c.args.desk.now c.rows.desk c.import_row.new.desk all c.rows.yielded c.rows.counts a b c.in-Some.row far at fault (Appends a d)
+      ends-as (λ exit. ImportsOf all c.args.end g.S.Store c.args.desk.now c.import_row.new.desk (Appends a d) exit) c.tell_stop.result
+      Faulted c.tell_stop.ensures.exit_is c.tell_stop.ensures.writes.all
+      (λ wrote. inr (imports-some g.S.Store c.args.desk.now c.rows.desk c.import_row.new.desk all c.rows.yielded c.rows.counts a b
+      c.in-Some.row far at fault (Appends a d)
       c.in_ok-fault.ensures.clean (c.in_ok-fault.ensures.sound fault is) (c.in_ok-fault.ensures.undone fault is) c.in_ok-fault.ensures.left
       (lines-whole g.S.Store c.args.desk.now c.rows.desk c.rows.yielded c.rows.counts a b far (fault_line (fault_number fault)) d
-      (after-nothing b (g.W.Write.contents c.import_row.new.writer) d (fault_line (fault_number fault) ++ counts_line c.rows.counts.accepted c.rows.counts.refused) kept.0
-      (subst (λ (n : Counts). Appends (g.W.Write.contents c.import_row.new.writer) d (fault_line (fault_number fault) ++ counts_line n.accepted n.refused)) kept.1 wrote)))));
+      (after-nothing b (g.W.Write.contents c.import_row.new.writer) d
+      (fault_line (fault_number fault) ++ counts_line c.rows.counts.accepted c.rows.counts.refused) kept.0
+      (subst (λ (n : Tally). Appends (g.W.Write.contents c.import_row.new.writer) d
+      (fault_line (fault_number fault) ++ counts_line n.accepted n.refused)) kept.1 wrote)))));
   cut = let far = c.rows.invariant.so_far in
       let all : List CopyRow = c.args.rows.items in
-      let at = within all c.rows.yielded (into_iter_items c.rows.row-iterator) (into_iter_items c.next.new.self) c.in-Some.row (c.rows.invariant.parted ∙ c.into_iter-row-iterator.ensures.into_iter_gives.0) c.in-Some.ensures.steps.0 in
+      let at = within all c.rows.yielded (into_iter_items c.rows.row-iterator) (into_iter_items c.next.new.self) c.in-Some.row
+      (c.rows.invariant.parted ∙ c.into_iter-row-iterator.ensures.into_iter_gives.0) c.in-Some.ensures.steps.0 in
       let fault = c.in-Some-2.fault in
       let is = ap Ok c.in-Some-2.is in
       let kept = c.in_ok-fault.ensures.silent fault is in
@@ -74,11 +86,14 @@ returns-in-Some-2 g c = record {
       on-err c.tell_stop.result
       (λ front. inl (
         Faulted,
-        inr (imports-some g.S.Store c.args.desk.now c.rows.desk c.import_row.new.desk all c.rows.yielded c.rows.counts a b c.in-Some.row far at fault (AppendsFront a d)
+        inr (imports-some g.S.Store c.args.desk.now c.rows.desk c.import_row.new.desk all c.rows.yielded c.rows.counts a b c.in-Some.row
+            far at fault (AppendsFront a d)
             c.in_ok-fault.ensures.clean (c.in_ok-fault.ensures.sound fault is) (c.in_ok-fault.ensures.undone fault is) c.in_ok-fault.ensures.left
             (lines-front g.S.Store c.args.desk.now c.rows.desk c.rows.yielded c.rows.counts a b far (fault_line (fault_number fault)) d
-            (front-after-nothing b (g.W.Write.contents c.import_row.new.writer) d (fault_line (fault_number fault) ++ counts_line c.rows.counts.accepted c.rows.counts.refused) kept.0
-            (subst (λ (n : Counts). AppendsFront (g.W.Write.contents c.import_row.new.writer) d (fault_line (fault_number fault) ++ counts_line n.accepted n.refused)) kept.1 front)))),
+            (front-after-nothing b (g.W.Write.contents c.import_row.new.writer) d
+            (fault_line (fault_number fault) ++ counts_line c.rows.counts.accepted c.rows.counts.refused) kept.0
+            (subst (λ (n : Tally). AppendsFront (g.W.Write.contents c.import_row.new.writer) d
+            (fault_line (fault_number fault) ++ counts_line n.accepted n.refused)) kept.1 front)))),
       ))
       c.tell_stop.ensures.writes.front;
 }
@@ -88,10 +103,13 @@ rows-preserved g c = let far = c.rows.invariant.so_far in
     let done = c.in_ok-fault.ensures.done (ap Ok c.in_default.is) in
     let steps = c.in-Some.ensures.steps in
     record {
-      parted = append_assoc c.rows.yielded (c.in-Some.row ∷ []) (into_iter_items c.next.new.self) ∙ ap (λ (xs : List CopyRow). c.rows.yielded ++ xs) (sym steps.0) ∙ c.rows.invariant.parted;
+      parted = append_assoc c.rows.yielded (c.in-Some.row ∷ []) (into_iter_items c.next.new.self)
+          ∙ ap (λ (xs : List CopyRow). c.rows.yielded ++ xs) (sym steps.0) ∙ c.rows.invariant.parted;
       many = let was = c.rows.invariant.many in let gone = steps.1 in let short = ap length steps.0 in omega (arith, was, gone, short);
-      so_far = subst (λ (n : Counts). SoFar g.S.Store c.args.desk.now c.import_row.new.desk (c.rows.yielded ++ c.in-Some.row ∷ []) n (g.W.Write.contents c.args.writer.now) (g.W.Write.contents c.import_row.new.writer)) (sym done.2)
-          (far-more g.S.Store c.args.desk.now c.rows.desk c.import_row.new.desk c.rows.yielded c.rows.counts (g.W.Write.contents c.args.writer.now) (g.W.Write.contents c.rows.writer) (g.W.Write.contents c.import_row.new.writer)
+      so_far = subst (λ (n : Tally). SoFar g.S.Store c.args.desk.now c.import_row.new.desk (c.rows.yielded ++ c.in-Some.row ∷ []) n
+          (g.W.Write.contents c.args.writer.now) (g.W.Write.contents c.import_row.new.writer)) (sym done.2)
+          (far-more g.S.Store c.args.desk.now c.rows.desk c.import_row.new.desk c.rows.yielded c.rows.counts
+          (g.W.Write.contents c.args.writer.now) (g.W.Write.contents c.rows.writer) (g.W.Write.contents c.import_row.new.writer)
           c.in-Some.row done.0 far done.1 done.3);
     }
 
@@ -102,17 +120,21 @@ returns g c = record {
   written = let far = c.rows.invariant.so_far in
       let all : List CopyRow = c.args.rows.items in
       let none = nothing-left (into_iter_items c.rows.row-iterator) (sym c.rows.invariant.many ∙ c.in-None.ensures.steps.0) in
-      let is = sym (append-nil c.rows.yielded) ∙ ap (λ (xs : List CopyRow). c.rows.yielded ++ xs) (sym none) ∙ c.rows.invariant.parted ∙ c.into_iter-row-iterator.ensures.into_iter_gives.0 in
+      let is = sym (append-nil c.rows.yielded) ∙ ap (λ (xs : List CopyRow). c.rows.yielded ++ xs) (sym none) ∙ c.rows.invariant.parted
+      ∙ c.into_iter-row-iterator.ensures.into_iter_gives.0 in
       let a = g.W.Write.contents c.args.writer.now in
       let b = g.W.Write.contents c.rows.writer in
       let d = g.W.Write.contents c.tell_end.new.writer in
-      ends-as (λ exit. ImportsOf all c.args.end g.S.Store c.args.desk.now c.rows.desk (Appends a d) exit) c.tell_end.result (end_exit c.args.end c.rows.counts.refused) c.tell_end.ensures.exit_is c.tell_end.ensures.writes.all
-      (λ wrote. inl (imports-all g.S.Store c.args.desk.now c.rows.desk c.rows.yielded c.rows.counts a b far (end_line c.args.end) all is c.args.end (Appends a d)
+      ends-as (λ exit. ImportsOf all c.args.end g.S.Store c.args.desk.now c.rows.desk (Appends a d) exit) c.tell_end.result
+      (end_exit c.args.end c.rows.counts.refused) c.tell_end.ensures.exit_is c.tell_end.ensures.writes.all
+      (λ wrote. inl (imports-all g.S.Store c.args.desk.now c.rows.desk c.rows.yielded c.rows.counts a b far
+      (end_line c.args.end) all is c.args.end (Appends a d)
       (lines-whole g.S.Store c.args.desk.now c.rows.desk c.rows.yielded c.rows.counts a b far (end_line c.args.end) d wrote)));
   cut = let far = c.rows.invariant.so_far in
       let all : List CopyRow = c.args.rows.items in
       let none = nothing-left (into_iter_items c.rows.row-iterator) (sym c.rows.invariant.many ∙ c.in-None.ensures.steps.0) in
-      let is = sym (append-nil c.rows.yielded) ∙ ap (λ (xs : List CopyRow). c.rows.yielded ++ xs) (sym none) ∙ c.rows.invariant.parted ∙ c.into_iter-row-iterator.ensures.into_iter_gives.0 in
+      let is = sym (append-nil c.rows.yielded) ∙ ap (λ (xs : List CopyRow). c.rows.yielded ++ xs) (sym none) ∙ c.rows.invariant.parted
+      ∙ c.into_iter-row-iterator.ensures.into_iter_gives.0 in
       let a = g.W.Write.contents c.args.writer.now in
       let b = g.W.Write.contents c.rows.writer in
       let d = g.W.Write.contents c.tell_end.new.writer in

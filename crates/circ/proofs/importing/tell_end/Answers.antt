@@ -12,5 +12,9 @@ returns-in_err-write_end g c = record {
 pub returns-in_err-write_counts : goal.returns-in_err-write_counts
 returns-in_err-write_counts g c = record {
   exit_is = search rules;
-  writes = record { all = search rules; front = on-err-any c.from_residual-in_err-write_counts.result (front-after _ _ _ _ _ c.in_ok-write_end.ensures.all c.in_err-write_counts.ensures.front) };
+  writes = record {
+    all = search rules;
+    front = on-err-any c.from_residual-in_err-write_counts.result
+        (front-after _ _ _ _ _ c.in_ok-write_end.ensures.all c.in_err-write_counts.ensures.front);
+  };
 }

@@ -7,13 +7,17 @@ use Rattle.circ.proofs.lines.tell_finding.Goals as goal
 
 pub returns-in-Claims : goal.returns-in-Claims
 returns-in-Claims g c =
-    subst (λ (f : Finding). EndsWith Refused (finding_line f) (g.W.Write.contents c.args.writer.now) (g.W.Write.contents c.tell_unsound.new.writer) c.tell_unsound.result) (sym c.in-Claims.is)
-    (subst (λ (n : ℕ). EndsWith Refused (unsound_line (codes "claims ") n) (g.W.Write.contents c.args.writer.now) (g.W.Write.contents c.tell_unsound.new.writer) c.tell_unsound.result) c.number.ensures.value
+    subst (λ (f : Finding). EndsWith Refused (finding_line f) (g.W.Write.contents c.args.writer.now)
+    (g.W.Write.contents c.tell_unsound.new.writer) c.tell_unsound.result) (sym c.in-Claims.is)
+    (subst (λ (n : ℕ). EndsWith Refused (unsound_line (codes "claims ") n) (g.W.Write.contents c.args.writer.now)
+    (g.W.Write.contents c.tell_unsound.new.writer) c.tell_unsound.result) c.number.ensures.value
     c.tell_unsound.ensures)
 
 pub returns-in-Balance : goal.returns-in-Balance
 returns-in-Balance g c =
-    subst (λ (f : Finding). EndsWith Refused (finding_line f) (g.W.Write.contents c.args.writer.now) (g.W.Write.contents c.tell_unsound-in-Balance.new.writer) c.tell_unsound-in-Balance.result)
+    subst (λ (f : Finding). EndsWith Refused (finding_line f) (g.W.Write.contents c.args.writer.now)
+    (g.W.Write.contents c.tell_unsound-in-Balance.new.writer) c.tell_unsound-in-Balance.result)
     (sym c.in-Balance.is)
-    (subst (λ (n : ℕ). EndsWith Refused (unsound_line (codes "balance ") n) (g.W.Write.contents c.args.writer.now) (g.W.Write.contents c.tell_unsound-in-Balance.new.writer) c.tell_unsound-in-Balance.result)
+    (subst (λ (n : ℕ). EndsWith Refused (unsound_line (codes "balance ") n) (g.W.Write.contents c.args.writer.now)
+    (g.W.Write.contents c.tell_unsound-in-Balance.new.writer) c.tell_unsound-in-Balance.result)
     c.number-in-Balance.ensures.value c.tell_unsound-in-Balance.ensures)

@@ -12,5 +12,9 @@ returns-in_err-write_reply g c = record {
 pub returns-in_err-write_bytes : goal.returns-in_err-write_bytes
 returns-in_err-write_bytes g c = record {
   exit_is = search rules;
-  writes = record { all = search rules; front = on-err-any c.from_residual-in_err-write_bytes.result (front-after _ _ _ _ _ c.in_ok-write_reply.ensures.all c.in_err-write_bytes.ensures.front) };
+  writes = record {
+    all = search rules;
+    front = on-err-any c.from_residual-in_err-write_bytes.result
+        (front-after _ _ _ _ _ c.in_ok-write_reply.ensures.all c.in_err-write_bytes.ensures.front);
+  };
 }

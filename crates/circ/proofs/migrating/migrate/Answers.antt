@@ -1,4 +1,3 @@
-use Rattle.store.specs.Library.{state}
 use Rattle.terms.specs.Texts.{fault_number}
 use Rattle.circ.specs.Lines.{schema_line, fault_line}
 use Rattle.circ.specs.Migrating.{SaysOneOf}
@@ -14,7 +13,8 @@ returns-in-Ok g c =
     let says = says-led g.S.Store old new tt c.in-Ok.ensures in
     record {
       clean = c.in-Ok.ensures.clean;
-      written = said-whole (SaysOneOf g.S.Store old new) c.tell_schema.result _ _ schema_line Done says c.tell_schema.ensures.exit_is c.tell_schema.ensures.writes.all;
+      written = said-whole (SaysOneOf g.S.Store old new) c.tell_schema.result _ _ schema_line Done says c.tell_schema.ensures.exit_is
+          c.tell_schema.ensures.writes.all;
       left = left-in-one g.S.Store old new c.in-Ok.ensures;
       left_same = left-same g.S.Store old new c.in-Ok.ensures;
       left_damaged = c.in-Ok.ensures.stop_damaged;

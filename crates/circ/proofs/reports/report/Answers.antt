@@ -42,14 +42,18 @@ returns-in-Err-Faulted g c = record {
   headline = shows-headline _;
   written =
       told-whole (TellsOf c.args.report.now g.S.Store c.args.desk.now c.report.new.self) c.tell_fault.result _ _ _ c.in-Err-Faulted.ensures.cut.sent _ Faulted
-      (λ WentOut line. tells-fault g.S.Store c.args.desk.now c.report.new.self c.args.report.now WentOut c.in-Err-Faulted.ensures.cut.sent c.in-Err-Faulted.ensures.cut.front c.in-Err-Faulted.fault
-      (λ disk stored H shows. c.in-Err-Faulted.ensures.sound disk (ap Err (c.in-Err-Faulted.field-0-is ∙ ap Met stored)) H shows) c.in-Err-Faulted.ensures.looks.undone line)
+      (λ WentOut line. tells-fault g.S.Store c.args.desk.now c.report.new.self c.args.report.now WentOut c.in-Err-Faulted.ensures.cut.sent
+      c.in-Err-Faulted.ensures.cut.front c.in-Err-Faulted.fault
+      (λ disk stored H shows. c.in-Err-Faulted.ensures.sound disk (ap Err (c.in-Err-Faulted.field-0-is ∙ ap Met stored)) H shows)
+      c.in-Err-Faulted.ensures.looks.undone line)
       c.in-Err-Faulted.ensures.cut.wrote c.tell_fault.ensures.exit_is c.tell_fault.ensures.writes.all;
   left = search rules;
   cut =
       told-cut (TellsOf c.args.report.now g.S.Store c.args.desk.now c.report.new.self) c.tell_fault.result _ _ _ c.in-Err-Faulted.ensures.cut.sent _ Faulted
-      (λ WentOut line. tells-fault g.S.Store c.args.desk.now c.report.new.self c.args.report.now WentOut c.in-Err-Faulted.ensures.cut.sent c.in-Err-Faulted.ensures.cut.front c.in-Err-Faulted.fault
-      (λ disk stored H shows. c.in-Err-Faulted.ensures.sound disk (ap Err (c.in-Err-Faulted.field-0-is ∙ ap Met stored)) H shows) c.in-Err-Faulted.ensures.looks.undone line)
+      (λ WentOut line. tells-fault g.S.Store c.args.desk.now c.report.new.self c.args.report.now WentOut c.in-Err-Faulted.ensures.cut.sent
+      c.in-Err-Faulted.ensures.cut.front c.in-Err-Faulted.fault
+      (λ disk stored H shows. c.in-Err-Faulted.ensures.sound disk (ap Err (c.in-Err-Faulted.field-0-is ∙ ap Met stored)) H shows)
+      c.in-Err-Faulted.ensures.looks.undone line)
       c.in-Err-Faulted.ensures.cut.wrote c.tell_fault.ensures.writes.front;
 }
 

@@ -43,11 +43,13 @@ returns-in-Ok-handle g c = record {
   headline = shows-headline _;
   written = let words = texts_of c.args.words.now in
       said-whole (Says c.args.key words g.S.Store c.args.desk.now c.handle.new.self) c.tell_reply.result _ _ _ (exit_of c.in-Ok-handle.reply)
-      (says-reply g.S.Store c.args.desk.now c.handle.new.self c.args.key words c.in-Ok.command c.in-Ok-handle.reply c.in-Ok.ensures.understood c.in-Ok.ensures.only c.in-Ok-handle.ensures.handled.replied)
+      (says-reply g.S.Store c.args.desk.now c.handle.new.self c.args.key words c.in-Ok.command c.in-Ok-handle.reply
+      c.in-Ok.ensures.understood c.in-Ok.ensures.only c.in-Ok-handle.ensures.handled.replied)
       c.tell_reply.ensures.exit_is c.tell_reply.ensures.writes.all;
   cut = let words = texts_of c.args.words.now in
       said-cut (Says c.args.key words g.S.Store c.args.desk.now c.handle.new.self) c.tell_reply.result _ _ _ (exit_of c.in-Ok-handle.reply)
-      (says-reply g.S.Store c.args.desk.now c.handle.new.self c.args.key words c.in-Ok.command c.in-Ok-handle.reply c.in-Ok.ensures.understood c.in-Ok.ensures.only c.in-Ok-handle.ensures.handled.replied)
+      (says-reply g.S.Store c.args.desk.now c.handle.new.self c.args.key words c.in-Ok.command c.in-Ok-handle.reply
+      c.in-Ok.ensures.understood c.in-Ok.ensures.only c.in-Ok-handle.ensures.handled.replied)
       c.tell_reply.ensures.writes.front;
 }
 

@@ -4,4 +4,5 @@ use Rattle.circ.proofs.Halls.{no-memory, fault-told}
 use Rattle.circ.proofs.serving.serve.Goals as goal
 
 pub returns-in-Err : goal.returns-in-Err
-returns-in-Err g c = fault-told g.S.Store c.args.port c.args.workers c.args.desk c.args.desk _ _ c.out_of_memory.result (Met Memory) (no-memory g.S.Store c.args.desk) c.out_of_memory.ensures
+returns-in-Err g c = fault-told g.S.Store c.args.web.port c.args.web.workers c.args.desk c.args.desk _ _ c.out_of_memory.result (Met Memory)
+    (no-memory g.S.Store c.args.desk) c.out_of_memory.ensures

@@ -6,12 +6,15 @@ use Rattle.circ_audit.proofs.Audited.{audits-claims, audits-binding, audits-bala
 use Rattle.circ_audit.proofs.auditing.audit.Goals as goal
 
 pub returns-in-Some : goal.returns-in-Some
-returns-in-Some c = subst (λ (n : ℕ). Audits c.args.tables.now (Err (Claims n))) (sym c.new.ensures) (audits-claims c.args.tables.now c.in-Some.copy c.in-Some.ensures)
+returns-in-Some c = subst (λ (n : ℕ). Audits c.args.tables.now (Err (Claims n))) (sym c.new.ensures)
+    (audits-claims c.args.tables.now c.in-Some.copy c.in-Some.ensures)
 
 pub returns-in-Some-first_unbound : goal.returns-in-Some-first_unbound
 returns-in-Some-first_unbound c =
     subst (λ (n : ℕ). Audits c.args.tables.now (Err (Binding n))) (sym c.new-in-Some-first_unbound.ensures)
-    (audits-binding c.args.tables.now (none-found (IsClaimedOnce c.args.tables.now) c.first_broken.result c.in_default.not-Some c.first_broken.ensures) c.in-Some-first_unbound.hold c.in-Some-first_unbound.ensures)
+    (audits-binding c.args.tables.now
+    (none-found (IsClaimedOnce c.args.tables.now) c.first_broken.result c.in_default.not-Some c.first_broken.ensures)
+    c.in-Some-first_unbound.hold c.in-Some-first_unbound.ensures)
 
 pub returns-in-Some-first_broken : goal.returns-in-Some-first_broken
 returns-in-Some-first_broken c =

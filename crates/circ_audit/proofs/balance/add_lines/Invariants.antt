@@ -1,6 +1,6 @@
 use Rattle.std.proofs.Common.{◌*◌, ◌^◌, take}
 use Rattle.circ_audit.specs.Rows.{charge, credit}
-use Rattle.circ_audit.specs.Pages.{AreWithin, AddsRows}
+use Rattle.circ_audit.specs.Spans.{AreWithin, AddsRows}
 use Rattle.circ_audit.proofs.balance.add_lines.Given as goal
 
 abbrev pub invariant-loop-line : goal.invariant-loop-line

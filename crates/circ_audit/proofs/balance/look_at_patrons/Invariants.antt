@@ -1,5 +1,5 @@
 use Rattle.std.proofs.Common.{take}
-use Rattle.circ_audit.specs.Pages.{LooksAtRows}
+use Rattle.circ_audit.specs.Spans.{LooksAtRows}
 use Rattle.circ_audit.proofs.balance.look_at_patrons.Given as goal
 
 abbrev pub invariant-loop-row : goal.invariant-loop-row

@@ -8,7 +8,8 @@ use Rattle.circ_audit.proofs.bindings.copy_row.Goals as goal
 pub returns-in-Ok : goal.returns-in-Ok
 returns-in-Ok c =
     subst (λ (n : ℕ). Some c.index-rows-place.result ≡ copy_row c.as_slice-rows.result.now n) c.number.ensures.value
-    (searched-found (λ r. r.copy) c.as_slice-rows.result.now c.as_slice-rows.ensures.ordered c.number.result c.in-Ok.place c.index-rows-place.result c.in-Ok.ensures.bound c.index-rows-place.is
+    (searched-found (λ r. r.copy) c.as_slice-rows.result.now c.as_slice-rows.ensures.ordered c.number.result c.in-Ok.place
+    c.index-rows-place.result c.in-Ok.ensures.bound c.index-rows-place.is
     (c.in-Ok.ensures.position (λ r. r.copy) (answers_always _ _ _ (λ f a r g called. search rules))))
     ∙ ap (λ (rows : List CopyRow). copy_row rows c.args.copy) c.as_slice-rows.ensures.rows
 

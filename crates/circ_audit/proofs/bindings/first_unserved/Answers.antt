@@ -7,10 +7,13 @@ use Rattle.circ_audit.proofs.bindings.first_unserved.Goals as goal
 
 pub loop-row-preserved : goal.loop-row-preserved
 loop-row-preserved c =
-    subst (λ (o : Option ℕ). FailsFirst (AreServed c.args.tables.now (take (c.loop-row.row-index + 1) c.as_slice-row-items.result.now)) o) (sym c.unserved_after-first.ensures)
-    (served-more c.args.tables.now c.loop-row.row-index c.loop-row.first c.as_slice-row-items.result.now c.row-item.result c.loop-row-test.true c.row-item.is c.loop-row.invariant)
+    subst (λ (o : Option ℕ). FailsFirst (AreServed c.args.tables.now (take (c.loop-row.row-index + 1) c.as_slice-row-items.result.now)) o)
+    (sym c.unserved_after-first.ensures)
+    (served-more c.args.tables.now c.loop-row.row-index c.loop-row.first c.as_slice-row-items.result.now c.row-item.result
+    c.loop-row-test.true c.row-item.is c.loop-row.invariant)
 
 pub returns : goal.returns
 returns c =
-    subst (λ (rows : List TransitRow). FailsFirst (AreServed c.args.tables.now rows) c.loop-row.first) (take_all c.loop-row.row-index c.as_slice-row-items.result.now (omega arith) ∙ c.as_slice-row-items.ensures.rows)
+    subst (λ (rows : List TransitRow). FailsFirst (AreServed c.args.tables.now rows) c.loop-row.first)
+    (take_all c.loop-row.row-index c.as_slice-row-items.result.now (omega arith) ∙ c.as_slice-row-items.ensures.rows)
     c.loop-row.invariant

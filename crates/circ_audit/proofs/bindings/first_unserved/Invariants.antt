@@ -5,4 +5,5 @@ use Rattle.circ_audit.specs.Sound.{FailsFirst}
 use Rattle.circ_audit.proofs.bindings.first_unserved.Given as goal
 
 abbrev pub invariant-loop-row : goal.invariant-loop-row
-invariant-loop-row l = FailsFirst (λ h. All (λ r. r.hold ≡ Some h → serves l.tables.copies r (hold_row l.tables.holds h) ≡ true) (take l.row-index l.row-items)) l.first
+invariant-loop-row l = FailsFirst (λ h. All (λ r. r.hold ≡ Some h → serves l.tables.copies r (hold_row l.tables.holds h) ≡ true)
+    (take l.row-index l.row-items)) l.first

@@ -9,4 +9,6 @@ use Rattle.circ_tables.proofs.TableLemmas.{closed_days_within}
 use Rattle.circ_tables.proofs.closed_days.all_closed_days.Goals as goal
 
 pub returns : goal.returns
-returns g c = lists_of closed_days _ _ (all_plain (closed_days_are SCHEMA has_first)) _ (λ m. ListedBy PairBelow m is_any) (pair_listed (closed_days_are SCHEMA has_first)) (λ m rows listed v there. let at = listed.sound v there in (at.0, at.1)) closed_days_within _ _ _ _ c.rows_of.ensures
+returns g c = lists_of closed_days _ _ (all_plain (closed_days_are SCHEMA has_first)) _ (λ m. ListedBy PairBelow m is_any)
+    (pair_listed (closed_days_are SCHEMA has_first)) (λ m rows listed v there. let at = listed.sound v there in (at.0, at.1))
+    closed_days_within _ _ _ _ c.rows_of.ensures

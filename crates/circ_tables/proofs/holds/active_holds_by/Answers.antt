@@ -7,4 +7,5 @@ use Rattle.circ_tables.proofs.NumberedLemmas.{lists_by}
 use Rattle.circ_tables.proofs.holds.active_holds_by.Goals as goal
 
 pub returns : goal.returns
-returns g c = lists_by holds_are active_holds_by_tests _ (number c.args.patron ∷ []) (is_active_by c.args.patron) (λ r. refl) active_holds_by_is _ _ _ _ _ (rw (c.params-to_sql.ensures, c.number.ensures.value) at c.rows_of.ensures)
+returns g c = lists_by holds_are active_holds_by_tests _ (number c.args.patron ∷ []) (is_active_by c.args.patron)
+    (λ r. refl) active_holds_by_is _ _ _ _ _ (rw (c.params-to_sql.ensures, c.number.ensures.value) at c.rows_of.ensures)

@@ -7,4 +7,6 @@ use Rattle.circ_tables.proofs.NumberedLemmas.{counts_by}
 use Rattle.circ_tables.proofs.holds.count_active_holds_on.Goals as goal
 
 pub returns : goal.returns
-returns g c = counts_by holds_are count_active_holds_on_tests _ (number c.args.patron ∷ number c.args.title ∷ []) (is_active_on c.args.patron c.args.title) (λ r. refl) count_active_holds_on_is _ _ _ _ (rw (c.params-to_sql.ensures, c.number.ensures.value, c.params-to_sql-2.ensures, c.number-2.ensures.value) at c.counted.ensures)
+returns g c = counts_by holds_are count_active_holds_on_tests _ (number c.args.patron ∷ number c.args.title ∷ [])
+    (is_active_on c.args.patron c.args.title) (λ r. refl) count_active_holds_on_is _ _ _ _
+    (rw (c.params-to_sql.ensures, c.number.ensures.value, c.params-to_sql-2.ensures, c.number-2.ensures.value) at c.counted.ensures)

@@ -9,5 +9,7 @@ use Rattle.circ_tables.proofs.holds.first_begun.Goals as goal
 
 pub returns : goal.returns
 returns g c =
-    selects_of holds _ begun_plain _ (λ maps. FirstOf (maps holds_place) (WaitsSince (maps transits_place) c.args.title c.args.today)) (begun_found c.args.title c.args.today) (λ maps v found. found.0)
-    (are_encoded holds_are) _ _ _ _ (rw (c.params-to_sql.ensures, c.number.ensures.value, c.params-to_sql-2.ensures, c.number-2.ensures.value) at c.row_of.ensures)
+    selects_of holds _ begun_plain _ (λ maps. FirstOf (maps holds_place) (WaitsSince (maps transits_place) c.args.title c.args.today))
+    (begun_found c.args.title c.args.today) (λ maps v found. found.0)
+    (are_encoded holds_are) _ _ _ _
+    (rw (c.params-to_sql.ensures, c.number.ensures.value, c.params-to_sql-2.ensures, c.number-2.ensures.value) at c.row_of.ensures)

@@ -9,5 +9,6 @@ use Rattle.circ_tables.proofs.holds.first_waiting.Goals as goal
 
 pub returns : goal.returns
 returns g c =
-    selects_of holds _ waiting_plain _ (λ maps. FirstOfBy BeginsBefore (maps holds_place) (Waits (maps transits_place) c.args.title)) (waiting_found c.args.title) (λ maps v found. found.0)
+    selects_of holds _ waiting_plain _ (λ maps. FirstOfBy BeginsBefore (maps holds_place) (Waits (maps transits_place) c.args.title))
+    (waiting_found c.args.title) (λ maps v found. found.0)
     (are_encoded holds_are) _ _ _ _ (rw (c.params-to_sql.ensures, c.number.ensures.value) at c.row_of.ensures)

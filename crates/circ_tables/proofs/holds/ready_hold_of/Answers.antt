@@ -7,4 +7,5 @@ use Rattle.circ_tables.proofs.NumberedLemmas.{selects_by}
 use Rattle.circ_tables.proofs.holds.ready_hold_of.Goals as goal
 
 pub returns : goal.returns
-returns g c = selects_by holds_are ready_hold_of_tests _ (number c.args.copy ∷ []) (names_copy c.args.copy) (λ r. refl) ready_hold_of_is _ _ _ _ (rw (c.params-to_sql.ensures, c.number.ensures.value) at c.row_of.ensures)
+returns g c = selects_by holds_are ready_hold_of_tests _ (number c.args.copy ∷ []) (names_copy c.args.copy)
+    (λ r. refl) ready_hold_of_is _ _ _ _ (rw (c.params-to_sql.ensures, c.number.ensures.value) at c.row_of.ensures)

@@ -7,4 +7,6 @@ use Rattle.circ_tables.proofs.NumberedLemmas.{pages_by}
 use Rattle.circ_tables.proofs.holds.ready_holds_after.Goals as goal
 
 pub returns : goal.returns
-returns g c = pages_by holds_are ready_holds_after_tests _ (number c.args.branch ∷ number c.args.after ∷ []) (is_ready_after c.args.branch c.args.after) (λ r. refl) ready_holds_after_is _ _ _ _ _ (rw (c.params-to_sql.ensures, c.number.ensures.value, c.params-to_sql-2.ensures, c.number-2.ensures.value) at c.rows_of.ensures)
+returns g c = pages_by holds_are ready_holds_after_tests _ (number c.args.branch ∷ number c.args.after ∷ [])
+    (is_ready_after c.args.branch c.args.after) (λ r. refl) ready_holds_after_is _ _ _ _ _
+    (rw (c.params-to_sql.ensures, c.number.ensures.value, c.params-to_sql-2.ensures, c.number-2.ensures.value) at c.rows_of.ensures)

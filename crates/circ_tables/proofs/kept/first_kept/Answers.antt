@@ -10,4 +10,5 @@ use Rattle.circ_tables.proofs.kept.first_kept.Goals as goal
 
 pub returns : goal.returns
 returns g c =
-    lists_of kept _ _ first_kept_plain _ (λ m. FirstRowsBy PairBelow PAGE_ROWS m is_any) first_kept_found (kept_there is_any) kept_within _ _ _ _ c.rows_of.ensures
+    lists_of kept _ _ first_kept_plain _ (λ m. FirstRowsBy PairBelow PAGE_ROWS m is_any) first_kept_found
+    (kept_there is_any) kept_within _ _ _ _ c.rows_of.ensures

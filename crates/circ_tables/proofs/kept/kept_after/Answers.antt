@@ -11,4 +11,7 @@ use Rattle.circ_tables.proofs.kept.kept_after.Goals as goal
 
 pub returns : goal.returns
 returns g c =
-    lists_of kept _ _ kept_after_plain _ (λ m. FirstRowsBy PairBelow PAGE_ROWS m (is_kept_after (owner_number c.args.owner) c.args.key.now)) (kept_after_found (owner_number c.args.owner) c.args.key.now) (kept_there (is_kept_after (owner_number c.args.owner) c.args.key.now)) kept_within _ _ _ _ (rw (c.params-to_sql.ensures, c.owner_number.ensures, c.params-to_sql-2.ensures, c.as_str.ensures.value) at c.rows_of.ensures)
+    lists_of kept _ _ kept_after_plain _ (λ m. FirstRowsBy PairBelow PAGE_ROWS m (is_kept_after (owner_number c.args.owner) c.args.key.now))
+    (kept_after_found (owner_number c.args.owner) c.args.key.now)
+    (kept_there (is_kept_after (owner_number c.args.owner) c.args.key.now)) kept_within _ _ _ _
+    (rw (c.params-to_sql.ensures, c.owner_number.ensures, c.params-to_sql-2.ensures, c.as_str.ensures.value) at c.rows_of.ensures)

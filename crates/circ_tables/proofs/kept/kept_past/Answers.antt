@@ -11,4 +11,6 @@ use Rattle.circ_tables.proofs.kept.kept_past.Goals as goal
 
 pub returns : goal.returns
 returns g c =
-    lists_of kept _ _ kept_past_plain _ (λ m. FirstRowsBy PairBelow PAGE_ROWS m (is_after (owner_number c.args.owner))) (kept_past_found (owner_number c.args.owner)) (kept_there (is_after (owner_number c.args.owner))) kept_within _ _ _ _ (rw (c.params-to_sql.ensures, c.owner_number.ensures) at c.rows_of.ensures)
+    lists_of kept _ _ kept_past_plain _ (λ m. FirstRowsBy PairBelow PAGE_ROWS m (is_after (owner_number c.args.owner)))
+    (kept_past_found (owner_number c.args.owner)) (kept_there (is_after (owner_number c.args.owner))) kept_within _ _ _ _
+    (rw (c.params-to_sql.ensures, c.owner_number.ensures) at c.rows_of.ensures)

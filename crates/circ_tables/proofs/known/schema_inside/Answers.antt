@@ -16,9 +16,11 @@ returns-in-Err-SqlInputError g c =
     let old = state g.S.Store c.args.tx.now.conn.now in
     let new = state g.S.Store c.query_all.new.self.conn.now in
     record {
-      works = query_works g.S.Store _ _ _ _ _ c.query_all.result c.query_all.ensures.same_reference c.query_all.ensures.survives c.query_all.ensures.ok c.query_all.ensures.err;
+      works = query_works g.S.Store _ _ _ _ _ c.query_all.result c.query_all.ensures.same_reference c.query_all.ensures.survives
+          c.query_all.ensures.ok c.query_all.ensures.err;
       named = search rules;
-      stored = λ clean is more others maps holds n few names. meta_understood more others old new c.in-Err-SqlInputError.field-0-0 holds.schema_is (rw c.in-Err-SqlInputError.field-0-is at (c.in-Err-SqlInputError.ensures.err clean));
+      stored = λ clean is more others maps holds n few names. meta_understood more others old new c.in-Err-SqlInputError.field-0-0
+          holds.schema_is (rw c.in-Err-SqlInputError.field-0-is at (c.in-Err-SqlInputError.ensures.err clean));
     }
 
 pub returns-in-Err : goal.returns-in-Err
@@ -26,7 +28,8 @@ returns-in-Err g c =
     let old = state g.S.Store c.args.tx.now.conn.now in
     let new = state g.S.Store c.query_all.new.self.conn.now in
     record {
-      works = query_works g.S.Store _ _ _ _ _ c.query_all.result c.query_all.ensures.same_reference c.query_all.ensures.survives c.query_all.ensures.ok c.query_all.ensures.err;
+      works = query_works g.S.Store _ _ _ _ _ c.query_all.result c.query_all.ensures.same_reference c.query_all.ensures.survives
+          c.query_all.ensures.ok c.query_all.ensures.err;
       named = search rules;
       stored = search rules;
     }
@@ -36,7 +39,8 @@ returns-in_err-one_of g c =
     let old = state g.S.Store c.args.tx.now.conn.now in
     let new = state g.S.Store c.query_all.new.self.conn.now in
     record {
-      works = query_works g.S.Store _ _ _ _ _ c.query_all.result c.query_all.ensures.same_reference c.query_all.ensures.survives c.query_all.ensures.ok c.query_all.ensures.err;
+      works = query_works g.S.Store _ _ _ _ _ c.query_all.result c.query_all.ensures.same_reference c.query_all.ensures.survives
+          c.query_all.ensures.ok c.query_all.ensures.err;
       named = search rules;
       stored = λ clean is more others maps holds n few names.
           let alone = named_alone more others old new c.in-Ok.rows.items (c.in-Ok.ensures.ok clean) maps holds n names in
@@ -49,12 +53,17 @@ returns g c =
     let old = state g.S.Store c.args.tx.now.conn.now in
     let new = state g.S.Store c.query_all.new.self.conn.now in
     record {
-      works = query_works g.S.Store _ _ _ _ _ c.query_all.result c.query_all.ensures.same_reference c.query_all.ensures.survives c.query_all.ensures.ok c.query_all.ensures.err;
+      works = query_works g.S.Store _ _ _ _ _ c.query_all.result c.query_all.ensures.same_reference c.query_all.ensures.survives
+          c.query_all.ensures.ok c.query_all.ensures.err;
       named = λ clean.
           let one = sym c.as_slice.ensures.value ∙ c.in_ok-one_of.ensures.ok in
           let shown = c.in-Ok.ensures.ok clean in
           ok_then c.number_at.result
-          (λ n is more others maps holds. (schema_found more others old new c.in-Ok.rows.items c.in_ok-one_of.field-0.now n one shown is.0 maps holds, shown_unchanged ALL_META.now [] old new (grown more others) holds.schema_is (all_meta_plain more others (grown more others) refl) c.in-Ok.rows.items shown)) c.number_at.ensures.ok;
+          (λ n is more others maps holds. (
+            schema_found more others old new c.in-Ok.rows.items c.in_ok-one_of.field-0.now n one shown is.0 maps holds,
+            shown_unchanged ALL_META.now [] old new (grown more others) holds.schema_is
+                (all_meta_plain more others (grown more others) refl) c.in-Ok.rows.items shown,
+          )) c.number_at.ensures.ok;
       stored = λ clean is more others maps holds n few names.
           let alone = named_alone more others old new c.in-Ok.rows.items (c.in-Ok.ensures.ok clean) maps holds n names in
           let row = c.in_ok-one_of.field-0.now in

@@ -7,4 +7,5 @@ use Rattle.circ_tables.proofs.NumberedLemmas.{selects_by}
 use Rattle.circ_tables.proofs.loans.open_loan_of.Goals as goal
 
 pub returns : goal.returns
-returns g c = selects_by loans_are open_loan_of_tests _ (number c.args.copy ∷ []) (is_open_of c.args.copy) (λ r. refl) open_loan_of_is _ _ _ _ (rw (c.params-to_sql.ensures, c.number.ensures.value) at c.row_of.ensures)
+returns g c = selects_by loans_are open_loan_of_tests _ (number c.args.copy ∷ []) (is_open_of c.args.copy)
+    (λ r. refl) open_loan_of_is _ _ _ _ (rw (c.params-to_sql.ensures, c.number.ensures.value) at c.row_of.ensures)

@@ -9,5 +9,7 @@ use Rattle.circ_tables.proofs.loans.open_loan_of_title.Goals as goal
 
 pub returns : goal.returns
 returns g c =
-    selects_of loans _ title_plain _ (λ maps. FirstOf (maps loans_place) (LendsTitle (maps copies_place) c.args.patron c.args.title)) (title_found c.args.patron c.args.title) (λ maps v found. found.0)
-    (are_encoded loans_are) _ _ _ _ (rw (c.params-to_sql.ensures, c.number.ensures.value, c.params-to_sql-2.ensures, c.number-2.ensures.value) at c.row_of.ensures)
+    selects_of loans _ title_plain _ (λ maps. FirstOf (maps loans_place) (LendsTitle (maps copies_place) c.args.patron c.args.title))
+    (title_found c.args.patron c.args.title) (λ maps v found. found.0)
+    (are_encoded loans_are) _ _ _ _
+    (rw (c.params-to_sql.ensures, c.number.ensures.value, c.params-to_sql-2.ensures, c.number-2.ensures.value) at c.row_of.ensures)

@@ -3,8 +3,11 @@ use Rattle.circ_tables.proofs.SingleLemmas.{meta_inside, meta_read}
 use Rattle.circ_tables.proofs.meta.get_meta_inside.Goals as goal
 
 pub returns-in_err-rows : goal.returns-in_err-rows
-returns-in_err-rows g c = meta_inside g.S.Store _ _ c.from_residual.result c.all_rows_inside.ensures.works (record { shown = search rules; limits = search rules; stored = search rules })
+returns-in_err-rows g c = meta_inside g.S.Store _ _ c.from_residual.result c.all_rows_inside.ensures.works
+    (record { shown = search rules; limits = search rules; stored = search rules })
 
 pub returns : goal.returns
 returns g c =
-    meta_inside g.S.Store _ _ c.lone_row.result c.all_rows_inside.ensures.works (meta_read g.S.Store _ _ c.lone_row.result _ _ c.as_slice.ensures.value c.in_ok-rows.ensures.shown c.lone_row.ensures.cells c.lone_row.ensures.limits c.lone_row.ensures.stored)
+    meta_inside g.S.Store _ _ c.lone_row.result c.all_rows_inside.ensures.works
+    (meta_read g.S.Store _ _ c.lone_row.result _ _ c.as_slice.ensures.value c.in_ok-rows.ensures.shown c.lone_row.ensures.cells
+    c.lone_row.ensures.limits c.lone_row.ensures.stored)

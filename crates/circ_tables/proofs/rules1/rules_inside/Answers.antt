@@ -6,4 +6,5 @@ use Rattle.circ_tables.proofs.ReadingLemmas.{lists_inside}
 use Rattle.circ_tables.proofs.rules1.rules_inside.Goals as goal
 
 pub returns : goal.returns
-returns g c = lists_inside rules1 _ _ _ (λ m. ListedBy PairBelow m is_any) (λ n has. pair_listed (rules1_are n has)) (λ m rows listed v there. let at = listed.sound v there in (at.0, at.1)) _ _ _ _ c.rows_inside.ensures
+returns g c = lists_inside rules1 _ _ _ (λ m. ListedBy PairBelow m is_any) (λ n has. pair_listed (rules1_are n has))
+    (λ m rows listed v there. let at = listed.sound v there in (at.0, at.1)) _ _ _ _ c.rows_inside.ensures

@@ -6,7 +6,7 @@ use Rattle.model.specs.History.{History}
 use Rattle.model.specs.Picture.{picture}
 use Rattle.model.specs.Requests.{is_known, is_allowed, is_page, may_send, after_one}
 use Rattle.model.proofs.Runs.{after_one-legal, after-forms}
-use Rattle.desk.specs.Answering.{LeavesOneOf, Shows, Stays, after_key}
+use Rattle.desk.specs.Answering.{LeavesOneOf, Shows, after_key}
 use Rattle.model.specs.Answers.{answer}
 use Rattle.desk.proofs.Handled.{allowed-both, not-page, reply-key, after-key, reply-page, after-page}
 use Rattle.desk.proofs.Looking.{if-ok-is, if-ok-given, on-err, on-ok-is, leaves-first}
@@ -30,7 +30,8 @@ returns-clause-handled g c = record {
       let allowed : is_allowed H r.caller r.command ≡ true = allowed-both H r.caller r.command known may in
       let page : is_page r.command ≡ false = not-page r.command c.in_default.not-Page in
       let mid = c.in_ok-is_known.ensures.looks.stays first H shows in
-      let done = if-ok-given _ c.respond.result (c.respond.ensures.answered.replied disk) reply is (known-owner H shows.legal shows.forms r.caller known) H mid may in (
+      let done = if-ok-given _ c.respond.result (c.respond.ensures.answered.replied disk) reply is
+      (known-owner H shows.legal shows.forms r.caller known) H mid may in (
         done.0 ∙ sym (reply-key H r allowed page),
         record {
           legal = after_one-legal H r shows.legal;
@@ -43,10 +44,13 @@ returns-clause-handled g c = record {
       let first = c.respond.ensures.answered.clean disk in
       let known : is_known H r.caller ≡ true = sym (c.in_ok-is_known.ensures.shown first H shows tt) ∙ c.if-not-branch.false in
       let may : may_send (owner_of r.caller) r.command ≡ true = rw c.owner.ensures at (sym c.may_send.ensures ∙ c.if-not-may_send.false) in
-      c.respond.ensures.answered.sound disk (known-owner H shows.legal shows.forms r.caller known) stored H (c.in_ok-is_known.ensures.looks.stays first H shows) may;
+      c.respond.ensures.answered.sound disk (known-owner H shows.legal shows.forms r.caller known) stored H
+      (c.in_ok-is_known.ensures.looks.stays first H shows) may;
   undone = any-undone g.S.Store c.args.store.now c.respond.new.store c.respond.result
-      (any-after g.S.Store c.args.store.now c.is_known.new.store c.respond.new.store _ c.respond.result c.respond.ensures.answered.clean c.in_ok-is_known.ensures.looks.nothing c.respond.ensures.any);
-  any = any-after g.S.Store c.args.store.now c.is_known.new.store c.respond.new.store _ c.respond.result c.respond.ensures.answered.clean c.in_ok-is_known.ensures.looks.nothing c.respond.ensures.any;
+      (any-after g.S.Store c.args.store.now c.is_known.new.store c.respond.new.store _ c.respond.result c.respond.ensures.answered.clean
+      c.in_ok-is_known.ensures.looks.nothing c.respond.ensures.any);
+  any = any-after g.S.Store c.args.store.now c.is_known.new.store c.respond.new.store _ c.respond.result c.respond.ensures.answered.clean
+      c.in_ok-is_known.ensures.looks.nothing c.respond.ensures.any;
   left = λ disk H shows.
       let r = c.args.request.now in
       let first = c.respond.ensures.answered.clean disk in
@@ -68,7 +72,8 @@ returns-clause-touches g c = λ disk. if-ok-is _ c.respond.result (λ reply is H
     let allowed : is_allowed H r.caller r.command ≡ true = allowed-both H r.caller r.command known may in
     let page : is_page r.command ≡ false = not-page r.command c.in_default.not-Page in
     let mid = c.in_ok-is_known.ensures.looks.stays first H shows in
-    let done = if-ok-given _ c.respond.result (c.respond.ensures.answered.replied disk) reply is (known-owner H shows.legal shows.forms r.caller known) H mid may in
+    let done = if-ok-given _ c.respond.result (c.respond.ensures.answered.replied disk) reply is
+    (known-owner H shows.legal shows.forms r.caller known) H mid may in
     others-as c.respond.new.touched H (after_one H r) (after_key H r) (after-key H r allowed page) done.2)
 
 pub returns-in-Page-clause-handled : goal.returns-in-Page-clause-handled
@@ -84,17 +89,21 @@ returns-in-Page-clause-handled g c = record {
       let page : is_page r.command ≡ true = ap is_page c.in-Page.is in
       let mid = c.in_ok-is_known.ensures.looks.stays first H shows in
       let last = on-ok-is c.show.result reply is (c.show.ensures.looks.stays disk) H mid in
-      let shown = if-ok-given {G = Unit {0}} _ c.show.result (λ _. c.show.ensures.shown disk) reply is tt H mid tt (owner_of r.caller) in
-      (shown ∙ sym (reply-page H r allowed page ∙ ap (answer H (owner_of r.caller)) c.in-Page.is), subst (λ (K : History). Shows (state g.S.Store c.show.new.store) K) (sym (after-page H r allowed page)) last));
+      let shown = if-ok-given {G = Unit {0}} _ c.show.result (λ _. c.show.ensures.shown disk) reply is tt H mid tt (owner_of r.caller) in (
+        shown ∙ sym (reply-page H r allowed page ∙ ap (answer H (owner_of r.caller)) c.in-Page.is),
+        subst (λ (K : History). Shows (state g.S.Store c.show.new.store) K) (sym (after-page H r allowed page)) last,
+      ));
   sound = λ disk stored H shows. c.show.ensures.sound disk stored H (c.in_ok-is_known.ensures.looks.stays (c.show.ensures.looks.clean disk) H shows) tt;
   undone = λ disk is_open. on-err c.show.result
       (λ stays H shows. stays H (c.in_ok-is_known.ensures.looks.stays (c.show.ensures.looks.clean disk) H shows))
       (c.show.ensures.looks.undone disk is_open);
   any = any-nothing g.S.Store c.args.store.now c.show.new.store c.show.result
-      (nothing-then (state g.S.Store c.args.store.now) (state g.S.Store c.is_known.new.store) (state g.S.Store c.show.new.store) _ c.show.result c.show.ensures.looks.clean
+      (nothing-then (state g.S.Store c.args.store.now) (state g.S.Store c.is_known.new.store)
+      (state g.S.Store c.show.new.store) _ c.show.result c.show.ensures.looks.clean
       c.in_ok-is_known.ensures.looks.nothing c.show.ensures.looks.nothing);
   left = λ disk H shows.
-      leaves-first (state g.S.Store c.show.new.store) (picture H) _ (c.show.ensures.looks.left disk H (c.in_ok-is_known.ensures.looks.stays (c.show.ensures.looks.clean disk) H shows));
+      leaves-first (state g.S.Store c.show.new.store) (picture H) _
+      (c.show.ensures.looks.left disk H (c.in_ok-is_known.ensures.looks.stays (c.show.ensures.looks.clean disk) H shows));
 }
 
 pub returns-in-Page-clause-touches : goal.returns-in-Page-clause-touches

@@ -10,6 +10,8 @@ returns g c = record {
   sound = search rules;
   done = c.commit.ensures.shown;
   tables = c.commit.ensures.tables;
-  failed = λ disk is_open. on-err c.commit.result (λ same. as-left (state g.S.Store c.args.store.now) (state g.S.Store c.commit.new.self) same.0 same.1) (c.commit.ensures.undone disk is_open);
+  failed = λ disk is_open. on-err c.commit.result
+      (λ same. as-left (state g.S.Store c.args.store.now) (state g.S.Store c.commit.new.self) same.0 same.1)
+      (c.commit.ensures.undone disk is_open);
   left = c.commit.ensures.stop_shown;
 }

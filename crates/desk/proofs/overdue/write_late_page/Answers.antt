@@ -17,17 +17,27 @@ returns-in_err-rows g c = fault-part _ _ c.from_residual.ensures (looked c.in_er
 
 pub returns-in_err-write_late_rows : goal.returns-in_err-write_late_rows
 returns-in_err-write_late_rows g c =
-    let page : (H : History) → AreOverdueAfter (picture H) c.args.lender.now.branch c.args.lender.now.today c.args.after c.in_ok-rows.rows.items → AreOverdueAfter (picture H) c.args.lender.now.branch c.args.lender.now.today c.args.after c.as_slice-page.result.now =
+    let page : (H : History) → AreOverdueAfter (picture H) c.args.lender.now.branch c.args.lender.now.today c.args.after
+    c.in_ok-rows.rows.items → AreOverdueAfter (picture H) c.args.lender.now.branch c.args.lender.now.today c.args.after
+    c.as_slice-page.result.now =
     λ H is. subst (AreOverdueAfter (picture H) c.args.lender.now.branch c.args.lender.now.today c.args.after) (sym c.as_slice-page.ensures.value) is in
     handed-part _ c.from_residual-in_err-write_late_rows.ensures
-    (then-part {Wanted = λ H y s. Unit {0}} (learnt-part {all = λ _. []} _ (looked c.in_ok-rows.ensures legal-rows legal-rows)) c.in_err-write_late_rows.ensures (λ _ _ _. tt {0})
+    (then-part {Wanted = λ H y s. Unit {0}} (learnt-part {all = λ _. []} _ (looked c.in_ok-rows.ensures legal-rows legal-rows))
+    c.in_err-write_late_rows.ensures (λ _ _ _. tt {0})
     (λ H list any is. λ r there. (((page H is.0).sound r there).0, any))
-    (λ H list any is. page-lines (overdue_line H c.args.lender.now.branch) (λ (r : LoanRow). r.loan) c.as_slice-page.result.now (overdue_loans H c.args.lender.now.branch) c.args.after _ is.1 (overdue-begins H (legal-Invariant H list.0) c.args.lender.now.branch c.args.lender.now.today any.is_today c.args.after c.as_slice-page.result.now (page H is.0))) (λ _ _ _ _ _ _ _. tt))
+    (λ H list any is. page-lines (overdue_line H c.args.lender.now.branch) (λ (r : LoanRow). r.loan) c.as_slice-page.result.now
+    (overdue_loans H c.args.lender.now.branch) c.args.after _ is.1
+    (overdue-begins H (legal-Invariant H list.0) c.args.lender.now.branch c.args.lender.now.today any.is_today c.args.after
+    c.as_slice-page.result.now (page H is.0))) (λ _ _ _ _ _ _ _. tt))
 
 pub returns : goal.returns
 returns g c =
-    let page : (H : History) → AreOverdueAfter (picture H) c.args.lender.now.branch c.args.lender.now.today c.args.after c.in_ok-rows.rows.items → AreOverdueAfter (picture H) c.args.lender.now.branch c.args.lender.now.today c.args.after c.as_slice-page.result.now =
+    let page : (H : History) → AreOverdueAfter (picture H) c.args.lender.now.branch c.args.lender.now.today c.args.after
+    c.in_ok-rows.rows.items → AreOverdueAfter (picture H) c.args.lender.now.branch c.args.lender.now.today c.args.after
+    c.as_slice-page.result.now =
     λ H is. subst (AreOverdueAfter (picture H) c.args.lender.now.branch c.args.lender.now.today c.args.after) (sym c.as_slice-page.ensures.value) is in
     answered-part (learnt-part {all = λ _. []} _ (looked c.in_ok-rows.ensures legal-rows legal-rows)) c.in_ok-write_late_rows.ensures (λ _ _ _. tt {0})
     (λ H list any is. λ r there. (((page H is.0).sound r there).0, any))
-    (λ H list any is s sent. overdue-told H (legal-Invariant H list.0) c.args.lender.now.branch c.args.lender.now.today any.is_today c.args.after c.as_slice-page.result.now (page H is.0) (overdue_line H c.args.lender.now.branch) _ _ refl c.last_loan.ensures (ap (λ (t : List ℕ). t ++ s) is.1 ∙ sent))
+    (λ H list any is s sent. overdue-told H (legal-Invariant H list.0) c.args.lender.now.branch c.args.lender.now.today any.is_today
+    c.args.after c.as_slice-page.result.now (page H is.0) (overdue_line H c.args.lender.now.branch) _ _ refl c.last_loan.ensures
+    (ap (λ (t : List ℕ). t ++ s) is.1 ∙ sent))

@@ -11,7 +11,9 @@ use Rattle.desk.proofs.overdue.write_late_pages.Goals as goal
 pub pages-init : goal.pages-init
 pages-init g c = record {
   part = gives-part (wrote-part {T = Unit {0}} {all = λ _. []} {x = tt} [] (Appends-nil (g.W.Write.contents c.args.writer.now))) (λ H list any. any)
-      (λ H list any s is. so-far-none (overdue_line H c.args.lender.now.branch) (overdue_loans H c.args.lender.now.branch) (overdue-all H (legal-Invariant H list.0) c.args.lender.now.branch c.args.lender.now.today any.is_today) c.new-after.result c.new-after.ensures s is);
+      (λ H list any s is. so-far-none (overdue_line H c.args.lender.now.branch) (overdue_loans H c.args.lender.now.branch)
+      (overdue-all H (legal-Invariant H list.0) c.args.lender.now.branch c.args.lender.now.today any.is_today) c.new-after.result
+      c.new-after.ensures s is);
   low = let first : c.new-after.result ≡ 0 = c.new-after.ensures in omega (arith, first);
 }
 
@@ -24,11 +26,16 @@ returns-in_err-told g c =
 pub returns-in-None : goal.returns-in-None
 returns-in-None g c =
     answered-part c.pages.invariant.part c.in_ok-told.ensures (λ _ _ any. any) (λ _ _ any _. any)
-    (λ H list any is s page. so-far-all (overdue_line H c.args.lender.now.branch) (overdue_loans H c.args.lender.now.branch) _ _ _ _ is (overdue-few H (legal-Invariant H list.0) c.args.lender.now.branch c.args.lender.now.today any.is_today (legal-rows H list.0 list.1)) c.in_ok-told.told c.saturating_add-count.result c.saturating_add-count.ensures s page c.in-None.is)
+    (λ H list any is s page. so-far-all (overdue_line H c.args.lender.now.branch) (overdue_loans H c.args.lender.now.branch) _ _ _ _ is
+    (overdue-few H (legal-Invariant H list.0) c.args.lender.now.branch c.args.lender.now.today any.is_today
+    (legal-rows H list.0 list.1)) c.in_ok-told.told c.saturating_add-count.result c.saturating_add-count.ensures s page c.in-None.is)
 
 pub pages-preserved : goal.pages-preserved
 pages-preserved g c = record {
   part = answered-part c.pages.invariant.part c.in_ok-told.ensures (λ _ _ any. any) (λ _ _ any _. any)
-      (λ H list any is s page. so-far-more (overdue_line H c.args.lender.now.branch) (overdue_loans H c.args.lender.now.branch) _ _ _ _ is (overdue-few H (legal-Invariant H list.0) c.args.lender.now.branch c.args.lender.now.today any.is_today (legal-rows H list.0 list.1)) c.in_ok-told.told c.saturating_add-count.result c.saturating_add-count.ensures s page c.in-Some.last c.new-after-in-Some.result c.in-Some.is c.new-after-in-Some.ensures);
+      (λ H list any is s page. so-far-more (overdue_line H c.args.lender.now.branch) (overdue_loans H c.args.lender.now.branch) _ _ _ _ is
+      (overdue-few H (legal-Invariant H list.0) c.args.lender.now.branch c.args.lender.now.today any.is_today
+      (legal-rows H list.0 list.1)) c.in_ok-told.told c.saturating_add-count.result c.saturating_add-count.ensures s page c.in-Some.last
+      c.new-after-in-Some.result c.in-Some.is c.new-after-in-Some.ensures);
   low = search rules;
 }

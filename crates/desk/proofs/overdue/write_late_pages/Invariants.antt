@@ -2,13 +2,14 @@ use Rattle.std.proofs.Common.{◌^◌, ◌<◌, []}
 use Rattle.std.specs.Prelude.{Ok}
 use Rattle.model.specs.Reports.{overdue_loans, overdue_line}
 use Rattle.desk.specs.Parts.{WritesPart}
-use Rattle.desk.specs.Lending.{Counts}
+use Rattle.desk.specs.Lending.{CountsForLender}
 use Rattle.desk.proofs.PagesListed.{AreSoFar}
 use Rattle.desk.proofs.overdue.write_late_pages.Given as goal
 
 abbrev pub invariant-pages : goal.invariant-pages
 invariant-pages g l = record {
-  part : WritesPart {T = Unit {0}} (Counts l.lender) (λ H _ sent. AreSoFar (overdue_line H l.lender.branch) (overdue_loans H l.lender.branch) l.after l.count l._page sent) (λ _. [])
+  part : WritesPart {T = Unit {0}} (CountsForLender l.lender)
+      (λ H _ sent. AreSoFar (overdue_line H l.lender.branch) (overdue_loans H l.lender.branch) l.after l.count l._page sent) (λ _. [])
       g.S.Store l.fn.store l.store (g.W.Write.contents l.fn.writer) (g.W.Write.contents l.writer) (Ok tt);
   low : l.after < 2 ^ 32;
 }

@@ -7,5 +7,6 @@ use Rattle.desk.proofs.overdue.write_late_rows.Given as goal
 
 abbrev pub invariant-rows : goal.invariant-rows
 invariant-rows g l =
-    WritesPart {T = Unit {0}} (AreLateRows l.lender l.rows) (λ H _ sent. sent ≡ report_lines (map (λ r. overdue_line H l.lender.branch r.loan) (take l.row-index l.rows))) (λ _. [])
+    WritesPart {T = Unit {0}} (AreLateRows l.lender l.rows)
+    (λ H _ sent. sent ≡ report_lines (map (λ r. overdue_line H l.lender.branch r.loan) (take l.row-index l.rows))) (λ _. [])
     g.S.Store l.fn.store l.store (g.W.Write.contents l.fn.writer) (g.W.Write.contents l.writer) (Ok tt)

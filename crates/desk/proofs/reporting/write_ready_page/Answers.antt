@@ -17,17 +17,24 @@ returns-in_err-rows g c = fault-part _ _ c.from_residual.ensures (looked c.in_er
 
 pub returns-in_err-write_ready_rows : goal.returns-in_err-write_ready_rows
 returns-in_err-write_ready_rows g c =
-    let page : (H : History) → AreReadyAfter (picture H) c.args.branch c.args.after c.in_ok-rows.rows.items → AreReadyAfter (picture H) c.args.branch c.args.after c.as_slice-page.result.now =
+    let page : (H : History) → AreReadyAfter (picture H) c.args.branch c.args.after c.in_ok-rows.rows.items
+    → AreReadyAfter (picture H) c.args.branch c.args.after c.as_slice-page.result.now =
     λ H is. subst (AreReadyAfter (picture H) c.args.branch c.args.after) (sym c.as_slice-page.ensures.value) is in
     handed-part _ c.from_residual-in_err-write_ready_rows.ensures
-    (then-part {Wanted = λ H y s. Unit {0}} (learnt-part {all = λ _. []} _ (looked c.in_ok-rows.ensures legal-rows legal-rows)) c.in_err-write_ready_rows.ensures (λ _ _ any. any)
+    (then-part {Wanted = λ H y s. Unit {0}} (learnt-part {all = λ _. []} _ (looked c.in_ok-rows.ensures legal-rows legal-rows))
+    c.in_err-write_ready_rows.ensures (λ _ _ any. any)
     (λ H list _ is. ready-are H (legal-Invariant H list.0) c.args.branch c.args.after c.as_slice-page.result.now (page H is.0))
-    (λ H list _ is. page-lines (shelf_line H) (λ (r : HoldRow). r.hold) c.as_slice-page.result.now (ready_holds H c.args.branch) c.args.after _ is.1 (ready-begins H (legal-Invariant H list.0) c.args.branch c.args.after c.as_slice-page.result.now (page H is.0))) (λ _ _ _ _ _ _ _. tt))
+    (λ H list _ is. page-lines (shelf_line H) (λ (r : HoldRow). r.hold) c.as_slice-page.result.now
+    (ready_holds H c.args.branch) c.args.after _ is.1
+    (ready-begins H (legal-Invariant H list.0) c.args.branch c.args.after c.as_slice-page.result.now (page H is.0)))
+    (λ _ _ _ _ _ _ _. tt))
 
 pub returns : goal.returns
 returns g c =
-    let page : (H : History) → AreReadyAfter (picture H) c.args.branch c.args.after c.in_ok-rows.rows.items → AreReadyAfter (picture H) c.args.branch c.args.after c.as_slice-page.result.now =
+    let page : (H : History) → AreReadyAfter (picture H) c.args.branch c.args.after c.in_ok-rows.rows.items
+    → AreReadyAfter (picture H) c.args.branch c.args.after c.as_slice-page.result.now =
     λ H is. subst (AreReadyAfter (picture H) c.args.branch c.args.after) (sym c.as_slice-page.ensures.value) is in
     answered-part (learnt-part {all = λ _. []} _ (looked c.in_ok-rows.ensures legal-rows legal-rows)) c.in_ok-write_ready_rows.ensures (λ _ _ any. any)
     (λ H list _ is. ready-are H (legal-Invariant H list.0) c.args.branch c.args.after c.as_slice-page.result.now (page H is.0))
-    (λ H list _ is s sent. ready-told H (legal-Invariant H list.0) c.args.branch c.args.after c.as_slice-page.result.now (page H is.0) (shelf_line H) _ _ refl c.last_hold.ensures (ap (λ (t : List ℕ). t ++ s) is.1 ∙ sent))
+    (λ H list _ is s sent. ready-told H (legal-Invariant H list.0) c.args.branch c.args.after c.as_slice-page.result.now (page H is.0)
+    (shelf_line H) _ _ refl c.last_hold.ensures (ap (λ (t : List ℕ). t ++ s) is.1 ∙ sent))

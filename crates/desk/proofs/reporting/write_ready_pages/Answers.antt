@@ -11,7 +11,8 @@ use Rattle.desk.proofs.reporting.write_ready_pages.Goals as goal
 pub pages-init : goal.pages-init
 pages-init g c = record {
   part = gives-part (wrote-part {T = Unit {0}} {all = λ _. []} {x = tt} [] (Appends-nil (g.W.Write.contents c.args.writer.now))) (λ H list any. any)
-      (λ H list any s is. so-far-none (shelf_line H) (ready_holds H c.args.branch) (ready-all H (legal-Invariant H list.0) c.args.branch) c.new-after.result c.new-after.ensures s is);
+      (λ H list any s is. so-far-none (shelf_line H) (ready_holds H c.args.branch)
+      (ready-all H (legal-Invariant H list.0) c.args.branch) c.new-after.result c.new-after.ensures s is);
   low = let first : c.new-after.result ≡ 0 = c.new-after.ensures in omega (arith, first);
 }
 
@@ -24,11 +25,16 @@ returns-in_err-told g c =
 pub returns-in-None : goal.returns-in-None
 returns-in-None g c =
     answered-part c.pages.invariant.part c.in_ok-told.ensures (λ _ _ any. any) (λ _ _ _ _. tt)
-    (λ H list _ is s page. so-far-all (shelf_line H) (ready_holds H c.args.branch) _ _ _ _ is (ready-few H (legal-Invariant H list.0) c.args.branch (legal-rows H list.0 list.1)) c.in_ok-told.told c.saturating_add-count.result c.saturating_add-count.ensures s page c.in-None.is)
+    (λ H list _ is s page. so-far-all (shelf_line H) (ready_holds H c.args.branch) _ _ _ _ is
+    (ready-few H (legal-Invariant H list.0) c.args.branch (legal-rows H list.0 list.1)) c.in_ok-told.told c.saturating_add-count.result
+    c.saturating_add-count.ensures s page c.in-None.is)
 
 pub pages-preserved : goal.pages-preserved
 pages-preserved g c = record {
   part = answered-part c.pages.invariant.part c.in_ok-told.ensures (λ _ _ any. any) (λ _ _ _ _. tt)
-      (λ H list _ is s page. so-far-more (shelf_line H) (ready_holds H c.args.branch) _ _ _ _ is (ready-few H (legal-Invariant H list.0) c.args.branch (legal-rows H list.0 list.1)) c.in_ok-told.told c.saturating_add-count.result c.saturating_add-count.ensures s page c.in-Some.last c.new-after-in-Some.result c.in-Some.is c.new-after-in-Some.ensures);
+      (λ H list _ is s page. so-far-more (shelf_line H) (ready_holds H c.args.branch) _ _ _ _ is
+      (ready-few H (legal-Invariant H list.0) c.args.branch (legal-rows H list.0 list.1)) c.in_ok-told.told
+      c.saturating_add-count.result c.saturating_add-count.ensures s page c.in-Some.last c.new-after-in-Some.result c.in-Some.is
+      c.new-after-in-Some.ensures);
   low = search rules;
 }

@@ -18,8 +18,12 @@ returns-in_err-write_ready g c =
     let r : HoldRow = c.row-item.result in
     let within : i < length xs = omega (arith, c.rows-test.true) in
     handed-part _ c.from_residual.ensures
-    (then-part {Wanted = λ H y s. Unit {0}} c.rows.invariant c.in_err-write_ready.ensures (λ H list all. all) (λ H list all is. all r (item-there xs i r within c.row-item.is))
-    (λ H list all is. (report_lines (map (λ (y : HoldRow). shelf_line H y.hold) (drop (i + 1) xs)), report-rest (λ (y : HoldRow). shelf_line H y.hold) xs i r within c.row-item.is _ is)) (λ H list all is y s sent. tt))
+    (then-part {Wanted = λ H y s. Unit {0}} c.rows.invariant c.in_err-write_ready.ensures (λ H list all. all)
+    (λ H list all is. all r (item-there xs i r within c.row-item.is))
+    (λ H list all is. (
+      report_lines (map (λ (y : HoldRow). shelf_line H y.hold) (drop (i + 1) xs)),
+      report-rest (λ (y : HoldRow). shelf_line H y.hold) xs i r within c.row-item.is _ is,
+    )) (λ H list all is y s sent. tt))
 
 pub rows-preserved : goal.rows-preserved
 rows-preserved g c =

@@ -6,7 +6,6 @@ use Rattle.terms.specs.declared.command.Request.{Request}
 use Rattle.terms.specs.declared.reply.Reply.{Reply}
 use Rattle.model.specs.History.{History}
 use Rattle.model.specs.Requests.{after, replies, after_one}
-use Rattle.model.specs.Picture.{picture}
 use Rattle.desk.specs.Answering.{Shows, LeavesOneOf}
 use Rattle.desk.proofs.Afterwards.{after-last, replies-last}
 use Rattle.desk.proofs.Shown.{shows-headline}
@@ -53,13 +52,15 @@ returns-in-Err g c = record {
         omega (arith, within),
         before.0,
         λ is_open. c.in-Err.ensures.handled.undone disk is_open (after H (take i xs)) before.1,
-        subst (λ (K : History). LeavesOneOf (state g.S.Store c.handle.new.store) (after H (take i xs)) K) (sym next) (c.handle.ensures.handled.left disk (after H (take i xs)) before.1),
+        subst (λ (K : History). LeavesOneOf (state g.S.Store c.handle.new.store) (after H (take i xs)) K) (sym next)
+            (c.handle.ensures.handled.left disk (after H (take i xs)) before.1),
       );
   stands = record {
     before = c.requests.request-index;
     mid = c.requests.store;
     handled = c.requests.invariant.chain;
-    nothing = λ disk is_open tables. c.in-Err.ensures.handled.any.failed disk is_open (c.requests.invariant.tables (c.handle.ensures.handled.clean disk) tables);
+    nothing = λ disk is_open tables. c.in-Err.ensures.handled.any.failed disk is_open
+        (c.requests.invariant.tables (c.handle.ensures.handled.clean disk) tables);
   };
 }
 
@@ -97,7 +98,8 @@ requests-preserved g c = record {
       let more : take (i + 1) xs ≡ take i xs ++ r ∷ [] = take_more xs i r within ∙ ap (λ x. take i xs ++ x ∷ []) (sym c.request-item.is) in
       let pushed : is_ok c.push.result ≡ true = sym c.is_ok-pushed.ensures.value ∙ c.if-prove.false in
       let items = rw pushed at c.push.ensures.items in
-      rw (more, items) (handled-last g.S.Store (take i xs) c.requests.replies.items r c.in-Ok-handle.reply c.args.store.now c.requests.store c.handle.new.store c.requests.invariant.chain c.in-Ok-handle.ensures.handled);
+      rw (more, items) (handled-last g.S.Store (take i xs) c.requests.replies.items r c.in-Ok-handle.reply c.args.store.now c.requests.store
+      c.handle.new.store c.requests.invariant.chain c.in-Ok-handle.ensures.handled);
   so_far = λ disk H shows.
       let xs : List Request = c.args.requests.now in
       let i : ℕ = c.requests.request-index in

@@ -7,7 +7,8 @@ use Rattle.desk.proofs.Owning.{patron-in}
 use Rattle.desk.proofs.showing.own_page.Goals as goal
 
 pub returns-in_err-row : goal.returns-in_err-row
-returns-in_err-row g c = fails _ c.from_residual.ensures (looked c.in_err-row.ensures (λ H legal forms. patron-in H legal forms c.args.patron) legal-rows) (λ _ _ _. tt)
+returns-in_err-row g c = fails _ c.from_residual.ensures
+    (looked c.in_err-row.ensures (λ H legal forms. patron-in H legal forms c.args.patron) legal-rows) (λ _ _ _. tt)
 
 pub returns-in_err-reply-in-Some : goal.returns-in_err-reply-in-Some
 returns-in_err-reply-in-Some g c =

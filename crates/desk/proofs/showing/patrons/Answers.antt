@@ -1,4 +1,4 @@
-use Rattle.std.proofs.Common.{◌≡◌, ℕ, List, map, sym, ◌∙◌, ap, subst}
+use Rattle.std.proofs.Common.{map, sym, ◌∙◌, ap, subst}
 use Rattle.terms.specs.declared.row.PatronRow.{PatronRow}
 use Rattle.model.proofs.RowRanges.{legal-rows}
 use Rattle.desk.specs.Showing.{AreEnrolled}
@@ -15,4 +15,5 @@ returns-in_err-numbers g c = stops _ c.from_residual-in_err-numbers.ensures (loo
 
 pub returns : goal.returns
 returns g c = gives (looked c.in_ok-rows.ensures legal-rows is-readable) (λ _ _ _. tt)
-    (λ H legal _ are. subst (AreEnrolled H) (sym (c.in_ok-numbers.ensures ∙ ap (map (λ (r : PatronRow). r.patron)) c.as_slice.ensures.rows)) (enrolled H c.in_ok-rows.rows are))
+    (λ H legal _ are. subst (AreEnrolled H) (sym (c.in_ok-numbers.ensures ∙ ap (map (λ (r : PatronRow). r.patron)) c.as_slice.ensures.rows))
+    (enrolled H c.in_ok-rows.rows are))

@@ -23,7 +23,8 @@ returns-in_err-rows g c = found-fault c.pages.invariant.found _ c.from_residual.
 
 pub returns-in-None : goal.returns-in-None
 returns-in-None g c =
-    let page : (P : Picture) → AreLinesAfter P c.args.day c.pages.after c.in_ok-rows.rows.items → AreLinesAfter P c.args.day c.pages.after c.as_slice-page.result.now =
+    let page : (P : Picture) → AreLinesAfter P c.args.day c.pages.after c.in_ok-rows.rows.items
+    → AreLinesAfter P c.args.day c.pages.after c.as_slice-page.result.now =
     λ P is. subst (AreLinesAfter P c.args.day c.pages.after) (sym c.as_slice-page.ensures.value) is in
     let short = subst (IsLast (λ (r : LineRow). r.line) c.as_slice-page.result.now) c.in-None.is c.last_line.ensures in
     found-then c.pages.invariant.found c.in_ok-rows.ensures (λ P legal so_far rows. sums-of P c.args.day legal (so_far.done ++ c.as_slice-page.result.now)
@@ -32,7 +33,8 @@ returns-in-None g c =
 
 pub pages-preserved : goal.pages-preserved
 pages-preserved g c =
-    let page : (P : Picture) → AreLinesAfter P c.args.day c.pages.after c.in_ok-rows.rows.items → AreLinesAfter P c.args.day c.pages.after c.as_slice-page.result.now =
+    let page : (P : Picture) → AreLinesAfter P c.args.day c.pages.after c.in_ok-rows.rows.items
+    → AreLinesAfter P c.args.day c.pages.after c.as_slice-page.result.now =
     λ P is. subst (AreLinesAfter P c.args.day c.pages.after) (sym c.as_slice-page.ensures.value) is in
     let last = subst (IsLast (λ (r : LineRow). r.line) c.as_slice-page.result.now) c.in-Some.is c.last_line.ensures in
     record {
@@ -43,7 +45,9 @@ pages-preserved g c =
         sums_are = c.add_lines-sums.ensures so_far.done so_far.sums_are;
         few =
             let so : c.pages._page ≤ c.pages.after = so_far.few in
-            let on : c.pages.after < c.in-Some.last = lines-go-on P c.args.day c.pages.after legal so_far.done c.as_slice-page.result.now so_far.lines (page P rows) c.in-Some.last last in
+            let on : c.pages.after < c.in-Some.last =
+            lines-go-on P c.args.day c.pages.after legal so_far.done c.as_slice-page.result.now so_far.lines
+            (page P rows) c.in-Some.last last in
             let same : c.new-after-in-Some.result ≡ c.in-Some.last = c.new-after-in-Some.ensures in
             omega (arith, so, on, same);
       });

@@ -15,7 +15,8 @@ places-preserved c =
     elim c.match-patron_put.branch [
       | in-Some-patron_put w ↦
           let more = w.touched-is ∙ w.push.ensures in
-          let one_more : length c.match-patron_put.touched ≡ length c.places.touched + 1 = ap length more ∙ length-append c.places.touched (w.in-Some-patron_put.patron ∷ []) in
+          let one_more : length c.match-patron_put.touched ≡ length c.places.touched + 1 =
+          ap length more ∙ length-append c.places.touched (w.in-Some-patron_put.patron ∷ []) in
           record {
             so_far = more ∙ ap (λ (ps : List ℕ). ps ++ w.in-Some-patron_put.patron ∷ []) c.places.invariant.so_far
                 ∙ sym (next ∙ ap (λ o. patrons_put (take i xs) ++ cons_option o []) (sym c.patron_put.ensures ∙ w.in-Some-patron_put.is));
@@ -26,7 +27,8 @@ places-preserved c =
           let as_long : length c.match-patron_put.touched ≡ length c.places.touched = ap length w.touched-is in
           record {
             so_far = w.touched-is ∙ c.places.invariant.so_far
-                ∙ sym (next ∙ ap (λ o. patrons_put (take i xs) ++ cons_option o []) (sym c.patron_put.ensures ∙ w.in_default.is) ∙ append-nil (patrons_put (take i xs)));
+                ∙ sym (next ∙ ap (λ o. patrons_put (take i xs) ++ cons_option o []) (sym c.patron_put.ensures ∙ w.in_default.is)
+                ∙ append-nil (patrons_put (take i xs)));
             room = omega (arith, as_long, c.places.invariant.room);
             few = λ _. c.get.ensures.few;
           }

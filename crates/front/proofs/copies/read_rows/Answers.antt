@@ -18,7 +18,8 @@ loop-record-init g c =
 
 pub returns-in-Err-clause-told : goal.returns-in-Err-clause-told
 returns-in-Err-clause-told g c =
-    read_broken g.R.Read.remaining c.args.file.state (source_of g.R.Read.remaining c.args.file) c.loop-record.record-iterator.rdr c.loop-record.rows.items c.end_at.result
+    read_broken g.R.Read.remaining c.args.file.state (source_of g.R.Read.remaining c.args.file) c.loop-record.record-iterator.rdr
+    c.loop-record.rows.items c.end_at.result
     c.loop-record.invariant.read (which_end c.end_at.result (is_io (error_kind c.in-Err.error)) c.end_at.ensures.failed c.end_at.ensures.memory)
 
 pub returns-in-Some-take_row-clause-told : goal.returns-in-Some-take_row-clause-told

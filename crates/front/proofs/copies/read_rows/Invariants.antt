@@ -9,5 +9,6 @@ invariant-loop-record g l = record {
   plain : IsPlain l.record-iterator.rdr;
   left : 0 < l.record-iterator.left;
   few : length l.rows.items ≤ MOST_ROWS;
-  read : HasRead l.fn.file.state (source_of g.R.Read.remaining l.fn.file) l.record-iterator.rdr.state (source_of g.R.Read.remaining l.record-iterator.rdr) l.rows.items;
+  read : HasRead l.fn.file.state (source_of g.R.Read.remaining l.fn.file) l.record-iterator.rdr.state
+      (source_of g.R.Read.remaining l.record-iterator.rdr) l.rows.items;
 }

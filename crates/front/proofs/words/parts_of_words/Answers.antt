@@ -16,7 +16,8 @@ pub returns-in_err-parts-clause-none : goal.returns-in_err-parts-clause-none
 returns-in_err-parts-clause-none c =
     let name = c.as_str.ensures.value ∙ ap string_bytes c.name-item.is in
     let none = ap (parts_in commands) (sym name) ∙ sym c.in_err-parts.ensures in
-    subst (λ (o : Option (Bor (List PartForm))). IfNone o ((said : Command) → IsUnderstoodAs (texts_of c.args.words.now) said → ⊥)) (sym c.from_residual.ensures)
+    subst (λ (o : Option (Bor (List PartForm))). IfNone o ((said : Command) → IsUnderstoodAs (texts_of c.args.words.now) said → ⊥))
+    (sym c.from_residual.ensures)
     (λ said h. no_parts c.commands_are_listed.ensures c.args.words.now c.name-item.result said (omega arith) none h)
 
 pub returns-then-parts-others-clause-none : goal.returns-then-parts-others-clause-none

@@ -18,12 +18,16 @@ patrons-preserved g c =
           let e = w.publisher-is ∙ w.in_ok-put.ensures in
           record {
             same = ap (λ (p : Publishing). p.shown) e ∙ i.same;
-            pages = put-page g.S.Store c.args.desk.now c.patrons.desk c.own_page.new.self xs k q more c.in_ok-page.field-0 c.in_ok-page.ensures c.args.publisher.now.pages c.patrons.publisher.pages c.match-branch-2.publisher.pages i.pages w.in-Some.page w.in-Some.is (ap (λ (p : Publishing). p.pages) e);
+            pages = put-page g.S.Store c.args.desk.now c.patrons.desk c.own_page.new.self xs k q more c.in_ok-page.field-0
+                c.in_ok-page.ensures c.args.publisher.now.pages c.patrons.publisher.pages c.match-branch-2.publisher.pages i.pages
+                w.in-Some.page w.in-Some.is (ap (λ (p : Publishing). p.pages) e);
           }
       | in_default w ↦
           record {
             same = ap (λ (p : Publishing). p.shown) w.publisher-is ∙ i.same;
-            pages = put-none g.S.Store c.args.desk.now c.patrons.desk c.own_page.new.self xs k q more c.in_ok-page.field-0 c.in_ok-page.ensures c.args.publisher.now.pages c.patrons.publisher.pages c.match-branch-2.publisher.pages i.pages w.in_default.is (ap (λ (p : Publishing). p.pages) w.publisher-is);
+            pages = put-none g.S.Store c.args.desk.now c.patrons.desk c.own_page.new.self xs k q more c.in_ok-page.field-0
+                c.in_ok-page.ensures c.args.publisher.now.pages c.patrons.publisher.pages c.match-branch-2.publisher.pages i.pages
+                w.in_default.is (ap (λ (p : Publishing). p.pages) w.publisher-is);
           }
     ]
 

@@ -21,14 +21,17 @@ patrons-preserved g c =
     let more = taken-more xs k q within c.patron-item.is in
     elim c.match-branch-2.branch [
       | in-Some+in_ok-first w ↦
-          first-put g.S.Store c.args.desk.now c.patrons.desk c.own_page.new.self xs k q more c.in_ok-page.field-0 c.in_ok-page.ensures c.patrons.first c.match-branch-2.first i w.in-Some.page w.in-Some.is
+          first-put g.S.Store c.args.desk.now c.patrons.desk c.own_page.new.self xs k q more c.in_ok-page.field-0 c.in_ok-page.ensures
+          c.patrons.first c.match-branch-2.first i w.in-Some.page w.in-Some.is
           (λ p. ap (λ (n : List (ℕ × OwnPage)). page_at n p) (w.first-is ∙ w.in_ok-first.ensures) ∙ page-put c.patrons.first q w.in-Some.page p)
       | in_default w ↦
-          first-passed g.S.Store c.args.desk.now c.patrons.desk c.own_page.new.self xs k q more c.in_ok-page.field-0 c.in_ok-page.ensures c.patrons.first c.match-branch-2.first i w.in_default.is w.first-is
+          first-passed g.S.Store c.args.desk.now c.patrons.desk c.own_page.new.self xs k q more c.in_ok-page.field-0 c.in_ok-page.ensures
+          c.patrons.first c.match-branch-2.first i w.in_default.is w.first-is
     ]
 
 pub returns-in_err-first : goal.returns-in_err-first
 returns-in_err-first g c = stops _ c.from_residual-in_err-first.ensures (c.patrons.invariant ⨾ c.in_ok-page.ensures)
 
 pub returns : goal.returns
-returns g c = first-all g.S.Store c.args.desk.now c.patrons.desk c.args.patrons.now c.patrons.patron-index c.patrons.first c.patrons-test.false c.patrons.invariant
+returns g c = first-all g.S.Store c.args.desk.now c.patrons.desk c.args.patrons.now c.patrons.patron-index c.patrons.first
+    c.patrons-test.false c.patrons.invariant

@@ -7,14 +7,16 @@ use Rattle.hall_schedule.proofs.Laws.{run_lawful, step-taken}
 use Rattle.hall_schedule.proofs.schedule.replay.Goals as goal
 
 -- one more event
-run_more : (es : List Event) (i : ℕ) (d : Event) (before after : State) → i < length es → before ≡ run (take i es) → after ≡ step before (get_or es i d) → after ≡ run (take (i + 1) es)
+run_more : (es : List Event) (i : ℕ) (d : Event) (before after : State) → i < length es → before ≡ run (take i es)
+    → after ≡ step before (get_or es i d) → after ≡ run (take (i + 1) es)
 run_more es i d before after within was is = is ∙ (ap (λ s. step s (get_or es i d)) was ∙ sym (fold_more step start es i d within))
 
 taken_more : (e : Event) (before after : State) (i : ℕ) → before.taken ≡ i → after ≡ step before e → after.taken ≡ i + 1
 taken_more e before after i was is = ap (λ (s : State). s.taken) is ∙ (step-taken before e ∙ ap (λ n. n + 1) was)
 
 pub returns-in-Err-clause-lawful : goal.returns-in-Err-clause-lawful
-returns-in-Err-clause-lawful c = subst IsLawful (sym (c.in-Err.ensures.err ∙ c.loop-event.invariant.0)) (run_lawful (take c.loop-event.event-index c.args.events.now))
+returns-in-Err-clause-lawful c =
+    subst IsLawful (sym (c.in-Err.ensures.err ∙ c.loop-event.invariant.0)) (run_lawful (take c.loop-event.event-index c.args.events.now))
 
 pub loop-event-preserved : goal.loop-event-preserved
 loop-event-preserved c =

@@ -9,7 +9,9 @@ pub returns-in_err-done : goal.returns-in_err-done
 returns-in_err-done g c = faults _ _ c.from_residual-in_err-done.ensures (c.in_ok-set.ensures ⨟ c.in_ok-owned.ensures ⨟ c.in_err-done.ensures).view
 
 pub returns-in_err-pass_over_kept : goal.returns-in_err-pass_over_kept
-returns-in_err-pass_over_kept g c = faults _ _ c.from_residual-in_err-pass_over_kept.ensures (c.in_ok-set.ensures ⨟ c.in_ok-owned.ensures ⨟ c.in_ok-done.ensures ⨟ c.in_err-pass_over_kept.ensures).view
+returns-in_err-pass_over_kept g c =
+    faults _ _ c.from_residual-in_err-pass_over_kept.ensures
+    (c.in_ok-set.ensures ⨟ c.in_ok-owned.ensures ⨟ c.in_ok-done.ensures ⨟ c.in_err-pass_over_kept.ensures).view
 
 pub returns : goal.returns
 returns g c =

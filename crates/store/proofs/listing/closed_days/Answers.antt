@@ -7,4 +7,5 @@ returns-in_err-found g c = faults _ _ c.from_residual.ensures (closed_days_seen 
 
 pub returns : goal.returns
 returns g c =
-    rows_taken _ c.in_ok-found.found.items c.new.result c.new.ensures.ok c.new.ensures.err (listed c.in_ok-found.ensures (closed_days_seen c.in_ok-found.ensures)) (λ P rows. (rows, rows.order)) (λ maps legal. legal)
+    rows_taken _ c.in_ok-found.found.items c.new.result c.new.ensures.ok c.new.ensures.err
+    (listed c.in_ok-found.ensures (closed_days_seen c.in_ok-found.ensures)) (λ P rows. (rows, rows.order)) (λ maps legal. legal)

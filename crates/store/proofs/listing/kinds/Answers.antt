@@ -8,4 +8,5 @@ returns-in_err-found g c = faults _ _ c.from_residual.ensures (table_seen kinds_
 
 pub returns : goal.returns
 returns g c =
-    rows_taken _ c.in_ok-found.found.items c.new.result c.new.ensures.ok c.new.ensures.err (listed c.in_ok-found.ensures (table_seen kinds_are c.in_ok-found.ensures)) (λ P rows. (rows, rows.rise)) (λ maps legal. legal)
+    rows_taken _ c.in_ok-found.found.items c.new.result c.new.ensures.ok c.new.ensures.err
+    (listed c.in_ok-found.ensures (table_seen kinds_are c.in_ok-found.ensures)) (λ P rows. (rows, rows.rise)) (λ maps legal. legal)

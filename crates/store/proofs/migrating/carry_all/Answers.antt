@@ -21,7 +21,8 @@ pages-init g c = record {
   there = λ clean begun there. (same_keeps (state g.S.Store c.args.tx.now.conn.now), begun, none_moved g.R.Table.table g.R.Next.Table.table there.0 _ there.1);
   carried = λ clean begun P shown it.
       let table = subst (IsNumberTable g.R.Table.table) (fun_ext g.met.R.CarriedByNumber.by_key) g.met.R.Numbered.sound in
-      subst (HasPictureAt g.R.Next.Table.table.since (state g.S.Store c.args.tx.now.conn.now).now) (sym (over_none g.met.R.Carried.over P (numbered table P it.0) it.1)) shown;
+      subst (HasPictureAt g.R.Next.Table.table.since (state g.S.Store c.args.tx.now.conn.now).now)
+      (sym (over_none g.met.R.Carried.over P (numbered table P it.0) it.1)) shown;
   low = omega arith;
 }
 
@@ -32,7 +33,8 @@ returns-in_err-page g c =
     let at = g.R.Next.Table.table.since in
     let has = g.met.R.Carried.over.was_there in
     let table = subst (IsNumberTable g.R.Table.table) (fun_ext g.met.R.CarriedByNumber.by_key) g.met.R.Numbered.sound in
-    let was : HasCleanDisk (state g.S.Store c.next_rows_inside.new.tx.conn.now) → HasCleanDisk (state g.S.Store c.pages.tx.conn.now) = λ clean. omega (arith, read.works.survives.clean) in
+    let was : HasCleanDisk (state g.S.Store c.next_rows_inside.new.tx.conn.now) → HasCleanDisk (state g.S.Store c.pages.tx.conn.now) =
+    λ clean. omega (arith, read.works.survives.clean) in
     record {
       same_reference = read.works.same_reference ∙ so_far.same_reference;
       survives = then _ _ _ so_far.survives read.works.survives;
@@ -41,7 +43,8 @@ returns-in_err-page g c =
       rows = search rules;
       leads = search rules;
       sound = λ clean begun told P shown ready.
-          read_sound g.met.R.Carried.over table (unwrap_or c.pages.after 0) P ready.0 (so_far.carried (was clean) begun P shown ready) (read.stored at has clean (search rules));
+          read_sound g.met.R.Carried.over table (unwrap_or c.pages.after 0) P ready.0 (so_far.carried (was clean) begun P shown ready)
+          (read.stored at has clean (search rules));
     }
 
 pub returns-in-None : goal.returns-in-None
@@ -55,22 +58,27 @@ returns-in-None g c =
     let table = subst (IsNumberTable g.R.Table.table) by_key g.met.R.Numbered.sound in
     let none : None ≡ option_map g.R.Numbered.number_of (slice_get page (length page - 1)) = rw (c.as_slice.ensures.value) at c.in-None.ensures in
     let empty = empty_if g.R.Numbered.number_of page (sym none) in
-    let was : HasCleanDisk (state g.S.Store c.next_rows_inside.new.tx.conn.now) → HasCleanDisk (state g.S.Store c.pages.tx.conn.now) = λ clean. omega (arith, read.works.survives.clean) in
+    let was : HasCleanDisk (state g.S.Store c.next_rows_inside.new.tx.conn.now) → HasCleanDisk (state g.S.Store c.pages.tx.conn.now) =
+    λ clean. omega (arith, read.works.survives.clean) in
     record {
       same_reference = read.works.same_reference ∙ so_far.same_reference;
       survives = then _ _ _ so_far.survives read.works.survives;
       kept = λ clean begun there. let it = so_far.there (was clean) begun there in keeps_then _ _ _ it.0 (read.works.kept clean it.1);
-      inside = λ clean begun there. let it = so_far.there (was clean) begun there in (read_there at _ _ it.1 (it.2.maps, it.2.holds) (read.lists at has clean)).0;
+      inside = λ clean begun there. let it = so_far.there (was clean) begun there in
+          (read_there at _ _ it.1 (it.2.maps, it.2.holds) (read.lists at has clean)).0;
       rows = λ clean begun maps holds.
           let it = so_far.there (was clean) begun (maps, holds) in (
             it.2.maps,
             subst (λ d. Holds (schema_at at) d it.2.maps) (sym (read.lists at has clean it.2.maps it.2.holds).1.0.now_is) it.2.holds,
-            all_rows_moved g.met.R.Carried.over table c.pages.after c.pages._page maps _ it.2 page (page_moved table at has c.pages.after page read.limits _ _ it.2.maps it.2.holds (read.lists at has clean)) empty,
+            all_rows_moved g.met.R.Carried.over table c.pages.after c.pages._page maps _ it.2 page
+                (page_moved table at has c.pages.after page read.limits _ _ it.2.maps it.2.holds (read.lists at has clean)) empty,
           );
       leads = λ clean begun P shown ready.
           let after = unwrap_or c.pages.after 0 in
-          let seen = read_page g.met.R.Carried.over table c.pages.after P ready.0 page read.limits _ _ (so_far.carried (was clean) begun P shown ready) (read.lists at has clean) in
-          subst (HasPictureAt at (state g.S.Store c.next_rows_inside.new.tx.conn.now).now) (over_all g.met.R.Carried.over P (numbered table P ready.0) after page seen.0 empty) seen.1;
+          let seen = read_page g.met.R.Carried.over table c.pages.after P ready.0 page read.limits _ _
+          (so_far.carried (was clean) begun P shown ready) (read.lists at has clean) in
+          subst (HasPictureAt at (state g.S.Store c.next_rows_inside.new.tx.conn.now).now)
+          (over_all g.met.R.Carried.over P (numbered table P ready.0) after page seen.0 empty) seen.1;
       sound = search rules;
     }
 
@@ -79,8 +87,10 @@ returns-in_err-carry_page g c =
     let so_far = c.pages.invariant in
     let read = c.in_ok-page.ensures in
     let carries = c.carry_page.ensures in
-    let late : HasCleanDisk (state g.S.Store c.carry_page.new.tx.conn.now) → HasCleanDisk (state g.S.Store c.next_rows_inside.new.tx.conn.now) = λ clean. omega (arith, carries.works.survives.clean) in
-    let was : HasCleanDisk (state g.S.Store c.next_rows_inside.new.tx.conn.now) → HasCleanDisk (state g.S.Store c.pages.tx.conn.now) = λ clean. omega (arith, read.works.survives.clean) in
+    let late : HasCleanDisk (state g.S.Store c.carry_page.new.tx.conn.now)
+    → HasCleanDisk (state g.S.Store c.next_rows_inside.new.tx.conn.now) = λ clean. omega (arith, carries.works.survives.clean) in
+    let was : HasCleanDisk (state g.S.Store c.next_rows_inside.new.tx.conn.now) → HasCleanDisk (state g.S.Store c.pages.tx.conn.now) =
+    λ clean. omega (arith, read.works.survives.clean) in
     record {
       same_reference = carries.works.same_reference ∙ read.works.same_reference ∙ so_far.same_reference;
       survives = then _ _ _ (then _ _ _ so_far.survives read.works.survives) carries.works.survives;
@@ -104,10 +114,13 @@ pages-preserved g c =
     let new_there = g.met.R.Carried.over.there in
     let by_key = fun_ext g.met.R.CarriedByNumber.by_key in
     let table = subst (IsNumberTable g.R.Table.table) by_key g.met.R.Numbered.sound in
-    let by_number : Some c.in-Some.last ≡ option_map g.R.Numbered.number_of (slice_get page (length page - 1)) = rw (c.as_slice.ensures.value) at c.in-Some.ensures in
+    let by_number : Some c.in-Some.last ≡ option_map g.R.Numbered.number_of (slice_get page (length page - 1)) =
+    rw (c.as_slice.ensures.value) at c.in-Some.ensures in
     let end = by_number ∙ ap (λ f. option_map f (slice_get page (length page - 1))) by_key in
-    let late : HasCleanDisk (state g.S.Store c.carry_page.new.tx.conn.now) → HasCleanDisk (state g.S.Store c.next_rows_inside.new.tx.conn.now) = λ clean. omega (arith, carries.works.survives.clean) in
-    let was : HasCleanDisk (state g.S.Store c.next_rows_inside.new.tx.conn.now) → HasCleanDisk (state g.S.Store c.pages.tx.conn.now) = λ clean. omega (arith, read.works.survives.clean) in
+    let late : HasCleanDisk (state g.S.Store c.carry_page.new.tx.conn.now)
+    → HasCleanDisk (state g.S.Store c.next_rows_inside.new.tx.conn.now) = λ clean. omega (arith, carries.works.survives.clean) in
+    let was : HasCleanDisk (state g.S.Store c.next_rows_inside.new.tx.conn.now) → HasCleanDisk (state g.S.Store c.pages.tx.conn.now) =
+    λ clean. omega (arith, read.works.survives.clean) in
     record {
       same_reference = carries.works.same_reference ∙ read.works.same_reference ∙ so_far.same_reference;
       survives = then _ _ _ (then _ _ _ so_far.survives read.works.survives) carries.works.survives;
@@ -118,16 +131,19 @@ pages-preserved g c =
           let seen = read.lists at has (late clean) it.2.maps it.2.holds in (
             keeps_then _ _ _ (keeps_then _ _ _ it.0 (read.works.kept (late clean) it.1)) (carries.works.kept clean),
             steps.is_inside,
-            next_moved g.met.R.Carried.over table c.pages.after c.pages._page there.0 _ it.2 page (page_moved table at has c.pages.after page read.limits _ _ it.2.maps it.2.holds (read.lists at has (late clean)))
+            next_moved g.met.R.Carried.over table c.pages.after c.pages._page there.0 _ it.2 page
+                (page_moved table at has c.pages.after page read.limits _ _ it.2.maps it.2.holds (read.lists at has (late clean)))
                 c.in-Some.last (sym end) _ _ seen.1.0.now_is steps,
           );
       carried = λ clean begun P shown ready.
           let there = so_far.there (was (late clean)) begun (shown.maps, shown.holds) in
           let mid = read_there at _ _ there.1 (there.2.maps, there.2.holds) (read.lists at has (late clean)) in
           let after = unwrap_or c.pages.after 0 in
-          let seen = read_page g.met.R.Carried.over table c.pages.after P ready.0 page read.limits _ _ (so_far.carried (was (late clean)) begun P shown ready) (read.lists at has (late clean)) in
+          let seen = read_page g.met.R.Carried.over table c.pages.after P ready.0 page read.limits _ _
+          (so_far.carried (was (late clean)) begun P shown ready) (read.lists at has (late clean)) in
           let next = over_next g.met.R.Carried.over P (numbered table P ready.0) after page seen.0 c.in-Some.last (sym end) in
-          let moved = (rw (c.as_slice-in-pages.ensures.value) at (carries.draws clean mid.0 tt at new_there)).picture (over_to g.met.R.Carried.over after P) seen.1 in
+          let moved = (rw (c.as_slice-in-pages.ensures.value) at (carries.draws clean mid.0 tt at new_there)).picture
+          (over_to g.met.R.Carried.over after P) seen.1 in
           subst (HasPictureAt at (state g.S.Store c.carry_page.new.tx.conn.now).now) next.0 moved;
       low = search;
     }
@@ -142,7 +158,9 @@ returns g c =
       survives = so_far.survives;
       kept = λ clean begun there. (so_far.there clean begun there).0;
       inside = λ clean begun there. (so_far.there clean begun there).1;
-      rows = λ clean begun maps holds. let few : c.pages._page ≤ unwrap_or c.pages.after 0 = (so_far.there clean begun (maps, holds)).2.met.few in absurd (omega (arith, few, low, past));
-      leads = λ clean begun P shown ready. let few : c.pages._page ≤ unwrap_or c.pages.after 0 = (so_far.there clean begun (shown.maps, shown.holds)).2.met.few in absurd (omega (arith, few, low, past));
+      rows = λ clean begun maps holds. let few : c.pages._page ≤ unwrap_or c.pages.after 0 =
+          (so_far.there clean begun (maps, holds)).2.met.few in absurd (omega (arith, few, low, past));
+      leads = λ clean begun P shown ready. let few : c.pages._page ≤ unwrap_or c.pages.after 0 =
+          (so_far.there clean begun (shown.maps, shown.holds)).2.met.few in absurd (omega (arith, few, low, past));
       sound = search rules;
     }

@@ -19,7 +19,8 @@ invariant-pages g l =
     record {
       same_reference : l.tx.conn.ghost_name ≡ l.initial.tx.conn.ghost_name;
       survives : Survives old now (λ _. ⊥);
-      there : HasCleanDisk now → IsTrue old.in_transaction → (there : HasTablesAt at old.now) → KeepsCommit old now × IsTrue now.in_transaction × AreMovedSoFar g.R.Table.table g.R.Next.Table.table l.after l._page there.0 now.now;
+      there : HasCleanDisk now → IsTrue old.in_transaction → (there : HasTablesAt at old.now) → KeepsCommit old now
+          × IsTrue now.in_transaction × AreMovedSoFar g.R.Table.table g.R.Next.Table.table l.after l._page there.0 now.now;
       carried : HasCleanDisk now → IsTrue old.in_transaction → (P : Picture) → HasPictureAt at old.now P → IsToCarry g.R.Next.Table.table P
           → HasPictureAt at now.now (over_to g.met.R.Carried.over (unwrap_or l.after 0) P);
       low : unwrap_or l.after 0 < 2 ^ 32;

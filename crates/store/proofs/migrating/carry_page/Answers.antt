@@ -35,7 +35,8 @@ rows-preserved g c =
           c.args.page.now c.rows.row-index c.row-item.result first before new item begun_so (carries.draws clean begun_so.is_inside tt n has);
       steps = λ clean begun n has.
           let begun_so = so_far.steps (was clean) begun n has in
-          steps_next (move_row g.R.Table.table g.R.Next.Table.table route) (move_rows g.R.Table.table g.R.Next.Table.table route) (λ maps. refl) (λ r more maps. refl)
+          steps_next (move_row g.R.Table.table g.R.Next.Table.table route) (move_rows g.R.Table.table g.R.Next.Table.table route)
+          (λ maps. refl) (λ r more maps. refl)
           c.args.page.now c.rows.row-index c.row-item.result first before new item begun_so (carries.steps clean begun_so.is_inside n has);
     }
 
@@ -48,7 +49,8 @@ returns g c =
     record {
       works = record { same_reference = so_far.same_reference; kept = so_far.kept; survives = so_far.survives };
       steps = λ clean begun n has.
-          steps_all (move_row g.R.Table.table g.R.Next.Table.table route) (move_rows g.R.Table.table g.R.Next.Table.table route) (λ maps. refl) (λ r more maps. refl)
+          steps_all (move_row g.R.Table.table g.R.Next.Table.table route) (move_rows g.R.Table.table g.R.Next.Table.table route)
+          (λ maps. refl) (λ r more maps. refl)
           c.args.page.now c.rows.row-index first last c.rows-test.false (so_far.steps clean begun n has);
       draws = λ clean begun any n has.
           draws_all (move_one g.R.Table.table g.R.Next.Table.table route) (move_all g.R.Table.table g.R.Next.Table.table route) (λ P. refl) (λ r more P. refl)

@@ -11,13 +11,15 @@ pub returns : goal.returns
 returns g c =
     let old = state g.S.Store c.args.conn.now in
     let undone = c.schema_of.ensures.undone (search rules) in
-    let settled : IsTrue old.is_open → old.now ≡ old.committed = c.is_autocommit-is_idle.ensures.settled (search) in
+    let settled : IsTrue old.is_open → old.now ≡ old.committed = c.holds_committed.ensures in
     record {
       clean = λ clean. omega (arith, undone.survives.clean);
       idle = undone.idle;
       now = λ clean is. let same = undone.same clean is in same.1 ∙ sym (settled same.0);
       committed = λ clean is. let same = undone.same clean is in same.2 ∙ sym (settled same.0);
       left = λ clean trees may. elim (undone.survives.crash clean trees may) [ inl before ↦ before | inr none ↦ absurd none ];
-      told = λ clean. if_ok c.schema_of.result (λ named names n known P shown. schema_told shown.maps P named shown.encodes (of_known (λ maps. NamesSchema maps named) old.now names n known shown.maps shown.holds)) (c.schema_of.ensures.named clean);
+      told = λ clean. if_ok c.schema_of.result
+          (λ named names n known P shown. schema_told shown.maps P named shown.encodes
+          (of_known (λ maps. NamesSchema maps named) old.now names n known shown.maps shown.holds)) (c.schema_of.ensures.named clean);
       sound = λ clean told. can_be_told old.now (c.schema_of.ensures.stored clean told);
     }

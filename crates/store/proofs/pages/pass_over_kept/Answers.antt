@@ -19,12 +19,14 @@ returns-in_err-page-2 g c = faults _ _ c.from_residual-in_err-page-2.ensures (c.
 pub kept-preserved : goal.kept-preserved
 kept-preserved g c =
     gone_on (λ p. p.items) c.kept.page.items c.in-Some.last.now
-    (subst (λ (rows : List KeptRow). slice_get rows (length rows - 1) ≡ Some c.in-Some.last.now) c.deref.ensures.value (sym c.in-Some.ensures.value)) c.kept.invariant c.in_ok-page-2.ensures.view c.in_ok-page-2.ensures.page
+    (subst (λ (rows : List KeptRow). slice_get rows (length rows - 1) ≡ Some c.in-Some.last.now) c.deref.ensures.value
+    (sym c.in-Some.ensures.value)) c.kept.invariant c.in_ok-page-2.ensures.view c.in_ok-page-2.ensures.page
 
 pub returns-in_default : goal.returns-in_default
 returns-in_default g c =
     tells c.kept.invariant (λ P all. tt) (λ maps met. all_kept_met maps c.kept.page.items
-    (none_last c.kept.page.items (subst (λ (rows : List KeptRow). slice_get rows (length rows - 1) ≡ None) c.deref.ensures.value (sym c.in_default.ensures.value))) met)
+    (none_last c.kept.page.items (subst (λ (rows : List KeptRow). slice_get rows (length rows - 1) ≡ None) c.deref.ensures.value
+    (sym c.in_default.ensures.value))) met)
 
 pub returns : goal.returns
 returns g c = given_up c.kept.invariant

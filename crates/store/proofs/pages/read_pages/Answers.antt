@@ -11,14 +11,19 @@ use Rattle.store.proofs.pages.read_pages.Goals as goal
 pub pages-init : goal.pages-init
 pages-init g c = record {
   seen = record {
-    view = record { read = read_none _; shown = λ clean P shown legal. none_so_far (g.R.Table.table.rows P) g.R.Numbered.number_of g.F.Sift.test 0 c.new-kept.result.items refl c.new-kept.ensures.items };
+    view = record {
+      read = read_none _;
+      shown = λ clean P shown legal. none_so_far (g.R.Table.table.rows P) g.R.Numbered.number_of g.F.Sift.test 0 c.new-kept.result.items
+          refl c.new-kept.ensures.items;
+    };
     met = λ clean maps holds. none_met g.R.Table.table maps;
   };
   low = omega arith;
 }
 
 pub returns-in_err-page : goal.returns-in_err-page
-returns-in_err-page g c = faults _ _ c.from_residual.ensures (c.pages.invariant.seen.view ⨾ page_seen g.met.R.Numbered.sound c.pages.after c.in_err-page.ensures)
+returns-in_err-page g c = faults _ _ c.from_residual.ensures
+    (c.pages.invariant.seen.view ⨾ page_seen g.met.R.Numbered.sound c.pages.after c.in_err-page.ensures)
 
 pub returns-in-None : goal.returns-in-None
 returns-in-None g c =
@@ -28,7 +33,8 @@ returns-in-None g c =
     let page = c.in_ok-page.page.items in
     let none : None ≡ option_map number_of (slice_get page (length page - 1)) = rw (c.as_slice.ensures.value) at c.in-None.ensures in
     let empty = empty_if number_of page (sym none) in
-    rows_taken g.R.Ordered.comes_before c.pages.kept.items c.new.result c.new.ensures.ok c.new.ensures.err (c.pages.invariant.seen ⨟ page_met g.met.R.Numbered.sound c.pages.after c.in_ok-page.ensures)
+    rows_taken g.R.Ordered.comes_before c.pages.kept.items c.new.result c.new.ensures.ok c.new.ensures.err
+    (c.pages.invariant.seen ⨟ page_met g.met.R.Numbered.sound c.pages.after c.in_ok-page.ensures)
     (λ P all.
     let are = all_so_far (rows P) number_of test (unwrap_or c.pages.after 0) c.pages._page c.pages.kept.items all.0 page all.1.1 all.1.0 empty in
     (are, ordered-as (λ r s. number_of r < number_of s) g.R.Ordered.comes_before g.met.R.Numbered.by_number c.pages.kept.items are.rise))
@@ -36,7 +42,9 @@ returns-in-None g c =
 
 pub returns-in_err-keep_page : goal.returns-in_err-keep_page
 returns-in_err-keep_page g c =
-    faults _ _ c.from_residual-in_err-keep_page.ensures (stops c.in_err-keep_page.field-0.0 (c.pages.invariant.seen.view ⨾ page_seen g.met.R.Numbered.sound c.pages.after c.in_ok-page.ensures) (λ is clean P shown legal few.
+    faults _ _ c.from_residual-in_err-keep_page.ensures
+    (stops c.in_err-keep_page.field-0.0
+    (c.pages.invariant.seen.view ⨾ page_seen g.met.R.Numbered.sound c.pages.after c.in_ok-page.ensures) (λ is clean P shown legal few.
     let memory = c.in_err-keep_page.ensures.fault in
     let never : ⊥ = cc in
     never))
@@ -48,7 +56,9 @@ pages-preserved g c =
     let end : Some c.in-Some.last ≡ option_map number_of (slice_get page (length page - 1)) = rw (c.as_slice.ensures.value) at c.in-Some.ensures in
     record {
       seen = tells (c.pages.invariant.seen ⨟ page_met g.met.R.Numbered.sound c.pages.after c.in_ok-page.ensures)
-          (λ P all. next_so_far (g.R.Table.table.rows P) number_of g.F.Sift.test (unwrap_or c.pages.after 0) c.pages._page c.pages.kept.items all.0 page all.1.1 c.in-Some.last (sym end) c.keep_page.new.kept.items c.in_ok-keep_page.ensures.kept)
+          (λ P all. next_so_far (g.R.Table.table.rows P) number_of g.F.Sift.test
+          (unwrap_or c.pages.after 0) c.pages._page c.pages.kept.items all.0 page all.1.1 c.in-Some.last
+          (sym end) c.keep_page.new.kept.items c.in_ok-keep_page.ensures.kept)
           (λ maps all. next_met g.met.R.Numbered.sound maps c.pages.after c.pages._page all.0 page all.1 c.in-Some.last (sym end));
       low = search;
     }

@@ -7,6 +7,7 @@ use Rattle.store.proofs.pages.read_pages.Given as goal
 
 abbrev pub invariant-pages : goal.invariant-pages
 invariant-pages g l = record {
-  seen : Reviews {A = Unit {0}} (λ P _. AreSoFar (g.R.Table.table.rows P) g.R.Numbered.number_of g.F.Sift.test (unwrap_or l.after 0) l._page l.kept.items) (AreMetSoFar g.R.Table.table l.after l._page) g.S.Store l.fn.conn l.conn (Ok tt);
+  seen : Reviews {A = Unit {0}} (λ P _. AreSoFar (g.R.Table.table.rows P) g.R.Numbered.number_of g.F.Sift.test
+      (unwrap_or l.after 0) l._page l.kept.items) (AreMetSoFar g.R.Table.table l.after l._page) g.S.Store l.fn.conn l.conn (Ok tt);
   low : unwrap_or l.after 0 < 2 ^ 32;
 }

@@ -5,10 +5,14 @@ pub returns-in_err-first : goal.returns-in_err-first
 returns-in_err-first g c = fails _ _ c.from_residual-in_err-first.ensures (c.in_ok-rule.ensures ⨾ c.in_err-first.ensures)
 
 pub returns-in_err-open_loans : goal.returns-in_err-open_loans
-returns-in_err-open_loans g c = fails _ _ c.from_residual-in_err-open_loans.ensures (c.in_ok-rule.ensures ⨾ c.in_ok-first.ensures ⨾ (open_loans_seen c.in_err-open_loans.ensures))
+returns-in_err-open_loans g c =
+    fails _ _ c.from_residual-in_err-open_loans.ensures
+    (c.in_ok-rule.ensures ⨾ c.in_ok-first.ensures ⨾ (open_loans_seen c.in_err-open_loans.ensures))
 
 pub returns-in_err-own_holds : goal.returns-in_err-own_holds
-returns-in_err-own_holds g c = fails _ _ c.from_residual-in_err-own_holds.ensures (c.in_ok-rule.ensures ⨾ c.in_ok-first.ensures ⨾ (open_loans_seen c.in_ok-open_loans.ensures) ⨾ c.in_err-own_holds.ensures)
+returns-in_err-own_holds g c =
+    fails _ _ c.from_residual-in_err-own_holds.ensures
+    (c.in_ok-rule.ensures ⨾ c.in_ok-first.ensures ⨾ (open_loans_seen c.in_ok-open_loans.ensures) ⨾ c.in_err-own_holds.ensures)
 
 pub returns : goal.returns
 returns g c =

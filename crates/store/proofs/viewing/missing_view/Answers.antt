@@ -10,4 +10,9 @@ returns-in_err-end-clause-view g c = fails _ _ c.from_residual-in_err-end.ensure
 pub returns-clause-view : goal.returns-clause-view
 returns-clause-view g c =
     gives (c.in_ok-meta.ensures.view ⨾ c.in_ok-at.ensures.view ⨾ c.in_ok-end.ensures)
-    (λ P all. record { meta = all.0; at = record { copy = all.1.0.copy; loan = all.1.0.loan; transit = all.1.0.transit; hold = all.1.0.hold }; lender = record { calendar = all.1.1.0; patron = all.1.1.1 } })
+    (λ P all. record {
+      meta = all.0;
+      at = record { copy = all.1.0.copy; loan = all.1.0.loan; transit = all.1.0.transit; hold = all.1.0.hold };
+      lender =
+          record { calendar = all.1.1.0; patron = all.1.1.1 };
+    })

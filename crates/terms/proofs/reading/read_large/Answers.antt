@@ -1,4 +1,5 @@
-use Rattle.std.proofs.Common.{◌≡◌, ◌≢◌, ℕ, ◌+◌, ◌*◌, ◌-◌, ◌<◌, ◌≤◌, ◌^◌, List, [], ◌∷◌, length, get_or, sym, ap, ◌∙◌, arith, rules, tests, Result, Ok, Err, true}
+use Rattle.std.proofs.Common.{◌≡◌, ◌≢◌, ℕ, ◌+◌, ◌*◌, ◌-◌, ◌<◌, ◌≤◌, ◌^◌, List, [], ◌∷◌, length, get_or, sym, ap, ◌∙◌, arith, rules, tests}
+use Rattle.std.proofs.Common.{Result, Ok, Err, true}
 use Rattle.std.specs.Str.{all_ascii_digits}
 use Rattle.std.specs.Fmt.{decimal}
 use Rattle.std.specs.Str.Parse.{ParsesUnsigned}
@@ -24,7 +25,8 @@ not_long : (n : ℕ) → n < 2 ^ 64 → get_or (decimal n) 0 0 ≡ 48 → length
 not_long zero h e = length-decimal-le 1 0 (omega arith) (omega arith) (omega arith)
 not_long (suc n) h e = absurd (omega (arith, first_decimal (suc n) (omega arith) (omega arith)))
 
-written : {E : Type 0} (bs : List ℕ) (r : Result ℕ E) (number : ℕ) → ParsesUnsigned 64 10 bs r → r ≡ Ok number → get_or bs 0 0 ≢ 43 → (get_or bs 0 0 ≡ 48 → length bs ≡ 1) → bs ≡ decimal number
+written : {E : Type 0} (bs : List ℕ) (r : Result ℕ E) (number : ℕ) → ParsesUnsigned 64 10 bs r → r ≡ Ok number → get_or bs 0 0 ≢ 43
+    → (get_or bs 0 0 ≡ 48 → length bs ≡ 1) → bs ≡ decimal number
 written {E = E} bs r number h is no_plus short =
     let p = rw is at (parse_plain own {E = E} 64 bs r h no_plus) in
     sym (ap decimal p.1 ∙ decimal-digits_value own bs p.0.0 p.0.1 short (omega (arith, p.0.2)))
@@ -52,12 +54,14 @@ pub returns-then-first-eq43-clause-none : goal.returns-then-first-eq43-clause-no
 returns-then-first-eq43-clause-none c = λ n h e. no_plus c.as_bytes-bytes.result.now n h (c.as_bytes-bytes.ensures.value ∙ e) c.if-first-eq43.true
 
 pub returns-then-bytes-gt1-clause-none : goal.returns-then-bytes-gt1-clause-none
-returns-then-bytes-gt1-clause-none c = λ n h e. no_zero c.as_bytes-bytes.result.now n h (c.as_bytes-bytes.ensures.value ∙ e) c.if-first-eq48.true c.if-bytes-gt1.true
+returns-then-bytes-gt1-clause-none c =
+    λ n h e. no_zero c.as_bytes-bytes.result.now n h (c.as_bytes-bytes.ensures.value ∙ e) c.if-first-eq48.true c.if-bytes-gt1.true
 
 pub returns-in-Ok-clause-some : goal.returns-in-Ok-clause-some
 returns-in-Ok-clause-some c =
     let same : c.as_bytes-bytes.result.now ≡ c.args.text.now = c.as_bytes-bytes.ensures.value in
-    written c.args.text.now c.parse.result c.in-Ok.number c.parse.ensures.value.0 c.in-Ok.is (λ e. c.if-first-eq43.false (ap (λ (x : List ℕ). get_or x 0 0) same ∙ e)) (λ e.
+    written c.args.text.now c.parse.result c.in-Ok.number c.parse.ensures.value.0 c.in-Ok.is
+    (λ e. c.if-first-eq43.false (ap (λ (x : List ℕ). get_or x 0 0) same ∙ e)) (λ e.
     let z : get_or c.as_bytes-bytes.result.now 0 0 ≡ 48 = ap (λ (x : List ℕ). get_or x 0 0) same ∙ e in
     let some : 0 < length c.as_bytes-bytes.result.now = search (rules, tests) in
     elim c.else-first-eq48.branch [

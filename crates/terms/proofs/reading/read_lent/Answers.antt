@@ -16,4 +16,9 @@ pub returns-clause-sound : goal.returns-clause-sound
 returns-clause-sound c =
     let front = c.in_ok-loan.ensures.sound in
     let back = c.in_ok-due.ensures.sound in
-    rw c.new.ensures ((front.0, back.0), front.1 ∙ (ap (λ (rest : List ℕ). lemmas.number_and_text (codes "loan") c.in_ok-loan.loan rest) back.1 ∙ sym (lemmas.lent_text c.in_ok-loan.loan c.in_ok-due.due)))
+    rw c.new.ensures (
+      (front.0, back.0),
+      front.1
+          ∙ (ap (λ (rest : List ℕ). lemmas.number_and_text (codes "loan") c.in_ok-loan.loan rest) back.1
+          ∙ sym (lemmas.lent_text c.in_ok-loan.loan c.in_ok-due.due)),
+    )

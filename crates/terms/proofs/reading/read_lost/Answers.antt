@@ -16,4 +16,8 @@ pub returns-clause-sound : goal.returns-clause-sound
 returns-clause-sound c =
     let front = c.in_ok-fine.ensures.sound in
     let back = c.in_ok-price.ensures.sound in
-    rw (c.new.ensures, c.new-2.ensures) ((front.0, back.0), front.1 ∙ (ap (λ (rest : List ℕ). lemmas.number_and_text (codes "fine") c.in_ok-fine.fine rest) back.1 ∙ sym (lemmas.lost_text c.in_ok-fine.fine c.in_ok-price.price)))
+    rw (c.new.ensures, c.new-2.ensures) (
+      (front.0, back.0),
+      front.1 ∙ (ap (λ (rest : List ℕ). lemmas.number_and_text (codes "fine") c.in_ok-fine.fine rest) back.1
+          ∙ sym (lemmas.lost_text c.in_ok-fine.fine c.in_ok-price.price)),
+    )

@@ -16,4 +16,8 @@ pub returns-clause-sound : goal.returns-clause-sound
 returns-clause-sound c =
     let front = c.in_ok-goal.ensures.sound in
     let back = c.in_ok-hold.ensures.sound in
-    rw (c.new.ensures, c.new-2.ensures) ((front.0, back.0), front.1 ∙ (ap (λ (rest : List ℕ). lemmas.number_and_text (codes "transit") c.in_ok-goal.goal rest) back.1 ∙ sym (lemmas.transit_for_text c.in_ok-goal.goal c.in_ok-hold.hold)))
+    rw (c.new.ensures, c.new-2.ensures) (
+      (front.0, back.0),
+      front.1 ∙ (ap (λ (rest : List ℕ). lemmas.number_and_text (codes "transit") c.in_ok-goal.goal rest) back.1
+          ∙ sym (lemmas.transit_for_text c.in_ok-goal.goal c.in_ok-hold.hold)),
+    )

@@ -8,5 +8,6 @@ returns-clause-body g c =
     let first = c.deref_mut.ensures.value in
     let long : length c.deref_mut.result.now ≡ c.args.size = omega (arith, c.in_ok-resize.ensures.len, ap length first, c.deref_mut.ensures.len) in
     body_whole _ _ c.args.front.now c.deref_mut.result.now c.fill_all.new.buf _ c.args.size c.min-kept.result c.resize.new.self.len c.min-kept.ensures
-    (resized c.args.front.now c.in_ok-body.body.items c.deref_mut.result.now _ _ c.args.size c.min-kept.result c.min-kept.ensures c.in_ok-body.ensures.items first c.in_ok-resize.ensures.items)
+    (resized c.args.front.now c.in_ok-body.body.items c.deref_mut.result.now _ _ c.args.size c.min-kept.result c.min-kept.ensures
+    c.in_ok-body.ensures.items first c.in_ok-resize.ensures.items)
     long (omega (arith, long, c.fill_all.auto.buf)) (omega (arith, c.in_ok-resize.ensures.len)) filled

@@ -1,4 +1,5 @@
-use Rattle.std.proofs.Common.{◌≡◌, ℕ, ◌+◌, ◌<◌, ◌≤◌, List, [], ◌∷◌, ◌++◌, arith, length, take, drop, sym, ap, ◌∙◌, subst, Option, Some, None, length-take-le, refl}
+use Rattle.std.proofs.Common.{◌≡◌, ℕ, ◌+◌, ◌<◌, ◌≤◌, List, [], ◌∷◌, ◌++◌, arith, length, take, drop, sym, ap, ◌∙◌, subst, Option, Some}
+use Rattle.std.proofs.Common.{None, length-take-le, refl}
 use Rattle.std.specs.Prelude.{IfSome}
 use Rattle.std.specs.Io.KnownBytes.{Consumes, IsAtEnd}
 use Rattle.std.proofs.KnownBytes.{Consumes-nil, Consumes-trans}
@@ -44,7 +45,8 @@ ended old mid new before after filled n room taken none e f =
     let l3 = ap length f.holds in
     let nil : f.got ≡ [] = nil_of_length f.got (omega (arith, length-append front f.got)) in
     let same : front ++ f.got ≡ front = ap (λ (r : List ℕ). front ++ r) nil ∙ append-nil front in
-    none_at_end old new (front ++ f.got) (Consumes-trans old mid new front f.got taken f.taken) (subst (λ (b : List ℕ). HasNoRequest b) (sym same) none) (f.end e room)
+    none_at_end old new (front ++ f.got) (Consumes-trans old mid new front f.got taken f.taken)
+    (subst (λ (b : List ℕ). HasNoRequest b) (sym same) none) (f.end e room)
 
 no_empty_head : HasNoRequest []
 unfolding print_request
@@ -54,7 +56,16 @@ pub loop-filled-init : goal.loop-filled-init
 loop-filled-init g c = record { within = omega arith; taken = Consumes-nil _; none = no_empty_head }
 
 pub returns-then-n-eq0-clause-none : goal.returns-then-n-eq0-clause-none
-returns-then-n-eq0-clause-none g c = ended _ _ _ _ _ _ _ (omega arith) c.loop-filled.invariant.taken c.loop-filled.invariant.none c.if-n-eq0.true c.in_ok-n.ensures
+returns-then-n-eq0-clause-none g c =
+    ended _ _ _ _ _ _ _ (omega arith) c.loop-filled.invariant.taken c.loop-filled.invariant.none c.if-n-eq0.true c.in_ok-n.ensures
 
 pub returns-clause-none : goal.returns-clause-none
-returns-clause-none g c = none_within _ _ _ c.loop-filled.invariant.taken c.loop-filled.invariant.none (omega (arith, length-take-le c.loop-filled.filled c.loop-filled.buf (omega (arith, c.loop-filled.invariant.within, c.loop-filled.auto.buf, c.requires.size)), c.loop-filled-test.false, c.loop-filled.auto.buf, c.requires.size))
+returns-clause-none g c = none_within _ _ _ c.loop-filled.invariant.taken c.loop-filled.invariant.none
+    (omega (
+      arith,
+      length-take-le c.loop-filled.filled c.loop-filled.buf
+          (omega (arith, c.loop-filled.invariant.within, c.loop-filled.auto.buf, c.requires.size)),
+      c.loop-filled-test.false,
+      c.loop-filled.auto.buf,
+      c.requires.size,
+    ))

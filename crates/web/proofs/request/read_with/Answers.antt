@@ -10,4 +10,5 @@ returns g c =
     let within = rw c.in-Some.is at c.in_ok-spans.ensures.within in
     let long : length (take c.in-Some.filled c.read_head.new.buf) ≤ HEAD_BYTES =
     omega (arith, found.0, length-take-le c.in-Some.filled c.read_head.new.buf (omega (arith, found.0, c.read_head.auto.buf, c.requires.size))) in
-    head_read _ _ _ c.read_head.new.headers c.in-Some.spans c.check_head.result found.1 head within long (omega (arith, c.read_head.auto.headers, c.requires.room)) c.check_head.ensures
+    head_read _ _ _ c.read_head.new.headers c.in-Some.spans c.check_head.result found.1 head within long
+    (omega (arith, c.read_head.auto.headers, c.requires.room)) c.check_head.ensures

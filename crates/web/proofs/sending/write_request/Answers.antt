@@ -20,6 +20,8 @@ pub returns : goal.returns
 returns g c =
     let last = writes-as c.write_bytes.result _ _ _ _ c.as_bytes.ensures.value c.write_bytes.ensures in
     record {
-      all = second-out c.write_bytes.result _ _ _ _ _ c.in_ok-write_start.ensures.all (second-out c.write_bytes.result _ _ _ _ _ c.in_ok-write_fields.ensures.all last.all);
-      front = second-failed c.write_bytes.result _ _ _ _ _ c.in_ok-write_start.ensures.all (second-failed c.write_bytes.result _ _ _ _ _ c.in_ok-write_fields.ensures.all last.front);
+      all = second-out c.write_bytes.result _ _ _ _ _ c.in_ok-write_start.ensures.all
+          (second-out c.write_bytes.result _ _ _ _ _ c.in_ok-write_fields.ensures.all last.all);
+      front = second-failed c.write_bytes.result _ _ _ _ _ c.in_ok-write_start.ensures.all
+          (second-failed c.write_bytes.result _ _ _ _ _ c.in_ok-write_fields.ensures.all last.front);
     }

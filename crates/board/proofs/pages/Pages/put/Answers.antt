@@ -9,4 +9,5 @@ returns-in-Ok c =
     let inside = c.self.inside in
     rw (← c.self.view_is)
     (ap (map (λ e. (e.0, arc_value e.1))) c.in-Ok.ensures.entries
-    ∙ (map-put arc_value inside.pages.entries c.args.patron c.in_ok-page.page ∙ ap (put_page (map (λ e. (e.0, arc_value e.1)) inside.pages.entries) c.args.patron) c.in_ok-page.ensures))
+    ∙ (map-put arc_value inside.pages.entries c.args.patron c.in_ok-page.page
+    ∙ ap (put_page (map (λ e. (e.0, arc_value e.1)) inside.pages.entries) c.args.patron) c.in_ok-page.ensures))

@@ -15,7 +15,8 @@ invariant_of-self g c =
       rw c.append.ensures.desk c.self.invariant.0,
       rw c.append.ensures.desk c.self.invariant.1,
       elim c.match-append.branch [
-        | in-Ok w ↦ (pages-more us (drop c.append.new.self.behind c.append.new.self.log.items) c.number.result c.in_ok-page.page w.in-Ok.ensures.pending c.self.invariant.2).0
+        | in-Ok w ↦ (pages-more us (drop c.append.new.self.behind c.append.new.self.log.items) c.number.result c.in_ok-page.page
+            w.in-Ok.ensures.pending c.self.invariant.2).0
         | in-Err w ↦ ap are_pages w.in-Err.ensures.pending.1 ∙ c.self.invariant.2
       ],
       c.self.invariant.3,
@@ -23,9 +24,12 @@ invariant_of-self g c =
       c.self.invariant.5,
     )
 
-both : (s t : Seen) (x y : Showing) (p q : List (ℕ × OwnPage)) → s ≡ t → x ≡ y → p ≡ q → ◌≡◌ {A = Publishing} (record { shown = s; board = x; pages = p }) (record { shown = t; board = y; pages = q })
+both : (s t : Seen) (x y : Showing) (p q : List (ℕ × OwnPage)) → s ≡ t → x ≡ y → p ≡ q
+    → ◌≡◌ {A = Publishing} (record { shown = s; board = x; pages = p }) (record { shown = t; board = y; pages = q })
 both s t x y p q e b f =
-    ap (λ (z : Seen). record { shown = z; board = x; pages = p }) e ∙ (ap (λ (z : Showing). record { shown = t; board = z; pages = p }) b ∙ ap (λ (z : List (ℕ × OwnPage)). record { shown = t; board = y; pages = z }) f)
+    ap (λ (z : Seen). record { shown = z; board = x; pages = p }) e
+    ∙ (ap (λ (z : Showing). record { shown = t; board = z; pages = p }) b
+    ∙ ap (λ (z : List (ℕ × OwnPage)). record { shown = t; board = y; pages = z }) f)
 
 pub returns : goal.returns
 returns g c =
@@ -39,8 +43,11 @@ returns g c =
     elim c.match-append.branch [
       | in-Ok w ↦
           let more = (pages-more us us' c.number.result c.in_ok-page.page w.in-Ok.ensures.pending c.self.invariant.2).1 in
-          rw w.result-is (both _ c.args.self.now.shown k.shown.value c.args.self.now.board (pages_of us') (c.args.self.now.pages ++ (c.args.patron, c.args.page) ∷ []) shown board
+          rw w.result-is (both _ c.args.self.now.shown k.shown.value c.args.self.now.board (pages_of us')
+          (c.args.self.now.pages ++ (c.args.patron, c.args.page) ∷ []) shown board
           (more ∙ (ap (λ (l : List (ℕ × OwnPage)). l ++ (c.number.result, arc_value c.in_ok-page.page) ∷ []) pages
-          ∙ (ap (λ n. c.args.self.now.pages ++ (n, arc_value c.in_ok-page.page) ∷ []) c.number.ensures.value ∙ ap (λ x. c.args.self.now.pages ++ (c.args.patron, x) ∷ []) c.in_ok-page.ensures.ok))))
-      | in-Err w ↦ rw w.result-is (both _ c.args.self.now.shown k.shown.value c.args.self.now.board (pages_of us') c.args.self.now.pages shown board (ap pages_of w.in-Err.ensures.pending.1 ∙ pages))
+          ∙ (ap (λ n. c.args.self.now.pages ++ (n, arc_value c.in_ok-page.page) ∷ []) c.number.ensures.value
+          ∙ ap (λ x. c.args.self.now.pages ++ (c.args.patron, x) ∷ []) c.in_ok-page.ensures.ok))))
+      | in-Err w ↦ rw w.result-is (both _ c.args.self.now.shown k.shown.value c.args.self.now.board
+          (pages_of us') c.args.self.now.pages shown board (ap pages_of w.in-Err.ensures.pending.1 ∙ pages))
     ]

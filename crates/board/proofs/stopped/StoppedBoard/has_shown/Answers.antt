@@ -1,4 +1,4 @@
-use Rattle.std.proofs.Common.{ap, ◌∙◌, sym, subst}
+use Rattle.std.proofs.Common.{ap, subst}
 use Rattle.board.specs.declared.entry.Seen.{Seen}
 use Rattle.board.specs.Showing.{GoesOn, seen_of}
 use Rattle.board.proofs.Beginnings.{frames_on}

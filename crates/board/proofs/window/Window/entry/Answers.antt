@@ -22,7 +22,9 @@ returns-after-entry-clause-found g c =
     let seen = view c.in-Ok.reading.place in
     let looked = c.in-Ok.ensures.1 in
     let now = entries_of c.frames.result.items in
-    let same : now ≡ seen.entries = ap (λ (s : Seen). s.entries) (seen-now c.in-Ok.reading.part.value c.frames.result seen looked.is (c.frames.ensures ∙ ap (λ x. x.frames) c.get-in-Ok.ensures)) in
+    let same : now ≡ seen.entries =
+    ap (λ (s : Seen). s.entries) (seen-now c.in-Ok.reading.part.value c.frames.result seen looked.is
+    (c.frames.ensures ∙ ap (λ x. x.frames) c.get-in-Ok.ensures)) in
     elim c.match-entry.branch [
       | in-Ok-entry w ↦ rw w.result-is (if_some w.in-Ok-entry.found
           (λ (a : Arc Entry Global). ShowsEntry c.get.result.now c.args.worker c.args.number c.args.request.now (arc_value a))

@@ -18,7 +18,8 @@ pub returns-in-Ok-clause-none : goal.returns-in-Ok-clause-none
 returns-in-Ok-clause-none g c = λ none.
     let seen = view c.in-Ok.reading.place in
     let looked = c.in-Ok.ensures.1 in
-    let same : seen_of c.frames.result.items ≡ seen = seen-now c.in-Ok.reading.part.value c.frames.result seen looked.is (c.frames.ensures ∙ ap (λ x. x.frames) c.get-in-Ok.ensures) in
+    let same : seen_of c.frames.result.items ≡ seen =
+    seen-now c.in-Ok.reading.part.value c.frames.result seen looked.is (c.frames.ensures ∙ ap (λ x. x.frames) c.get-in-Ok.ensures) in
     ap (λ (s : Seen). count_own c.args.worker s.entries) same
     ∙ none-seen seen c.in-Ok.reading.part.value c.args.worker c.number-in_limits.ensures.limits looked.board
     (ap (last_on c.args.worker) (sym c.get.ensures) ∙ c.has_entry-none.ensures (is-not c.has_entry-none.result none))

@@ -7,7 +7,9 @@ use Rattle.calendar.proofs.day.DayDisplay.fmt.Goals as goal
 
 -- eight digits and two hyphens, as they are printed, are the text of the date
 printed : (y m d : ℕ) → y ≤ 9999 → m ≤ 12 → d ≤ 31
-    → decimal (y / 100 / 10) ++ (decimal (y / 100 % 10) ++ (decimal (y % 100 / 10) ++ (decimal (y % 100 % 10) ++ (45 ∷ (decimal (m / 10) ++ (decimal (m % 10) ++ (45 ∷ (decimal (d / 10) ++ decimal (d % 10)))))))))
+    → decimal (y / 100 / 10) ++ (decimal (y / 100 % 10)
+    ++ (decimal (y % 100 / 10) ++ (decimal (y % 100 % 10)
+    ++ (45 ∷ (decimal (m / 10) ++ (decimal (m % 10) ++ (45 ∷ (decimal (d / 10) ++ decimal (d % 10)))))))))
     ≡ date_text y m d
 printed y m d a b c =
     let e1 = decimal_digit (y / 100 / 10) (omega arith) in
@@ -30,5 +32,6 @@ returns-clause-writes g c =
     let m = c.parts-year.result.1 in
     let d = c.parts-year.result.2 in
     subst (λ (bs : List ℕ). WritesOnOk g.W.Write.write_str_gives c.args.f.now c.write.result bs c.write.new.self)
-    (printed y m d p.year.1 p.month.1 p.day.1 ∙ (same_date _ _ _ _ _ _ p.year.0 p.month.0 p.day.0 ∙ (day_text-is c.self.inside.number ∙ ap day_text c.self.view_is)))
+    (printed y m d p.year.1 p.month.1 p.day.1
+    ∙ (same_date _ _ _ _ _ _ p.year.0 p.month.0 p.day.0 ∙ (day_text-is c.self.inside.number ∙ ap day_text c.self.view_is)))
     c.write.ensures.writes

@@ -10,9 +10,11 @@ less : (s : Closings) (i day : ℕ) (items : List ℕ) → AreClosings s × IsRi
     → AreClosings (record { weekly = s.weekly; single = items }) × IsRising items
 less s i day items h p e = rw e (AreClosings-remove s i day h.0 p.within p.is_there, IsRising-remove s.single i p.within h.1)
 
-only : (c s : Closings) (i day : ℕ) (items : List ℕ) → s ≡ c → AreClosings s → IsPlaceOf s.single day i → items ≡ remove s.single i → ReopensOnly c (record { weekly = s.weekly; single = items }) day
+only : (c s : Closings) (i day : ℕ) (items : List ℕ) → s ≡ c → AreClosings s → IsPlaceOf s.single day i → items ≡ remove s.single i
+    → ReopensOnly c (record { weekly = s.weekly; single = items }) day
 only c s i day items same h p e =
-    rw e (subst (λ (old : Closings). ReopensOnly old (record { weekly = s.weekly; single = remove s.single i }) day) same (ReopensOnly-remove s i day h p.within p.is_there))
+    rw e (subst (λ (old : Closings). ReopensOnly old (record { weekly = s.weekly; single = remove s.single i }) day) same
+    (ReopensOnly-remove s i day h p.within p.is_there))
 
 pub invariant_of-self : goal.invariant_of-self
 invariant_of-self c = less _ c.in-Ok.place c.args.day _ c.self.invariant c.in-Ok.ensures.ok c.remove.ensures

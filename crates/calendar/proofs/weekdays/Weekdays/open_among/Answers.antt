@@ -14,11 +14,15 @@ loop-after-preserved c =
     let n = c.loop-after.after in
     elim c.if-not-is_closed_on.branch [
       | then-not-is_closed_on w ↦ record {
-        counted = w.count-is ∙ (ap (λ (m : ℕ). m + 1) was ∙ sym (open_weekdays_among-open mask from n _ (from + n + 1) (omega arith) (omega arith) (sym c.is_closed_on.ensures ∙ w.if-not-is_closed_on.true)));
+        counted = w.count-is ∙ (ap (λ (m : ℕ). m + 1) was
+            ∙ sym (open_weekdays_among-open mask from n _ (from + n + 1) (omega arith) (omega arith)
+            (sym c.is_closed_on.ensures ∙ w.if-not-is_closed_on.true)));
         small = omega (arith, w.count-is, c.loop-after.invariant.small);
       }
       | else-not-is_closed_on w ↦ record {
-        counted = w.count-is ∙ (was ∙ sym (open_weekdays_among-closed mask from n _ (from + n + 1) (omega arith) (omega arith) (sym c.is_closed_on.ensures ∙ w.if-not-is_closed_on.false)));
+        counted = w.count-is ∙ (was ∙ sym
+            (open_weekdays_among-closed mask from n _ (from + n + 1) (omega arith) (omega arith)
+            (sym c.is_closed_on.ensures ∙ w.if-not-is_closed_on.false)));
         small = omega (arith, w.count-is, c.loop-after.invariant.small);
       }
     ]

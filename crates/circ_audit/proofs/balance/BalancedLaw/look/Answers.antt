@@ -4,16 +4,18 @@ use Rattle.terms.specs.declared.row.LineRow.{LineRow}
 use Rattle.terms.specs.declared.row.PatronRow.{PatronRow}
 use Rattle.circ_audit.specs.Rows.{charge, credit}
 use Rattle.circ_audit.specs.Sound.{charges_of, credits_of, IsBalanced}
-use Rattle.circ_audit.specs.Pages.{LooksAt, Sums}
+use Rattle.circ_audit.specs.Spans.{LooksAt, Sums}
 use Rattle.circ_audit.proofs.balance.BalancedLaw.look.Goals as goal
 
 pub returns : goal.returns
 returns c =
-    subst (λ (page : ℕ). LooksAt (IsBalanced c.args.tables.now) page c.look_at_patrons.result) (c.add_lines.ensures.charges.page ∙ c.new-charges.ensures.page)
-    (subst (λ (rows : List PatronRow). LooksAt (λ n. All (λ r. r.patron ≡ n → r.owed + credits_of c.args.tables.now n ≡ charges_of c.args.tables.now n) rows) c.add_lines.new.charges.page c.look_at_patrons.result)
+    subst (λ (span : ℕ). LooksAt (IsBalanced c.args.tables.now) span c.look_at_patrons.result) (c.add_lines.ensures.charges.span ∙ c.new-charges.ensures.span)
+    (subst (λ (rows : List PatronRow). LooksAt
+    (λ n. All (λ r. r.patron ≡ n → r.owed + credits_of c.args.tables.now n ≡ charges_of c.args.tables.now n) rows)
+    c.add_lines.new.charges.span c.look_at_patrons.result)
     c.as_slice-2.ensures.rows
     (c.look_at_patrons.ensures (charges_of c.args.tables.now) (credits_of c.args.tables.now) charges credits
-    (c.add_lines.ensures.credits.page ∙ c.new-credits.ensures.page ∙ sym (c.add_lines.ensures.charges.page ∙ c.new-charges.ensures.page))))
+    (c.add_lines.ensures.credits.span ∙ c.new-credits.ensures.span ∙ sym (c.add_lines.ensures.charges.span ∙ c.new-charges.ensures.span))))
   where
     charges : Sums c.add_lines.new.charges (charges_of c.args.tables.now)
     charges n on =

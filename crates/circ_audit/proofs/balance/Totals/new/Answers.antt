@@ -1,5 +1,5 @@
 use Rattle.std.proofs.Common.{arith}
-use Rattle.circ_audit.specs.Pages.{place_of}
+use Rattle.circ_audit.specs.Spans.{place_of}
 use Rattle.circ_audit.proofs.Adding.{zero-at}
 use Rattle.circ_audit.proofs.balance.Totals.new.Goals as goal
 

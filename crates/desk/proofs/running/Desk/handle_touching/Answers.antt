@@ -1,5 +1,4 @@
 use Rattle.model.specs.History.{History}
-use Rattle.model.specs.Picture.{picture}
 use Rattle.model.specs.Requests.{after_one}
 use Rattle.desk.proofs.Shown.{shows-headline}
 use Rattle.desk.proofs.Untouched.{page-kept}

@@ -27,7 +27,8 @@ work-init g c = record {
 
 pub take_message-board-requires : goal.take_message-board-requires
 take_message-board-requires g c =
-    may-take g.S.Store g.J.Opening.shows c.args.self.desk c.work.desk c.work.progress.handled c.work.progress.fault c.work.inbox.got c.work.board c.in-Ok.message c.requires.tables c.in-Ok.ensures.1 c.work.invariant.stands
+    may-take g.S.Store g.J.Opening.shows c.args.self.desk c.work.desk c.work.progress.handled c.work.progress.fault c.work.inbox.got
+    c.work.board c.in-Ok.message c.requires.tables c.in-Ok.ensures.1 c.work.invariant.stands
 
 pub work-preserved-in-Ok : goal.work-preserved-in-Ok
 work-preserved-in-Ok g c =
@@ -41,18 +42,24 @@ work-preserved-in-Ok g c =
         | inl old ↦ stays_gone c.work.inbox.got c.receive.new.self.got c.in-Ok.message got (j + 1) (i.gone j old)
         | inr now ↦ goes_now c.work.inbox.got c.receive.new.self.got (j + 1) (j + 1) (got ∙ ap (λ (m : Message). c.work.inbox.got ++ m ∷ []) now) refl
       ];
-      stands = message-kept g.S.Store g.J.Opening.shows c.args.self.desk c.work.desk t.new.desk c.work.progress.handled t.new.progress.handled c.work.progress.fault t.new.progress.fault c.work.inbox.got c.receive.new.self.got c.work.board t.result c.in-Ok.message got t.ensures.next i.stands;
+      stands = message-kept g.S.Store g.J.Opening.shows c.args.self.desk c.work.desk t.new.desk c.work.progress.handled
+          t.new.progress.handled c.work.progress.fault t.new.progress.fault c.work.inbox.got c.receive.new.self.got c.work.board t.result
+          c.in-Ok.message got t.ensures.next i.stands;
     }
 
 pub returns-clause-finishes : goal.returns-clause-finishes
 returns-clause-finishes g c =
     let got : c.end.result.got ≡ c.work.inbox.got = ap (λ (v : View). v.got) c.end.ensures in
     let gone : (k : ℕ) → k < c.args.self.workers → is_open (of (k + 1) c.work.inbox.got) ≡ false = search rules in
-    subst (λ (l : List Message). Finishes c.args.self.workers c.work.progress.handled l c.stop.result.shown.entries g.S.Store c.args.self.desk c.work.desk c.work.progress.fault) (sym got)
-    (finishes g.S.Store g.J.Opening.shows c.args.self.workers c.work.progress.handled c.work.inbox.got c.stop.result.shown.entries c.args.self.desk c.work.desk c.work.progress.fault c.work.board gone (ap (λ (v : Seen). v.entries) c.stop.ensures.same) c.work.invariant.stands)
+    subst (λ (l : List Message). Finishes c.args.self.workers c.work.progress.handled l c.stop.result.shown.entries g.S.Store
+    c.args.self.desk c.work.desk c.work.progress.fault) (sym got)
+    (finishes g.S.Store g.J.Opening.shows c.args.self.workers c.work.progress.handled c.work.inbox.got c.stop.result.shown.entries
+    c.args.self.desk c.work.desk c.work.progress.fault c.work.board gone
+    (ap (λ (v : Seen). v.entries) c.stop.ensures.same) c.work.invariant.stands)
 
 pub returns-clause-told : goal.returns-clause-told
 returns-clause-told g c = λ disk H first. subst (IsTold H) (sym c.stop.ensures.same) (c.work.invariant.stands.told disk H first)
 
 pub returns-clause-replies : goal.returns-clause-replies
-returns-clause-replies g c = λ disk H first asked old new reply on is. given-to H c.stop.result.shown (subst (IsTold H) (sym c.stop.ensures.same) (c.work.invariant.stands.told disk H first)) old new on reply asked is
+returns-clause-replies g c = λ disk H first asked old new reply on is. given-to H c.stop.result.shown
+    (subst (IsTold H) (sym c.stop.ensures.same) (c.work.invariant.stands.told disk H first)) old new on reply asked is

@@ -16,8 +16,12 @@ absorb-requires-clause-rule g c =
     merges c.self.inside.pass.id v c.post.inside.pass.id u a b d e
 
 pub learn_as-requires-clause-rule : goal.learn_as-requires-clause-rule
-learn_as-requires-clause-rule g c = learns c.absorb.new.pass.id (view c.absorb.new.pass) (ap (λ (x : View). x.gets) c.absorb.ensures.rule ∙ (ap (λ (x : View). x.gets) c.self.view_is ∙ c.requires.desk.0))
+learn_as-requires-clause-rule g c =
+    learns c.absorb.new.pass.id (view c.absorb.new.pass)
+    (ap (λ (x : View). x.gets) c.absorb.ensures.rule ∙ (ap (λ (x : View). x.gets) c.self.view_is ∙ c.requires.desk.0))
 
 pub returns-clause-whole : goal.returns-clause-whole
 returns-clause-whole g c =
-    taken_whole c.args.self.now c.args.post (view c.absorb.new.pass) (c.absorb.ensures.rule ∙ (ap (λ (x : View). taken_in x (view c.post.inside.pass)) c.self.view_is ∙ ap (taken_in c.args.self.now) c.post.view_is)) c.learn_as.ensures.rule
+    taken_whole c.args.self.now c.args.post (view c.absorb.new.pass)
+    (c.absorb.ensures.rule ∙ (ap (λ (x : View). taken_in x (view c.post.inside.pass)) c.self.view_is
+    ∙ ap (taken_in c.args.self.now) c.post.view_is)) c.learn_as.ensures.rule

@@ -12,7 +12,13 @@ returns-clause-told g c =
     let shown = option_map (λ k. k.now) c.args.shown in
     elim c.match-page.branch [
       | in-Ok+in-Ok-page_answer w ↦
-          record { outcome = Ok (shown_page (option_map arc_value w.in-Ok.page) shown); answer_is = w.result-is ∙ w.in-Ok-page_answer.ensures; reply = record { looked = w.in-Ok.ensures.looked; reply_is = ap (λ o. shown_page o shown) w.in-Ok.ensures.page }; fault = tt }
+          record {
+            outcome = Ok (shown_page (option_map arc_value w.in-Ok.page) shown);
+            answer_is = w.result-is ∙ w.in-Ok-page_answer.ensures;
+            reply =
+                record { looked = w.in-Ok.ensures.looked; reply_is = ap (λ o. shown_page o shown) w.in-Ok.ensures.page };
+            fault = tt;
+          }
       | in-Ok+in-Err w ↦ record { outcome = Err (Met Memory); answer_is = w.result-is; reply = tt; fault = inl refl }
       | in-Err-Memory w ↦ record { outcome = Err (Met Memory); answer_is = w.result-is; reply = tt; fault = inl refl }
       | in-Err-Gone w ↦ record { outcome = Err Closed; answer_is = w.result-is; reply = tt; fault = inr refl }

@@ -15,18 +15,23 @@ returns-in-Some g c =
     let old = c.args.self.now in
     let bytes = g.I.Read.remaining c.args.reader.now in
     let told = c.in-Some.answer in
-    let status-served' = status-served c.args.desk_key.now bytes old m.self (g.O.Write.contents c.args.writer.now) (g.O.Write.contents c.send.new.writer) c.send.result told c.send.ensures in
+    let status-served' = status-served c.args.desk_key.now bytes old m.self (g.O.Write.contents c.args.writer.now)
+    (g.O.Write.contents c.send.new.writer) c.send.result told c.send.ensures in
     elim m.branch [
       | in-Ok w ↦
-          request-served c.args.desk_key.now bytes old m.self (g.O.Write.contents c.args.writer.now) (g.O.Write.contents c.send.new.writer) c.send.result told c.send.ensures
+          request-served c.args.desk_key.now bytes old m.self (g.O.Write.contents c.args.writer.now)
+          (g.O.Write.contents c.send.new.writer) c.send.result told c.send.ensures
           w.in-Ok.request w.asked.result m.answer w.asked.ensures w.in-Ok.ensures c.in-Some.is
           (subst (λ (s : Working). Meets w.asked.result old s m.answer) (sym w.self-is)
           (subst (λ (a : Option Answer). Meets w.asked.result old w.answer-answer.new.self a) (sym w.answer-is) w.answer-answer.ensures))
       | in-Err-Status w ↦
-          status-served' w.in-Err-Status.status w.self-is (some-is told (Failed w.in-Err-Status.status) (sym c.in-Some.is ∙ (w.answer-is ∙ ap (λ s. Some (Failed s)) w.in-Err-Status.status-is)))
+          status-served' w.in-Err-Status.status w.self-is
+          (some-is told (Failed w.in-Err-Status.status)
+          (sym c.in-Some.is ∙ (w.answer-is ∙ ap (λ s. Some (Failed s)) w.in-Err-Status.status-is)))
           (read-status bytes c.read_request.result w.in-Err-Status.status (w.in-Err-Status.is ∙ ap Err w.in-Err-Status.field-0-is) c.read_request.ensures)
       | in-Err-Memory w ↦
-          want-served c.args.desk_key.now bytes old m.self (g.O.Write.contents c.args.writer.now) (g.O.Write.contents c.send.new.writer) c.send.result told c.send.ensures
+          want-served c.args.desk_key.now bytes old m.self (g.O.Write.contents c.args.writer.now)
+          (g.O.Write.contents c.send.new.writer) c.send.result told c.send.ensures
           w.self-is (some-is told (Faulted (Met Memory)) (sym c.in-Some.is ∙ w.answer-is))
       | in-Err-Read w ↦ let never : Some told ≡ None = sym c.in-Some.is ∙ w.answer-is in absurd (cc)
     ]

@@ -7,4 +7,5 @@ pub returns-in_err-put_rule : goal.returns-in_err-put_rule
 returns-in_err-put_rule g c = changes_failed g.S.Store _ c.from_residual.ensures c.in_err-put_rule.ensures.changes
 
 pub returns : goal.returns
-returns g c = rw c.new.ensures at (changes_then g.S.Store has_third (λ n has. (has, (let low = has.0 in omega (arith, low), has.1))) c.in_ok-put_rule.ensures.changes c.take_old_rule.ensures.changes)
+returns g c = rw c.new.ensures at (changes_then g.S.Store has_third (λ n has. (has, (let low = has.0 in omega (arith, low), has.1)))
+    c.in_ok-put_rule.ensures.changes c.take_old_rule.ensures.changes)

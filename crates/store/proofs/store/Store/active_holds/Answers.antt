@@ -8,5 +8,6 @@ use Rattle.store.proofs.store.Store.active_holds.Goals as goal
 
 pub returns : goal.returns
 returns g c =
-    looked_list holds (λ l. l.items) (λ m. Listed m (is_active_by c.args.patron)) (λ P rows. AreHoldsBy P c.args.patron rows) (λ maps P is legal. holds_by_are maps P is legal c.args.patron) g.S.Store _ _ _
-    (rw c.self.view_is at (c.is_autocommit-is_idle.ensures.settled (search))) (rw c.self.view_is at c.active_holds_by.ensures)
+    looked_list holds (λ l. l.items) (λ m. Listed m (is_active_by c.args.patron)) (λ P rows. AreHoldsBy P c.args.patron rows)
+    (λ maps P is legal. holds_by_are maps P is legal c.args.patron) g.S.Store _ _ _
+    (rw c.self.view_is at (c.holds_committed.ensures)) (rw c.self.view_is at c.active_holds_by.ensures)

@@ -4,4 +4,5 @@ use Rattle.store.proofs.store.Store.branch.Goals as goal
 
 pub returns : goal.returns
 returns g c =
-    looked_row branches c.args.branch g.S.Store (λ P legal r there. (legal.branches c.args.branch r there).1) _ _ _ (rw c.self.view_is at (c.is_autocommit-is_idle.ensures.settled (search))) (rw c.self.view_is at c.get_row.ensures)
+    looked_row branches c.args.branch g.S.Store (λ P legal r there. (legal.branches c.args.branch r there).1) _ _ _
+    (rw c.self.view_is at (c.holds_committed.ensures)) (rw c.self.view_is at c.get_row.ensures)

@@ -9,6 +9,7 @@ use Rattle.store.proofs.store.Store.lines.Goals as goal
 
 pub returns : goal.returns
 returns g c =
-    looked_list lines (λ l. l.items) (λ m. FirstRows PAGE_ROWS m (is_line_after c.args.day c.args.after)) (λ P rows. AreLinesAfter P c.args.day c.args.after rows)
+    looked_list lines (λ l. l.items) (λ m. FirstRows PAGE_ROWS m (is_line_after c.args.day c.args.after))
+    (λ P rows. AreLinesAfter P c.args.day c.args.after rows)
     (λ maps P is legal. lines_after_are maps P is legal c.args.day c.args.after) g.S.Store _ _ _
-    (rw c.self.view_is at (c.is_autocommit-is_idle.ensures.settled (search))) (rw c.self.view_is at c.lines_after.ensures)
+    (rw c.self.view_is at (c.holds_committed.ensures)) (rw c.self.view_is at c.lines_after.ensures)

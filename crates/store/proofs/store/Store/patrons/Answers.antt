@@ -7,5 +7,5 @@ use Rattle.store.proofs.store.Store.patrons.Goals as goal
 
 pub returns : goal.returns
 returns g c =
-    looked_view (λ P. AreRows P.patrons (λ r. r.patron) AllPass) g.S.Store _ _ _ (rw c.self.view_is at (c.is_autocommit-is_idle.ensures.settled (search)))
+    looked_view (λ P. AreRows P.patrons (λ r. r.patron) AllPass) g.S.Store _ _ _ (rw c.self.view_is at (c.holds_committed.ensures))
     (seen_as (viewed (rw c.self.view_is at c.read_pages.ensures)) (λ P rows are. all_pass P.patrons (λ r. r.patron) rows are))

@@ -9,6 +9,7 @@ use Rattle.store.proofs.store.Store.ready_holds.Goals as goal
 
 pub returns : goal.returns
 returns g c =
-    looked_list holds (λ l. l.items) (λ m. FirstRows PAGE_ROWS m (is_ready_after c.args.branch c.args.after)) (λ P rows. AreReadyAfter P c.args.branch c.args.after rows)
+    looked_list holds (λ l. l.items) (λ m. FirstRows PAGE_ROWS m (is_ready_after c.args.branch c.args.after))
+    (λ P rows. AreReadyAfter P c.args.branch c.args.after rows)
     (λ maps P is legal. ready_after_are maps P is legal c.args.branch c.args.after) g.S.Store _ _ _
-    (rw c.self.view_is at (c.is_autocommit-is_idle.ensures.settled (search))) (rw c.self.view_is at c.ready_holds_after.ensures)
+    (rw c.self.view_is at (c.holds_committed.ensures)) (rw c.self.view_is at c.ready_holds_after.ensures)

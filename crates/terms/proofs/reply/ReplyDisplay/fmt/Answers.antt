@@ -9,7 +9,8 @@ use Rattle.terms.specs.declared.reply.Reply.TheVariants.{CheckedIn}
 use Rattle.terms.proofs.reply.ReplyDisplay.fmt.Goals as goal
 
 -- the fine, and then where the copy goes
-checked_in : (fine : ℕ) (routed : Routed) → codes "fine " ++ (decimal fine ++ (32 ∷ join_with_byte 32 (routed_words routed))) ≡ reply_text (CheckedIn fine routed)
+checked_in : (fine : ℕ) (routed : Routed) → codes "fine "
+    ++ (decimal fine ++ (32 ∷ join_with_byte 32 (routed_words routed))) ≡ reply_text (CheckedIn fine routed)
 unfolding reply_text reply_words routed_words
 checked_in fine (Shelf branch) = refl
 checked_in fine (HoldShelf hold branch until) = refl

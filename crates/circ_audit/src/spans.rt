@@ -1,16 +1,16 @@
-//! Numbers that are looked at page by page, so that no memory is taken.
+//! Numbers that are looked at span by span, so that no memory is taken.
 
 ghost use Rattle.std.specs.Prelude.{◌≡◌, Some};
-ghost use Rattle.circ_audit.specs.Pages.{page_of, lesser_of, LooksAt};
+ghost use Rattle.circ_audit.specs.Spans.{span_of, lesser_of, LooksAt};
 ghost use Rattle.circ_audit.specs.Sound.{FailsFirst};
 
 use terms::Tables;
 
-/// How many numbers stand on a page.
-pub const PAGE: u32 = 65_536;
+/// How many numbers lie in a span.
+pub const SPAN: u32 = 65_536;
 
-/// What was found on a page: its least number that breaks the law, and the least number of later
-/// pages of which there is anything to look at.
+/// What was found in a span: its least number that breaks the law, and the least number of later
+/// spans of which there is anything to look at.
 #[derive(Clone, Copy)]
 pub struct Look {
     pub broken: Option<u32>,
@@ -24,16 +24,16 @@ pub trait Law {
 
     ghost keeps: { Tables → ℕ → Type 0 };
 
-    /// Looks at the numbers of a page.
-    fn look(tables: &Tables, page: u16) -> Look
-        ensures { LooksAt (keeps tables.now) page result };
+    /// Looks at the numbers of a span.
+    fn look(tables: &Tables, span: u16) -> Look
+        ensures { LooksAt (keeps tables.now) span result };
 }
 
-/// The page of a number.
-pub fn page_of(number: u32) -> u16
-    ensures { result ≡ page_of number }
+/// The span of a number.
+pub fn span_of(number: u32) -> u16
+    ensures { result ≡ span_of number }
 {
-    (number / PAGE) as u16
+    (number / SPAN) as u16
 }
 
 /// The lesser of two numbers, of which the first may be none.
@@ -46,19 +46,19 @@ pub fn lesser(first: Option<u32>, number: u32) -> Option<u32>
     }
 }
 
-/// The least number of which the law doesn't hold. It takes one look at each page on which there is
+/// The least number of which the law doesn't hold. It takes one look at each span in which there is
 /// anything to look at.
 pub fn first_broken<L: Law>(tables: &Tables) -> Option<u32>
     ensures { FailsFirst (L.keeps tables.now) result }
 {
-    let mut page = 0;
+    let mut span = 0;
     loop {
-        let look = L::look(tables, page);
+        let look = L::look(tables, span);
         if look.broken.is_some() {
             return look.broken;
         }
         match look.next {
-            Some(next) => page = page_of(next),
+            Some(next) => span = span_of(next),
             None => return None,
         }
     }

@@ -1,17 +1,18 @@
--- Numbers that are looked at page by page.
-use Rattle.std.specs.Prelude.{◌≡◌, ◌==◌, ℕ, ◌+◌, ◌/◌, ◌%◌, ◌^◌, ◌<◌, ◌≤◌, nat_lt, Bool, List, All, Option, Some, None, IfSome, sum_by, slice_index, if◌then◌else◌}
+-- Numbers that are looked at span by span.
+use Rattle.std.specs.Prelude.{◌≡◌, ◌==◌, ℕ, ◌+◌, ◌/◌, ◌%◌, ◌^◌, ◌<◌, ◌≤◌, nat_lt, Bool, List, All, Option, Some, None, IfSome, sum_by}
+use Rattle.std.specs.Prelude.{slice_index, if◌then◌else◌}
 use Rattle.terms.specs.declared.row.PatronRow.{PatronRow}
 use Rattle.terms.specs.declared.row.LineRow.{LineRow}
-use Rattle.circ_audit.specs.declared.pages.Look.{Look}
+use Rattle.circ_audit.specs.declared.spans.Look.{Look}
 use Rattle.circ_audit.specs.declared.window.Window.{Window}
 use Rattle.circ_audit.specs.declared.balance.Totals.{Totals}
 use Rattle.circ_audit.specs.Sound.{FailsFirst}
 
--- The page of a number.
-abbrev pub page_of : ℕ → ℕ
-page_of n = n / 65536
+-- The span of a number.
+abbrev pub span_of : ℕ → ℕ
+span_of n = n / 65536
 
--- The place of a number on its page.
+-- The place of a number on its span.
 abbrev pub place_of : ℕ → ℕ
 place_of n = n % 65536
 
@@ -39,65 +40,65 @@ abbrev pub IsBelow : ℕ → Option ℕ → Type 0
 IsBelow n (Some m) = n < m
 IsBelow n None = Unit {0}
 
--- Of all numbers of the page the law holds, or this is the least of which it doesn't.
+-- Of all numbers of the span the law holds, or this is the least of which it doesn't.
 abbrev pub FailsOn : (ℕ → Type 0) → ℕ → Option ℕ → Type 0
-FailsOn Law page found = FailsFirst (λ n. page_of n ≡ page → Law n) found
+FailsOn Law span found = FailsFirst (λ n. span_of n ≡ span → Law n) found
 
--- A page was looked at.
-pub record LooksAt (Law : ℕ → Type 0) (page : ℕ) (look : Look) : Type 0 where
+-- A span was looked at.
+pub record LooksAt (Law : ℕ → Type 0) (span : ℕ) (look : Look) : Type 0 where
   -- the least number of it that breaks the law was found, or there is none
-  pub broken : FailsOn Law page look.broken
-  -- the next number stands on a later page
-  pub ahead : IfSome look.next (λ n. page < page_of n)
-  -- and the law holds of all numbers of later pages before it
-  pub between : (n : ℕ) → page < page_of n → IsBelow n look.next → Law n
+  pub broken : FailsOn Law span look.broken
+  -- the next number stands on a later span
+  pub ahead : IfSome look.next (λ n. span < span_of n)
+  -- and the law holds of all numbers of later spans before it
+  pub between : (n : ℕ) → span < span_of n → IsBelow n look.next → Law n
 
 -- A counter stops at two.
 abbrev pub capped : ℕ → ℕ
 capped n = if nat_lt n 2 then n else 2
 
--- The counters of a page show how often each number was counted.
-pub record Shows (w : Window) (times : ℕ → ℕ) : Type 0 where
-  -- each number of the page by its own counter
-  pub here : (n : ℕ) → page_of n ≡ w.page → slice_index w.counters (place_of n) ≡ capped (times n)
-  -- the next number stands on a later page
-  pub ahead : IfSome w.next (λ n. w.page < page_of n)
-  -- and none of later pages before it was counted
-  pub between : (n : ℕ) → w.page < page_of n → IsBelow n w.next → times n ≡ 0
+-- The counters of a span show how often each number was counted.
+pub record ShowsCounts (w : Window) (times : ℕ → ℕ) : Type 0 where
+  -- each number of the span by its own counter
+  pub here : (n : ℕ) → span_of n ≡ w.span → slice_index w.counters (place_of n) ≡ capped (times n)
+  -- the next number stands on a later span
+  pub ahead : IfSome w.next (λ n. w.span < span_of n)
+  -- and none of later spans before it was counted
+  pub between : (n : ℕ) → w.span < span_of n → IsBelow n w.next → times n ≡ 0
 
 -- Each number was counted so many times more.
-pub record Counts (more : ℕ → ℕ) (old new : Window) : Type 0 where
-  pub page : new.page ≡ old.page
-  pub shows : (times : ℕ → ℕ) → Shows old times → Shows new (λ n. times n + more n)
+pub record CountsMore (more : ℕ → ℕ) (old new : Window) : Type 0 where
+  pub span : new.span ≡ old.span
+  pub shows : (times : ℕ → ℕ) → ShowsCounts old times → ShowsCounts new (λ n. times n + more n)
 
--- The totals of a page are those of its numbers.
+-- The totals of a span are those of its numbers.
 abbrev pub Sums : Totals → (ℕ → ℕ) → Type 0
-Sums w sum = (n : ℕ) → page_of n ≡ w.page → slice_index w.sums (place_of n) ≡ sum n
+Sums w sum = (n : ℕ) → span_of n ≡ w.span → slice_index w.sums (place_of n) ≡ sum n
 
--- No total of the page is above this.
+-- No total of the span is above this.
 abbrev pub AreWithin : ℕ → Totals → Type 0
 AreWithin most w = (k : ℕ) → slice_index w.sums k ≤ most
 
 -- So much was added to the total of each number, and no more than an amount can be.
 pub record Adds (more : ℕ → ℕ) (old new : Totals) : Type 0 where
-  pub page : new.page ≡ old.page
+  pub span : new.span ≡ old.span
   pub sums : (sum : ℕ → ℕ) → Sums old sum → Sums new (λ n. sum n + more n)
   pub within : (most : ℕ) → AreWithin most old → AreWithin (most + 2 ^ 64) new
 
 -- The rows were added to totals, each with its amount for each number.
 pub record AddsRows (amount : LineRow → ℕ → ℕ) (rows : List LineRow) (old new : Totals)
     : Type 0 where
-  pub page : new.page ≡ old.page
+  pub span : new.span ≡ old.span
   pub sums : (sum : ℕ → ℕ) → Sums old sum → Sums new (λ n. sum n + sum_by (λ r. amount r n) rows)
 
--- The least number of the page of which something is wrong, after one more, which is right or wrong.
+-- The least number of the span of which something is wrong, after one more, which is right or wrong.
 abbrev pub broken_after : ℕ → Bool → ℕ → Option ℕ → Option ℕ
-broken_after page right n first =
-    if page_of n == page then first_after right n first else first
+broken_after span right n first =
+    if span_of n == span then first_after right n first else first
 
--- The least number of later pages, after one more.
+-- The least number of later spans, after one more.
 abbrev pub next_after : ℕ → ℕ → Option ℕ → Option ℕ
-next_after page n first = if nat_lt page (page_of n) then Some (lesser_of first n) else first
+next_after span n first = if nat_lt span (span_of n) then Some (lesser_of first n) else first
 
 -- The account of a patron is right by the totals of the charges and the credits.
 abbrev pub is_right : PatronRow → Totals → Totals → Bool
@@ -109,6 +110,6 @@ is_right r charges credits =
 abbrev pub LooksAtRows : List PatronRow → Totals → Totals → Look → Type 0
 LooksAtRows rows charges credits look =
     (charged credited : ℕ → ℕ) → Sums charges charged → Sums credits credited
-    → credits.page ≡ charges.page
+    → credits.span ≡ charges.span
     → LooksAt (λ n. All (λ r. r.patron ≡ n → r.owed + credited n ≡ charged n) rows)
-    charges.page look
+    charges.span look

@@ -1,0 +1,168 @@
+"""Runs of the program on files, and what stock SQLite reads back: what the tests have in common."""
+
+import hashlib
+import os
+import shlex
+import signal
+import sqlite3
+import subprocess
+import sys
+import time
+from contextlib import closing
+
+from messages import as_it_is, message
+
+TOP = os.path.dirname(os.path.dirname(os.path.dirname(os.path.abspath(__file__))))
+CIRC = os.path.join(TOP, "circ")
+PROGRAM = os.path.join(TOP, "crates", "circ_cli", "out", "circ_cli")
+
+# A key, the words, and the line that answers them.
+GROUND = [
+    ("g1", ["begin-day", "2026-03-02"], "ok"),
+    ("g2", ["branch", "1", "5", "Main"], "ok"),
+    ("g3", ["branch", "2", "3", "Harbour"], "ok"),
+    ("g4", ["week", "1", "ooooooc"], "ok"),
+    ("g5", ["week", "2", "coooooc"], "ok"),
+    ("g6", ["kind", "1", "5", "5", "500"], "ok"),
+    ("g7", ["rule", "1", "1", "6", "1", "20", "100"], "ok"),
+    ("g8", ["rule", "1", "2", "12", "1", "20", "100"], "ok"),
+    ("g9", ["patron", "1", "1", "cardkey00001", "Ann Bell"], "ok"),
+    ("g10", ["patron", "2", "1", "cardkey00002", "Bo Carr"], "ok"),
+    ("g11", ["patron", "3", "1", "cardkey00003", "Cy Dunn"], "ok"),
+    ("g12", ["acquire", "10", "100", "1", "1", "2500", "Rivers of the North"], "ok"),
+    ("g13", ["acquire", "11", "100", "1", "1", "2500", "Rivers of the North"], "ok"),
+    ("g14", ["acquire", "20", "200", "1", "2", "1200", "Salt Roads"], "ok"),
+    ("g15", ["acquire", "30", "300", "2", "1", "800", "Night Ferries"], "ok"),
+]
+
+passed = 0
+
+
+def check(what, found, wanted):
+    """Counts a passed test, or ends the script."""
+    global passed
+    if found != wanted:
+        print(f"{os.path.basename(sys.argv[0])}: {what}\n  found  {found!r}\n  wanted {wanted!r}", file=sys.stderr)
+        sys.exit(1)
+    passed += 1
+
+
+def circ(words, **how):
+    """The line and the status of one run, which says on standard error what the line means."""
+    run = subprocess.run([CIRC, *words], capture_output=True, timeout=120, **how)
+    line = run.stdout.decode()
+    check(f"standard error of {words}", run.stderr, message(words, line))
+    check(f"one line of {words}", (line.count("\n"), line.endswith("\n")), (1, True))
+    return line[:-1], run.returncode
+
+
+def status_of(line):
+    """The status that goes with a line."""
+    if line.startswith("refused "):
+        return 2
+    if line.startswith("fault "):
+        return 3
+    return 4 if line == "words not understood" else 0
+
+
+def say(path, rows):
+    """Each request gets its line, and the status of that line."""
+    for key, words, line in rows:
+        check(f"{key} {words}", circ(["file", path, key, *words]), (line, status_of(line)))
+
+
+def rows(path, text):
+    """What stock SQLite reads."""
+    with closing(sqlite3.connect(path)) as conn:
+        return conn.execute(text).fetchall()
+
+
+def write(path, *texts):
+    """What stock SQLite writes."""
+    with closing(sqlite3.connect(path)) as conn:
+        for text in texts:
+            conn.execute(text)
+        conn.commit()
+
+
+def digest(path):
+    """What a file holds, in short; None where there is no file."""
+    if not os.path.isfile(path):
+        return None
+    with open(path, "rb") as file:
+        return hashlib.sha256(file.read()).hexdigest()
+
+
+def whole(path):
+    """All rows of all tables."""
+    names = [name for (name,) in rows(path, "SELECT name FROM sqlite_schema WHERE type = 'table' ORDER BY name")]
+    return {name: rows(path, f'SELECT * FROM "{name}" ORDER BY 1, 2') for name in names}
+
+
+def answers(path, key, words):
+    """What one run prints, of any number of lines, and its status."""
+    run = subprocess.run([CIRC, "file", path, key, *words], capture_output=True, timeout=120)
+    check(f"standard error of {key} {words}", run.stderr, message(["file", path, key, *words], run.stdout.decode()))
+    return run.stdout.decode(), run.returncode
+
+
+def report(path, *words):
+    """What a report prints, and its status."""
+    run = subprocess.run([CIRC, "report", path, *words], capture_output=True, timeout=120)
+    check(f"standard error of {words}", run.stderr, message(["report", path, *words], run.stdout.decode()))
+    return run.stdout.decode(), run.returncode
+
+
+def memory_of(words, out):
+    """The most memory that a run of the program takes, in KiB, and its status; what it prints goes into a file."""
+    run = subprocess.run([os.path.join(TOP, "tests", "measured"), out, PROGRAM, *words], stdout=subprocess.PIPE, check=True)
+    _, most, status = run.stdout.split()
+    return int(most), int(status)
+ROOM = 8 * 1024  # KiB; the rows of a whole report of so many loans would take several times as much
+
+
+def kill_at_work(words, seconds):
+    """Starts a run and kills it after a while; it may have ended by then. What it printed, and whether the kill hit it."""
+    with subprocess.Popen([PROGRAM, *words], stdout=subprocess.PIPE) as run:
+        time.sleep(seconds)
+        run.kill()
+        printed = run.stdout.read().decode()
+    return printed, run.returncode == -signal.SIGKILL
+
+
+def timed(call):
+    """What a call gives, and the seconds that it took: kills are set by that, so that they hit work on a slow machine too."""
+    begin = time.perf_counter()
+    given = call()
+    return given, time.perf_counter() - begin
+
+
+def rows_now(path, text):
+    """What stock SQLite reads in a copy of the files."""
+    with as_it_is(path) as copied:
+        return rows(copied, text)
+
+
+def the_rows_are(path, library):
+    """The file holds exactly the rows that the rules give, and they are sound."""
+    check("the audit", circ(["audit", path]), ("sound", 0))
+    found = {name: sorted(rows, key=lambda row: row[:2] if name != "transits" else row[:1])
+             for name, rows in whole(path).items()}
+    for name, rows_of in library.tables().items():
+        check(f"rows of {name}", found[name], rows_of)
+
+
+def month():
+    """The requests of a month: the key of each and its words."""
+    with open(os.path.join(TOP, "tests", "month.txt"), encoding="utf-8") as file:
+        return [shlex.split(line) for line in file]
+
+
+HEADER = "copy,title,text,kind,home,price,end\n"
+
+
+def take_in(path, copies):
+    """What taking in a copies file prints, and its status."""
+    run = subprocess.run([CIRC, "import", path, copies], capture_output=True, timeout=120)
+    check("standard error of a copies file", run.stderr, message(["import", path, copies], run.stdout.decode()))
+    return run.stdout.decode(), run.returncode
