@@ -87,12 +87,13 @@ impl<J: Opening> Shared<J> {
 
     /// A worker waits for a connection, and serves it: the answer goes out in one write where it
     /// fits into 8 KiB, and in pieces where no memory is left to hold it together. A connection
-    /// that can't be had is passed over.
+    /// that can't be had is passed over. The routes are made for the first one, and again for the
+    /// next where there was no memory for them.
     fn serve_next<R: Wait>(
         &self,
         rt: &R,
         alloc: Global,
-        routes: Option<&Routes>,
+        routes: &mut Option<Routes>,
         worker: &mut Worker<J>,
     ) {
         let Ok((stream, _)) = self.listener.accept() else {
@@ -102,6 +103,10 @@ impl<J: Opening> Shared<J> {
         if stream.set_read_timeout(wait).is_err() || stream.set_write_timeout(wait).is_err() {
             return;
         }
+        if routes.is_none() {
+            *routes = Routes::new(alloc).ok();
+        }
+        let routes = routes.as_ref();
         let is_answered = match BufWriter::new(alloc, &stream) {
             Ok(mut writer) => {
                 let key = &self.desk_key;
@@ -122,16 +127,12 @@ impl<J: Opening> Shared<J> {
         }
     }
 
-    /// A worker serves so many connections, and leaves. It makes the routes once, and tries again
-    /// at the next connection where there was no memory for them.
+    /// A worker serves so many connections, and leaves.
     fn work<R: Wait>(&self, rt: &R, alloc: Global, each: u32) -> Option<Left<J>> {
         let mut worker = self.next(rt)?;
         let mut routes = None;
         for _ in 0..each {
-            if routes.is_none() {
-                routes = Routes::new(alloc).ok();
-            }
-            self.serve_next(rt, alloc, routes.as_ref(), &mut worker);
+            self.serve_next(rt, alloc, &mut routes, &mut worker);
         }
         Some(worker.leave(rt))
     }
