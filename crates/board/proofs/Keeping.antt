@@ -19,7 +19,7 @@ use Rattle.board.specs.Showing.{Showing, EachIs, GoesOn, IsBoardOf, IsNextEntry,
 use Rattle.board.specs.Showing.{page_at, page_of, last_pages, first_seen, seen_of, entries_of, next_frame, overlaid, last_of}
 use Rattle.board.specs.Showing.{last_on, count_own, with_entry, updated}
 use Rattle.desk.specs.declared.showing.OwnPage.{OwnPage}
-use Rattle.board.specs.Rule.{Keeps, ShowsAll, LooksAtBoard, Publishes, nothing_seen, opening, pages_of, are_pages}
+use Rattle.board.specs.Rule.{KeepsBoard, ShowsAll, LooksAtBoard, Publishes, nothing_seen, opening, pages_of, are_pages}
 use Rattle.board.proofs.Beginnings.{starts_more, goes_self, fold-append, entries-append}
 use Rattle.std.proofs.lemmas.Bool.{false≢true}
 use Rattle.board.proofs.Lasts.{last_next, found_in, count_found, none_in, StandsLast}
@@ -72,7 +72,7 @@ shows-first book pages = record { board = record { last = nobody; pages = refl; 
         (none_at (opening book pages).last (refl, (refl, (refl, (refl, (refl, (refl, (refl, (refl, tt)))))))) (w - 1))
 
 -- the rule holds of what is shown first
-pub begins : (book : Book) (pages : List (ℕ × OwnPage)) → Keeps book (opening book pages) (nothing_seen ∷ [])
+pub begins : (book : Book) (pages : List (ℕ × OwnPage)) → KeepsBoard book (opening book pages) (nothing_seen ∷ [])
 begins book pages = record {
   name = refl;
   shows = shows-first book pages;
@@ -83,7 +83,7 @@ begins book pages = record {
 }
 
 -- a side more, which has seen nothing
-pub admits : (book : Book) → Admits (Keeps book) nothing_seen
+pub admits : (book : Book) → Admits (KeepsBoard book) nothing_seen
 admits book x views h = record {
   name = h.name;
   shows = h.shows;
@@ -93,7 +93,7 @@ admits book x views h = record {
       (at_snoc views nothing_seen v side e);
 }
 
-pub looks : (book : Book) (side : ℕ) (v : Seen) → Turns (Keeps book) side v (λ x. x) (LooksAtBoard book)
+pub looks : (book : Book) (side : ℕ) (v : Seen) → Turns (KeepsBoard book) side v (λ x. x) (LooksAtBoard book)
 looks book side v x views h at =
     let all = seen_of x.frames.items in (
       all,
@@ -169,7 +169,7 @@ module _ (x next : Showing) (us : List Update) (e : Entry) (pages : are_pages us
     shows-all-next shows may = subst (λ (s : Seen). ShowsAll s next) (sym all-next)
         (shows-next (seen_of x.frames.items) x next us e (frames_next x us e) shows pages may is)
 
-    pub publishes : (book : Book) (side : ℕ) (v : Seen) → IsNextEntry (seen_of x.frames.items).entries e → TurnsAt (Keeps book) side v x next Publishes
+    pub publishes : (book : Book) (side : ℕ) (v : Seen) → IsNextEntry (seen_of x.frames.items).entries e → TurnsAt (KeepsBoard book) side v x next Publishes
     publishes book side v may views h at =
         let old : Seen = seen_of x.frames.items in
         let w : Seen = record { entries = old.entries ++ e ∷ []; pages = old.pages ++ next.pages ∷ [] } in

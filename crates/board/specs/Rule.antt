@@ -61,7 +61,7 @@ pub record ShowsAll (all : Seen) (x : Showing) : Type 0 where
 
 -- The board shows what all that was shown comes to, which it holds; what each side has seen is a
 -- beginning of it.
-pub record Keeps (book : Book) (x : Showing) (views : List Seen) : Type 0 where
+pub record KeepsBoard (book : Book) (x : Showing) (views : List Seen) : Type 0 where
   pub name : x.frames.book ≡ book
   pub shows : ShowsAll (seen_of x.frames.items) x
   pub sound : AreEntries [] (seen_of x.frames.items).entries

@@ -10,7 +10,7 @@ use terms::{Caller, Memory, Request, Text, command_has_forms, request_text, requ
 
 /// A request with the text of its command.
 #[derive(Drop)]
-struct Told {
+struct RequestText {
     request: Request,
     text: Text,
     ghost told: { text ≡ request_text_of request.command },
@@ -19,7 +19,7 @@ struct Told {
 /// A request that can be held in several places, and compared with another.
 #[derive(Drop)]
 pub struct SharedRequest {
-    told: Arc<Told, Global>,
+    told: Arc<RequestText, Global>,
 }
 
 impl Model for SharedRequest {
@@ -45,7 +45,7 @@ fn is_same_caller(one: &Caller, other: &Caller) -> bool
 }
 
 /// Whether what was asked is the same, by caller, key and text.
-fn is_same_told(one: &Told, other: &Told) -> bool
+fn is_same_told(one: &RequestText, other: &RequestText) -> bool
     ensures { IsTrue result → one.now.request ≡ other.now.request }
 {
     request_texts_differ();
@@ -66,7 +66,7 @@ impl SharedRequest {
         ensures { IfOk result (λ shared. shared ≡ request) }
     {
         let text = request_text(alloc, &request.command)?;
-        let told = Arc::new(alloc, Told { request, text })?;
+        let told = Arc::new(alloc, RequestText { request, text })?;
         Ok(SharedRequest { told })
     }
 
@@ -82,7 +82,7 @@ impl SharedRequest {
     pub fn get(&self) -> &Request
         ensures { result.now ≡ self.now }
     {
-        let told: &Told = &self.told;
+        let told: &RequestText = &self.told;
         &told.request
     }
 

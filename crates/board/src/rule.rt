@@ -25,9 +25,9 @@ pub struct OneList<J> {
 }
 
 impl<J: Naming> Protocol<Board, Seen> for OneList<J> {
-    ghost use Rattle.board.specs.Rule.{Keeps, nothing_seen};
+    ghost use Rattle.board.specs.Rule.{KeepsBoard, nothing_seen};
 
-    ghost holds = { Keeps J.book };
+    ghost holds = { KeepsBoard J.book };
 
     ghost first = { nothing_seen };
 }

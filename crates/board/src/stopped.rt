@@ -7,7 +7,7 @@ ghost use Rattle.board.specs.Showing.{GoesOn, seen_of};
 use crate::entry::Frame;
 use crate::publisher::BoardWriter;
 use crate::rule::Naming;
-use crate::window::Sight;
+use crate::window::LastSeen;
 use chronicle::Beginning;
 use std::marker::Model;
 use std::sync::Wait;
@@ -58,7 +58,7 @@ impl<J: Naming> StoppedBoard<J> {
 
     /// Whether what a worker had seen is a beginning of what was shown: it is where there is no
     /// more of it.
-    pub fn has_shown(&self, sight: &Sight<J>) -> bool
+    pub fn has_shown(&self, sight: &LastSeen<J>) -> bool
         ensures { IsTrue result → GoesOn self.now.shown sight.now }
     {
         sight.frames.begins(&self.frames)

@@ -54,12 +54,12 @@ impl<J: Naming> Model for Window<J> {
 
 /// What a worker had seen when it left.
 #[derive(Drop)]
-pub struct Sight<J: Naming> {
+pub struct LastSeen<J: Naming> {
     pub(crate) frames: Beginning<Frame>,
     of: PhantomData<J>,
 }
 
-impl<J: Naming> Model for Sight<J> {
+impl<J: Naming> Model for LastSeen<J> {
     ghost use Rattle.std.specs.Prelude.{◌≡◌};
     ghost use Rattle.board.specs.declared.entry.Seen.{Seen};
     ghost use Rattle.board.specs.Showing.{seen_of};
@@ -85,11 +85,11 @@ impl<J: Naming> Window<J> {
     }
 
     /// Looks no more.
-    pub fn leave(self) -> Sight<J>
+    pub fn leave(self) -> LastSeen<J>
         ensures { result ≡ self }
     {
         let Window { reader: _, frames } = self;
-        Sight {
+        LastSeen {
             frames,
             of: PhantomData,
         }

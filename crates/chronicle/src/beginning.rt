@@ -4,7 +4,7 @@ ghost use Rattle.std.specs.Prelude.{◌≡◌, IsTrue, length};
 ghost use mathlib.Core.List.{IsPrefix};
 ghost use Rattle.chronicle.specs.Growing.{known};
 
-use crate::law::Law;
+use crate::law::LengthRule;
 use logbook::Seen;
 use std::marker::Model;
 
@@ -12,7 +12,7 @@ use std::marker::Model;
 #[derive(Drop)]
 pub struct Beginning<E> {
     count: u64,
-    pub(crate) seen: Seen<E, (), Law>,
+    pub(crate) seen: Seen<E, (), LengthRule>,
 }
 
 impl<E> Model for Beginning<E> {
@@ -28,7 +28,7 @@ impl<E> Model for Beginning<E> {
 
 impl<E> Beginning<E> {
     /// What was seen, of so many items.
-    pub(crate) fn over(seen: Seen<E, (), Law>, count: u64) -> Beginning<E>
+    pub(crate) fn over(seen: Seen<E, (), LengthRule>, count: u64) -> Beginning<E>
         requires { count ≡ length seen.log }
         ensures { result ≡ known seen.book seen.log }
     {

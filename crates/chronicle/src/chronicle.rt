@@ -4,7 +4,7 @@ ghost use Rattle.std.specs.Prelude.{◌≡◌, ◌+◌, ◌++◌, ◌∷◌, ◌
 ghost use Rattle.chronicle.specs.Growing.{known};
 
 use crate::beginning::Beginning;
-use crate::law::{Add, Law, Nothing};
+use crate::law::{Add, LengthRule, Nothing};
 use logbook::{Offer, Plain, Seen, Start, Word};
 use std::marker::{Model, PhantomData};
 use std::sync::Wait;
@@ -15,11 +15,11 @@ pub trait Item<X, E> {
 }
 
 /// A step asks for this item.
-struct Asks<I> {
+struct Asking<I> {
     of: PhantomData<I>,
 }
 
-impl<X, E, I: Item<X, E>> Plain<X, E, ()> for Asks<I> {
+impl<X, E, I: Item<X, E>> Plain<X, E, ()> for Asking<I> {
     ghost use Rattle.std.specs.Prelude.{None};
 
     ghost ask = { I.item };
@@ -30,7 +30,7 @@ impl<X, E, I: Item<X, E>> Plain<X, E, ()> for Asks<I> {
 /// The list: a counter of its items. Contracts see which list it is.
 #[derive(Drop)]
 pub struct Chronicle<E> {
-    head: Word<E, (), Law>,
+    head: Word<E, (), LengthRule>,
 }
 
 impl<E> Model for Chronicle<E> {
@@ -67,7 +67,7 @@ impl<E> Chronicle<E> {
     {
         let count = whole.len();
         let mut seen = whole.seen.again();
-        let mut offer: Offer<E, (), Law, Nothing> = seen.plain::<Nothing, X, Asks<I>>(about);
+        let mut offer: Offer<E, (), LengthRule, Nothing> = seen.plain::<Nothing, X, Asking<I>>(about);
         let mut pen = seen.no_pen();
         let found = self
             .head

@@ -3,9 +3,9 @@
 use logbook::{Gain, Play, Rule};
 
 /// The rule: the word that is kept is the list's length.
-pub struct Law;
+pub struct LengthRule;
 
-impl<E> Rule<E, ()> for Law {
+impl<E> Rule<E, ()> for LengthRule {
     ghost use Rattle.std.specs.Prelude.{[]};
     ghost use base.Fml.{ftrue};
     ghost use Rattle.chronicle.specs.Growing.{IsCounted};

@@ -8,4 +8,4 @@ mod law;
 
 pub use beginning::Beginning;
 pub use chronicle::{Chronicle, Item};
-pub use law::Law;
+pub use law::LengthRule;

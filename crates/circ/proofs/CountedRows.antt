@@ -6,24 +6,13 @@ use Rattle.std.proofs.lemmas.Bool.{cases_lt}
 use Rattle.std.proofs.lemmas.List.Sums.{sum_by-cons}
 use Rattle.std.proofs.lemmas.List.Elements.{Contains-get_or}
 use Rattle.terms.specs.Orders.{Rise}
+use Rattle.desk.proofs.Contained.{in-head, in-tail, above-first}
 
 -- ---- what is in a list
-
-pub in-tail : {R : Type 0} (x r : R) (rows : List R) → Contains rows r → Contains (x ∷ rows) r
-in-tail x r rows at = let lt : at.0 < length rows = at.1 in (suc at.0, omega (arith, lt), at.2)
-
-pub in-head : {R : Type 0} (x : R) (rows : List R) → Contains (x ∷ rows) x
-in-head x rows = (0, omega arith, refl)
 
 -- What holds of each row that is there.
 pub all-there : {R : Type 0} (P : R → Type 0) (rows : List R) → ((r : R) → Contains rows r → P r) → All P rows
 all-there P rows f k d lt = f (get_or rows k d) (Contains-get_or rows k d lt)
-
-pub above-first : {R : Type 0} (number_of : R → ℕ) (n : ℕ) (rows : List R) → AllByRecursion (λ s. n < number_of s) rows → (r : R)
-    → Contains rows r → n < number_of r
-above-first number_of n [] all r at = let lt : at.0 < 0 = at.1 in absurd (omega (arith, lt))
-above-first number_of n (y ∷ rows) all r (zero, lt, is) = subst (λ s. n < number_of s) is all.0
-above-first number_of n (y ∷ rows) all r (suc k, lt, is) = above-first number_of n rows all.1 r (k, omega (arith, lt), is)
 
 -- ---- counts
 

@@ -20,7 +20,7 @@ use Rattle.model.specs.Requests.{after, after_one, replies as replies_to}
 use Rattle.desk.specs.Answering.{Shows, Stays, LeavesOneOf}
 use Rattle.desk.proofs.Afterwards.{after-last, replies-last}
 use Rattle.front.specs.declared.copies.CopyEnd.{CopyEnd}
-use Rattle.front.specs.declared.copies.CopyRow.{CopyRow}
+use Rattle.front.specs.declared.copies.FileRow.{FileRow}
 use Rattle.circ.specs.Importing.{request_of, requests_of, row_line, row_lines, end_line, counts_line, import_lines, end_exit, is_refusal}
 use Rattle.circ.specs.Importing.{accepted_in, refused_in, with_row, HandlesOne, HandlesRows, ImportsAll, ImportsSome, ImportsCut}
 use Rattle.circ.specs.Lines.{fault_line}
@@ -30,17 +30,17 @@ use Rattle.circ.specs.declared.lines.Exit.TheVariants.{Faulted}
 
 -- ---- histories
 
-requests-more : (rows : List CopyRow) (row : CopyRow) → requests_of (rows ++ row ∷ []) ≡ requests_of rows ++ request_of row ∷ []
+requests-more : (rows : List FileRow) (row : FileRow) → requests_of (rows ++ row ∷ []) ≡ requests_of rows ++ request_of row ∷ []
 requests-more rows row = map-append request_of rows (row ∷ [])
 
-pub after-more : (H : History) (rows : List CopyRow) (row : CopyRow)
+pub after-more : (H : History) (rows : List FileRow) (row : FileRow)
     → after H (requests_of (rows ++ row ∷ [])) ≡ after_one (after H (requests_of rows)) (request_of row)
 after-more H rows row = ap (after H) (requests-more rows row) ∙ after-last (requests_of rows) H (request_of row)
 
 length-more : {A : Type 0} (xs : List A) (x : A) → length (xs ++ x ∷ []) ≡ length xs + 1
 length-more xs x = length-append xs (x ∷ [])
 
-pub handles-more : {S : Type 0} (g : Ghosts S) (old mid new : Held S) (rows : List CopyRow) (replies : List Reply) (row : CopyRow) (reply : Reply)
+pub handles-more : {S : Type 0} (g : Ghosts S) (old mid new : Held S) (rows : List FileRow) (replies : List Reply) (row : FileRow) (reply : Reply)
     → HandlesRows rows g old mid replies → HandlesOne row g mid new reply → HandlesRows (rows ++ row ∷ []) g old new (replies ++ reply ∷ [])
 handles-more g old mid new rows replies row reply all one = record {
   many = length-more replies reply ∙ ap (λ n. n + 1) all.many ∙ sym (length-more rows row);
@@ -85,7 +85,7 @@ both-kinds (x ∷ replies) = go (is_refusal x) (both-kinds replies)
     go false ih = omega (arith, ih)
 
 -- The counts are those of these replies.
-pub record Counted (counts : Tally) (replies : List Reply) : Type 0 where
+pub record IsTally (counts : Tally) (replies : List Reply) : Type 0 where
   pub accepted : counts.accepted ≡ accepted_in replies
   pub refused : counts.refused ≡ refused_in replies
 
@@ -101,26 +101,26 @@ with-one counts (Owed owed) = (refl, omega arith)
 with-one counts (Shown page) = (refl, omega arith)
 with-one counts (Refused refusal) = (omega arith, refl)
 
-pub counted-more : (counts : Tally) (replies : List Reply) (reply : Reply) → Counted counts replies → Counted (with_row counts reply) (replies ++ reply ∷ [])
+pub counted-more : (counts : Tally) (replies : List Reply) (reply : Reply) → IsTally counts replies → IsTally (with_row counts reply) (replies ++ reply ∷ [])
 counted-more counts replies reply counted = record {
   accepted = (with-one counts reply).0 ∙ ap (λ n. n + accepted_in (reply ∷ [])) counted.accepted ∙ sym (accepted-more replies reply);
   refused = (with-one counts reply).1 ∙ ap (λ n. n + refused_in (reply ∷ [])) counted.refused ∙ sym (refused-more replies reply);
 }
 
-pub counted-all : (counts : Tally) (replies : List Reply) → Counted counts replies → counts.accepted + counts.refused ≡ length replies
+pub counted-all : (counts : Tally) (replies : List Reply) → IsTally counts replies → counts.accepted + counts.refused ≡ length replies
 counted-all counts replies counted = (λ i. counted.accepted i + counted.refused i) ∙ both-kinds replies
 
 -- ---- the rows so far
 
 -- The rows were handled, told and counted.
-pub record SoFar {S : Type 0} (g : Ghosts S) (old new : Held S) (rows : List CopyRow) (counts : Tally) (a b : Option (List ℕ)) : Type 0 where
+pub record SoFar {S : Type 0} (g : Ghosts S) (old new : Held S) (rows : List FileRow) (counts : Tally) (a b : Option (List ℕ)) : Type 0 where
   pub replies : List Reply
   pub handled : HandlesRows rows g old new replies
   pub lines : Appends a b (row_lines 1 replies)
-  pub counted : Counted counts replies
+  pub counted : IsTally counts replies
 
-pub far-more : {S : Type 0} (g : Ghosts S) (old mid new : Held S) (rows : List CopyRow) (counts : Tally) (a b c : Option (List ℕ))
-    (row : CopyRow) (reply : Reply)
+pub far-more : {S : Type 0} (g : Ghosts S) (old mid new : Held S) (rows : List FileRow) (counts : Tally) (a b c : Option (List ℕ))
+    (row : FileRow) (reply : Reply)
     → SoFar g old mid rows counts a b → HandlesOne row g mid new reply → Appends b c (row_line (counts.accepted + counts.refused + 1) reply)
     → SoFar g old new (rows ++ row ∷ []) (with_row counts reply) a c
 far-more g old mid new rows counts a b c row reply far one wrote = record {
@@ -143,12 +143,12 @@ far-none g held a = record {
 -- ---- one row of all
 
 -- The rows before a row, with it, and how many they are.
-pub record Within (all before : List CopyRow) (row : CopyRow) : Type 0 where
+pub record Within (all before : List FileRow) (row : FileRow) : Type 0 where
   pub before_are : take (length before) all ≡ before
   pub with_are : take (length before + 1) all ≡ before ++ row ∷ []
   pub few : length before < length all
 
-pub within : (all before left rest : List CopyRow) (row : CopyRow) → before ++ left ≡ all → left ≡ row ∷ rest → Within all before row
+pub within : (all before left rest : List FileRow) (row : FileRow) → before ++ left ≡ all → left ≡ row ∷ rest → Within all before row
 within all before left rest row parted first =
     let whole : before ++ row ∷ rest ≡ all = ap (λ xs. before ++ xs) (sym first) ∙ parted in
     let again : (before ++ row ∷ []) ++ rest ≡ all = append_assoc before (row ∷ []) rest ∙ whole in
@@ -160,13 +160,13 @@ within all before left rest row parted first =
     }
 
 -- There is room for a row more.
-pub room-for : {S : Type 0} (g : Ghosts S) (old new : Held S) (before : List CopyRow) (counts : Tally) (a b : Option (List ℕ))
-    (all : List CopyRow) (row : CopyRow)
+pub room-for : {S : Type 0} (g : Ghosts S) (old new : Held S) (before : List FileRow) (counts : Tally) (a b : Option (List ℕ))
+    (all : List FileRow) (row : FileRow)
     → SoFar g old new before counts a b → Within all before row → length all ≤ MOST_ROWS → counts.accepted + counts.refused < MOST_ROWS
 room-for g old new before counts a b all row far at most = omega (arith, counted-all counts far.replies far.counted, far.handled.many, at.few, most)
 
-module _ {S : Type 0} (g : Ghosts S) (old mid new : Held S) (all before : List CopyRow) (counts : Tally) (a b : Option (List ℕ))
-    (row : CopyRow) (far : SoFar g old mid before counts a b) (at : Within all before row) where
+module _ {S : Type 0} (g : Ghosts S) (old mid new : Held S) (all before : List FileRow) (counts : Tally) (a b : Option (List ℕ))
+    (row : FileRow) (far : SoFar g old mid before counts a b) (at : Within all before row) where
   told : length far.replies ≡ length before
   told = far.handled.many
 
@@ -189,17 +189,17 @@ module _ {S : Type 0} (g : Ghosts S) (old mid new : Held S) (all before : List C
     lines = lines;
     exit_is = refl;
     sound = λ disk stored H shows. sound disk stored (after H (requests_of before)) (far.handled.replied (clean disk) H shows).1;
-    replied = λ disk H shows. (far.handled.replied (clean disk) H shows).0 ∙ ap (λ (rows : List CopyRow). replies_to H (requests_of rows)) (sym rows-before);
+    replied = λ disk H shows. (far.handled.replied (clean disk) H shows).0 ∙ ap (λ (rows : List FileRow). replies_to H (requests_of rows)) (sym rows-before);
     undone = λ disk is_open H shows.
-        subst (λ (rows : List CopyRow). Shows (state g new) (after H (requests_of rows))) (sym rows-before)
+        subst (λ (rows : List FileRow). Shows (state g new) (after H (requests_of rows))) (sym rows-before)
         (undone disk is_open (after H (requests_of before)) (far.handled.replied (clean disk) H shows).1);
     left = λ disk H shows.
         let now : History = after H (requests_of before) in
         let leaves : LeavesOneOf (state g new) now (after_one now (request_of row)) = left disk now (far.handled.replied (clean disk) H shows).1 in
         let next : after_one now (request_of row) ≡ after H (requests_of (take (length far.replies + 1) all)) =
-        sym (after-more H before row) ∙ ap (λ (rows : List CopyRow). after H (requests_of rows)) (sym rows-with) in
+        sym (after-more H before row) ∙ ap (λ (rows : List FileRow). after H (requests_of rows)) (sym rows-with) in
         subst (λ (K : History). LeavesOneOf (state g new) (after H (requests_of (take (length far.replies) all))) K) next
-        (subst (λ (rows : List CopyRow). LeavesOneOf (state g new) (after H (requests_of rows)) (after_one now (request_of row))) (sym rows-before) leaves);
+        (subst (λ (rows : List FileRow). LeavesOneOf (state g new) (after H (requests_of rows)) (after_one now (request_of row))) (sym rows-before) leaves);
   }
 
   -- The line of the row could not be written.
@@ -212,7 +212,7 @@ module _ {S : Type 0} (g : Ghosts S) (old mid new : Held S) (all before : List C
       record {
         replies = replies;
         few = let few : length before < length all = at.few in omega (arith, few, told, many);
-        handled = subst (λ (taken : List CopyRow). HandlesRows taken g old new replies) (sym rows)
+        handled = subst (λ (taken : List FileRow). HandlesRows taken g old new replies) (sym rows)
             (handles-more g old mid new before far.replies row reply far.handled one);
         lines = subst (AppendsFront a c)
             (ap (λ (n : ℕ). row_lines 1 far.replies ++ row_line (n + 1) reply) (counted-all counts far.replies far.counted)
@@ -222,7 +222,7 @@ module _ {S : Type 0} (g : Ghosts S) (old mid new : Held S) (all before : List C
 
 -- ---- the lines after those of the rows
 
-module _ {S : Type 0} (g : Ghosts S) (old new : Held S) (rows : List CopyRow) (counts : Tally) (a b : Option (List ℕ))
+module _ {S : Type 0} (g : Ghosts S) (old new : Held S) (rows : List FileRow) (counts : Tally) (a b : Option (List ℕ))
     (far : SoFar g old new rows counts a b) (end : List ℕ) where
   last-lines : row_lines 1 far.replies ++ (end ++ counts_line counts.accepted counts.refused) ≡ import_lines far.replies end
   last-lines = λ i. row_lines 1 far.replies ++ (end ++ counts_line (far.counted.accepted i) (far.counted.refused i))
@@ -237,11 +237,11 @@ module _ {S : Type 0} (g : Ghosts S) (old new : Held S) (rows : List CopyRow) (c
       (front-after a b c (row_lines 1 far.replies) (end ++ counts_line counts.accepted counts.refused) far.lines front)
 
   -- All rows were handled.
-  pub imports-all : (all : List CopyRow) → rows ≡ all → (end_of : CopyEnd) (WentOut : List ℕ → Type 0)
+  pub imports-all : (all : List FileRow) → rows ≡ all → (end_of : CopyEnd) (WentOut : List ℕ → Type 0)
       → WentOut (import_lines far.replies (end_line end_of)) → ImportsAll all end_of g old new WentOut (end_exit end_of counts.refused)
   imports-all all is end_of WentOut lines = record {
     replies = far.replies;
-    handled = subst (λ (xs : List CopyRow). HandlesRows xs g old new far.replies) is far.handled;
+    handled = subst (λ (xs : List FileRow). HandlesRows xs g old new far.replies) is far.handled;
     lines = lines;
     exit_is = ap (end_exit end_of) far.counted.refused;
   }

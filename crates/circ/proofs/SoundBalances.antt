@@ -19,32 +19,15 @@ use Rattle.model.proofs.Balance.{balance}
 use Rattle.model.proofs.ClaimsLaw.{map-some}
 use Rattle.circ_audit.specs.Rows.{is_charge, charge, credit}
 use Rattle.circ_audit.specs.Sound.{IsBalanced, charges_of, credits_of}
-use Rattle.circ.proofs.CountedRows.{all-there, in-tail, in-head, above-first}
-
--- The line that a row is of.
-abbrev line_in : LineRow → Line
-line_in r = record { patron = r.patron; day = r.day; sort = r.sort; amount = r.amount; loan = r.loan }
-
--- The row of a line.
-abbrev row_at : ℕ → Line → LineRow
-row_at n x = record { line = n; patron = x.patron; day = x.day; sort = x.sort; amount = x.amount; loan = x.loan }
+use Rattle.desk.proofs.Contained.{in-head, in-tail, in-cases, in-none, above-first}
+use Rattle.desk.proofs.LineRows.{line_in, row_at, nth-zero}
+use Rattle.circ.proofs.CountedRows.{all-there}
 
 -- The rows are those of these lines, which are numbered from above k.
-record AreFrom (k : ℕ) (xs : List Line) (rows : List LineRow) : Type 0 where
+record AreLinesFrom (k : ℕ) (xs : List Line) (rows : List LineRow) : Type 0 where
   sound : (r : LineRow) → Contains rows r → (n : ℕ) × (r.line ≡ k + n) × (nth_line xs n ≡ Some (line_in r))
   whole : (n : ℕ) (x : Line) → nth_line xs n ≡ Some x → Contains rows (row_at (k + n) x)
   rise : Rise (λ r. r.line) rows
-
-in-none : {R : Type 0} (r : R) → Contains [] r → ⊥
-in-none r at = let lt : at.0 < 0 = at.1 in omega (arith, lt)
-
-in-cases : {R : Type 0} (x r : R) (rows : List R) → Contains (x ∷ rows) r → (r ≡ x) ⊎ Contains rows r
-in-cases x r rows (zero, lt, is) = inl (sym is)
-in-cases x r rows (suc k, lt, is) = inr (k, omega (arith, lt), is)
-
-nth-zero : (xs : List Line) → nth_line xs zero ≡ None
-nth-zero [] = refl
-nth-zero (x ∷ xs) = refl
 
 module _ (k : ℕ) (x : Line) (xs : List Line) where
   later : (r : LineRow) → suc k < r.line → (n : ℕ) → r.line ≡ k + n → nth_line (x ∷ xs) n ≡ Some (line_in r) → (m : ℕ)
@@ -54,7 +37,7 @@ module _ (k : ℕ) (x : Line) (xs : List Line) where
   later r lt (suc (suc n)) at e = (suc n, omega (arith, at), e)
 
   -- The row of the first line comes first, and the other rows are those of the other lines.
-  first-line : (rows : List LineRow) → AreFrom k (x ∷ xs) rows → (rest : List LineRow) × (rows ≡ row_at (k + 1) x ∷ rest) × AreFrom (suc k) xs rest
+  first-line : (rows : List LineRow) → AreLinesFrom k (x ∷ xs) rows → (rest : List LineRow) × (rows ≡ row_at (k + 1) x ∷ rest) × AreLinesFrom (suc k) xs rest
   first-line [] are = absurd (in-none _ (are.whole 1 x refl))
   first-line (r ∷ rest) are = (rest, ap (λ (q : LineRow). q ∷ rest) first, record { sound = sound; whole = whole; rise = are.rise.1 })
     where
@@ -93,7 +76,7 @@ module _ (k : ℕ) (x : Line) (xs : List Line) where
           go (inr more) = let same : k + suc (suc n) ≡ suc k + suc n = omega arith in subst (λ (m : ℕ). Contains rest (row_at m y)) same more
 
 -- The rows are the lines, in their order.
-listed-from : (k : ℕ) (xs : List Line) (rows : List LineRow) → AreFrom k xs rows → map line_in rows ≡ xs
+listed-from : (k : ℕ) (xs : List Line) (rows : List LineRow) → AreLinesFrom k xs rows → map line_in rows ≡ xs
 listed-from k [] [] are = refl
 listed-from k [] (r ∷ rows) are = let s = are.sound r (in-head r rows) in let e : None ≡ Some (line_in r) = s.2 in let never : ⊥ = cc in absurd never
 listed-from k (x ∷ xs) rows are =

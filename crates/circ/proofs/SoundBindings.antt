@@ -24,7 +24,7 @@ use Rattle.model.proofs.PlaceSteps.{copy-known}
 use Rattle.model.proofs.Runs.{forms-whole}
 use Rattle.model.proofs.SettingRanges.{some-same}
 use Rattle.circ_audit.specs.Rows.{names, copy_row, hold_row, is_titled, is_copy_of, is_fit, serves}
-use Rattle.circ_audit.specs.Sound.{IsServedOnce, IsBound}
+use Rattle.circ_audit.specs.Sound.{IsServedOnce, IsRightlyBound}
 use Rattle.circ_audit.proofs.Lookups.{row-found}
 use Rattle.circ.proofs.CountedRows.{all-there, counted-once}
 use Rattle.circ.proofs.SoundClaims.{is-named}
@@ -145,7 +145,7 @@ module _ (H : History) (rows : Tables) (legal : IsLegal H) (forms : HasForms H) 
       (binding h).one_travels r.copy s.copy r.goal s.goal (on-way r in_r ∙ ap (Transit r.goal) (is-named r.hold h e))
       (on-way s in_s ∙ ap (Transit s.goal) (is-named s.hold h f)))
 
-  pub rightly-bound : (h : ℕ) → IsBound rows h
+  pub rightly-bound : (h : ℕ) → IsRightlyBound rows h
   rightly-bound h = record {
     fit = all-there (λ r. r.hold ≡ h → is_fit rows.copies r ≡ true) rows.holds (λ r there same. fits r (are.holds.sound r there).0);
     served = all-there (λ r. r.hold ≡ Some h → serves rows.copies r (hold_row rows.holds h) ≡ true) rows.transits (λ r there named. served h r there named);

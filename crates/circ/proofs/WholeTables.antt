@@ -16,7 +16,7 @@ use Rattle.circ_audit.specs.declared.auditing.Finding.{Finding}
 use Rattle.circ_audit.specs.declared.auditing.Finding.TheVariants.{Claims, Binding, Balance}
 use Rattle.circ_audit.specs.Rows.{names, lent_copy, shelved_copy, travelling_copy, absent_copy, hold_row, is_fit, serves, charge, credit}
 use Rattle.circ.proofs.CountedRows.{weight, counted-cons}
-use Rattle.circ_audit.specs.Sound.{claims_on, IsClaimedOnce, IsBound, IsBalanced, IsSound, IsLeastBroken, IsFirstBroken}
+use Rattle.circ_audit.specs.Sound.{claims_on, IsClaimedOnce, IsRightlyBound, IsBalanced, IsSound, IsLeastBroken, IsFirstBroken}
 
 -- ---- a loan that ended claims nothing
 
@@ -103,7 +103,7 @@ module _ (a b : Tables) (like : AreLike a b) where
   claimed_as : (copy : ℕ) → IsClaimedOnce a copy → IsClaimedOnce b copy
   claimed_as copy = subst (λ (n : ℕ). n ≤ 1) (like.claims copy)
 
-  bound_as : (hold : ℕ) → IsBound a hold → IsBound b hold
+  bound_as : (hold : ℕ) → IsRightlyBound a hold → IsRightlyBound b hold
   bound_as hold bound = record {
     fit = subst (λ (t : List CopyRow × List HoldRow). All (λ r. r.hold ≡ hold → is_fit t.0 r ≡ true) t.1) (λ i. (like.copies i, like.holds i)) bound.fit;
     served = subst (λ (t : List CopyRow × (List HoldRow × List TransitRow)). All
@@ -133,7 +133,7 @@ broken_as a b like (Claims copy) first =
     least_as (IsClaimedOnce a) (IsClaimedOnce b) copy (claimed_as a b like) (claimed_as b a (like_back a b like) copy) first
 broken_as a b like (Binding hold) first = (
   λ copy. claimed_as a b like copy (first.0 copy),
-  least_as (IsBound a) (IsBound b) hold (bound_as a b like) (bound_as b a (like_back a b like) hold) first.1,
+  least_as (IsRightlyBound a) (IsRightlyBound b) hold (bound_as a b like) (bound_as b a (like_back a b like) hold) first.1,
 )
 broken_as a b like (Balance patron) first = (
   λ copy. claimed_as a b like copy (first.0 copy),

@@ -17,7 +17,7 @@ use Rattle.model.specs.Repeats.{row_request}
 use Rattle.model.specs.Requests.{after_one, after, replies as replies_to}
 use Rattle.desk.specs.Answering.{Shows, Stays, LeavesOneOf, Handled}
 use Rattle.front.specs.Copies.{IsReading}
-use Rattle.front.specs.declared.copies.CopyRow.{CopyRow}
+use Rattle.front.specs.declared.copies.FileRow.{FileRow}
 use Rattle.front.specs.declared.copies.CopyEnd.{CopyEnd}
 use Rattle.front.specs.declared.copies.CopyEnd.TheVariants.{Whole, Bad, Read, Memory}
 use Rattle.circ.specs.declared.importing.Tally.{Tally}
@@ -29,11 +29,11 @@ use Rattle.circ.specs.Lines.{fault_line}
 -- ---- rows and their requests
 
 -- The request of a row: the desk acquires its copy, under the request's own text as key.
-abbrev pub request_of : CopyRow → Request
+abbrev pub request_of : FileRow → Request
 request_of row = row_request (record { copy = row.copy; title = row.title; text = row.text; kind = row.kind; home = row.home; price = row.price })
 
 -- The requests of rows, in their order.
-abbrev pub requests_of : List CopyRow → List Request
+abbrev pub requests_of : List FileRow → List Request
 requests_of rows = map request_of rows
 
 -- ---- lines
@@ -97,13 +97,13 @@ end_exit Memory refused = Faulted
 -- ---- what is told
 
 -- A row was handled, and this is its reply: its request was handled by the desk.
-abbrev pub HandlesOne : {S : Type 0} → CopyRow → Ghosts S → Held S → Held S → Reply → Type 0
+abbrev pub HandlesOne : {S : Type 0} → FileRow → Ghosts S → Held S → Held S → Reply → Type 0
 HandlesOne row g old new reply = Handled (request_of row) g old new (Ok reply)
 
 -- The rows were handled one after another. Where the tables showed a list of accepted requests, the
 -- replies are those that this list gives to the rows' requests, and the tables show the list after
 -- these requests.
-pub record HandlesRows {S : Type 0} (rows : List CopyRow)
+pub record HandlesRows {S : Type 0} (rows : List FileRow)
     (g : Ghosts S) (old new : Held S) (replies : List Reply) : Type 0 where
   pub many : length replies ≡ length rows
   pub clean : IsClean g new → IsClean g old
@@ -112,7 +112,7 @@ pub record HandlesRows {S : Type 0} (rows : List CopyRow)
       × Shows (state g new) (after H (requests_of rows))
 
 -- The lines of all rows, of the end and of the counts went out.
-pub record ImportsAll {S : Type 0} (rows : List CopyRow) (end : CopyEnd)
+pub record ImportsAll {S : Type 0} (rows : List FileRow) (end : CopyEnd)
     (g : Ghosts S) (old new : Held S) (WentOut : List ℕ → Type 0) (exit : Exit) : Type 0 where
   pub replies : List Reply
   pub handled : HandlesRows rows g old new replies
@@ -124,7 +124,7 @@ pub record ImportsAll {S : Type 0} (rows : List CopyRow) (end : CopyEnd)
 -- The tables show what they showed after the rows before it, as long as the database is open;
 -- whatever may leave of them when the program is stopped is that, or what they would show after
 -- that row too.
-pub record ImportsSome {S : Type 0} (rows : List CopyRow)
+pub record ImportsSome {S : Type 0} (rows : List FileRow)
     (g : Ghosts S) (old new : Held S) (WentOut : List ℕ → Type 0) (exit : Exit) : Type 0 where
   pub replies : List Reply
   pub fault : Fault
@@ -141,13 +141,13 @@ pub record ImportsSome {S : Type 0} (rows : List CopyRow)
       (after H (requests_of (take (length replies + 1) rows)))
 
 -- All rows are told, or those before a fault.
-abbrev pub ImportsOf : {S : Type 0} → List CopyRow → CopyEnd → Ghosts S → Held S → Held S
+abbrev pub ImportsOf : {S : Type 0} → List FileRow → CopyEnd → Ghosts S → Held S → Held S
     → (List ℕ → Type 0) → Exit → Type 0
 ImportsOf rows end g old new WentOut exit = ImportsAll rows end g old new WentOut exit
     ⊎ ImportsSome rows g old new WentOut exit
 
 -- A row's line could not be written. It is the last row that was handled.
-pub record ImportsCut {S : Type 0} (rows : List CopyRow)
+pub record ImportsCut {S : Type 0} (rows : List FileRow)
     (g : Ghosts S) (old new : Held S) (WentOut : List ℕ → Type 0) : Type 0 where
   pub replies : List Reply
   pub few : length replies ≤ length rows
@@ -158,7 +158,7 @@ pub record ImportsCut {S : Type 0} (rows : List CopyRow)
 
 -- A row was handled, counted and told: `had` and `has` are the counts before and after. Or the desk
 -- met a fault.
-pub record ImportsRow {S E : Type 0} (row : CopyRow) (had has : Tally)
+pub record ImportsRow {S E : Type 0} (row : FileRow) (had has : Tally)
     (g : Ghosts S) (old new : Held S) (before after : Option (List ℕ))
     (result : Result (Option Fault) E) : Type 0 where
   pub clean : IsClean g new → IsClean g old
@@ -183,7 +183,7 @@ pub record ImportsRow {S E : Type 0} (row : CopyRow) (had has : Tally)
       × AppendsFront before after (row_line (had.accepted + had.refused + 1) reply))
 
 -- The rows were handled one after another, and told, with the end and the counts.
-pub record ImportsRows {S E : Type 0} (rows : List CopyRow) (end : CopyEnd)
+pub record ImportsRows {S E : Type 0} (rows : List FileRow) (end : CopyEnd)
     (g : Ghosts S) (old new : Held S) (before after : Option (List ℕ))
     (result : Result Exit E) : Type 0 where
   pub clean : IsClean g new → IsClean g old
@@ -201,7 +201,7 @@ pub record ImportsRows {S E : Type 0} (rows : List CopyRow) (end : CopyEnd)
 pub record Imports {S E : Type 0} (bytes : Option (List ℕ))
     (g : Ghosts S) (old new : Held S) (before after : Option (List ℕ))
     (result : Result Exit E) : Type 0 where
-  pub rows : List CopyRow
+  pub rows : List FileRow
   pub end : CopyEnd
   pub reading : IsReading bytes rows end
   pub imports : ImportsRows rows end g old new before after result

@@ -12,7 +12,7 @@ ghost use Rattle.circ.specs.Lines.{fault_line, EndsWith};
 
 use crate::lines::{Exit, WriteFault, tell_fault};
 use desk::Desk;
-use front::{CopyEnd, CopyRow, read_copies};
+use front::{CopyEnd, FileRow, read_copies};
 use itoa::Buffer;
 use sqlite::Alter;
 use std::alloc::Global;
@@ -148,7 +148,7 @@ fn tell_stop<W: Write>(writer: &mut W, fault: Fault, counts: Tally) -> Result<Ex
 }
 
 /// The reply to the request of a row. 90, 91 or 93 in its place.
-fn handle_row<S: Alter>(desk: &mut Desk<S>, alloc: Global, row: CopyRow) -> Result<Reply, Fault>
+fn handle_row<S: Alter>(desk: &mut Desk<S>, alloc: Global, row: FileRow) -> Result<Reply, Fault>
     ensures { Handled (request_of row) S.Store desk.old desk.new result }
 {
     let command = Command::from(row);
@@ -166,7 +166,7 @@ fn handle_row<S: Alter>(desk: &mut Desk<S>, alloc: Global, row: CopyRow) -> Resu
 fn import_row<S: Alter, W: Write>(
     desk: &mut Desk<S>,
     alloc: Global,
-    row: CopyRow,
+    row: FileRow,
     counts: &mut Tally,
     writer: &mut W,
 ) -> Result<Option<Fault>, WriteFault>
@@ -189,7 +189,7 @@ fn import_row<S: Alter, W: Write>(
 fn import_rows<S: Alter, W: Write>(
     desk: &mut Desk<S>,
     alloc: Global,
-    rows: Vec<CopyRow>,
+    rows: Vec<FileRow>,
     end: CopyEnd,
     writer: &mut W,
 ) -> Result<Exit, WriteFault>

@@ -139,14 +139,14 @@ impl<J: Opening> Shared<J> {
 }
 
 /// The thread of a worker, which gives its end.
-type Working<J> = JoinHandle<Option<Left<J>>>;
+type WorkerThread<J> = JoinHandle<Option<Left<J>>>;
 
 /// The workers of a hall: what their threads share, the threads, and the ends of those that have
 /// none.
 #[derive(Drop)]
 struct Crew<J: Opening> {
     shared: Arc<Shared<J>, Global>,
-    threads: Vec<Working<J>>,
+    threads: Vec<WorkerThread<J>>,
     left: Vec<Left<J>>,
     /// How many connections each of them serves.
     each: u32,
@@ -184,7 +184,7 @@ fn start<J: Opening + Send + Sync + 'static, R: Threads + Wait + Copy + Send + '
     alloc: Global,
     shared: &Arc<Shared<J>, Global>,
     each: u32,
-) -> Option<Working<J>> {
+) -> Option<WorkerThread<J>> {
     let theirs = Arc::try_clone(shared).ok()?;
     thread::spawn(&rt, move || theirs.work(&rt, alloc, each)).ok()
 }

@@ -8,7 +8,7 @@ use Rattle.std.proofs.lemmas.List.Sums.{sum_by_more}
 use Rattle.terms.specs.declared.row.LineRow.{LineRow}
 use Rattle.terms.specs.declared.row.PatronRow.{PatronRow}
 use Rattle.circ_audit.specs.declared.balance.Totals.{Totals}
-use Rattle.circ_audit.specs.declared.spans.Look.{Look}
+use Rattle.circ_audit.specs.declared.spans.SpanLook.{SpanLook}
 use Rattle.circ_audit.specs.Spans.{span_of, place_of, lesser_of, IsBelow, FailsOn, LooksAt, Sums, AreWithin, Adds, AddsRows, broken_after}
 use Rattle.circ_audit.specs.Spans.{next_after, is_right, LooksAtRows}
 use Rattle.circ_audit.proofs.Firsts.{fails-more, fails-same, all-before, all-last, all-with}
@@ -83,7 +83,7 @@ module _ (charges credits : Totals) (charged credited : ℕ → ℕ) (charges_ar
       let right : is_right r charges credits ≡ true = eq-eqb _ _ equal in
       let never : ⊥ = cc in never
 
-  module _ (rows : List PatronRow) (i : ℕ) (r : PatronRow) (lt : i < length rows) (is : r ≡ get_or rows i r) (old new : Look)
+  module _ (rows : List PatronRow) (i : ℕ) (r : PatronRow) (lt : i < length rows) (is : r ≡ get_or rows i r) (old new : SpanLook)
       (broken : new.broken ≡ broken_after charges.span (is_right r charges credits) r.patron old.broken)
       (next : new.next ≡ next_after charges.span r.patron old.next)
       (before : LooksAt (λ n. All (Owes n) (take i rows)) charges.span old) where
@@ -161,7 +161,7 @@ module _ (charges credits : Totals) (charged credited : ℕ → ℕ) (charges_ar
         n = next-more old.next before.between before.ahead
 
 -- One row of a patron more was looked at.
-pub rows-more : (rows : List PatronRow) (i : ℕ) (r : PatronRow) (charges credits : Totals) (old new : Look) → i < length rows → r ≡ get_or rows i r
+pub rows-more : (rows : List PatronRow) (i : ℕ) (r : PatronRow) (charges credits : Totals) (old new : SpanLook) → i < length rows → r ≡ get_or rows i r
     → new.broken ≡ broken_after charges.span (is_right r charges credits) r.patron old.broken → new.next ≡ next_after charges.span r.patron old.next
     → LooksAtRows (take i rows) charges credits old → LooksAtRows (take (i + 1) rows) charges credits new
 rows-more rows i r charges credits old new lt is broken next before charged credited charges_are credits_are one_span =

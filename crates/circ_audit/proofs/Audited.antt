@@ -3,7 +3,7 @@ use Rattle.std.proofs.Common.{◌≡◌, ℕ, Result, Ok, Err, refl, ap, subst}
 use Rattle.terms.specs.declared.tables.Tables.{Tables}
 use Rattle.circ_audit.specs.declared.auditing.Finding.{Finding}
 use Rattle.circ_audit.specs.declared.auditing.Finding.TheVariants.{Claims, Binding, Balance}
-use Rattle.circ_audit.specs.Sound.{IsClaimedOnce, IsBound, IsBalanced, IsLeastBroken, IsFirstBroken, Audits}
+use Rattle.circ_audit.specs.Sound.{IsClaimedOnce, IsRightlyBound, IsBalanced, IsLeastBroken, IsFirstBroken, Audits}
 use Rattle.circ_audit.proofs.Firsts.{least-unique}
 
 -- A finding is one value.
@@ -23,7 +23,7 @@ module _ (t : Tables) where
       told (Balance p) first = absurd (least.broken (first.0 n))
 
   module _ (claims : (copy : ℕ) → IsClaimedOnce t copy) where
-    pub audits-binding : (n : ℕ) → IsLeastBroken (IsBound t) n → Audits t (Err (Binding n))
+    pub audits-binding : (n : ℕ) → IsLeastBroken (IsRightlyBound t) n → Audits t (Err (Binding n))
     audits-binding n least = record {
       sound = (λ e. let never : ⊥ = cc in absurd never, λ sound. absurd (least.broken (sound.bindings n)));
       found = λ finding. (λ e. subst (IsFirstBroken t) (same-finding (Binding n) finding e) (claims, least), told finding);
@@ -31,10 +31,10 @@ module _ (t : Tables) where
       where
         told : (finding : Finding) → IsFirstBroken t finding → ◌≡◌ {A = Result (Unit {0}) Finding} (Err (Binding n)) (Err finding)
         told (Claims m) first = absurd (first.broken (claims m))
-        told (Binding h) first = ap (λ k. Err (Binding k)) (least-unique (IsBound t) n h least first.1)
+        told (Binding h) first = ap (λ k. Err (Binding k)) (least-unique (IsRightlyBound t) n h least first.1)
         told (Balance p) first = absurd (least.broken (first.1 n))
 
-    module _ (bindings : (hold : ℕ) → IsBound t hold) where
+    module _ (bindings : (hold : ℕ) → IsRightlyBound t hold) where
       pub audits-balance : (n : ℕ) → IsLeastBroken (IsBalanced t) n → Audits t (Err (Balance n))
       audits-balance n least = record {
         sound = (λ e. let never : ⊥ = cc in absurd never, λ sound. absurd (least.broken (sound.balance n)));

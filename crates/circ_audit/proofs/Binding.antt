@@ -5,7 +5,7 @@ use Rattle.terms.specs.declared.row.HoldRow.{HoldRow}
 use Rattle.terms.specs.declared.row.TransitRow.{TransitRow}
 use Rattle.terms.specs.declared.tables.Tables.{Tables}
 use Rattle.circ_audit.specs.Rows.{hold_row, is_fit, serves}
-use Rattle.circ_audit.specs.Sound.{IsFit, IsServed, IsServedOnce, IsBound, FailsFirst}
+use Rattle.circ_audit.specs.Sound.{IsFit, IsServed, IsServedOnce, IsRightlyBound, FailsFirst}
 use Rattle.circ_audit.specs.Spans.{first_after, first_named, earlier_of}
 use Rattle.circ_audit.proofs.Firsts.{fails-same, fails-both, row-breaks, row-keeps}
 
@@ -52,8 +52,8 @@ module _ (t : Tables) (i : ℕ) (first : Option ℕ) where
 
 -- The three parts of a binding together.
 pub bound-first : (t : Tables) (a b c : Option ℕ) → FailsFirst (IsFit t) a → FailsFirst (IsServed t) b → FailsFirst (IsServedOnce t) c
-    → FailsFirst (IsBound t) (earlier_of (earlier_of a b) c)
+    → FailsFirst (IsRightlyBound t) (earlier_of (earlier_of a b) c)
 bound-first t a b c fit served once =
-    fails-same (λ h. (IsFit t h × IsServed t h) × IsServedOnce t h) (IsBound t) (earlier_of (earlier_of a b) c)
+    fails-same (λ h. (IsFit t h × IsServed t h) × IsServedOnce t h) (IsRightlyBound t) (earlier_of (earlier_of a b) c)
     (λ h bound. ((bound.fit, bound.served), bound.once)) (λ h parts. record { fit = parts.0.0; served = parts.0.1; once = parts.1 })
     (fails-both (λ h. IsFit t h × IsServed t h) (IsServedOnce t) (earlier_of a b) c (fails-both (IsFit t) (IsServed t) a b fit served) once)

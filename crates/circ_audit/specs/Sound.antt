@@ -33,7 +33,7 @@ IsServed t hold =
 
 -- The hold and at most one copy are bound to each other: its row fits its state, each transit that
 -- names it serves it, and no two do.
-pub record IsBound (t : Tables) (hold : ℕ) : Type 0 where
+pub record IsRightlyBound (t : Tables) (hold : ℕ) : Type 0 where
   pub fit : IsFit t hold
   pub served : IsServed t hold
   pub once : IsServedOnce t hold
@@ -54,7 +54,7 @@ IsBalanced t patron =
 -- The tables keep the three laws.
 pub record IsSound (t : Tables) : Type 0 where
   pub claims : (copy : ℕ) → IsClaimedOnce t copy
-  pub bindings : (hold : ℕ) → IsBound t hold
+  pub bindings : (hold : ℕ) → IsRightlyBound t hold
   pub balance : (patron : ℕ) → IsBalanced t patron
 
 -- The law doesn't hold of the number, and it holds of every lesser one.
@@ -67,9 +67,9 @@ pub record IsLeastBroken (Law : ℕ → Type 0) (n : ℕ) : Type 0 where
 abbrev pub IsFirstBroken : Tables → Finding → Type 0
 IsFirstBroken t (Claims copy) = IsLeastBroken (IsClaimedOnce t) copy
 IsFirstBroken t (Binding hold) =
-    ((copy : ℕ) → IsClaimedOnce t copy) × IsLeastBroken (IsBound t) hold
+    ((copy : ℕ) → IsClaimedOnce t copy) × IsLeastBroken (IsRightlyBound t) hold
 IsFirstBroken t (Balance patron) =
-    ((copy : ℕ) → IsClaimedOnce t copy) × ((hold : ℕ) → IsBound t hold)
+    ((copy : ℕ) → IsClaimedOnce t copy) × ((hold : ℕ) → IsRightlyBound t hold)
     × IsLeastBroken (IsBalanced t) patron
 
 -- The law holds of every number, or this is the least of which it doesn't.

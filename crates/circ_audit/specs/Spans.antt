@@ -3,8 +3,8 @@ use Rattle.std.specs.Prelude.{◌≡◌, ◌==◌, ℕ, ◌+◌, ◌/◌, ◌%�
 use Rattle.std.specs.Prelude.{slice_index, if◌then◌else◌}
 use Rattle.terms.specs.declared.row.PatronRow.{PatronRow}
 use Rattle.terms.specs.declared.row.LineRow.{LineRow}
-use Rattle.circ_audit.specs.declared.spans.Look.{Look}
-use Rattle.circ_audit.specs.declared.window.Window.{Window}
+use Rattle.circ_audit.specs.declared.spans.SpanLook.{SpanLook}
+use Rattle.circ_audit.specs.declared.counters.SpanCounters.{SpanCounters}
 use Rattle.circ_audit.specs.declared.balance.Totals.{Totals}
 use Rattle.circ_audit.specs.Sound.{FailsFirst}
 
@@ -45,7 +45,7 @@ abbrev pub FailsOn : (ℕ → Type 0) → ℕ → Option ℕ → Type 0
 FailsOn Law span found = FailsFirst (λ n. span_of n ≡ span → Law n) found
 
 -- A span was looked at.
-pub record LooksAt (Law : ℕ → Type 0) (span : ℕ) (look : Look) : Type 0 where
+pub record LooksAt (Law : ℕ → Type 0) (span : ℕ) (look : SpanLook) : Type 0 where
   -- the least number of it that breaks the law was found, or there is none
   pub broken : FailsOn Law span look.broken
   -- the next number stands on a later span
@@ -58,7 +58,7 @@ abbrev pub capped : ℕ → ℕ
 capped n = if nat_lt n 2 then n else 2
 
 -- The counters of a span show how often each number was counted.
-pub record ShowsCounts (w : Window) (times : ℕ → ℕ) : Type 0 where
+pub record ShowsCounts (w : SpanCounters) (times : ℕ → ℕ) : Type 0 where
   -- each number of the span by its own counter
   pub here : (n : ℕ) → span_of n ≡ w.span → slice_index w.counters (place_of n) ≡ capped (times n)
   -- the next number stands on a later span
@@ -67,7 +67,7 @@ pub record ShowsCounts (w : Window) (times : ℕ → ℕ) : Type 0 where
   pub between : (n : ℕ) → w.span < span_of n → IsBelow n w.next → times n ≡ 0
 
 -- Each number was counted so many times more.
-pub record CountsMore (more : ℕ → ℕ) (old new : Window) : Type 0 where
+pub record CountsMore (more : ℕ → ℕ) (old new : SpanCounters) : Type 0 where
   pub span : new.span ≡ old.span
   pub shows : (times : ℕ → ℕ) → ShowsCounts old times → ShowsCounts new (λ n. times n + more n)
 
@@ -107,7 +107,7 @@ is_right r charges credits =
     == slice_index charges.sums (place_of r.patron)
 
 -- The rows of patrons were looked at, by totals that are these sums.
-abbrev pub LooksAtRows : List PatronRow → Totals → Totals → Look → Type 0
+abbrev pub LooksAtRows : List PatronRow → Totals → Totals → SpanLook → Type 0
 LooksAtRows rows charges credits look =
     (charged credited : ℕ → ℕ) → Sums charges charged → Sums credits credited
     → credits.span ≡ charges.span

@@ -8,7 +8,7 @@ ghost use Rattle.circ_audit.specs.Spans.{broken_after, next_after, is_right, Loo
 ghost use Rattle.circ_audit.specs.Sound.{IsBalanced};
 
 use crate::rows::is_charge;
-use crate::spans::{Law, Look, SPAN, lesser, span_of};
+use crate::spans::{Law, SpanLook, SPAN, lesser, span_of};
 use terms::{LineRow, PatronRow, Tables};
 
 /// Totals of the numbers of a span, in cents.
@@ -86,7 +86,7 @@ fn is_right(row: &PatronRow, charges: &Totals, credits: &Totals) -> bool
 }
 
 /// Looks at the row of a patron: is it of the span, and right, or of a later span?
-fn look_at(row: &PatronRow, charges: &Totals, credits: &Totals, look: &mut Look)
+fn look_at(row: &PatronRow, charges: &Totals, credits: &Totals, look: &mut SpanLook)
     ensures broken { look.new.broken ≡ broken_after charges.now.span
         (is_right row.now charges.now credits.now) row.now.patron look.old.broken }
     ensures next { look.new.next ≡ next_after charges.now.span row.now.patron look.old.next }
@@ -103,10 +103,10 @@ fn look_at(row: &PatronRow, charges: &Totals, credits: &Totals, look: &mut Look)
 }
 
 /// Looks at the patrons of the span, by their charges and credits.
-fn look_at_patrons(rows: &[PatronRow], charges: &Totals, credits: &Totals) -> Look
+fn look_at_patrons(rows: &[PatronRow], charges: &Totals, credits: &Totals) -> SpanLook
     ensures { LooksAtRows rows.now charges.now credits.now result }
 {
-    let mut look = Look {
+    let mut look = SpanLook {
         broken: None,
         next: None,
     };
@@ -122,7 +122,7 @@ pub struct Balanced;
 impl Law for Balanced {
     ghost keeps = { IsBalanced };
 
-    fn look(tables: &Tables, span: u16) -> Look {
+    fn look(tables: &Tables, span: u16) -> SpanLook {
         let mut charges = Totals::new(span);
         let mut credits = Totals::new(span);
         add_lines(tables.lines.as_slice(), &mut charges, &mut credits);

@@ -3,11 +3,11 @@
 ghost use Rattle.std.specs.Prelude.{◌≡◌};
 ghost use Rattle.circ_audit.specs.Rows.{copy_row, hold_row, is_titled, is_copy_of, is_fit, serves};
 ghost use Rattle.circ_audit.specs.Spans.{first_after, first_named, earlier_of};
-ghost use Rattle.circ_audit.specs.Sound.{IsServedOnce, IsBound, FailsFirst, IsFit, IsServed};
+ghost use Rattle.circ_audit.specs.Sound.{IsServedOnce, IsRightlyBound, FailsFirst, IsFit, IsServed};
 
 use crate::rows::{is_ready, is_waiting};
-use crate::spans::{Law, Look, first_broken, lesser};
-use crate::window::{Names, Window};
+use crate::spans::{Law, SpanLook, first_broken, lesser};
+use crate::counters::{Names, SpanCounters};
 use terms::{CopyId, CopyRow, HoldId, HoldRow, Rows, Tables, TitleId, TransitRow};
 
 /// The row of a copy.
@@ -135,10 +135,10 @@ struct ServedOnce;
 impl Law for ServedOnce {
     ghost keeps = { IsServedOnce };
 
-    fn look(tables: &Tables, span: u16) -> Look {
-        let mut window = Window::new(span);
-        window.tally::<HoldId, TransitRow>(tables.transits.as_slice());
-        window.look()
+    fn look(tables: &Tables, span: u16) -> SpanLook {
+        let mut counters = SpanCounters::new(span);
+        counters.tally::<HoldId, TransitRow>(tables.transits.as_slice());
+        counters.look()
     }
 }
 
@@ -154,7 +154,7 @@ fn earlier(first: Option<u32>, other: Option<u32>) -> Option<u32>
 
 /// The least number of a hold that isn't rightly bound.
 pub fn first_unbound(tables: &Tables) -> Option<u32>
-    ensures { FailsFirst (IsBound tables.now) result }
+    ensures { FailsFirst (IsRightlyBound tables.now) result }
 {
     let alone = earlier(first_unfit(tables), first_unserved(tables));
     earlier(alone, first_broken::<ServedOnce>(tables))

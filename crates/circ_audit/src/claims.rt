@@ -5,8 +5,8 @@ ghost use Rattle.circ_audit.specs.Rows.{lent_copy, shelved_copy, travelling_copy
 ghost use Rattle.circ_audit.specs.Sound.{IsClaimedOnce};
 
 use crate::rows::{is_present, is_ready};
-use crate::spans::{Law, Look};
-use crate::window::{Names, Window};
+use crate::spans::{Law, SpanLook};
+use crate::counters::{Names, SpanCounters};
 use terms::{CopyId, CopyRow, HoldRow, LoanRow, Tables, TransitRow};
 
 /// An open loan claims its copy.
@@ -63,12 +63,12 @@ pub struct ClaimedOnce;
 impl Law for ClaimedOnce {
     ghost keeps = { IsClaimedOnce };
 
-    fn look(tables: &Tables, span: u16) -> Look {
-        let mut window = Window::new(span);
-        window.tally::<CopyId, LoanRow>(tables.loans.as_slice());
-        window.tally::<CopyId, HoldRow>(tables.holds.as_slice());
-        window.tally::<CopyId, TransitRow>(tables.transits.as_slice());
-        window.tally::<CopyId, CopyRow>(tables.copies.as_slice());
-        window.look()
+    fn look(tables: &Tables, span: u16) -> SpanLook {
+        let mut counters = SpanCounters::new(span);
+        counters.tally::<CopyId, LoanRow>(tables.loans.as_slice());
+        counters.tally::<CopyId, HoldRow>(tables.holds.as_slice());
+        counters.tally::<CopyId, TransitRow>(tables.transits.as_slice());
+        counters.tally::<CopyId, CopyRow>(tables.copies.as_slice());
+        counters.look()
     }
 }

@@ -6,8 +6,8 @@ mod auditing;
 mod balance;
 mod bindings;
 mod claims;
+mod counters;
 mod rows;
 mod spans;
-mod window;
 
 pub use auditing::{Finding, audit};

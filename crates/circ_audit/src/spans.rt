@@ -12,7 +12,7 @@ pub const SPAN: u32 = 65_536;
 /// What was found in a span: its least number that breaks the law, and the least number of later
 /// spans of which there is anything to look at.
 #[derive(Clone, Copy)]
-pub struct Look {
+pub struct SpanLook {
     pub broken: Option<u32>,
     pub next: Option<u32>,
 }
@@ -25,7 +25,7 @@ pub trait Law {
     ghost keeps: { Tables → ℕ → Type 0 };
 
     /// Looks at the numbers of a span.
-    fn look(tables: &Tables, span: u16) -> Look
+    fn look(tables: &Tables, span: u16) -> SpanLook
         ensures { LooksAt (keeps tables.now) span result };
 }
 

@@ -13,7 +13,7 @@ use Rattle.model.specs.Picture.{picture, branch_columns}
 use Rattle.model.proofs.CalendarsMeet.{calendars_agree}
 use Rattle.model.proofs.OpenDays.{open-exists}
 use Rattle.circ_core.specs.DueDay.{due_from}
-use Rattle.circ_core.specs.Views.{AreClosedDays, IsCalendarOf}
+use Rattle.circ_core.specs.Views.{AreBranchClosings, IsCalendarOf}
 use Rattle.circ_core.proofs.DueDays.{one_test as calendar_test}
 use Rattle.circ_core.proofs.Rows.{none-map, option_map-is}
 
@@ -27,7 +27,7 @@ open_weekday [] e = let never : ⊥ = cc in absurd never
 open_weekday (true ∷ xs) e = let r : (w : ℕ) × (w < length xs) × (slice_index_or xs w false ≡ false) = open_weekday xs e in (suc r.0, omega (arith, r.1), r.2)
 open_weekday (false ∷ xs) e = (0, omega arith, refl)
 
-module _ (H : History) (b : ℕ) (closings : Closings) (w : AreClosedDays (picture H) b closings) where
+module _ (H : History) (b : ℕ) (closings : Closings) (w : AreBranchClosings (picture H) b closings) where
   weekly_same : closings.weekly ≡ week_of H b
   weekly_same =
       let f : (f : BranchFacts) × (branch_of H b ≡ Some f) × (branch_columns H b f ≡ w.row) =

@@ -23,7 +23,7 @@ use Rattle.circ_core.specs.declared.views.View.{View}
 -- ---- rows that are searched
 
 -- These are the closed days of the branch, which is there.
-pub record AreClosedDays (P : Picture) (branch : ℕ) (closings : Closings) : Type 0 where
+pub record AreBranchClosings (P : Picture) (branch : ℕ) (closings : Closings) : Type 0 where
   pub row : BranchRow
   pub there : P.branches branch ≡ Some row
   pub weekly : closings.weekly ≡ row.week
@@ -32,7 +32,7 @@ pub record AreClosedDays (P : Picture) (branch : ℕ) (closings : Closings) : Ty
 
 -- The calendar of the branch, or none where there is no such branch.
 abbrev pub IsCalendarOf : Picture → ℕ → Option Closings → Type 0
-IsCalendarOf P branch (Some closings) = AreClosedDays P branch closings
+IsCalendarOf P branch (Some closings) = AreBranchClosings P branch closings
 IsCalendarOf P branch None = P.branches branch ≡ None
 
 -- An open loan of the copy, or none where it has none.

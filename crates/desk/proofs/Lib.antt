@@ -9,6 +9,8 @@ pub mod Leads
 pub mod Handled
 pub mod Afterwards
 pub mod Chains
+pub mod Contained
+pub mod LineRows
 pub mod Shown
 pub mod Sound
 pub mod PageFor

@@ -137,7 +137,7 @@ module _ {R : Type 0} (t : ℕ → Option R) (number_of : R → ℕ) (Passes : R
 -- ---- one page after another
 
 -- The rows up to a number went out, in so many pages and no more.
-pub record AreSoFar (line : ℕ → List ℕ) (numbers : List ℕ) (after count pages : ℕ) (sent : List ℕ) : Type 0 where
+pub record WentOut (line : ℕ → List ℕ) (numbers : List ℕ) (after count pages : ℕ) (sent : List ℕ) : Type 0 where
   pub done : List ℕ
   pub split : numbers ≡ done ++ above after numbers
   pub count_is : count ≡ length done
@@ -150,7 +150,7 @@ lines-then line xs ys = ap report_lines (map-append line xs ys) ∙ report-more 
 
 module _ (line : ℕ → List ℕ) (numbers : List ℕ) where
   -- Nothing went out yet.
-  pub so-far-none : above 0 numbers ≡ numbers → (after : ℕ) → after ≡ 0 → (sent : List ℕ) → sent ≡ [] → AreSoFar line numbers after 0 0 sent
+  pub so-far-none : above 0 numbers ≡ numbers → (after : ℕ) → after ≡ 0 → (sent : List ℕ) → sent ≡ [] → WentOut line numbers after 0 0 sent
   so-far-none all after first sent none = record {
     done = [];
     split = sym (ap (λ (k : ℕ). above k numbers) first ∙ all);
@@ -159,7 +159,7 @@ module _ (line : ℕ → List ℕ) (numbers : List ℕ) where
     lines = none;
   }
 
-  module _ (after count pages : ℕ) (sent : List ℕ) (so_far : AreSoFar line numbers after count pages sent) where
+  module _ (after count pages : ℕ) (sent : List ℕ) (so_far : WentOut line numbers after count pages sent) where
     -- What a page is to write is what is left.
     pub so-far-left : report_lines (map line numbers) ≡ sent ++ (report_lines (map line (above after numbers)) ++ [])
     so-far-left =
@@ -186,7 +186,7 @@ module _ (line : ℕ → List ℕ) (numbers : List ℕ) where
       lines = (λ i. so_far.lines i ++ page.lines i) ∙ sym (lines-then line so_far.done page.some)
 
       -- A page more, after which more may follow.
-      pub so-far-more : (last next : ℕ) → told.last ≡ Some last → next ≡ last → AreSoFar line numbers next n (pages + 1) (sent ++ more)
+      pub so-far-more : (last next : ℕ) → told.last ≡ Some last → next ≡ last → WentOut line numbers next n (pages + 1) (sent ++ more)
       so-far-more last next is same = record {
         done = so_far.done ++ page.some;
         split = whole ∙ ap (λ (o : Option ℕ). (so_far.done ++ page.some) ++ left_after o numbers) (is ∙ ap Some (sym same));

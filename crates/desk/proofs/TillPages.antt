@@ -29,7 +29,8 @@ use Rattle.desk.proofs.Founds.{Found}
 use Rattle.desk.proofs.Looking.{looked, learns-on}
 use Rattle.desk.proofs.NumberLists.{last-is}
 use Rattle.desk.proofs.RowLists.{has, contains-has, has-contains}
-use Rattle.desk.proofs.TillLines.{in-cases, in-none, above-first, till-sum}
+use Rattle.desk.proofs.Contained.{in-cases, in-none, above-first}
+use Rattle.desk.proofs.TillLines.{till-sum}
 use Rattle.desk.proofs.TillSums.{sum-append, sum-cons}
 
 -- ---- rows after rows
@@ -199,7 +200,7 @@ few-cents s low high (x ∷ rows) le up within =
     let cents : x.amount ≤ 4503599627370495 = first.2 in
     let rest : rows_sum s rows + x.line * 4503599627370495 ≤ high * 4503599627370495 =
     few-cents s x.line high rows up_to up.1
-    (λ r at. let it = within r (contains-later x r rows at) in (above-first (λ (q : LineRow). q.line) x rows up.0 r at, it.1, it.2)) in
+    (λ r at. let it = within r (contains-later x r rows at) in (above-first (λ (q : LineRow). q.line) x.line rows up.0 r at, it.1, it.2)) in
     omega (arith, on, cents, rest, sum-cons s x rows)
 
 -- The sums of all lines of a day are those of the picture: 2^32 lines of 2^52 cents stay far below 2^128.

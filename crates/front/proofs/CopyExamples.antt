@@ -10,7 +10,7 @@ use Rattle.std.proofs.lemmas.Str.Ascii.{IsAscii-cons, IsAscii-nil}
 use Rattle.csv.proofs.OnLiterals.{csv_on_literals}
 use Rattle.terms.specs.Forms.{IsName, is_name}
 use Rattle.front.specs.Copies.{Fields, IsFileOf, IsNoRow, IsRow, header_fields, records_in}
-use Rattle.front.specs.declared.copies.CopyRow.{CopyRow}
+use Rattle.front.specs.declared.copies.FileRow.{FileRow}
 use Rattle.front.proofs.Walks.{and_true}
 use Rattle.front.specs.declared.copies.CopyEnd.TheVariants.{Bad, Whole}
 
@@ -29,10 +29,10 @@ bees_fields = codes "52" ∷ codes "501" ∷ codes "Winter Bees" ∷ codes "2" �
 abbrev cut_fields : Fields
 cut_fields = codes "52" ∷ codes "501" ∷ codes "Win" ∷ []
 
-abbrev maps : CopyRow
+abbrev maps : FileRow
 maps = record { copy = 50; title = 500; text = codes "Maps, Old and New"; kind = 1; home = 1; price = 1500 }
 
-abbrev bees : CopyRow
+abbrev bees : FileRow
 bees = record { copy = 52; title = 501; text = codes "Winter Bees"; kind = 2; home = 1; price = 700 }
 
 whole_records : records_in whole ≡ header_fields ∷ maps_fields ∷ bees_fields ∷ []

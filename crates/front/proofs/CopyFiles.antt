@@ -13,7 +13,7 @@ use Rattle.csv.proofs.ReadFacts.{rows-end, rows-more}
 use Rattle.std.specs.Prelude.{option_map}
 use Rattle.front.specs.Copies.{Fields, IsRow, IsNoRow, HaveRows, BeginWith, FileBeginsWith, Tells, IsReading, FilesReadOnce, header_fields, records_in}
 use Rattle.front.specs.CopyReading.{HasRead, IsPlain, IsRestReading, Takes, TellsRows}
-use Rattle.front.specs.declared.copies.CopyRow.{CopyRow}
+use Rattle.front.specs.declared.copies.FileRow.{FileRow}
 use Rattle.front.specs.declared.copies.CopyEnd.{CopyEnd}
 use Rattle.front.specs.declared.copies.CopyEnd.TheVariants.{Whole, Bad, Read, Memory}
 use Rattle.front.proofs.CopyRows.{same_row}
@@ -75,11 +75,11 @@ splits cfg (suc n) s xs (r ∷ rs) s2 ys long h = go rs (shorter cfg s [] [] xs 
         done (x ∷ qs) q = absurd (none_left cfg x qs h.0.1 s2 h.0.2 ys end.1 end.2 (rw q at rest))
 
 -- a record that ends the rows is no row of them
-clash : (n : ℕ) (g : Fields) (row : CopyRow) → IsNoRow g ⊎ (MOST_ROWS ≤ n) → IsRow g row → n < MOST_ROWS → ⊥
+clash : (n : ℕ) (g : Fields) (row : FileRow) → IsNoRow g ⊎ (MOST_ROWS ≤ n) → IsRow g row → n < MOST_ROWS → ⊥
 clash n g row (inl bad) good few = bad.none row good
 clash n g row (inr many) good few = omega (arith, many, few)
 
-once : (before : ℕ) (others : List Fields) (rows rows_too : List CopyRow) (end end_too : CopyEnd) → HaveRows before others rows end
+once : (before : ℕ) (others : List Fields) (rows rows_too : List FileRow) (end end_too : CopyEnd) → HaveRows before others rows end
     → HaveRows before others rows_too end_too
     → (rows ≡ rows_too) × (end ≡ end_too)
 once before [] [] [] end end_too h k = (refl, h ∙ sym k)
@@ -101,7 +101,7 @@ files_read_once (header ∷ others) rows rows_too end end_too (inr h) (inl k) = 
 files_read_once (header ∷ others) rows rows_too end end_too (inr h) (inr k) = once 0 others rows rows_too end end_too h.1 k.1
 
 -- records and rows that grow at their ends
-rows_more : (before : ℕ) (others : List Fields) (rows : List CopyRow) (f : Fields) (row : CopyRow) → HaveRows before others rows Whole
+rows_more : (before : ℕ) (others : List Fields) (rows : List FileRow) (f : Fields) (row : FileRow) → HaveRows before others rows Whole
     → IsRow f row → before + length rows < MOST_ROWS
     → HaveRows before (others ++ f ∷ []) (rows ++ row ∷ []) Whole
 rows_more before [] [] f row h good few = (good, omega (arith, few), refl)
@@ -109,7 +109,7 @@ rows_more before [] (r ∷ rs) f row h good few = absurd h
 rows_more before (g ∷ others) [] f row h good few = let bad = h.1 in absurd (cc)
 rows_more before (g ∷ others) (r ∷ rs) f row h good few = (h.0, h.1, rows_more (before + 1) others rs f row h.2 good (omega (arith, few)))
 
-rows_bad : (before : ℕ) (others : List Fields) (rows : List CopyRow) (f : Fields) (number : ℕ) → HaveRows before others rows Whole
+rows_bad : (before : ℕ) (others : List Fields) (rows : List FileRow) (f : Fields) (number : ℕ) → HaveRows before others rows Whole
     → IsNoRow f ⊎ (MOST_ROWS ≤ before + length rows)
     → number ≡ before + length rows + 1 → HaveRows before (others ++ f ∷ []) rows (Bad number)
 rows_bad before [] [] f number h (inl bad) n = (inl bad, ap Bad (omega (arith, n)))
@@ -124,21 +124,21 @@ from_first : (f : Fields) (n : ℕ) → IsNoRow f ⊎ (MOST_ROWS ≤ n) → IsNo
 from_first f n (inl bad) = inl bad
 from_first f n (inr many) = inr (omega (arith, many))
 
-rows_first : (before : ℕ) (others more : List Fields) (rows : List CopyRow) → HaveRows before others rows Whole → BeginWith (others ++ more) rows
+rows_first : (before : ℕ) (others more : List Fields) (rows : List FileRow) → HaveRows before others rows Whole → BeginWith (others ++ more) rows
 rows_first before [] more [] h = tt
 rows_first before [] more (r ∷ rs) h = absurd h
 rows_first before (g ∷ others) more [] h = tt
 rows_first before (g ∷ others) more (r ∷ rs) h = (h.0, rows_first (before + 1) others more rs h.2)
 
 -- what comes after the end changes nothing
-bad_before : (before : ℕ) (others more : List Fields) (rows : List CopyRow) (number : ℕ) → HaveRows before others rows (Bad number)
+bad_before : (before : ℕ) (others more : List Fields) (rows : List FileRow) (number : ℕ) → HaveRows before others rows (Bad number)
     → HaveRows before (others ++ more) rows (Bad number)
 bad_before before [] more [] number h = absurd (cc)
 bad_before before [] more (r ∷ rs) number h = absurd h
 bad_before before (g ∷ others) more [] number h = h
 bad_before before (g ∷ others) more (r ∷ rs) number h = (h.0, h.1, bad_before (before + 1) others more rs number h.2)
 
-first_before : (others more : List Fields) (rows : List CopyRow) → BeginWith others rows → BeginWith (others ++ more) rows
+first_before : (others more : List Fields) (rows : List FileRow) → BeginWith others rows → BeginWith (others ++ more) rows
 first_before others more [] h = tt
 first_before [] more (r ∷ rs) h = absurd h
 first_before (g ∷ others) more (r ∷ rs) h = (h.0, first_before others more rs h.1)
@@ -152,7 +152,7 @@ read_none rem file = go (source_of rem file)
     go None = tt
     go (Some bytes) = (bytes, refl, [], (refl, refl), refl)
 
-pub read_more : {R : Type 0} (rem : R → Option (List ℕ)) (state : State) (src : Option (List ℕ)) (a b : Reader R) (rows new : List CopyRow) (f : Fields)
+pub read_more : {R : Type 0} (rem : R → Option (List ℕ)) (state : State) (src : Option (List ℕ)) (a b : Reader R) (rows new : List FileRow) (f : Fields)
     → a.config ≡ default_config → HasRead state src a.state (source_of rem a) rows → ReadRecord rem a b true f → Takes f rows new None
     → HasRead state src b.state (source_of rem b) new
 read_more rem state None a b rows new f config h r t = tt
@@ -162,13 +162,13 @@ read_more rem state (Some bytes) a b rows new f config h r t =
     let all = rows_more 0 h.2 rows f t.0 h.4 t.1 (omega (arith, few)) in
     (m.0, m.1, h.2 ++ f ∷ [], m.2, subst (λ xs. HaveRows 0 (h.2 ++ f ∷ []) xs Whole) (sym t.2) all)
 
-pub few_more : (f : Fields) (rows new : List CopyRow) → Takes f rows new None → length new ≤ MOST_ROWS
+pub few_more : (f : Fields) (rows new : List FileRow) → Takes f rows new None → length new ≤ MOST_ROWS
 few_more f rows new t =
-    let size = ap (λ (xs : List CopyRow). length xs) t.2 ∙ length-append rows (t.0 ∷ []) in
+    let size = ap (λ (xs : List FileRow). length xs) t.2 ∙ length-append rows (t.0 ∷ []) in
     let few = t.3 in
     omega (arith, size, few)
 
-pub read_ended : {R : Type 0} (rem : R → Option (List ℕ)) (state : State) (src : Option (List ℕ)) (a b : Reader R) (rows new : List CopyRow)
+pub read_ended : {R : Type 0} (rem : R → Option (List ℕ)) (state : State) (src : Option (List ℕ)) (a b : Reader R) (rows new : List FileRow)
     (f : Fields) (end : CopyEnd)
     → a.config ≡ default_config → HasRead state src a.state (source_of rem a) rows → ReadRecord rem a b true f → Takes f rows new (Some end)
     → IsRestReading state src new end
@@ -199,7 +199,7 @@ read_ended rem state (Some bytes) a b rows new f end config h r t =
       subst (λ xs. BeginWith (h.2 ++ f ∷ []) xs) (sym t) (rows_first 0 h.2 (f ∷ []) rows h.4),
     )
 
-pub read_broken : {R : Type 0} (rem : R → Option (List ℕ)) (state : State) (src : Option (List ℕ)) (a : Reader R) (rows : List CopyRow) (end : CopyEnd)
+pub read_broken : {R : Type 0} (rem : R → Option (List ℕ)) (state : State) (src : Option (List ℕ)) (a : Reader R) (rows : List FileRow) (end : CopyEnd)
     → HasRead state src a.state (source_of rem a) rows → (end ≡ Read) ⊎ (end ≡ Memory) → IsRestReading state src rows end
 read_broken rem state None a rows end h e = tt
 read_broken rem state (Some bytes) a rows end h (inl e) =
@@ -209,7 +209,7 @@ read_broken rem state (Some bytes) a rows end h (inr e) =
     subst (λ was. IsRestReading state (Some bytes) rows was) (sym e)
     (h.2, a.state, h.0, h.3, (λ bad. absurd (cc)), subst (λ xs. BeginWith xs rows) (append-nil h.2) (rows_first 0 h.2 [] rows h.4))
 
-pub read_all : {R : Type 0} (rem : R → Option (List ℕ)) (state : State) (src : Option (List ℕ)) (a b : Reader R) (rows : List CopyRow)
+pub read_all : {R : Type 0} (rem : R → Option (List ℕ)) (state : State) (src : Option (List ℕ)) (a b : Reader R) (rows : List FileRow)
     → a.config ≡ default_config → HasRead state src a.state (source_of rem a) rows → ReadRecord rem a b false [] → IsRestReading state src rows Whole
 read_all rem state None a b rows config h r = tt
 read_all rem state (Some bytes) a b rows config h r = (h.2, a.state, h.0, h.3, (λ _. rows-end rem a b [] default_config h.0 config h.1 r), h.4)
@@ -231,11 +231,11 @@ joined : (cfg : Config) (s s1 s2 : State) (xs ys zs : List ℕ) (header : Fields
 unfolding Reached
 joined cfg s s1 s2 xs ys zs header others h more = (h.0, h.1, h.2, rw (h.3.0, h.3.1) more)
 
-first_told : (more others : List Fields) (rows : List CopyRow) → BeginWith others rows → FileBeginsWith (header_fields ∷ (others ++ more)) rows
+first_told : (more others : List Fields) (rows : List FileRow) → BeginWith others rows → FileBeginsWith (header_fields ∷ (others ++ more)) rows
 first_told more others [] h = tt
 first_told more others (r ∷ rs) h = (refl, first_before others more (r ∷ rs) h)
 
-told : (more : List Fields) (others : List Fields) (rows : List CopyRow) (end : CopyEnd) → (end ≡ Whole → more ≡ []) → TellsRows others rows end
+told : (more : List Fields) (others : List Fields) (rows : List FileRow) (end : CopyEnd) → (end ≡ Whole → more ≡ []) → TellsRows others rows end
     → Tells (header_fields ∷ (others ++ more)) rows end
 told more others rows Whole none h = let gone = none refl in
     inr (refl, subst (λ xs. HaveRows 0 xs rows Whole) (sym (ap (λ (xs : List Fields). others ++ xs) gone ∙ append-nil others)) h)
@@ -256,7 +256,7 @@ header_read rem None a b header plain state src r = tt
 header_read rem (Some bytes) a b header plain state src r =
     rows-more rem a b header default_config st.StartRecord (strip_bom bytes) (strip_bom bytes) [] plain.config src (sym state, refl) r
 
-pub with_header : (known : Option (List ℕ)) (state : State) (left : Option (List ℕ)) (header : Fields) (rows : List CopyRow) (end : CopyEnd)
+pub with_header : (known : Option (List ℕ)) (state : State) (left : Option (List ℕ)) (header : Fields) (rows : List FileRow) (end : CopyEnd)
     → HasHeader known state left header
     → header ≡ header_fields → IsRestReading state left rows end → IsReading known rows end
 with_header None state left header rows end h same rest = tt

@@ -13,15 +13,15 @@ use Rattle.terms.specs.Commands.{texts}
 use Rattle.terms.specs.Laws.{IsAmount}
 use Rattle.front.specs.Copies.{Fields, IsRow, IsNoRow, row_fields}
 use Rattle.front.specs.CopyReading.{HasNumbers}
-use Rattle.front.specs.declared.copies.CopyRow.{CopyRow}
+use Rattle.front.specs.declared.copies.FileRow.{FileRow}
 
 pub decimal-IsUtf8 : (n : ℕ) → n < 2 ^ 32 → IsUtf8 (decimal n)
 decimal-IsUtf8 n h = IsUtf8-from_ascii (decimal n) (IsAscii-decimal n (omega (arith, h)))
 
-at_place : (fields : Fields) (row : CopyRow) (k : ℕ) → IsRow fields row → field_at fields k ≡ field_at (row_fields row) k
+at_place : (fields : Fields) (row : FileRow) (k : ℕ) → IsRow fields row → field_at fields k ≡ field_at (row_fields row) k
 at_place fields row k h = ap (λ (xs : Fields). field_at xs k) h.1
 
-pub numbers_of : (fields : Fields) (row : CopyRow) → IsRow fields row → HasNumbers fields row
+pub numbers_of : (fields : Fields) (row : FileRow) → IsRow fields row → HasNumbers fields row
 unfolding field_at
 numbers_of fields row h =
     record {
@@ -32,11 +32,11 @@ numbers_of fields row h =
       price = (h.0.1.1.1.1.1.0, at_place fields row 5 h);
     }
 
-pub text_of : (fields : Fields) (row : CopyRow) → IsRow fields row → field_at fields 2 ≡ Some row.text
+pub text_of : (fields : Fields) (row : FileRow) → IsRow fields row → field_at fields 2 ≡ Some row.text
 unfolding field_at
 text_of fields row h = at_place fields row 2 h
 
-pub closing_of : (fields : Fields) (row : CopyRow) → IsRow fields row → field_at fields 6 ≡ Some (codes "end")
+pub closing_of : (fields : Fields) (row : FileRow) → IsRow fields row → field_at fields 6 ≡ Some (codes "end")
 unfolding field_at
 closing_of fields row h = at_place fields row 6 h
 
@@ -91,7 +91,7 @@ seven (_ ∷ _ ∷ _ ∷ _ ∷ _ ∷ _ ∷ []) a b c d e f g long = absurd (cc)
 seven (p ∷ q ∷ r ∷ s ∷ t ∷ u ∷ v ∷ []) a b c d e f g long = λ h0 h1 h2 h3 h4 h5 h6. cc
 seven (_ ∷ _ ∷ _ ∷ _ ∷ _ ∷ _ ∷ _ ∷ _ ∷ _) a b c d e f g long = absurd (omega (arith, long))
 
-row_is : (fields : Fields) (row : CopyRow) (text : List ℕ) → length fields ≡ 7 → field_at fields 6 ≡ Some (codes "end")
+row_is : (fields : Fields) (row : FileRow) (text : List ℕ) → length fields ≡ 7 → field_at fields 6 ≡ Some (codes "end")
     → field_at fields 2 ≡ Some text → IsName text
     → row.text ≡ text → HasNumbers fields row → IsRow fields row
 row_is fields row text long closed there good same numbers =
@@ -102,17 +102,17 @@ row_is fields row text long closed there good same numbers =
       seven fields _ _ _ _ _ _ _ long numbers.copy.1 numbers.title.1 found numbers.kind.1 numbers.home.1 numbers.price.1 closed,
     )
 
-pub row_made : (fields : Fields) (found : Option CopyRow) (text : List ℕ) → length fields ≡ 7 → field_at fields 6 ≡ Some (codes "end")
+pub row_made : (fields : Fields) (found : Option FileRow) (text : List ℕ) → length fields ≡ 7 → field_at fields 6 ≡ Some (codes "end")
     → field_at fields 2 ≡ Some text → IsName text
     → IfSome found (λ row. row.text ≡ text) → IfSome found (λ row. HasNumbers fields row) → IfSome found (λ row. IsRow fields row)
 row_made fields None text long closed there good same numbers = tt
 row_made fields (Some row) text long closed there good same numbers = row_is fields row text long closed there good same numbers
 
 -- a row is told by its fields
-abbrev make : ℕ → ℕ → List ℕ → ℕ → ℕ → ℕ → CopyRow
+abbrev make : ℕ → ℕ → List ℕ → ℕ → ℕ → ℕ → FileRow
 make copy title text kind home price = record { copy = copy; title = title; text = text; kind = kind; home = home; price = price }
 
-pub same_row : (fields : Fields) (a b : CopyRow) → IsRow fields a → IsRow fields b → a ≡ b
+pub same_row : (fields : Fields) (a b : FileRow) → IsRow fields a → IsRow fields b → a ≡ b
 same_row fields a b ha hb =
     let all : row_fields a ≡ row_fields b = sym ha.1 ∙ hb.1 in
     let c : decimal a.copy ≡ decimal b.copy = cc in

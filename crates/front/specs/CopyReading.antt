@@ -9,7 +9,7 @@ use Rattle.csv.specs.declared.parser.State.{State}
 use Rattle.csv.specs.declared.reader.Reader.{Reader}
 use Rattle.csv.specs.declared.reader.Trim.TheVariants as trim
 use Rattle.front.specs.Copies.{Fields, IsRow, IsNoRow, HaveRows, BeginWith}
-use Rattle.front.specs.declared.copies.CopyRow.{CopyRow}
+use Rattle.front.specs.declared.copies.FileRow.{FileRow}
 use Rattle.front.specs.declared.copies.CopyEnd.{CopyEnd}
 use Rattle.front.specs.declared.copies.CopyEnd.TheVariants.{Whole, Bad, Read, Memory}
 
@@ -18,7 +18,7 @@ abbrev pub HasNumber : Fields → ℕ → ℕ → Type 0
 HasNumber fields place n = (n < 2 ^ 32) × (field_at fields place ≡ Some (decimal n))
 
 -- The numbers of the row stand at their places.
-pub record HasNumbers (fields : Fields) (row : CopyRow) : Type 0 where
+pub record HasNumbers (fields : Fields) (row : FileRow) : Type 0 where
   pub copy : HasNumber fields 0 row.copy
   pub title : HasNumber fields 1 row.title
   pub kind : HasNumber fields 3 row.kind
@@ -27,8 +27,8 @@ pub record HasNumbers (fields : Fields) (row : CopyRow) : Type 0 where
 
 -- What a record makes of the rows before it: one row more, or the same rows and an end, as it is no row or one too many,
 -- or as memory is wanting.
-abbrev pub Takes : Fields → List CopyRow → List CopyRow → Option CopyEnd → Type 0
-Takes fields old new None = (row : CopyRow) × IsRow fields row × (new ≡ old ++ row ∷ []) × (length old < MOST_ROWS)
+abbrev pub Takes : Fields → List FileRow → List FileRow → Option CopyEnd → Type 0
+Takes fields old new None = (row : FileRow) × IsRow fields row × (new ≡ old ++ row ∷ []) × (length old < MOST_ROWS)
 Takes fields old new (Some Whole) = ⊥
 Takes fields old new (Some (Bad number)) = (new ≡ old) × (IsNoRow fields ⊎ (MOST_ROWS ≤ length old)) × (number ≡ length old + 1)
 Takes fields old new (Some Read) = ⊥
@@ -41,14 +41,14 @@ pub record IsPlain {R : Type 0} (file : Reader R) : Type 0 where
   pub config : file.config ≡ default_config
 
 -- The records between two states of a reader, where its bytes are known, are just these rows.
-abbrev pub HasRead : State → Option (List ℕ) → State → Option (List ℕ) → List CopyRow → Type 0
+abbrev pub HasRead : State → Option (List ℕ) → State → Option (List ℕ) → List FileRow → Type 0
 HasRead state None after left rows = Unit {0}
 HasRead state (Some bytes) after left rows =
     (unread : List ℕ) × (left ≡ Some unread) × (others : List Fields) × Reached default_config state bytes others after unread
     × HaveRows 0 others rows Whole
 
 -- What a reading tells of the records after the header.
-abbrev pub TellsRows : List Fields → List CopyRow → CopyEnd → Type 0
+abbrev pub TellsRows : List Fields → List FileRow → CopyEnd → Type 0
 TellsRows others rows Whole = HaveRows 0 others rows Whole
 TellsRows others rows (Bad number) = HaveRows 0 others rows (Bad number)
 TellsRows others rows Read = BeginWith others rows
@@ -56,7 +56,7 @@ TellsRows others rows Memory = BeginWith others rows
 
 -- The records that were read from a state of the reader and its bytes, all of them at a whole file, tell the rows and
 -- the end.
-abbrev pub IsRestReading : State → Option (List ℕ) → List CopyRow → CopyEnd → Type 0
+abbrev pub IsRestReading : State → Option (List ℕ) → List FileRow → CopyEnd → Type 0
 IsRestReading state None rows end = Unit {0}
 IsRestReading state (Some bytes) rows end =
     (others : List Fields) × (after : State) × (left : List ℕ) × Reached default_config state bytes others after left

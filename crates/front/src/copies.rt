@@ -30,7 +30,7 @@ pub const MOST_ROWS: u32 = 100_000;
 /// A good row of a copies file: a copy as it is to be acquired. Its numbers may be out of their
 /// limits, which the desk looks at.
 #[derive(Drop)]
-pub struct CopyRow {
+pub struct FileRow {
     pub copy: CopyId,
     pub title: TitleId,
     pub text: Name,
@@ -39,12 +39,12 @@ pub struct CopyRow {
     pub price: Cents,
 }
 
-impl From<CopyRow> for Command {
+impl From<FileRow> for Command {
     ghost use Rattle.front.specs.Copies.{command_of};
 
     ghost from_gives = { λ row command. command ≡ command_of row };
 
-    fn from(row: CopyRow) -> Command {
+    fn from(row: FileRow) -> Command {
         Command::Acquire {
             copy: row.copy,
             title: row.title,
@@ -116,7 +116,7 @@ fn are_words(fields: &ByteRecord, words: &[&str]) -> bool
 }
 
 /// The row with this text whose numbers the record has.
-fn row_with(fields: &ByteRecord, text: Name) -> Option<CopyRow>
+fn row_with(fields: &ByteRecord, text: Name) -> Option<FileRow>
     ensures text { IfSome result (λ row. row.text ≡ text) }
     ensures numbers { IfSome result (λ row. HasNumbers (fields_of fields.now) row) }
     ensures none { IfNone result (IsNoRow (fields_of fields.now)) }
@@ -126,7 +126,7 @@ fn row_with(fields: &ByteRecord, text: Name) -> Option<CopyRow>
     let kind = CopyKind::new(number_at(fields, 3)?);
     let home = BranchId::new(number_at(fields, 4)?);
     let price = Cents::new(u64::from(number_at(fields, 5)?));
-    Some(CopyRow {
+    Some(FileRow {
         copy,
         title,
         text,
@@ -137,7 +137,7 @@ fn row_with(fields: &ByteRecord, text: Name) -> Option<CopyRow>
 }
 
 /// The row that the record is.
-fn read_row(alloc: Global, fields: &ByteRecord) -> Result<Option<CopyRow>, AllocError>
+fn read_row(alloc: Global, fields: &ByteRecord) -> Result<Option<FileRow>, AllocError>
     ensures good { IfOk result (λ found. IfSome found (λ row. IsRow (fields_of fields.now) row)) }
     ensures bad { IfOk result (λ found. IfNone found (IsNoRow (fields_of fields.now))) }
 {
@@ -157,7 +157,7 @@ fn read_row(alloc: Global, fields: &ByteRecord) -> Result<Option<CopyRow>, Alloc
 }
 
 /// Reads one record after the header: its row joins the rows, unless the reading ends there.
-fn take_row(alloc: Global, rows: &mut Vec<CopyRow>, fields: &ByteRecord) -> Option<CopyEnd>
+fn take_row(alloc: Global, rows: &mut Vec<FileRow>, fields: &ByteRecord) -> Option<CopyEnd>
     requires few { length rows.old.items ≤ MOST_ROWS }
     ensures { Takes (fields_of fields.now) rows.old.items rows.new.items result }
 {
@@ -189,7 +189,7 @@ fn end_at(error: &Error) -> CopyEnd
 }
 
 /// The rows after the header.
-fn read_rows<R: Read + Drop>(alloc: Global, file: Reader<R>) -> (Vec<CopyRow>, CopyEnd)
+fn read_rows<R: Read + Drop>(alloc: Global, file: Reader<R>) -> (Vec<FileRow>, CopyEnd)
     requires plain { IsPlain file }
     ensures told { IsRestReading file.state (source_of R.remaining file) result.0.items result.1 }
     ensures few { length result.0.items ≤ MOST_ROWS }
@@ -225,7 +225,7 @@ fn record_reader<R: Read>(alloc: Global, reader: R) -> Reader<R>
 /// the fields `copy`, `title`, `text`, `kind`, `home`, `price` and `end`. A row has a field for
 /// each: the third is the text of a title, the last is the word `end`, and the others are numbers.
 /// After 100,000 rows the next record ends the reading.
-pub fn read_copies<R: Read + Drop>(alloc: Global, reader: R) -> (Vec<CopyRow>, CopyEnd)
+pub fn read_copies<R: Read + Drop>(alloc: Global, reader: R) -> (Vec<FileRow>, CopyEnd)
     ensures told { IsReading (R.remaining reader) result.0.items result.1 }
     ensures few { length result.0.items ≤ MOST_ROWS }
 {

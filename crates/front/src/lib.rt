@@ -5,6 +5,6 @@ mod copies;
 mod line;
 mod words;
 
-pub use copies::{CopyEnd, CopyRow, MOST_ROWS, files_read_once, read_copies};
+pub use copies::{CopyEnd, FileRow, MOST_ROWS, files_read_once, read_copies};
 pub use terms::WordFault;
 pub use words::read_words;

@@ -28,7 +28,7 @@ use Rattle.board.specs.Showing.{StartsWith, GoesOn, IsTold, requests}
 use Rattle.board.proofs.Beginnings.{goes_self}
 use Rattle.board.proofs.Telling.{told-reply}
 use Rattle.hall.specs.Serving.{Working, shown_page, page_by_desk, page_asked, IsOwnPage, IsPageSeen, IsReplied, IsReplyFor, IsReplyTo}
-use Rattle.hall.specs.Serving.{IsGivenReply, IsGivenFor, IsGivenTo, IsPageFault, IsFaultFor, IsFaultTo, TellsPage, Meets}
+use Rattle.hall.specs.Serving.{IsGivenReply, IsGivenFor, IsGivenTo, IsPageFault, IsFaultFor, IsFaultTo, TellsPage, MeetsAsked}
 
 abbrev asked_page : Option PatronFacts → List ℕ → Reply
 asked_page row text = elim (first_failing ((UnknownPatron, not (is_some row)) ∷ [])) as (λ _. Reply) [ Some refused ↦ Refused refused | None ↦ Shown text ]
@@ -71,7 +71,7 @@ page-replied H request patron asked = by request.caller request.command asked
 -- ---- what is asked for is met
 
 module _ (old : Working) where
-  pub nothing-met : Meets Nothing old old (Some (answer.Refused NotAllowed))
+  pub nothing-met : MeetsAsked Nothing old old (Some (answer.Refused NotAllowed))
   nothing-met = record {
     on = goes_self old.seen;
     once = refl;
@@ -79,7 +79,7 @@ module _ (old : Working) where
   }
 
   module _ (new : Working) (told : Answer) (on : GoesOn new.seen old.seen) (same : new.post ≡ old.post) (patron : ℕ) where
-    pub page-met : (card_key : List ℕ) → TellsPage patron (Some card_key) new.seen told → Meets (asked.Page patron card_key) old new (Some told)
+    pub page-met : (card_key : List ℕ) → TellsPage patron (Some card_key) new.seen told → MeetsAsked (asked.Page patron card_key) old new (Some told)
     page-met card_key t = record {
       on = on;
       once = same;
@@ -91,7 +91,7 @@ module _ (old : Working) where
         by (Err fault) h = tt
 
     pub desk-page-met : (request : Request) → page_asked request ≡ Some patron → TellsPage patron None new.seen told
-        → Meets (asked.Request request) old new (Some told)
+        → MeetsAsked (asked.Request request) old new (Some told)
     desk-page-met request asks t =
         record {
           on = on;

@@ -18,7 +18,7 @@ use Rattle.web.specs.declared.fault.WebStatus.{WebStatus}
 use Rattle.web.specs.declared.request.WebRequest.{WebRequest}
 use Rattle.board.specs.Showing.{GoesOn}
 use Rattle.board.proofs.Beginnings.{goes_self}
-use Rattle.hall.specs.Serving.{Working, submitted, SubmitsAsked, TellsReply, Meets, Answers, Serves}
+use Rattle.hall.specs.Serving.{Working, submitted, SubmitsAsked, TellsReply, MeetsAsked, Answers, Serves}
 
 -- what was read, by what the reading gave
 pub read-status : (bytes : Option (List ℕ)) (r : Reading) (status : WebStatus) → r ≡ Err (Status status)
@@ -57,7 +57,7 @@ module _ {E : Type 0} (desk_key : List ℕ) (bytes : Option (List ℕ)) (old new
   want-served same is = untouched same (inr (inl is))
 
   pub request-served : (web : WebRequest) (asked : Asked) (met : Option Answer) → asked ≡ asked_of desk_key web
-      → IfSome bytes (λ all. ChecksHead all (Ok web)) → met ≡ Some answer → Meets asked old new met
+      → IfSome bytes (λ all. ChecksHead all (Ok web)) → met ≡ Some answer → MeetsAsked asked old new met
       → Serves desk_key bytes old new before after r
   request-served web asked met is read some meets = served meets.on (once asked is meets.once) (inr (inr (record {
     request = web;

@@ -6,12 +6,12 @@ use Rattle.crossbeam_channel.specs.declared.flavors.array.Key.{Key}
 use Rattle.hall.specs.declared.messages.Message.{Message}
 
 -- The name of a queue.
-pub record Name : Type 0 where
+pub record QueueName : Type 0 where
   -- the table of turns
   pub queue : TableId
   -- the key of the places
   pub key : Badge (Key Message)
 
 -- A name of no queue.
-abbrev pub no_name : Name
+abbrev pub no_name : QueueName
 no_name = record { queue = (no_key {X = Message}).table_id; key = no_key }

@@ -154,7 +154,7 @@ pub record TellsPage (patron : ℕ) (shown : Option (List ℕ)) (seen : Seen) (a
   pub fault : IfErr outcome IsPageFault
 
 -- What is asked for was met with an answer; or there is none, since no memory was left for it.
-pub record Meets (asked : Asked) (old new : Working) (answer : Option Answer) : Type 0 where
+pub record MeetsAsked (asked : Asked) (old new : Working) (answer : Option Answer) : Type 0 where
   pub on : GoesOn new.seen old.seen
   pub once : SubmitsAsked asked old.post new.post
   pub told : IfSome answer (TellsReply asked old new)

@@ -9,7 +9,7 @@ ghost use Rattle.hall.specs.Queue.{desk_view, worker_view, joined, taken_in, sen
 
 use crate::messages::{Message, View};
 use crate::opening::Opening;
-use crate::rule::{Gets, Hires, InTurn, Sends, TakesIn, Total};
+use crate::rule::{Hires, InTurn, Receives, Sends, TakesIn, Total};
 use board::Blank;
 use crossbeam_channel::{Pass, RecvError, RuledReceiver, RuledSender, SendError, bounded_with};
 use hall_schedule::PLACES;
@@ -50,9 +50,9 @@ impl Model for Queue {
     ghost use Rattle.crossbeam_channel.specs.Ends.{sends_on, receives_on, ruled_capacity};
     ghost use Rattle.hall_schedule.specs.declared.schedule.TheConstants.{PLACES};
     ghost use Rattle.hall.specs.Queue.{desk_view};
-    ghost use Rattle.hall.specs.Names.{Name};
+    ghost use Rattle.hall.specs.Names.{QueueName};
 
-    ghost Value = { Name };
+    ghost Value = { QueueName };
 
     ghost view = { λ o. record { queue = o.pass.table_id; key = o.pass.me.0.of } };
 
@@ -170,7 +170,7 @@ impl<J: Opening> Inbox<J> {
         ensures { MatchResult result (λ x. (self.new ≡ got_more self.old x) × IsNext self.old.got x)
             (λ _. self.new ≡ self.old) }
     {
-        self.receiver.recv_as::<Gets, R>(rt, &mut self.pass)
+        self.receiver.recv_as::<Receives, R>(rt, &mut self.pass)
     }
 
     /// What it received, once it receives no more.

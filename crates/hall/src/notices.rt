@@ -15,14 +15,14 @@ struct Notice {
 
 /// A worker's place.
 #[derive(Drop)]
-struct Place {
+struct WorkerPlace {
     notice: OnceLock<Notice>,
     bell: OnceLock<Unparker>,
 }
 
-impl Place {
-    fn new() -> Place {
-        Place {
+impl WorkerPlace {
+    fn new() -> WorkerPlace {
+        WorkerPlace {
             notice: OnceLock::new(),
             bell: OnceLock::new(),
         }
@@ -32,27 +32,27 @@ impl Place {
 /// A place for each worker. They are made with the hall, so that closing it takes no memory.
 #[derive(Drop)]
 pub(crate) struct Notices {
-    places: [Place; 8],
+    places: [WorkerPlace; 8],
 }
 
 impl Notices {
     pub(crate) fn new() -> Notices {
         Notices {
             places: [
-                Place::new(),
-                Place::new(),
-                Place::new(),
-                Place::new(),
-                Place::new(),
-                Place::new(),
-                Place::new(),
-                Place::new(),
+                WorkerPlace::new(),
+                WorkerPlace::new(),
+                WorkerPlace::new(),
+                WorkerPlace::new(),
+                WorkerPlace::new(),
+                WorkerPlace::new(),
+                WorkerPlace::new(),
+                WorkerPlace::new(),
             ],
         }
     }
 
     /// The place of a worker.
-    fn place(&self, worker: WorkerId) -> &Place {
+    fn place(&self, worker: WorkerId) -> &WorkerPlace {
         &self.places[(worker.number() - 1) as usize]
     }
 

@@ -8,11 +8,11 @@ use std::marker::Brand;
 /// opening. Who opens a hall opens and runs it inside one function generic in this, which is called
 /// with `Brand`.
 pub trait Opening: Naming {
-    ghost use Rattle.hall.specs.Names.{Name};
+    ghost use Rattle.hall.specs.Names.{QueueName};
     ghost use Rattle.model.specs.History.{History};
 
     /// The name of its queue.
-    ghost name: { Name };
+    ghost name: { QueueName };
 
     /// The tables show this list of accepted requests when the hall is opened.
     ghost shows: { History → Type 0 };

@@ -47,13 +47,13 @@ impl Lesson<Message, View> for Sends {
 }
 
 /// A message was received.
-pub struct Gets;
+pub struct Receives;
 
-impl Outcome<Message, View> for Gets {
+impl Outcome<Message, View> for Receives {
     ghost then = { λ v x w. (w ≡ got_more v x) × IsNext v.got x };
 }
 
-impl Lesson<Message, View> for Gets {
+impl Lesson<Message, View> for Receives {
     ghost fact = { λ v items. Unit {0} };
 }
 

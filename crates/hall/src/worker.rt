@@ -9,14 +9,14 @@ ghost use Rattle.web.specs.Answers.{answer_bytes, answer_for};
 ghost use Rattle.board.specs.Showing.{GoesOn, IsReply, count_own};
 ghost use Rattle.hall.specs.declared.messages.Message.TheVariants.{Leave};
 ghost use Rattle.hall.specs.Queue.{IsSending, sent_more, worker_view};
-ghost use Rattle.hall.specs.Serving.{submitted, SubmitsOnce, page_asked, Meets, Serves};
+ghost use Rattle.hall.specs.Serving.{submitted, SubmitsOnce, page_asked, MeetsAsked, Serves};
 ghost use Rattle.hall.specs.Serving.{IsReplied, TellsSubmitted, TellsPage, shown_page};
 
 use crate::ends::Post;
 use crate::messages::{LAST_SUBMISSION, Message, Submission};
 use crate::notices::Notices;
 use crate::opening::Opening;
-use board::{Entry, SharedRequest, Sight, Unseen, Window, WorkerId};
+use board::{Entry, SharedRequest, LastSeen, Unseen, Window, WorkerId};
 use crossbeam_utils::sync::Parker;
 use desk::OwnPage;
 use std::alloc::Global;
@@ -62,7 +62,7 @@ pub struct Left<J: Opening> {
     pub(crate) post: Post<J>,
     pub(crate) worker: WorkerId,
     /// What it had seen.
-    pub(crate) sight: Sight<J>,
+    pub(crate) sight: LastSeen<J>,
     /// Whether its Leave is in the queue. It isn't where the desk is gone.
     pub is_told: bool,
     pub(crate) ghost sending: { IsSending post },
@@ -348,7 +348,7 @@ impl<J: Opening> Worker<J> {
 
     /// The answer to what is asked for. None where no memory is left for it.
     fn answer<R: Wait>(&mut self, rt: &R, alloc: Global, asked: Asked) -> Option<Answer>
-        ensures { Meets asked self.old self.new result }
+        ensures { MeetsAsked asked self.old self.new result }
     {
         match asked {
             Asked::Nothing => Some(Answer::Refused(Refusal::NotAllowed)),

@@ -1,4 +1,4 @@
--- Each event keeps the laws.
+-- Each act keeps the laws.
 use Rattle.std.proofs.Common.{◌≡◌, ◌≢◌, ℕ, ◌+◌, ◌-◌, ◌<◌, ◌≤◌, Bool, true, false, cond, ◌&&◌, List, [], ◌∷◌, ◌++◌, length, map, take, drop}
 use Rattle.std.proofs.Common.{set, get_or, filter, count_by, fold, sym, refl, ap, ◌∙◌, subst, append_assoc, arith, eqb, ltb, length-append}
 use Rattle.std.proofs.Common.{zero, suc, true≢false, if◌then◌else◌, get_or-set_same}
@@ -13,8 +13,8 @@ use Rattle.std.proofs.lemmas.List.Folds.{list_all-append}
 use Rattle.std.specs.Cmp.Derive.{both_true}
 use Rattle.std.proofs.Math.ListN.{length-set, length-map}
 use Rattle.hall_schedule.specs.declared.schedule.Item.{Item}
-use Rattle.hall_schedule.specs.declared.schedule.Event.{Event}
-use Rattle.hall_schedule.specs.declared.schedule.Event.TheVariants.{Submit, Handle, Publish, Look}
+use Rattle.hall_schedule.specs.declared.schedule.Act.{Act}
+use Rattle.hall_schedule.specs.declared.schedule.Act.TheVariants.{Submit, Handle, Publish, Look}
 use Rattle.hall_schedule.specs.Schedules.{State, start, step, run, handle, ticked, submitted_by, may_submit, is_worker, is_of, own, list_at}
 use Rattle.hall_schedule.specs.Schedules.{seen_at, StandsAfter, HasSeenMost, IsLawful}
 
@@ -176,7 +176,7 @@ look_keeps s w true is l =
           more_seen v (seen_at s v) (seen_at S v) s.handled s.queue (list_at s v) t.0 (l.each v h) n.0 (omega arith) t.1 t.2;
     }
 
-pub step_keeps : (s : State) (e : Event) → IsLawful s → IsLawful (step s e)
+pub step_keeps : (s : State) (e : Act) → IsLawful s → IsLawful (step s e)
 step_keeps s (Submit w r) l = submit_keeps s w r (may_submit s w) refl l
 step_keeps s Handle l = handle_keeps s s.queue refl l
 step_keeps s Publish l = record {
@@ -229,18 +229,18 @@ start_lawful =
       most = λ w h. ([], nils (w - 1) ∙ ap (λ x. own w x ++ []) (sym (take_none (get_or start.seen (w - 1) 0))), omega arith);
     }
 
-pub fold_keeps : (s : State) (es : List Event) → IsLawful s → IsLawful (fold step s es)
+pub fold_keeps : (s : State) (es : List Act) → IsLawful s → IsLawful (fold step s es)
 fold_keeps s [] l = l
 fold_keeps s (e ∷ es) l = fold_keeps (step s e) es (step_keeps s e l)
 
-pub run_lawful : (es : List Event) → IsLawful (run es)
+pub run_lawful : (es : List Act) → IsLawful (run es)
 run_lawful es = fold_keeps start es start_lawful
 
 handle-taken : (s : State) (q : List Item) → (handle s q).taken ≡ s.taken + 1
 handle-taken s [] = refl
 handle-taken s (i ∷ q) = refl
 
-pub step-taken : (s : State) (e : Event) → (step s e).taken ≡ s.taken + 1
+pub step-taken : (s : State) (e : Act) → (step s e).taken ≡ s.taken + 1
 step-taken s (Submit w r) = elim (may_submit s w) as (λ b. (if b then submitted_by s w r else ticked s).taken ≡ s.taken + 1) [ true ↦ refl | false ↦ refl ]
 step-taken s Handle = handle-taken s s.queue
 step-taken s Publish = refl

@@ -6,15 +6,15 @@ use Rattle.std.specs.declared.vec.Vec.{Vec}
 use Rattle.std.specs.declared.alloc.Global.{Global}
 use Rattle.hall_schedule.specs.declared.schedule.TheConstants.{WORKERS, PLACES}
 use Rattle.hall_schedule.specs.declared.schedule.Item.{Item}
-use Rattle.hall_schedule.specs.declared.schedule.Event.{Event}
-use Rattle.hall_schedule.specs.declared.schedule.Event.TheVariants.{Submit, Handle, Publish, Look}
+use Rattle.hall_schedule.specs.declared.schedule.Act.{Act}
+use Rattle.hall_schedule.specs.declared.schedule.Act.TheVariants.{Submit, Handle, Publish, Look}
 use Rattle.hall_schedule.specs.declared.schedule.World.{World}
 
 -- ---- what a schedule makes
 
 -- What a schedule has made. In `submitted` and in `seen`, worker w stands at place w - 1.
 pub record State : Type 0 where
-  -- how many events were taken
+  -- how many acts were taken
   pub taken : ℕ
   -- what each worker submitted, in order
   pub submitted : List (List ℕ)
@@ -42,7 +42,7 @@ state_of w = record {
   seen = w.seen;
 }
 
--- Before the first event: nothing was submitted, shown or seen.
+-- Before the first act: nothing was submitted, shown or seen.
 abbrev pub start : State
 start = record {
   taken = 0;
@@ -78,7 +78,7 @@ seen_at s w = slice_index s.seen (w - 1)
 abbrev pub may_submit : State → ℕ → Bool
 may_submit s w = is_worker w && (nat_lt (length s.queue) PLACES && (count_by (is_of w) (take (seen_at s w) s.handled) == length (list_at s w)))
 
--- An event that cannot be is taken, and changes nothing else.
+-- An act that cannot be is taken, and changes nothing else.
 abbrev pub ticked : State → State
 ticked s = record s { taken = s.taken + 1 }
 
@@ -95,16 +95,16 @@ abbrev pub handle : State → List Item → State
 handle s [] = ticked s
 handle s (item ∷ queue) = record s { taken = s.taken + 1; queue = queue; handled = s.handled ++ item ∷ [] }
 
--- One event.
-abbrev pub step : State → Event → State
+-- One act.
+abbrev pub step : State → Act → State
 step s (Submit w r) = if may_submit s w then submitted_by s w r else ticked s
 step s Handle = handle s s.queue
 step s Publish = record s { taken = s.taken + 1; published = length s.handled }
 step s (Look w) = if is_worker w then record s { taken = s.taken + 1; seen = set s.seen (w - 1) s.published } else ticked s
 
--- The events, one after another.
-abbrev pub run : List Event → State
-run events = fold step start events
+-- The acts, one after another.
+abbrev pub run : List Act → State
+run acts = fold step start acts
 
 -- ---- what holds after every schedule
 

@@ -5,4 +5,4 @@ mod schedule;
 #[cfg(test)]
 mod tests;
 
-pub use schedule::{Event, Item, PLACES, WORKERS, World, replay};
+pub use schedule::{Act, Item, PLACES, WORKERS, World, replay};

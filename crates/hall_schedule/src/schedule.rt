@@ -15,9 +15,9 @@ pub const WORKERS: u64 = 8;
 /// How many submissions the queue holds.
 pub const PLACES: usize = 8;
 
-/// One step of a worker or of the desk.
+/// One act of a worker or of the desk.
 #[derive(Clone, Copy, Debug, PartialEq, Eq)]
-pub enum Event {
+pub enum Act {
     /// This worker, 1 to 8, puts this request at the end of the queue.
     Submit(u64, u64),
     /// The desk handles the request at the front of the queue.
@@ -40,7 +40,7 @@ pub struct Item {
 /// What a schedule has made.
 #[derive(Drop)]
 pub struct World {
-    /// How many events were taken.
+    /// How many acts were taken.
     pub taken: usize,
     /// What each worker submitted, in order; worker 1 first.
     pub submitted: [Vec<u64>; 8],
@@ -76,7 +76,7 @@ fn put(lists: &mut [Vec<u64>], place: usize, request: u64) -> Result<(), AllocEr
 }
 
 impl World {
-    /// Before the first event.
+    /// Before the first act.
     fn new(alloc: Global) -> World
         ensures { state_of result ≡ start }
     {
@@ -155,7 +155,7 @@ impl World {
     /// Moves the front of the queue to the end of the handled list. At `Err` nothing is changed.
     fn handle(&mut self) -> Result<(), AllocError>
         requires room { self.old.taken < 2 ^ 63 }
-        ensures ok { OnOk result (state_of self.new ≡ step (state_of self.old) Event.Handle) }
+        ensures ok { OnOk result (state_of self.new ≡ step (state_of self.old) Act.Handle) }
         ensures err { OnErr result (state_of self.new ≡ state_of self.old) }
     {
         self.handled.reserve(1)?;
@@ -166,22 +166,22 @@ impl World {
         Ok(())
     }
 
-    /// Takes one event. One that cannot be changes nothing but how many were taken. At `Err`
+    /// Takes one act. One that cannot be changes nothing but how many were taken. At `Err`
     /// nothing is changed.
-    fn take(&mut self, event: Event) -> Result<(), AllocError>
+    fn take(&mut self, act: Act) -> Result<(), AllocError>
         requires room { self.old.taken < 2 ^ 63 }
-        ensures ok { OnOk result (state_of self.new ≡ step (state_of self.old) event) }
+        ensures ok { OnOk result (state_of self.new ≡ step (state_of self.old) act) }
         ensures err { OnErr result (state_of self.new ≡ state_of self.old) }
     {
-        match event {
-            Event::Submit(worker, request) => {
+        match act {
+            Act::Submit(worker, request) => {
                 if self.may_submit(worker) {
                     return self.submit(worker, request);
                 }
             }
-            Event::Handle => return self.handle(),
-            Event::Publish => self.published = self.handled.len(),
-            Event::Look(worker) => {
+            Act::Handle => return self.handle(),
+            Act::Publish => self.published = self.handled.len(),
+            Act::Look(worker) => {
                 if has_worker(worker) {
                     self.seen[(worker - 1) as usize] = self.published;
                 }
@@ -192,18 +192,18 @@ impl World {
     }
 }
 
-/// What the schedule makes: of its first `taken` events, which are all of them as long as memory
+/// What the schedule makes: of its first `taken` acts, which are all of them as long as memory
 /// lasts.
 ///
 /// Whatever the schedule is, what was handled and then what is queued is one list in which each
 /// worker's submissions stand in the order in which it submitted them; see `specs/Schedules`.
-pub fn replay(alloc: Global, events: &[Event]) -> World
-    ensures world { state_of result ≡ run (take result.taken events.now) }
+pub fn replay(alloc: Global, acts: &[Act]) -> World
+    ensures world { state_of result ≡ run (take result.taken acts.now) }
     ensures lawful { IsLawful (state_of result) }
 {
     let mut world = World::new(alloc);
-    for event in events {
-        match world.take(*event) {
+    for act in acts {
+        match world.take(*act) {
             Ok(()) => {}
             Err(_) => return world,
         }

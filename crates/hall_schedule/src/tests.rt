@@ -1,7 +1,7 @@
 //! Schedules with the worlds that they make, worked by hand.
 
-use crate::Event::{Handle, Look, Publish, Submit};
-use crate::{Event, Item, World, replay};
+use crate::Act::{Handle, Look, Publish, Submit};
+use crate::{Act, Item, World, replay};
 use std::test::Fail;
 
 /// A worker, its request, and how many it had seen.
@@ -9,7 +9,7 @@ type Placed = (u64, u64, usize);
 
 /// A schedule, and what it makes.
 struct Worked {
-    events: &'static [Event],
+    acts: &'static [Act],
     submitted: [&'static [u64]; 8],
     queue: &'static [Placed],
     handled: &'static [Placed],
@@ -20,7 +20,7 @@ struct Worked {
 const WORKED: [Worked; 8] = [
     // two workers submit one each
     Worked {
-        events: &[
+        acts: &[
             Submit(1, 7),
             Submit(2, 8),
             Handle,
@@ -37,7 +37,7 @@ const WORKED: [Worked; 8] = [
     },
     // who has not seen the last one handled can submit nothing
     Worked {
-        events: &[
+        acts: &[
             Submit(1, 7),
             Submit(2, 8),
             Handle,
@@ -56,7 +56,7 @@ const WORKED: [Worked; 8] = [
     },
     // what cannot be changes nothing
     Worked {
-        events: &[Handle, Look(9), Submit(0, 7)],
+        acts: &[Handle, Look(9), Submit(0, 7)],
         submitted: [&[], &[], &[], &[], &[], &[], &[], &[]],
         queue: &[],
         handled: &[],
@@ -65,7 +65,7 @@ const WORKED: [Worked; 8] = [
     },
     // all eight submit, and the queue is full
     Worked {
-        events: &[
+        acts: &[
             Submit(1, 11),
             Submit(2, 12),
             Submit(3, 13),
@@ -104,7 +104,7 @@ const WORKED: [Worked; 8] = [
     },
     // handled, but not shown yet
     Worked {
-        events: &[
+        acts: &[
             Submit(4, 7),
             Handle,
             Submit(5, 8),
@@ -124,7 +124,7 @@ const WORKED: [Worked; 8] = [
     },
     // handled in the order of the queue, and not of the workers
     Worked {
-        events: &[Submit(2, 8), Submit(1, 7), Submit(3, 9), Handle, Handle],
+        acts: &[Submit(2, 8), Submit(1, 7), Submit(3, 9), Handle, Handle],
         submitted: [&[7], &[8], &[9], &[], &[], &[], &[], &[]],
         queue: &[(3, 9, 0)],
         handled: &[(2, 8, 0), (1, 7, 0)],
@@ -133,7 +133,7 @@ const WORKED: [Worked; 8] = [
     },
     // one worker alone
     Worked {
-        events: &[
+        acts: &[
             Submit(8, 7),
             Handle,
             Publish,
@@ -153,7 +153,7 @@ const WORKED: [Worked; 8] = [
     },
     // nothing to show, and workers that there are not
     Worked {
-        events: &[
+        acts: &[
             Publish,
             Look(1),
             Look(0),
@@ -190,7 +190,7 @@ fn is_placed(items: &[Item], placed: &[Placed]) -> bool {
 }
 
 fn is_as_worked(world: &World, worked: &Worked) -> bool {
-    world.taken == worked.events.len()
+    world.taken == worked.acts.len()
         && has_lists(world, worked)
         && world.queue.len() == worked.queue.len()
         && world.queue.iter().zip(worked.queue.iter()).all(|(item, wanted)| (
@@ -206,7 +206,7 @@ fn is_as_worked(world: &World, worked: &Worked) -> bool {
 #[test]
 fn each_schedule_makes_its_world(rt: HostRuntime) -> Result<(), Fail> {
     for worked in &WORKED {
-        let world = replay(rt.alloc(), worked.events);
+        let world = replay(rt.alloc(), worked.acts);
         assert!(rt; is_as_worked(&world, worked));
     }
     Ok(())

@@ -2,170 +2,170 @@
 
 /// A number and what it means, for a person.
 #[derive(Clone, Copy)]
-struct Entry {
+struct Meaning {
     number: u32,
     text: &'static str,
 }
 
-const MEANINGS: [Entry; 40] = [
-    Entry {
+const MEANINGS: [Meaning; 40] = [
+    Meaning {
         number: 10,
         text: "unknown branch",
     },
-    Entry {
+    Meaning {
         number: 11,
         text: "unknown patron",
     },
-    Entry {
+    Meaning {
         number: 12,
         text: "unknown title",
     },
-    Entry {
+    Meaning {
         number: 13,
         text: "unknown copy",
     },
-    Entry {
+    Meaning {
         number: 14,
         text: "unknown loan",
     },
-    Entry {
+    Meaning {
         number: 15,
         text: "unknown hold",
     },
-    Entry {
+    Meaning {
         number: 16,
         text: "no circulation rule for the kind of the patron and that of the copy",
     },
-    Entry {
+    Meaning {
         number: 17,
         text: "unknown kind of patron",
     },
-    Entry {
+    Meaning {
         number: 20,
         text: "there already, with other content",
     },
-    Entry {
+    Meaning {
         number: 21,
         text: "a number is out of its limits, or 400 days are closed singly",
     },
-    Entry {
+    Meaning {
         number: 22,
         text: "all seven weekdays would be closed",
     },
-    Entry {
+    Meaning {
         number: 23,
         text: "the day is not after today, or out of range",
     },
-    Entry {
+    Meaning {
         number: 24,
         text: "the day is closed singly already",
     },
-    Entry {
+    Meaning {
         number: 25,
         text: "the day is not closed singly",
     },
-    Entry {
+    Meaning {
         number: 30,
         text: "the copy is at another branch",
     },
-    Entry {
+    Meaning {
         number: 31,
         text: "the copy is on loan",
     },
-    Entry {
+    Meaning {
         number: 32,
         text: "the copy is in transit",
     },
-    Entry {
+    Meaning {
         number: 33,
         text: "the copy is on the hold shelf",
     },
-    Entry {
+    Meaning {
         number: 34,
         text: "the copy is missing",
     },
-    Entry {
+    Meaning {
         number: 35,
         text: "the copy is withdrawn",
     },
-    Entry {
+    Meaning {
         number: 36,
         text: "another patron stands in line",
     },
-    Entry {
+    Meaning {
         number: 37,
         text: "the patron has as many loans as the kind may have",
     },
-    Entry {
+    Meaning {
         number: 38,
         text: "the patron owes more than the kind may owe",
     },
-    Entry {
+    Meaning {
         number: 39,
         text: "no open day is left in the calendar",
     },
-    Entry {
+    Meaning {
         number: 40,
         text: "the loan has ended",
     },
-    Entry {
+    Meaning {
         number: 41,
         text: "the loan is overdue",
     },
-    Entry {
+    Meaning {
         number: 42,
         text: "no renewals are left",
     },
-    Entry {
+    Meaning {
         number: 50,
         text: "the patron has an active hold of the title",
     },
-    Entry {
+    Meaning {
         number: 51,
         text: "the patron has as many holds as the kind may have",
     },
-    Entry {
+    Meaning {
         number: 52,
         text: "the patron has the title on loan",
     },
-    Entry {
+    Meaning {
         number: 53,
         text: "the hold is not in the state that is needed",
     },
-    Entry {
+    Meaning {
         number: 54,
         text: "the limit of the hold has not passed",
     },
-    Entry {
+    Meaning {
         number: 60,
         text: "the amount is zero or above what is owed",
     },
-    Entry {
+    Meaning {
         number: 70,
         text: "the numbers of loans, holds or lines are used up",
     },
-    Entry {
+    Meaning {
         number: 80,
         text: "the key was used for another request",
     },
-    Entry {
+    Meaning {
         number: 81,
         text: "wrong key, or not allowed to this caller",
     },
-    Entry {
+    Meaning {
         number: 90,
         text: "no memory was left",
     },
-    Entry {
+    Meaning {
         number: 91,
         text: "the database refused a call: another process has the file, it can't be written, or \
                the disk is full",
     },
-    Entry {
+    Meaning {
         number: 92,
         text: "the desk is closed",
     },
-    Entry {
+    Meaning {
         number: 93,
         text: "no library: the file is absent, empty, of another kind or schema, or has a damaged \
                row",

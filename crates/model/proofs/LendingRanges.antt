@@ -22,7 +22,7 @@ use Rattle.model.proofs.MadeHolds.{placeable}
 use Rattle.model.proofs.Bindings.{not-false}
 use Rattle.model.proofs.DueDayLaws.{checked_out-terms}
 use Rattle.model.proofs.Invariants.{legal-Invariant}
-use Rattle.model.proofs.PlaceSteps.{Keeps, route-keeps, place_after-keeps}
+use Rattle.model.proofs.PlaceSteps.{KeepsPlaces, route-keeps, place_after-keeps}
 use Rattle.model.proofs.SettingRanges.{SettingRanges, TermsIn, legal-SettingRanges, set-if, there, none-some}
 
 abbrev LoanIn : LoanFacts → Type 0
@@ -132,7 +132,7 @@ module _ (H : History) (inv : Invariant H) (settings : SettingRanges H) (before 
   given-in : (h : ℕ) (r : HoldFacts) → hold_of H h ≡ Some r → IsGiven h
   given-in h r e = let made = inv.made_hold h r e in (made.0, omega (arith, made.1, inv.holds_left))
 
-  places-keep : Keeps H PlaceIn
+  places-keep : KeepsPlaces H PlaceIn
   places-keep = record {
     now = before.places;
     to_hold = λ h r e. (given-in h r e, (goal-in h r e, given-in h r e));

@@ -28,7 +28,7 @@ copy-known H inv c at = go (copy_of H c) refl
     go None e = absurd (at (inv.unknown c e))
 
 -- P holds of each place now, and of each that a command may give a copy.
-pub record Keeps (H : History) (P : Place → Type 0) : Type 0 where
+pub record KeepsPlaces (H : History) (P : Place → Type 0) : Type 0 where
   pub now : (c : ℕ) → P (place H c)
   pub to_hold : (h : ℕ) (r : HoldFacts) → hold_of H h ≡ Some r
       → P (HoldShelf h) × P (Transit (goal_of H h) (Some h))
@@ -42,7 +42,7 @@ pub record Keeps (H : History) (P : Place → Type 0) : Type 0 where
   pub withdrawn : P WithdrawnCopy
 
 module _ (H : History) (inv : Invariant H) (P : Place
-    → Type 0) (keeps : Keeps H P) (o : Owner) where
+    → Type 0) (keeps : KeepsPlaces H P) (o : Owner) where
   -- The first in line was placed.
   first-keeps : (t h : ℕ) (hs : List ℕ) → line_by H (place H) (state H) (is_begun H) t ≡ h ∷ hs
       → P (HoldShelf h) × P (Transit (goal_of H h) (Some h))

@@ -34,7 +34,7 @@ use Rattle.model.proofs.Postings.{settling}
 use Rattle.model.proofs.Bindings.{not-false, kept-is, find-some}
 use Rattle.model.proofs.ClaimsLaw.{map-some, hold-facts, transit-place}
 use Rattle.model.proofs.Invariants.{legal-Invariant}
-use Rattle.model.proofs.PlaceSteps.{Keeps, place_after-keeps, copy-known}
+use Rattle.model.proofs.PlaceSteps.{KeepsPlaces, place_after-keeps, copy-known}
 use Rattle.model.proofs.Repeats.{same_owner-is}
 use Rattle.model.proofs.SettingRanges.{graced, set-if, make-at, none-some}
 
@@ -248,7 +248,7 @@ module _ (H : History) (inv : Invariant H) (before : ReferenceLaws H) (o : Owner
   home-there c r e = subst (λ b. IsThere (branch_of H b)) (sym (ap (λ y. unwrap_or (option_map
       (λ q. q.home) y) 0) e)) (before.copies c r e).1
 
-  places-keep : Keeps H (GoesThere (branch_of H))
+  places-keep : KeepsPlaces H (GoesThere (branch_of H))
   places-keep = record {
     now = before.places;
     to_hold = λ h r e. (tt, goal-there h r e);

@@ -42,7 +42,7 @@ use Rattle.store.specs.Legal.{HasLegal}
 use Rattle.store.specs.Library.{HasTablesAt}
 use Rattle.store.specs.Lists.{AreAllOf}
 use Rattle.store.specs.Migrating.{LeadsInside, NamesInside, CarriesAll, MovesPage, IsToCarry, AreMoved, AreNamed, AreLedIfNamed, move_rows, all_over}
-use Rattle.store.specs.Routes.{rules_route, rules_carried}
+use Rattle.store.specs.Transfers.{rules_transfer, rules_carried}
 use Rattle.store.specs.Schemas.{IsKnown}
 use Rattle.store.proofs.OpenLemmas.{of_known}
 use Rattle.store.proofs.ListLemmas.{all_are, pair_before}
@@ -413,7 +413,7 @@ rules_listed =
 
 pub rules_unread : {S L : Type 0} {g : Ghosts S} {old new : Transaction S} {items : L → List RuleRow1} {fault : Fault}
     → ListsInside {L = L} rules1 items (λ m. ListedBy PairBelow m is_any) g old new (Err fault)
-    → LeadsInside {S = S} {T = L} 3 3 (AreMoved rules1 rules) (IsToCarry rules) (all_over rules1 rules_route) g old new (Err fault)
+    → LeadsInside {S = S} {T = L} 3 3 (AreMoved rules1 rules) (IsToCarry rules) (all_over rules1 rules_transfer) g old new (Err fault)
 rules_unread read = record {
   same_reference = read.works.same_reference;
   survives = read.works.survives;
@@ -427,8 +427,8 @@ rules_unread read = record {
 
 pub rules_moved : {S L T : Type 0} (g : Ghosts S) {old mid new : Transaction S} {items : L → List RuleRow1} {l : L} (r : Result T Fault)
     → ListsInside rules1 items (λ m. ListedBy PairBelow m is_any) g old mid (Ok l)
-    → MovesPage rules1 rules rules_route (items l) g mid new r
-    → CarriesAll rules1 rules rules_route g old new r
+    → MovesPage rules1 rules rules_transfer (items l) g mid new r
+    → CarriesAll rules1 rules rules_transfer g old new r
 rules_moved g {old} {mid} {new} {items} {l} r read moves = record {
   same_reference = moves.works.same_reference ∙ read.works.same_reference;
   survives = then _ _ _ read.works.survives moves.works.survives;
@@ -437,7 +437,7 @@ rules_moved g {old} {mid} {new} {items} {l} r read moves = record {
   rows = λ clean begun maps holds.
       let seen = read.lists 3 has (early clean) maps holds in
       on_ok r (λ steps. (
-        move_rows rules1 rules rules_route (items l) maps,
+        move_rows rules1 rules rules_transfer (items l) maps,
         (steps 3 has_third).maps maps (subst (λ d. Holds (schema_at 3) d maps) (sym seen.1.0.now_is) holds),
         listed_moved rules_carried (items l) maps read.limits seen.0,
       )) (moves.steps clean (between clean begun (maps, holds)).0);

@@ -20,103 +20,103 @@ use Rattle.circ_tables.specs.declared.by_number.TheConstants.{PAGE_ROWS}
 use Rattle.circ_tables.proofs.ShownLemmas.{are_encoded}
 use Rattle.store.specs.Library.{HasTablesAt}
 use Rattle.store.specs.Lists.{AreAllOf}
-use Rattle.store.specs.Migrating.{Route, IsRoute, put_by, move_one, move_all, all_over}
+use Rattle.store.specs.Migrating.{Transfer, IsTransfer, put_by, move_one, move_all, all_over}
 use Rattle.store.specs.Pages.{AreRowsAfter, AreNumbered}
 use Rattle.store.proofs.CarriedRows.{left_above, carried_to, all_taken, all_put, whole_taken, whole_put, none_left, none_carried, all_left}
 use Rattle.store.proofs.CarriedRows.{all_carried, next_left, next_carried}
 use Rattle.store.proofs.PageLemmas.{page_are}
 use Rattle.store.proofs.PagedRows.{last_is, last_there}
 
-module _ {K R N : Type 0} {old : Table K R} {new : Table K N} {route : Route K R N} (over : IsRoute old new route) where
+module _ {K R N : Type 0} {old : Table K R} {new : Table K N} {transfer : Transfer K R N} (over : IsTransfer old new transfer) where
   one_moved : (r : R) (P : Picture) (f : K → Option R) (g : K → Option N)
-      → move_one old new route r (route.with_both P f g) ≡ route.with_both P (put_by route.same f (route.key_of r) None)
-      (put_by route.same g (route.key_of r) (Some (route.carried r)))
+      → move_one old new transfer r (transfer.with_both P f g) ≡ transfer.with_both P (put_by transfer.same f (transfer.key_of r) None)
+      (put_by transfer.same g (transfer.key_of r) (Some (transfer.carried r)))
   one_moved r P f g =
-      ap (λ k. old.set (new.set (route.with_both P f g) k (Some (route.carried r))) (route.key_of r) None) (over.key_is r)
-      ∙ ap (λ Q. old.set Q (route.key_of r) None) (over.put_in P f g (route.key_of r) (route.carried r))
-      ∙ over.taken P f (put_by route.same g (route.key_of r) (Some (route.carried r))) (route.key_of r)
+      ap (λ k. old.set (new.set (transfer.with_both P f g) k (Some (transfer.carried r))) (transfer.key_of r) None) (over.key_is r)
+      ∙ ap (λ Q. old.set Q (transfer.key_of r) None) (over.put_in P f g (transfer.key_of r) (transfer.carried r))
+      ∙ over.taken P f (put_by transfer.same g (transfer.key_of r) (Some (transfer.carried r))) (transfer.key_of r)
 
   pub all_moved : (page : List R) (P : Picture) (f : K → Option R) (g : K → Option N)
-      → move_all old new route page (route.with_both P f g) ≡ route.with_both P
-      (all_taken route.same over.own over.met route.key_of route.carried page f)
-      (all_put route.same over.own over.met route.key_of route.carried page g)
+      → move_all old new transfer page (transfer.with_both P f g) ≡ transfer.with_both P
+      (all_taken transfer.same over.own over.met transfer.key_of transfer.carried page f)
+      (all_put transfer.same over.own over.met transfer.key_of transfer.carried page g)
   all_moved [] P f g = refl
   all_moved (r ∷ more) P f g =
-      ap (move_all old new route more) (one_moved r P f g)
-      ∙ all_moved more P (put_by route.same f (route.key_of r) None) (put_by route.same g (route.key_of r) (Some (route.carried r)))
+      ap (move_all old new transfer more) (one_moved r P f g)
+      ∙ all_moved more P (put_by transfer.same f (transfer.key_of r) None) (put_by transfer.same g (transfer.key_of r) (Some (transfer.carried r)))
 
   -- Each row of the old table stands under its own key, and lies within its limits.
   abbrev pub AreOwn : Picture → Type 0
-  AreOwn P = (k : K) (r : R) → old.rows P k ≡ Some r → (route.key_of r ≡ k) × old.IsLegal r
+  AreOwn P = (k : K) (r : R) → old.rows P k ≡ Some r → (transfer.key_of r ≡ k) × old.IsLegal r
 
   -- All rows were listed, and moved.
   pub list_over : (P : Picture) → AreOwn P → ((k : K) → new.rows P k ≡ None) → {Before : R → R → Type 0} (page : List R)
-      → AreAllOf old route.key_of Before P page → move_all old new route page P ≡ all_over old route P
+      → AreAllOf old transfer.key_of Before P page → move_all old new transfer page P ≡ all_over old transfer P
   list_over P own none page are =
-      ap (move_all old new route page) (sym (over.same P) ∙ ap (route.with_both P (old.rows P)) (fun_ext none))
+      ap (move_all old new transfer page) (sym (over.same P) ∙ ap (transfer.with_both P (old.rows P)) (fun_ext none))
       ∙ all_moved page P (old.rows P) (λ _. None)
-      ∙ ap₂ (route.with_both P) (whole_taken route.same over.own over.met route.key_of route.carried (old.rows P) page sound whole)
-      (whole_put route.same over.own over.met route.key_of route.carried (old.rows P) page sound whole)
+      ∙ ap₂ (transfer.with_both P) (whole_taken transfer.same over.own over.met transfer.key_of transfer.carried (old.rows P) page sound whole)
+      (whole_put transfer.same over.own over.met transfer.key_of transfer.carried (old.rows P) page sound whole)
     where
-      sound : (r : R) → Has page r → old.rows P (route.key_of r) ≡ Some r
+      sound : (r : R) → Has page r → old.rows P (transfer.key_of r) ≡ Some r
       sound r has = are.sound r (contains_had page r has)
 
-      whole : (k : K) (r : R) → old.rows P k ≡ Some r → Has page r × (route.key_of r ≡ k)
+      whole : (k : K) (r : R) → old.rows P k ≡ Some r → Has page r × (transfer.key_of r ≡ k)
       whole k r e = (has_contained page r (are.whole k r e), (own k r e).0)
 
   -- The rows of the picture that it leaves lie within their limits.
-  pub all_over_limits : (P : Picture) → InLimits P → AreOwn P → InLimits (all_over old route P)
-  all_over_limits P legal own = over.limits P (λ _. None) (λ k. option_map route.carried (old.rows P k)) legal
+  pub all_over_limits : (P : Picture) → InLimits P → AreOwn P → InLimits (all_over old transfer P)
+  all_over_limits P legal own = over.limits P (λ _. None) (λ k. option_map transfer.carried (old.rows P k)) legal
       (λ k r e. absurd (let never : ⊥ = cc in never)) (λ k n e. new_there k n (old.rows P k) refl e)
     where
-      new_there : (k : K) (n : N) (o : Option R) → old.rows P k ≡ o → option_map route.carried o ≡ Some n → (route.new_key n ≡ k) × new.IsLegal n
+      new_there : (k : K) (n : N) (o : Option R) → old.rows P k ≡ o → option_map transfer.carried o ≡ Some n → (transfer.new_key n ≡ k) × new.IsLegal n
       new_there k n None is e = let never : ⊥ = cc in absurd never
       new_there k n (Some r) is e =
           let it = own k r is in
-          let same : route.carried r ≡ n = cc in
-          (sym (ap route.new_key same) ∙ over.key_is r ∙ it.0, subst new.IsLegal same (over.legal r it.1))
+          let same : transfer.carried r ≡ n = cc in
+          (sym (ap transfer.new_key same) ∙ over.key_is r ∙ it.0, subst new.IsLegal same (over.legal r it.1))
 
 -- ---- page by page
 
-module _ {R N : Type 0} {old : Table ℕ R} {new : Table ℕ N} {route : Route ℕ R N} (over : IsRoute old new route) where
+module _ {R N : Type 0} {old : Table ℕ R} {new : Table ℕ N} {transfer : Transfer ℕ R N} (over : IsTransfer old new transfer) where
   -- The picture once the rows up to a number are carried over.
   abbrev pub over_to : ℕ → Picture → Picture
-  over_to after P = route.with_both P (left_above after (old.rows P)) (carried_to route.carried after (old.rows P))
+  over_to after P = transfer.with_both P (left_above after (old.rows P)) (carried_to transfer.carried after (old.rows P))
 
-  module _ (P : Picture) (numbered : AreNumbered (old.rows P) route.key_of) where
+  module _ (P : Picture) (numbered : AreNumbered (old.rows P) transfer.key_of) where
     pub over_none : ((k : ℕ) → new.rows P k ≡ None) → over_to 0 P ≡ P
     over_none none =
-        ap₂ (route.with_both P) (none_left route.same over.own over.met route.key_of route.carried (old.rows P) numbered)
-        (none_carried route.same over.own over.met route.key_of route.carried (old.rows P) numbered ∙ sym (fun_ext none)) ∙ over.same P
+        ap₂ (transfer.with_both P) (none_left transfer.same over.own over.met transfer.key_of transfer.carried (old.rows P) numbered)
+        (none_carried transfer.same over.own over.met transfer.key_of transfer.carried (old.rows P) numbered ∙ sym (fun_ext none)) ∙ over.same P
 
-    module _ (after : ℕ) (page : List R) (are : AreRowsAfter (old.rows (over_to after P)) route.key_of after page) where
-      left : AreRowsAfter (left_above after (old.rows P)) route.key_of after page
-      left = subst (λ (f : ℕ → Option R). AreRowsAfter f route.key_of after page)
-          (over.old_rows P (left_above after (old.rows P)) (carried_to route.carried after (old.rows P))) are
+    module _ (after : ℕ) (page : List R) (are : AreRowsAfter (old.rows (over_to after P)) transfer.key_of after page) where
+      left : AreRowsAfter (left_above after (old.rows P)) transfer.key_of after page
+      left = subst (λ (f : ℕ → Option R). AreRowsAfter f transfer.key_of after page)
+          (over.old_rows P (left_above after (old.rows P)) (carried_to transfer.carried after (old.rows P))) are
 
       -- An empty page is the last.
-      pub over_all : length page ≡ 0 → over_to after P ≡ all_over old route P
+      pub over_all : length page ≡ 0 → over_to after P ≡ all_over old transfer P
       over_all empty =
-          ap₂ (route.with_both P) (all_left route.same over.own over.met route.key_of route.carried (old.rows P) numbered after page left empty)
-          (all_carried route.same over.own over.met route.key_of route.carried (old.rows P) numbered after page left empty)
+          ap₂ (transfer.with_both P) (all_left transfer.same over.own over.met transfer.key_of transfer.carried (old.rows P) numbered after page left empty)
+          (all_carried transfer.same over.own over.met transfer.key_of transfer.carried (old.rows P) numbered after page left empty)
 
       -- A page more.
-      pub over_next : (last : ℕ) → option_map route.key_of (slice_get page (length page - 1)) ≡ Some last
-          → (move_all old new route page (over_to after P) ≡ over_to last P) × (after < last)
+      pub over_next : (last : ℕ) → option_map transfer.key_of (slice_get page (length page - 1)) ≡ Some last
+          → (move_all old new transfer page (over_to after P) ≡ over_to last P) × (after < last)
       over_next last end =
-          let it = last_there route.key_of page last end in
-          let most = last_is route.key_of page left.rise it.0 it.1 in
-          let moved : move_all old new route page (over_to after P) ≡ over_to (route.key_of it.0) P =
-          all_moved over page P (left_above after (old.rows P)) (carried_to route.carried after (old.rows P))
-          ∙ ap₂ (route.with_both P) (next_left route.same over.own over.met route.key_of route.carried (old.rows P) numbered after page left it.0 most.0 most.1)
-          (next_carried route.same over.own over.met route.key_of route.carried (old.rows P) numbered after page left it.0 most.0 most.1) in (
-            subst (λ n. move_all old new route page (over_to after P) ≡ over_to n P) it.2 moved,
+          let it = last_there transfer.key_of page last end in
+          let most = last_is transfer.key_of page left.rise it.0 it.1 in
+          let moved : move_all old new transfer page (over_to after P) ≡ over_to (transfer.key_of it.0) P =
+          all_moved over page P (left_above after (old.rows P)) (carried_to transfer.carried after (old.rows P))
+          ∙ ap₂ (transfer.with_both P) (next_left transfer.same over.own over.met transfer.key_of transfer.carried (old.rows P) numbered after page left it.0 most.0 most.1)
+          (next_carried transfer.same over.own over.met transfer.key_of transfer.carried (old.rows P) numbered after page left it.0 most.0 most.1) in (
+            subst (λ n. move_all old new transfer page (over_to after P) ≡ over_to n P) it.2 moved,
             subst (λ n. after < n) it.2 (left.sound it.0 (contains_had page it.0 most.0)).1,
           )
 
   -- Its rows lie within their limits.
-  pub over_limits : (P : Picture) → InLimits P → (table : IsNumberTable old route.key_of) → (after : ℕ) → InLimits (over_to after P)
-  over_limits P legal table after = over.limits P (left_above after (old.rows P)) (carried_to route.carried after (old.rows P)) legal
+  pub over_limits : (P : Picture) → InLimits P → (table : IsNumberTable old transfer.key_of) → (after : ℕ) → InLimits (over_to after P)
+  over_limits P legal table after = over.limits P (left_above after (old.rows P)) (carried_to transfer.carried after (old.rows P)) legal
       (λ k r e. table.legal P legal k r (left_there k r (leb k after) e))
       (λ k n e. new_there k n (leb k after) (old.rows P k) refl e)
     where
@@ -124,13 +124,13 @@ module _ {R N : Type 0} {old : Table ℕ R} {new : Table ℕ N} {route : Route �
       left_there k r true e = let never : ⊥ = cc in absurd never
       left_there k r false e = e
 
-      new_there : (k : ℕ) (n : N) (b : _) (o : Option R) → old.rows P k ≡ o → cond b (option_map route.carried o) None ≡ Some n
-          → (route.new_key n ≡ k) × new.IsLegal n
+      new_there : (k : ℕ) (n : N) (b : _) (o : Option R) → old.rows P k ≡ o → cond b (option_map transfer.carried o) None ≡ Some n
+          → (transfer.new_key n ≡ k) × new.IsLegal n
       new_there k n true None is e = let never : ⊥ = cc in absurd never
       new_there k n true (Some r) is e =
           let it = table.legal P legal k r is in
-          let same : route.carried r ≡ n = cc in
-          (sym (ap route.new_key same) ∙ over.key_is r ∙ it.0, subst new.IsLegal same (over.legal r it.1))
+          let same : transfer.carried r ≡ n = cc in
+          (sym (ap transfer.new_key same) ∙ over.key_is r ∙ it.0, subst new.IsLegal same (over.legal r it.1))
       new_there k n false o is e = let never : ⊥ = cc in absurd never
 
 -- ---- reads inside the transaction
@@ -142,11 +142,11 @@ read_there n a b inside there lists =
     let still = (lists there.0 there.1).1.0 in
     (subst IsTrue (sym still.mode) inside, (there.0, subst (λ d. Holds (schema_at n) d there.0) (sym still.now_is) there.1))
 
-module _ {R N : Type 0} {old : Table ℕ R} {new : Table ℕ N} {route : Route ℕ R N} (over : IsRoute old new route) (table : IsNumberTable old route.key_of) where
+module _ {R N : Type 0} {old : Table ℕ R} {new : Table ℕ N} {transfer : Transfer ℕ R N} (over : IsTransfer old new transfer) (table : IsNumberTable old transfer.key_of) where
   pub read_page : (after : Option ℕ) (P : Picture) → InLimits P → (page : List R) → All old.IsLegal page → (a b : State)
       → HasPictureAt new.since a.now (over_to over (unwrap_or after 0) P)
       → ((maps : Maps) → Holds (schema_at new.since) a.now maps → FirstRows PAGE_ROWS (maps old.place) (is_next after) (map old.cells page) × IsUnchanged a b)
-      → AreRowsAfter (old.rows (over_to over (unwrap_or after 0) P)) route.key_of (unwrap_or after 0) page
+      → AreRowsAfter (old.rows (over_to over (unwrap_or after 0) P)) transfer.key_of (unwrap_or after 0) page
       × HasPictureAt new.since b.now (over_to over (unwrap_or after 0) P)
   read_page after P legal page limits a b shown lists =
       let Q = over_to over (unwrap_or after 0) P in

@@ -19,7 +19,7 @@ use Rattle.circ_tables.specs.Reading.{Table}
 use Rattle.circ_tables.specs.Selections.{is_any, is_next}
 use Rattle.circ_tables.specs.Shape.{schema_at, HasTable}
 use Rattle.circ_tables.specs.declared.by_number.TheConstants.{PAGE_ROWS}
-use Rattle.store.specs.Migrating.{Route, IsRoute, AreMoved, move_row, move_rows}
+use Rattle.store.specs.Migrating.{Transfer, IsTransfer, AreMoved, move_row, move_rows}
 use Rattle.store.proofs.MetRows.{AreMetSoFar, IsMapPage, none_met, key_is, all_met, next_met}
 
 -- Each row that the table had is there still, or is that of a row within its limits; of those that are there the same is known as where
@@ -46,29 +46,29 @@ page_moved table n has after page limits a b maps holds lists =
 
 -- ---- in the maps
 
-module _ {K R N : Type 0} {old : Table K R} {new : Table K N} {route : Route K R N} (over : IsRoute old new route) where
+module _ {K R N : Type 0} {old : Table K R} {new : Table K N} {transfer : Transfer K R N} (over : IsTransfer old new transfer) where
   abbrev pub row_moved : R → Maps → Maps
-  row_moved = move_row old new route
+  row_moved = move_row old new transfer
 
   abbrev pub rows_moved : List R → Maps → Maps
-  rows_moved = move_rows old new route
+  rows_moved = move_rows old new transfer
 
   -- The old table after it.
-  after_row : (r : R) (maps : Maps) (k : Row) → row_moved r maps old.place k ≡ take_out (maps old.place) (old.key (route.key_of r)) k
+  after_row : (r : R) (maps : Maps) (k : Row) → row_moved r maps old.place k ≡ take_out (maps old.place) (old.key (transfer.key_of r)) k
   after_row r maps k =
-      let it = route.carried r in
-      let with_it = put (maps new.place) (new.key (route.new_key it)) (new.cells it) k in
-      ap (λ b. cond b (cond (same_key k (old.key (route.key_of r))) None (cond (old.place == new.place) with_it (maps old.place k)))
+      let it = transfer.carried r in
+      let with_it = put (maps new.place) (new.key (transfer.new_key it)) (new.cells it) k in
+      ap (λ b. cond b (cond (same_key k (old.key (transfer.key_of r))) None (cond (old.place == new.place) with_it (maps old.place k)))
       (cond (old.place == new.place) with_it (maps old.place k))) (eq-eqb old.place old.place refl)
-      ∙ ap (λ b. cond (same_key k (old.key (route.key_of r))) None (cond b with_it (maps old.place k))) over.apart
+      ∙ ap (λ b. cond (same_key k (old.key (transfer.key_of r))) None (cond b with_it (maps old.place k))) over.apart
 
   -- Another table.
   beside_row : (r : R) (maps : Maps) (at : ℕ) → (at == old.place) ≡ false → (at == new.place) ≡ false → row_moved r maps at ≡ maps at
   beside_row r maps at aside apart = fun_ext (λ k.
-      let it = route.carried r in
-      let with_it = put (maps new.place) (new.key (route.new_key it)) (new.cells it) k in
+      let it = transfer.carried r in
+      let with_it = put (maps new.place) (new.key (transfer.new_key it)) (new.cells it) k in
       let put_in = cond (at == new.place) with_it (maps at k) in
-      ap (λ b. cond b (cond (same_key k (old.key (route.key_of r))) None (cond (old.place == new.place) with_it (maps old.place k))) put_in)
+      ap (λ b. cond b (cond (same_key k (old.key (transfer.key_of r))) None (cond (old.place == new.place) with_it (maps old.place k))) put_in)
       aside ∙ ap (λ b. cond b with_it (maps at k)) apart)
 
   pub beside_rows : (page : List R) (maps : Maps) (at : ℕ) → (at == old.place) ≡ false → (at == new.place) ≡ false → rows_moved page maps at ≡ maps at
@@ -77,7 +77,7 @@ module _ {K R N : Type 0} {old : Table K R} {new : Table K N} {route : Route K R
 
   -- A row that is there was there before.
   row_was : (r : R) (maps : Maps) (k v : Row) → row_moved r maps old.place k ≡ Some v → maps old.place k ≡ Some v
-  row_was r maps k v e = go (same_key k (old.key (route.key_of r))) (sym (after_row r maps k) ∙ e)
+  row_was r maps k v e = go (same_key k (old.key (transfer.key_of r))) (sym (after_row r maps k) ∙ e)
     where
       go : (b : Bool) → cond b None (maps old.place k) ≡ Some v → maps old.place k ≡ Some v
       go true e = let never : ⊥ = cc in absurd never
@@ -88,14 +88,14 @@ module _ {K R N : Type 0} {old : Table K R} {new : Table K N} {route : Route K R
   rows_were (r ∷ more) maps k v e = row_was r maps k v (rows_were more (row_moved r maps) k v e)
 
   -- One that was there is there still, or it has the key of a row of the page.
-  row_is : (r : R) (maps : Maps) (k v : Row) → maps old.place k ≡ Some v → (row_moved r maps old.place k ≡ Some v) ⊎ (k ≡ old.key (route.key_of r))
-  row_is r maps k v e = elim (cases_Bool (same_key k (old.key (route.key_of r)))) [
-    | inl hit ↦ inr (key_same k (old.key (route.key_of r)) hit)
+  row_is : (r : R) (maps : Maps) (k v : Row) → maps old.place k ≡ Some v → (row_moved r maps old.place k ≡ Some v) ⊎ (k ≡ old.key (transfer.key_of r))
+  row_is r maps k v e = elim (cases_Bool (same_key k (old.key (transfer.key_of r)))) [
+    | inl hit ↦ inr (key_same k (old.key (transfer.key_of r)) hit)
     | inr miss ↦ inl (after_row r maps k ∙ ap (λ b. cond b None (maps old.place k)) miss ∙ e)
   ]
 
   pub rows_are : (page : List R) (maps : Maps) (k v : Row) → maps old.place k ≡ Some v → (rows_moved page maps old.place k ≡ Some v)
-      ⊎ ((r : R) × Has page r × (k ≡ old.key (route.key_of r)))
+      ⊎ ((r : R) × Has page r × (k ≡ old.key (transfer.key_of r)))
   rows_are [] maps k v e = inl e
   rows_are (r ∷ more) maps k v e = elim (row_is r maps k v e) [
     | inr key ↦ inr (r, inl refl, key)
@@ -117,15 +117,15 @@ module _ {K R N : Type 0} {old : Table K R} {new : Table K N} {route : Route K R
 
 -- ---- page by page
 
-module _ {R N : Type 0} {old : Table ℕ R} {new : Table ℕ N} {route : Route ℕ R N} (over : IsRoute old new route) (table : IsNumberTable old route.key_of) where
+module _ {R N : Type 0} {old : Table ℕ R} {new : Table ℕ N} {transfer : Transfer ℕ R N} (over : IsTransfer old new transfer) (table : IsNumberTable old transfer.key_of) where
   -- A row stands under its number alone.
   key_is_own : (db : Database) (maps : Maps) → Holds (schema_at new.since) db maps → (k : Row) (r : R)
-      → maps old.place k ≡ Some (old.cells r) → k ≡ old.key (route.key_of r)
+      → maps old.place k ≡ Some (old.cells r) → k ≡ old.key (transfer.key_of r)
   key_is_own db maps holds k r e =
       let texts = table.texts new.since over.was_there in
       let it = (holds.tables old.place old.shape texts.listed).whole k (old.cells r) e in
       let cell = sym (texts.key_cell it.0) ∙ ap (λ v. column v 0) it.3 ∙ table.first_cell r in
-      sym it.2 ∙ ap (map (column it.0)) texts.primary ∙ ap (λ w. w ∷ []) cell ∙ sym (table.keyed (route.key_of r))
+      sym it.2 ∙ ap (map (column it.0)) texts.primary ∙ ap (λ w. w ∷ []) cell ∙ sym (table.keyed (transfer.key_of r))
 
   module _ (after : Option ℕ) (pages : ℕ) (was : Maps) (db : Database) (so_far : AreMovedSoFar old new after pages was db) (page : List R)
       (is : IsMapPage old after page so_far.maps) where
@@ -137,7 +137,7 @@ module _ {R N : Type 0} {old : Table ℕ R} {new : Table ℕ N} {route : Route �
     }
 
     -- A row under the number of one of the page is that one.
-    on_page : (r : R) → Has page r → (k v : Row) → so_far.maps old.place k ≡ Some v → k ≡ old.key (route.key_of r) → (s : R) × old.IsLegal s × (v ≡ old.cells s)
+    on_page : (r : R) → Has page r → (k v : Row) → so_far.maps old.place k ≡ Some v → k ≡ old.key (transfer.key_of r) → (s : R) × old.IsLegal s × (v ≡ old.cells s)
     on_page r has k v e key =
         let found = is.first.sound (old.cells r) (mapped_has old.cells page r has) in
         let own = key_is_own db so_far.maps so_far.holds found.0 r found.1 in
@@ -145,8 +145,8 @@ module _ {R N : Type 0} {old : Table ℕ R} {new : Table ℕ N} {route : Route �
         (r, All-contains old.IsLegal page r is.limits (contains_had page r has), let same : v ≡ old.cells r = cc in same)
 
     -- One page more.
-    pub next_moved : (last : ℕ) → option_map route.key_of (slice_get page (length page - 1)) ≡ Some last → (a b : State) → a.now ≡ db
-        → Steps (schema_at new.since) a b (move_rows old new route page) → AreMovedSoFar old new (Some last) (pages + 1) was b.now
+    pub next_moved : (last : ℕ) → option_map transfer.key_of (slice_get page (length page - 1)) ≡ Some last → (a b : State) → a.now ≡ db
+        → Steps (schema_at new.since) a b (move_rows old new transfer page) → AreMovedSoFar old new (Some last) (pages + 1) was b.now
     next_moved last end a b same steps =
         let met = next_met table so_far.maps after pages so_far.met page is last end in
         record {

@@ -25,7 +25,7 @@ use Rattle.circ_tables.proofs.InverseLemmas.{schema_told}
 use Rattle.store.specs.Library.{HasTablesAt}
 use Rattle.store.specs.Migrating.{IsLibrary, IsAtSomeSchema, AreThere, AreLedOn, AreLedUp, LeadsFrom, LeadsOn, LeadsOnInside, Leads}
 use Rattle.store.specs.Migrating.{StepsOn, IsNotLedUp, CannotBeLed, Migrates}
-use Rattle.store.specs.Routes.{holds_carried}
+use Rattle.store.specs.Transfers.{holds_carried}
 use Rattle.store.specs.Schemas.{IsKnown, IsOlder, next_schema}
 use Rattle.store.specs.Stops.{Leaves, KeepsPictureAt}
 use Rattle.store.proofs.MigrateLemmas.{all_over_limits}

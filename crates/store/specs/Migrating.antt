@@ -33,7 +33,7 @@ use Rattle.store.specs.Stops.{Leaves, KeepsPicture, KeepsPictureAt}
 
 -- From a table to that of the next schema: the key of a row in each and what tells two keys apart, what a row becomes, and the picture with
 -- these rows in the two tables.
-pub record Route (K R N : Type 0) : Type 0 where
+pub record Transfer (K R N : Type 0) : Type 0 where
   pub key_of : R → K
   pub new_key : N → K
   pub same : K → K → Bool
@@ -45,35 +45,35 @@ abbrev pub put_by : {K A : Type 0} → (K → K → Bool) → (K → A) → K �
 put_by same t k x j = elim (same k j) [ true ↦ x | false ↦ t j ]
 
 -- What ties the two tables to it; they are two, and a library that has the new one has the old one.
-pub record IsRoute {K R N : Type 0} (old : Table K R) (new : Table K N) (route : Route K R N) : Type 0 where
+pub record IsTransfer {K R N : Type 0} (old : Table K R) (new : Table K N) (transfer : Transfer K R N) : Type 0 where
   pub there : HasTable new.since new.since
   pub was_there : HasTable old.since new.since
   pub apart : (old.place == new.place) ≡ false
-  pub own : (k : K) → route.same k k ≡ true
-  pub met : (j k : K) → route.same j k ≡ true → j ≡ k
-  pub same : (P : Picture) → route.with_both P (old.rows P) (new.rows P) ≡ P
-  pub old_rows : (P : Picture) (f : K → Option R) (g : K → Option N) → old.rows (route.with_both P f g) ≡ f
+  pub own : (k : K) → transfer.same k k ≡ true
+  pub met : (j k : K) → transfer.same j k ≡ true → j ≡ k
+  pub same : (P : Picture) → transfer.with_both P (old.rows P) (new.rows P) ≡ P
+  pub old_rows : (P : Picture) (f : K → Option R) (g : K → Option N) → old.rows (transfer.with_both P f g) ≡ f
   pub taken : (P : Picture) (f : K → Option R) (g : K → Option N) (k : K)
-      → old.set (route.with_both P f g) k None ≡ route.with_both P (put_by route.same f k None) g
+      → old.set (transfer.with_both P f g) k None ≡ transfer.with_both P (put_by transfer.same f k None) g
   pub put_in : (P : Picture) (f : K → Option R) (g : K → Option N) (k : K) (n : N)
-      → new.set (route.with_both P f g) k (Some n) ≡ route.with_both P f (put_by route.same g k (Some n))
-  pub key_is : (r : R) → route.new_key (route.carried r) ≡ route.key_of r
-  pub legal : (r : R) → old.IsLegal r → new.IsLegal (route.carried r)
-  pub limits : (P : Picture) (f : K → Option R) (g : K → Option N) → InLimits P → ((k : K) (r : R) → f k ≡ Some r → (route.key_of r ≡ k) × old.IsLegal r)
-      → ((k : K) (n : N) → g k ≡ Some n → (route.new_key n ≡ k) × new.IsLegal n) → InLimits (route.with_both P f g)
+      → new.set (transfer.with_both P f g) k (Some n) ≡ transfer.with_both P f (put_by transfer.same g k (Some n))
+  pub key_is : (r : R) → transfer.new_key (transfer.carried r) ≡ transfer.key_of r
+  pub legal : (r : R) → old.IsLegal r → new.IsLegal (transfer.carried r)
+  pub limits : (P : Picture) (f : K → Option R) (g : K → Option N) → InLimits P → ((k : K) (r : R) → f k ≡ Some r → (transfer.key_of r ≡ k) × old.IsLegal r)
+      → ((k : K) (n : N) → g k ≡ Some n → (transfer.new_key n ≡ k) × new.IsLegal n) → InLimits (transfer.with_both P f g)
 
 -- One row is put into the new table, and taken out of the old one; so each of a list. The same in the maps.
-module _ {K R N : Type 0} (old : Table K R) (new : Table K N) (route : Route K R N) where
+module _ {K R N : Type 0} (old : Table K R) (new : Table K N) (transfer : Transfer K R N) where
   abbrev pub move_one : R → Picture → Picture
-  move_one r P = old.set (new.set P (route.new_key (route.carried r)) (Some (route.carried r))) (route.key_of r) None
+  move_one r P = old.set (new.set P (transfer.new_key (transfer.carried r)) (Some (transfer.carried r))) (transfer.key_of r) None
 
   abbrev pub move_all : List R → Picture → Picture
   move_all [] P = P
   move_all (r ∷ more) P = move_all more (move_one r P)
 
   abbrev pub move_row : R → Maps → Maps
-  move_row r maps = take_at (put_at maps new.place (new.key (route.new_key (route.carried r))) (new.cells (route.carried r))) old.place
-      (old.key (route.key_of r))
+  move_row r maps = take_at (put_at maps new.place (new.key (transfer.new_key (transfer.carried r))) (new.cells (transfer.carried r))) old.place
+      (old.key (transfer.key_of r))
 
   abbrev pub move_rows : List R → Maps → Maps
   move_rows [] maps = maps
@@ -116,12 +116,12 @@ pub record AreMoved {K R N : Type 0} (old : Table K R) (new : Table K N) (maps n
   pub others : (at : ℕ) → (at == old.place) ≡ false → (at == new.place) ≡ false → now at ≡ maps at
 
 -- All rows stand in the new table, and none in the old one.
-abbrev pub all_over : {K R N : Type 0} → Table K R → Route K R N → Picture → Picture
-all_over old route P = route.with_both P (λ _. None) (λ k. option_map route.carried (old.rows P k))
+abbrev pub all_over : {K R N : Type 0} → Table K R → Transfer K R N → Picture → Picture
+all_over old transfer P = transfer.with_both P (λ _. None) (λ k. option_map transfer.carried (old.rows P k))
 
 -- The rows of a table are carried over, inside the first schema that has the new one.
-abbrev pub CarriesAll : {K R N S T : Type 0} → Table K R → Table K N → Route K R N → Ghosts S → Transaction S → Transaction S → Result T Fault → Type 0
-CarriesAll old new route = LeadsInside new.since new.since (AreMoved old new) (IsToCarry new) (all_over old route)
+abbrev pub CarriesAll : {K R N S T : Type 0} → Table K R → Table K N → Transfer K R N → Ghosts S → Transaction S → Transaction S → Result T Fault → Type 0
+CarriesAll old new transfer = LeadsInside new.since new.since (AreMoved old new) (IsToCarry new) (all_over old transfer)
 
 -- ---- the number of the schema
 

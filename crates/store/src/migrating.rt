@@ -3,11 +3,11 @@
 ghost use Rattle.std.specs.Prelude.{◌≡◌, false, refl, IfOk};
 ghost use Rattle.circ_tables.specs.Rules1.{rules1};
 ghost use Rattle.circ_tables.specs.Rules.{rules};
-ghost use Rattle.store.specs.Migrating.{Route, IsRoute, MovesRow, MovesPage, CarriesAll};
+ghost use Rattle.store.specs.Migrating.{Transfer, IsTransfer, MovesRow, MovesPage, CarriesAll};
 ghost use Rattle.store.specs.Migrating.{NamesInside, LeadsFrom, LeadsOnInside, StepsOn};
 ghost use Rattle.store.specs.Migrating.{TellsSchema};
-ghost use Rattle.store.specs.Routes.{holds_route, holds_carried, loans_route, loans_carried};
-ghost use Rattle.store.specs.Routes.{rules_route, rules_carried};
+ghost use Rattle.store.specs.Transfers.{holds_transfer, holds_carried, loans_transfer, loans_carried};
+ghost use Rattle.store.specs.Transfers.{rules_transfer, rules_carried};
 ghost use Rattle.store.specs.Schemas.{IsKnown};
 
 use crate::idle::holds_committed;
@@ -27,25 +27,25 @@ pub(crate) trait Carried: Table {
     /// The row as the next schema has it.
     type Next: Table<Key = Self::Key>;
 
-    ghost route: { Route Self.Key Self Self.Next };
+    ghost transfer: { Transfer Self.Key Self Self.Next };
 
     /// Puts the row into the table of the next schema, and takes it out of its own. 91.
     fn carry<S: Alter>(&self, tx: &mut Transaction<'_, S>) -> Result<(), Fault>
-        ensures { MovesRow Self.table Self.Next.table route self.now S.Store tx.old tx.new result };
+        ensures { MovesRow Self.table Self.Next.table transfer self.now S.Store tx.old tx.new result };
 
-    ghost over: { IsRoute Self.table Self.Next.table route };
+    ghost over: { IsTransfer Self.table Self.Next.table transfer };
 }
 
 /// Such a row under a number, by which the rows can be read page by page.
 pub(crate) trait CarriedByNumber: Carried + Numbered {
-    ghost by_key: { (r : Self) → Self.Numbered.number_of r ≡ Self.Carried.route.key_of r };
+    ghost by_key: { (r : Self) → Self.Numbered.number_of r ≡ Self.Carried.transfer.key_of r };
 }
 
 /// Schema 2 has holds with a first day, and those of schema 1 have none.
 impl Carried for HoldRow1 {
     type Next = HoldRow;
 
-    ghost route = { holds_route };
+    ghost transfer = { holds_transfer };
 
     fn carry<S: Alter>(&self, tx: &mut Transaction<'_, S>) -> Result<(), Fault> {
         let next = HoldRow {
@@ -73,7 +73,7 @@ impl CarriedByNumber for HoldRow1 {
 impl Carried for LoanRow1 {
     type Next = LoanRow;
 
-    ghost route = { loans_route };
+    ghost transfer = { loans_transfer };
 
     fn carry<S: Alter>(&self, tx: &mut Transaction<'_, S>) -> Result<(), Fault> {
         let next = LoanRow {
@@ -105,7 +105,7 @@ impl CarriedByNumber for LoanRow1 {
 impl Carried for RuleRow1 {
     type Next = RuleRow;
 
-    ghost route = { rules_route };
+    ghost transfer = { rules_transfer };
 
     fn carry<S: Alter>(&self, tx: &mut Transaction<'_, S>) -> Result<(), Fault> {
         let next = RuleRow {
@@ -126,7 +126,7 @@ impl Carried for RuleRow1 {
 
 /// Carries over the rows of a page. 91.
 fn carry_page<R: Carried, S: Alter>(tx: &mut Transaction<'_, S>, page: &[R]) -> Result<(), Fault>
-    ensures { MovesPage R.table R.Next.table R.route page.now S.Store tx.old tx.new result }
+    ensures { MovesPage R.table R.Next.table R.transfer page.now S.Store tx.old tx.new result }
 {
     'rows: for row in page {
         row.carry(tx)?;
@@ -140,7 +140,7 @@ fn carry_all<R: CarriedByNumber, S: Alter>(
     alloc: Global,
     memory: R::Memory,
 ) -> Result<(), Fault>
-    ensures { CarriesAll R.table R.Next.table R.route S.Store tx.old tx.new result }
+    ensures { CarriesAll R.table R.Next.table R.transfer S.Store tx.old tx.new result }
 {
     let mut after = None;
     'pages: for _page in 0..u64::MAX {
@@ -157,7 +157,7 @@ fn carry_all<R: CarriedByNumber, S: Alter>(
 /// Carries over all rules, of which there are no more than kinds of patrons times kinds of copies.
 /// 90, 91, 93.
 fn carry_rules<S: Alter>(tx: &mut Transaction<'_, S>, alloc: Global) -> Result<(), Fault>
-    ensures { CarriesAll rules1 rules rules_route S.Store tx.old tx.new result }
+    ensures { CarriesAll rules1 rules rules_transfer S.Store tx.old tx.new result }
 {
     let old = rules_inside(tx, alloc)?;
     carry_page(tx, old.as_slice())

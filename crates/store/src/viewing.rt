@@ -503,18 +503,18 @@ fn renew_view<S: Alter>(
 }
 
 /// What a patron has that stands against one more hold on a title.
-struct Standing {
+struct Obstacles {
     own_holds: Count,
     loan: Option<LoanRow>,
     active_holds: Count,
 }
 
 /// How many holds a patron has on the title and in all, and the loan of it.
-fn standing_of<S: Alter>(
+fn obstacles_of<S: Alter>(
     conn: &mut Connection<S>,
     number: PatronId,
     wanted: TitleId,
-) -> Result<Standing, Fault>
+) -> Result<Obstacles, Fault>
     ensures { Views (λ P it. IsCount (IsActiveOn P number wanted) it.own_holds
         × IsLoanOfTitle P number wanted it.loan × IsCount (IsActiveBy P number) it.active_holds)
         S.Store conn.old conn.new result }
@@ -522,7 +522,7 @@ fn standing_of<S: Alter>(
     let own_holds = count_active_holds_on(conn, number, wanted)?;
     let loan = open_loan_of_title(conn, number, wanted)?;
     let active_holds = count_active_holds(conn, number)?;
-    Ok(Standing {
+    Ok(Obstacles {
         own_holds,
         loan,
         active_holds,
@@ -545,12 +545,12 @@ fn place_hold_view<S: Alter>(
     let kind = kind_of(conn, &patron)?;
     let title = get_row::<TitleRow, S>(conn, alloc, wanted)?;
     let branch = get_row::<BranchRow, S>(conn, alloc, pickup)?;
-    let standing = standing_of(conn, number, wanted)?;
-    let Standing {
+    let obstacles = obstacles_of(conn, number, wanted)?;
+    let Obstacles {
         own_holds,
         loan,
         active_holds,
-    } = standing;
+    } = obstacles;
     Ok(View {
         meta,
         patron,

@@ -9,12 +9,12 @@ use Rattle.std.proofs.Math.Seq.{take-append_seam, take-length}
 use Rattle.std.specs.Prelude.{min, true, IfSome}
 use Rattle.std.proofs.Common.{inl, inr, take_all}
 use Rattle.web.specs.Bodies.{FillsAll}
-use Rattle.web.specs.Heads.{Fills}
+use Rattle.web.specs.Heads.{ReadsMore}
 
 -- a read gave nothing, and there was room
 pub fill_ended : (old mid new : Option (List ℕ)) (first before after got : List ℕ) (start filled n : ℕ) → start ≤ length first
     → filled < length before → length before ≡ length first
-    → Consumes old mid got → take filled before ≡ take start first ++ got → n ≡ 0 → Fills mid new before after filled n
+    → Consumes old mid got → take filled before ≡ take start first ++ got → n ≡ 0 → ReadsMore mid new before after filled n
     → (x : List ℕ) × Consumes old new x × IsAtEnd new × (start + length x < length first)
 fill_ended old mid new first before after got start filled n s room same taken holds zero f =
     let a = ap length holds in

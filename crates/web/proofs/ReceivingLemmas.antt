@@ -9,7 +9,7 @@ use Rattle.httparse.specs.declared.spans.ResponseSpans.{ResponseSpans}
 use Rattle.web.specs.Bodies.{HasBody}
 use Rattle.web.specs.Fields.{NamedValue}
 use Rattle.web.specs.Receiving.{HasToldBody, TellsLength, IsAnswer}
-use Rattle.web.specs.declared.receiving.Answered.{Answered}
+use Rattle.web.specs.declared.receiving.ReceivedAnswer.{ReceivedAnswer}
 
 -- a body of the length that the fields tell
 pub told_body : {A : Type 0} (o : Option (Vec ℕ A)) (old : Option (List ℕ)) (fields : List NamedValue) (front : List ℕ) (size : ℕ) → TellsLength fields size
@@ -51,7 +51,7 @@ answer_read (Some all) (Some left) bytes headers spans status body taken is code
   has_body = subst (λ (x : List NamedValue). HasToldBody x (drop spans.len bytes ++ left) body) is.1.fields told;
 }
 
-pub answer_is : {E : Type 0} (r : Result Answered E) (old mid : Option (List ℕ)) (bytes : List ℕ) (headers : List HeaderSpan)
+pub answer_is : {E : Type 0} (r : Result ReceivedAnswer E) (old mid : Option (List ℕ)) (bytes : List ℕ) (headers : List HeaderSpan)
     (spans : ResponseSpans) → Consumes old mid bytes → IsResponseOf bytes headers spans
     → IfOk r (λ a. a.status ≡ spans.code)
     → IfOk r (λ a. IfSome mid (λ left. HasToldBody (map (header_bytes bytes) (take spans.headers headers)) (drop spans.len bytes ++ left)

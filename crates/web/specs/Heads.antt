@@ -15,7 +15,7 @@ abbrev pub HasNoHead : List ℕ → Type 0
 HasNoHead bytes = (h : RequestHead) (rest : List ℕ) → HasHead bytes h rest → ⊥
 
 -- So many bytes more were read into a buffer, of which a part was filled.
-pub record Fills (old new : Option (List ℕ)) (before after : List ℕ) (filled n : ℕ) : Type 0 where
+pub record ReadsMore (old new : Option (List ℕ)) (before after : List ℕ) (filled n : ℕ) : Type 0 where
   pub got : List ℕ
   pub taken : Consumes old new got
   pub holds : take (filled + n) after ≡ take filled before ++ got

@@ -4,7 +4,7 @@ ghost use Rattle.std.specs.Prelude.{◌≡◌, ◌≤◌, IfOk, IfErr, IfSome, I
 ghost use Rattle.std.specs.Io.KnownBytes.{Consumes};
 ghost use Rattle.httparse.specs.Spans.{IsRequestOf, IsRequestWithin};
 ghost use Rattle.web.specs.Faults.{IsOwnFault};
-ghost use Rattle.web.specs.Heads.{HasNoHead, Fills};
+ghost use Rattle.web.specs.Heads.{HasNoHead, ReadsMore};
 ghost use Rattle.web.specs.declared.limits.TheConstants.{HEAD_BYTES, HEAD_FIELDS};
 
 use crate::fault::WebFault;
@@ -51,7 +51,7 @@ pub(crate) fn read_head<R: Read>(
 pub(crate) fn fill<R: Read>(reader: &mut R, buf: &mut [u8], filled: usize) -> io::Result<usize>
     requires { filled ≤ length buf.old }
     ensures { IfOk result
-        (Fills (R.remaining reader.old) (R.remaining reader.new) buf.old buf.new filled) }
+        (ReadsMore (R.remaining reader.old) (R.remaining reader.new) buf.old buf.new filled) }
 {
     reader.read(&mut buf[filled..])
 }

@@ -23,7 +23,7 @@ pub use answer::{Answer, write_answer};
 pub use asked::Asked;
 pub use fault::{WebFault, WebStatus};
 pub use laws::requests_read_once;
-pub use receiving::{AnswerFault, Answered, read_answer};
+pub use receiving::{AnswerFault, ReceivedAnswer, read_answer};
 pub use request::{WebRequest, read_request};
 pub use routes::Routes;
 pub use sending::{SendFault, write_send};

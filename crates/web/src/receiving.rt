@@ -21,7 +21,7 @@ use std::io::Read;
 
 /// An answer as it comes to the client.
 #[derive(Drop)]
-pub struct Answered {
+pub struct ReceivedAnswer {
     /// The number of its status.
     pub status: u16,
     /// Its body.
@@ -133,7 +133,7 @@ fn read_rest<R: Read>(
     bytes: &[u8],
     headers: &[HeaderSpan],
     spans: ResponseSpans,
-) -> Result<Answered, AnswerFault>
+) -> Result<ReceivedAnswer, AnswerFault>
     requires { IsResponseWithin bytes.now headers.now spans }
     ensures status { IfOk result (λ answer. answer.status ≡ spans.code) }
     ensures body { IfOk result (λ answer. IfSome (R.remaining reader.old) (λ left. HasToldBody
@@ -145,7 +145,7 @@ fn read_rest<R: Read>(
         return Err(AnswerFault::Malformed);
     };
     match String::from_utf8(body) {
-        Ok(body) => Ok(Answered {
+        Ok(body) => Ok(ReceivedAnswer {
             status: spans.code,
             body,
         }),
@@ -159,7 +159,7 @@ fn read_answer_with<R: Read>(
     reader: &mut R,
     buf: &mut [u8],
     headers: &mut [HeaderSpan],
-) -> Result<Answered, AnswerFault>
+) -> Result<ReceivedAnswer, AnswerFault>
     ensures { IfOk result (λ answer. IfSome (R.remaining reader.old)
         (λ bytes. IsAnswer bytes answer.status (string_bytes answer.body))) }
 {
@@ -171,7 +171,7 @@ fn read_answer_with<R: Read>(
 
 /// Reads one answer: its head, within the limits of the head of a request, and the body whose
 /// length it tells. Nothing is read once the body is whole.
-pub fn read_answer<R: Read>(alloc: Global, reader: &mut R) -> Result<Answered, AnswerFault>
+pub fn read_answer<R: Read>(alloc: Global, reader: &mut R) -> Result<ReceivedAnswer, AnswerFault>
     ensures { IfOk result (λ answer. IfSome (R.remaining reader.old)
         (λ bytes. IsAnswer bytes answer.status (string_bytes answer.body))) }
 {

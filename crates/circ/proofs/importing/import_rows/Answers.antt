@@ -2,7 +2,7 @@ use Rattle.std.proofs.Common.{◌≡◌, inl, inr, List, [], ◌∷◌, ◌++◌
 use Rattle.std.specs.Prelude.{Ok}
 use Rattle.std.specs.Vec.Iter.{into_iter_items}
 use Rattle.terms.specs.Writing.{AppendsFront}
-use Rattle.front.specs.declared.copies.CopyRow.{CopyRow}
+use Rattle.front.specs.declared.copies.FileRow.{FileRow}
 use Rattle.std.specs.Io.KnownBytes.{Appends}
 use Rattle.desk.proofs.Looking.{on-err, on-err-any}
 use Rattle.desk.proofs.Shown.{shows-headline}
@@ -16,7 +16,7 @@ use Rattle.circ.proofs.Ends.{ends-as}
 use Rattle.circ.proofs.Imports.{SoFar, far-none, far-more, within, room-for, imports-some, imports-cut, imports-all, lines-whole, lines-front}
 use Rattle.circ.proofs.importing.import_rows.Goals as goal
 
-nothing-left : (xs : List CopyRow) → length xs ≡ 0 → xs ≡ []
+nothing-left : (xs : List FileRow) → length xs ≡ 0 → xs ≡ []
 nothing-left [] e = refl
 nothing-left (x ∷ xs) e = let never : ⊥ = cc in absurd never
 
@@ -25,7 +25,7 @@ rows-init g c = record { parted = refl; many = search rules; so_far = far-none g
 
 pub import_row-requires : goal.import_row-requires
 import_row-requires g c = let far = c.rows.invariant.so_far in
-    let all : List CopyRow = c.args.rows.items in
+    let all : List FileRow = c.args.rows.items in
     let at = within all c.rows.yielded (into_iter_items c.rows.row-iterator) (into_iter_items c.next.new.self) c.in-Some.row
     (c.rows.invariant.parted ∙ c.into_iter-row-iterator.ensures.into_iter_gives.0) c.in-Some.ensures.steps.0 in
     record {
@@ -39,7 +39,7 @@ returns-in_err-fault g c = record {
   headline = shows-headline _;
   written = search rules;
   cut = let far = c.rows.invariant.so_far in
-      let all : List CopyRow = c.args.rows.items in
+      let all : List FileRow = c.args.rows.items in
       let at = within all c.rows.yielded (into_iter_items c.rows.row-iterator) (into_iter_items c.next.new.self) c.in-Some.row
       (c.rows.invariant.parted ∙ c.into_iter-row-iterator.ensures.into_iter_gives.0) c.in-Some.ensures.steps.0 in
       let one = c.in_err-fault.ensures.cut in
@@ -54,7 +54,7 @@ returns-in-Some-2 g c = record {
   clean = λ disk. c.rows.invariant.so_far.handled.clean (c.in_ok-fault.ensures.clean disk);
   headline = shows-headline _;
   written = let far = c.rows.invariant.so_far in
-      let all : List CopyRow = c.args.rows.items in
+      let all : List FileRow = c.args.rows.items in
       let at = within all c.rows.yielded (into_iter_items c.rows.row-iterator) (into_iter_items c.next.new.self) c.in-Some.row
       (c.rows.invariant.parted ∙ c.into_iter-row-iterator.ensures.into_iter_gives.0) c.in-Some.ensures.steps.0 in
       let fault = c.in-Some-2.fault in
@@ -74,7 +74,7 @@ returns-in-Some-2 g c = record {
       (subst (λ (n : Tally). Appends (g.W.Write.contents c.import_row.new.writer) d
       (fault_line (fault_number fault) ++ counts_line n.accepted n.refused)) kept.1 wrote)))));
   cut = let far = c.rows.invariant.so_far in
-      let all : List CopyRow = c.args.rows.items in
+      let all : List FileRow = c.args.rows.items in
       let at = within all c.rows.yielded (into_iter_items c.rows.row-iterator) (into_iter_items c.next.new.self) c.in-Some.row
       (c.rows.invariant.parted ∙ c.into_iter-row-iterator.ensures.into_iter_gives.0) c.in-Some.ensures.steps.0 in
       let fault = c.in-Some-2.fault in
@@ -104,7 +104,7 @@ rows-preserved g c = let far = c.rows.invariant.so_far in
     let steps = c.in-Some.ensures.steps in
     record {
       parted = append_assoc c.rows.yielded (c.in-Some.row ∷ []) (into_iter_items c.next.new.self)
-          ∙ ap (λ (xs : List CopyRow). c.rows.yielded ++ xs) (sym steps.0) ∙ c.rows.invariant.parted;
+          ∙ ap (λ (xs : List FileRow). c.rows.yielded ++ xs) (sym steps.0) ∙ c.rows.invariant.parted;
       many = let was = c.rows.invariant.many in let gone = steps.1 in let short = ap length steps.0 in omega (arith, was, gone, short);
       so_far = subst (λ (n : Tally). SoFar g.S.Store c.args.desk.now c.import_row.new.desk (c.rows.yielded ++ c.in-Some.row ∷ []) n
           (g.W.Write.contents c.args.writer.now) (g.W.Write.contents c.import_row.new.writer)) (sym done.2)
@@ -118,9 +118,9 @@ returns g c = record {
   clean = λ disk. c.rows.invariant.so_far.handled.clean disk;
   headline = shows-headline _;
   written = let far = c.rows.invariant.so_far in
-      let all : List CopyRow = c.args.rows.items in
+      let all : List FileRow = c.args.rows.items in
       let none = nothing-left (into_iter_items c.rows.row-iterator) (sym c.rows.invariant.many ∙ c.in-None.ensures.steps.0) in
-      let is = sym (append-nil c.rows.yielded) ∙ ap (λ (xs : List CopyRow). c.rows.yielded ++ xs) (sym none) ∙ c.rows.invariant.parted
+      let is = sym (append-nil c.rows.yielded) ∙ ap (λ (xs : List FileRow). c.rows.yielded ++ xs) (sym none) ∙ c.rows.invariant.parted
       ∙ c.into_iter-row-iterator.ensures.into_iter_gives.0 in
       let a = g.W.Write.contents c.args.writer.now in
       let b = g.W.Write.contents c.rows.writer in
@@ -131,9 +131,9 @@ returns g c = record {
       (end_line c.args.end) all is c.args.end (Appends a d)
       (lines-whole g.S.Store c.args.desk.now c.rows.desk c.rows.yielded c.rows.counts a b far (end_line c.args.end) d wrote)));
   cut = let far = c.rows.invariant.so_far in
-      let all : List CopyRow = c.args.rows.items in
+      let all : List FileRow = c.args.rows.items in
       let none = nothing-left (into_iter_items c.rows.row-iterator) (sym c.rows.invariant.many ∙ c.in-None.ensures.steps.0) in
-      let is = sym (append-nil c.rows.yielded) ∙ ap (λ (xs : List CopyRow). c.rows.yielded ++ xs) (sym none) ∙ c.rows.invariant.parted
+      let is = sym (append-nil c.rows.yielded) ∙ ap (λ (xs : List FileRow). c.rows.yielded ++ xs) (sym none) ∙ c.rows.invariant.parted
       ∙ c.into_iter-row-iterator.ensures.into_iter_gives.0 in
       let a = g.W.Write.contents c.args.writer.now in
       let b = g.W.Write.contents c.rows.writer in

@@ -1,6 +1,6 @@
 use Rattle.std.proofs.Common.{ℕ, Err, sym, subst}
 use Rattle.circ_audit.specs.declared.auditing.Finding.TheVariants.{Claims, Binding, Balance}
-use Rattle.circ_audit.specs.Sound.{IsClaimedOnce, IsBound, IsBalanced, Audits}
+use Rattle.circ_audit.specs.Sound.{IsClaimedOnce, IsRightlyBound, IsBalanced, Audits}
 use Rattle.circ_audit.proofs.Firsts.{none-found}
 use Rattle.circ_audit.proofs.Audited.{audits-claims, audits-binding, audits-balance, audits-sound}
 use Rattle.circ_audit.proofs.auditing.audit.Goals as goal
@@ -20,11 +20,11 @@ pub returns-in-Some-first_broken : goal.returns-in-Some-first_broken
 returns-in-Some-first_broken c =
     subst (λ (n : ℕ). Audits c.args.tables.now (Err (Balance n))) (sym c.new-in-Some-first_broken.ensures)
     (audits-balance c.args.tables.now (none-found (IsClaimedOnce c.args.tables.now) c.first_broken.result c.in_default.not-Some c.first_broken.ensures)
-    (none-found (IsBound c.args.tables.now) c.first_unbound.result c.in_default-first_unbound.not-Some c.first_unbound.ensures)
+    (none-found (IsRightlyBound c.args.tables.now) c.first_unbound.result c.in_default-first_unbound.not-Some c.first_unbound.ensures)
     c.in-Some-first_broken.patron c.in-Some-first_broken.ensures)
 
 pub returns : goal.returns
 returns c =
     audits-sound c.args.tables.now (none-found (IsClaimedOnce c.args.tables.now) c.first_broken.result c.in_default.not-Some c.first_broken.ensures)
-    (none-found (IsBound c.args.tables.now) c.first_unbound.result c.in_default-first_unbound.not-Some c.first_unbound.ensures)
+    (none-found (IsRightlyBound c.args.tables.now) c.first_unbound.result c.in_default-first_unbound.not-Some c.first_unbound.ensures)
     (none-found (IsBalanced c.args.tables.now) c.first_broken-2.result c.in_default-first_broken.not-Some c.first_broken-2.ensures)

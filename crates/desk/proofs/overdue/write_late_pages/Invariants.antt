@@ -3,13 +3,13 @@ use Rattle.std.specs.Prelude.{Ok}
 use Rattle.model.specs.Reports.{overdue_loans, overdue_line}
 use Rattle.desk.specs.Parts.{WritesPart}
 use Rattle.desk.specs.Lending.{CountsForLender}
-use Rattle.desk.proofs.PagesListed.{AreSoFar}
+use Rattle.desk.proofs.PagesListed.{WentOut}
 use Rattle.desk.proofs.overdue.write_late_pages.Given as goal
 
 abbrev pub invariant-pages : goal.invariant-pages
 invariant-pages g l = record {
   part : WritesPart {T = Unit {0}} (CountsForLender l.lender)
-      (λ H _ sent. AreSoFar (overdue_line H l.lender.branch) (overdue_loans H l.lender.branch) l.after l.count l._page sent) (λ _. [])
+      (λ H _ sent. WentOut (overdue_line H l.lender.branch) (overdue_loans H l.lender.branch) l.after l.count l._page sent) (λ _. [])
       g.S.Store l.fn.store l.store (g.W.Write.contents l.fn.writer) (g.W.Write.contents l.writer) (Ok tt);
   low : l.after < 2 ^ 32;
 }

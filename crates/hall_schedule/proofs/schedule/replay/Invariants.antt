@@ -2,5 +2,5 @@ use Rattle.std.proofs.Common.{◌≡◌, take}
 use Rattle.hall_schedule.specs.Schedules.{state_of, run}
 use Rattle.hall_schedule.proofs.schedule.replay.Given as goal
 
-abbrev pub invariant-loop-event : goal.invariant-loop-event
-invariant-loop-event l = (state_of l.world ≡ run (take l.event-index l.events)) × (l.world.taken ≡ l.event-index)
+abbrev pub invariant-loop-act : goal.invariant-loop-act
+invariant-loop-act l = (state_of l.world ≡ run (take l.act-index l.acts)) × (l.world.taken ≡ l.act-index)

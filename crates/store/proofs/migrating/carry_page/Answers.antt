@@ -22,7 +22,7 @@ rows-preserved g c =
     let first = state g.S.Store c.args.tx.now.conn.now in
     let so_far = c.rows.invariant in
     let carries = c.in_ok-carry.ensures in
-    let route = g.R.Carried.route in
+    let transfer = g.R.Carried.transfer in
     let was : HasCleanDisk new → HasCleanDisk before = λ clean. omega (arith, carries.works.survives.clean) in
     let item = item_at c.args.page.now c.rows.row-index c.row-item.result c.rows-test.true c.row-item.is in
     record {
@@ -31,11 +31,11 @@ rows-preserved g c =
       kept = λ clean. keeps_then _ _ _ (so_far.kept (was clean)) (carries.works.kept clean);
       draws = λ clean begun n has.
           let begun_so = so_far.draws (was clean) begun n has in
-          draws_next (move_one g.R.Table.table g.R.Next.Table.table route) (move_all g.R.Table.table g.R.Next.Table.table route) (λ P. refl) (λ r more P. refl)
+          draws_next (move_one g.R.Table.table g.R.Next.Table.table transfer) (move_all g.R.Table.table g.R.Next.Table.table transfer) (λ P. refl) (λ r more P. refl)
           c.args.page.now c.rows.row-index c.row-item.result first before new item begun_so (carries.draws clean begun_so.is_inside tt n has);
       steps = λ clean begun n has.
           let begun_so = so_far.steps (was clean) begun n has in
-          steps_next (move_row g.R.Table.table g.R.Next.Table.table route) (move_rows g.R.Table.table g.R.Next.Table.table route)
+          steps_next (move_row g.R.Table.table g.R.Next.Table.table transfer) (move_rows g.R.Table.table g.R.Next.Table.table transfer)
           (λ maps. refl) (λ r more maps. refl)
           c.args.page.now c.rows.row-index c.row-item.result first before new item begun_so (carries.steps clean begun_so.is_inside n has);
     }
@@ -45,15 +45,15 @@ returns g c =
     let first = state g.S.Store c.args.tx.now.conn.now in
     let last = state g.S.Store c.rows.tx.conn.now in
     let so_far = c.rows.invariant in
-    let route = g.R.Carried.route in
+    let transfer = g.R.Carried.transfer in
     record {
       works = record { same_reference = so_far.same_reference; kept = so_far.kept; survives = so_far.survives };
       steps = λ clean begun n has.
-          steps_all (move_row g.R.Table.table g.R.Next.Table.table route) (move_rows g.R.Table.table g.R.Next.Table.table route)
+          steps_all (move_row g.R.Table.table g.R.Next.Table.table transfer) (move_rows g.R.Table.table g.R.Next.Table.table transfer)
           (λ maps. refl) (λ r more maps. refl)
           c.args.page.now c.rows.row-index first last c.rows-test.false (so_far.steps clean begun n has);
       draws = λ clean begun any n has.
-          draws_all (move_one g.R.Table.table g.R.Next.Table.table route) (move_all g.R.Table.table g.R.Next.Table.table route) (λ P. refl) (λ r more P. refl)
+          draws_all (move_one g.R.Table.table g.R.Next.Table.table transfer) (move_all g.R.Table.table g.R.Next.Table.table transfer) (λ P. refl) (λ r more P. refl)
           c.args.page.now c.rows.row-index first last c.rows-test.false (so_far.draws clean begun n has);
       fault = tt;
     }

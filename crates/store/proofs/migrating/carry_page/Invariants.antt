@@ -17,7 +17,7 @@ invariant-rows g l =
       survives : Survives old now (λ _. ⊥);
       kept : HasCleanDisk now → KeepsCommit old now;
       draws : HasCleanDisk now → IsTrue old.in_transaction → (n : ℕ) → HasTable g.R.Next.Table.table.since n
-          → Draws n old now (move_all g.R.Table.table g.R.Next.Table.table g.R.Carried.route (take l.row-index l.fn.page));
+          → Draws n old now (move_all g.R.Table.table g.R.Next.Table.table g.R.Carried.transfer (take l.row-index l.fn.page));
       steps : HasCleanDisk now → IsTrue old.in_transaction → (n : ℕ) → HasTable g.R.Next.Table.table.since n
-          → Steps (schema_at n) old now (move_rows g.R.Table.table g.R.Next.Table.table g.R.Carried.route (take l.row-index l.fn.page));
+          → Steps (schema_at n) old now (move_rows g.R.Table.table g.R.Next.Table.table g.R.Carried.transfer (take l.row-index l.fn.page));
     }

@@ -5,7 +5,7 @@ use Rattle.terms.specs.Schemas.{IsOfSchema2, led_to_3}
 use Rattle.circ_tables.specs.Loans1.{loans1}
 use Rattle.circ_tables.specs.Rules1.{rules1}
 use Rattle.store.specs.Migrating.{AreLedIfNamed, all_over}
-use Rattle.store.specs.Routes.{rules_route, loans_route, rules_carried}
+use Rattle.store.specs.Transfers.{rules_transfer, loans_transfer, rules_carried}
 use Rattle.store.proofs.MigrateLemmas.{all_over_limits}
 use Rattle.store.proofs.LeadLemmas.{leads_then, leads_failed, made_leads, encoded_2, own_rules, RulesMoved, made_rules, LoansMoved, made_loans, led_to_third}
 use Rattle.store.proofs.migrating.lead_to_3.Goals as goal
@@ -20,25 +20,25 @@ returns-in_err-make_third-clause-leads g c =
 pub returns-in_err-carry_rules-clause-leads : goal.returns-in_err-carry_rules-clause-leads
 returns-in_err-carry_rules-clause-leads g c =
     leads_failed g.S.Store _ c.from_residual-in_err-carry_rules.ensures (λ P ready. ready)
-    (leads_then g.S.Store RulesMoved IsReady (all_over rules1 rules_route) made_rules
+    (leads_then g.S.Store RulesMoved IsReady (all_over rules1 rules_transfer) made_rules
     (λ P ready. (ready, (ready.1, λ k. ready.0.later_rules k.0 k.1))) (λ P. refl)
     (made_leads g.S.Store _ 2 3 14 refl IsReady encoded_2 c.in_ok-make_third.ensures) c.in_err-carry_rules.ensures)
 
 pub returns-in_err-carry_all-clause-leads : goal.returns-in_err-carry_all-clause-leads
 returns-in_err-carry_all-clause-leads g c =
     leads_failed g.S.Store _ c.from_residual-in_err-carry_all.ensures (λ P ready. ready)
-    (leads_then g.S.Store LoansMoved IsReady (λ P. all_over loans1 loans_route (all_over rules1 rules_route P)) made_loans
+    (leads_then g.S.Store LoansMoved IsReady (λ P. all_over loans1 loans_transfer (all_over rules1 rules_transfer P)) made_loans
     (λ P ready. (ready, (all_over_limits rules_carried P ready.1 (own_rules P ready.1), ready.0.later_loans))) (λ P. refl)
-    (leads_then g.S.Store RulesMoved IsReady (all_over rules1 rules_route) made_rules
+    (leads_then g.S.Store RulesMoved IsReady (all_over rules1 rules_transfer) made_rules
     (λ P ready. (ready, (ready.1, λ k. ready.0.later_rules k.0 k.1))) (λ P. refl)
     (made_leads g.S.Store _ 2 3 14 refl IsReady encoded_2 c.in_ok-make_third.ensures) c.in_ok-carry_rules.ensures) c.in_err-carry_all.ensures)
 
 pub returns-clause-leads : goal.returns-clause-leads
 returns-clause-leads g c =
     leads_then g.S.Store (AreLedIfNamed 2) IsReady led_to_3 led_to_third (λ P ready. (ready, ready.1.meta)) (λ P. refl)
-    (leads_then g.S.Store LoansMoved IsReady (λ P. all_over loans1 loans_route (all_over rules1 rules_route P)) made_loans
+    (leads_then g.S.Store LoansMoved IsReady (λ P. all_over loans1 loans_transfer (all_over rules1 rules_transfer P)) made_loans
     (λ P ready. (ready, (all_over_limits rules_carried P ready.1 (own_rules P ready.1), ready.0.later_loans))) (λ P. refl)
-    (leads_then g.S.Store RulesMoved IsReady (all_over rules1 rules_route) made_rules
+    (leads_then g.S.Store RulesMoved IsReady (all_over rules1 rules_transfer) made_rules
     (λ P ready. (ready, (ready.1, λ k. ready.0.later_rules k.0 k.1))) (λ P. refl)
     (made_leads g.S.Store _ 2 3 14 refl IsReady encoded_2 c.in_ok-make_third.ensures) c.in_ok-carry_rules.ensures) c.in_ok-carry_all.ensures)
     c.name_schema.ensures.named

@@ -19,16 +19,16 @@ returns-in_err-branch-clause-view g c =
     (c.in_ok-meta.ensures.view ⨾ c.in_ok-patron.ensures.view ⨾ c.in_ok-kind.ensures ⨾ c.in_ok-title.ensures.view
     ⨾ c.in_err-branch.ensures.view)
 
-pub returns-in_err-standing-clause-view : goal.returns-in_err-standing-clause-view
-returns-in_err-standing-clause-view g c =
-    fails _ _ c.from_residual-in_err-standing.ensures
+pub returns-in_err-obstacles-clause-view : goal.returns-in_err-obstacles-clause-view
+returns-in_err-obstacles-clause-view g c =
+    fails _ _ c.from_residual-in_err-obstacles.ensures
     (c.in_ok-meta.ensures.view ⨾ c.in_ok-patron.ensures.view ⨾ c.in_ok-kind.ensures ⨾ c.in_ok-title.ensures.view
-    ⨾ c.in_ok-branch.ensures.view ⨾ c.in_err-standing.ensures)
+    ⨾ c.in_ok-branch.ensures.view ⨾ c.in_err-obstacles.ensures)
 
 pub returns-clause-view : goal.returns-clause-view
 returns-clause-view g c =
     gives (c.in_ok-meta.ensures.view ⨾ c.in_ok-patron.ensures.view ⨾ c.in_ok-kind.ensures ⨾ c.in_ok-title.ensures.view
-    ⨾ c.in_ok-branch.ensures.view ⨾ c.in_ok-standing.ensures)
+    ⨾ c.in_ok-branch.ensures.view ⨾ c.in_ok-obstacles.ensures)
     (λ P all. record {
       meta = all.0;
       patron = all.1.0;

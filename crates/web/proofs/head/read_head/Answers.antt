@@ -7,7 +7,7 @@ use Rattle.std.proofs.lemmas.List.{append-nil, take-append-le, take-append-drop,
 use Rattle.std.proofs.Math.Seq.{take-append_seam}
 use Rattle.httparse.specs.Grammar.{ReadsRequest, HasNoRequest, print_request}
 use Rattle.web.specs.declared.limits.TheConstants.{HEAD_BYTES}
-use Rattle.web.specs.Heads.{HasNoHead, Fills}
+use Rattle.web.specs.Heads.{HasNoHead, ReadsMore}
 use Rattle.web.proofs.head.read_head.Goals as goal
 
 -- the bytes that were read are all there are, or as many as count: where they begin with no head, none is there
@@ -37,7 +37,7 @@ nil_of_length [] h = refl
 nil_of_length (x ∷ xs) h = absurd (omega arith)
 
 ended : (old mid new : Option (List ℕ)) (before after : List ℕ) (filled n : ℕ) → filled < length before
-    → Consumes old mid (take filled before) → HasNoRequest (take filled before) → n ≡ 0 → Fills mid new before after filled n → IfSome old HasNoHead
+    → Consumes old mid (take filled before) → HasNoRequest (take filled before) → n ≡ 0 → ReadsMore mid new before after filled n → IfSome old HasNoHead
 ended old mid new before after filled n room taken none e f =
     let front = take filled before in
     let l1 = length-take-le (filled + n) after f.within in

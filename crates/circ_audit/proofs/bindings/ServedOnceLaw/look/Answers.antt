@@ -9,8 +9,8 @@ use Rattle.circ_audit.proofs.bindings.ServedOnceLaw.look.Goals as goal
 
 pub returns : goal.returns
 returns c =
-    subst (λ (span : ℕ). LooksAt (IsServedOnce c.args.tables.now) span c.look.result) (c.tally.ensures.span ∙ c.new-window.ensures.span)
+    subst (λ (span : ℕ). LooksAt (IsServedOnce c.args.tables.now) span c.look.result) (c.tally.ensures.span ∙ c.new-counters.ensures.span)
     (c.look.ensures (λ n. count_by (λ r. names r.hold n) c.args.tables.now.transits)
     (shows-same c.tally.new.self _ (λ n. count_by (λ r. names r.hold n) c.args.tables.now.transits)
     (λ n. let transits = ap (λ (xs : List TransitRow). count_by (λ r. names r.hold n) xs) c.as_slice.ensures.rows in omega (arith, transits))
-    (c.tally.ensures.shows (λ n. 0) c.new-window.ensures.shows)))
+    (c.tally.ensures.shows (λ n. 0) c.new-counters.ensures.shows)))

@@ -13,10 +13,10 @@ use Rattle.circ_audit.proofs.claims.ClaimedOnceLaw.look.Goals as goal
 pub returns : goal.returns
 returns c =
     subst (λ (span : ℕ). LooksAt (IsClaimedOnce c.args.tables.now) span c.look.result)
-    (c.tally-4.ensures.span ∙ c.tally-3.ensures.span ∙ c.tally-2.ensures.span ∙ c.tally.ensures.span ∙ c.new-window.ensures.span)
+    (c.tally-4.ensures.span ∙ c.tally-3.ensures.span ∙ c.tally-2.ensures.span ∙ c.tally.ensures.span ∙ c.new-counters.ensures.span)
     (c.look.ensures (claims_on c.args.tables.now)
     (shows-same c.tally-4.new.self _ (claims_on c.args.tables.now) same
-    (c.tally-4.ensures.shows _ (c.tally-3.ensures.shows _ (c.tally-2.ensures.shows _ (c.tally.ensures.shows (λ n. 0) c.new-window.ensures.shows))))))
+    (c.tally-4.ensures.shows _ (c.tally-3.ensures.shows _ (c.tally-2.ensures.shows _ (c.tally.ensures.shows (λ n. 0) c.new-counters.ensures.shows))))))
   where
     same : (n : ℕ)
         → 0 + count_by (λ r. names (lent_copy r) n) c.as_slice.result.now + count_by (λ r. names (shelved_copy r) n) c.as_slice-2.result.now

@@ -4,7 +4,7 @@ use Rattle.web.specs.declared.answer.Answer.{Answer}
 use Rattle.web.specs.declared.answer.Answer.TheVariants.{Faulted, Failed}
 use Rattle.terms.specs.declared.fault.Fault.TheVariants.{Memory}
 use Rattle.terms.specs.declared.fault.ServiceFault.TheVariants.{Met}
-use Rattle.hall.specs.Serving.{Working, Meets}
+use Rattle.hall.specs.Serving.{Working, MeetsAsked}
 use Rattle.hall.proofs.Served.{read-status, status-served, want-served, request-served}
 use Rattle.hall.proofs.worker.Worker.serve.Goals.{in-Ok, in-Err-Status, in-Err-Memory, in-Err-Read}
 use Rattle.hall.proofs.worker.Worker.serve.Goals as goal
@@ -22,8 +22,8 @@ returns-in-Some g c =
           request-served c.args.desk_key.now bytes old m.self (g.O.Write.contents c.args.writer.now)
           (g.O.Write.contents c.send.new.writer) c.send.result told c.send.ensures
           w.in-Ok.request w.asked.result m.answer w.asked.ensures w.in-Ok.ensures c.in-Some.is
-          (subst (λ (s : Working). Meets w.asked.result old s m.answer) (sym w.self-is)
-          (subst (λ (a : Option Answer). Meets w.asked.result old w.answer-answer.new.self a) (sym w.answer-is) w.answer-answer.ensures))
+          (subst (λ (s : Working). MeetsAsked w.asked.result old s m.answer) (sym w.self-is)
+          (subst (λ (a : Option Answer). MeetsAsked w.asked.result old w.answer-answer.new.self a) (sym w.answer-is) w.answer-answer.ensures))
       | in-Err-Status w ↦
           status-served' w.in-Err-Status.status w.self-is
           (some-is told (Failed w.in-Err-Status.status)

@@ -16,7 +16,7 @@ use Rattle.circ_tables.specs.Loans.{loans}
 use Rattle.circ_tables.specs.Loans1.{loans1}
 use Rattle.circ_tables.specs.Rules.{rules}
 use Rattle.circ_tables.specs.Rules1.{rules1}
-use Rattle.store.specs.Migrating.{Route, IsRoute}
+use Rattle.store.specs.Migrating.{Transfer, IsTransfer}
 
 pair_met : (j k : Pair) → ((j.0 == k.0) && (j.1 == k.1)) ≡ true → j ≡ k
 pair_met j k same =
@@ -26,8 +26,8 @@ pair_met j k same =
     λ i. (first i, second i)
 
 -- The holds of schema 1 become those of schema 2.
-abbrev pub holds_route : Route ℕ HoldRow1 HoldRow
-holds_route = record {
+abbrev pub holds_transfer : Transfer ℕ HoldRow1 HoldRow
+holds_transfer = record {
   key_of = λ r. r.hold;
   new_key = λ r. r.hold;
   same = λ j k. j == k;
@@ -35,7 +35,7 @@ holds_route = record {
   with_both = λ P f g. record P { holds = g; holds1 = f };
 }
 
-pub holds_carried : IsRoute holds1 holds holds_route
+pub holds_carried : IsTransfer holds1 holds holds_transfer
 holds_carried = record {
   there = (omega arith, omega arith);
   was_there = (omega arith, omega arith);
@@ -69,8 +69,8 @@ holds_carried = record {
 }
 
 -- The loans of schema 2 become those of schema 3.
-abbrev pub loans_route : Route ℕ LoanRow1 LoanRow
-loans_route = record {
+abbrev pub loans_transfer : Transfer ℕ LoanRow1 LoanRow
+loans_transfer = record {
   key_of = λ r. r.loan;
   new_key = λ r. r.loan;
   same = λ j k. j == k;
@@ -78,7 +78,7 @@ loans_route = record {
   with_both = λ P f g. record P { loans = g; loans1 = f };
 }
 
-pub loans_carried : IsRoute loans1 loans loans_route
+pub loans_carried : IsTransfer loans1 loans loans_transfer
 loans_carried = record {
   there = (omega arith, omega arith);
   was_there = (omega arith, omega arith);
@@ -112,8 +112,8 @@ loans_carried = record {
 }
 
 -- So do the rules.
-abbrev pub rules_route : Route Pair RuleRow1 RuleRow
-rules_route = record {
+abbrev pub rules_transfer : Transfer Pair RuleRow1 RuleRow
+rules_transfer = record {
   key_of = λ r. (r.kind, r.copy_kind);
   new_key = λ r. (r.kind, r.copy_kind);
   same = λ a b. (a.0 == b.0)
@@ -122,7 +122,7 @@ rules_route = record {
   with_both = λ P f g. record P { rules = λ k c. g (k, c); rules1 = λ k c. f (k, c) };
 }
 
-pub rules_carried : IsRoute rules1 rules rules_route
+pub rules_carried : IsTransfer rules1 rules rules_transfer
 rules_carried = record {
   there = (omega arith, omega arith);
   was_there = (omega arith, omega arith);

@@ -4,7 +4,7 @@ ghost use Rattle.std.specs.Prelude.{◌≡◌, ◌≤◌, ℕ, count_by, if◌th
 ghost use Rattle.circ_audit.specs.Rows.{names};
 ghost use Rattle.circ_audit.specs.Spans.{ShowsCounts, CountsMore, LooksAt, FailsOn};
 
-use crate::spans::{Look, SPAN, lesser, span_of};
+use crate::spans::{SpanLook, SPAN, lesser, span_of};
 
 /// Rows that may name the number of something.
 pub trait Names<N> {
@@ -20,20 +20,20 @@ pub trait Names<N> {
 /// Counters of the numbers of a span, which stop at two, and the least number of later spans that
 /// was counted.
 #[derive(Drop)]
-pub struct Window {
+pub struct SpanCounters {
     span: u16,
     counters: [u8; 65_536],
     next: Option<u32>,
 }
 
-impl Window {
+impl SpanCounters {
     /// The span with nothing counted.
-    pub fn new(span: u16) -> Window
+    pub fn new(span: u16) -> SpanCounters
         ensures span { result.span ≡ span }
         ensures shows { ShowsCounts result (λ n. 0) }
     {
         let counters = [0; 65_536];
-        Window {
+        SpanCounters {
             span,
             counters,
             next: None,
@@ -81,11 +81,11 @@ impl Window {
     }
 
     /// Looks whether a number of the span was counted twice.
-    pub fn look(&self) -> Look
+    pub fn look(&self) -> SpanLook
         ensures { (times : ℕ → ℕ) → ShowsCounts self.now times
             → LooksAt (λ n. times n ≤ 1) self.now.span result }
     {
-        Look {
+        SpanLook {
             broken: self.twice(),
             next: self.next,
         }

@@ -1,5 +1,5 @@
 use Rattle.store.proofs.ViewLemmas.{◌⨾◌, fails, gives, title_loan_seen, active_holds_on_seen, active_holds_seen}
-use Rattle.store.proofs.viewing.standing_of.Goals as goal
+use Rattle.store.proofs.viewing.obstacles_of.Goals as goal
 
 pub returns-in_err-own_holds : goal.returns-in_err-own_holds
 returns-in_err-own_holds g c = fails _ _ c.from_residual.ensures (active_holds_on_seen c.in_err-own_holds.ensures)

@@ -4,7 +4,7 @@ use Rattle.std.proofs.lemmas.List.{take_all}
 use Rattle.circ_audit.specs.Rows.{names}
 use Rattle.circ_audit.specs.Spans.{CountsMore}
 use Rattle.circ_audit.proofs.Counting.{tally-more}
-use Rattle.circ_audit.proofs.window.Window.tally.Goals as goal
+use Rattle.circ_audit.proofs.counters.SpanCounters.tally.Goals as goal
 
 pub loop-row-preserved : goal.loop-row-preserved
 loop-row-preserved g c =

@@ -1,0 +1,18 @@
+-- The lines of accounts and their rows.
+use Rattle.std.proofs.Common.{◌≡◌, ℕ, zero, List, [], ◌∷◌, refl}
+use Rattle.std.specs.Prelude.{None}
+use Rattle.terms.specs.declared.row.LineRow.{LineRow}
+use Rattle.model.specs.Accounts.{Line}
+use Rattle.model.specs.Picture.{nth_line}
+
+-- The line that a row is of.
+abbrev pub line_in : LineRow → Line
+line_in r = record { patron = r.patron; day = r.day; sort = r.sort; amount = r.amount; loan = r.loan }
+
+-- The row of a line.
+abbrev pub row_at : ℕ → Line → LineRow
+row_at n x = record { line = n; patron = x.patron; day = x.day; sort = x.sort; amount = x.amount; loan = x.loan }
+
+pub nth-zero : (xs : List Line) → nth_line xs zero ≡ None
+nth-zero [] = refl
+nth-zero (x ∷ xs) = refl
