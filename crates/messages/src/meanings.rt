@@ -2,170 +2,170 @@
 
 /// A number and what it means, for a person.
 #[derive(Clone, Copy)]
-struct Meaning {
+struct Explanation {
     number: u32,
     text: &'static str,
 }
 
-const MEANINGS: [Meaning; 40] = [
-    Meaning {
+const MEANINGS: [Explanation; 40] = [
+    Explanation {
         number: 10,
         text: "unknown branch",
     },
-    Meaning {
+    Explanation {
         number: 11,
         text: "unknown patron",
     },
-    Meaning {
+    Explanation {
         number: 12,
         text: "unknown title",
     },
-    Meaning {
+    Explanation {
         number: 13,
         text: "unknown copy",
     },
-    Meaning {
+    Explanation {
         number: 14,
         text: "unknown loan",
     },
-    Meaning {
+    Explanation {
         number: 15,
         text: "unknown hold",
     },
-    Meaning {
+    Explanation {
         number: 16,
         text: "no circulation rule for the kind of the patron and that of the copy",
     },
-    Meaning {
+    Explanation {
         number: 17,
         text: "unknown kind of patron",
     },
-    Meaning {
+    Explanation {
         number: 20,
         text: "there already, with other content",
     },
-    Meaning {
+    Explanation {
         number: 21,
         text: "a number is out of its limits, or 400 days are closed singly",
     },
-    Meaning {
+    Explanation {
         number: 22,
         text: "all seven weekdays would be closed",
     },
-    Meaning {
+    Explanation {
         number: 23,
         text: "the day is not after today, or out of range",
     },
-    Meaning {
+    Explanation {
         number: 24,
         text: "the day is closed singly already",
     },
-    Meaning {
+    Explanation {
         number: 25,
         text: "the day is not closed singly",
     },
-    Meaning {
+    Explanation {
         number: 30,
         text: "the copy is at another branch",
     },
-    Meaning {
+    Explanation {
         number: 31,
         text: "the copy is on loan",
     },
-    Meaning {
+    Explanation {
         number: 32,
         text: "the copy is in transit",
     },
-    Meaning {
+    Explanation {
         number: 33,
         text: "the copy is on the hold shelf",
     },
-    Meaning {
+    Explanation {
         number: 34,
         text: "the copy is missing",
     },
-    Meaning {
+    Explanation {
         number: 35,
         text: "the copy is withdrawn",
     },
-    Meaning {
+    Explanation {
         number: 36,
         text: "another patron stands in line",
     },
-    Meaning {
+    Explanation {
         number: 37,
         text: "the patron has as many loans as the kind may have",
     },
-    Meaning {
+    Explanation {
         number: 38,
         text: "the patron owes more than the kind may owe",
     },
-    Meaning {
+    Explanation {
         number: 39,
         text: "no open day is left in the calendar",
     },
-    Meaning {
+    Explanation {
         number: 40,
         text: "the loan has ended",
     },
-    Meaning {
+    Explanation {
         number: 41,
         text: "the loan is overdue",
     },
-    Meaning {
+    Explanation {
         number: 42,
         text: "no renewals are left",
     },
-    Meaning {
+    Explanation {
         number: 50,
         text: "the patron has an active hold of the title",
     },
-    Meaning {
+    Explanation {
         number: 51,
         text: "the patron has as many holds as the kind may have",
     },
-    Meaning {
+    Explanation {
         number: 52,
         text: "the patron has the title on loan",
     },
-    Meaning {
+    Explanation {
         number: 53,
         text: "the hold is not in the state that is needed",
     },
-    Meaning {
+    Explanation {
         number: 54,
         text: "the limit of the hold has not passed",
     },
-    Meaning {
+    Explanation {
         number: 60,
         text: "the amount is zero or above what is owed",
     },
-    Meaning {
+    Explanation {
         number: 70,
         text: "the numbers of loans, holds or lines are used up",
     },
-    Meaning {
+    Explanation {
         number: 80,
         text: "the key was used for another request",
     },
-    Meaning {
+    Explanation {
         number: 81,
         text: "wrong key, or not allowed to this caller",
     },
-    Meaning {
+    Explanation {
         number: 90,
         text: "no memory was left",
     },
-    Meaning {
+    Explanation {
         number: 91,
         text: "the database refused a call: another process has the file, it can't be written, or \
                the disk is full",
     },
-    Meaning {
+    Explanation {
         number: 92,
         text: "the desk is closed",
     },
-    Meaning {
+    Explanation {
         number: 93,
         text: "no library: the file is absent, empty, of another kind or schema, or has a damaged \
                row",
