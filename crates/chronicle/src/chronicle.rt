@@ -67,7 +67,9 @@ impl<E> Chronicle<E> {
     {
         let count = whole.len();
         let mut seen = whole.seen.again();
-        let mut offer: Offer<E, (), LengthRule, Nothing> = seen.plain::<Nothing, X, Asking<I>>(about);
+        let mut offer: Offer<E, (), LengthRule, Nothing> = seen.plain::<Nothing, X, Asking<I>>(
+            about,
+        );
         let mut pen = seen.no_pen();
         let found = self
             .head

@@ -8,7 +8,7 @@ ghost use Rattle.circ_audit.specs.Spans.{broken_after, next_after, is_right, Loo
 ghost use Rattle.circ_audit.specs.Sound.{IsBalanced};
 
 use crate::rows::is_charge;
-use crate::spans::{Law, SpanLook, SPAN, lesser, span_of};
+use crate::spans::{Law, SPAN, SpanLook, lesser, span_of};
 use terms::{LineRow, PatronRow, Tables};
 
 /// Totals of the numbers of a span, in cents.

@@ -5,9 +5,9 @@ ghost use Rattle.circ_audit.specs.Rows.{copy_row, hold_row, is_titled, is_copy_o
 ghost use Rattle.circ_audit.specs.Spans.{first_after, first_named, earlier_of};
 ghost use Rattle.circ_audit.specs.Sound.{IsServedOnce, IsRightlyBound, FailsFirst, IsFit, IsServed};
 
+use crate::counters::{Names, SpanCounters};
 use crate::rows::{is_ready, is_waiting};
 use crate::spans::{Law, SpanLook, first_broken, lesser};
-use crate::counters::{Names, SpanCounters};
 use terms::{CopyId, CopyRow, HoldId, HoldRow, Rows, Tables, TitleId, TransitRow};
 
 /// The row of a copy.

@@ -4,9 +4,9 @@ ghost use Rattle.std.specs.Prelude.{Some};
 ghost use Rattle.circ_audit.specs.Rows.{lent_copy, shelved_copy, travelling_copy, absent_copy};
 ghost use Rattle.circ_audit.specs.Sound.{IsClaimedOnce};
 
+use crate::counters::{Names, SpanCounters};
 use crate::rows::{is_present, is_ready};
 use crate::spans::{Law, SpanLook};
-use crate::counters::{Names, SpanCounters};
 use terms::{CopyId, CopyRow, HoldRow, LoanRow, Tables, TransitRow};
 
 /// An open loan claims its copy.

@@ -4,7 +4,7 @@ ghost use Rattle.std.specs.Prelude.{◌≡◌, ◌≤◌, ℕ, count_by, if◌th
 ghost use Rattle.circ_audit.specs.Rows.{names};
 ghost use Rattle.circ_audit.specs.Spans.{ShowsCounts, CountsMore, LooksAt, FailsOn};
 
-use crate::spans::{SpanLook, SPAN, lesser, span_of};
+use crate::spans::{SPAN, SpanLook, lesser, span_of};
 
 /// Rows that may name the number of something.
 pub trait Names<N> {

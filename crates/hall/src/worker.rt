@@ -16,7 +16,7 @@ use crate::ends::Post;
 use crate::messages::{LAST_SUBMISSION, Message, Submission};
 use crate::notices::Notices;
 use crate::opening::Opening;
-use board::{Entry, SharedRequest, LastSeen, Unseen, Window, WorkerId};
+use board::{Entry, LastSeen, SharedRequest, Unseen, Window, WorkerId};
 use crossbeam_utils::sync::Parker;
 use desk::OwnPage;
 use std::alloc::Global;

@@ -108,7 +108,8 @@ module _ {R N : Type 0} {old : Table ℕ R} {new : Table ℕ N} {transfer : Tran
           let most = last_is transfer.key_of page left.rise it.0 it.1 in
           let moved : move_all old new transfer page (over_to after P) ≡ over_to (transfer.key_of it.0) P =
           all_moved over page P (left_above after (old.rows P)) (carried_to transfer.carried after (old.rows P))
-          ∙ ap₂ (transfer.with_both P) (next_left transfer.same over.own over.met transfer.key_of transfer.carried (old.rows P) numbered after page left it.0 most.0 most.1)
+          ∙ ap₂ (transfer.with_both P) (next_left transfer.same over.own over.met transfer.key_of transfer.carried
+          (old.rows P) numbered after page left it.0 most.0 most.1)
           (next_carried transfer.same over.own over.met transfer.key_of transfer.carried (old.rows P) numbered after page left it.0 most.0 most.1) in (
             subst (λ n. move_all old new transfer page (over_to after P) ≡ over_to n P) it.2 moved,
             subst (λ n. after < n) it.2 (left.sound it.0 (contains_had page it.0 most.0)).1,
@@ -142,7 +143,8 @@ read_there n a b inside there lists =
     let still = (lists there.0 there.1).1.0 in
     (subst IsTrue (sym still.mode) inside, (there.0, subst (λ d. Holds (schema_at n) d there.0) (sym still.now_is) there.1))
 
-module _ {R N : Type 0} {old : Table ℕ R} {new : Table ℕ N} {transfer : Transfer ℕ R N} (over : IsTransfer old new transfer) (table : IsNumberTable old transfer.key_of) where
+module _ {R N : Type 0} {old : Table ℕ R} {new : Table ℕ N} {transfer : Transfer ℕ R N} (over : IsTransfer old new transfer)
+    (table : IsNumberTable old transfer.key_of) where
   pub read_page : (after : Option ℕ) (P : Picture) → InLimits P → (page : List R) → All old.IsLegal page → (a b : State)
       → HasPictureAt new.since a.now (over_to over (unwrap_or after 0) P)
       → ((maps : Maps) → Holds (schema_at new.since) a.now maps → FirstRows PAGE_ROWS (maps old.place) (is_next after) (map old.cells page) × IsUnchanged a b)

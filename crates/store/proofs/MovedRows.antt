@@ -117,7 +117,8 @@ module _ {K R N : Type 0} {old : Table K R} {new : Table K N} {transfer : Transf
 
 -- ---- page by page
 
-module _ {R N : Type 0} {old : Table ℕ R} {new : Table ℕ N} {transfer : Transfer ℕ R N} (over : IsTransfer old new transfer) (table : IsNumberTable old transfer.key_of) where
+module _ {R N : Type 0} {old : Table ℕ R} {new : Table ℕ N} {transfer : Transfer ℕ R N} (over : IsTransfer old new transfer)
+    (table : IsNumberTable old transfer.key_of) where
   -- A row stands under its number alone.
   key_is_own : (db : Database) (maps : Maps) → Holds (schema_at new.since) db maps → (k : Row) (r : R)
       → maps old.place k ≡ Some (old.cells r) → k ≡ old.key (transfer.key_of r)
@@ -137,7 +138,8 @@ module _ {R N : Type 0} {old : Table ℕ R} {new : Table ℕ N} {transfer : Tran
     }
 
     -- A row under the number of one of the page is that one.
-    on_page : (r : R) → Has page r → (k v : Row) → so_far.maps old.place k ≡ Some v → k ≡ old.key (transfer.key_of r) → (s : R) × old.IsLegal s × (v ≡ old.cells s)
+    on_page : (r : R) → Has page r → (k v : Row) → so_far.maps old.place k ≡ Some v → k ≡ old.key (transfer.key_of r)
+        → (s : R) × old.IsLegal s × (v ≡ old.cells s)
     on_page r has k v e key =
         let found = is.first.sound (old.cells r) (mapped_has old.cells page r has) in
         let own = key_is_own db so_far.maps so_far.holds found.0 r found.1 in

@@ -6,8 +6,8 @@ ghost use Rattle.circ_tables.specs.Rules.{rules};
 ghost use Rattle.store.specs.Migrating.{Transfer, IsTransfer, MovesRow, MovesPage, CarriesAll};
 ghost use Rattle.store.specs.Migrating.{NamesInside, LeadsFrom, LeadsOnInside, StepsOn};
 ghost use Rattle.store.specs.Migrating.{TellsSchema};
-ghost use Rattle.store.specs.Transfers.{holds_transfer, holds_carried, loans_transfer, loans_carried};
-ghost use Rattle.store.specs.Transfers.{rules_transfer, rules_carried};
+ghost use Rattle.store.specs.Transfers.{holds_transfer, holds_carried, loans_transfer};
+ghost use Rattle.store.specs.Transfers.{loans_carried, rules_transfer, rules_carried};
 ghost use Rattle.store.specs.Schemas.{IsKnown};
 
 use crate::idle::holds_committed;
@@ -31,7 +31,8 @@ pub(crate) trait Carried: Table {
 
     /// Puts the row into the table of the next schema, and takes it out of its own. 91.
     fn carry<S: Alter>(&self, tx: &mut Transaction<'_, S>) -> Result<(), Fault>
-        ensures { MovesRow Self.table Self.Next.table transfer self.now S.Store tx.old tx.new result };
+        ensures { MovesRow Self.table Self.Next.table transfer self.now
+            S.Store tx.old tx.new result };
 
     ghost over: { IsTransfer Self.table Self.Next.table transfer };
 }

@@ -31,7 +31,8 @@ rows-preserved g c =
       kept = λ clean. keeps_then _ _ _ (so_far.kept (was clean)) (carries.works.kept clean);
       draws = λ clean begun n has.
           let begun_so = so_far.draws (was clean) begun n has in
-          draws_next (move_one g.R.Table.table g.R.Next.Table.table transfer) (move_all g.R.Table.table g.R.Next.Table.table transfer) (λ P. refl) (λ r more P. refl)
+          draws_next (move_one g.R.Table.table g.R.Next.Table.table transfer) (move_all g.R.Table.table g.R.Next.Table.table transfer)
+          (λ P. refl) (λ r more P. refl)
           c.args.page.now c.rows.row-index c.row-item.result first before new item begun_so (carries.draws clean begun_so.is_inside tt n has);
       steps = λ clean begun n has.
           let begun_so = so_far.steps (was clean) begun n has in
@@ -53,7 +54,8 @@ returns g c =
           (λ maps. refl) (λ r more maps. refl)
           c.args.page.now c.rows.row-index first last c.rows-test.false (so_far.steps clean begun n has);
       draws = λ clean begun any n has.
-          draws_all (move_one g.R.Table.table g.R.Next.Table.table transfer) (move_all g.R.Table.table g.R.Next.Table.table transfer) (λ P. refl) (λ r more P. refl)
+          draws_all (move_one g.R.Table.table g.R.Next.Table.table transfer) (move_all g.R.Table.table g.R.Next.Table.table transfer)
+          (λ P. refl) (λ r more P. refl)
           c.args.page.now c.rows.row-index first last c.rows-test.false (so_far.draws clean begun n has);
       fault = tt;
     }
