@@ -12,6 +12,7 @@ use Rattle.model.specs.Invariant.{Invariant}
 use Rattle.model.specs.History.{History, branch_of, title_of, CopyFacts, copy_of, copies, hold_of}
 use Rattle.model.specs.Places.{Place, Nowhere, Shelf, place, state, place_after, is_kept_for, kept_for, limit, is_begun}
 use Rattle.model.specs.Picture.{picture, branch_columns, title_row, copy_columns, copy_row, hold_row, condition_at, transit_at, hold_by}
+use Rattle.circ_core.specs.Decides.{event}
 use Rattle.circ_core.specs.declared.changes.RowChange.{RowChange}
 use Rattle.circ_core.specs.declared.changes.RowChange.TheVariants.{PutTitle, PutCopy}
 use Rattle.circ_core.specs.declared.views.View.{View}
@@ -120,73 +121,29 @@ module _ (H : History) (inv : Invariant H) (c t k home price : ℕ) (text : List
       → Leads H (Acquire c t k home price text)
       (rows_unless (option_map (title_columns t) x) new_title ++ rows_unless (option_map (copy_columns H c) y) new_copy)
   unfolding new_title new_copy
-  acquire_leads (Some s) e (Some r) f owner key = record {
-    meta = refl;
-    branches = λ _. refl;
-    closed_days = λ _ _. refl;
-    kinds = λ _. refl;
-    rules = λ _ _. refl;
-    rules1 = λ _ _. refl;
-    patrons = λ _. refl;
-    titles = titles_keep s e;
-    copies = copies_keep r f;
-    loans = λ _. refl;
-    loans1 = λ _. refl;
-    holds = holds_keep;
-    holds1 = λ _. refl;
-    transits = transits_keep;
-    lines = λ _. refl;
+  acquire_leads (Some s) e (Some r) f owner key = λ i. record (picture (event owner key (Acquire c t k home price text) ∷ H)) {
+    titles = λ n. titles_keep s e n i;
+    copies = λ n. copies_keep r f n i;
+    holds = λ h. holds_keep h i;
+    transits = λ n. transits_keep n i;
   }
-  acquire_leads (Some s) e None f owner key = record {
-    meta = refl;
-    branches = λ _. refl;
-    closed_days = λ _ _. refl;
-    kinds = λ _. refl;
-    rules = λ _ _. refl;
-    rules1 = λ _ _. refl;
-    patrons = λ _. refl;
-    titles = titles_keep s e;
-    copies = copies_put f;
-    loans = λ _. refl;
-    loans1 = λ _. refl;
-    holds = holds_keep;
-    holds1 = λ _. refl;
-    transits = transits_keep;
-    lines = λ _. refl;
+  acquire_leads (Some s) e None f owner key = λ i. record (picture (event owner key (Acquire c t k home price text) ∷ H)) {
+    titles = λ n. titles_keep s e n i;
+    copies = λ n. copies_put f n i;
+    holds = λ h. holds_keep h i;
+    transits = λ n. transits_keep n i;
   }
-  acquire_leads None e (Some r) f owner key = record {
-    meta = refl;
-    branches = λ _. refl;
-    closed_days = λ _ _. refl;
-    kinds = λ _. refl;
-    rules = λ _ _. refl;
-    rules1 = λ _ _. refl;
-    patrons = λ _. refl;
-    titles = titles_put e;
-    copies = copies_keep r f;
-    loans = λ _. refl;
-    loans1 = λ _. refl;
-    holds = holds_keep;
-    holds1 = λ _. refl;
-    transits = transits_keep;
-    lines = λ _. refl;
+  acquire_leads None e (Some r) f owner key = λ i. record (picture (event owner key (Acquire c t k home price text) ∷ H)) {
+    titles = λ n. titles_put e n i;
+    copies = λ n. copies_keep r f n i;
+    holds = λ h. holds_keep h i;
+    transits = λ n. transits_keep n i;
   }
-  acquire_leads None e None f owner key = record {
-    meta = refl;
-    branches = λ _. refl;
-    closed_days = λ _ _. refl;
-    kinds = λ _. refl;
-    rules = λ _ _. refl;
-    rules1 = λ _ _. refl;
-    patrons = λ _. refl;
-    titles = titles_put e;
-    copies = copies_put f;
-    loans = λ _. refl;
-    loans1 = λ _. refl;
-    holds = holds_keep;
-    holds1 = λ _. refl;
-    transits = transits_keep;
-    lines = λ _. refl;
+  acquire_leads None e None f owner key = λ i. record (picture (event owner key (Acquire c t k home price text) ∷ H)) {
+    titles = λ n. titles_put e n i;
+    copies = λ n. copies_put f n i;
+    holds = λ h. holds_keep h i;
+    transits = λ n. transits_keep n i;
   }
 
   pub acquire_meets : (rows : View) → IsAcquireView (picture H) c t home rows

@@ -12,23 +12,7 @@ begin_day_at : (H : History) (day : ℕ) → Meets H (BeginDay day) (begin_day_c
 begin_day_at H day = record {
   same = (refl, refl, λ _. tt);
   due = λ _. refl;
-  leads = λ _ owner key. record {
-    meta = refl;
-    branches = λ _. refl;
-    closed_days = λ _ _. refl;
-    kinds = λ _. refl;
-    rules = λ _ _. refl;
-    rules1 = λ _ _. refl;
-    patrons = λ _. refl;
-    titles = λ _. refl;
-    copies = λ _. refl;
-    loans = λ _. refl;
-    loans1 = λ _. refl;
-    holds = λ _. refl;
-    holds1 = λ _. refl;
-    transits = λ _. refl;
-    lines = λ _. refl;
-  };
+  leads = λ _ owner key. refl;
 }
 
 pub begin_day_meets : (H : History) (day : ℕ) (meta : MetaRow) → meta ≡ meta_row H

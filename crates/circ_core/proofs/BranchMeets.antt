@@ -6,7 +6,8 @@ use Rattle.terms.specs.declared.command.Command.TheVariants.{Branch}
 use Rattle.terms.specs.declared.reply.Reply.TheVariants.{Done}
 use Rattle.model.specs.Invariant.{Invariant}
 use Rattle.model.specs.History.{History, BranchFacts, branch_of}
-use Rattle.model.specs.Picture.{branch_row, branch_columns}
+use Rattle.model.specs.Picture.{picture, branch_row, branch_columns}
+use Rattle.circ_core.specs.Decides.{event}
 use Rattle.circ_core.specs.declared.changes.RowChange.{RowChange}
 use Rattle.circ_core.specs.declared.changes.RowChange.TheVariants.{PutBranch}
 use Rattle.circ_core.specs.Tables.{rows_unless}
@@ -29,40 +30,12 @@ module _ (H : History) (inv : Invariant H) (b pickup : ℕ) (name : List ℕ) wh
 
   branch_leads : (o : Option BranchFacts) → branch_of H b ≡ o → Leads H (Branch b pickup name) (rows_unless (option_map (branch_columns H b) o) new_branch)
   unfolding branch_facts new_branch
-  branch_leads (Some r) e owner key = record {
-    meta = refl;
-    branches = λ n. keep_old (branch_columns H) (branch_of H) b branch_facts r n e;
-    closed_days = λ _ _. refl;
-    kinds = λ _. refl;
-    rules = λ _ _. refl;
-    rules1 = λ _ _. refl;
-    patrons = λ _. refl;
-    titles = λ _. refl;
-    copies = λ _. refl;
-    loans = λ _. refl;
-    loans1 = λ _. refl;
-    holds = λ _. refl;
-    holds1 = λ _. refl;
-    transits = λ _. refl;
-    lines = λ _. refl;
+  branch_leads (Some r) e owner key = λ i. record (picture (event owner key (Branch b pickup name) ∷ H)) {
+    branches = λ n. (keep_old (branch_columns H) (branch_of H) b branch_facts r n e) i;
   }
-  branch_leads None e owner key = record {
-    meta = refl;
-    branches = λ n. put_new (branch_columns H) (branch_of H) b branch_facts _ n e
-        (ap (λ w. record { branch = b; pickup = pickup; week = w; name = name }) (sym (inv.unset b e).0));
-    closed_days = λ _ _. refl;
-    kinds = λ _. refl;
-    rules = λ _ _. refl;
-    rules1 = λ _ _. refl;
-    patrons = λ _. refl;
-    titles = λ _. refl;
-    copies = λ _. refl;
-    loans = λ _. refl;
-    loans1 = λ _. refl;
-    holds = λ _. refl;
-    holds1 = λ _. refl;
-    transits = λ _. refl;
-    lines = λ _. refl;
+  branch_leads None e owner key = λ i. record (picture (event owner key (Branch b pickup name) ∷ H)) {
+    branches = λ n. (put_new (branch_columns H) (branch_of H) b branch_facts _ n e
+        (ap (λ w. record { branch = b; pickup = pickup; week = w; name = name }) (sym (inv.unset b e).0))) i;
   }
 
   pub branch_meets : (row : Option BranchRow) → row ≡ branch_row H b

@@ -160,39 +160,15 @@ module _ (H : History) (inv : Invariant H) (h : ℕ) where
 
   lead : (f : HoldFacts) → hold_of H h ≡ Some f → (o : Option TransitRow) → IsTravelFor (picture H) h o → (owner : Owner) (key : List ℕ)
       → SameRows (changed (cancelled_rows (Some (hold_columns H h Waiting f)) ++ let_go_rows o) (picture H)) (picture (event owner key (CancelHold h) ∷ H))
-  lead f e (Some t) w owner key = record {
-    meta = refl;
-    branches = λ _. refl;
-    closed_days = λ _ _. refl;
-    kinds = λ _. refl;
-    rules = λ _ _. refl;
-    rules1 = λ _ _. refl;
-    patrons = λ _. refl;
-    titles = λ _. refl;
-    copies = copies_same;
-    loans = λ _. refl;
-    loans1 = λ _. refl;
-    holds = one_cancelled f e;
-    holds1 = λ _. refl;
-    transits = one_goes_on t w;
-    lines = λ _. refl;
+  lead f e (Some t) w owner key = λ i. record (picture (event owner key (CancelHold h) ∷ H)) {
+    copies = λ n. copies_same n i;
+    holds = λ h. one_cancelled f e h i;
+    transits = λ n. one_goes_on t w n i;
   }
-  lead f e None w owner key = record {
-    meta = refl;
-    branches = λ _. refl;
-    closed_days = λ _ _. refl;
-    kinds = λ _. refl;
-    rules = λ _ _. refl;
-    rules1 = λ _ _. refl;
-    patrons = λ _. refl;
-    titles = λ _. refl;
-    copies = copies_same;
-    loans = λ _. refl;
-    loans1 = λ _. refl;
-    holds = one_cancelled f e;
-    holds1 = λ _. refl;
-    transits = transits_stay w;
-    lines = λ _. refl;
+  lead f e None w owner key = λ i. record (picture (event owner key (CancelHold h) ∷ H)) {
+    copies = λ n. copies_same n i;
+    holds = λ h. one_cancelled f e h i;
+    transits = λ n. transits_stay w n i;
   }
 
 -- ---- cancel-hold

@@ -101,18 +101,7 @@ pub record ShowsLines (H : History) (xs : List Line) (P Q : Picture) : Type 0 wh
   pub meta : Q.meta ≡ record (meta_row H) { next_line = length xs + 1 }
   pub patrons : (q : ℕ) → Q.patrons q ≡ option_map (λ x. record (patron_columns H q x) { owed = owed_in xs q }) (patron_of H q)
   pub lines : (k : ℕ) → Q.lines k ≡ option_map (line_columns H k) (nth_line xs k)
-  pub branches : Q.branches ≡ P.branches
-  pub closed_days : Q.closed_days ≡ P.closed_days
-  pub kinds : Q.kinds ≡ P.kinds
-  pub rules : Q.rules ≡ P.rules
-  pub rules1 : Q.rules1 ≡ P.rules1
-  pub titles : Q.titles ≡ P.titles
-  pub copies : Q.copies ≡ P.copies
-  pub loans : Q.loans ≡ P.loans
-  pub loans1 : Q.loans1 ≡ P.loans1
-  pub holds : Q.holds ≡ P.holds
-  pub holds1 : Q.holds1 ≡ P.holds1
-  pub transits : Q.transits ≡ P.transits
+  pub others : record Q { meta = P.meta; patrons = P.patrons; lines = P.lines } ≡ P
 
 module _ (H : History) (inv : Invariant H) (p l : ℕ) (f : PatronFacts) (enrolled : patron_of H p ≡ Some f) (q : LoanRow) (by : q.patron ≡ p)
     (number : q.loan ≡ l)
@@ -219,18 +208,7 @@ module _ (H : History) (p l : ℕ) where
       patrons = λ k. patrons_are k ∙ ap (λ n. option_map (λ x. record (patron_columns H k x) { owed = n }) (patron_of H k))
           (ap (λ xs. owed_in xs k) (sym (append-nil (lines H))));
       lines = λ k. lines_are k ∙ ap (λ xs. option_map (line_columns H k) (nth_line xs k)) (sym (append-nil (lines H)));
-      branches = refl;
-      closed_days = refl;
-      kinds = refl;
-      rules = refl;
-      rules1 = refl;
-      titles = refl;
-      copies = refl;
-      loans = refl;
-      loans1 = refl;
-      holds = refl;
-      holds1 = refl;
-      transits = refl;
+      others = refl;
     }
     shows (suc m) zero a b =
         let Q : Picture = after_by (suc m) zero false true in
@@ -240,18 +218,7 @@ module _ (H : History) (p l : ℕ) where
           meta = one.0;
           patrons = one.1;
           lines = one.2;
-          branches = refl;
-          closed_days = refl;
-          kinds = refl;
-          rules = refl;
-          rules1 = refl;
-          titles = refl;
-          copies = refl;
-          loans = refl;
-          loans1 = refl;
-          holds = refl;
-          holds1 = refl;
-          transits = refl;
+          others = refl;
         })
     shows zero (suc n) a b =
         let Q : Picture = after_by zero (suc n) true false in
@@ -263,18 +230,7 @@ module _ (H : History) (p l : ℕ) where
           meta = one.0;
           patrons = one.1;
           lines = one.2;
-          branches = refl;
-          closed_days = refl;
-          kinds = refl;
-          rules = refl;
-          rules1 = refl;
-          titles = refl;
-          copies = refl;
-          loans = refl;
-          loans1 = refl;
-          holds = refl;
-          holds1 = refl;
-          transits = refl;
+          others = refl;
         })
     shows (suc m) (suc n) a b =
         let x : Line = one Fine m in
@@ -307,16 +263,5 @@ module _ (H : History) (p l : ℕ) where
               ∙ line-put H (lines H) x (next_line H) refl j) k
               ∙ line-put H (lines H ++ x ∷ []) y (next_line H + 1) (ap (λ j. j + 1) (length-added (lines H) x)) k
               ∙ ap (λ xs. option_map (line_columns H k) (nth_line xs k)) (sym split);
-          branches = refl;
-          closed_days = refl;
-          kinds = refl;
-          rules = refl;
-          rules1 = refl;
-          titles = refl;
-          copies = refl;
-          loans = refl;
-          loans1 = refl;
-          holds = refl;
-          holds1 = refl;
-          transits = refl;
+          others = refl;
         })

@@ -19,8 +19,8 @@ use Rattle.model.specs.Accounts.{Line, lines, fine_line, fine_at, fine_now}
 use Rattle.model.specs.Answers.{routed}
 use Rattle.model.specs.History.{History, today, CopyFacts, copy_of, branch_of}
 use Rattle.model.specs.Invariant.{Invariant}
-use Rattle.model.specs.Picture.{picture, meta_row, branch_row, branch_columns, closed_day, kind_row, rule_row, patron_row, title_row}
-use Rattle.model.specs.Picture.{copy_row, copy_columns, hold_row, transit_row, transit_at, condition_at, line_row}
+use Rattle.model.specs.Picture.{picture, meta_row, branch_columns, patron_row}
+use Rattle.model.specs.Picture.{copy_row, loan_row, copy_columns, transit_row, transit_at, condition_at, line_row}
 use Rattle.model.specs.Places.{Place, Nowhere, Shelf, HoldShelf, Transit, Loan, MissingCopy, WithdrawnCopy, place, route, home_of, title_of_copy, is_kept_for}
 use Rattle.model.specs.Refusals.{checks, has_branch, is_on_loan, is_on_hold_shelf, is_withdrawn, lacks_lines}
 use Rattle.model.specs.Requests.{IsLegal}
@@ -95,23 +95,12 @@ not_withdrawn (Loan l) e f = let never : ⊥ = cc in never
 
 -- The tables after the copy has left where it was, and before it arrives.
 pub record HasLeft (H : History) (c b : ℕ) (way : Course) (P : Picture) : Type 0 where
-  pub meta : P.meta ≡ meta_row H
-  pub branches : P.branches ≡ branch_row H
-  pub closed_days : P.closed_days ≡ closed_day H
-  pub kinds : P.kinds ≡ kind_row H
-  pub rules : P.rules ≡ rule_row H
-  pub rules1 : P.rules1 ≡ (λ _ _. None)
-  pub patrons : P.patrons ≡ patron_row H
-  pub titles : P.titles ≡ title_row H
   pub copies : (n : ℕ) → P.copies n ≡ option_map
       (λ r. record (copy_columns H n r) { condition = condition_at (moved c (place_by way b) (place H) n) }) (copy_of H n)
   pub loans : (n : ℕ) → P.loans n ≡ loan_ended H c n
-  pub loans1 : P.loans1 ≡ (λ _. None)
-  pub holds : P.holds ≡ hold_row H
-  pub holds1 : P.holds1 ≡ (λ _. None)
   pub free : IsOver way (P.transits c)
   pub transits : (n : ℕ) → (c == n) ≡ false → P.transits n ≡ transit_at n (place H n)
-  pub lines : P.lines ≡ line_row H
+  pub others : record P { copies = copy_row H; loans = loan_row H; transits = transit_row H } ≡ picture H
 
 module _ (H : History) (inv : Invariant H) (c b : ℕ) (f : CopyFacts) (there : copy_of H c ≡ Some f) where
   -- The copies after a copy that was present has moved.
@@ -122,79 +111,35 @@ module _ (H : History) (inv : Invariant H) (c b : ℕ) (f : CopyFacts) (there : 
   lent_leaves : (way : Course) (q : LoanRow) → IsLent H c q → (transit : Option TransitRow) (copy : Option CopyRow)
       → HasLeft H c b way (changed (left_rows (Some q) transit copy way c (today H)) (picture H))
   lent_leaves way q l transit copy = record {
-    meta = refl;
-    branches = refl;
-    closed_days = refl;
-    kinds = refl;
-    rules = refl;
-    rules1 = refl;
-    patrons = refl;
-    titles = refl;
+    others = refl;
     copies = copies_stay way (ap condition_at l.here);
     loans = one_ends H inv c q l;
-    loans1 = refl;
-    holds = refl;
-    holds1 = refl;
     free = over way (transit_row H c) (ap (λ p. transit_at c p) l.here);
     transits = λ n e. refl;
-    lines = refl;
   }
 
   -- A copy in transit.
   away_leaves : (way : Course) → is_on_loan (place H c) ≡ false → condition_at (place H c) ≡ Present → HasLeft H c b way (changed (over_rows way c) (picture H))
   away_leaves (course.Transit g k) off present = record {
-    meta = refl;
-    branches = refl;
-    closed_days = refl;
-    kinds = refl;
-    rules = refl;
-    rules1 = refl;
-    patrons = refl;
-    titles = refl;
+    others = refl;
     copies = copies_stay (course.Transit g k) present;
     loans = none_ends H inv c off;
-    loans1 = refl;
-    holds = refl;
-    holds1 = refl;
     free = tt;
     transits = λ n e. refl;
-    lines = refl;
   }
   away_leaves (course.HoldShelf r) off present = record {
-    meta = refl;
-    branches = refl;
-    closed_days = refl;
-    kinds = refl;
-    rules = refl;
-    rules1 = refl;
-    patrons = refl;
-    titles = refl;
+    others = refl;
     copies = copies_stay (course.HoldShelf r) present;
     loans = none_ends H inv c off;
-    loans1 = refl;
-    holds = refl;
-    holds1 = refl;
     free = ap (λ x. elim x as (λ _. Option TransitRow) [ true ↦ None | false ↦ transit_row H c ]) (eq-eqb c c refl);
     transits = λ n e. ap (λ x. elim x as (λ _. Option TransitRow) [ true ↦ None | false ↦ transit_row H n ]) e;
-    lines = refl;
   }
   away_leaves course.Shelf off present = record {
-    meta = refl;
-    branches = refl;
-    closed_days = refl;
-    kinds = refl;
-    rules = refl;
-    rules1 = refl;
-    patrons = refl;
-    titles = refl;
+    others = refl;
     copies = copies_stay course.Shelf present;
     loans = none_ends H inv c off;
-    loans1 = refl;
-    holds = refl;
-    holds1 = refl;
     free = ap (λ x. elim x as (λ _. Option TransitRow) [ true ↦ None | false ↦ transit_row H c ]) (eq-eqb c c refl);
     transits = λ n e. ap (λ x. elim x as (λ _. Option TransitRow) [ true ↦ None | false ↦ transit_row H n ]) e;
-    lines = refl;
   }
 
   -- A copy that is found again.
@@ -222,40 +167,18 @@ module _ (H : History) (inv : Invariant H) (c b : ℕ) (f : CopyFacts) (there : 
           → HasLeft H c b way (changed (elim d as (λ _. List RowChange)
           [ Missing ↦ PutCopy (record (copy_columns H c f) { condition = Present }) ∷ [] | _ ↦ [] ]) (picture H))
       go Missing e = record {
-        meta = refl;
-        branches = refl;
-        closed_days = refl;
-        kinds = refl;
-        rules = refl;
-        rules1 = refl;
-        patrons = refl;
-        titles = refl;
+        others = refl;
         copies = found way;
         loans = none_ends H inv c off;
-        loans1 = refl;
-        holds = refl;
-        holds1 = refl;
         free = over way (transit_row H c) still;
         transits = λ n e. refl;
-        lines = refl;
       }
       go Present e = record {
-        meta = refl;
-        branches = refl;
-        closed_days = refl;
-        kinds = refl;
-        rules = refl;
-        rules1 = refl;
-        patrons = refl;
-        titles = refl;
+        others = refl;
         copies = copies_stay way e;
         loans = none_ends H inv c off;
-        loans1 = refl;
-        holds = refl;
-        holds1 = refl;
         free = over way (transit_row H c) still;
         transits = λ n e. refl;
-        lines = refl;
       }
       go Withdrawn e = absurd (not_withdrawn (place H c) kept e)
 
@@ -312,20 +235,9 @@ module _ (H : History) (legal : IsLegal H) (inv : Invariant H) (c : ℕ) (rows :
       subst (λ xs. ShowsLines H xs P (changed (charge_rows (meta_row H) rows.patron None 0 0) P)) (sym same)
       (subst (λ o. ShowsLines H (lines H) P (changed (charge_rows (meta_row H) o None 0 0) P)) (sym w.patron) (record {
         meta = meta;
-        rules1 = refl;
         patrons = patrons;
         lines = of_lines;
-        branches = refl;
-        closed_days = refl;
-        kinds = refl;
-        rules = refl;
-        titles = refl;
-        copies = refl;
-        loans = refl;
-        loans1 = refl;
-        holds = refl;
-        holds1 = refl;
-        transits = refl;
+        others = refl;
       }))
     where
       same : lines_now ≡ lines H
@@ -424,31 +336,27 @@ module _ (H : History) (legal : IsLegal H) (c b : ℕ) (v : View) (w : IsCheckIn
     left = leaves H inv c b f there way v.loan v.transit v.copy w.at.loan w.at.transit (copy_is f there) kept
 
     shown : ShowsLines H (lines H ++ fine_line H (grace_of H) (place H c)) come (charged_at come)
-    shown = fine_shows H legal inv c v v.loan w.at.loan w.lender come left.meta (λ k. ap (λ t. t k) left.patrons) (λ k. ap (λ t. t k) left.lines)
+    shown = fine_shows H legal inv c v v.loan w.at.loan w.lender come (ap (λ T. T.meta) left.others)
+        (λ k. ap (λ (T : Picture). T.patrons k) left.others) (λ k. ap (λ (T : Picture). T.lines k) left.others)
 
     check_in_leads : Leads H (CheckIn c b) (check_in_rows v c b until)
     check_in_leads owner key =
         let l : Limits H way until = limits H inv b v w.here today_is known way to_there.1 in
-        subst (λ P. SameRows P (picture (event owner key (CheckIn c b) ∷ H))) (sym changed_same) (record {
-          meta = shown.meta;
-          branches = λ n. ap (λ t. t n) (shown.branches ∙ left.branches);
-          closed_days = λ n d. ap (λ t. t n d) (shown.closed_days ∙ left.closed_days);
-          kinds = λ n. ap (λ t. t n) (shown.kinds ∙ left.kinds);
-          rules = λ n d. ap (λ t. t n d) (shown.rules ∙ left.rules);
-          rules1 = λ n d. ap (λ t. t n d) (shown.rules1 ∙ left.rules1);
-          patrons = shown.patrons;
-          titles = λ n. ap (λ t. t n) (shown.titles ∙ left.titles);
-          copies = λ n. ap (λ t. t n) shown.copies ∙ left.copies n
-              ∙ ap (λ q. option_map (λ r. record (copy_columns H n r) { condition = condition_at (moved c q (place H) n) }) (copy_of H n)) to_there.0;
-          loans = λ n. ap (λ t. t n) shown.loans ∙ left.loans n;
-          loans1 = λ n. ap (λ t. t n) (shown.loans1 ∙ left.loans1);
-          holds = λ h. ap (λ t. t h) shown.holds ∙ ap (λ t. ready_put way c until (t h) h) left.holds
+        let others = ap (λ (T : Picture). record T { copies = copy_row H; loans = loan_row H; transits = transit_row H; holds = gone.holds }) shown.others
+        ∙ left.others in
+        subst (λ P. SameRows P (picture (event owner key (CheckIn c b) ∷ H))) (sym changed_same) (λ i. record (others i) {
+          meta = shown.meta i;
+          patrons = λ n. shown.patrons n i;
+          copies = λ n. (ap (λ (T : Picture). T.copies n) shown.others ∙ left.copies n
+              ∙ ap (λ q. option_map (λ r. record (copy_columns H n r) { condition = condition_at (moved c q (place H) n) }) (copy_of H n)) to_there.0) i;
+          loans = λ n. (ap (λ (T : Picture). T.loans n) shown.others ∙ left.loans n) i;
+          holds = λ h. (ap (λ (T : Picture). T.holds h) shown.others ∙ ap (λ (T : Picture). ready_put way c until (T.holds h) h) left.others
               ∙ arrive H inv c f there b until way to_there.1 l h (unkept (place H c) h off)
-              ∙ ap (λ q. arrived_row H inv c f there b until q h) to_there.0;
-          holds1 = λ n. ap (λ t. t n) (shown.holds1 ∙ left.holds1);
-          transits = λ n. ap (λ t. t n) shown.transits ∙ sends H c b way gone.transits left.free left.transits n
-              ∙ ap (λ q. transit_at n (moved c q (place H) n)) to_there.0;
-          lines = shown.lines;
+              ∙ ap (λ q. arrived_row H inv c f there b until q h) to_there.0) i;
+          transits = λ n. (ap (λ (T : Picture). T.transits n) shown.others ∙ sends H c b way gone.transits left.free left.transits n
+              ∙ ap (λ q. transit_at n (moved c q (place H) n)) to_there.0) i;
+          lines = λ n. shown.lines n i;
+          kept = (picture (event owner key (CheckIn c b) ∷ H)).kept;
         })
 
   pub check_in_meets : Meets H (CheckIn c b) (check_in_checks v b) (check_in_reply v b (check_in_limit v b)) (check_in_rows v c b (check_in_limit v b))

@@ -365,43 +365,21 @@ module _ (H : History) (inv : Invariant H) (p c b : ℕ) (v : View) (w : IsCheck
       → transit_at c (place H c) ≡ None → (ow : Owner) (key : List ℕ)
       → SameRows (changed (PutMeta meta_now ∷ PutLoan loan_now ∷ fill_rows o) (picture H)) (picture (event ow key (CheckOut p c b) ∷ H))
   unfolding meta_now
-  lead None f present still ow key = record {
-    meta = refl;
-    branches = λ _. refl;
-    closed_days = λ _ _. refl;
-    kinds = λ _. refl;
-    rules = λ _ _. refl;
-    rules1 = λ _ _. refl;
-    patrons = λ _. refl;
-    titles = λ _. refl;
-    copies = λ n. ap (λ x. option_map
+  lead None f present still ow key = λ i. record (picture (event ow key (CheckOut p c b) ∷ H)) {
+    copies = λ n. (ap (λ x. option_map
         (λ r. record { copy = n; title = r.title; kind = r.kind; home = r.home; price = r.price; condition = x }) (copy_of H n))
-        (copies_lead present n);
-    loans = loans_lead;
-    loans1 = λ _. refl;
-    holds = holds_none f;
-    holds1 = λ _. refl;
-    transits = transits_lead still;
-    lines = λ _. refl;
+        (copies_lead present n)) i;
+    loans = λ n. loans_lead n i;
+    holds = λ h. holds_none f h i;
+    transits = λ n. transits_lead still n i;
   }
-  lead (Some q) f present still ow key = record {
-    meta = refl;
-    branches = λ _. refl;
-    closed_days = λ _ _. refl;
-    kinds = λ _. refl;
-    rules = λ _ _. refl;
-    rules1 = λ _ _. refl;
-    patrons = λ _. refl;
-    titles = λ _. refl;
-    copies = λ n. ap (λ x. option_map
+  lead (Some q) f present still ow key = λ i. record (picture (event ow key (CheckOut p c b) ∷ H)) {
+    copies = λ n. (ap (λ x. option_map
         (λ r. record { copy = n; title = r.title; kind = r.kind; home = r.home; price = r.price; condition = x }) (copy_of H n))
-        (copies_lead present n);
-    loans = loans_lead;
-    loans1 = λ _. refl;
-    holds = holds_some q f;
-    holds1 = λ _. refl;
-    transits = transits_lead still;
-    lines = λ _. refl;
+        (copies_lead present n)) i;
+    loans = λ n. loans_lead n i;
+    holds = λ h. holds_some q f h i;
+    transits = λ n. transits_lead still n i;
   }
 
   meta_same : record v.meta { next_loan = v.meta.next_loan + 1 } ≡ meta_now

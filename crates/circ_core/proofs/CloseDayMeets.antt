@@ -13,6 +13,7 @@ use Rattle.model.specs.History.{History, singles_of}
 use Rattle.model.specs.Refusals.{has_branch}
 use Rattle.model.specs.Picture.{picture}
 use Rattle.model.proofs.ClosedDays.{as-many, eq-sym}
+use Rattle.circ_core.specs.Decides.{event}
 use Rattle.circ_core.specs.declared.views.View.{View}
 use Rattle.circ_core.specs.CloseDay.{is_closed_day, has_all_days, close_day_checks, close_day_rows, open_day_checks, open_day_rows}
 use Rattle.circ_core.specs.Views.{IsCalendarOf, IsClosedDayView}
@@ -86,22 +87,8 @@ module _ (H : History) (inv : Invariant H) (b d : ℕ) (rows : View) (w : IsClos
       ),
     );
     due = λ _. refl;
-    leads = λ _ owner key. record {
-      meta = refl;
-      branches = λ _. refl;
-      closed_days = close_lead;
-      kinds = λ _. refl;
-      rules = λ _ _. refl;
-      rules1 = λ _ _. refl;
-      patrons = λ _. refl;
-      titles = λ _. refl;
-      copies = λ _. refl;
-      loans = λ _. refl;
-      loans1 = λ _. refl;
-      holds = λ _. refl;
-      holds1 = λ _. refl;
-      transits = λ _. refl;
-      lines = λ _. refl;
+    leads = λ _ owner key. λ i. record (picture (event owner key (CloseDay b d) ∷ H)) {
+      closed_days = λ m n. close_lead m n i;
     };
   }
 
@@ -131,21 +118,7 @@ module _ (H : History) (inv : Invariant H) (b d : ℕ) (rows : View) (w : IsClos
       ),
     );
     due = λ _. refl;
-    leads = λ _ owner key. record {
-      meta = refl;
-      branches = λ _. refl;
-      closed_days = open_lead;
-      kinds = λ _. refl;
-      rules = λ _ _. refl;
-      rules1 = λ _ _. refl;
-      patrons = λ _. refl;
-      titles = λ _. refl;
-      copies = λ _. refl;
-      loans = λ _. refl;
-      loans1 = λ _. refl;
-      holds = λ _. refl;
-      holds1 = λ _. refl;
-      transits = λ _. refl;
-      lines = λ _. refl;
+    leads = λ _ owner key. λ i. record (picture (event owner key (OpenDay b d) ∷ H)) {
+      closed_days = λ m n. open_lead m n i;
     };
   }

@@ -1,6 +1,6 @@
 -- Grace meets the history.
 use Rattle.std.proofs.Common.{◌≡◌, ℕ, ◌==◌, ◌&&◌, Bool, true, false, cond, refl, sym, ◌∙◌, ap}
-use Rattle.std.specs.Prelude.{Option, Some, option_map, is_none}
+use Rattle.std.specs.Prelude.{◌∷◌, Option, Some, option_map, is_none}
 use Rattle.std.proofs.lemmas.Bool.{eqb-true, and_parts}
 use Rattle.terms.specs.declared.row.RuleRow.{RuleRow}
 use Rattle.terms.specs.declared.command.Owner.TheVariants.{Desk}
@@ -8,8 +8,9 @@ use Rattle.terms.specs.declared.command.Command.TheVariants.{Grace}
 use Rattle.terms.specs.declared.reply.Reply.TheVariants.{Done}
 use Rattle.model.specs.History.{History, Terms, with_grace, rule_of}
 use Rattle.model.specs.Refusals.{checks}
-use Rattle.model.specs.Picture.{rule_row, rule_columns}
+use Rattle.model.specs.Picture.{picture, rule_row, rule_columns}
 use Rattle.model.proofs.Passing.{passed}
+use Rattle.circ_core.specs.Decides.{event}
 use Rattle.circ_core.specs.Grace.{grace_checks, grace_rows}
 use Rattle.circ_core.proofs.Meets.{Meets, Leads}
 use Rattle.circ_core.proofs.Rows.{is_none-map, there-is, put_pair_set}
@@ -32,22 +33,8 @@ module _ (H : History) (k c days : ℕ) where
       go false e = refl
 
   leads_ruled : (t : Terms) → rule_of H k c ≡ Some t → Leads H (Grace k c days) (grace_rows (Some (rule_columns H k c t)) days)
-  leads_ruled t ruled owner key = record {
-    meta = refl;
-    branches = λ _. refl;
-    closed_days = λ _ _. refl;
-    kinds = λ _. refl;
-    rules = λ m n. put_pair_set (rule_columns H) (rule_of H) k c (with_grace days t) m n ∙ ap (option_map (rule_columns H m n)) (graced t ruled m n);
-    rules1 = λ _ _. refl;
-    patrons = λ _. refl;
-    titles = λ _. refl;
-    copies = λ _. refl;
-    loans = λ _. refl;
-    loans1 = λ _. refl;
-    holds = λ _. refl;
-    holds1 = λ _. refl;
-    transits = λ _. refl;
-    lines = λ _. refl;
+  leads_ruled t ruled owner key = λ i. record (picture (event owner key (Grace k c days) ∷ H)) {
+    rules = λ m n. (put_pair_set (rule_columns H) (rule_of H) k c (with_grace days t) m n ∙ ap (option_map (rule_columns H m n)) (graced t ruled m n)) i;
   }
 
   pub grace_meets : (row : Option RuleRow) → row ≡ rule_row H k c → Meets H (Grace k c days) (grace_checks row k c days) Done (grace_rows row days)

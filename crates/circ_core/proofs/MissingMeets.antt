@@ -21,7 +21,7 @@ use Rattle.model.specs.Answers.{missed}
 use Rattle.model.specs.Refusals.{checks, is_on_loan, is_on_hold_shelf, is_in_transit, lacks_lines}
 use Rattle.model.specs.Requests.{IsLegal}
 use Rattle.model.specs.Invariant.{Invariant}
-use Rattle.model.specs.Picture.{picture, meta_row, patron_columns, copy_columns, transit_row, transit_at, nth_line, line_columns}
+use Rattle.model.specs.Picture.{picture, meta_row, copy_row, hold_row, patron_columns, copy_columns, transit_row, transit_at, nth_line, line_columns}
 use Rattle.model.proofs.Passing.{passed}
 use Rattle.circ_core.specs.declared.changes.RowChange.{RowChange}
 use Rattle.circ_core.specs.declared.changes.RowChange.TheVariants.{TakeTransit}
@@ -103,52 +103,37 @@ module _ (H : History) (legal : IsLegal H) (inv : Invariant H) (c : ℕ) (r : Co
       let same : lines_with H q.patron q.loan (fine_now H (grace_of H) q.loan) r.price ≡ lines H ++ lines_by H (Missing c) =
       ap (lines_with H q.patron q.loan (fine_now H (grace_of H) q.loan)) (sym price_is) ∙ sym (both_lines H legal inv c q l) in
       let s = charges_show H legal inv c q l rows v r.price (inv.prices c r there) (freed (Some q) hold transit) refl (λ _. refl) (λ _. refl) in
-      record {
-        meta = s.meta ∙ ap (λ xs. record (meta_row H) { next_line = length xs + 1 }) same;
-        branches = λ n. ap (λ t. t n) s.branches;
-        closed_days = λ m n. ap (λ t. t m n) s.closed_days;
-        kinds = λ n. ap (λ t. t n) s.kinds;
-        rules = λ m n. ap (λ t. t m n) s.rules;
-        rules1 = λ m n. ap (λ t. t m n) s.rules1;
-        patrons = λ n. s.patrons n ∙ ap (λ xs. option_map (λ x. record (patron_columns H n x) { owed = owed_in xs n }) (patron_of H n)) same;
-        titles = λ n. ap (λ t. t n) s.titles;
-        copies = λ n. ap (λ t. t n) s.copies ∙ copies_gone H c MissingCopy refl refl r there n;
-        loans = λ n. ap (λ t. t n) s.loans ∙ one_ends H inv c q l n;
-        loans1 = λ n. ap (λ t. t n) s.loans1;
-        holds = λ n. ap (λ t. t n) s.holds ∙ holds_all_stay H c MissingCopy refl refl off n;
-        holds1 = λ n. ap (λ t. t n) s.holds1;
-        transits = λ n. ap (λ t. t n) s.transits ∙ transits_still H c MissingCopy refl refl still n;
-        lines = λ n. s.lines n ∙ ap (λ xs. option_map (line_columns H n) (nth_line xs n)) same;
+      λ i. record (s.others i) {
+        meta = (s.meta ∙ ap (λ xs. record (meta_row H) { next_line = length xs + 1 }) same) i;
+        patrons = λ n. (s.patrons n ∙ ap (λ xs. option_map (λ x. record (patron_columns H n x) { owed = owed_in xs n }) (patron_of H n)) same) i;
+        copies = λ n. (ap (λ (T : Picture). T.copies n) s.others ∙ copies_gone H c MissingCopy refl refl r there n) i;
+        loans = λ n. (ap (λ (T : Picture). T.loans n) s.others ∙ one_ends H inv c q l n) i;
+        holds = λ n. (ap (λ (T : Picture). T.holds n) s.others ∙ holds_all_stay H c MissingCopy refl refl off n) i;
+        transits = λ n. (ap (λ (T : Picture). T.transits n) s.others ∙ transits_still H c MissingCopy refl refl still n) i;
+        lines = λ n. (s.lines n ∙ ap (λ xs. option_map (line_columns H n) (nth_line xs n)) same) i;
+        kept = (picture (event owner key (Missing c) ∷ H)).kept;
       }
 
   -- Off loan only the copy's row changes, and those of a hold or a transit.
-  lead_off : is_on_loan (place H c) ≡ false → (P : Picture) → P.meta ≡ meta_row H → P.branches ≡ (picture H).branches → P.closed_days ≡ (picture H).closed_days
-      → P.kinds ≡ (picture H).kinds → P.rules ≡ (picture H).rules → P.rules1 ≡ (picture H).rules1 → P.patrons ≡ (picture H).patrons
-      → P.titles ≡ (picture H).titles
-      → ((n : ℕ) → P.copies n ≡ (freed None None None).copies n) → P.loans ≡ (picture H).loans → P.loans1 ≡ (picture H).loans1
-      → P.holds1 ≡ (picture H).holds1 → P.lines ≡ (picture H).lines
+  lead_off : is_on_loan (place H c) ≡ false → (P : Picture)
+      → record P { copies = copy_row H; holds = hold_row H; transits = transit_row H } ≡ picture H
+      → ((n : ℕ) → P.copies n ≡ (freed None None None).copies n)
       → (owner : Owner) (key : List ℕ)
       → ((n : ℕ) → P.holds n ≡ (picture (event owner key (Missing c) ∷ H)).holds n)
       → ((n : ℕ) → P.transits n ≡ (picture (event owner key (Missing c) ∷ H)).transits n)
       → SameRows P (picture (event owner key (Missing c) ∷ H))
-  lead_off off P m b d k u u1 p t copies_p loans_p loans1_p holds1_p lines_p owner key holds_p transits_p =
+  lead_off off P others copies_p owner key holds_p transits_p =
       let same : lines H ≡ lines H ++ lines_by H (Missing c) = sym (ap (λ xs. lines H ++ xs) (no_lines off) ∙ append-nil (lines H)) in
-      record {
-        meta = m ∙ ap (λ xs. record (meta_row H) { next_line = length xs + 1 }) same;
-        branches = λ n. ap (λ f. f n) b;
-        closed_days = λ i n. ap (λ f. f i n) d;
-        kinds = λ n. ap (λ f. f n) k;
-        rules = λ i n. ap (λ f. f i n) u;
-        rules1 = λ i n. ap (λ f. f i n) u1;
-        patrons = λ n. ap (λ f. f n) p ∙ ap (λ xs. option_map (λ x. record (patron_columns H n x) { owed = owed_in xs n }) (patron_of H n)) same;
-        titles = λ n. ap (λ f. f n) t;
-        copies = λ n. copies_p n ∙ copies_gone H c MissingCopy refl refl r there n;
-        loans = λ n. ap (λ f. f n) loans_p ∙ none_ends H inv c off n;
-        loans1 = λ n. ap (λ f. f n) loans1_p;
-        holds = holds_p;
-        holds1 = λ n. ap (λ f. f n) holds1_p;
-        transits = transits_p;
-        lines = λ n. ap (λ f. f n) lines_p ∙ ap (λ xs. option_map (line_columns H n) (nth_line xs n)) same;
+      λ i. record (others i) {
+        meta = (ap (λ T. T.meta) others ∙ ap (λ xs. record (meta_row H) { next_line = length xs + 1 }) same) i;
+        patrons = λ n. (ap (λ (T : Picture). T.patrons n) others
+            ∙ ap (λ xs. option_map (λ x. record (patron_columns H n x) { owed = owed_in xs n }) (patron_of H n)) same) i;
+        copies = λ n. (copies_p n ∙ copies_gone H c MissingCopy refl refl r there n) i;
+        loans = λ n. (ap (λ (T : Picture). T.loans n) others ∙ none_ends H inv c off n) i;
+        holds = λ n. holds_p n i;
+        transits = λ n. transits_p n i;
+        lines = λ n. (ap (λ (T : Picture). T.lines n) others ∙ ap (λ xs. option_map (line_columns H n) (nth_line xs n)) same) i;
+        kept = (picture (event owner key (Missing c) ∷ H)).kept;
       }
 
   lead_by : (loan : Option LoanRow) → IsLoanOf (picture H) c loan → (hold : Option HoldRow) → IsHoldOf (picture H) c hold
@@ -159,15 +144,13 @@ module _ (H : History) (legal : IsLegal H) (inv : Invariant H) (c : ℕ) (r : Co
   lead_by (Some q) w hold x transit y rows v owner key = lead_on q (lent H inv c q w) hold transit rows v owner key
   lead_by None w (Some q) x transit y rows v owner key =
       let k = kept_by H inv c r there q x in
-      rw v.patron (lead_off (off_loan None w refl) (freed None (Some q) transit) refl refl refl refl refl refl refl refl
-      (λ _. refl) refl refl refl refl owner key
+      rw v.patron (lead_off (off_loan None w refl) (freed None (Some q) transit) refl (λ _. refl) owner key
       (holds_again H c MissingCopy refl refl q k) (transits_still H c MissingCopy refl refl (ap is_in_transit k.here)))
   lead_by None w None x (Some t) y rows v owner key =
       let off : is_on_hold_shelf (place H c) ≡ false = sym (shelf_claims H inv c r there None x) in
       let copy : t.copy ≡ c = travels (place H c) t y in
       rw (v.patron, copy) (lead_off (off_loan None w refl)
-      (changed (condition_rows (Some row) condition.Missing ++ TakeTransit c ∷ []) (picture H)) refl refl refl refl refl refl refl refl
-      (λ _. refl) refl refl refl refl owner key
+      (changed (condition_rows (Some row) condition.Missing ++ TakeTransit c ∷ []) (picture H)) refl (λ _. refl) owner key
       (holds_all_stay H c MissingCopy refl refl off) (transits_over H c MissingCopy refl refl))
     where
       travels : (p : Place) (t : TransitRow) → Some t ≡ transit_at c p → t.copy ≡ c
@@ -181,7 +164,7 @@ module _ (H : History) (legal : IsLegal H) (inv : Invariant H) (c : ℕ) (r : Co
   lead_by None w None x None y rows v owner key =
       let off : is_on_hold_shelf (place H c) ≡ false = sym (shelf_claims H inv c r there None x) in
       let still : is_in_transit (place H c) ≡ false = sym (transit_claims H inv c None y) in
-      rw v.patron (lead_off (off_loan None w refl) (freed None None None) refl refl refl refl refl refl refl refl (λ _. refl) refl refl refl refl owner key
+      rw v.patron (lead_off (off_loan None w refl) (freed None None None) refl (λ _. refl) owner key
       (holds_all_stay H c MissingCopy refl refl off) (transits_still H c MissingCopy refl refl still))
 
 module _ (H : History) (legal : IsLegal H) (inv : Invariant H) (c : ℕ) (v : View) (w : IsMissingView (picture H) c v) where

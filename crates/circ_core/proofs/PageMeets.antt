@@ -14,21 +14,5 @@ pub page_meets : (H : History) (p : ℕ) (row : Option PatronRow) → row ≡ pa
 page_meets H p row w = record {
   same = (refl, (ap is_none w ∙ none-map (patron_columns H p) (patron_of H p)), λ _. tt);
   due = λ _. refl;
-  leads = λ _ owner key. record {
-    meta = refl;
-    branches = λ _. refl;
-    closed_days = λ _ _. refl;
-    kinds = λ _. refl;
-    rules = λ _ _. refl;
-    rules1 = λ _ _. refl;
-    patrons = λ _. refl;
-    titles = λ _. refl;
-    copies = λ _. refl;
-    loans = λ _. refl;
-    loans1 = λ _. refl;
-    holds = λ _. refl;
-    holds1 = λ _. refl;
-    transits = λ _. refl;
-    lines = λ _. refl;
-  };
+  leads = λ _ owner key. refl;
 }

@@ -7,6 +7,7 @@ use Rattle.model.specs.Invariant.{Invariant}
 use Rattle.model.specs.History.{History, kind_of, PatronFacts, patron_of}
 use Rattle.model.specs.Accounts.{owed}
 use Rattle.model.specs.Picture.{picture, kind_columns, patron_columns}
+use Rattle.circ_core.specs.Decides.{event}
 use Rattle.circ_core.specs.declared.changes.RowChange.{RowChange}
 use Rattle.circ_core.specs.declared.changes.RowChange.TheVariants.{PutPatron}
 use Rattle.circ_core.specs.declared.views.View.{View}
@@ -34,40 +35,12 @@ module _ (H : History) (inv : Invariant H) (p k : ℕ) (card_key name : List ℕ
 
   patron_leads : (o : Option PatronFacts) → patron_of H p ≡ o → Leads H (Patron p k card_key name) (rows_unless (option_map (patron_columns H p) o) new_patron)
   unfolding patron_facts new_patron
-  patron_leads (Some r) e owner key = record {
-    meta = refl;
-    branches = λ _. refl;
-    closed_days = λ _ _. refl;
-    kinds = λ _. refl;
-    rules = λ _ _. refl;
-    rules1 = λ _ _. refl;
-    patrons = λ n. keep_old (patron_columns H) (patron_of H) p patron_facts r n e;
-    titles = λ _. refl;
-    copies = λ _. refl;
-    loans = λ _. refl;
-    loans1 = λ _. refl;
-    holds = λ _. refl;
-    holds1 = λ _. refl;
-    transits = λ _. refl;
-    lines = λ _. refl;
+  patron_leads (Some r) e owner key = λ i. record (picture (event owner key (Patron p k card_key name) ∷ H)) {
+    patrons = λ n. (keep_old (patron_columns H) (patron_of H) p patron_facts r n e) i;
   }
-  patron_leads None e owner key = record {
-    meta = refl;
-    branches = λ _. refl;
-    closed_days = λ _ _. refl;
-    kinds = λ _. refl;
-    rules = λ _ _. refl;
-    rules1 = λ _ _. refl;
-    patrons = λ n. put_new (patron_columns H) (patron_of H) p patron_facts _ n e
-        (ap (λ w. record { patron = p; kind = k; card_key = card_key; name = name; owed = w }) (sym (owes_nothing e)));
-    titles = λ _. refl;
-    copies = λ _. refl;
-    loans = λ _. refl;
-    loans1 = λ _. refl;
-    holds = λ _. refl;
-    holds1 = λ _. refl;
-    transits = λ _. refl;
-    lines = λ _. refl;
+  patron_leads None e owner key = λ i. record (picture (event owner key (Patron p k card_key name) ∷ H)) {
+    patrons = λ n. (put_new (patron_columns H) (patron_of H) p patron_facts _ n e
+        (ap (λ w. record { patron = p; kind = k; card_key = card_key; name = name; owed = w }) (sym (owes_nothing e)))) i;
   }
 
   pub patron_meets : (rows : View) → IsPatronView (picture H) p k rows

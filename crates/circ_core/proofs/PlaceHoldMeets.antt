@@ -1,7 +1,7 @@
 -- Place-hold meets the history.
 use Rattle.terms.specs.declared.limits.TheConstants.{LAST_NUMBER}
 use Rattle.std.proofs.Common.{◌≡◌, ℕ, ◌==◌, nat_lt, nat_le, Bool, true, false, cond, refl, ◌∙◌, ap}
-use Rattle.std.specs.Prelude.{Option, Some, None, is_none}
+use Rattle.std.specs.Prelude.{◌∷◌, Option, Some, None, is_none}
 use Rattle.std.proofs.lemmas.Bool.{eqb-true}
 use Rattle.terms.specs.declared.command.Owner.TheVariants.{Desk}
 use Rattle.terms.specs.declared.command.Command.TheVariants.{PlaceHold}
@@ -15,6 +15,7 @@ use Rattle.model.specs.Places.{state, kept_for, limit}
 use Rattle.model.specs.Refusals.{checks, kind_now, is_bad_first_day as model_is_bad_first_day}
 use Rattle.model.specs.Invariant.{Invariant}
 use Rattle.model.specs.Picture.{picture, meta_row, patron_columns, branch_columns, hold_row, hold_by}
+use Rattle.circ_core.specs.Decides.{event}
 use Rattle.circ_core.specs.declared.views.View.{View}
 use Rattle.circ_core.specs.PlaceHold.{is_bad_first_day, place_hold_checks, new_hold, place_hold_rows}
 use Rattle.circ_core.specs.Views.{IsPlaceHoldView}
@@ -81,21 +82,7 @@ module _ (H : History) (inv : Invariant H) (p t b : ℕ) (first_day : Option ℕ
     same = place_hold_same;
     due = λ _. ap (λ m. Held m.next_hold) w.meta;
     leads = λ _ owner key.
-        rw w.meta (record {
-          meta = refl;
-          branches = λ _. refl;
-          closed_days = λ _ _. refl;
-          kinds = λ _. refl;
-          rules = λ _ _. refl;
-          rules1 = λ _ _. refl;
-          patrons = λ _. refl;
-          titles = λ _. refl;
-          copies = λ _. refl;
-          loans = λ _. refl;
-          loans1 = λ _. refl;
-          holds = holds_lead;
-          holds1 = λ _. refl;
-          transits = λ _. refl;
-          lines = λ _. refl;
+        rw w.meta (λ i. record (picture (event owner key (PlaceHold p t b first_day) ∷ H)) {
+          holds = λ h. holds_lead h i;
         });
   }

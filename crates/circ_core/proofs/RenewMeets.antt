@@ -20,6 +20,7 @@ use Rattle.model.specs.Requests.{IsLegal}
 use Rattle.model.specs.Invariant.{Invariant}
 use Rattle.model.specs.Picture.{picture, copy_columns, loan_row, loan_columns, hold_columns}
 use Rattle.model.proofs.Passing.{passed}
+use Rattle.circ_core.specs.Decides.{event}
 use Rattle.circ_core.specs.declared.views.View.{View}
 use Rattle.circ_core.specs.Debt.{debt_allowed, owed_by}
 use Rattle.circ_core.specs.Renew.{is_over, is_late, is_renewed_out, next_due, renew_checks, renewed_due_day, renewed_due_in, renewed_rows}
@@ -169,22 +170,8 @@ module _ (H : History) (legal : IsLegal H) (inv : Invariant H) (l : ℕ) (v : Vi
 
     leads_at : Leads H (Renew l) (renewed_rows v.loan day)
     leads_at owner key =
-        rw (loan_is r made) (record {
-          meta = refl;
-          branches = λ _. refl;
-          closed_days = λ _ _. refl;
-          kinds = λ _. refl;
-          rules = λ _ _. refl;
-          rules1 = λ _ _. refl;
-          patrons = λ _. refl;
-          titles = λ _. refl;
-          copies = λ _. refl;
-          loans = loans_lead;
-          loans1 = λ _. refl;
-          holds = λ _. refl;
-          holds1 = λ _. refl;
-          transits = λ _. refl;
-          lines = λ _. refl;
+        rw (loan_is r made) (λ i. record (picture (event owner key (Renew l) ∷ H)) {
+          loans = λ n. loans_lead n i;
         })
 
   -- The new due day, where the renewal isn't refused.

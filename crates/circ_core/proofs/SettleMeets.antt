@@ -20,6 +20,7 @@ use Rattle.model.specs.Refusals.{checks, has_patron}
 use Rattle.model.specs.Picture.{picture, meta_row, patron_row, patron_columns, nth_line, line_row, line_columns}
 use Rattle.model.proofs.Moves.{false-ne}
 use Rattle.model.proofs.Passing.{passed}
+use Rattle.circ_core.specs.Decides.{event}
 use Rattle.circ_core.specs.declared.views.View.{View}
 use Rattle.circ_core.specs.Debt.{owed_by}
 use Rattle.circ_core.specs.Settle.{settle_checks, settle_rows, settled}
@@ -139,43 +140,19 @@ module _ (H : History) (p : ℕ) (rows : View) (w : IsAccountView (picture H) p 
   pay_lead : (r : PatronFacts) → patron_of H p ≡ Some r → (n : ℕ) → (n == 0) ≡ false
       → Leads H (Pay p n) (settled (meta_row H) (Some (patron_columns H p r)) p Payment n)
   pay_lead r there zero e owner key = let never : ⊥ = cc in absurd never
-  pay_lead r there (suc m) e owner key = record {
-    meta = meta_lead H p m Payment refl refl;
-    branches = λ _. refl;
-    closed_days = λ _ _. refl;
-    kinds = λ _. refl;
-    rules = λ _ _. refl;
-    rules1 = λ _ _. refl;
-    patrons = patrons_lead H p m Payment refl refl r there;
-    titles = λ _. refl;
-    copies = λ _. refl;
-    loans = λ _. refl;
-    loans1 = λ _. refl;
-    holds = λ _. refl;
-    holds1 = λ _. refl;
-    transits = λ _. refl;
-    lines = lines_lead H p m Payment refl refl;
+  pay_lead r there (suc m) e owner key = λ i. record (picture (event owner key (Pay p (suc m)) ∷ H)) {
+    meta = (meta_lead H p m Payment refl refl) i;
+    patrons = λ n. patrons_lead H p m Payment refl refl r there n i;
+    lines = λ n. lines_lead H p m Payment refl refl n i;
   }
 
   waive_lead : (r : PatronFacts) → patron_of H p ≡ Some r → (n : ℕ) → (n == 0) ≡ false
       → Leads H (Waive p n) (settled (meta_row H) (Some (patron_columns H p r)) p Waiver n)
   waive_lead r there zero e owner key = let never : ⊥ = cc in absurd never
-  waive_lead r there (suc m) e owner key = record {
-    meta = meta_lead H p m Waiver refl refl;
-    branches = λ _. refl;
-    closed_days = λ _ _. refl;
-    kinds = λ _. refl;
-    rules = λ _ _. refl;
-    rules1 = λ _ _. refl;
-    patrons = patrons_lead H p m Waiver refl refl r there;
-    titles = λ _. refl;
-    copies = λ _. refl;
-    loans = λ _. refl;
-    loans1 = λ _. refl;
-    holds = λ _. refl;
-    holds1 = λ _. refl;
-    transits = λ _. refl;
-    lines = lines_lead H p m Waiver refl refl;
+  waive_lead r there (suc m) e owner key = λ i. record (picture (event owner key (Waive p (suc m)) ∷ H)) {
+    meta = (meta_lead H p m Waiver refl refl) i;
+    patrons = λ n. patrons_lead H p m Waiver refl refl r there n i;
+    lines = λ n. lines_lead H p m Waiver refl refl n i;
   }
 
   pub pay_meets : (n : ℕ) → Meets H (Pay p n) (settle_checks rows n) (Owed (owed_by rows.patron - n)) (settle_rows rows p Payment n)

@@ -319,24 +319,12 @@ module _ (H : History) (legal : IsLegal H) (g : ℕ) (v : View) (w : IsUnshelveV
           → SameRows (changed (unshelve_rows v ends until) (picture H)) (tables_after ends kept)
       leads_after ends final kept =
           let l : Limits H way until = limits H inv branch v here_is today_is branch_there way to_there.1 in
-          subst (λ P. SameRows P (tables_after ends kept)) (sym (changed_same ends)) (record {
-            meta = refl;
-            branches = λ _. refl;
-            closed_days = λ _ _. refl;
-            kinds = λ _. refl;
-            rules = λ _ _. refl;
-            rules1 = λ _ _. refl;
-            patrons = λ _. refl;
-            titles = λ _. refl;
-            copies = λ n. ap (λ x. option_map
+          subst (λ P. SameRows P (tables_after ends kept)) (sym (changed_same ends)) (λ i. record (tables_after ends kept) {
+            copies = λ n. (ap (λ x. option_map
                 (λ r. record { copy = n; title = r.title; kind = r.kind; home = r.home; price = r.price; condition = x }) (copy_of H n))
-                (copies_lead H inv g s.0 s.1 s.3 s.2 k.0 k.2 k.1 ends final branch until way to_there n);
-            loans = λ _. refl;
-            loans1 = λ _. refl;
-            holds = holds_lead H inv g s.0 s.1 s.3 s.2 k.0 k.2 k.1 ends final branch until way to_there l;
-            holds1 = λ _. refl;
-            transits = transits_lead H inv g s.0 s.1 s.3 s.2 k.0 k.2 k.1 ends final branch until way to_there;
-            lines = λ _. refl;
+                (copies_lead H inv g s.0 s.1 s.3 s.2 k.0 k.2 k.1 ends final branch until way to_there n)) i;
+            holds = λ h. holds_lead H inv g s.0 s.1 s.3 s.2 k.0 k.2 k.1 ends final branch until way to_there l h i;
+            transits = λ n. transits_lead H inv g s.0 s.1 s.3 s.2 k.0 k.2 k.1 ends final branch until way to_there n i;
           })
 
       expired_lead : Leads H (Unshelve g) (unshelve_rows v Expired until)

@@ -10,7 +10,8 @@ use Rattle.model.specs.History.{History, week_of, BranchFacts, branch_of}
 use Rattle.model.specs.Refusals.{checks}
 use Rattle.model.proofs.Passing.{passed}
 use Rattle.terms.specs.declared.command.Owner.TheVariants.{Desk}
-use Rattle.model.specs.Picture.{branch_row, branch_columns}
+use Rattle.model.specs.Picture.{picture, branch_row, branch_columns}
+use Rattle.circ_core.specs.Decides.{event}
 use Rattle.circ_core.specs.Week.{week_checks, week_rows}
 use Rattle.circ_core.proofs.Meets.{Meets, Leads}
 use Rattle.circ_core.proofs.Rows.{none-map}
@@ -36,22 +37,8 @@ module _ (H : History) (b : ℕ) (closed : List Bool) where
 
   week_leads : (o : Option BranchFacts) → branch_of H b ≡ o → not (is_some o) ≡ false
       → Leads H (Week b closed) (week_rows (option_map (branch_columns H b) o) closed)
-  week_leads (Some r) e ok owner key = record {
-    meta = refl;
-    branches = week_set r e;
-    closed_days = λ _ _. refl;
-    kinds = λ _. refl;
-    rules = λ _ _. refl;
-    rules1 = λ _ _. refl;
-    patrons = λ _. refl;
-    titles = λ _. refl;
-    copies = λ _. refl;
-    loans = λ _. refl;
-    loans1 = λ _. refl;
-    holds = λ _. refl;
-    holds1 = λ _. refl;
-    transits = λ _. refl;
-    lines = λ _. refl;
+  week_leads (Some r) e ok owner key = λ i. record (picture (event owner key (Week b closed) ∷ H)) {
+    branches = λ n. week_set r e n i;
   }
   week_leads None e ok owner key = let never : ⊥ = cc in absurd never
 

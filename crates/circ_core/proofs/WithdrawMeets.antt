@@ -1,6 +1,6 @@
 -- Withdraw meets the history.
 use Rattle.std.proofs.Common.{◌≡◌, ℕ, refl, ◌∙◌, ap}
-use Rattle.std.specs.Prelude.{Some, option_map, is_none}
+use Rattle.std.specs.Prelude.{◌∷◌, Some, option_map, is_none}
 use Rattle.terms.specs.declared.command.Owner.TheVariants.{Desk}
 use Rattle.terms.specs.declared.command.Command.TheVariants.{Withdraw}
 use Rattle.terms.specs.declared.reply.Reply.TheVariants.{Done}
@@ -10,6 +10,7 @@ use Rattle.model.specs.Refusals.{checks}
 use Rattle.model.specs.Invariant.{Invariant}
 use Rattle.model.specs.Picture.{picture, copy_columns}
 use Rattle.model.proofs.Passing.{passed}
+use Rattle.circ_core.specs.Decides.{event}
 use Rattle.circ_core.specs.declared.views.View.{View}
 use Rattle.circ_core.specs.Condition.{is_withdrawn as is_withdrawn_row}
 use Rattle.circ_core.specs.Withdraw.{withdraw_checks, withdraw_rows}
@@ -51,21 +52,9 @@ module _ (H : History) (inv : Invariant H) (c : ℕ) (v : View) (w : IsCopyView 
     leads = λ ok owner key.
         let k = passed (checks H Desk (Withdraw c)) ok in
         let r : (x : CopyFacts) × (copy_of H c ≡ Some x) = some-is (copy_of H c) k.0 in
-        rw (copy_is r.0 r.1) (record {
-          meta = refl;
-          branches = λ _. refl;
-          closed_days = λ _ _. refl;
-          kinds = λ _. refl;
-          rules = λ _ _. refl;
-          rules1 = λ _ _. refl;
-          patrons = λ _. refl;
-          titles = λ _. refl;
-          copies = copies_gone H c WithdrawnCopy refl refl r.0 r.1;
-          loans = λ _. refl;
-          loans1 = λ _. refl;
-          holds = λ n. holds_stay H c WithdrawnCopy refl refl n (unkept (place H c) n k.1.1.1.1.0);
-          holds1 = λ _. refl;
-          transits = transits_still H c WithdrawnCopy refl refl k.1.1.1.0;
-          lines = λ _. refl;
+        rw (copy_is r.0 r.1) (λ i. record (picture (event owner key (Withdraw c) ∷ H)) {
+          copies = λ n. copies_gone H c WithdrawnCopy refl refl r.0 r.1 n i;
+          holds = λ n. (holds_stay H c WithdrawnCopy refl refl n (unkept (place H c) n k.1.1.1.1.0)) i;
+          transits = λ n. transits_still H c WithdrawnCopy refl refl k.1.1.1.0 n i;
         });
   }

@@ -1,5 +1,5 @@
 -- The tables as row changes leave them.
-use Rattle.std.specs.Prelude.{◌≡◌, ℕ, true, false, List, [], ◌∷◌, Option, Some, None}
+use Rattle.std.specs.Prelude.{◌≡◌, true, false, List, [], ◌∷◌, Option, Some, None}
 use Rattle.terms.specs.Pictures.{Picture, put, put_pair}
 use Rattle.circ_core.specs.declared.changes.RowChange.{RowChange}
 use Rattle.circ_core.specs.declared.changes.RowChange.TheVariants.{PutMeta, PutBranch, PutClosedDay, TakeClosedDay, PutKind, PutRule}
@@ -29,22 +29,8 @@ changed [] P = P
 changed (x ∷ xs) P = changed xs (change x P)
 
 -- The tables hold the same rows, those of the kept requests aside.
-pub record SameRows (P Q : Picture) : Type 0 where
-  pub meta : P.meta ≡ Q.meta
-  pub branches : (b : ℕ) → P.branches b ≡ Q.branches b
-  pub closed_days : (b d : ℕ) → P.closed_days b d ≡ Q.closed_days b d
-  pub kinds : (k : ℕ) → P.kinds k ≡ Q.kinds k
-  pub rules : (k c : ℕ) → P.rules k c ≡ Q.rules k c
-  pub rules1 : (k c : ℕ) → P.rules1 k c ≡ Q.rules1 k c
-  pub patrons : (p : ℕ) → P.patrons p ≡ Q.patrons p
-  pub titles : (t : ℕ) → P.titles t ≡ Q.titles t
-  pub copies : (c : ℕ) → P.copies c ≡ Q.copies c
-  pub loans : (l : ℕ) → P.loans l ≡ Q.loans l
-  pub loans1 : (l : ℕ) → P.loans1 l ≡ Q.loans1 l
-  pub holds : (h : ℕ) → P.holds h ≡ Q.holds h
-  pub holds1 : (h : ℕ) → P.holds1 h ≡ Q.holds1 h
-  pub transits : (c : ℕ) → P.transits c ≡ Q.transits c
-  pub lines : (n : ℕ) → P.lines n ≡ Q.lines n
+abbrev pub SameRows : Picture → Picture → Type 0
+SameRows P Q = record P { kept = Q.kept } ≡ Q
 
 -- Rows that are put unless there is one already.
 abbrev pub rows_unless : {A : Type 0} → Option A → List RowChange → List RowChange

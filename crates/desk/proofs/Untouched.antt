@@ -105,9 +105,9 @@ changes-keep (x ∷ xs) P p out =
 
 rows-keep : (P Q R : Picture) (p : ℕ) → KeepsOwnRows P Q p → SameRows Q R → KeepsOwnRows P R p
 rows-keep P Q R p keeps same = record {
-  patron = keeps.patron ∙ same.patrons p;
-  loans = λ l r at own. keeps.loans l r (same.loans l ∙ at) own;
-  holds = λ h r at own. keeps.holds h r (same.holds h ∙ at) own;
+  patron = keeps.patron ∙ ap (λ (T : Picture). T.patrons p) same;
+  loans = λ l r at own. keeps.loans l r (ap (λ (T : Picture). T.loans l) same ∙ at) own;
+  holds = λ h r at own. keeps.holds h r (ap (λ (T : Picture). T.holds h) same ∙ at) own;
 }
 
 -- Where nothing was accepted nobody's rows are others.
