@@ -73,12 +73,12 @@ module _ {S : Type 0} (g : Ghosts S) where
       by false e = let never : ⊥ = cc ((is.refused e).0) in absurd never
 
   -- there can't be so many workers
-  pub not-asked : (workers : ℕ) (old new : Held S) (refusal : _) → IsUnopened workers g old new (why.Refused refusal) → new ≡ old
+  pub not-asked : (workers : ℕ) (old new : Held S) (refusal : _) → IsUnopened workers g old new (why.Refused refusal) → (can_be_workers workers ≡ false) × (new ≡ old)
   not-asked workers old new refusal is = by (can_be_workers workers) refl
     where
-      by : (b : Bool) → can_be_workers workers ≡ b → new ≡ old
+      by : (b : Bool) → can_be_workers workers ≡ b → (can_be_workers workers ≡ false) × (new ≡ old)
       by true e = let never : ⊥ = cc ((is.faulted e).1) in absurd never
-      by false e = (is.refused e).1
+      by false e = (e, (is.refused e).1)
 
   module _ {E : Type 0} (lists : History → Type 0) (port workers : ℕ) (old new : Held S) where
     -- the port was told, and then how it ended
@@ -153,7 +153,7 @@ pub why-told : {S E : Type 0} (g : Ghosts S) (port workers : ℕ) (old new : Hel
     → IsUnopened workers g old new w → EndsWith (exit_of_why w) (why_line w) a b r
     → ServesPort port workers g old new a b r
 why-told g port workers old new (why.Faulted fault) a b r is ends = fault-told g port workers old new a b r fault (not-opened g workers old new fault is) ends
-why-told g port workers old new (why.Refused refusal) a b r is ends = inr (inr (not-asked g workers old new refusal is, ends))
+why-told g port workers old new (why.Refused refusal) a b r is ends = let none = not-asked g workers old new refusal is in inr (inr (none.0, none.1, ends))
 
 -- that a thread could not be made was told, and then the fault
 pub both-told : {E : Type 0} (are_whole : Bool) (fault : Option ServiceFault) (met : ServiceFault) (a b : Option (List ℕ))

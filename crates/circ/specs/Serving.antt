@@ -8,7 +8,7 @@ use Rattle.terms.specs.Texts.{service_fault_number}
 use Rattle.terms.specs.declared.fault.ServiceFault.{ServiceFault}
 use Rattle.hall.specs.declared.messages.Message.{Message}
 use Rattle.hall.specs.Queue.{handled, unhandled, submissions, requests}
-use Rattle.hall.specs.Openings.{ToldBy}
+use Rattle.hall.specs.Openings.{ToldBy, can_be_workers}
 use Rattle.hall.specs.Handling.{HandledFirst, AreShown}
 use Rattle.hall.specs.Serving.{Working, TookPart, GivesReplies}
 use Rattle.hall.specs.declared.hall.Why.{Why}
@@ -103,4 +103,4 @@ abbrev pub ServesPort : {S E : Type 0} → ℕ → ℕ → Ghosts S → Held S �
 ServesPort port workers g old new before after result =
     ServesHall (Shows (state g old)) port workers g old new before after result
     ⊎ (IsNotServed g old new before after result
-    ⊎ ((new ≡ old) × EndsWith NotUnderstood not_understood_line before after result))
+    ⊎ ((can_be_workers workers ≡ false) × (new ≡ old) × EndsWith NotUnderstood not_understood_line before after result))
