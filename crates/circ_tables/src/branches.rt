@@ -45,8 +45,8 @@ impl Numbered for BranchRow {
             take: "DELETE FROM branches WHERE branch = ?1",
             get: "SELECT * FROM branches WHERE branch = ?1",
             all: "SELECT * FROM branches ORDER BY branch",
-            first: "SELECT * FROM branches ORDER BY branch LIMIT 1000",
-            page: "SELECT * FROM branches WHERE branch >= ?1 ORDER BY branch LIMIT 1000",
+            first: "SELECT * FROM branches ORDER BY branch LIMIT 101",
+            page: "SELECT * FROM branches WHERE branch >= ?1 ORDER BY branch LIMIT 101",
         }
     }
 

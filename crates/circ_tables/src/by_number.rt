@@ -121,8 +121,10 @@ pub fn every_row<T: Numbered, S: Alter>(
     rows_of(conn, alloc, memory, T::texts().all, &[])
 }
 
-/// How many rows a page of a list has, but for its last one. The texts of pages name it too.
-pub const PAGE_ROWS: usize = 1000;
+/// How many rows a page of a list has, but for its last one: the hundred that one answer to a
+/// question shows, `terms::MOST_ROWS`, and one more, which tells whether there are more. The texts
+/// of pages name it too.
+pub const PAGE_ROWS: usize = 101;
 
 /// The least number of a row that comes after this one. That this one has 32 bits is said too,
 /// since what is answered fits 64 for it.

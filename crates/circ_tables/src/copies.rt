@@ -50,8 +50,8 @@ impl Numbered for CopyRow {
             take: "DELETE FROM copies WHERE copy = ?1",
             get: "SELECT * FROM copies WHERE copy = ?1",
             all: "SELECT * FROM copies ORDER BY copy",
-            first: "SELECT * FROM copies ORDER BY copy LIMIT 1000",
-            page: "SELECT * FROM copies WHERE copy >= ?1 ORDER BY copy LIMIT 1000",
+            first: "SELECT * FROM copies ORDER BY copy LIMIT 101",
+            page: "SELECT * FROM copies WHERE copy >= ?1 ORDER BY copy LIMIT 101",
         }
     }
 

@@ -64,8 +64,8 @@ impl Numbered for HoldRow {
             take: "DELETE FROM holds2 WHERE hold = ?1",
             get: "SELECT * FROM holds2 WHERE hold = ?1",
             all: "SELECT * FROM holds2 ORDER BY hold",
-            first: "SELECT * FROM holds2 ORDER BY hold LIMIT 1000",
-            page: "SELECT * FROM holds2 WHERE hold >= ?1 ORDER BY hold LIMIT 1000",
+            first: "SELECT * FROM holds2 ORDER BY hold LIMIT 101",
+            page: "SELECT * FROM holds2 WHERE hold >= ?1 ORDER BY hold LIMIT 101",
         }
     }
 
@@ -270,7 +270,7 @@ pub fn active_holds_by<S: Alter>(
 
 /// The text of `ready_holds_after`.
 pub const READY_HOLDS_AFTER_TEXT: &str =
-    "SELECT * FROM holds2 WHERE branch = ?1 AND state = 1 AND hold > ?2 ORDER BY hold LIMIT 1000";
+    "SELECT * FROM holds2 WHERE branch = ?1 AND state = 1 AND hold > ?2 ORDER BY hold LIMIT 101";
 
 /// The first ready holds with this pick-up branch whose numbers are above this one, the least
 /// number first: all of them, or as many as a page has. 90, 91, 93.

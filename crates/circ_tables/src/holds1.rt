@@ -49,8 +49,8 @@ impl Numbered for HoldRow1 {
             take: "DELETE FROM holds WHERE hold = ?1",
             get: "SELECT * FROM holds WHERE hold = ?1",
             all: "SELECT * FROM holds ORDER BY hold",
-            first: "SELECT * FROM holds ORDER BY hold LIMIT 1000",
-            page: "SELECT * FROM holds WHERE hold >= ?1 ORDER BY hold LIMIT 1000",
+            first: "SELECT * FROM holds ORDER BY hold LIMIT 101",
+            page: "SELECT * FROM holds WHERE hold >= ?1 ORDER BY hold LIMIT 101",
         }
     }
 

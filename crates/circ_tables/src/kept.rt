@@ -110,7 +110,7 @@ pub fn all_kept<S: Alter>(conn: &mut Connection<S>, alloc: Global) -> Result<Vec
 }
 
 /// The text of `first_kept`.
-pub const FIRST_KEPT_TEXT: &str = "SELECT * FROM kept ORDER BY caller, key LIMIT 1000";
+pub const FIRST_KEPT_TEXT: &str = "SELECT * FROM kept ORDER BY caller, key LIMIT 101";
 
 /// The first rows of `kept`, by whose they are and then by key: all of them, or as many as a page
 /// has. 90, 91, 93.
@@ -123,7 +123,7 @@ pub fn first_kept<S: Alter>(conn: &mut Connection<S>, alloc: Global) -> Result<V
 
 /// The text of `kept_after`.
 pub const KEPT_AFTER_TEXT: &str =
-    "SELECT * FROM kept WHERE caller = ?1 AND key > ?2 ORDER BY caller, key LIMIT 1000";
+    "SELECT * FROM kept WHERE caller = ?1 AND key > ?2 ORDER BY caller, key LIMIT 101";
 
 /// The first rows that are kept for a caller by keys after this one, by key: all of them, or as
 /// many as a page has. 90, 91, 93.
@@ -148,7 +148,7 @@ pub fn kept_after<S: Alter>(
 
 /// The text of `kept_past`.
 pub const KEPT_PAST_TEXT: &str =
-    "SELECT * FROM kept WHERE caller > ?1 ORDER BY caller, key LIMIT 1000";
+    "SELECT * FROM kept WHERE caller > ?1 ORDER BY caller, key LIMIT 101";
 
 /// The first rows that are kept for the callers after this one, by whose they are and then by key:
 /// all of them, or as many as a page has. 90, 91, 93.

@@ -48,8 +48,8 @@ impl Numbered for KindRow {
             take: "DELETE FROM kinds WHERE kind = ?1",
             get: "SELECT * FROM kinds WHERE kind = ?1",
             all: "SELECT * FROM kinds ORDER BY kind",
-            first: "SELECT * FROM kinds ORDER BY kind LIMIT 1000",
-            page: "SELECT * FROM kinds WHERE kind >= ?1 ORDER BY kind LIMIT 1000",
+            first: "SELECT * FROM kinds ORDER BY kind LIMIT 101",
+            page: "SELECT * FROM kinds WHERE kind >= ?1 ORDER BY kind LIMIT 101",
         }
     }
 

@@ -57,8 +57,8 @@ impl Numbered for LineRow {
             take: "DELETE FROM lines WHERE line = ?1",
             get: "SELECT * FROM lines WHERE line = ?1",
             all: "SELECT * FROM lines ORDER BY line",
-            first: "SELECT * FROM lines ORDER BY line LIMIT 1000",
-            page: "SELECT * FROM lines WHERE line >= ?1 ORDER BY line LIMIT 1000",
+            first: "SELECT * FROM lines ORDER BY line LIMIT 101",
+            page: "SELECT * FROM lines WHERE line >= ?1 ORDER BY line LIMIT 101",
         }
     }
 
@@ -91,7 +91,7 @@ impl Put for LineRow {
 
 /// The text of `lines_after`.
 pub const LINES_AFTER_TEXT: &str =
-    "SELECT * FROM lines WHERE day = ?1 AND line > ?2 ORDER BY line LIMIT 1000";
+    "SELECT * FROM lines WHERE day = ?1 AND line > ?2 ORDER BY line LIMIT 101";
 
 /// The first lines of a day, of all sorts, whose numbers are above this one, the least number
 /// first: all of them, or as many as a page has. 90, 91, 93.

@@ -70,8 +70,8 @@ impl Numbered for LoanRow {
             take: "DELETE FROM loans3 WHERE loan = ?1",
             get: "SELECT * FROM loans3 WHERE loan = ?1",
             all: "SELECT * FROM loans3 ORDER BY loan",
-            first: "SELECT * FROM loans3 ORDER BY loan LIMIT 1000",
-            page: "SELECT * FROM loans3 WHERE loan >= ?1 ORDER BY loan LIMIT 1000",
+            first: "SELECT * FROM loans3 ORDER BY loan LIMIT 101",
+            page: "SELECT * FROM loans3 WHERE loan >= ?1 ORDER BY loan LIMIT 101",
         }
     }
 
@@ -187,7 +187,7 @@ pub fn open_loans_by<S: Alter>(
 /// The text of `overdue_loans_after`.
 pub const OVERDUE_LOANS_AFTER_TEXT: &str =
     "SELECT * FROM loans3 WHERE branch = ?1 AND ended IS NULL AND due < ?2 AND loan > ?3 \
-     ORDER BY loan LIMIT 1000";
+     ORDER BY loan LIMIT 101";
 
 /// The first open loans that the branch made, that were due before the day and whose numbers are
 /// above this one, the least number first: all of them, or as many as a page has. 90, 91, 93.

@@ -56,8 +56,8 @@ impl Numbered for LoanRow1 {
             take: "DELETE FROM loans WHERE loan = ?1",
             get: "SELECT * FROM loans WHERE loan = ?1",
             all: "SELECT * FROM loans ORDER BY loan",
-            first: "SELECT * FROM loans ORDER BY loan LIMIT 1000",
-            page: "SELECT * FROM loans WHERE loan >= ?1 ORDER BY loan LIMIT 1000",
+            first: "SELECT * FROM loans ORDER BY loan LIMIT 101",
+            page: "SELECT * FROM loans WHERE loan >= ?1 ORDER BY loan LIMIT 101",
         }
     }
 

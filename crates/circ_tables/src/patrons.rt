@@ -48,8 +48,8 @@ impl Numbered for PatronRow {
             take: "DELETE FROM patrons WHERE patron = ?1",
             get: "SELECT * FROM patrons WHERE patron = ?1",
             all: "SELECT * FROM patrons ORDER BY patron",
-            first: "SELECT * FROM patrons ORDER BY patron LIMIT 1000",
-            page: "SELECT * FROM patrons WHERE patron >= ?1 ORDER BY patron LIMIT 1000",
+            first: "SELECT * FROM patrons ORDER BY patron LIMIT 101",
+            page: "SELECT * FROM patrons WHERE patron >= ?1 ORDER BY patron LIMIT 101",
         }
     }
 

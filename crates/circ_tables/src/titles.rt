@@ -42,8 +42,8 @@ impl Numbered for TitleRow {
             take: "DELETE FROM titles WHERE title = ?1",
             get: "SELECT * FROM titles WHERE title = ?1",
             all: "SELECT * FROM titles ORDER BY title",
-            first: "SELECT * FROM titles ORDER BY title LIMIT 1000",
-            page: "SELECT * FROM titles WHERE title >= ?1 ORDER BY title LIMIT 1000",
+            first: "SELECT * FROM titles ORDER BY title LIMIT 101",
+            page: "SELECT * FROM titles WHERE title >= ?1 ORDER BY title LIMIT 101",
         }
     }
 

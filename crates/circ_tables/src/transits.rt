@@ -48,8 +48,8 @@ impl Numbered for TransitRow {
             take: "DELETE FROM transits WHERE copy = ?1",
             get: "SELECT * FROM transits WHERE copy = ?1",
             all: "SELECT * FROM transits ORDER BY copy",
-            first: "SELECT * FROM transits ORDER BY copy LIMIT 1000",
-            page: "SELECT * FROM transits WHERE copy >= ?1 ORDER BY copy LIMIT 1000",
+            first: "SELECT * FROM transits ORDER BY copy LIMIT 101",
+            page: "SELECT * FROM transits WHERE copy >= ?1 ORDER BY copy LIMIT 101",
         }
     }
 
