@@ -1,6 +1,10 @@
 //! The table of copies.
 
+ghost use Rattle.sql_maps.specs.Pages.{FirstRows};
 ghost use Rattle.circ_tables.specs.Copies.{copies, copies_are};
+ghost use Rattle.circ_tables.specs.Reading.{Lists};
+ghost use Rattle.circ_tables.specs.Selections.{is_copy_of_after};
+ghost use Rattle.circ_tables.specs.declared.by_number.TheConstants.{PAGE_ROWS};
 
 use crate::by_number::{Numbered, Put, Texts};
 use crate::call::run;
@@ -8,9 +12,10 @@ use crate::cell::{
     branch_at, cents_at, condition_at, condition_number, copy_at, copy_kind_at, has_width, money,
     title_at,
 };
-use crate::list::Table;
-use sqlite::{Alter, Row, Transaction, params};
-use terms::{CopyId, CopyRow, Fault, HIGHEST_PRICE};
+use crate::list::{Table, rows_of};
+use sqlite::{Alter, Connection, Row, Transaction, params};
+use std::alloc::Global;
+use terms::{CopyId, CopyRow, Fault, HIGHEST_PRICE, TitleId};
 
 impl Table for CopyRow {
     type Key = u32;
@@ -80,4 +85,29 @@ impl Put for CopyRow {
             ],
         )
     }
+}
+
+/// The text of `copies_of_title_after`.
+pub const COPIES_OF_TITLE_AFTER_TEXT: &str =
+    "SELECT * FROM copies WHERE title = ?1 AND copy > ?2 ORDER BY copy LIMIT 101";
+
+/// The first copies of a title whose numbers are above this one, the least number first: all of
+/// them, or as many as a page has. 90, 91, 93.
+pub fn copies_of_title_after<S: Alter>(
+    conn: &mut Connection<S>,
+    alloc: Global,
+    title: TitleId,
+    after: CopyId,
+) -> Result<Vec<CopyRow>, Fault>
+    ensures { Lists copies (λ l. l.items)
+        (λ m. FirstRows PAGE_ROWS m (is_copy_of_after title after))
+        S.Store conn.old conn.new result }
+{
+    rows_of(
+        conn,
+        alloc,
+        (),
+        COPIES_OF_TITLE_AFTER_TEXT,
+        params![title.number(), after.number()],
+    )
 }

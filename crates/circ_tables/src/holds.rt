@@ -7,7 +7,7 @@ ghost use Rattle.circ_tables.specs.Holds.{holds, holds_are};
 ghost use Rattle.circ_tables.specs.Reading.{Counts, Lists, Selects};
 ghost use Rattle.circ_tables.specs.Selections.{BeginsBefore, StandsInLine, Waits, WaitsSince};
 ghost use Rattle.circ_tables.specs.Selections.{is_active_by, is_active_on, is_ready_after};
-ghost use Rattle.circ_tables.specs.Selections.{names_copy};
+ghost use Rattle.circ_tables.specs.Selections.{is_waiting_after, is_waiting_for_after, names_copy};
 ghost use Rattle.circ_tables.specs.Shape.{holds_place, transits_place};
 ghost use Rattle.circ_tables.specs.Transits.{transits};
 ghost use Rattle.circ_tables.specs.declared.by_number.TheConstants.{PAGE_ROWS};
@@ -290,5 +290,53 @@ pub fn ready_holds_after<S: Alter>(
         (),
         READY_HOLDS_AFTER_TEXT,
         params![branch.number(), after.number()],
+    )
+}
+
+/// The text of `waiting_holds_for_after`.
+pub const WAITING_HOLDS_FOR_AFTER_TEXT: &str =
+    "SELECT * FROM holds2 WHERE title = ?1 AND state = 0 AND hold > ?2 ORDER BY hold LIMIT 101";
+
+/// The first waiting holds for a title whose numbers are above this one, the least number first:
+/// all of them, or as many as a page has. 90, 91, 93.
+pub fn waiting_holds_for_after<S: Alter>(
+    conn: &mut Connection<S>,
+    alloc: Global,
+    title: TitleId,
+    after: HoldId,
+) -> Result<Vec<HoldRow>, Fault>
+    ensures { Lists holds (λ l. l.items)
+        (λ m. FirstRows PAGE_ROWS m (is_waiting_for_after title after))
+        S.Store conn.old conn.new result }
+{
+    rows_of(
+        conn,
+        alloc,
+        (),
+        WAITING_HOLDS_FOR_AFTER_TEXT,
+        params![title.number(), after.number()],
+    )
+}
+
+/// The text of `waiting_holds_after`.
+pub const WAITING_HOLDS_AFTER_TEXT: &str =
+    "SELECT * FROM holds2 WHERE state = 0 AND hold > ?1 ORDER BY hold LIMIT 101";
+
+/// The first waiting holds whose numbers are above this one, the least number first: all of them,
+/// or as many as a page has. 90, 91, 93.
+pub fn waiting_holds_after<S: Alter>(
+    conn: &mut Connection<S>,
+    alloc: Global,
+    after: HoldId,
+) -> Result<Vec<HoldRow>, Fault>
+    ensures { Lists holds (λ l. l.items) (λ m. FirstRows PAGE_ROWS m (is_waiting_after after))
+        S.Store conn.old conn.new result }
+{
+    rows_of(
+        conn,
+        alloc,
+        (),
+        WAITING_HOLDS_AFTER_TEXT,
+        params![after.number()],
     )
 }

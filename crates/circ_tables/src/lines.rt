@@ -4,7 +4,7 @@ ghost use Rattle.std.specs.Prelude.{◌^◌};
 ghost use Rattle.sql_maps.specs.Pages.{FirstRows};
 ghost use Rattle.circ_tables.specs.Lines.{lines, lines_are};
 ghost use Rattle.circ_tables.specs.Reading.{Lists};
-ghost use Rattle.circ_tables.specs.Selections.{is_line_after};
+ghost use Rattle.circ_tables.specs.Selections.{is_account_line_after, is_line_after};
 ghost use Rattle.circ_tables.specs.declared.by_number.TheConstants.{PAGE_ROWS};
 
 use crate::by_number::{Numbered, Put, Texts};
@@ -17,7 +17,7 @@ use crate::list::{Table, rows_of};
 use calendar::Day;
 use sqlite::{Alter, Connection, Row, Transaction, params};
 use std::alloc::Global;
-use terms::{Fault, LARGEST_SUM, LAST_NUMBER, LineId, LineRow};
+use terms::{Fault, LARGEST_SUM, LAST_NUMBER, LineId, LineRow, PatronId};
 
 impl Table for LineRow {
     type Key = u32;
@@ -110,5 +110,30 @@ pub fn lines_after<S: Alter>(
         (),
         LINES_AFTER_TEXT,
         params![day.number(), after.number()],
+    )
+}
+
+/// The text of `account_lines_after`.
+pub const ACCOUNT_LINES_AFTER_TEXT: &str =
+    "SELECT * FROM lines WHERE patron = ?1 AND line > ?2 ORDER BY line LIMIT 101";
+
+/// The first lines of a patron's account whose numbers are above this one, the least number first:
+/// all of them, or as many as a page has. 90, 91, 93.
+pub fn account_lines_after<S: Alter>(
+    conn: &mut Connection<S>,
+    alloc: Global,
+    patron: PatronId,
+    after: LineId,
+) -> Result<Vec<LineRow>, Fault>
+    ensures { Lists lines (λ l. l.items)
+        (λ m. FirstRows PAGE_ROWS m (is_account_line_after patron after))
+        S.Store conn.old conn.new result }
+{
+    rows_of(
+        conn,
+        alloc,
+        (),
+        ACCOUNT_LINES_AFTER_TEXT,
+        params![patron.number(), after.number()],
     )
 }

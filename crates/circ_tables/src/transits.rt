@@ -1,18 +1,21 @@
 //! The table of copies that travel.
 
 ghost use Rattle.sql_maps.specs.Maps.{First};
+ghost use Rattle.sql_maps.specs.Pages.{FirstRows};
 ghost use Rattle.circ_tables.specs.Copies.{copies};
-ghost use Rattle.circ_tables.specs.Reading.{Selects};
-ghost use Rattle.circ_tables.specs.Selections.{travels_for};
+ghost use Rattle.circ_tables.specs.Reading.{Lists, Selects};
+ghost use Rattle.circ_tables.specs.Selections.{is_transit_to_after, travels_for};
 ghost use Rattle.circ_tables.specs.Shape.{transits_place};
 ghost use Rattle.circ_tables.specs.Transits.{transits, transits_are};
+ghost use Rattle.circ_tables.specs.declared.by_number.TheConstants.{PAGE_ROWS};
 
 use crate::by_number::{Numbered, Put, Texts};
 use crate::call::run;
 use crate::cell::{branch_at, copy_at, has_width, hold_or_none_at, hold_or_null};
-use crate::list::{Table, row_of};
+use crate::list::{Table, row_of, rows_of};
 use sqlite::{Alter, Connection, Row, Transaction, params};
-use terms::{CopyId, Fault, HoldId, TransitRow};
+use std::alloc::Global;
+use terms::{BranchId, CopyId, Fault, HoldId, TransitRow};
 
 impl Table for TransitRow {
     type Key = u32;
@@ -88,4 +91,29 @@ pub fn transit_for<S: Alter>(
         S.Store conn.old conn.new result }
 {
     row_of(conn, (), TRANSIT_FOR_TEXT, params![hold.number()])
+}
+
+/// The text of `transits_to_after`.
+pub const TRANSITS_TO_AFTER_TEXT: &str =
+    "SELECT * FROM transits WHERE goal = ?1 AND copy > ?2 ORDER BY copy LIMIT 101";
+
+/// The first transits to a branch of copies whose numbers are above this one, the least number
+/// first: all of them, or as many as a page has. 90, 91, 93.
+pub fn transits_to_after<S: Alter>(
+    conn: &mut Connection<S>,
+    alloc: Global,
+    branch: BranchId,
+    after: CopyId,
+) -> Result<Vec<TransitRow>, Fault>
+    ensures { Lists transits (λ l. l.items)
+        (λ m. FirstRows PAGE_ROWS m (is_transit_to_after branch after))
+        S.Store conn.old conn.new result }
+{
+    rows_of(
+        conn,
+        alloc,
+        (),
+        TRANSITS_TO_AFTER_TEXT,
+        params![branch.number(), after.number()],
+    )
 }
