@@ -8,6 +8,7 @@ pub mod QueryLemmas
 pub mod LineLemmas
 pub mod TurnLemmas
 pub mod TitleLemmas
+pub mod ShelfLemmas
 pub mod TextLemmas
 pub mod EncodingLemmas
 pub mod PictureLemmas

@@ -1,9 +1,11 @@
 //! The table of copies.
 
+ghost use Rattle.sql_maps.specs.Maps.{FirstOf};
 ghost use Rattle.sql_maps.specs.Pages.{FirstRows};
 ghost use Rattle.circ_tables.specs.Copies.{copies, copies_are};
-ghost use Rattle.circ_tables.specs.Reading.{Lists};
-ghost use Rattle.circ_tables.specs.Selections.{is_copy_of_after};
+ghost use Rattle.circ_tables.specs.Reading.{Lists, Selects};
+ghost use Rattle.circ_tables.specs.Selections.{StandsFree, is_copy_of_after};
+ghost use Rattle.circ_tables.specs.Shape.{copies_place, holds_place, loans_place, transits_place};
 ghost use Rattle.circ_tables.specs.declared.by_number.TheConstants.{PAGE_ROWS};
 
 use crate::by_number::{Numbered, Put, Texts};
@@ -12,10 +14,10 @@ use crate::cell::{
     branch_at, cents_at, condition_at, condition_number, copy_at, copy_kind_at, has_width, money,
     title_at,
 };
-use crate::list::{Table, rows_of};
+use crate::list::{Table, row_of, rows_of};
 use sqlite::{Alter, Connection, Row, Transaction, params};
 use std::alloc::Global;
-use terms::{CopyId, CopyRow, Fault, HIGHEST_PRICE, TitleId};
+use terms::{BranchId, CopyId, CopyRow, Fault, HIGHEST_PRICE, TitleId};
 
 impl Table for CopyRow {
     type Key = u32;
@@ -109,5 +111,33 @@ pub fn copies_of_title_after<S: Alter>(
         (),
         COPIES_OF_TITLE_AFTER_TEXT,
         params![title.number(), after.number()],
+    )
+}
+
+/// The text of `least_shelved`.
+pub const LEAST_SHELVED_TEXT: &str =
+    "SELECT * FROM copies WHERE title = ?1 AND home = ?2 AND condition = 0 \
+     AND NOT EXISTS (SELECT * FROM transits WHERE transits.copy = copies.copy) \
+     AND NOT EXISTS (SELECT * FROM holds2 WHERE holds2.copy = copies.copy) \
+     AND NOT EXISTS (SELECT * FROM loans3 WHERE loans3.copy = copies.copy AND loans3.ended IS NULL) \
+     ORDER BY copy LIMIT 1";
+
+/// The copy of the least number among those of a title that stand on the shelf of a branch, their
+/// home: those that are present, and that no transit, no hold and no open loan claims. 91, 93.
+pub fn least_shelved<S: Alter>(
+    conn: &mut Connection<S>,
+    title: TitleId,
+    branch: BranchId,
+) -> Result<Option<CopyRow>, Fault>
+    ensures { Selects copies
+        (λ maps. FirstOf (maps copies_place)
+        (StandsFree (maps transits_place) (maps holds_place) (maps loans_place) title branch))
+        S.Store conn.old conn.new result }
+{
+    row_of(
+        conn,
+        (),
+        LEAST_SHELVED_TEXT,
+        params![title.number(), branch.number()],
     )
 }
