@@ -14,28 +14,37 @@ use Rattle.sqlite_rules.proofs.ListLemmas.{has_contained, contains_had}
 use Rattle.sqlite_rules.proofs.ProbeLemmas.{has_mapped, mapped_has}
 use Rattle.sql_maps.specs.Maps.{Map, Maps}
 use Rattle.sql_maps.specs.Pages.{FirstRows}
-use Rattle.terms.specs.Limits.{InLimits, IsLoan, IsHold, IsLine}
+use Rattle.terms.specs.Limits.{InLimits, IsPatron, IsCopy, IsLoan, IsHold, IsTransit, IsLine}
 use Rattle.terms.specs.Pictures.{Picture}
 use Rattle.terms.specs.declared.fault.Fault.{Fault}
 use Rattle.terms.specs.declared.row.LoanRow.{LoanRow}
 use Rattle.terms.specs.declared.row.HoldRow.{HoldRow}
-use Rattle.terms.specs.declared.row.HoldState.TheVariants.{Ready}
+use Rattle.terms.specs.declared.row.HoldState.TheVariants.{Waiting, Ready}
 use Rattle.terms.specs.declared.row.LineRow.{LineRow}
-use Rattle.circ_tables.specs.Cells.{number, number_key, loan_cells, hold_cells, line_cells}
+use Rattle.terms.specs.declared.row.CopyRow.{CopyRow}
+use Rattle.terms.specs.declared.row.PatronRow.{PatronRow}
+use Rattle.terms.specs.declared.row.TransitRow.{TransitRow}
+use Rattle.circ_tables.specs.Cells.{number, number_key, patron_cells, copy_cells, loan_cells, hold_cells, transit_cells, line_cells}
 use Rattle.circ_tables.specs.Encoding.{Encodes}
 use Rattle.circ_tables.specs.Numbered.{IsNumberTable}
-use Rattle.circ_tables.specs.Selections.{is_ready_after, is_overdue_after, is_line_after, is_next}
-use Rattle.circ_tables.specs.Shape.{loans_place, holds_place, lines_place}
+use Rattle.circ_tables.specs.Selections.{is_ready_after, is_overdue_after, is_line_after, is_account_line_after, is_copy_of_after}
+use Rattle.circ_tables.specs.Selections.{is_waiting_after, is_waiting_for_after, is_debtor_after, is_transit_to_after, is_next}
+use Rattle.circ_tables.specs.Shape.{patrons_place, copies_place, loans_place, holds_place, transits_place, lines_place}
+use Rattle.circ_tables.specs.Patrons.{patrons_are}
+use Rattle.circ_tables.specs.Copies.{copies_are}
+use Rattle.circ_tables.specs.Transits.{transits_are}
 use Rattle.circ_tables.specs.Loans.{loans_are}
 use Rattle.circ_tables.specs.Holds.{holds_are}
 use Rattle.circ_tables.specs.Lines.{lines_are}
 use Rattle.circ_tables.specs.declared.by_number.TheConstants.{PAGE_ROWS}
-use Rattle.circ_tables.proofs.CellLemmas.{is_least, least_if, if_least, same_if, if_same, none_if, if_none, ready_if, if_ready, below_if}
+use Rattle.circ_tables.proofs.CellLemmas.{is_least, least_if, if_least, same_if, if_same, none_if, if_none, waits_if, if_waits}
+use Rattle.circ_tables.proofs.CellLemmas.{ready_if, if_ready, below_if}
 use Rattle.circ_tables.proofs.CellLemmas.{if_below, above_if, if_above, alone, from_alone, both, from_both}
 use Rattle.circ_tables.proofs.InverseLemmas.{told}
 use Rattle.circ_tables.proofs.DayLemmas.{below}
 use Rattle.circ_tables.proofs.ShownLemmas.{one_found, stands, rows_rise}
 use Rattle.store.specs.Pages.{AreFirstRows, AreRowsAfter, AreNumbered, IsPassedOver, AreReadyAfter, AreOverdueAfter, AreLinesAfter}
+use Rattle.store.specs.Pages.{AreAccountLinesAfter, AreCopiesAfter, AreWaitingAfter, AreWaitingForAfter, AreDebtorsAfter, AreTransitsAfter}
 use Rattle.store.proofs.ViewLemmas.{rows_seen}
 use Rattle.store.proofs.ListLemmas.{rise_is}
 
@@ -98,6 +107,49 @@ module _ (maps : Maps) (P : Picture) (is : Encodes maps P) (legal : InLimits P) 
       are_first lines_are maps P is legal (is_line_after day after) (λ r. (r.day ≡ day) × (after < r.line))
       (λ r legal good. let tests = both _ _ good in (same_if r.day day tests.0, above_if r.line after tests.1))
       (λ r passes. from_both _ _ (if_same r.day day passes.0) (if_above r.line after passes.1))
+
+  pub account_lines_after_are : (patron after : ℕ) (rows : List LineRow) → All IsLine rows
+      → FirstRows PAGE_ROWS (maps lines_place) (is_account_line_after patron after) (map line_cells rows) → AreAccountLinesAfter P patron after rows
+  account_lines_after_are patron after =
+      are_first lines_are maps P is legal (is_account_line_after patron after) (λ r. (r.patron ≡ patron) × (after < r.line))
+      (λ r legal good. let tests = both _ _ good in (same_if r.patron patron tests.0, above_if r.line after tests.1))
+      (λ r passes. from_both _ _ (if_same r.patron patron passes.0) (if_above r.line after passes.1))
+
+  pub copies_after_are : (title after : ℕ) (rows : List CopyRow) → All IsCopy rows
+      → FirstRows PAGE_ROWS (maps copies_place) (is_copy_of_after title after) (map copy_cells rows) → AreCopiesAfter P title after rows
+  copies_after_are title after =
+      are_first copies_are maps P is legal (is_copy_of_after title after) (λ r. (r.title ≡ title) × (after < r.copy))
+      (λ r legal good. let tests = both _ _ good in (same_if r.title title tests.0, above_if r.copy after tests.1))
+      (λ r passes. from_both _ _ (if_same r.title title passes.0) (if_above r.copy after passes.1))
+
+  pub waiting_after_are : (after : ℕ) (rows : List HoldRow) → All IsHold rows
+      → FirstRows PAGE_ROWS (maps holds_place) (is_waiting_after after) (map hold_cells rows) → AreWaitingAfter P after rows
+  waiting_after_are after =
+      are_first holds_are maps P is legal (is_waiting_after after) (λ r. (r.state ≡ Waiting) × (after < r.hold))
+      (λ r legal good. let tests = both _ _ good in (waits_if r.state tests.0, above_if r.hold after tests.1))
+      (λ r passes. from_both _ _ (if_waits r.state passes.0) (if_above r.hold after passes.1))
+
+  pub waiting_for_after_are : (title after : ℕ) (rows : List HoldRow) → All IsHold rows
+      → FirstRows PAGE_ROWS (maps holds_place) (is_waiting_for_after title after) (map hold_cells rows) → AreWaitingForAfter P title after rows
+  waiting_for_after_are title after =
+      are_first holds_are maps P is legal (is_waiting_for_after title after) (λ r. (r.title ≡ title) × (r.state ≡ Waiting) × (after < r.hold))
+      (λ r legal good. let first = and_parts _ _ good in let tests = both _ _ first.1 in
+      (same_if r.title title first.0, waits_if r.state tests.0, above_if r.hold after tests.1))
+      (λ r passes. and_from _ _ (if_same r.title title passes.0) (from_both _ _ (if_waits r.state passes.1) (if_above r.hold after passes.2)))
+
+  pub debtors_after_are : (after : ℕ) (rows : List PatronRow) → All IsPatron rows
+      → FirstRows PAGE_ROWS (maps patrons_place) (is_debtor_after after) (map patron_cells rows) → AreDebtorsAfter P after rows
+  debtors_after_are after =
+      are_first patrons_are maps P is legal (is_debtor_after after) (λ r. (0 < r.owed) × (after < r.patron))
+      (λ r legal good. let tests = both _ _ good in (above_if r.owed 0 tests.0, above_if r.patron after tests.1))
+      (λ r passes. from_both _ _ (if_above r.owed 0 passes.0) (if_above r.patron after passes.1))
+
+  pub transits_after_are : (branch after : ℕ) (rows : List TransitRow) → All IsTransit rows
+      → FirstRows PAGE_ROWS (maps transits_place) (is_transit_to_after branch after) (map transit_cells rows) → AreTransitsAfter P branch after rows
+  transits_after_are branch after =
+      are_first transits_are maps P is legal (is_transit_to_after branch after) (λ r. (r.goal ≡ branch) × (after < r.copy))
+      (λ r legal good. let tests = both _ _ good in (same_if r.goal branch tests.0, above_if r.copy after tests.1))
+      (λ r passes. from_both _ _ (if_same r.goal branch passes.0) (if_above r.copy after passes.1))
 
 -- a page of all rows of a table, from 1 on
 module _ {R : Type 0} {t : Table ℕ R} {number_of : R → ℕ} (table : IsNumberTable t number_of) where

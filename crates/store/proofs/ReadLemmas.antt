@@ -13,7 +13,7 @@ use Rattle.terms.specs.Pictures.{Picture}
 use Rattle.terms.specs.declared.fault.Fault.{Fault}
 use Rattle.terms.specs.declared.fault.Fault.TheVariants.{Stored}
 use Rattle.circ_tables.specs.Encoding.{HasPicture, Encodes}
-use Rattle.circ_tables.specs.Reading.{Table, Gets, Lists, Views, IsSame, IsSameOrUndone, Reading}
+use Rattle.circ_tables.specs.Reading.{Table, Gets, Lists, Views, IsSame, IsSameOrUndone, IsSoundIn, Reading}
 use Rattle.circ_tables.specs.Shape.{schema}
 use Rattle.store.specs.Library.{HasTables}
 use Rattle.store.specs.Reads.{Reads, Looked, Finds, IsReadable}
@@ -136,6 +136,16 @@ looked_view Is g old new result settled is = record {
   reads = reads_of result (state g old) (state g new) settled is.read;
   shown = λ clean. shown_same (λ x P. Is P x) result (state g old) (state g new) clean is.read is.shown;
   sound = λ clean err P shown good. is.read.sound (ap result_err err) clean P shown good.0 good.1;
+}
+
+-- of a view of which no fault of a stored row comes where all rows lie within their limits
+pub looked_sound : {A S : Type 0} (Is : Picture → A → Type 0) (g : Ghosts S) (old new : Held S) (result : Result A Fault)
+    → (IsTrue (state g old).is_open → (state g old).now ≡ (state g old).committed) → Views Is g old new result → IsSoundIn InLimits g old new result
+    → Looked InLimits Is InLimits g old new result
+looked_sound Is g old new result settled is sound = record {
+  reads = reads_of result (state g old) (state g new) settled is.read;
+  shown = λ clean. shown_same (λ x P. Is P x) result (state g old) (state g new) clean is.read is.shown;
+  sound = λ clean err P shown legal. sound clean P shown legal err;
 }
 
 list_same : {R L : Type 0} (items : L → List R) (Good : R → Type 0) (Found : Maps → List R → Type 0) (Are : Picture → List R → Type 0)

@@ -1,5 +1,5 @@
 -- One read after another, each from where the last one left the tables.
-use Rattle.std.proofs.Common.{◌≡◌, ℕ, List, map, Option, Ok, Err, Result, IfOk, IfErr, sym, subst}
+use Rattle.std.proofs.Common.{◌≡◌, ℕ, List, map, Option, Some, Ok, Err, Result, IfOk, IfErr, sym, ap, subst, ◌∙◌}
 use Rattle.std.specs.List.{All}
 use Rattle.std.specs.Result.{IsErr, IsErrAnd}
 use Rattle.sqlite.specs.Held.{Held, state}
@@ -12,21 +12,25 @@ use Rattle.terms.specs.Orders.{IsOrdered}
 use Rattle.terms.specs.Pictures.{Picture}
 use Rattle.terms.specs.declared.fault.Fault.{Fault}
 use Rattle.terms.specs.declared.fault.Fault.TheVariants.{Stored}
+use Rattle.terms.specs.declared.row.CopyRow.{CopyRow}
 use Rattle.terms.specs.declared.row.LoanRow.{LoanRow}
 use Rattle.terms.specs.declared.row.HoldRow.{HoldRow}
 use Rattle.terms.specs.declared.row.TransitRow.{TransitRow}
 use Rattle.circ_core.specs.Views.{IsLoanOf, IsHoldOf, IsTravelFor, IsFirstOf, IsLoanOfTitle, IsCount, IsOpenBy, IsActiveBy, IsActiveOn}
-use Rattle.circ_tables.specs.Encoding.{HasPicture, Encodes}
-use Rattle.circ_tables.specs.Reading.{Table, Views, Selects, Counts, Lists}
+use Rattle.circ_tables.specs.Encoding.{AreEncoded, HasPicture, Encodes}
+use Rattle.circ_tables.specs.Reading.{Table, Views, Gets, Selects, Counts, Lists, IsSoundIn}
+use Rattle.circ_tables.specs.Copies.{copies}
 use Rattle.circ_tables.specs.Loans.{loans}
 use Rattle.circ_tables.specs.Holds.{holds}
 use Rattle.circ_tables.specs.Transits.{transits}
 use Rattle.circ_tables.specs.Selections.{is_open_of, is_open_by, is_active_by, is_active_on, names_copy, travels_for, StandsInLine, LendsTitle}
+use Rattle.circ_tables.specs.Selections.{StandsFree}
 use Rattle.circ_tables.specs.Shape.{copies_place, loans_place, holds_place, transits_place}
 use Rattle.circ_tables.proofs.ReadingLemmas.{read_of}
 use Rattle.store.proofs.CountLemmas.{open_loans_shown, open_loans_few, active_holds_shown, active_holds_few, active_holds_on_shown, active_holds_on_few}
-use Rattle.store.proofs.ReadLemmas.{read_then, read_err, read_fails, picture_then}
-use Rattle.store.proofs.RowLemmas.{loan_of_shown, hold_of_shown, travel_for_shown, first_of_shown, loan_of_title_shown}
+use Rattle.store.proofs.ReadLemmas.{read_then, read_err, read_fails, picture_then, legal_if}
+use Rattle.store.proofs.RowLemmas.{loan_of_shown, hold_of_shown, travel_for_shown, first_of_shown, loan_of_title_shown, least_shelved_shown}
+use Rattle.store.specs.Pages.{IsLeastShelved}
 
 if_ok_of : {A : Type 0} (r : Result A Fault) {P Q : A → Type 0} → ((x : A) → P x → Q x) → IfOk r P → IfOk r Q
 if_ok_of (Ok x) f h = f x h
@@ -63,6 +67,31 @@ pub fails : {S A B : Type 0} {g : Ghosts S} {Is : Picture → A → Type 0} {Wan
     (fault : Fault) {a b : Held S} → IsErr r × IsErrAnd r (λ e. e ≡ fault) → Views Is g a b (Err fault) → Views Wanted g a b r
 fails (Ok x) fault is seen = absurd (let none = is.0 in cc)
 fails {B = B} {g = g} (Err e) fault {a} {b} is seen = record { read = read_err {A = B} (Err e) fault (state g a) (state g b) is seen.read; shown = λ clean. tt }
+
+-- no fault of a stored row comes of a selection over rows within their limits
+pub selects_sound : {S K R : Type 0} {t : Table K R} {Found : Maps → List Row → Type 0} {g : Ghosts S} {r : Result (Option R) Fault} {a b : Held S}
+    → ((maps : Maps) (P : Picture) → Encodes maps P → InLimits P → AreEncoded t.cells t.IsLegal (maps t.place)) → Selects t Found g a b r
+    → IsSoundIn InLimits g a b r
+selects_sound encoded is clean P shown legal err = is.stored clean err shown.maps shown.holds (encoded shown.maps P shown.encodes legal)
+
+-- nor of the row of a key
+pub gets_sound : {S K R : Type 0} {t : Table K R} {key : K} {g : Ghosts S} {r : Result (Option R) Fault} {a b : Held S}
+    → ((P : Picture) → InLimits P → (x : R) → t.rows P key ≡ Some x → t.IsLegal x) → Gets t key g a b r → IsSoundIn InLimits g a b r
+gets_sound {t = t} {key = key} legal is clean P shown within = is.sound clean P shown (legal_if t.IsLegal (t.rows P key) (legal P within))
+
+-- nor after a read that ended well, if none comes of the last one
+pub sound_then : {S A B : Type 0} {g : Ghosts S} {Is : Picture → A → Type 0} {Then : Picture → B → Type 0} {x : A} {r : Result B Fault}
+    {a b c : Held S} → Views Is g a b (Ok x) → Views Then g b c r → IsSoundIn InLimits g b c r → IsSoundIn InLimits g a c r
+sound_then {g = g} {a = a} {b = b} one two sound clean P shown =
+    sound clean P (picture_then (state g a) (state g b) one.read (two.read.clean clean) P shown)
+
+-- nor of one that is handed on
+pub sound_fails : {S A B : Type 0} {g : Ghosts S} {Is : Picture → A → Type 0} (r : Result B Fault) (fault : Fault) {a b : Held S}
+    → IsErr r × IsErrAnd r (λ e. e ≡ fault) → Views Is g a b (Err fault) → IsSoundIn {A = A} InLimits g a b (Err fault) → IsSoundIn InLimits g a b r
+sound_fails (Ok x) fault is seen sound clean P shown legal err = absurd (let none = is.0 in cc)
+sound_fails (Err e) fault is seen sound clean P shown legal err =
+    let same : e ≡ Stored = cc in
+    sound clean P shown legal (ap Err (sym is.1 ∙ same))
 
 -- a read that ended well, and then a step of memory alone that failed
 pub stops : {S A : Type 0} {g : Ghosts S} {Is : Picture → A → Type 0} {x : A} {a b : Held S} (fault : Fault) → Views Is g a b (Ok x)
@@ -113,6 +142,12 @@ pub title_loan_seen : {S : Type 0} {g : Ghosts S} {patron title : ℕ} {r : Resu
     → Views (λ P row. IsLoanOfTitle P patron title row) g a b r
 title_loan_seen {g = g} {patron = patron} {title = title} {r = r} {a = a} {b = b} is =
     record { read = is.read; shown = λ clean. loan_of_title_shown patron title (state g a) (state g b) r (is.first clean) is.limits }
+
+pub least_shelved_seen : {S : Type 0} {g : Ghosts S} {title branch : ℕ} {r : Result (Option CopyRow) Fault} {a b : Held S}
+    → Selects copies (λ maps. FirstOf (maps copies_place) (StandsFree (maps transits_place) (maps holds_place) (maps loans_place) title branch)) g a b r
+    → Views (λ P row. IsLeastShelved P title branch row) g a b r
+least_shelved_seen {g = g} {title = title} {branch = branch} {r = r} {a = a} {b = b} is =
+    record { read = is.read; shown = λ clean. least_shelved_shown title branch (state g a) (state g b) r (is.first clean) is.limits }
 
 pub open_loans_seen : {S : Type 0} {g : Ghosts S} {patron : ℕ} {r : Result ℕ Fault} {a b : Held S}
     → Counts loans (is_open_by patron) g a b r → Views (λ P n. IsCount (IsOpenBy P patron) n) g a b r

@@ -2,10 +2,15 @@
 use Rattle.std.specs.Prelude.{◌≡◌, ◌⊎◌, ◌<◌, ◌≤◌, ℕ, List, length, Option, Some, None}
 use Rattle.std.specs.List.{Contains}
 use Rattle.circ_tables.specs.declared.by_number.TheConstants.{PAGE_ROWS}
+use Rattle.circ_core.specs.Views.{IsLoanOf, IsHoldOf}
+use Rattle.terms.specs.declared.row.CopyRow.{CopyRow}
+use Rattle.terms.specs.declared.row.Condition.TheVariants.{Present}
 use Rattle.terms.specs.declared.row.LoanRow.{LoanRow}
 use Rattle.terms.specs.declared.row.HoldRow.{HoldRow}
-use Rattle.terms.specs.declared.row.HoldState.TheVariants.{Ready}
+use Rattle.terms.specs.declared.row.HoldState.TheVariants.{Waiting, Ready}
 use Rattle.terms.specs.declared.row.LineRow.{LineRow}
+use Rattle.terms.specs.declared.row.PatronRow.{PatronRow}
+use Rattle.terms.specs.declared.row.TransitRow.{TransitRow}
 use Rattle.terms.specs.Pictures.{Picture}
 use Rattle.terms.specs.Orders.{Rise}
 
@@ -29,6 +34,44 @@ AreOverdueAfter P branch day after =
 -- A page of the lines of the day, from above a number on.
 abbrev pub AreLinesAfter : Picture → ℕ → ℕ → List LineRow → Type 0
 AreLinesAfter P day after = AreFirstRows P.lines (λ r. r.line) (λ r. (r.day ≡ day) × (after < r.line))
+
+-- A page of the lines of the patron's account, from above a number on.
+abbrev pub AreAccountLinesAfter : Picture → ℕ → ℕ → List LineRow → Type 0
+AreAccountLinesAfter P patron after = AreFirstRows P.lines (λ r. r.line) (λ r. (r.patron ≡ patron) × (after < r.line))
+
+-- A page of the copies of the title, from above a number on.
+abbrev pub AreCopiesAfter : Picture → ℕ → ℕ → List CopyRow → Type 0
+AreCopiesAfter P title after = AreFirstRows P.copies (λ r. r.copy) (λ r. (r.title ≡ title) × (after < r.copy))
+
+-- A page of the waiting holds, of all titles or of one, from above a number on.
+abbrev pub AreWaitingAfter : Picture → ℕ → List HoldRow → Type 0
+AreWaitingAfter P after = AreFirstRows P.holds (λ r. r.hold) (λ r. (r.state ≡ Waiting) × (after < r.hold))
+
+abbrev pub AreWaitingForAfter : Picture → ℕ → ℕ → List HoldRow → Type 0
+AreWaitingForAfter P title after = AreFirstRows P.holds (λ r. r.hold) (λ r. (r.title ≡ title) × (r.state ≡ Waiting) × (after < r.hold))
+
+-- A page of the patrons who owe something, from above a number on.
+abbrev pub AreDebtorsAfter : Picture → ℕ → List PatronRow → Type 0
+AreDebtorsAfter P after = AreFirstRows P.patrons (λ r. r.patron) (λ r. (0 < r.owed) × (after < r.patron))
+
+-- A page of the transits to the branch, from above the number of a copy on.
+abbrev pub AreTransitsAfter : Picture → ℕ → ℕ → List TransitRow → Type 0
+AreTransitsAfter P branch after = AreFirstRows P.transits (λ r. r.copy) (λ r. (r.goal ≡ branch) × (after < r.copy))
+
+-- The copy of the title stands on the shelf of the branch, its home: it is present, and nothing else claims it.
+pub record IsShelved (P : Picture) (title branch copy : ℕ) (row : CopyRow) : Type 0 where
+  pub there : P.copies copy ≡ Some row
+  pub of_title : row.title ≡ title
+  pub at_home : row.home ≡ branch
+  pub present : row.condition ≡ Present
+  pub still : P.transits copy ≡ None
+  pub unlent : IsLoanOf P copy None
+  pub unnamed : IsHoldOf P copy None
+
+-- The copy of the least number among those of the title that stand on the shelf of the branch, or none where none does.
+abbrev pub IsLeastShelved : Picture → ℕ → ℕ → Option CopyRow → Type 0
+IsLeastShelved P title branch (Some row) = IsShelved P title branch row.copy row × ((c : ℕ) (r : CopyRow) → IsShelved P title branch c r → row.copy ≤ c)
+IsLeastShelved P title branch None = (c : ℕ) (r : CopyRow) → IsShelved P title branch c r → ⊥
 
 -- A page of all rows of a table, from above a number on.
 abbrev pub AreRowsAfter : {R : Type 0} → (ℕ → Option R) → (R → ℕ) → ℕ → List R → Type 0

@@ -12,7 +12,8 @@ ghost use Rattle.circ_core.specs.Views.{IsPickupView, IsCheckInView, IsUnshelveV
 ghost use Rattle.circ_core.specs.Views.{IsMissingView, IsViewOf, HasOnly, rule_in, kind_in};
 ghost use Rattle.circ_core.specs.Views.{borrower_in, named_copy_in, coming_in, IsCount, IsOpenBy};
 ghost use Rattle.circ_core.specs.Views.{IsActiveOn, IsActiveBy, IsLoanOfTitle, copy_in};
-ghost use Rattle.circ_tables.specs.Reading.{Views};
+ghost use Rattle.circ_tables.specs.Reading.{IsSoundIn, Views};
+ghost use Rattle.terms.specs.Limits.{InLimits};
 ghost use Rattle.terms.specs.declared.command.Command.TheVariants.{BeginDay, Week, CloseDay, Rule};
 ghost use Rattle.terms.specs.declared.command.Command.TheVariants.{Grace};
 ghost use Rattle.terms.specs.declared.command.Command.TheVariants.{Patron, Acquire, CheckOut};
@@ -277,9 +278,10 @@ fn coming_hold<S: Alter>(
 }
 
 /// A copy, and the rows that claim it.
-fn copy_view<S: Alter>(conn: &mut Connection<S>, number: CopyId) -> Result<View, Fault>
+pub(crate) fn copy_view<S: Alter>(conn: &mut Connection<S>, number: CopyId) -> Result<View, Fault>
     ensures view { Views (λ P rows. IsCopyView P number rows) S.Store conn.old conn.new result }
     ensures only { IfOk result (HasOnly (Withdraw number)) }
+    ensures sound { IsSoundIn InLimits S.Store conn.old conn.new result }
 {
     let copy = get_row::<CopyRow, S>(conn, (), number)?;
     let loan = open_loan_of(conn, number)?;

@@ -1,0 +1,149 @@
+//! The rows that answer the desk's questions: pages of lists, and single rows that are found by
+//! another's number.
+
+ghost use Rattle.std.specs.Prelude.{◌≡◌};
+ghost use Rattle.terms.specs.Limits.{InLimits};
+ghost use Rattle.circ_core.specs.Views.{IsCopyView, IsFirstOf, IsTravelFor};
+ghost use Rattle.store.specs.Pages.{AreAccountLinesAfter, AreCopiesAfter, AreDebtorsAfter};
+ghost use Rattle.store.specs.Pages.{AreTransitsAfter, AreWaitingAfter, AreWaitingForAfter};
+ghost use Rattle.store.specs.Pages.{IsLeastShelved};
+ghost use Rattle.store.specs.Reads.{Looked};
+
+use crate::idle::holds_committed;
+use crate::store::Store;
+use crate::viewing::copy_view;
+use calendar::Day;
+use circ_core::View;
+use circ_tables::{
+    account_lines_after, copies_of_title_after, debtors_after, first_in_line, least_shelved,
+    transit_for, transits_to_after, waiting_holds_after, waiting_holds_for_after,
+};
+use sqlite::Alter;
+use std::alloc::Global;
+use terms::{
+    BranchId, CopyId, CopyRow, Fault, HoldId, HoldRow, LineId, LineRow, PatronId, PatronRow,
+    TitleId, TransitRow,
+};
+
+impl<S: Alter> Store<S> {
+    /// A page of the copies of a title whose numbers are above this one, the least number first.
+    /// 90, 91, 93.
+    pub fn copies_of_title(
+        &mut self,
+        alloc: Global,
+        title: TitleId,
+        after: CopyId,
+    ) -> Result<Vec<CopyRow>, Fault>
+        ensures { Looked InLimits (λ P rows. AreCopiesAfter P title after rows.items) InLimits
+            S.Store self.old self.new result }
+    {
+        holds_committed(&self.conn);
+        copies_of_title_after(&mut self.conn, alloc, title, after)
+    }
+
+    /// A page of the waiting holds for a title whose numbers are above this one, the least number
+    /// first. 90, 91, 93.
+    pub fn waiting_holds_for(
+        &mut self,
+        alloc: Global,
+        title: TitleId,
+        after: HoldId,
+    ) -> Result<Vec<HoldRow>, Fault>
+        ensures { Looked InLimits (λ P rows. AreWaitingForAfter P title after rows.items) InLimits
+            S.Store self.old self.new result }
+    {
+        holds_committed(&self.conn);
+        waiting_holds_for_after(&mut self.conn, alloc, title, after)
+    }
+
+    /// A page of the waiting holds whose numbers are above this one, the least number first. 90,
+    /// 91, 93.
+    pub fn waiting_holds(&mut self, alloc: Global, after: HoldId) -> Result<Vec<HoldRow>, Fault>
+        ensures { Looked InLimits (λ P rows. AreWaitingAfter P after rows.items) InLimits
+            S.Store self.old self.new result }
+    {
+        holds_committed(&self.conn);
+        waiting_holds_after(&mut self.conn, alloc, after)
+    }
+
+    /// A page of the lines of a patron's account whose numbers are above this one, the least number
+    /// first. 90, 91, 93.
+    pub fn account_lines(
+        &mut self,
+        alloc: Global,
+        patron: PatronId,
+        after: LineId,
+    ) -> Result<Vec<LineRow>, Fault>
+        ensures { Looked InLimits (λ P rows. AreAccountLinesAfter P patron after rows.items)
+            InLimits S.Store self.old self.new result }
+    {
+        holds_committed(&self.conn);
+        account_lines_after(&mut self.conn, alloc, patron, after)
+    }
+
+    /// A page of the patrons who owe something and whose numbers are above this one, the least
+    /// number first. 90, 91, 93.
+    pub fn debtors(&mut self, alloc: Global, after: PatronId) -> Result<Vec<PatronRow>, Fault>
+        ensures { Looked InLimits (λ P rows. AreDebtorsAfter P after rows.items) InLimits
+            S.Store self.old self.new result }
+    {
+        holds_committed(&self.conn);
+        debtors_after(&mut self.conn, alloc, after)
+    }
+
+    /// A page of the transits to a branch of copies whose numbers are above this one, the least
+    /// number first. 90, 91, 93.
+    pub fn transits_to(
+        &mut self,
+        alloc: Global,
+        branch: BranchId,
+        after: CopyId,
+    ) -> Result<Vec<TransitRow>, Fault>
+        ensures { Looked InLimits (λ P rows. AreTransitsAfter P branch after rows.items) InLimits
+            S.Store self.old self.new result }
+    {
+        holds_committed(&self.conn);
+        transits_to_after(&mut self.conn, alloc, branch, after)
+    }
+
+    /// A copy, and the rows that claim it. 91, 93.
+    pub fn copy_and_claims(&mut self, copy: CopyId) -> Result<View, Fault>
+        ensures { Looked InLimits (λ P rows. IsCopyView P copy rows) InLimits
+            S.Store self.old self.new result }
+    {
+        holds_committed(&self.conn);
+        copy_view(&mut self.conn, copy)
+    }
+
+    /// The first hold in line for a title, where today is this day. 91, 93.
+    pub fn first_in_line(&mut self, title: TitleId, today: Day) -> Result<Option<HoldRow>, Fault>
+        ensures { Looked InLimits (λ P first. today ≡ P.meta.today → IsFirstOf P title first)
+            InLimits S.Store self.old self.new result }
+    {
+        holds_committed(&self.conn);
+        first_in_line(&mut self.conn, title, today)
+    }
+
+    /// The travel of a copy for a hold, if one travels for it. 91, 93.
+    pub fn transit_for(&mut self, hold: HoldId) -> Result<Option<TransitRow>, Fault>
+        ensures { Looked InLimits (λ P row. IsTravelFor P hold row) InLimits
+            S.Store self.old self.new result }
+    {
+        holds_committed(&self.conn);
+        transit_for(&mut self.conn, hold)
+    }
+
+    /// The copy of the least number among those of a title that stand on the shelf of a branch.
+    /// 91, 93.
+    pub fn least_shelved(
+        &mut self,
+        title: TitleId,
+        branch: BranchId,
+    ) -> Result<Option<CopyRow>, Fault>
+        ensures { Looked InLimits (λ P row. IsLeastShelved P title branch row) InLimits
+            S.Store self.old self.new result }
+    {
+        holds_committed(&self.conn);
+        least_shelved(&mut self.conn, title, branch)
+    }
+}
