@@ -1,10 +1,8 @@
 -- The shelf of a branch: the copies of a title that have it as their home, are present, and are claimed by no transit, no hold and no open loan.
-use Rattle.std.proofs.Common.{◌≡◌, ◌&&◌, not, ℕ, pos, Bool, true, false, List, [], ◌∷◌, ◌++◌, map, take, filter, length, min, Option, refl}
+use Rattle.std.proofs.Common.{◌≡◌, ◌&&◌, not, ℕ, pos, Bool, true, false, List, [], ◌∷◌, map, take, filter, Option, refl}
 use Rattle.std.proofs.Common.{sym, ap, subst, ◌∙◌, true≢false}
-use Rattle.std.specs.Prelude.{◌==◌}
 use Rattle.std.specs.List.{list_all, list_any}
 use Rattle.std.specs.Option.{option_to_list}
-use Rattle.std.proofs.lemmas.List.{length-map}
 use Rattle.std.proofs.lemmas.Bool.{and_parts, and_from, false_from_ne_true}
 use Rattle.sqlite_schema.specs.Rules.{equal}
 use Rattle.sqlite.specs.declared.types.Value.TheVariants.{Int, Null}
@@ -17,15 +15,13 @@ use Rattle.sqlite.specs.Term.{Term, lit, col, op1, op2, holds}
 use Rattle.sqlite_sql.specs.declared.ops.BinaryOp.TheVariants.{Compare, Is}
 use Rattle.sqlite_sql.specs.declared.ops.CompareOp.TheVariants.{Eq}
 use Rattle.sqlite_sql.specs.declared.ops.UnaryOp.TheVariants.{Not}
-use Rattle.sqlite_sql.specs.Ops.{unary, is_true}
-use Rattle.sqlite.specs.Query.{Query, Join, inner, counted, end, matches}
+use Rattle.sqlite.specs.Query.{Query, Join, inner, counted, end}
 use Rattle.sqlite.specs.Program.{IsProgramAnswer}
 use Rattle.sqlite.specs.Tree.{Trees}
 use Rattle.sqlite.specs.Listing.{understood, reads_listing}
 use Rattle.sqlite.specs.Given.{IsPlain}
 use Rattle.sqlite.specs.State.{State, IsUnchanged}
 use Rattle.sqlite.proofs.Callers.{command_of}
-use Rattle.sqlite_keyed.proofs.ListLemmas.{none_counted}
 use Rattle.sqlite_tied.specs.Compute.{everything}
 use Rattle.sqlite_tied.specs.Listing.{each_column}
 use Rattle.sqlite_rules.proofs.ListLemmas.{some_has, some_from}
@@ -34,11 +30,11 @@ use Rattle.sql_maps.specs.Calls.{FindsRow}
 use Rattle.sql_maps.proofs.AnswerLemmas.{matched}
 use Rattle.sql_maps.proofs.RowsLemmas.{not_true, not_false}
 use Rattle.sql_maps.proofs.SelectLemmas.{first_is, first_of}
-use Rattle.sql_maps.proofs.FromLemmas.{from_in_order, ordered_by, not_counted}
+use Rattle.sql_maps.proofs.FromLemmas.{from_in_order, ordered_by}
 use Rattle.circ_tables.specs.Shape as shape
 use Rattle.circ_tables.specs.Selections.{HasNone, StandsFree, moves_copy, keeps_copy, lends_copy}
 use Rattle.circ_tables.specs.declared.copies.TheConstants.{LEAST_SHELVED_TEXT}
-use Rattle.circ_tables.proofs.LineLemmas.{asks, found_first}
+use Rattle.circ_tables.proofs.LineLemmas.{asks, count_of, none_counted_beside, found_first}
 
 abbrev shelf_text : List ℕ
 shelf_text = LEAST_SHELVED_TEXT.now
@@ -75,19 +71,6 @@ pub shelf_plain : (s : Schema) → s ≡ shape.schema → IsPlain (understood s 
 shelf_plain s e = subst (λ z. IsPlain (understood z shelf_text)) (sym e) shelf_is.1
 
 -- ---- which rows pass
-
--- whether some row of a table passes beside these, as a row of one count
-abbrev count_of : Trees → ℕ → List Term → List Row → Row
-count_of db tree tests env = Int (pos (min 1 (length (matches db tests (inner tree end) env)))) ∷ []
-
--- NOT EXISTS holds where no row passes
-none_counted_beside : (db : Trees) (tree : ℕ) (tests : List Term) (env : List Row)
-    → is_true (unary Not (column (count_of db tree tests env) 0)) ≡ not (list_any (λ s. list_all (holds (env ++ s ∷ [])) tests) (db tree))
-none_counted_beside db tree tests env =
-    let good : Row → Bool = λ s. list_all (holds (env ++ s ∷ [])) tests in
-    let found = matched good (λ s. env ++ s ∷ []) (db tree) in
-    let many = ap length found ∙ length-map (filter good (db tree)) (λ s. env ++ s ∷ []) in
-    not_counted (length (matches db tests (inner tree end) env)) ∙ ap (λ n. n == 0) many ∙ none_counted good (db tree)
 
 -- the slots of a copy: the parameters, its row, and whether a transit, a hold and an open loan claims it
 module _ (db : Trees) (given r : Row) where
