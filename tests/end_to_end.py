@@ -183,7 +183,7 @@ def a_new_library(folder):
     check("one UNIQUE", len(rows(path, unique)), 1)
     indexes = "SELECT name FROM sqlite_schema WHERE type = 'index' AND sql IS NOT NULL ORDER BY rowid"
     wanted = """loans_copy loans_patron holds_copy holds_patron holds_title holds_branch lines_day loans_branch holds2_copy holds2_patron
-        holds2_title holds2_branch loans3_copy loans3_patron loans3_branch"""
+        holds2_title holds2_branch loans3_copy loans3_patron loans3_branch copies_title lines_patron holds2_state"""
     check("indexes", [name for (name,) in rows(path, indexes)], wanted.split())
     check("the index of a title's line", rows(path, "SELECT sql FROM sqlite_schema WHERE name = 'holds2_title'"),
           [("CREATE INDEX holds2_title ON holds2 (title, state, first_day, hold)",)])

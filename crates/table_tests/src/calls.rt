@@ -227,6 +227,97 @@ pub fn lines_after<S: Alter>(
     Ok(numbers)
 }
 
+pub fn account_lines_after<S: Alter>(
+    conn: &mut Connection<S>,
+    alloc: Global,
+    patron: u32,
+    after: u32,
+) -> Result<Vec<u32>, Fault> {
+    let mut numbers = Vec::new(alloc);
+    let after = LineId::new(after);
+    for row in &tables::account_lines_after(conn, alloc, PatronId::new(patron), after)? {
+        numbers.push(row.line.number())?;
+    }
+    Ok(numbers)
+}
+
+pub fn copies_of_title_after<S: Alter>(
+    conn: &mut Connection<S>,
+    alloc: Global,
+    title: u32,
+    after: u32,
+) -> Result<Vec<u32>, Fault> {
+    let mut numbers = Vec::new(alloc);
+    let after = CopyId::new(after);
+    for row in &tables::copies_of_title_after(conn, alloc, TitleId::new(title), after)? {
+        numbers.push(row.copy.number())?;
+    }
+    Ok(numbers)
+}
+
+pub fn waiting_holds_for_after<S: Alter>(
+    conn: &mut Connection<S>,
+    alloc: Global,
+    title: u32,
+    after: u32,
+) -> Result<Vec<u32>, Fault> {
+    let mut numbers = Vec::new(alloc);
+    let after = HoldId::new(after);
+    for row in &tables::waiting_holds_for_after(conn, alloc, TitleId::new(title), after)? {
+        numbers.push(row.hold.number())?;
+    }
+    Ok(numbers)
+}
+
+pub fn waiting_holds_after<S: Alter>(
+    conn: &mut Connection<S>,
+    alloc: Global,
+    after: u32,
+) -> Result<Vec<u32>, Fault> {
+    let mut numbers = Vec::new(alloc);
+    for row in &tables::waiting_holds_after(conn, alloc, HoldId::new(after))? {
+        numbers.push(row.hold.number())?;
+    }
+    Ok(numbers)
+}
+
+pub fn debtors_after<S: Alter>(
+    conn: &mut Connection<S>,
+    alloc: Global,
+    after: u32,
+) -> Result<Vec<u32>, Fault> {
+    let mut numbers = Vec::new(alloc);
+    for row in &tables::debtors_after(conn, alloc, PatronId::new(after))? {
+        numbers.push(row.patron.number())?;
+    }
+    Ok(numbers)
+}
+
+pub fn transits_to_after<S: Alter>(
+    conn: &mut Connection<S>,
+    alloc: Global,
+    branch: u32,
+    after: u32,
+) -> Result<Vec<u32>, Fault> {
+    let mut numbers = Vec::new(alloc);
+    let after = CopyId::new(after);
+    for row in &tables::transits_to_after(conn, alloc, BranchId::new(branch), after)? {
+        numbers.push(row.copy.number())?;
+    }
+    Ok(numbers)
+}
+
+pub fn least_shelved<S: Alter>(
+    conn: &mut Connection<S>,
+    title: u32,
+    branch: u32,
+) -> Result<Option<u32>, Fault> {
+    match tables::least_shelved(conn, TitleId::new(title), BranchId::new(branch))? {
+        Some(row) => Ok(Some(row.copy.number())),
+        None => Ok(None),
+    }
+}
+
 /// The numbers of a page.
 pub fn next_rows<T: Numbered, S: Alter>(
     conn: &mut Connection<S>,

@@ -26,10 +26,10 @@ INSERT INTO rules VALUES (2, 1, 14, 2, 20, 1000), (1, 2, 7, 0, 50, 2000), (1, 1,
 INSERT INTO holds2 VALUES (11, 3, 102, 2, 1, 13, 20760, NULL), (10, 2, 100, 2, 0, NULL, NULL, 20790), (9, 1, 102, 2, 0, NULL, NULL, NULL), (8, 1, 102, 1, 2, NULL, NULL, NULL), (7, 2, 101, 1, 0, NULL, NULL, NULL), (6, 2, 101, 1, 3, NULL, NULL, NULL), (5, 1, 101, 2, 1, 14, 20760, NULL), (4, 1, 100, 2, 0, NULL, NULL, 20790), (3, 2, 100, 2, 0, NULL, NULL, NULL), (2, 2, 100, 1, 1, 15, 20760, NULL), (1, 1, 100, 1, 4, NULL, NULL, NULL);\
 INSERT INTO holds VALUES (3, 2, 101, 1, 0, NULL, NULL), (2, 1, 102, 1, 1, 13, 20760), (1, 1, 100, 1, 4, NULL, NULL);\
 INSERT INTO transits VALUES (19, 1, NULL), (18, 2, 9), (17, 1, NULL), (16, 2, 3);\
-INSERT INTO patrons VALUES (3, 1, 'cardkey00003', 'Cy Dunn', 0), (2, 1, 'cardkey00002', 'Bo Carr', 0), (1, 1, 'cardkey00001', 'Ann Bell', 0);\
+INSERT INTO patrons VALUES (3, 1, 'cardkey00003', 'Cy Dunn', 150), (2, 1, 'cardkey00002', 'Bo Carr', 0), (1, 1, 'cardkey00001', 'Ann Bell', 70);\
 INSERT INTO titles VALUES (102, 'Night Ferries'), (101, 'Salt Roads'), (100, 'Rivers of the North');\
 INSERT INTO kept VALUES (2, 'cccccc', 'page 2', 'ok'), (2, 'bbbbb', 'page 2', 'ok'), (1, 'aaaa', 'page 1', 'ok'), (0, 'eee', 'page 1', 'ok'), (0, 'dd', 'page 1', 'ok'), (0, 'c', 'page 1', 'ok');\
-INSERT INTO lines VALUES (6, 1, 20704, 2, 150, NULL), (5, 1, 20706, 3, 150, NULL), (4, 1, 20705, 3, 150, NULL), (3, 1, 20706, 2, 150, NULL), (2, 1, 20704, 1, 150, 8), (1, 1, 20706, 0, 150, 1)";
+INSERT INTO lines VALUES (6, 2, 20704, 2, 150, NULL), (5, 1, 20706, 3, 150, NULL), (4, 1, 20705, 3, 150, NULL), (3, 1, 20706, 2, 150, NULL), (2, 1, 20704, 1, 150, 8), (1, 1, 20706, 0, 150, 1)";
 
 fn database(_error: Error) -> Fault {
     Fault::Database
@@ -141,6 +141,21 @@ fn finds_pages<S: Alter>(
     lists(rt, none, &[]);
     let past = next_rows::<LineRow, S>(conn, alloc, (), Some(u32::MAX))?;
     lists(rt, past, &[]);
+    Ok(())
+}
+
+fn finds_lists<S: Alter>(
+    rt: &impl Abort,
+    conn: &mut Connection<S>,
+    alloc: Global,
+) -> Result<(), Fail> {
+    lists(rt, copies_of_title_after(conn, alloc, 100, 10)?, &[11, 15]);
+    lists(rt, waiting_holds_for_after(conn, alloc, 100, 3)?, &[4, 10]);
+    lists(rt, waiting_holds_after(conn, alloc, 4)?, &[7, 9, 10]);
+    lists(rt, account_lines_after(conn, alloc, 1, 2)?, &[3, 4, 5]);
+    lists(rt, debtors_after(conn, alloc, 0)?, &[1, 3]);
+    lists(rt, debtors_after(conn, alloc, 1)?, &[3]);
+    lists(rt, transits_to_after(conn, alloc, 1, 0)?, &[17, 19]);
     Ok(())
 }
 
@@ -284,6 +299,22 @@ fn finds_the_first<S: Alter>(rt: &impl Abort, conn: &mut Connection<S>) -> Resul
     Ok(())
 }
 
+/// Copies of a title. Of those at home at branch 1, copy 19 travels, a hold names 20, 21 is on loan
+/// and 22 is missing; of 24, which has been lent, and 25 nothing is claimed.
+const SHELF: &str = "\
+INSERT INTO copies VALUES (25, 106, 4, 1, 2500, 0), (24, 106, 4, 1, 2500, 0), (23, 106, 4, 2, 2500, 0), (22, 106, 4, 1, 2500, 1), (21, 106, 4, 1, 2500, 0), (20, 106, 4, 1, 2500, 0), (19, 106, 4, 1, 2500, 0);\
+INSERT INTO loans3 VALUES (12, 24, 4, 1, 20700, 20708, 21, 3, 20, 1000, 20704, 0), (11, 21, 4, 1, 20700, 20708, 21, 3, 20, 1000, NULL, 0);\
+INSERT INTO holds2 VALUES (51, 4, 106, 1, 1, 20, 20760, NULL)";
+
+fn finds_the_shelf<S: Alter>(rt: &impl Abort, conn: &mut Connection<S>) -> Result<(), Fail> {
+    write(conn, SHELF)?;
+    assert!(rt; least_shelved(conn, 106, 1)? == Some(24));
+    assert!(rt; least_shelved(conn, 106, 2)? == Some(23));
+    assert!(rt; least_shelved(conn, 106, 3)? == None);
+    assert!(rt; least_shelved(conn, 100, 1)? == None);
+    Ok(())
+}
+
 /// Days past their limits: of a loan, of a ready hold, a closed day, and the grace days of a rule.
 const DAMAGE: &str = "UPDATE loans3 SET due = 84006 WHERE loan = 2;\
 UPDATE holds2 SET limit_day = 84006 WHERE hold = 5;UPDATE closed_days SET day = 10956 WHERE branch = 2;\
@@ -310,11 +341,13 @@ fn looks<S: Alter>(rt: &impl Abort, conn: &mut Connection<S>, alloc: Global) -> 
     finds_holds(rt, conn, alloc)?;
     finds_days(rt, conn, alloc)?;
     finds_pages(rt, conn, alloc)?;
+    finds_lists(rt, conn, alloc)?;
     finds_kept(rt, conn, alloc)?;
     empties_the_old_tables(rt, conn, alloc)?;
     assert!(rt; refuses_a_second(conn)?);
     assert!(rt; transit_for(conn, 9)? == Some(18));
     finds_the_first(rt, conn)?;
+    finds_the_shelf(rt, conn)?;
     tells_damage(rt, conn, alloc)
 }
 
