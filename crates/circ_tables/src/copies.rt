@@ -119,8 +119,8 @@ pub const LEAST_SHELVED_TEXT: &str =
     "SELECT * FROM copies WHERE title = ?1 AND home = ?2 AND condition = 0 \
      AND NOT EXISTS (SELECT * FROM transits WHERE transits.copy = copies.copy) \
      AND NOT EXISTS (SELECT * FROM holds2 WHERE holds2.copy = copies.copy) \
-     AND NOT EXISTS (SELECT * FROM loans3 WHERE loans3.copy = copies.copy AND loans3.ended IS NULL) \
-     ORDER BY copy LIMIT 1";
+     AND NOT EXISTS (SELECT * FROM loans3 WHERE loans3.copy = copies.copy \
+     AND loans3.ended IS NULL) ORDER BY copy LIMIT 1";
 
 /// The copy of the least number among those of a title that stand on the shelf of a branch, their
 /// home: those that are present, and that no transit, no hold and no open loan claims. 91, 93.
