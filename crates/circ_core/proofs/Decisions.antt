@@ -1,12 +1,12 @@
 -- A decision on the rows of a view is the one that the history has.
-use Rattle.std.specs.Prelude.{Result}
+use Rattle.std.specs.Prelude.{◌≡◌, false, Result}
 use Rattle.terms.specs.declared.command.Command.{Command}
 use Rattle.terms.specs.declared.command.Command.TheVariants.{BeginDay, Branch, Week, Kind, Rule, Grace, Patron, Acquire, CheckOut, CheckIn}
 use Rattle.terms.specs.declared.command.Command.TheVariants.{Renew, PlaceHold, CancelHold, Unshelve, UnshelveCancelled, Missing, Withdraw}
-use Rattle.terms.specs.declared.command.Command.TheVariants.{CloseDay, OpenDay, Pay, Waive, Page}
+use Rattle.terms.specs.declared.command.Command.TheVariants.{CloseDay, OpenDay, Pay, Waive, Page, Ask}
 use Rattle.terms.specs.declared.refusal.Refusal.{Refusal}
 use Rattle.model.specs.History.{History}
-use Rattle.model.specs.Requests.{IsLegal}
+use Rattle.model.specs.Requests.{IsLegal, is_question}
 use Rattle.model.specs.Picture.{picture}
 use Rattle.model.proofs.Invariants.{legal-Invariant}
 use Rattle.circ_core.specs.declared.changes.Decision.{Decision}
@@ -36,30 +36,31 @@ use Rattle.circ_core.proofs.SettleMeets.{pay_meets, waive_meets}
 use Rattle.circ_core.proofs.PageMeets.{page_meets}
 
 pub decides : (H : History) → IsLegal H → (v : View) (command : Command) (result : Result Decision Refusal)
-    → IsViewOf (picture H) command v → DecidesOn v command result → Decides H command result
-decides H legal v (BeginDay day) result w on = decided H _ _ _ _ (begin_day_meets H day v.meta w) result on
-decides H legal v (Branch branch pickup name) result w on = decided H _ _ _ _ (branch_meets H (legal-Invariant H legal) branch pickup name v.branch w) result on
-decides H legal v (Week branch week) result w on = decided H _ _ _ _ (week_meets H branch week v.branch w) result on
-decides H legal v (CloseDay branch day) result w on = decided H _ _ _ _ (close_day_meets H (legal-Invariant H legal) branch day v w) result on
-decides H legal v (OpenDay branch day) result w on = decided H _ _ _ _ (open_day_meets H (legal-Invariant H legal) branch day v w) result on
-decides H legal v (Kind kind loans holds debt) result w on = decided H _ _ _ _ (kind_meets H kind loans holds debt) result on
-decides H legal v (Rule kind copy_kind period renewals rate cap) result w on =
+    → is_question command ≡ false → IsViewOf (picture H) command v → DecidesOn v command result → Decides H command result
+decides H legal v (BeginDay day) result changes w on = decided H _ _ _ _ (begin_day_meets H day v.meta w) result on
+decides H legal v (Branch branch pickup name) result changes w on = decided H _ _ _ _ (branch_meets H (legal-Invariant H legal) branch pickup name v.branch w) result on
+decides H legal v (Week branch week) result changes w on = decided H _ _ _ _ (week_meets H branch week v.branch w) result on
+decides H legal v (CloseDay branch day) result changes w on = decided H _ _ _ _ (close_day_meets H (legal-Invariant H legal) branch day v w) result on
+decides H legal v (OpenDay branch day) result changes w on = decided H _ _ _ _ (open_day_meets H (legal-Invariant H legal) branch day v w) result on
+decides H legal v (Kind kind loans holds debt) result changes w on = decided H _ _ _ _ (kind_meets H kind loans holds debt) result on
+decides H legal v (Rule kind copy_kind period renewals rate cap) result changes w on =
     decided H _ _ _ _ (rule_meets H kind copy_kind period renewals rate cap v.kind w) result on
-decides H legal v (Grace kind copy_kind days) result w on = decided H _ _ _ _ (grace_meets H kind copy_kind days v.rule w) result on
-decides H legal v (Patron patron kind card_key name) result w on =
+decides H legal v (Grace kind copy_kind days) result changes w on = decided H _ _ _ _ (grace_meets H kind copy_kind days v.rule w) result on
+decides H legal v (Patron patron kind card_key name) result changes w on =
     decided H _ _ _ _ (patron_meets H (legal-Invariant H legal) patron kind card_key name v w) result on
-decides H legal v (Acquire copy title kind home price text) result w on =
+decides H legal v (Acquire copy title kind home price text) result changes w on =
     decided H _ _ _ _ (acquire_meets H (legal-Invariant H legal) copy title kind home price text v w) result on
-decides H legal v (CheckOut patron copy branch) result w on = decided H _ _ _ _ (check_out_meets H (legal-Invariant H legal) patron copy branch v w) result on
-decides H legal v (CheckIn copy branch) result w on = decided H _ _ _ _ (check_in_meets H legal copy branch v w) result on
-decides H legal v (Renew loan) result w on = decided H _ _ _ _ (renew_meets H legal (legal-Invariant H legal) loan v w) result on
-decides H legal v (PlaceHold patron title branch first_day) result w on =
+decides H legal v (CheckOut patron copy branch) result changes w on = decided H _ _ _ _ (check_out_meets H (legal-Invariant H legal) patron copy branch v w) result on
+decides H legal v (CheckIn copy branch) result changes w on = decided H _ _ _ _ (check_in_meets H legal copy branch v w) result on
+decides H legal v (Renew loan) result changes w on = decided H _ _ _ _ (renew_meets H legal (legal-Invariant H legal) loan v w) result on
+decides H legal v (PlaceHold patron title branch first_day) result changes w on =
     decided H _ _ _ _ (place_hold_meets H (legal-Invariant H legal) patron title branch first_day v w) result on
-decides H legal v (CancelHold hold) result w on = decided H _ _ _ _ (cancel_hold_meets H (legal-Invariant H legal) hold v w) result on
-decides H legal v (Unshelve hold) result w on = decided H _ _ _ _ (unshelve_meets H legal hold v w) result on
-decides H legal v (UnshelveCancelled hold) result w on = decided H _ _ _ _ (unshelve_cancelled_meets H legal hold v w) result on
-decides H legal v (Missing copy) result w on = decided H _ _ _ _ (missing_meets H legal (legal-Invariant H legal) copy v w) result on
-decides H legal v (Withdraw copy) result w on = decided H _ _ _ _ (withdraw_meets H (legal-Invariant H legal) copy v w) result on
-decides H legal v (Pay patron amount) result w on = decided H _ _ _ _ (pay_meets H patron v w amount) result on
-decides H legal v (Waive patron amount) result w on = decided H _ _ _ _ (waive_meets H patron v w amount) result on
-decides H legal v (Page patron) result w on = decided H _ _ _ _ (page_meets H patron v.patron w) result on
+decides H legal v (CancelHold hold) result changes w on = decided H _ _ _ _ (cancel_hold_meets H (legal-Invariant H legal) hold v w) result on
+decides H legal v (Unshelve hold) result changes w on = decided H _ _ _ _ (unshelve_meets H legal hold v w) result on
+decides H legal v (UnshelveCancelled hold) result changes w on = decided H _ _ _ _ (unshelve_cancelled_meets H legal hold v w) result on
+decides H legal v (Missing copy) result changes w on = decided H _ _ _ _ (missing_meets H legal (legal-Invariant H legal) copy v w) result on
+decides H legal v (Withdraw copy) result changes w on = decided H _ _ _ _ (withdraw_meets H (legal-Invariant H legal) copy v w) result on
+decides H legal v (Pay patron amount) result changes w on = decided H _ _ _ _ (pay_meets H patron v w amount) result on
+decides H legal v (Waive patron amount) result changes w on = decided H _ _ _ _ (waive_meets H patron v w amount) result on
+decides H legal v (Page patron) result changes w on = decided H _ _ _ _ (page_meets H patron v.patron w) result on
+decides H legal v (Ask question) result changes w on = let never : ⊥ = cc in absurd never

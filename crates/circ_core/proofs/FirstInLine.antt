@@ -82,7 +82,7 @@ not-true true e = let never : ⊥ = cc in absurd never
 not-true false e = refl
 
 module _ (H : History) (inv : Invariant H) (t : ℕ) where
-  abbrev stands : ℕ → Bool
+  abbrev pub stands : ℕ → Bool
   stands h = elim (title_of_hold H h == t)
       [ true ↦ is_waiting (state H h) && (not (is_coming_by H (place H) (state H) (is_begun H) h) && is_begun H h) | false ↦ false ]
 
@@ -102,7 +102,7 @@ module _ (H : History) (inv : Invariant H) (t : ℕ) where
       go (Some r) e = (inv.acquired c r e).1
       go None e = absurd (somewhere (inv.unknown c e))
 
-  stands-row : (h : ℕ) → stands h ≡ true → (f : HoldFacts) × (hold_of H h ≡ Some f) × InLine (picture H) t h (hold_columns H h Waiting f)
+  pub stands-row : (h : ℕ) → stands h ≡ true → (f : HoldFacts) × (hold_of H h ≡ Some f) × InLine (picture H) t h (hold_columns H h Waiting f)
   stands-row h e =
       let parts : (title_of_hold H h == t ≡ true)
       × ((is_waiting (state H h) && (not (is_coming_by H (place H) (state H) (is_begun H) h) && is_begun H h)) ≡ true) = both _ _ e in
@@ -129,7 +129,7 @@ module _ (H : History) (inv : Invariant H) (t : ℕ) where
         },
       )
 
-  row-stands : (h : ℕ) (q : HoldRow) → InLine (picture H) t h q → (stands h ≡ true) × (1 ≤ h) × (h ≤ holds H)
+  pub row-stands : (h : ℕ) (q : HoldRow) → InLine (picture H) t h q → (stands h ≡ true) × (1 ≤ h) × (h ≤ holds H)
       × ((f : HoldFacts) × (hold_of H h ≡ Some f) × (hold_columns H h Waiting f ≡ q))
   row-stands h q w =
       let is : (s : HoldState) × (f : HoldFacts) × (state H h ≡ Some s) × (hold_of H h ≡ Some f) × (hold_columns H h s f ≡ q) = hold_row-is H h q w.there in

@@ -7,7 +7,7 @@ use Rattle.terms.specs.declared.row.HoldState.TheVariants.{Cancelled, Expired}
 use Rattle.terms.specs.declared.command.Command.{Command}
 use Rattle.terms.specs.declared.command.Command.TheVariants.{BeginDay, Branch, Week, Kind, Rule, Grace, Patron, Acquire, CheckOut, CheckIn}
 use Rattle.terms.specs.declared.command.Command.TheVariants.{Renew, PlaceHold, CancelHold, Unshelve, UnshelveCancelled, Missing, Withdraw}
-use Rattle.terms.specs.declared.command.Command.TheVariants.{CloseDay, OpenDay, Pay, Waive, Page}
+use Rattle.terms.specs.declared.command.Command.TheVariants.{CloseDay, OpenDay, Pay, Waive, Page, Ask}
 use Rattle.circ_core.specs.declared.changes.Decision.{Decision}
 use Rattle.circ_core.specs.declared.views.View.{View}
 use Rattle.circ_core.specs.Decided.{Decided}
@@ -32,7 +32,7 @@ use Rattle.circ_core.specs.CancelHold.{cancel_hold_checks, cancel_hold_rows}
 use Rattle.circ_core.specs.Settle.{settle_checks, settle_rows}
 use Rattle.circ_core.specs.Page.{page_checks}
 
--- The decision is that of the command's checks, reply and row changes.
+-- The decision is that of the command's checks, reply and row changes. A question has none of them: it is answered elsewhere.
 abbrev pub DecidesOn : View → Command → Result Decision Refusal → Type 0
 DecidesOn v (BeginDay day) decided = Decided (begin_day_checks v.meta day) Done (begin_day_rows v.meta day) decided
 DecidesOn v (Branch branch pickup name) decided = Decided (branch_checks v.branch branch pickup name) Done (branch_rows v.branch branch pickup name) decided
@@ -63,3 +63,4 @@ DecidesOn v (Withdraw copy) decided = Decided (withdraw_checks v) Done (withdraw
 DecidesOn v (Pay patron amount) decided = Decided (settle_checks v amount) (Owed (owed_by v.patron - amount)) (settle_rows v patron Payment amount) decided
 DecidesOn v (Waive patron amount) decided = Decided (settle_checks v amount) (Owed (owed_by v.patron - amount)) (settle_rows v patron Waiver amount) decided
 DecidesOn v (Page patron) decided = Decided (page_checks v.patron) Done [] decided
+DecidesOn v (Ask question) decided = Decided [] Done [] decided

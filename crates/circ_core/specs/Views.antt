@@ -15,7 +15,7 @@ use Rattle.terms.specs.declared.row.TransitRow.{TransitRow}
 use Rattle.terms.specs.declared.command.Command.{Command}
 use Rattle.terms.specs.declared.command.Command.TheVariants.{BeginDay, Branch, Week, Kind, Rule, Grace, Patron, Acquire, CheckOut, CheckIn}
 use Rattle.terms.specs.declared.command.Command.TheVariants.{Renew, PlaceHold, CancelHold, Unshelve, UnshelveCancelled, Missing, Withdraw}
-use Rattle.terms.specs.declared.command.Command.TheVariants.{CloseDay, OpenDay, Pay, Waive, Page}
+use Rattle.terms.specs.declared.command.Command.TheVariants.{CloseDay, OpenDay, Pay, Waive, Page, Ask}
 use Rattle.terms.specs.Pictures.{Picture}
 use Rattle.model.specs.History.{has_begun}
 use Rattle.circ_core.specs.declared.views.View.{View}
@@ -294,6 +294,7 @@ IsViewOf P (Withdraw copy) rows = IsCopyView P copy rows
 IsViewOf P (Pay patron amount) rows = IsAccountView P patron rows
 IsViewOf P (Waive patron amount) rows = IsAccountView P patron rows
 IsViewOf P (Page patron) rows = rows.patron ≡ P.patrons patron
+IsViewOf P (Ask question) rows = Unit {0}
 
 -- The view holds nothing but what the command needs, whatever the tables are: every place that isn't named here is as in the view of no row.
 abbrev pub HasOnly : Command → View → Type 0
@@ -383,3 +384,4 @@ HasOnly (Withdraw copy) rows = rows ≡ record empty_view { copy = rows.copy; lo
 HasOnly (Pay patron amount) rows = rows ≡ record empty_view { meta = rows.meta; patron = rows.patron }
 HasOnly (Waive patron amount) rows = rows ≡ record empty_view { meta = rows.meta; patron = rows.patron }
 HasOnly (Page patron) rows = rows ≡ record empty_view { patron = rows.patron }
+HasOnly (Ask question) rows = rows ≡ empty_view

@@ -1,7 +1,8 @@
 //! The decision on a command.
 
 ghost use Rattle.model.specs.History.{History};
-ghost use Rattle.model.specs.Requests.{IsLegal};
+ghost use Rattle.std.specs.Prelude.{◌≡◌, false};
+ghost use Rattle.model.specs.Requests.{IsLegal, is_question};
 ghost use Rattle.model.specs.Picture.{picture};
 ghost use Rattle.circ_core.specs.Deciding.{DecidesOn};
 ghost use Rattle.circ_core.specs.Views.{IsViewOf};
@@ -11,7 +12,7 @@ use crate::acquire::acquire;
 use crate::begin_day::begin_day;
 use crate::branch::add_branch;
 use crate::cancel_hold::cancel_hold;
-use crate::changes::Decision;
+use crate::changes::{Changes, Decision, done};
 use crate::check_in::check_in;
 use crate::check_out::check_out;
 use crate::close_day::{close_day, open_day};
@@ -35,12 +36,13 @@ use terms::{Command, Days, Refusal, RuleRow, Sort};
 ///
 /// On the view of the tables that a legal list of accepted events leaves, it is the refusal or the
 /// reply which that list gives the command, and the rows change so that the tables are those of the
-/// list with the command added.
+/// list with the command added. A question isn't decided: it changes nothing, and is answered from
+/// the tables.
 #[tactic(auto, using(crate::proofs::Decisions::decides))]
 pub fn decide<'a>(view: &'a View, command: &'a Command) -> Result<Decision<'a>, Refusal>
     ensures on_rows { DecidesOn view.now command.now result }
-    ensures meets { (H : History) → IsLegal H → IsViewOf (picture H) command.now view.now
-        → Decides H command.now result }
+    ensures meets { (H : History) → IsLegal H → is_question command.now ≡ false
+        → IsViewOf (picture H) command.now view.now → Decides H command.now result }
 {
     decide_on_rows(view, command)
 }
@@ -124,5 +126,6 @@ fn decide_on_rows<'a>(view: &'a View, command: &'a Command) -> Result<Decision<'
         Command::Pay { patron, amount } => settle(view, *patron, Sort::Payment, *amount),
         Command::Waive { patron, amount } => settle(view, *patron, Sort::Waiver, *amount),
         Command::Page { .. } => page(&view.patron),
+        Command::Ask(_) => Ok(done(Changes::none())),
     }
 }

@@ -35,3 +35,11 @@ pub mod TillPages
 pub mod WholeReports
 pub mod WrittenReports
 pub mod ReportForms
+pub mod Listings
+pub mod ListNumbers
+pub mod Placings
+pub mod ListPages
+pub mod Pulls
+pub mod ListRows
+pub mod Replies
+pub mod Queues

@@ -1,7 +1,7 @@
 -- The lines of a day, page by page.
 use Rattle.std.proofs.Common.{◌≡◌, ℕ, suc, ◌≤◌, ◌<◌, ◌+◌, ◌-◌, ◌*◌, ◌^◌, min, true, ◌⊎◌, inl, inr, List, [], ◌∷◌, ◌++◌, length, map, refl}
 use Rattle.std.proofs.Common.{sym, ◌∙◌, ap, subst, arith}
-use Rattle.std.specs.Prelude.{Some, None}
+use Rattle.std.specs.Prelude.{Some, None, codes}
 use Rattle.std.specs.List.{Contains, AllByRecursion}
 use Rattle.std.proofs.lemmas.Bool.{cases_lt}
 use Rattle.circ_tables.specs.declared.by_number.TheConstants.{PAGE_ROWS}
@@ -17,12 +17,15 @@ use Rattle.terms.specs.declared.row.Sort.TheVariants.{Fine, Price, Payment, Waiv
 use Rattle.model.specs.History.{History}
 use Rattle.model.specs.Picture.{picture}
 use Rattle.desk.specs.Parts.{IsLast}
-use Rattle.desk.specs.Reporting.{rows_sum, capped_sum, capped_sums, day_sums, AreLinesOf, AreSumsOf, IsTillText, till_words}
+use Rattle.desk.specs.Reporting.{rows_sum, capped_sum, capped_sums, day_sums, AreLinesOf, AreSumsOf, IsTillText, IsTillReport, till_words}
 use Rattle.desk.specs.declared.till.Sums.{Sums}
 use Rattle.std.specs.Prelude.{Result}
 use Rattle.store.specs.Library.{Ghosts, Held}
 use Rattle.terms.specs.declared.fault.Fault.{Fault}
-use Rattle.model.specs.Reports.{till}
+use Rattle.std.specs.List.{join_with_byte}
+use Rattle.calendar.specs.Days.{day_text}
+use Rattle.model.specs.Pages.{spaced}
+use Rattle.model.specs.Reports.{till, till_rows, till_line, till_sum}
 use Rattle.model.proofs.RowRanges.{legal-rows}
 use Rattle.desk.specs.Answering.{Learns}
 use Rattle.desk.proofs.Founds.{Found}
@@ -30,6 +33,7 @@ use Rattle.desk.proofs.Looking.{looked, learns-on}
 use Rattle.desk.proofs.NumberLists.{last-is}
 use Rattle.desk.proofs.RowLists.{has, contains-has, has-contains}
 use Rattle.desk.proofs.Contained.{in-cases, in-none, above-first}
+use Rattle.desk.proofs.ReportLines.{report-joined}
 use Rattle.desk.proofs.TillLines.{till-sum}
 use Rattle.desk.proofs.TillSums.{sum-append, sum-cons}
 
@@ -231,8 +235,20 @@ days-sums H d sums of = λ i. record {
   waivers = (of.waivers ∙ till-sum H d of.rows of.all Waiver) i;
 }
 
--- What was found of the day's lines is the report of every history that the tables show.
-pub till-learnt : {S T : Type 0} {g : Ghosts S} {a b : Held S} {d : ℕ} {r : Result T Fault} (bytes : T → List ℕ)
-    → Found (λ P text. IsTillText P d (bytes text)) g a b r → Learns (λ H text. bytes text ≡ till H d) g a b r
-till-learnt {d = d} bytes found =
+-- What was found of the day's lines has the lines of the report of every history that the tables show.
+pub till-rows-learnt : {S T : Type 0} {g : Ghosts S} {a b : Held S} {d : ℕ} {r : Result T Fault} (bytes : T → List ℕ)
+    → Found (λ P text. IsTillText P d (bytes text)) g a b r → Learns (λ H text. bytes text ≡ join_with_byte 10 (till_rows H d)) g a b r
+till-rows-learnt {d = d} bytes found =
     learns-on (looked found legal-rows legal-rows) (λ _ _ _. tt) (λ H legal _ text is. is.2 ∙ ap (till_words d) (days-sums H d is.0 is.1))
+
+till-joined : (H : History) (d : ℕ) → join_with_byte 10 (till_rows H d) ++ 10 ∷ [] ≡ till H d
+till-joined H d = report-joined (spaced (codes "till" ∷ day_text d ∷ []))
+    (till_line (codes "fines") (till_sum H d Fine) ∷ till_line (codes "prices") (till_sum H d Price)
+    ∷ till_line (codes "payments") (till_sum H d Payment) ∷ till_line (codes "waivers") (till_sum H d Waiver) ∷ [])
+
+-- With a newline it is the report.
+pub till-learnt : {S T : Type 0} {g : Ghosts S} {a b : Held S} {d : ℕ} {r : Result T Fault} (bytes : T → List ℕ)
+    → Found (λ P text. IsTillReport P d (bytes text)) g a b r → Learns (λ H text. bytes text ≡ till H d) g a b r
+till-learnt {d = d} bytes found =
+    learns-on (looked found legal-rows legal-rows) (λ _ _ _. tt) (λ H legal _ text is.
+    is.2 ∙ ap (λ (t : List ℕ). t ++ 10 ∷ []) (is.1.2 ∙ ap (till_words d) (days-sums H d is.1.0 is.1.1)) ∙ till-joined H d)

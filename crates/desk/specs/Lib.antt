@@ -1,6 +1,7 @@
 pub mod Callers
 pub mod Touching
 pub mod Answering
+pub mod Asked
 pub mod Headline
 pub mod Paging
 pub mod Reporting
@@ -10,3 +11,6 @@ pub mod Lending
 pub mod Reports
 pub mod Showing
 pub mod Running
+pub mod Listing
+pub mod Placing
+pub mod Asking

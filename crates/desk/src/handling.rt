@@ -7,10 +7,11 @@ ghost use Rattle.terms.specs.Laws.{IsCommand, IsKept};
 ghost use Rattle.terms.specs.Texts.{request_text as request_text_of, reply_text as reply_text_of};
 ghost use Rattle.terms.specs.declared.reply.Reply.{Reply as ReplyOf};
 ghost use Rattle.store.specs.Commit.{command_made};
-ghost use Rattle.model.specs.Requests.{may_send as may_send_command, is_page};
+ghost use Rattle.model.specs.Requests.{may_send as may_send_command, only_asks};
 ghost use Rattle.desk.specs.Answering.{Handled, repeated, Records, AnswersCommand, AnswersByKey};
 ghost use Rattle.desk.specs.Answering.{HandlesAny, IsViewFor, TouchesOnly};
 
+use crate::asking::reply_to_question;
 use crate::callers::{is_known, may_send, refusal_for_another};
 use crate::paging::show;
 use crate::touching::{Touched, touched_by};
@@ -57,7 +58,7 @@ fn carry_out<'a, S: Alter>(
     command: &'a Command,
     touched: &mut Touched,
 ) -> Result<Reply, Fault>
-    requires { (is_page command.now ≡ false) × (text.now ≡ request_text_of command.now) }
+    requires { (only_asks command.now ≡ false) × (text.now ≡ request_text_of command.now) }
     ensures answered { AnswersCommand owner key.now command.now
         (IsViewFor owner command.now view.now) touched.new
         S.Store store.old store.new result }
@@ -84,7 +85,7 @@ fn answer<S: Alter>(
     command: &Command,
     touched: &mut Touched,
 ) -> Result<Reply, Fault>
-    requires { (is_page command.now ≡ false) × (text.now ≡ request_text_of command.now) }
+    requires { (only_asks command.now ≡ false) × (text.now ≡ request_text_of command.now) }
     ensures answered { AnswersCommand owner key.now command.now
         (λ _. may_send_command owner command.now ≡ true) touched.new
         S.Store store.old store.new result }
@@ -119,7 +120,7 @@ fn respond<S: Alter>(
     request: &Request,
     touched: &mut Touched,
 ) -> Result<Reply, Fault>
-    requires { is_page request.now.command ≡ false }
+    requires { only_asks request.now.command ≡ false }
     ensures answered { AnswersByKey request.now touched.new S.Store store.old store.new result }
     ensures any { HandlesAny S.Store store.old store.new result }
 {
@@ -146,9 +147,10 @@ fn has_forms(request: &Request)
     let _key = request.key.as_str();
 }
 
-/// The reply to a request: 81 for a caller who may not send it; the page, which looks at no key;
-/// the kept reply or 80 for a key that was used, and else what becomes of the command. Where that
-/// is accepted, `touched` is set to the patrons whose own rows it changed.
+/// The reply to a request: 81 for a caller who may not send it; the page or the answer to a
+/// question, which look at no key; the kept reply or 80 for a key that was used, and else what
+/// becomes of the command. Where that is accepted, `touched` is set to the patrons whose own rows
+/// it changed.
 pub(crate) fn handle_touching<S: Alter>(
     store: &mut Store<S>,
     alloc: Global,
@@ -167,6 +169,9 @@ pub(crate) fn handle_touching<S: Alter>(
     }
     if let Command::Page { patron } = &request.command {
         return show(store, alloc, *patron);
+    }
+    if let Command::Ask(question) = &request.command {
+        return reply_to_question(store, alloc, question);
     }
     respond(store, alloc, request, touched)
 }

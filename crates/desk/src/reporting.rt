@@ -12,6 +12,7 @@ ghost use Rattle.desk.specs.Parts.{AreAllRows, above};
 ghost use Rattle.desk.specs.Written.{WritesReport};
 ghost use Rattle.desk.specs.Reporting.{ready_words, ready_count, IsReadyRow, AreReadyRows};
 
+use crate::listing::Listed;
 use crate::paging::title_row;
 use sqlite::Alter;
 use std::alloc::Global;
@@ -75,8 +76,16 @@ pub(crate) struct Told {
     pub(crate) last: Option<u32>,
 }
 
+/// A line with its newline.
+pub(crate) fn with_newline(mut text: String) -> Result<String, Memory>
+    ensures { IfOk result (λ line. string_bytes line ≡ string_bytes text ++ (10 ∷ [])) }
+{
+    text.push('\n')?;
+    Ok(text)
+}
+
 /// The header of the shelf report.
-const SHELF_HEADER: &str = "      hold    copy  patron until      title\n";
+pub(crate) const SHELF_HEADER: &str = "      hold    copy  patron until      title\n";
 
 /// The row of a ready hold, with the copy that stands there for it, the shelf limit and the title.
 fn shelf_row(
@@ -87,13 +96,13 @@ fn shelf_row(
     title: &TitleRow,
 ) -> Result<String, Memory>
     ensures { IfOk result (λ text. string_bytes text
-        ≡ ready_words row.now copy limit_day title.now.text ++ (10 ∷ [])) }
+        ≡ ready_words row.now copy limit_day title.now.text) }
 {
     let hold = row.hold.number();
     let copy = copy.number();
     let patron = row.patron.number();
     let text = &title.text;
-    format!(in alloc; "{hold:>10} {copy:>7} {patron:>7} {limit_day} {text}\n")
+    format!(in alloc; "{hold:>10} {copy:>7} {patron:>7} {limit_day} {text}")
 }
 
 /// The last line of the shelf report.
@@ -105,9 +114,9 @@ fn shelf_end(alloc: Global, count: usize) -> Result<String, Memory>
 
 /// The row of a ready hold, with its title. 90, 91; 93, also where the hold names no copy or no
 /// limit.
-fn ready_line<S: Alter>(store: &mut Store<S>, alloc: Global, row: &HoldRow) -> Result<String, Fault>
+fn ready_row<S: Alter>(store: &mut Store<S>, alloc: Global, row: &HoldRow) -> Result<String, Fault>
     ensures { LearnsIf (IsReadyRow row.now)
-        (λ H text. string_bytes text ≡ shelf_line H row.now.hold ++ (10 ∷ []))
+        (λ H text. string_bytes text ≡ shelf_line H row.now.hold)
         S.Store store.old store.new result }
 {
     let Some(copy) = row.copy else {
@@ -118,6 +127,61 @@ fn ready_line<S: Alter>(store: &mut Store<S>, alloc: Global, row: &HoldRow) -> R
     };
     let title = title_row(store, alloc, row.title)?;
     Ok(shelf_row(alloc, row, copy, limit_day, &title)?)
+}
+
+/// The same with a newline. 90, 91, 93.
+fn ready_line<S: Alter>(store: &mut Store<S>, alloc: Global, row: &HoldRow) -> Result<String, Fault>
+    ensures { LearnsIf (IsReadyRow row.now)
+        (λ H text. string_bytes text ≡ shelf_line H row.now.hold ++ (10 ∷ []))
+        S.Store store.old store.new result }
+{
+    Ok(with_newline(ready_row(store, alloc, row)?)?)
+}
+
+/// The ready holds of a branch.
+#[derive(Clone, Copy)]
+pub(crate) struct ShelfAt {
+    pub(crate) branch: BranchId,
+}
+
+impl Listed for ShelfAt {
+    ghost use Rattle.std.specs.Prelude.{◌≡◌, Some};
+    ghost use Rattle.terms.specs.declared.row.HoldState.TheVariants.{Ready};
+    ghost use Rattle.model.specs.Asking.{shelf_list};
+    ghost use Rattle.model.specs.Picture.{picture};
+
+    type Row = HoldRow;
+
+    ghost list = { λ s H. shelf_list H s.branch };
+
+    ghost Needs = { λ s H. Unit {0} };
+
+    ghost number_of = { λ r. r.hold };
+
+    ghost IsRow = { λ s r H. ((picture H).holds r.hold ≡ Some r) × ((r.branch ≡ s.branch)
+        × (r.state ≡ Ready)) };
+
+    fn number(row: &HoldRow) -> u32 {
+        row.hold.number()
+    }
+
+    fn page<S: Alter>(
+        &self,
+        store: &mut Store<S>,
+        alloc: Global,
+        after: u32,
+    ) -> Result<Vec<HoldRow>, Fault> {
+        store.ready_holds(alloc, self.branch, HoldId::new(after))
+    }
+
+    fn row_text<S: Alter>(
+        &self,
+        store: &mut Store<S>,
+        alloc: Global,
+        row: &HoldRow,
+    ) -> Result<Option<String>, Fault> {
+        Ok(Some(ready_row(store, alloc, row)?))
+    }
 }
 
 /// Writes the row of a ready hold. 90, 91, 93.

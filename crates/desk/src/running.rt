@@ -74,7 +74,7 @@ impl<S: Alter> Desk<S> {
 
     /// The reply to a request as `handle` gives it, and the patrons whose pages the request may
     /// have changed; everybody else's page and card key are what they were. Where the request was
-    /// refused, repeated or a page, nobody is named. 90, 91 or 93 in its place.
+    /// refused, repeated, a page or a question, nobody is named. 90, 91 or 93 in its place.
     pub fn handle_touching(
         &mut self,
         alloc: Global,

@@ -9,8 +9,9 @@ ghost use Rattle.model.specs.Reports.{is_sort};
 ghost use Rattle.desk.specs.Parts.{IsLast};
 ghost use Rattle.desk.specs.Written.{WritesTill};
 ghost use Rattle.desk.specs.Reporting.{rows_sum, capped_sums, AreSumsOf, till_words, IsTillText};
+ghost use Rattle.desk.specs.Reporting.{IsTillReport};
 
-use crate::reporting::ReportFault;
+use crate::reporting::{ReportFault, with_newline};
 use sqlite::Alter;
 use std::alloc::Global;
 use std::io::Write;
@@ -112,17 +113,30 @@ fn till_lines(alloc: Global, day: Day, sums: Sums) -> Result<String, Memory>
     } = sums;
     format!(in alloc;
         "till {day}\nfines    {fines:>15}\nprices   {prices:>15}\n\
-         payments {payments:>15}\nwaivers  {waivers:>15}\n"
+         payments {payments:>15}\nwaivers  {waivers:>15}"
     )
 }
 
-/// The till report of a day. 90, 91; 93, which never comes where all rows lie in their limits.
-fn till_text<S: Alter>(store: &mut Store<S>, alloc: Global, day: Day) -> Result<String, Fault>
+/// The lines of the till report of a day. 90, 91; 93, which never comes where all rows lie in their
+/// limits.
+pub(crate) fn till_text<S: Alter>(
+    store: &mut Store<S>,
+    alloc: Global,
+    day: Day,
+) -> Result<String, Fault>
     ensures { Looked InLimits (λ P text. IsTillText P day (string_bytes text)) InLimits
         S.Store store.old store.new result }
 {
     let sums = sum_day(store, alloc, day)?;
     Ok(till_lines(alloc, day, sums)?)
+}
+
+/// The till report of a day. 90, 91; 93, which never comes where all rows lie in their limits.
+fn till_report<S: Alter>(store: &mut Store<S>, alloc: Global, day: Day) -> Result<String, Fault>
+    ensures { Looked InLimits (λ P text. IsTillReport P day (string_bytes text)) InLimits
+        S.Store store.old store.new result }
+{
+    Ok(with_newline(till_text(store, alloc, day)?)?)
 }
 
 /// Writes the till report of a day. 90, 91, 93, or a write failed: then a beginning of it may have
@@ -136,7 +150,7 @@ pub(crate) fn till<S: Alter, W: Write>(
     ensures { WritesTill day
         S.Store store.old store.new (W.contents writer.old) (W.contents writer.new) result }
 {
-    let text = till_text(store, alloc, day)?;
+    let text = till_report(store, alloc, day)?;
     write_bytes(writer, text.as_bytes())?;
     Ok(())
 }

@@ -18,7 +18,7 @@ use Rattle.terms.proofs.Utf8Lemmas.{request_text-IsUtf8}
 use Rattle.terms.specs.declared.command.Owner.{Owner}
 use Rattle.terms.specs.declared.command.Owner.TheVariants.{Desk, Patron as Reader}
 use Rattle.terms.specs.declared.command.Command.{Command}
-use Rattle.terms.specs.declared.command.Command.TheVariants.{CheckOut, CheckIn, Renew, PlaceHold, Unshelve, UnshelveCancelled, Missing, Pay, Waive, Page}
+use Rattle.terms.specs.declared.command.Command.TheVariants.{CheckOut, CheckIn, Renew, PlaceHold, Unshelve, UnshelveCancelled, Missing, Pay, Waive, Page, Ask}
 use Rattle.terms.specs.declared.row.Sort.{Sort}
 use Rattle.terms.specs.declared.row.Sort.TheVariants.{Fine, Price}
 use Rattle.model.specs.Calendar.{is_single, opens, least, IsLeast}
@@ -30,7 +30,7 @@ use Rattle.model.specs.Accounts.{price_line, fine_now, fine_at, price_of, borrow
 use Rattle.model.specs.Answers.{routed, unshelved, missed, accepted}
 use Rattle.model.specs.Invariant.{Invariant}
 use Rattle.model.specs.Refusals.{refusal, checks, is_bad_amount, is_own}
-use Rattle.model.specs.Requests.{IsLegal, is_page, is_enrolled, Kept, kept_of}
+use Rattle.model.specs.Requests.{IsLegal, only_asks, is_enrolled, Kept, kept_of}
 use Rattle.model.specs.DueDays.{HasWholeWeeks, IsDue, sets_due, period_end}
 use Rattle.model.specs.Forms.{HasForms}
 use Rattle.model.specs.Picture.{nth_line}
@@ -225,7 +225,7 @@ module _ (H : History) (legal : IsLegal H) (forms : HasForms H) where
       omega (arith, made.1, inv.loans_left)
 
   -- The reply to a command that changes something can be kept.
-  pub accepted-kept : (o : Owner) (x : Command) → refusal H o x ≡ None → is_page x ≡ false → IsKept (accepted H x)
+  pub accepted-kept : (o : Owner) (x : Command) → refusal H o x ≡ None → only_asks x ≡ false → IsKept (accepted H x)
   accepted-kept o (CheckOut p c b) ok changes =
       let room : loans H < LAST_NUMBER = leb-false _ _ (passed (checks H o (CheckOut p c b)) ok).1.1.1.1.1.1.1.1.1.1.1.1.1.1.0 in
       (omega (arith, room), due-kept o p c b ok)
@@ -246,6 +246,7 @@ module _ (H : History) (legal : IsLegal H) (forms : HasForms H) where
   accepted-kept o (Pay p n) ok changes = omega (arith, owed-le p)
   accepted-kept o (Waive p n) ok changes = omega (arith, owed-le p)
   accepted-kept o (Page p) ok changes = let never : ⊥ = cc in absurd never
+  accepted-kept o (Ask question) ok changes = let never : ⊥ = cc in absurd never
   accepted-kept o _ ok changes = tt
 
   owner-in : (o : Owner) → IsTrue (is_enrolled H o) → IsOwner o

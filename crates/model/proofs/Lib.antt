@@ -4,6 +4,7 @@ mod RowsLending
 mod RowsGrace
 mod RowsHolds
 mod RowsReports
+mod RowsAsking
 mod RowsClosedDays
 pub mod Passing
 pub mod MadeHolds
@@ -41,3 +42,6 @@ pub mod ClosedDays
 pub mod RepeatedLists
 pub mod KeptRows
 pub mod Schemas
+pub mod Asking
+pub mod Debts
+pub mod AskedRows

@@ -12,7 +12,7 @@ use Rattle.terms.specs.Callers.{owner_of}
 use Rattle.model.specs.Checks.{first_failing, is_within_limits}
 use Rattle.model.specs.History.{History, title_of, copy_of}
 use Rattle.model.specs.Refusals.{refusal, has_branch, differs_title, differs_copy}
-use Rattle.model.specs.Requests.{is_allowed, is_page, Kept, kept_of, reply_to, adds, event_of, after_one, after}
+use Rattle.model.specs.Requests.{is_allowed, only_asks, Kept, kept_of, reply_to, adds, event_of, after_one, after}
 use Rattle.model.specs.Repeats.{is_kept_text, repeats, first_ones, CopiesRow, row_command, row_request, after_rows}
 use Rattle.model.proofs.Bindings.{not-true}
 use Rattle.model.proofs.Repeats.{repeat-reply, repeat-adds_not, kept-one, kept-first}
@@ -30,13 +30,13 @@ stays H r e = ap (λ b. elim b as (λ _. History) [ true ↦ event_of r ∷ H | 
 
 repeat-stays : (H : History) (r : Request) → repeats H r ≡ true → after_one H r ≡ H
 repeat-stays H r e =
-    let x = kept-of_repeat (kept_of H (owner_of r.caller) r.key) (request_text r.command) (and_parts (not (is_page r.command)) _ e).1 in
+    let x = kept-of_repeat (kept_of H (owner_of r.caller) r.key) (request_text r.command) (and_parts (not (only_asks r.command)) _ e).1 in
     stays H r (repeat-adds_not H r x.0 x.1 (adds H r) refl)
 
 pub repeats-kept_reply : (H : History) (r : Request) → repeats H r ≡ true → is_allowed H r.caller r.command ≡ true
     → (x : Kept) × (kept_of H (owner_of r.caller) r.key ≡ Some x) × (reply_to H r ≡ x.reply) × (after_one H r ≡ H)
 repeats-kept_reply H r e allowed =
-    let parts = and_parts (not (is_page r.command)) (is_kept_text (kept_of H (owner_of r.caller) r.key) (request_text r.command)) e in
+    let parts = and_parts (not (only_asks r.command)) (is_kept_text (kept_of H (owner_of r.caller) r.key) (request_text r.command)) e in
     let x = kept-of_repeat (kept_of H (owner_of r.caller) r.key) (request_text r.command) parts.1 in
     (x.0, x.1, repeat-reply H r x.0 allowed (not-true _ parts.0) x.1 x.2, repeat-stays H r e)
 

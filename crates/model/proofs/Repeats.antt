@@ -14,7 +14,7 @@ use Rattle.model.specs.History.{History}
 use Rattle.model.specs.Refusals.{refusal}
 use Rattle.model.specs.Answers.{accepted, answer}
 use Rattle.terms.specs.Callers.{owner_of}
-use Rattle.model.specs.Requests.{IsAccepted, is_allowed, is_page, same_owner, Kept, kept_of, reply_by_key, reply_to, adds, event_of, after_one, after}
+use Rattle.model.specs.Requests.{IsAccepted, is_allowed, only_asks, same_owner, Kept, kept_of, reply_by_key, reply_to, adds, event_of, after_one, after}
 use Rattle.model.proofs.Bindings.{both}
 use Rattle.model.proofs.Legal.{some-none}
 use Rattle.model.proofs.Runs.{added}
@@ -83,7 +83,7 @@ reply_at true true a k H r e f = let never : ⊥ = cc in absurd never
 reply_at false y a k H r e f = let never : ⊥ = cc in absurd never
 
 -- An allowed request that is no page is replied to by its key.
-reply-by_key : (H : History) (r : Request) → is_allowed H r.caller r.command ≡ true → is_page r.command ≡ false
+reply-by_key : (H : History) (r : Request) → is_allowed H r.caller r.command ≡ true → only_asks r.command ≡ false
     → reply_to H r ≡ reply_by_key H r (kept_of H (owner_of r.caller) r.key)
 reply-by_key H r allowed changes = reply_at _ _ (answer H (owner_of r.caller) r.command) (kept_of H (owner_of r.caller) r.key) H r allowed changes
 
@@ -100,7 +100,7 @@ reply-first H r e =
 
 -- ---- the reply of its repetition
 
-pub repeat-reply : (H : History) (r : Request) (x : Kept) → is_allowed H r.caller r.command ≡ true → is_page r.command ≡ false
+pub repeat-reply : (H : History) (r : Request) (x : Kept) → is_allowed H r.caller r.command ≡ true → only_asks r.command ≡ false
     → kept_of H (owner_of r.caller) r.key ≡ Some x
     → x.text ≡ request_text r.command → reply_to H r ≡ x.reply
 repeat-reply H r x allowed changes kept text =
@@ -114,7 +114,7 @@ repeat-adds_not H r x kept false e = refl
 -- A repeated request adds nothing and gets the first one's reply.
 pub acts_once : (H : History) (first again : Request) (between : List Request) → adds H first ≡ true
     → owner_of again.caller ≡ owner_of first.caller → again.key ≡ first.key → request_text again.command ≡ request_text first.command
-    → is_page again.command ≡ false → is_allowed (after H (first ∷ between)) again.caller again.command ≡ true
+    → only_asks again.command ≡ false → is_allowed (after H (first ∷ between)) again.caller again.command ≡ true
     → (after_one (after H (first ∷ between)) again ≡ after H (first ∷ between)) × (reply_to (after H (first ∷ between)) again ≡ reply_to H first)
 acts_once H first again between adding owner key text changes allowed = (
   ap (λ b. elim b as (λ _. History)

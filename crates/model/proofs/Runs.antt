@@ -15,7 +15,7 @@ use Rattle.terms.specs.Laws.{IsCommand}
 use Rattle.terms.specs.declared.command.Command.{Command}
 use Rattle.terms.specs.declared.command.Command.TheVariants.{Week}
 use Rattle.terms.specs.Callers.{owner_of}
-use Rattle.model.specs.Requests.{IsLegal, IsAccepted, after, after_one, adds, event_of, is_known, is_enrolled, is_allowed, is_page, kept_of, may_send}
+use Rattle.model.specs.Requests.{IsLegal, IsAccepted, after, after_one, adds, event_of, is_known, is_enrolled, is_allowed, only_asks, kept_of, may_send}
 
 is_none-none : {A : Type 0} (o : Option A) → is_none o ≡ true → o ≡ None
 is_none-none None e = refl
@@ -34,7 +34,7 @@ known_enrolled H (FromPatron p k) e = has (patron_of H p) e
 pub added : (H : History) (r : Request) → adds H r ≡ true → IsAccepted (event_of r) H
 added H r e =
     let allowed = is_allowed H r.caller r.command in
-    let changes = not (is_page r.command) in
+    let changes = not (only_asks r.command) in
     let fresh = is_none (kept_of H (owner_of r.caller) r.key) in
     let parts : ((allowed && (changes && fresh)) ≡ true) × (is_none (refusal H (owner_of r.caller) r.command) ≡ true) = both _ _ e in
     let front : (allowed ≡ true) × ((changes && fresh) ≡ true) = and_parts _ _ parts.0 in

@@ -94,6 +94,13 @@ lines (e ∷ H) = lines_after H (posting e.command) (lines H)
 abbrev pub next_line : History → ℕ
 next_line H = length (lines H) + 1
 
+-- The n-th of all lines, counted from 1.
+abbrev pub nth_line : List Line → ℕ → Option Line
+nth_line [] n = None
+nth_line (x ∷ xs) zero = None
+nth_line (x ∷ xs) (suc zero) = Some x
+nth_line (x ∷ xs) (suc (suc n)) = nth_line xs (suc n)
+
 -- Of all lines those of a patron, in order.
 abbrev pub account_in : List Line → ℕ → List Line
 account_in all p = filter (λ x. x.patron == p) all

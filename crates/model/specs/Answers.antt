@@ -2,7 +2,7 @@
 use Rattle.std.specs.Prelude.{ℕ, ◌-◌, Some, None, unwrap_or}
 use Rattle.terms.specs.declared.command.Owner.{Owner}
 use Rattle.terms.specs.declared.command.Command.{Command}
-use Rattle.terms.specs.declared.command.Command.TheVariants.{CheckOut, CheckIn, Renew, PlaceHold, Unshelve, UnshelveCancelled, Missing, Pay, Waive, Page}
+use Rattle.terms.specs.declared.command.Command.TheVariants.{CheckOut, CheckIn, Renew, PlaceHold, Unshelve, UnshelveCancelled, Missing, Pay, Waive, Page, Ask}
 use Rattle.terms.specs.declared.reply.Routed.{Routed}
 use Rattle.terms.specs.declared.reply.Routed.TheVariants.{Shelf as ToShelf, HoldShelf as ToHoldShelf, Transit as ToTransit}
 use Rattle.terms.specs.declared.reply.Reply.{Reply}
@@ -15,6 +15,7 @@ use Rattle.model.specs.Sights.{Sight, sight, route_seen, kept_for_seen, owed_see
 use Rattle.model.specs.Checks.{first_failing}
 use Rattle.model.specs.Refusals.{checks_by}
 use Rattle.model.specs.Pages.{page_by}
+use Rattle.model.specs.Asking.{asked}
 
 -- The place that routing gave, with the limit of a hold that becomes ready.
 abbrev pub routed : History → Place → Routed
@@ -44,6 +45,7 @@ accepted_by H s (Missing c) = missed H s.grace c (s.place c)
 accepted_by H s (Pay p n) = Owed (owed_seen H s p - n)
 accepted_by H s (Waive p n) = Owed (owed_seen H s p - n)
 accepted_by H s (Page p) = Shown (page_by H s p)
+accepted_by H s (Ask question) = Shown (asked H question)
 accepted_by H s _ = Done
 
 -- The reply to a command that isn't refused after a list.

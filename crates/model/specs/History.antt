@@ -172,6 +172,16 @@ abbrev pub copies : History → List ℕ
 copies [] = []
 copies (e ∷ H) = copies_after H e.command (copies H)
 
+-- The first command of a patron adds its number to the list.
+abbrev pub patrons_after : History → Command → List ℕ → List ℕ
+patrons_after H (Patron n kind card_key name) before = if is_none (patron_of H n) then n ∷ before else before
+patrons_after H _ before = before
+
+-- The numbers of all patrons ever enrolled.
+abbrev pub patrons : History → List ℕ
+patrons [] = []
+patrons (e ∷ H) = patrons_after H e.command (patrons H)
+
 -- ---- numbers given in order
 
 -- A check-out makes one loan more.

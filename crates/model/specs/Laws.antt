@@ -19,7 +19,7 @@ use Rattle.model.specs.Pages.{page}
 use Rattle.model.specs.Invariant.{Invariant}
 use Rattle.terms.specs.Texts.{request_text}
 use Rattle.terms.specs.Callers.{owner_of}
-use Rattle.model.specs.Requests.{IsLegal, is_allowed, is_page, adds, after_one, reply_to, after}
+use Rattle.model.specs.Requests.{IsLegal, is_allowed, only_asks, adds, after_one, reply_to, after}
 
 -- The history after any requests is legal.
 abbrev pub StaysLegal : Type 0
@@ -82,7 +82,7 @@ FirstInLineIsServed = (e : Event) (H : History) (t h : ℕ) → IsLegal (e ∷ H
 abbrev pub RepeatsActOnce : Type 0
 RepeatsActOnce = (H : History) (first again : Request) (between : List Request) → adds H first ≡ true
     → owner_of again.caller ≡ owner_of first.caller → again.key ≡ first.key → request_text again.command ≡ request_text first.command
-    → is_page again.command ≡ false → is_allowed (after H (first ∷ between)) again.caller again.command ≡ true
+    → only_asks again.command ≡ false → is_allowed (after H (first ∷ between)) again.caller again.command ≡ true
     → (after_one (after H (first ∷ between)) again ≡ after H (first ∷ between)) × (reply_to (after H (first ∷ between)) again ≡ reply_to H first)
 
 -- Two histories agree on a patron: on the patron's own row, the open loans, the active holds, and the copies and titles of these.

@@ -7,9 +7,10 @@ pub mod Accounts
 pub mod Sights
 pub mod Refusals
 pub mod Pages
+pub mod Reports
+pub mod Asking
 pub mod Answers
 pub mod Requests
-pub mod Reports
 pub mod Picture
 pub mod Schemas
 pub mod Claims
@@ -18,5 +19,6 @@ pub mod DueDays
 pub mod Forms
 pub mod References
 pub mod Laws
+pub mod AskingLaws
 pub mod Calendars
 pub mod Repeats

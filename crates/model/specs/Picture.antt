@@ -1,5 +1,5 @@
 -- The rows that the tables of the newest schema hold after a history.
-use Rattle.std.specs.Prelude.{ℕ, zero, suc, Bool, true, false, List, [], ◌∷◌, Option, Some, None, option_map, option_and_then}
+use Rattle.std.specs.Prelude.{ℕ, Bool, true, false, List, Option, Some, None, option_map, option_and_then}
 use Rattle.terms.specs.declared.limits.TheConstants.{SCHEMA}
 use Rattle.terms.specs.declared.command.Owner.{Owner}
 use Rattle.terms.specs.declared.row.MetaRow.{MetaRow}
@@ -25,6 +25,7 @@ use Rattle.model.specs.History.{PatronFacts, patron_of, title_of, CopyFacts, cop
 use Rattle.model.specs.Places.{Place, Transit, MissingCopy, WithdrawnCopy, place, state, is_ready, kept_for, limit}
 use Rattle.model.specs.Loans.{LoanFacts, loan_of, due, ended, renewals_left}
 use Rattle.model.specs.Accounts.{Line, lines, next_line, owed}
+pub use Rattle.model.specs.Accounts.{nth_line}
 use Rattle.model.specs.Requests.{Kept, kept_of}
 
 -- The condition of a copy in this place.
@@ -37,13 +38,6 @@ condition_at _ = Present
 abbrev pub transit_at : ℕ → Place → Option TransitRow
 transit_at c (Transit g h) = Some (record { copy = c; goal = g; hold = h })
 transit_at c _ = None
-
--- The n-th of all lines, counted from 1.
-abbrev pub nth_line : List Line → ℕ → Option Line
-nth_line [] n = None
-nth_line (x ∷ xs) zero = None
-nth_line (x ∷ xs) (suc zero) = Some x
-nth_line (x ∷ xs) (suc (suc n)) = nth_line xs (suc n)
 
 -- A copy and a limit day stand in a ready hold's row alone.
 abbrev pub if_ready : {A : Type 0} → Option HoldState → Option A → Option A

@@ -9,7 +9,9 @@ use Rattle.terms.specs.declared.command.Owner.TheVariants.{Desk, Patron as Reade
 use Rattle.terms.specs.declared.command.Command.{Command}
 use Rattle.terms.specs.declared.command.Command.TheVariants.{BeginDay, Branch, Week, CloseDay, OpenDay, Kind, Rule, Grace, Patron, Acquire}
 use Rattle.terms.specs.declared.command.Command.TheVariants.{CheckOut, CheckIn, Renew, PlaceHold, CancelHold, Unshelve, UnshelveCancelled}
-use Rattle.terms.specs.declared.command.Command.TheVariants.{Missing, Withdraw, Pay, Waive, Page}
+use Rattle.terms.specs.declared.command.Command.TheVariants.{Missing, Withdraw, Pay, Waive, Page, Ask}
+use Rattle.terms.specs.declared.question.Question.{Question}
+use Rattle.terms.specs.declared.question.Question.TheVariants as question
 use Rattle.terms.specs.declared.refusal.Refusal.{Refusal}
 use Rattle.terms.specs.declared.refusal.Refusal.TheVariants.{UnknownBranch, UnknownPatron, UnknownTitle, UnknownCopy, UnknownLoan}
 use Rattle.terms.specs.declared.refusal.Refusal.TheVariants.{UnknownHold, NoRule, UnknownKind, OtherContent, OutOfLimits, AllWeekdaysClosed}
@@ -188,6 +190,19 @@ is_empty (h ∷ hs) = false
 
 -- ---- the table of checks
 
+-- The check of a question: what it names is there.
+abbrev pub checks_asked : History → Question → List Check
+checks_asked H (question.Copy c) = (UnknownCopy, not (has_copy H c)) ∷ []
+checks_asked H (question.Copies t after) = (UnknownTitle, is_none (title_of H t)) ∷ []
+checks_asked H (question.Queue t after) = (UnknownTitle, is_none (title_of H t)) ∷ []
+checks_asked H (question.Account p after) = (UnknownPatron, not (has_patron H p)) ∷ []
+checks_asked H (question.Debts after) = []
+checks_asked H (question.Overdue b after) = (UnknownBranch, not (has_branch H b)) ∷ []
+checks_asked H (question.Shelf b after) = (UnknownBranch, not (has_branch H b)) ∷ []
+checks_asked H (question.Pulls b after) = (UnknownBranch, not (has_branch H b)) ∷ []
+checks_asked H (question.Transits b after) = (UnknownBranch, not (has_branch H b)) ∷ []
+checks_asked H (question.Till d) = []
+
 -- The checks of a command, in order, by what the list shows: each with its refusal, and whether it fails.
 abbrev pub checks_by : History → Sight → Owner → Command → List Check
 checks_by H s o (BeginDay d) = (BadDay, is_bad_day H d) ∷ []
@@ -241,6 +256,7 @@ checks_by H s o (Withdraw c) =
 checks_by H s o (Pay p n) = (UnknownPatron, not (has_patron H p)) ∷ (BadAmount, is_bad_amount H s p n) ∷ (NumbersUsedUp, lacks_lines H s 1) ∷ []
 checks_by H s o (Waive p n) = (UnknownPatron, not (has_patron H p)) ∷ (BadAmount, is_bad_amount H s p n) ∷ (NumbersUsedUp, lacks_lines H s 1) ∷ []
 checks_by H s o (Page p) = (UnknownPatron, not (has_patron H p)) ∷ []
+checks_by H s o (Ask question) = checks_asked H question
 
 -- The checks of a command after a list.
 abbrev pub checks : History → Owner → Command → List Check

@@ -7,7 +7,7 @@ use Rattle.terms.specs.declared.command.Request.{Request}
 use Rattle.terms.specs.Texts.{request_text}
 use Rattle.terms.specs.Callers.{owner_of}
 use Rattle.model.specs.History.{History}
-use Rattle.model.specs.Requests.{is_allowed, is_page, Kept, kept_of, reply_to, after_one, after}
+use Rattle.model.specs.Requests.{is_allowed, only_asks, Kept, kept_of, reply_to, after_one, after}
 
 -- ---- lists
 
@@ -18,7 +18,7 @@ is_kept_text None text = false
 
 -- The request repeats an accepted one: it changes something, and its owner's key is kept with its text.
 abbrev pub repeats : History → Request → Bool
-repeats H r = not (is_page r.command) && is_kept_text (kept_of H (owner_of r.caller) r.key) (request_text r.command)
+repeats H r = not (only_asks r.command) && is_kept_text (kept_of H (owner_of r.caller) r.key) (request_text r.command)
 
 -- The requests without those that repeat one accepted before them, in the history or in the list.
 abbrev pub first_ones : History → List Request → List Request

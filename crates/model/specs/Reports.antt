@@ -46,11 +46,14 @@ abbrev pub overdue_line : History → ℕ → ℕ → List ℕ
 overdue_line H b l = overdue_row (decimal l) (decimal (borrower H l)) (decimal (lent_copy H l)) (day_text (due H l))
     (decimal (late (is_open H b) (due H l) (today H))) (title_text H (title_of_loan H l))
 
+-- The header of the overdue report.
+abbrev pub overdue_head : List ℕ
+overdue_head = overdue_row (codes "loan") (codes "patron") (codes "copy") (codes "due") (codes "late") (codes "title")
+
 -- The overdue report of a branch: its header, a row for each overdue loan, and how many there are.
 abbrev pub overdue : History → ℕ → List ℕ
 overdue H b = report_lines
-    (overdue_row (codes "loan") (codes "patron") (codes "copy") (codes "due") (codes "late") (codes "title")
-    ∷ map (overdue_line H b) (overdue_loans H b) ++ spaced (codes "overdue" ∷ decimal (length (overdue_loans H b)) ∷ []) ∷ [])
+    (overdue_head ∷ map (overdue_line H b) (overdue_loans H b) ++ spaced (codes "overdue" ∷ decimal (length (overdue_loans H b)) ∷ []) ∷ [])
 
 -- ---- till
 
@@ -71,10 +74,13 @@ abbrev pub till_line : List ℕ → ℕ → List ℕ
 till_line name n = left_in 9 name ++ right_in 15 (decimal n)
 
 -- The till report of a day: the day, and the sums of its fines, prices, payments and waivers.
+abbrev pub till_rows : History → ℕ → List (List ℕ)
+till_rows H d =
+    spaced (codes "till" ∷ day_text d ∷ []) ∷ till_line (codes "fines") (till_sum H d Fine) ∷ till_line (codes "prices") (till_sum H d Price)
+    ∷ till_line (codes "payments") (till_sum H d Payment) ∷ till_line (codes "waivers") (till_sum H d Waiver) ∷ []
+
 abbrev pub till : History → ℕ → List ℕ
-till H d = report_lines
-    (spaced (codes "till" ∷ day_text d ∷ []) ∷ till_line (codes "fines") (till_sum H d Fine) ∷ till_line (codes "prices") (till_sum H d Price)
-    ∷ till_line (codes "payments") (till_sum H d Payment) ∷ till_line (codes "waivers") (till_sum H d Waiver) ∷ [])
+till H d = report_lines (till_rows H d)
 
 -- ---- shelf
 
@@ -91,8 +97,11 @@ abbrev pub shelf_line : History → ℕ → List ℕ
 shelf_line H h = shelf_row (decimal h) (decimal (unwrap_or (kept_for H h) 0)) (decimal (patron_of_hold H h))
     (day_text (unwrap_or (limit H h) 0)) (title_text H (title_of_hold H h))
 
+-- The header of the shelf report.
+abbrev pub shelf_head : List ℕ
+shelf_head = shelf_row (codes "hold") (codes "copy") (codes "patron") (codes "until") (codes "title")
+
 -- The shelf report of a branch: its header, a row for each ready hold, and how many there are.
 abbrev pub shelf : History → ℕ → List ℕ
 shelf H b = report_lines
-    (shelf_row (codes "hold") (codes "copy") (codes "patron") (codes "until") (codes "title")
-    ∷ map (shelf_line H) (ready_holds H b) ++ spaced (codes "ready" ∷ decimal (length (ready_holds H b)) ∷ []) ∷ [])
+    (shelf_head ∷ map (shelf_line H) (ready_holds H b) ++ spaced (codes "ready" ∷ decimal (length (ready_holds H b)) ∷ []) ∷ [])

@@ -7,7 +7,7 @@ use Rattle.terms.specs.declared.command.Caller.{Caller}
 use Rattle.terms.specs.declared.command.Caller.TheVariants.{Desk as FromDesk, Patron as FromPatron}
 use Rattle.terms.specs.declared.command.Request.{Request}
 use Rattle.terms.specs.declared.command.Command.{Command}
-use Rattle.terms.specs.declared.command.Command.TheVariants.{Renew, PlaceHold, CancelHold, Page}
+use Rattle.terms.specs.declared.command.Command.TheVariants.{Renew, PlaceHold, CancelHold, Page, Ask}
 use Rattle.terms.specs.declared.refusal.Refusal.{Refusal}
 use Rattle.terms.specs.declared.refusal.Refusal.TheVariants.{KeyUsed, NotAllowed}
 use Rattle.terms.specs.declared.reply.Reply.{Reply}
@@ -45,10 +45,16 @@ is_allowed H caller c = is_known H caller && may_send (owner_of caller) c
 
 -- ---- keys
 
--- A page changes nothing.
-abbrev pub is_page : Command → Bool
-is_page (Page p) = true
-is_page _ = false
+-- A question of the desk.
+abbrev pub is_question : Command → Bool
+is_question (Ask question) = true
+is_question _ = false
+
+-- A page and a question change nothing.
+abbrev pub only_asks : Command → Bool
+only_asks (Page p) = true
+only_asks (Ask question) = true
+only_asks _ = false
 
 -- What is kept of an accepted request.
 pub record Kept : Type 0 where
@@ -72,16 +78,16 @@ abbrev pub reply_by_key : History → Request → Option Kept → Reply
 reply_by_key H r (Some kept) = elim (bytes_eq kept.text (request_text r.command)) [ true ↦ kept.reply | false ↦ Refused KeyUsed ]
 reply_by_key H r None = answer H (owner_of r.caller) r.command
 
--- The reply to a request: the caller is checked, then the key, then the command. A page looks at no key.
+-- The reply to a request: the caller is checked, then the key, then the command. What only asks looks at no key.
 abbrev pub reply_to : History → Request → Reply
 reply_to H r = elim (is_allowed H r.caller r.command) [
   | false ↦ Refused NotAllowed
-  | true ↦ elim (is_page r.command) [ true ↦ answer H (owner_of r.caller) r.command | false ↦ reply_by_key H r (kept_of H (owner_of r.caller) r.key) ]
+  | true ↦ elim (only_asks r.command) [ true ↦ answer H (owner_of r.caller) r.command | false ↦ reply_by_key H r (kept_of H (owner_of r.caller) r.key) ]
 ]
 
 -- A request adds an event if its caller is allowed it, it changes something, its key is new and it isn't refused.
 abbrev pub adds : History → Request → Bool
-adds H r = elim (is_allowed H r.caller r.command && (not (is_page r.command) && is_none (kept_of H (owner_of r.caller) r.key)))
+adds H r = elim (is_allowed H r.caller r.command && (not (only_asks r.command) && is_none (kept_of H (owner_of r.caller) r.key)))
     [ true ↦ is_none (refusal H (owner_of r.caller) r.command) | false ↦ false ]
 
 -- The event that an accepted request adds.
@@ -114,7 +120,7 @@ is_enrolled H (Reader p) = is_some (patron_of H p)
 -- The event was accepted after the list before it: it changes something, its owner is there and may send the command, which isn't refused,
 -- and nothing is kept for its key.
 pub record IsAcceptedBy (e : Event) (H : History) (refused : Option Refusal) (kept : Option Kept) : Type 0 where
-  pub changes : IsFalse (is_page e.command)
+  pub changes : IsFalse (only_asks e.command)
   pub enrolled : IsTrue (is_enrolled H e.owner)
   pub allowed : IsTrue (may_send e.owner e.command)
   pub unrefused : refused ≡ None

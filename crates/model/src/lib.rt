@@ -7,6 +7,9 @@
 ghost use Rattle.model.specs.Laws.{StaysLegal, Places, Bindings, Balance, HoldRows, FinalStates};
 ghost use Rattle.model.specs.Laws.{FirstInLineIsServed, RepeatsActOnce, OwnRows, KeptRowsAgree};
 ghost use Rattle.model.specs.Laws.{Invariants};
+ghost use Rattle.model.specs.AskingLaws.{ListsShowOnce, ListsRise, FirstIsServed};
+ghost use Rattle.model.specs.AskingLaws.{PulledCopiesServe, DebtsAreShown};
+ghost use Rattle.model.specs.AskingLaws.{AccountsAreShown, ShelvesAreUnclaimed};
 ghost use Rattle.model.specs.Calendars.{CalendarsAgree};
 ghost use Rattle.model.specs.Forms.{FormsStay, FormsAreWhole, RowsInLimits, FewClosedDays};
 ghost use Rattle.model.specs.References.{References};
@@ -178,4 +181,36 @@ pub fn old_lists_law()
 pub fn old_tables_law()
     ensures led { OldTablesAreLed }
     ensures within { Schema1IsWithinSchema2 }
+{}
+
+/// A list that is asked for again and again, each time from the last number that was shown, shows
+/// every number that it had all the time exactly once. The numbers of each list rise.
+pub fn lists_show_once_law()
+    ensures once { ListsShowOnce }
+    ensures rise { ListsRise }
+{}
+
+/// The first hold in line for a title gets the next copy of it that routing has to give, and a copy
+/// that is to be taken from the shelves of a branch for a hold goes to that hold when it is handed
+/// in there.
+pub fn turns_law()
+    ensures first { FirstIsServed }
+    ensures pulled { PulledCopiesServe }
+{}
+
+/// A patron is among those who owe something exactly if fines and prices are above payments and
+/// waivers.
+pub fn debts_law()
+    ensures { DebtsAreShown }
+{}
+
+/// The lines that are shown of a patron's account are the lines of the account, in order.
+pub fn accounts_law()
+    ensures { AccountsAreShown }
+{}
+
+/// A copy that was acquired is told to stand on the shelf of its home exactly where the tables make
+/// no claim on it.
+pub fn shelves_law()
+    ensures { ShelvesAreUnclaimed }
 {}

@@ -767,5 +767,6 @@ pub(crate) fn view_for<S: Alter>(
         Command::Pay { patron, .. } => account_view(conn, alloc, *patron),
         Command::Waive { patron, .. } => account_view(conn, alloc, *patron),
         Command::Page { patron } => page_view(conn, alloc, *patron),
+        Command::Ask(_) => Ok(View::empty()),
     }
 }

@@ -11,7 +11,9 @@ use Rattle.terms.specs.declared.command.Command.{Command}
 use Rattle.terms.specs.declared.form.CommandForm.{CommandForm}
 use Rattle.terms.specs.declared.command.Command.TheVariants.{BeginDay, Branch, Week, CloseDay, OpenDay, Kind, Rule, Grace, Patron, Acquire}
 use Rattle.terms.specs.declared.command.Command.TheVariants.{CheckOut, CheckIn, Renew, PlaceHold, CancelHold, Unshelve, UnshelveCancelled}
-use Rattle.terms.specs.declared.command.Command.TheVariants.{Missing, Withdraw, Pay, Waive, Page}
+use Rattle.terms.specs.declared.command.Command.TheVariants.{Missing, Withdraw, Pay, Waive, Page, Ask}
+use Rattle.terms.specs.declared.question.Question.{Question}
+use Rattle.terms.specs.declared.question.Question.TheVariants as question
 
 -- each byte is ASCII
 abbrev pub is_low : List ℕ → Bool
@@ -84,7 +86,17 @@ command_from name parts =
     else (if bytes_eq name (codes "withdraw") then Withdraw (n 0)
     else (if bytes_eq name (codes "pay") then Pay (n 0) (n 1)
     else (if bytes_eq name (codes "waive") then Waive (n 0) (n 1)
-    else Page (n 0))))))))))))))))))))))
+    else (if bytes_eq name (codes "copy") then Ask (question.Copy (n 0))
+    else (if bytes_eq name (codes "copies") then Ask (question.Copies (n 0) (n 1))
+    else (if bytes_eq name (codes "queue") then Ask (question.Queue (n 0) (n 1))
+    else (if bytes_eq name (codes "account") then Ask (question.Account (n 0) (n 1))
+    else (if bytes_eq name (codes "debts") then Ask (question.Debts (n 0))
+    else (if bytes_eq name (codes "overdue") then Ask (question.Overdue (n 0) (n 1))
+    else (if bytes_eq name (codes "shelf") then Ask (question.Shelf (n 0) (n 1))
+    else (if bytes_eq name (codes "pulls") then Ask (question.Pulls (n 0) (n 1))
+    else (if bytes_eq name (codes "transits") then Ask (question.Transits (n 0) (n 1))
+    else (if bytes_eq name (codes "till") then Ask (question.Till (n 0))
+    else Page (n 0))))))))))))))))))))))))))))))))
 
 pub record IsTold (command : Command) : Type 0 where
   pub parts : List Column
@@ -94,10 +106,16 @@ pub record IsTold (command : Command) : Type 0 where
   pub apart : are_apart (said command).1 ≡ true
   pub back : command_from (said command).0 (said command).1 ≡ command
 
+told_question : (asked : Question) → IsTold (Ask asked)
+unfolding command_from parts_in
+told_question (question.Till day) = record { parts = _; found = refl; kinds = refl; named = refl; apart = refl; back = refl }
+told_question _ = record { parts = _; found = refl; kinds = refl; named = refl; apart = refl; back = refl }
+
 pub told : (command : Command) → IsTold command
 unfolding command_from parts_in
 told (PlaceHold a b c None) = record { parts = _; found = refl; kinds = refl; named = refl; apart = refl; back = refl }
 told (PlaceHold a b c (Some d)) = record { parts = _; found = refl; kinds = refl; named = refl; apart = refl; back = refl }
+told (Ask asked) = told_question asked
 told _ = record { parts = _; found = refl; kinds = refl; named = refl; apart = refl; back = refl }
 
 pub listed : (command : Command) → IsListed command

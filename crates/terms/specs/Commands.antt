@@ -77,6 +77,16 @@ commands =
     ∷ (codes "pay", (codes "patron", kind.Number) ∷ (codes "amount", kind.Amount) ∷ [])
     ∷ (codes "waive", (codes "patron", kind.Number) ∷ (codes "amount", kind.Amount) ∷ [])
     ∷ (codes "page", (codes "patron", kind.Number) ∷ [])
+    ∷ (codes "copy", (codes "copy", kind.Number) ∷ [])
+    ∷ (codes "copies", (codes "title", kind.Number) ∷ (codes "after", kind.Number) ∷ [])
+    ∷ (codes "queue", (codes "title", kind.Number) ∷ (codes "after", kind.Number) ∷ [])
+    ∷ (codes "account", (codes "patron", kind.Number) ∷ (codes "after", kind.Number) ∷ [])
+    ∷ (codes "debts", (codes "after", kind.Number) ∷ [])
+    ∷ (codes "overdue", (codes "branch", kind.Number) ∷ (codes "after", kind.Number) ∷ [])
+    ∷ (codes "shelf", (codes "branch", kind.Number) ∷ (codes "after", kind.Number) ∷ [])
+    ∷ (codes "pulls", (codes "branch", kind.Number) ∷ (codes "after", kind.Number) ∷ [])
+    ∷ (codes "transits", (codes "branch", kind.Number) ∷ (codes "after", kind.Number) ∷ [])
+    ∷ (codes "till", (codes "day", kind.Day) ∷ [])
     ∷ []
 
 -- The parts of the command with this name.

@@ -6,7 +6,9 @@ use Rattle.calendar.specs.Days.{day_text}
 use Rattle.terms.specs.declared.command.Command.{Command}
 use Rattle.terms.specs.declared.command.Command.TheVariants.{BeginDay, Branch, Week, CloseDay, OpenDay, Kind, Rule, Grace, Patron, Acquire}
 use Rattle.terms.specs.declared.command.Command.TheVariants.{CheckOut, CheckIn, Renew, PlaceHold, CancelHold, Unshelve, UnshelveCancelled}
-use Rattle.terms.specs.declared.command.Command.TheVariants.{Missing, Withdraw, Pay, Waive, Page}
+use Rattle.terms.specs.declared.command.Command.TheVariants.{Missing, Withdraw, Pay, Waive, Page, Ask}
+use Rattle.terms.specs.declared.question.Question.{Question}
+use Rattle.terms.specs.declared.question.Question.TheVariants as question
 use Rattle.terms.specs.declared.refusal.Refusal.{Refusal}
 use Rattle.terms.specs.declared.refusal.Refusal.TheVariants as refusal
 use Rattle.terms.specs.declared.fault.Fault.{Fault}
@@ -46,6 +48,19 @@ word_of (Mask closed) = mask_text closed
 word_of (CardKey t) = t
 word_of (Name t) = t
 
+-- what a question says: its name, and its parts in their order
+abbrev pub questioned : Question → List ℕ × List Part
+questioned (question.Copy copy) = (codes "copy", Number copy ∷ [])
+questioned (question.Copies title after) = (codes "copies", Number title ∷ Number after ∷ [])
+questioned (question.Queue title after) = (codes "queue", Number title ∷ Number after ∷ [])
+questioned (question.Account patron after) = (codes "account", Number patron ∷ Number after ∷ [])
+questioned (question.Debts after) = (codes "debts", Number after ∷ [])
+questioned (question.Overdue branch after) = (codes "overdue", Number branch ∷ Number after ∷ [])
+questioned (question.Shelf branch after) = (codes "shelf", Number branch ∷ Number after ∷ [])
+questioned (question.Pulls branch after) = (codes "pulls", Number branch ∷ Number after ∷ [])
+questioned (question.Transits branch after) = (codes "transits", Number branch ∷ Number after ∷ [])
+questioned (question.Till day) = (codes "till", Day day ∷ [])
+
 -- what a command says: its name, and its parts in their order
 abbrev pub said : Command → List ℕ × List Part
 said (BeginDay day) = (codes "begin-day", Day day ∷ [])
@@ -72,6 +87,7 @@ said (Withdraw copy) = (codes "withdraw", Number copy ∷ [])
 said (Pay patron amount) = (codes "pay", Number patron ∷ Amount amount ∷ [])
 said (Waive patron amount) = (codes "waive", Number patron ∷ Amount amount ∷ [])
 said (Page patron) = (codes "page", Number patron ∷ [])
+said (Ask question) = questioned question
 
 -- the words of a command: its name, and a word for each part
 unfoldable pub command_words : Command → List (List ℕ)

@@ -7,6 +7,7 @@ ghost use Rattle.terms.specs.Texts.{request_text};
 use crate::number::{
     BranchId, Cents, CopyId, CopyKind, Count, Days, HoldId, LoanId, PatronId, PatronKind, TitleId,
 };
+use crate::question::{Question, joined_question};
 use crate::text::{CardKey, Key, Name, Text};
 use crate::week::Mask;
 use calendar::{Day, Memory};
@@ -136,6 +137,8 @@ pub enum Command {
     Page {
         patron: PatronId,
     },
+    /// A question of the desk, which changes nothing.
+    Ask(Question),
 }
 
 /// Who sends a request: the desk, or a patron who shows a card key.
@@ -247,6 +250,7 @@ pub(crate) fn joined_words(alloc: Global, command: &Command) -> Result<String, M
         Command::Pay { patron, amount } => format!(in alloc; "pay {patron} {amount}"),
         Command::Waive { patron, amount } => format!(in alloc; "waive {patron} {amount}"),
         Command::Page { patron } => format!(in alloc; "page {patron}"),
+        Command::Ask(question) => joined_question(alloc, question),
     }
 }
 

@@ -159,6 +159,11 @@ const AMOUNT: PartForm = PartForm {
     kind: PartKind::Amount,
 };
 
+const AFTER: PartForm = PartForm {
+    name: "after",
+    kind: PartKind::Number,
+};
+
 /// The commands.
 const COMMANDS: &[CommandForm] = &[
     CommandForm {
@@ -252,6 +257,46 @@ const COMMANDS: &[CommandForm] = &[
     CommandForm {
         name: "page",
         parts: &[PATRON],
+    },
+    CommandForm {
+        name: "copy",
+        parts: &[COPY],
+    },
+    CommandForm {
+        name: "copies",
+        parts: &[TITLE, AFTER],
+    },
+    CommandForm {
+        name: "queue",
+        parts: &[TITLE, AFTER],
+    },
+    CommandForm {
+        name: "account",
+        parts: &[PATRON, AFTER],
+    },
+    CommandForm {
+        name: "debts",
+        parts: &[AFTER],
+    },
+    CommandForm {
+        name: "overdue",
+        parts: &[BRANCH, AFTER],
+    },
+    CommandForm {
+        name: "shelf",
+        parts: &[BRANCH, AFTER],
+    },
+    CommandForm {
+        name: "pulls",
+        parts: &[BRANCH, AFTER],
+    },
+    CommandForm {
+        name: "transits",
+        parts: &[BRANCH, AFTER],
+    },
+    CommandForm {
+        name: "till",
+        parts: &[DAY],
     },
 ];
 

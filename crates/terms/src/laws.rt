@@ -4,8 +4,10 @@ ghost use Rattle.std.specs.Prelude.{◌≡◌, true, false};
 ghost use Rattle.terms.specs.Laws.{IsCommand, IsRouted, IsKept, RequestTextsDiffer};
 ghost use Rattle.terms.specs.Laws.{ReplyTextsDiffer, RequestTextsUtf8, ReplyTextsUtf8};
 ghost use Rattle.terms.specs.Commands.{CommandsAreListed};
+ghost use Rattle.terms.specs.declared.command.Command.TheVariants.{Ask};
 
 use crate::command::Command;
+use crate::question::Question;
 use crate::reply::{Reply, Routed};
 
 /// Every command stands in the table of commands, with parts of the kinds that it has.
@@ -32,6 +34,51 @@ pub fn request_texts_are_utf8()
 pub fn reply_texts_are_utf8()
     ensures { ReplyTextsUtf8 }
 {}
+
+/// Each number and the day of a question has its form.
+fn question_has_forms(question: &Question)
+    ensures { IsCommand (Ask question.now) }
+{
+    match question {
+        Question::Copy { copy } => {
+            let _copy = copy.number();
+        }
+        Question::Copies { title, after } => {
+            let _title = title.number();
+            let _after = after.number();
+        }
+        Question::Queue { title, after } => {
+            let _title = title.number();
+            let _after = after.number();
+        }
+        Question::Account { patron, after } => {
+            let _patron = patron.number();
+            let _after = after.number();
+        }
+        Question::Debts { after } => {
+            let _after = after.number();
+        }
+        Question::Overdue { branch, after } => {
+            let _branch = branch.number();
+            let _after = after.number();
+        }
+        Question::Shelf { branch, after } => {
+            let _branch = branch.number();
+            let _after = after.number();
+        }
+        Question::Pulls { branch, after } => {
+            let _branch = branch.number();
+            let _after = after.number();
+        }
+        Question::Transits { branch, after } => {
+            let _branch = branch.number();
+            let _after = after.number();
+        }
+        Question::Till { day } => {
+            let _day = day.number();
+        }
+    }
+}
 
 /// Each number, day, mask and text of a command has its form.
 pub fn command_has_forms(command: &Command)
@@ -178,6 +225,7 @@ pub fn command_has_forms(command: &Command)
         Command::Page { patron } => {
             let _patron = patron.number();
         }
+        Command::Ask(question) => question_has_forms(question),
     }
 }
 

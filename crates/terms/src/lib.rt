@@ -10,6 +10,7 @@ mod money;
 mod number;
 mod order;
 mod put;
+mod question;
 mod reading;
 mod refusal;
 mod reply;
@@ -31,9 +32,8 @@ pub use laws::{
 };
 pub use limits::{
     HIGHEST_CAP, HIGHEST_DEBT, HIGHEST_PRICE, HIGHEST_RATE, LARGEST_SUM, LAST_LARGE_NUMBER,
-    LAST_NEXT_NUMBER, LAST_NUMBER, LAST_SMALL_NUMBER, LAST_TODAY, LONGEST_CARD_KEY, LONGEST_KEY,
-    LONGEST_NAME, LONGEST_PERIOD, LONGEST_PICKUP, MOST_ALLOWED, MOST_GRACE, MOST_RENEWALS, SCHEMA,
-    SHORTEST_CARD_KEY,
+    LAST_NEXT_NUMBER, LAST_NUMBER, LAST_SMALL_NUMBER, LAST_TODAY, LONGEST_PERIOD, LONGEST_PICKUP,
+    MOST_ALLOWED, MOST_GRACE, MOST_RENEWALS, MOST_ROWS, SCHEMA,
 };
 pub use money::fine;
 pub use number::{
@@ -42,6 +42,7 @@ pub use number::{
 };
 pub use order::{Ordered, owner_number};
 pub use put::{BranchPut, KeptPut, PatronPut, TitlePut};
+pub use question::Question;
 pub use reading::{read_number, read_reply};
 pub use refusal::Refusal;
 pub use reply::{Reply, Routed, reply_text};

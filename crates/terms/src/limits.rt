@@ -31,6 +31,9 @@ pub const LONGEST_PICKUP: u32 = 60;
 /// How many renewals a circulation rule can allow.
 pub const MOST_RENEWALS: u32 = 99;
 
+/// The most rows that one answer to a question shows.
+pub const MOST_ROWS: u32 = 100;
+
 /// How many open loans, and how many active holds, a kind of patron can be allowed.
 pub const MOST_ALLOWED: u32 = 200;
 

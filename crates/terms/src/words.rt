@@ -12,8 +12,10 @@ ghost use Rattle.terms.specs.declared.words.WordFault.TheVariants.{NotUnderstood
 
 use crate::command::Command;
 use crate::number::{
-    BranchId, Cents, CopyId, CopyKind, Count, Days, HoldId, LoanId, PatronId, PatronKind, TitleId,
+    BranchId, Cents, CopyId, CopyKind, Count, Days, HoldId, LineId, LoanId, PatronId, PatronKind,
+    TitleId,
 };
+use crate::question::Question;
 use crate::reading::read_number;
 use crate::text::{CardKey, Name};
 use crate::week::Mask;
@@ -447,6 +449,133 @@ fn page(values: &[&str]) -> Result<Command, WordFault>
     Ok(Command::Page { patron })
 }
 
+#[tactic(auto, unfolding(crate::specs::Texts::command_words))]
+fn copy(values: &[&str]) -> Result<Command, WordFault>
+    ensures read { IfOk result (IsReadAs (codes "copy") (texts values.now)) }
+    ensures refused { result ≡ Err Refused → IsNoCommand (codes "copy") (texts values.now) }
+{
+    let [copy] = values else {
+        return Err(WordFault::NotUnderstood);
+    };
+    let copy = CopyId::new(number(copy)?);
+    Ok(Command::Ask(Question::Copy { copy }))
+}
+
+#[tactic(auto, unfolding(crate::specs::Texts::command_words))]
+fn copies(values: &[&str]) -> Result<Command, WordFault>
+    ensures read { IfOk result (IsReadAs (codes "copies") (texts values.now)) }
+    ensures refused { result ≡ Err Refused → IsNoCommand (codes "copies") (texts values.now) }
+{
+    let [title, after] = values else {
+        return Err(WordFault::NotUnderstood);
+    };
+    let title = TitleId::new(number(title)?);
+    let after = CopyId::new(number(after)?);
+    Ok(Command::Ask(Question::Copies { title, after }))
+}
+
+#[tactic(auto, unfolding(crate::specs::Texts::command_words))]
+fn queue(values: &[&str]) -> Result<Command, WordFault>
+    ensures read { IfOk result (IsReadAs (codes "queue") (texts values.now)) }
+    ensures refused { result ≡ Err Refused → IsNoCommand (codes "queue") (texts values.now) }
+{
+    let [title, after] = values else {
+        return Err(WordFault::NotUnderstood);
+    };
+    let title = TitleId::new(number(title)?);
+    let after = HoldId::new(number(after)?);
+    Ok(Command::Ask(Question::Queue { title, after }))
+}
+
+#[tactic(auto, unfolding(crate::specs::Texts::command_words))]
+fn account(values: &[&str]) -> Result<Command, WordFault>
+    ensures read { IfOk result (IsReadAs (codes "account") (texts values.now)) }
+    ensures refused { result ≡ Err Refused → IsNoCommand (codes "account") (texts values.now) }
+{
+    let [patron, after] = values else {
+        return Err(WordFault::NotUnderstood);
+    };
+    let patron = PatronId::new(number(patron)?);
+    let after = LineId::new(number(after)?);
+    Ok(Command::Ask(Question::Account { patron, after }))
+}
+
+#[tactic(auto, unfolding(crate::specs::Texts::command_words))]
+fn debts(values: &[&str]) -> Result<Command, WordFault>
+    ensures read { IfOk result (IsReadAs (codes "debts") (texts values.now)) }
+    ensures refused { result ≡ Err Refused → IsNoCommand (codes "debts") (texts values.now) }
+{
+    let [after] = values else {
+        return Err(WordFault::NotUnderstood);
+    };
+    let after = PatronId::new(number(after)?);
+    Ok(Command::Ask(Question::Debts { after }))
+}
+
+#[tactic(auto, unfolding(crate::specs::Texts::command_words))]
+fn overdue(values: &[&str]) -> Result<Command, WordFault>
+    ensures read { IfOk result (IsReadAs (codes "overdue") (texts values.now)) }
+    ensures refused { result ≡ Err Refused → IsNoCommand (codes "overdue") (texts values.now) }
+{
+    let [branch, after] = values else {
+        return Err(WordFault::NotUnderstood);
+    };
+    let branch = BranchId::new(number(branch)?);
+    let after = LoanId::new(number(after)?);
+    Ok(Command::Ask(Question::Overdue { branch, after }))
+}
+
+#[tactic(auto, unfolding(crate::specs::Texts::command_words))]
+fn shelf(values: &[&str]) -> Result<Command, WordFault>
+    ensures read { IfOk result (IsReadAs (codes "shelf") (texts values.now)) }
+    ensures refused { result ≡ Err Refused → IsNoCommand (codes "shelf") (texts values.now) }
+{
+    let [branch, after] = values else {
+        return Err(WordFault::NotUnderstood);
+    };
+    let branch = BranchId::new(number(branch)?);
+    let after = HoldId::new(number(after)?);
+    Ok(Command::Ask(Question::Shelf { branch, after }))
+}
+
+#[tactic(auto, unfolding(crate::specs::Texts::command_words))]
+fn pulls(values: &[&str]) -> Result<Command, WordFault>
+    ensures read { IfOk result (IsReadAs (codes "pulls") (texts values.now)) }
+    ensures refused { result ≡ Err Refused → IsNoCommand (codes "pulls") (texts values.now) }
+{
+    let [branch, after] = values else {
+        return Err(WordFault::NotUnderstood);
+    };
+    let branch = BranchId::new(number(branch)?);
+    let after = HoldId::new(number(after)?);
+    Ok(Command::Ask(Question::Pulls { branch, after }))
+}
+
+#[tactic(auto, unfolding(crate::specs::Texts::command_words))]
+fn transits(values: &[&str]) -> Result<Command, WordFault>
+    ensures read { IfOk result (IsReadAs (codes "transits") (texts values.now)) }
+    ensures refused { result ≡ Err Refused → IsNoCommand (codes "transits") (texts values.now) }
+{
+    let [branch, after] = values else {
+        return Err(WordFault::NotUnderstood);
+    };
+    let branch = BranchId::new(number(branch)?);
+    let after = CopyId::new(number(after)?);
+    Ok(Command::Ask(Question::Transits { branch, after }))
+}
+
+#[tactic(auto, unfolding(crate::specs::Texts::command_words))]
+fn till(values: &[&str]) -> Result<Command, WordFault>
+    ensures read { IfOk result (IsReadAs (codes "till") (texts values.now)) }
+    ensures refused { result ≡ Err Refused → IsNoCommand (codes "till") (texts values.now) }
+{
+    let [day] = values else {
+        return Err(WordFault::NotUnderstood);
+    };
+    let day = read_day(day)?;
+    Ok(Command::Ask(Question::Till { day }))
+}
+
 /// The command with this name whose parts these words write, each in its form. Other words are told
 /// as `NotUnderstood`.
 #[tactic(auto, unfolding(crate::specs::Texts::command_words))]
@@ -478,6 +607,16 @@ pub fn read_command(alloc: Global, name: &str, values: &[&str]) -> Result<Comman
         "pay" => pay(values),
         "waive" => waive(values),
         "page" => page(values),
+        "copy" => copy(values),
+        "copies" => copies(values),
+        "queue" => queue(values),
+        "account" => account(values),
+        "debts" => debts(values),
+        "overdue" => overdue(values),
+        "shelf" => shelf(values),
+        "pulls" => pulls(values),
+        "transits" => transits(values),
+        "till" => till(values),
         _ => Err(WordFault::NotUnderstood),
     }
 }

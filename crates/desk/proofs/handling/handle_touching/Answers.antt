@@ -4,7 +4,7 @@ use Rattle.store.specs.Stops.{KeepsPicture}
 use Rattle.terms.specs.Callers.{owner_of}
 use Rattle.model.specs.History.{History}
 use Rattle.model.specs.Picture.{picture}
-use Rattle.model.specs.Requests.{is_known, is_allowed, is_page, may_send, after_one}
+use Rattle.model.specs.Requests.{is_known, is_allowed, only_asks, may_send, after_one}
 use Rattle.model.proofs.Runs.{after_one-legal, after-forms}
 use Rattle.desk.specs.Answering.{LeavesOneOf, Shows, after_key}
 use Rattle.model.specs.Answers.{answer}
@@ -16,7 +16,7 @@ use Rattle.desk.proofs.Untouched.{others-as, others-same}
 use Rattle.desk.proofs.handling.handle_touching.Goals as goal
 
 pub respond-requires : goal.respond-requires
-respond-requires g c = not-page c.args.request.now.command c.in_default.not-Page
+respond-requires g c = not-page c.args.request.now.command c.in_default.not-Page c.in_default-command.not-Ask
 
 pub returns-clause-handled : goal.returns-clause-handled
 returns-clause-handled g c = record {
@@ -28,7 +28,7 @@ returns-clause-handled g c = record {
       let known : is_known H r.caller ≡ true = sym (c.in_ok-is_known.ensures.shown first H shows tt) ∙ c.if-not-branch.false in
       let may : may_send (owner_of r.caller) r.command ≡ true = rw c.owner.ensures at (sym c.may_send.ensures ∙ c.if-not-may_send.false) in
       let allowed : is_allowed H r.caller r.command ≡ true = allowed-both H r.caller r.command known may in
-      let page : is_page r.command ≡ false = not-page r.command c.in_default.not-Page in
+      let page : only_asks r.command ≡ false = not-page r.command c.in_default.not-Page c.in_default-command.not-Ask in
       let mid = c.in_ok-is_known.ensures.looks.stays first H shows in
       let done = if-ok-given _ c.respond.result (c.respond.ensures.answered.replied disk) reply is
       (known-owner H shows.legal shows.forms r.caller known) H mid may in (
@@ -57,7 +57,7 @@ returns-clause-handled g c = record {
       let known : is_known H r.caller ≡ true = sym (c.in_ok-is_known.ensures.shown first H shows tt) ∙ c.if-not-branch.false in
       let may : may_send (owner_of r.caller) r.command ≡ true = rw c.owner.ensures at (sym c.may_send.ensures ∙ c.if-not-may_send.false) in
       let allowed : is_allowed H r.caller r.command ≡ true = allowed-both H r.caller r.command known may in
-      let page : is_page r.command ≡ false = not-page r.command c.in_default.not-Page in
+      let page : only_asks r.command ≡ false = not-page r.command c.in_default.not-Page c.in_default-command.not-Ask in
       let mid = c.in_ok-is_known.ensures.looks.stays first H shows in
       subst (λ (K : History). LeavesOneOf (state g.S.Store c.respond.new.store) H K) (sym (after-key H r allowed page))
       (c.respond.ensures.answered.left disk (known-owner H shows.legal shows.forms r.caller known) H mid may);
@@ -70,7 +70,7 @@ returns-clause-touches g c = λ disk. if-ok-is _ c.respond.result (λ reply is H
     let known : is_known H r.caller ≡ true = sym (c.in_ok-is_known.ensures.shown first H shows tt) ∙ c.if-not-branch.false in
     let may : may_send (owner_of r.caller) r.command ≡ true = rw c.owner.ensures at (sym c.may_send.ensures ∙ c.if-not-may_send.false) in
     let allowed : is_allowed H r.caller r.command ≡ true = allowed-both H r.caller r.command known may in
-    let page : is_page r.command ≡ false = not-page r.command c.in_default.not-Page in
+    let page : only_asks r.command ≡ false = not-page r.command c.in_default.not-Page c.in_default-command.not-Ask in
     let mid = c.in_ok-is_known.ensures.looks.stays first H shows in
     let done = if-ok-given _ c.respond.result (c.respond.ensures.answered.replied disk) reply is
     (known-owner H shows.legal shows.forms r.caller known) H mid may in
@@ -86,7 +86,7 @@ returns-in-Page-clause-handled g c = record {
       let known : is_known H r.caller ≡ true = sym (c.in_ok-is_known.ensures.shown first H shows tt) ∙ c.if-not-branch.false in
       let may : may_send (owner_of r.caller) r.command ≡ true = rw c.owner.ensures at (sym c.may_send.ensures ∙ c.if-not-may_send.false) in
       let allowed : is_allowed H r.caller r.command ≡ true = allowed-both H r.caller r.command known may in
-      let page : is_page r.command ≡ true = ap is_page c.in-Page.is in
+      let page : only_asks r.command ≡ true = ap only_asks c.in-Page.is in
       let mid = c.in_ok-is_known.ensures.looks.stays first H shows in
       let last = on-ok-is c.show.result reply is (c.show.ensures.looks.stays disk) H mid in
       let shown = if-ok-given {G = Unit {0}} _ c.show.result (λ _. c.show.ensures.shown disk) reply is tt H mid tt (owner_of r.caller) in (
@@ -113,5 +113,47 @@ returns-in-Page-clause-touches g c = λ disk. if-ok-is _ c.show.result (λ reply
     let known : is_known H r.caller ≡ true = sym (c.in_ok-is_known.ensures.shown first H shows tt) ∙ c.if-not-branch.false in
     let may : may_send (owner_of r.caller) r.command ≡ true = rw c.owner.ensures at (sym c.may_send.ensures ∙ c.if-not-may_send.false) in
     let allowed : is_allowed H r.caller r.command ≡ true = allowed-both H r.caller r.command known may in
-    let page : is_page r.command ≡ true = ap is_page c.in-Page.is in
+    let page : only_asks r.command ≡ true = ap only_asks c.in-Page.is in
+    others-same _ H (after_one H r) (after-page H r allowed page))
+
+pub returns-in-Ask-clause-handled : goal.returns-in-Ask-clause-handled
+returns-in-Ask-clause-handled g c = record {
+  foreign = search rules;
+  clean = search rules;
+  replied = λ disk. if-ok-is _ c.reply_to_question.result (λ reply is H shows.
+      let r = c.args.request.now in
+      let first = c.reply_to_question.ensures.looks.clean disk in
+      let known : is_known H r.caller ≡ true = sym (c.in_ok-is_known.ensures.shown first H shows tt) ∙ c.if-not-branch.false in
+      let may : may_send (owner_of r.caller) r.command ≡ true = rw c.owner.ensures at (sym c.may_send.ensures ∙ c.if-not-may_send.false) in
+      let allowed : is_allowed H r.caller r.command ≡ true = allowed-both H r.caller r.command known may in
+      let page : only_asks r.command ≡ true = ap only_asks c.in-Ask.is in
+      let mid = c.in_ok-is_known.ensures.looks.stays first H shows in
+      let last = on-ok-is c.reply_to_question.result reply is (c.reply_to_question.ensures.looks.stays disk) H mid in
+      let shown = if-ok-given {G = Unit {0}} _ c.reply_to_question.result (λ _. c.reply_to_question.ensures.shown disk) reply is tt H mid tt
+      (owner_of r.caller) in (
+        shown ∙ sym (reply-page H r allowed page ∙ ap (answer H (owner_of r.caller)) c.in-Ask.is),
+        subst (λ (K : History). Shows (state g.S.Store c.reply_to_question.new.store) K) (sym (after-page H r allowed page)) last,
+      ));
+  sound = λ disk stored H shows. c.reply_to_question.ensures.sound disk stored H (c.in_ok-is_known.ensures.looks.stays
+      (c.reply_to_question.ensures.looks.clean disk) H shows) tt;
+  undone = λ disk is_open. on-err c.reply_to_question.result
+      (λ stays H shows. stays H (c.in_ok-is_known.ensures.looks.stays (c.reply_to_question.ensures.looks.clean disk) H shows))
+      (c.reply_to_question.ensures.looks.undone disk is_open);
+  any = any-nothing g.S.Store c.args.store.now c.reply_to_question.new.store c.reply_to_question.result
+      (nothing-then (state g.S.Store c.args.store.now) (state g.S.Store c.is_known.new.store)
+      (state g.S.Store c.reply_to_question.new.store) _ c.reply_to_question.result c.reply_to_question.ensures.looks.clean
+      c.in_ok-is_known.ensures.looks.nothing c.reply_to_question.ensures.looks.nothing);
+  left = λ disk H shows.
+      leaves-first (state g.S.Store c.reply_to_question.new.store) (picture H) _
+      (c.reply_to_question.ensures.looks.left disk H (c.in_ok-is_known.ensures.looks.stays (c.reply_to_question.ensures.looks.clean disk) H shows));
+}
+
+pub returns-in-Ask-clause-touches : goal.returns-in-Ask-clause-touches
+returns-in-Ask-clause-touches g c = λ disk. if-ok-is _ c.reply_to_question.result (λ reply is H shows.
+    let r = c.args.request.now in
+    let first = c.reply_to_question.ensures.looks.clean disk in
+    let known : is_known H r.caller ≡ true = sym (c.in_ok-is_known.ensures.shown first H shows tt) ∙ c.if-not-branch.false in
+    let may : may_send (owner_of r.caller) r.command ≡ true = rw c.owner.ensures at (sym c.may_send.ensures ∙ c.if-not-may_send.false) in
+    let allowed : is_allowed H r.caller r.command ≡ true = allowed-both H r.caller r.command known may in
+    let page : only_asks r.command ≡ true = ap only_asks c.in-Ask.is in
     others-same _ H (after_one H r) (after-page H r allowed page))

@@ -1,0 +1,56 @@
+-- What the desk's questions show of the tables.
+use Rattle.std.specs.Prelude.{◌≡◌, ◌↔◌, ◌<◌, ◌+◌, ℕ, List, [], ◌∷◌, map, Some, None, codes, decimal}
+use Rattle.std.specs.List.{join_with_byte}
+use Rattle.terms.specs.declared.question.Question.TheVariants as question
+use Rattle.terms.specs.declared.row.CopyRow.{CopyRow}
+use Rattle.model.specs.Accounts.{lines, nth_line, account, charges, credits, owed}
+use Rattle.model.specs.Asking.{asked, copy_line, place_line, place_words, pulled_for, travels_for}
+use Rattle.model.specs.Asking.{copies_list, queue_list, account_list, debts_list}
+use Rattle.model.specs.AskingLaws.{HasRisingLists, ListsShowOnce, has_number}
+use Rattle.model.specs.Claims.{Claims}
+use Rattle.model.specs.History.{History}
+use Rattle.model.specs.Invariant.{Serves}
+use Rattle.model.specs.Pages.{spaced}
+use Rattle.model.specs.Picture.{Picture}
+use Rattle.model.specs.Places.{Place, Shelf, place, route, title_of_copy}
+
+-- `copy` and `copies` tell the copy in this place.
+pub record IsToldAt (H : History) (copy : ℕ) (at : Place) : Type 0 where
+  pub alone : asked H (question.Copy copy) ≡ join_with_byte 10 (copy_line H copy ∷ place_line H at ∷ [])
+  pub listed : (title : ℕ)
+      → (copies_list H title).row copy ≡ spaced (codes "copy" ∷ decimal copy ∷ place_words H at)
+
+-- What is shown of the tables T after the history H:
+-- each copy in the place of the claim that the tables make on it, and on the shelf of its home where they make none;
+-- the hold whose turn it is first in its title's queue, and a copy that is to be taken from its shelf with the hold that it goes to;
+-- the lines of a patron's account, whose balance is what is owed, and among the debts whoever owes something;
+-- and each row of a list that is asked for again and again once.
+pub record Asked (H : History) (T : Picture) : Type 0 where
+  -- A copy that the tables claim is told in the claim's place.
+  pub claimed : (copy : ℕ) (at : Place) → Claims T copy at → IsToldAt H copy at
+  -- A copy that they don't claim is told on the shelf of its home.
+  pub unclaimed : (copy : ℕ) (row : CopyRow) → T.copies copy ≡ Some row
+      → ((at : Place) → Claims T copy at → ⊥) → IsToldAt H copy (Shelf row.home)
+  -- The first in a title's queue is the hold that the next copy of the title is given that routing
+  -- has to give: one that travels for no hold.
+  pub first : (title hold : ℕ) (others : List ℕ) (copy branch : ℕ)
+      → (queue_list H title).numbers ≡ hold ∷ others → title_of_copy H copy ≡ title
+      → travels_for (place H copy) ≡ None → Serves (route H copy branch) hold
+  -- A copy that is to be taken from the shelves of a branch goes, handed in there, to the hold that
+  -- it is shown with.
+  pub pulled : (branch hold copy : ℕ) → pulled_for H branch hold ≡ Some copy
+      → Serves (route H copy branch) hold
+  -- The lines shown of a patron's account are all of them, in order.
+  pub account_lines : (patron : ℕ)
+      → map (nth_line (lines H)) (account_list H patron).numbers ≡ map Some (account H patron)
+  -- Their charges are the payments and waivers plus what the head says is owed.
+  pub balance : (patron : ℕ)
+      → charges (account H patron) ≡ credits (account H patron) + owed H patron
+  -- Who is shown among the debts has charges above payments and waivers, and nobody else has.
+  pub debts : (patron : ℕ)
+      → has_number (debts_list H).numbers patron
+      ↔ (credits (account H patron) < charges (account H patron))
+  -- The numbers of each list rise, and each row that a list has all the time while it is asked for
+  -- from the last number shown on, until its end, is shown exactly once.
+  pub rising : HasRisingLists H
+  pub once : ListsShowOnce

@@ -1,0 +1,58 @@
+-- The rows of the lists that the desk asks for, by the rows of the tables.
+use Rattle.std.specs.Prelude.{◌≡◌, ℕ, Bool, true, false, List, [], ◌∷◌, Some, codes, decimal}
+use Rattle.calendar.specs.Days.{day_text}
+use Rattle.terms.specs.declared.command.Command.TheVariants.{Ask}
+use Rattle.terms.specs.declared.command.Owner.{Owner}
+use Rattle.terms.specs.declared.question.Question.{Question}
+use Rattle.terms.specs.declared.refusal.Refusal.{Refusal}
+use Rattle.terms.specs.declared.reply.Reply.{Reply}
+use Rattle.terms.specs.declared.reply.Reply.TheVariants.{Shown, Refused}
+use Rattle.terms.specs.declared.row.LoanRow.{LoanRow}
+use Rattle.terms.specs.declared.row.HoldRow.{HoldRow}
+use Rattle.terms.specs.declared.row.LineRow.{LineRow}
+use Rattle.terms.specs.declared.row.TitleRow.{TitleRow}
+use Rattle.model.specs.History.{History}
+use Rattle.model.specs.Answers.{answer}
+use Rattle.model.specs.Asking.{from_words, sort_word}
+use Rattle.model.specs.Pages.{spaced}
+use Rattle.model.specs.Picture.{picture}
+use Rattle.desk.specs.Paging.{IsTitleOf}
+
+-- A hold in line.
+abbrev pub queue_words : HoldRow → List ℕ
+queue_words row = spaced (codes "hold" ∷ decimal row.hold ∷ codes "patron" ∷ decimal row.patron ∷ codes "at" ∷ decimal row.branch
+    ∷ from_words row.first_day)
+
+-- A line of an account, for no loan or for one.
+abbrev pub line_words : LineRow → List ℕ
+line_words row = spaced (codes "line" ∷ decimal row.line ∷ day_text row.day ∷ sort_word row.sort ∷ decimal row.amount ∷ [])
+
+abbrev pub words_of_loan : ℕ → TitleRow → List (List ℕ)
+words_of_loan loan title = codes "loan" ∷ decimal loan ∷ codes "title" ∷ decimal title.title ∷ title.text ∷ []
+
+abbrev pub charge_words : LineRow → ℕ → TitleRow → List ℕ
+charge_words row loan title = spaced (codes "line" ∷ decimal row.line ∷ day_text row.day ∷ sort_word row.sort ∷ decimal row.amount
+    ∷ words_of_loan loan title)
+
+-- A copy that is to be taken from its shelf for a hold.
+abbrev pub pull_words : ℕ → ℕ → TitleRow → List ℕ
+pull_words hold copy title =
+    spaced (codes "hold" ∷ decimal hold ∷ codes "copy" ∷ decimal copy ∷ codes "title" ∷ decimal title.title ∷ title.text ∷ [])
+
+-- The loan is there, and this is the title of its copy.
+abbrev pub IsTitleOfLoan : ℕ → History → TitleRow → Type 0
+IsTitleOfLoan loan H title = (row : LoanRow) × ((picture H).loans loan ≡ Some row) × IsTitleOf row.copy H title
+
+-- ---- replies
+
+-- The reply is the answer to the question, whoever asks it.
+abbrev pub IsAnswer : Question → History → Reply → Type 0
+IsAnswer q H reply = (owner : Owner) → reply ≡ answer H owner (Ask q)
+
+-- A text is shown where what it is of is known; else the refusal says that it isn't.
+abbrev pub reply_if : Bool → Refusal → List ℕ → Reply
+reply_if known refusal text = elim known [ true ↦ Shown text | false ↦ Refused refusal ]
+
+-- A title, as it stands at the head of a list of it.
+abbrev pub title_words_of : TitleRow → List ℕ
+title_words_of row = spaced (codes "title" ∷ decimal row.title ∷ row.text ∷ [])

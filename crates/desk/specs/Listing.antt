@@ -1,0 +1,68 @@
+-- Lists that the desk is asked for, as they are told row by row.
+use Rattle.std.specs.Prelude.{◌≡◌, ◌==◌, ◌⊎◌, ◌<◌, ◌≤◌, ◌+◌, ℕ, nat_lt, true, false, List, [], ◌∷◌, ◌++◌, map, take, length, codes, decimal}
+use Rattle.std.specs.Prelude.{slice_get, ◌-◌, Option, Some, None, option_map, String, string_bytes}
+use Rattle.std.specs.List.{list_any, Contains}
+use Rattle.terms.specs.declared.limits.TheConstants.{MOST_ROWS}
+use Rattle.terms.specs.Orders.{Rise}
+use Rattle.circ_tables.specs.declared.by_number.TheConstants.{PAGE_ROWS}
+use Rattle.model.specs.Asking.{Listing, above, last_of}
+use Rattle.model.specs.AskingLaws.{AreRising, has_number}
+use Rattle.model.specs.Pages.{spaced}
+use Rattle.model.specs.Reports.{report_lines}
+use Rattle.desk.specs.declared.listing.Part.{Part}
+
+-- ---- what is read of a list
+
+-- A page of rows above a number, among which all of the list are: all of them, or the first, as many as a page has. Others may be among them.
+pub record HasPage {R : Type 0} (number_of : R → ℕ) (Is : R → Type 0) (x : Listing) (at : ℕ) (rows : List R) : Type 0 where
+  pub sound : (r : R) → Contains rows r → Is r × (at < number_of r)
+  pub whole : (n : ℕ) → has_number x.numbers n → at < n
+      → has_number (map number_of rows) n ⊎ ((length rows ≡ PAGE_ROWS) × ((r : R) → Contains rows r → number_of r < n))
+  pub rise : Rise number_of rows
+  pub few : length rows ≤ PAGE_ROWS
+  -- the numbers of the list rise
+  pub rising : AreRising x.numbers
+
+-- What is told of a row of this number: the list's row, or nothing where the list has none.
+abbrev pub IsRowText : {Z : Type 0} → Listing → ℕ → Option (String Z) → Type 0
+IsRowText x n (Some text) = has_number x.numbers n × (string_bytes text ≡ x.row n)
+IsRowText x n None = list_any (λ m. m == n) x.numbers ≡ false
+
+-- ---- what was told of it
+
+-- One row more was told; where the answer was full, that there are more.
+pub record IsAdded (n : ℕ) (row : List ℕ) (old new : Part) : Type 0 where
+  pub text : string_bytes new.text ≡ elim (nat_lt old.rows MOST_ROWS) [ true ↦ string_bytes old.text ++ (row ++ 10 ∷ []) | false ↦ string_bytes old.text ]
+  pub rows : new.rows ≡ elim (nat_lt old.rows MOST_ROWS) [ true ↦ old.rows + 1 | false ↦ old.rows ]
+  pub last : new.last ≡ elim (nat_lt old.rows MOST_ROWS) [ true ↦ n | false ↦ old.last ]
+  pub more : new.more ≡ elim (nat_lt old.rows MOST_ROWS) [ true ↦ old.more | false ↦ true ]
+
+-- The row of this number was told, or the list has none.
+abbrev pub IsTold : Listing → ℕ → Part → Part → Type 0
+IsTold x n old new = (has_number x.numbers n × IsAdded n (x.row n) old new) ⊎ ((list_any (λ m. m == n) x.numbers ≡ false) × (new ≡ old))
+
+-- These numbers were told after a beginning: the first hundred by their rows, the others by that there are more.
+pub record HasTold (x : Listing) (start numbers : List ℕ) (part : Part) : Type 0 where
+  pub text : string_bytes part.text ≡ start ++ report_lines (map x.row (take MOST_ROWS numbers))
+  pub rows : part.rows ≡ length (take MOST_ROWS numbers)
+  pub last : part.last ≡ last_of 0 (take MOST_ROWS numbers)
+  pub more : part.more ≡ nat_lt MOST_ROWS (length numbers)
+
+-- Of the numbers above `after` those up to `at` were told.
+pub record IsSoFar (x : Listing) (after at : ℕ) (start : List ℕ) (part : Part) : Type 0 where
+  pub front : List ℕ
+  pub split : above after x.numbers ≡ front ++ above at x.numbers
+  pub told : HasTold x start front part
+
+-- Whatever was told before, these rows were told after it.
+abbrev pub GoesOn : Listing → ℕ → ℕ → Part → Part → Type 0
+GoesOn x at to old new = (start : List ℕ) (after : ℕ) → IsSoFar x after at start old → IsSoFar x after to start new
+
+-- The end of an answer.
+abbrev pub end_words : Part → List ℕ
+end_words part = elim part.more [ true ↦ spaced (codes "after" ∷ decimal part.last ∷ []) | false ↦ codes "end" ]
+
+-- The number after which more is to be read; none once a page is not full, or there are more than are told.
+abbrev pub IsNext : {R : Type 0} → (R → ℕ) → List R → Part → Option ℕ → Type 0
+IsNext number_of rows part None = (length rows < PAGE_ROWS) ⊎ (part.more ≡ true)
+IsNext number_of rows part (Some last) = option_map number_of (slice_get rows (length rows - 1)) ≡ Some last

@@ -1,0 +1,267 @@
+//! Questions of the desk: each is answered by the rows of the tables, and changes nothing.
+
+ghost use Rattle.std.specs.Prelude.{◌≡◌, ◌∷◌, [], is_some, IfOk, string_bytes};
+ghost use Rattle.terms.specs.declared.question.Question.TheVariants as question;
+ghost use Rattle.terms.specs.declared.refusal.Refusal.TheVariants.{UnknownBranch, UnknownCopy};
+ghost use Rattle.terms.specs.declared.refusal.Refusal.TheVariants.{UnknownTitle};
+ghost use Rattle.circ_core.specs.Views.{IsCopyView};
+ghost use Rattle.terms.specs.declared.reply.Reply.TheVariants.{Shown};
+ghost use Rattle.model.specs.History.{title_of};
+ghost use Rattle.model.specs.Picture.{picture};
+ghost use Rattle.model.specs.Refusals.{has_branch, has_copy};
+ghost use Rattle.model.specs.Asking.{asked, listed};
+ghost use Rattle.model.specs.Pages.{spaced, title_words};
+ghost use Rattle.model.specs.Reports.{report_lines};
+ghost use Rattle.desk.specs.Answering.{Learns, LearnsIf};
+ghost use Rattle.desk.specs.Asking.{IsAnswer, reply_if, title_words_of};
+
+use crate::listing::{Listed, list_text};
+use crate::lists::{AccountOf, CopiesOf, Debtors, PullsAt, QueueFor, TransitsTo};
+use crate::overdue::{OVERDUE_HEADER, lender_of};
+use crate::paging::patron_line;
+use crate::placing::copy_text;
+use crate::reporting::{SHELF_HEADER, ShelfAt, with_newline};
+use crate::till::till_text;
+use circ_core::View;
+use sqlite::Alter;
+use std::alloc::Global;
+use store::Store;
+use terms::{
+    BranchId, CopyId, Day, Fault, HoldId, LineId, LoanId, Memory, PatronId, Question, Refusal,
+    Reply, Text, TitleId, TitleRow,
+};
+
+/// The reply that shows a text.
+fn shown(text: String) -> Reply
+    ensures { result ≡ Shown (string_bytes text) }
+{
+    Reply::Shown {
+        page: Text::new(text),
+    }
+}
+
+/// A title, as it stands at the head of a list of it.
+#[tactic(auto, unfolding(crate::specs::Asking::title_words_of))]
+fn title_line(alloc: Global, row: &TitleRow) -> Result<String, Memory>
+    ensures { IfOk result (λ text. string_bytes text ≡ title_words_of row.now) }
+{
+    let TitleRow { title, text } = row;
+    format!(in alloc; "title {title} {text}")
+}
+
+/// A list of a title: what is shown from a number on, or 12. 90, 91, 93.
+fn show_of_title<L: Listed, S: Alter>(
+    store: &mut Store<S>,
+    alloc: Global,
+    title: TitleId,
+    list: &L,
+    after: u32,
+) -> Result<Reply, Fault>
+    ensures { LearnsIf
+        (λ H. L.Needs list.now H
+        × ((L.list list.now H).head ≡ spaced (title_words H title) ∷ []))
+        (λ H reply. reply ≡ reply_if (is_some (title_of H title)) UnknownTitle
+        (listed (L.list list.now H) after))
+        S.Store store.old store.new result }
+{
+    match store.title(alloc, title)? {
+        Some(row) => {
+            let line = title_line(alloc, &row)?;
+            let head = with_newline(line)?;
+            let text = list_text(store, alloc, list, head, after)?;
+            Ok(shown(text))
+        }
+        None => Ok(Reply::Refused(Refusal::UnknownTitle)),
+    }
+}
+
+/// A list of a branch: what is shown from a number on, or 10. 90, 91, 93.
+fn show_of_branch<L: Listed, S: Alter>(
+    store: &mut Store<S>,
+    alloc: Global,
+    branch: BranchId,
+    list: &L,
+    head: &str,
+    after: u32,
+) -> Result<Reply, Fault>
+    ensures { LearnsIf
+        (λ H. L.Needs list.now H × (head.now ≡ report_lines (L.list list.now H).head))
+        (λ H reply. reply ≡ reply_if (has_branch H branch) UnknownBranch
+        (listed (L.list list.now H) after))
+        S.Store store.old store.new result }
+{
+    match store.branch(alloc, branch)? {
+        Some(_row) => {
+            let start = String::from_str(alloc, head)?;
+            let text = list_text(store, alloc, list, start, after)?;
+            Ok(shown(text))
+        }
+        None => Ok(Reply::Refused(Refusal::UnknownBranch)),
+    }
+}
+
+/// The reply to a question for a copy, by its view: 13 where it isn't there. 90, 91; 93, also where
+/// a row that another names isn't there.
+fn reply_for_copy<S: Alter>(
+    store: &mut Store<S>,
+    alloc: Global,
+    copy: CopyId,
+    rows: &View,
+) -> Result<Reply, Fault>
+    ensures { LearnsIf (λ H. IsCopyView (picture H) copy rows.now)
+        (λ H reply. reply ≡ reply_if (has_copy H copy) UnknownCopy (asked H (question.Copy copy)))
+        S.Store store.old store.new result }
+{
+    match &rows.copy {
+        Some(row) => {
+            let text = copy_text(store, alloc, row, rows)?;
+            Ok(shown(text))
+        }
+        None => Ok(Reply::Refused(Refusal::UnknownCopy)),
+    }
+}
+
+/// A copy and where it is, or 13. 90, 91, 93.
+fn show_copy<S: Alter>(store: &mut Store<S>, alloc: Global, copy: CopyId) -> Result<Reply, Fault>
+    ensures { Learns (IsAnswer (question.Copy copy))
+        S.Store store.old store.new result }
+{
+    let rows = store.copy_and_claims(copy)?;
+    reply_for_copy(store, alloc, copy, &rows)
+}
+
+/// The line of a title, or 12. 90, 91, 93.
+fn show_queue<S: Alter>(
+    store: &mut Store<S>,
+    alloc: Global,
+    title: TitleId,
+    after: HoldId,
+) -> Result<Reply, Fault>
+    ensures { Learns (IsAnswer (question.Queue title after))
+        S.Store store.old store.new result }
+{
+    let meta = store.meta()?;
+    let list = QueueFor {
+        title,
+        today: meta.today,
+    };
+    show_of_title(store, alloc, title, &list, after.number())
+}
+
+/// The account of a patron, or 11. 90, 91, 93.
+fn show_account<S: Alter>(
+    store: &mut Store<S>,
+    alloc: Global,
+    patron: PatronId,
+    after: LineId,
+) -> Result<Reply, Fault>
+    ensures { Learns (IsAnswer (question.Account patron after))
+        S.Store store.old store.new result }
+{
+    match store.patron(alloc, patron)? {
+        Some(row) => {
+            let line = patron_line(alloc, &row)?;
+            let head = with_newline(line)?;
+            let text = list_text(store, alloc, &AccountOf { patron }, head, after.number())?;
+            Ok(shown(text))
+        }
+        None => Ok(Reply::Refused(Refusal::UnknownPatron)),
+    }
+}
+
+/// The patrons who owe something. 90, 91, 93.
+fn show_debts<S: Alter>(
+    store: &mut Store<S>,
+    alloc: Global,
+    after: PatronId,
+) -> Result<Reply, Fault>
+    ensures { Learns (IsAnswer (question.Debts after))
+        S.Store store.old store.new result }
+{
+    let text = list_text(store, alloc, &Debtors, String::new(alloc), after.number())?;
+    Ok(shown(text))
+}
+
+/// The overdue loans of a branch, or 10. 90, 91, 93.
+fn show_overdue<S: Alter>(
+    store: &mut Store<S>,
+    alloc: Global,
+    branch: BranchId,
+    after: LoanId,
+) -> Result<Reply, Fault>
+    ensures { Learns (IsAnswer (question.Overdue branch after))
+        S.Store store.old store.new result }
+{
+    match lender_of(store, alloc, branch)? {
+        Some(lender) => {
+            show_of_branch(
+                store,
+                alloc,
+                branch,
+                &lender,
+                OVERDUE_HEADER,
+                after.number(),
+            )
+        }
+        None => Ok(Reply::Refused(Refusal::UnknownBranch)),
+    }
+}
+
+/// The copies that are to be taken from the shelves of a branch, or 10. 90, 91, 93.
+fn show_pulls<S: Alter>(
+    store: &mut Store<S>,
+    alloc: Global,
+    branch: BranchId,
+    after: HoldId,
+) -> Result<Reply, Fault>
+    ensures { Learns (IsAnswer (question.Pulls branch after))
+        S.Store store.old store.new result }
+{
+    let meta = store.meta()?;
+    let list = PullsAt {
+        branch,
+        today: meta.today,
+    };
+    show_of_branch(store, alloc, branch, &list, "", after.number())
+}
+
+/// The sums of a day. 90, 91, 93.
+fn show_till<S: Alter>(store: &mut Store<S>, alloc: Global, day: Day) -> Result<Reply, Fault>
+    ensures { Learns (IsAnswer (question.Till day))
+        S.Store store.old store.new result }
+{
+    let text = till_text(store, alloc, day)?;
+    Ok(shown(text))
+}
+
+/// The reply to a question: what is shown, or the refusal. 90, 91, 93.
+pub(crate) fn reply_to_question<S: Alter>(
+    store: &mut Store<S>,
+    alloc: Global,
+    question: &Question,
+) -> Result<Reply, Fault>
+    ensures { Learns (IsAnswer question.now)
+        S.Store store.old store.new result }
+{
+    match question {
+        Question::Copy { copy } => show_copy(store, alloc, *copy),
+        Question::Copies { title, after } => {
+            let list = CopiesOf { title: *title };
+            show_of_title(store, alloc, *title, &list, after.number())
+        }
+        Question::Queue { title, after } => show_queue(store, alloc, *title, *after),
+        Question::Account { patron, after } => show_account(store, alloc, *patron, *after),
+        Question::Debts { after } => show_debts(store, alloc, *after),
+        Question::Overdue { branch, after } => show_overdue(store, alloc, *branch, *after),
+        Question::Shelf { branch, after } => {
+            let list = ShelfAt { branch: *branch };
+            show_of_branch(store, alloc, *branch, &list, SHELF_HEADER, after.number())
+        }
+        Question::Pulls { branch, after } => show_pulls(store, alloc, *branch, *after),
+        Question::Transits { branch, after } => {
+            let list = TransitsTo { branch: *branch };
+            show_of_branch(store, alloc, *branch, &list, "", after.number())
+        }
+        Question::Till { day } => show_till(store, alloc, *day),
+    }
+}

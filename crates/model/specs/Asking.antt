@@ -1,0 +1,239 @@
+-- What the desk is shown that asks: where copies are, whose turn it is, and who owes what.
+use Rattle.std.specs.Prelude.{ℕ, ◌==◌, nat_lt, Bool, true, false, ◌&&◌, if◌then◌else◌, List, [], ◌∷◌, ◌++◌, map, filter, take, drop, length}
+use Rattle.std.specs.Prelude.{slice_get, codes, decimal, Option, Some, None, is_some, option_map, unwrap_or}
+use Rattle.std.specs.List.{join_with_byte}
+use Rattle.calendar.specs.Days.{day_text}
+use Rattle.terms.specs.declared.limits.TheConstants.{MOST_ROWS}
+use Rattle.terms.specs.declared.question.Question.{Question}
+use Rattle.terms.specs.declared.question.Question.TheVariants as question
+use Rattle.terms.specs.declared.row.Sort.{Sort}
+use Rattle.terms.specs.declared.row.Sort.TheVariants.{Fine, Price, Payment, Waiver}
+use Rattle.model.specs.History.{History, numbers_to, copy_of, copies, patrons, holds}
+use Rattle.model.specs.Places.{Place, Nowhere, Shelf, HoldShelf, Transit, Loan, MissingCopy, WithdrawnCopy, place, line, limit}
+use Rattle.model.specs.Places.{title_of_copy, home_of, title_of_hold, patron_of_hold, goal_of, first_day_of}
+use Rattle.model.specs.Loans.{due, title_of_loan}
+use Rattle.model.specs.Accounts.{lines, nth_line, borrower, price_of, owed}
+use Rattle.model.specs.Pages.{spaced, name_of, title_words, patron_line}
+use Rattle.model.specs.Reports.{overdue_head, overdue_loans, overdue_line, shelf_head, ready_holds, shelf_line, till_rows}
+
+-- ---- lists
+
+-- A list that can be asked for: its head, the numbers of its rows, rising, and the row of each number.
+pub record Listing : Type 0 where
+  pub head : List (List ℕ)
+  pub numbers : List ℕ
+  pub row : ℕ → List ℕ
+
+-- The last of the numbers, or the one before them where there are none.
+abbrev pub last_of : ℕ → List ℕ → ℕ
+last_of before [] = before
+last_of before (n ∷ ns) = last_of n ns
+
+-- How a part of a list ends: with `end`, or with the last number that is shown where there are others to come.
+abbrev pub end_line : List ℕ → List ℕ → List ℕ
+end_line shown [] = codes "end"
+end_line shown (next ∷ others) = spaced (codes "after" ∷ decimal (last_of 0 shown) ∷ [])
+
+-- A part of a list, parted by newlines: its head, the rows that are shown, and its end.
+abbrev pub part_of_list : Listing → List ℕ → List ℕ → List ℕ
+part_of_list x shown others = join_with_byte 10 (x.head ++ map x.row shown ++ end_line shown others ∷ [])
+
+-- The numbers above this one.
+abbrev pub above : ℕ → List ℕ → List ℕ
+above after numbers = filter (λ n. nat_lt after n) numbers
+
+-- Of the numbers above this one the first hundred, which are shown, and the others, which are left.
+abbrev pub shown_from : List ℕ → ℕ → List ℕ
+shown_from numbers after = take MOST_ROWS (above after numbers)
+
+abbrev pub left_from : List ℕ → ℕ → List ℕ
+left_from numbers after = drop MOST_ROWS (above after numbers)
+
+-- What is shown of a list that is asked for from a number on.
+abbrev pub listed : Listing → ℕ → List ℕ
+listed x after = part_of_list x (shown_from x.numbers after) (left_from x.numbers after)
+
+-- A number, put in its place among rising numbers, once.
+abbrev pub put_in : ℕ → List ℕ → List ℕ
+put_in n [] = n ∷ []
+put_in n (m ∷ ms) = if nat_lt n m then n ∷ m ∷ ms else (if n == m then m ∷ ms else m ∷ put_in n ms)
+
+-- The numbers, rising, each once.
+abbrev pub rising : List ℕ → List ℕ
+rising [] = []
+rising (n ∷ ns) = put_in n (rising ns)
+
+-- The first of the numbers, if there is one.
+abbrev pub first_of : List ℕ → Option ℕ
+first_of numbers = slice_get numbers 0
+
+-- The first of the numbers is this one.
+abbrev pub is_first : List ℕ → ℕ → Bool
+is_first [] n = false
+is_first (m ∷ ms) n = m == n
+
+-- ---- places
+
+-- The place is the shelf of this branch.
+abbrev pub is_shelf_of : ℕ → Place → Bool
+is_shelf_of b (Shelf n) = n == b
+is_shelf_of b _ = false
+
+-- The place is in transit to this branch.
+abbrev pub is_bound_to : ℕ → Place → Bool
+is_bound_to b (Transit n h) = n == b
+is_bound_to b _ = false
+
+-- The hold for which a copy is in this place on its way.
+abbrev pub travels_for : Place → Option ℕ
+travels_for (Transit n h) = h
+travels_for _ = None
+
+-- ---- words
+
+-- The sort of a line of an account.
+abbrev pub sort_word : Sort → List ℕ
+sort_word Fine = codes "fine"
+sort_word Price = codes "price"
+sort_word Payment = codes "payment"
+sort_word Waiver = codes "waiver"
+
+-- The first day of a hold that has one.
+abbrev pub from_words : Option ℕ → List (List ℕ)
+from_words None = []
+from_words (Some day) = codes "from" ∷ day_text day ∷ []
+
+-- The hold that a copy travels for, if it travels for one.
+abbrev pub for_words : Option ℕ → List (List ℕ)
+for_words None = []
+for_words (Some h) = codes "for" ∷ decimal h ∷ []
+
+module _ (H : History) where
+  -- The place of a copy.
+  abbrev pub place_words : Place → List (List ℕ)
+  place_words (Shelf b) = codes "shelf" ∷ decimal b ∷ []
+  place_words (HoldShelf h) =
+      codes "ready" ∷ decimal h ∷ codes "at" ∷ decimal (goal_of H h) ∷ codes "until" ∷ day_text (unwrap_or (limit H h) 0) ∷ []
+  place_words (Transit b h) = codes "transit" ∷ decimal b ∷ for_words h
+  place_words (Loan l) = codes "loan" ∷ decimal l ∷ codes "due" ∷ day_text (due H l) ∷ []
+  place_words MissingCopy = codes "missing" ∷ []
+  place_words WithdrawnCopy = codes "withdrawn" ∷ []
+  place_words Nowhere = []
+
+  -- The patron for whom a copy is where it is: that of its hold or its loan.
+  abbrev pub patron_at : Place → Option ℕ
+  patron_at (HoldShelf h) = Some (patron_of_hold H h)
+  patron_at (Transit b h) = option_map (patron_of_hold H) h
+  patron_at (Loan l) = Some (borrower H l)
+  patron_at _ = None
+
+  -- The number and name of a patron, if there is one.
+  abbrev pub patron_words : Option ℕ → List (List ℕ)
+  patron_words None = []
+  patron_words (Some p) = codes "patron" ∷ decimal p ∷ name_of H p ∷ []
+
+  -- The loan and the title that a line of an account is for, if it is for one.
+  abbrev pub loan_words : Option ℕ → List (List ℕ)
+  loan_words None = []
+  loan_words (Some l) = codes "loan" ∷ decimal l ∷ title_words H (title_of_loan H l)
+
+-- ---- what is asked for
+
+module _ (H : History) where
+  -- The kind of a copy.
+  abbrev pub kind_of_copy : ℕ → ℕ
+  kind_of_copy c = unwrap_or (option_map (λ r. r.kind) (copy_of H c)) 0
+
+  -- A copy.
+  abbrev pub copy_line : ℕ → List ℕ
+  copy_line c = spaced (codes "copy" ∷ decimal c ∷ codes "home" ∷ decimal (home_of H c) ∷ codes "kind" ∷ decimal (kind_of_copy c)
+      ∷ codes "price" ∷ decimal (price_of H c) ∷ title_words H (title_of_copy H c))
+
+  -- Where it is, and for whom.
+  abbrev pub place_line : Place → List ℕ
+  place_line p = spaced (place_words H p ++ patron_words H (patron_at H p))
+
+  -- The copies of a title.
+  abbrev pub copies_of : ℕ → List ℕ
+  copies_of t = filter (λ c. title_of_copy H c == t) (rising (copies H))
+
+  abbrev pub copies_list : ℕ → Listing
+  copies_list t = record {
+    head = spaced (title_words H t) ∷ [];
+    numbers = copies_of t;
+    row = λ c. spaced (codes "copy" ∷ decimal c ∷ place_words H (place H c));
+  }
+
+  -- The line of a title, with where each hold is to be picked up.
+  abbrev pub queue_list : ℕ → Listing
+  queue_list t = record {
+    head = spaced (title_words H t) ∷ [];
+    numbers = line H t;
+    row = λ h. spaced (codes "hold" ∷ decimal h ∷ codes "patron" ∷ decimal (patron_of_hold H h) ∷ codes "at" ∷ decimal (goal_of H h)
+        ∷ from_words (first_day_of H h));
+  }
+
+  -- The n-th line of all accounts.
+  abbrev pub account_line : ℕ → List ℕ
+  account_line n = unwrap_or (option_map (λ x. spaced (codes "line" ∷ decimal n ∷ day_text x.day ∷ sort_word x.sort ∷ decimal x.amount ∷ loan_words H x.loan))
+      (nth_line (lines H) n)) []
+
+  -- It is the patron's.
+  abbrev pub is_line_of : ℕ → ℕ → Bool
+  is_line_of p n = unwrap_or (option_map (λ x. x.patron == p) (nth_line (lines H) n)) false
+
+  -- The account of a patron, under what the patron owes.
+  abbrev pub account_list : ℕ → Listing
+  account_list p = record {
+    head = patron_line H p ∷ [];
+    numbers = filter (is_line_of p) (numbers_to (length (lines H)));
+    row = account_line;
+  }
+
+  -- The patrons who owe something.
+  abbrev pub debts_list : Listing
+  debts_list = record {
+    head = [];
+    numbers = filter (λ p. nat_lt 0 (owed H p)) (rising (patrons H));
+    row = patron_line H;
+  }
+
+  -- The loans of the overdue report, and the holds of the shelf report.
+  abbrev pub overdue_list : ℕ → Listing
+  overdue_list b = record { head = overdue_head ∷ []; numbers = overdue_loans H b; row = overdue_line H b }
+
+  abbrev pub shelf_list : ℕ → Listing
+  shelf_list b = record { head = shelf_head ∷ []; numbers = ready_holds H b; row = shelf_line H }
+
+  -- The copy that is to be taken from the shelves of the branch for a hold which is first in line: the least that stands there of the title.
+  abbrev pub pulled_for : ℕ → ℕ → Option ℕ
+  pulled_for b h = elim (is_first (line H (title_of_hold H h)) h)
+      [ true ↦ first_of (filter (λ c. (title_of_copy H c == title_of_hold H h) && is_shelf_of b (place H c)) (rising (copies H))) | false ↦ None ]
+
+  abbrev pub pulls_list : ℕ → Listing
+  pulls_list b = record {
+    head = [];
+    numbers = filter (λ h. is_some (pulled_for b h)) (numbers_to (holds H));
+    row = λ h. spaced (codes "hold" ∷ decimal h ∷ codes "copy" ∷ decimal (unwrap_or (pulled_for b h) 0) ∷ title_words H (title_of_hold H h));
+  }
+
+  -- The copies on their way to a branch.
+  abbrev pub transits_list : ℕ → Listing
+  transits_list b = record {
+    head = [];
+    numbers = filter (λ c. is_bound_to b (place H c)) (rising (copies H));
+    row = λ c. spaced (codes "copy" ∷ decimal c ∷ for_words (travels_for (place H c)) ++ title_words H (title_of_copy H c));
+  }
+
+-- What is shown to the desk that asks, after a list.
+abbrev pub asked : History → Question → List ℕ
+asked H (question.Copy c) = join_with_byte 10 (copy_line H c ∷ place_line H (place H c) ∷ [])
+asked H (question.Copies t after) = listed (copies_list H t) after
+asked H (question.Queue t after) = listed (queue_list H t) after
+asked H (question.Account p after) = listed (account_list H p) after
+asked H (question.Debts after) = listed (debts_list H) after
+asked H (question.Overdue b after) = listed (overdue_list H b) after
+asked H (question.Shelf b after) = listed (shelf_list H b) after
+asked H (question.Pulls b after) = listed (pulls_list H b) after
+asked H (question.Transits b after) = listed (transits_list H b) after
+asked H (question.Till d) = join_with_byte 10 (till_rows H d)
