@@ -10,6 +10,11 @@ FIRST = datetime.date(2000, 1, 1)
 LAST = datetime.date(2199, 12, 31)
 LAST_TODAY = datetime.date(2190, 12, 31)
 EPOCH = datetime.date(1970, 1, 1)
+MOST_ROWS = 100  # of a list in one answer
+
+# What only asks: it looks at no key and keeps none. All but the page are the desk's alone.
+QUESTIONS = ("copy", "copies", "queue", "account", "debts", "overdue", "shelf", "pulls", "transits", "till")
+ONLY_ASK = ("page", *QUESTIONS)
 
 
 def number(day):
@@ -24,6 +29,18 @@ class Refused(Exception):
 def refuse(number_, fails):
     if fails:
         raise Refused(number_)
+
+
+def overdue_row(loan, patron, copy, due, late, title):
+    return f"{loan:>10} {patron:>7} {copy:>7} {due:<10} {late:>5} {title}"
+
+
+def shelf_row(hold, copy, patron, until, title):
+    return f"{hold:>10} {copy:>7} {patron:>7} {until:<10} {title}"
+
+
+OVERDUE_HEAD = overdue_row("loan", "patron", "copy", "due", "late", "title")
+SHELF_HEAD = shelf_row("hold", "copy", "patron", "until", "title")
 
 
 class Library:
@@ -337,7 +354,7 @@ class Library:
 
     def do_page(self, patron):
         refuse(11, patron not in self.patrons)
-        lines = [f"patron {patron} owed {self.owed(patron)} name {self.patrons[patron]['name']}"]
+        lines = [self.patron_line(patron)]
         for n in self.open_loans(patron):
             row = self.loans[n]
             title = self.copies[row["copy"]]["title"]
@@ -347,6 +364,94 @@ class Library:
             state = row["state"] if row["state"] == "ready" or row["first"] is None else f"waiting from {row['first']}"
             lines.append(f"hold {n} at {row['branch']} {state} title {row['title']} {self.titles[row['title']]}")
         return "\n".join(lines)
+
+    # ---- what the desk can be asked
+
+    def title_words(self, title):
+        return f"title {title} {self.titles[title]}"
+
+    def patron_line(self, patron):
+        return f"patron {patron} owed {self.owed(patron)} name {self.patrons[patron]['name']}"
+
+    def where(self, copy):
+        """Where a copy is, and the patron for whom it is there, if there is one."""
+        loan, ready = self.loan_of(copy), self.ready_for(copy)
+        if loan is not None:
+            return f"loan {loan} due {self.loans[loan]['due']}", self.loans[loan]["patron"]
+        if ready is not None:
+            hold = self.holds[ready]
+            return f"ready {ready} at {hold['branch']} until {hold['limit']}", hold["patron"]
+        if copy in self.transits:
+            goal, hold = self.transits[copy]
+            return (f"transit {goal}", None) if hold is None else (f"transit {goal} for {hold}", self.holds[hold]["patron"])
+        row = self.copies[copy]
+        return f"shelf {row['home']}" if row["condition"] == "present" else row["condition"], None
+
+    def listed(self, head, rows, after):
+        """A part of a list, whose rows stand by their numbers: those above a number, the least first and not too many, and whether others follow."""
+        above = sorted(number for number in rows if number > after)
+        shown = above[:MOST_ROWS]
+        return "\n".join([*head, *[rows[number] for number in shown], "end" if shown == above else f"after {shown[-1]}"])
+
+    def copies_of(self, title):
+        return [n for n, row in self.copies.items() if row["title"] == title]
+
+    def do_copy(self, copy):
+        refuse(13, copy not in self.copies)
+        row, (place, patron) = self.copies[copy], self.where(copy)
+        whose = "" if patron is None else f" patron {patron} {self.patrons[patron]['name']}"
+        return f"copy {copy} home {row['home']} kind {row['kind']} price {row['price']} {self.title_words(row['title'])}\n{place}{whose}"
+
+    def do_copies(self, title, after):
+        refuse(12, title not in self.titles)
+        return self.listed([self.title_words(title)], {n: f"copy {n} {self.where(n)[0]}" for n in self.copies_of(title)}, after)
+
+    def do_queue(self, title, after):
+        refuse(12, title not in self.titles)
+        first_day = lambda hold: "" if hold["first"] is None else f" from {hold['first']}"
+        rows = {n: f"hold {n} patron {self.holds[n]['patron']} at {self.holds[n]['branch']}{first_day(self.holds[n])}" for n in self.line(title)}
+        return self.listed([self.title_words(title)], rows, after)
+
+    def account_words(self, line):
+        """A line of an account; a charge tells the loan and the title that it is for."""
+        words = f"{line['day']} {line['sort']} {line['amount']}"
+        if line["loan"] is None:
+            return words
+        return f"{words} loan {line['loan']} {self.title_words(self.copies[self.loans[line['loan']]['copy']]['title'])}"
+
+    def do_account(self, patron, after):
+        refuse(11, patron not in self.patrons)
+        rows = {n: f"line {n} {self.account_words(line)}" for n, line in enumerate(self.lines, 1) if line["patron"] == patron}
+        return self.listed([self.patron_line(patron)], rows, after)
+
+    def do_debts(self, after):
+        return self.listed([], {patron: self.patron_line(patron) for patron in self.patrons if self.owed(patron) > 0}, after)
+
+    def do_overdue(self, branch, after):
+        refuse(10, branch not in self.branches)
+        return self.listed([OVERDUE_HEAD], self.overdue_rows(branch), after)
+
+    def do_shelf(self, branch, after):
+        refuse(10, branch not in self.branches)
+        return self.listed([SHELF_HEAD], self.shelf_rows(branch), after)
+
+    def do_pulls(self, branch, after):
+        refuse(10, branch not in self.branches)
+        rows = {}
+        for title in self.titles:
+            first, standing = self.line(title)[:1], [n for n in self.copies_of(title) if self.where(n)[0] == f"shelf {branch}"]
+            for hold in first if standing else []:
+                rows[hold] = f"hold {hold} copy {min(standing)} {self.title_words(title)}"
+        return self.listed([], rows, after)
+
+    def do_transits(self, branch, after):
+        refuse(10, branch not in self.branches)
+        for_hold = lambda hold: "" if hold is None else f"for {hold} "
+        rows = {n: f"copy {n} {for_hold(hold)}{self.title_words(self.copies[n]['title'])}" for n, (goal, hold) in self.transits.items() if goal == branch}
+        return self.listed([], rows, after)
+
+    def do_till(self, day):
+        return self.till(datetime.date.fromisoformat(day)).removesuffix("\n")
 
     # ---- requests
 
@@ -359,14 +464,14 @@ class Library:
         if name == "patron":
             arguments[2] = words[3]
         text = " ".join(words)
-        if name != "page" and (caller, key) in self.kept:
+        if name not in ONLY_ASK and (caller, key) in self.kept:
             kept, reply = self.kept[caller, key]
             return reply if kept == text else "refused 80"
         try:
             reply = getattr(self, "do_" + name.replace("-", "_"))(*arguments)
         except Refused as refusal:
             return f"refused {refusal}"
-        if name != "page":
+        if name not in ONLY_ASK:
             self.kept[caller, key] = (text, reply)
         return reply
 
@@ -387,21 +492,23 @@ class Library:
                 for sort in ("fine", "price", "payment", "waiver")}
         return f"till {day}\n" + "".join(f"{sort + 's':<9}{amount:>15}\n" for sort, amount in sums.items())
 
+    def overdue_rows(self, branch):
+        """The rows of a branch's overdue report, by their loans."""
+        return {n: overdue_row(n, loan["patron"], loan["copy"], str(loan["due"]), self.late(branch, loan["due"]), self.titles[self.copies[loan["copy"]]["title"]])
+                for n, loan in sorted(self.loans.items()) if loan["branch"] == branch and loan["ended"] is None and loan["due"] < self.today}
+
     def overdue(self, branch):
-        rows = [(n, loan) for n, loan in sorted(self.loans.items())
-                if loan["branch"] == branch and loan["ended"] is None and loan["due"] < self.today]
-        lines = [("loan", "patron", "copy", "due", "late", "title")]
-        lines += [(n, loan["patron"], loan["copy"], str(loan["due"]), self.late(branch, loan["due"]),
-                   self.titles[self.copies[loan["copy"]]["title"]]) for n, loan in rows]
-        text = "".join(f"{a:>10} {b:>7} {c:>7} {d:<10} {e:>5} {f}\n" for a, b, c, d, e, f in lines)
-        return f"{text}overdue {len(rows)}\n"
+        rows = self.overdue_rows(branch)
+        return "".join(f"{row}\n" for row in (OVERDUE_HEAD, *rows.values(), f"overdue {len(rows)}"))
+
+    def shelf_rows(self, branch):
+        """The rows of a branch's shelf report, by their holds."""
+        return {n: shelf_row(n, hold["copy"], hold["patron"], str(hold["limit"]), self.titles[hold["title"]])
+                for n, hold in sorted(self.holds.items()) if hold["state"] == "ready" and hold["branch"] == branch}
 
     def shelf(self, branch):
-        rows = [(n, hold) for n, hold in sorted(self.holds.items()) if hold["state"] == "ready" and hold["branch"] == branch]
-        lines = [("hold", "copy", "patron", "until", "title")]
-        lines += [(n, hold["copy"], hold["patron"], str(hold["limit"]), self.titles[hold["title"]]) for n, hold in rows]
-        text = "".join(f"{a:>10} {b:>7} {c:>7} {d:<10} {e}\n" for a, b, c, d, e in lines)
-        return f"{text}ready {len(rows)}\n"
+        rows = self.shelf_rows(branch)
+        return "".join(f"{row}\n" for row in (SHELF_HEAD, *rows.values(), f"ready {len(rows)}"))
 
     def tables(self):
         """The rows as the file has to hold them, each table in the order of its key."""

@@ -75,6 +75,16 @@ WORDS = {
     "pay": NUMBERS[:2],
     "waive": NUMBERS[:2],
     "page": NUMBERS[:1],
+    "copy": NUMBERS[:1],
+    "copies": NUMBERS[:2],
+    "queue": NUMBERS[:2],
+    "account": NUMBERS[:2],
+    "debts": NUMBERS[:1],
+    "overdue": NUMBERS[:2],
+    "shelf": NUMBERS[:2],
+    "pulls": NUMBERS[:2],
+    "transits": NUMBERS[:2],
+    "till": [is_day],
 }
 
 

@@ -1,6 +1,8 @@
 #!/usr/bin/env python3
 """Stories: requests by words with the lines that answer them, run by the program on real files.
 
+    tests/stories.py [--rules] [FILE ..]      the stories of these files of tests/stories, or of all; with --rules without the program, by the rules in plain Python alone
+
 The stories stand in tests/stories/*.txt. Their answers are those of the rules, worked out by hand; none was taken from the program.
 Each story has a library of its own: a copy of the small one that the fifteen requests of `GROUND` make. As many stories are run at
 a time as there are processors. The lines of a story:
@@ -9,6 +11,8 @@ a time as there are processors. The lines of a story:
     new                            its library isn't there yet, in place of the small one
     KEY WORDS.. -> ANSWER          a request and its answer; a word with blanks stands in quotes
     weekly N KEY WORDS.. -> ANSWER N such requests, under KEY0, KEY1, .., each with a last word that is a week later
+    counted N KEY WORDS.. -> ANSWER
+                                   N such requests, each with a second word that is one more
     report WORDS.. -> ANSWER       a report; a fault may be its last line, after a beginning of it
     rows -> ANSWER                 a copies file, of the lines `< TEXT` that follow; \\u and four digits stand for a letter there
     pairs                          every ordered pair of the requests `& WORDS..` that follow, one after another in the one library
@@ -41,8 +45,9 @@ from concurrent.futures import ThreadPoolExecutor
 from desk_rules import Library
 from lib.runs import CIRC, GROUND, PROGRAM, TOP, rows, status_of, whole, write
 from messages import message
+from outer_forms import is_understood
 
-KINDS = ("weekly", "report", "rows", "pairs", "sql", "select", "damage")
+KINDS = ("weekly", "counted", "report", "rows", "pairs", "sql", "select", "damage")
 SILENT = ("pairs", "sql", "damage")  # lines with no answer of their own
 
 # What no library may have, each by a text that finds it.
@@ -61,7 +66,7 @@ LAWS = {
 }
 
 
-BY_RULES = 1_000  # so many answers at least are compared with the rules in plain Python in a run of all stories
+BY_RULES = 1_400  # so many answers at least are compared with the rules in plain Python in a run of all stories
 
 
 class Step:
@@ -79,7 +84,23 @@ class Step:
 
     def runs(self):
         """About how often the program is run for it."""
-        return {"pairs": 2 * len(self.given) ** 2, "weekly": 400, "damage": 3}.get(self.kind, 1)
+        return {"pairs": 2 * len(self.given) ** 2, "weekly": 400, "counted": 100, "damage": 3}.get(self.kind, 1)
+
+
+    def requests(self):
+        """Its requests, each with its key."""
+        if self.kind == "request":
+            key, *words = shlex.split(self.text)
+            yield key, words
+        elif self.kind in ("weekly", "counted"):
+            count, key, *words = shlex.split(self.text)
+            for at in range(int(count)):
+                yield f"{key}{at}", later(words, at) if self.kind == "weekly" else [words[0], str(int(words[1]) + at), *words[2:]]
+
+
+def later(words, weeks):
+    """The words with a last one that is so many weeks later."""
+    return [*words[:-1], str(datetime.date.fromisoformat(words[-1]) + datetime.timedelta(7 * weeks))]
 
 
 class Story:
@@ -89,6 +110,10 @@ class Story:
         self.place, self.name, self.is_new, self.steps = place, name, False, []
         self.compared, self.by_rules, self.differences = 0, 0, []
 
+    def is_plain(self):
+        """Whether nothing is written past the desk."""
+        return not any(step.kind in ("sql", "rows", "damage") for step in self.steps)
+
     def compare(self, place, what, found, wanted):
         self.compared += 1
         if found != wanted:
@@ -97,8 +122,7 @@ class Story:
     def run(self, small, rules, folder):
         """Runs the steps on a library of its own, made in the folder."""
         self.path = os.path.join(folder, "town.db")
-        is_plain = not any(step.kind in ("sql", "rows", "damage") for step in self.steps)
-        self.rules = (Library() if self.is_new else copy.deepcopy(rules)) if is_plain else None
+        self.rules = (Library() if self.is_new else copy.deepcopy(rules)) if self.is_plain() else None
         if not self.is_new:
             shutil.copy(small, self.path)
         for step in self.steps:
@@ -121,22 +145,32 @@ class Story:
         found = ran.stdout.decode().split("\n"), ran.returncode, ran.stderr
         self.compare(step.place, shlex.join(words), found, ([*lines, ""], status, message(words, "".join(f"{it}\n" for it in lines))))
 
+    def ask_rules(self, step, what, found, lines):
+        """The rules give the same lines."""
+        self.by_rules += 1
+        self.compare(step.place, f"the rules at {what}", found.split("\n"), lines)
+
     def ask(self, step, key, words, lines):
         """One request; the rules give the same lines, where its words are understood."""
         self.send(step, ["file", self.path, key, *words], lines, status_of(lines[0]))
         if self.rules and status_of(lines[0]) != 4:
-            self.by_rules += 1
-            self.compare(step.place, f"the rules at {key}", self.rules.handle(key, words).split("\n"), lines)
+            self.ask_rules(step, key, self.rules.handle(key, words), lines)
+
+    def run_by_rules(self, rules):
+        """Asks the rules alone what the steps ask, where nothing is written past the desk."""
+        self.rules = Library() if self.is_new else copy.deepcopy(rules)
+        for step in self.steps:
+            for key, words in step.requests():
+                if status_of(step.answer[0]) == 4:
+                    self.compare(step.place, f"{words}", is_understood(words), False)
+                else:
+                    self.ask_rules(step, key, self.rules.handle(key, words), step.answer)
 
     def do_request(self, step):
-        key, *words = shlex.split(step.text)
-        self.ask(step, key, words, step.answer)
+        for key, words in step.requests():
+            self.ask(step, key, words, step.answer)
 
-    def do_weekly(self, step):
-        count, key, *words = shlex.split(step.text)
-        day = datetime.date.fromisoformat(words.pop())
-        for at in range(int(count)):
-            self.ask(step, f"{key}{at}", [*words, str(day + datetime.timedelta(7 * at))], step.answer)
+    do_weekly = do_counted = do_request
 
     def do_report(self, step):
         kind, *words = shlex.split(step.text)
@@ -207,6 +241,11 @@ def stories_of(path):
     return found
 
 
+def story_paths(names):
+    """The files of stories with these names, or all."""
+    return [path for path in sorted(glob.glob(os.path.join(TOP, "tests", "stories", "*.txt"))) if not names or os.path.basename(path) in names]
+
+
 def small_library(folder):
     """The file of the small library, and what the rules know of it."""
     path, rules = os.path.join(folder, "small.db"), Library()
@@ -217,10 +256,28 @@ def small_library(folder):
     return path, rules
 
 
+def compared_by_rules(stories):
+    """The plain stories by the rules alone."""
+    plain, rules = [story for story in stories if story.is_plain()], Library()
+    for key, words, line in GROUND:
+        if rules.handle(key, words) != line:
+            sys.exit(f"stories: {key} {words} by the rules")
+    for story in plain:
+        story.run_by_rules(rules)
+    failed = [story for story in plain if story.differences]
+    for story in failed:
+        print(f"stories: {story.place}: {story.name}", *story.differences[:5], sep="\n", file=sys.stderr)
+    compared = sum(story.by_rules for story in plain)
+    print(f"stories: {len(plain)} by the rules alone, {compared} answers compared, {len(failed)} failed")
+    return 1 if failed or not compared else 0
+
+
 def main(names):
+    alone, names = "--rules" in names, [name for name in names if name != "--rules"]
+    if alone:
+        return compared_by_rules([story for path in story_paths(names) for story in stories_of(path)])
     subprocess.run([CIRC], stdout=subprocess.DEVNULL, check=False)  # builds the program where it isn't there
-    paths = sorted(glob.glob(os.path.join(TOP, "tests", "stories", "*.txt")))
-    stories = [story for path in paths for story in stories_of(path) if not names or os.path.basename(path) in names]
+    stories = [story for path in story_paths(names) for story in stories_of(path)]
     begun = time.perf_counter()
     with tempfile.TemporaryDirectory() as folder:
         small, rules = small_library(folder)
