@@ -6,7 +6,7 @@ Each list of requests has a new library: a copy of the small one that the fiftee
 of docs/RULES.md, worked out by hand; the rules in plain Python (`desk_rules`) say them once more, as far as they reach. The
 desk's lists are run by words on one library and by POST /desk on another, and end in the same rows. In the patrons' lists a line
 that begins with a number and a card key is what that patron asks by the routes. Which checks there are, and which forms, is read
-from the table of commands in docs/RULES.md, so that none is left out. So a program that tells a fault to each renewal, or to any
+from the table of commands in docs/RULES.md, and from what it says of the desk's questions, so that none is left out. So a program that tells a fault to each renewal, or to any
 other kind of request, fails here: no clause can say that there is memory.
 """
 
@@ -20,13 +20,13 @@ import shutil
 import sys
 import tempfile
 
-from desk_rules import Library
+from desk_rules import OVERDUE_HEAD, QUESTIONS, SHELF_HEAD, Library
 from lib import runs
-from lib.runs import GROUND, TOP, check, circ, say, status_of, whole
+from lib.runs import GROUND, TOP, answers, check, circ, say, status_of, whole
 from lib.serving import DESK_KEY, Serving, body_of_hold, told
 from outer_forms import WORDS
 
-# A line: the words and the answer; `weekly N` before it asks N times, each with a last word that is a week later.
+# A line: the words and the answer, whose lines are parted by strokes; `weekly N` before it asks N times, each with a last word that is a week later, `counted N` with a second word that is one more.
 DESK = """
 begin-day 2026-03-02 -> refused 23
 begin-day 2191-01-01 -> refused 23
@@ -251,7 +251,62 @@ check-in 50 1 -> fine 0 ready 1 at 1 until 2026-03-07
 withdraw 50 -> refused 33
 begin-day 2026-03-10 -> ok
 missing 10 -> fine 20 price 2500
-"""
+
+# what the desk can be asked
+copy 99 -> refused 13
+copies 999 0 -> refused 12
+queue 999 0 -> refused 12
+account 9 0 -> refused 11
+overdue 9 0 -> refused 10
+shelf 9 0 -> refused 10
+pulls 9 0 -> refused 10
+transits 9 0 -> refused 10
+copy 10 -> copy 10 home 1 kind 1 price 2500 title 100 Rivers of the North / shelf 1
+check-out 1 10 1 -> loan 1 due 2026-03-09
+copy 10 -> copy 10 home 1 kind 1 price 2500 title 100 Rivers of the North / loan 1 due 2026-03-09 patron 1 Ann Bell
+place-hold 2 100 1 -> hold 1
+place-hold-from 3 100 2 2026-03-04 -> hold 2
+queue 100 0 -> title 100 Rivers of the North / hold 1 patron 2 at 1 / end
+pulls 1 0 -> hold 1 copy 11 title 100 Rivers of the North / end
+pulls 2 0 -> end
+check-in 11 2 -> fine 0 transit 1 for 1
+copy 11 -> copy 11 home 1 kind 1 price 2500 title 100 Rivers of the North / transit 1 for 1 patron 2 Bo Carr
+transits 1 0 -> copy 11 for 1 title 100 Rivers of the North / end
+begin-day 2026-03-04 -> ok
+queue 100 0 -> title 100 Rivers of the North / hold 2 patron 3 at 2 from 2026-03-04 / end
+queue 100 2 -> title 100 Rivers of the North / end
+check-in 11 1 -> fine 0 ready 1 at 1 until 2026-03-09
+copy 11 -> copy 11 home 1 kind 1 price 2500 title 100 Rivers of the North / ready 1 at 1 until 2026-03-09 patron 2 Bo Carr
+shelf 1 0 ->       hold    copy  patron until      title /          1      11       2 2026-03-09 Rivers of the North / end
+check-in 20 1 -> fine 0 transit 2
+copy 20 -> copy 20 home 2 kind 1 price 1200 title 200 Salt Roads / transit 2
+copies 200 0 -> title 200 Salt Roads / copy 20 transit 2 / end
+transits 2 0 -> copy 20 title 200 Salt Roads / end
+missing 30 -> ok
+copy 30 -> copy 30 home 1 kind 2 price 800 title 300 Night Ferries / missing
+copies 300 0 -> title 300 Night Ferries / copy 30 missing / end
+withdraw 30 -> ok
+copy 30 -> copy 30 home 1 kind 2 price 800 title 300 Night Ferries / withdrawn
+copies 300 0 -> title 300 Night Ferries / copy 30 withdrawn / end
+acquire 12 100 1 1 2500 'Rivers of the North' -> ok
+copies 100 0 -> title 100 Rivers of the North / copy 10 loan 1 due 2026-03-09 / copy 11 ready 1 at 1 until 2026-03-09 / copy 12 shelf 1 / end
+check-in 12 1 -> fine 0 transit 2 for 2
+copies 100 11 -> title 100 Rivers of the North / copy 12 transit 2 for 2 / end
+debts 0 -> end
+begin-day 2026-03-17 -> ok
+overdue 1 0 ->       loan  patron    copy due         late title /          1       1      10 2026-03-09     7 Rivers of the North / end
+missing 10 -> fine 100 price 2500
+pay 1 30 -> owed 2570
+waive 1 20 -> owed 2550
+account 1 0 -> patron 1 owed 2550 name Ann Bell / line 1 2026-03-17 fine 100 loan 1 title 100 Rivers of the North / line 2 2026-03-17 price 2500 loan 1 title 100 Rivers of the North / line 3 2026-03-17 payment 30 / line 4 2026-03-17 waiver 20 / end
+debts 0 -> patron 1 owed 2550 name Ann Bell / end
+till 2026-03-17 -> till 2026-03-17 / fines                100 / prices              2500 / payments              30 / waivers               20
+
+# more than a hundred rows
+counted 101 acquire 1001 500 1 1 900 Charts -> ok
+copies 500 0 -> title 500 Charts / ROWS / after 1100
+copies 500 1100 -> title 500 Charts / copy 1101 shelf 1 / end
+""".replace("ROWS", " / ".join(f"copy {number} shelf 1" for number in range(1001, 1101)))
 
 # Before each patron's command comes 81, and 14 and 15 are told of another's loan and hold too.
 PATRONS = """
@@ -324,27 +379,37 @@ check-out 1 30 1 -> loan 1 due 2191-12-31
 # What a patron may send, and the form of the page of a patron with no loan and no hold.
 PATRONS_COMMANDS = ("page", "place-hold", "place-hold-from", "cancel-hold", "renew")
 PAGE = "patron P owed N name NAME"
+# The lines of the reports, of which docs/RULES.md tells the columns. The forms are patterns, in which capitals stand as in those that it has.
+OF_REPORTS = {
+    "overdue": [OVERDUE_HEAD, " +LOAN +PATRON +COPY DAY +LATE TEXT"],
+    "shelf": [SHELF_HEAD, " +HOLD +COPY +PATRON DAY TEXT"],
+    "till": ["till DAY", *(f"{name} +CENTS" for name in ("fines", "prices", "payments", "waivers"))],
+}
 
 
 class Line:
     """A request of a list: who asks, how often, what, and the answer."""
 
     def __init__(self, text):
-        said, _, self.answer = text.partition(" -> ")
+        said, _, answer = text.partition(" -> ")
+        self.answer = answer.replace(" / ", "\n")
         words = shlex.split(said)
         self.patron = self.card_key = None
         if "/" in words[0]:
             self.patron, _, self.card_key = words.pop(0).partition("/")
-        self.count = int(words[1]) if words[0] == "weekly" else 1
-        self.words = words[2:] if words[0] == "weekly" else words
+        self.often = words[0] if words[0] in ("weekly", "counted") else None
+        self.count = int(words[1]) if self.often else 1
+        self.words = words[2:] if self.often else words
 
     def asked(self, number):
         """Each of its requests: a key, and the words."""
         for at in range(self.count):
-            last = self.words[-1]
-            if self.count > 1:
-                last = str(datetime.date.fromisoformat(last) + datetime.timedelta(7 * at))
-            yield f"k{number}-{at}", [*self.words[:-1], last]
+            words = [*self.words]
+            if self.often == "weekly":
+                words[-1] = str(datetime.date.fromisoformat(words[-1]) + datetime.timedelta(7 * at))
+            elif self.often:
+                words[1] = str(int(words[1]) + at)
+            yield f"k{number}-{at}", words
 
     def by_route(self, key):
         """The method, the target, the fields and the body by which the patron asks."""
@@ -379,7 +444,7 @@ def all_asked(lines):
 def by_words(path, asked):
     """The list by words."""
     for key, words, line in asked:
-        check(f"{key} {words}", circ(["file", path, key, *words]), (line.answer, status_of(line.answer)))
+        check(f"{key} {words}", answers(path, key, words), (line.answer + "\n", status_of(line.answer)))
 
 
 def over_the_web(path, asked):
@@ -413,33 +478,52 @@ def commands():
         text = file.read()
     places = re.findall("`(.*?)`", re.search(r"^PLACE is ([^.(]*)", text, re.MULTILINE)[1])
     check("how many forms a place has", len(places), 4)
-    table = {}
+    table, shown = {}, forms_of_questions(text)
     for name, checks, replies in re.findall(r"^\| `([a-z-]+)(?: [A-Z ]+)?` \| .* \| `.*` \| (.*) \| (.*) \|$", text, re.MULTILINE):
-        numbers = [int(re.match(r"[0-9]{2}\b", part)[0]) for part in checks.split("; ")]
-        forms = [PAGE] if replies == "the page" else re.findall("`(.*?)`", replies)
+        numbers = [int(re.match(r"[0-9]{2}\b", part)[0]) for part in checks.split("; ") if checks != "none"]
+        forms = shown.pop(name) if name in shown else [PAGE] if replies == "the page" else re.findall("`(.*?)`", replies)
         each = [form.replace("PLACE", place) for form in forms for place in (places if "PLACE" in form else [""])]
         table[name] = [number for number in numbers if number != 70], each
+    check("the forms of what is no command", shown, {})
     return table
 
 
+def forms_of_questions(text):
+    """The forms of the lines that each question is answered by, as docs/RULES.md has them: of a copy, of the lists, and of the till report. PLACE is left as it is where nobody is told with it."""
+    told = re.search(r"^A copy is shown in two lines, ([^(]*)", text, re.MULTILINE)[1]
+    forms = {"copy": re.findall("`(.*?)`", told), "till": OF_REPORTS["till"]}
+    check("a copy, and how many forms its place has", len(forms["copy"]), 8)
+    places = [re.sub(" patron P NAME$", "", form) for form in forms["copy"][1:]]
+    table = re.search(r"^\| list \| head \| row \|\n\|-.*\n((?:\|.*\n)+)", text, re.MULTILINE)[1]
+    for name, head, rows_ in re.findall(r"^\| ([a-z]+) \| (.*) \| (.*) \|$", table, re.MULTILINE):
+        each = [form.replace("PLACE", place) for form in re.findall("`(.*?)`", f"{head} {rows_}") for place in (places if "PLACE" in form else [""])]
+        forms[name] = [*(each or OF_REPORTS[name]), "end"]
+    check("the questions that are told of", sorted(forms), sorted(QUESTIONS))
+    return forms
+
+
 def has_form(answer, form):
-    """Whether an answer has a form, in which capitals stand for what differs."""
-    return re.fullmatch(re.sub("NAME", ".*", re.sub(r"\b(?!NAME)[A-Z]+\b", "[0-9-]+", form)), answer)
+    """Whether a line has a form, in which capitals stand for what differs."""
+    return re.fullmatch(re.sub("NAME|TEXT", ".*", re.sub(r"\b(?!NAME|TEXT)[A-Z]+\b", "[0-9-]+", form)), answer)
 
 
 def none_is_left_out(lines, wanted):
-    """Each check comes as the first that fails, and each form of a reply."""
+    """Each check comes as the first that fails, and each form of a line of a reply; a question is answered by no others, but that a list goes on."""
     answers = {name: [line.answer for line in lines if line.words[0] == name] for name in wanted}
     for name, (numbers, forms) in wanted.items():
         check(f"checks of {name}", [it for it in numbers if f"refused {it}" not in answers[name]], [])
-        lacking = [form for form in forms if not any(has_form(it, form) for it in answers[name])]
+        told = [it for answer in answers[name] for it in answer.split("\n")]
+        lacking = [form for form in forms if not any(has_form(it, form) for it in told)]
         check(f"replies of {name}", lacking, [])
+        if name in QUESTIONS:
+            check(f"other replies of {name}", [it for it in told if not any(has_form(it, form) for form in [*forms, "after N", "refused N"])], [])
 
 
 def main():
     table, desks, patrons = commands(), lists_of(DESK), lists_of(PATRONS)
     check("the commands of the table", list(table), list(WORDS))
     none_is_left_out([line for lines in desks for _, line in lines], table)
+    check("a list that goes on", sum(line.answer.endswith("\nafter 1100") for lines in desks for _, line in lines), 1)
     own = {name: ([81] + [it for it in table[name][0] if it != 11], table[name][1]) for name in PATRONS_COMMANDS}
     none_is_left_out([line for lines in patrons for _, line in lines if line.patron], own)
     rules = Library()

@@ -7,6 +7,7 @@ Expected lines and rows are those of the desk's rules, worked out by hand; those
 
 import copy
 import datetime
+import itertools
 import os
 import random
 import re
@@ -19,7 +20,7 @@ import tempfile
 from contextlib import closing
 
 import calendar_weeks
-from desk_rules import EPOCH, Library
+from desk_rules import EPOCH, MOST_ROWS, QUESTIONS, Library
 from lib import runs
 from lib.runs import (
     CIRC, GROUND, HEADER, PROGRAM, ROOM, TOP, answers, check, circ, digest, kill_at_work, memory_of, month, report, rows, rows_now, say, status_of, take_in,
@@ -96,6 +97,14 @@ REFUSALS = [
     (["pay", "1", "1"], 60),
     (["waive", "9", "1"], 11),
     (["waive", "1", "1"], 60),
+    (["copy", "99"], 13),
+    (["copies", "999", "0"], 12),
+    (["queue", "999", "0"], 12),
+    (["account", "9", "0"], 11),
+    (["overdue", "9", "0"], 10),
+    (["shelf", "9", "0"], 10),
+    (["pulls", "9", "0"], 10),
+    (["transits", "9", "0"], 10),
 ]
 
 BAD_WORDS = [
@@ -160,7 +169,29 @@ BAD_REQUESTS = [
     ["place-hold-from", "2", "100", "1", "20517"],
     ["place-hold-from", "2", "100", "1", "2026-03-05", "again"],
     ["place-hold-from", "2", "2026-03-05", "100", "1"],
+    ["copy"],
+    ["copy", "010"],
+    ["copy", "10", "0"],
+    ["copies", "100"],
+    ["queue", "100"],
+    ["queue", "100", "0", "0"],
+    ["account", "1", "00"],
+    ["debts"],
+    ["debts", "-1"],
+    ["overdue", "1"],
+    ["shelf", "1", "4294967296"],
+    ["pulls", "one", "0"],
+    ["transits", "1", ""],
+    ["till", "2026-3-17"],
+    ["till", "20514"],
+    ["till", "2026-03-17", "0"],
 ]
+
+
+def indexes_by_hand():
+    """The three statements that docs/OPERATIONS.md gives for a library that was made before there were these indexes."""
+    with open(os.path.join(TOP, "docs", "OPERATIONS.md"), encoding="utf-8") as file:
+        return re.findall(r"^    (CREATE INDEX .*);$", file.read(), re.MULTILINE)
 
 
 def a_new_library(folder):
@@ -187,6 +218,8 @@ def a_new_library(folder):
     check("indexes", [name for (name,) in rows(path, indexes)], wanted.split())
     check("the index of a title's line", rows(path, "SELECT sql FROM sqlite_schema WHERE name = 'holds2_title'"),
           [("CREATE INDEX holds2_title ON holds2 (title, state, first_day, hold)",)])
+    check("the three indexes that came last", [text for (text,) in rows(path, "SELECT sql FROM sqlite_schema WHERE type = 'index' AND sql IS NOT NULL ORDER BY rowid")[-3:]],
+          indexes_by_hand())
     empty = os.path.join(folder, "empty.db")
     open(empty, "w").close()
     say(empty, [("g1", ["begin-day", "2026-03-02"], "ok")])
@@ -537,6 +570,13 @@ def a_long_report(folder):
     check("its rows", next((pair for pair in zip(lines[1:-1], wanted) if pair[0] != pair[1]), None), None)
     check("its end", (len(lines), lines[-1]), (LATE + 2, f"overdue {LATE}"))
     check(f"{most - least} KiB for the rows, of {ROOM}", most - least < ROOM, True)
+    # of a list a hundred rows are read, and one more
+    for words in (["overdue", "1", "0"], ["copies", "100", "0"], ["copies", "100", "90000"], ["copy", "90000"], ["transits", "1", "0"]):
+        most, status = memory_of(["file", path, "a1", *words], out)
+        with open(out, encoding="utf-8") as file:
+            lines = file.read().splitlines()
+        check(f"{words} of a large library", (status, len(lines)), (0, {"copy": 2, "transits": 1}.get(words[0], MOST_ROWS + 2)))
+        check(f"{most - least} KiB for {words}, of {ROOM}", most - least < ROOM, True)
 
 
 # What the month has to have, on rows that the desk made: commands, each with its reply's first word or its refusal.
@@ -545,22 +585,56 @@ IN_THE_MONTH = {
     ("check-out", "50"), ("place-hold", "50"), ("place-hold", "51"), ("renew", "41"), ("renew", "38"), ("missing", "35"),
     ("place-hold-from", "hold"), ("place-hold-from", "23"), ("place-hold-from", "50"), ("place-hold-from", "51"), ("place-hold-from", "52"),
     ("grace", "ok"), ("grace", "16"), ("grace", "21"),
+    ("copy", "copy"), ("copies", "title"), ("queue", "title"), ("queue", "12"), ("account", "patron"), ("debts", "patron"), ("debts", "end"), ("overdue", "loan"),
+    ("shelf", "hold"), ("shelf", "10"), ("pulls", "hold"), ("pulls", "end"), ("pulls", "10"), ("transits", "copy"), ("till", "till"),
 }
+
+
+class Asker:
+    """Makes up questions of a library, with numbers that mostly mean something, and counts those that are shown rows."""
+
+    def __init__(self, rng, library):
+        self.rng, self.library, self.shown, self.kinds = rng, library, 0, set()
+
+    def one_of(self, numbers):
+        return str(self.rng.choice([*numbers, 99_999] if self.rng.random() < 0.1 or not numbers else [*numbers]))
+
+    def words(self):
+        """The next question, and its answer by the rules."""
+        it = self.library
+        name = self.rng.choice(QUESTIONS)
+        after = [str(self.rng.choice((0, 0, 0, 1, 2, 5, 20, 110, 2**32 - 1)))]
+        waited = {hold["title"] for hold in it.holds.values() if hold["state"] == "waiting"}
+        owners = {line["patron"] for line in it.lines}
+        parts = {"copy": lambda: [self.one_of(it.copies)], "copies": lambda: [self.one_of(it.titles), *after],
+                 "queue": lambda: [self.one_of(waited if self.rng.random() < 0.8 else it.titles), *after],
+                 "account": lambda: [self.one_of(owners if self.rng.random() < 0.8 else it.patrons), *after], "debts": lambda: after,
+                 "till": lambda: [str(self.rng.choice([it.today, *(line["day"] for line in it.lines)]))]}
+        words = [name, *parts.get(name, lambda: [self.one_of(it.branches), *after])()]
+        answer = it.handle("", words)
+        has_rows = re.search(r"^(copy|hold|line) [0-9]|^patron .*\n(?:.*\n)*end$|^ +[0-9]|^(?:fines|prices|payments|waivers) .*[1-9]", answer, re.MULTILINE)
+        self.shown += bool(has_rows)
+        self.kinds.update([name] if has_rows else [])
+        return words, answer
 
 
 def a_month(folder):
     """Three branches in one month: each line is that of the rules, and so is each row; and with a run that is killed at
-    a random moment before many of the commands, which are then sent again under the same key, the rows are the same."""
+    a random moment before many of the commands, which are then sent again under the same key, the rows are the same. After each command a question
+    is asked under its key, and is answered by the rules."""
     requests = month()
     calm, killed = os.path.join(folder, "calm.db"), os.path.join(folder, "killed.db")
     library, seed = Library(), random.randrange(10**9)
     print(f"end to end: {len(requests)} requests of a month, moments of kills by the seed {seed}")
     moments, seen, hits = random.Random(seed), set(), {False: 0, True: 0}
+    asker = Asker(random.Random(seed + 1), library)
     for at, (key, *words) in enumerate(requests):
         line = library.handle(key, words)
         seen.add((words[0], line.split()[1] if line.startswith("refused") else line.split()[0]))
         answered, took = timed(lambda: answers(calm, key, words))
         check(f"{key} {words}", answered, (line + "\n", status_of(line)))
+        question, shown = asker.words()
+        check(f"{question} after {key}, seed {seed}", answers(calm, key, question), (shown + "\n", status_of(shown)))
         # a kill while the file is made may leave no library, so the first request is let be
         while at and moments.random() < 0.5:
             printed, hit = kill_at_work(["file", killed, key, *words], moments.uniform(0, 1.2 * took))
@@ -571,6 +645,7 @@ def a_month(folder):
                 hits[kept] += 1
         check(f"{key} {words} after kills, seed {seed}", answers(killed, key, words), (line + "\n", status_of(line)))
     check("the month has each of these", IN_THE_MONTH - seen, set())
+    check(f"questions of each kind were shown rows, {asker.shown} of {len(requests)}, seed {seed}", (asker.kinds, asker.shown > len(requests) // 4), (set(QUESTIONS), True))
     print(f"end to end: {hits[False]} runs were killed before their request was kept, {hits[True]} after it")
     check(f"kills hit before and after the request was kept, seed {seed}", (hits[False] > 0, hits[True] > 0), (True, True))
     the_rows_are(calm, library)
@@ -605,6 +680,111 @@ def a_creation(folder):
         hits["no file" if not there else "fault 93" if found[1] else "a library"] += hit
     print("end to end: creations killed: " + ", ".join(f"{many} left {what}" for what, many in hits.items()))
     check(f"kills left no file and libraries, seed {seed}", (hits["no file"] > 0, hits["a library"] > 0), (True, True))
+
+
+# Lists of so many rows: two parts that are full, and one row more.
+MANY = 2 * MOST_ROWS + 1
+
+
+def with_long_lists(library):
+    """Adds rows to the rules of a small library, so that each list has so many: a title of many copies in all places, with many holds in its line; many titles, of which each has a copy to be taken
+    for its first hold; loans that are overdue; holds that are ready; copies on their way; and a patron with many lines, and many who owe something. Their numbers rise in an order of their own."""
+    mixed = lambda n: n * 97 % MANY
+    day = library.today - datetime.timedelta(9)
+    tall = 900
+    library.titles[tall] = "Tall Ships"
+    new_copy = lambda number, title, **more: library.copies.update({number: {"title": title, "kind": 1, "home": 1, "price": 2500, "condition": "present", **more}})
+    new_hold = lambda number, patron, title, branch, **more: library.holds.update(
+        {number: {"patron": patron, "title": title, "branch": branch, "state": "waiting", "copy": None, "limit": None, "first": None, **more}})
+    for n in range(MANY):
+        patron, own = 2_000 + n, 1_000 + mixed(n)
+        library.patrons[patron] = {"kind": 1, "card_key": f"card{n:08}", "name": f"Reader {n}"}
+        library.titles[own] = f"Volume {own}"
+        # of each own title a copy on the shelf of branch 1, and one on that of branch 2, which the hold doesn't need
+        new_copy(3_000 + n, own)
+        new_copy(8_000 + mixed(n), own, home=2)
+        for number in (4_000 + n, 5_000 + n, 6_000 + n):
+            new_copy(number, tall)
+        new_copy(7_000 + n, tall, condition=("present", "missing", "withdrawn")[n % 3])
+        new_hold(4 * n + 1, patron, own, 2)
+        # every third one in the line has a first day, which has come or is to come
+        first = {"first": library.today + datetime.timedelta(n % 7 - 5)} if n % 3 == 0 else {}
+        new_hold(4 * n + 2, patron, tall, 1 + n % 2, **first)
+        new_hold(4 * n + 3, 1, tall, 2, state="ready", copy=5_000 + mixed(n), limit=library.today)
+        new_hold(4 * n + 4, 2, tall, 2)
+        library.transits[6_000 + mixed(n)] = (2, 4 * n + 4) if n % 2 else (2, None)
+        loan = {"copy": 4_000 + mixed(n), "patron": patron, "branch": 1, "made": day, "due": day, "period": 6, "renewals": 1, "rate": 20, "cap": 100, "grace": 0, "ended": None}
+        library.loans.update({2 * n + 1: loan, 2 * n + 2: {**loan, "copy": 10, "ended": library.today}})
+        line = {"day": library.today, "sort": "price", "amount": 10 + n, "loan": 2 * n + 2}
+        library.lines += [{**line, "patron": patron}, {**line, "patron": 3}, {**line, "patron": 3, "sort": ("payment", "waiver")[n % 2], "amount": 5, "loan": None}]
+    # a hold whose copy travels for none is in the line behind it
+    for n in range(0, MANY, 2):
+        library.holds[4 * n + 4]["state"] = "cancelled"
+
+
+def put_in(path, library):
+    """Writes the rows of the rules past the desk."""
+    with closing(sqlite3.connect(path)) as db, db:
+        for name, found in library.tables().items():
+            db.execute(f"DELETE FROM {name}")
+            for row in found:
+                db.execute(f"INSERT INTO {name} VALUES ({', '.join('?' * len(row))})", row)
+
+
+LONG_LISTS = [["copies", "900"], ["queue", "900"], ["account", "3"], ["debts"], ["overdue", "1"], ["shelf", "2"], ["pulls", "1"], ["pulls", "2"], ["transits", "2"]]
+
+
+def number_of(row):
+    """The number of a row of a list: the first in it."""
+    return int(re.search("[0-9]+", row)[0])
+
+
+def walked(path, library, words):
+    """A list asked for again and again to its end, each part being that of the rules: the numbers of its rows."""
+    found, after, heads = [], "0", {"copies": 1, "queue": 1, "account": 1, "overdue": 1, "shelf": 1}.get(words[0], 0)
+    while after:
+        asked = [*words, after]
+        wanted = library.handle("w", asked)
+        check(f"{asked}", answers(path, "w", asked), (wanted + "\n", 0))
+        *rows_, end = wanted.split("\n")[heads:]
+        found += map(number_of, rows_)
+        after = end.removeprefix("after ") if end != "end" else ""
+    return found
+
+
+def long_lists(folder):
+    """Lists of many rows, part by part: each is that of the rules, from whatever number on it is asked for, and each row is shown once. So it is without the three indexes that came last, and with those made by hand."""
+    path, library = os.path.join(folder, "lists.db"), Library()
+    say(path, GROUND)
+    for key, words, _ in GROUND:
+        library.handle(key, words)
+    with_long_lists(library)
+    put_in(path, library)
+    the_rows_are(path, library)
+    lengths = {}
+    for words in LONG_LISTS:
+        numbers = walked(path, library, words)
+        lengths[" ".join(words)] = len(numbers)
+        check(f"the numbers of {words}", numbers, sorted(set(numbers)))
+        for after in {0, 1, *(numbers[at] for at in (0, 1, -1, -2, -MOST_ROWS, -MOST_ROWS - 1, -MOST_ROWS - 2)), numbers[0] - 1, numbers[-1] + 1, 2**32 - 1}:
+            asked = [*words, str(after)]
+            check(f"{asked}", answers(path, "a", asked), (library.handle("a", asked) + "\n", 0))
+    check(f"lists are long: {lengths}", [it for it, many in lengths.items() if many < MANY - 60], [])
+    check("lists of a hundred rows twice and one more", sum(many == MANY for many in lengths.values()) > 3, True)
+    for number in [*library.copies][::7]:
+        check(f"copy {number}", answers(path, "a", ["copy", str(number)]), (library.handle("a", ["copy", str(number)]) + "\n", 0))
+    made, old = "SELECT name, sql FROM sqlite_schema WHERE type = 'index' AND sql IS NOT NULL ORDER BY name", os.path.join(folder, "older.db")
+    shutil.copy(path, old)
+    before = rows(old, made)
+    write(old, *(f"DROP INDEX {text.split()[2]}" for text in indexes_by_hand()))
+    check("three indexes are gone", len(rows(old, made)), len(before) - 3)
+    for words in LONG_LISTS:
+        check(f"{words} without the indexes", walked(old, library, words), walked(path, library, words))
+    write(old, *indexes_by_hand())
+    check("the indexes, made by hand", rows(old, made), before)
+    for words in LONG_LISTS:
+        check(f"{words} with the indexes made by hand", walked(old, library, words), walked(path, library, words))
+    the_rows_are(old, library)
 
 
 def lost_output(folder):
@@ -653,16 +833,23 @@ CROWDED = [
 ]
 
 
+# What is asked after them, one after a pair; as many as have no divisor in common with the number of requests, so that each comes after each of them.
+AFTER_PAIRS = [
+    "copy 10", "copies 100 0", "queue 100 0", "account 1 0", "debts 0", "overdue 1 0", "shelf 1 0", "pulls 1 0", "pulls 2 0", "transits 1 0", "transits 2 0",
+    "till 2026-03-12", "queue 101 0",
+]
+
+
 def every_pair(folder):
     """Every ordered pair of these requests, each on a library of its own that is the same before: each reply is that of
-    the rules, and so is each row."""
+    the rules, and so are what a question is answered after them and each row."""
     begun, pair, rules = os.path.join(folder, "begun.db"), os.path.join(folder, "pair.db"), Library()
     for at, text in enumerate(BEGUN):
         words = shlex.split(text)
         line = rules.handle(f"s{at}", words)
         check(f"{text}", answers(begun, f"s{at}", words), (line + "\n", 0))
     check("accounts have lines", {line["sort"] for line in rules.lines}, {"fine", "price", "payment"})
-    replies = set()
+    replies, asked = set(), itertools.cycle(AFTER_PAIRS)
     for one in CROWDED:
         for other in CROWDED:
             library = copy.deepcopy(rules)
@@ -671,6 +858,8 @@ def every_pair(folder):
                 line = library.handle(key, text.split())
                 check(f"{one}, {other}", answers(pair, key, text.split()), (line + "\n", status_of(line)))
                 replies.add((text.split()[0], status_of(line)))
+            words = next(asked).split()
+            check(f"{words} after {one}, {other}", answers(pair, "other", words), (library.handle("other", words) + "\n", 0))
             the_rows_are(pair, library)
     check("each command is accepted", {name for name, status in replies if status == 0}, {text.split()[0] for text in CROWDED})
 
@@ -790,6 +979,7 @@ def main():
         a_long_report(folder)
         a_day_at_the_desk(folder)
         the_readme(folder)
+        long_lists(folder)
         every_pair(folder)
         a_month(folder)
         a_creation(folder)
