@@ -2,7 +2,8 @@
 """Runs `circ serve` with several workers under clients that come at once: what each is answered, and the rows at the end.
 
 Single answers are those of docs/RULES.md, worked out by hand. Under load `desk_rules` handles the same requests one after another, in the
-order of their hold numbers or in that in which the file kept them: the replies and the rows have to be the same.
+order of their hold numbers or in that in which the file kept them: the replies and the rows have to be the same. A question is kept nowhere, so
+its answer has to be that of the rules at some place of that order.
 """
 
 import copy
@@ -282,6 +283,109 @@ def no_step_back(town):
     handle_kept(path, library)
 
 
+def lending_of(patron):
+    """What a clerk asks for on behalf of a patron: copies that are lent, come in, are held and are lost, and what is owed for them."""
+    # another patron waits for the copy meanwhile, and borrows and loses it; then it is found
+    number, other, on_loan = str(TITLES[patron]), str(patron + 4), str(2 * patron)
+    for turn in range(12):
+        key = f"q{patron}-{turn}"
+        if (patron, turn) == (1, 6):
+            yield "q1-day", ["begin-day", "2026-03-20"]
+        yield f"{key}a", ["check-out", str(patron), number, "1"]
+        yield f"{key}b", ["place-hold", other, number, str(1 + turn % 2)]
+        yield f"{key}c", ["check-in", number, "1"]
+        yield f"{key}d", ["check-in", number, str(1 + turn % 2)]
+        yield f"{key}e", ["check-out", other, number, str(1 + turn % 2)]
+        yield f"{key}f", ["missing", number]
+        yield f"{key}g", ["pay", other, "2000"]
+        yield f"{key}h", ["waive", other, "500"]
+        yield f"{key}i", ["check-in", number, "1"]
+    yield f"q{patron}-renew", ["renew", on_loan]
+
+
+def asked_of(patron, turn):
+    """What another clerk asks meanwhile about that patron, the title and the branches."""
+    number, other = str(TITLES[patron]), str(patron + 4)
+    return [["copy", number], ["copies", number, "0"], ["queue", number, "0"], ["account", other, "0"], ["debts", "0"], ["shelf", str(1 + turn % 2), "0"], ["pulls", "1", "0"],
+            ["transits", "2", "0"], ["till", ("2026-03-02", "2026-03-20")[turn // 10 % 2]], ["overdue", "1", "0"]][turn % 10]
+
+
+class Seen:
+    """What clerks at once sent and were answered, in the order in which it was."""
+
+    def __init__(self):
+        self.lock, self.sent, self.answered = threading.Lock(), [], []
+
+    def change(self, serving, key, words):
+        """A request that may change something."""
+        with self.lock:
+            self.sent.append(key)
+        found = asked(serving, 0, key, words)
+        with self.lock:
+            self.answered.append(key)
+        return found
+
+    def question(self, serving, key, words):
+        """A question: its answer, which requests had been answered before it was asked, and which had been sent when it was answered."""
+        with self.lock:
+            before = len(self.answered)
+        found = asked(serving, 0, key, words)
+        with self.lock:
+            return words, found, before, len(self.sent)
+
+
+def places_of(seen, order, before, sent):
+    """The first and the last place of the one list at which a question may have stood: after all that was answered before it, and before all that was sent after it."""
+    place = {key: at for at, key in enumerate(order, 1)}
+    first = max((place.get(key, 0) for key in seen.answered[:before]), default=0)
+    there = {*seen.sent[:sent]}
+    last = next((at for at, key in enumerate(order) if key not in there), len(order))
+    return first, last
+
+
+def questions_at_once(town):
+    """Eight workers, four clerks that lend and four that ask: each answer is that of the rules at one place of the list of what was accepted, after all that was answered before it and before all that
+    was sent later, and no clerk is shown an earlier place than before."""
+    path, library = town.copied("asked.db")
+    seen, turns = Seen(), 200
+
+    def lends(patron):
+        return [(key, words, seen.change(serving, key, words)) for key, words in lending_of(patron)]
+
+    def asks(patron):
+        # under the keys of requests that are accepted meanwhile
+        return [seen.question(serving, f"q{patron}-{turn % 12}a", asked_of(patron, turn)) for turn in range(turns)]
+
+    patrons = PATRONS[:4]
+    changes = [sum(1 for _ in lending_of(patron)) for patron in patrons]
+    with Serving(path, sum(changes) + turns * len(patrons), workers=8) as serving:
+        found = at_once([*[lambda patron=patron: lends(patron) for patron in patrons], *[lambda patron=patron: asks(patron) for patron in patrons]])
+    lent, shown = found[:len(patrons)], found[len(patrons):]
+    kept = [it for it in rows(path, "SELECT caller, key, text, reply FROM kept ORDER BY rowid") if it[:2] not in library.kept]
+    answers = {key: body for told_ in lent for key, _, body in told_}
+    check("most was accepted", len(kept) > sum(changes) * 2 // 3, True)
+    asked_for = {tuple(words) for told_ in shown for words, *_ in told_}
+    # what each question is answered by the rules at each place
+    at_place = [{words: told(library.handle("", list(words))) for words in asked_for}]
+    for caller, key, text, reply in kept:
+        check(f"{key} {text}", (reply, answers[key]), (library.handle(key, text.split()), told(reply)))
+        at_place.append({words: told(library.handle("", list(words))) for words in asked_for})
+    order, between, kinds = [key for _, key, _, _ in kept], 0, set()
+    for told_ in shown:
+        place = 0
+        for words, answer_, before, sent in told_:
+            first, last = places_of(seen, order, before, sent)
+            fits = [at for at in range(max(first, place), last + 1) if at_place[at][tuple(words)] == answer_]
+            check(f"{words} is answered by the rules at a place from {max(first, place)} to {last}: {answer_}", bool(fits), True)
+            place = fits[0]
+            if answer_ not in (at_place[0][tuple(words)], at_place[-1][tuple(words)]):
+                between += 1
+                kinds.add(words[0])
+    print(f"hall: {sum(map(len, shown))} questions beside {len(kept)} requests that were accepted, {between} answered as it was neither before nor after all of them")
+    check(f"questions of many kinds were answered in between: {kinds}", (between > 50, len(kinds) > 4), (True, True))
+    runs.the_rows_are(path, library)
+
+
 def work(serving, requests, answers):
     """Asks one request after another up to the first that has no answer, and notes the answers; whether that one may have reached the program."""
     for request in requests:
@@ -477,6 +581,7 @@ def main():
             a_reply_is_on_the_page(town, workers)
         fifty_holds_each(town)
         no_step_back(town)
+        questions_at_once(town)
         a_full_disk(town)
         kills(town)
         slow.result()

@@ -4,6 +4,7 @@
 Expected answers are those of docs/RULES.md, worked out by hand; those of the month's commands come from `desk_rules`.
 """
 
+import copy
 import datetime
 import json
 import os
@@ -18,10 +19,11 @@ import subprocess
 import tempfile
 import threading
 import time
+from collections import Counter
 from concurrent.futures import ThreadPoolExecutor
 from contextlib import contextmanager
 
-from desk_rules import Library
+from desk_rules import QUESTIONS, Library
 from lib import runs
 from lib.runs import CIRC, GROUND, HEADER, PROGRAM, TOP, check, circ, rows, whole
 from lib.serving import (
@@ -29,6 +31,7 @@ from lib.serving import (
 )
 from messages import message
 from outer_forms import said
+from stories import stories_of
 
 
 @contextmanager
@@ -187,13 +190,58 @@ def grace_days(folder, workers):
     check("the lines", rows(path, "SELECT patron, day, sort, amount, loan FROM lines"), [(1, 20524, 0, 60, 3), (3, 20531, 0, 20, 4), (2, 20531, 0, 40, 1), (2, 20531, 1, 1200, 1)])
 
 
-# What is asked at random, of few copies, holds and loans, which get in each other's way. Letters stand for a patron, a copy, a branch, a title, a hold, a loan, a day to come and a number of days.
+def of_stories():
+    """What the stories of the desk's questions ask, each as a list: the key, the words and the answer."""
+    stories = [story for story in stories_of(os.path.join(TOP, "tests", "stories", "asking.txt")) if story.is_plain()]
+    return [[(key, words, "\n".join(step.answer)) for step in story.steps for key, words in step.requests()] for story in stories]
+
+
+def asking(folder, workers):
+    """The stories of the desk's questions by POST /desk, and by `circ send`: each answer, and each row at the end. A patron's key opens the desk's route to none of them, and no route of patrons has one."""
+    asked, known = of_stories(), Library()
+    for key, words, _ in GROUND:
+        known.handle(key, words)
+    check("how much is asked", sum(words[0] in QUESTIONS for story in asked for _, words, _ in story) > 100, True)
+    with_a_card = [(method, target, fields, body, *wanted) for name in QUESTIONS for method, target, fields, body, *wanted in (
+        ("POST", "/desk", {**ANN, "Request-Key": "q1"}, json.dumps([name, *EXAMPLES[name]]).encode(), 403, b'{"refusal":81}'),
+        ("POST", "/desk", {"Desk-Key": "cardkey00001", "Request-Key": "q1"}, json.dumps([name, *EXAMPLES[name]]).encode(), 403, b'{"refusal":81}'),
+        ("POST", f"/patrons/1/{name}", {**ANN, "Request-Key": "q1"}, json.dumps([name, *EXAMPLES[name]]).encode(), 404, b'{"status":404}'),
+        ("POST", "/desk", {"Desk-Key": DESK_KEY}, json.dumps([name, *EXAMPLES[name]]).encode(), 400, b'{"status":400}'))]
+    for at, story in enumerate(asked):
+        for way in ("posted", "sent"):
+            path, library = os.path.join(folder, f"asking-{at}-{way}.db"), copy.deepcopy(known)
+            shutil.copy(a_library(folder, "asking.db") if at == 0 and way == "posted" else os.path.join(folder, "asking.db"), path)
+            first = with_a_card if at == 0 and way == "posted" else []
+            with Serving(path, len(first) + len(story), workers=workers) as serving:
+                for it in first:
+                    serving.answers(*it)
+                for key, words, line in story:
+                    status, body = (400, b'{"status":400}') if line == "words not understood" else told(line)
+                    if way == "posted":
+                        serving.answers("POST", "/desk", {"Desk-Key": DESK_KEY, "Request-Key": key}, json.dumps(words).encode(), status, body)
+                        continue
+                    run = subprocess.run([PROGRAM, "send", str(serving.port), DESK_KEY, key, *words], capture_output=True, timeout=60)
+                    answer = body.decode() + "\n"
+                    check(f"{key} {words}", (run.stdout.decode(), run.stderr, run.returncode), (answer, message(["send"], answer), {200: 0, 400: 4}.get(status, 2)))
+            for key, words, line in story:
+                if line != "words not understood":
+                    check(f"{key} {words} by the rules", library.handle(key, words), line)
+            runs.the_rows_are(path, library)
+
+
+# The parts of each question, of the small library.
+EXAMPLES = {name: ["10"] if name == "copy" else ["2026-03-02"] if name == "till" else ["0"] if name == "debts" else ["100" if name in ("copies", "queue") else "1", "0"] for name in QUESTIONS}
+
+# What is asked at random, of few copies, holds and loans, which get in each other's way. Letters stand for a patron, a copy, a branch, a title, a hold, a loan, a day to come, a number of days, a
+# number from which a list goes on, and today.
 AT_RANDOM = ["check-out P C B", "check-out P C B", "check-out P C B", "check-in C B", "check-in C B", "check-in C B", "check-in C B", "place-hold P T B", "place-hold-from P T B D",
              "place-hold-from P T B D", "cancel-hold H", "renew L", "unshelve H", "unshelve-cancelled H", "missing C", "begin-day D", "grace 1 1 G"]
+ASKED_AT_RANDOM = ["copy C", "copy C", "copies T A", "queue T A", "queue T A", "account P A", "debts A", "overdue B A", "shelf B A", "pulls B A", "pulls B A", "transits B A", "till N"]
 BEFORE = ["kind 1 9 9 1000000", "acquire 21 200 1 1 1200 'Salt Roads'", "acquire 22 200 1 2 1200 'Salt Roads'", "acquire 31 300 2 2 800 'Night Ferries'"]
 BY_PATRONS = ("place-hold", "place-hold-from", "cancel-hold", "renew")
 TURNS = 1_200
 # What holds with a first day have to meet in these turns: what the state of one was before a request, and after it.
+SHOWN = Counter()  # how often each question was shown rows
 MET = {("waiting", "coming"), ("waiting", "ready"), ("waiting", "cancelled"), ("coming", "ready"), ("ready", "filled"), ("ready", "waiting"), ("ready", "cancelled")}
 
 
@@ -201,15 +249,28 @@ class Turns:
     """Random requests, and what holds with a first day met by them."""
 
     def __init__(self, seed):
-        self.draw, self.library, self.met, self.passed_over = random.Random(seed), Library(), set(), 0
+        self.draw, self.library, self.met, self.passed_over, self.shown = random.Random(seed), Library(), set(), 0, Counter()
 
-    def words(self):
+    def question(self):
+        """The next question of the desk, and its answer by the rules."""
+        words = self.words(ASKED_AT_RANDOM)
+        # loans are seldom overdue here, so that is asked for where it can be
+        late = [branch for branch in (1, 2) if self.library.overdue_rows(branch)]
+        if late and self.draw.random() < 0.5:
+            words = ["overdue", str(self.draw.choice(late)), "0"]
+        line = self.library.handle("", words)
+        heads = {"copies": 1, "queue": 1, "account": 1, "overdue": 1, "shelf": 1}.get(words[0], 0)
+        self.shown[words[0]] += line.count("\n") > heads
+        return words, line
+
+    def words(self, forms=AT_RANDOM):
         """The next request of the desk."""
         draw, library = self.draw, self.library
         active = [number for number, hold in library.holds.items() if hold["state"] in ("waiting", "ready")]
         values = {"P": draw.choice("123"), "C": draw.choice(sorted(map(str, library.copies))), "B": draw.choice("12"), "T": draw.choice(("100", "200", "300")),
-                  "H": str(draw.choice(active or [1])), "L": str(draw.randint(1, len(library.loans) + 1)), "D": str(library.today + datetime.timedelta(draw.choice((1, 1, 2, 3, 9)))), "G": draw.choice("01239")}
-        return [values.get(it, it) for it in draw.choice(AT_RANDOM).split()]
+                  "H": str(draw.choice(active or [1])), "L": str(draw.randint(1, len(library.loans) + 1)), "D": str(library.today + datetime.timedelta(draw.choice((1, 1, 2, 3, 9)))), "G": draw.choice("01239"),
+                  "A": draw.choice(("0", "0", "0", "1", "5", "10", "20")), "N": str(library.today)}
+        return [values.get(it, it) for it in draw.choice(forms).split()]
 
     def states(self):
         """How each hold with a first day stands."""
@@ -231,13 +292,13 @@ class Turns:
 
 
 def at_random(folder, workers):
-    """Random requests of the desk and of patrons, on a small library: each answer is that of the rules, and so is a page after each, and each row at the end."""
+    """Random requests of the desk and of patrons, on a small library: each answer is that of the rules, and so is a page and a question after each, and each row at the end."""
     path, seed = a_library(folder, "random.db"), random.randrange(10**9)
     turns, draw = Turns(seed), random.Random(seed + 1)
     for key, words, _ in GROUND:
         turns.library.handle(key, words)
     print(f"web: {TURNS} turns at random by the seed {seed}, {workers} workers")
-    with Serving(path, 2 * (len(BEFORE) + TURNS), workers=workers) as serving:
+    with Serving(path, 3 * (len(BEFORE) + TURNS), workers=workers) as serving:
         for at in range(-len(BEFORE), TURNS):
             words, number = shlex.split(BEFORE[at]) if at < 0 else turns.words(), draw.choice("123")
             is_own = words[0] in BY_PATRONS and draw.random() < 0.5
@@ -252,8 +313,12 @@ def at_random(folder, workers):
             check(f"turn {at} by the seed {seed}: {words} of {patron or 'the desk'}", found, wanted)
             page = serving.ask("GET", f"/patrons/{number}", {"Card-Key": f"cardkey{number:0>5}"})[:2]
             check(f"the page of {number} after turn {at} by the seed {seed}", page, told(turns.library.handle("", ["page", number])))
+            question, line = turns.question()
+            # a question passes over the key of the request before it
+            check(f"{question} after turn {at} by the seed {seed}", serving.desk(key, question), told(line))
     runs.the_rows_are(path, turns.library)
     check(f"what holds with a first day met, by the seed {seed}", (MET - turns.met, turns.passed_over > 2), (set(), True))
+    SHOWN.update(turns.shown)
 
 
 def by_curl(folder, workers):
@@ -676,8 +741,9 @@ def main():
             for workers in (1, 2, 8):
                 room = os.path.join(folder, f"workers{workers}")
                 os.mkdir(room)
-                for part in (each_route, from_a_day_on, grace_days, at_random, by_curl, in_pieces, in_one_write, hostile_bytes, one_waits, a_damaged_patron, a_damaged_copy, sent):
+                for part in (each_route, from_a_day_on, grace_days, asking, at_random, by_curl, in_pieces, in_one_write, hostile_bytes, one_waits, a_damaged_patron, a_damaged_copy, sent):
                     part(room, workers)
+            check(f"questions that were shown rows: {SHOWN}", [name for name in QUESTIONS if not SHOWN[name]], [])
             for it in silent:
                 it.result()
     print(f"web: {runs.passed} passed, 0 failed")
