@@ -3,11 +3,12 @@
 
     tests/definitions.py GATE [--seed N] [HISTORIES]      over the libraries that `rt ci` left in GATE/crates/*/out, a copy of the repository
 
-A history is 25 requests of the desk, of all commands but `page`, after those that make a small library. Loans end late in them, within their grace days and past these. What each is answered is worked out by `tests/desk_rules.py`, which shares nothing
+A history is 25 requests of the desk, of all commands but `page`, and as many questions, one after each, after those that make a small library. Loans end late in them, within their grace days and past these. What each is answered is worked out by `tests/desk_rules.py`, which shares nothing
 with the definitions; that the definitions give the same answers is a lemma, which the prover computes in a copy of the crate `model`. One lemma more has a wrong answer, and has to be rejected.
 """
 
 import datetime
+import json
 import os
 import random
 import re
@@ -15,8 +16,9 @@ import shutil
 import subprocess
 import sys
 import tempfile
+from collections import Counter
 
-from desk_rules import EPOCH, Library
+from desk_rules import EPOCH, QUESTIONS, Library
 from gate_libraries import PARTS, TOP, check_of, kit, libraries
 
 HISTORIES, REQUESTS = 40, 25
@@ -31,7 +33,8 @@ FOUNDING = [
 IMPORTS = """-- Random histories, and what the rules in plain Python answer.
 use Rattle.std.specs.Prelude.{◌≡◌, [], ◌∷◌, true, false, refl, Some, None}
 use Rattle.std.specs.Fmt.{digits}
-use Rattle.terms.specs.declared.command.Command.TheVariants.{BeginDay, Branch, Week, CloseDay, OpenDay, Kind, Rule, Grace, Patron, Acquire, CheckOut, CheckIn, Renew, PlaceHold, CancelHold, Unshelve, UnshelveCancelled, Missing, Withdraw, Pay, Waive}
+use Rattle.terms.specs.declared.command.Command.TheVariants.{BeginDay, Branch, Week, CloseDay, OpenDay, Kind, Rule, Grace, Patron, Acquire, CheckOut, CheckIn, Renew, PlaceHold, CancelHold, Unshelve, UnshelveCancelled, Missing, Withdraw, Pay, Waive, Ask}
+use Rattle.terms.specs.declared.question.Question.TheVariants as question
 use Rattle.terms.specs.Texts.{reply_text, reply_words, routed_words}
 use Rattle.model.proofs.Rows.{closed_in, desk, Gives, gives, ground}
 use Rattle.std.specs.Prelude.{codes}
@@ -39,7 +42,10 @@ use Rattle.std.specs.Prelude.{codes}
 
 
 def as_term(words):
-    """A command as the definitions write it: a variant, and its parts."""
+    """A command as the definitions write it: a variant, and its parts. A question is one of the command `Ask`."""
+    if words[0] in QUESTIONS:
+        parts = [str((datetime.date.fromisoformat(words[1]) - EPOCH).days)] if words[0] == "till" else words[1:]
+        return f"Ask (question.{' '.join([words[0].capitalize(), *parts])})"
     name, parts = words[0], [f'(codes "{word}")' if not word.isdecimal() else word for word in words[1:]]
     for at, word in enumerate(words[1:]):
         if re.fullmatch(r"\d{4}-\d{2}-\d{2}", word):
@@ -78,6 +84,25 @@ class Clerk:
             return ["begin-day", str(loan["due"] + datetime.timedelta(self.rng.choice((1, 2, 3, 4, 6))))]
         return ["missing", str(loan["copy"])] if self.rng.random() < 0.2 else ["check-in", str(loan["copy"]), self.one(1, 2)]
 
+    def question(self):
+        """A question, which mostly is shown rows."""
+        late = [branch for branch in (1, 2) if self.library.overdue_rows(branch)]
+        if late and self.rng.random() < 0.4:
+            return ["overdue", self.one(*late), "0"]
+        for _ in range(4):
+            words = self.any_question()
+            if has_rows(words, self.library.handle("", words)):
+                break
+        return words
+
+    def any_question(self):
+        one, patron, branch, after = self.one, self.one(1, 2, 3), self.one(1, 1, 2, 2, 9), self.one(0, 0, 0, 1, 2, 10)
+        title = one(100, 100, 100, 200, 300)
+        return self.rng.choice([
+            ["copy", one(10, 11, 12, 20, 30)], ["copies", title, after], ["queue", title, after], ["account", patron, after], ["debts", after], ["overdue", branch, after],
+            ["shelf", branch, after], ["shelf", branch, "0"], ["account", patron, "0"], ["pulls", branch, after], ["pulls", branch, "0"], ["transits", branch, after], ["till", self.day(0, 0, -1, -2)],
+        ])
+
     def request(self):
         one, day = self.one, self.day
         ends = self.end_of_a_loan() if self.rng.random() < 0.3 else None
@@ -109,12 +134,20 @@ def history(rng):
         # few loans are made in one history, so half of them have grace days from the beginning
         words = ["grace", "1", "1", clerk.one(1, 2, 3)] if at == 0 and rng.random() < 0.5 else clerk.request()
         asked.append((words, library.handle(f"r{at}", words)))
+        words = clerk.question()
+        asked.append((words, library.handle(f"r{at}", words)))
     return asked
+
+
+def has_rows(words, answer):
+    """Whether a question is shown a row: a copy or sums, or a list with more than its head and its end."""
+    heads = {"copies": 1, "queue": 1, "account": 1, "overdue": 1, "shelf": 1}.get(words[0], 0)
+    return not answer.startswith("refused") and (words[0] in ("copy", "till") or answer.count("\n") > heads)
 
 
 def lemma(name, asked):
     commands = " ∷ ".join(as_term(words) for words, _ in asked)
-    answers = " ∷ ".join(f'"{answer}"' for _, answer in asked)
+    answers = " ∷ ".join(json.dumps(answer, ensure_ascii=False) for _, answer in asked)
     return f"""
 {name} : Gives ground
     (desk ({commands} ∷ []))
@@ -152,18 +185,21 @@ def main(words):
         sys.exit(f"definitions: the libraries {' '.join(missing)} are not there")
     rng = random.Random(seed)
     histories = [history(rng) for _ in range(many)]
-    wrong = [*histories[0][:-1], (histories[0][-1][0], "refused 99")]
+    wrong = [*histories[0][:-1], (histories[0][-1][0], f"{histories[0][-1][1]}0")]
     lemmas = [lemma(f"history_{at}", asked) for at, asked in enumerate(histories)]
     rejected, ended, told = errors_of(command, [*lemmas, lemma("wrong_answer", wrong)])
     differ = [name for name in rejected if name != "wrong_answer"]
     asked = {words[0] for its in histories for words, _ in its}
     refused = {answer for its in histories for _, answer in its if answer.startswith("refused")}
+    shown = Counter(words[0] for its in histories for words, answer in its if words[0] in QUESTIONS and has_rows(words, answer))
     fines = sum(answer.startswith("fine ") and not answer.startswith("fine 0 ") for its in histories for _, answer in its)
     if not ended or "wrong_answer" not in rejected or differ:
         print(told[-6000:])
-    print(f"definitions: {many} histories of {REQUESTS} requests by the seed {seed}, {len(asked)} commands, {len(refused)} refusals and {fines} fines among them: {len(differ)} differ")
-    failed = len(differ) + (not ended) + ("wrong_answer" not in rejected)
-    print(f"{many + 1 - failed} passed, {failed} failed")
+    seldom = [name for name in QUESTIONS if not shown[name]] if many >= HISTORIES else []
+    print(f"definitions: {many} histories of {REQUESTS} requests and as many questions by the seed {seed}, {len(asked)} commands, {len(refused)} refusals and {fines} fines among them, "
+          f"{shown.total()} questions that were shown rows: {len(differ)} differ{', no rows for ' * bool(seldom)}{', '.join(seldom)}")
+    failed = len(differ) + (not ended) + ("wrong_answer" not in rejected) + bool(seldom)
+    print(f"{many + 2 - failed} passed, {failed} failed")
     return 1 if failed else 0
 
 

@@ -23,12 +23,12 @@ import time
 from collections import Counter
 from concurrent.futures import ProcessPoolExecutor
 
-from desk_rules import Library
+from desk_rules import QUESTIONS, Library
 from lib import runs
 from lib.runs import CIRC, GROUND, PROGRAM, check, say
 from lib.serving import DESK_KEY, Serving, everything
 from messages import message
-from outer_forms import HEADER, HEAD_BYTES, MARK, MOST_LEVELS, WORDS, answer_to, is_card_key, is_day, is_mask, is_name, lines_of
+from outer_forms import HEADER, HEAD_BYTES, MARK, MOST_LEVELS, WORDS, Failed, answer_to, is_card_key, is_day, is_mask, is_name, lines_of, read_request
 
 SEED, CASES = 28, 10_000
 TOLD = 25_000  # after as many cases a long run tells that it goes on
@@ -42,6 +42,8 @@ DAYS = ["2026-03-03", "2026-03-04", "2026-03-09", "2026-04-01", "2026-05-01", "2
 FIRST_DAYS = ["2026-03-04", "2026-03-09", "2026-04-01", "2026-05-01", "2026-06-01", "2190-12-31"]  # of holds
 ODD_DAYS = ["2026-3-3", "2026-02-29", "2028-02-29", "2026-13-01", "2191-01-01", "2199-12-31", "2200-01-01", "1999-12-31", "20260303", "2026-03-03 ", ""]
 GRACE = ["0", "1", "1", "1", "2", "3", "365", "366"]
+ASKED_OF = {"copy": ["10", "11", "20", "30"], "copies": ["100", "200", "300"], "queue": ["100", "200", "300"]}
+AFTERS = ["0", "0", "0", "1", "2", "10", "4294967295"]  # from which a list goes on
 MASKS, ODD_MASKS = ["ooooooc", "coooooc", "ooooooo"], ["ccccccc", "oooooo", "oooooooo", "OOOOOOO", "oooooox"]
 NAMES = ["Main", "Hill", "Rivers of the North", "Salt Roads", "Night Ferries", "Bücher", "日本 \U0001f4da", 'Maps, "Old"', "\u2028\u0085", "x" * 120, "7"]
 ODD_NAMES = ["", " Hill", "Hill ", "x" * 121, "ü" * 60, "ü" * 60 + "x", "a\nb", "a\tb", "a\x7fb", "a\x00b", "-Hill"]
@@ -90,6 +92,10 @@ class Cases:
         """Words of the desk."""
         name = self.rng.choice([*WORDS, "grace", "check-out", "check-in", "place-hold", "place-hold-from", "renew", "pay"])
         words = [name] + [self.word(name, form) for form in WORDS[name]]
+        if name in QUESTIONS and name != "till":
+            # mostly of what is there
+            words[1] = self.one_of(ASKED_OF.get(name, ["1", "2", "3"]), ODD_NUMBERS)
+            words[2:] = [self.one_of(AFTERS, ODD_NUMBERS) for _ in words[2:]]
         if self.odd(0.05):
             place = self.rng.randrange(len(words))
             words[place:place + self.rng.randrange(2)] = self.rng.choices(["1", "", "-1", "page", "help", "--", name], k=self.rng.randrange(4))
@@ -322,7 +328,7 @@ def exchange(port, pieces):
         return everything(peer)
 
 
-def ask_all(cases, path, library, where, seen):
+def ask_all(cases, path, library, where, seen, shown):
     """All requests of a round."""
     with Serving(path, REQUESTS) as serving:
         for at in range(REQUESTS):
@@ -330,6 +336,16 @@ def ask_all(cases, path, library, where, seen):
             status, wanted = answer_to(library, DESK_KEY, request)
             check(f"{where}, request {at}: {request!r}", exchange(serving.port, cases.pieces(request)), wanted)
             seen[f"answers {status}"] += 1
+            shown.update([question_of(request)] if status == 200 else [])
+
+
+def question_of(request):
+    """The question that a request asks, or what else it is."""
+    try:
+        name = read_request(request)[3][0]
+    except Failed:
+        return "none"
+    return name if name in QUESTIONS else "none"
 
 
 def take_in_all(cases, path, library, where, seen):
@@ -345,15 +361,15 @@ def take_in_all(cases, path, library, where, seen):
 
 
 def play(ground, library, seed, number):
-    """One round: how often each status came, how many holds have a first day, and how often grace days were set."""
-    cases, seen, where = Cases(random.Random(f"{seed} {number}"), number), Counter(), f"seed {seed}, round {number}"
+    """One round: how often each status came and each question was answered, how many holds have a first day, and how often grace days were set."""
+    cases, seen, shown, where = Cases(random.Random(f"{seed} {number}"), number), Counter(), Counter(), f"seed {seed}, round {number}"
     with tempfile.TemporaryDirectory() as folder:
         path = os.path.join(folder, "round.db")
         shutil.copy(ground, path)
-        ask_all(cases, path, library, where, seen)
+        ask_all(cases, path, library, where, seen, shown)
         take_in_all(cases, path, library, where, seen)
         runs.the_rows_are(path, library)
-    return seen, sum(hold["first"] is not None for hold in library.holds.values()), sum(text.startswith("grace ") for text, _ in library.kept.values())
+    return seen, shown, sum(hold["first"] is not None for hold in library.holds.values()), sum(text.startswith("grace ") for text, _ in library.kept.values())
 
 
 def main(seed=SEED, count=CASES):
@@ -364,16 +380,17 @@ def main(seed=SEED, count=CASES):
         say(ground, GROUND)
         for key, words, line in GROUND:
             check(f"{key} by the rules", library.handle(key, words), line)
-        seen, first_days, grace = Counter(), 0, 0
-        for found, held, graced in pool.map(play, *zip(*[(ground, library, seed, number) for number in range(rounds)])):
-            seen, first_days, grace = seen + found, first_days + held, grace + graced
+        seen, shown, first_days, grace = Counter(), Counter(), 0, 0
+        for found, questions, held, graced in pool.map(play, *zip(*[(ground, library, seed, number) for number in range(rounds)])):
+            seen, shown, first_days, grace = seen + found, shown + questions, first_days + held, grace + graced
             if seen.total() % TOLD == 0:
                 print(f"fuzz: {seen.total()} cases by the seed {seed}, no difference so far", flush=True)
     wanted = [f"answers {status}" for status in (200, 400, 403, 404, 405, 409, 413)] + [f"files that end with status {status}" for status in (0, 2, 4)]
     check("each status came", [name for name in wanted if not seen[name]], [])
+    check("each question was answered", [name for name in QUESTIONS if not shown[name]], [])
     check("holds with a first day were placed, and grace days set", (first_days > 0, grace > 0), (True, True))
     told = ", ".join(f"{many} {name}" for name, many in sorted(seen.items()))
-    print(f"fuzz: {seen.total()} cases by the seed {seed} in {time.monotonic() - began:.0f} seconds, {first_days} holds from a day on, grace days set {grace} times, no difference: {told}")
+    print(f"fuzz: {seen.total()} cases by the seed {seed} in {time.monotonic() - began:.0f} seconds, {first_days} holds from a day on, {shown.total() - shown['none']} questions answered, grace days set {grace} times, no difference: {told}")
 
 
 if __name__ == "__main__":
