@@ -24,6 +24,16 @@ export const COMMANDS = {
   "pay": ["patron", "amount"],
   "waive": ["patron", "amount"],
   "page": ["patron"],
+  "copy": ["copy"],
+  "copies": ["title", "after"],
+  "queue": ["title", "after"],
+  "account": ["patron", "after"],
+  "debts": ["after"],
+  "overdue": ["branch", "after"],
+  "shelf": ["branch", "after"],
+  "pulls": ["branch", "after"],
+  "transits": ["branch", "after"],
+  "till": ["day"],
 };
 
 // The words of a line: parted by blanks, and what stands in quotes of one kind is one word. Null where a quote isn't closed.

@@ -64,6 +64,7 @@ function said(reply) {
       return `${placeOf(reply.place)} ${reply.fine === 0 ? TEXTS.noFine : say(TEXTS.fine, { fine: amount(reply.fine) })}`;
     case "page":
       return say(TEXTS.pageOf, { patron: reply.patron, name: reply.name, loans: reply.loans.length, holds: reply.holds.length, owed: amount(reply.owed) });
+    case "shown": return reply.lines[0];
     default: return TEXTS.done;
   }
 }
@@ -98,7 +99,7 @@ async function finish(sent) {
   const text = answer.reply ? said(answer.reply) : saidNo(answer);
   tell(text, !answer.reply);
   note(words, text, Boolean(answer.reply));
-  if (answer.reply?.kind === "page") answer.text.split("\n").slice(1).reverse().forEach((it_) => it("last").prepend(line(it_)));
+  if (["page", "shown"].includes(answer.reply?.kind)) answer.text.split("\n").slice(1).reverse().forEach((it_) => it("last").prepend(line(it_)));
   it("scan").focus();
 }
 

@@ -43,6 +43,9 @@ const LINES = [
     ([hold, branch, title, text]) => ({ line: "hold", hold: Number(hold), branch: Number(branch), state: "ready", from: null, title: Number(title), text })],
 ];
 
+// What a question of the desk is answered: a copy, a list to its end or to the number of its last row, or the sums of a day.
+const SHOWN = [`copy ${NUMBER} home [^]+\\n.+`, "(?:[^]+\\n)?end", `[^]+\\nafter ${NUMBER}`, `till ${DAY}\\n[^]+`].map((form) => [form, () => true]);
+
 // A patron's page, or null where the text is none.
 export function readPage(text) {
   const [first, ...rest] = text.split("\n");
@@ -65,7 +68,7 @@ export function readReply(text) {
   if (place) return { kind: "moved", place };
   const reply = firstOf(REPLIES, text);
   if (reply && reply.kind === "checked in" && !reply.place) return null;
-  return reply || readPage(text);
+  return reply || readPage(text) || (firstOf(SHOWN, text) && { kind: "shown", lines: text.split("\n") });
 }
 
 // A whole answer by its status and body: a reply, a refusal, a fault or a status of the web; null where it is none of the desk's.

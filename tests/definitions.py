@@ -33,6 +33,7 @@ FOUNDING = [
 IMPORTS = """-- Random histories, and what the rules in plain Python answer.
 use Rattle.std.specs.Prelude.{◌≡◌, [], ◌∷◌, true, false, refl, Some, None}
 use Rattle.std.specs.Fmt.{digits}
+use Rattle.calendar.specs.Days.{day_text, civil_of}
 use Rattle.terms.specs.declared.command.Command.TheVariants.{BeginDay, Branch, Week, CloseDay, OpenDay, Kind, Rule, Grace, Patron, Acquire, CheckOut, CheckIn, Renew, PlaceHold, CancelHold, Unshelve, UnshelveCancelled, Missing, Withdraw, Pay, Waive, Ask}
 use Rattle.terms.specs.declared.question.Question.TheVariants as question
 use Rattle.terms.specs.Texts.{reply_text, reply_words, routed_words}
@@ -152,7 +153,7 @@ def lemma(name, asked):
 {name} : Gives ground
     (desk ({commands} ∷ []))
     ({answers} ∷ [])
-unfolding digits reply_text reply_words routed_words
+unfolding digits reply_text reply_words routed_words day_text civil_of
 {name} = gives refl
 """
 

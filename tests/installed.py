@@ -43,7 +43,9 @@ def main():
         source = f'source "{prefix}/{FILES[2]}"; COMP_WORDS=(circ send 8080 deskkey00001 k1 pl); COMP_CWORD=5; _circ; echo "${{COMPREPLY[*]}}"'
         same("the completion of a word that is sent", run("bash", "-c", source).stdout, "place-hold place-hold-from\n")
         source = f'source "{prefix}/{FILES[2]}"; COMP_WORDS=(circ file town.db k1 gr); COMP_CWORD=4; _circ; echo "${{COMPREPLY[*]}}"'
-        same("the completion of the newest command", run("bash", "-c", source).stdout, "grace\n")
+        same("the completion of one command alone", run("bash", "-c", source).stdout, "grace\n")
+        source = f'source "{prefix}/{FILES[2]}"; COMP_WORDS=(circ send 8080 deskkey00001 k1 cop); COMP_CWORD=5; _circ; echo "${{COMPREPLY[*]}}"'
+        same("the completion of a question", run("bash", "-c", source).stdout, "copy copies\n")
         source = f'source "{prefix}/{FILES[2]}"; COMP_WORDS=(circ mig); COMP_CWORD=1; _circ; echo "${{COMPREPLY[*]}}"'
         same("the completion of a run", run("bash", "-c", source).stdout, "migrate\n")
         file = os.path.join(place, "file")

@@ -53,8 +53,28 @@ is(readPage("patron 1 owed 0 name Ann Bell").loans, []);
 // a title may have a form of a line in it
 is(readPage("patron 1 owed 0 name X\nhold 1 at 1 waiting title 2 from 2026-01-01 title 3 Y").holds[0].text, "from 2026-01-01 title 3 Y");
 
+// ---- what a question is shown
+const asked = [
+  "copy 10 home 1 kind 1 price 2500 title 100 Rivers of the North\nshelf 1",
+  "copy 10 home 1 kind 1 price 2500 title 100 Rivers of the North\nloan 1 due 2026-03-09 patron 1 Ann Bell",
+  "title 100 Rivers of the North\ncopy 10 loan 1 due 2026-03-09\ncopy 11 transit 1 for 1\nend",
+  "title 100 Rivers of the North\nhold 1 patron 2 at 1\nhold 3 patron 1 at 1 from 2026-04-01\nafter 3",
+  "patron 1 owed 100 name Ann Bell\nline 1 2026-03-17 fine 100 loan 1 title 100 Rivers of the North\nend",
+  "patron 1 owed 70 name Ann Bell\nend",
+  "      hold    copy  patron until      title\n         1      11       2 2026-03-07 Rivers of the North\nend",
+  "hold 1 copy 11 title 100 Rivers of the North\nend",
+  "copy 11 for 1 title 100 Rivers of the North\nend",
+  "till 2026-03-17\nfines                100\nprices                 0\npayments              30\nwaivers                0",
+  "end",
+];
+for (const text of asked) is(readReply(text), { kind: "shown", lines: text.split("\n") });
+is(readReply("patron 1 owed 0 name Ann Bell").kind, "page");
+is(isCommand(wordsOf("pulls 1 0")), true);
+is(isCommand(wordsOf("pulls 1")), false);
+is(["copy 1", "copies 1", "cop"].map(commandBegun), ["copy", "copies", null]);
+
 // ---- what is none
-for (const text of ["", "okay", "ok\n", "loan 01 due 2026-03-09", "loan 1 due 2026-3-9", "hold", "fine 0 nowhere 1", "fine 0", "transit 1 for", "page",
+for (const text of ["", "ended", "an end", "after 3", "title 100 A\nafter", "copy 10 home 1", "till 2026-03-17", "okay", "ok\n", "loan 01 due 2026-03-09", "loan 1 due 2026-3-9", "hold", "fine 0 nowhere 1", "fine 0", "transit 1 for", "page",
   "patron 1 owed 0 name", "patron 1 owed 0 name A\nloan 1", "patron 1 owed 0 name A\n", "refused 10"]) {
   is(readReply(text), null);
 }

@@ -110,7 +110,8 @@ def one_request_in_a_file(folder, refusing, everything):
     say(base, GROUND + [("a1", ["place-hold", "2", "100", "1"], "hold 1"), ("a2", ["check-out", "2", "11", "1"], "loan 1 due 2026-03-09")])
     before, told = whole(base), Counter()
     for words, line in ((["check-in", "11", "2"], "fine 0 transit 1"), (["place-hold", "3", "100", "2"], "hold 2"), (["place-hold-from", "3", "100", "2", "2026-03-05"], "hold 2"),
-                        (["grace", "1", "1", "2"], "ok"), (["renew", "1"], "loan 1 due 2026-03-16"), (["page", "2"], None)):
+                        (["grace", "1", "1", "2"], "ok"), (["renew", "1"], "loan 1 due 2026-03-16"), (["page", "2"], None),
+                        (["copy", "11"], None), (["copies", "100", "0"], None), (["pulls", "1", "0"], None), (["account", "2", "0"], None)):
         run_words = ["file", path, "k1", *words]
         copied(base, path)
         plain = refusing.run([PROGRAM, *run_words], 0)

@@ -7,7 +7,7 @@ use terms::{
 };
 
 /// The version of the program.
-pub const VERSION: &str = "0.11.0";
+pub const VERSION: &str = "0.12.0";
 
 /// The runs of the program, by their first words.
 const RUNS: [&str; 9] = [
