@@ -201,6 +201,10 @@ def shown(line):
     refused = re.fullmatch(r"refused (\d+)", line)
     if refused:
         return f"Refused ({refused[1]}): {meaning(refused[1])}."
+    lines = line.split("\n")
+    if lines[-1] == "end" or re.match(r"copy \d+ home |till ", line):
+        # of what a question is answered the first line is told; blanks in a row are shown as one
+        return " ".join(lines[0].split())
     if line.startswith("patron "):
         first, *rest = line.split("\n")
         patron, owed, name = re.fullmatch(r"patron (\d+) owed (\d+) name (.*)", first).groups()
@@ -214,11 +218,11 @@ def shown(line):
 
 
 def day():
-    """What is typed on the day at the desk, with the answers; lines under a key that was typed before, files and reports aside."""
+    """What is typed on the day at the desk, with the answers; lines under a key that was typed before, files and reports aside; questions, which pass over their key, are all there."""
     text, keys = outside.document("DAY-AT-THE-DESK.md"), set()
     for words, answer in re.findall(r"^\$ \./circ file town\.db (\S+ .+)\n((?:(?!\$|```).*\n)+)", text, re.M):
         key, _, line = words.partition(" ")
-        if key not in keys and answer.strip() != "words not understood":
+        if (key == "q" or key not in keys) and answer.strip() != "words not understood":
             yield line, answer.rstrip("\n")
         keys.add(key)
 

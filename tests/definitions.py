@@ -3,7 +3,7 @@
 
     tests/definitions.py GATE [--seed N] [HISTORIES]      over the libraries that `rt ci` left in GATE/crates/*/out, a copy of the repository
 
-A history is 25 requests of the desk, of all commands but `page`, and as many questions, one after each, after those that make a small library. Loans end late in them, within their grace days and past these. What each is answered is worked out by `tests/desk_rules.py`, which shares nothing
+A history is 20 requests of the desk, of all commands but `page`, with a question after each second one, after those that make a small library. Loans end late in them, within their grace days and past these. What each is answered is worked out by `tests/desk_rules.py`, which shares nothing
 with the definitions; that the definitions give the same answers is a lemma, which the prover computes in a copy of the crate `model`. One lemma more has a wrong answer, and has to be rejected.
 """
 
@@ -21,7 +21,7 @@ from collections import Counter
 from desk_rules import EPOCH, QUESTIONS, Library
 from gate_libraries import PARTS, TOP, check_of, kit, libraries
 
-HISTORIES, REQUESTS = 40, 25
+HISTORIES, REQUESTS, QUESTIONED = 50, 20, 2  # a question comes after each second request
 # The small library of the definitions' worked examples.
 FOUNDING = [
     ["begin-day", "2026-03-02"], ["branch", "1", "5", "Main"], ["branch", "2", "3", "Harbour"], ["week", "1", "ooooooc"], ["week", "2", "coooooc"],
@@ -135,8 +135,9 @@ def history(rng):
         # few loans are made in one history, so half of them have grace days from the beginning
         words = ["grace", "1", "1", clerk.one(1, 2, 3)] if at == 0 and rng.random() < 0.5 else clerk.request()
         asked.append((words, library.handle(f"r{at}", words)))
-        words = clerk.question()
-        asked.append((words, library.handle(f"r{at}", words)))
+        if at % QUESTIONED == 0:
+            words = clerk.question()
+            asked.append((words, library.handle(f"r{at}", words)))
     return asked
 
 
@@ -197,7 +198,7 @@ def main(words):
     if not ended or "wrong_answer" not in rejected or differ:
         print(told[-6000:])
     seldom = [name for name in QUESTIONS if not shown[name]] if many >= HISTORIES else []
-    print(f"definitions: {many} histories of {REQUESTS} requests and as many questions by the seed {seed}, {len(asked)} commands, {len(refused)} refusals and {fines} fines among them, "
+    print(f"definitions: {many} histories of {REQUESTS} requests and half as many questions by the seed {seed}, {len(asked)} commands, {len(refused)} refusals and {fines} fines among them, "
           f"{shown.total()} questions that were shown rows: {len(differ)} differ{', no rows for ' * bool(seldom)}{', '.join(seldom)}")
     failed = len(differ) + (not ended) + ("wrong_answer" not in rejected) + bool(seldom)
     print(f"{many + 2 - failed} passed, {failed} failed")
