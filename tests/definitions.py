@@ -3,8 +3,9 @@
 
     tests/definitions.py GATE [--seed N] [HISTORIES]      over the libraries that `rt ci` left in GATE/crates/*/out, a copy of the repository
 
-A history is 20 requests of the desk, of all commands but `page`, with a question after each second one, after those that make a small library. Loans end late in them, within their grace days and past these. What each is answered is worked out by `tests/desk_rules.py`, which shares nothing
-with the definitions; that the definitions give the same answers is a lemma, which the prover computes in a copy of the crate `model`. One lemma more has a wrong answer, and has to be rejected.
+A history is 20 requests of the desk, of all commands but `page`, with a question after each second one, after those that make a small library. Loans end late in them, within their grace days
+and past these. What each is answered is worked out by `tests/desk_rules.py`, which shares nothing with the definitions; that the definitions give the same answers is a lemma, which the prover
+computes in a copy of the crate `model`. One lemma more has a wrong answer, and has to be rejected.
 """
 
 import datetime

@@ -753,7 +753,8 @@ def walked(path, library, words):
 
 
 def long_lists(folder):
-    """Lists of many rows, part by part: each is that of the rules, from whatever number on it is asked for, and each row is shown once. So it is without the three indexes that came last, and with those made by hand."""
+    """Lists of many rows, part by part: each is that of the rules, from whatever number on it is asked for, and each row is shown once. So it is without the three indexes that came last,
+    and with those made by hand."""
     path, library = os.path.join(folder, "lists.db"), Library()
     say(path, GROUND)
     for key, words, _ in GROUND:
