@@ -5,12 +5,14 @@
 """
 
 import os
+import socket
 import subprocess
 import sys
 import tempfile
 
 TOP = os.path.dirname(os.path.dirname(os.path.abspath(__file__)))
-FILES = ["bin/circ", "share/man/man1/circ.1", "share/bash-completion/completions/circ",
+COMPLETION = "share/bash-completion/completions/circ"
+FILES = ["bin/circ", "bin/circ-enrol", "share/man/man1/circ.1", COMPLETION,
          *(f"share/circ/pages/{name}" for name in sorted(os.listdir(os.path.join(TOP, "pages"))))]
 
 
@@ -36,17 +38,32 @@ def main():
         same("the files that are there", sorted(os.path.relpath(os.path.join(at, name), prefix) for at, _, names in os.walk(prefix) for name in names), sorted(FILES))
         told = run(f"{prefix}/bin/circ", "file", f"{place}/town.db", "g1", "begin-day", "2026-03-02", cwd=place)
         same("the installed program", (told.returncode, told.stdout), (0, "ok\n"))
+        patrons = os.path.join(place, "patrons.csv")
+        with open(patrons, "w", encoding="utf-8") as file:
+            file.write("patron,kind,card-key,name\n1,1,cardkey00001,Ann Bell\n")
+        with socket.socket() as found:
+            found.bind(("127.0.0.1", 0))
+            port = str(found.getsockname()[1])
+        serve = [f"{prefix}/bin/circ", "serve", f"{place}/town.db", port, "1", "1", "deskkey00001"]
+        with subprocess.Popen(serve, stdout=subprocess.PIPE, text=True) as serving:
+            same("the installed program serves", serving.stdout.readline(), f"listening on {port}\n")
+            told = run(f"{prefix}/bin/circ-enrol", port, "deskkey00001", patrons, f"{place}/refused.csv", cwd=place)
+            serving.kill()
+        refused = "row 1 refused 17: unknown kind of patron (patron-1)\naccepted 0 refused 1\n"
+        same("a list of patrons, with the meaning of the installed manual page", (told.returncode, told.stdout, told.stderr), (2, refused, ""))
+        told = run(f"{prefix}/bin/circ-enrol")
+        same("how it is written", (told.returncode, told.stderr), (4, "usage: circ-enrol PORT DESKKEY LIST REFUSED\n"))
         again = run(install, prefix)
         same("a second time", (again.returncode, again.stdout), (0, done.stdout))
-        source = f'source "{prefix}/{FILES[2]}"; COMP_WORDS=(circ file town.db k1 unsh); COMP_CWORD=4; _circ; echo "${{COMPREPLY[*]}}"'
+        source = f'source "{prefix}/{COMPLETION}"; COMP_WORDS=(circ file town.db k1 unsh); COMP_CWORD=4; _circ; echo "${{COMPREPLY[*]}}"'
         same("the completion", run("bash", "-c", source).stdout, "unshelve unshelve-cancelled\n")
-        source = f'source "{prefix}/{FILES[2]}"; COMP_WORDS=(circ send 8080 deskkey00001 k1 pl); COMP_CWORD=5; _circ; echo "${{COMPREPLY[*]}}"'
+        source = f'source "{prefix}/{COMPLETION}"; COMP_WORDS=(circ send 8080 deskkey00001 k1 pl); COMP_CWORD=5; _circ; echo "${{COMPREPLY[*]}}"'
         same("the completion of a word that is sent", run("bash", "-c", source).stdout, "place-hold place-hold-from\n")
-        source = f'source "{prefix}/{FILES[2]}"; COMP_WORDS=(circ file town.db k1 gr); COMP_CWORD=4; _circ; echo "${{COMPREPLY[*]}}"'
+        source = f'source "{prefix}/{COMPLETION}"; COMP_WORDS=(circ file town.db k1 gr); COMP_CWORD=4; _circ; echo "${{COMPREPLY[*]}}"'
         same("the completion of one command alone", run("bash", "-c", source).stdout, "grace\n")
-        source = f'source "{prefix}/{FILES[2]}"; COMP_WORDS=(circ send 8080 deskkey00001 k1 cop); COMP_CWORD=5; _circ; echo "${{COMPREPLY[*]}}"'
+        source = f'source "{prefix}/{COMPLETION}"; COMP_WORDS=(circ send 8080 deskkey00001 k1 cop); COMP_CWORD=5; _circ; echo "${{COMPREPLY[*]}}"'
         same("the completion of a question", run("bash", "-c", source).stdout, "copy copies\n")
-        source = f'source "{prefix}/{FILES[2]}"; COMP_WORDS=(circ mig); COMP_CWORD=1; _circ; echo "${{COMPREPLY[*]}}"'
+        source = f'source "{prefix}/{COMPLETION}"; COMP_WORDS=(circ mig); COMP_CWORD=1; _circ; echo "${{COMPREPLY[*]}}"'
         same("the completion of a run", run("bash", "-c", source).stdout, "migrate\n")
         file = os.path.join(place, "file")
         open(file, "w", encoding="utf-8").close()
