@@ -3,8 +3,8 @@
 
     tests/definitions.py GATE [--seed N] [HISTORIES]      over the libraries that `rt ci` left in GATE/crates/*/out, a copy of the repository
 
-A history is 20 requests of the desk, of all commands but `page`, with a question after each second one, after those that make a small library. Loans end late in them, within their grace days
-and past these. What each is answered is worked out by `tests/desk_rules.py`, which shares nothing with the definitions; that the definitions give the same answers is a lemma, which the prover
+A history is 25 requests of the desk, of all commands but `page`, after those that make a small library; in eight of the histories a question comes after each second one. Loans end late in
+them, within their grace days and past these. What each is answered is worked out by `tests/desk_rules.py`, which shares nothing with the definitions; that the definitions give the same answers is a lemma, which the prover
 computes in a copy of the crate `model`. One lemma more has a wrong answer, and has to be rejected.
 """
 
@@ -22,7 +22,9 @@ from collections import Counter
 from desk_rules import EPOCH, QUESTIONS, Library
 from gate_libraries import PARTS, TOP, check_of, kit, libraries
 
-HISTORIES, REQUESTS, QUESTIONED = 50, 20, 2  # a question comes after each second request
+HISTORIES, REQUESTS = 40, 25
+ASKED, QUESTIONED = 8, 2  # in so many of them a question comes after each second request: what it is answered takes the prover a second
+DRAWN = 10  # so many histories with questions are drawn for one that is computed
 # The small library of the definitions' worked examples.
 FOUNDING = [
     ["begin-day", "2026-03-02"], ["branch", "1", "5", "Main"], ["branch", "2", "3", "Harbour"], ["week", "1", "ooooooc"], ["week", "2", "coooooc"],
@@ -125,7 +127,7 @@ class Clerk:
         return self.rng.choice(often if self.rng.random() < 0.6 else seldom)
 
 
-def history(rng):
+def history(rng, has_questions):
     """Requests, and what they are answered."""
     library = Library()
     for at, words in enumerate(FOUNDING):
@@ -136,7 +138,7 @@ def history(rng):
         # few loans are made in one history, so half of them have grace days from the beginning
         words = ["grace", "1", "1", clerk.one(1, 2, 3)] if at == 0 and rng.random() < 0.5 else clerk.request()
         asked.append((words, library.handle(f"r{at}", words)))
-        if at % QUESTIONED == 0:
+        if has_questions and at % QUESTIONED == 0:
             words = clerk.question()
             asked.append((words, library.handle(f"r{at}", words)))
     return asked
@@ -146,6 +148,22 @@ def has_rows(words, answer):
     """Whether a question is shown a row: a copy or sums, or a list with more than its head and its end."""
     heads = {"copies": 1, "queue": 1, "account": 1, "overdue": 1, "shelf": 1}.get(words[0], 0)
     return not answer.startswith("refused") and (words[0] in ("copy", "till") or answer.count("\n") > heads)
+
+
+def shown_in(asked):
+    """The questions that are shown rows in a history."""
+    return {words[0] for words, answer in asked if words[0] in QUESTIONS and has_rows(words, answer)}
+
+
+def asked_histories(rng):
+    """Histories with questions, of more that are drawn: first those in which the most questions are shown rows that were shown none before."""
+    drawn, taken, left = [history(rng, True) for _ in range(DRAWN * ASKED)], [], set(QUESTIONS)
+    for _ in range(ASKED):
+        best = max(drawn, key=lambda asked: len(left & shown_in(asked)))
+        drawn.remove(best)
+        taken.append(best)
+        left -= shown_in(best)
+    return taken
 
 
 def lemma(name, asked):
@@ -187,8 +205,9 @@ def main(words):
     if missing:
         sys.exit(f"definitions: the libraries {' '.join(missing)} are not there")
     rng = random.Random(seed)
-    histories = [history(rng) for _ in range(many)]
-    wrong = [*histories[0][:-1], (histories[0][-1][0], f"{histories[0][-1][1]}0")]
+    histories = (asked_histories(rng) + [history(rng, False) for _ in range(many - ASKED)])[:many]
+    *before, (words, answer) = histories[-1]
+    wrong = [*before, (words, f"{answer}0")]
     lemmas = [lemma(f"history_{at}", asked) for at, asked in enumerate(histories)]
     rejected, ended, told = errors_of(command, [*lemmas, lemma("wrong_answer", wrong)])
     differ = [name for name in rejected if name != "wrong_answer"]
@@ -198,8 +217,8 @@ def main(words):
     fines = sum(answer.startswith("fine ") and not answer.startswith("fine 0 ") for its in histories for _, answer in its)
     if not ended or "wrong_answer" not in rejected or differ:
         print(told[-6000:])
-    seldom = [name for name in QUESTIONS if not shown[name]] if many >= HISTORIES else []
-    print(f"definitions: {many} histories of {REQUESTS} requests and half as many questions by the seed {seed}, {len(asked)} commands, {len(refused)} refusals and {fines} fines among them, "
+    seldom = [name for name in QUESTIONS if not shown[name]] if many >= ASKED else []
+    print(f"definitions: {many} histories of {REQUESTS} requests by the seed {seed}, with questions in {min(many, ASKED)}, {len(asked)} commands, {len(refused)} refusals and {fines} fines among them, "
           f"{shown.total()} questions that were shown rows: {len(differ)} differ{', no rows for ' * bool(seldom)}{', '.join(seldom)}")
     failed = len(differ) + (not ended) + ("wrong_answer" not in rejected) + bool(seldom)
     print(f"{many + 2 - failed} passed, {failed} failed")
