@@ -25,8 +25,10 @@ struct Older {
     first_day: &'static str,
 }
 
-/// What a library has before schema 3: two rules, a loan that is open and one that ended.
-const BEFORE_3: &str = "DROP TABLE rules3;DROP TABLE loans3;\
+/// What a library has before schema 3: three indexes and two tables less, two rules, a loan that is
+/// open and one that ended.
+const BEFORE_3: &str = "DROP INDEX copies_title;DROP INDEX lines_patron;DROP INDEX holds2_state;\
+DROP TABLE rules3;DROP TABLE loans3;\
 INSERT INTO rules VALUES (1, 1, 6, 1, 20, 100), (1, 2, 12, 1, 20, 100);\
 INSERT INTO loans VALUES (1, 11, 1, 1, 20514, 20521, 6, 1, 20, 100, NULL), (2, 20, 2, 2, 20500, 20513, 12, 0, 20, 100, 20514)";
 
@@ -305,7 +307,7 @@ fn limits(rt: &impl Abort, alloc: Global, library: Older) -> Result<u64, Fail> {
     made_older(&mut conn, library)?;
     let others = look(alloc, &mut conn)?.others;
     let mut refused = 0u64;
-    for limit in 1..400u64 {
+    for limit in 1..800u64 {
         let mut store = open(conn)?;
         limit_steps(&mut store, Some(limit));
         let is_done = told(rt, alloc, &mut store);
