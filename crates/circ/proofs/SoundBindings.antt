@@ -16,7 +16,7 @@ use Rattle.model.specs.Laws.{IsBinding}
 use Rattle.model.specs.Places.{Place, Nowhere, HoldShelf, Transit, place, state, limit, kept_for, goal_of, title_of_hold, title_of_copy}
 use Rattle.model.specs.Picture.{picture, copy_columns, hold_columns, if_ready}
 use Rattle.model.specs.Requests.{IsLegal}
-use Rattle.model.proofs.ClaimsLaw.{placed, transit-place, hold-facts}
+use Rattle.model.proofs.ClaimsLaw.{place-shelf, transit-place, hold-facts}
 use Rattle.model.proofs.Invariants.{legal-Invariant}
 use Rattle.model.proofs.Legal.{bindings}
 use Rattle.model.proofs.LimitLaws.{limit-is}
@@ -61,7 +61,7 @@ module _ (H : History) (rows : Tables) (legal : IsLegal H) (forms : HasForms H) 
       → (is_copy_of rows.copies r.copy r.title ≡ true)
   ready-fit r row ready title =
       let on = (binding r.hold).ready.0 ready in
-      let claim = (placed H on.0 legal).on_hold_shelf r.hold on.1 in
+      let claim = place-shelf H legal on.0 r.hold on.1 in
       let same : claim.0 ≡ r = some-same claim.0 r (sym claim.1 ∙ row) in
       let copy : r.copy ≡ Some on.0 = ap (λ (q : HoldRow). q.copy) (sym same) ∙ claim.2 in
       let served : Serves (place H on.0) r.hold = subst (λ (p : Place). Serves p r.hold) (sym on.1) refl in

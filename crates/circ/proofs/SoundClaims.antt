@@ -16,9 +16,8 @@ use Rattle.terms.specs.declared.tables.Tables.{Tables}
 use Rattle.model.specs.History.{History}
 use Rattle.model.specs.Places.{Place, HoldShelf, Transit, Loan, MissingCopy, WithdrawnCopy, place}
 use Rattle.model.specs.Picture.{picture}
-use Rattle.model.specs.Laws.{IsPlaced}
 use Rattle.model.specs.Requests.{IsLegal}
-use Rattle.model.proofs.ClaimsLaw.{placed, transit-place}
+use Rattle.model.proofs.ClaimsLaw.{claims-place, transit-place}
 use Rattle.circ_audit.specs.Rows.{names, is_ready, is_present, lent_copy, shelved_copy, travelling_copy, absent_copy}
 use Rattle.circ_audit.specs.Sound.{IsClaimedOnce}
 use Rattle.circ.proofs.CountedRows.{one-counted, counted-once, one-of-four}
@@ -57,16 +56,13 @@ absent r c e = go r.condition refl (is-named (absent_copy r) c e)
     go Withdrawn is named = let same : r.copy ≡ c = cc in (same, inr is)
 
 module _ (H : History) (rows : Tables) (legal : IsLegal H) (are : AreAuditTables (picture H) rows) (c : ℕ) where
-  at : IsPlaced H c
-  at = placed H c legal
-
   -- ---- a claim names the place of the copy
 
   on-loan : (r : LoanRow) → Contains rows.loans r → names (lent_copy r) c ≡ true → place H c ≡ Loan r.loan
-  on-loan r there e = let l = lent r c e in at.named (Loan r.loan) (r, (are.loans.sound r there).0, l.0, l.1)
+  on-loan r there e = let l = lent r c e in claims-place H legal c (Loan r.loan) (r, (are.loans.sound r there).0, l.0, l.1)
 
   on-shelf : (r : HoldRow) → Contains rows.holds r → names (shelved_copy r) c ≡ true → place H c ≡ HoldShelf r.hold
-  on-shelf r there e = let s = shelved r c e in at.named (HoldShelf r.hold) (r, (are.holds.sound r there).0, s.0, s.1)
+  on-shelf r there e = let s = shelved r c e in claims-place H legal c (HoldShelf r.hold) (r, (are.holds.sound r there).0, s.0, s.1)
 
   on-way : (r : TransitRow) → Contains rows.transits r → names (travelling_copy r) c ≡ true → (r.copy ≡ c) × (place H c ≡ Transit r.goal r.hold)
   on-way r there e =
@@ -84,8 +80,8 @@ module _ (H : History) (rows : Tables) (legal : IsLegal H) (are : AreAuditTables
       row same = subst (λ (n : ℕ). (picture H).copies n ≡ Some r) same (are.copies.sound r there).0
 
       go : r.copy ≡ c → (r.condition ≡ Missing) ⊎ (r.condition ≡ Withdrawn) → IsGone
-      go same (inl is) = inl (at.named MissingCopy (r, row same, is))
-      go same (inr is) = inr (at.named WithdrawnCopy (r, row same, is))
+      go same (inl is) = inl (claims-place H legal c MissingCopy (r, row same, is))
+      go same (inr is) = inr (claims-place H legal c WithdrawnCopy (r, row same, is))
 
   -- ---- the claims of a kind
 

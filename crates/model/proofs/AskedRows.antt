@@ -9,11 +9,10 @@ use Rattle.model.specs.Places.{Place, Nowhere, Shelf, HoldShelf, Transit, Loan, 
 use Rattle.model.specs.Accounts.{Line, lines, nth_line}
 use Rattle.model.specs.Claims.{Claims}
 use Rattle.model.specs.Invariant.{Invariant}
-use Rattle.model.specs.Laws.{IsPlaced}
 use Rattle.model.specs.Picture.{picture}
 use Rattle.model.specs.Requests.{IsLegal}
 use Rattle.model.specs.AskingLaws.{AccountsAreShown, ShelvesAreUnclaimed}
-use Rattle.model.proofs.ClaimsLaw.{placed}
+use Rattle.model.proofs.ClaimsLaw.{claims-place, away-claimed}
 use Rattle.model.proofs.Invariants.{legal-Invariant}
 
 -- ---- the lines of an account
@@ -66,24 +65,21 @@ facts (Some r) e = (r, refl)
 facts None e = let never : ⊥ = cc in absurd never
 
 module _ (H : History) (c : ℕ) (legal : IsLegal H) (there : is_some (copy_of H c) ≡ true) where
-  laws : IsPlaced H c
-  laws = placed H c legal
-
   inv : Invariant H
   inv = legal-Invariant H legal
 
   shelved : place H c ≡ Shelf (home_of H c) → (q : Place) → Claims (picture H) c q → ⊥
   shelved at q claim =
-      let same : q ≡ Shelf (home_of H c) = sym (laws.named q claim) ∙ at in
+      let same : q ≡ Shelf (home_of H c) = sym (claims-place H legal c q claim) ∙ at in
       subst (λ p. Claims (picture H) c p) same claim
 
   unclaimed : (p : Place) → place H c ≡ p → ((q : Place) → Claims (picture H) c q → ⊥) → place H c ≡ Shelf (home_of H c)
   unclaimed (Shelf b) at none = at ∙ ap Shelf (sym (inv.at_home c b at))
-  unclaimed (HoldShelf h) at none = absurd (none (HoldShelf h) (laws.on_hold_shelf h at))
-  unclaimed (Transit g h) at none = absurd (none (Transit g h) (laws.in_transit g h at))
-  unclaimed (Loan l) at none = absurd (none (Loan l) (laws.on_loan l at))
-  unclaimed MissingCopy at none = absurd (none MissingCopy (laws.missing at))
-  unclaimed WithdrawnCopy at none = absurd (none WithdrawnCopy (laws.withdrawn at))
+  unclaimed (HoldShelf h) at none = absurd (none (HoldShelf h) (away-claimed H legal c (HoldShelf h) at tt))
+  unclaimed (Transit g h) at none = absurd (none (Transit g h) (away-claimed H legal c (Transit g h) at tt))
+  unclaimed (Loan l) at none = absurd (none (Loan l) (away-claimed H legal c (Loan l) at tt))
+  unclaimed MissingCopy at none = absurd (none MissingCopy (away-claimed H legal c MissingCopy at tt))
+  unclaimed WithdrawnCopy at none = absurd (none WithdrawnCopy (away-claimed H legal c WithdrawnCopy at tt))
   unclaimed Nowhere at none = let r = facts (copy_of H c) there in absurd ((inv.acquired c r.0 r.1).0 at)
 
 pub shelves-are-unclaimed : ShelvesAreUnclaimed

@@ -12,8 +12,7 @@ use Rattle.model.specs.History.{History, copy_of, copies, hold_of, HoldFacts, Co
 use Rattle.model.specs.Places.{Place, Nowhere, Shelf, HoldShelf, Transit, Loan, MissingCopy, WithdrawnCopy, place, state, is_kept_for, kept_for, goal_of}
 use Rattle.model.specs.Loans.{loan_of, ended, LoanFacts}
 use Rattle.model.specs.Picture.{picture, copy_row, copy_columns, loan_row, loan_columns, hold_row, hold_columns, condition_at, transit_at, if_ready}
-use Rattle.model.specs.Claims.{Claims, AtMostOne}
-use Rattle.model.specs.Laws.{IsPlaced}
+use Rattle.model.specs.Claims.{Claims, AtMostOne, IsAway, IsInOnePlace}
 use Rattle.model.specs.Requests.{IsLegal}
 use Rattle.model.specs.Invariant.{Fits}
 use Rattle.model.proofs.Bindings.{IsBound, kept-is, kept-found, find-some}
@@ -137,14 +136,19 @@ module _ (H : History) (legal : IsLegal H) where
       let r : (r : CopyFacts) × (copy_of H c ≡ Some r) = row_there c (λ e. let two : WithdrawnCopy ≡ Nowhere = sym at ∙ e in let never : ⊥ = cc in never) in
       (copy_columns H c r.0, ap (option_map (copy_columns H c)) r.1, ap condition_at at)
 
--- Each copy of a legal history is placed.
-pub placed : (H : History) (c : ℕ) → IsLegal H → IsPlaced H c
-placed H c legal = record {
+  pub away-claimed : (c : ℕ) (p : Place) → place H c ≡ p → IsAway p → Claims (picture H) c p
+  away-claimed c (Loan l) at away = place-loan c l at
+  away-claimed c (HoldShelf h) at away = place-shelf c h at
+  away-claimed c (Transit g h) at away = place-transit c g h at
+  away-claimed c MissingCopy at away = place-missing c at
+  away-claimed c WithdrawnCopy at away = place-withdrawn c at
+  away-claimed c Nowhere at away = absurd away
+  away-claimed c (Shelf b) at away = absurd away
+
+-- Each copy of a legal history is in one place.
+pub in-one-place : (H : History) (c : ℕ) → IsLegal H → IsInOnePlace (picture H) c (place H c)
+in-one-place H c legal = record {
   one = one-claim H legal c;
-  named = claims-place H legal c;
-  on_loan = place-loan H legal c;
-  on_hold_shelf = place-shelf H legal c;
-  in_transit = place-transit H legal c;
-  missing = place-missing H legal c;
-  withdrawn = place-withdrawn H legal c;
+  named = λ other claim. sym (claims-place H legal c other claim);
+  shown = away-claimed H legal c (place H c) refl;
 }

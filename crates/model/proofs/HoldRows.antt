@@ -1,4 +1,4 @@
--- Each number that was given has its loan or hold, and each hold that was placed has one state.
+-- Each number that was given has its loan or hold, with a row, and each hold that was placed has one state.
 use Rattle.std.proofs.Common.{◌≡◌, ℕ, ◌≤◌, ◌==◌, Bool, true, false, cond, ◌&&◌, [], ◌∷◌, refl, sym, ap, ◌∙◌, arith, le-leb}
 use Rattle.std.specs.Prelude.{Option, Some, None, option_map, option_and_then, unwrap_or, is_some, nat_le}
 use Rattle.std.proofs.lemmas.Bool.{leb-true, and_parts}
@@ -11,7 +11,7 @@ use Rattle.model.specs.History.{History, today, loans, loans_after, next_loan, H
 use Rattle.model.specs.Places.{place, state, state_moved, state_made, state_at, state_unshelved, route, route_by, kept_for_by, is_kept_for}
 use Rattle.model.specs.Places.{goal_of, fills_by, is_begun}
 use Rattle.model.specs.Loans.{LoanFacts, loan_of, loan_after, terms_for, no_terms}
-use Rattle.model.specs.Picture.{hold_row, hold_columns}
+use Rattle.model.specs.Picture.{hold_row, hold_columns, loan_row, loan_columns}
 use Rattle.model.specs.Requests.{IsLegal}
 use Rattle.model.proofs.Moves.{false-ne}
 use Rattle.model.proofs.Bindings.{left}
@@ -122,5 +122,19 @@ hold-rows H h legal = go (hold_of H h) refl
         let none : hold_row H h ≡ None = ap (option_and_then (λ t. option_map (hold_columns H h t) (hold_of H h))) ((legal-bound H legal).unplaced h e) in
         ap is_some none ∙ sym (not-within 1 (holds H) h (λ low high.
         let made : (r : HoldFacts) × (hold_of H h ≡ Some r) = hold-numbered H h low high in
+        let two : Some made.0 ≡ None = sym made.1 ∙ e in
+        let never : ⊥ = cc in never))
+
+-- The loans that have a row are those of the numbers given.
+pub loan-rows : (H : History) (l : ℕ) → IsLegal H → is_some (loan_row H l) ≡ is_within 1 (loans H) l
+loan-rows H l legal = go (loan_of H l) refl
+  where
+    go : (o : Option LoanFacts) → loan_of H l ≡ o → is_some (loan_row H l) ≡ is_within 1 (loans H) l
+    go (Some r) e =
+        let m : (1 ≤ l) × (l ≤ loans H) = (legal-LoanLaws H legal).made_loan l r e in
+        ap (λ o. is_some (option_map (loan_columns H l) o)) e
+        ∙ sym (both-true (nat_le 1 l) (nat_le l (loans H)) (le-leb 1 l m.0) (le-leb l (loans H) m.1))
+    go None e = ap (λ o. is_some (option_map (loan_columns H l) o)) e ∙ sym (not-within 1 (loans H) l (λ low high.
+        let made : (r : LoanFacts) × (loan_of H l ≡ Some r) = loan-numbered H l low high in
         let two : Some made.0 ≡ None = sym made.1 ∙ e in
         let never : ⊥ = cc in never))

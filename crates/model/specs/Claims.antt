@@ -21,3 +21,15 @@ Claims t c (Shelf b) = ⊥
 -- At most one claim is made on the copy.
 abbrev pub AtMostOne : Picture → ℕ → Type 0
 AtMostOne t c = (p q : Place) → Claims t c p → Claims t c q → p ≡ q
+
+-- The copy is somewhere else than on a shelf.
+abbrev pub IsAway : Place → Type 0
+IsAway Nowhere = ⊥
+IsAway (Shelf b) = ⊥
+IsAway _ = Unit {0}
+
+-- The tables make at most one claim on the copy, that of this place; on the shelf none.
+pub record IsInOnePlace (t : Picture) (c : ℕ) (at : Place) : Type 0 where
+  pub one : AtMostOne t c
+  pub named : (other : Place) → Claims t c other → other ≡ at
+  pub shown : IsAway at → Claims t c at

@@ -10,6 +10,7 @@ use Rattle.model.specs.Places.{Place, Nowhere, Shelf, HoldShelf, Transit, Loan, 
 use Rattle.model.specs.Loans.{LoanFacts, loan_of, ended, renewals}
 use Rattle.model.specs.Accounts.{lines, account, charges, credits, owed}
 use Rattle.terms.specs.declared.row.HoldState.TheVariants.{Waiting, Ready}
+use Rattle.model.specs.Requests.{IsLegal}
 
 -- A copy in this place stands on the hold shelf for h or travels for it.
 abbrev pub Serves : Place → ℕ → Type 0
@@ -72,3 +73,7 @@ pub record Invariant (H : History) : Type 0 where
   -- The bindings of copies and holds, and that they are of one title.
   pub bound : Bound (goal_of H) (place H) (state H)
   pub of_title : (c h : ℕ) → Serves (place H c) h → title_of_hold H h ≡ title_of_copy H c
+
+-- Every legal history has it.
+abbrev pub Invariants : Type 0
+Invariants = (H : History) → IsLegal H → Invariant H

@@ -1,5 +1,5 @@
 -- Laws of all legal histories.
-use Rattle.std.specs.Prelude.{◌≡◌, ◌≢◌, ℕ, ◌+◌, ◌==◌, ◌↔◌, Bool, true, false, List, ◌∷◌, Option, Some, is_some}
+use Rattle.std.specs.Prelude.{◌≡◌, ◌≢◌, ℕ, ◌+◌, ◌==◌, ◌↔◌, Bool, true, false, List, ◌∷◌, Some, is_some}
 use Rattle.std.specs.List.{list_any}
 use Rattle.terms.specs.declared.command.Command.TheVariants.{CancelHold}
 use Rattle.terms.specs.declared.command.Request.{Request}
@@ -9,14 +9,13 @@ use Rattle.terms.specs.declared.row.HoldState.{HoldState}
 use Rattle.terms.specs.declared.row.HoldState.TheVariants.{Waiting, Ready, Filled, Cancelled, Expired}
 use Rattle.model.specs.Checks.{is_within}
 use Rattle.model.specs.History.{Event, History, patron_of, title_of, holds, hold_of}
-use Rattle.model.specs.Places.{Place, HoldShelf, Transit, Loan, MissingCopy, WithdrawnCopy, place, state, line, goal_of, title_of_hold}
+use Rattle.model.specs.Places.{HoldShelf, Transit, place, state, line, goal_of, title_of_hold}
 use Rattle.model.specs.Picture.{Picture, picture}
-use Rattle.model.specs.Claims.{Claims, AtMostOne}
+use Rattle.model.specs.Claims.{IsInOnePlace}
 use Rattle.model.specs.Loans.{due, renewals_left, open_loans, title_of_loan}
 use Rattle.model.specs.Accounts.{account, charges, credits, owed}
 use Rattle.model.specs.Refusals.{active_holds}
 use Rattle.model.specs.Pages.{page}
-use Rattle.model.specs.Invariant.{Invariant}
 use Rattle.terms.specs.Texts.{request_text}
 use Rattle.terms.specs.Callers.{owner_of}
 use Rattle.model.specs.Requests.{IsLegal, is_allowed, only_asks, adds, after_one, reply_to, after}
@@ -40,19 +39,9 @@ pub record IsBinding (H : History) (h : ℕ) : Type 0 where
 abbrev pub Bindings : Type 0
 Bindings = (H : History) (h : ℕ) → IsLegal H → IsBinding H h
 
--- The tables make at most one claim on a copy: that of its place. On the shelf there is none, and in every other place there is one.
-pub record IsPlaced (H : History) (c : ℕ) : Type 0 where
-  pub one : AtMostOne (picture H) c
-  pub named : (q : Place) → Claims (picture H) c q → place H c ≡ q
-  pub on_loan : (l : ℕ) → place H c ≡ Loan l → Claims (picture H) c (Loan l)
-  pub on_hold_shelf : (h : ℕ) → place H c ≡ HoldShelf h → Claims (picture H) c (HoldShelf h)
-  pub in_transit : (g : ℕ) (h : Option ℕ) → place H c ≡ Transit g h → Claims (picture H) c (Transit g h)
-  pub missing : place H c ≡ MissingCopy → Claims (picture H) c MissingCopy
-  pub withdrawn : place H c ≡ WithdrawnCopy → Claims (picture H) c WithdrawnCopy
-
--- The tables show every copy in its one place.
+-- The tables show every copy in one place, that of its last accepted movement.
 abbrev pub Places : Type 0
-Places = (H : History) (c : ℕ) → IsLegal H → IsPlaced H c
+Places = (H : History) (c : ℕ) → IsLegal H → IsInOnePlace (picture H) c (place H c)
 
 -- The holds that have a row, and so one state, are those of the numbers given.
 abbrev pub HoldRows : Type 0
@@ -113,7 +102,3 @@ pub record KeepsOwnRows (P Q : Picture) (p : ℕ) : Type 0 where
 -- A legal history agrees with the one before its last event on each patron whose own rows its picture keeps.
 abbrev pub KeptRowsAgree : Type 0
 KeptRowsAgree = (e : Event) (H : History) (p : ℕ) → IsLegal (e ∷ H) → KeepsOwnRows (picture H) (picture (e ∷ H)) p → AgreesOn H (e ∷ H) p
-
--- Every legal history has the invariant.
-abbrev pub Invariants : Type 0
-Invariants = (H : History) → IsLegal H → Invariant H

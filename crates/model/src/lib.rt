@@ -6,12 +6,12 @@
 
 ghost use Rattle.model.specs.Laws.{StaysLegal, Places, Bindings, Balance, HoldRows, FinalStates};
 ghost use Rattle.model.specs.Laws.{FirstInLineIsServed, RepeatsActOnce, OwnRows, KeptRowsAgree};
-ghost use Rattle.model.specs.Laws.{Invariants};
 ghost use Rattle.model.specs.AskingLaws.{ListsShowOnce, ListsRise, FirstIsServed};
 ghost use Rattle.model.specs.AskingLaws.{PulledCopiesServe, DebtsAreShown};
 ghost use Rattle.model.specs.AskingLaws.{AccountsAreShown, ShelvesAreUnclaimed};
 ghost use Rattle.model.specs.Calendars.{CalendarsAgree};
 ghost use Rattle.model.specs.Forms.{FormsStay, FormsAreWhole, RowsInLimits, FewClosedDays};
+ghost use Rattle.model.specs.Invariant.{Invariants};
 ghost use Rattle.model.specs.References.{References};
 ghost use Rattle.model.specs.Schemas.{is_of_schema_1, is_of_schema_2, sight1, sight2};
 ghost use Rattle.model.specs.Schemas.{OldListsStand, FinesWithoutGrace};
