@@ -7,7 +7,7 @@ use Rattle.std.proofs.lemmas.Bool.{cases_Bool, cases_lt, false_from_ne_true, le-
 use Rattle.sqlite_rules.specs.Lists.{Has}
 use Rattle.sqlite_rules.proofs.ListLemmas.{has_contained, contains_had}
 use Rattle.circ_tables.specs.declared.by_number.TheConstants.{PAGE_ROWS}
-use Rattle.store.specs.Migrating.{put_by}
+use Rattle.store.specs.Carrying.{put_by}
 use Rattle.store.specs.Pages.{AreRowsAfter, AreNumbered}
 
 -- What tells two keys of a table apart.

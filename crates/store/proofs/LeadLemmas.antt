@@ -23,14 +23,14 @@ use Rattle.terms.specs.declared.row.MetaRow.{MetaRow}
 use Rattle.terms.specs.declared.row.RuleRow1.{RuleRow1}
 use Rattle.terms.specs.declared.fault.Fault.{Fault}
 use Rattle.terms.specs.declared.fault.Fault.TheVariants.{Stored, Database as DatabaseFault}
-use Rattle.circ_tables.specs.Cells.{number_key, meta_cells, rule1_cells}
+use Rattle.circ_tables.specs.Cells.{number, number_key, pair_key, meta_cells, rule1_cells}
 use Rattle.circ_tables.specs.Encoding.{Any, Pair, Encodes, HasPictureAt, AreEncoded, IsEncoded}
 use Rattle.circ_tables.specs.Holds.{holds}
 use Rattle.circ_tables.specs.Holds1.{holds1}
 use Rattle.circ_tables.specs.Loans.{loans}
 use Rattle.circ_tables.specs.Loans1.{loans1}
 use Rattle.circ_tables.specs.Puts.{ChangesRows, Makes}
-use Rattle.circ_tables.specs.Reading.{GetsMetaInside, ListsInside}
+use Rattle.circ_tables.specs.Reading.{Table, GetsMetaInside, ListsInside}
 use Rattle.circ_tables.specs.Rules.{rules}
 use Rattle.circ_tables.specs.Rules1.{rules1}
 use Rattle.circ_tables.specs.SchemaNumber.{NamesSchema}
@@ -41,8 +41,9 @@ use Rattle.circ_tables.proofs.TableLemmas.{rules1_within}
 use Rattle.store.specs.Legal.{HasLegal}
 use Rattle.store.specs.Library.{HasTablesAt}
 use Rattle.store.specs.Lists.{AreAllOf}
-use Rattle.store.specs.Migrating.{LeadsInside, NamesInside, CarriesAll, MovesPage, IsToCarry, AreMoved, AreNamed, AreLedIfNamed, move_rows, all_over}
-use Rattle.store.specs.Transfers.{rules_transfer, rules_carried}
+use Rattle.store.specs.Carrying.{LeadsInside, CarriesAll, MovesPage, IsToCarry, Transfer, AreCarried, AreMoved, move_rows, all_over}
+use Rattle.store.specs.Migrating.{NamesInside, AreNamed, AreLedIfNamed}
+use Rattle.store.specs.Transfers.{holds_transfer, loans_transfer, rules_transfer, rules_carried}
 use Rattle.store.specs.Schemas.{IsKnown}
 use Rattle.store.proofs.OpenLemmas.{of_known}
 use Rattle.store.proofs.ListLemmas.{all_are, pair_before}
@@ -331,14 +332,32 @@ module _ {S T U : Type 0} (g : Ghosts S) {old mid new : Transaction S} {row : Me
 
 -- ---- a whole step
 
+-- What was carried over was a row within its limits; it was so from what the table had before, and it stands where it was put.
+module _ {K R N : Type 0} (old : Table K R) (new : Table K N) (transfer : Transfer K R N) where
+  were_legal : (a b : Maps) → AreCarried old new transfer a b → HasLegal old a
+  were_legal a b carried k v e = let it = carried k v e in (it.row, it.legal, it.was)
+
+  carried_from : (a b c : Maps) → b old.place ≡ a old.place → AreCarried old new transfer b c → AreCarried old new transfer a c
+  carried_from a b c same carried k v e = carried k v (ap (λ (m : Map). m k) same ∙ e)
+
+  carried_on : (a b c : Maps) → c new.place ≡ b new.place → AreCarried old new transfer a b → AreCarried old new transfer a c
+  carried_on a b c same carried k v e =
+      let it = carried k v e in
+      record {
+        row = it.row;
+        legal = it.legal;
+        was = it.was;
+        there = ap (λ (m : Map). m (new.key (transfer.new_key (transfer.carried it.row)))) same ∙ it.there;
+      }
+
 -- The holds were moved into a table that was made.
 pub record HoldsMoved (maps now : Maps) : Type 0 where
-  pub legal : HasLegal holds1 maps
+  pub carried : AreCarried holds1 holds holds_transfer maps now
   pub others : (at : ℕ) → at < holds_place → (at == holds1_place) ≡ false → now at ≡ maps at
 
-pub made_moved : (a b c : Maps) → ((at : ℕ) → at < 13 → b at ≡ a at) → AreMoved holds1 holds b c → HoldsMoved a c
+pub made_moved : (a b c : Maps) → ((at : ℕ) → at < 13 → b at ≡ a at) → AreMoved holds1 holds holds_transfer b c → HoldsMoved a c
 made_moved a b c same moved = record {
-  legal = subst (λ (m : Map). AreEncoded holds1.cells holds1.IsLegal m) (same holds1_place (omega arith)) moved.legal;
+  carried = carried_from holds1 holds holds_transfer a b c (same holds1_place (omega arith)) moved.carried;
   others = λ at less aside. moved.others at aside (ne_eqb at holds_place (λ there. omega (arith, less, there))) ∙ same at less;
 }
 
@@ -347,31 +366,32 @@ led_to_second a b c moved named m names =
     let meta = moved.others meta_place (omega arith) refl in
     let it = named.meta m (names_still a b m meta names) in
     record {
-      legal = (subst (λ (m : Map). AreEncoded meta_cells IsMeta m) meta it.0, moved.legal);
+      legal = (subst (λ (m : Map). AreEncoded meta_cells IsMeta m) meta it.0, were_legal holds1 holds holds_transfer a b moved.carried);
+      arrived = carried_on holds1 holds holds_transfer a b c (named.others holds_place refl) moved.carried;
       named = it.1;
       others = λ at left. named.others at left.1 ∙ moved.others at left.0 left.2;
     }
 
 -- So the rules, and then the loans.
 pub record RulesMoved (maps now : Maps) : Type 0 where
-  pub legal : HasLegal rules1 maps
+  pub carried : AreCarried rules1 rules rules_transfer maps now
   pub others : (at : ℕ) → at < rules_place → (at == rules1_place) ≡ false → now at ≡ maps at
 
 pub record LoansMoved (maps now : Maps) : Type 0 where
-  pub rules_legal : HasLegal rules1 maps
-  pub loans_legal : HasLegal loans1 maps
+  pub rules_over : AreCarried rules1 rules rules_transfer maps now
+  pub loans_over : AreCarried loans1 loans loans_transfer maps now
   pub others : (at : ℕ) → at < rules_place → (at == rules1_place) ≡ false → (at == loans1_place) ≡ false → now at ≡ maps at
 
-pub made_rules : (a b c : Maps) → ((at : ℕ) → at < 14 → b at ≡ a at) → AreMoved rules1 rules b c → RulesMoved a c
+pub made_rules : (a b c : Maps) → ((at : ℕ) → at < 14 → b at ≡ a at) → AreMoved rules1 rules rules_transfer b c → RulesMoved a c
 made_rules a b c same moved = record {
-  legal = subst (λ (m : Map). AreEncoded rules1.cells rules1.IsLegal m) (same rules1_place (omega arith)) moved.legal;
+  carried = carried_from rules1 rules rules_transfer a b c (same rules1_place (omega arith)) moved.carried;
   others = λ at less aside. moved.others at aside (ne_eqb at rules_place (λ there. omega (arith, less, there))) ∙ same at less;
 }
 
-pub made_loans : (a b c : Maps) → RulesMoved a b → AreMoved loans1 loans b c → LoansMoved a c
+pub made_loans : (a b c : Maps) → RulesMoved a b → AreMoved loans1 loans loans_transfer b c → LoansMoved a c
 made_loans a b c first moved = record {
-  rules_legal = first.legal;
-  loans_legal = subst (λ (m : Map). AreEncoded loans1.cells loans1.IsLegal m) (first.others loans1_place (omega arith) refl) moved.legal;
+  rules_over = carried_on rules1 rules rules_transfer a b c (moved.others rules_place refl refl) first.carried;
+  loans_over = carried_from loans1 loans loans_transfer a b c (first.others loans1_place (omega arith) refl) moved.carried;
   others = λ at less aside beside. moved.others at beside (ne_eqb at loans_place (λ there. omega (arith, less, there))) ∙ first.others at less aside;
 }
 
@@ -380,7 +400,15 @@ led_to_third a b c moved named m names =
     let meta = moved.others meta_place (omega arith) refl refl in
     let it = named.meta m (names_still a b m meta names) in
     record {
-      legal = (subst (λ (m : Map). AreEncoded meta_cells IsMeta m) meta it.0, moved.rules_legal, moved.loans_legal);
+      legal = (
+        subst (λ (m : Map). AreEncoded meta_cells IsMeta m) meta it.0,
+        were_legal rules1 rules rules_transfer a b moved.rules_over,
+        were_legal loans1 loans loans_transfer a b moved.loans_over,
+      );
+      arrived = (
+        carried_on rules1 rules rules_transfer a b c (named.others rules_place refl) moved.rules_over,
+        carried_on loans1 loans loans_transfer a b c (named.others loans_place refl) moved.loans_over,
+      );
       named = it.1;
       others = λ at left. named.others at left.1 ∙ moved.others at left.0 left.2 left.3;
     }
@@ -396,6 +424,15 @@ rule1_told a b p q e =
     let same_rate : a.rate ≡ b.rate = cc in
     let same_cap : a.cap ≡ b.cap = cc in
     λ i. record { kind = same_kind i; copy_kind = same_copy_kind i; period = same_period i; renewals = same_renewals i; rate = same_rate i; cap = same_cap i }
+
+-- A rule stands under the numbers of its two kinds.
+rule1_keyed : (db : Database) (maps : Maps) → Holds (schema_at 3) db maps → (k : Row) (r : RuleRow1) → maps rules1_place k ≡ Some (rule1_cells r)
+    → k ≡ pair_key r.kind r.copy_kind
+rule1_keyed db maps holds k r e =
+    let it = (holds.tables rules1_place rules1.shape refl).whole k (rule1_cells r) e in
+    let first : column it.0 1 ≡ number r.kind = ap (λ (v : Row). column v 0) it.3 in
+    let second : column it.0 2 ≡ number r.copy_kind = ap (λ (v : Row). column v 1) it.3 in
+    sym it.2 ∙ (λ i. first i ∷ second i ∷ [])
 
 abbrev comes_before : RuleRow1 → RuleRow1 → Type 0
 comes_before r s = IsPairBefore (r.kind, r.copy_kind) (s.kind, s.copy_kind)
@@ -413,7 +450,7 @@ rules_listed =
 
 pub rules_unread : {S L : Type 0} {g : Ghosts S} {old new : Transaction S} {items : L → List RuleRow1} {fault : Fault}
     → ListsInside {L = L} rules1 items (λ m. ListedBy PairBelow m is_any) g old new (Err fault)
-    → LeadsInside {S = S} {T = L} 3 3 (AreMoved rules1 rules) (IsToCarry rules) (all_over rules1 rules_transfer) g old new (Err fault)
+    → LeadsInside {S = S} {T = L} 3 3 (AreMoved rules1 rules rules_transfer) (IsToCarry rules) (all_over rules1 rules_transfer) g old new (Err fault)
 rules_unread read = record {
   same_reference = read.works.same_reference;
   survives = read.works.survives;
@@ -439,7 +476,7 @@ rules_moved g {old} {mid} {new} {items} {l} r read moves = record {
       on_ok r (λ steps. (
         move_rows rules1 rules rules_transfer (items l) maps,
         (steps 3 has_third).maps maps (subst (λ d. Holds (schema_at 3) d maps) (sym seen.1.0.now_is) holds),
-        listed_moved rules_carried (items l) maps read.limits seen.0,
+        listed_moved rules_carried (items l) maps read.limits seen.0 (rule1_keyed (state g old.conn.now).now maps holds),
       )) (moves.steps clean (between clean begun (maps, holds)).0);
   leads = λ clean begun P shown ready.
       let seen = read.lists 3 has (early clean) shown.maps shown.holds in

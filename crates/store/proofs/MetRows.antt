@@ -97,6 +97,29 @@ module _ {R : Type 0} {t : Table ℕ R} {number_of : R → ℕ} (table : IsNumbe
     on_page : (v : Row) → Has (map t.cells page) v → (r : R) × t.IsLegal r × (v ≡ t.cells r)
     on_page v has = let it = has_mapped t.cells page v has in (it.0, All-contains t.IsLegal page it.0 is.limits (contains_had page it.0 it.1), it.2)
 
+    -- What comes after a page has a number above its last one.
+    pub comes_after : (last : ℕ) → option_map number_of (slice_get page (length page - 1)) ≡ Some last → (k v : Row) → maps t.place k ≡ Some v
+        → ((w : Row) → Has (map t.cells page) w → value_cmp (column w 0) (column v 0) ≡ Less) → is_next (Some last) v ≡ true
+    comes_after last end k v e less =
+        let it = last_there number_of page last end in
+        let key = is.keys k v e in
+        subst (λ (n : ℕ). is_next (Some n) v ≡ true) it.2 (from_alone _
+        (subst (λ w. is_least w (pos (number_of it.0 + 1)) ≡ true) (sym key.1)
+        (later (number_of it.0) key.0 (subst (λ w. value_cmp (Int (pos (number_of it.0))) w ≡ Less) key.1
+        (subst (λ w. value_cmp w (column v 0) ≡ Less) (table.first_cell it.0)
+        (less (t.cells it.0) (mapped_has t.cells page it.0 (has_at page (length page - 1) it.0 it.1))))))))
+
+    -- After a page that is empty nothing comes.
+    pub none_after : length page ≡ 0 → (k v : Row) → maps t.place k ≡ Some v → is_next after v ≡ true → ⊥
+    none_after none k v e next = elim (is.first.whole k v e next) [
+      | inl has ↦ (let it = has_mapped t.cells page v has in none_has page none it.0 it.1)
+      | inr rest ↦ (let full : length (map t.cells page) ≡ PAGE_ROWS = rest.0 in let same = length-map page t.cells in omega (arith, full, none, same))
+    ]
+      where
+        none_has : (rows : List R) → length rows ≡ 0 → (r : R) → Has rows r → ⊥
+        none_has [] none r has = has
+        none_has (x ∷ rows) none r has = let never : ⊥ = cc in never
+
     -- A page that is empty is the last: all rows were met.
     pub all_met : length page ≡ 0 → HasLegal t maps
     all_met none k v e = elim (so_far.met k v e) [

@@ -20,7 +20,7 @@ use Rattle.circ_tables.specs.declared.by_number.TheConstants.{PAGE_ROWS}
 use Rattle.circ_tables.proofs.ShownLemmas.{are_encoded}
 use Rattle.store.specs.Library.{HasTablesAt}
 use Rattle.store.specs.Lists.{AreAllOf}
-use Rattle.store.specs.Migrating.{Transfer, IsTransfer, put_by, move_one, move_all, all_over}
+use Rattle.store.specs.Carrying.{Transfer, IsTransfer, put_by, move_one, move_all, all_over}
 use Rattle.store.specs.Pages.{AreRowsAfter, AreNumbered}
 use Rattle.store.proofs.CarriedRows.{left_above, carried_to, all_taken, all_put, whole_taken, whole_put, none_left, none_carried, all_left}
 use Rattle.store.proofs.CarriedRows.{all_carried, next_left, next_carried}

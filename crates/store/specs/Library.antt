@@ -1,5 +1,6 @@
 -- The words for a library that the crates above speak of.
 use Rattle.std.specs.Prelude.{◌≡◌, ◌⊎◌, ℕ, IsTrue}
+use Rattle.sqlite_disk.specs.Disk.{MoreFaults}
 use Rattle.sqlite.specs.Effect.{Database}
 use Rattle.sqlite.specs.Tree.{Trees}
 use Rattle.sql_maps.specs.Maps.{Maps, Holds}
@@ -22,6 +23,10 @@ HasTables = HasTablesAt SCHEMA
 pub record IsAsItWas (old new : State) : Type 0 where
   pub now : new.now ≡ old.now
   pub left : (trees : Trees) → new.may_leave trees → old.may_leave trees ⊎ (trees ≡ old.now.trees)
+
+-- Only where the disk failed or refused a call isn't the database open any more.
+abbrev pub StaysOpen : State → State → Type 0
+StaysOpen old new = HasCleanDisk new → IsTrue old.is_open → IsTrue new.is_open ⊎ MoreFaults old.faults new.faults
 
 -- So far the disk has given back what was written to it.
 abbrev pub IsClean : {S : Type 0} → Ghosts S → Held S → Type 0

@@ -1,13 +1,13 @@
 -- How a library of an older schema is led to the newest one.
-use Rattle.std.specs.Prelude.{◌≡◌, ◌⊎◌, ◌<◌, ◌≤◌, ◌+◌, ◌-◌, ◌^◌, ◌==◌, ℕ, zero, suc, Bool, true, false, List, [], ◌∷◌, Option, Some}
-use Rattle.std.specs.Prelude.{None, option_map, Err, Result, IfOk, OnOk, OnErr, IsTrue}
+use Rattle.std.specs.Prelude.{◌≡◌, ◌⊎◌, ◌<◌, ◌≤◌, ◌+◌, ◌-◌, ◌^◌, ◌==◌, ℕ, zero, suc, false}
+use Rattle.std.specs.Prelude.{Err, Result, IfOk, OnOk, OnErr, IsTrue}
 use Rattle.sqlite.specs.Effect.{Database}
 use Rattle.sqlite.specs.Held.{Held, state}
 use Rattle.sqlite.specs.State.{State, HasCleanDisk, KeepsCommit, Survives}
 use Rattle.sqlite.specs.Store.{Ghosts}
 use Rattle.sqlite.specs.Tree.{Trees}
 use Rattle.sqlite.specs.declared.transaction.Transaction.{Transaction}
-use Rattle.sql_maps.specs.Maps.{Maps, Holds, put_at, take_at}
+use Rattle.sql_maps.specs.Maps.{Maps, Holds}
 use Rattle.terms.specs.Limits.{InLimits, IsMeta}
 use Rattle.terms.specs.Pictures.{Picture}
 use Rattle.terms.specs.Schemas.{IsOfSchema, led_on, led_by}
@@ -18,110 +18,19 @@ use Rattle.circ_tables.specs.Cells.{meta_cells}
 use Rattle.circ_tables.specs.Encoding.{HasPictureAt, AreEncoded}
 use Rattle.circ_tables.specs.Holds1.{holds1}
 use Rattle.circ_tables.specs.Loans1.{loans1}
-use Rattle.circ_tables.specs.Puts.{ChangesRows}
-use Rattle.circ_tables.specs.Reading.{Table}
 use Rattle.circ_tables.specs.Rules1.{rules1}
 use Rattle.circ_tables.specs.SchemaNumber.{NamesSchema}
-use Rattle.circ_tables.specs.Shape.{HasTable, schema_at, meta_place, rules1_place, loans1_place, holds1_place, holds_place, rules_place}
+use Rattle.circ_tables.specs.Shape.{schema_at, meta_place, rules1_place, loans1_place, holds1_place, holds_place, rules_place}
+use Rattle.circ_tables.specs.Holds.{holds}
+use Rattle.circ_tables.specs.Loans.{loans}
+use Rattle.circ_tables.specs.Rules.{rules}
+use Rattle.store.specs.Carrying.{AreCarried, LeadsInside}
 use Rattle.store.specs.Commit.{Brings, HasDone}
 use Rattle.store.specs.Legal.{HasLegal}
-use Rattle.store.specs.Library.{HasTablesAt, IsAsItWas}
+use Rattle.store.specs.Library.{IsAsItWas, StaysOpen}
 use Rattle.store.specs.Schemas.{IsKnown, IsOlder, next_schema}
 use Rattle.store.specs.Stops.{Leaves, KeepsPicture, KeepsPictureAt}
-
--- ---- rows that are carried over
-
--- From a table to that of the next schema: the key of a row in each and what tells two keys apart, what a row becomes, and the picture with
--- these rows in the two tables.
-pub record Transfer (K R N : Type 0) : Type 0 where
-  pub key_of : R → K
-  pub new_key : N → K
-  pub same : K → K → Bool
-  pub carried : R → N
-  pub with_both : Picture → (K → Option R) → (K → Option N) → Picture
-
--- The map with this under the key.
-abbrev pub put_by : {K A : Type 0} → (K → K → Bool) → (K → A) → K → A → K → A
-put_by same t k x j = elim (same k j) [ true ↦ x | false ↦ t j ]
-
--- What ties the two tables to it; they are two, and a library that has the new one has the old one.
-pub record IsTransfer {K R N : Type 0} (old : Table K R) (new : Table K N) (transfer : Transfer K R N) : Type 0 where
-  pub there : HasTable new.since new.since
-  pub was_there : HasTable old.since new.since
-  pub apart : (old.place == new.place) ≡ false
-  pub own : (k : K) → transfer.same k k ≡ true
-  pub met : (j k : K) → transfer.same j k ≡ true → j ≡ k
-  pub same : (P : Picture) → transfer.with_both P (old.rows P) (new.rows P) ≡ P
-  pub old_rows : (P : Picture) (f : K → Option R) (g : K → Option N) → old.rows (transfer.with_both P f g) ≡ f
-  pub taken : (P : Picture) (f : K → Option R) (g : K → Option N) (k : K)
-      → old.set (transfer.with_both P f g) k None ≡ transfer.with_both P (put_by transfer.same f k None) g
-  pub put_in : (P : Picture) (f : K → Option R) (g : K → Option N) (k : K) (n : N)
-      → new.set (transfer.with_both P f g) k (Some n) ≡ transfer.with_both P f (put_by transfer.same g k (Some n))
-  pub key_is : (r : R) → transfer.new_key (transfer.carried r) ≡ transfer.key_of r
-  pub legal : (r : R) → old.IsLegal r → new.IsLegal (transfer.carried r)
-  pub limits : (P : Picture) (f : K → Option R) (g : K → Option N) → InLimits P → ((k : K) (r : R) → f k ≡ Some r → (transfer.key_of r ≡ k) × old.IsLegal r)
-      → ((k : K) (n : N) → g k ≡ Some n → (transfer.new_key n ≡ k) × new.IsLegal n) → InLimits (transfer.with_both P f g)
-
--- One row is put into the new table, and taken out of the old one; so each of a list. The same in the maps.
-module _ {K R N : Type 0} (old : Table K R) (new : Table K N) (transfer : Transfer K R N) where
-  abbrev pub move_one : R → Picture → Picture
-  move_one r P = old.set (new.set P (transfer.new_key (transfer.carried r)) (Some (transfer.carried r))) (transfer.key_of r) None
-
-  abbrev pub move_all : List R → Picture → Picture
-  move_all [] P = P
-  move_all (r ∷ more) P = move_all more (move_one r P)
-
-  abbrev pub move_row : R → Maps → Maps
-  move_row r maps = take_at (put_at maps new.place (new.key (transfer.new_key (transfer.carried r))) (new.cells (transfer.carried r))) old.place
-      (old.key (transfer.key_of r))
-
-  abbrev pub move_rows : List R → Maps → Maps
-  move_rows [] maps = maps
-  move_rows (r ∷ more) maps = move_rows more (move_row r maps)
-
-  -- The row is moved, or the rows of a page, in the maps and in the picture. The one fault is 91.
-  abbrev pub MovesRow : {S T : Type 0} → R → Ghosts S → Transaction S → Transaction S → Result T Fault → Type 0
-  MovesRow r = ChangesRows new.since (move_row r) (Unit {0}) (move_one r)
-
-  abbrev pub MovesPage : {S T : Type 0} → List R → Ghosts S → Transaction S → Transaction S → Result T Fault → Type 0
-  MovesPage page = ChangesRows new.since (move_rows page) (Unit {0}) (move_all page)
-
--- A library is led in the transaction from the tables of one schema to those of another, or the same. Where the first are there nothing is
--- committed, and after an answer the transaction goes on, over the others; what an answer says of their maps is so whatever they show.
--- Where they show a picture that is ready for it they show the other afterwards, and then no fault of a stored row comes.
-pub record LeadsInside {S T : Type 0} (from to : ℕ) (AreLed : Maps → Maps → Type 0) (IsReady : Picture → Type 0) (change : Picture → Picture)
-    (g : Ghosts S) (old new : Transaction S) (result : Result T Fault) : Type 0 where
-  pub same_reference : new.conn.ghost_name ≡ old.conn.ghost_name
-  pub survives : Survives (state g old.conn.now) (state g new.conn.now) (λ _. ⊥)
-  pub kept : HasCleanDisk (state g new.conn.now) → IsTrue (state g old.conn.now).in_transaction
-      → HasTablesAt from (state g old.conn.now).now → KeepsCommit (state g old.conn.now) (state g new.conn.now)
-  pub inside : HasCleanDisk (state g new.conn.now) → IsTrue (state g old.conn.now).in_transaction
-      → HasTablesAt from (state g old.conn.now).now → OnOk result (IsTrue (state g new.conn.now).in_transaction)
-  pub rows : HasCleanDisk (state g new.conn.now) → IsTrue (state g old.conn.now).in_transaction
-      → (maps : Maps) → Holds (schema_at from) (state g old.conn.now).now maps
-      → OnOk result ((now : Maps) × Holds (schema_at to) (state g new.conn.now).now now × AreLed maps now)
-  pub leads : HasCleanDisk (state g new.conn.now) → IsTrue (state g old.conn.now).in_transaction
-      → (P : Picture) → HasPictureAt from (state g old.conn.now).now P → IsReady P
-      → OnOk result (HasPictureAt to (state g new.conn.now).now (change P))
-  pub sound : HasCleanDisk (state g new.conn.now) → IsTrue (state g old.conn.now).in_transaction → result ≡ Err Stored
-      → (P : Picture) → HasPictureAt from (state g old.conn.now).now P → IsReady P → ⊥
-
--- The rows of the picture lie within their limits, and the new table has none yet.
-abbrev pub IsToCarry : {K N : Type 0} → Table K N → Picture → Type 0
-IsToCarry {K} new P = InLimits P × ((k : K) → new.rows P k ≡ None)
-
--- Every row of the old table was that of a row within its limits, and all but the two tables stand as they stood.
-pub record AreMoved {K R N : Type 0} (old : Table K R) (new : Table K N) (maps now : Maps) : Type 0 where
-  pub legal : HasLegal old maps
-  pub others : (at : ℕ) → (at == old.place) ≡ false → (at == new.place) ≡ false → now at ≡ maps at
-
--- All rows stand in the new table, and none in the old one.
-abbrev pub all_over : {K R N : Type 0} → Table K R → Transfer K R N → Picture → Picture
-all_over old transfer P = transfer.with_both P (λ _. None) (λ k. option_map transfer.carried (old.rows P k))
-
--- The rows of a table are carried over, inside the first schema that has the new one.
-abbrev pub CarriesAll : {K R N S T : Type 0} → Table K R → Table K N → Transfer K R N → Ghosts S → Transaction S → Transaction S → Result T Fault → Type 0
-CarriesAll old new transfer = LeadsInside new.since new.since (AreMoved old new) (IsToCarry new) (all_over old transfer)
+use Rattle.store.specs.Transfers.{holds_transfer, loans_transfer, rules_transfer}
 
 -- ---- the number of the schema
 
@@ -153,10 +62,17 @@ IsLeft (suc zero) at = (at < holds_place) × ((at == meta_place) ≡ false) × (
 IsLeft (suc (suc zero)) at = (at < rules_place) × ((at == meta_place) ≡ false) × ((at == rules1_place) ≡ false) × ((at == loans1_place) ≡ false)
 IsLeft _ at = Unit {0}
 
--- The maps of an older schema were led to these: none of the rows that were carried over or changed was damaged, the next schema is named,
--- and each other table stands as it stood.
+-- Each row of the tables that the step carries over stands in its new table.
+abbrev pub HaveArrived : ℕ → Maps → Maps → Type 0
+HaveArrived (suc zero) maps now = AreCarried holds1 holds holds_transfer maps now
+HaveArrived (suc (suc zero)) maps now = AreCarried rules1 rules rules_transfer maps now × AreCarried loans1 loans loans_transfer maps now
+HaveArrived _ maps now = Unit {0}
+
+-- The maps of an older schema were led to these: none of the rows that were carried over or changed was damaged, each that was carried over
+-- stands in its new table, the next schema is named, and each other table stands as it stood.
 pub record AreLedOn (n : ℕ) (maps now : Maps) : Type 0 where
   pub legal : CanBeLed n maps
+  pub arrived : HaveArrived n maps now
   pub named : NamesSchema now (next_schema n)
   pub others : (at : ℕ) → IsLeft n at → now at ≡ maps at
 
@@ -220,6 +136,7 @@ pub record TellsSchema {S : Type 0} (g : Ghosts S) (old new : Held S) (result : 
   pub now : HasCleanDisk (state g new) → IsTrue (state g new).is_open → (state g new).now ≡ (state g old).now
   pub committed : HasCleanDisk (state g new) → IsTrue (state g new).is_open → (state g new).committed ≡ (state g old).now
   pub left : HasCleanDisk (state g new) → (trees : Trees) → (state g new).may_leave trees → (state g old).may_leave trees
+  pub closes : StaysOpen (state g old) (state g new)
   pub told : HasCleanDisk (state g new) → IfOk result (λ named. (n : ℕ) → IsKnown n → (P : Picture)
       → HasPictureAt n (state g old).now P → P.meta.schema ≡ named)
   pub sound : HasCleanDisk (state g new) → result ≡ Err Stored → (n : ℕ) → IsKnown n → (P : Picture)

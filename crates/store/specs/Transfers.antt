@@ -16,7 +16,18 @@ use Rattle.circ_tables.specs.Loans.{loans}
 use Rattle.circ_tables.specs.Loans1.{loans1}
 use Rattle.circ_tables.specs.Rules.{rules}
 use Rattle.circ_tables.specs.Rules1.{rules1}
-use Rattle.store.specs.Migrating.{Transfer, IsTransfer}
+use Rattle.sql_maps.proofs.MapLemmas.{same_keys}
+use Rattle.circ_tables.specs.Cells.{number_key, pair_key}
+use Rattle.store.specs.Carrying.{Transfer, IsTransfer}
+
+number_keys : (j k : ℕ) → number_key j ≡ number_key k → j ≡ k
+number_keys j k same = cc
+
+pair_keys : (j k : Pair) → pair_key j.0 j.1 ≡ pair_key k.0 k.1 → j ≡ k
+pair_keys j k same =
+    let first : j.0 ≡ k.0 = cc in
+    let second : j.1 ≡ k.1 = cc in
+    λ i. (first i, second i)
 
 pair_met : (j k : Pair) → ((j.0 == k.0) && (j.1 == k.1)) ≡ true → j ≡ k
 pair_met j k same =
@@ -47,6 +58,8 @@ holds_carried = record {
   taken = λ P f g k. refl;
   put_in = λ P f g k n. refl;
   key_is = λ r. refl;
+  keys = number_keys;
+  own_keys = λ k. (same_keys (number_key k) refl, same_keys (number_key k) refl);
   legal = λ r is. (is.0, is.1, is.2, is.3, is.4, is.5, tt);
   limits = λ P f g is old new. record {
     meta = is.meta;
@@ -90,6 +103,8 @@ loans_carried = record {
   taken = λ P f g k. refl;
   put_in = λ P f g k n. refl;
   key_is = λ r. refl;
+  keys = number_keys;
+  own_keys = λ k. (same_keys (number_key k) refl, same_keys (number_key k) refl);
   legal = λ r is. (is.0, is.1, is.2, is.3, is.4, is.5, is.6, is.7, is.8, is.9, is.10, omega arith);
   limits = λ P f g is old new. record {
     meta = is.meta;
@@ -134,6 +149,8 @@ rules_carried = record {
   taken = λ P f g k. refl;
   put_in = λ P f g k n. refl;
   key_is = λ r. refl;
+  keys = pair_keys;
+  own_keys = λ k. (same_keys (pair_key k.0 k.1) refl, same_keys (pair_key k.0 k.1) refl);
   legal = λ r is. (is.0, is.1, is.2, is.3, is.4, is.5, omega arith);
   limits = λ P f g is old new. record {
     meta = is.meta;

@@ -3,7 +3,7 @@
 ghost use Rattle.std.specs.Prelude.{◌≡◌, false, refl, IfOk};
 ghost use Rattle.circ_tables.specs.Rules1.{rules1};
 ghost use Rattle.circ_tables.specs.Rules.{rules};
-ghost use Rattle.store.specs.Migrating.{Transfer, IsTransfer, MovesRow, MovesPage, CarriesAll};
+ghost use Rattle.store.specs.Carrying.{Transfer, IsTransfer, MovesRow, MovesPage, CarriesAll};
 ghost use Rattle.store.specs.Migrating.{NamesInside, LeadsFrom, LeadsOnInside, StepsOn};
 ghost use Rattle.store.specs.Migrating.{TellsSchema};
 ghost use Rattle.store.specs.Transfers.{holds_transfer, holds_carried, loans_transfer};

@@ -18,7 +18,7 @@ pub pages-init : goal.pages-init
 pages-init g c = record {
   same_reference = refl;
   survives = same_survives (state g.S.Store c.args.tx.now.conn.now);
-  there = λ clean begun there. (same_keeps (state g.S.Store c.args.tx.now.conn.now), begun, none_moved g.R.Table.table g.R.Next.Table.table there.0 _ there.1);
+  there = λ clean begun there. (same_keeps (state g.S.Store c.args.tx.now.conn.now), begun, none_moved g.R.Table.table g.R.Next.Table.table g.R.Carried.transfer there.0 _ there.1);
   carried = λ clean begun P shown it.
       let table = subst (IsNumberTable g.R.Table.table) (fun_ext g.met.R.CarriedByNumber.by_key) g.met.R.Numbered.sound in
       subst (HasPictureAt g.R.Next.Table.table.since (state g.S.Store c.args.tx.now.conn.now).now)

@@ -2,7 +2,7 @@ use Rattle.std.proofs.Common.{◌∙◌, refl, arith}
 use Rattle.sqlite.specs.Held.{state}
 use Rattle.sqlite.specs.State.{HasCleanDisk}
 use Rattle.sql_maps.proofs.CallLemmas.{same_keeps}
-use Rattle.store.specs.Migrating.{move_one, move_all, move_row, move_rows}
+use Rattle.store.specs.Carrying.{move_one, move_all, move_row, move_rows}
 use Rattle.store.proofs.Steps.{then, keeps_then, same_survives, item_at, steps_none, steps_next, steps_all, draws_none, draws_next, draws_all}
 use Rattle.store.proofs.migrating.carry_page.Goals as goal
 

@@ -5,7 +5,7 @@ use Rattle.sqlite.specs.State.{HasCleanDisk, KeepsCommit, Survives}
 use Rattle.sql_maps.specs.Maps.{Steps}
 use Rattle.circ_tables.specs.Encoding.{Draws}
 use Rattle.circ_tables.specs.Shape.{schema_at, HasTable}
-use Rattle.store.specs.Migrating.{move_all, move_rows}
+use Rattle.store.specs.Carrying.{move_all, move_rows}
 use Rattle.store.proofs.migrating.carry_page.Given as goal
 
 abbrev pub invariant-rows : goal.invariant-rows

@@ -2,7 +2,8 @@ use Rattle.std.proofs.Common.{refl}
 use Rattle.terms.specs.Limits.{InLimits}
 use Rattle.terms.specs.Schemas.{IsOfSchema1, led_to_2}
 use Rattle.circ_tables.specs.Holds1.{holds1}
-use Rattle.store.specs.Migrating.{AreLedIfNamed, all_over}
+use Rattle.store.specs.Carrying.{all_over}
+use Rattle.store.specs.Migrating.{AreLedIfNamed}
 use Rattle.store.specs.Transfers.{holds_transfer}
 use Rattle.store.proofs.LeadLemmas.{leads_then, leads_failed, made_leads, encoded_1, HoldsMoved, made_moved, led_to_second}
 use Rattle.store.proofs.migrating.lead_to_2.Goals as goal

@@ -4,7 +4,8 @@ use Rattle.terms.specs.Pictures.{Picture}
 use Rattle.terms.specs.Schemas.{IsOfSchema2, led_to_3}
 use Rattle.circ_tables.specs.Loans1.{loans1}
 use Rattle.circ_tables.specs.Rules1.{rules1}
-use Rattle.store.specs.Migrating.{AreLedIfNamed, all_over}
+use Rattle.store.specs.Carrying.{all_over}
+use Rattle.store.specs.Migrating.{AreLedIfNamed}
 use Rattle.store.specs.Transfers.{rules_transfer, loans_transfer, rules_carried}
 use Rattle.store.proofs.MigrateLemmas.{all_over_limits}
 use Rattle.store.proofs.LeadLemmas.{leads_then, leads_failed, made_leads, encoded_2, own_rules, RulesMoved, made_rules, LoansMoved, made_loans, led_to_third}
