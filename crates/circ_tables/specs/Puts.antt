@@ -15,7 +15,7 @@ use Rattle.terms.specs.declared.fault.Fault.TheVariants.{Database}
 use Rattle.terms.specs.declared.row.MetaRow.{MetaRow}
 use Rattle.terms.specs.declared.row.KeptRow.{KeptRow}
 use Rattle.circ_tables.specs.Cells.{number_key, meta_cells, kept_key, kept_cells}
-use Rattle.circ_tables.specs.Encoding.{Draws}
+use Rattle.circ_tables.specs.Encoding.{Draws, HasNoLibrary}
 use Rattle.circ_tables.specs.Reading.{Table}
 use Rattle.circ_tables.specs.Shape.{schema_at, HasTable, meta_place, kept_place}
 
@@ -69,6 +69,11 @@ PutsMeta row = Puts 1 (λ maps. put_at maps meta_place (number_key 1) (meta_cell
 abbrev pub PutsKept : {S T : Type 0} → KeptRow → Ghosts S → Transaction S → Transaction S → Result T Fault → Type 0
 PutsKept row = Puts 1 (λ maps. put_at maps kept_place (kept_key row.caller row.key) (kept_cells row)) (IsOwner row.caller)
     (λ P. record P { kept = put_kept P.kept row.caller row.key (Some row) })
+
+-- In the transaction a library was made where none was.
+abbrev pub FindsNone : {S T : Type 0} → Ghosts S → Transaction S → Transaction S → Result T Fault → Type 0
+FindsNone g old new result = HasCleanDisk (state g new.conn.now) → IsTrue (state g old.conn.now).in_transaction
+    → OnOk result (HasNoLibrary (state g old.conn.now).now)
 
 -- The schema is led from one stage to another, with the maps of the tables that are there. Its one fault is 91.
 pub record Makes {S T : Type 0} (from to : Schema) (g : Ghosts S) (old new : Transaction S) (result : Result T Fault) : Type 0 where

@@ -1,7 +1,7 @@
 -- What CREATE TABLE and CREATE INDEX do to a database.
 use Rattle.std.proofs.Common.{arith, ◌≡◌, ◌≤◌, ◌⊎◌, inl, inr, length, ℕ, zero, suc, false, List, [], ◌∷◌, ◌++◌, slice_get, Some, None, Ok}
-use Rattle.std.proofs.Common.{Err, Result, sym, ap, subst, ◌∙◌}
-use Rattle.std.specs.Prelude.{OnOk}
+use Rattle.std.proofs.Common.{Err, Result, true≢false, sym, ap, subst, ◌∙◌}
+use Rattle.std.specs.Prelude.{OnOk, is_ok}
 use Rattle.sqlite.specs.Order.{Row}
 use Rattle.sqlite.specs.Table.{Table}
 use Rattle.sqlite.specs.Schema.{Schema}
@@ -13,7 +13,7 @@ use Rattle.sqlite.specs.Command.TheVariants.{CreateTable, CreateIndex}
 use Rattle.sqlite.specs.Effect.{Database, IsDatabase}
 use Rattle.sqlite.specs.Does.{Tally, Does, lacks_sequence}
 use Rattle.sqlite.specs.Listing.{understood}
-use Rattle.sqlite.specs.State.{State, mode_of, Writes, Executes, ExecutesInside, KeepsCommit}
+use Rattle.sqlite.specs.State.{State, mode_of, Writes, Executes, ExecutesIn, ExecutesInside, KeepsCommit}
 use Rattle.sqlite.specs.declared.error.Error.{Error}
 use Rattle.sqlite_rules.proofs.ListLemmas.{all_has, has_got}
 use Rattle.sqlite.proofs.Callers.{IsPlain, command_of, statement_of, runs_as}
@@ -73,6 +73,14 @@ made before text defined makes old new count maps free holds h =
             (no_rows t (maps i) (free i new.1))
       ];
     })
+
+-- no text runs that isn't understood
+pub not_understood : (schema : Schema) (text : List ℕ) → is_ok (understood schema text) ≡ false → (old new : State) (count : ℕ)
+    → old.now.schema ≡ schema → Executes text [] old new (Ok count) → ⊥
+unfolding ExecutesIn
+not_understood schema text none old new count has ran =
+    let known : Ok ran.0 ≡ understood schema text = sym ran.1.is ∙ ap (λ s. understood s text) has in
+    true≢false (ap is_ok known ∙ none)
 
 -- what has to be computed of the text of an index
 pub record Indexes (before : Schema) (at : ℕ) (table : Table) (text : List ℕ) (defined : Index) : Type 0 where

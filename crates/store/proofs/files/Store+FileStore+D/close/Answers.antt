@@ -6,6 +6,7 @@ use Rattle.store.proofs.files.Store+FileStore+D.close.Goals as goal
 
 pub returns-in-Ok : goal.returns-in-Ok
 returns-in-Ok g c = record {
+  closed = let it = rw c.into_connection.ensures.same at c.in-Ok.ensures.ok in (it.0, it.1, it.2);
   copied = λ honest P keeps image may.
       let it = rw c.into_connection.ensures.same at (c.in-Ok.ensures.copied honest) in
       let was = file_state c.args.self in
