@@ -8,7 +8,7 @@ and in the table of the rules. The numbers of refusals and faults (`crates/terms
 program's messages (`crates/messages/src/meanings.rt`), the manual page and the rules. The runs of the usage are those of the manual page, and the newest
 version of CHANGES.md and its schema are the program's. Each edit that the tables of wrong bodies name (`docs/WRONG-BODIES.md`) is there, in the crate that they name, and each field of the headline has its row. Each name in backquotes that only code
 can have (with an underscore, or capitals within) in the documents of NAMING stands in a source, or is that of a file. The table of the
-files that the headline's words stand in (`docs/PROOFS.md`) is the one that `tests/headline_files` makes.
+files that the headline's words stand in (`docs/PROOFS.md`) is the one that `tests/headline_files` makes, and so is that of the files that make it about the requests and the database.
 """
 
 import os
@@ -124,9 +124,11 @@ def main():
     if len(names) < 500:
         wrong.append(f"only {len(names)} names of code were found in the documents")
     same("the names of code in the documents", sorted({it for it in names if it[1] not in words_there}), [])
-    made = subprocess.run([f"{TOP}/tests/headline_files"], check=True, capture_output=True, text=True).stdout
-    listed = re.search(r"^\| file \| lines \|.*\n(?:\|.*\n)+", read("docs/PROOFS.md"), re.M)
-    wrong += [f"docs/PROOFS.md, the files of the headline: {it}" for it in unified_diff(listed[0].splitlines() if listed else [], made.splitlines(), "document", "tests/headline_files", n=0, lineterm="")]
+    listed = re.findall(r"^\| file \| lines \|.*\n(?:\|.*\n)+", read("docs/PROOFS.md"), re.M)
+    for at, words in enumerate(([], ["--about"])):
+        made = subprocess.run([f"{TOP}/tests/headline_files", *words], check=True, capture_output=True, text=True).stdout
+        there = listed[at].splitlines() if at < len(listed) else []
+        wrong += [f"docs/PROOFS.md, the files of the headline: {it}" for it in unified_diff(there, made.splitlines(), "document", " ".join(["tests/headline_files", *words]), n=0, lineterm="")]
     for line in wrong:
         print(line)
     print(f"words: {len(table)} commands, {len(told)} numbers, {len(bodies)} edits and {len(names)} names of code compared, {len(wrong)} differ")

@@ -1,7 +1,7 @@
 -- What a desk shows when it is made, and after many requests.
-use Rattle.std.specs.Prelude.{◌≡◌, ◌≤◌, ◌+◌, ◌==◌, ℕ, false, List, [], ◌∷◌, length, take, Vec, vec_len, Result, Ok, Err, IfOk, IfErr}
+use Rattle.std.specs.Prelude.{◌≡◌, ◌≤◌, ◌+◌, ◌-◌, ◌==◌, ℕ, false, List, [], ◌∷◌, length, take, Vec, vec_len, Result, Ok, Err, IfOk, IfErr}
 use Rattle.std.specs.List.{list_any}
-use Rattle.store.specs.Library.{Ghosts, Held, state, IsClean, IsOpen, HasTables, IsAsItWas}
+use Rattle.store.specs.Library.{Ghosts, Held, state, IsClean, IsOpen, HasTables, IsAsItWas, StaysOpen}
 use Rattle.store.specs.Commit.{empty_library}
 use Rattle.store.specs.Schemas.{IsKnown}
 use Rattle.store.specs.Stops.{KeepsPicture, LeavesPicture}
@@ -17,6 +17,15 @@ use Rattle.model.specs.Requests.{after, after_one, replies as replies_to}
 use Rattle.desk.specs.Answering.{Handled, Shows, LeavesOneOf, Learns, IsPageFor, IsOwnPageFor}
 use Rattle.desk.specs.Headline.{Headline}
 use Rattle.desk.specs.Showing.{own_page}
+
+-- A store was let go as one whose tables show no list of accepted requests. They were what they are, as
+-- long as the database was open.
+pub record RefusesTables {S : Type 0} (g : Ghosts S) (store : Held S) : Type 0 where
+  -- the store as it was let go
+  pub last : Held S
+  pub clean : IsClean g last → IsClean g store
+  pub same : IsClean g last → IsOpen g last → (state g last).now ≡ (state g store).now
+  pub none : IsClean g last → (H : History) → ¬ Shows (state g store) H
 
 -- A desk was made over the tables of a store.
 pub record Begins {S : Type 0}
@@ -35,8 +44,9 @@ pub record Begins {S : Type 0}
   pub older : IfOk result (λ desk. IsClean g desk → (n : ℕ) → IsKnown n → (P : Picture)
       → HasPictureAt n (state g store).now P → P.meta.schema ≡ SCHEMA)
   -- and no fault of a stored row for tables that show a list of accepted requests
-  pub made : IfErr result (λ fault. fault ≡ Stored → (last : Held S)
-      × (IsClean g last → (H : History) → Shows (state g store) H → ⊥))
+  pub made : IfErr result (λ fault. fault ≡ Stored → RefusesTables g store)
+  -- the database is open as it was, unless the disk failed
+  pub closes : IfOk result (λ desk. StaysOpen (state g store) (state g desk))
 
 -- The tables show the headline of the list of accepted requests.
 abbrev pub ShowsHeadline : {S : Type 0} → Ghosts S → Held S → History → Type 0
@@ -88,6 +98,7 @@ pub record Stands {S : Type 0} (requests : List Request) (replies : List Reply)
   pub before : ℕ
   pub mid : Held S
   pub handled : HandledAll g (take before requests) replies old mid
+  pub clean : IsClean g new → IsClean g mid
   pub nothing : IsClean g new → IsOpen g new → HasTables (state g old).now
       → IsAsItWas (state g mid) (state g new)
 
@@ -97,8 +108,8 @@ pub record Ran {S Z : Type 0} (requests : List Request)
     (result : Result (Vec Reply Z) (Vec Reply Z × Fault)) : Type 0 where
   -- each request has a reply
   pub many : IfOk result (λ replies. vec_len replies ≡ length requests)
-  -- before a fault no more than that
-  pub few : IfErr result (λ end. vec_len end.0 ≤ length requests)
+  -- before a fault there are fewer: the one that met it has none
+  pub few : IfErr result (λ end. vec_len end.0 ≤ length requests - 1)
   pub clean : IsClean g new → IsClean g old
   -- the replies are those that the list of accepted requests gives, and the tables show the list
   -- after the requests

@@ -26,6 +26,7 @@ returns-in_default g c = record {
     before = 0;
     mid = c.args.store.now;
     handled = handled-none g.S.Store _ c.args.store.now (search rules);
+    clean = λ disk. disk;
     nothing = λ disk is_open tables. as-it-was (state g.S.Store c.args.store.now);
   };
 }
@@ -59,6 +60,7 @@ returns-in-Err g c = record {
     before = c.requests.request-index;
     mid = c.requests.store;
     handled = c.requests.invariant.chain;
+    clean = c.handle.ensures.handled.clean;
     nothing = λ disk is_open tables. c.in-Err.ensures.handled.any.failed disk is_open
         (c.requests.invariant.tables (c.handle.ensures.handled.clean disk) tables);
   };
