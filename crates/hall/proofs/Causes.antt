@@ -19,7 +19,7 @@ use Rattle.desk.proofs.Looking.{idle}
 use Rattle.hall.proofs.HandledLists.{handled_same, handled_more, submit_more, rest_more, no_rest}
 use Rattle.hall.proofs.Progress.{none-some, handled-more}
 
-no-fault : (o : Option ServiceFault) → o ≡ None → IsSome o → ⊥
+pub no-fault : (o : Option ServiceFault) → o ≡ None → IsSome o → ⊥
 no-fault None e h = cc
 no-fault (Some f) e h = cc
 

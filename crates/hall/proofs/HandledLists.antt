@@ -86,21 +86,29 @@ pub count_leave : (got : List Message) (w : ℕ) → length (submissions (got ++
 count_leave got w = ap length (submissions-append got (Leave w ∷ [])) ∙ (length-append (submissions got) [] ∙ omega arith)
 
 -- one more submission was received, and not handled: it is the last of the rest
+pub unhandled_more : (n m : ℕ) (got got' : List Message) (s : Submission) → got' ≡ got ++ Submit s ∷ [] → m ≡ n → n ≤ length (submissions got)
+    → unhandled m got' ≡ unhandled n got ++ s ∷ []
+unhandled_more n m got got' s e same le =
+    ap (λ k. unhandled k got') same
+    ∙ (ap (unhandled n) e ∙ (ap (drop n) (submissions-append got (Submit s ∷ [])) ∙ drop-append-le n (submissions got) (s ∷ []) le))
+
 pub rest_more : (n m : ℕ) (got got' : List Message) (s : Submission) → got' ≡ got ++ Submit s ∷ [] → m ≡ n → n ≤ length (submissions got)
     → requests (unhandled m got') ≡ requests (unhandled n got) ++ s.request ∷ []
 rest_more n m got got' s e same le =
-    let is : unhandled m got' ≡ unhandled n got ++ s ∷ [] =
-    ap (λ k. unhandled k got') same
-    ∙ (ap (unhandled n) e ∙ (ap (drop n) (submissions-append got (Submit s ∷ [])) ∙ drop-append-le n (submissions got) (s ∷ []) le)) in
-    ap requests is ∙ map-append (λ (x : Submission). x.request) (unhandled n got) (s ∷ [])
+    ap requests (unhandled_more n m got got' s e same le) ∙ map-append (λ (x : Submission). x.request) (unhandled n got) (s ∷ [])
 
 -- where all were handled there is no rest
+pub none_left : (n : ℕ) (got : List Message) → n ≡ length (submissions got) → unhandled n got ≡ []
+none_left n got e = ap (λ k. drop k (submissions got)) e ∙ drop_all (submissions got)
+
 pub no_rest : (n : ℕ) (got : List Message) → n ≡ length (submissions got) → requests (unhandled n got) ≡ []
-no_rest n got e = ap requests (ap (λ k. drop k (submissions got)) e ∙ drop_all (submissions got))
+no_rest n got e = ap requests (none_left n got e)
+
+pub unhandled_kept : (n : ℕ) (got got' : List Message) (w : ℕ) → got' ≡ got ++ Leave w ∷ [] → unhandled n got' ≡ unhandled n got
+unhandled_kept n got got' w e = ap (unhandled n) e ∙ ap (drop n) (submissions-append got (Leave w ∷ []) ∙ append-nil (submissions got))
 
 pub rest_kept : (n : ℕ) (got got' : List Message) (w : ℕ) → got' ≡ got ++ Leave w ∷ [] → requests (unhandled n got') ≡ requests (unhandled n got)
-rest_kept n got got' w e = ap (λ l. requests (unhandled n l)) e
-    ∙ ap (λ l. requests (drop n l)) (submissions-append got (Leave w ∷ []) ∙ append-nil (submissions got))
+rest_kept n got got' w e = ap requests (unhandled_kept n got got' w e)
 
 -- one more submission was received, and not handled
 pub submit_same : (n m : ℕ) (got got' : List Message) (s : Submission) → got' ≡ got ++ Submit s ∷ [] → m ≡ n → n ≤ length (submissions got)

@@ -5,6 +5,7 @@ pub mod Pages
 pub mod Progress
 pub mod Causes
 pub mod Shown
+pub mod Closings
 pub mod Replies
 pub mod Reasons
 pub mod NewLibrary

@@ -1,5 +1,5 @@
 -- Pages as the board shows them are the replies of the desk.
-use Rattle.std.proofs.Common.{◌≡◌, ℕ, true, false, not, cond, List, [], ◌∷◌, ◌++◌, append_assoc, inl, refl, sym, ◌∙◌, ap, subst}
+use Rattle.std.proofs.Common.{◌≡◌, ℕ, true, false, not, cond, List, [], ◌∷◌, ◌++◌, append_assoc, refl, sym, ◌∙◌, ap, subst}
 use Rattle.std.specs.Prelude.{Option, Some, None, option_map, unwrap_or, is_some, bytes_eq, Result, Ok, Err, IfOk, IfErr}
 use Rattle.terms.specs.declared.command.Caller.{Caller}
 use Rattle.terms.specs.declared.command.Caller.TheVariants.{Desk}
@@ -25,10 +25,12 @@ use Rattle.web.specs.declared.asked.Asked.TheVariants as asked
 use Rattle.web.specs.declared.asked.Asked.{Asked}
 use Rattle.board.specs.declared.entry.Seen.{Seen}
 use Rattle.board.specs.Showing.{StartsWith, GoesOn, IsTold, requests}
-use Rattle.board.proofs.Beginnings.{goes_self}
+use Rattle.board.proofs.Beginnings.{goes_self, starts_self}
 use Rattle.board.proofs.Telling.{told-reply}
+use Rattle.hall.specs.declared.closing.Closing.{Closing}
 use Rattle.hall.specs.Serving.{Working, shown_page, page_by_desk, page_asked, IsOwnPage, IsPageSeen, IsReplied, IsReplyFor, IsReplyTo}
-use Rattle.hall.specs.Serving.{IsGivenReply, IsGivenFor, IsGivenTo, IsPageFault, IsFaultFor, IsFaultTo, TellsPage, MeetsAsked}
+use Rattle.hall.specs.Serving.{IsGivenReply, IsGivenFor, IsGivenTo, IsOwnFault, IsUnsubmitted, IsFaultFor, IsFaultTo}
+use Rattle.hall.specs.Serving.{SubmitsFor, TellsPage, MeetsAsked}
 
 abbrev asked_page : Option PatronFacts → List ℕ → Reply
 asked_page row text = elim (first_failing ((UnknownPatron, not (is_some row)) ∷ [])) as (λ _. Reply) [ Some refused ↦ Refused refused | None ↦ Shown text ]
@@ -74,18 +76,31 @@ module _ (old : Working) where
   pub nothing-met : MeetsAsked Nothing old old (Some (answer.Refused NotAllowed))
   nothing-met = record {
     on = goes_self old.seen;
+    closing = starts_self old.closing;
     once = refl;
     told = record { outcome = Ok (Refused NotAllowed); answer_is = refl; reply = (refl, refl); fault = tt };
   }
 
-  module _ (new : Working) (told : Answer) (on : GoesOn new.seen old.seen) (same : new.post ≡ old.post) (patron : ℕ) where
+  module _ (new : Working) (told : Answer) (on : GoesOn new.seen old.seen)
+      (kept : (new.post ≡ old.post) × (new.closing ≡ old.closing)) (patron : ℕ) where
+    same : new.post ≡ old.post
+    same = kept.0
+
+    closing-on : StartsWith new.closing old.closing
+    closing-on = subst (λ (l : List Closing). StartsWith l old.closing) (sym kept.1) (starts_self old.closing)
+
     pub page-met : (card_key : List ℕ) → TellsPage patron (Some card_key) new.seen told → MeetsAsked (asked.Page patron card_key) old new (Some told)
     page-met card_key t = record {
       on = on;
+      closing = closing-on;
       once = same;
-      told = record { outcome = t.outcome; answer_is = t.answer_is; reply = by t.outcome t.reply; fault = t.fault };
+      told = record { outcome = t.outcome; answer_is = t.answer_is; reply = by t.outcome t.reply; fault = faulted t.outcome t.fault };
     }
       where
+        faulted : (o : Result Reply ServiceFault) → IfErr o IsOwnFault → IfErr o (IsUnsubmitted old new)
+        faulted (Ok reply) h = tt
+        faulted (Err fault) h = (same, h)
+
         by : (o : Result Reply ServiceFault) → IfOk o (IsPageSeen patron (Some card_key) new.seen) → IfOk o (IsReplyTo (asked.Page patron card_key) old new)
         by (Ok reply) h = (same, h)
         by (Err fault) h = tt
@@ -95,13 +110,14 @@ module _ (old : Working) where
     desk-page-met request asks t =
         record {
           on = on;
-          once = inl same;
+          closing = closing-on;
+          once = subst (λ (q : Option ℕ). SubmitsFor q request old.post new.post) (sym asks) same;
           told = record { outcome = t.outcome; answer_is = t.answer_is; reply = by t.outcome t.reply; fault = faulted t.outcome t.fault };
         }
       where
-        faulted : (o : Result Reply ServiceFault) → IfErr o IsPageFault → IfErr o (IsFaultTo (asked.Request request))
+        faulted : (o : Result Reply ServiceFault) → IfErr o IsOwnFault → IfErr o (IsFaultTo (asked.Request request) old new)
         faulted (Ok reply) h = tt
-        faulted (Err fault) h = subst (λ (q : Option ℕ). IsFaultFor q fault) (sym asks) h
+        faulted (Err fault) h = subst (λ (q : Option ℕ). IsFaultFor q request old new fault) (sym asks) (same, h)
 
         by : (o : Result Reply ServiceFault) → IfOk o (IsPageSeen patron None new.seen) → IfOk o (IsReplyTo (asked.Request request) old new)
         by (Ok reply) h = subst (λ (q : Option ℕ). IsReplyFor q request old new reply) (sym asks) (same, h)

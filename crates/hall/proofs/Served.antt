@@ -1,5 +1,5 @@
 -- What serving a connection comes to, from what its parts came to.
-use Rattle.std.proofs.Common.{◌≡◌, ◌⊎◌, inl, inr, ℕ, List, sym, ap, subst}
+use Rattle.std.proofs.Common.{◌≡◌, ◌⊎◌, inl, inr, ℕ, List, refl, sym, ap, subst}
 use Rattle.std.specs.Prelude.{Option, Some, None, Result, Ok, Err, IfSome, OnOk, OnErr}
 use Rattle.std.specs.Io.KnownBytes.{Appends, Keeps}
 use Rattle.terms.specs.Writing.{Writes, AppendsFront}
@@ -16,9 +16,9 @@ use Rattle.web.specs.declared.asked.Asked.TheVariants.{Nothing, Page, Request}
 use Rattle.web.specs.declared.fault.WebFault.TheVariants.{Status}
 use Rattle.web.specs.declared.fault.WebStatus.{WebStatus}
 use Rattle.web.specs.declared.request.WebRequest.{WebRequest}
-use Rattle.board.specs.Showing.{GoesOn}
-use Rattle.board.proofs.Beginnings.{goes_self}
-use Rattle.hall.specs.Serving.{Working, submitted, SubmitsAsked, TellsReply, MeetsAsked, Answers, Serves}
+use Rattle.board.specs.Showing.{StartsWith, GoesOn}
+use Rattle.board.proofs.Beginnings.{goes_self, starts_self}
+use Rattle.hall.specs.Serving.{Working, Submits, SubmitsFor, page_asked, SubmitsAsked, TellsReply, TellsStatus, MeetsAsked, Answers, Serves}
 
 -- what was read, by what the reading gave
 pub read-status : (bytes : Option (List ℕ)) (r : Reading) (status : WebStatus) → r ≡ Err (Status status)
@@ -26,13 +26,53 @@ pub read-status : (bytes : Option (List ℕ)) (r : Reading) (status : WebStatus)
 read-status None r status e h = tt
 read-status (Some all) r status e h = subst (λ (x : Reading). UnlessFaulted x (ChecksHead all x)) e h
 
+-- What was submitted, if anything was.
+abbrev Once : List ℕ → Option (List ℕ) → Working → Working → Type 0
+Once desk_key bytes old new = (new.post ≡ old.post)
+    ⊎ ((request : Requested) × (web : WebRequest) × IfSome bytes (λ all. ChecksHead all (Ok web))
+    × (asked_of desk_key web ≡ Request request) × (page_asked request ≡ None) × Submits old.post new.post request)
+
+asked-once : (desk_key : List ℕ) (bytes : Option (List ℕ)) (old new : Working) (web : WebRequest) (asked : Asked) → asked ≡ asked_of desk_key web
+    → IfSome bytes (λ all. ChecksHead all (Ok web)) → SubmitsAsked asked old.post new.post → Once desk_key bytes old new
+asked-once desk_key bytes old new web Nothing is read same = inl same
+asked-once desk_key bytes old new web (Page patron card_key) is read same = inl same
+asked-once desk_key bytes old new web (Request request) is read h = by (page_asked request) refl h
+  where
+    by : (o : Option ℕ) → page_asked request ≡ o → SubmitsFor o request old.post new.post → Once desk_key bytes old new
+    by (Some patron) asks same = inl same
+    by None asks (inl same) = inl same
+    by None asks (inr more) = inr (request, web, read, sym is, asks, more)
+
+still : (bytes : Option (List ℕ)) → Keeps bytes bytes
+still None = tt
+still (Some xs) = refl
+
+-- no answer went out
+module _ {E : Type 0} (desk_key : List ℕ) (bytes : Option (List ℕ)) (old new : Working) (before : Option (List ℕ)) (e : E) where
+  pub unread : new ≡ old → Serves desk_key bytes old new before before (Err e)
+  unread same = record {
+    on = subst (λ (w : Working). GoesOn w.seen old.seen) (sym same) (goes_self old.seen);
+    closing = subst (λ (w : Working). StartsWith w.closing old.closing) (sym same) (starts_self old.closing);
+    once = inl (ap (λ (w : Working). w.post) same);
+    told = tt;
+    broken = inl (still before);
+  }
+
+  pub unanswered : (web : WebRequest) (asked : Asked) (met : Option Answer) → asked ≡ asked_of desk_key web
+      → IfSome bytes (λ all. ChecksHead all (Ok web)) → MeetsAsked asked old new met → Serves desk_key bytes old new before before (Err e)
+  unanswered web asked met is read meets = record {
+    on = meets.on;
+    closing = meets.closing;
+    once = asked-once desk_key bytes old new web asked is read meets.once;
+    told = tt;
+    broken = inl (still before);
+  }
+
 module _ {E : Type 0} (desk_key : List ℕ) (bytes : Option (List ℕ)) (old new : Working) (before after : Option (List ℕ))
     (r : Result (Unit {0}) E) (answer : Answer) (sends : Writes (answer_bytes answer) before after r) where
-  served : GoesOn new.seen old.seen → (new.post ≡ old.post)
-      ⊎ ((request : Requested) × (web : WebRequest) × IfSome bytes (λ all. ChecksHead all (Ok web))
-      × (asked_of desk_key web ≡ Request request) × (new.post ≡ submitted old.post request))
+  served : GoesOn new.seen old.seen → StartsWith new.closing old.closing → Once desk_key bytes old new
       → Answers desk_key bytes old new answer → Serves desk_key bytes old new before after r
-  served on once answers = record { on = on; once = once; told = whole r sends.all; broken = cut r sends.front }
+  served on closing once answers = record { on = on; closing = closing; once = once; told = whole r sends.all; broken = cut r sends.front }
     where
       whole : (q : Result (Unit {0}) E) → OnOk q (Appends before after (answer_bytes answer))
           → OnOk q ((a : Answer) × Answers desk_key bytes old new a × Appends before after (answer_bytes a))
@@ -45,30 +85,26 @@ module _ {E : Type 0} (desk_key : List ℕ) (bytes : Option (List ℕ)) (old new
       cut (Err e) front = inr (answer, answers, front)
 
   -- nothing was asked of the hall
-  untouched : new ≡ old → Answers desk_key bytes old new answer → Serves desk_key bytes old new before after r
-  untouched same answers = served (subst (λ (w : Working). GoesOn w.seen old.seen) (sym same) (goes_self old.seen))
-      (inl (ap (λ (w : Working). w.post) same)) answers
+  untouched : new ≡ old → TellsStatus bytes answer ⊎ (answer ≡ Faulted (Met Memory)) → Serves desk_key bytes old new before after r
+  untouched same tells =
+      let posts : new.post ≡ old.post = ap (λ (w : Working). w.post) same in
+      served (subst (λ (w : Working). GoesOn w.seen old.seen) (sym same) (goes_self old.seen))
+      (subst (λ (w : Working). StartsWith w.closing old.closing) (sym same) (starts_self old.closing)) (inl posts) (inl (posts, tells))
 
   pub status-served : (status : WebStatus) → new ≡ old → answer ≡ Failed status → IfSome bytes (λ all. ChecksHead all (Err (Status status)))
       → Serves desk_key bytes old new before after r
   status-served status same is read = untouched same (inl (record { status = status; read = read; answer_is = is }))
 
   pub want-served : new ≡ old → answer ≡ Faulted (Met Memory) → Serves desk_key bytes old new before after r
-  want-served same is = untouched same (inr (inl is))
+  want-served same is = untouched same (inr is)
 
   pub request-served : (web : WebRequest) (asked : Asked) (met : Option Answer) → asked ≡ asked_of desk_key web
       → IfSome bytes (λ all. ChecksHead all (Ok web)) → met ≡ Some answer → MeetsAsked asked old new met
       → Serves desk_key bytes old new before after r
-  request-served web asked met is read some meets = served meets.on (once asked is meets.once) (inr (inr (record {
-    request = web;
-    read = read;
-    tells = subst (λ (a : Asked). TellsReply a old new answer) is (subst (λ (o : Option Answer). IfSome o (TellsReply asked old new)) some meets.told);
-  })))
-    where
-      once : (a : Asked) → a ≡ asked_of desk_key web → SubmitsAsked a old.post new.post
-          → (new.post ≡ old.post) ⊎ ((request : Requested) × (w : WebRequest) × IfSome bytes (λ all. ChecksHead all (Ok w))
-          × (asked_of desk_key w ≡ Request request) × (new.post ≡ submitted old.post request))
-      once Nothing e same = inl same
-      once (Page patron card_key) e same = inl same
-      once (Request request) e (inl same) = inl same
-      once (Request request) e (inr more) = inr (request, web, read, sym e, more)
+  request-served web asked met is read some meets =
+      served meets.on meets.closing (asked-once desk_key bytes old new web asked is read meets.once) (inr (record {
+        request = web;
+        read = read;
+        tells = subst (λ (a : Asked). TellsReply a old new answer) is
+            (subst (λ (o : Option Answer). IfSome o (TellsReply asked old new)) some meets.told);
+      }))

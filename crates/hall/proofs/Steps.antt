@@ -1,6 +1,7 @@
 -- No step back: a reply goes on from what was seen.
 use Rattle.std.proofs.Common.{◌≡◌, ℕ, ◌+◌, true, cond, eqb, List, [], ◌∷◌, ◌++◌, length, sym, refl, ap, ◌∙◌, subst, arith, length-append}
 use Rattle.board.specs.declared.entry.Entry.{Entry}
+use Rattle.board.specs.declared.entry.Seen.{Seen}
 use Rattle.board.specs.Showing.{StartsWith, GoesOn, IsReply, count_own}
 use Rattle.board.proofs.Lasts.{count-cons, eqb-self}
 use Rattle.terms.specs.declared.command.Request.{Request}
@@ -8,7 +9,7 @@ use Rattle.terms.specs.declared.reply.Reply.{Reply}
 use Rattle.board.proofs.Beginnings.{starts_on}
 use Rattle.hall.specs.declared.messages.Message.TheVariants.{Submit}
 use Rattle.hall.specs.declared.messages.View.{View}
-use Rattle.hall.specs.Serving.{Working, IsReplied, submitted}
+use Rattle.hall.specs.Serving.{Working, IsReplied, Submits, submitted}
 
 -- A beginning that has no more of a worker than what stands before an entry of it ends before that.
 before-entry : (w : ℕ) (front : List Entry) (e : Entry) (rest seen : List Entry) → e.worker ≡ w → StartsWith (front ++ e ∷ rest) seen
@@ -42,26 +43,32 @@ later-than old mid new w k n request reply on next all number r =
     let same : count_own w mid ≡ count_own w r.front = omega (arith, all, number, r.next) in
     starts_on r.front mid old (before-entry w r.front r.entry r.rest mid r.worker_is (subst (λ l. StartsWith l mid) r.seen_is next) same) on
 
+-- What was submitted from there on was submitted from before.
+pub submits : (old mid sent : Working) (request own other : Request) → mid.post ≡ old.post → Submits mid.post sent.post other → own ≡ request
+    → other ≡ own → Submits old.post sent.post request
+submits old mid sent request own other same is made clone =
+    subst (λ (q : Request). Submits old.post sent.post q) (clone ∙ made) (subst (λ (v : View). Submits v sent.post other) same is)
+
 -- What was submitted and came back is the reply.
 pub replied : (old mid sent new : Working) (request own other : Request) (reply : Reply) → mid.post ≡ old.post → GoesOn mid.seen old.seen
     → count_own old.post.worker mid.seen.entries ≡ length old.post.sent
-    → sent ≡ record mid { post = submitted mid.post other } → new.post ≡ sent.post → GoesOn new.seen sent.seen → own ≡ request → other ≡ own
+    → Submits mid.post sent.post other × (sent.seen ≡ mid.seen) → new.post ≡ sent.post → GoesOn new.seen sent.seen → own ≡ request → other ≡ own
     → IsReply new.seen.entries sent.post.worker (length sent.post.sent) own reply → IsReplied request old new reply
 replied old mid sent new request own other reply same on all is after' next made clone r =
-    let posts : sent.post ≡ submitted old.post request =
-    ap (λ (w : Working). w.post) is ∙ (ap (λ v. submitted v other) same ∙ ap (submitted old.post) (clone ∙ made)) in
+    let sends : Submits old.post sent.post request = submits old mid sent request own other same is.0 made clone in
+    let posts : sent.post ≡ submitted old.post request = sends.1 in
     let long : length sent.post.sent ≡ length old.post.sent + 1 =
     ap (λ (v : View). length v.sent) posts
     ∙ length-append old.post.sent (Submit (record { worker = old.post.worker; number = length old.post.sent + 1; request = request })
     ∷ []) in
     let mine : sent.post.worker ≡ old.post.worker = ap (λ (v : View). v.worker) posts in
-    let seen : GoesOn new.seen mid.seen = subst (λ (w : Working). GoesOn new.seen w.seen) is next in
+    let seen : GoesOn new.seen mid.seen = subst (λ (s : Seen). GoesOn new.seen s) is.1 next in
     let here : IsReply new.seen.entries old.post.worker (length old.post.sent + 1) request reply =
     subst (λ w. IsReply new.seen.entries w (length old.post.sent + 1) request reply) mine
     (subst (λ n. IsReply new.seen.entries sent.post.worker n request reply) long
     (subst (λ (q : Request). IsReply new.seen.entries sent.post.worker (length sent.post.sent) q reply) made r)) in
     record {
-      submits = after' ∙ posts;
+      submits = subst (λ (v : View). Submits old.post v request) (sym after') sends;
       replied = here;
       later = later-than old.seen.entries mid.seen.entries new.seen.entries old.post.worker (length old.post.sent)
           (length old.post.sent + 1) request reply on.0 seen.0 all refl here;

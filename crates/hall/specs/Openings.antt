@@ -69,15 +69,20 @@ pub record OpensWith {S : Type 0} (lists : History → Type 0) (g : Ghosts S) (h
 abbrev pub can_be_workers : ℕ → Bool
 can_be_workers workers = nat_le 1 workers && nat_le workers WORKERS
 
+-- The fault that keeps a hall from being opened: a page couldn't be looked up, or no memory was left; or
+-- the board has no place for a reader.
+abbrev pub KeepsClosed : {S : Type 0} → Ghosts S → Held S → Held S → ServiceFault → Type 0
+KeepsClosed g old new fault = IsMet (MeetsFaultOf g old new) fault ⊎ (LooksOnly g old new (Ok tt) × (fault ≡ Closed))
+
 -- Why a hall of so many workers isn't opened. Its desk comes back: it wasn't asked for anything, or
 -- only looked at its tables.
 pub record IsUnopened {S : Type 0} (workers : ℕ) (g : Ghosts S) (old new : Held S) (why : Why)
     : Type 0 where
   -- there are none, or too many
   pub refused : can_be_workers workers ≡ false → (why ≡ Refused OutOfLimits) × (new ≡ old)
-  -- a page couldn't be looked up, or no memory was left; or the board has no place for a reader
+  -- or a fault came
   pub faulted : can_be_workers workers ≡ true → (fault : ServiceFault) × (why ≡ Faulted fault)
-      × (IsMet (MeetsFaultOf g old new) fault ⊎ (LooksOnly g old new (Ok tt) × (fault ≡ Closed)))
+      × KeepsClosed g old new fault
 
 -- Why a hall of so many workers isn't opened over a new library.
 pub record IsUnmade (workers : ℕ) (why : Why) : Type 0 where

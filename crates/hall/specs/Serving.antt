@@ -1,5 +1,5 @@
 -- What a worker knows, submits and answers.
-use Rattle.std.specs.Prelude.{◌≡◌, ◌⊎◌, ℕ, ◌+◌, if◌then◌else◌, bytes_eq, List, length, map, Option, Some, None, Result, Ok, Err, IfOk}
+use Rattle.std.specs.Prelude.{◌≡◌, ◌⊎◌, ℕ, ◌+◌, ◌<◌, if◌then◌else◌, bytes_eq, List, length, map, Option, Some, None, Result, Ok, Err, IfOk}
 use Rattle.std.specs.Prelude.{IfErr, IfSome, OnOk, OnErr}
 use Rattle.std.specs.Io.KnownBytes.{Appends, Keeps}
 use Rattle.store.specs.Library.{Ghosts, Held, IsClean}
@@ -31,17 +31,24 @@ use Rattle.web.specs.declared.fault.WebStatus.{WebStatus}
 use Rattle.web.specs.declared.request.WebRequest.{WebRequest}
 use Rattle.board.specs.declared.entry.Seen.{Seen}
 use Rattle.board.specs.Showing.{StartsWith, GoesOn, HasLooked, IsReply, page_of, requests}
+use Rattle.hall.specs.declared.messages.TheConstants.{LAST_SUBMISSION}
 use Rattle.hall.specs.declared.messages.Message.{Message}
 use Rattle.hall.specs.declared.messages.Message.TheVariants.{Submit}
 use Rattle.hall.specs.declared.messages.View.{View}
+use Rattle.hall.specs.declared.worker.Lost.{Lost}
+use Rattle.hall.specs.declared.worker.Lost.TheVariants.{Told, Gone, Untold}
+use Rattle.hall.specs.declared.closing.Closing.{Closing}
+use Rattle.hall.specs.Closings.{told_of}
 use Rattle.hall.specs.Queue.{AreFirst, sent_more, worker_views}
 
 -- ---- what a worker knows
 
--- What it sent, and what it has seen on the board: a beginning of the handled list, with its pages.
+-- What it sent, what it has seen on the board, a beginning of the handled list with its pages, and the submission
+-- at which the hall closed, if it was told.
 pub record Working : Type 0 where
   pub post : View
   pub seen : Seen
+  pub closing : List Closing
 
 -- The workers 1 to n, which have sent nothing.
 abbrev pub AreWorkers : ℕ → List Working → Type 0
@@ -53,9 +60,13 @@ AreWorkers n workers = map (λ (w : Working). w.post) workers ≡ worker_views n
 abbrev pub submitted : View → Requested → View
 submitted v request = sent_more v (Submit (record { worker = v.worker; number = length v.sent + 1; request = request }))
 
+-- The request was submitted, once, and the worker's numbers weren't used up: the last one is 2^50.
+abbrev pub Submits : View → View → Requested → Type 0
+Submits old new request = (length old.sent < LAST_SUBMISSION) × (new ≡ submitted old request)
+
 -- Nothing was submitted, or this request was, once.
 abbrev pub SubmitsOnce : View → View → Requested → Type 0
-SubmitsOnce old new request = (new ≡ old) ⊎ (new ≡ submitted old request)
+SubmitsOnce old new request = (new ≡ old) ⊎ Submits old new request
 
 -- ---- what is asked for
 
@@ -86,7 +97,7 @@ pub record IsPageSeen (patron : ℕ) (shown : Option (List ℕ)) (seen : Seen) (
 -- reply that the board shows for it. The beginning of the handled list that it shows, which ends with
 -- the submission, goes on from all that the worker had seen before.
 pub record IsReplied (request : Requested) (old new : Working) (reply : Reply) : Type 0 where
-  pub submits : new.post ≡ submitted old.post request
+  pub submits : Submits old.post new.post request
   pub replied : IsReply new.seen.entries old.post.worker (length old.post.sent + 1) request reply
   pub later : StartsWith replied.front old.seen.entries
 
@@ -103,9 +114,14 @@ IsReplyTo (Page patron card_key) old new reply =
     (new.post ≡ old.post) × IsPageSeen patron (Some card_key) new.seen reply
 IsReplyTo (Request request) old new reply = IsReplyFor (page_asked request) request old new reply
 
--- What is asked for is submitted once, or nothing is.
+-- Of a request of the desk for a page nothing is submitted; one for something else is, once, or nothing is.
+abbrev pub SubmitsFor : Option ℕ → Requested → View → View → Type 0
+SubmitsFor (Some patron) request old new = new ≡ old
+SubmitsFor None request old new = SubmitsOnce old new request
+
+-- The same of what is asked for: a page is never submitted.
 abbrev pub SubmitsAsked : Asked → View → View → Type 0
-SubmitsAsked (Request request) old new = SubmitsOnce old new request
+SubmitsAsked (Request request) old new = SubmitsFor (page_asked request) request old new
 SubmitsAsked _ old new = new ≡ old
 
 -- ---- what is answered
@@ -115,35 +131,53 @@ abbrev pub answer_to : Result Reply ServiceFault → Answer
 answer_to (Ok reply) = answer_for reply
 answer_to (Err fault) = Faulted fault
 
--- The faults that may come in the place of a page: no memory is left to look at the board or to take the
--- page, or the board is gone.
-abbrev pub IsPageFault : ServiceFault → Type 0
-IsPageFault fault = (fault ≡ Met Memory) ⊎ (fault ≡ Closed)
+-- The faults that a worker meets itself: no memory is left for its part, or it can't go on, since its
+-- numbers are used up, or the desk or the board is gone.
+abbrev pub IsOwnFault : ServiceFault → Type 0
+IsOwnFault fault = (fault ≡ Met Memory) ⊎ (fault ≡ Closed)
 
--- The faults that may come in the place of a reply to a request: for a page of the desk those of a page,
--- for what is submitted any.
-abbrev pub IsFaultFor : Option ℕ → ServiceFault → Type 0
-IsFaultFor (Some patron) fault = IsPageFault fault
-IsFaultFor None fault = Unit {0}
+-- The fault in the place of a page, or of a reply: nothing was submitted, and the worker met it itself.
+abbrev pub IsUnsubmitted : Working → Working → ServiceFault → Type 0
+IsUnsubmitted old new fault = (new.post ≡ old.post) × IsOwnFault fault
+
+-- The fault in the place of a reply to a request that isn't answered from the board: that of a worker which
+-- submitted nothing, or what is told of the submission by the closing of the hall.
+abbrev pub IsFaultOf : Requested → Working → Working → ServiceFault → Type 0
+IsFaultOf request old new fault =
+    IsUnsubmitted old new fault
+    ⊎ (Submits old.post new.post request
+    × (told_of new.closing old.post.worker (length old.post.sent + 1) ≡ Some fault))
+
+-- The fault in the place of a reply to a request of the desk for a page, or of anybody for something else.
+abbrev pub IsFaultFor : Option ℕ → Requested → Working → Working → ServiceFault → Type 0
+IsFaultFor (Some patron) request old new fault = IsUnsubmitted old new fault
+IsFaultFor None request old new fault = IsFaultOf request old new fault
 
 -- The same by what is asked for; what is not allowed is told so, and no fault comes.
-abbrev pub IsFaultTo : Asked → ServiceFault → Type 0
-IsFaultTo Nothing fault = ⊥
-IsFaultTo (Page patron card_key) fault = IsPageFault fault
-IsFaultTo (Request request) fault = IsFaultFor (page_asked request) fault
+abbrev pub IsFaultTo : Asked → Working → Working → ServiceFault → Type 0
+IsFaultTo Nothing old new fault = ⊥
+IsFaultTo (Page patron card_key) old new fault = IsUnsubmitted old new fault
+IsFaultTo (Request request) old new fault = IsFaultFor (page_asked request) request old new fault
+
+-- Where a fault came instead, this is said of it.
+abbrev pub IfTold : (ServiceFault → Type 0) → Lost → Type 0
+IfTold Is (Told fault) = Is fault
+IfTold Is Gone = Unit {0}
+IfTold Is Untold = Unit {0}
 
 -- The answer tells what became of what is asked for.
 pub record TellsReply (asked : Asked) (old new : Working) (answer : Answer) : Type 0 where
   pub outcome : Result Reply ServiceFault
   pub answer_is : answer ≡ answer_to outcome
   pub reply : IfOk outcome (IsReplyTo asked old new)
-  pub fault : IfErr outcome (IsFaultTo asked)
+  pub fault : IfErr outcome (IsFaultTo asked old new)
 
 -- The same of a request that is submitted.
 pub record TellsSubmitted (request : Requested) (old new : Working) (answer : Answer) : Type 0 where
   pub outcome : Result Reply ServiceFault
   pub answer_is : answer ≡ answer_to outcome
   pub reply : IfOk outcome (IsReplied request old new)
+  pub fault : IfErr outcome (IsFaultOf request old new)
 
 -- The same of a page.
 pub record TellsPage (patron : ℕ) (shown : Option (List ℕ)) (seen : Seen) (answer : Answer)
@@ -151,11 +185,12 @@ pub record TellsPage (patron : ℕ) (shown : Option (List ℕ)) (seen : Seen) (a
   pub outcome : Result Reply ServiceFault
   pub answer_is : answer ≡ answer_to outcome
   pub reply : IfOk outcome (IsPageSeen patron shown seen)
-  pub fault : IfErr outcome IsPageFault
+  pub fault : IfErr outcome IsOwnFault
 
--- What is asked for was met with an answer; or there is none, since no memory was left for it.
+-- What is asked for was met with an answer; or there is none, since no memory was left for it, or the board is gone.
 pub record MeetsAsked (asked : Asked) (old new : Working) (answer : Option Answer) : Type 0 where
   pub on : GoesOn new.seen old.seen
+  pub closing : StartsWith new.closing old.closing
   pub once : SubmitsAsked asked old.post new.post
   pub told : IfSome answer (TellsReply asked old new)
 
@@ -172,23 +207,25 @@ pub record TellsOutcome (desk_key : List ℕ) (bytes : Option (List ℕ)) (old n
   pub read : IfSome bytes (λ all. ChecksHead all (Ok request))
   pub tells : TellsReply (asked_of desk_key request) old new answer
 
--- The answer to the bytes: a status, fault 90 since there was no memory to read them, or what
--- became of what they ask for.
+-- The answer to the bytes: nothing was submitted, and it is a status, or fault 90 since there was no
+-- memory to read them; or it is what became of what they ask for.
 abbrev pub Answers : List ℕ → Option (List ℕ) → Working → Working → Answer → Type 0
 Answers desk_key bytes old new answer =
-    TellsStatus bytes answer
-    ⊎ ((answer ≡ Faulted (Met Memory)) ⊎ TellsOutcome desk_key bytes old new answer)
+    ((new.post ≡ old.post) × (TellsStatus bytes answer ⊎ (answer ≡ Faulted (Met Memory))))
+    ⊎ TellsOutcome desk_key bytes old new answer
 
 -- A connection was served. `bytes` are those that the reader has, where it tells them; `before`
 -- and `after` are the bytes that the writer showed and shows.
 pub record Serves {E : Type 0} (desk_key : List ℕ) (bytes : Option (List ℕ)) (old new : Working)
     (before after : Option (List ℕ)) (result : Result (Unit {0}) E) : Type 0 where
-  -- what the worker has seen never gets shorter
+  -- what the worker has seen never gets shorter, nor what it was told of the closing of the hall
   pub on : GoesOn new.seen old.seen
-  -- nothing was submitted, or the one request that the bytes ask for
+  pub closing : StartsWith new.closing old.closing
+  -- nothing was submitted, or the one request that the bytes ask for, which is for no page
   pub once : (new.post ≡ old.post)
       ⊎ ((request : Requested) × (web : WebRequest) × IfSome bytes (λ all. ChecksHead all (Ok web))
-      × (asked_of desk_key web ≡ Request request) × (new.post ≡ submitted old.post request))
+      × (asked_of desk_key web ≡ Request request) × (page_asked request ≡ None)
+      × Submits old.post new.post request)
   -- one answer went out, whole
   pub told : OnOk result ((answer : Answer) × Answers desk_key bytes old new answer
       × Appends before after (answer_bytes answer))

@@ -2,6 +2,7 @@
 
 ghost use Rattle.std.specs.Prelude.{◌≡◌, ◌+◌, ◌++◌, ◌∷◌, ◌<◌, ◌≤◌, ◌⊎◌, ℕ, true, false, [], map};
 ghost use Rattle.std.specs.Prelude.{None, Ok, IsSome, IsTrue, slice_index_or, MatchResult};
+ghost use Rattle.std.specs.Prelude.{MatchOption};
 ghost use Rattle.desk.specs.Answering.{Learns};
 ghost use Rattle.hall_schedule.specs.declared.schedule.TheConstants.{WORKERS};
 ghost use Rattle.store.specs.Limits.{limit_of};
@@ -11,20 +12,22 @@ ghost use Rattle.hall.specs.Openings.{LooksOnly, MeetsFaultOf, ToldBy, OpensWith
 ghost use Rattle.hall.specs.Handling.{TakesNext, Finishes, PutsPages, IsDue};
 ghost use Rattle.hall.specs.Handling.{MayBeNext, ShowsNext, AreShown, submission_of, shown_by};
 ghost use Rattle.hall.specs.Handling.{MayHandle, MayTake, TakesMessage};
+ghost use Rattle.hall.specs.Closings.{TellsClosing, TellsNext, TellsMessage, HasTold};
 ghost use Rattle.hall.specs.Serving.{GivesReplies};
 ghost use Rattle.hall.specs.declared.messages.Message.TheVariants.{Leave};
 
+use crate::closing::Closing;
 use crate::ended::Ended;
 use crate::ends::Inbox;
 use crate::messages::{Message, Submission};
-use crate::notices::Notices;
+use crate::notices::Teller;
 use crate::opening::Opening;
 use board::{Entry, Publisher, StoppedBoard, WorkerId};
 use desk::{Desk, Touched};
 use hall_schedule::WORKERS;
 use sqlite::Alter;
 use std::alloc::Global;
-use std::sync::{Arc, Wait};
+use std::sync::Wait;
 use std::thread;
 use terms::{Fault, PatronId, Reply, ServiceFault};
 
@@ -34,11 +37,12 @@ pub struct DeskSide<J: Opening, S: Alter> {
     pub(crate) inbox: Inbox<J>,
     pub(crate) desk: Desk<S>,
     pub(crate) publisher: Publisher<J>,
-    pub(crate) notices: Arc<Notices, Global>,
+    pub(crate) teller: Teller<J>,
     pub(crate) workers: usize,
     pub(crate) ghost few: { workers ≤ WORKERS },
     pub(crate) ghost hearing: { IsHearing inbox },
     pub(crate) ghost fresh: { inbox.got ≡ [] },
+    pub(crate) ghost untold: { teller ≡ [] },
     pub(crate) ghost blank: { (publisher.shown.entries ≡ []) × (publisher.pages ≡ []) },
 }
 
@@ -147,11 +151,12 @@ fn handle_next<J: Opening, S: Alter, R: Wait>(
     alloc: Global,
     desk: &mut Desk<S>,
     progress: &mut Progress,
-    notices: &Notices,
+    teller: &mut Teller<J>,
     publisher: Publisher<J>,
     submission: Submission,
 ) -> BoardSide<J>
     requires open { progress.old.fault ≡ None }
+    requires untold { teller.old ≡ [] }
     requires next { MayBeNext J.shows S.Store desk.old publisher submission }
     ensures next { TakesNext submission.request S.Store desk.old desk.new
         progress.old.handled progress.new.handled progress.old.fault progress.new.fault }
@@ -160,12 +165,22 @@ fn handle_next<J: Opening, S: Alter, R: Wait>(
         × AreShown p.shown.entries (map submission_of publisher.shown.entries ++ submission ∷ [])
         × ToldBy J.shows S.Store desk.new p.shown)
         (λ b. IsSome progress.new.fault × (b.shown ≡ publisher.shown)) }
+    ensures told { MatchOption progress.new.fault (teller.new ≡ []) (λ fault. TellsClosing
+        submission progress.old.handled progress.new.handled fault teller.new) }
 {
     let worker = submission.worker;
     let number = submission.number;
     if progress.handled == u64::MAX {
-        notices.tell(rt, worker, number, ServiceFault::Closed);
-        progress.fault = Some(ServiceFault::Closed);
+        let fault = ServiceFault::Closed;
+        teller.close(
+            rt,
+            Closing {
+                worker,
+                number,
+                fault,
+            },
+        );
+        progress.fault = Some(fault);
         return Err(publisher.stop());
     }
     match desk.handle_touching(alloc, submission.request.get()) {
@@ -173,19 +188,34 @@ fn handle_next<J: Opening, S: Alter, R: Wait>(
             progress.handled += 1;
             match show(rt, alloc, desk, publisher, submission, reply, &touched) {
                 Ok(publisher) => {
-                    notices.wake(worker);
+                    teller.wake(worker);
                     Ok(publisher)
                 }
-                Err((stopped, fault)) => {
-                    notices.tell(rt, worker, number, ServiceFault::Closed);
-                    progress.fault = Some(ServiceFault::Met(fault));
+                Err((stopped, met)) => {
+                    let fault = ServiceFault::Closed;
+                    teller.close(
+                        rt,
+                        Closing {
+                            worker,
+                            number,
+                            fault,
+                        },
+                    );
+                    progress.fault = Some(ServiceFault::Met(met));
                     Err(stopped)
                 }
             }
         }
         Err(met) => {
             let fault = ServiceFault::Met(met);
-            notices.tell(rt, worker, number, fault);
+            teller.close(
+                rt,
+                Closing {
+                    worker,
+                    number,
+                    fault,
+                },
+            );
             progress.fault = Some(fault);
             Err(publisher.stop())
         }
@@ -198,24 +228,22 @@ fn take_next<J: Opening, S: Alter, R: Wait>(
     alloc: Global,
     desk: &mut Desk<S>,
     progress: &mut Progress,
-    notices: &Notices,
+    teller: &mut Teller<J>,
     board: BoardSide<J>,
     submission: Submission,
 ) -> BoardSide<J>
-    requires { MayHandle J.shows S.Store desk.old progress.old.fault board submission }
+    requires next { MayHandle J.shows S.Store desk.old progress.old.fault board submission }
+    requires untold { progress.old.fault ≡ None → teller.old ≡ [] }
     ensures next { TakesNext submission.request S.Store desk.old desk.new
         progress.old.handled progress.new.handled progress.old.fault progress.new.fault }
     ensures shown { ShowsNext J.shows S.Store desk.new board result submission progress.new.fault }
+    ensures told { TellsNext submission progress.old.handled progress.new.handled
+        progress.old.fault progress.new.fault teller.old teller.new }
 {
     match board {
-        Ok(publisher) => handle_next(rt, alloc, desk, progress, notices, publisher, submission),
+        Ok(publisher) => handle_next(rt, alloc, desk, progress, teller, publisher, submission),
         Err(stopped) => {
-            notices.tell(
-                rt,
-                submission.worker,
-                submission.number,
-                ServiceFault::Closed,
-            );
+            teller.tell(rt, submission.worker, submission.number);
             Err(stopped)
         }
     }
@@ -227,15 +255,18 @@ fn take_message<J: Opening, S: Alter, R: Wait>(
     alloc: Global,
     desk: &mut Desk<S>,
     progress: &mut Progress,
-    notices: &Notices,
+    teller: &mut Teller<J>,
     gone: &mut [bool; 8],
     board: BoardSide<J>,
     message: Message,
 ) -> BoardSide<J>
-    requires { MayTake J.shows S.Store desk.old progress.old.fault board message }
+    requires next { MayTake J.shows S.Store desk.old progress.old.fault board message }
+    requires untold { progress.old.fault ≡ None → teller.old ≡ [] }
     ensures next { TakesMessage J.shows message S.Store desk.old desk.new
         progress.old.handled progress.new.handled progress.old.fault progress.new.fault
         board result }
+    ensures told { TellsMessage message progress.old.handled progress.new.handled
+        progress.old.fault progress.new.fault teller.old teller.new }
     ensures gone { (k : ℕ) → slice_index_or gone.new k false ≡ true
         → (slice_index_or gone.old k false ≡ true) ⊎ (message ≡ Leave (k + 1)) }
 {
@@ -245,7 +276,7 @@ fn take_message<J: Opening, S: Alter, R: Wait>(
             board
         }
         Message::Submit(submission) => {
-            take_next(rt, alloc, desk, progress, notices, board, submission)
+            take_next(rt, alloc, desk, progress, teller, board, submission)
         }
     }
 }
@@ -269,7 +300,7 @@ impl<J: Opening, S: Alter> DeskSide<J, S> {
     pub fn limit_steps(&mut self, limit: Option<u64>)
         ensures desk { self.new.desk ≡ record self.old.desk { step_limit = limit_of limit } }
         ensures same { (self.new.inbox ≡ self.old.inbox) × (self.new.publisher ≡ self.old.publisher)
-            × (self.new.workers ≡ self.old.workers) }
+            × (self.new.teller ≡ self.old.teller) × (self.new.workers ≡ self.old.workers) }
     {
         self.desk.limit_steps(limit);
     }
@@ -296,6 +327,8 @@ impl<J: Opening, S: Alter> DeskSide<J, S> {
         requires { OpensWith J.shows S.Store self.desk self.publisher.shown }
         ensures finishes { Finishes self.workers result.1.handled result.1.heard.got
             result.1.board.shown.entries S.Store self.desk result.0 result.2 }
+        ensures closing { HasTold result.1.handled result.1.heard.got
+            result.1.board.shown.entries result.2 result.1.closing }
         ensures board { ShowsAll result.1.board.shown result.1.board.board }
         ensures told { ToldBy J.shows S.Store result.0 result.1.board.shown }
         ensures replies { GivesReplies J.shows S.Store result.0 result.1.board.shown }
@@ -304,7 +337,7 @@ impl<J: Opening, S: Alter> DeskSide<J, S> {
             mut inbox,
             mut desk,
             publisher,
-            notices,
+            mut teller,
             workers,
         } = self;
         let mut board: BoardSide<J> = Ok(publisher);
@@ -324,7 +357,7 @@ impl<J: Opening, S: Alter> DeskSide<J, S> {
                         alloc,
                         &mut desk,
                         &mut progress,
-                        &notices,
+                        &mut teller,
                         &mut gone,
                         board,
                         message,
@@ -336,6 +369,7 @@ impl<J: Opening, S: Alter> DeskSide<J, S> {
         let ended = Ended {
             heard: inbox.end(),
             board: stop(board),
+            closing: teller.known(),
             handled: progress.handled,
             workers,
         };

@@ -1,9 +1,11 @@
 //! What is left of a desk's side.
 
 ghost use Rattle.std.specs.Prelude.{◌≡◌, ◌+◌, ◌<◌, ◌≤◌, ℕ, false, length, IsTrue};
+ghost use Rattle.board.specs.Showing.{StartsWith};
 ghost use Rattle.hall.specs.Serving.{TookPart};
 ghost use Rattle.hall.specs.Queue.{AreFirst, IsHearing, of, is_open, submissions};
 
+use crate::closing::KnownClosing;
 use crate::ends::Heard;
 use crate::opening::Opening;
 use crate::worker::Left;
@@ -11,11 +13,12 @@ use board::StoppedBoard;
 use std::sync::Wait;
 
 /// What is left of a desk's side once each worker has left: all that it received, how many
-/// submissions it handled, and the board as it was shown last. The handled list is the first ones
-/// that it received. It is not `Drop`: end it by `close`.
+/// submissions it handled, the board as it was shown last, and the submission at which the hall closed,
+/// if it did. The handled list is the first ones that it received. It is not `Drop`: end it by `close`.
 pub struct Ended<J: Opening> {
     pub(crate) heard: Heard<J>,
     pub(crate) board: StoppedBoard<J>,
+    pub(crate) closing: KnownClosing<J>,
     pub(crate) handled: u64,
     pub(crate) workers: usize,
     pub(crate) ghost hearing: { IsHearing heard },
@@ -36,23 +39,34 @@ impl<J: Opening> Ended<J> {
     /// of what it submitted, and all of it where all that came was handled.
     ///
     /// It answers whether the worker took part in this hall, as each of its workers did: then the
-    /// desk received its Leave, and what it had seen is a beginning of what was shown.
+    /// desk received its Leave, what it had seen is a beginning of what was shown, and the closing of
+    /// which it was told is the hall's.
     pub fn take_in(&mut self, left: Left<J>) -> bool
         ensures same { (self.new.handled ≡ self.old.handled)
-            × (self.new.heard.got ≡ self.old.heard.got) × (self.new.board ≡ self.old.board) }
+            × (self.new.heard.got ≡ self.old.heard.got) × (self.new.board ≡ self.old.board)
+            × (self.new.closing ≡ self.old.closing) }
         ensures first { is_open (of left.post.worker self.old.heard.got) ≡ false
             → AreFirst left.post.worker self.old.handled self.old.heard.got left.post.sent }
         ensures part { IsTrue result → TookPart self.old.handled self.old.heard.got
-            self.old.board.shown (record { post = left.post; seen = left.sight }) }
+            self.old.board.shown (record {
+              post = left.post;
+              seen = left.sight;
+              closing = left.closing;
+            }) }
+        ensures closing { IsTrue result → StartsWith self.old.closing left.closing }
     {
         let Left {
             post,
             worker,
             sight,
+            closing,
             is_told: _,
         } = left;
         self.heard.take_in(post);
         if worker.number() > self.workers as u64 {
+            return false;
+        }
+        if !closing.begins(&self.closing) {
             return false;
         }
         self.board.has_shown(&sight)
@@ -63,6 +77,7 @@ impl<J: Opening> Ended<J> {
         let Ended {
             heard: _,
             board,
+            closing: _,
             handled: _,
             workers: _,
         } = self;

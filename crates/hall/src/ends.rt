@@ -1,16 +1,18 @@
 //! The ends of the queue.
 
-ghost use Rattle.std.specs.Prelude.{◌≡◌, ◌+◌, true, false, length, MatchResult};
+ghost use Rattle.std.specs.Prelude.{◌≡◌, ◌+◌, [], true, false, length, MatchResult};
 ghost use Rattle.crossbeam_channel.specs.Claims.{IsKeyed};
 ghost use Rattle.crossbeam_channel.specs.Ends.{sends_on};
 ghost use Rattle.crossbeam_channel.specs.Err.{send_message};
 ghost use Rattle.hall.specs.Queue.{from, of, is_open, HasNumber, IsNext, IsHearing, IsSending};
 ghost use Rattle.hall.specs.Queue.{desk_view, worker_view, joined, taken_in, sent_more, got_more};
 
+use crate::closing::{Closing, Closings};
 use crate::messages::{Message, View};
 use crate::opening::Opening;
 use crate::rule::{Hires, InTurn, Receives, Sends, TakesIn, Total};
 use board::Blank;
+use chronicle::{Beginning, Chronicle};
 use crossbeam_channel::{Pass, RecvError, RuledReceiver, RuledSender, SendError, bounded_with};
 use hall_schedule::PLACES;
 use std::alloc::Global;
@@ -36,16 +38,19 @@ impl Opened {
     }
 }
 
-/// A queue of 8 places that belongs to no hall yet.
+/// A queue of 8 places that belongs to no hall yet, with a list of closings.
 #[derive(Drop)]
 pub(crate) struct Queue {
     sender: RuledSender<Message, View, InTurn>,
     receiver: RuledReceiver<Message, View, InTurn>,
     pass: Pass<Message, View>,
+    chronicle: Chronicle<Closing>,
+    none: Beginning<Closing>,
 }
 
 impl Model for Queue {
-    ghost use Rattle.std.specs.Prelude.{◌≡◌};
+    ghost use Rattle.std.specs.Prelude.{◌≡◌, []};
+    ghost use Rattle.chronicle.specs.Growing.{known};
     ghost use Rattle.crossbeam_channel.specs.Claims.{view as knows, IsSeatAt};
     ghost use Rattle.crossbeam_channel.specs.Ends.{sends_on, receives_on, ruled_capacity};
     ghost use Rattle.hall_schedule.specs.declared.schedule.TheConstants.{PLACES};
@@ -54,12 +59,16 @@ impl Model for Queue {
 
     ghost Value = { QueueName };
 
-    ghost view = { λ o. record { queue = o.pass.table_id; key = o.pass.me.0.of } };
+    ghost view = { λ o. record {
+      queue = o.pass.table_id;
+      key = o.pass.me.0.of;
+      closings = o.chronicle;
+    } };
 
     ghost invariant = { λ o. (receives_on o.receiver ≡ sends_on o.sender)
         × (ruled_capacity (sends_on o.sender) ≡ PLACES)
         × IsSeatAt (sends_on o.sender) o.pass
-        × (knows o.pass ≡ desk_view) };
+        × (knows o.pass ≡ desk_view) × (o.none ≡ known o.chronicle []) };
 }
 
 impl Queue {
@@ -68,22 +77,28 @@ impl Queue {
         let (sender, receiver, pass) = bounded_with::<Message, View, InTurn, Global>(
             alloc, PLACES,
         )?;
+        let (chronicle, none) = Chronicle::new();
         Ok(Queue {
             sender,
             receiver,
             pass,
+            chronicle,
+            none,
         })
     }
 
-    /// The desk's end, and what makes workers' ends.
-    pub(crate) fn ends<J: Opening>(self) -> (Hiring<J>, Inbox<J>)
+    /// The desk's end, what makes workers' ends, and the list of closings, which is empty.
+    pub(crate) fn ends<J: Opening>(self) -> (Hiring<J>, Inbox<J>, Closings<J>)
         requires { self ≡ J.name }
-        ensures { result.1 ≡ desk_view }
+        ensures desk { result.1 ≡ desk_view }
+        ensures untold { result.2 ≡ [] }
     {
         let Queue {
             sender,
             receiver,
             pass,
+            chronicle,
+            none,
         } = self;
         (
             Hiring {
@@ -95,6 +110,7 @@ impl Queue {
                 pass,
                 of: PhantomData,
             },
+            Closings::over(chronicle, none),
         )
     }
 }

@@ -15,9 +15,10 @@ ghost use Rattle.hall.specs.Openings.{why_number, can_be_workers, IsUnopened, Is
 ghost use Rattle.hall.specs.Openings.{MeetsFaultOf, AreFirstPages, OpensBoard, OpensWith};
 ghost use Rattle.hall.specs.Serving.{AreWorkers};
 
+use crate::closing::KnownClosing;
 use crate::desk_side::DeskSide;
 use crate::ends::{Hiring, Inbox, Opened, Post, Queue};
-use crate::notices::Notices;
+use crate::notices::{Notices, Teller};
 use crate::opening::Opening;
 use crate::worker::Worker;
 use board::{Blank, First, Publisher, Window, WorkerId};
@@ -94,14 +95,16 @@ fn hire_one<J: Opening, R: Wait>(
     post: Post<J>,
     window: Window<J>,
     worker: WorkerId,
-    notices: &Arc<Notices, Global>,
+    closing: KnownClosing<J>,
+    notices: &Arc<Notices<J>, Global>,
 ) -> Result<Worker<J>, Memory>
     requires { post ≡ worker_view worker }
     ensures { IfOk result (λ w. (w.post ≡ worker_view worker) × (w.seen ≡ window)) }
 {
     let parker = Parker::new(alloc)?;
     notices.hang(rt, worker, parker.unparker().clone()?);
-    Ok(Worker::new(post, window, worker, Arc::try_clone(notices)?, parker))
+    let notices = Arc::try_clone(notices)?;
+    Ok(Worker::new(post, window, worker, closing, notices, parker))
 }
 
 /// The workers, numbered from 1 on. 90; 92 where the board has no place for a reader.
@@ -111,7 +114,8 @@ fn hire_all<J: Opening, R: Wait>(
     hiring: &Hiring<J>,
     inbox: &mut Inbox<J>,
     publisher: &Publisher<J>,
-    notices: &Arc<Notices, Global>,
+    closing: &KnownClosing<J>,
+    notices: &Arc<Notices<J>, Global>,
     workers: usize,
 ) -> Result<Vec<Worker<J>>, ServiceFault>
     requires inbox { IsHearing inbox.old × (inbox.old.got ≡ []) × (inbox.old.made ≡ 0) }
@@ -127,13 +131,14 @@ fn hire_all<J: Opening, R: Wait>(
             return Err(ServiceFault::Closed);
         };
         let post = hiring.hire(inbox)?;
-        all.push(hire_one(rt, alloc, post, window, worker, notices)?)?;
+        let hired = hire_one(rt, alloc, post, window, worker, closing.again(), notices)?;
+        all.push(hired)?;
     }
     Ok(all)
 }
 
 /// What `Hall::new` gives, but for the desk and the board.
-type Hired<J> = (Inbox<J>, Arc<Notices, Global>, Vec<Worker<J>>);
+type Hired<J> = (Inbox<J>, Teller<J>, Vec<Worker<J>>);
 
 /// The workers of a hall, and what they share with the desk. 90; 92 where the board has no place
 /// for a reader.
@@ -147,13 +152,23 @@ fn hire<J: Opening, R: Wait>(
     requires name { queue ≡ J.name }
     requires limits { workers ≤ most }
     ensures inbox { IfOk result (λ r. IsHearing r.0 × (r.0.got ≡ [])) }
+    ensures untold { IfOk result (λ r. r.1 ≡ []) }
     ensures workers { IfOk result (λ r. AreWorkers workers r.2.items) }
     ensures fault { IfErr result (λ fault. (fault ≡ Met NoMemory) ⊎ (fault ≡ Closed)) }
 {
-    let (hiring, mut inbox) = queue.ends::<J>();
+    let (hiring, mut inbox, closings) = queue.ends::<J>();
     let notices = Arc::new(alloc, Notices::new())?;
-    let all = hire_all(rt, alloc, &hiring, &mut inbox, publisher, &notices, workers)?;
-    Ok((inbox, notices, all))
+    let all = hire_all(
+        rt,
+        alloc,
+        &hiring,
+        &mut inbox,
+        publisher,
+        &closings.known(),
+        &notices,
+        workers,
+    )?;
+    Ok((inbox, Teller::new(notices, closings), all))
 }
 
 /// A board that shows the pages of all patrons. 90, 91, 93.
@@ -221,12 +236,12 @@ impl Hall {
             }
         };
         match hire(rt, alloc, queue, &publisher, workers) {
-            Ok((inbox, notices, all)) => {
+            Ok((inbox, teller, all)) => {
                 let side = DeskSide {
                     inbox,
                     desk,
                     publisher,
-                    notices,
+                    teller,
                     workers,
                 };
                 Ok((side, all))

@@ -1,6 +1,7 @@
 //! The hall: workers that submit requests, a queue, and the desk that handles them in turn.
 #![tactic(auto)]
 
+mod closing;
 mod desk_side;
 mod ended;
 mod ends;
@@ -11,6 +12,7 @@ mod opening;
 mod rule;
 mod worker;
 
+pub use closing::{Closing, KnownClosing};
 pub use desk_side::DeskSide;
 pub use ended::Ended;
 pub use ends::{Heard, Inbox, Opened, Post};

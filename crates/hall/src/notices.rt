@@ -1,27 +1,37 @@
 //! Where workers are told that there is something to see, and why the desk didn't handle what they
 //! submitted.
 
+ghost use Rattle.std.specs.Prelude.{◌≡◌, ◌∷◌, [], Some, IfSome};
+ghost use Rattle.hall.specs.Closings.{told_of};
+
+use crate::closing::{Closing, Closings, KnownClosing};
+use crate::opening::Opening;
 use board::WorkerId;
 use crossbeam_utils::sync::Unparker;
-use std::sync::{OnceLock, Wait};
+use std::alloc::Global;
+use std::marker::Model;
+use std::sync::{Arc, OnceLock, Wait};
 use terms::ServiceFault;
 
-/// Why the first of a worker's submissions that has no reply has none.
-#[derive(Clone, Copy)]
-struct Notice {
+/// Why a worker's submissions have no reply.
+#[derive(Drop)]
+struct Notice<J: Opening> {
+    /// The first one that has none.
     number: u64,
-    fault: ServiceFault,
+    closing: Closing,
+    known: KnownClosing<J>,
+    ghost closed: { known ≡ closing ∷ [] },
 }
 
 /// A worker's place.
 #[derive(Drop)]
-struct WorkerPlace {
-    notice: OnceLock<Notice>,
+struct WorkerPlace<J: Opening> {
+    notice: OnceLock<Notice<J>>,
     bell: OnceLock<Unparker>,
 }
 
-impl WorkerPlace {
-    fn new() -> WorkerPlace {
+impl<J: Opening> WorkerPlace<J> {
+    fn new() -> WorkerPlace<J> {
         WorkerPlace {
             notice: OnceLock::new(),
             bell: OnceLock::new(),
@@ -31,12 +41,12 @@ impl WorkerPlace {
 
 /// A place for each worker. They are made with the hall, so that closing it takes no memory.
 #[derive(Drop)]
-pub(crate) struct Notices {
-    places: [WorkerPlace; 8],
+pub(crate) struct Notices<J: Opening> {
+    places: [WorkerPlace<J>; 8],
 }
 
-impl Notices {
-    pub(crate) fn new() -> Notices {
+impl<J: Opening> Notices<J> {
+    pub(crate) fn new() -> Notices<J> {
         Notices {
             places: [
                 WorkerPlace::new(),
@@ -52,7 +62,7 @@ impl Notices {
     }
 
     /// The place of a worker.
-    fn place(&self, worker: WorkerId) -> &WorkerPlace {
+    fn place(&self, worker: WorkerId) -> &WorkerPlace<J> {
         &self.places[(worker.number() - 1) as usize]
     }
 
@@ -68,23 +78,96 @@ impl Notices {
         }
     }
 
-    /// Tells a worker why this submission has no reply, and wakes it. Of one worker's only the
-    /// first is told, since each later one isn't handled because the hall is closed.
-    pub(crate) fn tell<R: Wait>(&self, rt: &R, worker: WorkerId, number: u64, fault: ServiceFault) {
-        let _ = self.place(worker).notice.set(rt, Notice { number, fault });
-        self.wake(worker);
+    /// Puts why a worker's submissions have no reply. Only the first is kept, since each later one
+    /// isn't handled because the hall is closed.
+    fn put<R: Wait>(&self, rt: &R, worker: WorkerId, notice: Notice<J>) {
+        let _ = self.place(worker).notice.set(rt, notice);
     }
 
-    /// Why this submission of the worker has no reply, if the worker was told: the fault that it
-    /// met, or 92 after the first.
-    pub(crate) fn fault_of(&self, worker: WorkerId, number: u64) -> Option<ServiceFault> {
+    /// Why this submission of the worker has no reply, if the worker was told, and the closing that
+    /// says so: the fault that it met, or 92.
+    pub(crate) fn fault_of(
+        &self,
+        worker: WorkerId,
+        number: u64,
+    ) -> Option<(ServiceFault, KnownClosing<J>)>
+        ensures { IfSome result (λ told. told_of told.1 worker number ≡ Some told.0) }
+    {
         let notice = self.place(worker).notice.get()?;
         if number < notice.number {
-            None
-        } else if number == notice.number {
-            Some(notice.fault)
-        } else {
-            Some(ServiceFault::Closed)
+            return None;
         }
+        let fault = notice.closing.fault_of(worker, number);
+        Some((fault, notice.known.again()))
+    }
+}
+
+/// The desk's side: it wakes workers, and tells them that the hall has closed. Contracts see what it
+/// told: the submission at which the hall closed, once it has.
+#[derive(Drop)]
+pub(crate) struct Teller<J: Opening> {
+    notices: Arc<Notices<J>, Global>,
+    closings: Closings<J>,
+    closing: Option<Closing>,
+}
+
+impl<J: Opening> Model for Teller<J> {
+    ghost use Rattle.std.specs.Prelude.{◌≡◌, ◌∷◌, [], List, IfSome};
+    ghost use Rattle.hall.specs.declared.closing.Closing.{Closing};
+
+    ghost Value = { List Closing };
+
+    ghost view = { λ t. t.closings };
+
+    ghost invariant = { λ t. IfSome t.closing (λ c. t.closings ≡ c ∷ []) };
+}
+
+impl<J: Opening> Teller<J> {
+    /// Of a hall that is open.
+    pub(crate) fn new(notices: Arc<Notices<J>, Global>, closings: Closings<J>) -> Teller<J>
+        requires { closings ≡ [] }
+        ensures { result ≡ [] }
+    {
+        Teller {
+            notices,
+            closings,
+            closing: None,
+        }
+    }
+
+    /// Wakes a worker: there is something to see.
+    pub(crate) fn wake(&self, worker: WorkerId) {
+        self.notices.wake(worker);
+    }
+
+    /// What it told.
+    pub(crate) fn known(&self) -> KnownClosing<J>
+        ensures { result ≡ self.now }
+    {
+        self.closings.known()
+    }
+
+    /// The hall closes at this submission: its worker is told so, and woken.
+    pub(crate) fn close<R: Wait>(&mut self, rt: &R, closing: Closing)
+        requires { self.old ≡ [] }
+        ensures { self.new ≡ closing ∷ [] }
+    {
+        self.closings.close(rt, &closing);
+        self.closing = Some(closing);
+        self.tell(rt, closing.worker, closing.number);
+    }
+
+    /// Tells a worker that its submissions have no reply from this one on, since the hall is closed,
+    /// and wakes it.
+    pub(crate) fn tell<R: Wait>(&self, rt: &R, worker: WorkerId, number: u64) {
+        if let Some(closing) = self.closing {
+            let notice = Notice {
+                number,
+                closing,
+                known: self.closings.known(),
+            };
+            self.notices.put(rt, worker, notice);
+        }
+        self.notices.wake(worker);
     }
 }

@@ -1,17 +1,21 @@
 //! The side of a worker.
 
-ghost use Rattle.std.specs.Prelude.{◌≡◌, length, MatchResult, MatchBool, IfOk, IfSome, OnOk};
+ghost use Rattle.std.specs.Prelude.{◌≡◌, ◌<◌, length, MatchResult, MatchBool, IfOk, IfErr, IfSome};
+ghost use Rattle.std.specs.Prelude.{OnOk, Some};
 ghost use Rattle.std.specs.Prelude.{option_map};
 ghost use Rattle.std.specs.Arc.{arc_value};
 ghost use Rattle.terms.specs.Writing.{Writes};
-ghost use Rattle.terms.specs.declared.fault.ServiceFault.TheVariants.{Closed};
 ghost use Rattle.web.specs.Answers.{answer_bytes, answer_for};
-ghost use Rattle.board.specs.Showing.{GoesOn, IsReply, count_own};
+ghost use Rattle.board.specs.Showing.{StartsWith, GoesOn, IsReply, count_own};
 ghost use Rattle.hall.specs.declared.messages.Message.TheVariants.{Leave};
+ghost use Rattle.terms.specs.declared.fault.ServiceFault.TheVariants.{Closed};
+ghost use Rattle.hall.specs.Closings.{told_of};
 ghost use Rattle.hall.specs.Queue.{IsSending, sent_more, worker_view};
-ghost use Rattle.hall.specs.Serving.{submitted, SubmitsOnce, page_asked, MeetsAsked, Serves};
+ghost use Rattle.hall.specs.Serving.{Submits, SubmitsOnce, page_asked, MeetsAsked, Serves};
 ghost use Rattle.hall.specs.Serving.{IsReplied, TellsSubmitted, TellsPage, shown_page};
+ghost use Rattle.hall.specs.Serving.{IfTold, IsFaultOf};
 
+use crate::closing::KnownClosing;
 use crate::ends::Post;
 use crate::messages::{LAST_SUBMISSION, Message, Submission};
 use crate::notices::Notices;
@@ -23,9 +27,7 @@ use std::alloc::Global;
 use std::io::{Read, Write};
 use std::marker::Model;
 use std::sync::{Arc, Wait};
-use terms::{
-    Caller, CardKey, Command, Fault, Memory, PatronId, Refusal, Reply, Request, ServiceFault,
-};
+use terms::{Caller, CardKey, Command, Fault, Memory, PatronId, Refusal, Request, ServiceFault};
 use web::{Answer, Asked, Routes, WebFault, read_request, write_answer};
 
 /// A worker of a hall. Contracts see what it sent, and what it has seen of the handled list.
@@ -37,7 +39,9 @@ pub struct Worker<J: Opening> {
     number: u64,
     /// Its last submission.
     last: Option<SharedRequest>,
-    notices: Arc<Notices, Global>,
+    /// What it was told of the closing of the hall.
+    closing: KnownClosing<J>,
+    notices: Arc<Notices<J>, Global>,
     parker: Parker,
 }
 
@@ -48,7 +52,7 @@ impl<J: Opening> Model for Worker<J> {
 
     ghost Value = { Working };
 
-    ghost view = { λ w. record { post = w.post; seen = w.window } };
+    ghost view = { λ w. record { post = w.post; seen = w.window; closing = w.closing } };
 
     ghost invariant = { λ w. IsSending w.post
         × (w.post.worker ≡ w.worker)
@@ -63,13 +67,16 @@ pub struct Left<J: Opening> {
     pub(crate) worker: WorkerId,
     /// What it had seen.
     pub(crate) sight: LastSeen<J>,
+    /// What it was told of the closing of the hall.
+    pub(crate) closing: KnownClosing<J>,
     /// Whether its Leave is in the queue. It isn't where the desk is gone.
     pub is_told: bool,
     pub(crate) ghost sending: { IsSending post },
     pub(crate) ghost named: { post.worker ≡ worker },
 }
 
-/// No answer went out whole: a read or a write failed, or no memory was left for the answer.
+/// No answer went out whole: a read or a write failed, or no memory was left for the answer, or the
+/// board was gone.
 #[derive(Clone, Copy, Debug, PartialEq, Eq)]
 pub struct ServeFault;
 
@@ -78,6 +85,8 @@ pub struct ServeFault;
 enum Lost {
     /// This fault came instead.
     Told(ServiceFault),
+    /// The board is gone, or shows other than the worker submitted.
+    Gone,
     /// No memory is left to take the reply.
     Untold,
 }
@@ -86,13 +95,17 @@ enum Lost {
 fn await_entry<J: Opening, R: Wait>(
     rt: &R,
     window: &mut Window<J>,
-    notices: &Notices,
+    closing: &mut KnownClosing<J>,
+    notices: &Notices<J>,
     parker: &Parker,
     worker: WorkerId,
     number: u64,
     request: &SharedRequest,
 ) -> Result<Arc<Entry, Global>, Lost>
     ensures on { GoesOn window.new window.old }
+    ensures closing { StartsWith closing.new closing.old }
+    ensures told { IfErr result (IfTold
+        (λ fault. told_of closing.new worker number ≡ Some fault)) }
     ensures found { IfOk result (λ entry. IsReply window.new.entries worker number request.now
         (arc_value entry).reply) }
 {
@@ -101,9 +114,13 @@ fn await_entry<J: Opening, R: Wait>(
             Ok(Some(entry)) => return Ok(entry),
             Ok(None) => {}
             Err(Unseen::Memory) => return Err(Lost::Untold),
-            Err(Unseen::Gone) => return Err(Lost::Told(ServiceFault::Closed)),
+            Err(Unseen::Gone) => return Err(Lost::Gone),
         }
-        if let Some(fault) = notices.fault_of(worker, number) {
+        if let Some((fault, told)) = notices.fault_of(worker, number) {
+            if !closing.begins(&told) {
+                return Err(Lost::Gone);
+            }
+            *closing = told;
             return Err(Lost::Told(fault));
         }
         parker.park(rt);
@@ -162,11 +179,13 @@ impl<J: Opening> Worker<J> {
         post: Post<J>,
         window: Window<J>,
         worker: WorkerId,
-        notices: Arc<Notices, Global>,
+        closing: KnownClosing<J>,
+        notices: Arc<Notices<J>, Global>,
         parker: Parker,
     ) -> Worker<J>
         requires { post ≡ worker_view worker }
-        ensures { (result.post ≡ worker_view worker) × (result.seen ≡ window) }
+        ensures { (result.post ≡ worker_view worker) × (result.seen ≡ window)
+            × (result.closing ≡ closing) }
     {
         Worker {
             post,
@@ -174,6 +193,7 @@ impl<J: Opening> Worker<J> {
             worker,
             number: 0,
             last: None,
+            closing,
             notices,
             parker,
         }
@@ -184,13 +204,14 @@ impl<J: Opening> Worker<J> {
     fn begin(&mut self) -> Result<(), Lost>
         ensures same { self.new.post ≡ self.old.post }
         ensures on { GoesOn self.new.seen self.old.seen }
+        ensures closing { self.new.closing ≡ self.old.closing }
         ensures none { OnOk result (count_own self.old.post.worker self.new.seen.entries ≡ 0) }
     {
         match self.window.shows_none_of(self.worker) {
             Ok(true) => Ok(()),
-            Ok(false) => Err(Lost::Told(ServiceFault::Closed)),
+            Ok(false) => Err(Lost::Gone),
             Err(Unseen::Memory) => Err(Lost::Untold),
-            Err(Unseen::Gone) => Err(Lost::Told(ServiceFault::Closed)),
+            Err(Unseen::Gone) => Err(Lost::Gone),
         }
     }
 
@@ -199,6 +220,7 @@ impl<J: Opening> Worker<J> {
     fn catch_up<R: Wait>(&mut self, rt: &R) -> Result<(), Lost>
         ensures same { self.new.post ≡ self.old.post }
         ensures on { GoesOn self.new.seen self.old.seen }
+        ensures closing { StartsWith self.new.closing self.old.closing }
         ensures all { OnOk result
             (count_own self.old.post.worker self.new.seen.entries ≡ length self.old.post.sent) }
     {
@@ -206,11 +228,12 @@ impl<J: Opening> Worker<J> {
             return self.begin();
         }
         let Some(last) = &self.last else {
-            return Err(Lost::Told(ServiceFault::Closed));
+            return Err(Lost::Gone);
         };
         match await_entry(
             rt,
             &mut self.window,
+            &mut self.closing,
             &self.notices,
             &self.parker,
             self.worker,
@@ -226,9 +249,10 @@ impl<J: Opening> Worker<J> {
     /// in the queue. 92, and nothing is submitted, where the numbers are used up or the desk is
     /// gone.
     fn submit<R: Wait>(&mut self, rt: &R, request: SharedRequest) -> Result<(), ServiceFault>
-        ensures { MatchResult result
-            (λ _. self.new ≡ record self.old { post = submitted self.old.post request })
-            (λ fault. (fault ≡ Closed) × (self.new ≡ self.old)) }
+        ensures same { (self.new.seen ≡ self.old.seen) × (self.new.closing ≡ self.old.closing) }
+        ensures once { MatchResult result
+            (λ _. Submits self.old.post self.new.post request)
+            (λ fault. (fault ≡ Closed) × (self.new.post ≡ self.old.post)) }
     {
         if self.number >= LAST_SUBMISSION {
             return Err(ServiceFault::Closed);
@@ -256,12 +280,16 @@ impl<J: Opening> Worker<J> {
     ) -> Result<Arc<Entry, Global>, Lost>
         ensures same { self.new.post ≡ self.old.post }
         ensures on { GoesOn self.new.seen self.old.seen }
+        ensures closing { StartsWith self.new.closing self.old.closing }
+        ensures told { IfErr result (IfTold (λ fault. told_of self.new.closing
+            self.old.post.worker (length self.old.post.sent) ≡ Some fault)) }
         ensures found { IfOk result (λ entry. IsReply self.new.seen.entries
             self.old.post.worker (length self.old.post.sent) request (arc_value entry).reply) }
     {
         let found = await_entry(
             rt,
             &mut self.window,
+            &mut self.closing,
             &self.notices,
             &self.parker,
             self.worker,
@@ -280,13 +308,15 @@ impl<J: Opening> Worker<J> {
         request: Request,
     ) -> Result<Arc<Entry, Global>, Lost>
         ensures on { GoesOn self.new.seen self.old.seen }
+        ensures closing { StartsWith self.new.closing self.old.closing }
         ensures once { SubmitsOnce self.old.post self.new.post request }
         ensures found { IfOk result (λ entry. IsReplied request self.old self.new
             (arc_value entry).reply) }
+        ensures fault { IfErr result (IfTold (IsFaultOf request self.old self.new)) }
     {
         match self.catch_up(rt) {
             Ok(()) => {}
-            Err(Lost::Told(_)) => return Err(Lost::Told(ServiceFault::Closed)),
+            Err(Lost::Told(_)) | Err(Lost::Gone) => return Err(Lost::Told(ServiceFault::Closed)),
             Err(Lost::Untold) => return Err(Lost::Told(ServiceFault::Met(Fault::Memory))),
         }
         let Ok(own) = SharedRequest::new(alloc, request) else {
@@ -302,7 +332,7 @@ impl<J: Opening> Worker<J> {
     }
 
     /// The answer to a request of the desk or of a patron, from the desk. None where no memory is
-    /// left for it.
+    /// left for it, or the board is gone.
     fn answer_from_desk<R: Wait>(
         &mut self,
         rt: &R,
@@ -310,6 +340,7 @@ impl<J: Opening> Worker<J> {
         request: Request,
     ) -> Option<Answer>
         ensures on { GoesOn self.new.seen self.old.seen }
+        ensures closing { StartsWith self.new.closing self.old.closing }
         ensures once { SubmitsOnce self.old.post self.new.post request }
         ensures told { IfSome result (TellsSubmitted request self.old self.new) }
     {
@@ -319,7 +350,7 @@ impl<J: Opening> Worker<J> {
                 Err(_) => None,
             },
             Err(Lost::Told(fault)) => Some(Answer::Faulted(fault)),
-            Err(Lost::Untold) => None,
+            Err(Lost::Gone) | Err(Lost::Untold) => None,
         }
     }
 
@@ -331,7 +362,7 @@ impl<J: Opening> Worker<J> {
         patron: PatronId,
         shown: Option<&CardKey>,
     ) -> Answer
-        ensures same { self.new.post ≡ self.old.post }
+        ensures same { (self.new.post ≡ self.old.post) × (self.new.closing ≡ self.old.closing) }
         ensures on { GoesOn self.new.seen self.old.seen }
         ensures told { TellsPage patron (option_map (λ k. k.now) shown.entry)
             self.new.seen result }
@@ -346,7 +377,7 @@ impl<J: Opening> Worker<J> {
         }
     }
 
-    /// The answer to what is asked for. None where no memory is left for it.
+    /// The answer to what is asked for. None where no memory is left for it, or the board is gone.
     fn answer<R: Wait>(&mut self, rt: &R, alloc: Global, asked: Asked) -> Option<Answer>
         ensures { MeetsAsked asked self.old self.new result }
     {
@@ -364,14 +395,16 @@ impl<J: Opening> Worker<J> {
 
     /// Serves one connection: reads its request, and writes its answer.
     ///
-    /// The answer is that of the request as the bytes make it, or the status of the first check
-    /// that they fail. A page is shown from the board, without waiting for the desk; 90 in its
-    /// place where no memory is left to look at it, and 92 where the board is gone. Every other
-    /// request is submitted, and its reply comes from the board once the desk has handled it; 90,
-    /// 91, 92 or 93 in its place: the fault that it met, or 92 where the hall is closed or the
-    /// worker's numbers are used up. A connection breaks where a read or a write fails, or no
-    /// memory is left for the answer: then nothing or a beginning of the answer went out. Where no
-    /// memory is left to read it, or there are no routes for want of it, the answer is fault 90.
+    /// The answer is that of the request as the bytes make it, or the status of the first check that
+    /// they fail. A page is shown from the board, without waiting for the desk; 90 in its place
+    /// where no memory is left to look at it, and 92 where the board is gone. Every other request is
+    /// submitted, and its reply comes from the board once the desk has handled it. 90 or 92 in its
+    /// place where it wasn't submitted: no memory was left before, or the hall is closed, or the
+    /// worker's numbers are used up. 90 to 93 once it was: the fault that it met, or 92 where the
+    /// hall closed at another one or can't show it. A connection breaks where a read or a write
+    /// fails, or no memory is left for the answer, or the board is gone once it was submitted: then
+    /// nothing or a beginning of the answer went out. Where no memory is left to read it, or there
+    /// are no routes for want of it, the answer is fault 90.
     pub fn serve<I: Read, O: Write, R: Wait>(
         &mut self,
         rt: &R,
@@ -399,7 +432,7 @@ impl<J: Opening> Worker<J> {
     /// Leaves the hall: the desk waits for this of each worker. What comes back is its end of the
     /// queue, which tells what it had submitted, and what it had seen.
     pub fn leave<R: Wait>(self, rt: &R) -> Left<J>
-        ensures seen { result.sight ≡ self.seen }
+        ensures seen { (result.sight ≡ self.seen) × (result.closing ≡ self.closing) }
         ensures told { MatchBool result.is_told
             (result.post ≡ sent_more self.post (Leave self.post.worker)) (result.post ≡ self.post) }
     {
@@ -409,6 +442,7 @@ impl<J: Opening> Worker<J> {
             worker,
             number: _,
             last: _,
+            closing,
             notices: _,
             parker: _,
         } = self;
@@ -420,6 +454,7 @@ impl<J: Opening> Worker<J> {
             post,
             worker,
             sight: window.leave(),
+            closing,
             is_told,
         }
     }

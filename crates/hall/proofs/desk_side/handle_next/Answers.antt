@@ -15,7 +15,7 @@ returns-in-Ok-show-clause-next g c = inl (record {
 pub returns-in-Err-show-clause-next : goal.returns-in-Err-show-clause-next
 returns-in-Err-show-clause-next g c = inr (inl (record {
   was = c.requires.open;
-  met = c.in-Err-show.fault;
+  met = c.in-Err-show.met;
   is = refl;
   counted = refl;
   reply = c.in-Ok.reply;

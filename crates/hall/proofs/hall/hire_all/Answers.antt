@@ -11,6 +11,6 @@ loop-k-preserved g c =
       hearing = s.0;
       fresh = s.1;
       made = s.2;
-      all = hired c.loop-k.k c.loop-k.all.items c.push.new.self.items c.in_ok-hire_one.field-0 i.all
-          (c.in_ok-hire_one.ensures.0 ∙ ap worker_view (search rules)) c.in_ok-push.ensures.items;
+      all = hired c.loop-k.k c.loop-k.all.items c.push.new.self.items c.in_ok-hired.hired i.all
+          (c.in_ok-hired.ensures.0 ∙ ap worker_view (search rules)) c.in_ok-push.ensures.items;
     }

@@ -1,13 +1,19 @@
 use Rattle.std.proofs.Common.{◌≡◌, ◌+◌, ◌<◌, ◌++◌, ◌∷◌, ℕ, false, List, [], map, refl, sym, ap, subst, ◌∙◌, inl, inr, rules}
+use Rattle.std.proofs.Common.{Option}
+use Rattle.terms.specs.declared.fault.ServiceFault.{ServiceFault}
+use Rattle.board.specs.declared.entry.Entry.{Entry}
 use Rattle.board.specs.declared.entry.Seen.{Seen}
 use Rattle.board.specs.Showing.{IsTold}
+use Rattle.hall.specs.declared.closing.Closing.{Closing}
 use Rattle.hall.specs.declared.messages.Message.{Message}
 use Rattle.hall.specs.declared.messages.View.{View}
 use Rattle.hall.specs.Queue.{unhandled, requests, of, is_open}
-use Rattle.hall.specs.Handling.{submission_of, Finishes}
+use Rattle.hall.specs.Handling.{submission_of, shown_by, Finishes}
+use Rattle.hall.specs.Closings.{HasTold}
 use Rattle.hall.proofs.HandledLists.{stays_gone, goes_now}
 use Rattle.hall.proofs.Progress.{none-handled}
 use Rattle.hall.proofs.Replies.{given-to}
+use Rattle.hall.proofs.Closings.{message-told}
 use Rattle.hall.proofs.Shown.{may-take, message-kept, finishes}
 use Rattle.hall.proofs.desk_side.DeskSide.desk_loop.Goals as goal
 
@@ -23,12 +29,18 @@ work-init g c = record {
     shown = (refl, c.args.self.blank.1, ap (map submission_of) c.args.self.blank.0);
     told = c.requires.told;
   };
+  told = c.args.self.untold;
 }
 
-pub take_message-board-requires : goal.take_message-board-requires
-take_message-board-requires g c =
+pub take_message-board-requires-clause-next : goal.take_message-board-requires-clause-next
+take_message-board-requires-clause-next g c =
     may-take g.S.Store g.J.Opening.shows c.args.self.desk c.work.desk c.work.progress.handled c.work.progress.fault c.work.inbox.got
     c.work.board c.in-Ok.message c.requires.tables c.in-Ok.ensures.1 c.work.invariant.stands
+
+pub take_message-board-requires-clause-untold : goal.take_message-board-requires-clause-untold
+take_message-board-requires-clause-untold g c = λ none. subst
+    (λ (o : Option ServiceFault). HasTold c.work.progress.handled c.work.inbox.got (shown_by c.work.board).entries o c.work.teller)
+    none c.work.invariant.told
 
 pub work-preserved-in-Ok : goal.work-preserved-in-Ok
 work-preserved-in-Ok g c =
@@ -45,6 +57,9 @@ work-preserved-in-Ok g c =
       stands = message-kept g.S.Store g.J.Opening.shows c.args.self.desk c.work.desk t.new.desk c.work.progress.handled
           t.new.progress.handled c.work.progress.fault t.new.progress.fault c.work.inbox.got c.receive.new.self.got c.work.board t.result
           c.in-Ok.message got t.ensures.next i.stands;
+      told = message-told g.S.Store g.J.Opening.shows c.args.self.desk c.work.desk t.new.desk c.work.progress.handled
+          t.new.progress.handled c.work.progress.fault t.new.progress.fault c.work.inbox.got c.receive.new.self.got c.work.board t.result
+          c.work.teller t.new.teller c.in-Ok.message got t.ensures.next t.ensures.told i.stands i.told;
     }
 
 pub returns-clause-finishes : goal.returns-clause-finishes
@@ -56,6 +71,16 @@ returns-clause-finishes g c =
     (finishes g.S.Store g.J.Opening.shows c.args.self.workers c.work.progress.handled c.work.inbox.got c.stop.result.shown.entries
     c.args.self.desk c.work.desk c.work.progress.fault c.work.board gone
     (ap (λ (v : Seen). v.entries) c.stop.ensures.same) c.work.invariant.stands)
+
+pub returns-clause-closing : goal.returns-clause-closing
+returns-clause-closing g c =
+    let n = c.work.progress.handled in
+    let fault = c.work.progress.fault in
+    let shown : c.stop.result.shown.entries ≡ (shown_by c.work.board).entries = ap (λ (v : Seen). v.entries) c.stop.ensures.same in
+    let got : c.end.result.got ≡ c.work.inbox.got = ap (λ (v : View). v.got) c.end.ensures in
+    subst (λ (l : List Closing). HasTold n c.end.result.got c.stop.result.shown.entries fault l) (sym c.known.ensures)
+    (subst (λ (l : List Message). HasTold n l c.stop.result.shown.entries fault c.work.teller) (sym got)
+    (subst (λ (l : List Entry). HasTold n c.work.inbox.got l fault c.work.teller) (sym shown) c.work.invariant.told))
 
 pub returns-clause-told : goal.returns-clause-told
 returns-clause-told g c = λ disk H first. subst (IsTold H) (sym c.stop.ensures.same) (c.work.invariant.stands.told disk H first)

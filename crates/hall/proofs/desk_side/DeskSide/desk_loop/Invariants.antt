@@ -1,6 +1,7 @@
 use Rattle.std.proofs.Common.{◌≡◌, ◌+◌, ℕ, true, false, slice_index_or}
 use Rattle.hall.specs.Queue.{IsHearing, of, is_open}
-use Rattle.hall.specs.Handling.{StandsOpen}
+use Rattle.hall.specs.Handling.{StandsOpen, shown_by}
+use Rattle.hall.specs.Closings.{HasTold}
 use Rattle.hall.proofs.desk_side.DeskSide.desk_loop.Given as goal
 
 abbrev pub invariant-work : goal.invariant-work
@@ -8,4 +9,5 @@ invariant-work g l = record {
   hearing : IsHearing l.inbox;
   gone : (k : ℕ) → slice_index_or l.gone k false ≡ true → is_open (of (k + 1) l.inbox.got) ≡ false;
   stands : StandsOpen g.J.Opening.shows g.S.Store l.initial.desk l.desk l.progress.handled l.progress.fault l.inbox.got l.board;
+  told : HasTold l.progress.handled l.inbox.got (shown_by l.board).entries l.progress.fault l.teller;
 }

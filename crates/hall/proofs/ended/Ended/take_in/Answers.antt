@@ -26,3 +26,7 @@ returns-clause-part g c = λ part.
       first = first_of n c.args.self.now.handled c.args.self.now.heard.got c.args.left.post.sent (c.take_in.ensures.whole closed);
       seen = c.has_shown.ensures part;
     }
+
+pub returns-then-not-begins-clause-first : goal.returns-then-not-begins-clause-first
+returns-then-not-begins-clause-first g c = λ closed. first_of c.args.left.post.worker c.args.self.now.handled c.args.self.now.heard.got
+    c.args.left.post.sent (c.take_in.ensures.whole closed)

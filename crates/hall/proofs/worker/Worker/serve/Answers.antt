@@ -5,7 +5,7 @@ use Rattle.web.specs.declared.answer.Answer.TheVariants.{Faulted, Failed}
 use Rattle.terms.specs.declared.fault.Fault.TheVariants.{Memory}
 use Rattle.terms.specs.declared.fault.ServiceFault.TheVariants.{Met}
 use Rattle.hall.specs.Serving.{Working, MeetsAsked}
-use Rattle.hall.proofs.Served.{read-status, status-served, want-served, request-served}
+use Rattle.hall.proofs.Served.{read-status, status-served, want-served, request-served, unread, unanswered}
 use Rattle.hall.proofs.worker.Worker.serve.Goals.{in-Ok, in-Err-Status, in-Err-Memory, in-Err-Read}
 use Rattle.hall.proofs.worker.Worker.serve.Goals as goal
 
@@ -38,3 +38,23 @@ returns-in-Some g c =
   where
     some-is : (a b : Answer) → Some a ≡ Some b → a ≡ b
     some-is a b e = cc
+
+pub returns-in-None : goal.returns-in-None
+returns-in-None g c =
+    let m = c.match-read_request in
+    let old = c.args.self.now in
+    let bytes = g.I.Read.remaining c.args.reader.now in
+    let before = g.O.Write.contents c.args.writer.now in
+    let no : (a : Answer) → m.answer ≡ Some a → ⊥ = λ a is. none-some a (sym c.in-None.is ∙ is) in
+    elim m.branch [
+      | in-Ok w ↦
+          unanswered c.args.desk_key.now bytes old m.self before _ w.in-Ok.request w.asked.result m.answer w.asked.ensures w.in-Ok.ensures
+          (subst (λ (s : Working). MeetsAsked w.asked.result old s m.answer) (sym w.self-is)
+          (subst (λ (a : Option Answer). MeetsAsked w.asked.result old w.answer-answer.new.self a) (sym w.answer-is) w.answer-answer.ensures))
+      | in-Err-Status w ↦ absurd (no _ w.answer-is)
+      | in-Err-Memory w ↦ absurd (no _ w.answer-is)
+      | in-Err-Read w ↦ unread c.args.desk_key.now bytes old m.self before _ w.self-is
+    ]
+  where
+    none-some : (a : Answer) → ◌≡◌ {A = Option Answer} None (Some a) → ⊥
+    none-some a e = cc
