@@ -8,9 +8,10 @@ use Rattle.std.proofs.Math.Seq.{take-append_seam}
 use Rattle.std.proofs.lemmas.List.{map-append, length-append, take_at}
 use Rattle.std.proofs.lemmas.List.Elements.{filter-append}
 use Rattle.std.specs.Io.KnownBytes.{Appends}
-use Rattle.store.specs.Library.{Ghosts, Held, state, HasCleanDisk}
+use Rattle.store.specs.Library.{Ghosts, Held, state, HasCleanDisk, HasTables, IsAsItWas}
 use Rattle.terms.specs.Writing.{AppendsFront}
 use Rattle.terms.specs.Texts.{fault_number}
+use Rattle.terms.specs.declared.command.Request.{Request}
 use Rattle.terms.specs.declared.fault.Fault.{Fault}
 use Rattle.terms.specs.declared.fault.Fault.TheVariants.{Stored}
 use Rattle.terms.specs.declared.reply.Reply.{Reply}
@@ -19,12 +20,15 @@ use Rattle.model.specs.History.{History}
 use Rattle.model.specs.Requests.{after, after_one, replies as replies_to}
 use Rattle.desk.specs.Answering.{Shows, Stays, LeavesOneOf}
 use Rattle.desk.proofs.Afterwards.{after-last, replies-last}
+use Rattle.desk.proofs.Chains.{handled-last}
+use Rattle.desk.proofs.Shown.{shows-headline}
+use Rattle.desk.specs.Running.{HandledAll}
 use Rattle.front.specs.declared.copies.CopyEnd.{CopyEnd}
 use Rattle.front.specs.declared.copies.FileRow.{FileRow}
-use Rattle.circ.specs.Importing.{request_of, requests_of, row_line, row_lines, end_line, counts_line, import_lines, end_exit, is_refusal}
+use Rattle.circ.specs.Importing.{request_of, requests_of, row_line, row_lines, end_line, counts_line, closing_lines, end_exit, is_refusal}
 use Rattle.circ.specs.Importing.{accepted_in, refused_in, with_row, HandlesOne, HandlesRows, ImportsAll, ImportsSome, ImportsCut}
-use Rattle.circ.specs.Lines.{fault_line}
-use Rattle.terms.proofs.Fronts.{front-after, appends-nothing}
+use Rattle.circ.specs.Lines.{fault_line, AppendsBoth, AppendsAndFront}
+use Rattle.terms.proofs.Fronts.{appends-nothing}
 use Rattle.circ.specs.declared.importing.Tally.{Tally}
 use Rattle.circ.specs.declared.lines.Exit.TheVariants.{Faulted}
 
@@ -44,15 +48,22 @@ pub handles-more : {S : Type 0} (g : Ghosts S) (old mid new : Held S) (rows : Li
     → HandlesRows rows g old mid replies → HandlesOne row g mid new reply → HandlesRows (rows ++ row ∷ []) g old new (replies ++ reply ∷ [])
 handles-more g old mid new rows replies row reply all one = record {
   many = length-more replies reply ∙ ap (λ n. n + 1) all.many ∙ sym (length-more rows row);
+  each = subst (λ (requests : List Request). HandledAll g requests (replies ++ reply ∷ []) old new) (sym (requests-more rows row))
+      (handled-last g (requests_of rows) replies (request_of row) reply old mid new all.each one);
   clean = λ disk. all.clean (one.clean disk);
-  replied = λ disk H shows.
-      let before = all.replied (one.clean disk) H shows in
-      let last = one.replied disk (after H (requests_of rows)) before.1 in (
-        ap (λ (t : List Reply). t ++ reply ∷ []) before.0 ∙ ap (λ (y : Reply). replies_to H (requests_of rows) ++ y ∷ []) last.0
-            ∙ sym (replies-last (requests_of rows) H (request_of row)) ∙ ap (replies_to H) (sym (requests-more rows row)),
-        subst (λ (K : History). Shows (state g new) K) (sym (after-more H rows row)) last.1,
-      );
+  replied = replied;
+  headline = λ disk H shows. shows-headline (state g new) (after H (requests_of (rows ++ row ∷ []))) (replied disk H shows).1;
 }
+  where
+    replied : HasCleanDisk (state g new) → (H : History) → Shows (state g old) H
+        → (replies ++ reply ∷ [] ≡ replies_to H (requests_of (rows ++ row ∷ []))) × Shows (state g new) (after H (requests_of (rows ++ row ∷ [])))
+    replied disk H shows =
+        let before = all.replied (one.clean disk) H shows in
+        let last = one.replied disk (after H (requests_of rows)) before.1 in (
+          ap (λ (t : List Reply). t ++ reply ∷ []) before.0 ∙ ap (λ (y : Reply). replies_to H (requests_of rows) ++ y ∷ []) last.0
+              ∙ sym (replies-last (requests_of rows) H (request_of row)) ∙ ap (replies_to H) (sym (requests-more rows row)),
+          subst (λ (K : History). Shows (state g new) K) (sym (after-more H rows row)) last.1,
+        )
 
 -- ---- lines and counts
 
@@ -135,9 +146,26 @@ far-more g old mid new rows counts a b c row reply far one wrote = record {
 pub far-none : {S : Type 0} (g : Ghosts S) (held : Held S) (a : Option (List ℕ)) → SoFar g held held [] (record { accepted = 0; refused = 0 }) a a
 far-none g held a = record {
   replies = [];
-  handled = record { many = refl; clean = λ disk. disk; replied = λ disk H shows. (refl, shows) };
+  handled = record {
+    many = refl;
+    each = refl;
+    clean = λ disk. disk;
+    replied = λ disk H shows. (refl, shows);
+    headline = λ disk H shows. shows-headline (state g held) H shows;
+  };
   lines = appends-nothing a;
   counted = record { accepted = refl; refused = refl };
+}
+
+-- ---- bytes that go out
+
+-- A beginning of what follows went out, after all that came before.
+front-and-after : (a b c : Option (List ℕ)) (first others : List ℕ) → Appends a b first → AppendsFront b c others → AppendsAndFront a c first others
+front-and-after a b c first others out front = record {
+  sent = front.sent;
+  rest = front.rest;
+  whole = front.whole;
+  wrote = Appends-trans a b c first front.sent out front.wrote;
 }
 
 -- ---- one row of all
@@ -177,22 +205,25 @@ module _ {S : Type 0} (g : Ghosts S) (old mid new : Held S) (all before : List F
   rows-with = ap (λ n. take (n + 1) all) told ∙ at.with_are
 
   -- A fault came at the row.
-  pub imports-some : (fault : Fault) (WentOut : List ℕ → Type 0) → (HasCleanDisk (state g new) → HasCleanDisk (state g mid))
+  pub imports-some : (fault : Fault) (WentOut : List ℕ → List ℕ → Type 0) → (HasCleanDisk (state g new) → HasCleanDisk (state g mid))
       → (HasCleanDisk (state g new) → fault ≡ Stored → (H : History) → Shows (state g mid) H → ⊥)
       → (HasCleanDisk (state g new) → IsTrue (state g new).is_open → Stays (state g mid) (state g new))
+      → (HasCleanDisk (state g new) → IsTrue (state g new).is_open → HasTables (state g mid).now → IsAsItWas (state g mid) (state g new))
       → (HasCleanDisk (state g new) → (H : History) → Shows (state g mid) H → LeavesOneOf (state g new) H (after_one H (request_of row)))
-      → WentOut (import_lines far.replies (fault_line (fault_number fault))) → ImportsSome all g old new WentOut Faulted
-  imports-some fault WentOut clean sound undone left lines = record {
+      → WentOut (row_lines 1 far.replies) (closing_lines far.replies (fault_line (fault_number fault))) → ImportsSome all g old new WentOut Faulted
+  imports-some fault WentOut clean sound undone nothing left lines = record {
     replies = far.replies;
     fault = fault;
     few = let few : length before < length all = at.few in omega (arith, few, told);
     lines = lines;
     exit_is = refl;
     sound = λ disk stored H shows. sound disk stored (after H (requests_of before)) (far.handled.replied (clean disk) H shows).1;
-    replied = λ disk H shows. (far.handled.replied (clean disk) H shows).0 ∙ ap (λ (rows : List FileRow). replies_to H (requests_of rows)) (sym rows-before);
-    undone = λ disk is_open H shows.
-        subst (λ (rows : List FileRow). Shows (state g new) (after H (requests_of rows))) (sym rows-before)
-        (undone disk is_open (after H (requests_of before)) (far.handled.replied (clean disk) H shows).1);
+    mid = mid;
+    handled = subst (λ (rows : List FileRow). HandlesRows rows g old mid far.replies) (sym rows-before) far.handled;
+    clean = clean;
+    nothing = nothing;
+    undone = is_undone;
+    headline = λ disk is_open H shows. shows-headline (state g new) (after H (requests_of (take (length far.replies) all))) (is_undone disk is_open H shows);
     left = λ disk H shows.
         let now : History = after H (requests_of before) in
         let leaves : LeavesOneOf (state g new) now (after_one now (request_of row)) = left disk now (far.handled.replied (clean disk) H shows).1 in
@@ -201,44 +232,46 @@ module _ {S : Type 0} (g : Ghosts S) (old mid new : Held S) (all before : List F
         subst (λ (K : History). LeavesOneOf (state g new) (after H (requests_of (take (length far.replies) all))) K) next
         (subst (λ (rows : List FileRow). LeavesOneOf (state g new) (after H (requests_of rows)) (after_one now (request_of row))) (sym rows-before) leaves);
   }
+    where
+      is_undone : HasCleanDisk (state g new) → IsTrue (state g new).is_open → (H : History) → Shows (state g old) H
+          → Shows (state g new) (after H (requests_of (take (length far.replies) all)))
+      is_undone disk is_open H shows = subst (λ (rows : List FileRow). Shows (state g new) (after H (requests_of rows))) (sym rows-before)
+          (undone disk is_open (after H (requests_of before)) (far.handled.replied (clean disk) H shows).1)
 
   -- The line of the row could not be written.
   pub imports-cut : (c : Option (List ℕ)) (reply : Reply) → HandlesOne row g mid new reply
-      → AppendsFront b c (row_line (counts.accepted + counts.refused + 1) reply) → ImportsCut all g old new (AppendsFront a c)
-  imports-cut c reply one front =
-      let replies : List Reply = far.replies ++ reply ∷ [] in
-      let many : length replies ≡ length far.replies + 1 = length-more far.replies reply in
-      let rows : take (length replies) all ≡ before ++ row ∷ [] = ap (λ n. take n all) many ∙ rows-with in
-      record {
-        replies = replies;
-        few = let few : length before < length all = at.few in omega (arith, few, told, many);
-        handled = subst (λ (taken : List FileRow). HandlesRows taken g old new replies) (sym rows)
-            (handles-more g old mid new before far.replies row reply far.handled one);
-        lines = subst (AppendsFront a c)
-            (ap (λ (n : ℕ). row_lines 1 far.replies ++ row_line (n + 1) reply) (counted-all counts far.replies far.counted)
-            ∙ sym (lines-more far.replies reply))
-            (front-after a b c (row_lines 1 far.replies) (row_line (counts.accepted + counts.refused + 1) reply) far.lines front);
-      }
+      → AppendsFront b c (row_line (counts.accepted + counts.refused + 1) reply) → ImportsCut all g old new (AppendsAndFront a c)
+  imports-cut c reply one front = record {
+    replies = far.replies;
+    last = reply;
+    few = let few : length before < length all = at.few in omega (arith, few, told);
+    handled = subst (λ (rows : List FileRow). HandlesRows rows g old new (far.replies ++ reply ∷ [])) (sym rows-with)
+        (handles-more g old mid new before far.replies row reply far.handled one);
+    lines = subst (λ (n : ℕ). AppendsAndFront a c (row_lines 1 far.replies) (row_line (n + 1) reply)) (counted-all counts far.replies far.counted)
+        (front-and-after a b c (row_lines 1 far.replies) (row_line (counts.accepted + counts.refused + 1) reply) far.lines front);
+  }
 
 -- ---- the lines after those of the rows
 
 module _ {S : Type 0} (g : Ghosts S) (old new : Held S) (rows : List FileRow) (counts : Tally) (a b : Option (List ℕ))
     (far : SoFar g old new rows counts a b) (end : List ℕ) where
-  last-lines : row_lines 1 far.replies ++ (end ++ counts_line counts.accepted counts.refused) ≡ import_lines far.replies end
-  last-lines = λ i. row_lines 1 far.replies ++ (end ++ counts_line (far.counted.accepted i) (far.counted.refused i))
+  last-lines : end ++ counts_line counts.accepted counts.refused ≡ closing_lines far.replies end
+  last-lines = λ i. end ++ counts_line (far.counted.accepted i) (far.counted.refused i)
 
-  pub lines-whole : (c : Option (List ℕ)) → Appends b c (end ++ counts_line counts.accepted counts.refused) → Appends a c (import_lines far.replies end)
-  lines-whole c wrote = subst (Appends a c) last-lines
+  pub lines-whole : (c : Option (List ℕ)) → Appends b c (end ++ counts_line counts.accepted counts.refused)
+      → AppendsBoth a c (row_lines 1 far.replies) (closing_lines far.replies end)
+  lines-whole c wrote = subst (AppendsBoth a c (row_lines 1 far.replies)) last-lines
       (Appends-trans a b c (row_lines 1 far.replies) (end ++ counts_line counts.accepted counts.refused) far.lines wrote)
 
   pub lines-front : (c : Option (List ℕ)) → AppendsFront b c (end ++ counts_line counts.accepted counts.refused)
-      → AppendsFront a c (import_lines far.replies end)
-  lines-front c front = subst (AppendsFront a c) last-lines
-      (front-after a b c (row_lines 1 far.replies) (end ++ counts_line counts.accepted counts.refused) far.lines front)
+      → AppendsAndFront a c (row_lines 1 far.replies) (closing_lines far.replies end)
+  lines-front c front = subst (AppendsAndFront a c (row_lines 1 far.replies)) last-lines
+      (front-and-after a b c (row_lines 1 far.replies) (end ++ counts_line counts.accepted counts.refused) far.lines front)
 
   -- All rows were handled.
-  pub imports-all : (all : List FileRow) → rows ≡ all → (end_of : CopyEnd) (WentOut : List ℕ → Type 0)
-      → WentOut (import_lines far.replies (end_line end_of)) → ImportsAll all end_of g old new WentOut (end_exit end_of counts.refused)
+  pub imports-all : (all : List FileRow) → rows ≡ all → (end_of : CopyEnd) (WentOut : List ℕ → List ℕ → Type 0)
+      → WentOut (row_lines 1 far.replies) (closing_lines far.replies (end_line end_of))
+      → ImportsAll all end_of g old new WentOut (end_exit end_of counts.refused)
   imports-all all is end_of WentOut lines = record {
     replies = far.replies;
     handled = subst (λ (xs : List FileRow). HandlesRows xs g old new far.replies) is far.handled;

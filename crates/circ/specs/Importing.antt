@@ -1,9 +1,9 @@
 -- What is said to a copies file that is taken in: a line for each row, how the reading ended, and
 -- how many rows were accepted and refused.
-use Rattle.std.specs.Prelude.{◌≡◌, ◌⊎◌, ◌≤◌, ◌<◌, ◌+◌, ◌==◌, ℕ, Bool, true, false, not, if◌then◌else◌, List, [], ◌∷◌, ◌++◌, length, filter}
+use Rattle.std.specs.Prelude.{◌≡◌, ◌⊎◌, ◌<◌, ◌+◌, ◌==◌, ℕ, Bool, true, false, not, if◌then◌else◌, List, [], ◌∷◌, ◌++◌, length, filter}
 use Rattle.std.specs.Prelude.{map, take, Option, Some, None, Result, Ok, IfOk, OnErr, codes, decimal}
 use Rattle.std.specs.Io.KnownBytes.{Appends, Keeps}
-use Rattle.store.specs.Library.{Ghosts, Held, state, IsClean, IsOpen}
+use Rattle.store.specs.Library.{Ghosts, Held, state, IsClean, IsOpen, HasTables, IsAsItWas}
 use Rattle.terms.specs.Texts.{refusal_number, fault_number}
 use Rattle.terms.specs.Writing.{AppendsFront}
 use Rattle.terms.specs.declared.command.Request.{Request}
@@ -21,10 +21,10 @@ use Rattle.front.specs.declared.copies.FileRow.{FileRow}
 use Rattle.front.specs.declared.copies.CopyEnd.{CopyEnd}
 use Rattle.front.specs.declared.copies.CopyEnd.TheVariants.{Whole, Bad, Read, Memory}
 use Rattle.circ.specs.declared.importing.Tally.{Tally}
-use Rattle.desk.specs.Running.{ShowsHeadline}
+use Rattle.desk.specs.Running.{HandledAll, ShowsHeadline}
 use Rattle.circ.specs.declared.lines.Exit.{Exit}
 use Rattle.circ.specs.declared.lines.Exit.TheVariants.{Done, Refused, Faulted, NotUnderstood}
-use Rattle.circ.specs.Lines.{fault_line}
+use Rattle.circ.specs.Lines.{fault_line, AppendsBoth, AppendsAndFront}
 
 -- ---- rows and their requests
 
@@ -82,10 +82,13 @@ abbrev pub counts_line : ℕ → ℕ → List ℕ
 counts_line accepted refused =
     codes "accepted " ++ decimal accepted ++ codes " refused " ++ decimal refused ++ 10 ∷ []
 
--- All lines: those of the rows, the one of the end, if it has one, and the last.
+-- The lines after those of the rows: the one of the end, if it has one, and the last.
+abbrev pub closing_lines : List Reply → List ℕ → List ℕ
+closing_lines replies end = end ++ counts_line (accepted_in replies) (refused_in replies)
+
+-- All lines: those of the rows, and the others.
 abbrev pub import_lines : List Reply → List ℕ → List ℕ
-import_lines replies end =
-    row_lines 1 replies ++ (end ++ counts_line (accepted_in replies) (refused_in replies))
+import_lines replies end = row_lines 1 replies ++ closing_lines replies end
 
 -- How the program ends after all rows, of which so many were refused.
 abbrev pub end_exit : CopyEnd → ℕ → Exit
@@ -102,57 +105,71 @@ HandlesOne row g old new reply = Handled (request_of row) g old new (Ok reply)
 
 -- The rows were handled one after another. Where the tables showed a list of accepted requests, the
 -- replies are those that this list gives to the rows' requests, and the tables show the list after
--- these requests.
+-- these requests, with its headline.
 pub record HandlesRows {S : Type 0} (rows : List FileRow)
     (g : Ghosts S) (old new : Held S) (replies : List Reply) : Type 0 where
   pub many : length replies ≡ length rows
+  pub each : HandledAll g (requests_of rows) replies old new
   pub clean : IsClean g new → IsClean g old
   pub replied : IsClean g new → (H : History) → Shows (state g old) H
       → (replies ≡ replies_to H (requests_of rows))
       × Shows (state g new) (after H (requests_of rows))
+  pub headline : IsClean g new → (H : History) → Shows (state g old) H
+      → ShowsHeadline g new (after H (requests_of rows))
 
--- The lines of all rows, of the end and of the counts went out.
+-- The lines of all rows went out, and then those of the end and of the counts.
 pub record ImportsAll {S : Type 0} (rows : List FileRow) (end : CopyEnd)
-    (g : Ghosts S) (old new : Held S) (WentOut : List ℕ → Type 0) (exit : Exit) : Type 0 where
+    (g : Ghosts S) (old new : Held S) (WentOut : List ℕ → List ℕ → Type 0) (exit : Exit)
+    : Type 0 where
   pub replies : List Reply
   pub handled : HandlesRows rows g old new replies
-  pub lines : WentOut (import_lines replies (end_line end))
+  pub lines : WentOut (row_lines 1 replies) (closing_lines replies (end_line end))
   pub exit_is : exit ≡ end_exit end (refused_in replies)
 
 -- A fault came at a row, which is not 93 where the tables showed a list of accepted requests: the
--- lines of the rows before it, of the fault and of the counts went out.
--- The tables show what they showed after the rows before it, as long as the database is open;
--- whatever may leave of them when the program is stopped is that, or what they would show after
--- that row too.
+-- lines of the rows before it went out, and then those of the fault and of the counts.
+-- The row changed nothing, whatever rows the tables have, and they show what they showed after the
+-- rows before it, with its headline, as long as the database is open; whatever may leave of them
+-- when the program is stopped is that, or what they would show after that row too.
 pub record ImportsSome {S : Type 0} (rows : List FileRow)
-    (g : Ghosts S) (old new : Held S) (WentOut : List ℕ → Type 0) (exit : Exit) : Type 0 where
+    (g : Ghosts S) (old new : Held S) (WentOut : List ℕ → List ℕ → Type 0) (exit : Exit)
+    : Type 0 where
   pub replies : List Reply
   pub fault : Fault
   pub few : length replies < length rows
-  pub lines : WentOut (import_lines replies (fault_line (fault_number fault)))
+  pub lines : WentOut (row_lines 1 replies) (closing_lines replies (fault_line (fault_number fault)))
   pub exit_is : exit ≡ Faulted
+  -- the tables before the row
+  pub mid : Held S
+  pub handled : HandlesRows (take (length replies) rows) g old mid replies
+  pub clean : IsClean g new → IsClean g mid
+  pub nothing : IsClean g new → IsOpen g new → HasTables (state g mid).now
+      → IsAsItWas (state g mid) (state g new)
   pub sound : IsClean g new → fault ≡ Stored → (H : History) → Shows (state g old) H → ⊥
-  pub replied : IsClean g new → (H : History) → Shows (state g old) H
-      → replies ≡ replies_to H (requests_of (take (length replies) rows))
   pub undone : IsClean g new → IsOpen g new → (H : History) → Shows (state g old) H
       → Shows (state g new) (after H (requests_of (take (length replies) rows)))
+  pub headline : IsClean g new → IsOpen g new → (H : History) → Shows (state g old) H
+      → ShowsHeadline g new (after H (requests_of (take (length replies) rows)))
   pub left : IsClean g new → (H : History) → Shows (state g old) H
       → LeavesOneOf (state g new) (after H (requests_of (take (length replies) rows)))
       (after H (requests_of (take (length replies + 1) rows)))
 
 -- All rows are told, or those before a fault.
 abbrev pub ImportsOf : {S : Type 0} → List FileRow → CopyEnd → Ghosts S → Held S → Held S
-    → (List ℕ → Type 0) → Exit → Type 0
+    → (List ℕ → List ℕ → Type 0) → Exit → Type 0
 ImportsOf rows end g old new WentOut exit = ImportsAll rows end g old new WentOut exit
     ⊎ ImportsSome rows g old new WentOut exit
 
--- A row's line could not be written. It is the last row that was handled.
+-- A row's line could not be written. It is the last row that was handled, and the lines of all rows
+-- before it went out.
 pub record ImportsCut {S : Type 0} (rows : List FileRow)
-    (g : Ghosts S) (old new : Held S) (WentOut : List ℕ → Type 0) : Type 0 where
+    (g : Ghosts S) (old new : Held S) (WentOut : List ℕ → List ℕ → Type 0) : Type 0 where
+  -- the replies to the rows before it, and its own
   pub replies : List Reply
-  pub few : length replies ≤ length rows
-  pub handled : HandlesRows (take (length replies) rows) g old new replies
-  pub lines : WentOut (row_lines 1 replies)
+  pub last : Reply
+  pub few : length replies < length rows
+  pub handled : HandlesRows (take (length replies + 1) rows) g old new (replies ++ last ∷ [])
+  pub lines : WentOut (row_lines 1 replies) (row_line (length replies + 1) last)
 
 -- ---- what is promised
 
@@ -174,6 +191,9 @@ pub record ImportsRow {S E : Type 0} (row : FileRow) (had has : Tally)
   -- and the tables show what they showed, as long as the database is open
   pub undone : (fault : Fault) → result ≡ Ok (Some fault) → IsClean g new → IsOpen g new
       → Stays (state g old) (state g new)
+  -- nor did the row change any, whatever they are
+  pub nothing : (fault : Fault) → result ≡ Ok (Some fault) → IsClean g new → IsOpen g new
+      → HasTables (state g old).now → IsAsItWas (state g old) (state g new)
   -- a stop leaves what was there or what is there after the row
   pub left : IsClean g new → (H : History) → Shows (state g old) H
       → LeavesOneOf (state g new) H (after_one H (request_of row))
@@ -187,14 +207,13 @@ pub record ImportsRows {S E : Type 0} (rows : List FileRow) (end : CopyEnd)
     (g : Ghosts S) (old new : Held S) (before after : Option (List ℕ))
     (result : Result Exit E) : Type 0 where
   pub clean : IsClean g new → IsClean g old
-  -- what the tables show, they show with its headline
-  pub headline : (H : History) → Shows (state g new) H → ShowsHeadline g new H
   -- what is to be told went out
-  pub written : IfOk result (ImportsOf rows end g old new (Appends before after))
-  -- where a write failed, a beginning of it went out, and no later row was handled
+  pub written : IfOk result (ImportsOf rows end g old new (AppendsBoth before after))
+  -- where a write failed, the lines before the one that failed went out, and a beginning of that one
+  -- or of the lines after those of the rows; and no later row was handled
   pub cut : OnErr result
-      (((exit : Exit) × ImportsOf rows end g old new (AppendsFront before after) exit)
-      ⊎ ImportsCut rows g old new (AppendsFront before after))
+      (((exit : Exit) × ImportsOf rows end g old new (AppendsAndFront before after) exit)
+      ⊎ ImportsCut rows g old new (AppendsAndFront before after))
 
 -- A copies file was taken in: it was read as these rows, up to this end, and they were handled and
 -- told.

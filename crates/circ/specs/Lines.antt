@@ -1,5 +1,6 @@
 -- The lines that the programs write, each with its newline.
 use Rattle.std.specs.Prelude.{◌≡◌, ℕ, List, [], ◌∷◌, ◌++◌, Option, Result, IfOk, codes, decimal}
+use Rattle.std.specs.Io.KnownBytes.{Appends}
 use Rattle.terms.specs.Writing.{Writes}
 use Rattle.terms.specs.declared.reply.Reply.{Reply}
 use Rattle.terms.specs.Texts.{reply_text}
@@ -49,6 +50,17 @@ abbrev pub finding_line : Finding → List ℕ
 finding_line (Claims copy) = unsound_line (codes "claims ") copy
 finding_line (Binding hold) = unsound_line (codes "binding ") hold
 finding_line (Balance patron) = unsound_line (codes "balance ") patron
+
+-- The first bytes went out, and then the others.
+abbrev pub AppendsBoth : Option (List ℕ) → Option (List ℕ) → List ℕ → List ℕ → Type 0
+AppendsBoth before after first others = Appends before after (first ++ others)
+
+-- The first bytes went out, and then a beginning of the others, perhaps nothing, perhaps all.
+pub record AppendsAndFront (before after : Option (List ℕ)) (first others : List ℕ) : Type 0 where
+  pub sent : List ℕ
+  pub rest : List ℕ
+  pub whole : others ≡ sent ++ rest
+  pub wrote : Appends before after (first ++ sent)
 
 -- The line went out, or a beginning of it, and after the line the program ends so.
 pub record EndsWith {E : Type 0} (end : Exit) (line : List ℕ) (before after : Option (List ℕ))

@@ -3,7 +3,7 @@ use Rattle.std.specs.Prelude.{◌≡◌, ◌⊎◌, ℕ, List, ◌++◌, Option,
 use Rattle.std.specs.Io.KnownBytes.{Appends}
 use Rattle.store.specs.Stops.{LeavesPicture}
 use Rattle.terms.specs.Writing.{AppendsFront}
-use Rattle.store.specs.Library.{Ghosts, Held, state, IsClean, IsOpen}
+use Rattle.store.specs.Library.{Ghosts, Held, state, IsClean, IsOpen, HasTables, IsAsItWas}
 use Rattle.terms.specs.Texts.{fault_number}
 use Rattle.terms.specs.declared.fault.Fault.{Fault}
 use Rattle.terms.specs.declared.fault.Fault.TheVariants.{Stored}
@@ -63,8 +63,12 @@ pub record TellsAnyReport {S E : Type 0} (report : Report)
     (g : Ghosts S) (old new : Held S) (before after : Option (List ℕ))
     (result : Result Exit E) : Type 0 where
   pub clean : IsClean g new → IsClean g old
-  -- what the tables show, they show with its headline
-  pub headline : (H : History) → Shows (state g new) H → ShowsHeadline g new H
+  -- the tables show what they showed, with its headline, as long as the database is open
+  pub headline : IsClean g new → IsOpen g new → (H : History) → Shows (state g old) H
+      → ShowsHeadline g new H
+  -- and nothing is changed, whatever rows they have
+  pub nothing : IsClean g new → IsOpen g new → HasTables (state g old).now
+      → IsAsItWas (state g old) (state g new)
   -- what is to be told went out
   pub written : IfOk result (TellsOf report g old new (Appends before after))
   -- a stop leaves what was there

@@ -2,7 +2,7 @@
 -- show.
 use Rattle.std.specs.Prelude.{◌≡◌, ◌⊎◌, ℕ, List, Option, Result, Err, IfOk, OnErr}
 use Rattle.std.specs.Io.KnownBytes.{Appends}
-use Rattle.store.specs.Library.{Ghosts, Held, State, state, IsClean, IsOpen}
+use Rattle.store.specs.Library.{Ghosts, Held, State, state, IsClean, IsOpen, HasTables, IsAsItWas}
 use Rattle.terms.specs.Writing.{AppendsFront}
 use Rattle.terms.specs.declared.command.Caller.TheVariants.{Desk}
 use Rattle.terms.specs.declared.command.Command.{Command}
@@ -10,7 +10,9 @@ use Rattle.terms.specs.declared.command.Request.{Request}
 use Rattle.terms.specs.Texts.{fault_number}
 use Rattle.terms.specs.declared.fault.Fault.{Fault}
 use Rattle.terms.specs.declared.fault.Fault.TheVariants.{Stored}
+use Rattle.terms.specs.declared.refusal.Refusal.{Refusal}
 use Rattle.terms.specs.declared.reply.Reply.{Reply}
+use Rattle.terms.specs.declared.reply.Reply.TheVariants.{Refused as Denied}
 use Rattle.model.specs.History.{History}
 use Rattle.model.specs.Requests.{reply_to, after_one}
 use Rattle.desk.specs.Answering.{Shows, Stays, LeavesOneOf}
@@ -29,7 +31,7 @@ desk_request key command = record { caller = Desk; key = key; command = command 
 
 -- The line is the text of a reply to the one command that the words are. Where the tables showed a list of
 -- accepted requests, it is the reply that this list gives to that command, and the tables show the list
--- after that request.
+-- after that request, with its headline. A refusal changes nothing, whatever rows the tables have.
 pub record SaysReply {S : Type 0} (key : List ℕ) (words : List (List ℕ))
     (g : Ghosts S) (old new : Held S) (line : List ℕ) (exit : Exit) : Type 0 where
   pub command : Command
@@ -41,6 +43,10 @@ pub record SaysReply {S : Type 0} (key : List ℕ) (words : List (List ℕ))
   pub replied : IsClean g new → (H : History) → Shows (state g old) H
       → (reply ≡ reply_to H (desk_request key command))
       × Shows (state g new) (after_one H (desk_request key command))
+  pub headline : IsClean g new → (H : History) → Shows (state g old) H
+      → ShowsHeadline g new (after_one H (desk_request key command))
+  pub refused : IsClean g new → HasTables (state g old).now → (refusal : Refusal)
+      → reply ≡ Denied refusal → IsAsItWas (state g old) (state g new)
 
 -- Whatever may be left when the program is stopped shows this list; or that, or the list after the request
 -- that the words are, if they are a command.
@@ -51,8 +57,9 @@ LeavesRequest key words s H =
     × LeavesOneOf s H (after_one H (desk_request key command)))
 
 -- The line is a fault, which is not 93 where the tables showed a list of accepted requests. They show what
--- they showed, as long as the database is open; whatever may leave of them when the program is stopped is
--- that, or what they would show after the request of the words.
+-- they showed, and nothing is changed, whatever rows they have, as long as the database is open; whatever
+-- may leave of them when the program is stopped is that, or what they would show after the request of the
+-- words.
 pub record SaysFault {S : Type 0} (key : List ℕ) (words : List (List ℕ))
     (g : Ghosts S) (old new : Held S) (line : List ℕ) (exit : Exit) : Type 0 where
   pub fault : Fault
@@ -60,6 +67,8 @@ pub record SaysFault {S : Type 0} (key : List ℕ) (words : List (List ℕ))
   pub exit_is : exit ≡ Faulted
   pub sound : IsClean g new → fault ≡ Stored → (H : History) → Shows (state g old) H → ⊥
   pub undone : IsClean g new → IsOpen g new → Stays (state g old) (state g new)
+  pub nothing : IsClean g new → IsOpen g new → HasTables (state g old).now
+      → IsAsItWas (state g old) (state g new)
   pub left : IsClean g new → (H : History) → Shows (state g old) H
       → LeavesRequest key words (state g new) H
 
@@ -93,8 +102,6 @@ pub record SaysLine {S E : Type 0} (key : List ℕ) (words : List (List ℕ))
     (g : Ghosts S) (old new : Held S) (before after : Option (List ℕ))
     (result : Result Exit E) : Type 0 where
   pub clean : IsClean g new → IsClean g old
-  -- what the tables show, they show with its headline
-  pub headline : (H : History) → Shows (state g new) H → ShowsHeadline g new H
   -- the line went out
   pub written : IfOk result
       (λ exit. (line : List ℕ) × Says key words g old new line exit × Appends before after line)

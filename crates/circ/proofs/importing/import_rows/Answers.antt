@@ -5,11 +5,10 @@ use Rattle.terms.specs.Writing.{AppendsFront}
 use Rattle.front.specs.declared.copies.FileRow.{FileRow}
 use Rattle.std.specs.Io.KnownBytes.{Appends}
 use Rattle.desk.proofs.Looking.{on-err, on-err-any}
-use Rattle.desk.proofs.Shown.{shows-headline}
 use Rattle.circ.specs.Importing.{end_line, end_exit, counts_line, ImportsOf}
 use Rattle.circ.specs.declared.importing.Tally.{Tally}
 use Rattle.terms.specs.Texts.{fault_number}
-use Rattle.circ.specs.Lines.{fault_line}
+use Rattle.circ.specs.Lines.{fault_line, AppendsBoth, AppendsAndFront}
 use Rattle.circ.specs.declared.lines.Exit.TheVariants.{Faulted}
 use Rattle.terms.proofs.Fronts.{after-nothing, front-after-nothing}
 use Rattle.circ.proofs.Ends.{ends-as}
@@ -36,7 +35,6 @@ import_row-requires g c = let far = c.rows.invariant.so_far in
 pub returns-in_err-fault : goal.returns-in_err-fault
 returns-in_err-fault g c = record {
   clean = λ disk. c.rows.invariant.so_far.handled.clean (c.in_err-fault.ensures.clean disk);
-  headline = shows-headline _;
   written = search rules;
   cut = let far = c.rows.invariant.so_far in
       let all : List FileRow = c.args.rows.items in
@@ -52,7 +50,6 @@ returns-in_err-fault g c = record {
 pub returns-in-Some-2 : goal.returns-in-Some-2
 returns-in-Some-2 g c = record {
   clean = λ disk. c.rows.invariant.so_far.handled.clean (c.in_ok-fault.ensures.clean disk);
-  headline = shows-headline _;
   written = let far = c.rows.invariant.so_far in
       let all : List FileRow = c.args.rows.items in
       let at = within all c.rows.yielded (into_iter_items c.rows.row-iterator) (into_iter_items c.next.new.self) c.in-Some.row
@@ -63,11 +60,12 @@ returns-in-Some-2 g c = record {
       let a = g.W.Write.contents c.args.writer.now in
       let b = g.W.Write.contents c.rows.writer in
       let d = g.W.Write.contents c.tell_stop.new.writer in
-      ends-as (λ exit. ImportsOf all c.args.end g.S.Store c.args.desk.now c.import_row.new.desk (Appends a d) exit) c.tell_stop.result
+      ends-as (λ exit. ImportsOf all c.args.end g.S.Store c.args.desk.now c.import_row.new.desk (AppendsBoth a d) exit) c.tell_stop.result
       Faulted c.tell_stop.ensures.exit_is c.tell_stop.ensures.writes.all
       (λ wrote. inr (imports-some g.S.Store c.args.desk.now c.rows.desk c.import_row.new.desk all c.rows.yielded c.rows.counts a b
-      c.in-Some.row far at fault (Appends a d)
-      c.in_ok-fault.ensures.clean (c.in_ok-fault.ensures.sound fault is) (c.in_ok-fault.ensures.undone fault is) c.in_ok-fault.ensures.left
+      c.in-Some.row far at fault (AppendsBoth a d)
+      c.in_ok-fault.ensures.clean (c.in_ok-fault.ensures.sound fault is) (c.in_ok-fault.ensures.undone fault is) (c.in_ok-fault.ensures.nothing fault is)
+      c.in_ok-fault.ensures.left
       (lines-whole g.S.Store c.args.desk.now c.rows.desk c.rows.yielded c.rows.counts a b far (fault_line (fault_number fault)) d
       (after-nothing b (g.W.Write.contents c.import_row.new.writer) d
       (fault_line (fault_number fault) ++ counts_line c.rows.counts.accepted c.rows.counts.refused) kept.0
@@ -87,8 +85,9 @@ returns-in-Some-2 g c = record {
       (λ front. inl (
         Faulted,
         inr (imports-some g.S.Store c.args.desk.now c.rows.desk c.import_row.new.desk all c.rows.yielded c.rows.counts a b c.in-Some.row
-            far at fault (AppendsFront a d)
-            c.in_ok-fault.ensures.clean (c.in_ok-fault.ensures.sound fault is) (c.in_ok-fault.ensures.undone fault is) c.in_ok-fault.ensures.left
+            far at fault (AppendsAndFront a d)
+            c.in_ok-fault.ensures.clean (c.in_ok-fault.ensures.sound fault is) (c.in_ok-fault.ensures.undone fault is) (c.in_ok-fault.ensures.nothing fault is)
+            c.in_ok-fault.ensures.left
             (lines-front g.S.Store c.args.desk.now c.rows.desk c.rows.yielded c.rows.counts a b far (fault_line (fault_number fault)) d
             (front-after-nothing b (g.W.Write.contents c.import_row.new.writer) d
             (fault_line (fault_number fault) ++ counts_line c.rows.counts.accepted c.rows.counts.refused) kept.0
@@ -116,7 +115,6 @@ rows-preserved g c = let far = c.rows.invariant.so_far in
 pub returns : goal.returns
 returns g c = record {
   clean = λ disk. c.rows.invariant.so_far.handled.clean disk;
-  headline = shows-headline _;
   written = let far = c.rows.invariant.so_far in
       let all : List FileRow = c.args.rows.items in
       let none = nothing-left (into_iter_items c.rows.row-iterator) (sym c.rows.invariant.many ∙ c.in-None.ensures.steps.0) in
@@ -125,10 +123,10 @@ returns g c = record {
       let a = g.W.Write.contents c.args.writer.now in
       let b = g.W.Write.contents c.rows.writer in
       let d = g.W.Write.contents c.tell_end.new.writer in
-      ends-as (λ exit. ImportsOf all c.args.end g.S.Store c.args.desk.now c.rows.desk (Appends a d) exit) c.tell_end.result
+      ends-as (λ exit. ImportsOf all c.args.end g.S.Store c.args.desk.now c.rows.desk (AppendsBoth a d) exit) c.tell_end.result
       (end_exit c.args.end c.rows.counts.refused) c.tell_end.ensures.exit_is c.tell_end.ensures.writes.all
       (λ wrote. inl (imports-all g.S.Store c.args.desk.now c.rows.desk c.rows.yielded c.rows.counts a b far
-      (end_line c.args.end) all is c.args.end (Appends a d)
+      (end_line c.args.end) all is c.args.end (AppendsBoth a d)
       (lines-whole g.S.Store c.args.desk.now c.rows.desk c.rows.yielded c.rows.counts a b far (end_line c.args.end) d wrote)));
   cut = let far = c.rows.invariant.so_far in
       let all : List FileRow = c.args.rows.items in
@@ -141,7 +139,7 @@ returns g c = record {
       on-err c.tell_end.result
       (λ front. inl (
         end_exit c.args.end c.rows.counts.refused,
-        inl (imports-all g.S.Store c.args.desk.now c.rows.desk c.rows.yielded c.rows.counts a b far (end_line c.args.end) all is c.args.end (AppendsFront a d)
+        inl (imports-all g.S.Store c.args.desk.now c.rows.desk c.rows.yielded c.rows.counts a b far (end_line c.args.end) all is c.args.end (AppendsAndFront a d)
             (lines-front g.S.Store c.args.desk.now c.rows.desk c.rows.yielded c.rows.counts a b far (end_line c.args.end) d front)),
       ))
       c.tell_end.ensures.writes.front;

@@ -10,7 +10,8 @@ use Rattle.circ.proofs.reports.report.Goals as goal
 pub returns-in-Ok : goal.returns-in-Ok
 returns-in-Ok g c = record {
   clean = search rules;
-  headline = shows-headline _;
+  headline = λ disk is_open H shows. shows-headline _ H (c.in-Ok.ensures.looks.stays disk H shows);
+  nothing = λ disk is_open there. c.in-Ok.ensures.looks.nothing.answered disk there;
   written = tells-report g.S.Store c.args.desk.now c.report.new.self c.args.report.now _
       (λ disk H shows. let out = c.in-Ok.ensures.written disk H shows in (out.0, out.1, c.in-Ok.ensures.looks.stays disk H shows));
   left = search rules;
@@ -20,7 +21,8 @@ returns-in-Ok g c = record {
 pub returns-in-Err-Refused : goal.returns-in-Err-Refused
 returns-in-Err-Refused g c = record {
   clean = search rules;
-  headline = shows-headline _;
+  headline = λ disk is_open H shows. shows-headline _ H (c.in-Err-Refused.ensures.looks.undone disk is_open H shows);
+  nothing = c.in-Err-Refused.ensures.looks.nothing.failed;
   written = let is = ap Err c.in-Err-Refused.field-0-is in
       let refused = c.in-Err-Refused.ensures.refused c.in-Err-Refused.refusal is in
       told-whole (TellsOf c.args.report.now g.S.Store c.args.desk.now c.report.new.self) c.tell_reply.result _ _ _ [] _ Refused
@@ -39,7 +41,8 @@ returns-in-Err-Refused g c = record {
 pub returns-in-Err-Faulted : goal.returns-in-Err-Faulted
 returns-in-Err-Faulted g c = record {
   clean = search rules;
-  headline = shows-headline _;
+  headline = λ disk is_open H shows. shows-headline _ H (c.in-Err-Faulted.ensures.looks.undone disk is_open H shows);
+  nothing = c.in-Err-Faulted.ensures.looks.nothing.failed;
   written =
       told-whole (TellsOf c.args.report.now g.S.Store c.args.desk.now c.report.new.self) c.tell_fault.result _ _ _ c.in-Err-Faulted.ensures.cut.sent _ Faulted
       (λ WentOut line. tells-fault g.S.Store c.args.desk.now c.report.new.self c.args.report.now WentOut c.in-Err-Faulted.ensures.cut.sent
@@ -60,7 +63,8 @@ returns-in-Err-Faulted g c = record {
 pub returns-in-Err-NotWritten : goal.returns-in-Err-NotWritten
 returns-in-Err-NotWritten g c = record {
   clean = search rules;
-  headline = shows-headline _;
+  headline = λ disk is_open H shows. shows-headline _ H (c.in-Err-NotWritten.ensures.looks.undone disk is_open H shows);
+  nothing = c.in-Err-NotWritten.ensures.looks.nothing.failed;
   written = search rules;
   left = search rules;
   cut = (

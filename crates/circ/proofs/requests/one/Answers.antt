@@ -1,6 +1,5 @@
 use Rattle.std.proofs.Common.{rules, ap, Err, ◌∙◌}
 use Rattle.front.specs.Understood.{texts_of}
-use Rattle.desk.proofs.Shown.{shows-headline}
 use Rattle.circ.specs.Saying.{Says}
 use Rattle.circ.specs.Exits.{exit_of}
 use Rattle.circ.specs.declared.lines.Exit.TheVariants.{Faulted, NotUnderstood}
@@ -10,7 +9,6 @@ use Rattle.circ.proofs.requests.one.Goals as goal
 pub returns-in-Err-NotUnderstood : goal.returns-in-Err-NotUnderstood
 returns-in-Err-NotUnderstood g c = record {
   clean = search rules;
-  headline = shows-headline _;
   written = let words = texts_of c.args.words.now in
       said-whole (Says c.args.key words g.S.Store c.args.desk.now c.args.desk.now) c.not_understood.result _ _ _ NotUnderstood
       (says-not-understood g.S.Store c.args.desk.now c.args.key words
@@ -26,7 +24,6 @@ returns-in-Err-NotUnderstood g c = record {
 pub returns-in-Err-Memory : goal.returns-in-Err-Memory
 returns-in-Err-Memory g c = record {
   clean = search rules;
-  headline = shows-headline _;
   written = let words = texts_of c.args.words.now in
       said-whole (Says c.args.key words g.S.Store c.args.desk.now c.args.desk.now) c.out_of_memory.result _ _ _ Faulted
       (says-no-memory g.S.Store c.args.desk.now c.args.key words)
@@ -40,31 +37,33 @@ returns-in-Err-Memory g c = record {
 pub returns-in-Ok-handle : goal.returns-in-Ok-handle
 returns-in-Ok-handle g c = record {
   clean = search rules;
-  headline = shows-headline _;
   written = let words = texts_of c.args.words.now in
       said-whole (Says c.args.key words g.S.Store c.args.desk.now c.handle.new.self) c.tell_reply.result _ _ _ (exit_of c.in-Ok-handle.reply)
       (says-reply g.S.Store c.args.desk.now c.handle.new.self c.args.key words c.in-Ok.command c.in-Ok-handle.reply
-      c.in-Ok.ensures.understood c.in-Ok.ensures.only c.in-Ok-handle.ensures.handled.replied)
+      c.in-Ok.ensures.understood c.in-Ok.ensures.only c.in-Ok-handle.ensures.handled.replied
+      c.in-Ok-handle.ensures.handled.any.refused)
       c.tell_reply.ensures.exit_is c.tell_reply.ensures.writes.all;
   cut = let words = texts_of c.args.words.now in
       said-cut (Says c.args.key words g.S.Store c.args.desk.now c.handle.new.self) c.tell_reply.result _ _ _ (exit_of c.in-Ok-handle.reply)
       (says-reply g.S.Store c.args.desk.now c.handle.new.self c.args.key words c.in-Ok.command c.in-Ok-handle.reply
-      c.in-Ok.ensures.understood c.in-Ok.ensures.only c.in-Ok-handle.ensures.handled.replied)
+      c.in-Ok.ensures.understood c.in-Ok.ensures.only c.in-Ok-handle.ensures.handled.replied
+      c.in-Ok-handle.ensures.handled.any.refused)
       c.tell_reply.ensures.writes.front;
 }
 
 pub returns : goal.returns
 returns g c = record {
   clean = search rules;
-  headline = shows-headline _;
   written = let words = texts_of c.args.words.now in
       said-whole (Says c.args.key words g.S.Store c.args.desk.now c.handle.new.self) c.tell_fault.result _ _ _ Faulted
       (says-fault g.S.Store c.args.desk.now c.handle.new.self c.args.key words c.in-Ok.command c.in-Err.fault c.in-Ok.ensures.understood
-      (λ disk stored H shows. c.in-Err.ensures.handled.sound disk (ap Err stored) H shows) c.in-Err.ensures.handled.undone c.in-Err.ensures.handled.left)
+      (λ disk stored H shows. c.in-Err.ensures.handled.sound disk (ap Err stored) H shows) c.in-Err.ensures.handled.undone
+      c.in-Err.ensures.handled.any.failed c.in-Err.ensures.handled.left)
       c.tell_fault.ensures.exit_is c.tell_fault.ensures.writes.all;
   cut = let words = texts_of c.args.words.now in
       said-cut (Says c.args.key words g.S.Store c.args.desk.now c.handle.new.self) c.tell_fault.result _ _ _ Faulted
       (says-fault g.S.Store c.args.desk.now c.handle.new.self c.args.key words c.in-Ok.command c.in-Err.fault c.in-Ok.ensures.understood
-      (λ disk stored H shows. c.in-Err.ensures.handled.sound disk (ap Err stored) H shows) c.in-Err.ensures.handled.undone c.in-Err.ensures.handled.left)
+      (λ disk stored H shows. c.in-Err.ensures.handled.sound disk (ap Err stored) H shows) c.in-Err.ensures.handled.undone
+      c.in-Err.ensures.handled.any.failed c.in-Err.ensures.handled.left)
       c.tell_fault.ensures.writes.front;
 }
