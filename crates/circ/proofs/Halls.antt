@@ -1,24 +1,17 @@
 -- What serving the web comes to, from what its parts came to.
-use Rattle.std.proofs.Common.{◌≡◌, ◌≤◌, ◌+◌, inl, inr, ℕ, zero, suc, Bool, true, false, List, [], ◌∷◌, ◌++◌, length, refl, sym, ap}
-use Rattle.std.proofs.Common.{◌∙◌, subst, arith, length-append}
-use Rattle.std.proofs.lemmas.List.{length-map}
-use Rattle.std.proofs.lemmas.List.Elements.{All-cons}
+use Rattle.std.proofs.Common.{◌≡◌, inl, inr, ℕ, Bool, true, false, List, ◌++◌, refl, sym, subst}
 use Rattle.std.specs.Prelude.{Option, Some, Result, Ok, Err}
 use Rattle.std.specs.Io.KnownBytes.{Appends}
 use Rattle.store.specs.Library.{Ghosts, Held, state}
 use Rattle.model.specs.History.{History}
 use Rattle.desk.specs.Answering.{Shows}
-use Rattle.board.specs.declared.entry.Seen.{Seen}
 use Rattle.terms.specs.Writing.{AppendsFront}
 use Rattle.terms.specs.Texts.{service_fault_number}
 use Rattle.terms.specs.declared.fault.ServiceFault.{ServiceFault}
 use Rattle.terms.specs.declared.fault.Fault.TheVariants.{Memory}
 use Rattle.terms.specs.declared.fault.ServiceFault.TheVariants.{Met}
-use Rattle.hall.specs.Handling.{HandledFirst}
-use Rattle.hall.specs.declared.messages.Message.{Message}
-use Rattle.hall.specs.Queue.{handled, unhandled, requests, worker_view, worker_views}
-use Rattle.hall.specs.Serving.{Working, AreWorkers, TookPart}
-use Rattle.hall.specs.Openings.{LooksOnly, IsUnopened, can_be_workers}
+use Rattle.hall.specs.Queue.{handled, unhandled, requests}
+use Rattle.hall.specs.Openings.{LooksOnly, IsUnopened, KeepsClosed, can_be_workers}
 use Rattle.hall.specs.declared.hall.Why.{Why}
 use Rattle.hall.specs.declared.hall.Why.TheVariants as why
 use Rattle.desk.proofs.Looking.{idle}
@@ -26,36 +19,8 @@ use Rattle.hall.proofs.Progress.{handled-after-look, unopened}
 use Rattle.circ.specs.declared.lines.Exit.{Exit}
 use Rattle.circ.specs.declared.lines.Exit.TheVariants.{Faulted}
 use Rattle.circ.specs.Lines.{EndsWith, fault_line, port_line, threads_line}
-use Rattle.circ.specs.Serving.{TookParts, ServesWorkers, ServesHall, ServesPort, end_text, exit_after, why_line, exit_of_why}
+use Rattle.circ.specs.Serving.{ServesWorkers, ServesHall, ServesPort, end_text, exit_after, why_line, exit_of_why}
 use Rattle.terms.proofs.Fronts.{failed-first, second-out, second-failed}
-
--- one worker more took part
-pub part-more : (n : ℕ) (got : List Message) (shown : Seen) (parts more : ℕ) (w : Working) → TookParts n got shown parts
-    → TookPart n got shown w → more ≤ parts + 1 → TookParts n got shown more
-part-more n got shown parts more w took part few =
-    record {
-      workers = w ∷ took.workers;
-      each = All-cons (TookPart n got shown) w took.workers part took.each;
-      many = omega (arith, took.many, few);
-    }
-
--- nobody did
-pub no-part : (n : ℕ) (got : List Message) (shown : Seen) → TookParts n got shown 0
-no-part n got shown = record { workers = []; each = λ k d few. absurd (omega (arith, few)); many = omega arith }
-
-pub part-same : (n m : ℕ) (got heard : List Message) (shown shows : Seen) (parts : ℕ) → m ≡ n → heard ≡ got → shows ≡ shown
-    → TookParts n got shown parts → TookParts m heard shows parts
-part-same n m got heard shown shows parts a b c took =
-    subst (λ (k : ℕ). TookParts k heard shows parts) (sym a)
-    (subst (λ (l : List Message). TookParts n l shows parts) (sym b) (subst (λ (s : Seen). TookParts n got s parts) (sym c) took))
-
--- as many workers as were hired
-pub hired-length : (workers : ℕ) (all : List Working) → AreWorkers workers all → length all ≡ workers
-hired-length workers all are = sym (length-map all (λ (w : Working). w.post)) ∙ (ap length are ∙ views-length workers)
-  where
-    views-length : (k : ℕ) → length (worker_views k) ≡ k
-    views-length zero = refl
-    views-length (suc k) = length-append (worker_views k) (worker_view (suc k) ∷ []) ∙ (ap (λ m. m + 1) (views-length k) ∙ omega arith)
 
 module _ {S : Type 0} (g : Ghosts S) where
   why-faulted : (e f : ServiceFault) → why.Faulted e ≡ why.Faulted f → e ≡ f
@@ -63,13 +28,11 @@ module _ {S : Type 0} (g : Ghosts S) where
 
   -- a fault kept the hall from being opened
   pub not-opened : (workers : ℕ) (old new : Held S) (fault : ServiceFault) → IsUnopened workers g old new (why.Faulted fault)
-      → HandledFirst [] [] g old new (Some fault)
+      → KeepsClosed g old new fault
   not-opened workers old new fault is = by (can_be_workers workers) refl
     where
-      by : (b : Bool) → can_be_workers workers ≡ b → HandledFirst [] [] g old new (Some fault)
-      by true e =
-          let met = is.faulted e in
-          subst (λ (f : ServiceFault). HandledFirst [] [] g old new (Some f)) (sym (why-faulted fault met.0 met.1)) (unopened g old new met.0 met.2)
+      by : (b : Bool) → can_be_workers workers ≡ b → KeepsClosed g old new fault
+      by true e = let met = is.faulted e in subst (λ (f : ServiceFault). KeepsClosed g old new f) (sym (why-faulted fault met.0 met.1)) met.2
       by false e = let never : ⊥ = cc ((is.refused e).0) in absurd never
 
   -- there can't be so many workers
@@ -80,11 +43,11 @@ module _ {S : Type 0} (g : Ghosts S) where
       by true e = let never : ⊥ = cc ((is.faulted e).1) in absurd never
       by false e = (e, (is.refused e).1)
 
-  module _ {E : Type 0} (lists : History → Type 0) (port workers : ℕ) (old new : Held S) where
+  module _ {E : Type 0} (lists : History → Type 0) (port : ℕ) (old new : Held S) where
     -- the port was told, and then how it ended
     pub port-told : (a b c : Option (List ℕ)) (r : Result Exit E) (are_whole : Bool) (fault : Option ServiceFault)
-        → ServesWorkers lists workers are_whole g old new fault → Appends a b (port_line port)
-        → EndsWith (exit_after are_whole fault) (end_text are_whole fault) b c r → ServesHall lists port workers g old new a c r
+        → ServesWorkers lists g old new fault → Appends a b (port_line port)
+        → EndsWith (exit_after are_whole fault) (end_text are_whole fault) b c r → ServesHall lists port g old new a c r
     port-told a b c r are_whole fault serves out ends = record {
       fault = fault;
       are_whole = are_whole;
@@ -100,8 +63,8 @@ module _ {S : Type 0} (g : Ghosts S) where
 
     -- the port could not be told
     pub port-untold : (a b : Option (List ℕ)) (error : E) (are_whole : Bool) (fault : Option ServiceFault)
-        → ServesWorkers lists workers are_whole g old new fault → AppendsFront a b (port_line port)
-        → ServesHall lists port workers g old new a b (Err error)
+        → ServesWorkers lists g old new fault → AppendsFront a b (port_line port)
+        → ServesHall lists port g old new a b (Err error)
     port-untold a b error are_whole fault serves front = record {
       fault = fault;
       are_whole = are_whole;
@@ -117,10 +80,10 @@ module _ {S : Type 0} (g : Ghosts S) where
     }
 
   -- the hall was opened, which only looks at the tables, and for each list that they show
-  pub opened-served : {E : Type 0} (lists : History → Type 0) (port workers : ℕ) (all : List Working) (old side new : Held S)
+  pub opened-served : {E : Type 0} (lists : History → Type 0) (port workers : ℕ) (old side new : Held S)
       (a b : Option (List ℕ)) (r : Result Exit E) → ((H : History) → Shows (state g old) H → lists H)
-      → AreWorkers workers all → LooksOnly g old side (Ok tt) → ServesHall lists port (length all) g side new a b r → ServesPort port workers g old new a b r
-  opened-served lists port workers all old side new a b r every hired look served =
+      → LooksOnly g old side (Ok tt) → ServesHall lists port g side new a b r → ServesPort port workers g old new a b r
+  opened-served lists port workers old side new a b r every look served =
       let s = served.serves in
       inl (record {
         fault = served.fault;
@@ -133,20 +96,20 @@ module _ {S : Type 0} (g : Ghosts S) where
           all = s.all;
           told = λ disk H shows. s.told disk H (every H shows);
           replies = λ disk H shows. s.replies disk H (every H shows);
-          parts = λ whole. subst (TookParts s.n s.got s.shown) (hired-length workers all hired) (s.parts whole);
         };
         told = served.told;
       })
 
   -- no memory was left before anything was asked
-  pub no-memory : (held : Held S) → HandledFirst [] [] g held held (Some (Met Memory))
-  no-memory held = unopened g held held (Met Memory) (inl (Memory, refl, record { looked = Ok tt; looks = idle; cause = inr refl }))
+  pub no-memory : (held : Held S) → KeepsClosed g held held (Met Memory)
+  no-memory held = inl (Memory, refl, record { looked = Ok tt; looks = idle; cause = inr refl })
 
   -- the fault of a hall that isn't opened was told
   pub fault-told : {E : Type 0} (port workers : ℕ) (old new : Held S) (a b : Option (List ℕ)) (r : Result Exit E) (fault : ServiceFault)
-      → HandledFirst [] [] g old new (Some fault) → EndsWith Faulted (fault_line (service_fault_number fault)) a b r
+      → KeepsClosed g old new fault → EndsWith Faulted (fault_line (service_fault_number fault)) a b r
       → ServesPort port workers g old new a b r
-  fault-told port workers old new a b r fault desk ends = inr (inl (record { fault = fault; desk = desk; told = ends }))
+  fault-told port workers old new a b r fault cause ends =
+      inr (inl (record { fault = fault; cause = cause; desk = unopened g old new fault cause; told = ends }))
 
 -- why the hall isn't opened was told
 pub why-told : {S E : Type 0} (g : Ghosts S) (port workers : ℕ) (old new : Held S) (w : Why) (a b : Option (List ℕ)) (r : Result Exit E)

@@ -1,5 +1,5 @@
 -- What serving the web comes to: what the tables show after it, and the lines that tell it.
-use Rattle.std.specs.Prelude.{◌≡◌, ◌⊎◌, ◌≤◌, ℕ, Bool, true, false, if◌then◌else◌, List, [], ◌++◌, length, All, Option, Some, None, Result}
+use Rattle.std.specs.Prelude.{◌≡◌, ◌⊎◌, ℕ, Bool, true, false, if◌then◌else◌, List, [], ◌++◌, length, Option, Some, None, Result}
 use Rattle.store.specs.Library.{Ghosts, Held, state}
 use Rattle.model.specs.History.{History}
 use Rattle.desk.specs.Answering.{Shows}
@@ -8,9 +8,9 @@ use Rattle.terms.specs.Texts.{service_fault_number}
 use Rattle.terms.specs.declared.fault.ServiceFault.{ServiceFault}
 use Rattle.hall.specs.declared.messages.Message.{Message}
 use Rattle.hall.specs.Queue.{handled, unhandled, submissions, requests}
-use Rattle.hall.specs.Openings.{ToldBy, can_be_workers}
+use Rattle.hall.specs.Openings.{ToldBy, KeepsClosed, can_be_workers}
 use Rattle.hall.specs.Handling.{HandledFirst, AreShown}
-use Rattle.hall.specs.Serving.{Working, TookPart, GivesReplies}
+use Rattle.hall.specs.Serving.{GivesReplies}
 use Rattle.hall.specs.declared.hall.Why.{Why}
 use Rattle.hall.specs.declared.hall.Why.TheVariants.{Refused, Faulted}
 use Rattle.circ.specs.declared.lines.Exit.{Exit}
@@ -20,17 +20,10 @@ use Rattle.circ.specs.Lines.{EndsWith, fault_line, port_line, threads_line, not_
 
 -- ---- what the workers did
 
--- At least so many workers have left that took part in a hall: it received `got`, handled the first n
--- submissions of it, and showed this.
-pub record TookParts (n : ℕ) (got : List Message) (shown : Seen) (parts : ℕ) : Type 0 where
-  pub workers : List Working
-  pub each : All (TookPart n got shown) workers
-  pub many : parts ≤ length workers
-
--- So many workers submitted what they were asked for, and the desk handled it, up to the fault where there
--- was one. What they were asked for, and so what they submitted, nobody says: a socket doesn't tell its
--- bytes.
-pub record ServesWorkers {S : Type 0} (lists : History → Type 0) (workers : ℕ) (are_whole : Bool) (g : Ghosts S)
+-- Workers submitted what they were asked for, and the desk handled it, up to the fault where there was one.
+-- How many they were, what they were asked for, and so what they submitted, nobody says: a socket doesn't
+-- tell its bytes. What each of them does is said of its loop, over connections that may (`Connections`).
+pub record ServesWorkers {S : Type 0} (lists : History → Type 0) (g : Ghosts S)
     (old new : Held S) (fault : Option ServiceFault) : Type 0 where
   -- what the desk received, how many submissions it handled, and what was shown
   pub got : List Message
@@ -44,9 +37,6 @@ pub record ServesWorkers {S : Type 0} (lists : History → Type 0) (workers : �
   -- has seen a beginning of it
   pub told : ToldBy lists g new shown
   pub replies : GivesReplies lists g new shown
-  -- each worker has seen no more, and of each the handled ones are a beginning of what it submitted; where
-  -- it is told that a worker had no thread, fewer may be meant
-  pub parts : are_whole ≡ true → TookParts n got shown workers
 
 -- ---- what is told at the end
 
@@ -82,18 +72,19 @@ abbrev pub TellsPort : {E : Type 0} → ℕ → Bool → Option ServiceFault →
 TellsPort port are_whole fault = EndsWith (exit_after are_whole fault) (port_line port ++ end_text are_whole fault)
 
 -- The web was served by the workers of a hall, in threads of their own.
-pub record ServesHall {S E : Type 0} (lists : History → Type 0) (port workers : ℕ) (g : Ghosts S) (old new : Held S)
+pub record ServesHall {S E : Type 0} (lists : History → Type 0) (port : ℕ) (g : Ghosts S) (old new : Held S)
     (before after : Option (List ℕ)) (result : Result Exit E) : Type 0 where
   pub fault : Option ServiceFault
-  -- whether each worker had a thread
+  -- whether each worker had a thread, and took part to the end
   pub are_whole : Bool
-  pub serves : ServesWorkers lists workers are_whole g old new fault
+  pub serves : ServesWorkers lists g old new fault
   pub told : TellsPort port are_whole fault before after result
 
--- The hall could not be opened: nothing was handled, and the fault is told alone.
+-- The hall could not be opened: nothing was handled, and the fault that came is told alone.
 pub record IsNotServed {S E : Type 0} (g : Ghosts S) (old new : Held S) (before after : Option (List ℕ))
     (result : Result Exit E) : Type 0 where
   pub fault : ServiceFault
+  pub cause : KeepsClosed g old new fault
   pub desk : HandledFirst [] [] g old new (Some fault)
   pub told : EndsWith exit.Faulted (fault_line (service_fault_number fault)) before after result
 
@@ -101,6 +92,6 @@ pub record IsNotServed {S E : Type 0} (g : Ghosts S) (old new : Held S) (before 
 -- showed; or the hall could not be opened; or there can't be so many workers, and nothing was touched.
 abbrev pub ServesPort : {S E : Type 0} → ℕ → ℕ → Ghosts S → Held S → Held S → Option (List ℕ) → Option (List ℕ) → Result Exit E → Type 0
 ServesPort port workers g old new before after result =
-    ServesHall (Shows (state g old)) port workers g old new before after result
+    ServesHall (Shows (state g old)) port g old new before after result
     ⊎ (IsNotServed g old new before after result
     ⊎ ((can_be_workers workers ≡ false) × (new ≡ old) × EndsWith NotUnderstood not_understood_line before after result))

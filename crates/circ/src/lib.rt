@@ -3,8 +3,10 @@
 
 mod arguments;
 mod auditing;
+mod connections;
 mod importing;
 mod lines;
+mod listening;
 mod migrating;
 mod reports;
 mod requests;
@@ -14,6 +16,7 @@ mod writing;
 
 pub use arguments::{Run, read_run};
 pub use auditing::audit;
+pub use connections::{Connections, work};
 pub use desk::Report;
 pub use importing::{import, unreadable};
 pub use lines::{Exit, WriteFault, no_network, not_understood, out_of_memory, tell_fault};

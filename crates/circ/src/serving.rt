@@ -1,56 +1,31 @@
 //! The web: the workers of a hall, each in a thread of its own.
 
-ghost use Rattle.std.specs.Prelude.{◌≡◌, length};
-ghost use Rattle.terms.specs.Writing.{Writes};
+ghost use Rattle.std.specs.Prelude.{◌≡◌};
 ghost use Rattle.store.specs.Library.{state};
 ghost use Rattle.model.specs.History.{History};
 ghost use Rattle.desk.specs.Answering.{Shows};
 ghost use Rattle.hall.specs.Openings.{OpensWith};
-ghost use Rattle.circ.specs.Lines.{EndsWith, port_line, threads_line};
-ghost use Rattle.circ.specs.Serving.{TookParts, ServesWorkers, ServesHall, ServesPort};
+ghost use Rattle.circ.specs.Lines.{EndsWith};
+ghost use Rattle.circ.specs.Serving.{ServesWorkers, ServesHall, ServesPort};
 ghost use Rattle.circ.specs.Serving.{end_text, exit_after, why_line, exit_of_why};
 
+use crate::connections::work;
 use crate::lines::{
     Exit, WriteFault, not_understood, out_of_memory, tell_port, tell_service_fault, tell_threads,
 };
+use crate::listening::Port;
 use desk::Desk;
-use hall::{DeskSide, Ended, Hall, HallFault, Left, Opened, Opening, Routes, Why, Worker};
+use hall::{DeskSide, Ended, Hall, HallFault, Left, Opened, Opening, Why, Worker};
 use hall_schedule::WORKERS;
 use sqlite::Alter;
 use std::alloc::Global;
-use std::io::{BufWriter, Read, Write};
+use std::io::Write;
 use std::marker::Brand;
-use std::net::{Shutdown, TcpListener, TcpStream};
+use std::net::TcpListener;
 use std::sync::{Arc, Mutex, Wait};
 use std::thread;
 use std::thread::{JoinHandle, Threads};
-use std::time::Duration;
 use terms::{CardKey, Memory, ServiceFault};
-
-/// How long a connection may keep a read or a write waiting, in seconds; then it is broken.
-const LONGEST_WAIT: u64 = 30;
-
-/// How long a client that was answered may take to close its end, in seconds.
-const LONGEST_CLOSE: u64 = 1;
-
-/// How often what it still sends then is read and left alone.
-const MOST_DROPPED: u32 = 32;
-
-/// Ends a connection that was answered: a client that is still sending would lose the answer if the
-/// connection were cut, so what it sends is read and left alone for a while.
-fn end(mut stream: &TcpStream) {
-    let wait = Some(Duration::from_secs(LONGEST_CLOSE));
-    if stream.shutdown(Shutdown::Write).is_err() || stream.set_read_timeout(wait).is_err() {
-        return;
-    }
-    let mut bytes = [0; 512];
-    for _ in 0..MOST_DROPPED {
-        match stream.read(&mut bytes) {
-            Ok(0) | Err(_) => return,
-            Ok(_) => {}
-        }
-    }
-}
 
 /// How the web is to be served.
 #[derive(Drop)]
@@ -85,56 +60,13 @@ impl<J: Opening> Shared<J> {
         self.waiting.lock(rt).pop()
     }
 
-    /// A worker waits for a connection, and serves it: the answer goes out in one write where it
-    /// fits into 8 KiB, and in pieces where no memory is left to hold it together. A connection
-    /// that can't be had is passed over. The routes are made for the first one, and again for the
-    /// next where there was no memory for them.
-    fn serve_next<R: Wait>(
-        &self,
-        rt: &R,
-        alloc: Global,
-        routes: &mut Option<Routes>,
-        worker: &mut Worker<J>,
-    ) {
-        let Ok((stream, _)) = self.listener.accept() else {
-            return;
-        };
-        let wait = Some(Duration::from_secs(LONGEST_WAIT));
-        if stream.set_read_timeout(wait).is_err() || stream.set_write_timeout(wait).is_err() {
-            return;
-        }
-        if routes.is_none() {
-            *routes = Routes::new(alloc).ok();
-        }
-        let routes = routes.as_ref();
-        let is_answered = match BufWriter::new(alloc, &stream) {
-            Ok(mut writer) => {
-                let key = &self.desk_key;
-                let told = worker.serve(rt, alloc, routes, key, &mut &stream, &mut writer);
-                let is_answered = told.is_ok() && writer.flush().is_ok();
-                // What couldn't go out is not tried again.
-                let _ = writer.into_parts();
-                is_answered
-            }
-            Err(_) => {
-                let key = &self.desk_key;
-                let told = worker.serve(rt, alloc, routes, key, &mut &stream, &mut &stream);
-                told.is_ok()
-            }
-        };
-        if is_answered {
-            end(&stream);
-        }
-    }
-
-    /// A worker serves so many connections, and leaves.
+    /// A worker that has not begun serves so many connections of the listener, and leaves.
     fn work<R: Wait>(&self, rt: &R, alloc: Global, each: u32) -> Option<Left<J>> {
-        let mut worker = self.next(rt)?;
-        let mut routes = None;
-        for _ in 0..each {
-            self.serve_next(rt, alloc, &mut routes, &mut worker);
-        }
-        Some(worker.leave(rt))
+        let worker = self.next(rt)?;
+        let mut port = Port {
+            listener: &self.listener,
+        };
+        Some(work(rt, alloc, &mut port, &self.desk_key, worker, each))
     }
 }
 
@@ -216,10 +148,8 @@ fn start_all<J: Opening + Send + Sync + 'static, R: Threads + Wait + Copy + Send
 
 /// Takes in the end of a worker, and counts it where it took part in the hall.
 fn take_in<J: Opening>(ended: &mut Ended<J>, left: Left<J>, parts: u64) -> u64
-    ensures same { (ended.new.handled ≡ ended.old.handled)
+    ensures { (ended.new.handled ≡ ended.old.handled)
         × (ended.new.heard.got ≡ ended.old.heard.got) × (ended.new.board ≡ ended.old.board) }
-    ensures parts { TookParts ended.old.handled ended.old.heard.got ended.old.board.shown parts
-        → TookParts ended.old.handled ended.old.heard.got ended.old.board.shown result }
 {
     if ended.take_in(left) {
         parts.saturating_add(1)
@@ -231,9 +161,8 @@ fn take_in<J: Opening>(ended: &mut Ended<J>, left: Left<J>, parts: u64) -> u64
 /// Waits until the threads have ended, and takes in the ends of all workers. Tells how many took
 /// part in the hall.
 fn take_in_all<J: Opening, R: Threads>(rt: &R, ended: &mut Ended<J>, crew: Crew<J>) -> u64
-    ensures same { (ended.new.handled ≡ ended.old.handled)
+    ensures { (ended.new.handled ≡ ended.old.handled)
         × (ended.new.heard.got ≡ ended.old.heard.got) × (ended.new.board ≡ ended.old.board) }
-    ensures parts { TookParts ended.old.handled ended.old.heard.got ended.old.board.shown result }
 {
     let Crew {
         shared: _,
@@ -271,8 +200,7 @@ fn run<J: Opening + Send + Sync + 'static, S: Alter, R: Threads + Wait + Copy + 
     crew: Crew<J>,
 ) -> Met<S>
     requires { OpensWith J.shows S.Store side.desk side.publisher.shown }
-    ensures { ServesWorkers J.shows (length workers.items) result.are_whole
-        S.Store side.desk result.desk result.fault }
+    ensures { ServesWorkers J.shows S.Store side.desk result.desk result.fault }
 {
     let mut crew = crew;
     let count = workers.len();
@@ -326,7 +254,7 @@ fn serve_hall<
     writer: &mut W,
 ) -> (Desk<S>, Result<Exit, WriteFault>)
     requires { OpensWith J.shows S.Store side.desk side.publisher.shown }
-    ensures { ServesHall J.shows port (length workers.items) S.Store side.desk result.0
+    ensures { ServesHall J.shows port S.Store side.desk result.0
         (W.contents writer.old) (W.contents writer.new) result.1 }
 {
     match tell_port(writer, port) {

@@ -1,15 +1,17 @@
 //! The calls under test, with no clauses: so a test with many of them is proved fast. Each is
 //! generic over the database's store, so that what it is proved from stays small.
 
-use circ::{Exit, Report, WriteFault};
+use circ::{Connections, Exit, Report, WriteFault};
 use circ_audit::Finding;
 use desk::Desk;
 use front::{CopyEnd, read_copies};
+use hall::{Left, Opening, Worker};
 use sqlite::Alter;
 use std::alloc::Global;
 use std::io::{Read, Write};
+use std::sync::Wait;
 use store::Store;
-use terms::{Fault, Key, Tables};
+use terms::{CardKey, Fault, Key, Tables};
 
 /// Has one request by words handled, and its line written.
 pub fn one<S: Alter, W: Write>(
@@ -65,4 +67,16 @@ pub fn import<S: Alter, R: Read + Drop, W: Write>(
 pub fn copies<R: Read + Drop>(alloc: Global, reader: R) -> (usize, CopyEnd) {
     let (rows, end) = read_copies(alloc, reader);
     (rows.len(), end)
+}
+
+/// Has a worker serve so many connections, and leave.
+pub fn serve_many<J: Opening, C: Connections, R: Wait>(
+    rt: &R,
+    alloc: Global,
+    connections: &mut C,
+    desk_key: &CardKey,
+    worker: Worker<J>,
+    each: u32,
+) -> Left<J> {
+    circ::work(rt, alloc, connections, desk_key, worker, each)
 }

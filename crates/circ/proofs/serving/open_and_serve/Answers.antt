@@ -9,8 +9,8 @@ returns-in-Err g c = fault-told g.S.Store c.args.web.port c.args.web.workers c.a
 
 pub returns-in-Ok-new : goal.returns-in-Ok-new
 returns-in-Ok-new g c =
-    opened-served g.S.Store g.J.Opening.shows c.args.web.port c.args.web.workers c.in-Ok-new.workers.items c.args.desk c.in-Ok-new.side.desk
-    c.serve_hall.result.0 _ _ c.serve_hall.result.1 c.requires.every c.in-Ok-new.ensures.workers c.in-Ok-new.ensures.side.0
+    opened-served g.S.Store g.J.Opening.shows c.args.web.port c.args.web.workers c.args.desk c.in-Ok-new.side.desk
+    c.serve_hall.result.0 _ _ c.serve_hall.result.1 c.requires.every c.in-Ok-new.ensures.side.0
     c.serve_hall.ensures
 
 pub returns-in-Err-new : goal.returns-in-Err-new

@@ -1,5 +1,4 @@
 use Rattle.std.proofs.Common.{◌≡◌}
-use Rattle.circ.specs.Serving.{TookParts}
 use Rattle.circ.proofs.serving.take_in_all.Given as goal
 
 abbrev pub invariant-left : goal.invariant-left
@@ -7,7 +6,6 @@ invariant-left g l = record {
   handled : l.ended.handled ≡ l.fn.ended.handled;
   got : l.ended.heard.got ≡ l.fn.ended.heard.got;
   board : l.ended.board ≡ l.fn.ended.board;
-  parts : TookParts l.ended.handled l.ended.heard.got l.ended.board.shown l.parts;
 }
 
 abbrev pub invariant-threads : goal.invariant-threads
@@ -15,5 +13,4 @@ invariant-threads g l = record {
   handled : l.ended.handled ≡ l.fn.ended.handled;
   got : l.ended.heard.got ≡ l.fn.ended.heard.got;
   board : l.ended.board ≡ l.fn.ended.board;
-  parts : TookParts l.ended.handled l.ended.heard.got l.ended.board.shown l.parts;
 }

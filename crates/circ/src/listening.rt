@@ -1,0 +1,110 @@
+//! The connections of a port.
+
+use crate::connections::Connections;
+use std::alloc::Global;
+use std::io;
+use std::io::{BufWriter, Read, Write};
+use std::net::{Shutdown, TcpListener, TcpStream};
+use std::time::Duration;
+
+/// How long a connection may keep a read or a write waiting, in seconds; then it is broken.
+const LONGEST_WAIT: u64 = 30;
+
+/// How long a client that was answered may take to close its end, in seconds.
+const LONGEST_CLOSE: u64 = 1;
+
+/// How often what it still sends then is read and left alone.
+const MOST_DROPPED: u32 = 32;
+
+/// Where an answer goes out: in one write where it fits into 8 KiB, and in pieces where no memory
+/// is left to hold it together.
+pub enum Outgoing {
+    Buffered(BufWriter<TcpStream>),
+    InPieces(TcpStream),
+}
+
+impl Outgoing {
+    /// Of a connection. None where it can't be written beside being read.
+    fn of(alloc: Global, stream: &TcpStream) -> Option<Outgoing> {
+        match BufWriter::new(alloc, stream.try_clone().ok()?) {
+            Ok(writer) => Some(Outgoing::Buffered(writer)),
+            Err(_) => Some(Outgoing::InPieces(stream.try_clone().ok()?)),
+        }
+    }
+
+    /// Lets it go. What couldn't go out is not tried again.
+    fn let_go(self) {
+        match self {
+            Outgoing::Buffered(writer) => {
+                let _ = writer.into_parts();
+            }
+            Outgoing::InPieces(_) => {}
+        }
+    }
+}
+
+impl Write for Outgoing {
+    fn write(&mut self, buf: &[u8]) -> io::Result<usize> {
+        match self {
+            Outgoing::Buffered(writer) => writer.write(buf),
+            Outgoing::InPieces(stream) => stream.write(buf),
+        }
+    }
+
+    fn flush(&mut self) -> io::Result<()> {
+        match self {
+            Outgoing::Buffered(writer) => writer.flush(),
+            Outgoing::InPieces(stream) => stream.flush(),
+        }
+    }
+}
+
+/// Ends a connection that was answered: a client that is still sending would lose the answer if the
+/// connection were cut, so what it sends is read and left alone for a while.
+fn drain(stream: &mut TcpStream) {
+    let wait = Some(Duration::from_secs(LONGEST_CLOSE));
+    if stream.shutdown(Shutdown::Write).is_err() || stream.set_read_timeout(wait).is_err() {
+        return;
+    }
+    let mut bytes = [0; 512];
+    for _ in 0..MOST_DROPPED {
+        match stream.read(&mut bytes) {
+            Ok(0) | Err(_) => return,
+            Ok(_) => {}
+        }
+    }
+}
+
+/// The connections that come to a listener. A socket tells no bytes.
+#[derive(Drop)]
+pub struct Port<'a> {
+    pub listener: &'a TcpListener,
+}
+
+impl<'a> Connections for Port<'a> {
+    type Reader = TcpStream;
+
+    type Writer = Outgoing;
+
+    ghost comes = { λ _ _ _ _. Unit {0} };
+
+    ghost goes = { λ _ _ _. Unit {0} };
+
+    fn accept(&mut self, alloc: Global) -> Option<(TcpStream, Outgoing)> {
+        let (stream, _) = self.listener.accept().ok()?;
+        let wait = Some(Duration::from_secs(LONGEST_WAIT));
+        if stream.set_read_timeout(wait).is_err() || stream.set_write_timeout(wait).is_err() {
+            return None;
+        }
+        let writer = Outgoing::of(alloc, &stream)?;
+        Some((stream, writer))
+    }
+
+    fn end(&mut self, mut reader: TcpStream, mut writer: Outgoing, is_answered: bool) {
+        let is_sent = is_answered && writer.flush().is_ok();
+        writer.let_go();
+        if is_sent {
+            drain(&mut reader);
+        }
+    }
+}
