@@ -1,5 +1,6 @@
 /* Refuses one request for memory of the program into which it is loaded first (LD_PRELOAD): the one whose number is REFUSE, counted from 1. The count stands in the file
-   COUNT, of eight bytes, where that is set: a program may end in ways that tell nobody. So it refuses the thread whose number is THREAD. */
+   COUNT, where that is set: a program may end in ways that tell nobody. After the eight bytes of the count it has eight more: once one of them isn't 0, every request of the
+   program's first thread is refused. So it refuses the thread whose number is THREAD. */
 #define _GNU_SOURCE
 #include <dlfcn.h>
 #include <errno.h>
@@ -7,11 +8,12 @@
 #include <pthread.h>
 #include <stdlib.h>
 #include <sys/mman.h>
+#include <unistd.h>
 
 extern void *__libc_malloc(size_t);
 extern void *__libc_realloc(void *, size_t);
 
-static unsigned long own, refused, *asked = &own, threads, refused_thread;
+static unsigned long own[2], refused, *asked = own, threads, refused_thread;
 
 __attribute__((constructor)) static void begin(void) {
   const char *number = getenv("REFUSE"), *name = getenv("COUNT");
@@ -19,14 +21,15 @@ __attribute__((constructor)) static void begin(void) {
   void *place = file < 0 ? MAP_FAILED : mmap(NULL, sizeof own, PROT_READ | PROT_WRITE, MAP_SHARED, file, 0);
   if (place != MAP_FAILED)
     asked = place;
-  *asked = 0;
+  asked[0] = asked[1] = 0;
   refused = number ? strtoul(number, NULL, 10) : 0;
   number = getenv("THREAD");
   refused_thread = number ? strtoul(number, NULL, 10) : 0;
 }
 
 static int is_refused(void) {
-  if (__atomic_add_fetch(asked, 1, __ATOMIC_RELAXED) != refused)
+  int is_the_one = __atomic_add_fetch(asked, 1, __ATOMIC_RELAXED) == refused;
+  if (!is_the_one && !(__atomic_load_n(asked + 1, __ATOMIC_RELAXED) && gettid() == getpid()))
     return 0;
   errno = ENOMEM;
   return 1;

@@ -25,7 +25,7 @@ from concurrent.futures import ThreadPoolExecutor
 from desk_rules import Library
 from lib import runs
 from lib.runs import CIRC, GROUND, HEADER, PROGRAM, TOP, check, rows, say, the_rows_are, whole
-from lib.serving import DESK_KEY, everything, started
+from lib.serving import DESK_KEY, started
 from messages import message
 from migrate import DONE, HOLDS, led_up, schema_of, stages, with_many_rows
 
@@ -62,7 +62,7 @@ class Refusing:
     def how(self, number):
         """The environment of a run of which this request is refused; none for 0."""
         with open(self.file, "wb") as file:
-            file.write(bytes(8))
+            file.write(bytes(16))
         return {**os.environ, "LD_PRELOAD": self.library, "REFUSE": str(number), "COUNT": self.file}
 
     def run(self, words, number):
@@ -71,7 +71,13 @@ class Refusing:
     def count(self):
         """How many requests for memory there were."""
         with open(self.file, "rb") as file:
-            return int.from_bytes(file.read(), sys.byteorder)
+            return int.from_bytes(file.read(8), sys.byteorder)
+
+    def refuse_first_thread(self):
+        """Refuses every request for memory of the program's first thread from now on."""
+        with open(self.file, "r+b") as file:
+            file.seek(8)
+            file.write(b"\1")
 
 
 def places(count, many, everything):
@@ -384,17 +390,6 @@ def acquired(port, numbers):
     return answers
 
 
-def acquired_by_two(port, number):
-    """What two workers answer, which have to take one each: a request and the next, which comes while the first is on its way."""
-    body = json.dumps(acquiring(number)).encode()
-    head = f"POST /desk HTTP/1.1\r\nDesk-Key: {DESK_KEY}\r\nRequest-Key: s{number}\r\nContent-Length: {len(body)}\r\n\r\n".encode()
-    with socket.create_connection(("127.0.0.1", port), timeout=120) as first:
-        first.sendall(head)
-        others = acquired(port, [number + 1])
-        first.sendall(body)
-        return [everything(first).decode().partition("\r\n\r\n")[2] + "\n", *others]
-
-
 OK = '{"reply":"ok"}\n'
 
 
@@ -450,45 +445,32 @@ def serving_memory(folder, everything):
     print(f"refused: memory of the web: {dict(told)}")
 
 
-def data_of(run):
-    """How much memory for data a program has, in bytes."""
-    with open(f"/proc/{run.pid}/status", encoding="utf-8") as file:
-        return next(int(line.split()[1]) * 1024 for line in file if line.startswith("VmData:"))
-
-
-MOST = 4_000  # so many copies at most are acquired of a program that gets no more memory, until it wants more
-
-
-def refused_after_listening(folder):
-    """A program that serves, and gets no more memory from some time on: it answers, until the desk wants more, which it need not. That request is told the fault and each later one 92, and the
-    program ends with the fault. Pages stay, and afterwards all is answered under the same keys."""
-    base, path = os.path.join(folder, "base.db"), os.path.join(folder, "grown.db")
+def refused_after_listening(folder, refusing):
+    """A program that serves, and whose desk gets no more memory once so many requests were answered: the next one is told the fault, each later one 92, pages stay, and the program
+    ends with the fault. Afterwards all is answered under the same keys."""
+    base, path, told = os.path.join(folder, "base.db"), os.path.join(folder, "grown.db"), Counter()
 
     def words_for(port):
         copied(base, path)
-        return ["serve", path, str(port), "2", str(MOST // 2), DESK_KEY]
+        return ["serve", path, str(port), "2", "100", DESK_KEY]
 
-    for more in (0, STEP):
-        run, port, first = started(words_for)
-        where = f"a web that gets {more} bytes more"
+    for count in (0, 1, 2, 16, 40):
+        run, port, first = started(words_for, env=refusing.how(0))
+        where = f"a desk that gets no more memory after {count}"
         check(f"the port of {where}", first, f"listening on {port}\n")
-        # both workers have what they need once they have answered
-        answers = [it for n in range(0, 16, 2) for it in acquired_by_two(port, n)]
-        check(f"what comes before the limit of {where}", answers, [OK] * 16)
-        resource.prlimit(run.pid, resource.RLIMIT_DATA, (data_of(run) + more,) * 2)
-        while answers[-1] == OK and len(answers) < MOST - 40:
-            answers += acquired(port, [len(answers)])
-        # where the desk wanted more, its fault closes it; else it answered them all
-        later = [] if answers[-1] == OK else fault_answers(92) * 24
-        if later:
-            check(f"the fault of {where}, after {len(answers)}", answers[-1] in fault_answers(90, 91), True)
-            check(f"what comes after {where}", acquired(port, range(len(answers), len(answers) + 24)), later)
+        answers = acquired(port, range(count))
+        check(f"what comes before that, {where}", answers, [OK] * count)
+        refusing.refuse_first_thread()
+        answers += acquired(port, range(count, count + 24))
+        check(f"the fault of {where}: {answers[count]}", answers[count] in fault_answers(90, 91), True)
+        check(f"what comes after it, {where}", answers[count + 1 :], fault_answers(92) * 23)
         page = subprocess.run([PROGRAM, "send", str(port), DESK_KEY, "p1", "page", "1"], capture_output=True, timeout=120, check=False)
         check(f"a page after {where}", page.stdout, b'{"reply":"patron 1 owed 0 name Ann Bell"}\n')
         lines, status = end_of(run, port)
-        check(f"the end of {where}", ([f'{{"fault":{it.split()[-1]}}}\n' for it in lines], status), (answers[-1:], 3) if later else ([], 0))
-        are_repeated(path, answers + later, where)
-        print(f"refused: memory of {where}: {answers.count(OK)} answered, then {answers[-1].strip()}")
+        check(f"the end of {where}", ([f'{{"fault":{it.split()[-1]}}}\n' for it in lines], status), ([answers[count]], 3))
+        are_repeated(path, answers, where)
+        told[answers[count].strip()] += 1
+    print(f"refused: memory of the desk while the web is served: {dict(told)}")
 
 
 def disk(folder, everything):
@@ -551,7 +533,7 @@ def main():
         missing_threads(folder, refusing)
         memory(folder, everything)
         serving_memory(folder, everything)
-        refused_after_listening(folder)
+        refused_after_listening(folder, refusing)
         disk(folder, everything)
         disk_of_a_migration(folder, everything)
     print(f"refused: {runs.passed} passed, 0 failed")
