@@ -70,8 +70,8 @@ function said(reply) {
 }
 
 function saidNo(answer) {
-  const number = answer.refusal ?? answer.fault ?? answer.status;
-  const text = answer.refusal ? TEXTS.refused : answer.fault ? TEXTS.faulted : TEXTS.notTaken;
+  const number = answer.refusal ?? answer.fault ?? answer.status ?? answer.strange;
+  const text = answer.refusal ? TEXTS.refused : answer.fault ? TEXTS.faulted : answer.status ? TEXTS.notTaken : TEXTS.strange;
   return say(text, { number, meaning: MEANINGS[number] });
 }
 

@@ -19,8 +19,8 @@ function tellUnknown() {
 
 // What an answer says that isn't a reply.
 function tellNo(answer) {
-  const number = answer.refusal ?? answer.fault ?? answer.status;
-  const text = answer.refusal ? TEXTS.refused : answer.fault ? TEXTS.faulted : TEXTS.notTaken;
+  const number = answer.refusal ?? answer.fault ?? answer.status ?? answer.strange;
+  const text = answer.refusal ? TEXTS.refused : answer.fault ? TEXTS.faulted : answer.status ? TEXTS.notTaken : TEXTS.strange;
   tell(say(text, { number, meaning: MEANINGS[number] }));
 }
 

@@ -2,6 +2,8 @@
 
 const NUMBER = "(0|[1-9][0-9]{0,15})";
 const DAY = "([0-9]{4}-[0-9]{2}-[0-9]{2})";
+// a name or a title: whatever a line can hold, and a line ends at a newline alone
+const TEXT = "([^\\n]+)";
 
 const PLACES = [
   [`shelf ${NUMBER}`, ([branch]) => ({ to: "shelf", branch: Number(branch) })],
@@ -28,28 +30,28 @@ const REPLIES = [
   [`loan ${NUMBER} due ${DAY}`, ([loan, due]) => ({ kind: "lent", loan: Number(loan), due })],
   [`hold ${NUMBER}`, ([hold]) => ({ kind: "held", hold: Number(hold) })],
   [`fine ${NUMBER} price ${NUMBER}`, ([fine, price]) => ({ kind: "lost", fine: Number(fine), price: Number(price) })],
-  [`fine ${NUMBER} (.+)`, ([fine, place]) => ({ kind: "checked in", fine: Number(fine), place: readPlace(place) })],
+  [`fine ${NUMBER} ${TEXT}`, ([fine, place]) => ({ kind: "checked in", fine: Number(fine), place: readPlace(place) })],
   [`owed ${NUMBER}`, ([owed]) => ({ kind: "owed", owed: Number(owed) })],
 ];
 
 const LINES = [
-  [`loan ${NUMBER} due ${DAY} renewals ${NUMBER} title ${NUMBER} (.+)`,
+  [`loan ${NUMBER} due ${DAY} renewals ${NUMBER} title ${NUMBER} ${TEXT}`,
     ([loan, due, renewals, title, text]) => ({ line: "loan", loan: Number(loan), due, renewals: Number(renewals), title: Number(title), text })],
-  [`hold ${NUMBER} at ${NUMBER} waiting title ${NUMBER} (.+)`,
+  [`hold ${NUMBER} at ${NUMBER} waiting title ${NUMBER} ${TEXT}`,
     ([hold, branch, title, text]) => ({ line: "hold", hold: Number(hold), branch: Number(branch), state: "waiting", from: null, title: Number(title), text })],
-  [`hold ${NUMBER} at ${NUMBER} waiting from ${DAY} title ${NUMBER} (.+)`,
+  [`hold ${NUMBER} at ${NUMBER} waiting from ${DAY} title ${NUMBER} ${TEXT}`,
     ([hold, branch, from, title, text]) => ({ line: "hold", hold: Number(hold), branch: Number(branch), state: "waiting", from, title: Number(title), text })],
-  [`hold ${NUMBER} at ${NUMBER} ready title ${NUMBER} (.+)`,
+  [`hold ${NUMBER} at ${NUMBER} ready title ${NUMBER} ${TEXT}`,
     ([hold, branch, title, text]) => ({ line: "hold", hold: Number(hold), branch: Number(branch), state: "ready", from: null, title: Number(title), text })],
 ];
 
 // What a question of the desk is answered: a copy, a list to its end or to the number of its last row, or the sums of a day.
-const SHOWN = [`copy ${NUMBER} home [^]+\\n.+`, "(?:[^]+\\n)?end", `[^]+\\nafter ${NUMBER}`, `till ${DAY}\\n[^]+`].map((form) => [form, () => true]);
+const SHOWN = [`copy ${NUMBER} home [^\\n]+\\n[^\\n]+`, "(?:[^]+\\n)?end", `[^]+\\nafter ${NUMBER}`, `till ${DAY}\\n[^]+`].map((form) => [form, () => true]);
 
 // A patron's page, or null where the text is none.
 export function readPage(text) {
   const [first, ...rest] = text.split("\n");
-  const patron = new RegExp(`^patron ${NUMBER} owed ${NUMBER} name (.+)$`).exec(first);
+  const patron = new RegExp(`^patron ${NUMBER} owed ${NUMBER} name ${TEXT}$`).exec(first);
   const lines = rest.map((line) => firstOf(LINES, line));
   if (!patron || lines.includes(null)) return null;
   return {
@@ -71,23 +73,26 @@ export function readReply(text) {
   return reply || readPage(text) || (firstOf(SHOWN, text) && { kind: "shown", lines: text.split("\n") });
 }
 
-// A whole answer by its status and body: a reply, a refusal, a fault or a status of the web; null where it is none of the desk's.
-export function readAnswer(status, body) {
-  let told;
+function jsonOf(body) {
   try {
-    told = JSON.parse(body);
+    const told = JSON.parse(body);
+    return told !== null && typeof told === "object" ? told : {};
   } catch {
-    return null;
+    return {};
   }
-  if (told === null || typeof told !== "object") return null;
+}
+
+// A whole answer by its status and body: a reply, a refusal, a fault or a status of the desk's; `strange`, with its status, where it is none of these.
+export function readAnswer(status, body) {
+  const told = jsonOf(body);
   if (status === 200 && typeof told.reply === "string") {
     const reply = readReply(told.reply);
-    return reply && { reply, text: told.reply };
+    return reply ? { reply, text: told.reply } : { strange: status };
   }
   if ((status === 403 || status === 409) && Number.isInteger(told.refusal)) return { refusal: told.refusal };
   if (status === 503 && Number.isInteger(told.fault)) return { fault: told.fault };
   if ([400, 404, 405, 413].includes(status) && told.status === status) return { status };
-  return null;
+  return { strange: status };
 }
 
 // The days from one day to another, each written as 2026-03-09.

@@ -81,6 +81,7 @@ export const TEXTS = {
   refused: "Refused ({number}): {meaning}.",
   faulted: "The desk met a fault ({number}): {meaning}. Send it again later: it acts once.",
   notTaken: "The desk did not take this (status {number}).",
+  strange: "An answer came that is not the desk's, or that this page can't read (status {number}). Whether it was done is not known.",
   unknown: "Not known yet: no answer came. It is sent again under the same key, and acts once.",
   sending: "Sending …",
   sendAgain: "Send again",

@@ -53,6 +53,13 @@ is(readPage("patron 1 owed 0 name Ann Bell").loans, []);
 // a title may have a form of a line in it
 is(readPage("patron 1 owed 0 name X\nhold 1 at 1 waiting title 2 from 2026-01-01 title 3 Y").holds[0].text, "from 2026-01-01 title 3 Y");
 
+// lines are cut at a newline alone: a name or title may have any other character
+for (const odd of ["A\u2028B", "A\u2029B", "A\u0085B", "\u{1f41d} Bees"]) {
+  is(readReply(`patron 1 owed 0 name ${odd}\nloan 1 due 2026-03-09 renewals 0 title 2 ${odd}\nhold 1 at 1 ready title 3 ${odd}`).name, odd);
+  is(readPage(`patron 1 owed 0 name X\nloan 1 due 2026-03-09 renewals 0 title 2 ${odd}`).loans[0].text, odd);
+  is(readReply(`copy 10 home 1 kind 1 price 2500 title 100 ${odd}\nloan 1 due 2026-03-09 patron 1 ${odd}`).lines.length, 2);
+}
+
 // ---- what a question is shown
 const asked = [
   "copy 10 home 1 kind 1 price 2500 title 100 Rivers of the North\nshelf 1",
@@ -85,8 +92,8 @@ is(readAnswer(403, '{"refusal":81}'), { refusal: 81 });
 is(readAnswer(409, '{"refusal":36}'), { refusal: 36 });
 is(readAnswer(503, '{"fault":92}'), { fault: 92 });
 for (const status of [400, 404, 405, 413]) is(readAnswer(status, `{"status":${status}}`), { status });
-for (const [status, body] of [[200, "ok"], [200, '{"reply":"what"}'], [502, "<html>"], [503, "<html>"], [503, '{"reply":"ok"}'], [200, "null"], [400, '{"status":404}'], [500, '{"fault":91}']]) {
-  is(readAnswer(status, body), null);
+for (const [status, body] of [[200, "ok"], [200, '{"reply":"what"}'], [403, "<html>"], [502, "<html>"], [503, "<html>"], [503, '{"reply":"ok"}'], [200, "null"], [400, '{"status":404}'], [500, '{"fault":91}']]) {
+  is(readAnswer(status, body), { strange: status });
 }
 
 // ---- words and amounts
@@ -124,24 +131,54 @@ class Kept {
   setItem(name, text) { this.all.set(name, text); }
   removeItem(name) { this.all.delete(name); }
 }
-const sent = [];
-const answers = [null, { status: 502, text: "<html>" }, { status: 200, text: '{"reply":"loan 1 due 2026-03-09"}' }];
-globalThis.fetch = async (path, { headers, body }) => {
-  sent.push([path, headers["Request-Key"], headers["Desk-Key"], body]);
-  const answer = answers[sent.length - 1];
-  if (!answer) throw new TypeError("no network");
-  return { status: answer.status, text: async () => answer.text };
-};
+let sent = [];
+// the network: each answer comes after some milliseconds; null is none
+function network(answers) {
+  sent = [];
+  globalThis.fetch = async (path, { headers, body, signal }) => {
+    const [milliseconds, status, text] = answers[sent.length] ?? [60_000];
+    sent.push([path, headers["Request-Key"], headers["Desk-Key"], body]);
+    await new Promise((done, failed) => {
+      const timer = setTimeout(done, milliseconds);
+      signal?.addEventListener("abort", () => { clearTimeout(timer); failed(new Error("aborted")); });
+    });
+    if (status === null) throw new TypeError("no network");
+    return { status, text: async () => { if (text === null) throw new TypeError("cut off"); return text; } };
+  };
+}
 const kept = new Kept();
 const door = new Door("desk", kept);
 const request = { method: "POST", path: "/desk", keyField: "Desk-Key", keyValue: "deskkey00001", requestKey: newKey(), body: '["renew","1"]' };
 let unknown = 0;
-const first = door.ask(request, () => { unknown += 1; }, [1]);
+const notKnown = () => { unknown += 1; };
+network([[0, null], [0, 502, "<html>"], [0, 200, null], [5, 200, '{"reply":"loan 1 due 2026-03-09"}']]);
+const first = door.ask(request, notKnown, [1]);
 is(await door.ask({ ...request, requestKey: newKey() }, () => {}, [1]), null);
 is(door.left(), request);
 is((await first).reply, { kind: "lent", loan: 1, due: "2026-03-09" });
-is(unknown, 2);
-is(sent, Array(3).fill(["/desk", request.requestKey, "deskkey00001", '["renew","1"]']));
-is(door.left(), null);
+is(unknown, 3);
+is(sent, Array(4).fill(["/desk", request.requestKey, "deskkey00001", '["renew","1"]']));
+is([door.left(), door.isBusy], [null, false]);
+
+// ---- an answer that came and isn't understood ends the request, with its status
+for (const [status, body] of [[403, "<html>403 Forbidden</html>"], [200, '{"reply":"what"}'], [429, ""], [500, "<html>"]]) {
+  network([[0, status, body]]);
+  unknown = 0;
+  is(await door.ask(request, notKnown, [1]), { strange: status });
+  is([unknown, sent.length, door.left()], [0, 1, null]);
+}
+
+// ---- who leaves takes along what is on its way, whose answer nobody is shown
+for (const answers of [[[60_000, 200, "{}"]], [[0, null]]]) {
+  network(answers);
+  const going = door.ask(request, notKnown, [60_000]);
+  await new Promise((done) => setTimeout(done, 5));
+  is([door.leave(), door.isBusy, kept.all.size], [true, false, 0]);
+  network([[0, 200, '{"reply":"ok"}']]);
+  const next = door.ask({ ...request, requestKey: newKey() }, notKnown, [1]);
+  is(await going, null);
+  is((await next).reply, { kind: "done" });
+}
+is(door.leave(), false);
 is(/^[a-z0-9]{24}$/.test(newKey()) && newKey() !== newKey(), true);
 console.log(`pages: ${tried} tried`);

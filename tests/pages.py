@@ -13,7 +13,7 @@ import sys
 from outer_forms import WORDS
 
 TOP = os.path.dirname(os.path.dirname(os.path.abspath(__file__)))
-MODULES = 99  # how many comparisons tests/pages.mjs makes
+MODULES = 127  # how many comparisons tests/pages.mjs makes
 
 
 def read(path):
