@@ -31,10 +31,16 @@ async function send(request, signal) {
   return answer && NO_ANSWER.includes(answer.strange) ? null : answer;
 }
 
+// Waits for some milliseconds, or until the signal ends it.
 function wait(milliseconds, signal) {
   return new Promise((done) => {
-    const timer = setTimeout(done, milliseconds);
-    signal?.addEventListener("abort", () => { clearTimeout(timer); done(); }, { once: true });
+    const end = () => {
+      clearTimeout(timer);
+      signal?.removeEventListener("abort", end);
+      done();
+    };
+    const timer = setTimeout(end, milliseconds);
+    signal?.addEventListener("abort", end);
   });
 }
 

@@ -4,6 +4,7 @@ import { readAnswer, readReply, readPage, daysBetween } from "../pages/replies.j
 import { centsOf, commandBegun, holdBody, isCommand, isNumber, wordsOf } from "../pages/commands.js";
 import { Door, newKey } from "../pages/asking.js";
 import { TEXTS, amount, say } from "../pages/texts.js";
+import { Kept, network } from "./network.mjs";
 
 let tried = 0;
 function is(one, other) {
@@ -125,33 +126,12 @@ is(holdBody("100", "1", ""), '{"branch":1,"title":100}');
 is(holdBody("100", "1", "2026-03-05"), '{"branch":1,"from":"2026-03-05","title":100}');
 
 // ---- a request goes out under one key until an answer comes, and a second one waits
-class Kept {
-  constructor() { this.all = new Map(); }
-  getItem(name) { return this.all.get(name) ?? null; }
-  setItem(name, text) { this.all.set(name, text); }
-  removeItem(name) { this.all.delete(name); }
-}
-let sent = [];
-// the network: each answer comes after some milliseconds; null is none
-function network(answers) {
-  sent = [];
-  globalThis.fetch = async (path, { headers, body, signal }) => {
-    const [milliseconds, status, text] = answers[sent.length] ?? [60_000];
-    sent.push([path, headers["Request-Key"], headers["Desk-Key"], body]);
-    await new Promise((done, failed) => {
-      const timer = setTimeout(done, milliseconds);
-      signal?.addEventListener("abort", () => { clearTimeout(timer); failed(new Error("aborted")); });
-    });
-    if (status === null) throw new TypeError("no network");
-    return { status, text: async () => { if (text === null) throw new TypeError("cut off"); return text; } };
-  };
-}
 const kept = new Kept();
 const door = new Door("desk", kept);
 const request = { method: "POST", path: "/desk", keyField: "Desk-Key", keyValue: "deskkey00001", requestKey: newKey(), body: '["renew","1"]' };
 let unknown = 0;
 const notKnown = () => { unknown += 1; };
-network([[0, null], [0, 502, "<html>"], [0, 200, null], [5, 200, '{"reply":"loan 1 due 2026-03-09"}']]);
+let sent = network([[0, null], [0, 502, "<html>"], [0, 200, null], [5, 200, '{"reply":"loan 1 due 2026-03-09"}']]);
 const first = door.ask(request, notKnown, [1]);
 is(await door.ask({ ...request, requestKey: newKey() }, () => {}, [1]), null);
 is(door.left(), request);
@@ -162,7 +142,7 @@ is([door.left(), door.isBusy], [null, false]);
 
 // ---- an answer that came and isn't understood ends the request, with its status
 for (const [status, body] of [[403, "<html>403 Forbidden</html>"], [200, '{"reply":"what"}'], [429, ""], [500, "<html>"]]) {
-  network([[0, status, body]]);
+  sent = network([[0, status, body]]);
   unknown = 0;
   is(await door.ask(request, notKnown, [1]), { strange: status });
   is([unknown, sent.length, door.left()], [0, 1, null]);

@@ -1,6 +1,6 @@
 #!/usr/bin/env python3
 """Compares the pages for browsers with the program: the meanings of numbers and the table of commands stand in both, the pages name nothing that
-isn't theirs, and the modules that read replies are run on every form.
+isn't theirs, the modules that read replies are run on every form, and the work of a desk is done as fast as the fastest hand, over the slowest network.
 
     tests/pages.py
 """
@@ -13,7 +13,7 @@ import sys
 from outer_forms import WORDS
 
 TOP = os.path.dirname(os.path.dirname(os.path.abspath(__file__)))
-MODULES = 127  # how many comparisons tests/pages.mjs makes
+MODULES = {"pages": 127, "hands": 44}  # how many comparisons the modules of these names make
 
 
 def read(path):
@@ -35,6 +35,17 @@ def commands():
     program = [(name, [parts[it] for it in re.findall(r"\w+", inside)]) for name, inside in re.findall(r'name: "([^"]*)",\s*parts: &\[([^]]*)\]', form)]
     page = [(name, re.findall(r'"([^"]*)"', inside)) for name, inside in re.findall(r'^  "([^"]*)": \[([^]]*)\],$', read("pages/commands.js"), re.MULTILINE)]
     return program, page
+
+
+def loaded(script):
+    """A script of a page, and those that it loads."""
+    found, left = [], [script]
+    while left:
+        name = left.pop()
+        if name not in found:
+            found.append(name)
+            left += re.findall(r'from "\./([^"]*)"', read(f"pages/{name}"))
+    return found
 
 
 def main():
@@ -66,21 +77,22 @@ def main():
             same(f"{name} names {file}", os.path.exists(os.path.join(TOP, "pages", file)), True)
         ids = re.findall(r'\sid="([^"]*)"', text)
         same(f"{name} has an id twice", len(ids), len(set(ids)))
-        script = read(f"pages/{name[:-5]}.js")
-        same(f"the ids that {name[:-5]}.js names", sorted(set(re.findall(r'\bit\("([^"]*)"\)', script)) - set(ids)), [])
+        for script in loaded(f"{name[:-5]}.js"):
+            same(f"the ids of {name} that {script} names", sorted(set(re.findall(r'\bit\("([^"]*)"\)', read(f"pages/{script}"))) - set(ids)), [])
     known = set(re.findall(r"^  (\w+):", read("pages/texts.js"), re.MULTILINE))
     for name in scripts:
         same(f"the texts that {name} names", sorted(set(re.findall(r"TEXTS\.(\w+)", read(f"pages/{name}"))) - known), [])
-    used = set(re.findall(r'TEXTS\.(\w+)|data-text="(\w+)"', "".join(read(f"pages/{name}") for name in ("patron.html", "patron.js", "desk.html", "desk.js"))))
+    used = set(re.findall(r'TEXTS\.(\w+)|data-text="(\w+)"', "".join(read(f"pages/{name}") for name in names if not name.endswith(".css"))))
     used = {name for names in used for name in names if name}
     texts = set(re.findall(r'^  ([a-zA-Z]\w*): "', read("pages/texts.js"), re.MULTILINE))
     same("the texts that pages show", sorted(used), sorted(texts))
 
-    done = subprocess.run(["node", os.path.join(TOP, "tests", "pages.mjs")], capture_output=True, text=True, timeout=60, check=False)
-    same("the modules", (done.returncode, done.stdout, done.stderr[-2000:]), (0, f"pages: {MODULES} tried\n", ""))
+    for name, tried in MODULES.items():
+        done = subprocess.run(["node", os.path.join(TOP, "tests", f"{name}.mjs")], capture_output=True, text=True, timeout=60, check=False)
+        same(f"the modules by tests/{name}.mjs", (done.returncode, done.stdout, done.stderr[-2000:]), (0, f"{name}: {tried} tried\n", ""))
     for line in wrong:
         print(line)
-    print(f"pages: {compared} compared, {MODULES} tried by the modules, {len(wrong)} differ")
+    print(f"pages: {compared} compared, {sum(MODULES.values())} tried by the modules, {len(wrong)} differ")
     return 1 if wrong else 0
 
 

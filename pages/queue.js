@@ -1,0 +1,72 @@
+// What waits to be sent: taken at once, sent one after another in its order, none dropped and none merged. What doesn't succeed stops the queue, and the
+// clerk says how it goes on. It is kept for the session of the tab, so that a tab that is loaded anew goes on with it.
+
+export class Queue {
+  // `handle` sends an item and says how it ended: "done"; "stop"; "told", which stops only where others wait; or "again" where the item stays, to be sent again
+  // under its key. `changed` shows the queue, and `form` makes of a waiting item what is kept of it.
+  constructor(handle, changed, { storage, name = "circ.queue", form = (item) => item }) {
+    Object.assign(this, { handle, changed, storage, name, form });
+    const left = JSON.parse(storage.getItem(name) ?? "{}");
+    this.current = null;
+    this.held = left.held ?? null;
+    this.isStopped = left.isStopped ?? false;
+    this.waiting = [...(left.current ? [left.current] : []), ...(left.waiting ?? [])];
+  }
+
+  add(item) {
+    this.waiting.push(item);
+    this.run();
+  }
+
+  // Sends what waits, without the item that stopped the queue.
+  sendOn() {
+    this.held = null;
+    this.isStopped = false;
+    this.run();
+  }
+
+  // Sends the item that stopped the queue again, and then what waits.
+  sendAgain() {
+    if (this.held) this.waiting.unshift(this.held);
+    this.sendOn();
+  }
+
+  throwAway() {
+    this.waiting = [];
+    this.sendOn();
+  }
+
+  // Nothing more is sent, shown or kept; an answer that still comes changes nothing.
+  end() {
+    this.waiting = [];
+    this.isStopped = true;
+    this.changed = () => {};
+    this.keep = () => {};
+    this.storage.removeItem(this.name);
+  }
+
+  keep() {
+    const { current, held, isStopped } = this;
+    this.storage.setItem(this.name, JSON.stringify({ current, held, isStopped, waiting: this.waiting.map(this.form) }));
+  }
+
+  show() {
+    this.keep();
+    this.changed();
+  }
+
+  async run() {
+    if (this.current || this.isStopped || this.waiting.length === 0) return this.show();
+    this.current = this.waiting.shift();
+    this.show();
+    let outcome = "again";
+    try {
+      outcome = await this.handle(this.current);
+    } finally {
+      this.isStopped ||= outcome === "stop" || outcome === "again" || (outcome === "told" && this.waiting.length > 0);
+      this.held = outcome === "again" ? this.current : null;
+      this.current = null;
+    }
+    return this.run();
+  }
+}

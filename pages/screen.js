@@ -1,0 +1,55 @@
+// What the desk's page shows.
+
+import { labelOf } from "./saying.js";
+import { soundAlarm } from "./sound.js";
+import { TEXTS, say } from "./texts.js";
+import { wanted } from "./scans.js";
+
+const MOST = 20;
+export const it = (id) => document.getElementById(id);
+
+export function mode() {
+  return document.querySelector("input[name=mode]:checked").value;
+}
+
+export function tell(text, isWrong = false) {
+  it("told").textContent = text;
+  it("told").classList.toggle("wrong", isWrong);
+  if (isWrong) soundAlarm();
+}
+
+function line(text) {
+  const made = document.createElement("li");
+  made.textContent = text;
+  return made;
+}
+
+// Notes what was sent, with what was told and the lines that follow it, above what was noted before.
+export function note(what, text, lines) {
+  it("last").prepend(line(`${what}: ${text}`), ...lines.map(line));
+  while (it("last").children.length > MOST) it("last").lastElementChild.remove();
+}
+
+// Shows what is sent and what waits, and what the clerk can do where the queue stands still.
+export function showWaiting(queue) {
+  const shown = [...(queue.current ? [say(TEXTS.isSent, { what: labelOf(queue.current) })] : []), ...queue.waiting.map(labelOf)];
+  const waits = queue.waiting.length > 0;
+  it("waiting").replaceChildren(...shown.map(line));
+  it("queue").hidden = !waits && !queue.isStopped;
+  it("stopped").hidden = !queue.isStopped;
+  it("again").hidden = queue.held === null;
+  it("send-on").textContent = waits ? TEXTS.sendOn : TEXTS.goOn;
+  it("throw-away").hidden = !waits;
+}
+
+export function showWanted(patron) {
+  const asked = {
+    patron: TEXTS.askPatron,
+    loan: TEXTS.askLoan,
+    copy: patron === null || mode() === "check-in" ? TEXTS.askCopyIn : TEXTS.askCopy,
+    amount: TEXTS.askAmount,
+    title: TEXTS.askTitle,
+  }[wanted(mode(), patron)];
+  it("asked").textContent = say(asked, { patron });
+  it("next").hidden = patron === null;
+}

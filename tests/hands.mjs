@@ -1,0 +1,202 @@
+// The work of a desk as fast as the fastest hand, over the slowest network: run by tests/pages.py.
+import { deepStrictEqual as same } from "node:assert";
+import { askUntilAnswered } from "../pages/asking.js";
+import { labelOf } from "../pages/saying.js";
+import { TEXTS } from "../pages/texts.js";
+import { Work } from "../pages/work.js";
+import { Kept, network } from "./network.mjs";
+
+let tried = 0;
+function is(one, other) {
+  same(one, other);
+  tried += 1;
+}
+
+const reply = (text, milliseconds = 5) => [milliseconds, 200, JSON.stringify({ reply: text })];
+const refusal = (number, milliseconds = 5) => [milliseconds, number === 81 ? 403 : 409, JSON.stringify({ refusal: number })];
+const fault = (number) => [5, 503, JSON.stringify({ fault: number })];
+
+// A desk of branch 1 in a tab, and what its screen was told.
+function desk(storage = new Kept()) {
+  const leaving = new AbortController();
+  const told = [], noted = [];
+  let unknown = 0, waiting = [], wanted = null;
+  const ask = (words, requestKey) => askUntilAnswered(
+    { method: "POST", path: "/desk", keyField: "Desk-Key", keyValue: "deskkey00001", requestKey, body: JSON.stringify(words) },
+    () => { unknown += 1; }, { signal: leaving.signal, pauses: [1] });
+  const screen = {
+    sending: () => {},
+    told: (text, isWrong = false) => told.push([text, isWrong]),
+    noted: (what, text) => noted.push(`${what}: ${text}`),
+    waiting: (queue) => { waiting = queue.waiting.map(labelOf); },
+    wanted: (patron) => { wanted = patron; },
+  };
+  const work = new Work({ branch: "1", ask, screen, storage });
+  return { work, told, noted, storage, leaving, unknown: () => unknown, waiting: () => waiting, wanted: () => wanted };
+}
+
+async function until(holds) {
+  for (let at = 0; at < 2000; at += 1) {
+    if (holds()) return;
+    await new Promise((done) => setTimeout(done, 1));
+  }
+  throw new Error(`never: ${holds}`);
+}
+
+const isQuiet = ({ work: { queue } }) => queue.current === null && (queue.isStopped || queue.waiting.length === 0);
+const bodies = (sent) => sent.map(([, , , body]) => JSON.parse(body).join(" "));
+const page = (patron, name) => `patron ${patron} owed 0 name ${name}`;
+
+// ---- a card and two copies, before the first answer comes: three requests, in order, none glued to another
+let sent = network([reply(page(4, "Di Eck"), 40), reply("loan 1 due 2026-03-09", 40), reply("loan 2 due 2026-03-09", 40)]);
+let it = desk();
+for (const scan of ["4", "31", "32"]) it.work.scan("check-out", scan);
+is(it.waiting(), ["copy 31, patron 4", "copy 32, patron 4"]);
+is(it.wanted(), 4);
+await until(() => isQuiet(it));
+is(bodies(sent), ["page 4", "check-out 4 31 1", "check-out 4 32 1"]);
+is(new Set(sent.map(([, key]) => key)).size, 3);
+is([it.unknown(), it.waiting(), it.work.queue.isStopped], [0, [], false]);
+
+// ---- fifty scans at once, over a network that loses answers, cuts them off and tells 502: each is done once, in its order
+let lost = 0;
+sent = network((body, at) => {
+  if (at % 3 !== 2) { lost += 1; return [[0, null], [0, 502, "<html>"], [0, 200, null]][at % 2 + (at % 5 === 0 ? 1 : 0)]; }
+  return reply("fine 0 shelf 1", 0);
+});
+it = desk();
+for (let copy = 1; copy <= 50; copy += 1) it.work.scan("check-in", String(copy));
+is(it.waiting().length, 49);
+await until(() => isQuiet(it));
+const keys = [...new Map(sent.map(([, key, , body]) => [key, body])).values()];
+is(keys.map((body) => JSON.parse(body)[1]), Array.from({ length: 50 }, (_, at) => String(at + 1)));
+is([lost, it.unknown(), sent.length], [100, 100, 150]);
+is(it.noted.length, 50);
+
+// ---- 10, 1, 1 scanned in are three copies, and never an eleventh
+sent = network(() => reply("fine 0 shelf 1", 10));
+it = desk();
+for (const scan of ["10", "1", "1"]) it.work.scan("check-in", scan);
+await until(() => isQuiet(it));
+is(bodies(sent), ["check-in 10 1", "check-in 1 1", "check-in 1 1"]);
+is(new Set(sent.map(([, key]) => key)).size, 3);
+
+// ---- a refusal stops the queue, and says so; what waits is sent on, or thrown away
+for (const [answer, text] of [[refusal(36), "Refused (36): another patron stands in line."], [[5, 400, '{"status":400}'], "The desk did not take this (status 400)."]]) {
+  sent = network([reply(page(4, "Di Eck")), answer, ...[1, 2, 3].map((loan) => reply(`loan ${loan} due 2026-03-09`))]);
+  it = desk();
+  for (const scan of ["4", "31", "32", "33"]) it.work.scan("check-out", scan);
+  await until(() => isQuiet(it));
+  is([it.work.queue.isStopped, it.work.queue.held, it.waiting()], [true, null, ["copy 32, patron 4", "copy 33, patron 4"]]);
+  is(it.told.at(-1), [text, true]);
+  it.work.scan("check-out", "34");
+  is([it.waiting(), sent.length], [["copy 32, patron 4", "copy 33, patron 4", "copy 34, patron 4"], 2]);
+  it.work.queue.sendOn();
+  await until(() => isQuiet(it));
+  is(bodies(sent).slice(2), ["check-out 4 32 1", "check-out 4 33 1", "check-out 4 34 1"]);
+}
+sent = network([refusal(13), reply("fine 0 shelf 1")]);
+it = desk();
+for (const scan of ["1", "2", "3"]) it.work.scan("check-in", scan);
+await until(() => isQuiet(it));
+it.work.queue.throwAway();
+is([it.waiting(), it.work.queue.isStopped], [[], false]);
+it.work.scan("check-in", "4");
+await until(() => isQuiet(it));
+is(bodies(sent), ["check-in 1 1", "check-in 4 1"]);
+
+// ---- a fault, or an answer that isn't understood, stops it likewise: the same is sent again under its key, before what waits
+for (const [answer, text] of [[fault(91), /^The desk met a fault \(91\): /], [[5, 403, "<html>"], /status 403/], [[5, 200, '{"reply":"what"}'], /status 200/]]) {
+  sent = network([answer, reply("fine 0 shelf 1"), reply("fine 0 shelf 1")]);
+  it = desk();
+  for (const scan of ["1", "2"]) it.work.scan("check-in", scan);
+  await until(() => isQuiet(it));
+  is([it.work.queue.isStopped, sent.length, it.unknown(), text.test(it.told.at(-1)[0]), it.told.at(-1)[1]], [true, 1, 0, true, true]);
+  it.work.queue.sendAgain();
+  await until(() => isQuiet(it));
+  is(bodies(sent), ["check-in 1 1", "check-in 1 1", "check-in 2 1"]);
+  is([sent[0][1] === sent[1][1], sent[1][1] === sent[2][1]], [true, false]);
+}
+
+// ---- a refused patron doesn't become the current one, nor does what was scanned for that card go to anybody else
+sent = network(() => refusal(11));
+it = desk();
+for (const scan of ["44", "31"]) it.work.scan("check-out", scan);
+await until(() => isQuiet(it));
+is([it.work.visit, it.work.expected, it.wanted()], [null, null, null]);
+is(it.waiting(), ["copy 31, patron 44"]);
+it.work.queue.sendOn();
+await until(() => isQuiet(it));
+is(bodies(sent), ["page 44", "page 44"]);
+it.work.queue.throwAway();
+sent = network(() => reply(page(4, "Di Eck")));
+it.work.scan("check-out", "4");
+await until(() => isQuiet(it));
+is([it.work.visit.name, it.work.expected], ["Di Eck", 4]);
+
+// ---- what isn't a number is told in its turn, and stops what follows it
+sent = network(() => reply("fine 0 shelf 1"));
+it = desk();
+for (const scan of ["1", "3x2", "3"]) it.work.scan("check-in", scan);
+await until(() => isQuiet(it));
+is([bodies(sent), it.waiting(), it.told.at(-1)[1]], [["check-in 1 1"], ["copy 3"], true]);
+it.work.queue.sendOn();
+await until(() => isQuiet(it));
+is(bodies(sent), ["check-in 1 1", "check-in 3 1"]);
+
+// ---- the next patron begins where the clerk says so, also while the one before is still being served
+sent = network((body) => (JSON.parse(body)[0] === "page" ? reply(page(JSON.parse(body)[1], "X"), 10) : reply("loan 1 due 2026-03-09", 10)));
+it = desk();
+for (const scan of ["4", "31"]) it.work.scan("check-out", scan);
+it.work.nextPatron();
+for (const scan of ["5", "32"]) it.work.scan("check-out", scan);
+await until(() => isQuiet(it));
+is(bodies(sent), ["page 4", "check-out 4 31 1", "page 5", "check-out 5 32 1"]);
+
+// ---- a tab that is loaded anew goes on: what was on its way first, under its key, and then what waits
+sent = network([[0, null], [60_000]]);
+it = desk();
+for (const scan of ["1", "2", "3"]) it.work.scan("check-in", scan);
+await until(() => sent.length === 2);
+const [, keyBefore] = sent[0];
+const anew = desk(it.storage);
+sent = network(() => reply("fine 0 shelf 1"));
+anew.work.queue.run();
+await until(() => isQuiet(anew));
+is(bodies(sent), ["check-in 1 1", "check-in 2 1", "check-in 3 1"]);
+is(sent[0][1], keyBefore);
+// and where it stood still it stands still, and shows what waits
+sent = network(() => refusal(13));
+it = desk();
+for (const scan of ["1", "2"]) it.work.scan("check-in", scan);
+await until(() => isQuiet(it));
+const still = desk(it.storage);
+still.work.queue.run();
+is([still.work.queue.isStopped, still.waiting(), sent.length], [true, ["copy 2"], 1]);
+
+// ---- a refusal of typed words stops what waits, and nothing else; a card key is shown and kept in no list
+sent = network([refusal(17), reply("ok")]);
+it = desk();
+it.work.words(["patron", "7", "1", "cardkey00007", "Gil Hay"]);
+await until(() => isQuiet(it));
+is([it.work.queue.isStopped, it.noted], [false, ["patron 7 1 … Gil Hay: Refused (17): unknown kind of patron."]]);
+sent = network([[60_000]]);
+it.work.scan("check-in", "1");
+it.work.words(["patron", "7", "1", "cardkey00007", "Gil Hay"]);
+is([it.waiting(), JSON.stringify([...it.storage.all]).includes("cardkey00007")], [["patron 7 1 … Gil Hay"], false]);
+const later = desk(it.storage);
+sent = network(() => reply("fine 0 shelf 1"));
+later.work.queue.run();
+await until(() => isQuiet(later));
+is([bodies(sent), later.told.at(-1)], [["check-in 1 1"], [TEXTS.cardKeyNotKept, true]]);
+
+// ---- once the desk is closed nothing more is sent, shown or kept
+sent = network([[60_000]]);
+it = desk();
+for (const scan of ["1", "2"]) it.work.scan("check-in", scan);
+it.leaving.abort();
+it.work.queue.end();
+const before = it.noted.length;
+await new Promise((done) => setTimeout(done, 5));
+is([sent.length, it.noted.length - before, it.storage.all.size], [1, 0, 0]);
+console.log(`hands: ${tried} tried`);
