@@ -1,0 +1,119 @@
+#!/usr/bin/python3
+"""The pages in Chromium as fast as the fastest hand, before a server whose answers are slow, odd or none, as the test makes them. It is no part of the gate:
+`tests/outside` runs it, with what it needs from the system's packages.
+
+    tests/browser_hands.py
+"""
+
+import os
+import sys
+
+from selenium.webdriver.common.keys import Keys
+
+from lib.browsing import Desk, Failed, Page, browser, complaints, counts, need, until
+from lib.fake_desk import NOTHING, FakeDesk, fault, refusal, reply
+
+TOP = os.path.dirname(os.path.dirname(os.path.abspath(__file__)))
+PAGE = {"1": "patron 1 owed 0 name Ann Bell", "4": "patron 4 owed 0 name Di Eck"}
+
+
+def answers(table, seconds=0.0):
+    """Answers by the words that a request begins with; each list is used up to its last, which stays."""
+    left = {words: list(found) if isinstance(found, list) else [found] for words, found in table.items()}
+
+    def answer(what):
+        for words, found in left.items():
+            if what == words or what.startswith(f"{words} "):
+                told = found.pop(0) if len(found) > 1 else found[0]
+                return (max(told[0], seconds), *told[1:]) if told else NOTHING
+        if what.startswith("page ") and what.split()[1] in PAGE:
+            return reply(PAGE[what.split()[1]], seconds)
+        return refusal(13, seconds)
+    return answer
+
+
+def fast_scans(driver, fake):
+    """A card and two copies are scanned before the first answer comes, and copies come in as fast as keys can be sent."""
+    desk = Desk(driver, fake.url, 1)
+    fake.says(answers({"check-out 4 31": reply("loan 1 due 2026-03-09"), "check-out 4 32": reply("loan 2 due 2026-03-09")}, 0.4))
+    desk.keys("4", Keys.ENTER, "31", Keys.ENTER, "32", Keys.ENTER)
+    need("the line is empty at once", desk.it("scan").get_attribute("value"), "")
+    need("what waits is shown", desk.items("waiting"), ["patron 4 (sending)", "copy 31, patron 4", "copy 32, patron 4"])
+    until("both are lent", lambda: "Loan 2" in desk.told())
+    need("what was sent", [it for it in fake.words() if it.startswith("check-out")], ["check-out 4 31 1", "check-out 4 32 1"])
+    until("nothing waits", lambda: not desk.it("queue").is_displayed())
+    desk.mode("check-in")
+    fake.says(answers({"check-in": reply("fine 0 shelf 1")}, 0.2))
+    desk.keys(*[key for scan in ("10", "1", "1", "2", "3") for key in (scan, Keys.ENTER)])
+    until("all came in", lambda: len([it for it in fake.words() if it.startswith("check-in")]) == 5)
+    need("each by itself", [it for it in fake.words() if it.startswith("check-in")], [f"check-in {it} 1" for it in (10, 1, 1, 2, 3)])
+
+
+def refused_scans(driver, fake):
+    """A refusal stops what waits, loudly; the clerk sends it on or throws it away."""
+    desk = Desk(driver, fake.url, 1)
+    driver.execute_script("window.notes = 0; const start = OscillatorNode.prototype.start; OscillatorNode.prototype.start = function (at) { window.notes += 1; return start.call(this, at); }")
+    fake.says(answers({"check-in 2": refusal(13), "check-in 5": refusal(13), "check-in": reply("fine 0 shelf 1")}, 0.1))
+    desk.mode("check-in")
+    desk.keys("1", Keys.ENTER, "2", Keys.ENTER, "3", Keys.ENTER, "4", Keys.ENTER)
+    until("a refusal", lambda: desk.told() == "Refused (13): unknown copy.")
+    need("it looks like one, and is heard", (desk.is_wrong(), driver.execute_script("return window.notes") > 0), (True, True))
+    need("a screen reader is told at once", desk.it("told").get_attribute("aria-live"), "assertive")
+    until("what waits stays", lambda: desk.items("waiting") == ["copy 3", "copy 4"])
+    desk.keys("6", Keys.ENTER)
+    need("what is scanned meanwhile waits too", (desk.items("waiting"), [it for it in fake.words() if it.startswith("check-in")]), (["copy 3", "copy 4", "copy 6"], ["check-in 1 1", "check-in 2 1"]))
+    desk.it("send-on").click()
+    need("the next scan goes to its line", desk.focus(), "scan")
+    until("it goes on", lambda: "check-in 6 1" in fake.words())
+    # without the sound, and thrown away
+    desk.it("sound").click()
+    driver.execute_script("window.notes = 0")
+    desk.keys("5", Keys.ENTER, "7", Keys.ENTER)
+    until("a refusal", lambda: desk.is_wrong() and desk.items("waiting") == ["copy 7"])
+    need("no sound", driver.execute_script("return window.notes"), 0)
+    desk.it("throw-away").click()
+    desk.keys("8", Keys.ENTER)
+    until("what comes later is sent", lambda: "check-in 8 1" in fake.words())
+    need("what was thrown away isn't", "check-in 7 1" in fake.words(), False)
+    desk.it("sound").click()
+
+
+def unread_answers(driver, fake):
+    """An answer that came and isn't understood is told with its status; only where none came the same is sent again, under its key."""
+    desk = Desk(driver, fake.url, 1)
+    desk.mode("check-in")
+    fake.says(answers({"check-in": [(0.0, 403, "<html>403 Forbidden</html>"), NOTHING, (0.0, 502, "<html>"), reply("fine 0 shelf 1")]}))
+    desk.keys("1", Keys.ENTER)
+    until("it is told", lambda: "(status 403)" in desk.told() and desk.is_wrong())
+    need("it is asked once", len(fake.sent), 1)
+    desk.it("again").click()
+    until("in the end it came in", lambda: "To the shelf" in desk.told())
+    checked = [key for what, key in fake.sent if what.startswith("check-in")]
+    need("under one key", (len(checked), len(set(checked))), (4, 1))
+    fake.says(answers({"page 9": reply("patron 9 owed 0 name Ida\u2028Jo")}))
+    desk.mode("check-out")
+    desk.keys("9", Keys.ENTER)
+    until("a name with any character", lambda: "Jo" in desk.told() and not desk.is_wrong())
+
+
+PARTS = (fast_scans, refused_scans, unread_answers)
+
+
+def main():
+    chosen = [part for part in PARTS if part.__name__ in sys.argv[1:]] or PARTS
+    driver, fake = browser(), FakeDesk(os.path.join(TOP, "pages"))
+    try:
+        for part in chosen:
+            fake.says(answers({}))
+            part(driver, fake)
+            need(f"what the browser complains of in {part.__name__}", complaints(driver), [])
+    finally:
+        driver.quit()
+    print(f"the pages in Chromium by fast hands: {counts['compared']} compared, none differs")
+
+
+if __name__ == "__main__":
+    try:
+        main()
+    except Failed as failed:
+        sys.exit(f"browser_hands: {failed}")

@@ -1,0 +1,126 @@
+"""Chromium before the pages: what the tests in a browser have in common. It needs selenium and a driver, which tests/outside installs."""
+
+import time
+
+from selenium import webdriver
+from selenium.webdriver.chrome.service import Service
+from selenium.webdriver.common.by import By
+from selenium.webdriver.common.keys import Keys
+
+DESK_KEY = "deskkey00001"
+counts = {"compared": 0}
+
+
+class Failed(Exception):
+    """Something isn't as it should be."""
+
+
+def need(what, one, other):
+    counts["compared"] += 1
+    if one != other:
+        raise Failed(f"{what}: {one!r} is not {other!r}")
+
+
+def until(what, holds, seconds=30):
+    """Waits for a state."""
+    counts["compared"] += 1
+    for _ in range(seconds * 20):
+        if holds():
+            return
+        time.sleep(0.05)
+    raise Failed(f"never: {what}")
+
+
+def browser():
+    options = webdriver.ChromeOptions()
+    for it in ("--headless=new", "--no-sandbox", "--disable-gpu", "--ignore-certificate-errors", "--window-size=900,1000"):
+        options.add_argument(it)
+    options.set_capability("goog:loggingPrefs", {"browser": "ALL"})
+    return webdriver.Chrome(service=Service("/usr/bin/chromedriver"), options=options)
+
+
+def complaints(driver):
+    """What the browser says of the header of the pages, and of errors in their scripts."""
+    return [it["message"] for it in driver.get_log("browser") if "Content Security" in it["message"] or "Uncaught" in it["message"]]
+
+
+class Page:
+    """What both pages have: a place where answers are told."""
+
+    def __init__(self, driver, url, title):
+        self.driver = driver
+        driver.get(url)
+        driver.execute_script("sessionStorage.clear(); localStorage.clear()")
+        driver.refresh()
+        until("the texts", lambda: driver.title == title)
+
+    def it(self, name):
+        return self.driver.find_element(By.ID, name)
+
+    def told(self):
+        return self.it("told").text
+
+    def is_wrong(self):
+        return "wrong" in self.it("told").get_attribute("class").split()
+
+    def type(self, name, text):
+        self.it(name).clear()
+        self.it(name).send_keys(text)
+
+    def keys(self, *keys):
+        """Keys for whatever has the focus, one after another with no wait."""
+        self.driver.switch_to.active_element.send_keys(*keys)
+
+    def focus(self):
+        return self.driver.switch_to.active_element.get_attribute("id")
+
+    def items(self, name):
+        """The texts of a list."""
+        return self.driver.execute_script("return [...document.getElementById(arguments[0]).children].map((it) => it.innerText.replace(/\\s+/g, ' ').trim())", name)
+
+    def stored(self):
+        """What the session of the tab keeps."""
+        return self.driver.execute_script("return {...sessionStorage}")
+
+    def names(self):
+        """The names that a screen reader hears for fields and buttons, those shown."""
+        tree = self.driver.execute_cdp_cmd("Accessibility.getFullAXTree", {})["nodes"]
+        roles = ("textbox", "button", "radio", "combobox", "checkbox")
+        return [(it["role"]["value"], it.get("name", {}).get("value", "")) for it in tree if not it.get("ignored") and it["role"]["value"] in roles]
+
+    def width(self, pixels, height=640):
+        self.driver.execute_cdp_cmd("Emulation.setDeviceMetricsOverride", {"width": pixels, "height": height, "deviceScaleFactor": 1, "mobile": False})
+
+    def fits(self, pixels):
+        """At so many pixels nothing stands out at the side."""
+        self.width(pixels)
+        wide = self.driver.execute_script("return document.documentElement.scrollWidth")
+        self.driver.execute_cdp_cmd("Emulation.clearDeviceMetricsOverride", {})
+        return wide <= pixels
+
+
+class Desk(Page):
+    def __init__(self, driver, base, branch, key=DESK_KEY):
+        super().__init__(driver, f"{base}/pages/desk.html", "Circulation desk")
+        self.sign_in(branch, key)
+        until("the desk is open", lambda: self.it("desk").is_displayed())
+
+    def sign_in(self, branch, key):
+        self.type("desk-key", key)
+        self.type("branch", str(branch))
+        self.it("branch").send_keys(Keys.ENTER)
+
+    def mark(self):
+        """Marks what was noted last, so that the next note is told from it."""
+        self.driver.execute_script("const it = document.getElementById('last').firstElementChild; if (it) it.dataset.seen = 'yes'")
+
+    def is_noted(self):
+        return self.driver.execute_script("const it = document.getElementById('last').firstElementChild; return Boolean(it && !it.dataset.seen)")
+
+    def mode(self, value):
+        self.driver.find_element(By.CSS_SELECTOR, f"input[value={value}]").click()
+
+    def go_on(self):
+        """Where the queue stands still, the clerk lets it go on."""
+        if self.it("send-on").is_displayed():
+            self.it("send-on").click()

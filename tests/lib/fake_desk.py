@@ -1,0 +1,87 @@
+"""A server before the pages in tests: it hands out the pages with the header of docs/operations, and answers what they ask as a test says."""
+
+import json
+import os
+import threading
+import time
+from http.server import BaseHTTPRequestHandler, ThreadingHTTPServer
+
+TYPES = {".html": "text/html; charset=utf-8", ".js": "text/javascript", ".css": "text/css"}
+
+
+def reply(text, seconds=0.0):
+    return seconds, 200, json.dumps({"reply": text})
+
+
+def refusal(number, seconds=0.0):
+    return seconds, 403 if number == 81 else 409, json.dumps({"refusal": number})
+
+
+def fault(number, seconds=0.0):
+    return seconds, 503, json.dumps({"fault": number})
+
+
+NOTHING = None  # the connection is closed with no answer
+
+
+class FakeDesk:
+    """`answer(what)` gives seconds, a status and a body for the words of a desk's request, or for the method and the path of a patron's; `sent` is what came."""
+
+    def __init__(self, pages):
+        self.pages, self.sent, self.answer = pages, [], lambda what: (0.0, 404, json.dumps({"status": 404}))
+        handler = type("Handler", (Handler,), {"fake": self})
+        self.server = ThreadingHTTPServer(("127.0.0.1", 0), handler)
+        self.url = f"http://127.0.0.1:{self.server.server_address[1]}"
+        threading.Thread(target=self.server.serve_forever, daemon=True).start()
+
+    def says(self, answer):
+        """From now on this is answered, and what was sent before is forgotten."""
+        self.sent.clear()
+        self.answer = answer
+
+    def words(self):
+        return [what for what, _ in self.sent]
+
+    def keys(self):
+        return [key for _, key in self.sent]
+
+
+class Handler(BaseHTTPRequestHandler):
+    fake = None
+
+    def do_GET(self):
+        if self.path.startswith("/patrons/"):
+            return self.asked(f"GET {self.path}")
+        if not self.path.startswith("/pages/"):
+            return self.tell(404, b"", "text/html")
+        name = os.path.basename(self.path)
+        with open(os.path.join(self.fake.pages, name), "rb") as file:
+            return self.tell(200, file.read(), TYPES[os.path.splitext(name)[1]])
+
+    def do_POST(self):
+        body = self.rfile.read(int(self.headers["Content-Length"] or 0)).decode()
+        self.asked(" ".join(json.loads(body)) if self.path == "/desk" else f"POST {self.path} {body}".strip())
+
+    def asked(self, what):
+        self.fake.sent.append((what, self.headers["Request-Key"]))
+        answer = self.fake.answer(what)
+        if answer is NOTHING:
+            self.close_connection = True
+            return
+        time.sleep(answer[0])
+        self.tell(answer[1], answer[2].encode(), "application/json")
+
+    def tell(self, status, body, kind):
+        try:
+            self.send_response(status)
+            self.send_header("Content-Type", kind)
+            self.send_header("Content-Length", str(len(body)))
+            self.send_header("Content-Security-Policy", "default-src 'self'")
+            self.send_header("Cache-Control", "no-store")
+            self.end_headers()
+            self.wfile.write(body)
+        except ConnectionError:
+            pass  # the page has left meanwhile
+
+    def log_message(self, *_):
+        pass
