@@ -3,7 +3,7 @@
 import { askUntilAnswered } from "./asking.js";
 import { COMMANDS, commandBegun, isCommand, wordsOf } from "./commands.js";
 import { scansIn } from "./scans.js";
-import { it, mode, note, showWaiting, showWanted, tell } from "./screen.js";
+import { it, mode, note, print, showVisit, showWaiting, showWanted, tell } from "./screen.js";
 import { isSoundOn, switchSound } from "./sound.js";
 import { TEXTS, fillIn, say } from "./texts.js";
 import { Work } from "./work.js";
@@ -18,18 +18,18 @@ function desk() {
   return text === null ? null : JSON.parse(text);
 }
 
-// Sends words under a key until they are answered, or the desk is closed.
-function ask(words, requestKey) {
+// Sends words under a key until they are answered, or the desk is closed; each time that no answer came it is told.
+function ask(words, requestKey, unknown) {
   const request = { method: "POST", path: "/desk", keyField: "Desk-Key", keyValue: desk().key, requestKey, body: JSON.stringify(words) };
-  return askUntilAnswered(request, () => tell(TEXTS.unknown, true), { signal: leaving.signal });
+  return askUntilAnswered(request, () => tell(unknown, true), { signal: leaving.signal });
 }
 
 const screen = {
-  sending: () => tell(TEXTS.sending),
   told: tell,
   noted: note,
   waiting: showWaiting,
   wanted: showWanted,
+  visit: showVisit,
 };
 
 // ---- scans
@@ -93,6 +93,8 @@ it("names").append(...Object.keys(COMMANDS).map((name) => {
 
 // ---- the page
 
+it("print-receipt").addEventListener("click", () => print("receipt"));
+
 it("sound").checked = isSoundOn();
 it("sound").addEventListener("change", () => {
   switchSound(it("sound").checked);
@@ -128,6 +130,7 @@ it("sign-out").addEventListener("click", () => {
   leaving.abort();
   work.queue.end();
   sessionStorage.removeItem(DESK);
+  showVisit(null);
   it("desk").hidden = true;
   it("sign-in").hidden = false;
   it("last").replaceChildren();

@@ -2,8 +2,8 @@
 
 import { Door, askUntilAnswered, newKey } from "./asking.js";
 import { holdBody, isNumber } from "./commands.js";
-import { daysBetween } from "./replies.js";
-import { MEANINGS, TEXTS, amount, fillIn, say } from "./texts.js";
+import { daysBetween, today } from "./days.js";
+import { MEANINGS, TEXTS, amount, branchName, fillIn, say } from "./texts.js";
 
 const CARD = "circ.card";
 const it = (id) => document.getElementById(id);
@@ -27,11 +27,6 @@ function tellNo(answer) {
 function card() {
   const text = sessionStorage.getItem(CARD);
   return text === null ? null : JSON.parse(text);
-}
-
-function today() {
-  const now = new Date();
-  return `${now.getFullYear()}-${String(now.getMonth() + 1).padStart(2, "0")}-${String(now.getDate()).padStart(2, "0")}`;
 }
 
 // A request of the patron whose card this is.
@@ -76,7 +71,8 @@ function loanItem(loan) {
     { text: TEXTS.renew, label: say(TEXTS.renewOf, loan), path: `/loans/${loan.loan}/renew` });
 }
 
-function stateOf(hold) {
+function stateOf(found) {
+  const hold = { ...found, branch: branchName(found.branch) };
   if (hold.state === "ready") return say(TEXTS.ready, hold);
   return hold.from ? say(TEXTS.waitingFrom, hold) : say(TEXTS.waiting, hold);
 }

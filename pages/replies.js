@@ -94,8 +94,3 @@ export function readAnswer(status, body) {
   if ([400, 404, 405, 413].includes(status) && told.status === status) return { status };
   return { strange: status };
 }
-
-// The days from one day to another, each written as 2026-03-09.
-export function daysBetween(from, to) {
-  return Math.round((Date.parse(`${to}T00:00:00Z`) - Date.parse(`${from}T00:00:00Z`)) / 86_400_000);
-}

@@ -1,8 +1,9 @@
 // What is said to the clerk: of replies, of refusals, and of what waits.
 
-import { MEANINGS, TEXTS, amount, say } from "./texts.js";
+import { MEANINGS, TEXTS, amount, branchName, say } from "./texts.js";
 
-export function placeOf(place) {
+export function placeOf(found) {
+  const place = { ...found, branch: branchName(found.branch) };
   if (place.to === "shelf") return say(TEXTS.toShelf, place);
   if (place.to === "hold shelf") return say(TEXTS.toHoldShelf, place);
   return say(place.hold === null ? TEXTS.toBranch : TEXTS.toBranchFor, place);

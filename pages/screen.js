@@ -1,5 +1,6 @@
 // What the desk's page shows.
 
+import { receiptHead } from "./receipt.js";
 import { labelOf } from "./saying.js";
 import { soundAlarm } from "./sound.js";
 import { TEXTS, say } from "./texts.js";
@@ -40,6 +41,19 @@ export function showWaiting(queue) {
   it("again").hidden = queue.held === null;
   it("send-on").textContent = waits ? TEXTS.sendOn : TEXTS.goOn;
   it("throw-away").hidden = !waits;
+}
+
+// Shows the receipt of the patron at the desk; null where nobody was there yet.
+export function showVisit(visit) {
+  it("visit").hidden = visit === null;
+  it("receipt-head").textContent = visit ? receiptHead(visit.receipt) : "";
+  it("receipt").replaceChildren(...(visit?.receipt.rows ?? []).map(line));
+}
+
+// Prints one part of the page alone.
+export function print(part) {
+  document.body.dataset.print = part;
+  window.print();
 }
 
 export function showWanted(patron) {

@@ -44,6 +44,9 @@ export const MEANINGS = {
   93: "no library: the file is absent, empty, of another kind or schema, or has a damaged row",
 };
 
+// The names of the town's branches by their numbers, as 1: "Main", 2: "Harbour"; one that has none here is shown by its number.
+export const BRANCHES = {};
+
 // The language of these texts, as HTML names it.
 export const LANGUAGE = "en";
 
@@ -73,6 +76,17 @@ export const TEXTS = {
   enter: "Enter",
   anyWords: "Any words",
   sendWords: "Send",
+  receipt: "Receipt",
+  receiptHead: "{name}, {day}, {branch}",
+  receiptLent: "{text}, due on {due}",
+  receiptRenewed: "{text}, renewed, due on {due}",
+  receiptPaid: "Paid {paid}, still owed {owed}",
+  receiptHeld: "{text}, hold {hold}, to be picked up at {branch}",
+  receiptHeldFrom: "{text}, hold {hold} from {from}, to be picked up at {branch}",
+  printReceipt: "Print the receipt",
+  branchNumber: "branch {branch}",
+  restMissing: "{told} What else was asked of the desk did not come.",
+  restUnknown: "{told} The rest is not known yet: it is asked again.",
   lastTwenty: "The last twenty",
   closeDesk: "Close the desk",
 
@@ -103,10 +117,10 @@ export const TEXTS = {
   fine: "Fine: {fine}.",
   noFine: "No fine.",
   lost: "Fine {fine}, price {price}.",
-  toShelf: "To the shelf, branch {branch}.",
-  toHoldShelf: "Ready for hold {hold} at branch {branch} until {until}.",
-  toBranch: "In transit to branch {branch}.",
-  toBranchFor: "In transit to branch {branch}, for hold {hold}.",
+  toShelf: "To the shelf, {branch}.",
+  toHoldShelf: "Ready for hold {hold} at {branch} until {until}.",
+  toBranch: "In transit to {branch}.",
+  toBranchFor: "In transit to {branch}, for hold {hold}.",
   pageOf: "Patron {patron}, {name}: {loans} on loan, {holds} on hold, owes {owed}.",
 
   noLoans: "Nothing on loan.",
@@ -124,9 +138,9 @@ export const TEXTS = {
   renewOf: "Renew {text}",
   cancel: "Cancel",
   cancelOf: "Cancel the hold on {text}",
-  waiting: "waiting, to be picked up at branch {branch}",
-  waitingFrom: "waiting from {from}, to be picked up at branch {branch}",
-  ready: "ready at branch {branch}",
+  waiting: "waiting, to be picked up at {branch}",
+  waitingFrom: "waiting from {from}, to be picked up at {branch}",
+  ready: "ready at {branch}",
 
   askPatron: "Scan or type the patron's number.",
   askCopy: "Patron {patron}: scan a copy.",
@@ -149,6 +163,11 @@ export const TEXTS = {
 // A text with its braces filled in.
 export function say(text, values = {}) {
   return text.replace(/\{(\w+)\}/g, (_, name) => String(values[name]));
+}
+
+// The name of a branch, or its number where the town gave it none; other tables are for tests.
+export function branchName(branch, names = BRANCHES) {
+  return names[branch] ?? say(TEXTS.branchNumber, { branch });
 }
 
 // Puts the texts that the page names into their places.

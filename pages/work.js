@@ -1,18 +1,21 @@
 // What a desk does with what was taken: one item after another, each by its requests.
 
 import { newKey } from "./asking.js";
+import { today } from "./days.js";
 import { Queue } from "./queue.js";
+import { newReceipt, patronOf, receiptRow } from "./receipt.js";
 import { said, saidNo, shownWords, withoutCardKey } from "./saying.js";
 import { itemOf, wordsOfItem } from "./scans.js";
-import { TEXTS } from "./texts.js";
+import { TEXTS, say } from "./texts.js";
 
 const keptForm = (item) => (item.kind === "words" ? { ...item, words: withoutCardKey(item.words) } : item);
 
 export class Work {
-  // `ask` sends words under a key, and gives their answer, or null once the desk is closed; `screen` shows what is told, noted, waiting and wanted.
+  // `ask` sends words under a key, says a text as often as no answer comes, and gives the answer, or null once the desk is closed; `screen` shows what is told,
+  // noted, waiting and wanted.
   constructor({ branch, ask, screen, storage }) {
     Object.assign(this, { branch, ask, screen });
-    // the patron for whom scans are taken, and the one whose page came
+    // the patron for whom scans are taken; and the one whose page came, with the page and the receipt
     this.expected = null;
     this.visit = null;
     this.queue = new Queue((item) => this.handle(item), () => screen.waiting(this.queue), { storage, form: keptForm });
@@ -43,7 +46,7 @@ export class Work {
     if (item.kind === "wrong") return this.stop(item.problem, item.text);
     if (item.kind === "words") return this.sendWords(item);
     if (item.kind === "patron") return this.open(item.number, item.key);
-    if (item.patron !== null && this.visit?.patron !== item.patron) {
+    if (item.patron !== null && this.visit?.page.patron !== item.patron) {
       const outcome = await this.open(item.patron, newKey());
       if (outcome !== "done") return outcome;
     }
@@ -61,8 +64,10 @@ export class Work {
     const words = ["page", patron];
     const answer = await this.asked(words, key);
     if (answer?.reply?.kind === "page") {
-      this.visit = answer.reply;
-      return this.done(words, answer);
+      this.visit = { page: answer.reply, receipt: newReceipt(answer.reply, today(), this.branch) };
+      this.screen.visit(this.visit);
+      this.tellDone(words, answer, said(answer.reply));
+      return "done";
     }
     if (answer && this.expected === patron) this.nextPatron();
     return this.failed(words, answer?.reply ? { strange: 200 } : answer);
@@ -74,15 +79,40 @@ export class Work {
   }
 
   asked(words, key) {
-    this.screen.sending(shownWords(words));
-    return this.ask(words.map(String), key);
+    this.screen.told(TEXTS.sending);
+    return this.ask(words.map(String), key, TEXTS.unknown);
   }
 
-  done(words, { reply, text }) {
-    const told = said(reply);
+  // What accepted words changed is asked for, and told with it.
+  async done(words, answer) {
+    const told = said(answer.reply);
+    this.screen.told(told);
+    const more = await this.look(words, told);
+    this.addToReceipt(words, answer.reply, more?.page);
+    this.tellDone(words, answer, told);
+    return more?.isMissing ? this.stop(say(TEXTS.restMissing, { told }), shownWords(words)) : "done";
+  }
+
+  tellDone(words, { reply, text }, told) {
     this.screen.told(told);
     this.screen.noted(shownWords(words), told, ["page", "shown"].includes(reply.kind) ? text.split("\n").slice(1) : []);
-    return "done";
+  }
+
+  // The page of the patron at the desk after words that may have changed it.
+  async look(words, told) {
+    const patron = this.visit?.page.patron;
+    if (patron === undefined || (words[0] !== "renew" && patronOf(words) !== patron)) return null;
+    const answer = await this.ask(["page", String(patron)], newKey(), say(TEXTS.restUnknown, { told }));
+    if (answer?.reply?.kind === "page") return { page: answer.reply };
+    return { isMissing: answer !== null };
+  }
+
+  addToReceipt(words, reply, page) {
+    if (!this.visit) return;
+    if (page) this.visit.page = page;
+    const row = receiptRow(this.visit.page.patron, words, reply, page);
+    if (row) this.visit.receipt.rows.push(row);
+    this.screen.visit(this.visit);
   }
 
   // How an item ended that has no reply: it can be sent again under its key where it isn't known whether it was done.

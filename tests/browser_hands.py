@@ -7,6 +7,7 @@
 
 import os
 import sys
+import time
 
 from selenium.webdriver.common.keys import Keys
 
@@ -96,7 +97,25 @@ def unread_answers(driver, fake):
     until("a name with any character", lambda: "Jo" in desk.told() and not desk.is_wrong())
 
 
-PARTS = (fast_scans, refused_scans, unread_answers)
+def receipts(driver, fake):
+    """What is printed is the receipt of the patron at the desk, and nothing of anybody else."""
+    desk = Desk(driver, fake.url, 1)
+    ann = "patron 1 owed 40 name Ann Bell\nloan 5 due 2026-03-09 renewals 1 title 100 Rivers of the North"
+    fake.says(answers({"page 1": reply(ann), "check-out 1 10": reply("loan 5 due 2026-03-09"), "pay 1": reply("owed 40"), "pay 2": reply("owed 0"), "patron 2": reply("ok")}))
+    desk.keys("1", Keys.ENTER, "10", Keys.ENTER)
+    for words in ("pay 1 60", "pay 2 30", "patron 2 1 cardkey00002 'Bo Carr'"):
+        desk.type("words", words)
+        desk.it("words").send_keys(Keys.ENTER)
+    until("all is done", lambda: "patron 2 1 … Bo Carr: Done." in desk.items("last"))
+    rows = ["Rivers of the North, due on 2026-03-09", "Paid 0.60, still owed 0.40"]
+    need("the receipt", desk.items("receipt"), rows)
+    driver.execute_cdp_cmd("Emulation.setEmulatedMedia", {"media": "print"})
+    need("what is printed", driver.execute_script("return document.body.innerText").split("\n\n"), ["Receipt", f"Ann Bell, {time.strftime('%Y-%m-%d')}, branch 1", "\n".join(rows)])
+    driver.execute_cdp_cmd("Emulation.setEmulatedMedia", {"media": ""})
+    need("no card key is shown or kept", "cardkey" in driver.page_source + str(desk.stored()), False)
+
+
+PARTS = (fast_scans, refused_scans, unread_answers, receipts)
 
 
 def main():

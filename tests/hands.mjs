@@ -1,6 +1,8 @@
 // The work of a desk as fast as the fastest hand, over the slowest network: run by tests/pages.py.
 import { deepStrictEqual as same } from "node:assert";
 import { askUntilAnswered } from "../pages/asking.js";
+import { today } from "../pages/days.js";
+import { receiptHead, receiptRow } from "../pages/receipt.js";
 import { labelOf } from "../pages/saying.js";
 import { TEXTS } from "../pages/texts.js";
 import { Work } from "../pages/work.js";
@@ -15,24 +17,36 @@ function is(one, other) {
 const reply = (text, milliseconds = 5) => [milliseconds, 200, JSON.stringify({ reply: text })];
 const refusal = (number, milliseconds = 5) => [milliseconds, number === 81 ? 403 : 409, JSON.stringify({ refusal: number })];
 const fault = (number) => [5, 503, JSON.stringify({ fault: number })];
+const page = (patron, name, ...lines) => [`patron ${patron} owed 0 name ${name}`, ...lines].join("\n");
+
+// The answers to acts in turn, of which the last one stays; a question is answered by the words that it begins with.
+function turns(acts, questions = {}) {
+  const left = [...acts];
+  return (body) => {
+    const words = JSON.parse(body).join(" ");
+    const question = Object.keys(questions).find((it) => words === it || words.startsWith(`${it} `));
+    if (question) return typeof questions[question] === "string" ? reply(questions[question]) : questions[question];
+    return left.length > 1 ? left.shift() : left[0];
+  };
+}
 
 // A desk of branch 1 in a tab, and what its screen was told.
 function desk(storage = new Kept()) {
   const leaving = new AbortController();
-  const told = [], noted = [];
+  const told = [], noted = [], receipts = [];
   let unknown = 0, waiting = [], wanted = null;
-  const ask = (words, requestKey) => askUntilAnswered(
+  const ask = (words, requestKey, text) => askUntilAnswered(
     { method: "POST", path: "/desk", keyField: "Desk-Key", keyValue: "deskkey00001", requestKey, body: JSON.stringify(words) },
-    () => { unknown += 1; }, { signal: leaving.signal, pauses: [1] });
+    () => { unknown += 1; told.push([text, true]); }, { signal: leaving.signal, pauses: [1] });
   const screen = {
-    sending: () => {},
     told: (text, isWrong = false) => told.push([text, isWrong]),
     noted: (what, text) => noted.push(`${what}: ${text}`),
     waiting: (queue) => { waiting = queue.waiting.map(labelOf); },
     wanted: (patron) => { wanted = patron; },
+    visit: (visit) => receipts.push([receiptHead(visit.receipt), ...visit.receipt.rows]),
   };
   const work = new Work({ branch: "1", ask, screen, storage });
-  return { work, told, noted, storage, leaving, unknown: () => unknown, waiting: () => waiting, wanted: () => wanted };
+  return { work, told, noted, receipts, storage, leaving, unknown: () => unknown, waiting: () => waiting, wanted: () => wanted };
 }
 
 async function until(holds) {
@@ -45,18 +59,22 @@ async function until(holds) {
 
 const isQuiet = ({ work: { queue } }) => queue.current === null && (queue.isStopped || queue.waiting.length === 0);
 const bodies = (sent) => sent.map(([, , , body]) => JSON.parse(body).join(" "));
-const page = (patron, name) => `patron ${patron} owed 0 name ${name}`;
+const acts = (sent) => bodies(sent).filter((words) => !/^(page|copy|shelf) /.test(words));
+const keysOf = (sent) => sent.filter(([, , , body]) => !/^\["(page|copy|shelf)"/.test(body)).map(([, key]) => key);
+const dayOf = today();
 
 // ---- a card and two copies, before the first answer comes: three requests, in order, none glued to another
-let sent = network([reply(page(4, "Di Eck"), 40), reply("loan 1 due 2026-03-09", 40), reply("loan 2 due 2026-03-09", 40)]);
+const lent = page(4, "Di Eck", "loan 1 due 2026-03-09 renewals 1 title 300 Maps, Old and New", "loan 2 due 2026-03-16 renewals 1 title 400 Winter Bees");
+let sent = network(turns([reply("loan 1 due 2026-03-09", 40), reply("loan 2 due 2026-03-16", 40)], { "page 4": reply(lent, 40) }));
 let it = desk();
 for (const scan of ["4", "31", "32"]) it.work.scan("check-out", scan);
 is(it.waiting(), ["copy 31, patron 4", "copy 32, patron 4"]);
 is(it.wanted(), 4);
 await until(() => isQuiet(it));
-is(bodies(sent), ["page 4", "check-out 4 31 1", "check-out 4 32 1"]);
-is(new Set(sent.map(([, key]) => key)).size, 3);
+is(bodies(sent), ["page 4", "check-out 4 31 1", "page 4", "check-out 4 32 1", "page 4"]);
+is(new Set(sent.map(([, key]) => key)).size, 5);
 is([it.unknown(), it.waiting(), it.work.queue.isStopped], [0, [], false]);
+is(it.receipts.at(-1), [`Di Eck, ${dayOf}, branch 1`, "Maps, Old and New, due on 2026-03-09", "Winter Bees, due on 2026-03-16"]);
 
 // ---- fifty scans at once, over a network that loses answers, cuts them off and tells 502: each is done once, in its order
 let lost = 0;
@@ -83,7 +101,7 @@ is(new Set(sent.map(([, key]) => key)).size, 3);
 
 // ---- a refusal stops the queue, and says so; what waits is sent on, or thrown away
 for (const [answer, text] of [[refusal(36), "Refused (36): another patron stands in line."], [[5, 400, '{"status":400}'], "The desk did not take this (status 400)."]]) {
-  sent = network([reply(page(4, "Di Eck")), answer, ...[1, 2, 3].map((loan) => reply(`loan ${loan} due 2026-03-09`))]);
+  sent = network(turns([answer, ...[1, 2, 3].map((loan) => reply(`loan ${loan} due 2026-03-09`))], { "page 4": page(4, "Di Eck") }));
   it = desk();
   for (const scan of ["4", "31", "32", "33"]) it.work.scan("check-out", scan);
   await until(() => isQuiet(it));
@@ -93,7 +111,7 @@ for (const [answer, text] of [[refusal(36), "Refused (36): another patron stands
   is([it.waiting(), sent.length], [["copy 32, patron 4", "copy 33, patron 4", "copy 34, patron 4"], 2]);
   it.work.queue.sendOn();
   await until(() => isQuiet(it));
-  is(bodies(sent).slice(2), ["check-out 4 32 1", "check-out 4 33 1", "check-out 4 34 1"]);
+  is(acts(sent).slice(1), ["check-out 4 32 1", "check-out 4 33 1", "check-out 4 34 1"]);
 }
 sent = network([refusal(13), reply("fine 0 shelf 1")]);
 it = desk();
@@ -132,7 +150,7 @@ it.work.queue.throwAway();
 sent = network(() => reply(page(4, "Di Eck")));
 it.work.scan("check-out", "4");
 await until(() => isQuiet(it));
-is([it.work.visit.name, it.work.expected], ["Di Eck", 4]);
+is([it.work.visit.page.name, it.work.expected], ["Di Eck", 4]);
 
 // ---- what isn't a number is told in its turn, and stops what follows it
 sent = network(() => reply("fine 0 shelf 1"));
@@ -145,13 +163,13 @@ await until(() => isQuiet(it));
 is(bodies(sent), ["check-in 1 1", "check-in 3 1"]);
 
 // ---- the next patron begins where the clerk says so, also while the one before is still being served
-sent = network((body) => (JSON.parse(body)[0] === "page" ? reply(page(JSON.parse(body)[1], "X"), 10) : reply("loan 1 due 2026-03-09", 10)));
+sent = network(turns([reply("loan 1 due 2026-03-09", 10)], { "page 4": page(4, "Di Eck"), "page 5": page(5, "Ed Fox") }));
 it = desk();
 for (const scan of ["4", "31"]) it.work.scan("check-out", scan);
 it.work.nextPatron();
 for (const scan of ["5", "32"]) it.work.scan("check-out", scan);
 await until(() => isQuiet(it));
-is(bodies(sent), ["page 4", "check-out 4 31 1", "page 5", "check-out 5 32 1"]);
+is(bodies(sent), ["page 4", "check-out 4 31 1", "page 4", "page 5", "check-out 5 32 1", "page 5"]);
 
 // ---- a tab that is loaded anew goes on: what was on its way first, under its key, and then what waits
 sent = network([[0, null], [60_000]]);
@@ -189,6 +207,38 @@ sent = network(() => reply("fine 0 shelf 1"));
 later.work.queue.run();
 await until(() => isQuiet(later));
 is([bodies(sent), later.told.at(-1)], [["check-in 1 1"], [TEXTS.cardKeyNotKept, true]]);
+
+// ---- a receipt is its patron's alone: what is done for others, or asked, isn't on it, nor a card key
+const ann = page(1, "Ann Bell", "loan 1 due 2026-03-09 renewals 0 title 100 Rivers of the North", "hold 7 at 2 waiting title 200 Salt Roads", "hold 8 at 1 waiting from 2026-04-01 title 400 Winter Bees");
+sent = network(turns([reply("loan 1 due 2026-03-09"), reply("loan 9 due 2026-03-10"), reply("owed 40"), reply("owed 0"), reply("hold 7"), reply("hold 8"), reply("hold 9"),
+  reply("owed 5"), reply("owed 0"), reply("ok")], { "page 1": ann, "page 2": page(2, "Bo Carr") }));
+it = desk();
+it.work.scan("check-out", "1");
+for (const words of ["renew 1", "renew 9", "pay 1 250", "waive 1 40", "place-hold 1 200 2", "place-hold-from 1 400 1 2026-04-01", "place-hold 2 100 1", "pay 2 30", "waive 2 5", "missing 20"]) {
+  it.work.words(words.split(" "));
+}
+it.work.words(["page", "2"]);
+it.work.words(["patron", "2", "1", "cardkey00002", "Bo Carr"]);
+await until(() => isQuiet(it));
+is(it.receipts.at(-1), [`Ann Bell, ${dayOf}, branch 1`, "Rivers of the North, renewed, due on 2026-03-09", "Paid 2.50, still owed 0.40",
+  "Salt Roads, hold 7, to be picked up at branch 2", "Winter Bees, hold 8 from 2026-04-01, to be picked up at branch 1"]);
+is(JSON.stringify([it.receipts, it.noted, it.told]).includes("cardkey"), false);
+// a card that is scanned again begins another receipt
+it.work.nextPatron();
+it.work.scan("check-out", "2");
+await until(() => isQuiet(it));
+is(it.receipts.at(-1), [`Bo Carr, ${dayOf}, branch 1`]);
+// where the page doesn't come, what was lent stands on it all the same, and it is told
+sent = network(turns([reply("loan 1 due 2026-03-09")], { "page 1": page(1, "Ann Bell") }));
+it = desk();
+it.work.scan("check-out", "1");
+await until(() => isQuiet(it));
+sent = network(turns([reply("loan 1 due 2026-03-09")], { "page 1": fault(92) }));
+it.work.scan("check-out", "10");
+await until(() => isQuiet(it));
+is(it.receipts.at(-1), [`Ann Bell, ${dayOf}, branch 1`, "Loan 1, due on 2026-03-09."]);
+is(it.told.at(-1), ["Loan 1, due on 2026-03-09. What else was asked of the desk did not come.", true]);
+is(receiptRow(1, ["check-out", "2", "10", "1"], { kind: "lent", loan: 1, due: "2026-03-09" }, null), null);
 
 // ---- once the desk is closed nothing more is sent, shown or kept
 sent = network([[60_000]]);

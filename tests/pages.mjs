@@ -1,9 +1,10 @@
 // The modules of the pages that read replies and words, on every form: run by tests/pages.py.
 import { deepStrictEqual as same } from "node:assert";
-import { readAnswer, readReply, readPage, daysBetween } from "../pages/replies.js";
+import { readAnswer, readReply, readPage } from "../pages/replies.js";
+import { daysBetween, today } from "../pages/days.js";
 import { centsOf, commandBegun, holdBody, isCommand, isNumber, wordsOf } from "../pages/commands.js";
 import { Door, newKey } from "../pages/asking.js";
-import { TEXTS, amount, say } from "../pages/texts.js";
+import { TEXTS, amount, branchName, say } from "../pages/texts.js";
 import { Kept, network } from "./network.mjs";
 
 let tried = 0;
@@ -119,6 +120,8 @@ is(["2", "2.50", "0,05", "12.5", "1.005", ".5", "-1"].map(centsOf), [200, 250, 5
 is([0, 5, 250, 100000].map(amount), ["0.00", "0.05", "2.50", "1000.00"]);
 is(daysBetween("2026-03-28", "2026-03-30"), 2);
 is(daysBetween("2026-03-09", "2026-03-02"), -7);
+is([today(new Date(2026, 2, 9)), today(new Date(2026, 11, 31, 23, 59))], ["2026-03-09", "2026-12-31"]);
+is([branchName(1), branchName(2, { 2: "Harbour" }), branchName(3, { 2: "Harbour" })], ["branch 1", "Harbour", "branch 3"]);
 is(say(TEXTS.lent, { loan: 3, due: "2026-03-09" }), "Loan 3, due on 2026-03-09.");
 
 // ---- what a patron asks for

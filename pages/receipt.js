@@ -1,0 +1,32 @@
+// The receipt of a patron's visit: what was lent, renewed, paid and held for this patron, and nothing else.
+
+import { TEXTS, amount, branchName, say } from "./texts.js";
+
+export function newReceipt({ patron, name }, day, branch) {
+  return { patron, name, day, branch: Number(branch), rows: [] };
+}
+
+export function receiptHead({ name, day, branch }) {
+  return say(TEXTS.receiptHead, { name, day, branch: branchName(branch) });
+}
+
+// The patron whom words are for, as they say; a renewal names none.
+export function patronOf(words) {
+  return ["check-out", "pay", "waive", "place-hold", "place-hold-from"].includes(words[0]) ? Number(words[1]) : null;
+}
+
+function heldRow(hold, page) {
+  const held = page?.holds.find((it) => it.hold === hold);
+  if (!held) return say(TEXTS.heldNow, { hold });
+  return say(held.from ? TEXTS.receiptHeldFrom : TEXTS.receiptHeld, { ...held, branch: branchName(held.branch) });
+}
+
+// The row that accepted words add to the receipt of a patron, whose page came after them; null where they add none, as another's do.
+export function receiptRow(patron, words, reply, page) {
+  const loan = page?.loans.find((it) => it.loan === reply.loan);
+  if (words[0] === "renew") return loan ? say(TEXTS.receiptRenewed, { text: loan.text, due: reply.due }) : null;
+  if (patronOf(words) !== patron) return null;
+  if (reply.kind === "lent") return loan ? say(TEXTS.receiptLent, { text: loan.text, due: reply.due }) : say(TEXTS.lent, reply);
+  if (reply.kind === "held") return heldRow(reply.hold, page);
+  return words[0] === "pay" ? say(TEXTS.receiptPaid, { paid: amount(Number(words[2])), owed: amount(reply.owed) }) : null;
+}
