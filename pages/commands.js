@@ -36,6 +36,9 @@ export const COMMANDS = {
   "till": ["day"],
 };
 
+// The commands that only ask.
+export const QUESTIONS = ["page", "copy", "copies", "queue", "account", "debts", "overdue", "shelf", "pulls", "transits", "till"];
+
 // The words of a line: parted by blanks, and what stands in quotes of one kind is one word. Null where a quote isn't closed.
 export function wordsOf(line) {
   const words = [];

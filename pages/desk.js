@@ -126,15 +126,22 @@ it("sign-in").addEventListener("submit", (event) => {
   open();
 });
 
+// What is told at closing: what may have been done, and what was not sent.
+function closing(unknown, unsent) {
+  const told = [[TEXTS.closedUnknown, unknown], [TEXTS.closedWaiting, unsent]].filter(([, what]) => what.length > 0);
+  return told.map(([text, what]) => say(text, { what: what.join("; ") })).join(" ") || TEXTS.closed;
+}
+
 it("sign-out").addEventListener("click", () => {
+  const { unknown, unsent } = work.end();
   leaving.abort();
-  work.queue.end();
-  sessionStorage.removeItem(DESK);
+  sessionStorage.clear();
   showVisit(null);
   it("desk").hidden = true;
   it("sign-in").hidden = false;
   it("last").replaceChildren();
-  tell("");
+  for (const form of document.forms) form.reset();
+  tell(closing(unknown, unsent), unknown.length + unsent.length > 0);
   it("desk-key").focus();
 });
 

@@ -1,39 +1,26 @@
 // A patron's page: what is lent, what is on hold, what is owed; renewing, holds and cancelling.
 
-import { Door, askUntilAnswered, newKey } from "./asking.js";
+import { once } from "./clicks.js";
 import { holdBody, isNumber } from "./commands.js";
 import { daysBetween, today } from "./days.js";
-import { MEANINGS, TEXTS, amount, branchName, fillIn, say } from "./texts.js";
+import { saidNo } from "./saying.js";
+import { SignedIn } from "./signed_in.js";
+import { TEXTS, amount, branchName, fillIn, say } from "./texts.js";
 
-const CARD = "circ.card";
 const it = (id) => document.getElementById(id);
-const door = new Door("patron");
+// who is signed in, if anybody is
+let patron = null;
 
-function tell(text) {
+function tell(text, isWrong = false) {
   it("told").textContent = text;
+  it("told").classList.toggle("wrong", isWrong);
 }
 
 function tellUnknown() {
-  tell(TEXTS.unknown);
+  tell(TEXTS.unknown, true);
 }
 
-// What an answer says that isn't a reply.
-function tellNo(answer) {
-  const number = answer.refusal ?? answer.fault ?? answer.status ?? answer.strange;
-  const text = answer.refusal ? TEXTS.refused : answer.fault ? TEXTS.faulted : answer.status ? TEXTS.notTaken : TEXTS.strange;
-  tell(say(text, { number, meaning: MEANINGS[number] }));
-}
-
-function card() {
-  const text = sessionStorage.getItem(CARD);
-  return text === null ? null : JSON.parse(text);
-}
-
-// A request of the patron whose card this is.
-function request(method, path, body) {
-  const { number, key } = card();
-  return { method, path: `/patrons/${number}${path}`, keyField: "Card-Key", keyValue: key, body };
-}
+const actOnce = once((_, path) => act(path));
 
 function item(lines, action) {
   const made = document.createElement("li");
@@ -48,7 +35,7 @@ function item(lines, action) {
     button.type = "button";
     button.textContent = action.text;
     button.setAttribute("aria-label", action.label);
-    button.addEventListener("click", () => act(action.path, action.body, action.done));
+    button.addEventListener("click", (event) => actOnce(event, action.path));
     made.append(button);
   }
   return made;
@@ -68,7 +55,7 @@ function renewals(loan) {
 
 function loanItem(loan) {
   return item([[loan.text, "title"], [loan.due, null], left(loan), [renewals(loan), null]],
-    { text: TEXTS.renew, label: say(TEXTS.renewOf, loan), path: `/loans/${loan.loan}/renew` });
+    loan.renewals > 0 ? { text: TEXTS.renew, label: say(TEXTS.renewOf, loan), path: `/loans/${loan.loan}/renew` } : null);
 }
 
 function stateOf(found) {
@@ -96,15 +83,16 @@ function show(page) {
   it("page").hidden = false;
 }
 
-// Asks for the page and shows it; whether it came.
-async function look() {
-  const answer = await askUntilAnswered(request("GET", ""), tellUnknown);
-  if (answer.reply?.kind === "page") {
-    show(answer.reply);
-    return true;
+// Shows the page that a signed-in patron is answered; whether it came.
+async function look(mine) {
+  const answer = await mine.look();
+  if (!answer || mine !== patron) return false;
+  if (answer.reply?.kind !== "page") {
+    tell(saidNo(answer.reply ? { strange: 200 } : answer), true);
+    return false;
   }
-  tellNo(answer);
-  return false;
+  show(answer.reply);
+  return true;
 }
 
 function said(reply) {
@@ -113,64 +101,73 @@ function said(reply) {
   return TEXTS.done;
 }
 
-// Sends what has its key, and shows the page as it is then.
-async function finish(sent) {
-  tell(TEXTS.sending);
-  const answer = await door.ask(sent, tellUnknown);
-  if (!answer) return;
-  if (answer.reply) tell(said(answer.reply));
-  else tellNo(answer);
-  const text = it("told").textContent;
-  if (await look()) tell(text);
+// Tells what was answered, and shows the page as it is then; whether it was done.
+async function finish(mine, answering) {
+  const answer = await answering;
+  if (!answer || mine !== patron) return false;
+  const text = answer.reply ? said(answer.reply) : saidNo(answer);
+  tell(text, !answer.reply);
+  if (await look(mine)) tell(text, !answer.reply);
+  return Boolean(answer.reply);
 }
 
-function act(path, body) {
-  return finish({ ...request("POST", path, body), requestKey: newKey() });
+async function act(path, body) {
+  const mine = patron;
+  if (mine.door.isBusy) return false;
+  tell(TEXTS.sending);
+  return finish(mine, mine.act(path, body));
 }
 
 it("sign-in").addEventListener("submit", async (event) => {
   event.preventDefault();
   const number = it("number").value.trim();
   const key = it("card-key").value.trim();
-  if (!isNumber(number)) return tell(say(TEXTS.wrongForm, { what: TEXTS.numberForm }));
-  if (!/^[A-Za-z0-9]{8,32}$/.test(key)) return tell(say(TEXTS.wrongForm, { what: TEXTS.cardKeyForm }));
-  sessionStorage.setItem(CARD, JSON.stringify({ number, key }));
+  if (!isNumber(number)) return tell(say(TEXTS.wrongForm, { what: TEXTS.numberForm }), true);
+  if (!/^[A-Za-z0-9]{8,32}$/.test(key)) return tell(say(TEXTS.wrongForm, { what: TEXTS.cardKeyForm }), true);
   it("card-key").value = "";
+  patron?.signOut();
+  const mine = new SignedIn({ number, key }, () => mine === patron && tellUnknown());
+  patron = mine;
   tell(TEXTS.sending);
-  if (await look()) {
+  const isShown = await look(mine);
+  if (mine !== patron) return;
+  if (isShown) {
     tell("");
     it("name").focus();
   } else {
-    sessionStorage.removeItem(CARD);
+    patron.signOut();
+    patron = null;
   }
 });
 
-it("place").addEventListener("submit", (event) => {
+// The fields are emptied once the hold is placed, unless something else was typed meanwhile.
+it("place").addEventListener("submit", async (event) => {
   event.preventDefault();
-  const title = it("title").value.trim();
-  const branch = it("branch").value.trim();
-  if (!isNumber(title) || !isNumber(branch)) return tell(say(TEXTS.wrongForm, { what: TEXTS.numberForm }));
-  const day = it("from").value;
+  const [title, branch, day] = ["title", "branch", "from"].map((id) => it(id).value.trim());
+  if (!isNumber(title) || !isNumber(branch)) return tell(say(TEXTS.wrongForm, { what: TEXTS.numberForm }), true);
+  const isDone = await act("/holds", holdBody(title, branch, day));
+  if (!isDone || it("title").value.trim() !== title) return;
   it("title").value = "";
   it("from").value = "";
-  act("/holds", holdBody(title, branch, day));
 });
 
 it("sign-out").addEventListener("click", () => {
-  sessionStorage.removeItem(CARD);
+  const wasBusy = patron.signOut();
+  patron = null;
   it("page").hidden = true;
   it("sign-in").hidden = false;
-  it("loans").replaceChildren();
-  it("holds").replaceChildren();
-  tell(TEXTS.signedOut);
+  for (const id of ["name", "owed", "loans", "holds"]) it(id).replaceChildren();
+  for (const form of document.forms) form.reset();
+  tell(wasBusy ? TEXTS.signedOutUnknown : TEXTS.signedOut, wasBusy);
   it("number").focus();
 });
 
 fillIn();
 
 // What was on its way when the tab was loaded anew comes first.
-if (card()) {
-  const before = door.left();
-  if (before) finish(before);
-  else look();
+patron = SignedIn.before(tellUnknown);
+if (patron) {
+  const before = patron.actBefore();
+  if (before) finish(patron, before);
+  else look(patron);
 }

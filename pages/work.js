@@ -1,13 +1,15 @@
 // What a desk does with what was taken: one item after another, each by its requests.
 
 import { newKey } from "./asking.js";
+import { QUESTIONS } from "./commands.js";
 import { today } from "./days.js";
 import { Queue } from "./queue.js";
 import { newReceipt, patronOf, receiptRow } from "./receipt.js";
-import { said, saidNo, shownWords, withoutCardKey } from "./saying.js";
+import { labelOf, said, saidNo, shownWords, withoutCardKey } from "./saying.js";
 import { itemOf, wordsOfItem } from "./scans.js";
 import { TEXTS, say } from "./texts.js";
 
+const onlyAsks = (item) => item.kind === "patron" || (item.kind === "words" && QUESTIONS.includes(item.words[0]));
 const keptForm = (item) => (item.kind === "words" ? { ...item, words: withoutCardKey(item.words) } : item);
 
 export class Work {
@@ -40,6 +42,13 @@ export class Work {
   nextPatron() {
     this.expected = null;
     this.screen.wanted(null);
+  }
+
+  // Closes the desk: what may have been done then, and what was not sent.
+  end() {
+    const { current, held, waiting } = this.queue;
+    this.queue.end();
+    return { unknown: [held, current].filter((item) => item && !onlyAsks(item)).map(labelOf), unsent: waiting.map(labelOf) };
   }
 
   async handle(item) {

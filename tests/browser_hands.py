@@ -9,6 +9,7 @@ import os
 import sys
 import time
 
+from selenium.webdriver.common.action_chains import ActionChains
 from selenium.webdriver.common.keys import Keys
 
 from lib.browsing import Desk, Failed, Page, browser, complaints, counts, need, until
@@ -24,7 +25,7 @@ def answers(table, seconds=0.0):
 
     def answer(what):
         for words, found in left.items():
-            if what == words or what.startswith(f"{words} "):
+            if what == words or what.startswith((f"{words} ", f"{words}/")):
                 told = found.pop(0) if len(found) > 1 else found[0]
                 return (max(told[0], seconds), *told[1:]) if told else NOTHING
         if what.startswith("page ") and what.split()[1] in PAGE:
@@ -115,7 +116,86 @@ def receipts(driver, fake):
     need("no card key is shown or kept", "cardkey" in driver.page_source + str(desk.stored()), False)
 
 
-PARTS = (fast_scans, refused_scans, unread_answers, receipts)
+def sign_in(driver, fake, number="1"):
+    page = Page(driver, f"{fake.url}/pages/patron.html", "My library card")
+    enter(page, number)
+    until("the page", lambda: page.it("page").is_displayed())
+    return page
+
+
+def enter(page, number):
+    page.type("number", number)
+    page.type("card-key", f"cardkey0000{number}")
+    page.keys(Keys.ENTER)
+
+
+def signed_out(driver, fake):
+    """Whoever signs out leaves nothing, and the next patron sees nothing of the last one's."""
+    fake.says(answers({"GET /patrons/1": reply(PAGE["1"]), "GET /patrons/4": reply(PAGE["4"], 0.3), "POST /patrons/1/holds": refusal(12, 1.0)}))
+    page = sign_in(driver, fake)
+    page.type("title", "999")
+    page.type("branch", "1")
+    page.keys(Keys.ENTER)
+    until("it is sent", lambda: any(it.startswith("POST") for it in fake.words()))
+    page.it("sign-out").click()
+    need("it is told that it isn't known", (page.told().startswith("Signed out. What was asked last had no answer yet"), page.is_wrong()), (True, True))
+    need("what is kept, and what stands in the fields", (page.stored(), page.it("title").get_attribute("value")), ({}, ""))
+    enter(page, "4")
+    until("the next patron", lambda: page.it("name").text == "Di Eck")
+    time.sleep(1.2)
+    need("nothing of the last one's", (page.told(), page.it("name").text), ("", "Di Eck"))
+    # a request without an answer isn't sent any more, either
+    fake.says(answers({"POST /patrons/4/holds": NOTHING, "GET /patrons/4": reply(PAGE["4"])}))
+    page.type("title", "100")
+    page.type("branch", "1")
+    page.keys(Keys.ENTER)
+    until("not known", lambda: page.told().startswith("Not known yet"))
+    page.it("sign-out").click()
+    asked = len(fake.sent)
+    time.sleep(1.5)
+    need("it is asked no more", (len(fake.sent), page.stored()), (asked, {}))
+    # and so at the desk
+    desk = Desk(driver, fake.url, 1)
+    fake.says(answers({"check-in 1": reply("fine 0 shelf 1", 1.0)}))
+    desk.mode("check-in")
+    desk.keys("1", Keys.ENTER, "2", Keys.ENTER)
+    desk.it("sign-out").click()
+    need("what may have been done, and what wasn't", desk.told(), "The desk is closed. It is not known whether this was done: copy 1. This was not sent: copy 2.")
+    time.sleep(1.2)
+    need("nothing is kept, sent or shown any more", (desk.stored(), fake.words(), desk.items("last")), ({}, ["check-in 1 1"], []))
+
+
+def telephone(driver, fake):
+    """A patron at a telephone: what was answered is on the screen, refusals look like refusals, and a double click acts once."""
+    loans = "".join(f"\nloan {it} due 2026-03-09 renewals {it % 2} title {it} Title {it}" for it in range(1, 13))
+    fake.says(answers({"GET /patrons/1": reply(PAGE["1"] + loans), "POST /patrons/1/loans": reply("loan 11 due 2026-03-16"), "POST /patrons/1/holds": [refusal(12), reply("hold 3")]}))
+    page = sign_in(driver, fake)
+    page.width(360)
+    buttons = driver.find_elements("css selector", "#loans button")
+    need("a button for each loan with a renewal left", [it.get_attribute("aria-label") for it in buttons], [f"Renew Title {it}" for it in range(1, 13, 2)])
+    driver.execute_script("arguments[0].scrollIntoView({block: 'end'})", buttons[-1])
+    ActionChains(driver).double_click(buttons[-1]).perform()
+    until("renewed", lambda: page.told() == "Loan 11, due on 2026-03-16.")
+    time.sleep(0.8)
+    need("it is renewed once", [it for it in fake.words() if it.startswith("POST")], ["POST /patrons/1/loans/11/renew"])
+    need("it is on the screen", is_on_screen(driver, "told"), True)
+    need("what is done doesn't look like a refusal", page.is_wrong(), False)
+    page.type("title", "999")
+    page.type("branch", "1")
+    page.keys(Keys.ENTER)
+    until("refused", lambda: page.told() == "Refused (12): unknown title.")
+    need("it looks like a refusal, is on the screen, and the title stays", (page.is_wrong(), is_on_screen(driver, "told"), page.it("title").get_attribute("value")), (True, True, "999"))
+    page.it("title").submit()
+    until("a hold", lambda: page.told() == "Hold 3 is placed.")
+    until("the title is cleared", lambda: page.it("title").get_attribute("value") == "")
+    driver.execute_cdp_cmd("Emulation.clearDeviceMetricsOverride", {})
+
+
+def is_on_screen(driver, name):
+    return driver.execute_script("const it = document.getElementById(arguments[0]).getBoundingClientRect(); return it.height > 0 && it.top >= 0 && it.bottom <= innerHeight", name)
+
+
+PARTS = (fast_scans, refused_scans, unread_answers, receipts, signed_out, telephone)
 
 
 def main():

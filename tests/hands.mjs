@@ -1,9 +1,11 @@
 // The work of a desk as fast as the fastest hand, over the slowest network: run by tests/pages.py.
 import { deepStrictEqual as same } from "node:assert";
 import { askUntilAnswered } from "../pages/asking.js";
+import { once } from "../pages/clicks.js";
 import { today } from "../pages/days.js";
 import { receiptHead, receiptRow } from "../pages/receipt.js";
 import { labelOf } from "../pages/saying.js";
+import { SignedIn } from "../pages/signed_in.js";
 import { TEXTS } from "../pages/texts.js";
 import { Work } from "../pages/work.js";
 import { Kept, network } from "./network.mjs";
@@ -245,8 +247,61 @@ sent = network([[60_000]]);
 it = desk();
 for (const scan of ["1", "2"]) it.work.scan("check-in", scan);
 it.leaving.abort();
-it.work.queue.end();
+is(it.work.end(), { unknown: ["copy 1"], unsent: ["copy 2"] });
 const before = it.noted.length;
 await new Promise((done) => setTimeout(done, 5));
 is([sent.length, it.noted.length - before, it.storage.all.size], [1, 0, 0]);
+// what only asks has nothing that is unknown, and what met a fault may have been done
+sent = network([[60_000]]);
+it = desk();
+it.work.scan("check-out", "4");
+is(it.work.end(), { unknown: [], unsent: [] });
+sent = network([fault(91)]);
+it = desk();
+it.work.scan("check-in", "1");
+await until(() => isQuiet(it));
+is(it.work.end(), { unknown: ["copy 1"], unsent: [] });
+
+// ---- a patron's request goes on under its key only while that patron is signed in
+function signIn(number, storage) {
+  let unknown = 0;
+  const patron = new SignedIn({ number, key: `cardkey0000${number}` }, () => { unknown += 1; }, storage);
+  return { patron, unknown: () => unknown };
+}
+const tab = new Kept();
+sent = network((_, at) => (at < 2 ? [[0, null], [60_000]][at] : refusal(42, 0)));
+const cy = signIn("3", tab);
+const renewing = cy.patron.act("/loans/1/renew");
+is(await cy.patron.act("/loans/1/renew"), null);
+await until(() => sent.length === 1 && cy.unknown() === 1);
+is([cy.patron.signOut(), tab.all.size], [true, 0]);
+is([SignedIn.before(() => {}, tab), await renewing], [null, null]);
+sent = network(() => reply("patron 2 owed 0 name Bo Carr"));
+const bo = signIn("2", tab);
+is([bo.patron.actBefore(), (await bo.patron.look()).reply.name], [null, "Bo Carr"]);
+is(sent.map(([path]) => path), ["/patrons/2"]);
+is([bo.patron.signOut(), tab.all.size], [false, 0]);
+// a page that comes after its patron has left is shown to nobody
+sent = network([reply("patron 2 owed 0 name Bo Carr", 20)]);
+const late = signIn("2", tab);
+const looking = late.patron.look();
+late.patron.signOut();
+is(await looking, null);
+// loaded anew while signed in, it goes on under its key
+sent = network([[60_000]]);
+const ed = signIn("5", tab);
+ed.patron.act("/loans/1/renew");
+const [[, edsKey]] = sent;
+sent = network(() => reply("loan 1 due 2026-03-09"));
+is((await SignedIn.before(() => {}, tab).actBefore()).reply, { kind: "lent", loan: 1, due: "2026-03-09" });
+is(sent, [["/patrons/5/loans/1/renew", edsKey, undefined, undefined]]);
+
+// ---- of a double click the first alone counts
+let clicked = 0, now = 0;
+const click = once(() => { clicked += 1; }, () => now);
+for (const [at, detail] of [[0, 1], [120, 2], [300, 1], [1200, 1], [1250, 0], [2000, 0]]) {
+  now = at;
+  click({ detail });
+}
+is(clicked, 3);
 console.log(`hands: ${tried} tried`);

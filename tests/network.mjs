@@ -5,6 +5,7 @@ export class Kept {
   getItem(name) { return this.all.get(name) ?? null; }
   setItem(name, text) { this.all.set(name, text); }
   removeItem(name) { this.all.delete(name); }
+  clear() { this.all.clear(); }
 }
 
 // `answers` are [milliseconds, status, text], in turn, or a function from the body that is sent to one; a status of null is no answer at all, and a text of
