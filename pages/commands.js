@@ -70,12 +70,16 @@ export function holdBody(title, branch, day) {
   return JSON.stringify({ branch: Number(branch), ...(day ? { from: day } : {}), title: Number(title) });
 }
 
+export function isKey(text) {
+  return /^[A-Za-z0-9]{8,32}$/.test(text);
+}
+
 export function isNumber(text) {
   return /^(0|[1-9][0-9]{0,9})$/.test(text) && Number(text) <= 4_294_967_295;
 }
 
-// Cents of an amount such as 2.50, 2,50 or 2; null where it is none.
+// Cents of an amount such as 2.50 or 2,50; null where it is none, as any number without a point.
 export function centsOf(text) {
-  const found = /^(0|[1-9][0-9]{0,8})(?:[.,]([0-9]{2}))?$/.exec(text);
-  return found ? Number(found[1]) * 100 + Number(found[2] ?? 0) : null;
+  const found = /^(0|[1-9][0-9]{0,8})[.,]([0-9]{2})$/.exec(text);
+  return found ? Number(found[1]) * 100 + Number(found[2]) : null;
 }

@@ -1,7 +1,7 @@
 // A patron's page: what is lent, what is on hold, what is owed; renewing, holds and cancelling.
 
 import { once } from "./clicks.js";
-import { holdBody, isNumber } from "./commands.js";
+import { holdBody, isKey, isNumber } from "./commands.js";
 import { daysBetween, today } from "./days.js";
 import { saidNo } from "./saying.js";
 import { SignedIn } from "./signed_in.js";
@@ -123,7 +123,7 @@ it("sign-in").addEventListener("submit", async (event) => {
   const number = it("number").value.trim();
   const key = it("card-key").value.trim();
   if (!isNumber(number)) return tell(say(TEXTS.wrongForm, { what: TEXTS.numberForm }), true);
-  if (!/^[A-Za-z0-9]{8,32}$/.test(key)) return tell(say(TEXTS.wrongForm, { what: TEXTS.cardKeyForm }), true);
+  if (!isKey(key)) return tell(say(TEXTS.wrongForm, { what: TEXTS.cardKeyForm }), true);
   it("card-key").value = "";
   patron?.signOut();
   const mine = new SignedIn({ number, key }, () => mine === patron && tellUnknown());

@@ -25,9 +25,9 @@ export class Queue {
     this.run();
   }
 
-  // Sends the item that stopped the queue again, and then what waits.
+  // Sends the item that stopped the queue again, now by the clerk's word, and then what waits.
   sendAgain() {
-    if (this.held) this.waiting.unshift(this.held);
+    if (this.held) this.waiting.unshift({ ...this.held, isConfirmed: true });
     this.sendOn();
   }
 

@@ -1,11 +1,28 @@
 // What a scanner sends, and what is meant by it where a patron, a copy, an amount or a title is wanted.
 
 import { centsOf, isNumber } from "./commands.js";
-import { TEXTS, say } from "./texts.js";
+import { PREFIXES, TEXTS, say } from "./texts.js";
 
 // The scans of a text that came at once: they are parted by ends of lines and tabs.
 export function scansIn(text) {
   return text.split(/[\r\n\t]+/).map((scan) => scan.trim()).filter((scan) => scan !== "");
+}
+
+// Whether a key ends the scan that stands in the line: a tab behind it, or a control character in the place of Enter.
+export function endsScan({ key, ctrlKey, shiftKey }, text) {
+  return (key === "Tab" && !shiftKey && text.trim() !== "") || (ctrlKey && ["j", "m"].includes(key.toLowerCase()));
+}
+
+// Whether a key writes a character that may begin a scan.
+export function beginsScan({ key, ctrlKey, altKey, metaKey }) {
+  return key.length === 1 && key !== " " && !ctrlKey && !altKey && !metaKey;
+}
+
+// The number of a scan without its prefix, and whose prefix it was: a patron's, a copy's, or null for none.
+export function cut(text, prefixes = PREFIXES) {
+  const longestFirst = Object.entries(prefixes).sort(([, one], [, other]) => other.length - one.length);
+  const found = longestFirst.find(([, prefix]) => prefix !== "" && text.toUpperCase().startsWith(prefix.toUpperCase()));
+  return found ? { of: found[0], number: text.slice(found[1].length) } : { of: null, number: text };
 }
 
 export const needsPatron = (mode) => ["check-out", "pay", "place-hold"].includes(mode);
@@ -16,17 +33,30 @@ export function wanted(mode, patron) {
   return { "pay": "amount", "place-hold": "title", "renew": "loan" }[mode] ?? "copy";
 }
 
-function problemOf(kind, text) {
-  if (kind === "amount") return centsOf(text) === null ? TEXTS.amountForm : null;
-  return isNumber(text) ? null : TEXTS.numberForm;
+const CONFIRMED_ABOVE = 5000;
+
+// Whether the clerk is asked before so much is taken.
+export function needsConfirming({ kind, number, isConfirmed }) {
+  return kind === "amount" && number > CONFIRMED_ABOVE && !isConfirmed;
+}
+
+function nameOf(kind) {
+  return { patron: TEXTS.theCard, copy: TEXTS.theCopy, loan: TEXTS.theLoan, title: TEXTS.theTitle, amount: TEXTS.theAmount }[kind];
+}
+
+function problemOf(kind, text, { of, number }) {
+  if (of !== null && of !== kind) return say(TEXTS.otherScanned, { text, is: nameOf(of), wanted: nameOf(kind) });
+  const isRight = kind === "amount" ? centsOf(text) !== null : isNumber(number);
+  return isRight ? null : say(TEXTS.wrongForm, { what: kind === "amount" ? TEXTS.amountForm : TEXTS.numberForm });
 }
 
 // What is to be done with a scan; `wrong`, with what is wrong with it, where nothing can be.
-export function itemOf(mode, patron, text) {
+export function itemOf(mode, patron, text, prefixes = PREFIXES) {
   const kind = wanted(mode, patron);
-  const problem = problemOf(kind, text);
-  if (problem) return { kind: "wrong", text, problem: say(TEXTS.wrongForm, { what: problem }) };
-  return { kind, mode, patron: needsPatron(mode) ? patron : null, number: kind === "amount" ? centsOf(text) : Number(text) };
+  const scan = cut(text, prefixes);
+  const problem = problemOf(kind, text, scan);
+  if (problem) return { kind: "wrong", text, problem };
+  return { kind, mode, patron: needsPatron(mode) ? patron : null, number: kind === "amount" ? centsOf(text) : Number(scan.number) };
 }
 
 // The words by which an item is sent.

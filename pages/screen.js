@@ -1,10 +1,11 @@
 // What the desk's page shows.
 
+import { today } from "./days.js";
 import { receiptHead } from "./receipt.js";
 import { labelOf } from "./saying.js";
 import { soundAlarm } from "./sound.js";
-import { TEXTS, say } from "./texts.js";
-import { wanted } from "./scans.js";
+import { TEXTS, amount, branchName, say } from "./texts.js";
+import { needsConfirming, wanted } from "./scans.js";
 
 const MOST = 20;
 export const it = (id) => document.getElementById(id);
@@ -31,6 +32,11 @@ export function note(what, text, lines) {
   while (it("last").children.length > MOST) it("last").lastElementChild.remove();
 }
 
+// Shows where the desk is, and the day of this machine; nothing where it is closed.
+export function showHead(branch) {
+  it("place").textContent = branch === null ? "" : say(TEXTS.deskHead, { town: TEXTS.town, branch: branchName(branch), day: today() });
+}
+
 // Shows what is sent and what waits, and what the clerk can do where the queue stands still.
 export function showWaiting(queue) {
   const shown = [...(queue.current ? [say(TEXTS.isSent, { what: labelOf(queue.current) })] : []), ...queue.waiting.map(labelOf)];
@@ -39,6 +45,7 @@ export function showWaiting(queue) {
   it("queue").hidden = !waits && !queue.isStopped;
   it("stopped").hidden = !queue.isStopped;
   it("again").hidden = queue.held === null;
+  it("again").textContent = queue.held && needsConfirming(queue.held) ? say(TEXTS.yesPaid, { paid: amount(queue.held.number) }) : TEXTS.sendAgain;
   it("send-on").textContent = waits ? TEXTS.sendOn : TEXTS.goOn;
   it("throw-away").hidden = !waits;
 }

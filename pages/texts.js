@@ -47,6 +47,9 @@ export const MEANINGS = {
 // The names of the town's branches by their numbers, as 1: "Main", 2: "Harbour"; one that has none here is shown by its number.
 export const BRANCHES = {};
 
+// What stands before the number on cards and on copies; it is cut off. Letters, so that no number begins with it; empty where there is none.
+export const PREFIXES = { patron: "P", copy: "C" };
+
 // The language of these texts, as HTML names it.
 export const LANGUAGE = "en";
 
@@ -84,7 +87,10 @@ export const TEXTS = {
   receiptHeld: "{text}, hold {hold}, to be picked up at {branch}",
   receiptHeldFrom: "{text}, hold {hold} from {from}, to be picked up at {branch}",
   printReceipt: "Print the receipt",
+  town: "Town library",
+  deskHead: "{town}, {branch}, {day}",
   branchNumber: "branch {branch}",
+  unknownOpening: "No answer came. It is asked again.",
   restMissing: "{told} What else was asked of the desk did not come.",
   restUnknown: "{told} The rest is not known yet: it is asked again.",
   lastTwenty: "The last twenty",
@@ -155,6 +161,14 @@ export const TEXTS = {
   noSuchWords: "These are not the words of a command.",
   cardKeyNotKept: "The card key was not kept while this waited. Type these words again.",
   isSent: "{what} (sending)",
+  confirmAmount: "Does patron {patron} pay {paid}? If not, go on without it.",
+  yesPaid: "Yes, {paid}",
+  otherScanned: "{text} is {is}, but {wanted} is wanted.",
+  theCard: "a patron's card",
+  theCopy: "a copy",
+  theLoan: "the number of a loan",
+  theTitle: "the number of a title",
+  theAmount: "an amount",
   aPatron: "patron {number}",
   aCopy: "copy {number}",
   aLoan: "loan {number}",

@@ -6,8 +6,8 @@ import { today } from "./days.js";
 import { Queue } from "./queue.js";
 import { newReceipt, patronOf, receiptRow } from "./receipt.js";
 import { labelOf, said, saidNo, shownWords, withoutCardKey } from "./saying.js";
-import { itemOf, wordsOfItem } from "./scans.js";
-import { TEXTS, say } from "./texts.js";
+import { itemOf, needsConfirming, wordsOfItem } from "./scans.js";
+import { TEXTS, amount, say } from "./texts.js";
 
 const onlyAsks = (item) => item.kind === "patron" || (item.kind === "words" && QUESTIONS.includes(item.words[0]));
 const keptForm = (item) => (item.kind === "words" ? { ...item, words: withoutCardKey(item.words) } : item);
@@ -48,18 +48,26 @@ export class Work {
   end() {
     const { current, held, waiting } = this.queue;
     this.queue.end();
-    return { unknown: [held, current].filter((item) => item && !onlyAsks(item)).map(labelOf), unsent: waiting.map(labelOf) };
+    const unsent = held && needsConfirming(held) ? [held, ...waiting] : waiting;
+    const unknown = [held, current].filter((item) => item && !onlyAsks(item) && !needsConfirming(item));
+    return { unknown: unknown.map(labelOf), unsent: unsent.map(labelOf) };
   }
 
   async handle(item) {
     if (item.kind === "wrong") return this.stop(item.problem, item.text);
     if (item.kind === "words") return this.sendWords(item);
     if (item.kind === "patron") return this.open(item.number, item.key);
+    if (needsConfirming(item)) return this.confirm(item);
     if (item.patron !== null && this.visit?.page.patron !== item.patron) {
       const outcome = await this.open(item.patron, newKey());
       if (outcome !== "done") return outcome;
     }
     return this.act(wordsOfItem(item, this.branch), item.key);
+  }
+
+  confirm(item) {
+    this.screen.told(say(TEXTS.confirmAmount, { patron: item.patron, paid: amount(item.number) }), true);
+    return "again";
   }
 
   // Whoever types words looks at what is told of them: a refusal stops only what waits.

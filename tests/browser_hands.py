@@ -28,6 +28,8 @@ def answers(table, seconds=0.0):
             if what == words or what.startswith((f"{words} ", f"{words}/")):
                 told = found.pop(0) if len(found) > 1 else found[0]
                 return (max(told[0], seconds), *told[1:]) if told else NOTHING
+        if what.startswith("shelf "):
+            return reply("      hold    copy  patron until      title\nend", seconds)
         if what.startswith("page ") and what.split()[1] in PAGE:
             return reply(PAGE[what.split()[1]], seconds)
         return refusal(13, seconds)
@@ -195,7 +197,104 @@ def is_on_screen(driver, name):
     return driver.execute_script("const it = document.getElementById(arguments[0]).getBoundingClientRect(); return it.height > 0 && it.top >= 0 && it.bottom <= innerHeight", name)
 
 
-PARTS = (fast_scans, refused_scans, unread_answers, receipts, signed_out, telephone)
+def opening(driver, fake):
+    """The desk opens with a right key and a known branch alone, and shows where it is."""
+    page = Desk(driver, fake.url, 1)
+    need("where and when", page.it("place").text, f"Town library, branch 1, {time.strftime('%Y-%m-%d')}")
+    page.it("sign-out").click()
+    need("a closed desk is nowhere", page.it("place").text, "")
+    for answer, told in ((refusal(81), "Refused (81): wrong key, or not allowed to this caller."), (refusal(10), "Refused (10): unknown branch."),
+                         ((0.0, 403, "<html>"), "An answer came that is not the desk's, or that this page can't read (status 403). Whether it was done is not known.")):
+        fake.says(answers({"shelf 7 0": answer}))
+        page.sign_in(7, "deskkey00009")
+        until(told, lambda: page.told() == told and page.is_wrong())
+        need("it stays closed, and keeps nothing", (page.it("desk").is_displayed(), page.stored()), (False, {}))
+    fake.says(answers({}))
+    for branch, key in ((1, "Schlüssel"), ("x", "deskkey00001")):
+        page.sign_in(branch, key)
+        until("what isn't in its form isn't sent", lambda: page.told().startswith("This is not as it has to be") and fake.sent == [])
+    fake.says(answers({"shelf 2 0": [NOTHING, NOTHING, reply("      hold    copy  patron until      title\nend")]}))
+    page.sign_in(2, "deskkey00001")
+    until("no answer is told", lambda: page.told() == "No answer came. It is asked again.")
+    until("it opens once there is one", lambda: page.it("desk").is_displayed())
+    need("the branch", page.it("place").text.split(", ")[1], "branch 2")
+
+
+def scanners(driver, fake):
+    """Whatever a scanner sends at the end of a scan, none is glued to the next, none is lost, and no patron is ended."""
+    desk = Desk(driver, fake.url, 1)
+    fake.says(answers({"check-out": reply("loan 1 due 2026-03-09"), "check-in": reply("fine 0 shelf 1")}))
+    desk.keys("P4", Keys.ENTER, Keys.ENTER, "C1", Keys.ENTER)
+    keys = ActionChains(driver)
+    for copy, ends in ((2, (Keys.ENTER, Keys.ENTER)), (3, (Keys.TAB,)), (4, (Keys.ENTER, Keys.TAB)), (5, (Keys.ENTER, "lf")), (6, ("lf",)), (7, (Keys.TAB, Keys.ENTER)), (8, (Keys.TAB,)), (9, (Keys.ENTER,))):
+        keys.send_keys(f"C{copy}" if copy % 2 else str(copy))
+        for end in ends:
+            if end == "lf":
+                keys.key_down(Keys.CONTROL).send_keys("j").key_up(Keys.CONTROL)
+            else:
+                keys.send_keys(end)
+    keys.perform()
+    until("nine copies", lambda: len([it for it in fake.words() if it.startswith("check-out")]) == 9)
+    need("each by itself, for one patron", [it for it in fake.words() if it.startswith("check-out")], [f"check-out 4 {it} 1" for it in range(1, 10)])
+    driver.execute_script("const data = new DataTransfer(); data.setData('text', '20\\r\\n21\\n'); document.getElementById('scan').dispatchEvent(new ClipboardEvent('paste', {clipboardData: data, cancelable: true}))")
+    until("what is put in together", lambda: "check-out 4 21 1" in fake.words() and "check-out 4 20 1" in fake.words())
+    desk.keys("P5", Keys.ENTER, "30", Keys.ENTER)
+    until("a card in the place of a copy", lambda: desk.told() == "P5 is a patron's card, but a copy is wanted." and desk.is_wrong())
+    need("what follows it waits", desk.items("waiting"), ["copy 30, patron 4"])
+    desk.it("throw-away").click()
+    fake.says(answers({}))
+    desk.it("next").click()
+    need("a patron is wanted", desk.it("asked").text, "Scan or type the patron's number.")
+    desk.keys("C20", Keys.ENTER)
+    until("a copy in the place of a card", lambda: desk.told() == "C20 is a copy, but a patron's card is wanted.")
+    need("nothing is sent", fake.sent, [])
+    desk.go_on()
+    desk.keys("99", Keys.ENTER)
+    until("a refused patron", lambda: desk.is_wrong() and "Refused" in desk.told())
+    need("isn't the current one", desk.it("asked").text, "Scan or type the patron's number.")
+
+
+def hands_at_the_desk(driver, fake):
+    """Wherever the hands of a clerk were, the next scan goes to its line, and much money is taken once the clerk says so."""
+    desk = Desk(driver, fake.url, 1)
+    fake.says(answers({"check-in": reply("fine 0 shelf 1"), "pay": reply("owed 0")}))
+    ActionChains(driver).key_down(Keys.ALT).send_keys("2").key_up(Keys.ALT).send_keys("11", Keys.ENTER).perform()
+    until("a scan after Alt and 2", lambda: "check-in 11 1" in fake.words())
+    need("the focus", desk.focus(), "scan")
+    driver.find_element("css selector", "input[value=check-in]").send_keys(Keys.ARROW_LEFT)
+    need("by the arrows one goes on", driver.switch_to.active_element.get_attribute("value"), "check-out")
+    desk.keys(Keys.ARROW_RIGHT)
+    ActionChains(driver).send_keys("12", Keys.ENTER).perform()
+    until("a scan while a mode has the focus", lambda: "check-in 12 1" in fake.words())
+    until("it is told", lambda: desk.it("told").text.startswith("To the shelf"))
+    # text that is selected stays so, and a scan goes to its line nevertheless
+    told = desk.it("told")
+    ActionChains(driver).move_to_element_with_offset(told, -told.size["width"] // 2 + 15, 0).click_and_hold().move_by_offset(90, 0).release().perform()
+    need("text is selected", driver.execute_script("return getSelection().toString() !== ''"), True)
+    ActionChains(driver).send_keys("13", Keys.ENTER).perform()
+    until("a scan after that", lambda: "check-in 13 1" in fake.words())
+    # words that are being typed aren't torn apart by an answer
+    fake.says(answers({"check-in": reply("fine 0 shelf 1", 0.5), "pay": reply("owed 0")}))
+    desk.keys("14", Keys.ENTER)
+    desk.it("words").send_keys("check-")
+    until("an answer meanwhile", lambda: "copy 14" not in desk.items("waiting") and any("check-in 14 1" in it for it in desk.items("last")))
+    desk.keys("in 15 1")
+    need("what is typed stands together", (desk.focus(), desk.it("words").get_attribute("value")), ("words", "check-in 15 1"))
+    desk.it("words").clear()
+    # money
+    desk.mode("pay")
+    desk.keys("4", Keys.ENTER, "60.00", Keys.ENTER, "0.50", Keys.ENTER)
+    until("much money", lambda: desk.told() == "Does patron 4 pay 60.00? If not, go on without it.")
+    need("nothing is paid yet, and a scanner's Enter pays nothing", (desk.focus(), [it for it in fake.words() if it.startswith("pay")]), ("scan", []))
+    desk.keys(Keys.ENTER)
+    desk.it("again").click()
+    until("both are paid", lambda: [it for it in fake.words() if it.startswith("pay")] == ["pay 4 6000", "pay 4 50"])
+    desk.keys("12345", Keys.ENTER)
+    until("a number is no amount", lambda: desk.told() == "This is not as it has to be: an amount such as 2.50.")
+    need("it isn't sent", len([it for it in fake.words() if it.startswith("pay")]), 2)
+
+
+PARTS = (fast_scans, refused_scans, unread_answers, receipts, signed_out, telephone, opening, scanners, hands_at_the_desk)
 
 
 def main():

@@ -5,6 +5,7 @@ import { once } from "../pages/clicks.js";
 import { today } from "../pages/days.js";
 import { receiptHead, receiptRow } from "../pages/receipt.js";
 import { labelOf } from "../pages/saying.js";
+import { beginsScan, cut, endsScan, itemOf, needsConfirming, scansIn } from "../pages/scans.js";
 import { SignedIn } from "../pages/signed_in.js";
 import { TEXTS } from "../pages/texts.js";
 import { Work } from "../pages/work.js";
@@ -209,6 +210,47 @@ sent = network(() => reply("fine 0 shelf 1"));
 later.work.queue.run();
 await until(() => isQuiet(later));
 is([bodies(sent), later.told.at(-1)], [["check-in 1 1"], [TEXTS.cardKeyNotKept, true]]);
+
+// ---- scanners: ends of lines and tabs part scans, and prefixes are cut off
+is(["10", "10\r\n", "10\r\n20\t30\n", "\r\n", " 10 "].map(scansIn), [["10"], ["10"], ["10", "20", "30"], [], ["10"]]);
+is([[{ key: "Tab" }, "10"], [{ key: "Tab" }, ""], [{ key: "Tab", shiftKey: true }, "10"], [{ key: "j", ctrlKey: true }, ""], [{ key: "J", ctrlKey: true }, "1"], [{ key: "m", ctrlKey: true }, "1"],
+  [{ key: "j" }, "1"], [{ key: "1" }, "1"]].map(([key, text]) => Boolean(endsScan(key, text))), [true, false, false, true, true, true, false, false]);
+is([{ key: "1" }, { key: "P" }, { key: " " }, { key: "Enter" }, { key: "2", altKey: true }, { key: "c", ctrlKey: true }].map(beginsScan), [true, true, false, false, false, false]);
+is(["P4", "p4", "C31", "31", "X31"].map((text) => cut(text)), [{ of: "patron", number: "4" }, { of: "patron", number: "4" }, { of: "copy", number: "31" }, { of: null, number: "31" }, { of: null, number: "X31" }]);
+is(["LIB4", "L31", "P4"].map((text) => cut(text, { patron: "LIB", copy: "L" }).of), ["patron", "copy", null]);
+is(cut("P4", { patron: "", copy: "" }), { of: null, number: "P4" });
+is([itemOf("check-out", null, "P4"), itemOf("check-out", 4, "C31"), itemOf("check-in", null, "31")].map(({ kind, number, patron }) => [kind, number, patron]),
+  [["patron", 4, null], ["copy", 31, 4], ["copy", 31, null]]);
+is([["check-out", 4, "P5"], ["check-in", null, "P5"], ["check-out", null, "C31"], ["pay", 4, "P5"], ["place-hold", 4, "C31"]].map((asked) => itemOf(...asked).problem), [
+  "P5 is a patron's card, but a copy is wanted.", "P5 is a patron's card, but a copy is wanted.", "C31 is a copy, but a patron's card is wanted.",
+  "P5 is a patron's card, but an amount is wanted.", "C31 is a copy, but the number of a title is wanted."]);
+is([["check-out", 4, "C"], ["check-out", 4, "C031"], ["pay", 4, "31"]].map((asked) => itemOf(...asked).kind), ["wrong", "wrong", "wrong"]);
+// a book that is scanned first opens no patron, and a card that is scanned as a copy lends nothing
+sent = network(turns([reply("loan 1 due 2026-03-09")], { "page 4": page(4, "Di Eck") }));
+it = desk();
+for (const scan of ["C20", "P4", "P20", "C31"]) it.work.scan("check-out", scan);
+for (const [words, waits] of [[[], 3], [["page 4"], 1], [["page 4", "check-out 4 31 1", "page 4"], 0]]) {
+  await until(() => isQuiet(it));
+  is([bodies(sent), it.waiting().length], [words, waits]);
+  it.work.queue.sendOn();
+}
+
+// ---- an amount above 50.00 is taken once the clerk says so
+sent = network(turns([reply("owed 0")], { "page 4": page(4, "Di Eck") }));
+it = desk();
+for (const scan of ["4", "50.00", "50.01", "0.20"]) it.work.scan("pay", scan);
+await until(() => isQuiet(it));
+is([acts(sent), it.told.at(-1), it.waiting()], [["pay 4 5000"], ["Does patron 4 pay 50.01? If not, go on without it.", true], ["0.20 paid, patron 4"]]);
+it.work.queue.sendAgain();
+await until(() => isQuiet(it));
+is(acts(sent), ["pay 4 5000", "pay 4 5001", "pay 4 20"]);
+it.work.scan("pay", "1234.00");
+await until(() => isQuiet(it));
+is([it.work.queue.isStopped, needsConfirming(it.work.queue.held)], [true, true]);
+it.work.queue.sendOn();
+it.work.scan("pay", "1234");
+await until(() => isQuiet(it));
+is([acts(sent).length, it.told.at(-1)], [3, ["This is not as it has to be: an amount such as 2.50.", true]]);
 
 // ---- a receipt is its patron's alone: what is done for others, or asked, isn't on it, nor a card key
 const ann = page(1, "Ann Bell", "loan 1 due 2026-03-09 renewals 0 title 100 Rivers of the North", "hold 7 at 2 waiting title 200 Salt Roads", "hold 8 at 1 waiting from 2026-04-01 title 400 Winter Bees");

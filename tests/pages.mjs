@@ -2,7 +2,7 @@
 import { deepStrictEqual as same } from "node:assert";
 import { readAnswer, readReply, readPage } from "../pages/replies.js";
 import { daysBetween, today } from "../pages/days.js";
-import { centsOf, commandBegun, holdBody, isCommand, isNumber, wordsOf } from "../pages/commands.js";
+import { centsOf, commandBegun, holdBody, isCommand, isKey, isNumber, wordsOf } from "../pages/commands.js";
 import { Door, newKey } from "../pages/asking.js";
 import { TEXTS, amount, branchName, say } from "../pages/texts.js";
 import { Kept, network } from "./network.mjs";
@@ -116,7 +116,8 @@ is(isCommand(wordsOf("grace 1 1 2")), true);
 is(isCommand(wordsOf("grace 1 1")), false);
 is(isCommand(null), false);
 is(["0", "1", "4294967295", "4294967296", "01", "-1", "1.0", ""].map(isNumber), [true, true, true, false, false, false, false, false]);
-is(["2", "2.50", "0,05", "12.5", "1.005", ".5", "-1"].map(centsOf), [200, 250, 5, null, null, null, null]);
+is(["2.50", "0,05", "2", "250", "12.5", "1.005", ".5", "-1", "1.2.50"].map(centsOf), [250, 5, null, null, null, null, null, null, null]);
+is(["deskkey00001", "A2345678", "short", "a".repeat(33), "key with blank", "clé234567"].map(isKey), [true, true, false, false, false, false]);
 is([0, 5, 250, 100000].map(amount), ["0.00", "0.05", "2.50", "1000.00"]);
 is(daysBetween("2026-03-28", "2026-03-30"), 2);
 is(daysBetween("2026-03-09", "2026-03-02"), -7);
