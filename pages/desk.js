@@ -2,9 +2,10 @@
 
 import { askUntilAnswered, newKey } from "./asking.js";
 import { isKey, isNumber } from "./commands.js";
+import { clearLists, listenForLists } from "./desk_lists.js";
 import { saidNo } from "./saying.js";
 import { focusScan, listenForScans } from "./scan_line.js";
-import { it, note, print, showHead, showVisit, showWaiting, showWanted, tell } from "./screen.js";
+import { it, note, print, putSlipsAway, showHead, showSlip, showVisit, showWaiting, showWanted, tell } from "./screen.js";
 import { isSoundOn, switchSound } from "./sound.js";
 import { TEXTS, fillIn, say } from "./texts.js";
 import { listenForWords } from "./word_line.js";
@@ -20,10 +21,10 @@ function desk() {
   return text === null ? null : JSON.parse(text);
 }
 
-// Sends words by the key of a desk under a key of theirs, until they are answered or the signal ends it; each time that no answer came it is told.
+// Sends words by the key of a desk under a key of theirs, until they are answered or the signal ends it; `unknown` is called each time that no answer came.
 function askBy(keyValue, signal, words, requestKey, unknown) {
-  const request = { method: "POST", path: "/desk", keyField: "Desk-Key", keyValue, requestKey, body: JSON.stringify(words) };
-  return askUntilAnswered(request, () => tell(unknown, true), { signal });
+  const request = { method: "POST", path: "/desk", keyField: "Desk-Key", keyValue, requestKey, body: JSON.stringify(words.map(String)) };
+  return askUntilAnswered(request, unknown, { signal });
 }
 
 const screen = {
@@ -35,9 +36,15 @@ const screen = {
   },
   wanted: showWanted,
   visit: showVisit,
+  slip: showSlip,
 };
 
 it("print-receipt").addEventListener("click", () => print("receipt"));
+it("print-slips").addEventListener("click", () => print("slips"));
+it("put-away").addEventListener("click", () => {
+  putSlipsAway();
+  focusScan();
+});
 
 it("sound").checked = isSoundOn();
 it("sound").addEventListener("change", () => {
@@ -51,8 +58,10 @@ function open() {
   leaving = new AbortController();
   const { key, branch } = desk();
   const { signal } = leaving;
-  work = new Work({ branch, ask: (...asked) => askBy(key, signal, ...asked), screen, storage: sessionStorage });
-  showWanted(null);
+  const ask = (words, requestKey, unknown) => askBy(key, signal, words, requestKey, () => tell(unknown, true));
+  work = new Work({ branch, ask, screen, storage: sessionStorage });
+  showVisit(work.service.visit);
+  showWanted(work.expected);
   focusScan();
   if (work.queue.isStopped) tell(TEXTS.stillStopped, true);
   work.queue.run();
@@ -64,7 +73,7 @@ async function tryToOpen(key, branch) {
   const mine = new AbortController();
   leaving = mine;
   tell(TEXTS.sending);
-  const answer = await askBy(key, mine.signal, ["shelf", branch, "0"], newKey(), TEXTS.unknownOpening);
+  const answer = await askBy(key, mine.signal, ["shelf", branch, "0"], newKey(), () => tell(TEXTS.unknownOpening, true));
   if (!answer || mine !== leaving) return;
   if (answer.reply?.kind !== "shown") return tell(saidNo(answer.reply ? { strange: 200 } : answer), true);
   sessionStorage.setItem(DESK, JSON.stringify({ key, branch }));
@@ -92,6 +101,8 @@ it("sign-out").addEventListener("click", () => {
   leaving.abort();
   sessionStorage.clear();
   showVisit(null);
+  putSlipsAway();
+  clearLists();
   showHead(null);
   it("desk").hidden = true;
   it("sign-in").hidden = false;
@@ -105,4 +116,5 @@ it("sign-out").addEventListener("click", () => {
 fillIn();
 listenForScans(() => work);
 listenForWords(() => work);
+listenForLists(() => ({ branch: desk().branch, ask: (words, unknown) => askBy(desk().key, leaving.signal, words, newKey(), unknown) }));
 if (desk()) open();

@@ -3,9 +3,9 @@
 import { once } from "./clicks.js";
 import { holdBody, isKey, isNumber } from "./commands.js";
 import { daysBetween, today } from "./days.js";
-import { saidNo } from "./saying.js";
+import { renewalsLeft, saidNo, stateOf } from "./saying.js";
 import { SignedIn } from "./signed_in.js";
-import { TEXTS, amount, branchName, fillIn, say } from "./texts.js";
+import { BRANCHES, TEXTS, amount, fillIn, say } from "./texts.js";
 
 const it = (id) => document.getElementById(id);
 // who is signed in, if anybody is
@@ -48,20 +48,9 @@ function left(loan) {
   return [days === 1 ? TEXTS.oneDayLeft : say(TEXTS.daysLeft, { days }), days < 3 ? "soon" : null];
 }
 
-function renewals(loan) {
-  if (loan.renewals === 0) return TEXTS.noRenewalLeft;
-  return loan.renewals === 1 ? TEXTS.oneRenewalLeft : say(TEXTS.renewalsLeft, loan);
-}
-
 function loanItem(loan) {
-  return item([[loan.text, "title"], [loan.due, null], left(loan), [renewals(loan), null]],
+  return item([[loan.text, "title"], [loan.due, null], left(loan), [renewalsLeft(loan), null]],
     loan.renewals > 0 ? { text: TEXTS.renew, label: say(TEXTS.renewOf, loan), path: `/loans/${loan.loan}/renew` } : null);
-}
-
-function stateOf(found) {
-  const hold = { ...found, branch: branchName(found.branch) };
-  if (hold.state === "ready") return say(TEXTS.ready, hold);
-  return hold.from ? say(TEXTS.waitingFrom, hold) : say(TEXTS.waiting, hold);
 }
 
 function holdItem(hold) {
@@ -163,6 +152,8 @@ it("sign-out").addEventListener("click", () => {
 });
 
 fillIn();
+
+it("branches").append(...Object.entries(BRANCHES).map(([branch, name]) => new Option(name, branch)));
 
 // What was on its way when the tab was loaded anew comes first.
 patron = SignedIn.before(tellUnknown);

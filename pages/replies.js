@@ -1,9 +1,6 @@
 // What the desk answers, read from its lines. tests/pages.mjs tries every form.
 
-const NUMBER = "(0|[1-9][0-9]{0,15})";
-const DAY = "([0-9]{4}-[0-9]{2}-[0-9]{2})";
-// a name or a title: whatever a line can hold, and a line ends at a newline alone
-const TEXT = "([^\\n]+)";
+import { DAY, NUMBER, TEXT, firstOf } from "./forms.js";
 
 const PLACES = [
   [`shelf ${NUMBER}`, ([branch]) => ({ to: "shelf", branch: Number(branch) })],
@@ -11,15 +8,6 @@ const PLACES = [
   [`transit ${NUMBER} for ${NUMBER}`, ([branch, hold]) => ({ to: "branch", branch: Number(branch), hold: Number(hold) })],
   [`transit ${NUMBER}`, ([branch]) => ({ to: "branch", branch: Number(branch), hold: null })],
 ];
-
-// The first of these forms that the whole text has.
-function firstOf(forms, text) {
-  for (const [form, made] of forms) {
-    const found = new RegExp(`^${form}$`).exec(text);
-    if (found) return made(found.slice(1));
-  }
-  return null;
-}
 
 export function readPlace(text) {
   return firstOf(PLACES, text);

@@ -1,15 +1,27 @@
 // What is said to the clerk: of replies, of refusals, and of what waits.
 
+import { patronOf } from "./receipt.js";
 import { MEANINGS, TEXTS, amount, branchName, say } from "./texts.js";
 
-export function placeOf(found) {
-  const place = { ...found, branch: branchName(found.branch) };
-  if (place.to === "shelf") return say(TEXTS.toShelf, place);
-  if (place.to === "hold shelf") return say(TEXTS.toHoldShelf, place);
-  return say(place.hold === null ? TEXTS.toBranch : TEXTS.toBranchFor, place);
+// Where a copy is.
+export function whereIs(place) {
+  return place.to === "shelf" ? say(TEXTS.onShelf, { branch: branchName(place.branch) }) : placeOf(place, place.name);
 }
 
-export function said(reply) {
+// Where a copy goes; with the name of the patron for whom, where it is known.
+export function placeOf(found, name) {
+  const place = { ...found, name, branch: branchName(found.branch) };
+  switch (found.to) {
+    case "shelf": return say(TEXTS.toShelf, place);
+    case "hold shelf": return say(name ? TEXTS.toHoldShelfOf : TEXTS.toHoldShelf, place);
+    case "branch": return say(found.hold === null ? TEXTS.toBranch : name ? TEXTS.toBranchOf : TEXTS.toBranchFor, place);
+    case "loan": return say(name ? TEXTS.onLoanOf : TEXTS.onLoanUntil, place);
+    default: return found.to === "missing" ? TEXTS.isMissing : TEXTS.isWithdrawn;
+  }
+}
+
+// What a reply says; of a copy that comes in, with the name of the patron whose turn it is.
+export function said(reply, name) {
   switch (reply.kind) {
     case "lent": return say(TEXTS.lent, reply);
     case "held": return say(TEXTS.heldNow, reply);
@@ -17,7 +29,7 @@ export function said(reply) {
     case "moved": return placeOf(reply.place);
     case "lost": return say(TEXTS.lost, { fine: amount(reply.fine), price: amount(reply.price) });
     case "checked in":
-      return `${placeOf(reply.place)} ${reply.fine === 0 ? TEXTS.noFine : say(TEXTS.fine, { fine: amount(reply.fine) })}`;
+      return `${placeOf(reply.place, name)} ${reply.fine === 0 ? TEXTS.noFine : say(TEXTS.fine, { fine: amount(reply.fine) })}`;
     case "page":
       return say(TEXTS.pageOf, { patron: reply.patron, name: reply.name, loans: reply.loans.length, holds: reply.holds.length, owed: amount(reply.owed) });
     case "shown": return reply.lines[0];
@@ -25,11 +37,47 @@ export function said(reply) {
   }
 }
 
+// The title that words were about and the patron whom they were for, as far as what was asked after them tells these.
+function about(words, reply, { page, copy }) {
+  const mine = page?.loans.find(({ loan }) => loan === reply.loan) ?? page?.holds.find(({ hold }) => hold === reply.hold);
+  if (reply.kind === "checked in") return { text: copy?.text, name: reply.place.hold && copy?.place.hold === reply.place.hold ? copy.place.name : undefined };
+  if (copy) return { text: copy.text, name: copy.place.name };
+  return { text: mine?.text, name: mine || patronOf(words) === page?.patron ? page?.name : undefined };
+}
+
+// What accepted words did, with the title and for whom.
+export function saidFully(words, reply, more) {
+  const { text, name } = about(words, reply, more);
+  const isIn = reply.kind === "checked in";
+  const told = text ? say(TEXTS.ofTitle, { text, told: said(reply, name) }) : said(reply, name);
+  return name && !isIn ? say(TEXTS.forName, { told, name }) : told;
+}
+
 // What an answer says that isn't a reply.
 export function saidNo(answer) {
   const number = answer.refusal ?? answer.fault ?? answer.status ?? answer.strange;
   const text = answer.refusal ? TEXTS.refused : answer.fault ? TEXTS.faulted : answer.status ? TEXTS.notTaken : TEXTS.strange;
   return say(text, { number, meaning: MEANINGS[number] });
+}
+
+export function renewalsLeft(loan) {
+  if (loan.renewals === 0) return TEXTS.noRenewalLeft;
+  return loan.renewals === 1 ? TEXTS.oneRenewalLeft : say(TEXTS.renewalsLeft, loan);
+}
+
+// Where a hold stands; until when a copy is kept for it is known to the desk alone.
+export function stateOf(found, until) {
+  const hold = { ...found, until, branch: branchName(found.branch) };
+  if (hold.state === "ready") return say(until ? TEXTS.readyUntil : TEXTS.ready, hold);
+  return say(hold.from ? TEXTS.waitingFrom : TEXTS.waiting, hold);
+}
+
+// The lines of a patron's page as the desk shows them.
+export function pageLines({ loans, holds }, untils) {
+  return [
+    ...loans.map((loan) => say(TEXTS.loanLine, { ...loan, renewals: renewalsLeft(loan) })),
+    ...holds.map((hold) => say(TEXTS.holdLine, { ...hold, state: stateOf(hold, untils[hold.hold]) })),
+  ];
 }
 
 // Words without the card key that a new patron is enrolled with: it is neither shown nor kept.
@@ -45,6 +93,6 @@ export function labelOf(item) {
   const number = item.kind === "amount" ? amount(item.number) : item.number;
   if (item.kind === "wrong") return item.text;
   if (item.kind === "words") return shownWords(item.words);
-  const what = { patron: TEXTS.aPatron, copy: TEXTS.aCopy, loan: TEXTS.aLoan, title: TEXTS.aTitle, amount: TEXTS.anAmount }[item.kind];
+  const what = { patron: TEXTS.aPatron, copy: TEXTS.aCopy, title: TEXTS.aTitle, amount: TEXTS.anAmount }[item.kind];
   return say(item.patron === null ? what : TEXTS.forPatron, { what: say(what, { number }), number, patron: item.patron });
 }

@@ -30,7 +30,7 @@ export const needsPatron = (mode) => ["check-out", "pay", "place-hold"].includes
 // What is wanted next of the scanner.
 export function wanted(mode, patron) {
   if (needsPatron(mode) && patron === null) return "patron";
-  return { "pay": "amount", "place-hold": "title", "renew": "loan" }[mode] ?? "copy";
+  return { "pay": "amount", "place-hold": "title" }[mode] ?? "copy";
 }
 
 const CONFIRMED_ABOVE = 5000;
@@ -40,8 +40,9 @@ export function needsConfirming({ kind, number, isConfirmed }) {
   return kind === "amount" && number > CONFIRMED_ABOVE && !isConfirmed;
 }
 
-function nameOf(kind) {
-  return { patron: TEXTS.theCard, copy: TEXTS.theCopy, loan: TEXTS.theLoan, title: TEXTS.theTitle, amount: TEXTS.theAmount }[kind];
+// What a kind of scan is called.
+export function nameOf(kind) {
+  return { patron: TEXTS.theCard, copy: TEXTS.theCopy, title: TEXTS.theTitle, amount: TEXTS.theAmount }[kind];
 }
 
 function problemOf(kind, text, { of, number }) {
@@ -65,7 +66,6 @@ export function wordsOfItem({ kind, mode, number, patron }, branch) {
   return {
     "check-out": ["check-out", patron, number, branch],
     "check-in": ["check-in", number, branch],
-    "renew": ["renew", number],
     "pay": ["pay", patron, number],
     "place-hold": ["place-hold", patron, number, branch],
   }[mode];

@@ -2,7 +2,8 @@
 
 import { today } from "./days.js";
 import { receiptHead } from "./receipt.js";
-import { labelOf } from "./saying.js";
+import { labelOf, pageLines } from "./saying.js";
+import { slipLines } from "./slips.js";
 import { soundAlarm } from "./sound.js";
 import { TEXTS, amount, branchName, say } from "./texts.js";
 import { needsConfirming, wanted } from "./scans.js";
@@ -50,11 +51,32 @@ export function showWaiting(queue) {
   it("throw-away").hidden = !waits;
 }
 
-// Shows the receipt of the patron at the desk; null where nobody was there yet.
+// Shows the patron at the desk and the receipt; null where nobody was there yet.
 export function showVisit(visit) {
+  const owed = visit && amount(visit.page.owed);
+  it("patron").hidden = visit === null;
+  it("patron-head").textContent = visit ? say(TEXTS.patronHead, { ...visit.page, owed }) : "";
+  it("patron-lines").replaceChildren(...(visit ? pageLines(visit.page, visit.untils) : []).map(line));
   it("visit").hidden = visit === null;
   it("receipt-head").textContent = visit ? receiptHead(visit.receipt) : "";
   it("receipt").replaceChildren(...(visit?.receipt.rows ?? []).map(line));
+}
+
+// Adds a slip to those that are to be printed.
+export function showSlip(slip) {
+  const made = document.createElement("article");
+  made.append(...slipLines(slip).map((text) => {
+    const shown = document.createElement("p");
+    shown.textContent = text;
+    return shown;
+  }));
+  it("slip-list").append(made);
+  it("slips").hidden = false;
+}
+
+export function putSlipsAway() {
+  it("slip-list").replaceChildren();
+  it("slips").hidden = true;
 }
 
 // Prints one part of the page alone.
@@ -66,8 +88,7 @@ export function print(part) {
 export function showWanted(patron) {
   const asked = {
     patron: TEXTS.askPatron,
-    loan: TEXTS.askLoan,
-    copy: patron === null || mode() === "check-in" ? TEXTS.askCopyIn : TEXTS.askCopy,
+    copy: { "check-in": TEXTS.askCopyIn, "renew": TEXTS.askRenewed }[mode()] ?? TEXTS.askCopy,
     amount: TEXTS.askAmount,
     title: TEXTS.askTitle,
   }[wanted(mode(), patron)];

@@ -30,6 +30,8 @@ def answers(table, seconds=0.0):
                 return (max(told[0], seconds), *told[1:]) if told else NOTHING
         if what.startswith("shelf "):
             return reply("      hold    copy  patron until      title\nend", seconds)
+        if what.startswith("copy "):
+            return reply(f"copy {what.split()[1]} home 1 kind 1 price 100 title 7 Tides\nshelf 1", seconds)
         if what.startswith("page ") and what.split()[1] in PAGE:
             return reply(PAGE[what.split()[1]], seconds)
         return refusal(13, seconds)
@@ -91,7 +93,7 @@ def unread_answers(driver, fake):
     until("it is told", lambda: "(status 403)" in desk.told() and desk.is_wrong())
     need("it is asked once", len(fake.sent), 1)
     desk.it("again").click()
-    until("in the end it came in", lambda: "To the shelf" in desk.told())
+    until("in the end it came in", lambda: desk.told() == "Tides: To the shelf, branch 1. No fine.")
     checked = [key for what, key in fake.sent if what.startswith("check-in")]
     need("under one key", (len(checked), len(set(checked))), (4, 1))
     fake.says(answers({"page 9": reply("patron 9 owed 0 name Ida\u2028Jo")}))
@@ -266,7 +268,7 @@ def hands_at_the_desk(driver, fake):
     desk.keys(Keys.ARROW_RIGHT)
     ActionChains(driver).send_keys("12", Keys.ENTER).perform()
     until("a scan while a mode has the focus", lambda: "check-in 12 1" in fake.words())
-    until("it is told", lambda: desk.it("told").text.startswith("To the shelf"))
+    until("it is told", lambda: desk.told() == "Tides: To the shelf, branch 1. No fine.")
     # text that is selected stays so, and a scan goes to its line nevertheless
     told = desk.it("told")
     ActionChains(driver).move_to_element_with_offset(told, -told.size["width"] // 2 + 15, 0).click_and_hold().move_by_offset(90, 0).release().perform()
@@ -294,7 +296,80 @@ def hands_at_the_desk(driver, fake):
     need("it isn't sent", len([it for it in fake.words() if it.startswith("pay")]), 2)
 
 
-PARTS = (fast_scans, refused_scans, unread_answers, receipts, signed_out, telephone, opening, scanners, hands_at_the_desk)
+def rows(desk):
+    return desk.items("list-rows")
+
+
+def printed(driver, button):
+    """The text that is printed by a button."""
+    driver.execute_script("window.print = () => { window.prints = (window.prints ?? 0) + 1; }")
+    driver.find_element("id", button).click()
+    driver.execute_cdp_cmd("Emulation.setEmulatedMedia", {"media": "print"})
+    text = driver.execute_script("return window.prints + '\\n' + document.body.innerText").replace("\t", " ")
+    driver.execute_cdp_cmd("Emulation.setEmulatedMedia", {"media": ""})
+    return [line.strip() for line in text.split("\n") if line.strip()]
+
+
+def lists(driver, fake):
+    """Lists of the branch are shown, go on where there is more, and are printed; a copy, a title and an account are looked up."""
+    desk = Desk(driver, fake.url, 1)
+    many = "\n".join(f"hold {it} copy {it + 100} title {it} Title {it}" for it in range(1, 101))
+    fake.says(answers({"pulls 1 0": reply(f"{many}\nafter 100", 0.4), "pulls 1 100": reply("hold 101 copy 201 title 101 Last\nend"), "debts 0": reply("end"), "transits": refusal(10),
+                       "copy 20": reply("copy 20 home 2 kind 1 price 1200 title 200 Salt Roads\nloan 2 due 2026-03-09 patron 2 Bo Carr"), "account 2 0": (0.0, 403, "<html>"),
+                       "overdue": reply("what")}))
+    driver.find_element("css selector", "#list-buttons button[value=pulls]").click()
+    until("a hundred rows", lambda: len(rows(desk)) == 100)
+    need("more is offered", desk.it("more").is_displayed(), True)
+    desk.it("more").click()
+    until("the rest", lambda: len(rows(desk)) == 101)
+    need("first and last", (rows(desk)[0], rows(desk)[-1], desk.it("more").is_displayed()), ("101 Title 1 1", "201 Last 101", False))
+    paper = printed(driver, "print-list")
+    need("what is printed", (paper[0], paper[1:4], paper[-1], len(paper)), ("1", ["To be taken from the shelves", f"branch 1, {time.strftime('%Y-%m-%d')}", "Copy Title Hold"], "201 Last 101", 105))
+    # two lists are asked for, and the first is answered last
+    for value in ("pulls", "debts"):
+        driver.find_element("css selector", f"#list-buttons button[value={value}]").click()
+    until("none", lambda: desk.it("list-told").text == "There are none.")
+    time.sleep(0.6)
+    need("the list that was asked for last", (desk.it("list-head").text, rows(desk)), ("Who owes", []))
+    for value, told in (("transits", "Refused (10): unknown branch."), ("overdue", "An answer came that is not the desk's, or that this page can't read (status 200). Whether it was done is not known.")):
+        driver.find_element("css selector", f"#list-buttons button[value={value}]").click()
+        until(told, lambda: desk.it("list-told").text == told)
+    desk.type("looked", "C20")
+    desk.it("looked").send_keys(Keys.ENTER)
+    until("a copy", lambda: rows(desk) == ["20 Salt Roads 200 branch 2 12.00 Loan 2 of Bo Carr, due on 2026-03-09."])
+    desk.type("looked", "P2")
+    driver.find_element("css selector", "#looking button[value=copy]").click()
+    need("a card is no copy", desk.it("list-told").text, "P2 is a patron's card, but a copy is wanted.")
+    driver.find_element("css selector", "#looking button[value=account]").click()
+    until("an answer that isn't understood", lambda: "(status 403)" in desk.it("list-told").text)
+    need("no name is empty, and it fits a telephone", ([it for it in desk.names() if not it[1]], desk.fits(320)), ([], True))
+    desk.it("sign-out").click()
+    need("nothing of it stays", rows(desk), [])
+
+
+def slips(driver, fake):
+    """What came in for a hold or another branch has a slip, one to a page, and each scan tells its title and for whom."""
+    desk = Desk(driver, fake.url, 1)
+    fake.says(answers({"check-in 20": reply("fine 0 ready 1 at 1 until 2026-03-07"), "copy 20": reply("copy 20 home 2 kind 1 price 1200 title 200 Salt Roads\nready 1 at 1 until 2026-03-07 patron 2 Bo Carr"),
+                       "check-in 11": reply("fine 0 transit 2 for 2"), "copy 11": reply("copy 11 home 1 kind 1 price 2500 title 100 Rivers of the North\ntransit 2 for 2 patron 3 Cy Dunn"),
+                       "check-in": reply("fine 0 shelf 1")}, 0.1))
+    desk.mode("check-in")
+    desk.keys("20", Keys.ENTER, "11", Keys.ENTER, "12", Keys.ENTER)
+    until("a book for the shelf", lambda: desk.told() == "Tides: To the shelf, branch 1. No fine.")
+    need("what each was told", desk.items("last")[1:], ["check-in 11 1: Rivers of the North: In transit to branch 2, for Cy Dunn, hold 2. No fine.",
+                                                       "check-in 20 1: Salt Roads: Ready for Bo Carr, hold 1, at branch 1 until 2026-03-07. No fine."])
+    need("the slips", printed(driver, "print-slips"), ["1", "Ready at branch 1 until 2026-03-07", "Hold 1, Bo Carr", "Salt Roads", "Copy 20", "To branch 2", "Hold 2, Cy Dunn", "Rivers of the North", "Copy 11"])
+    desk.it("put-away").click()
+    need("they are put away", desk.it("slips").is_displayed(), False)
+    # the patron's page, with until
+    fake.says(answers({"page 2": reply("patron 2 owed 0 name Bo Carr\nhold 7 at 2 ready title 200 Salt Roads"), "shelf 2 6": reply("      hold    copy  patron until      title\n         7      20       2 2026-03-07 Salt Roads\nend")}))
+    desk.mode("check-out")
+    desk.keys("2", Keys.ENTER)
+    until("until when", lambda: desk.items("patron-lines") == ["Salt Roads, hold 7, ready at branch 2 until 2026-03-07"])
+    need("who", desk.it("patron-head").text, "Bo Carr, patron 2: owes 0.00")
+
+
+PARTS = (lists, slips, fast_scans, refused_scans, unread_answers, receipts, signed_out, telephone, opening, scanners, hands_at_the_desk)
 
 
 def main():

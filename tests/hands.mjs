@@ -6,6 +6,7 @@ import { today } from "../pages/days.js";
 import { receiptHead, receiptRow } from "../pages/receipt.js";
 import { labelOf } from "../pages/saying.js";
 import { beginsScan, cut, endsScan, itemOf, needsConfirming, scansIn } from "../pages/scans.js";
+import { slipLines } from "../pages/slips.js";
 import { SignedIn } from "../pages/signed_in.js";
 import { TEXTS } from "../pages/texts.js";
 import { Work } from "../pages/work.js";
@@ -23,8 +24,9 @@ const fault = (number) => [5, 503, JSON.stringify({ fault: number })];
 const page = (patron, name, ...lines) => [`patron ${patron} owed 0 name ${name}`, ...lines].join("\n");
 
 // The answers to acts in turn, of which the last one stays; a question is answered by the words that it begins with.
-function turns(acts, questions = {}) {
+function turns(acts, asked = {}) {
   const left = [...acts];
+  const questions = { ...asked, ...(asked["copy 20"] ? {} : { "copy": "copy 1 home 1 kind 1 price 100 title 1 Any\nshelf 1" }) };
   return (body) => {
     const words = JSON.parse(body).join(" ");
     const question = Object.keys(questions).find((it) => words === it || words.startsWith(`${it} `));
@@ -36,7 +38,7 @@ function turns(acts, questions = {}) {
 // A desk of branch 1 in a tab, and what its screen was told.
 function desk(storage = new Kept()) {
   const leaving = new AbortController();
-  const told = [], noted = [], receipts = [];
+  const told = [], noted = [], receipts = [], slips = [];
   let unknown = 0, waiting = [], wanted = null;
   const ask = (words, requestKey, text) => askUntilAnswered(
     { method: "POST", path: "/desk", keyField: "Desk-Key", keyValue: "deskkey00001", requestKey, body: JSON.stringify(words) },
@@ -46,10 +48,11 @@ function desk(storage = new Kept()) {
     noted: (what, text) => noted.push(`${what}: ${text}`),
     waiting: (queue) => { waiting = queue.waiting.map(labelOf); },
     wanted: (patron) => { wanted = patron; },
+    slip: (slip) => slips.push(slipLines(slip)),
     visit: (visit) => receipts.push([receiptHead(visit.receipt), ...visit.receipt.rows]),
   };
   const work = new Work({ branch: "1", ask, screen, storage });
-  return { work, told, noted, receipts, storage, leaving, unknown: () => unknown, waiting: () => waiting, wanted: () => wanted };
+  return { work, told, noted, receipts, slips, storage, leaving, unknown: () => unknown, waiting: () => waiting, wanted: () => wanted };
 }
 
 async function until(holds) {
@@ -81,26 +84,27 @@ is(it.receipts.at(-1), [`Di Eck, ${dayOf}, branch 1`, "Maps, Old and New, due on
 
 // ---- fifty scans at once, over a network that loses answers, cuts them off and tells 502: each is done once, in its order
 let lost = 0;
+const answered = turns([reply("fine 0 shelf 1", 0)]);
 sent = network((body, at) => {
   if (at % 3 !== 2) { lost += 1; return [[0, null], [0, 502, "<html>"], [0, 200, null]][at % 2 + (at % 5 === 0 ? 1 : 0)]; }
-  return reply("fine 0 shelf 1", 0);
+  return answered(body);
 });
 it = desk();
 for (let copy = 1; copy <= 50; copy += 1) it.work.scan("check-in", String(copy));
 is(it.waiting().length, 49);
 await until(() => isQuiet(it));
-const keys = [...new Map(sent.map(([, key, , body]) => [key, body])).values()];
+const keys = [...new Map(sent.map(([, key, , body]) => [key, body])).values()].filter((body) => body.includes("check-in"));
 is(keys.map((body) => JSON.parse(body)[1]), Array.from({ length: 50 }, (_, at) => String(at + 1)));
-is([lost, it.unknown(), sent.length], [100, 100, 150]);
+is([lost, it.unknown(), sent.length], [200, 200, 300]);
 is(it.noted.length, 50);
 
 // ---- 10, 1, 1 scanned in are three copies, and never an eleventh
-sent = network(() => reply("fine 0 shelf 1", 10));
+sent = network(turns([reply("fine 0 shelf 1", 10)]));
 it = desk();
 for (const scan of ["10", "1", "1"]) it.work.scan("check-in", scan);
 await until(() => isQuiet(it));
-is(bodies(sent), ["check-in 10 1", "check-in 1 1", "check-in 1 1"]);
-is(new Set(sent.map(([, key]) => key)).size, 3);
+is(acts(sent), ["check-in 10 1", "check-in 1 1", "check-in 1 1"]);
+is(new Set(keysOf(sent)).size, 3);
 
 // ---- a refusal stops the queue, and says so; what waits is sent on, or thrown away
 for (const [answer, text] of [[refusal(36), "Refused (36): another patron stands in line."], [[5, 400, '{"status":400}'], "The desk did not take this (status 400)."]]) {
@@ -116,7 +120,7 @@ for (const [answer, text] of [[refusal(36), "Refused (36): another patron stands
   await until(() => isQuiet(it));
   is(acts(sent).slice(1), ["check-out 4 32 1", "check-out 4 33 1", "check-out 4 34 1"]);
 }
-sent = network([refusal(13), reply("fine 0 shelf 1")]);
+sent = network(turns([refusal(13), reply("fine 0 shelf 1")]));
 it = desk();
 for (const scan of ["1", "2", "3"]) it.work.scan("check-in", scan);
 await until(() => isQuiet(it));
@@ -124,19 +128,20 @@ it.work.queue.throwAway();
 is([it.waiting(), it.work.queue.isStopped], [[], false]);
 it.work.scan("check-in", "4");
 await until(() => isQuiet(it));
-is(bodies(sent), ["check-in 1 1", "check-in 4 1"]);
+is(acts(sent), ["check-in 1 1", "check-in 4 1"]);
 
 // ---- a fault, or an answer that isn't understood, stops it likewise: the same is sent again under its key, before what waits
 for (const [answer, text] of [[fault(91), /^The desk met a fault \(91\): /], [[5, 403, "<html>"], /status 403/], [[5, 200, '{"reply":"what"}'], /status 200/]]) {
-  sent = network([answer, reply("fine 0 shelf 1"), reply("fine 0 shelf 1")]);
+  sent = network(turns([answer, reply("fine 0 shelf 1")]));
   it = desk();
   for (const scan of ["1", "2"]) it.work.scan("check-in", scan);
   await until(() => isQuiet(it));
   is([it.work.queue.isStopped, sent.length, it.unknown(), text.test(it.told.at(-1)[0]), it.told.at(-1)[1]], [true, 1, 0, true, true]);
   it.work.queue.sendAgain();
   await until(() => isQuiet(it));
-  is(bodies(sent), ["check-in 1 1", "check-in 1 1", "check-in 2 1"]);
-  is([sent[0][1] === sent[1][1], sent[1][1] === sent[2][1]], [true, false]);
+  is(acts(sent), ["check-in 1 1", "check-in 1 1", "check-in 2 1"]);
+  const [first, second, third] = keysOf(sent);
+  is([first === second, second === third], [true, false]);
 }
 
 // ---- a refused patron doesn't become the current one, nor does what was scanned for that card go to anybody else
@@ -144,7 +149,7 @@ sent = network(() => refusal(11));
 it = desk();
 for (const scan of ["44", "31"]) it.work.scan("check-out", scan);
 await until(() => isQuiet(it));
-is([it.work.visit, it.work.expected, it.wanted()], [null, null, null]);
+is([it.work.service.visit, it.work.expected, it.wanted()], [null, null, null]);
 is(it.waiting(), ["copy 31, patron 44"]);
 it.work.queue.sendOn();
 await until(() => isQuiet(it));
@@ -153,17 +158,17 @@ it.work.queue.throwAway();
 sent = network(() => reply(page(4, "Di Eck")));
 it.work.scan("check-out", "4");
 await until(() => isQuiet(it));
-is([it.work.visit.page.name, it.work.expected], ["Di Eck", 4]);
+is([it.work.service.visit.page.name, it.work.expected], ["Di Eck", 4]);
 
 // ---- what isn't a number is told in its turn, and stops what follows it
-sent = network(() => reply("fine 0 shelf 1"));
+sent = network(turns([reply("fine 0 shelf 1")]));
 it = desk();
 for (const scan of ["1", "3x2", "3"]) it.work.scan("check-in", scan);
 await until(() => isQuiet(it));
-is([bodies(sent), it.waiting(), it.told.at(-1)[1]], [["check-in 1 1"], ["copy 3"], true]);
+is([acts(sent), it.waiting(), it.told.at(-1)[1]], [["check-in 1 1"], ["copy 3"], true]);
 it.work.queue.sendOn();
 await until(() => isQuiet(it));
-is(bodies(sent), ["check-in 1 1", "check-in 3 1"]);
+is(acts(sent), ["check-in 1 1", "check-in 3 1"]);
 
 // ---- the next patron begins where the clerk says so, also while the one before is still being served
 sent = network(turns([reply("loan 1 due 2026-03-09", 10)], { "page 4": page(4, "Di Eck"), "page 5": page(5, "Ed Fox") }));
@@ -181,10 +186,10 @@ for (const scan of ["1", "2", "3"]) it.work.scan("check-in", scan);
 await until(() => sent.length === 2);
 const [, keyBefore] = sent[0];
 const anew = desk(it.storage);
-sent = network(() => reply("fine 0 shelf 1"));
+sent = network(turns([reply("fine 0 shelf 1")]));
 anew.work.queue.run();
 await until(() => isQuiet(anew));
-is(bodies(sent), ["check-in 1 1", "check-in 2 1", "check-in 3 1"]);
+is(acts(sent), ["check-in 1 1", "check-in 2 1", "check-in 3 1"]);
 is(sent[0][1], keyBefore);
 // and where it stood still it stands still, and shows what waits
 sent = network(() => refusal(13));
@@ -206,10 +211,10 @@ it.work.scan("check-in", "1");
 it.work.words(["patron", "7", "1", "cardkey00007", "Gil Hay"]);
 is([it.waiting(), JSON.stringify([...it.storage.all]).includes("cardkey00007")], [["patron 7 1 … Gil Hay"], false]);
 const later = desk(it.storage);
-sent = network(() => reply("fine 0 shelf 1"));
+sent = network(turns([reply("fine 0 shelf 1")]));
 later.work.queue.run();
 await until(() => isQuiet(later));
-is([bodies(sent), later.told.at(-1)], [["check-in 1 1"], [TEXTS.cardKeyNotKept, true]]);
+is([acts(sent), later.told.at(-1)], [["check-in 1 1"], [TEXTS.cardKeyNotKept, true]]);
 
 // ---- scanners: ends of lines and tabs part scans, and prefixes are cut off
 is(["10", "10\r\n", "10\r\n20\t30\n", "\r\n", " 10 "].map(scansIn), [["10"], ["10"], ["10", "20", "30"], [], ["10"]]);
@@ -251,6 +256,77 @@ it.work.queue.sendOn();
 it.work.scan("pay", "1234");
 await until(() => isQuiet(it));
 is([acts(sent).length, it.told.at(-1)], [3, ["This is not as it has to be: an amount such as 2.50.", true]]);
+
+// ---- each scan tells the title and for whom; a copy that goes to a hold or a branch has a slip
+const roads = (place) => `copy 20 home 2 kind 1 price 1200 title 200 Salt Roads\n${place}`;
+const comesIn = [
+  ["fine 0 ready 1 at 1 until 2026-03-07", "ready 1 at 1 until 2026-03-07 patron 2 Bo Carr", "Salt Roads: Ready for Bo Carr, hold 1, at branch 1 until 2026-03-07. No fine.",
+    ["Ready at branch 1 until 2026-03-07", "Hold 1, Bo Carr", "Salt Roads", "Copy 20"]],
+  ["fine 100 transit 2 for 3", "transit 2 for 3 patron 3 Cy Dunn", "Salt Roads: In transit to branch 2, for Cy Dunn, hold 3. Fine: 1.00.", ["To branch 2", "Hold 3, Cy Dunn", "Salt Roads", "Copy 20"]],
+  ["fine 0 transit 2", "transit 2", "Salt Roads: In transit to branch 2. No fine.", ["To branch 2", "Salt Roads", "Copy 20"]],
+  ["fine 0 shelf 1", "shelf 1", "Salt Roads: To the shelf, branch 1. No fine.", null],
+  // moved meanwhile by another desk: nobody is named
+  ["fine 0 ready 1 at 1 until 2026-03-07", "loan 4 due 2026-03-16 patron 2 Bo Carr", "Salt Roads: Ready for hold 1 at branch 1 until 2026-03-07. No fine.",
+    ["Ready at branch 1 until 2026-03-07", "Hold 1", "Salt Roads", "Copy 20"]],
+];
+for (const [answer, place, text, slip] of comesIn) {
+  sent = network(turns([reply(answer)], { "copy 20": roads(place) }));
+  it = desk();
+  it.work.scan("check-in", "20");
+  await until(() => isQuiet(it));
+  is([bodies(sent), it.told.at(-1), it.slips], [["check-in 20 1", "copy 20"], [text, false], slip ? [slip] : []]);
+}
+const bo = page(2, "Bo Carr", "loan 2 due 2026-03-09 renewals 0 title 200 Salt Roads", "hold 5 at 2 waiting title 300 Maps, Old and New");
+sent = network(turns([reply("loan 2 due 2026-03-09"), reply("hold 5"), reply("owed 40"), reply("fine 0 price 1200")], { "page 2": bo, "copy 20": roads("missing") }));
+it = desk();
+it.work.scan("check-out", "2");
+it.work.scan("check-out", "20");
+it.work.scan("place-hold", "300");
+it.work.scan("pay", "0.60");
+it.work.words(["missing", "20"]);
+await until(() => isQuiet(it));
+is(it.noted, ["page 2: Patron 2, Bo Carr: 1 on loan, 1 on hold, owes 0.00.", "check-out 2 20 1: Salt Roads: Loan 2, due on 2026-03-09. For Bo Carr.",
+  "place-hold 2 300 1: Maps, Old and New: Hold 5 is placed. For Bo Carr.", "pay 2 60: Still owed: 0.40. For Bo Carr.", "missing 20: Salt Roads: Fine 0.00, price 12.00."]);
+
+// ---- a copy that is scanned to be renewed renews the loan that it is on, under the key of its scan
+sent = network(turns([reply("loan 2 due 2026-03-16")], { "copy 20": roads("loan 2 due 2026-03-09 patron 2 Bo Carr"), "page 2": bo }));
+it = desk();
+it.work.scan("check-out", "2");
+it.work.scan("renew", "C20");
+await until(() => isQuiet(it));
+is([bodies(sent), it.told.at(-1)], [["page 2", "copy 20", "renew 2", "page 2"], ["Salt Roads: Loan 2, due on 2026-03-16. For Bo Carr.", false]]);
+is(it.receipts.at(-1).slice(1), ["Salt Roads, renewed, due on 2026-03-16"]);
+sent = network(turns([], { "copy 20": roads("shelf 2") }));
+it = desk();
+it.work.scan("renew", "20");
+await until(() => isQuiet(it));
+is([bodies(sent), it.told.at(-1), it.work.queue.isStopped], [["copy 20"], ["Copy 20, Salt Roads, is not on loan.", true], true]);
+
+// ---- until when a copy stands ready is asked of the hold shelf of its branch
+const ready = page(2, "Bo Carr", "hold 7 at 2 ready title 200 Salt Roads", "hold 9 at 1 waiting title 300 Maps, Old and New", "hold 12 at 1 ready title 400 Winter Bees");
+const header = "      hold    copy  patron until      title";
+sent = network(turns([], { "page 2": ready, "shelf 2 6": `${header}\n         7      20       2 2026-03-07 Salt Roads\nend`, "shelf 1 11": `${header}\n        13      21       3 2026-03-09 Winter Bees\nend` }));
+it = desk();
+it.work.scan("check-out", "2");
+await until(() => isQuiet(it));
+is([bodies(sent), it.work.service.visit.untils], [["page 2", "shelf 2 6", "shelf 1 11"], { 7: "2026-03-07" }]);
+
+// ---- a tab that is loaded anew knows the patron at the desk and the receipt; a closed desk shows nothing that comes later
+sent = network(turns([reply("loan 2 due 2026-03-09")], { "page 2": bo }));
+it = desk();
+it.work.scan("check-out", "2");
+it.work.scan("check-out", "20");
+await until(() => isQuiet(it));
+const back = desk(it.storage);
+is([back.work.expected, back.work.service.visit.receipt.rows], [2, ["Salt Roads, due on 2026-03-09"]]);
+sent = network(turns([reply("fine 0 shelf 1")], { "copy 20": [60_000] }));
+back.work.scan("check-in", "20");
+await until(() => sent.length === 2);
+const toldBefore = back.told.length;
+back.leaving.abort();
+back.work.end();
+await new Promise((done) => setTimeout(done, 5));
+is([back.told.length, back.storage.all.size], [toldBefore, 0]);
 
 // ---- a receipt is its patron's alone: what is done for others, or asked, isn't on it, nor a card key
 const ann = page(1, "Ann Bell", "loan 1 due 2026-03-09 renewals 0 title 100 Rivers of the North", "hold 7 at 2 waiting title 200 Salt Roads", "hold 8 at 1 waiting from 2026-04-01 title 400 Winter Bees");
@@ -319,10 +395,10 @@ await until(() => sent.length === 1 && cy.unknown() === 1);
 is([cy.patron.signOut(), tab.all.size], [true, 0]);
 is([SignedIn.before(() => {}, tab), await renewing], [null, null]);
 sent = network(() => reply("patron 2 owed 0 name Bo Carr"));
-const bo = signIn("2", tab);
-is([bo.patron.actBefore(), (await bo.patron.look()).reply.name], [null, "Bo Carr"]);
+const bob = signIn("2", tab);
+is([bob.patron.actBefore(), (await bob.patron.look()).reply.name], [null, "Bo Carr"]);
 is(sent.map(([path]) => path), ["/patrons/2"]);
-is([bo.patron.signOut(), tab.all.size], [false, 0]);
+is([bob.patron.signOut(), tab.all.size], [false, 0]);
 // a page that comes after its patron has left is shown to nobody
 sent = network([reply("patron 2 owed 0 name Bo Carr", 20)]);
 const late = signIn("2", tab);

@@ -1,0 +1,46 @@
+// The tables of what is asked of the desk: their heads, columns and cells.
+
+import { whereIs } from "./saying.js";
+import { TEXTS, amount, branchName, say } from "./texts.js";
+
+const whole = (name) => (row) => String(row[name]);
+const orNone = (name) => (row) => (row[name] === null ? "" : String(row[name]));
+const money = (name) => (row) => amount(row[name]);
+const where = ({ place }) => whereIs(place);
+const sorts = {
+  fine: TEXTS.sortFine, price: TEXTS.sortPrice, payment: TEXTS.sortPayment, waiver: TEXTS.sortWaiver,
+  fines: TEXTS.sumFines, prices: TEXTS.sumPrices, payments: TEXTS.sumPayments, waivers: TEXTS.sumWaivers,
+};
+const sort = (row) => sorts[row.sort];
+
+const [copy, hold, patron, title] = [[TEXTS.colCopy, whole("copy")], [TEXTS.colHold, orNone("hold")], [TEXTS.colPatron, whole("patron")], [TEXTS.colTitle, orNone("text")]];
+
+// Of each question its head, and its columns with what stands in them of a row.
+const TABLES = {
+  pulls: { head: TEXTS.pulls, columns: [copy, title, hold] },
+  shelf: { head: TEXTS.shelf, columns: [hold, copy, patron, [TEXTS.colUntil, whole("until")], title] },
+  overdue: { head: TEXTS.overdue, columns: [[TEXTS.colLoan, whole("loan")], patron, copy, [TEXTS.colDue, whole("due")], [TEXTS.colLate, whole("late")], title] },
+  transits: { head: TEXTS.transits, columns: [copy, title, hold] },
+  till: { head: TEXTS.tillOf, columns: [[TEXTS.colSum, sort], [TEXTS.colAmount, money("amount")]] },
+  debts: { head: TEXTS.debts, columns: [patron, [TEXTS.colName, whole("name")], [TEXTS.colOwed, money("owed")]] },
+  account: {
+    head: TEXTS.accountOf,
+    columns: [[TEXTS.colLine, whole("line")], [TEXTS.colDay, whole("day")], [TEXTS.colSort, sort], [TEXTS.colAmount, money("amount")], title],
+  },
+  copy: { head: TEXTS.copyOf, columns: [copy, title, [TEXTS.colTitleNumber, whole("title")], [TEXTS.colHome, ({ home }) => branchName(home)], [TEXTS.colPrice, money("price")], [TEXTS.colPlace, where]] },
+  copies: { head: TEXTS.copiesOf, columns: [copy, [TEXTS.colPlace, where]] },
+  queue: { head: TEXTS.queueOf, columns: [hold, patron, [TEXTS.colPickUp, ({ branch }) => branchName(branch)], [TEXTS.colFrom, orNone("from")]] },
+};
+
+// The head of a table, the names of its columns and the cells of its rows, of a list as it was read.
+export function tableOf(question, { head, rows }) {
+  const { head: text, columns } = TABLES[question];
+  const told = head && "owed" in head ? { ...head, owed: amount(head.owed) } : head ?? {};
+  return { head: say(text, told), columns: columns.map(([name]) => name), rows: rows.map((row) => columns.map(([, cell]) => cell(row))) };
+}
+
+// The words of a question about a branch, a number or a day, from a number on.
+export function wordsOfQuestion(question, about, after) {
+  if (question === "copy" || question === "till") return [question, about];
+  return question === "debts" ? [question, after] : [question, about, after];
+}
