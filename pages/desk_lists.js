@@ -63,7 +63,7 @@ function lookUp(desk, question) {
   const kind = { copy: "copy", copies: "title", queue: "title", account: "patron" }[question];
   const text = it("looked").value.trim();
   const { of, number } = cut(text);
-  if (of !== null && of !== kind) return tell(say(TEXTS.otherScanned, { text, is: nameOf(of), wanted: nameOf(kind) }), true);
+  if (of !== null && of !== kind) return tell(say(TEXTS.otherScanned, { is: nameOf(of), wanted: nameOf(kind) }), true);
   if (!isNumber(number)) return tell(say(TEXTS.wrongForm, { what: TEXTS.numberForm }), true);
   return ask(desk, question, number, 0, []);
 }

@@ -46,7 +46,7 @@ export function nameOf(kind) {
 }
 
 function problemOf(kind, text, { of, number }) {
-  if (of !== null && of !== kind) return say(TEXTS.otherScanned, { text, is: nameOf(of), wanted: nameOf(kind) });
+  if (of !== null && of !== kind) return say(TEXTS.otherScanned, { is: nameOf(of), wanted: nameOf(kind) });
   const isRight = kind === "amount" ? centsOf(text) !== null : isNumber(number);
   return isRight ? null : say(TEXTS.wrongForm, { what: kind === "amount" ? TEXTS.amountForm : TEXTS.numberForm });
 }

@@ -16,6 +16,8 @@ export class Service {
   // noted, the visit of a patron, and slips.
   constructor({ branch, ask, screen, storage }) {
     Object.assign(this, { branch, ask, screen, storage });
+    // what is being served, as it is called where it doesn't succeed
+    this.label = "";
     // the patron whose page came, with the page, the receipt, and until when copies stand ready
     this.visit = JSON.parse(storage.getItem(VISIT) ?? "null");
   }
@@ -39,7 +41,8 @@ export class Service {
     if (answer?.reply?.kind !== "page") return this.failed(words, answer?.reply ? { strange: 200 } : answer);
     this.visit = { page: answer.reply, receipt: newReceipt(answer.reply, today(), this.branch), untils: {} };
     this.showVisit();
-    this.tellDone(words, answer, said(answer.reply));
+    this.screen.told(said(answer.reply));
+    this.screen.noted(shownWords(words), said(answer.reply), []);
     await this.lookForDays();
     return "done";
   }
@@ -130,7 +133,7 @@ export class Service {
   }
 
   stop(problem, what) {
-    this.screen.told(problem, true);
+    this.screen.told(this.label === "" ? problem : say(TEXTS.ofTitle, { text: this.label, told: problem }), true);
     this.screen.noted(what, problem, []);
     return "stop";
   }

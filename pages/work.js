@@ -53,6 +53,7 @@ export class Work {
   }
 
   async handle(item) {
+    this.service.label = item.kind === "words" ? "" : labelOf(item);
     if (item.kind === "wrong") return this.service.stop(item.problem, item.text);
     if (item.kind === "words") return this.sendWords(item);
     if (item.kind === "patron") return this.open(item.number, item.key);

@@ -113,7 +113,7 @@ for (const [answer, text] of [[refusal(36), "Refused (36): another patron stands
   for (const scan of ["4", "31", "32", "33"]) it.work.scan("check-out", scan);
   await until(() => isQuiet(it));
   is([it.work.queue.isStopped, it.work.queue.held, it.waiting()], [true, null, ["copy 32, patron 4", "copy 33, patron 4"]]);
-  is(it.told.at(-1), [text, true]);
+  is(it.told.at(-1), [`copy 31, patron 4: ${text}`, true]);
   it.work.scan("check-out", "34");
   is([it.waiting(), sent.length], [["copy 32, patron 4", "copy 33, patron 4", "copy 34, patron 4"], 2]);
   it.work.queue.sendOn();
@@ -131,7 +131,7 @@ await until(() => isQuiet(it));
 is(acts(sent), ["check-in 1 1", "check-in 4 1"]);
 
 // ---- a fault, or an answer that isn't understood, stops it likewise: the same is sent again under its key, before what waits
-for (const [answer, text] of [[fault(91), /^The desk met a fault \(91\): /], [[5, 403, "<html>"], /status 403/], [[5, 200, '{"reply":"what"}'], /status 200/]]) {
+for (const [answer, text] of [[fault(91), /^copy 1: The desk met a fault \(91\): /], [[5, 403, "<html>"], /status 403/], [[5, 200, '{"reply":"what"}'], /status 200/]]) {
   sent = network(turns([answer, reply("fine 0 shelf 1")]));
   it = desk();
   for (const scan of ["1", "2"]) it.work.scan("check-in", scan);
@@ -227,8 +227,8 @@ is(cut("P4", { patron: "", copy: "" }), { of: null, number: "P4" });
 is([itemOf("check-out", null, "P4"), itemOf("check-out", 4, "C31"), itemOf("check-in", null, "31")].map(({ kind, number, patron }) => [kind, number, patron]),
   [["patron", 4, null], ["copy", 31, 4], ["copy", 31, null]]);
 is([["check-out", 4, "P5"], ["check-in", null, "P5"], ["check-out", null, "C31"], ["pay", 4, "P5"], ["place-hold", 4, "C31"]].map((asked) => itemOf(...asked).problem), [
-  "P5 is a patron's card, but a copy is wanted.", "P5 is a patron's card, but a copy is wanted.", "C31 is a copy, but a patron's card is wanted.",
-  "P5 is a patron's card, but an amount is wanted.", "C31 is a copy, but the number of a title is wanted."]);
+  "This is a patron's card, but a copy is wanted.", "This is a patron's card, but a copy is wanted.", "This is a copy, but a patron's card is wanted.",
+  "This is a patron's card, but an amount is wanted.", "This is a copy, but the number of a title is wanted."]);
 is([["check-out", 4, "C"], ["check-out", 4, "C031"], ["pay", 4, "31"]].map((asked) => itemOf(...asked).kind), ["wrong", "wrong", "wrong"]);
 // a book that is scanned first opens no patron, and a card that is scanned as a copy lends nothing
 sent = network(turns([reply("loan 1 due 2026-03-09")], { "page 4": page(4, "Di Eck") }));
@@ -255,7 +255,7 @@ is([it.work.queue.isStopped, needsConfirming(it.work.queue.held)], [true, true])
 it.work.queue.sendOn();
 it.work.scan("pay", "1234");
 await until(() => isQuiet(it));
-is([acts(sent).length, it.told.at(-1)], [3, ["This is not as it has to be: an amount such as 2.50.", true]]);
+is([acts(sent).length, it.told.at(-1)], [3, ["1234: This is not as it has to be: an amount such as 2.50.", true]]);
 
 // ---- each scan tells the title and for whom; a copy that goes to a hold or a branch has a slip
 const roads = (place) => `copy 20 home 2 kind 1 price 1200 title 200 Salt Roads\n${place}`;
@@ -300,7 +300,7 @@ sent = network(turns([], { "copy 20": roads("shelf 2") }));
 it = desk();
 it.work.scan("renew", "20");
 await until(() => isQuiet(it));
-is([bodies(sent), it.told.at(-1), it.work.queue.isStopped], [["copy 20"], ["Copy 20, Salt Roads, is not on loan.", true], true]);
+is([bodies(sent), it.told.at(-1), it.work.queue.isStopped], [["copy 20"], ["copy 20: Salt Roads is not on loan.", true], true]);
 
 // ---- until when a copy stands ready is asked of the hold shelf of its branch
 const ready = page(2, "Bo Carr", "hold 7 at 2 ready title 200 Salt Roads", "hold 9 at 1 waiting title 300 Maps, Old and New", "hold 12 at 1 ready title 400 Winter Bees");
@@ -357,7 +357,7 @@ sent = network(turns([reply("loan 1 due 2026-03-09")], { "page 1": fault(92) }))
 it.work.scan("check-out", "10");
 await until(() => isQuiet(it));
 is(it.receipts.at(-1), [`Ann Bell, ${dayOf}, branch 1`, "Loan 1, due on 2026-03-09."]);
-is(it.told.at(-1), ["Loan 1, due on 2026-03-09. What else was asked of the desk did not come.", true]);
+is(it.told.at(-1), ["copy 10, patron 1: Loan 1, due on 2026-03-09. What else was asked of the desk did not come.", true]);
 is(receiptRow(1, ["check-out", "2", "10", "1"], { kind: "lent", loan: 1, due: "2026-03-09" }, null), null);
 
 // ---- once the desk is closed nothing more is sent, shown or kept
