@@ -5,6 +5,7 @@ import { today } from "./days.js";
 import { readCopy, readList } from "./questions.js";
 import { saidNo } from "./saying.js";
 import { cut, nameOf } from "./scans.js";
+import { focusScan } from "./scan_line.js";
 import { it, print } from "./screen.js";
 import { tableOf, wordsOfQuestion } from "./tables.js";
 import { TEXTS, branchName, say } from "./texts.js";
@@ -91,9 +92,11 @@ export function listenForLists(desk) {
   it("counting").addEventListener("submit", (event) => {
     event.preventDefault();
     ask(desk(), "till", it("till-day").value || today(), 0, []);
+    focusScan();
   });
   it("looking").addEventListener("submit", (event) => {
     event.preventDefault();
     lookUp(desk(), event.submitter?.value ?? "copy");
+    focusScan();
   });
 }

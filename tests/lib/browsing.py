@@ -100,10 +100,13 @@ class Page:
 
 
 class Desk(Page):
-    def __init__(self, driver, base, branch, key=DESK_KEY):
+    """A desk of a branch; a closed one where there is no branch."""
+
+    def __init__(self, driver, base, branch):
         super().__init__(driver, f"{base}/pages/desk.html", "Circulation desk")
-        self.sign_in(branch, key)
-        until("the desk is open", lambda: self.it("desk").is_displayed())
+        if branch is not None:
+            self.sign_in(branch, DESK_KEY)
+            until("the desk is open", lambda: self.it("desk").is_displayed())
 
     def sign_in(self, branch, key):
         self.type("desk-key", key)
@@ -117,10 +120,25 @@ class Desk(Page):
     def is_noted(self):
         return self.driver.execute_script("const it = document.getElementById('last').firstElementChild; return Boolean(it && !it.dataset.seen)")
 
+    def words(self, line):
+        """Sends words, and gives what is told of them in the end."""
+        self.mark()
+        self.type("words", line)
+        self.it("words").send_keys(Keys.ENTER)
+        until(line, lambda: self.is_noted() or self.told().startswith("These are not"))
+        return self.told()
+
+    def scan(self, text):
+        """Scans into whatever has the focus, and gives what is told of it in the end."""
+        self.mark()
+        self.keys(text, Keys.ENTER)
+        until(text, self.is_noted)
+        return self.told()
+
     def mode(self, value):
         self.driver.find_element(By.CSS_SELECTOR, f"input[value={value}]").click()
 
     def go_on(self):
-        """Where the queue stands still, the clerk lets it go on."""
+        """Lets the queue go on where it stands still."""
         if self.it("send-on").is_displayed():
             self.it("send-on").click()
