@@ -5,7 +5,7 @@ import { isKey, isNumber } from "./commands.js";
 import { clearLists, listenForLists } from "./desk_lists.js";
 import { saidNo } from "./saying.js";
 import { focusScan, listenForScans } from "./scan_line.js";
-import { it, note, print, putSlipsAway, showHead, showSlip, showVisit, showWaiting, showWanted, tell } from "./screen.js";
+import { it, note, print, putSlipsAway, showHead, showSlip, showVisit, showWaiting, showWanted, tell, tellQuietly } from "./screen.js";
 import { isSoundOn, switchSound } from "./sound.js";
 import { TEXTS, fillIn, say } from "./texts.js";
 import { listenForWords } from "./word_line.js";
@@ -58,7 +58,7 @@ function open() {
   leaving = new AbortController();
   const { key, branch } = desk();
   const { signal } = leaving;
-  const ask = (words, requestKey, unknown) => askBy(key, signal, words, requestKey, () => tell(unknown, true));
+  const ask = (words, requestKey, unknown) => askBy(key, signal, words, requestKey, () => tellQuietly(unknown, true));
   work = new Work({ branch, ask, screen, storage: sessionStorage });
   showVisit(work.service.visit);
   showWanted(work.expected);
@@ -73,7 +73,7 @@ async function tryToOpen(key, branch) {
   const mine = new AbortController();
   leaving = mine;
   tell(TEXTS.sending);
-  const answer = await askBy(key, mine.signal, ["shelf", branch, "0"], newKey(), () => tell(TEXTS.unknownOpening, true));
+  const answer = await askBy(key, mine.signal, ["shelf", branch, "0"], newKey(), () => tellQuietly(TEXTS.unknownOpening, true));
   if (!answer || mine !== leaving) return;
   if (answer.reply?.kind !== "shown") return tell(saidNo(answer.reply ? { strange: 200 } : answer), true);
   sessionStorage.setItem(DESK, JSON.stringify({ key, branch }));

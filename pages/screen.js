@@ -15,10 +15,15 @@ export function mode() {
   return document.querySelector("input[name=mode]:checked").value;
 }
 
+// Tells the clerk; what is wrong is heard too.
 export function tell(text, isWrong = false) {
+  tellQuietly(text, isWrong);
+  if (isWrong) soundAlarm();
+}
+
+export function tellQuietly(text, isWrong) {
   it("told").textContent = text;
   it("told").classList.toggle("wrong", isWrong);
-  if (isWrong) soundAlarm();
 }
 
 function line(text) {

@@ -144,6 +144,14 @@ for (const [answer, text] of [[fault(91), /^copy 1: The desk met a fault \(91\):
   is([first === second, second === third], [true, false]);
 }
 
+// what is passed over is neither sent again later nor unknown
+sent = network(turns([fault(91), reply("fine 0 shelf 1")]));
+it = desk();
+it.work.scan("check-in", "1");
+await until(() => isQuiet(it));
+it.work.queue.sendOn();
+is([it.work.queue.isStopped, it.work.queue.held, it.work.end()], [false, null, { unknown: [], unsent: [] }]);
+
 // ---- a refused patron doesn't become the current one, nor does what was scanned for that card go to anybody else
 sent = network(() => refusal(11));
 it = desk();
@@ -206,6 +214,12 @@ it = desk();
 it.work.words(["patron", "7", "1", "cardkey00007", "Gil Hay"]);
 await until(() => isQuiet(it));
 is([it.work.queue.isStopped, it.noted], [false, ["patron 7 1 … Gil Hay: Refused (17): unknown kind of patron."]]);
+sent = network(turns([refusal(14), reply("fine 0 shelf 1")]));
+it.work.words(["renew", "9"]);
+it.work.scan("check-in", "1");
+await until(() => isQuiet(it));
+is([acts(sent), it.work.queue.isStopped, it.waiting()], [["renew 9"], true, ["copy 1"]]);
+it.work.queue.throwAway();
 sent = network([[60_000]]);
 it.work.scan("check-in", "1");
 it.work.words(["patron", "7", "1", "cardkey00007", "Gil Hay"]);
@@ -252,6 +266,7 @@ is(acts(sent), ["pay 4 5000", "pay 4 5001", "pay 4 20"]);
 it.work.scan("pay", "1234.00");
 await until(() => isQuiet(it));
 is([it.work.queue.isStopped, needsConfirming(it.work.queue.held)], [true, true]);
+is(desk(it.storage).work.end(), { unknown: [], unsent: ["1234.00 paid, patron 4"] });
 it.work.queue.sendOn();
 it.work.scan("pay", "1234");
 await until(() => isQuiet(it));
@@ -296,6 +311,13 @@ it.work.scan("renew", "C20");
 await until(() => isQuiet(it));
 is([bodies(sent), it.told.at(-1)], [["page 2", "copy 20", "renew 2", "page 2"], ["Salt Roads: Loan 2, due on 2026-03-16. For Bo Carr.", false]]);
 is(it.receipts.at(-1).slice(1), ["Salt Roads, renewed, due on 2026-03-16"]);
+sent = network(turns([fault(90), reply("loan 2 due 2026-03-16")], { "copy 20": roads("loan 2 due 2026-03-09 patron 2 Bo Carr") }));
+it = desk();
+it.work.scan("renew", "20");
+await until(() => isQuiet(it));
+it.work.queue.sendAgain();
+await until(() => isQuiet(it));
+is([acts(sent), new Set(keysOf(sent)).size, it.told.at(-1)], [["renew 2", "renew 2"], 1, ["Salt Roads: Loan 2, due on 2026-03-16. For Bo Carr.", false]]);
 sent = network(turns([], { "copy 20": roads("shelf 2") }));
 it = desk();
 it.work.scan("renew", "20");
