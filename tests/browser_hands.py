@@ -7,6 +7,7 @@
 
 import os
 import sys
+import threading
 import time
 
 from selenium.webdriver.common.action_chains import ActionChains
@@ -27,7 +28,7 @@ def answers(table, seconds=0.0):
         for words, found in left.items():
             if what == words or what.startswith((f"{words} ", f"{words}/")):
                 told = found.pop(0) if len(found) > 1 else found[0]
-                return (max(told[0], seconds), *told[1:]) if told else NOTHING
+                return (told[0] or seconds, *told[1:]) if told else NOTHING
         if what.startswith("shelf "):
             return reply("      hold    copy  patron until      title\nend", seconds)
         if what.startswith("copy "):
@@ -41,10 +42,12 @@ def answers(table, seconds=0.0):
 def fast_scans(driver, fake):
     """A card and two copies are scanned before the first answer comes, and copies come in as fast as keys can be sent."""
     desk = Desk(driver, fake.url, 1)
-    fake.says(answers({"check-out 4 31": reply("loan 1 due 2026-03-09"), "check-out 4 32": reply("loan 2 due 2026-03-09")}, 0.4))
+    late = threading.Event()
+    fake.says(answers({"page 4": reply(PAGE["4"], late), "check-out 4 31": reply("loan 1 due 2026-03-09"), "check-out 4 32": reply("loan 2 due 2026-03-09")}, 0.4))
     desk.keys("4", Keys.ENTER, "31", Keys.ENTER, "32", Keys.ENTER)
     need("the line is empty at once", desk.it("scan").get_attribute("value"), "")
     need("what waits is shown", desk.items("waiting"), ["patron 4 (sending)", "copy 31, patron 4", "copy 32, patron 4"])
+    late.set()
     until("both are lent", lambda: "Loan 2" in desk.told())
     need("what was sent", [it for it in fake.words() if it.startswith("check-out")], ["check-out 4 31 1", "check-out 4 32 1"])
     until("nothing waits", lambda: not desk.it("queue").is_displayed())
@@ -135,7 +138,8 @@ def enter(page, number):
 
 def signed_out(driver, fake):
     """Whoever signs out leaves nothing, and the next patron sees nothing of the last one's."""
-    fake.says(answers({"GET /patrons/1": reply(PAGE["1"]), "GET /patrons/4": reply(PAGE["4"], 0.3), "POST /patrons/1/holds": refusal(12, 1.0)}))
+    late = threading.Event()
+    fake.says(answers({"GET /patrons/1": reply(PAGE["1"]), "GET /patrons/4": reply(PAGE["4"], 0.3), "POST /patrons/1/holds": refusal(12, late)}))
     page = sign_in(driver, fake)
     page.type("title", "999")
     page.type("branch", "1")
@@ -146,7 +150,8 @@ def signed_out(driver, fake):
     need("what is kept, and what stands in the fields", (page.stored(), page.it("title").get_attribute("value")), ({}, ""))
     enter(page, "4")
     until("the next patron", lambda: page.it("name").text == "Di Eck")
-    time.sleep(1.2)
+    late.set()
+    time.sleep(0.5)
     need("nothing of the last one's", (page.told(), page.it("name").text), ("", "Di Eck"))
     # a request without an answer isn't sent any more, either
     fake.says(answers({"POST /patrons/4/holds": NOTHING, "GET /patrons/4": reply(PAGE["4"])}))
@@ -160,12 +165,14 @@ def signed_out(driver, fake):
     need("it is asked no more", (len(fake.sent), page.stored()), (asked, {}))
     # and so at the desk
     desk = Desk(driver, fake.url, 1)
-    fake.says(answers({"check-in 1": reply("fine 0 shelf 1", 1.0)}))
+    late = threading.Event()
+    fake.says(answers({"check-in 1": reply("fine 0 shelf 1", late)}))
     desk.mode("check-in")
     desk.keys("1", Keys.ENTER, "2", Keys.ENTER)
     desk.it("sign-out").click()
     need("what may have been done, and what wasn't", desk.told(), "The desk is closed. It is not known whether this was done: copy 1. This was not sent: copy 2.")
-    time.sleep(1.2)
+    late.set()
+    time.sleep(0.5)
     need("nothing is kept, sent or shown any more", (desk.stored(), fake.words(), desk.items("last")), ({}, ["check-in 1 1"], []))
 
 
@@ -260,9 +267,10 @@ def hands_at_the_desk(driver, fake):
     """Wherever the hands of a clerk were, the next scan goes to its line, and much money is taken once the clerk says so."""
     desk = Desk(driver, fake.url, 1)
     fake.says(answers({"check-in": reply("fine 0 shelf 1"), "pay": reply("owed 0")}))
-    ActionChains(driver).key_down(Keys.ALT).send_keys("2").key_up(Keys.ALT).send_keys("11", Keys.ENTER).perform()
-    until("a scan after Alt and 2", lambda: "check-in 11 1" in fake.words())
-    need("the focus", desk.focus(), "scan")
+    ActionChains(driver).key_down(Keys.ALT).send_keys("2").key_up(Keys.ALT).perform()
+    need("the focus after Alt and 2", desk.focus(), "scan")
+    ActionChains(driver).send_keys("11", Keys.ENTER).key_down(Keys.ALT).send_keys("1").send_keys("2").key_up(Keys.ALT).send_keys("16", Keys.ENTER).perform()
+    until("scans after Alt and 2", lambda: [it for it in fake.words() if it.startswith("check-in")] == ["check-in 11 1", "check-in 16 1"])
     driver.find_element("css selector", "input[value=check-in]").send_keys(Keys.ARROW_LEFT)
     need("by the arrows one goes on", driver.switch_to.active_element.get_attribute("value"), "check-out")
     desk.keys(Keys.ARROW_RIGHT)
@@ -276,9 +284,11 @@ def hands_at_the_desk(driver, fake):
     ActionChains(driver).send_keys("13", Keys.ENTER).perform()
     until("a scan after that", lambda: "check-in 13 1" in fake.words())
     # words that are being typed aren't torn apart by an answer
-    fake.says(answers({"check-in": reply("fine 0 shelf 1", 0.5), "pay": reply("owed 0")}))
+    late = threading.Event()
+    fake.says(answers({"check-in": reply("fine 0 shelf 1", late), "pay": reply("owed 0")}))
     desk.keys("14", Keys.ENTER)
     desk.it("words").send_keys("check-")
+    late.set()
     until("an answer meanwhile", lambda: "copy 14" not in desk.items("waiting") and any("check-in 14 1" in it for it in desk.items("last")))
     desk.keys("in 15 1")
     need("what is typed stands together", (desk.focus(), desk.it("words").get_attribute("value")), ("words", "check-in 15 1"))
@@ -314,7 +324,8 @@ def lists(driver, fake):
     """Lists of the branch are shown, go on where there is more, and are printed; a copy, a title and an account are looked up."""
     desk = Desk(driver, fake.url, 1)
     many = "\n".join(f"hold {it} copy {it + 100} title {it} Title {it}" for it in range(1, 101))
-    fake.says(answers({"pulls 1 0": reply(f"{many}\nafter 100", 0.4), "pulls 1 100": reply("hold 101 copy 201 title 101 Last\nend"), "debts 0": reply("end"), "transits": refusal(10),
+    late = threading.Event()
+    fake.says(answers({"pulls 1 0": [reply(f"{many}\nafter 100"), reply(f"{many}\nafter 100", late)], "pulls 1 100": reply("hold 101 copy 201 title 101 Last\nend"), "debts 0": reply("end"), "transits": refusal(10),
                        "copy 20": reply("copy 20 home 2 kind 1 price 1200 title 200 Salt Roads\nloan 2 due 2026-03-09 patron 2 Bo Carr"), "account 2 0": (0.0, 403, "<html>"),
                        "overdue": reply("what")}))
     driver.find_element("css selector", "#list-buttons button[value=pulls]").click()
@@ -329,7 +340,8 @@ def lists(driver, fake):
     for value in ("pulls", "debts"):
         driver.find_element("css selector", f"#list-buttons button[value={value}]").click()
     until("none", lambda: desk.it("list-told").text == "There are none.")
-    time.sleep(0.6)
+    late.set()
+    time.sleep(0.5)
     need("the list that was asked for last", (desk.it("list-head").text, rows(desk)), ("Who owes", []))
     for value, told in (("transits", "Refused (10): unknown branch."), ("overdue", "An answer came that is not the desk's, or that this page can't read (status 200). Whether it was done is not known.")):
         driver.find_element("css selector", f"#list-buttons button[value={value}]").click()

@@ -25,7 +25,8 @@ NOTHING = None  # the connection is closed with no answer
 
 
 class FakeDesk:
-    """`answer(what)` gives seconds, a status and a body for the words of a desk's request, or for the method and the path of a patron's; `sent` is what came."""
+    """`answer(what)` gives a time, a status and a body for the words of a desk's request, or for the method and the path of a patron's; `sent` is what came. A time is in seconds, or an
+    event that is waited for."""
 
     def __init__(self, pages):
         self.pages, self.sent, self.answer = pages, [], lambda what: (0.0, 404, json.dumps({"status": 404}))
@@ -68,7 +69,10 @@ class Handler(BaseHTTPRequestHandler):
         if answer is NOTHING:
             self.close_connection = True
             return
-        time.sleep(answer[0])
+        if isinstance(answer[0], threading.Event):
+            answer[0].wait(30)
+        else:
+            time.sleep(answer[0])
         self.tell(answer[1], answer[2].encode(), "application/json")
 
     def tell(self, status, body, kind):
