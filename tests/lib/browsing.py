@@ -136,6 +136,8 @@ class Desk(Page):
         return self.told()
 
     def mode(self, value):
+        # what is told stands at the top, above whatever is scrolled below it
+        self.driver.execute_script("window.scrollTo(0, 0)")
         self.driver.find_element(By.CSS_SELECTOR, f"input[value={value}]").click()
 
     def go_on(self):
