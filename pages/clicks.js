@@ -6,8 +6,8 @@ const APART = 600;
 export function once(act, now = () => performance.now()) {
   let last = -Infinity;
   return (event, ...more) => {
-    const isSecond = event.detail > 1 || now() - last < APART;
+    if (event.detail > 1 || now() - last < APART) return;
     last = now();
-    if (!isSecond) act(event, ...more);
+    act(event, ...more);
   };
 }

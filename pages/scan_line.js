@@ -1,5 +1,6 @@
 // The line for scanning: each scan is taken from it at once, and whatever the clerk does between two scans, the next one goes there.
 
+import { once } from "./clicks.js";
 import { beginsScan, endsScan, scansIn } from "./scans.js";
 import { it, mode, showWanted } from "./screen.js";
 
@@ -45,10 +46,10 @@ function listenToButtons(work) {
     "throw-away": () => work().queue.throwAway(),
   };
   for (const [id, act] of Object.entries(does)) {
-    it(id).addEventListener("click", () => {
+    it(id).addEventListener("click", once(() => {
       act();
       focusScan();
-    });
+    }));
   }
 }
 

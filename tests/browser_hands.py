@@ -74,6 +74,17 @@ def refused_scans(driver, fake):
     desk.it("send-on").click()
     need("the next scan goes to its line", desk.focus(), "scan")
     until("it goes on", lambda: "check-in 6 1" in fake.words())
+    # a second click comes too soon for anybody to have read the second refusal
+    desk.keys("2", Keys.ENTER, "5", Keys.ENTER, "9", Keys.ENTER)
+    until("the first refusal", lambda: desk.items("waiting") == ["copy 5", "copy 9"] and desk.is_wrong())
+    time.sleep(0.7)
+    ActionChains(driver).click(desk.it("send-on")).pause(0.3).click(desk.it("send-on")).perform()
+    until("the second refusal", lambda: desk.told() == "copy 5: Refused (13): unknown copy.")
+    time.sleep(0.3)
+    need("it is passed over by nobody", (desk.items("waiting"), "check-in 9 1" in fake.words()), (["copy 9"], False))
+    time.sleep(0.7)
+    desk.it("send-on").click()
+    until("the rest", lambda: "check-in 9 1" in fake.words())
     # without the sound, and thrown away
     desk.it("sound").click()
     driver.execute_script("window.notes = 0")

@@ -439,7 +439,7 @@ is(sent, [["/patrons/5/loans/1/renew", edsKey, undefined, undefined]]);
 // ---- of a double click the first alone counts
 let clicked = 0, now = 0;
 const click = once(() => { clicked += 1; }, () => now);
-for (const [at, detail] of [[0, 1], [120, 2], [300, 1], [1200, 1], [1250, 0], [2000, 0]]) {
+for (const [at, detail] of [[0, 1], [120, 2], [300, 1], [590, 0], [700, 1], [1250, 0], [1310, 2], [2000, 0]]) {
   now = at;
   click({ detail });
 }

@@ -141,6 +141,10 @@ class Desk(Page):
         self.driver.find_element(By.CSS_SELECTOR, f"input[value={value}]").click()
 
     def go_on(self):
-        """Lets the queue go on where it stands still."""
-        if self.it("send-on").is_displayed():
+        """Lets the queue go on where it stands still; a click right after another is passed over."""
+        for _ in range(20):
+            if not self.it("send-on").is_displayed():
+                return
             self.it("send-on").click()
+            time.sleep(0.1)
+        raise Failed("never: the queue goes on")
