@@ -450,10 +450,10 @@ def borrowed(driver, base, pictures):
     need("Ann borrows again", desk.scan("C11")[:27], "Rivers of the North: Loan 5")
     until("her receipt", lambda: len(desk.items("receipt")) == 1)
     need("what is on it", re.fullmatch(r"Rivers of the North, due on \d{4}-\d\d-\d\d", desk.items("receipt")[0]) is not None, True)
-    driver.find_element(By.CSS_SELECTOR, "#list-buttons button[value=pulls]").click()
-    until("a list", lambda: desk.it("list-paper").is_displayed())
+    driver.find_element(By.CSS_SELECTOR, "#list-buttons button[value=debts]").click()
+    until("who owes for the days after the till", lambda: desk.items("list-rows") == ["3 Cy Dunn 0.40"])
     if pictures:
-        look(driver, "desk-page.png", (900, 1750))
+        look(driver, "desk-page.png", (900, 1150))
 
 
 def tried(behind, pictures):
