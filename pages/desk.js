@@ -29,6 +29,7 @@ function askBy(keyValue, signal, words, requestKey, unknown) {
 
 const screen = {
   told: tell,
+  toldMore: (text) => tellQuietly(text, true),
   noted: note,
   waiting: (queue) => {
     showHead(desk().branch);

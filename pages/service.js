@@ -4,12 +4,12 @@ import { newKey } from "./asking.js";
 import { today } from "./days.js";
 import { readCopy, readList } from "./questions.js";
 import { newReceipt, patronOf, receiptRow } from "./receipt.js";
-import { said, saidFully, saidNo, shownWords } from "./saying.js";
+import { said, saidFully, saidNo, shownWords, whereIs } from "./saying.js";
 import { slipOf } from "./slips.js";
 import { TEXTS, say } from "./texts.js";
 
 const VISIT = "circ.visit";
-const SILENT = { told() {}, noted() {}, visit() {}, slip() {} };
+const SILENT = { told() {}, toldMore() {}, noted() {}, visit() {}, slip() {} };
 
 export class Service {
   // `ask` sends words under a key, says a text as often as no answer comes, and gives the answer, or null once the desk is closed; `screen` shows what is told and
@@ -126,14 +126,26 @@ export class Service {
   }
 
   // How an item ended that has no reply: it can be sent again under its key where it isn't known whether it was done.
-  failed(words, answer) {
+  async failed(words, answer) {
     if (!answer) return "stop";
     this.stop(saidNo(answer), shownWords(words));
+    if (answer.refusal) await this.tellWhere({ "check-out": words[2], "check-in": words[1] }[words[0]], saidNo(answer));
     return answer.fault || answer.strange ? "again" : "stop";
   }
 
+  // Tells which title a refused copy is of, where it is and for whom.
+  async tellWhere(number, problem) {
+    if (number === undefined) return;
+    const { copy } = await this.lookAtCopy(number, this.labelled(problem));
+    if (copy) this.screen.toldMore(this.labelled(say(TEXTS.refusedCopy, { problem, text: copy.text, place: whereIs(copy.place) })));
+  }
+
+  labelled(problem) {
+    return this.label === "" ? problem : say(TEXTS.ofTitle, { text: this.label, told: problem });
+  }
+
   stop(problem, what) {
-    this.screen.told(this.label === "" ? problem : say(TEXTS.ofTitle, { text: this.label, told: problem }), true);
+    this.screen.told(this.labelled(problem), true);
     this.screen.noted(what, problem, []);
     return "stop";
   }

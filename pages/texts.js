@@ -91,6 +91,7 @@ export const TEXTS = {
   deskHead: "{town}, {branch}, {day}",
   branchNumber: "branch {branch}",
   unknownOpening: "No answer came. It is asked again.",
+  refusedCopy: "{problem} {text}: {place}",
   restMissing: "{told} What else was asked of the desk did not come.",
   restUnknown: "{told} The rest is not known yet: it is asked again.",
   lastTwenty: "The last twenty",

@@ -212,8 +212,11 @@ class Clerk:
 
     def scanned(self, line, label, title, name, answer):
         """What is told of a scan that was sent."""
+        if refused(answer) and line.startswith("check-out"):
+            until(f"where the copy of {line} is", lambda: self.desk.told().startswith(f"{label}: {refused(answer)} {title}: "))
+            return self.desk.go_on()
         done = f"{title}: {shown(answer)} For {name}." if title else f"{shown(answer)} For {name}."
-        self.told(f"scanned {line}", f"{label}: {refused(answer)}" if refused(answer) else done)
+        return self.told(f"scanned {line}", f"{label}: {refused(answer)}" if refused(answer) else done)
 
     def check_out(self, line, answer, patron, copy, branch):
         if patron not in self.known.names:

@@ -62,7 +62,7 @@ def refused_scans(driver, fake):
     """A refusal stops what waits, loudly; the clerk sends it on or throws it away."""
     desk = Desk(driver, fake.url, 1)
     driver.execute_script("window.notes = 0; const start = OscillatorNode.prototype.start; OscillatorNode.prototype.start = function (at) { window.notes += 1; return start.call(this, at); }")
-    fake.says(answers({"check-in 2": refusal(13), "check-in 5": refusal(13), "check-in": reply("fine 0 shelf 1")}, 0.1))
+    fake.says(answers({"check-in 2": refusal(13), "check-in 5": refusal(13), "copy 2": refusal(13), "copy 5": refusal(13), "check-in": reply("fine 0 shelf 1")}, 0.1))
     desk.mode("check-in")
     desk.keys("1", Keys.ENTER, "2", Keys.ENTER, "3", Keys.ENTER, "4", Keys.ENTER)
     until("a refusal", lambda: desk.told() == "copy 2: Refused (13): unknown copy.")

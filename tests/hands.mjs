@@ -45,6 +45,7 @@ function desk(storage = new Kept()) {
     () => { unknown += 1; told.push([text, true]); }, { signal: leaving.signal, pauses: [1] });
   const screen = {
     told: (text, isWrong = false) => told.push([text, isWrong]),
+    toldMore: (text) => told.push([text, true]),
     noted: (what, text) => noted.push(`${what}: ${text}`),
     waiting: (queue) => { waiting = queue.waiting.map(labelOf); },
     wanted: (patron) => { wanted = patron; },
@@ -107,7 +108,7 @@ is(acts(sent), ["check-in 10 1", "check-in 1 1", "check-in 1 1"]);
 is(new Set(keysOf(sent)).size, 3);
 
 // ---- a refusal stops the queue, and says so; what waits is sent on, or thrown away
-for (const [answer, text] of [[refusal(36), "Refused (36): another patron stands in line."], [[5, 400, '{"status":400}'], "The desk did not take this (status 400)."]]) {
+for (const [answer, text] of [[refusal(36), "Refused (36): another patron stands in line. Any: On the shelf, branch 1."], [[5, 400, '{"status":400}'], "The desk did not take this (status 400)."]]) {
   sent = network(turns([answer, ...[1, 2, 3].map((loan) => reply(`loan ${loan} due 2026-03-09`))], { "page 4": page(4, "Di Eck") }));
   it = desk();
   for (const scan of ["4", "31", "32", "33"]) it.work.scan("check-out", scan);
@@ -115,7 +116,7 @@ for (const [answer, text] of [[refusal(36), "Refused (36): another patron stands
   is([it.work.queue.isStopped, it.work.queue.held, it.waiting()], [true, null, ["copy 32, patron 4", "copy 33, patron 4"]]);
   is(it.told.at(-1), [`copy 31, patron 4: ${text}`, true]);
   it.work.scan("check-out", "34");
-  is([it.waiting(), sent.length], [["copy 32, patron 4", "copy 33, patron 4", "copy 34, patron 4"], 2]);
+  is([it.waiting(), acts(sent).length], [["copy 32, patron 4", "copy 33, patron 4", "copy 34, patron 4"], 1]);
   it.work.queue.sendOn();
   await until(() => isQuiet(it));
   is(acts(sent).slice(1), ["check-out 4 32 1", "check-out 4 33 1", "check-out 4 34 1"]);
@@ -206,7 +207,7 @@ for (const scan of ["1", "2"]) it.work.scan("check-in", scan);
 await until(() => isQuiet(it));
 const still = desk(it.storage);
 still.work.queue.run();
-is([still.work.queue.isStopped, still.waiting(), sent.length], [true, ["copy 2"], 1]);
+is([still.work.queue.isStopped, still.waiting(), acts(sent)], [true, ["copy 2"], ["check-in 1 1"]]);
 
 // ---- a refusal of typed words stops what waits, and nothing else; a card key is shown and kept in no list
 sent = network([refusal(17), reply("ok")]);
@@ -302,6 +303,21 @@ it.work.words(["missing", "20"]);
 await until(() => isQuiet(it));
 is(it.noted, ["page 2: Patron 2, Bo Carr: 1 on loan, 1 on hold, owes 0.00.", "check-out 2 20 1: Salt Roads: Loan 2, due on 2026-03-09. For Bo Carr.",
   "place-hold 2 300 1: Maps, Old and New: Hold 5 is placed. For Bo Carr.", "pay 2 60: Still owed: 0.40. For Bo Carr.", "missing 20: Salt Roads: Fine 0.00, price 12.00."]);
+
+// ---- of a refused copy it is told where it is, and for whom; where that can't be had the refusal stands alone
+for (const [scan, number, asked, text] of [
+  [["check-out", "20"], 33, roads("ready 1 at 1 until 2026-03-07 patron 3 Cy Dunn"), "copy 20, patron 2: Refused (33): the copy is on the hold shelf. Salt Roads: Ready for Cy Dunn, hold 1, at branch 1 until 2026-03-07."],
+  [["check-in", "20"], 33, roads("ready 1 at 1 until 2026-03-07 patron 3 Cy Dunn"), "copy 20: Refused (33): the copy is on the hold shelf. Salt Roads: Ready for Cy Dunn, hold 1, at branch 1 until 2026-03-07."],
+  [["check-out", "20"], 31, roads("loan 4 due 2026-03-16 patron 1 Ann Bell"), "copy 20, patron 2: Refused (31): the copy is on loan. Salt Roads: Loan 4 of Ann Bell, due on 2026-03-16."],
+  [["check-in", "20"], 13, refusal(13), "copy 20: Refused (13): unknown copy."],
+]) {
+  sent = network(turns([refusal(number)], { "page 2": bo, "copy 20": asked }));
+  it = desk();
+  if (scan[0] === "check-out") it.work.scan("check-out", "2");
+  it.work.scan(...scan);
+  await until(() => isQuiet(it));
+  is([it.told.at(-1), it.work.queue.isStopped, it.slips], [[text, true], true, []]);
+}
 
 // ---- a copy that is scanned to be renewed renews the loan that it is on, under the key of its scan
 sent = network(turns([reply("loan 2 due 2026-03-16")], { "copy 20": roads("loan 2 due 2026-03-09 patron 2 Bo Carr"), "page 2": bo }));
