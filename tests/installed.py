@@ -12,7 +12,7 @@ import tempfile
 
 TOP = os.path.dirname(os.path.dirname(os.path.abspath(__file__)))
 COMPLETION = "share/bash-completion/completions/circ"
-FILES = ["bin/circ", "bin/circ-enrol", "share/man/man1/circ.1", COMPLETION,
+FILES = ["bin/circ", "bin/circ-enrol", "bin/circ-backup", "share/man/man1/circ.1", COMPLETION,
          *(f"share/circ/pages/{name}" for name in sorted(os.listdir(os.path.join(TOP, "pages"))))]
 
 
@@ -53,6 +53,14 @@ def main():
         same("a list of patrons, with the meaning of the installed manual page", (told.returncode, told.stdout, told.stderr), (2, refused, ""))
         told = run(f"{prefix}/bin/circ-enrol")
         same("how it is written", (told.returncode, told.stderr), (4, "usage: circ-enrol PORT DESKKEY LIST REFUSED\n"))
+        # on the path is another circ, which finds nothing sound
+        os.symlink("/bin/false", f"{place}/circ")
+        told = run(f"{prefix}/bin/circ-backup", "--no-service", f"{place}/town.db", f"{place}/backups", "3", cwd=place, env={**os.environ, "PATH": f"{place}:{os.environ['PATH']}"})
+        made = [f"{place}/backups/{name}" for name in os.listdir(f"{place}/backups")]
+        same("a backup by the installed program", (told.returncode, told.stdout.splitlines(), told.stderr), (0, made, ""))
+        same("there is one", len(made), 1)
+        told = run(f"{prefix}/bin/circ-backup")
+        same("how that is written", (told.returncode, told.stderr), (4, "usage: circ-backup [--service NAME | --no-service] [--no-audit] LIBRARY FOLDER KEEP\n"))
         again = run(install, prefix)
         same("a second time", (again.returncode, again.stdout), (0, done.stdout))
         source = f'source "{prefix}/{COMPLETION}"; COMP_WORDS=(circ file town.db k1 unsh); COMP_CWORD=4; _circ; echo "${{COMPREPLY[*]}}"'
