@@ -5,10 +5,12 @@
 """
 
 import os
+import re
 import socket
 import subprocess
 import sys
 import tempfile
+import time
 
 TOP = os.path.dirname(os.path.dirname(os.path.abspath(__file__)))
 COMPLETION = "share/bash-completion/completions/circ"
@@ -18,6 +20,61 @@ FILES = ["bin/circ", "bin/circ-enrol", "bin/circ-backup", "share/man/man1/circ.1
 
 def run(*words, **more):
     return subprocess.run(words, capture_output=True, text=True, timeout=120, **more)
+
+
+class Morning:
+    """What the unit of the morning runs, with the installed program and a port of the test's own."""
+
+    def __init__(self, prefix, port):
+        with open(os.path.join(TOP, "docs", "operations", "circ-day.service"), encoding="utf-8") as file:
+            self.unit = file.read()
+        line = re.search(r"^ExecStart=/bin/sh -c '(.*)'$", self.unit, re.M)[1]
+        self.line = line.replace("%%", "%").replace("/usr/local/bin/circ", f'"{prefix}/bin/circ"').replace(" 8080 ", f" {port} ")
+
+    def number(self, name):
+        """A number of the unit; of a span it is the seconds."""
+        found = re.search(rf"^{name}=(\d+)(h?)$", self.unit, re.M)
+        return int(found[1]) * (3600 if found[2] else 1)
+
+    def begins(self, day=None, key="deskkey00001", tries=60):
+        """Runs it on a day, or today."""
+        line = self.line.replace("$(date +%F)", day) if day else self.line
+        return subprocess.Popen(["sh", "-c", line.replace("seq 60", f"seq {tries}")], stdout=subprocess.PIPE, stderr=subprocess.PIPE, text=True, env={**os.environ, "DESKKEY": key})
+
+
+def ended(run):
+    out, _ = run.communicate(timeout=120)
+    return run.returncode, out
+
+
+def mornings(same, prefix, place):
+    """The day begins before a program that serves two seconds later, once; what went wrong is no success of the unit, but for a day that was begun before."""
+    path = os.path.join(place, "morning.db")
+    port = free_port()
+    morning = Morning(prefix, port)
+    same("nobody listens", ended(morning.begins(tries=2)), (3, "fault network\n"))
+    same("the day of the library", run(f"{prefix}/bin/circ", "file", path, "g1", "begin-day", "2026-03-02").stdout, "ok\n")
+    first = morning.begins()
+    time.sleep(2)
+    same("it waits", first.poll(), None)
+    with subprocess.Popen([f"{prefix}/bin/circ", "serve", path, port, "1", "1000", "deskkey00001"], stdout=subprocess.PIPE, text=True) as serving:
+        same("the desk serves", serving.stdout.readline(), f"listening on {port}\n")
+        same("the day is begun", ended(first), (0, '{"reply":"ok"}\n'))
+        same("and begun once", ended(morning.begins()), (0, '{"reply":"ok"}\n'))
+        same("a day that was passed", ended(morning.begins("2026-03-03")), (2, '{"refusal":23}\n'))
+        same("a wrong key", ended(morning.begins(key="deskkey00002")), (1, '{"refusal":81}\n'))
+        serving.kill()
+    # the unit starts again for an hour even where each try fails at once, and no try is too late to count
+    burst, pause, longest = morning.number("StartLimitBurst"), morning.number("RestartSec"), morning.number("TimeoutStartSec")
+    same("for how long it is started again", (burst * pause >= 3600, burst * (pause + longest) <= morning.number("StartLimitIntervalSec")), (True, True))
+    same("what starts the desk, or ends with it", re.findall(r"^(?:Requires|Wants|BindsTo|PartOf)=.*$", morning.unit, re.M), [])
+    same("when it is", [it for it in ("Restart=on-failure", "SuccessExitStatus=2", "Type=oneshot") if f"\n{it}\n" not in morning.unit], [])
+
+
+def free_port():
+    with socket.socket() as found:
+        found.bind(("127.0.0.1", 0))
+        return str(found.getsockname()[1])
 
 
 def main():
@@ -41,9 +98,7 @@ def main():
         patrons = os.path.join(place, "patrons.csv")
         with open(patrons, "w", encoding="utf-8") as file:
             file.write("patron,kind,card-key,name\n1,1,cardkey00001,Ann Bell\n")
-        with socket.socket() as found:
-            found.bind(("127.0.0.1", 0))
-            port = str(found.getsockname()[1])
+        port = free_port()
         serve = [f"{prefix}/bin/circ", "serve", f"{place}/town.db", port, "1", "1", "deskkey00001"]
         with subprocess.Popen(serve, stdout=subprocess.PIPE, text=True) as serving:
             same("the installed program serves", serving.stdout.readline(), f"listening on {port}\n")
@@ -73,6 +128,7 @@ def main():
         same("the completion of a question", run("bash", "-c", source).stdout, "copy copies\n")
         source = f'source "{prefix}/{COMPLETION}"; COMP_WORDS=(circ mig); COMP_CWORD=1; _circ; echo "${{COMPREPLY[*]}}"'
         same("the completion of a run", run("bash", "-c", source).stdout, "migrate\n")
+        mornings(same, prefix, place)
         file = os.path.join(place, "file")
         open(file, "w", encoding="utf-8").close()
         same("a place that can't be", run(install, f"{file}/below").returncode, 1)
