@@ -1,5 +1,6 @@
 // What is said to the clerk: of replies, of refusals, and of what waits.
 
+import { today } from "./days.js";
 import { patronOf } from "./receipt.js";
 import { MEANINGS, TEXTS, amount, branchName, say } from "./texts.js";
 
@@ -95,4 +96,11 @@ export function labelOf(item) {
   if (item.kind === "words") return shownWords(item.words);
   const what = { patron: TEXTS.aPatron, copy: TEXTS.aCopy, title: TEXTS.aTitle, amount: TEXTS.anAmount }[item.kind];
   return say(item.patron === null ? what : TEXTS.forPatron, { what: say(what, { number }), number, patron: item.patron });
+}
+
+// What the clerk is asked before an item is sent, and what the button says by which it is sent then.
+export function confirmingOf({ kind, number, patron, words }) {
+  if (kind === "words") return { asked: say(TEXTS.confirmDay, { day: words[1], today: today(), yes: TEXTS.yes }), yes: say(TEXTS.yesBegun, { day: words[1] }) };
+  const paid = amount(number);
+  return { asked: say(TEXTS.confirmAmount, { patron, paid }), yes: say(TEXTS.yesPaid, { paid }) };
 }

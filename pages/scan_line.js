@@ -39,9 +39,10 @@ function listenToModes(work) {
 }
 
 function listenToButtons(work) {
+  it("confirming").addEventListener("submit", (event) => event.preventDefault());
   const does = {
     "next": () => work().nextPatron(),
-    "again": () => work().queue.sendAgain(),
+    "again": () => work().sendAgain(it("typed").value),
     "send-on": () => work().queue.sendOn(),
     "throw-away": () => work().queue.throwAway(),
   };

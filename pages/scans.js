@@ -1,6 +1,7 @@
 // What a scanner sends, and what is meant by it where a patron, a copy, an amount or a title is wanted.
 
 import { centsOf, isNumber } from "./commands.js";
+import { today } from "./days.js";
 import { PREFIXES, TEXTS, say } from "./texts.js";
 
 // The scans of a text that came at once: they are parted by ends of lines and tabs.
@@ -35,9 +36,21 @@ export function wanted(mode, patron) {
 
 const CONFIRMED_ABOVE = 5000;
 
-// Whether the clerk is asked before so much is taken.
-export function needsConfirming({ kind, number, isConfirmed }) {
-  return kind === "amount" && number > CONFIRMED_ABOVE && !isConfirmed;
+const isLarge = ({ kind, number }) => kind === "amount" && number > CONFIRMED_ABOVE;
+
+// Whether an item begins another day than that of this machine: no other words can take that back.
+export function beginsOtherDay({ kind, words }, day = today()) {
+  return kind === "words" && words[0] === "begin-day" && words[1] !== day;
+}
+
+// Whether the clerk is asked before an item is sent.
+export function needsConfirming(item, day = today()) {
+  return !item.isConfirmed && (isLarge(item) || beginsOtherDay(item, day));
+}
+
+// Whether what the clerk typed confirms an item: a day is confirmed by a typed yes alone.
+export function isConfirming(item, typed, day = today()) {
+  return !needsConfirming(item, day) || !beginsOtherDay(item, day) || typed.trim().toLowerCase() === TEXTS.yes.toLowerCase();
 }
 
 // What a kind of scan is called.

@@ -2,11 +2,11 @@
 
 import { today } from "./days.js";
 import { receiptHead } from "./receipt.js";
-import { labelOf, pageLines } from "./saying.js";
+import { confirmingOf, labelOf, pageLines } from "./saying.js";
 import { slipLines } from "./slips.js";
 import { soundAlarm } from "./sound.js";
 import { TEXTS, amount, branchName, say } from "./texts.js";
-import { needsConfirming, wanted } from "./scans.js";
+import { beginsOtherDay, needsConfirming, wanted } from "./scans.js";
 
 const MOST = 20;
 export const it = (id) => document.getElementById(id);
@@ -43,6 +43,15 @@ export function showHead(branch) {
   it("place").textContent = branch === null ? "" : say(TEXTS.deskHead, { town: TEXTS.town, branch: branchName(branch), day: today() });
 }
 
+// Shows by what the item that stopped the queue is sent again: by a button, and where it begins another day by a typed yes too.
+function showConfirming(held) {
+  const isAsked = held !== null && needsConfirming(held);
+  it("confirming").hidden = held === null;
+  it("typing").hidden = !isAsked || !beginsOtherDay(held);
+  if (it("typing").hidden) it("typed").value = "";
+  it("again").textContent = isAsked ? confirmingOf(held).yes : TEXTS.sendAgain;
+}
+
 // Shows what is sent and what waits, and what the clerk can do where the queue stands still.
 export function showWaiting(queue) {
   const shown = [...(queue.current ? [say(TEXTS.isSent, { what: labelOf(queue.current) })] : []), ...queue.waiting.map(labelOf)];
@@ -50,8 +59,7 @@ export function showWaiting(queue) {
   it("waiting").replaceChildren(...shown.map(line));
   it("queue").hidden = !waits && !queue.isStopped;
   it("stopped").hidden = !queue.isStopped;
-  it("again").hidden = queue.held === null;
-  it("again").textContent = queue.held && needsConfirming(queue.held) ? say(TEXTS.yesPaid, { paid: amount(queue.held.number) }) : TEXTS.sendAgain;
+  showConfirming(queue.held);
   it("send-on").textContent = waits ? TEXTS.sendOn : TEXTS.goOn;
   it("throw-away").hidden = !waits;
 }

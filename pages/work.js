@@ -3,10 +3,10 @@
 import { newKey } from "./asking.js";
 import { QUESTIONS } from "./commands.js";
 import { Queue } from "./queue.js";
-import { labelOf, shownWords, withoutCardKey } from "./saying.js";
-import { itemOf, needsConfirming, wordsOfItem } from "./scans.js";
+import { confirmingOf, labelOf, shownWords, withoutCardKey } from "./saying.js";
+import { isConfirming, itemOf, needsConfirming, wordsOfItem } from "./scans.js";
 import { Service } from "./service.js";
-import { TEXTS, amount, say } from "./texts.js";
+import { TEXTS } from "./texts.js";
 
 const onlyAsks = (item) => item.kind === "patron" || (item.kind === "words" && QUESTIONS.includes(item.words[0]));
 const keptForm = (item) => (item.kind === "words" ? { ...item, words: withoutCardKey(item.words) } : item);
@@ -55,9 +55,9 @@ export class Work {
   async handle(item) {
     this.service.label = item.kind === "words" ? "" : labelOf(item);
     if (item.kind === "wrong") return this.service.stop(item.problem, item.text);
+    if (needsConfirming(item)) return this.confirm(item);
     if (item.kind === "words") return this.sendWords(item);
     if (item.kind === "patron") return this.open(item.number, item.key);
-    if (needsConfirming(item)) return this.confirm(item);
     if (item.patron !== null && this.service.visit?.page.patron !== item.patron) {
       const outcome = await this.open(item.patron, newKey());
       if (outcome !== "done") return outcome;
@@ -74,8 +74,16 @@ export class Work {
   }
 
   confirm(item) {
-    this.screen.told(say(TEXTS.confirmAmount, { patron: item.patron, paid: amount(item.number) }), true);
+    this.screen.told(confirmingOf(item).asked, true);
     return "again";
+  }
+
+  // Sends the item that stopped the queue again; where it has to be confirmed first, by what the clerk typed.
+  sendAgain(typed) {
+    const { held } = this.queue;
+    if (held === null || isConfirming(held, typed)) return this.queue.sendAgain();
+    this.confirm(held);
+    return this.queue.show();
   }
 
   // Whoever types words looks at what is told of them: a refusal stops only what waits.

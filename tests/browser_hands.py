@@ -392,7 +392,36 @@ def slips(driver, fake):
     need("who", desk.it("patron-head").text, "Bo Carr, patron 2: owes 0.00")
 
 
-PARTS = (lists, slips, fast_scans, refused_scans, unread_answers, receipts, signed_out, telephone, opening, scanners, hands_at_the_desk)
+def another_day(driver, fake):
+    """A day that isn't the machine's is begun by a typed yes alone; for an amount the same button has no field."""
+    desk = Desk(driver, fake.url, 1)
+    fake.says(answers({"begin-day": reply("ok"), "pay": reply("owed 0")}))
+    desk.type("words", "begin-day 2190-12-31")
+    desk.it("words").send_keys(Keys.ENTER)
+    until("it is asked", lambda: desk.is_wrong() and desk.told().endswith("To begin 2190-12-31, type yes. If not, go on without it."))
+    need("the next scan goes to its line", desk.focus(), "scan")
+    need("the button", desk.it("again").text, "Begin 2190-12-31")
+    desk.it("again").click()
+    desk.type("typed", "no")
+    time.sleep(0.7)  # a click right after another one counts for none
+    desk.it("typed").send_keys(Keys.ENTER)
+    time.sleep(0.7)
+    need("nothing is sent", (fake.words(), desk.it("typed").is_displayed()), ([], True))
+    desk.type("typed", "yes")
+    desk.it("typed").send_keys(Keys.ENTER)
+    until("it is begun", lambda: desk.told() == "Done." and fake.words() == ["begin-day 2190-12-31"])
+    need("the field is gone", desk.it("typed").is_displayed(), False)
+    desk.mode("pay")
+    desk.keys("4", Keys.ENTER, "50.01", Keys.ENTER)
+    until("an amount is asked about", lambda: desk.it("again").is_displayed() and desk.it("again").text == "Yes, 50.01")
+    need("no field", (desk.it("typed").is_displayed(), desk.it("typed").get_attribute("value")), (False, ""))
+    time.sleep(0.7)
+    desk.it("again").click()
+    until("it is paid", lambda: "pay 4 5001" in fake.words())
+    need("320 pixels", desk.fits(320), True)
+
+
+PARTS = (lists, slips, fast_scans, refused_scans, unread_answers, receipts, signed_out, telephone, opening, scanners, hands_at_the_desk, another_day)
 
 
 def main():

@@ -273,6 +273,46 @@ it.work.scan("pay", "1234");
 await until(() => isQuiet(it));
 is([acts(sent).length, it.told.at(-1)], [3, ["1234: This is not as it has to be: an amount such as 2.50.", true]]);
 
+// ---- another day than that of this machine is begun by a typed yes alone, and that of this machine by its words
+const otherDay = "2190-12-31";
+const askedOfDay = `Today is ${dayOf} on this machine, and a day that was begun can't be taken back. To begin ${otherDay}, type yes. If not, go on without it.`;
+sent = network(turns([fault(91), reply("ok"), reply("fine 0 shelf 1")]));
+it = desk();
+it.work.words(["begin-day", otherDay]);
+it.work.scan("check-in", "1");
+await until(() => isQuiet(it));
+is([sent.length, it.work.queue.isStopped, it.waiting(), it.told.at(-1)], [0, true, ["copy 1"], [askedOfDay, true]]);
+for (const typed of ["", " ", "y", "no", "yes please", otherDay]) {
+  it.told.length = 0;
+  it.work.sendAgain(typed);
+  await until(() => isQuiet(it));
+  is([sent.length, it.work.queue.isStopped, it.told], [0, true, [[askedOfDay, true]]]);
+}
+is(desk(it.storage).work.end(), { unknown: [], unsent: [`begin-day ${otherDay}`, "copy 1"] });
+it.work.sendAgain(" Yes ");
+await until(() => isQuiet(it));
+is([acts(sent), it.work.queue.isStopped], [[`begin-day ${otherDay}`], true]);
+// what met a fault then was confirmed, and is sent again under its key
+it.work.sendAgain("");
+await until(() => isQuiet(it));
+is([acts(sent), keysOf(sent)[0] === keysOf(sent)[1]], [[`begin-day ${otherDay}`, `begin-day ${otherDay}`, "check-in 1 1"], true]);
+sent = network(turns([reply("ok")]));
+it = desk();
+it.work.words(["begin-day", dayOf]);
+await until(() => isQuiet(it));
+is([acts(sent), it.work.queue.isStopped], [[`begin-day ${dayOf}`], false]);
+// and without a yes it is passed over, also in a tab that is loaded anew
+it.work.words(["begin-day", otherDay]);
+await until(() => isQuiet(it));
+const asked = desk(it.storage);
+asked.work.queue.run();
+asked.work.sendAgain("");
+is([asked.work.queue.isStopped, asked.told], [true, [[askedOfDay, true]]]);
+asked.work.queue.sendOn();
+asked.work.scan("check-in", "1");
+await until(() => isQuiet(asked));
+is(acts(sent), [`begin-day ${dayOf}`, "check-in 1 1"]);
+
 // ---- each scan tells the title and for whom; a copy that goes to a hold or a branch has a slip
 const roads = (place) => `copy 20 home 2 kind 1 price 1200 title 200 Salt Roads\n${place}`;
 const comesIn = [

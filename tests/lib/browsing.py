@@ -121,10 +121,14 @@ class Desk(Page):
         return self.driver.execute_script("const it = document.getElementById('last').firstElementChild; return Boolean(it && !it.dataset.seen)")
 
     def words(self, line):
-        """Sends words, and gives what is told of them in the end."""
+        """Sends words, and gives what is told of them in the end. A day that isn't the machine's is confirmed."""
         self.mark()
         self.type("words", line)
         self.it("words").send_keys(Keys.ENTER)
+        if line.startswith("begin-day "):
+            until(f"a yes to {line}", lambda: self.it("typed").is_displayed())
+            self.type("typed", "yes")
+            self.it("typed").send_keys(Keys.ENTER)
         until(line, lambda: self.is_noted() or self.told().startswith("These are not"))
         return self.told()
 
