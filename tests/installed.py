@@ -71,6 +71,47 @@ def mornings(same, prefix, place):
     same("when it is", [it for it in ("Restart=on-failure", "SuccessExitStatus=2", "Type=oneshot") if f"\n{it}\n" not in morning.unit], [])
 
 
+def by_links(same, place):
+    """The launcher by symbolic links: by whole names and by others, through a linked folder, and one after another."""
+    launcher, there = os.path.join(TOP, "circ"), os.path.join(place, "links")
+    os.makedirs(os.path.join(there, "deep", "folder"))
+    links = {
+        "whole": launcher,
+        "relative": os.path.relpath(launcher, there),
+        "of a link": "relative",
+        "folder": os.path.join("deep", "folder"),
+        os.path.join("deep", "folder", "back"): os.path.join("..", "..", "of a link"),
+    }
+    for name, target in links.items():
+        os.symlink(target, os.path.join(there, name))
+    for name in ("whole", "relative", "of a link", os.path.join("deep", "folder", "back"), os.path.join("folder", "back")):
+        told = run(os.path.join(there, name), "file", f"{place}/linked.db", "g1", "begin-day", "2026-03-02", cwd=place)
+        same(f"the launcher by the link {name}", (told.returncode, told.stdout, told.stderr), (0, "ok\n", ""))
+    told = run("sh", "-c", 'cd "$0" && ./relative file "$1" g1 begin-day 2026-03-02', there, f"{place}/linked.db")
+    same("the launcher by a link in this folder", (told.returncode, told.stdout), (0, "ok\n"))
+    told = run("sh", "-c", 'PATH="$0:$PATH"; relative file "$1" g1 begin-day 2026-03-02', there, f"{place}/linked.db")
+    same("the launcher by a link on the path", (told.returncode, told.stdout), (0, "ok\n"))
+
+
+def over_a_running_program(same, install, prefix, place):
+    """A program that serves goes on while another is installed over it, and nothing is left beside the files."""
+    port = free_port()
+    with subprocess.Popen([f"{prefix}/bin/circ", "serve", f"{place}/running.db", port, "1", "9", "deskkey00001"], stdout=subprocess.PIPE, text=True) as serving:
+        same("it serves", serving.stdout.readline(), f"listening on {port}\n")
+        before = os.stat(f"{prefix}/bin/circ").st_ino
+        done = run(install, prefix)
+        same("what install says over a running program", (done.returncode, done.stdout.splitlines(), done.stderr), (0, [f"{prefix}/{path}" for path in FILES], ""))
+        same("another file is there", os.stat(f"{prefix}/bin/circ").st_ino != before, True)
+        told = run(f"{prefix}/bin/circ", "send", port, "deskkey00001", "g1", "begin-day", "2026-03-02")
+        same("the one that runs answers the new one", (told.returncode, told.stdout), (0, '{"reply":"ok"}\n'))
+        serving.kill()
+    same("the files after it", files_in(prefix), sorted(FILES))
+
+
+def files_in(prefix):
+    return sorted(os.path.relpath(os.path.join(at, name), prefix) for at, _, names in os.walk(prefix) for name in names)
+
+
 def free_port():
     with socket.socket() as found:
         found.bind(("127.0.0.1", 0))
@@ -92,7 +133,7 @@ def main():
         prefix = os.path.join(place, "under a name with spaces")
         done = run(install, prefix)
         same("what install says", (done.returncode, done.stdout.splitlines()), (0, [f"{prefix}/{path}" for path in FILES]))
-        same("the files that are there", sorted(os.path.relpath(os.path.join(at, name), prefix) for at, _, names in os.walk(prefix) for name in names), sorted(FILES))
+        same("the files that are there", files_in(prefix), sorted(FILES))
         told = run(f"{prefix}/bin/circ", "file", f"{place}/town.db", "g1", "begin-day", "2026-03-02", cwd=place)
         same("the installed program", (told.returncode, told.stdout), (0, "ok\n"))
         patrons = os.path.join(place, "patrons.csv")
@@ -128,6 +169,8 @@ def main():
         same("the completion of a question", run("bash", "-c", source).stdout, "copy copies\n")
         source = f'source "{prefix}/{COMPLETION}"; COMP_WORDS=(circ mig); COMP_CWORD=1; _circ; echo "${{COMPREPLY[*]}}"'
         same("the completion of a run", run("bash", "-c", source).stdout, "migrate\n")
+        over_a_running_program(same, install, prefix, place)
+        by_links(same, place)
         mornings(same, prefix, place)
         file = os.path.join(place, "file")
         open(file, "w", encoding="utf-8").close()
