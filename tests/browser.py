@@ -97,7 +97,7 @@ def day():
     """What is typed on the day at the desk, with the answers: lines under a key that was typed before, files and lists of copies aside. Questions, which pass over their key, and reports are
     all there; a report is a question whose last line tells how many rows there are."""
     text, keys = outside.document("DAY-AT-THE-DESK.md"), set()
-    for run, words, answer in re.findall(r"^\$ \./circ (file|report) town\.db (\S+ .+)\n((?:(?!\$|```).*\n)+)", text, re.M):
+    for run, words, answer in re.findall(r"^\$ \./circ (file|report) day\.db (\S+ .+)\n((?:(?!\$|```).*\n)+)", text, re.M):
         if run == "report":
             yield (words if words.startswith("till") else f"{words} 0"), re.sub(r"\n(ready|overdue) \d+$", "\nend", answer.rstrip("\n"))
             continue

@@ -24,7 +24,7 @@ from desk_rules import EPOCH, MOST_ROWS, QUESTIONS, Library
 from lib import runs
 from lib.runs import (
     CIRC, GROUND, HEADER, PROGRAM, ROOM, TOP, answers, check, circ, digest, kill_at_work, memory_of, month, report, rows, rows_now, say, status_of, take_in,
-    the_rows_are, timed, whole, write,
+    the_rows_are, timed, type_page, whole, write,
 )
 from messages import message
 from outer_forms import WORDS
@@ -428,30 +428,11 @@ def refusals_of_other_rows(folder, path):
     say(other, [("q2", ["check-out", "1", "12", "1"], "refused 70")])
 
 
-def examples(page):
-    """The lines that a page of docs/ shows as typed, each with the lines that answer it, or that the file has."""
-    with open(os.path.join(TOP, "docs", page), encoding="utf-8") as file:
-        blocks = file.read().split("```\n")[1::2]
-    for block in blocks:
-        for typed in re.split(r"^\$ ", block, flags=re.MULTILINE)[1:]:
-            line, _, answer = typed.partition("\n")
-            yield shlex.split(line), answer
-
-
 def a_day_at_the_desk(folder):
     """The page of a day's work is what the program really answers."""
     room = os.path.join(folder, "day")
     os.mkdir(room)
-    shown = list(examples("DAY-AT-THE-DESK.md"))
-    check("the page shows a day's work", len(shown) > 30, True)
-    for (command, *words), answer in shown:
-        if command == "cat":
-            with open(os.path.join(room, words[0]), "w", encoding="utf-8", newline="") as file:
-                file.write(answer)
-            continue
-        check(f"the command of {words}", command, "./circ")
-        run = subprocess.run([CIRC, *words], capture_output=True, timeout=120, cwd=room)
-        check(f"{words}", (run.stdout.decode(), run.returncode), (answer, status_of(answer.partition("\n")[0])))
+    type_page(room, "DAY-AT-THE-DESK.md", 30)
 
 
 def reports(folder):

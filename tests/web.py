@@ -10,6 +10,7 @@ import json
 import os
 import pty
 import random
+import re
 import shlex
 import shutil
 import signal
@@ -322,12 +323,14 @@ def at_random(folder, workers):
 
 
 def by_curl(folder, workers):
-    """Each route by curl, as docs/USING.md shows it, and a body for which curl waits to be told to go on."""
-    path = a_library(folder, "curl.db")
+    """Each route by curl, as docs/USING.md shows it over the library that the day at the desk leaves, and a body for which curl waits to be told to go on."""
+    runs.type_page(folder, "DAY-AT-THE-DESK.md", 30)
     with open(os.path.join(TOP, "docs", "USING.md"), encoding="utf-8") as file:
-        lines = [line.strip() for line in file if line.startswith("    curl ")]
-    answers = [b'{"reply":"hold 1"}', b'{"reply":"patron 2 owed 0 name Bo Carr\\nhold 1 at 1 waiting title 100 Rivers of the North"}',
-               b'{"reply":"ok"}', b'{"reply":"hold 2"}', b'{"reply":"loan 1 due 2026-03-09"}', b'{"reply":"loan 1 due 2026-03-16"}']
+        shown = file.read().partition("\n## The web\n")[2]
+    path = os.path.join(folder, re.search(rf"^    \./circ serve (\S+) 8080 [1-8] \d+ {DESK_KEY}$", shown, re.MULTILINE)[1])
+    lines = [line.strip() for line in shown.splitlines() if line.startswith("    curl ")]
+    answers = [b'{"reply":"hold 4"}', b'{"reply":"patron 2 owed 0 name Bo Carr\\nhold 4 at 1 waiting title 100 Rivers of the North"}',
+               b'{"reply":"ok"}', b'{"reply":"hold 5"}', b'{"reply":"loan 5 due 2026-03-31"}', b'{"reply":"loan 5 due 2026-04-06"}']
     check("each route is shown", len(lines), len(answers))
     with Serving(path, len(answers) + 1, workers=workers) as serving:
         for line, wanted in zip(lines, answers):
@@ -337,7 +340,7 @@ def by_curl(folder, workers):
         long = os.path.join(folder, "long.json")
         with open(long, "w", encoding="utf-8") as file:
             file.write('["branch","3","5","Hill"]' + " " * 60_000)
-        found = serving.curl("/desk", "-H", f"Desk-Key: {DESK_KEY}", "-H", "Request-Key: e1",
+        found = serving.curl("/desk", "-H", f"Desk-Key: {DESK_KEY}", "-H", "Request-Key: x1",
                              "-H", "Expect: 100-continue", "--data-binary", f"@{long}")
         check("a body that curl asks about", found, (200, b'{"reply":"ok"}'))
 

@@ -2,6 +2,7 @@
 
 import hashlib
 import os
+import re
 import shlex
 import signal
 import sqlite3
@@ -166,3 +167,27 @@ def take_in(path, copies):
     run = subprocess.run([CIRC, "import", path, copies], capture_output=True, timeout=120)
     check("standard error of a copies file", run.stderr, message(["import", path, copies], run.stdout.decode()))
     return run.stdout.decode(), run.returncode
+
+
+def examples(page):
+    """The lines that a page of docs/ shows as typed, each with the lines that answer it, or that the file has."""
+    with open(os.path.join(TOP, "docs", page), encoding="utf-8") as file:
+        blocks = file.read().split("```\n")[1::2]
+    for block in blocks:
+        for typed in re.split(r"^\$ ", block, flags=re.MULTILINE)[1:]:
+            line, _, answer = typed.partition("\n")
+            yield shlex.split(line), answer
+
+
+def type_page(room, page, least):
+    """Types in a folder what a page of docs/ shows, which is more than so many lines: each is answered as it stands there."""
+    shown = list(examples(page))
+    check(f"how much {page} shows", len(shown) > least, True)
+    for (command, *words), answer in shown:
+        if command == "cat":
+            with open(os.path.join(room, words[0]), "w", encoding="utf-8", newline="") as file:
+                file.write(answer)
+            continue
+        check(f"the command of {words}", command, "./circ")
+        run = subprocess.run([CIRC, *words], capture_output=True, timeout=120, cwd=room)
+        check(f"{words}", (run.stdout.decode(), run.returncode), (answer, status_of(answer.partition("\n")[0])))
