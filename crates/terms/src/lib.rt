@@ -1,6 +1,7 @@
 //! The words of the desk: numbers, texts, rows, commands and replies, each with its form.
 #![tactic(auto)]
 
+mod borrowed_rows;
 mod command;
 mod fault;
 mod form;
@@ -9,7 +10,6 @@ mod limits;
 mod money;
 mod number;
 mod order;
-mod put;
 mod question;
 mod reading;
 mod refusal;
@@ -17,11 +17,11 @@ mod reply;
 mod row;
 mod tables;
 mod text;
-mod thing;
 mod week;
 mod words;
 mod writing;
 
+pub use borrowed_rows::{BranchPut, KeptPut, PatronPut, TitlePut};
 pub use calendar::{Day, Memory, Weekdays};
 pub use command::{Caller, Command, Owner, Request, request_text};
 pub use fault::{Fault, ServiceFault};
@@ -41,7 +41,6 @@ pub use number::{
     PatronKind, TitleId,
 };
 pub use order::{Ordered, owner_number};
-pub use put::{BranchPut, KeptPut, PatronPut, TitlePut};
 pub use question::Question;
 pub use reading::{read_number, read_reply};
 pub use refusal::Refusal;

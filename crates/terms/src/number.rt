@@ -3,7 +3,6 @@
 ghost use Rattle.std.specs.Prelude.{◌≡◌, ◌<◌, ◌≤◌, ◌^◌, ℕ};
 ghost use Rattle.terms.specs.declared.limits.TheConstants.{LARGEST_SUM};
 
-use crate::thing;
 use std::fmt;
 use std::marker::{Model, PhantomData};
 
@@ -55,38 +54,73 @@ impl<T> fmt::Display for Number<T> {
     }
 }
 
+// What numbers are of. No value has one of these types: they keep numbers of different things apart.
+
+/// A branch of the library.
+pub enum OfBranch {}
+
+/// A patron.
+pub enum OfPatron {}
+
+/// A title.
+pub enum OfTitle {}
+
+/// A copy of a title.
+pub enum OfCopy {}
+
+/// A loan.
+pub enum OfLoan {}
+
+/// A hold.
+pub enum OfHold {}
+
+/// A line of an account.
+pub enum OfLine {}
+
+/// A kind of patron.
+pub enum OfPatronKind {}
+
+/// A kind of copy.
+pub enum OfCopyKind {}
+
+/// A day of a period.
+pub enum OfDay {}
+
+/// A loan, a hold or a renewal, where only their count matters.
+pub enum OfCount {}
+
 /// A branch, by its number.
-pub type BranchId = Number<thing::Branch>;
+pub type BranchId = Number<OfBranch>;
 
 /// A patron, by number.
-pub type PatronId = Number<thing::Patron>;
+pub type PatronId = Number<OfPatron>;
 
 /// A title, by its number.
-pub type TitleId = Number<thing::Title>;
+pub type TitleId = Number<OfTitle>;
 
 /// A copy, by its number.
-pub type CopyId = Number<thing::Copy>;
+pub type CopyId = Number<OfCopy>;
 
 /// A loan, by its number. Loans are numbered from 1, in the order in which they are made.
-pub type LoanId = Number<thing::Loan>;
+pub type LoanId = Number<OfLoan>;
 
 /// A hold, by its number. Holds are numbered from 1, in the order in which they are placed.
-pub type HoldId = Number<thing::Hold>;
+pub type HoldId = Number<OfHold>;
 
 /// A line of an account, by its number. Lines are numbered from 1 over all patrons.
-pub type LineId = Number<thing::Line>;
+pub type LineId = Number<OfLine>;
 
 /// A kind of patron, by its number.
-pub type PatronKind = Number<thing::KindOfPatron>;
+pub type PatronKind = Number<OfPatronKind>;
 
 /// A kind of copy, by its number.
-pub type CopyKind = Number<thing::KindOfCopy>;
+pub type CopyKind = Number<OfCopyKind>;
 
 /// How many days: a loan period or a pick-up period.
-pub type Days = Number<thing::Day>;
+pub type Days = Number<OfDay>;
 
 /// How many loans, holds or renewals are allowed or left.
-pub type Count = Number<thing::Counted>;
+pub type Count = Number<OfCount>;
 
 /// An amount of money, in whole cents. None is so large that a column of the tables couldn't hold
 /// it.
