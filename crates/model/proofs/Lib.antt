@@ -40,7 +40,7 @@ pub mod RowRanges
 pub mod References
 pub mod ClosedDays
 pub mod RepeatedLists
-pub mod KeptRows
+pub mod UntouchedPatrons
 pub mod Schemas
 pub mod Asking
 pub mod Debts

@@ -1,4 +1,4 @@
-use Rattle.model.proofs.KeptRows.{kept-agree}
+use Rattle.model.proofs.UntouchedPatrons.{kept-agree}
 use Rattle.model.proofs.kept_rows_law.Goals as goal
 
 pub returns : goal.returns
