@@ -23,7 +23,7 @@ use Rattle.circ_core.specs.declared.changes.RowChange.{RowChange}
 use Rattle.circ_core.specs.declared.changes.RowChange.TheVariants.{PutMeta, PutPatron, PutLine}
 use Rattle.circ_core.specs.Tables.{changed}
 use Rattle.circ_core.proofs.Rows.{is_suc}
-use Rattle.circ_core.proofs.SettleMeets.{nth-added, nth-kept, length-added}
+use Rattle.circ_core.proofs.PayAndWaiveMeets.{nth-added, nth-kept, length-added}
 
 -- ---- what is owed, by a list of lines
 

@@ -32,7 +32,7 @@ use Rattle.circ_core.proofs.PlaceHoldMeets.{place_hold_meets}
 use Rattle.circ_core.proofs.CancelHoldMeets.{cancel_hold_meets}
 use Rattle.circ_core.proofs.MissingMeets.{missing_meets}
 use Rattle.circ_core.proofs.WithdrawMeets.{withdraw_meets}
-use Rattle.circ_core.proofs.SettleMeets.{pay_meets, waive_meets}
+use Rattle.circ_core.proofs.PayAndWaiveMeets.{pay_meets, waive_meets}
 use Rattle.circ_core.proofs.PageMeets.{page_meets}
 
 pub decides : (H : History) → IsLegal H → (v : View) (command : Command) (result : Result Decision Refusal)

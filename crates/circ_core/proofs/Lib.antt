@@ -33,7 +33,7 @@ pub mod MissingMeets
 pub mod CancelHoldMeets
 pub mod PlaceHoldMeets
 pub mod RenewMeets
-pub mod SettleMeets
+pub mod PayAndWaiveMeets
 pub mod PageMeets
 pub mod OwnersApart
 pub mod Decisions

@@ -29,7 +29,7 @@ use Rattle.circ_core.specs.Withdraw.{withdraw_checks, withdraw_rows}
 use Rattle.circ_core.specs.Renew.{renew_checks, renewed_due_in, renewed_rows}
 use Rattle.circ_core.specs.PlaceHold.{place_hold_checks, place_hold_rows}
 use Rattle.circ_core.specs.CancelHold.{cancel_hold_checks, cancel_hold_rows}
-use Rattle.circ_core.specs.Settle.{settle_checks, settle_rows}
+use Rattle.circ_core.specs.PayAndWaive.{settle_checks, settle_rows}
 use Rattle.circ_core.specs.Page.{page_checks}
 
 -- The decision is that of the command's checks, reply and row changes. A question has none of them: it is answered elsewhere.

@@ -25,7 +25,7 @@ pub mod CancelHold
 pub mod Unshelve
 pub mod Missing
 pub mod Withdraw
-pub mod Settle
+pub mod PayAndWaive
 pub mod Page
 pub mod Owners
 pub mod Deciding

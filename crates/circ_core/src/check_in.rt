@@ -8,7 +8,7 @@ ghost use Rattle.circ_core.specs.CheckIn.{check_in_rows};
 
 use crate::changes::{Changes, Decision, RowChange};
 use crate::checks::first_refusal;
-use crate::condition::is_gone;
+use crate::condition::is_withdrawn;
 use crate::ending::{fine_of, needs_more_numbers, with_charges, with_end};
 use crate::routing::{Course, home_branch, limit_day, route, told, with_arrival};
 use crate::views::View;
@@ -85,7 +85,7 @@ pub(crate) fn check_in<'a>(
     let refusal = first_refusal(&[
         (Refusal::UnknownBranch, view.branch.is_none()),
         (Refusal::UnknownCopy, view.copy.is_none()),
-        (Refusal::CopyWithdrawn, is_gone(&view.copy)),
+        (Refusal::CopyWithdrawn, is_withdrawn(&view.copy)),
         (Refusal::OnHoldShelf, view.hold.is_some()),
     ]);
     if let Some(first) = refusal {

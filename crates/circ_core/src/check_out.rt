@@ -14,7 +14,7 @@ ghost use Rattle.circ_core.specs.Renew.{is_late};
 
 use crate::changes::{Changes, Decision, RowChange};
 use crate::checks::first_refusal;
-use crate::condition::{is_gone, is_lost};
+use crate::condition::{is_missing, is_withdrawn};
 use crate::debt::owes_too_much;
 use crate::due_day::due_day;
 use crate::holds::finish;
@@ -107,8 +107,8 @@ fn check_out_refusal(
         (Refusal::UnknownBranch, view.calendar.is_none()),
         (Refusal::UnknownPatron, view.patron.is_none()),
         (Refusal::UnknownCopy, view.copy.is_none()),
-        (Refusal::CopyWithdrawn, is_gone(&view.copy)),
-        (Refusal::CopyMissing, is_lost(&view.copy)),
+        (Refusal::CopyWithdrawn, is_withdrawn(&view.copy)),
+        (Refusal::CopyMissing, is_missing(&view.copy)),
         (Refusal::OnLoan, view.loan.is_some()),
         (Refusal::InTransit, view.transit.is_some()),
         (Refusal::Elsewhere, !is_at(&view.hold, &view.copy, branch)),

@@ -6,7 +6,7 @@ ghost use Rattle.circ_core.specs.Condition.{is_missing, is_withdrawn, condition_
 use crate::changes::{Changes, RowChange};
 use terms::{Condition, CopyRow};
 
-pub(crate) fn is_gone(copy: &Option<CopyRow>) -> bool
+pub(crate) fn is_withdrawn(copy: &Option<CopyRow>) -> bool
     ensures { result ≡ is_withdrawn copy.now }
 {
     match copy {
@@ -15,7 +15,7 @@ pub(crate) fn is_gone(copy: &Option<CopyRow>) -> bool
     }
 }
 
-pub(crate) fn is_lost(copy: &Option<CopyRow>) -> bool
+pub(crate) fn is_missing(copy: &Option<CopyRow>) -> bool
     ensures { result ≡ is_missing copy.now }
 {
     match copy {

@@ -7,7 +7,7 @@ ghost use Rattle.circ_core.specs.Missing.{waiting_again, release_rows, missing_r
 
 use crate::changes::{Changes, Decision, RowChange};
 use crate::checks::first_refusal;
-use crate::condition::{copy_changes, is_gone, is_lost};
+use crate::condition::{copy_changes, is_missing, is_withdrawn};
 use crate::ending::{fine_of, needs_more_numbers, with_charges, with_end};
 use crate::routing::limit_day;
 use crate::views::View;
@@ -75,8 +75,8 @@ pub(crate) fn declare_missing<'a>(view: &'a View) -> Result<Decision<'a>, Refusa
     let price = price_of(&view.loan, &view.copy);
     let refusal = first_refusal(&[
         (Refusal::UnknownCopy, view.copy.is_none()),
-        (Refusal::CopyWithdrawn, is_gone(&view.copy)),
-        (Refusal::CopyMissing, is_lost(&view.copy)),
+        (Refusal::CopyWithdrawn, is_withdrawn(&view.copy)),
+        (Refusal::CopyMissing, is_missing(&view.copy)),
     ]);
     if let Some(first) = refusal {
         return Err(first);

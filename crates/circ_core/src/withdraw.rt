@@ -6,7 +6,7 @@ ghost use Rattle.circ_core.specs.Withdraw.{withdraw_checks, withdraw_rows};
 
 use crate::changes::{Decision, done};
 use crate::checks::first_refusal;
-use crate::condition::{copy_changes, is_gone};
+use crate::condition::{copy_changes, is_withdrawn};
 use crate::views::View;
 use terms::{Condition, Refusal};
 
@@ -16,7 +16,7 @@ pub(crate) fn withdraw<'a>(view: &View) -> Result<Decision<'a>, Refusal>
 {
     let refusal = first_refusal(&[
         (Refusal::UnknownCopy, view.copy.is_none()),
-        (Refusal::CopyWithdrawn, is_gone(&view.copy)),
+        (Refusal::CopyWithdrawn, is_withdrawn(&view.copy)),
         (Refusal::OnLoan, view.loan.is_some()),
         (Refusal::InTransit, view.transit.is_some()),
         (Refusal::OnHoldShelf, view.hold.is_some()),

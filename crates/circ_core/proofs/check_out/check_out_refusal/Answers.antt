@@ -37,7 +37,7 @@ returns c =
     let p = c.args.patron in
     let b = c.args.branch in
     c.first_refusal.ensures
-    ∙ same_table c.is_none.result c.is_none-2.result c.is_none-3.result c.is_gone.result c.is_lost.result c.is_some.result
+    ∙ same_table c.is_none.result c.is_none-2.result c.is_none-3.result c.is_withdrawn.result c.is_missing.result c.is_some.result
     c.is_some-2.result (not c.is_at.result) c.is_anothers.result c.is_for_another.result c.holds_more.result c.is_none-4.result
     c.has_all_loans.result c.owes_too_much.result c.is_used_up.result c.args.is_late
     (is_none v.calendar) (is_none v.patron) (is_none v.copy) (is_withdrawn v.copy) (is_missing v.copy) (is_some v.loan) (is_some v.transit)

@@ -4,7 +4,7 @@ ghost use Rattle.circ_core.specs.Decided.{Decided};
 ghost use Rattle.circ_core.specs.Debt.{owed_by};
 ghost use Rattle.std.specs.Prelude.{◌-◌};
 ghost use Rattle.terms.specs.declared.reply.Reply.TheVariants.{Owed};
-ghost use Rattle.circ_core.specs.Settle.{settle_checks, settle_rows};
+ghost use Rattle.circ_core.specs.PayAndWaive.{settle_checks, settle_rows};
 
 use crate::changes::{Changes, Decision, RowChange};
 use crate::views::View;

@@ -23,7 +23,7 @@ use Rattle.model.proofs.Passing.{passed}
 use Rattle.circ_core.specs.Decides.{event}
 use Rattle.circ_core.specs.declared.views.View.{View}
 use Rattle.circ_core.specs.Debt.{owed_by}
-use Rattle.circ_core.specs.Settle.{settle_checks, settle_rows, settled}
+use Rattle.circ_core.specs.PayAndWaive.{settle_checks, settle_rows, settled}
 use Rattle.circ_core.specs.Views.{IsAccountView}
 use Rattle.circ_core.proofs.Meets.{Meets, Leads, SameChecks}
 use Rattle.circ_core.proofs.Rows.{none-map, some-is}
