@@ -2,7 +2,7 @@
 #![tactic(auto)]
 
 mod copies;
-mod line;
+mod parser;
 mod words;
 
 pub use copies::{CopyEnd, FileRow, MOST_ROWS, files_read_once, read_copies};

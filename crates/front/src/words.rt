@@ -11,7 +11,7 @@ ghost use Rattle.terms.specs.Commands.{column, texts};
 ghost use Rattle.terms.specs.declared.words.WordFault.TheVariants.{Memory as NoMemory};
 ghost use Rattle.terms.specs.declared.words.WordFault.TheVariants.{NotUnderstood as Refused};
 
-use crate::line::desk_line;
+use crate::parser::desk_line;
 use clap::error::ErrorKind;
 use clap::{ArgMatches, Error};
 use std::alloc::{AllocError, Global};

@@ -3,7 +3,7 @@ use Rattle.clap.specs.Words.{App}
 use Rattle.front.specs.Line.{IsApp, empty_app, with_form}
 use Rattle.terms.specs.Commands.{line}
 use Rattle.front.proofs.Tables.{fold-map_more}
-use Rattle.front.proofs.line.desk_line.Goals as goal
+use Rattle.front.proofs.parser.desk_line.Goals as goal
 
 pub loop-form-preserved : goal.loop-form-preserved
 loop-form-preserved c =

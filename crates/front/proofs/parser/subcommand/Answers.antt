@@ -2,7 +2,7 @@ use Rattle.std.proofs.Common.{sym, subst}
 use Rattle.clap.specs.Words.{App, new_app}
 use Rattle.front.specs.Line.{IsApp, with_required}
 use Rattle.front.proofs.Tables.{fold-names_more}
-use Rattle.front.proofs.line.subcommand.Goals as goal
+use Rattle.front.proofs.parser.subcommand.Goals as goal
 
 pub loop-part-preserved : goal.loop-part-preserved
 loop-part-preserved c =
