@@ -2,7 +2,6 @@
 
 use crate::meanings::{meaning, saying};
 use crate::noting::ToldLine;
-use crate::usage::write_usage;
 use std::io::Write;
 use terms::{WriteFault, write_pieces};
 
@@ -35,20 +34,9 @@ fn text_of(line: &[u8]) -> Option<&'static str> {
     }
 }
 
-/// Says what the line means, where it tells of a refusal, a fault, or that the words were not
-/// understood: in one line, or the usage of the words. The words are those of the run after the
-/// program's name.
-pub fn explain<W: Write>(
-    writer: &mut W,
-    line: &ToldLine,
-    words: &[String],
-    schema: u32,
-) -> Result<(), WriteFault> {
-    let line = line.as_bytes();
-    if line == b"words not understood".as_slice() {
-        return write_usage(writer, words, schema);
-    }
-    match text_of(line) {
+/// Says what the line means in one line, where it tells of a refusal, a fault or a bad row.
+pub fn explain<W: Write>(writer: &mut W, line: &ToldLine) -> Result<(), WriteFault> {
+    match text_of(line.as_bytes()) {
         Some(text) => write_pieces(writer, &[b"circ: ", text.as_bytes(), b"\n"]),
         None => Ok(()),
     }
