@@ -1,6 +1,6 @@
 -- From one check to the next.
 use Rattle.std.proofs.Common.{◌≡◌, ℕ, ◌≤◌, List, ◌++◌, length, take, Bool, true, false, ap, sym, ◌∙◌, subst, arith, Option, Some, None, Result, Ok, Err}
-use Rattle.std.specs.Prelude.{nat_le, MatchBool, MatchResult, IfSome}
+use Rattle.std.specs.Prelude.{nat_le, bytes_eq, MatchBool, MatchOption, MatchResult, IfSome}
 use Rattle.std.proofs.lemmas.Bool.Decides.{nat_tests}
 use Rattle.web.specs.Fields.{NamedValue, body_length}
 use Rattle.std.proofs.Common.{inr, map, drop, append_assoc, length-take-le}
@@ -13,7 +13,11 @@ use Rattle.httparse.specs.declared.spans.RequestSpans.{RequestSpans}
 use Rattle.web.specs.declared.limits.TheConstants.{HEAD_BYTES, HEAD_FIELDS}
 use Rattle.web.specs.Heads.{HasHead}
 use Rattle.web.specs.Checks.{ChecksHead}
-use Rattle.web.specs.Checks.{Reading, IsRefused, UnlessFaulted, ChecksTarget, ChecksWhole, ChecksLength}
+use Rattle.web.specs.Checks.{Reading, IsRefused, UnlessFaulted, ChecksBody, ChecksTarget, ChecksWhole, ChecksLength}
+use Rattle.web.specs.Requests.{method_of, is_post, shown_key, request_key, repeats_key}
+use Rattle.web.specs.Routes.{IsRoute, target_of}
+use Rattle.web.specs.declared.routes.Route.{Route}
+use Rattle.web.specs.declared.fault.WebStatus.TheVariants.{BadRequest, MethodNotAllowed}
 use Rattle.web.specs.declared.fault.WebFault.{WebFault}
 use Rattle.web.specs.declared.fault.WebFault.TheVariants as fault
 
@@ -91,3 +95,32 @@ head_read (Some all) (Some left) bytes headers spans r taken is within long many
     let p2 = subst (λ (x : List ℕ). ChecksLength h.method x (map (header_bytes bytes) (take spans.headers headers)) rest r) is.1.path p1 in
     let p3 = subst (λ (x : List NamedValue). ChecksLength h.method h.target x rest r) is.1.fields p2 in
     inr (h, rest, has_head bytes left all headers spans h taken is.1 within long many, p3)) told
+
+when-passed : {A : Type 0} (b : Bool) (x y : A) (e : WebFault) (P Q : Type 0) → MatchBool b (◌≡◌ {A = Result A WebFault} (Ok x) (Ok y)) (◌≡◌ {A = Result A WebFault} (Ok x) (Err e)) → P → MatchBool b P Q
+when-passed true x y e P Q is p = p
+when-passed false x y e P Q is p = cc
+
+when-not : {A : Type 0} (b : Bool) (x y : A) (e : WebFault) (P Q : Type 0) → MatchBool b (◌≡◌ {A = Result A WebFault} (Ok x) (Err e)) (◌≡◌ {A = Result A WebFault} (Ok x) (Ok y)) → P → MatchBool b Q P
+when-not true x y e P Q is p = cc
+when-not false x y e P Q is p = p
+
+with-key : (post : Bool) (asked key : Option (List ℕ)) (e : WebFault) (P : Option (List ℕ) → Type 0) (Q : Type 0)
+    → MatchBool post (MatchOption asked (◌≡◌ {A = Result (Option (List ℕ)) WebFault} (Ok key) (Err e)) (λ k. ◌≡◌ {A = Result (Option (List ℕ)) WebFault} (Ok key) (Ok (Some k)))) (◌≡◌ {A = Result (Option (List ℕ)) WebFault} (Ok key) (Ok None)) → P key
+    → MatchBool post (MatchOption asked Q (λ k. P (Some k))) (P None)
+with-key true (Some k) key e P Q is p = let same : key ≡ Some k = cc in subst P same p
+with-key true None key e P Q is p = cc
+with-key false asked key e P Q is p = let same : key ≡ None = cc in subst P same p
+
+-- every check up to the body's was passed
+pub parts_checked : {A B : Type 0} (a a' : A) (b b' : B) (route : Route) (method target body : List ℕ) (fields : List NamedValue) (shown key : Option (List ℕ)) (r : Reading)
+    → IsRoute route → target ≡ target_of route
+    → MatchBool (bytes_eq method (method_of route)) (◌≡◌ {A = Result A WebFault} (Ok a) (Ok a')) (Ok a ≡ Err (fault.Status (MethodNotAllowed (method_of route))))
+    → MatchBool (repeats_key fields) (Ok b ≡ Err (fault.Status BadRequest)) (◌≡◌ {A = Result B WebFault} (Ok b) (Ok b'))
+    → shown ≡ shown_key route fields
+    → MatchBool (is_post route) (MatchOption (request_key fields) (◌≡◌ {A = Result (Option (List ℕ)) WebFault} (Ok key) (Err (fault.Status BadRequest))) (λ k. ◌≡◌ {A = Result (Option (List ℕ)) WebFault} (Ok key) (Ok (Some k)))) (◌≡◌ {A = Result (Option (List ℕ)) WebFault} (Ok key) (Ok None))
+    → ChecksBody route shown key body r → ChecksTarget method target fields body r
+parts_checked a a' b b' route method target body fields shown key r is same allowed once has keyed told =
+    let of_shown = subst (λ s. ChecksBody route s key body r) has told in
+    let of_key = with-key (is_post route) (request_key fields) key (fault.Status BadRequest) (λ k. ChecksBody route (shown_key route fields) k body r)
+    (IsRefused r BadRequest) keyed of_shown in
+    inr (route, is, same, when-passed _ a a' _ _ _ allowed (when-not _ b b' _ _ _ once of_key))

@@ -1,10 +1,15 @@
 //! Web requests: the checks that a request passes, in their order.
 
-ghost use Rattle.std.specs.Prelude.{◌≡◌, ◌++◌, IsUtf8, IfOk, IfSome, length, take, drop, map};
+ghost use Rattle.std.specs.Prelude.{◌≡◌, ◌++◌, IsUtf8, IfOk, IfSome, IfNone, MatchBool, length, take, drop, map};
+ghost use Rattle.std.specs.Prelude.{Ok, Err, Some, None, MatchOption, bytes_eq};
 ghost use Rattle.httparse.specs.Spans.{IsRequestWithin, span_bytes, header_bytes};
-ghost use Rattle.web.specs.Checks.{UnlessFaulted, ChecksBody, ChecksKey};
-ghost use Rattle.web.specs.Checks.{ChecksMethod, ChecksTarget, ChecksLength, ChecksHead};
+ghost use Rattle.web.specs.Checks.{UnlessFaulted, ChecksTarget, ChecksLength, ChecksHead};
+ghost use Rattle.web.specs.Routes.{IsRoute, target_of};
+ghost use Rattle.web.specs.declared.routes.Route.{Route as Said};
+ghost use Rattle.web.specs.declared.fault.WebFault.TheVariants.{Status};
+ghost use Rattle.web.specs.declared.fault.WebStatus.TheVariants.{BadRequest, MethodNotAllowed};
 ghost use Rattle.web.specs.Requests.{shown_key, request_key, stands_twice, repeats_key};
+ghost use Rattle.web.specs.Requests.{is_post, method_of};
 ghost use Rattle.web.specs.declared.limits.TheConstants.{HEAD_BYTES, HEAD_FIELDS};
 
 use crate::body::read_body;
@@ -74,68 +79,60 @@ fn is_key_repeated(fields: &Fields<'_>) -> bool
         || is_twice(fields, b"Request-Key")
 }
 
-/// The last check: the body is the route's.
-fn check_body(
-    alloc: Global,
-    route: &Route,
-    shown: Option<CardKey>,
-    key: Option<Key>,
-    body: &[u8],
-) -> Result<WebRequest, WebFault>
-    ensures { UnlessFaulted result (ChecksBody route.now shown key body.now result) }
+/// Checks that the method is the route's.
+fn check_method(route: &Route, method: &[u8]) -> Result<(), WebFault>
+    ensures { MatchBool (bytes_eq method.now (method_of route.now)) (result ≡ Ok tt)
+        (result ≡ Err (Status (MethodNotAllowed (method_of route.now)))) }
 {
-    match read_command(alloc, route, body)? {
-        Some(command) => Ok(WebRequest {
-            patron: route.patron(),
-            shown,
-            key,
-            command,
-        }),
-        None => Err(WebFault::Status(WebStatus::BadRequest)),
+    if route.has_method(method) {
+        Ok(())
+    } else {
+        Err(WebFault::Status(WebStatus::MethodNotAllowed(route.method())))
     }
 }
 
-/// The check of the request's key, and the last.
-fn check_key(
-    alloc: Global,
-    route: &Route,
-    fields: &Fields<'_>,
-    body: &[u8],
-) -> Result<WebRequest, WebFault>
-    ensures { UnlessFaulted result (ChecksKey route.now fields.now body.now result) }
+/// Checks that no key stands twice.
+fn check_repeats(fields: &Fields<'_>) -> Result<(), WebFault>
+    ensures { MatchBool (repeats_key fields.now) (result ≡ Err (Status BadRequest))
+        (result ≡ Ok tt) }
 {
-    let shown = shown_of(alloc, route, fields)?;
+    if is_key_repeated(fields) {
+        Err(WebFault::Status(WebStatus::BadRequest))
+    } else {
+        Ok(())
+    }
+}
+
+/// The request's key: what is posted has one, in its form.
+fn key_for(alloc: Global, route: &Route, fields: &Fields<'_>) -> Result<Option<Key>, WebFault>
+    ensures { UnlessFaulted result (MatchBool (is_post route.now)
+        (MatchOption (request_key fields.now) (result ≡ Err (Status BadRequest))
+        (λ key. result ≡ Ok (Some key)))
+        (result ≡ Ok None)) }
+{
     if !route.is_post() {
-        return check_body(alloc, route, shown, None, body);
+        return Ok(None);
     }
     match key_of(alloc, fields)? {
-        Some(key) => check_body(alloc, route, shown, Some(key), body),
+        Some(key) => Ok(Some(key)),
         None => Err(WebFault::Status(WebStatus::BadRequest)),
     }
 }
 
-/// The checks of the method and of repeated keys, and those after.
-fn check_method(
-    alloc: Global,
-    route: &Route,
-    method: &[u8],
-    fields: &Fields<'_>,
-    body: &[u8],
-) -> Result<WebRequest, WebFault>
-    ensures { UnlessFaulted result
-        (ChecksMethod route.now method.now fields.now body.now result) }
+/// The route whose target this is, if there is one.
+fn find_route(routes: &Routes, target: &[u8]) -> Option<Route>
+    requires { IsUtf8 target.now }
+    ensures some { IfSome result (λ r. IsRoute r × (target.now ≡ target_of r)) }
+    ensures none { IfNone result ((r : Said) → IsRoute r → target.now ≡ target_of r → ⊥) }
 {
-    if !route.has_method(method) {
-        return Err(WebFault::Status(WebStatus::MethodNotAllowed(route.method())));
+    match str::from_utf8(target) {
+        Ok(target) => routes.route_of(target),
+        Err(_) => None,
     }
-    if is_key_repeated(fields) {
-        return Err(WebFault::Status(WebStatus::BadRequest));
-    }
-    check_key(alloc, route, fields, body)
 }
 
-/// The check of the target, and those after.
-fn check_target(
+/// The checks of a request whose parts were read, in their order.
+fn check_parts(
     alloc: Global,
     routes: &Routes,
     method: &[u8],
@@ -147,12 +144,21 @@ fn check_target(
     ensures { UnlessFaulted result
         (ChecksTarget method.now target.now fields.now body.now result) }
 {
-    let Ok(target) = str::from_utf8(target) else {
+    let Some(route) = find_route(routes, target) else {
         return Err(WebFault::Status(WebStatus::NotFound));
     };
-    match routes.route_of(target) {
-        Some(route) => check_method(alloc, &route, method, fields, body),
-        None => Err(WebFault::Status(WebStatus::NotFound)),
+    check_method(&route, method)?;
+    check_repeats(fields)?;
+    let shown = shown_of(alloc, &route, fields)?;
+    let key = key_for(alloc, &route, fields)?;
+    match read_command(alloc, &route, body)? {
+        Some(command) => Ok(WebRequest {
+            patron: route.patron(),
+            shown,
+            key,
+            command,
+        }),
+        None => Err(WebFault::Status(WebStatus::BadRequest)),
     }
 }
 
@@ -177,7 +183,7 @@ fn check_head<R: Read>(
     let Some(body) = read_body(alloc, reader, &bytes[spans.len..], size)? else {
         return Err(WebFault::Status(WebStatus::BadRequest));
     };
-    check_target(
+    check_parts(
         alloc,
         routes,
         spans.method.of(bytes),
