@@ -14,7 +14,7 @@ pub mod EncodingLemmas
 pub mod PictureLemmas
 pub mod InverseLemmas
 pub mod ListLemmas
-pub mod PageLemmas
+pub mod BatchLemmas
 pub mod DayLemmas
 pub mod CellLemmas
 pub mod ShownLemmas

@@ -28,12 +28,12 @@ use Rattle.sqlite_rules.specs.Keys.{conflicts, shares}
 use Rattle.sqlite_tied.specs.Listing.{each_column}
 use Rattle.sql_maps.specs.Calls.{FindsRow}
 use Rattle.sql_maps.specs.Maps.{Map, Maps, Holds, Steps, First, Count, Listed, cells, key_at, put as put_map, put_at, take_at, take_out}
-use Rattle.sql_maps.specs.Pages.{FirstRows}
+use Rattle.sql_maps.specs.Batches.{FirstRows}
 use Rattle.sql_maps.proofs.AnswerLemmas.{shown_of, passes}
 use Rattle.sql_maps.proofs.CallLemmas.{put_steps, take_steps}
 use Rattle.sql_maps.proofs.FindLemmas.{finds_one}
 use Rattle.sql_maps.proofs.LookLemmas.{Looks, look, first_found, list_found, count_found, count_gives}
-use Rattle.sql_maps.proofs.PageLemmas.{page_found}
+use Rattle.sql_maps.proofs.BatchLemmas.{batch_found}
 use Rattle.sql_maps.proofs.ReadLemmas.{get_row}
 use Rattle.sql_maps.proofs.UniqueLemmas.{or_false, alone_by_rowid}
 use Rattle.sql_maps.proofs.WriteLemmas.{Fixed}
@@ -42,17 +42,17 @@ use Rattle.terms.specs.declared.fault.Fault.{Fault}
 use Rattle.terms.specs.declared.limits.TheConstants.{SCHEMA}
 use Rattle.circ_tables.specs.Cells.{number_key}
 use Rattle.circ_tables.specs.Encoding.{Any, IsEncoded, Draws, Encodes, with_map}
-use Rattle.circ_tables.specs.Numbered.{IsNumbered, IsNumberTable, IsRead, page_of, count_of, by_key, from_key, by_number, next_text}
+use Rattle.circ_tables.specs.Numbered.{IsNumbered, IsNumberTable, IsRead, batch_of, count_of, by_key, from_key, by_number, next_text}
 use Rattle.circ_tables.specs.Numbered.{next_given, put_terms, put_shows}
 use Rattle.circ_tables.specs.Puts.{Runs, PutsRow, TakesRow}
 use Rattle.circ_tables.specs.Reading.{Table, FirstEntry, AllEntries, EntriesInside, CountShown, Gets, Selects, Counts, Lists, ListsInside}
 use Rattle.circ_tables.specs.Selections.{is_any, is_next}
 use Rattle.circ_tables.specs.Shape.{schema, schema_at, HasTable}
 use Rattle.circ_tables.specs.Texts.{names_of, put_text, take_text, get_text, all_text}
-use Rattle.circ_tables.specs.declared.by_number.TheConstants.{PAGE_ROWS}
+use Rattle.circ_tables.specs.declared.by_number.TheConstants.{BATCH_ROWS}
 use Rattle.circ_tables.proofs.EncodingLemmas.{put_encoded, take_encoded, number_same}
 use Rattle.circ_tables.proofs.InverseLemmas.{told}
-use Rattle.circ_tables.proofs.PageLemmas.{there}
+use Rattle.circ_tables.proofs.BatchLemmas.{there}
 use Rattle.circ_tables.proofs.PutLemmas.{apart, puts_of}
 use Rattle.circ_tables.proofs.ReadingLemmas.{gets_of, selects_of, counts_of, lists_of, lists_inside}
 use Rattle.circ_tables.proofs.ShownLemmas.{are_encoded}
@@ -180,7 +180,7 @@ module _ {R : Type 0} {t : Table ℕ R} {number_of : R → ℕ} (is : IsNumberTa
       ((is.rows_are maps P encodes).there k tt))
       (λ P legal r there. (is.legal P legal k r there).1) g old new result entry
 
-  -- ---- rows that pass a test: the first one, all of them, a page of them, and how many they are
+  -- ---- rows that pass a test: the first one, all of them, a batch of them, and how many they are
   module _ (tests : List Term) (text : List ℕ) (given : Row) (good : Row → Bool) (reads : (r : Row) → passes tests given r ≡ good (cells t.shape r)) where
     looks : (most : Term) → IsRead schema text (look t.shape tests most (names_of t.shape)) → Looks schema t.place t.shape tests most (names_of t.shape) text
     looks most read = record {
@@ -212,11 +212,11 @@ module _ {R : Type 0} {t : Table ℕ R} {number_of : R → ℕ} (is : IsNumberTa
         (list_found schema t.place t.shape tests (names_of t.shape) text given good reads (looks (lit (Int (negsuc 0))) read))
         (λ m rows listed v there. let at = listed.sound v there in (at.0, at.1)) (are_encoded is)
 
-    found_by : (s : Schema) → slice_get s.tables t.place ≡ Some t.shape → IsRead s text (page_of t.shape tests)
+    found_by : (s : Schema) → slice_get s.tables t.place ≡ Some t.shape → IsRead s text (batch_of t.shape tests)
         → (old new : State) (rows : List Row) → Shown text given old new rows → (maps : Maps) → Holds s old.now maps
-        → FirstRows PAGE_ROWS (maps t.place) good rows × IsUnchanged old new
+        → FirstRows BATCH_ROWS (maps t.place) good rows × IsUnchanged old new
     found_by s listed read =
-        page_found s t.place t.shape tests by_number PAGE_ROWS (names_of t.shape) text given good reads (λ x y _ _ less. rw less refl)
+        batch_found s t.place t.shape tests by_number BATCH_ROWS (names_of t.shape) text given good reads (λ x y _ _ less. rw less refl)
         (record {
           listed = listed;
           command = read.command_is;
@@ -229,21 +229,21 @@ module _ {R : Type 0} {t : Table ℕ R} {number_of : R → ℕ} (is : IsNumberTa
           cut = λ given l. refl;
         })
 
-    pub pages_by : IsRead schema text (page_of t.shape tests)
+    pub batches_by : IsRead schema text (batch_of t.shape tests)
         → {S L : Type 0} (items : L → List R) (g : Ghosts S) (old new : Held S) (result : Result L Fault)
         → AllEntries items t.cells t.IsLegal text given g old new result
-        → Lists t items (λ m. FirstRows PAGE_ROWS m good) g old new result
-    pages_by read items =
-        lists_of t items text (plain_of read) given (λ m. FirstRows PAGE_ROWS m good) (found_by schema texts.listed read)
-        (λ m rows first v has. there PAGE_ROWS m good rows first v has) (are_encoded is)
+        → Lists t items (λ m. FirstRows BATCH_ROWS m good) g old new result
+    batches_by read items =
+        lists_of t items text (plain_of read) given (λ m. FirstRows BATCH_ROWS m good) (found_by schema texts.listed read)
+        (λ m rows first v has. there BATCH_ROWS m good rows first v has) (are_encoded is)
 
-    pages_inside : ((n : ℕ) → HasTable t.since n → IsRead (schema_at n) text (page_of t.shape tests))
+    batches_inside : ((n : ℕ) → HasTable t.since n → IsRead (schema_at n) text (batch_of t.shape tests))
         → {S L : Type 0} (items : L → List R) (g : Ghosts S) (old new : Transaction S) (result : Result L Fault)
         → EntriesInside items t.cells t.IsLegal text given g old new result
-        → ListsInside t items (λ m. FirstRows PAGE_ROWS m good) g old new result
-    pages_inside read items = lists_inside t items text given (λ m. FirstRows PAGE_ROWS m good)
+        → ListsInside t items (λ m. FirstRows BATCH_ROWS m good) g old new result
+    batches_inside read items = lists_inside t items text given (λ m. FirstRows BATCH_ROWS m good)
         (λ n has. found_by (schema_at n) (is.texts n has).listed (read n has))
-        (λ m rows first v has. there PAGE_ROWS m good rows first v has)
+        (λ m rows first v has. there BATCH_ROWS m good rows first v has)
 
     -- a count that is no number of 32 bits is greater
     count_many : IsRead schema text (count_of t.shape tests) → (old new : State) → (row : Row) × FindsRow text given old new (Some row)
@@ -271,7 +271,7 @@ module _ {R : Type 0} {t : Table ℕ R} {number_of : R → ℕ} (is : IsNumberTa
       → AllEntries items t.cells t.IsLegal (all_text t.shape) [] g old new result → Lists t items (λ m. Listed m is_any) g old new result
   lists_all = lists_by [] (all_text t.shape) [] is_any (λ r. refl) texts.all
 
-  -- the first page, or the one after a number
+  -- the first batch, or the one after a number
   abbrev next_tests : Option ℕ → List Term
   next_tests None = []
   next_tests (Some n) = from_key
@@ -280,21 +280,21 @@ module _ {R : Type 0} {t : Table ℕ R} {number_of : R → ℕ} (is : IsNumberTa
   next_passes None r = refl
   next_passes (Some n) r = rw (texts.key_cell r) refl
 
-  next_read : (s : Schema) → IsNumbered s t.place t.shape → (after : Option ℕ) → IsRead s (next_text t.shape after) (page_of t.shape (next_tests after))
+  next_read : (s : Schema) → IsNumbered s t.place t.shape → (after : Option ℕ) → IsRead s (next_text t.shape after) (batch_of t.shape (next_tests after))
   next_read s of None = of.first
-  next_read s of (Some n) = of.page
+  next_read s of (Some n) = of.batch
 
   pub lists_next : (after : Option ℕ) → {S L : Type 0} (items : L → List R) (g : Ghosts S) (old new : Held S) (result : Result L Fault)
       → AllEntries items t.cells t.IsLegal (next_text t.shape after) (next_given after) g old new result
-      → Lists t items (λ m. FirstRows PAGE_ROWS m (is_next after)) g old new result
-  lists_next after = pages_by (next_tests after) (next_text t.shape after) (next_given after) (is_next after) (next_passes after) (next_read schema texts after)
+      → Lists t items (λ m. FirstRows BATCH_ROWS m (is_next after)) g old new result
+  lists_next after = batches_by (next_tests after) (next_text t.shape after) (next_given after) (is_next after) (next_passes after) (next_read schema texts after)
 
   -- the same inside a transaction
   pub inside_next : (after : Option ℕ)
       → {S L : Type 0} (items : L → List R) (g : Ghosts S) (old new : Transaction S) (result : Result L Fault)
       → EntriesInside items t.cells t.IsLegal (next_text t.shape after) (next_given after) g old new result
-      → ListsInside t items (λ m. FirstRows PAGE_ROWS m (is_next after)) g old new result
-  inside_next after = pages_inside (next_tests after) (next_text t.shape after) (next_given after) (is_next after) (next_passes after)
+      → ListsInside t items (λ m. FirstRows BATCH_ROWS m (is_next after)) g old new result
+  inside_next after = batches_inside (next_tests after) (next_text t.shape after) (next_given after) (is_next after) (next_passes after)
       (λ n has. next_read (schema_at n) (is.texts n has) after)
 
   -- the picture after a change of the map at the place

@@ -12,7 +12,7 @@ use Rattle.circ_tables.specs.Encoding.{Encodes, AreEncoded, HasTexts}
 use Rattle.circ_tables.specs.Reading.{Table}
 use Rattle.circ_tables.specs.ClosedDays.{closed_days}
 use Rattle.circ_tables.specs.Rules.{rules}
-use Rattle.circ_tables.specs.Rules1.{rules1}
+use Rattle.circ_tables.specs.RulesOfSchema1.{rules1}
 use Rattle.circ_tables.specs.Kept.{kept}
 use Rattle.circ_tables.proofs.ShownLemmas.{days_encoded}
 

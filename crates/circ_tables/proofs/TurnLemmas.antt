@@ -15,7 +15,7 @@ use Rattle.sqlite_value.proofs.OrderLemmas.{value_cmp_total}
 use Rattle.sqlite.specs.Effect.{Database}
 use Rattle.sqlite.specs.Order.{Row, column}
 use Rattle.sql_maps.specs.Maps.{Map, Maps, Holds, FirstOf, FirstOfBy, FirstBelow, null_at, most_at}
-use Rattle.sql_maps.specs.Pages.{least_at}
+use Rattle.sql_maps.specs.Batches.{least_at}
 use Rattle.terms.specs.declared.row.HoldRow.{HoldRow}
 use Rattle.terms.specs.Limits.{IsHold}
 use Rattle.circ_tables.specs.Cells.{number, optional, hold_cells}

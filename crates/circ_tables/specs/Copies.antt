@@ -52,7 +52,7 @@ texts_are more others = record {
   get = record { command_is = refl; bare = (refl, refl); unlisted = refl };
   all = record { command_is = refl; bare = (refl, refl); unlisted = refl };
   first = record { command_is = refl; bare = (refl, refl); unlisted = refl };
-  page = record { command_is = refl; bare = (refl, refl); unlisted = refl };
+  batch = record { command_is = refl; bare = (refl, refl); unlisted = refl };
 }
 
 pub copies_are : IsNumberTable copies (λ r. r.copy)

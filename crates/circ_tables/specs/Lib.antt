@@ -13,14 +13,14 @@ pub mod Branches
 pub mod ClosedDays
 pub mod Kinds
 pub mod Rules
-pub mod Rules1
+pub mod RulesOfSchema1
 pub mod Patrons
 pub mod Titles
 pub mod Copies
 pub mod Loans
-pub mod Loans1
+pub mod LoansOfSchema1
 pub mod Holds
-pub mod Holds1
+pub mod HoldsOfSchema1
 pub mod Transits
 pub mod Lines
 pub mod Kept

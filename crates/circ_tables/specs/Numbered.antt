@@ -30,7 +30,7 @@ use Rattle.sql_maps.proofs.Words.{over, in_order, in_order_up_to, counting}
 use Rattle.sql_maps.proofs.AnswerLemmas.{shown_of}
 use Rattle.sql_maps.proofs.FillLemmas.{suits_kind}
 use Rattle.sql_maps.proofs.WriteLemmas.{Fills, id_test}
-use Rattle.circ_tables.specs.Texts.{names_of, put_text, take_text, get_text, all_text, first_text, page_text}
+use Rattle.circ_tables.specs.Texts.{names_of, put_text, take_text, get_text, all_text, first_text, batch_text}
 use Rattle.terms.specs.Limits.{InLimits}
 use Rattle.terms.specs.declared.limits.TheConstants.{SCHEMA}
 use Rattle.terms.specs.Pictures.{Picture, put as put_in}
@@ -39,7 +39,7 @@ use Rattle.circ_tables.specs.Encoding.{Encodes, IsEncoded, Any, with_map}
 use Rattle.circ_tables.specs.Reading as typed
 use Rattle.circ_tables.specs.Selections.{least_after}
 use Rattle.circ_tables.specs.declared.by_number.Texts.{Texts}
-use Rattle.circ_tables.specs.declared.by_number.TheConstants.{PAGE_ROWS}
+use Rattle.circ_tables.specs.declared.by_number.TheConstants.{BATCH_ROWS}
 use Rattle.circ_tables.specs.Shape.{schema_at, HasTable, first, later_tables, later_indexes}
 
 -- The key is the first parameter; or is not below it.
@@ -64,17 +64,17 @@ put_of at t =
     InsertOr at Abort (Values (put_terms t) (length t.columns + 1))
     (record { target = Some t.primary; update = Some (record { lets = []; body = over t.tree (id_test (length t.columns)) (put_shows t) }) } ∷ [])
 
--- A page of the rows that pass; how many pass.
-abbrev pub page_of : Table → List Term → Command
-page_of t tests = Select (record { lets = []; body = in_order_up_to t.tree tests (each_column 1 t) by_number (lit (Int (pos PAGE_ROWS))) }) (names_of t)
+-- A batch of the rows that pass; how many pass.
+abbrev pub batch_of : Table → List Term → Command
+batch_of t tests = Select (record { lets = []; body = in_order_up_to t.tree tests (each_column 1 t) by_number (lit (Int (pos BATCH_ROWS))) }) (names_of t)
 
 abbrev pub count_of : Table → List Term → Command
 count_of t tests = Select (record { lets = []; body = counting t.tree tests }) (codes "COUNT(*)" ∷ [])
 
--- A page is asked for from the beginning, or after a number.
+-- A batch is asked for from the beginning, or after a number.
 abbrev pub next_text : Table → Option ℕ → List ℕ
 next_text t None = first_text t
-next_text t (Some n) = page_text t
+next_text t (Some n) = batch_text t
 
 abbrev pub next_given : Option ℕ → List Value
 next_given None = []
@@ -100,8 +100,8 @@ pub record IsNumbered (s : Schema) (at : ℕ) (t : Table) : Type 0 where
   pub take : IsRun s (take_text t) (Delete at (record { lets = []; body = over t.tree by_key (col 1 0 ∷ []) }))
   pub get : IsRead s (get_text t) (Select (record { lets = []; body = over t.tree by_key (each_column 1 t) }) (names_of t))
   pub all : IsRead s (all_text t) (Select (record { lets = []; body = in_order t.tree [] (each_column 1 t) (lit (Int (negsuc 0))) }) (names_of t))
-  pub first : IsRead s (first_text t) (page_of t [])
-  pub page : IsRead s (page_text t) (page_of t from_key)
+  pub first : IsRead s (first_text t) (batch_of t [])
+  pub batch : IsRead s (batch_text t) (batch_of t from_key)
 
 -- The six texts are those of the table.
 pub record AreTexts (t : Table) (texts : Texts) : Type 0 where
@@ -110,7 +110,7 @@ pub record AreTexts (t : Table) (texts : Texts) : Type 0 where
   pub get : texts.get.now ≡ get_text t
   pub all : texts.all.now ≡ all_text t
   pub first : texts.first.now ≡ first_text t
-  pub page : texts.page.now ≡ page_text t
+  pub batch : texts.batch.now ≡ batch_text t
 
 -- A table of typed rows that is keyed by one number, which the newest schema has: its texts in each schema that has it, and what ties the
 -- rows to SQL and to the picture. A row can be read back from its columns, and it has a place in the picture.

@@ -40,7 +40,7 @@ texts_are more others = record {
   get = record { command_is = refl; bare = (refl, refl); unlisted = refl };
   all = record { command_is = refl; bare = (refl, refl); unlisted = refl };
   first = record { command_is = refl; bare = (refl, refl); unlisted = refl };
-  page = record { command_is = refl; bare = (refl, refl); unlisted = refl };
+  batch = record { command_is = refl; bare = (refl, refl); unlisted = refl };
 }
 
 pub patrons_are : IsNumberTable patrons (λ r. r.patron)

@@ -3,9 +3,9 @@
 ghost use Rattle.circ_tables.specs.Branches.{branches, branches_are};
 
 use crate::by_number::{Numbered, Put, Texts};
-use crate::call::run;
 use crate::cell::{branch_at, days_at, has_width, letters, mask_of, name_at, week_at};
-use crate::list::Table;
+use crate::sql_calls::run;
+use crate::table::Table;
 use sqlite::{Alter, Row, Transaction, params};
 use std::alloc::Global;
 use terms::{BranchId, BranchPut, BranchRow, Fault, LONGEST_PICKUP};
@@ -46,7 +46,7 @@ impl Numbered for BranchRow {
             get: "SELECT * FROM branches WHERE branch = ?1",
             all: "SELECT * FROM branches ORDER BY branch",
             first: "SELECT * FROM branches ORDER BY branch LIMIT 101",
-            page: "SELECT * FROM branches WHERE branch >= ?1 ORDER BY branch LIMIT 101",
+            batch: "SELECT * FROM branches WHERE branch >= ?1 ORDER BY branch LIMIT 101",
         }
     }
 

@@ -5,15 +5,15 @@ ghost use Rattle.std.specs.Option.{option_to_list};
 ghost use Rattle.std.specs.Prelude.{◌≡◌, ◌<◌, ◌^◌, ℕ};
 ghost use Rattle.sqlite.specs.Values.{bound};
 ghost use Rattle.sql_maps.specs.Maps.{Listed};
-ghost use Rattle.sql_maps.specs.Pages.{FirstRows};
+ghost use Rattle.sql_maps.specs.Batches.{FirstRows};
 ghost use Rattle.circ_tables.specs.Numbered.{AreTexts, IsNumberTable, next_text, next_given};
 ghost use Rattle.circ_tables.specs.Puts.{Runs, PutsRow, TakesRow};
 ghost use Rattle.circ_tables.specs.Reading.{Gets, Lists, ListsInside};
 ghost use Rattle.circ_tables.specs.Selections.{is_any, is_next, least_after};
-ghost use Rattle.circ_tables.specs.declared.by_number.TheConstants.{PAGE_ROWS};
+ghost use Rattle.circ_tables.specs.declared.by_number.TheConstants.{BATCH_ROWS};
 
-use crate::call::run;
-use crate::list::{Table, row_of, rows_inside, rows_of};
+use crate::sql_calls::run;
+use crate::table::{Table, row_of, rows_inside, rows_of};
 use sqlite::types::ToSql;
 use sqlite::{Alter, Connection, Transaction, params};
 use sqlite_value::value::ValueRef;
@@ -46,7 +46,7 @@ pub struct Texts {
     pub get: &'static str,
     pub all: &'static str,
     pub first: &'static str,
-    pub page: &'static str,
+    pub batch: &'static str,
 }
 
 /// A table that is keyed by one number, which is its first column.
@@ -121,10 +121,10 @@ pub fn every_row<T: Numbered, S: Alter>(
     rows_of(conn, alloc, memory, T::texts().all, &[])
 }
 
-/// How many rows a page of a list has, but for its last one: the hundred that one answer to a
+/// How many rows a batch of a list has, but for its last one: the hundred that one answer to a
 /// question shows, `terms::MOST_ROWS`, and one more, which tells whether there are more. The texts
-/// of pages name it too.
-pub const PAGE_ROWS: usize = 101;
+/// of batches name it too.
+pub const BATCH_ROWS: usize = 101;
 
 /// The least number of a row that comes after this one. That this one has 32 bits is said too,
 /// since what is answered fits 64 for it.
@@ -135,22 +135,22 @@ fn least_after(after: u32) -> i64
     i64::from(after) + 1
 }
 
-/// What a page is asked by: its text, and the least number that its rows may have, if it takes one.
+/// What a batch is asked by: its text, and the least number that its rows may have, if it takes one.
 #[derive(Clone, Copy)]
 struct Asked {
     text: &'static str,
     least: Option<ValueRef<'static>>,
 }
 
-/// What the first page is asked by, or the one after a number. The first is asked for without a
+/// What the first batch is asked by, or the one after a number. The first is asked for without a
 /// number, so that no row is passed over whatever its number is.
-fn next_page<T: Numbered>(after: Option<u32>) -> Asked
+fn next_batch<T: Numbered>(after: Option<u32>) -> Asked
     ensures text { result.text.now ≡ next_text T.table.shape after }
     ensures given { bound (option_to_list result.least) ≡ next_given after }
 {
     match after {
         Some(number) => Asked {
-            text: T::texts().page,
+            text: T::texts().batch,
             least: Some(least_after(number).to_sql()),
         },
         None => Asked {
@@ -161,17 +161,17 @@ fn next_page<T: Numbered>(after: Option<u32>) -> Asked
 }
 
 /// The first rows, or the first whose numbers are above this one, the least number first: all of
-/// them, or as many as a page has. 90, 91, 93.
+/// them, or as many as a batch has. 90, 91, 93.
 pub fn next_rows<T: Numbered, S: Alter>(
     conn: &mut Connection<S>,
     alloc: Global,
     memory: T::Memory,
     after: Option<u32>,
 ) -> Result<Vec<T>, Fault>
-    ensures { Lists T.table (λ l. l.items) (λ m. FirstRows PAGE_ROWS m (is_next after))
+    ensures { Lists T.table (λ l. l.items) (λ m. FirstRows BATCH_ROWS m (is_next after))
         S.Store conn.old conn.new result }
 {
-    let asked = next_page::<T>(after);
+    let asked = next_batch::<T>(after);
     rows_of(conn, alloc, memory, asked.text, asked.least.as_slice())
 }
 
@@ -182,9 +182,9 @@ pub fn next_rows_inside<T: Numbered, S: Alter>(
     memory: T::Memory,
     after: Option<u32>,
 ) -> Result<Vec<T>, Fault>
-    ensures { ListsInside T.table (λ l. l.items) (λ m. FirstRows PAGE_ROWS m (is_next after))
+    ensures { ListsInside T.table (λ l. l.items) (λ m. FirstRows BATCH_ROWS m (is_next after))
         S.Store tx.old tx.new result }
 {
-    let asked = next_page::<T>(after);
+    let asked = next_batch::<T>(after);
     rows_inside(tx, alloc, memory, asked.text, asked.least.as_slice())
 }

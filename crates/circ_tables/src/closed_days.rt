@@ -7,9 +7,9 @@ ghost use Rattle.circ_tables.specs.Puts.{PutsRow, TakesRow};
 ghost use Rattle.circ_tables.specs.Reading.{Lists, ListsDays};
 ghost use Rattle.circ_tables.specs.Selections.{is_any};
 
-use crate::call::run;
 use crate::cell::{branch_at, day_at, has_width};
-use crate::list::{Table, rows_of};
+use crate::sql_calls::run;
+use crate::table::{Table, rows_of};
 use calendar::Day;
 use sqlite::{Alter, Connection, Row, Transaction, params};
 use std::alloc::Global;

@@ -1,20 +1,20 @@
 //! The table of copies.
 
 ghost use Rattle.sql_maps.specs.Maps.{FirstOf};
-ghost use Rattle.sql_maps.specs.Pages.{FirstRows};
+ghost use Rattle.sql_maps.specs.Batches.{FirstRows};
 ghost use Rattle.circ_tables.specs.Copies.{copies, copies_are};
 ghost use Rattle.circ_tables.specs.Reading.{Lists, Selects};
 ghost use Rattle.circ_tables.specs.Selections.{StandsFree, is_copy_of_after};
 ghost use Rattle.circ_tables.specs.Shape.{copies_place, holds_place, loans_place, transits_place};
-ghost use Rattle.circ_tables.specs.declared.by_number.TheConstants.{PAGE_ROWS};
+ghost use Rattle.circ_tables.specs.declared.by_number.TheConstants.{BATCH_ROWS};
 
 use crate::by_number::{Numbered, Put, Texts};
-use crate::call::run;
 use crate::cell::{
     branch_at, cents_at, condition_at, condition_number, copy_at, copy_kind_at, has_width, money,
     title_at,
 };
-use crate::list::{Table, row_of, rows_of};
+use crate::sql_calls::run;
+use crate::table::{Table, row_of, rows_of};
 use sqlite::{Alter, Connection, Row, Transaction, params};
 use std::alloc::Global;
 use terms::{BranchId, CopyId, CopyRow, Fault, HIGHEST_PRICE, TitleId};
@@ -58,7 +58,7 @@ impl Numbered for CopyRow {
             get: "SELECT * FROM copies WHERE copy = ?1",
             all: "SELECT * FROM copies ORDER BY copy",
             first: "SELECT * FROM copies ORDER BY copy LIMIT 101",
-            page: "SELECT * FROM copies WHERE copy >= ?1 ORDER BY copy LIMIT 101",
+            batch: "SELECT * FROM copies WHERE copy >= ?1 ORDER BY copy LIMIT 101",
         }
     }
 
@@ -94,7 +94,7 @@ pub const COPIES_OF_TITLE_AFTER_TEXT: &str =
     "SELECT * FROM copies WHERE title = ?1 AND copy > ?2 ORDER BY copy LIMIT 101";
 
 /// The first copies of a title whose numbers are above this one, the least number first: all of
-/// them, or as many as a page has. 90, 91, 93.
+/// them, or as many as a batch has. 90, 91, 93.
 pub fn copies_of_title_after<S: Alter>(
     conn: &mut Connection<S>,
     alloc: Global,
@@ -102,7 +102,7 @@ pub fn copies_of_title_after<S: Alter>(
     after: CopyId,
 ) -> Result<Vec<CopyRow>, Fault>
     ensures { Lists copies (λ l. l.items)
-        (λ m. FirstRows PAGE_ROWS m (is_copy_of_after title after))
+        (λ m. FirstRows BATCH_ROWS m (is_copy_of_after title after))
         S.Store conn.old conn.new result }
 {
     rows_of(

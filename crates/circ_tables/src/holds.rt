@@ -2,7 +2,7 @@
 
 ghost use Rattle.std.specs.Prelude.{◌≡◌, ◌⊎◌, ◌<◌, ◌≤◌, true, MatchBool, MatchOption};
 ghost use Rattle.sql_maps.specs.Maps.{First, FirstOf, FirstOfBy, Listed};
-ghost use Rattle.sql_maps.specs.Pages.{FirstRows};
+ghost use Rattle.sql_maps.specs.Batches.{FirstRows};
 ghost use Rattle.circ_tables.specs.Holds.{holds, holds_are};
 ghost use Rattle.circ_tables.specs.Reading.{Counts, Lists, Selects};
 ghost use Rattle.circ_tables.specs.Selections.{BeginsBefore, StandsInLine, Waits, WaitsSince};
@@ -10,15 +10,15 @@ ghost use Rattle.circ_tables.specs.Selections.{is_active_by, is_active_on, is_re
 ghost use Rattle.circ_tables.specs.Selections.{is_waiting_after, is_waiting_for_after, names_copy};
 ghost use Rattle.circ_tables.specs.Shape.{holds_place, transits_place};
 ghost use Rattle.circ_tables.specs.Transits.{transits};
-ghost use Rattle.circ_tables.specs.declared.by_number.TheConstants.{PAGE_ROWS};
+ghost use Rattle.circ_tables.specs.declared.by_number.TheConstants.{BATCH_ROWS};
 
 use crate::by_number::{Numbered, Put, Texts};
-use crate::call::run;
 use crate::cell::{
     branch_at, copy_or_none_at, copy_or_null, day_or_none_at, day_or_null, has_width, hold_at,
     patron_at, state_at, state_number, title_at,
 };
-use crate::list::{Table, counted, row_of, rows_of};
+use crate::sql_calls::run;
+use crate::table::{Table, counted, row_of, rows_of};
 use calendar::Day;
 use sqlite::{Alter, Connection, Row, Transaction, params};
 use std::alloc::Global;
@@ -65,7 +65,7 @@ impl Numbered for HoldRow {
             get: "SELECT * FROM holds2 WHERE hold = ?1",
             all: "SELECT * FROM holds2 ORDER BY hold",
             first: "SELECT * FROM holds2 ORDER BY hold LIMIT 101",
-            page: "SELECT * FROM holds2 WHERE hold >= ?1 ORDER BY hold LIMIT 101",
+            batch: "SELECT * FROM holds2 WHERE hold >= ?1 ORDER BY hold LIMIT 101",
         }
     }
 
@@ -273,7 +273,7 @@ pub const READY_HOLDS_AFTER_TEXT: &str =
     "SELECT * FROM holds2 WHERE branch = ?1 AND state = 1 AND hold > ?2 ORDER BY hold LIMIT 101";
 
 /// The first ready holds with this pick-up branch whose numbers are above this one, the least
-/// number first: all of them, or as many as a page has. 90, 91, 93.
+/// number first: all of them, or as many as a batch has. 90, 91, 93.
 pub fn ready_holds_after<S: Alter>(
     conn: &mut Connection<S>,
     alloc: Global,
@@ -281,7 +281,7 @@ pub fn ready_holds_after<S: Alter>(
     after: HoldId,
 ) -> Result<Vec<HoldRow>, Fault>
     ensures { Lists holds (λ l. l.items)
-        (λ m. FirstRows PAGE_ROWS m (is_ready_after branch after))
+        (λ m. FirstRows BATCH_ROWS m (is_ready_after branch after))
         S.Store conn.old conn.new result }
 {
     rows_of(
@@ -298,7 +298,7 @@ pub const WAITING_HOLDS_FOR_AFTER_TEXT: &str =
     "SELECT * FROM holds2 WHERE title = ?1 AND state = 0 AND hold > ?2 ORDER BY hold LIMIT 101";
 
 /// The first waiting holds for a title whose numbers are above this one, the least number first:
-/// all of them, or as many as a page has. 90, 91, 93.
+/// all of them, or as many as a batch has. 90, 91, 93.
 pub fn waiting_holds_for_after<S: Alter>(
     conn: &mut Connection<S>,
     alloc: Global,
@@ -306,7 +306,7 @@ pub fn waiting_holds_for_after<S: Alter>(
     after: HoldId,
 ) -> Result<Vec<HoldRow>, Fault>
     ensures { Lists holds (λ l. l.items)
-        (λ m. FirstRows PAGE_ROWS m (is_waiting_for_after title after))
+        (λ m. FirstRows BATCH_ROWS m (is_waiting_for_after title after))
         S.Store conn.old conn.new result }
 {
     rows_of(
@@ -323,13 +323,13 @@ pub const WAITING_HOLDS_AFTER_TEXT: &str =
     "SELECT * FROM holds2 WHERE state = 0 AND hold > ?1 ORDER BY hold LIMIT 101";
 
 /// The first waiting holds whose numbers are above this one, the least number first: all of them,
-/// or as many as a page has. 90, 91, 93.
+/// or as many as a batch has. 90, 91, 93.
 pub fn waiting_holds_after<S: Alter>(
     conn: &mut Connection<S>,
     alloc: Global,
     after: HoldId,
 ) -> Result<Vec<HoldRow>, Fault>
-    ensures { Lists holds (λ l. l.items) (λ m. FirstRows PAGE_ROWS m (is_waiting_after after))
+    ensures { Lists holds (λ l. l.items) (λ m. FirstRows BATCH_ROWS m (is_waiting_after after))
         S.Store conn.old conn.new result }
 {
     rows_of(

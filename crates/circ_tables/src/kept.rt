@@ -4,18 +4,18 @@ ghost use Rattle.std.specs.Prelude.{◌≡◌, ◌≢◌, Err, IfOk, IsUtf8, [],
 ghost use Rattle.sqlite.specs.Order.{column};
 ghost use Rattle.sqlite.specs.declared.types.Value.TheVariants.{Text as SqlText};
 ghost use Rattle.sql_maps.specs.Maps.{ListedBy, PairBelow};
-ghost use Rattle.sql_maps.specs.Pages.{FirstRowsBy};
+ghost use Rattle.sql_maps.specs.Batches.{FirstRowsBy};
 ghost use Rattle.terms.specs.declared.row.KeptRow.{KeptRow as KeptRecord};
 ghost use Rattle.circ_tables.specs.Cells.{kept_cells, owner_number};
 ghost use Rattle.circ_tables.specs.Kept.{kept};
 ghost use Rattle.circ_tables.specs.Puts.{PutsKept};
 ghost use Rattle.circ_tables.specs.Reading.{GetsKept, Lists};
 ghost use Rattle.circ_tables.specs.Selections.{is_after, is_any, is_kept_after};
-ghost use Rattle.circ_tables.specs.declared.by_number.TheConstants.{PAGE_ROWS};
+ghost use Rattle.circ_tables.specs.declared.by_number.TheConstants.{BATCH_ROWS};
 
-use crate::call::{first_row, run};
 use crate::cell::{has_width, key_at, owner_at, text_at};
-use crate::list::{Table, rows_of};
+use crate::sql_calls::{first_row, run};
+use crate::table::{Table, rows_of};
 use sqlite::{Alter, Connection, Row, Transaction, params};
 use std::alloc::Global;
 use terms::{Fault, KeptPut, KeptRow, Key, Owner, Text, owner_number};
@@ -112,10 +112,10 @@ pub fn all_kept<S: Alter>(conn: &mut Connection<S>, alloc: Global) -> Result<Vec
 /// The text of `first_kept`.
 pub const FIRST_KEPT_TEXT: &str = "SELECT * FROM kept ORDER BY caller, key LIMIT 101";
 
-/// The first rows of `kept`, by whose they are and then by key: all of them, or as many as a page
+/// The first rows of `kept`, by whose they are and then by key: all of them, or as many as a batch
 /// has. 90, 91, 93.
 pub fn first_kept<S: Alter>(conn: &mut Connection<S>, alloc: Global) -> Result<Vec<KeptRow>, Fault>
-    ensures { Lists kept (λ l. l.items) (λ m. FirstRowsBy PairBelow PAGE_ROWS m is_any)
+    ensures { Lists kept (λ l. l.items) (λ m. FirstRowsBy PairBelow BATCH_ROWS m is_any)
         S.Store conn.old conn.new result }
 {
     rows_of(conn, alloc, alloc, FIRST_KEPT_TEXT, &[])
@@ -126,7 +126,7 @@ pub const KEPT_AFTER_TEXT: &str =
     "SELECT * FROM kept WHERE caller = ?1 AND key > ?2 ORDER BY caller, key LIMIT 101";
 
 /// The first rows that are kept for a caller by keys after this one, by key: all of them, or as
-/// many as a page has. 90, 91, 93.
+/// many as a batch has. 90, 91, 93.
 pub fn kept_after<S: Alter>(
     conn: &mut Connection<S>,
     alloc: Global,
@@ -134,7 +134,7 @@ pub fn kept_after<S: Alter>(
     key: &Key,
 ) -> Result<Vec<KeptRow>, Fault>
     ensures { Lists kept (λ l. l.items)
-        (λ m. FirstRowsBy PairBelow PAGE_ROWS m (is_kept_after (owner_number owner) key.now))
+        (λ m. FirstRowsBy PairBelow BATCH_ROWS m (is_kept_after (owner_number owner) key.now))
         S.Store conn.old conn.new result }
 {
     rows_of(
@@ -151,14 +151,14 @@ pub const KEPT_PAST_TEXT: &str =
     "SELECT * FROM kept WHERE caller > ?1 ORDER BY caller, key LIMIT 101";
 
 /// The first rows that are kept for the callers after this one, by whose they are and then by key:
-/// all of them, or as many as a page has. 90, 91, 93.
+/// all of them, or as many as a batch has. 90, 91, 93.
 pub fn kept_past<S: Alter>(
     conn: &mut Connection<S>,
     alloc: Global,
     owner: Owner,
 ) -> Result<Vec<KeptRow>, Fault>
     ensures { Lists kept (λ l. l.items)
-        (λ m. FirstRowsBy PairBelow PAGE_ROWS m (is_after (owner_number owner)))
+        (λ m. FirstRowsBy PairBelow BATCH_ROWS m (is_after (owner_number owner)))
         S.Store conn.old conn.new result }
 {
     rows_of(

@@ -6,9 +6,9 @@ ghost use Rattle.circ_tables.specs.Loans.{loans};
 ghost use Rattle.circ_tables.specs.Patrons.{patrons};
 
 use crate::by_number::{Numbered, Put, Texts};
-use crate::call::run;
 use crate::cell::{cents_at, count_at, has_width, money, patron_kind_at};
-use crate::list::Table;
+use crate::sql_calls::run;
+use crate::table::Table;
 use sqlite::{Alter, Row, Transaction, params};
 use terms::{Fault, HIGHEST_DEBT, KindRow, MOST_ALLOWED, PatronKind};
 
@@ -49,7 +49,7 @@ impl Numbered for KindRow {
             get: "SELECT * FROM kinds WHERE kind = ?1",
             all: "SELECT * FROM kinds ORDER BY kind",
             first: "SELECT * FROM kinds ORDER BY kind LIMIT 101",
-            page: "SELECT * FROM kinds WHERE kind >= ?1 ORDER BY kind LIMIT 101",
+            batch: "SELECT * FROM kinds WHERE kind >= ?1 ORDER BY kind LIMIT 101",
         }
     }
 

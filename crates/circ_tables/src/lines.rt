@@ -1,19 +1,19 @@
 //! The table of lines of accounts.
 
 ghost use Rattle.std.specs.Prelude.{◌^◌};
-ghost use Rattle.sql_maps.specs.Pages.{FirstRows};
+ghost use Rattle.sql_maps.specs.Batches.{FirstRows};
 ghost use Rattle.circ_tables.specs.Lines.{lines, lines_are};
 ghost use Rattle.circ_tables.specs.Reading.{Lists};
 ghost use Rattle.circ_tables.specs.Selections.{is_account_line_after, is_line_after};
-ghost use Rattle.circ_tables.specs.declared.by_number.TheConstants.{PAGE_ROWS};
+ghost use Rattle.circ_tables.specs.declared.by_number.TheConstants.{BATCH_ROWS};
 
 use crate::by_number::{Numbered, Put, Texts};
-use crate::call::run;
 use crate::cell::{
     cents_at, day_at, has_width, line_at, loan_or_none_at, loan_or_null, money, patron_at, sort_at,
     sort_number,
 };
-use crate::list::{Table, rows_of};
+use crate::sql_calls::run;
+use crate::table::{Table, rows_of};
 use calendar::Day;
 use sqlite::{Alter, Connection, Row, Transaction, params};
 use std::alloc::Global;
@@ -58,7 +58,7 @@ impl Numbered for LineRow {
             get: "SELECT * FROM lines WHERE line = ?1",
             all: "SELECT * FROM lines ORDER BY line",
             first: "SELECT * FROM lines ORDER BY line LIMIT 101",
-            page: "SELECT * FROM lines WHERE line >= ?1 ORDER BY line LIMIT 101",
+            batch: "SELECT * FROM lines WHERE line >= ?1 ORDER BY line LIMIT 101",
         }
     }
 
@@ -94,14 +94,14 @@ pub const LINES_AFTER_TEXT: &str =
     "SELECT * FROM lines WHERE day = ?1 AND line > ?2 ORDER BY line LIMIT 101";
 
 /// The first lines of a day, of all sorts, whose numbers are above this one, the least number
-/// first: all of them, or as many as a page has. 90, 91, 93.
+/// first: all of them, or as many as a batch has. 90, 91, 93.
 pub fn lines_after<S: Alter>(
     conn: &mut Connection<S>,
     alloc: Global,
     day: Day,
     after: LineId,
 ) -> Result<Vec<LineRow>, Fault>
-    ensures { Lists lines (λ l. l.items) (λ m. FirstRows PAGE_ROWS m (is_line_after day after))
+    ensures { Lists lines (λ l. l.items) (λ m. FirstRows BATCH_ROWS m (is_line_after day after))
         S.Store conn.old conn.new result }
 {
     rows_of(
@@ -118,7 +118,7 @@ pub const ACCOUNT_LINES_AFTER_TEXT: &str =
     "SELECT * FROM lines WHERE patron = ?1 AND line > ?2 ORDER BY line LIMIT 101";
 
 /// The first lines of a patron's account whose numbers are above this one, the least number first:
-/// all of them, or as many as a page has. 90, 91, 93.
+/// all of them, or as many as a batch has. 90, 91, 93.
 pub fn account_lines_after<S: Alter>(
     conn: &mut Connection<S>,
     alloc: Global,
@@ -126,7 +126,7 @@ pub fn account_lines_after<S: Alter>(
     after: LineId,
 ) -> Result<Vec<LineRow>, Fault>
     ensures { Lists lines (λ l. l.items)
-        (λ m. FirstRows PAGE_ROWS m (is_account_line_after patron after))
+        (λ m. FirstRows BATCH_ROWS m (is_account_line_after patron after))
         S.Store conn.old conn.new result }
 {
     rows_of(

@@ -1,22 +1,22 @@
 //! The table of loans, from schema 3 on.
 
 ghost use Rattle.sql_maps.specs.Maps.{First, FirstOf, Listed};
-ghost use Rattle.sql_maps.specs.Pages.{FirstRows};
+ghost use Rattle.sql_maps.specs.Batches.{FirstRows};
 ghost use Rattle.circ_tables.specs.Copies.{copies};
 ghost use Rattle.circ_tables.specs.Loans.{loans, loans_are};
 ghost use Rattle.circ_tables.specs.Reading.{Counts, Lists, Selects};
 ghost use Rattle.circ_tables.specs.Selections.{LendsTitle, is_open_by, is_open_of};
 ghost use Rattle.circ_tables.specs.Selections.{is_overdue_after};
 ghost use Rattle.circ_tables.specs.Shape.{copies_place, loans_place};
-ghost use Rattle.circ_tables.specs.declared.by_number.TheConstants.{PAGE_ROWS};
+ghost use Rattle.circ_tables.specs.declared.by_number.TheConstants.{BATCH_ROWS};
 
 use crate::by_number::{Numbered, Put, Texts};
-use crate::call::run;
 use crate::cell::{
     branch_at, cents_at, copy_at, count_at, day_at, day_or_none_at, day_or_null, days_at,
     has_width, loan_at, money, patron_at,
 };
-use crate::list::{Table, counted, row_of, rows_of};
+use crate::sql_calls::run;
+use crate::table::{Table, counted, row_of, rows_of};
 use calendar::Day;
 use sqlite::{Alter, Connection, Row, Transaction, params};
 use std::alloc::Global;
@@ -71,7 +71,7 @@ impl Numbered for LoanRow {
             get: "SELECT * FROM loans3 WHERE loan = ?1",
             all: "SELECT * FROM loans3 ORDER BY loan",
             first: "SELECT * FROM loans3 ORDER BY loan LIMIT 101",
-            page: "SELECT * FROM loans3 WHERE loan >= ?1 ORDER BY loan LIMIT 101",
+            batch: "SELECT * FROM loans3 WHERE loan >= ?1 ORDER BY loan LIMIT 101",
         }
     }
 
@@ -190,7 +190,7 @@ pub const OVERDUE_LOANS_AFTER_TEXT: &str =
      ORDER BY loan LIMIT 101";
 
 /// The first open loans that the branch made, that were due before the day and whose numbers are
-/// above this one, the least number first: all of them, or as many as a page has. 90, 91, 93.
+/// above this one, the least number first: all of them, or as many as a batch has. 90, 91, 93.
 pub fn overdue_loans_after<S: Alter>(
     conn: &mut Connection<S>,
     alloc: Global,
@@ -199,7 +199,7 @@ pub fn overdue_loans_after<S: Alter>(
     after: LoanId,
 ) -> Result<Vec<LoanRow>, Fault>
     ensures { Lists loans (λ l. l.items)
-        (λ m. FirstRows PAGE_ROWS m (is_overdue_after branch day after))
+        (λ m. FirstRows BATCH_ROWS m (is_overdue_after branch day after))
         S.Store conn.old conn.new result }
 {
     rows_of(

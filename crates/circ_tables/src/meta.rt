@@ -8,8 +8,8 @@ ghost use Rattle.circ_tables.specs.Cells.{meta_cells};
 ghost use Rattle.circ_tables.specs.Puts.{PutsMeta};
 ghost use Rattle.circ_tables.specs.Reading.{GetsMeta, GetsMetaInside};
 
-use crate::call::{all_rows, all_rows_inside, run};
 use crate::cell::{day_at, has_width, hold_at, line_at, loan_at, number_at};
+use crate::sql_calls::{all_rows, all_rows_inside, run};
 use sqlite::{Alter, Connection, Row, Transaction, params};
 use terms::{Fault, LAST_NEXT_NUMBER, MetaRow};
 

@@ -1,16 +1,16 @@
 //! The table of patrons.
 
 ghost use Rattle.std.specs.Prelude.{◌^◌};
-ghost use Rattle.sql_maps.specs.Pages.{FirstRows};
+ghost use Rattle.sql_maps.specs.Batches.{FirstRows};
 ghost use Rattle.circ_tables.specs.Patrons.{patrons, patrons_are};
 ghost use Rattle.circ_tables.specs.Reading.{Lists};
 ghost use Rattle.circ_tables.specs.Selections.{is_debtor_after};
-ghost use Rattle.circ_tables.specs.declared.by_number.TheConstants.{PAGE_ROWS};
+ghost use Rattle.circ_tables.specs.declared.by_number.TheConstants.{BATCH_ROWS};
 
 use crate::by_number::{Numbered, Put, Texts};
-use crate::call::run;
 use crate::cell::{card_key_at, cents_at, has_width, money, name_at, patron_at, patron_kind_at};
-use crate::list::{Table, rows_of};
+use crate::sql_calls::run;
+use crate::table::{Table, rows_of};
 use sqlite::{Alter, Connection, Row, Transaction, params};
 use std::alloc::Global;
 use terms::{Fault, LARGEST_SUM, PatronId, PatronPut, PatronRow};
@@ -53,7 +53,7 @@ impl Numbered for PatronRow {
             get: "SELECT * FROM patrons WHERE patron = ?1",
             all: "SELECT * FROM patrons ORDER BY patron",
             first: "SELECT * FROM patrons ORDER BY patron LIMIT 101",
-            page: "SELECT * FROM patrons WHERE patron >= ?1 ORDER BY patron LIMIT 101",
+            batch: "SELECT * FROM patrons WHERE patron >= ?1 ORDER BY patron LIMIT 101",
         }
     }
 
@@ -88,13 +88,13 @@ pub const DEBTORS_AFTER_TEXT: &str =
     "SELECT * FROM patrons WHERE owed > 0 AND patron > ?1 ORDER BY patron LIMIT 101";
 
 /// The first patrons who owe something and whose numbers are above this one, the least number
-/// first: all of them, or as many as a page has. 90, 91, 93.
+/// first: all of them, or as many as a batch has. 90, 91, 93.
 pub fn debtors_after<S: Alter>(
     conn: &mut Connection<S>,
     alloc: Global,
     after: PatronId,
 ) -> Result<Vec<PatronRow>, Fault>
-    ensures { Lists patrons (λ l. l.items) (λ m. FirstRows PAGE_ROWS m (is_debtor_after after))
+    ensures { Lists patrons (λ l. l.items) (λ m. FirstRows BATCH_ROWS m (is_debtor_after after))
         S.Store conn.old conn.new result }
 {
     rows_of(

@@ -7,9 +7,9 @@ ghost use Rattle.circ_tables.specs.Reading.{Gets, Lists};
 ghost use Rattle.circ_tables.specs.Rules.{rules};
 ghost use Rattle.circ_tables.specs.Selections.{is_any};
 
-use crate::call::run;
 use crate::cell::{cents_at, copy_kind_at, count_at, days_at, has_width, money, patron_kind_at};
-use crate::list::{Table, row_of, rows_of};
+use crate::sql_calls::run;
+use crate::table::{Table, row_of, rows_of};
 use sqlite::{Alter, Connection, Row, Transaction, params};
 use std::alloc::Global;
 use terms::{

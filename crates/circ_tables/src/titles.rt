@@ -3,9 +3,9 @@
 ghost use Rattle.circ_tables.specs.Titles.{titles, titles_are};
 
 use crate::by_number::{Numbered, Put, Texts};
-use crate::call::run;
 use crate::cell::{has_width, name_at, title_at};
-use crate::list::Table;
+use crate::sql_calls::run;
+use crate::table::Table;
 use sqlite::{Alter, Row, Transaction, params};
 use std::alloc::Global;
 use terms::{Fault, TitleId, TitlePut, TitleRow};
@@ -43,7 +43,7 @@ impl Numbered for TitleRow {
             get: "SELECT * FROM titles WHERE title = ?1",
             all: "SELECT * FROM titles ORDER BY title",
             first: "SELECT * FROM titles ORDER BY title LIMIT 101",
-            page: "SELECT * FROM titles WHERE title >= ?1 ORDER BY title LIMIT 101",
+            batch: "SELECT * FROM titles WHERE title >= ?1 ORDER BY title LIMIT 101",
         }
     }
 

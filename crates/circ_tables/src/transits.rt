@@ -1,18 +1,18 @@
 //! The table of copies that travel.
 
 ghost use Rattle.sql_maps.specs.Maps.{First};
-ghost use Rattle.sql_maps.specs.Pages.{FirstRows};
+ghost use Rattle.sql_maps.specs.Batches.{FirstRows};
 ghost use Rattle.circ_tables.specs.Copies.{copies};
 ghost use Rattle.circ_tables.specs.Reading.{Lists, Selects};
 ghost use Rattle.circ_tables.specs.Selections.{is_transit_to_after, travels_for};
 ghost use Rattle.circ_tables.specs.Shape.{transits_place};
 ghost use Rattle.circ_tables.specs.Transits.{transits, transits_are};
-ghost use Rattle.circ_tables.specs.declared.by_number.TheConstants.{PAGE_ROWS};
+ghost use Rattle.circ_tables.specs.declared.by_number.TheConstants.{BATCH_ROWS};
 
 use crate::by_number::{Numbered, Put, Texts};
-use crate::call::run;
 use crate::cell::{branch_at, copy_at, has_width, hold_or_none_at, hold_or_null};
-use crate::list::{Table, row_of, rows_of};
+use crate::sql_calls::run;
+use crate::table::{Table, row_of, rows_of};
 use sqlite::{Alter, Connection, Row, Transaction, params};
 use std::alloc::Global;
 use terms::{BranchId, CopyId, Fault, HoldId, TransitRow};
@@ -52,7 +52,7 @@ impl Numbered for TransitRow {
             get: "SELECT * FROM transits WHERE copy = ?1",
             all: "SELECT * FROM transits ORDER BY copy",
             first: "SELECT * FROM transits ORDER BY copy LIMIT 101",
-            page: "SELECT * FROM transits WHERE copy >= ?1 ORDER BY copy LIMIT 101",
+            batch: "SELECT * FROM transits WHERE copy >= ?1 ORDER BY copy LIMIT 101",
         }
     }
 
@@ -98,7 +98,7 @@ pub const TRANSITS_TO_AFTER_TEXT: &str =
     "SELECT * FROM transits WHERE goal = ?1 AND copy > ?2 ORDER BY copy LIMIT 101";
 
 /// The first transits to a branch of copies whose numbers are above this one, the least number
-/// first: all of them, or as many as a page has. 90, 91, 93.
+/// first: all of them, or as many as a batch has. 90, 91, 93.
 pub fn transits_to_after<S: Alter>(
     conn: &mut Connection<S>,
     alloc: Global,
@@ -106,7 +106,7 @@ pub fn transits_to_after<S: Alter>(
     after: CopyId,
 ) -> Result<Vec<TransitRow>, Fault>
     ensures { Lists transits (λ l. l.items)
-        (λ m. FirstRows PAGE_ROWS m (is_transit_to_after branch after))
+        (λ m. FirstRows BATCH_ROWS m (is_transit_to_after branch after))
         S.Store conn.old conn.new result }
 {
     rows_of(

@@ -14,4 +14,4 @@ pub mod LookLemmas
 pub mod FromLemmas
 pub mod CreateLemmas
 pub mod OrderLemmas
-pub mod PageLemmas
+pub mod BatchLemmas

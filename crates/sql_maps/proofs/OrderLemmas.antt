@@ -34,9 +34,9 @@ use Rattle.sqlite_rules.proofs.ListLemmas.{all_has, all_from, has_filtered, has_
 use Rattle.sqlite_rules.proofs.ProbeLemmas.{has_mapped, mapped_has}
 use Rattle.std.proofs.lemmas.List.Sorted.{IsPermutation-sym}
 use Rattle.sql_maps.specs.Maps.{is_plain, key_at, cells, Map, IsMap, Maps, Holds, ListedBy}
-use Rattle.sql_maps.specs.Pages.{FirstRowsBy}
+use Rattle.sql_maps.specs.Batches.{FirstRowsBy}
 use Rattle.sql_maps.proofs.Words.{in_order_of, in_order_up_to}
-use Rattle.sql_maps.proofs.PageLemmas.{first_listed}
+use Rattle.sql_maps.proofs.BatchLemmas.{first_listed}
 use Rattle.sql_maps.proofs.AnswerLemmas.{passes, shown_of, plain_overlay, matched, has_permuted}
 use Rattle.sql_maps.proofs.ReadLemmas.{shown_unchanged}
 
@@ -219,7 +219,7 @@ module _ (table : Table) (tests : List Term) (order : List (Term × Key)) (given
     abbrev so_many : Term
     so_many = lit (Int (pos most))
 
-    pub page_sorted : (tells : (x y : Row) → list_all is_plain (key_at table x) ≡ true → list_all is_plain (key_at table y) ≡ true
+    pub batch_sorted : (tells : (x y : Row) → list_all is_plain (key_at table x) ≡ true → list_all is_plain (key_at table y) ≡ true
         → passes tests given x ≡ true → passes tests given y ≡ true
         → is_eq (table_cmp table tests order so_many given good reads as_cells Before x y) ≡ true → key_at table x ≡ key_at table y)
         (before : (x y : Row) → table_cmp table tests order so_many given good reads as_cells Before x y ≡ Less → Before (cells table x) (cells table y))
@@ -230,7 +230,7 @@ module _ (table : Table) (tests : List Term) (order : List (Term × Key)) (given
         → IsPlain (understood schema text) → reads_listing schema text ≡ false
         → (old new : State) (rows : List Row) → Shown text given old new rows → (maps : Maps) → Holds schema old.now maps
         → FirstRowsBy Before most (maps at) good rows × IsUnchanged old new
-    page_sorted tells before cut schema at names text listed command bare unlisted old new rows h maps held =
+    batch_sorted tells before cut schema at names text listed command bare unlisted old new rows h maps held =
         let it = sorted_shown table tests order so_many given good reads as_cells Before tells before schema at names text listed command
         bare unlisted old new rows h maps held in
         (subst (FirstRowsBy Before most (maps at) good) (sym (it.0 ∙ cut _)) (first_listed Before most (maps at) good _ it.1), it.2)

@@ -1,4 +1,4 @@
 pub mod Maps
 pub mod Shapes
 pub mod Calls
-pub mod Pages
+pub mod Batches

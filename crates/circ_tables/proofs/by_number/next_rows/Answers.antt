@@ -4,4 +4,4 @@ use Rattle.circ_tables.proofs.by_number.next_rows.Goals as goal
 
 pub returns : goal.returns
 returns g c = lists_next g.met.T.Numbered.sound c.args.after _ _ _ _ _
-    (rw (c.next_page-asked.ensures.text, listed _ _ c.as_slice.ensures, c.next_page-asked.ensures.given) at c.rows_of.ensures)
+    (rw (c.next_batch-asked.ensures.text, listed _ _ c.as_slice.ensures, c.next_batch-asked.ensures.given) at c.rows_of.ensures)

@@ -3,10 +3,10 @@ use Rattle.circ_tables.specs.Cells.{number}
 use Rattle.circ_tables.specs.Lines.{lines_are}
 use Rattle.circ_tables.specs.Selections.{is_line_after}
 use Rattle.circ_tables.proofs.FoundLemmas.{lines_after_tests, lines_after_is}
-use Rattle.circ_tables.proofs.NumberedLemmas.{pages_by}
+use Rattle.circ_tables.proofs.NumberedLemmas.{batches_by}
 use Rattle.circ_tables.proofs.lines.lines_after.Goals as goal
 
 pub returns : goal.returns
-returns g c = pages_by lines_are lines_after_tests _ (number c.args.day ∷ number c.args.after ∷ []) (is_line_after c.args.day c.args.after)
+returns g c = batches_by lines_are lines_after_tests _ (number c.args.day ∷ number c.args.after ∷ []) (is_line_after c.args.day c.args.after)
     (λ r. refl) lines_after_is _ _ _ _ _
     (rw (c.params-to_sql.ensures, c.number.ensures.value, c.params-to_sql-2.ensures, c.number-2.ensures.value) at c.rows_of.ensures)

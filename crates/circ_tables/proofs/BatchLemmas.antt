@@ -1,0 +1,109 @@
+-- What the batches find.
+use Rattle.std.proofs.Common.{◌≡◌, ℕ, Some, pos, List, [], ◌∷◌, false, refl, sym, subst}
+use Rattle.sqlite.specs.declared.types.Value.TheVariants.{Int, Text}
+use Rattle.sqlite_value.specs.declared.keys.Collation.TheVariants.{Binary}
+use Rattle.sqlite.specs.Order.{Row, column}
+use Rattle.sqlite.specs.Schema.{Schema}
+use Rattle.sqlite.specs.Term.{Term, lit, col, op2}
+use Rattle.sqlite_sql.specs.declared.ops.BinaryOp.TheVariants.{Compare}
+use Rattle.sqlite_sql.specs.declared.ops.CompareOp.TheVariants.{Eq, Gt}
+use Rattle.sqlite.specs.Listing.{understood, reads_listing}
+use Rattle.sqlite.specs.Given.{IsPlain}
+use Rattle.sqlite.specs.State.{State, Shown, IsUnchanged}
+use Rattle.sqlite.specs.Command.TheVariants.{Select}
+use Rattle.sqlite.proofs.Callers.{command_of}
+use Rattle.sqlite_tied.specs.Compute.{everything}
+use Rattle.sqlite_tied.specs.Listing.{each_column}
+use Rattle.sql_maps.specs.Maps.{Map, Maps, Holds, PairBelow}
+use Rattle.sql_maps.specs.Batches.{FirstRows, FirstRowsBy}
+use Rattle.sqlite_rules.specs.Lists.{Has}
+use Rattle.sql_maps.proofs.OrderLemmas.{batch_sorted}
+use Rattle.sql_maps.proofs.Words.{in_order_up_to}
+use Rattle.circ_tables.specs.Paired.{by_pair}
+use Rattle.circ_tables.specs.Shape.{schema, kept, kept_place}
+use Rattle.circ_tables.specs.Texts.{names_of}
+use Rattle.circ_tables.specs.Selections.{is_after, is_any, is_kept_after}
+use Rattle.circ_tables.specs.declared.by_number.TheConstants.{BATCH_ROWS}
+use Rattle.circ_tables.specs.declared.kept.TheConstants.{FIRST_KEPT_TEXT, KEPT_AFTER_TEXT, KEPT_PAST_TEXT}
+use Rattle.circ_tables.proofs.ListLemmas.{pair_tells, pair_below}
+
+-- a row of a batch is one of the map
+pub there : (most : ℕ) (m : Map) (good : Row → _) (rows : List Row) → FirstRows most m good rows → (v : Row) → Has rows v → (k : Row) × (m k ≡ Some v)
+there most m good rows first v has = let at = first.sound v has in (at.0, at.1)
+
+-- ---- what is kept, by callers and keys
+
+-- a row of such a batch is one of the map
+pub kept_there : (good : Row → _) (m : Map) (rows : List Row) → FirstRowsBy PairBelow BATCH_ROWS m good rows → (v : Row) → Has rows v
+    → (k : Row) × (m k ≡ Some v)
+kept_there good m rows first v has = let at = first.sound v has in (at.0, at.1)
+
+abbrev first_kept_text : List ℕ
+first_kept_text = FIRST_KEPT_TEXT.now
+
+abbrev first_kept_tests : List Term
+first_kept_tests = []
+
+first_kept_is : (command_of (understood schema first_kept_text) ≡ Select
+    (record { lets = []; body = in_order_up_to kept.tree first_kept_tests (each_column 1 kept) by_pair (lit (Int (pos BATCH_ROWS))) })
+    (names_of kept)) × IsPlain (understood schema first_kept_text) × (reads_listing schema first_kept_text ≡ false)
+unfolding understood everything
+first_kept_is = (refl, (refl, refl), refl)
+
+pub first_kept_plain : (s : Schema) → s ≡ schema → IsPlain (understood s first_kept_text)
+first_kept_plain s e = subst (λ z. IsPlain (understood z first_kept_text)) (sym e) first_kept_is.1
+
+pub first_kept_found : (old new : State) (rows : List Row) → Shown first_kept_text ([]) old new rows → (maps : Maps)
+    → Holds schema old.now maps → FirstRowsBy PairBelow BATCH_ROWS (maps kept_place) is_any rows × IsUnchanged old new
+first_kept_found =
+    batch_sorted kept first_kept_tests by_pair ([]) is_any (λ r. refl) (λ r. refl) PairBelow BATCH_ROWS
+    (λ x y p q _ _ tie. pair_tells (column x 1) (column x 2) (column y 1) (column y 2) p q tie)
+    (λ x y less. pair_below (column x 1) (column x 2) (column y 1) (column y 2) less) (λ l. refl) schema kept_place
+    (names_of kept) first_kept_text refl first_kept_is.0 first_kept_is.1 first_kept_is.2
+
+abbrev kept_after_text : List ℕ
+kept_after_text = KEPT_AFTER_TEXT.now
+
+abbrev kept_after_tests : List Term
+kept_after_tests = op2 (Compare Eq Binary) (col 1 1) (col 0 0) ∷ op2 (Compare Gt Binary) (col 1 2) (col 0 1) ∷ []
+
+kept_after_is : (command_of (understood schema kept_after_text) ≡ Select
+    (record { lets = []; body = in_order_up_to kept.tree kept_after_tests (each_column 1 kept) by_pair (lit (Int (pos BATCH_ROWS))) })
+    (names_of kept)) × IsPlain (understood schema kept_after_text) × (reads_listing schema kept_after_text ≡ false)
+unfolding understood everything
+kept_after_is = (refl, (refl, refl), refl)
+
+pub kept_after_plain : (s : Schema) → s ≡ schema → IsPlain (understood s kept_after_text)
+kept_after_plain s e = subst (λ z. IsPlain (understood z kept_after_text)) (sym e) kept_after_is.1
+
+pub kept_after_found : (a : ℕ) (b : List ℕ) → (old new : State) (rows : List Row)
+    → Shown kept_after_text (Int (pos a) ∷ Text b ∷ []) old new rows → (maps : Maps) → Holds schema old.now maps
+    → FirstRowsBy PairBelow BATCH_ROWS (maps kept_place) (is_kept_after a b) rows × IsUnchanged old new
+kept_after_found a b =
+    batch_sorted kept kept_after_tests by_pair (Int (pos a) ∷ Text b ∷ []) (is_kept_after a b) (λ r. refl) (λ r. refl) PairBelow BATCH_ROWS
+    (λ x y p q _ _ tie. pair_tells (column x 1) (column x 2) (column y 1) (column y 2) p q tie)
+    (λ x y less. pair_below (column x 1) (column x 2) (column y 1) (column y 2) less) (λ l. refl) schema kept_place
+    (names_of kept) kept_after_text refl kept_after_is.0 kept_after_is.1 kept_after_is.2
+
+abbrev kept_past_text : List ℕ
+kept_past_text = KEPT_PAST_TEXT.now
+
+abbrev kept_past_tests : List Term
+kept_past_tests = op2 (Compare Gt Binary) (col 1 1) (col 0 0) ∷ []
+
+kept_past_is : (command_of (understood schema kept_past_text) ≡ Select
+    (record { lets = []; body = in_order_up_to kept.tree kept_past_tests (each_column 1 kept) by_pair (lit (Int (pos BATCH_ROWS))) })
+    (names_of kept)) × IsPlain (understood schema kept_past_text) × (reads_listing schema kept_past_text ≡ false)
+unfolding understood everything
+kept_past_is = (refl, (refl, refl), refl)
+
+pub kept_past_plain : (s : Schema) → s ≡ schema → IsPlain (understood s kept_past_text)
+kept_past_plain s e = subst (λ z. IsPlain (understood z kept_past_text)) (sym e) kept_past_is.1
+
+pub kept_past_found : (a : ℕ) → (old new : State) (rows : List Row) → Shown kept_past_text (Int (pos a) ∷ []) old new rows → (maps : Maps)
+    → Holds schema old.now maps → FirstRowsBy PairBelow BATCH_ROWS (maps kept_place) (is_after a) rows × IsUnchanged old new
+kept_past_found a =
+    batch_sorted kept kept_past_tests by_pair (Int (pos a) ∷ []) (is_after a) (λ r. refl) (λ r. refl) PairBelow BATCH_ROWS
+    (λ x y p q _ _ tie. pair_tells (column x 1) (column x 2) (column y 1) (column y 2) p q tie)
+    (λ x y less. pair_below (column x 1) (column x 2) (column y 1) (column y 2) less) (λ l. refl) schema kept_place
+    (names_of kept) kept_past_text refl kept_past_is.0 kept_past_is.1 kept_past_is.2

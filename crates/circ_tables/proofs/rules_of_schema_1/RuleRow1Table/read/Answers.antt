@@ -1,0 +1,14 @@
+use Rattle.std.proofs.Common.{refl, ◌∙◌}
+use Rattle.circ_tables.proofs.ColumnLemmas.{row_of}
+use Rattle.circ_tables.proofs.rules_of_schema_1.RuleRow1Table.read.Goals as goal
+
+pub returns-clause-cells : goal.returns-clause-cells
+returns-clause-cells c = row_of c.args.row.now 6 c.in_ok-has_width.ensures.ok
+    ∙ rw (
+      c.in_ok-patron_kind_at.ensures.ok.0,
+      c.in_ok-copy_kind_at.ensures.ok.0,
+      c.in_ok-days_at.ensures.ok.0,
+      c.in_ok-count_at.ensures.ok.0,
+      c.in_ok-cents_at.ensures.ok.0,
+      c.in_ok-cents_at-2.ensures.ok.0,
+    ) refl

@@ -1,0 +1,72 @@
+//! The table of the circulation rules of a library of schema 1 or 2. From schema 3 on it is empty.
+
+ghost use Rattle.std.specs.Prelude.{[]};
+ghost use Rattle.sql_maps.specs.Maps.{ListedBy, PairBelow};
+ghost use Rattle.circ_tables.specs.Puts.{TakesRow};
+ghost use Rattle.circ_tables.specs.Reading.{ListsInside};
+ghost use Rattle.circ_tables.specs.RulesOfSchema1.{rules1};
+ghost use Rattle.circ_tables.specs.Selections.{is_any};
+
+use crate::cell::{cents_at, copy_kind_at, count_at, days_at, has_width, patron_kind_at};
+use crate::sql_calls::run;
+use crate::table::{Table, rows_inside};
+use sqlite::{Alter, Row, Transaction, params};
+use std::alloc::Global;
+use terms::{
+    CopyKind, Fault, HIGHEST_CAP, HIGHEST_RATE, LONGEST_PERIOD, MOST_RENEWALS, PatronKind, RuleRow1,
+};
+
+impl Table for RuleRow1 {
+    type Key = (u32, u32);
+
+    type Memory = ();
+
+    ghost table = { rules1 };
+
+    /// A row of `rules`. 91, 93.
+    fn read(row: &Row, _memory: ()) -> Result<RuleRow1, Fault> {
+        has_width(row, 6)?;
+        Ok(RuleRow1 {
+            kind: patron_kind_at(row, 0)?,
+            copy_kind: copy_kind_at(row, 1)?,
+            period: days_at(row, 2, 1, LONGEST_PERIOD)?,
+            renewals: count_at(row, 3, MOST_RENEWALS)?,
+            rate: cents_at(row, 4, HIGHEST_RATE)?,
+            cap: cents_at(row, 5, HIGHEST_CAP)?,
+        })
+    }
+}
+
+/// All rows of `rules`, asked inside a transaction, which goes on: by the kind of patron and then
+/// by the kind of copy. 90, 91, 93.
+pub fn rules_inside<S: Alter>(
+    tx: &mut Transaction<'_, S>,
+    alloc: Global,
+) -> Result<Vec<RuleRow1>, Fault>
+    ensures { ListsInside rules1 (λ l. l.items) (λ m. ListedBy PairBelow m is_any)
+        S.Store tx.old tx.new result }
+{
+    rows_inside(
+        tx,
+        alloc,
+        (),
+        "SELECT * FROM rules ORDER BY kind, copy_kind",
+        &[],
+    )
+}
+
+/// Takes out the row of `rules` for a kind of patron and a kind of copy; where there is none,
+/// nothing changes. 91.
+pub fn take_old_rule<S: Alter>(
+    tx: &mut Transaction<'_, S>,
+    kind: PatronKind,
+    copy_kind: CopyKind,
+) -> Result<(), Fault>
+    ensures { TakesRow rules1 (kind, copy_kind) S.Store tx.old tx.new result }
+{
+    run(
+        tx,
+        "DELETE FROM rules WHERE kind = ?1 AND copy_kind = ?2",
+        params![kind.number(), copy_kind.number()],
+    )
+}
