@@ -8,7 +8,7 @@ use Rattle.sqlite_rules.proofs.ListLemmas.{has_contained, contains_had}
 use Rattle.sqlite.specs.Effect.{Database}
 use Rattle.sqlite.specs.State.{State, IsUnchanged}
 use Rattle.sql_maps.specs.Maps.{Maps, Holds}
-use Rattle.sql_maps.specs.Pages.{FirstRows}
+use Rattle.sql_maps.specs.Batches.{FirstRows}
 use Rattle.terms.specs.Limits.{InLimits}
 use Rattle.terms.specs.Pictures.{Picture}
 use Rattle.circ_tables.specs.Encoding.{HasPictureAt, AreEncoded}
@@ -16,16 +16,16 @@ use Rattle.circ_tables.specs.Numbered.{IsNumberTable}
 use Rattle.circ_tables.specs.Reading.{Table}
 use Rattle.circ_tables.specs.Selections.{is_next}
 use Rattle.circ_tables.specs.Shape.{schema_at}
-use Rattle.circ_tables.specs.declared.by_number.TheConstants.{PAGE_ROWS}
+use Rattle.circ_tables.specs.declared.by_number.TheConstants.{BATCH_ROWS}
 use Rattle.circ_tables.proofs.ShownLemmas.{are_encoded}
 use Rattle.store.specs.Library.{HasTablesAt}
 use Rattle.store.specs.Lists.{AreAllOf}
 use Rattle.store.specs.Carrying.{Transfer, IsTransfer, put_by, move_one, move_all, all_over}
-use Rattle.store.specs.Pages.{AreRowsAfter, AreNumbered}
-use Rattle.store.proofs.CarriedRows.{left_above, carried_to, all_taken, all_put, whole_taken, whole_put, none_left, none_carried, all_left}
-use Rattle.store.proofs.CarriedRows.{all_carried, next_left, next_carried}
-use Rattle.store.proofs.PageLemmas.{page_are}
-use Rattle.store.proofs.PagedRows.{last_is, last_there}
+use Rattle.store.specs.Batches.{AreRowsAfter, AreNumbered}
+use Rattle.store.proofs.CarriedInPictures.{left_above, carried_to, all_taken, all_put, whole_taken, whole_put, none_left, none_carried, all_left}
+use Rattle.store.proofs.CarriedInPictures.{all_carried, next_left, next_carried}
+use Rattle.store.proofs.BatchLemmas.{batch_are}
+use Rattle.store.proofs.BatchedRows.{last_is, last_there}
 
 module _ {K R N : Type 0} {old : Table K R} {new : Table K N} {transfer : Transfer K R N} (over : IsTransfer old new transfer) where
   one_moved : (r : R) (P : Picture) (f : K → Option R) (g : K → Option N)
@@ -36,10 +36,10 @@ module _ {K R N : Type 0} {old : Table K R} {new : Table K N} {transfer : Transf
       ∙ ap (λ Q. old.set Q (transfer.key_of r) None) (over.put_in P f g (transfer.key_of r) (transfer.carried r))
       ∙ over.taken P f (put_by transfer.same g (transfer.key_of r) (Some (transfer.carried r))) (transfer.key_of r)
 
-  pub all_moved : (page : List R) (P : Picture) (f : K → Option R) (g : K → Option N)
-      → move_all old new transfer page (transfer.with_both P f g) ≡ transfer.with_both P
-      (all_taken transfer.same over.own over.met transfer.key_of transfer.carried page f)
-      (all_put transfer.same over.own over.met transfer.key_of transfer.carried page g)
+  pub all_moved : (batch : List R) (P : Picture) (f : K → Option R) (g : K → Option N)
+      → move_all old new transfer batch (transfer.with_both P f g) ≡ transfer.with_both P
+      (all_taken transfer.same over.own over.met transfer.key_of transfer.carried batch f)
+      (all_put transfer.same over.own over.met transfer.key_of transfer.carried batch g)
   all_moved [] P f g = refl
   all_moved (r ∷ more) P f g =
       ap (move_all old new transfer more) (one_moved r P f g)
@@ -50,19 +50,19 @@ module _ {K R N : Type 0} {old : Table K R} {new : Table K N} {transfer : Transf
   AreOwn P = (k : K) (r : R) → old.rows P k ≡ Some r → (transfer.key_of r ≡ k) × old.IsLegal r
 
   -- All rows were listed, and moved.
-  pub list_over : (P : Picture) → AreOwn P → ((k : K) → new.rows P k ≡ None) → {Before : R → R → Type 0} (page : List R)
-      → AreAllOf old transfer.key_of Before P page → move_all old new transfer page P ≡ all_over old transfer P
-  list_over P own none page are =
-      ap (move_all old new transfer page) (sym (over.same P) ∙ ap (transfer.with_both P (old.rows P)) (fun_ext none))
-      ∙ all_moved page P (old.rows P) (λ _. None)
-      ∙ ap₂ (transfer.with_both P) (whole_taken transfer.same over.own over.met transfer.key_of transfer.carried (old.rows P) page sound whole)
-      (whole_put transfer.same over.own over.met transfer.key_of transfer.carried (old.rows P) page sound whole)
+  pub list_over : (P : Picture) → AreOwn P → ((k : K) → new.rows P k ≡ None) → {Before : R → R → Type 0} (batch : List R)
+      → AreAllOf old transfer.key_of Before P batch → move_all old new transfer batch P ≡ all_over old transfer P
+  list_over P own none batch are =
+      ap (move_all old new transfer batch) (sym (over.same P) ∙ ap (transfer.with_both P (old.rows P)) (fun_ext none))
+      ∙ all_moved batch P (old.rows P) (λ _. None)
+      ∙ ap₂ (transfer.with_both P) (whole_taken transfer.same over.own over.met transfer.key_of transfer.carried (old.rows P) batch sound whole)
+      (whole_put transfer.same over.own over.met transfer.key_of transfer.carried (old.rows P) batch sound whole)
     where
-      sound : (r : R) → Has page r → old.rows P (transfer.key_of r) ≡ Some r
-      sound r has = are.sound r (contains_had page r has)
+      sound : (r : R) → Has batch r → old.rows P (transfer.key_of r) ≡ Some r
+      sound r has = are.sound r (contains_had batch r has)
 
-      whole : (k : K) (r : R) → old.rows P k ≡ Some r → Has page r × (transfer.key_of r ≡ k)
-      whole k r e = (has_contained page r (are.whole k r e), (own k r e).0)
+      whole : (k : K) (r : R) → old.rows P k ≡ Some r → Has batch r × (transfer.key_of r ≡ k)
+      whole k r e = (has_contained batch r (are.whole k r e), (own k r e).0)
 
   -- The rows of the picture that it leaves lie within their limits.
   pub all_over_limits : (P : Picture) → InLimits P → AreOwn P → InLimits (all_over old transfer P)
@@ -76,7 +76,7 @@ module _ {K R N : Type 0} {old : Table K R} {new : Table K N} {transfer : Transf
           let same : transfer.carried r ≡ n = cc in
           (sym (ap transfer.new_key same) ∙ over.key_is r ∙ it.0, subst new.IsLegal same (over.legal r it.1))
 
--- ---- page by page
+-- ---- batch by batch
 
 module _ {R N : Type 0} {old : Table ℕ R} {new : Table ℕ N} {transfer : Transfer ℕ R N} (over : IsTransfer old new transfer) where
   -- The picture once the rows up to a number are carried over.
@@ -89,30 +89,30 @@ module _ {R N : Type 0} {old : Table ℕ R} {new : Table ℕ N} {transfer : Tran
         ap₂ (transfer.with_both P) (none_left transfer.same over.own over.met transfer.key_of transfer.carried (old.rows P) numbered)
         (none_carried transfer.same over.own over.met transfer.key_of transfer.carried (old.rows P) numbered ∙ sym (fun_ext none)) ∙ over.same P
 
-    module _ (after : ℕ) (page : List R) (are : AreRowsAfter (old.rows (over_to after P)) transfer.key_of after page) where
-      left : AreRowsAfter (left_above after (old.rows P)) transfer.key_of after page
-      left = subst (λ (f : ℕ → Option R). AreRowsAfter f transfer.key_of after page)
+    module _ (after : ℕ) (batch : List R) (are : AreRowsAfter (old.rows (over_to after P)) transfer.key_of after batch) where
+      left : AreRowsAfter (left_above after (old.rows P)) transfer.key_of after batch
+      left = subst (λ (f : ℕ → Option R). AreRowsAfter f transfer.key_of after batch)
           (over.old_rows P (left_above after (old.rows P)) (carried_to transfer.carried after (old.rows P))) are
 
-      -- An empty page is the last.
-      pub over_all : length page ≡ 0 → over_to after P ≡ all_over old transfer P
+      -- An empty batch is the last.
+      pub over_all : length batch ≡ 0 → over_to after P ≡ all_over old transfer P
       over_all empty =
-          ap₂ (transfer.with_both P) (all_left transfer.same over.own over.met transfer.key_of transfer.carried (old.rows P) numbered after page left empty)
-          (all_carried transfer.same over.own over.met transfer.key_of transfer.carried (old.rows P) numbered after page left empty)
+          ap₂ (transfer.with_both P) (all_left transfer.same over.own over.met transfer.key_of transfer.carried (old.rows P) numbered after batch left empty)
+          (all_carried transfer.same over.own over.met transfer.key_of transfer.carried (old.rows P) numbered after batch left empty)
 
-      -- A page more.
-      pub over_next : (last : ℕ) → option_map transfer.key_of (slice_get page (length page - 1)) ≡ Some last
-          → (move_all old new transfer page (over_to after P) ≡ over_to last P) × (after < last)
+      -- A batch more.
+      pub over_next : (last : ℕ) → option_map transfer.key_of (slice_get batch (length batch - 1)) ≡ Some last
+          → (move_all old new transfer batch (over_to after P) ≡ over_to last P) × (after < last)
       over_next last end =
-          let it = last_there transfer.key_of page last end in
-          let most = last_is transfer.key_of page left.rise it.0 it.1 in
-          let moved : move_all old new transfer page (over_to after P) ≡ over_to (transfer.key_of it.0) P =
-          all_moved over page P (left_above after (old.rows P)) (carried_to transfer.carried after (old.rows P))
+          let it = last_there transfer.key_of batch last end in
+          let most = last_is transfer.key_of batch left.rise it.0 it.1 in
+          let moved : move_all old new transfer batch (over_to after P) ≡ over_to (transfer.key_of it.0) P =
+          all_moved over batch P (left_above after (old.rows P)) (carried_to transfer.carried after (old.rows P))
           ∙ ap₂ (transfer.with_both P) (next_left transfer.same over.own over.met transfer.key_of transfer.carried
-          (old.rows P) numbered after page left it.0 most.0 most.1)
-          (next_carried transfer.same over.own over.met transfer.key_of transfer.carried (old.rows P) numbered after page left it.0 most.0 most.1) in (
-            subst (λ n. move_all old new transfer page (over_to after P) ≡ over_to n P) it.2 moved,
-            subst (λ n. after < n) it.2 (left.sound it.0 (contains_had page it.0 most.0)).1,
+          (old.rows P) numbered after batch left it.0 most.0 most.1)
+          (next_carried transfer.same over.own over.met transfer.key_of transfer.carried (old.rows P) numbered after batch left it.0 most.0 most.1) in (
+            subst (λ n. move_all old new transfer batch (over_to after P) ≡ over_to n P) it.2 moved,
+            subst (λ n. after < n) it.2 (left.sound it.0 (contains_had batch it.0 most.0)).1,
           )
 
   -- Its rows lie within their limits.
@@ -145,15 +145,15 @@ read_there n a b inside there lists =
 
 module _ {R N : Type 0} {old : Table ℕ R} {new : Table ℕ N} {transfer : Transfer ℕ R N} (over : IsTransfer old new transfer)
     (table : IsNumberTable old transfer.key_of) where
-  pub read_page : (after : Option ℕ) (P : Picture) → InLimits P → (page : List R) → All old.IsLegal page → (a b : State)
+  pub read_batch : (after : Option ℕ) (P : Picture) → InLimits P → (batch : List R) → All old.IsLegal batch → (a b : State)
       → HasPictureAt new.since a.now (over_to over (unwrap_or after 0) P)
-      → ((maps : Maps) → Holds (schema_at new.since) a.now maps → FirstRows PAGE_ROWS (maps old.place) (is_next after) (map old.cells page) × IsUnchanged a b)
-      → AreRowsAfter (old.rows (over_to over (unwrap_or after 0) P)) transfer.key_of (unwrap_or after 0) page
+      → ((maps : Maps) → Holds (schema_at new.since) a.now maps → FirstRows BATCH_ROWS (maps old.place) (is_next after) (map old.cells batch) × IsUnchanged a b)
+      → AreRowsAfter (old.rows (over_to over (unwrap_or after 0) P)) transfer.key_of (unwrap_or after 0) batch
       × HasPictureAt new.since b.now (over_to over (unwrap_or after 0) P)
-  read_page after P legal page limits a b shown lists =
+  read_batch after P legal batch limits a b shown lists =
       let Q = over_to over (unwrap_or after 0) P in
       let it = lists shown.maps shown.holds in (
-        (page_are table shown.maps Q shown.encodes (over_limits over P legal table (unwrap_or after 0)) after page limits it.0).1,
+        (batch_are table shown.maps Q shown.encodes (over_limits over P legal table (unwrap_or after 0)) after batch limits it.0).1,
         subst (λ d. HasPictureAt new.since d Q) (sym it.1.0.now_is) shown,
       )
 

@@ -6,7 +6,7 @@ use Rattle.sqlite_rules.specs.Lists.{Has}
 use Rattle.sqlite_rules.proofs.ListLemmas.{has_contained, contains_had, all_has, has_filtered, has_kept}
 use Rattle.store.specs.Lists.{AreRows, AreTestedRows, AllPass}
 use Rattle.terms.specs.Orders.{Rise}
-use Rattle.store.proofs.PagedRows.{rises_filtered}
+use Rattle.store.proofs.BatchedRows.{rises_filtered}
 
 module _ {R : Type 0} (number_of : R → ℕ) where
   -- A row that comes after one that rises to it isn't that one.

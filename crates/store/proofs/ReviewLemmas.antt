@@ -9,13 +9,13 @@ use Rattle.sqlite.specs.Store.{Ghosts}
 use Rattle.sqlite_rules.proofs.ListLemmas.{contains_had}
 use Rattle.sqlite_rules.proofs.ProbeLemmas.{has_mapped}
 use Rattle.sql_maps.specs.Maps.{Maps, ListedBy, PairBelow}
-use Rattle.sql_maps.specs.Pages.{FirstRowsBy}
+use Rattle.sql_maps.specs.Batches.{FirstRowsBy}
 use Rattle.circ_tables.specs.Encoding.{AreEncoded}
 use Rattle.circ_tables.specs.Reading.{Table, Views, Lists, GetsMeta}
 use Rattle.circ_tables.specs.Cells.{owner_number, meta_cells, kept_cells}
 use Rattle.circ_tables.specs.Kept.{kept}
 use Rattle.circ_tables.specs.Selections.{is_any, is_after, is_kept_after}
-use Rattle.circ_tables.specs.declared.by_number.TheConstants.{PAGE_ROWS}
+use Rattle.circ_tables.specs.declared.by_number.TheConstants.{BATCH_ROWS}
 use Rattle.circ_tables.specs.Shape.{meta_place}
 use Rattle.terms.specs.Limits.{IsMeta}
 use Rattle.terms.specs.Orders.{IsOrdered}
@@ -24,10 +24,10 @@ use Rattle.terms.specs.declared.fault.Fault.{Fault}
 use Rattle.terms.specs.declared.fault.Fault.TheVariants.{Database, Stored}
 use Rattle.terms.specs.declared.row.KeptRow.{KeptRow}
 use Rattle.terms.specs.declared.row.MetaRow.{MetaRow}
-use Rattle.store.specs.Legal.{HasLegal, HasLegalTables, Reviews, OverMaps, IsKeptPage, AnswersLegal}
-use Rattle.store.specs.Pages.{IsPassedOver}
-use Rattle.store.proofs.KeptRows.{AreKeptMet, first_met, more_kept_met, page_of_caller, page_past_caller}
-use Rattle.store.proofs.PageLemmas.{passed_over}
+use Rattle.store.specs.Legal.{HasLegal, HasLegalTables, Reviews, OverMaps, IsKeptBatch, AnswersLegal}
+use Rattle.store.specs.Batches.{IsPassedOver}
+use Rattle.store.proofs.KeptOfAnyTables.{AreKeptMet, first_met, more_kept_met, batch_of_caller, batch_past_caller}
+use Rattle.store.proofs.BatchLemmas.{passed_over}
 use Rattle.store.proofs.ReadLemmas.{held_still, read_fails}
 use Rattle.store.proofs.ViewLemmas.{fails, taken}
 use Rattle.store.proofs.ViewLemmas as views
@@ -115,30 +115,30 @@ lone_met {r = r} is = record {
   met = λ clean. if_both r (λ row got limits maps holds k v e. (row, limits, got maps holds k v e)) (is.alone clean) is.limits;
 }
 
--- ---- what is kept, page by page
+-- ---- what is kept, batch by batch
 
 -- the caller has more that is kept
 pub more_of_caller : {S L : Type 0} {items : L → List KeptRow} {g : Ghosts S} {l : L} {a b : Held S} (last : KeptRow) → 0 < length (items l)
-    → Lists kept items (λ m. FirstRowsBy PairBelow PAGE_ROWS m (is_kept_after (owner_number last.caller) last.key)) g a b (Ok l)
-    → OverMaps (λ page. IsKeptPage (PairBelow (kept_cells last)) (items page)) g a b (Ok l)
+    → Lists kept items (λ m. FirstRowsBy PairBelow BATCH_ROWS m (is_kept_after (owner_number last.caller) last.key)) g a b (Ok l)
+    → OverMaps (λ batch. IsKeptBatch (PairBelow (kept_cells last)) (items batch)) g a b (Ok l)
 more_of_caller {items = items} {l = l} last some is =
-    λ clean maps holds. page_of_caller _ maps holds last (items l) is.limits (is.lists clean maps holds).0 some
+    λ clean maps holds. batch_of_caller _ maps holds last (items l) is.limits (is.lists clean maps holds).0 some
 
 -- the caller has no more
 pub past_caller : {S L : Type 0} {items : L → List KeptRow} {g : Ghosts S} {l : L} {r : Result L Fault} {a b c : Held S} (last : KeptRow) → length (items l) ≡ 0
-    → Lists kept items (λ m. FirstRowsBy PairBelow PAGE_ROWS m (is_kept_after (owner_number last.caller) last.key)) g a b (Ok l)
-    → Lists kept items (λ m. FirstRowsBy PairBelow PAGE_ROWS m (is_after (owner_number last.caller))) g b c r
-    → OverMaps (λ page. IsKeptPage (PairBelow (kept_cells last)) (items page)) g a c r
+    → Lists kept items (λ m. FirstRowsBy PairBelow BATCH_ROWS m (is_kept_after (owner_number last.caller) last.key)) g a b (Ok l)
+    → Lists kept items (λ m. FirstRowsBy PairBelow BATCH_ROWS m (is_after (owner_number last.caller))) g b c r
+    → OverMaps (λ batch. IsKeptBatch (PairBelow (kept_cells last)) (items batch)) g a c r
 past_caller {items = items} {g = g} {l = l} {r = r} {a = a} {b = b} last none one two = λ clean.
     let before = two.read.clean clean in
     if_both r (λ past got fine maps holds.
-    page_past_caller _ maps holds last (items l) one.limits (one.lists before maps holds).0 none (items past) fine
+    batch_past_caller _ maps holds last (items l) one.limits (one.lists before maps holds).0 none (items past) fine
     (got maps (held_still (state g a) (state g b) maps (one.read.same refl before maps holds) holds)).0)
     (two.lists clean) two.limits
 
--- the first page
+-- the first batch
 pub begun : {S L : Type 0} {items : L → List KeptRow} {g : Ghosts S} {l : L} {a b : Held S}
-    → Lists kept items (λ m. FirstRowsBy PairBelow PAGE_ROWS m is_any) g a b (Ok l)
+    → Lists kept items (λ m. FirstRowsBy PairBelow BATCH_ROWS m is_any) g a b (Ok l)
     → Reviews {A = Unit {0}} IsPassedOver (AreKeptMet (items l)) g a b (Ok tt)
 begun {items = items} {l = l} is =
     record {
@@ -146,17 +146,17 @@ begun {items = items} {l = l} is =
       met = λ clean maps holds. first_met maps (items l) is.limits (is.lists clean maps holds).0;
     }
 
--- one page more
-pub gone_on : {S L : Type 0} (items : L → List KeptRow) {g : Ghosts S} {l : L} {a b c : Held S} (page : List KeptRow) (last : KeptRow)
-    → slice_get page (length page - 1) ≡ Some last
-    → Reviews {A = Unit {0}} IsPassedOver (AreKeptMet page) g a b (Ok tt) → Views IsPassedOver g b c (Ok l)
-    → OverMaps (λ next. IsKeptPage (PairBelow (kept_cells last)) (items next)) g b c (Ok l)
+-- one batch more
+pub gone_on : {S L : Type 0} (items : L → List KeptRow) {g : Ghosts S} {l : L} {a b c : Held S} (batch : List KeptRow) (last : KeptRow)
+    → slice_get batch (length batch - 1) ≡ Some last
+    → Reviews {A = Unit {0}} IsPassedOver (AreKeptMet batch) g a b (Ok tt) → Views IsPassedOver g b c (Ok l)
+    → OverMaps (λ next. IsKeptBatch (PairBelow (kept_cells last)) (items next)) g b c (Ok l)
     → Reviews {A = Unit {0}} IsPassedOver (AreKeptMet (items l)) g a c (Ok tt)
-gone_on items {g = g} {l = l} {a = a} {b = b} page last end so_far seen is = record {
+gone_on items {g = g} {l = l} {a = a} {b = b} batch last end so_far seen is = record {
   view = views.gives (views.◌⨾◌ so_far.view seen) (λ P all. tt);
   met = λ clean maps holds.
       let before = seen.read.clean clean in
-      more_kept_met maps page (items l) last end (so_far.met before maps holds)
+      more_kept_met maps batch (items l) last end (so_far.met before maps holds)
       (is clean maps (held_still (state g a) (state g b) maps (so_far.view.read.same refl before maps holds) holds));
 }
 

@@ -30,7 +30,7 @@ use Rattle.circ_tables.proofs.ReadingLemmas.{read_of}
 use Rattle.store.proofs.CountLemmas.{open_loans_shown, open_loans_few, active_holds_shown, active_holds_few, active_holds_on_shown, active_holds_on_few}
 use Rattle.store.proofs.ReadLemmas.{read_then, read_err, read_fails, picture_then, legal_if}
 use Rattle.store.proofs.RowLemmas.{loan_of_shown, hold_of_shown, travel_for_shown, first_of_shown, loan_of_title_shown, least_shelved_shown}
-use Rattle.store.specs.Pages.{IsLeastShelved}
+use Rattle.store.specs.Batches.{IsLeastShelved}
 
 if_ok_of : {A : Type 0} (r : Result A Fault) {P Q : A → Type 0} → ((x : A) → P x → Q x) → IfOk r P → IfOk r Q
 if_ok_of (Ok x) f h = f x h

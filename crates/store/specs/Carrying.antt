@@ -69,17 +69,17 @@ module _ {K R N : Type 0} (old : Table K R) (new : Table K N) (transfer : Transf
   move_rows [] maps = maps
   move_rows (r ∷ more) maps = move_rows more (move_row r maps)
 
-  -- The row is moved, or the rows of a page, in the maps and in the picture. The one fault is 91.
+  -- The row is moved, or the rows of a batch, in the maps and in the picture. The one fault is 91.
   abbrev pub MovesRow : {S T : Type 0} → R → Ghosts S → Transaction S → Transaction S → Result T Fault → Type 0
   MovesRow r = ChangesRows new.since (move_row r) (Unit {0}) (move_one r)
 
-  abbrev pub MovesPage : {S T : Type 0} → List R → Ghosts S → Transaction S → Transaction S → Result T Fault → Type 0
-  MovesPage page = ChangesRows new.since (move_rows page) (Unit {0}) (move_all page)
+  abbrev pub MovesBatch : {S T : Type 0} → List R → Ghosts S → Transaction S → Transaction S → Result T Fault → Type 0
+  MovesBatch batch = ChangesRows new.since (move_rows batch) (Unit {0}) (move_all batch)
 
 -- A library is led in the transaction from the tables of one schema to those of another, or the same. Where the first are there nothing is
 -- committed, and after an answer the transaction goes on, over the others; what an answer says of their maps is so whatever they show.
 -- Where they show a picture that is ready for it they show the other afterwards, and then no fault of a stored row comes.
-pub record LeadsInside {S T : Type 0} (from to : ℕ) (AreLed : Maps → Maps → Type 0) (IsReady : Picture → Type 0) (change : Picture → Picture)
+pub record MigratesInside {S T : Type 0} (from to : ℕ) (AreLed : Maps → Maps → Type 0) (IsReady : Picture → Type 0) (change : Picture → Picture)
     (g : Ghosts S) (old new : Transaction S) (result : Result T Fault) : Type 0 where
   pub same_reference : new.conn.ghost_name ≡ old.conn.ghost_name
   pub survives : Survives (state g old.conn.now) (state g new.conn.now) (λ _. ⊥)
@@ -90,7 +90,7 @@ pub record LeadsInside {S T : Type 0} (from to : ℕ) (AreLed : Maps → Maps �
   pub rows : HasCleanDisk (state g new.conn.now) → IsTrue (state g old.conn.now).in_transaction
       → (maps : Maps) → Holds (schema_at from) (state g old.conn.now).now maps
       → OnOk result ((now : Maps) × Holds (schema_at to) (state g new.conn.now).now now × AreLed maps now)
-  pub leads : HasCleanDisk (state g new.conn.now) → IsTrue (state g old.conn.now).in_transaction
+  pub migrates : HasCleanDisk (state g new.conn.now) → IsTrue (state g old.conn.now).in_transaction
       → (P : Picture) → HasPictureAt from (state g old.conn.now).now P → IsReady P
       → OnOk result (HasPictureAt to (state g new.conn.now).now (change P))
   pub sound : HasCleanDisk (state g new.conn.now) → IsTrue (state g old.conn.now).in_transaction → result ≡ Err Stored
@@ -122,4 +122,4 @@ all_over old transfer P = transfer.with_both P (λ _. None) (λ k. option_map tr
 
 -- The rows of a table are carried over, inside the first schema that has the new one.
 abbrev pub CarriesAll : {K R N S T : Type 0} → Table K R → Table K N → Transfer K R N → Ghosts S → Transaction S → Transaction S → Result T Fault → Type 0
-CarriesAll old new transfer = LeadsInside new.since new.since (AreMoved old new transfer) (IsToCarry new) (all_over old transfer)
+CarriesAll old new transfer = MigratesInside new.since new.since (AreMoved old new transfer) (IsToCarry new) (all_over old transfer)

@@ -76,11 +76,11 @@ pub record Reviews {S A : Type 0} (Is : Picture → A → Type 0) (Met : Maps �
   pub view : Views Is g old new result
   pub met : OverMaps (λ x maps. Met maps) g old new result
 
--- A page of what is kept: each row that is to come is on it, or comes after each of its rows, of which there is one at least.
-pub record IsKeptPage (IsToCome : Row → Type 0) (page : List KeptRow) (maps : Maps) : Type 0 where
-  pub limits : All kept.IsLegal page
+-- A batch of what is kept: each row that is to come is on it, or comes after each of its rows, of which there is one at least.
+pub record IsKeptBatch (IsToCome : Row → Type 0) (batch : List KeptRow) (maps : Maps) : Type 0 where
+  pub limits : All kept.IsLegal batch
   pub whole : (k v : Row) → maps kept.place k ≡ Some v → IsToCome v
-      → Has (map kept_cells page) v ⊎ ((0 < length page) × ((w : Row) → Has (map kept_cells page) w → PairBelow w v))
+      → Has (map kept_cells batch) v ⊎ ((0 < length batch) × ((w : Row) → Has (map kept_cells batch) w → PairBelow w v))
 
 -- An answer comes only where no row is damaged.
 abbrev pub AnswersLegal : {S A : Type 0} → Ghosts S → Held S → Held S → Result A Fault → Type 0

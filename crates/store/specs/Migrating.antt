@@ -16,15 +16,15 @@ use Rattle.terms.specs.declared.fault.Fault.TheVariants.{Stored}
 use Rattle.terms.specs.declared.limits.TheConstants.{SCHEMA}
 use Rattle.circ_tables.specs.Cells.{meta_cells}
 use Rattle.circ_tables.specs.Encoding.{HasPictureAt, AreEncoded}
-use Rattle.circ_tables.specs.Holds1.{holds1}
-use Rattle.circ_tables.specs.Loans1.{loans1}
-use Rattle.circ_tables.specs.Rules1.{rules1}
+use Rattle.circ_tables.specs.HoldsOfSchema1.{holds1}
+use Rattle.circ_tables.specs.LoansOfSchema1.{loans1}
+use Rattle.circ_tables.specs.RulesOfSchema1.{rules1}
 use Rattle.circ_tables.specs.SchemaNumber.{NamesSchema}
 use Rattle.circ_tables.specs.Shape.{schema_at, meta_place, rules1_place, loans1_place, holds1_place, holds_place, rules_place}
 use Rattle.circ_tables.specs.Holds.{holds}
 use Rattle.circ_tables.specs.Loans.{loans}
 use Rattle.circ_tables.specs.Rules.{rules}
-use Rattle.store.specs.Carrying.{AreCarried, LeadsInside}
+use Rattle.store.specs.Carrying.{AreCarried, MigratesInside}
 use Rattle.store.specs.Commit.{Brings, HasDone}
 use Rattle.store.specs.Legal.{HasLegal}
 use Rattle.store.specs.Library.{IsAsItWas, StaysOpen}
@@ -41,7 +41,7 @@ pub record AreNamed (n : ℕ) (maps now : Maps) : Type 0 where
 
 -- The schema is named in the transaction.
 abbrev pub NamesInside : {S T : Type 0} → ℕ → Ghosts S → Transaction S → Transaction S → Result T Fault → Type 0
-NamesInside n = LeadsInside n n (AreNamed n) (λ P. IsMeta P.meta) (λ P. record P { meta = record P.meta { schema = n } })
+NamesInside n = MigratesInside n n (AreNamed n) (λ P. IsMeta P.meta) (λ P. record P { meta = record P.meta { schema = n } })
 
 -- ---- from schema to schema
 
@@ -81,8 +81,8 @@ abbrev pub AreLedIfNamed : ℕ → Maps → Maps → Type 0
 AreLedIfNamed n maps now = (m : ℕ) → NamesSchema maps m → AreLedOn n maps now
 
 -- The step leads on from the tables of schema n.
-abbrev pub LeadsFrom : {S T : Type 0} → ℕ → Ghosts S → Transaction S → Transaction S → Result T Fault → Type 0
-LeadsFrom n = LeadsInside n (next_schema n) (AreLedIfNamed n) (λ P. IsOfSchema n P × InLimits P) (led_on n)
+abbrev pub MigratesFrom : {S T : Type 0} → ℕ → Ghosts S → Transaction S → Transaction S → Result T Fault → Type 0
+MigratesFrom n = MigratesInside n (next_schema n) (AreLedIfNamed n) (λ P. IsOfSchema n P × InLimits P) (led_on n)
 
 -- The tables are those of schema n, whatever rows they have, and `meta` names no older schema but that.
 pub record AreThere (n : ℕ) (db : Database) : Type 0 where
@@ -94,38 +94,38 @@ pub record AreThere (n : ℕ) (db : Database) : Type 0 where
 -- A library was led on by a step, to the schema that it names now: from tables that show one to those of the same in the next schema, and
 -- those of the newest stay. Whatever they show, no damaged row is passed over; where the newest is named the database is the same; and
 -- where none is named that is known nothing is led on.
-pub record LeadsOn (to : ℕ) (old new : Database) : Type 0 where
-  pub leads : (n : ℕ) → IsKnown n → (P : Picture) → IsLibrary n old P → (to ≡ next_schema n) × HasPictureAt (next_schema n) new (led_on n P)
+pub record MigratesOn (to : ℕ) (old new : Database) : Type 0 where
+  pub migrates : (n : ℕ) → IsKnown n → (P : Picture) → IsLibrary n old P → (to ≡ next_schema n) × HasPictureAt (next_schema n) new (led_on n P)
   pub rows : (n : ℕ) → IsOlder n → (maps : Maps) → Holds (schema_at n) old maps → NamesSchema maps n
       → (to ≡ next_schema n) × ((now : Maps) × Holds (schema_at (next_schema n)) new now × AreLedOn n maps now)
   pub same : (n : ℕ) → IsKnown n → (maps : Maps) → Holds (schema_at n) old maps → NamesSchema maps SCHEMA → (to ≡ SCHEMA) × (new ≡ old)
   pub named : (n : ℕ) → IsKnown n → (maps : Maps) → Holds (schema_at n) old maps → (m : ℕ) × NamesSchema maps m × IsKnown m
 
 -- A step was made in the transaction. Where its tables are there nothing is committed, and no fault of a stored row comes where they show a library.
-pub record LeadsOnInside {S : Type 0} (g : Ghosts S) (old new : Transaction S) (result : Result ℕ Fault) : Type 0 where
+pub record MigratesOnInside {S : Type 0} (g : Ghosts S) (old new : Transaction S) (result : Result ℕ Fault) : Type 0 where
   pub same_reference : new.conn.ghost_name ≡ old.conn.ghost_name
   pub survives : Survives (state g old.conn.now) (state g new.conn.now) (λ _. ⊥)
   pub kept : HasCleanDisk (state g new.conn.now) → IsTrue (state g old.conn.now).in_transaction
       → (n : ℕ) → AreThere n (state g old.conn.now).now → KeepsCommit (state g old.conn.now) (state g new.conn.now)
   pub inside : HasCleanDisk (state g new.conn.now) → IsTrue (state g old.conn.now).in_transaction
       → (n : ℕ) → AreThere n (state g old.conn.now).now → OnOk result (IsTrue (state g new.conn.now).in_transaction)
-  pub leads : HasCleanDisk (state g new.conn.now) → IsTrue (state g old.conn.now).in_transaction
-      → IfOk result (λ to. LeadsOn to (state g old.conn.now).now (state g new.conn.now).now)
+  pub migrates : HasCleanDisk (state g new.conn.now) → IsTrue (state g old.conn.now).in_transaction
+      → IfOk result (λ to. MigratesOn to (state g old.conn.now).now (state g new.conn.now).now)
   pub sound : HasCleanDisk (state g new.conn.now) → IsTrue (state g old.conn.now).in_transaction → result ≡ Err Stored
       → (n : ℕ) → IsKnown n → (P : Picture) → ¬ IsLibrary n (state g old.conn.now).now P
 
 -- A step, to whatever schema.
-abbrev pub Leads : Database → Database → Type 0
-Leads old new = (to : ℕ) × LeadsOn to old new
+abbrev pub MakesOneStep : Database → Database → Type 0
+MakesOneStep old new = (to : ℕ) × MigratesOn to old new
 
 -- It was made in one transaction: where the tables are there, it is made and committed, or nothing is; and whatever a stop leaves is what
 -- was there or what the step brings.
 pub record StepsOn {S : Type 0} (g : Ghosts S) (old new : Held S) (result : Result ℕ Fault) : Type 0 where
   pub idle : new.in_transaction ≡ false
-  pub done : HasCleanDisk (state g new) → (n : ℕ) → AreThere n (state g old).now → IfOk result (λ to. HasDone (LeadsOn to) (state g old) (state g new))
+  pub done : HasCleanDisk (state g new) → (n : ℕ) → AreThere n (state g old).now → IfOk result (λ to. HasDone (MigratesOn to) (state g old) (state g new))
   pub undone : HasCleanDisk (state g new) → IsTrue (state g new).is_open → (n : ℕ) → AreThere n (state g old).now → OnErr result (
       ((state g new).now ≡ (state g old).now) × ((state g new).committed ≡ (state g old).now))
-  pub survives : Survives (state g old) (state g new) (Brings Leads (state g old).now)
+  pub survives : Survives (state g old) (state g new) (Brings MakesOneStep (state g old).now)
   pub sound : HasCleanDisk (state g new) → result ≡ Err Stored → (n : ℕ) → IsKnown n → (P : Picture) → ¬ IsLibrary n (state g old).now P
 
 -- The number of the schema was asked for, and nothing is changed: it is the one that the picture names. No fault of a stored row comes
@@ -159,7 +159,7 @@ AreLedUp (suc (suc zero)) maps now = AreLedOn 2 maps now
 AreLedUp _ maps now = Unit {0}
 
 -- Tables that name their own schema were led up to the newest, whatever they show; where they name the newest the database is the same.
-pub record LeadsUp (old new : Database) : Type 0 where
+pub record MigratesUp (old new : Database) : Type 0 where
   pub rows : (n : ℕ) → IsOlder n → (maps : Maps) → Holds (schema_at n) old maps → NamesSchema maps n
       → (now : Maps) × Holds (schema_at SCHEMA) new now × AreLedUp n maps now
   pub same : (n : ℕ) → IsKnown n → (maps : Maps) → Holds (schema_at n) old maps → NamesSchema maps SCHEMA → new ≡ old
@@ -174,7 +174,7 @@ pub record CannotBeLed (db : Database) : Type 0 where
 
 -- The tables are as they were, or as the first of two steps left them, which stands.
 pub record IsLedInPart (old new : State) : Type 0 where
-  pub led : Leads old.now new.now
+  pub led : MakesOneStep old.now new.now
   pub committed : new.committed ≡ new.now
 
 -- So many steps lead on from schema n, and from an older one not to the newest.
@@ -188,7 +188,7 @@ pub record Migrates {S T : Type 0} (g : Ghosts S) (old new : Held S) (result : R
   pub clean : HasCleanDisk (state g new) → HasCleanDisk (state g old)
   pub led : HasCleanDisk (state g new) → OnOk result ((n : ℕ) → IsKnown n → (P : Picture) → IsLibrary n (state g old).now P
       → KeepsPicture (state g new) (led_by (SCHEMA - n) n P))
-  pub legal : HasCleanDisk (state g new) → (n : ℕ) → AreThere n (state g old).now → OnOk result (LeadsUp (state g old).now (state g new).now)
+  pub legal : HasCleanDisk (state g new) → (n : ℕ) → AreThere n (state g old).now → OnOk result (MigratesUp (state g old).now (state g new).now)
   pub undone : HasCleanDisk (state g new) → IsTrue (state g new).is_open → OnErr result ((n : ℕ) → IsKnown n → (P : Picture)
       → IsLibrary n (state g old).now P → (steps : ℕ) × IsNotLedUp n steps × KeepsPictureAt (n + steps) (state g new) (led_by steps n P))
   pub nothing : HasCleanDisk (state g new) → IsTrue (state g new).is_open → (n : ℕ) → AreThere n (state g old).now

@@ -11,11 +11,11 @@ use Rattle.terms.specs.declared.row.HoldRow.{HoldRow}
 use Rattle.terms.specs.declared.row.HoldRow1.{HoldRow1}
 use Rattle.circ_tables.specs.Encoding.{Pair}
 use Rattle.circ_tables.specs.Holds.{holds}
-use Rattle.circ_tables.specs.Holds1.{holds1}
+use Rattle.circ_tables.specs.HoldsOfSchema1.{holds1}
 use Rattle.circ_tables.specs.Loans.{loans}
-use Rattle.circ_tables.specs.Loans1.{loans1}
+use Rattle.circ_tables.specs.LoansOfSchema1.{loans1}
 use Rattle.circ_tables.specs.Rules.{rules}
-use Rattle.circ_tables.specs.Rules1.{rules1}
+use Rattle.circ_tables.specs.RulesOfSchema1.{rules1}
 use Rattle.sql_maps.proofs.MapLemmas.{same_keys}
 use Rattle.circ_tables.specs.Cells.{number_key, pair_key}
 use Rattle.store.specs.Carrying.{Transfer, IsTransfer}

@@ -1,15 +1,15 @@
-//! The rows that answer the desk's questions: pages of lists, and single rows that are found by
+//! The rows that answer the desk's questions: batches of lists, and single rows that are found by
 //! another's number.
 
 ghost use Rattle.std.specs.Prelude.{◌≡◌};
 ghost use Rattle.terms.specs.Limits.{InLimits};
 ghost use Rattle.circ_core.specs.Views.{IsCopyView, IsFirstOf, IsTravelFor};
-ghost use Rattle.store.specs.Pages.{AreAccountLinesAfter, AreCopiesAfter, AreDebtorsAfter};
-ghost use Rattle.store.specs.Pages.{AreTransitsAfter, AreWaitingAfter, AreWaitingForAfter};
-ghost use Rattle.store.specs.Pages.{IsLeastShelved};
+ghost use Rattle.store.specs.Batches.{AreAccountLinesAfter, AreCopiesAfter, AreDebtorsAfter};
+ghost use Rattle.store.specs.Batches.{AreTransitsAfter, AreWaitingAfter, AreWaitingForAfter};
+ghost use Rattle.store.specs.Batches.{IsLeastShelved};
 ghost use Rattle.store.specs.Reads.{Looked};
 
-use crate::idle::holds_committed;
+use crate::idle::committed_is_held;
 use crate::store::Store;
 use crate::viewing::copy_view;
 use calendar::Day;
@@ -26,7 +26,7 @@ use terms::{
 };
 
 impl<S: Alter> Store<S> {
-    /// A page of the copies of a title whose numbers are above this one, the least number first.
+    /// A batch of the copies of a title whose numbers are above this one, the least number first.
     /// 90, 91, 93.
     pub fn copies_of_title(
         &mut self,
@@ -37,11 +37,11 @@ impl<S: Alter> Store<S> {
         ensures { Looked InLimits (λ P rows. AreCopiesAfter P title after rows.items) InLimits
             S.Store self.old self.new result }
     {
-        holds_committed(&self.conn);
+        committed_is_held(&self.conn);
         copies_of_title_after(&mut self.conn, alloc, title, after)
     }
 
-    /// A page of the waiting holds for a title whose numbers are above this one, the least number
+    /// A batch of the waiting holds for a title whose numbers are above this one, the least number
     /// first. 90, 91, 93.
     pub fn waiting_holds_for(
         &mut self,
@@ -52,21 +52,21 @@ impl<S: Alter> Store<S> {
         ensures { Looked InLimits (λ P rows. AreWaitingForAfter P title after rows.items) InLimits
             S.Store self.old self.new result }
     {
-        holds_committed(&self.conn);
+        committed_is_held(&self.conn);
         waiting_holds_for_after(&mut self.conn, alloc, title, after)
     }
 
-    /// A page of the waiting holds whose numbers are above this one, the least number first. 90,
+    /// A batch of the waiting holds whose numbers are above this one, the least number first. 90,
     /// 91, 93.
     pub fn waiting_holds(&mut self, alloc: Global, after: HoldId) -> Result<Vec<HoldRow>, Fault>
         ensures { Looked InLimits (λ P rows. AreWaitingAfter P after rows.items) InLimits
             S.Store self.old self.new result }
     {
-        holds_committed(&self.conn);
+        committed_is_held(&self.conn);
         waiting_holds_after(&mut self.conn, alloc, after)
     }
 
-    /// A page of the lines of a patron's account whose numbers are above this one, the least number
+    /// A batch of the lines of a patron's account whose numbers are above this one, the least number
     /// first. 90, 91, 93.
     pub fn account_lines(
         &mut self,
@@ -77,21 +77,21 @@ impl<S: Alter> Store<S> {
         ensures { Looked InLimits (λ P rows. AreAccountLinesAfter P patron after rows.items)
             InLimits S.Store self.old self.new result }
     {
-        holds_committed(&self.conn);
+        committed_is_held(&self.conn);
         account_lines_after(&mut self.conn, alloc, patron, after)
     }
 
-    /// A page of the patrons who owe something and whose numbers are above this one, the least
+    /// A batch of the patrons who owe something and whose numbers are above this one, the least
     /// number first. 90, 91, 93.
     pub fn debtors(&mut self, alloc: Global, after: PatronId) -> Result<Vec<PatronRow>, Fault>
         ensures { Looked InLimits (λ P rows. AreDebtorsAfter P after rows.items) InLimits
             S.Store self.old self.new result }
     {
-        holds_committed(&self.conn);
+        committed_is_held(&self.conn);
         debtors_after(&mut self.conn, alloc, after)
     }
 
-    /// A page of the transits to a branch of copies whose numbers are above this one, the least
+    /// A batch of the transits to a branch of copies whose numbers are above this one, the least
     /// number first. 90, 91, 93.
     pub fn transits_to(
         &mut self,
@@ -102,7 +102,7 @@ impl<S: Alter> Store<S> {
         ensures { Looked InLimits (λ P rows. AreTransitsAfter P branch after rows.items) InLimits
             S.Store self.old self.new result }
     {
-        holds_committed(&self.conn);
+        committed_is_held(&self.conn);
         transits_to_after(&mut self.conn, alloc, branch, after)
     }
 
@@ -111,7 +111,7 @@ impl<S: Alter> Store<S> {
         ensures { Looked InLimits (λ P rows. IsCopyView P copy rows) InLimits
             S.Store self.old self.new result }
     {
-        holds_committed(&self.conn);
+        committed_is_held(&self.conn);
         copy_view(&mut self.conn, copy)
     }
 
@@ -120,7 +120,7 @@ impl<S: Alter> Store<S> {
         ensures { Looked InLimits (λ P first. today ≡ P.meta.today → IsFirstOf P title first)
             InLimits S.Store self.old self.new result }
     {
-        holds_committed(&self.conn);
+        committed_is_held(&self.conn);
         first_in_line(&mut self.conn, title, today)
     }
 
@@ -129,7 +129,7 @@ impl<S: Alter> Store<S> {
         ensures { Looked InLimits (λ P row. IsTravelFor P hold row) InLimits
             S.Store self.old self.new result }
     {
-        holds_committed(&self.conn);
+        committed_is_held(&self.conn);
         transit_for(&mut self.conn, hold)
     }
 
@@ -143,7 +143,7 @@ impl<S: Alter> Store<S> {
         ensures { Looked InLimits (λ P row. IsLeastShelved P title branch row) InLimits
             S.Store self.old self.new result }
     {
-        holds_committed(&self.conn);
+        committed_is_held(&self.conn);
         least_shelved(&mut self.conn, title, branch)
     }
 }

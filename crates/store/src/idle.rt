@@ -6,7 +6,7 @@ ghost use Rattle.sqlite.specs.Held.{state};
 use sqlite::{Alter, Connection};
 
 /// Where no transaction is under way, what an open database holds was committed.
-pub(crate) fn holds_committed<S: Alter>(conn: &Connection<S>)
+pub(crate) fn committed_is_held<S: Alter>(conn: &Connection<S>)
     requires { conn.now.in_transaction ≡ false }
     ensures { IsTrue (state S.Store conn.now).is_open
         → (state S.Store conn.now).now ≡ (state S.Store conn.now).committed }

@@ -13,8 +13,8 @@ ghost use Rattle.circ_tables.specs.Kept.{kept};
 ghost use Rattle.circ_tables.specs.Kinds.{kinds};
 ghost use Rattle.circ_tables.specs.Rules.{rules};
 
-use crate::idle::holds_committed;
-use crate::pages::{EachRow, NoRow, OpenLoans, Sift, pass_over_kept, read_pages};
+use crate::batches::{EachRow, NoRow, OpenLoans, Sift, pass_over_kept, read_batches};
+use crate::idle::committed_is_held;
 use crate::store::Store;
 use circ_tables::{all_closed_days, all_kept, all_rules, every_row, get_meta};
 use sqlite::{Alter, Connection};
@@ -124,9 +124,9 @@ fn read_holdings<T: Sift<TitleRow>, S: Alter>(
 ) -> Result<Holdings, Fault>
     ensures { Reviews (AreHoldings T.test) HasLegalHoldings S.Store conn.old conn.new result }
 {
-    let patrons = read_pages::<PatronRow, EachRow, S>(conn, alloc, alloc)?;
-    let titles = read_pages::<TitleRow, T, S>(conn, alloc, alloc)?;
-    let copies = read_pages::<CopyRow, EachRow, S>(conn, alloc, ())?;
+    let patrons = read_batches::<PatronRow, EachRow, S>(conn, alloc, alloc)?;
+    let titles = read_batches::<TitleRow, T, S>(conn, alloc, alloc)?;
+    let copies = read_batches::<CopyRow, EachRow, S>(conn, alloc, ())?;
     Ok(Holdings {
         patrons,
         titles,
@@ -141,10 +141,10 @@ fn read_dealings<L: Sift<LoanRow>, S: Alter>(
 ) -> Result<Dealings, Fault>
     ensures { Reviews (AreDealings L.test) HasLegalDealings S.Store conn.old conn.new result }
 {
-    let loans = read_pages::<LoanRow, L, S>(conn, alloc, ())?;
-    let holds = read_pages::<HoldRow, EachRow, S>(conn, alloc, ())?;
-    let transits = read_pages::<TransitRow, EachRow, S>(conn, alloc, ())?;
-    let lines = read_pages::<LineRow, EachRow, S>(conn, alloc, ())?;
+    let loans = read_batches::<LoanRow, L, S>(conn, alloc, ())?;
+    let holds = read_batches::<HoldRow, EachRow, S>(conn, alloc, ())?;
+    let transits = read_batches::<TransitRow, EachRow, S>(conn, alloc, ())?;
+    let lines = read_batches::<LineRow, EachRow, S>(conn, alloc, ())?;
     Ok(Dealings {
         loans,
         holds,
@@ -209,7 +209,7 @@ impl<S: Alter> Store<S> {
         ensures looked { Looked InLimits AreTables IsReadable S.Store self.old self.new result }
         ensures legal { AnswersLegal S.Store self.old self.new result }
     {
-        holds_committed(&self.conn);
+        committed_is_held(&self.conn);
         all_tables(&mut self.conn, alloc)
     }
 
@@ -223,7 +223,7 @@ impl<S: Alter> Store<S> {
             S.Store self.old self.new result }
         ensures legal { AnswersLegal S.Store self.old self.new result }
     {
-        holds_committed(&self.conn);
+        committed_is_held(&self.conn);
         audit_tables(&mut self.conn, alloc)
     }
 
@@ -232,7 +232,7 @@ impl<S: Alter> Store<S> {
         ensures { Looked InLimits (λ P rows. AreRows P.patrons (λ r. r.patron) AllPass rows)
             IsReadable S.Store self.old self.new result }
     {
-        holds_committed(&self.conn);
-        read_pages::<PatronRow, EachRow, S>(&mut self.conn, alloc, alloc)
+        committed_is_held(&self.conn);
+        read_batches::<PatronRow, EachRow, S>(&mut self.conn, alloc, alloc)
     }
 }

@@ -1,17 +1,17 @@
 //! A library of an older schema, which is led to the newest one.
 
 ghost use Rattle.std.specs.Prelude.{◌≡◌, false, refl, IfOk};
-ghost use Rattle.circ_tables.specs.Rules1.{rules1};
+ghost use Rattle.circ_tables.specs.RulesOfSchema1.{rules1};
 ghost use Rattle.circ_tables.specs.Rules.{rules};
-ghost use Rattle.store.specs.Carrying.{Transfer, IsTransfer, MovesRow, MovesPage, CarriesAll};
-ghost use Rattle.store.specs.Migrating.{NamesInside, LeadsFrom, LeadsOnInside, StepsOn};
+ghost use Rattle.store.specs.Carrying.{Transfer, IsTransfer, MovesRow, MovesBatch, CarriesAll};
+ghost use Rattle.store.specs.Migrating.{NamesInside, MigratesFrom, MigratesOnInside, StepsOn};
 ghost use Rattle.store.specs.Migrating.{TellsSchema};
 ghost use Rattle.store.specs.Transfers.{holds_transfer, holds_carried, loans_transfer};
 ghost use Rattle.store.specs.Transfers.{loans_carried, rules_transfer, rules_carried};
 ghost use Rattle.store.specs.Schemas.{IsKnown};
 
-use crate::idle::holds_committed;
-use crate::pages::last_of;
+use crate::batches::last_of;
+use crate::idle::committed_is_held;
 use circ_tables::{
     Numbered, Table, get_meta_inside, make_second, make_third, next_rows_inside, put_meta, put_row,
     put_rule, rules_inside, schema_inside, schema_of, take_old_rule, take_row,
@@ -37,7 +37,7 @@ pub(crate) trait Carried: Table {
     ghost over: { IsTransfer Self.table Self.Next.table transfer };
 }
 
-/// Such a row under a number, by which the rows can be read page by page.
+/// Such a row under a number, by which the rows can be read batch by batch.
 pub(crate) trait CarriedByNumber: Carried + Numbered {
     ghost by_key: { (r : Self) → Self.Numbered.number_of r ≡ Self.Carried.transfer.key_of r };
 }
@@ -125,17 +125,17 @@ impl Carried for RuleRow1 {
     ghost over = { rules_carried };
 }
 
-/// Carries over the rows of a page. 91.
-fn carry_page<R: Carried, S: Alter>(tx: &mut Transaction<'_, S>, page: &[R]) -> Result<(), Fault>
-    ensures { MovesPage R.table R.Next.table R.transfer page.now S.Store tx.old tx.new result }
+/// Carries over the rows of a batch. 91.
+fn carry_batch<R: Carried, S: Alter>(tx: &mut Transaction<'_, S>, batch: &[R]) -> Result<(), Fault>
+    ensures { MovesBatch R.table R.Next.table R.transfer batch.now S.Store tx.old tx.new result }
 {
-    'rows: for row in page {
+    'rows: for row in batch {
         row.carry(tx)?;
     }
     Ok(())
 }
 
-/// Carries over all rows of a table, page by page. 90, 91, 93.
+/// Carries over all rows of a table, batch by batch. 90, 91, 93.
 fn carry_all<R: CarriedByNumber, S: Alter>(
     tx: &mut Transaction<'_, S>,
     alloc: Global,
@@ -144,13 +144,13 @@ fn carry_all<R: CarriedByNumber, S: Alter>(
     ensures { CarriesAll R.table R.Next.table R.transfer S.Store tx.old tx.new result }
 {
     let mut after = None;
-    'pages: for _page in 0..u64::MAX {
-        let page = next_rows_inside::<R, S>(tx, alloc, memory, after)?;
-        match last_of(page.as_slice()) {
+    'batches: for _batch in 0..u64::MAX {
+        let batch = next_rows_inside::<R, S>(tx, alloc, memory, after)?;
+        match last_of(batch.as_slice()) {
             Some(last) => after = Some(last),
             None => return Ok(()),
         }
-        carry_page(tx, page.as_slice())?;
+        carry_batch(tx, batch.as_slice())?;
     }
     Ok(())
 }
@@ -161,7 +161,7 @@ fn carry_rules<S: Alter>(tx: &mut Transaction<'_, S>, alloc: Global) -> Result<(
     ensures { CarriesAll rules1 rules rules_transfer S.Store tx.old tx.new result }
 {
     let old = rules_inside(tx, alloc)?;
-    carry_page(tx, old.as_slice())
+    carry_batch(tx, old.as_slice())
 }
 
 /// Names the schema in the row of `meta`. 91, 93.
@@ -175,9 +175,9 @@ fn name_schema<S: Alter>(tx: &mut Transaction<'_, S>, schema: u32) -> Result<u32
     Ok(schema)
 }
 
-/// Leads the tables of schema 1 to those of schema 2, which has holds with a first day. 90, 91, 93.
-fn lead_to_2<S: Alter>(tx: &mut Transaction<'_, S>, alloc: Global) -> Result<u32, Fault>
-    ensures leads { LeadsFrom 1 S.Store tx.old tx.new result }
+/// Migrates the tables of schema 1 to those of schema 2, which has holds with a first day. 90, 91, 93.
+fn migrate_to_2<S: Alter>(tx: &mut Transaction<'_, S>, alloc: Global) -> Result<u32, Fault>
+    ensures migrates { MigratesFrom 1 S.Store tx.old tx.new result }
     ensures told { IfOk result (λ told. told ≡ 2) }
 {
     make_second(tx)?;
@@ -185,10 +185,10 @@ fn lead_to_2<S: Alter>(tx: &mut Transaction<'_, S>, alloc: Global) -> Result<u32
     name_schema(tx, 2)
 }
 
-/// Leads the tables of schema 2 to those of schema 3, which has rules and loans with grace days.
+/// Migrates the tables of schema 2 to those of schema 3, which has rules and loans with grace days.
 /// 90, 91, 93.
-fn lead_to_3<S: Alter>(tx: &mut Transaction<'_, S>, alloc: Global) -> Result<u32, Fault>
-    ensures leads { LeadsFrom 2 S.Store tx.old tx.new result }
+fn migrate_to_3<S: Alter>(tx: &mut Transaction<'_, S>, alloc: Global) -> Result<u32, Fault>
+    ensures migrates { MigratesFrom 2 S.Store tx.old tx.new result }
     ensures told { IfOk result (λ told. told ≡ 3) }
 {
     make_third(tx)?;
@@ -200,12 +200,12 @@ fn lead_to_3<S: Alter>(tx: &mut Transaction<'_, S>, alloc: Global) -> Result<u32
 /// Makes the step that leads on from the schema that the tables have, and answers which they have
 /// then; those of the newest schema are left as they are. 90, 91; 93 also where the schema is not
 /// known.
-fn lead_on<S: Alter>(tx: &mut Transaction<'_, S>, alloc: Global) -> Result<u32, Fault>
-    ensures { LeadsOnInside S.Store tx.old tx.new result }
+fn migrate_on<S: Alter>(tx: &mut Transaction<'_, S>, alloc: Global) -> Result<u32, Fault>
+    ensures { MigratesOnInside S.Store tx.old tx.new result }
 {
     match schema_inside(tx)? {
-        1 => lead_to_2(tx, alloc),
-        2 => lead_to_3(tx, alloc),
+        1 => migrate_to_2(tx, alloc),
+        2 => migrate_to_3(tx, alloc),
         SCHEMA => Ok(SCHEMA),
         _ => Err(Fault::Stored),
     }
@@ -217,9 +217,9 @@ pub(crate) fn step<S: Alter>(conn: &mut Connection<S>, alloc: Global) -> Result<
     requires { conn.old.in_transaction ≡ false }
     ensures { StepsOn S.Store conn.old conn.new result }
 {
-    holds_committed(conn);
+    committed_is_held(conn);
     let mut tx = conn.transaction();
-    let schema = lead_on(&mut tx, alloc)?;
+    let schema = migrate_on(&mut tx, alloc)?;
     match tx.commit() {
         Ok(()) => Ok(schema),
         Err(_) => Err(Fault::Database),
@@ -232,6 +232,6 @@ pub(crate) fn schema<S: Alter>(conn: &mut Connection<S>) -> Result<u32, Fault>
     requires { conn.old.in_transaction ≡ false }
     ensures { TellsSchema S.Store conn.old conn.new result }
 {
-    holds_committed(conn);
+    committed_is_held(conn);
     schema_of(conn)
 }

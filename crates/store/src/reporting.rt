@@ -1,13 +1,13 @@
-//! The rows that pages and reports show.
+//! The rows that patrons' pages and reports show.
 
 ghost use Rattle.std.specs.Prelude.{◌≡◌};
 ghost use Rattle.terms.specs.Limits.{InLimits};
 ghost use Rattle.circ_core.specs.Views.{IsCalendarOf};
 ghost use Rattle.store.specs.Lists.{AreLoansBy, AreHoldsBy};
-ghost use Rattle.store.specs.Pages.{AreReadyAfter, AreOverdueAfter, AreLinesAfter};
+ghost use Rattle.store.specs.Batches.{AreReadyAfter, AreOverdueAfter, AreLinesAfter};
 ghost use Rattle.store.specs.Reads.{Looked, IsReadable};
 
-use crate::idle::holds_committed;
+use crate::idle::committed_is_held;
 use crate::store::Store;
 use crate::viewing::calendar_of;
 use calendar::{Calendar, Day};
@@ -28,7 +28,7 @@ impl<S: Alter> Store<S> {
         ensures { Looked InLimits (λ P rows. AreLoansBy P patron rows.items) InLimits
             S.Store self.old self.new result }
     {
-        holds_committed(&self.conn);
+        committed_is_held(&self.conn);
         open_loans_by(&mut self.conn, alloc, patron)
     }
 
@@ -37,11 +37,11 @@ impl<S: Alter> Store<S> {
         ensures { Looked InLimits (λ P rows. AreHoldsBy P patron rows.items) InLimits
             S.Store self.old self.new result }
     {
-        holds_committed(&self.conn);
+        committed_is_held(&self.conn);
         active_holds_by(&mut self.conn, alloc, patron)
     }
 
-    /// A page of the ready holds with this pick-up branch whose numbers are above this one, the
+    /// A batch of the ready holds with this pick-up branch whose numbers are above this one, the
     /// least number first. Holds are numbered from 1. 90, 91, 93.
     pub fn ready_holds(
         &mut self,
@@ -52,11 +52,11 @@ impl<S: Alter> Store<S> {
         ensures { Looked InLimits (λ P rows. AreReadyAfter P branch after rows.items) InLimits
             S.Store self.old self.new result }
     {
-        holds_committed(&self.conn);
+        committed_is_held(&self.conn);
         ready_holds_after(&mut self.conn, alloc, branch, after)
     }
 
-    /// A page of the open loans that the branch made, that were due before the day and whose
+    /// A batch of the open loans that the branch made, that were due before the day and whose
     /// numbers are above this one, the least number first. Loans are numbered from 1. 90, 91, 93.
     pub fn overdue_loans(
         &mut self,
@@ -68,17 +68,17 @@ impl<S: Alter> Store<S> {
         ensures { Looked InLimits (λ P rows. AreOverdueAfter P branch day after rows.items) InLimits
             S.Store self.old self.new result }
     {
-        holds_committed(&self.conn);
+        committed_is_held(&self.conn);
         overdue_loans_after(&mut self.conn, alloc, branch, day, after)
     }
 
-    /// A page of the lines of a day, of all sorts, whose numbers are above this one, the least
+    /// A batch of the lines of a day, of all sorts, whose numbers are above this one, the least
     /// number first. Lines are numbered from 1. 90, 91, 93.
     pub fn lines(&mut self, alloc: Global, day: Day, after: LineId) -> Result<Vec<LineRow>, Fault>
         ensures { Looked InLimits (λ P rows. AreLinesAfter P day after rows.items) InLimits
             S.Store self.old self.new result }
     {
-        holds_committed(&self.conn);
+        committed_is_held(&self.conn);
         lines_after(&mut self.conn, alloc, day, after)
     }
 
@@ -87,7 +87,7 @@ impl<S: Alter> Store<S> {
         ensures { Looked InLimits (λ P row. row ≡ P.meta) InLimits
             S.Store self.old self.new result }
     {
-        holds_committed(&self.conn);
+        committed_is_held(&self.conn);
         get_meta(&mut self.conn)
     }
 
@@ -96,7 +96,7 @@ impl<S: Alter> Store<S> {
         ensures { Looked InLimits (λ P row. row ≡ P.branches branch) InLimits
             S.Store self.old self.new result }
     {
-        holds_committed(&self.conn);
+        committed_is_held(&self.conn);
         get_row::<BranchRow, S>(&mut self.conn, alloc, branch)
     }
 
@@ -105,7 +105,7 @@ impl<S: Alter> Store<S> {
         ensures { Looked InLimits (λ P row. row ≡ P.titles title) InLimits
             S.Store self.old self.new result }
     {
-        holds_committed(&self.conn);
+        committed_is_held(&self.conn);
         get_row::<TitleRow, S>(&mut self.conn, alloc, title)
     }
 
@@ -114,7 +114,7 @@ impl<S: Alter> Store<S> {
         ensures { Looked InLimits (λ P row. row ≡ P.copies copy) InLimits
             S.Store self.old self.new result }
     {
-        holds_committed(&self.conn);
+        committed_is_held(&self.conn);
         get_row::<CopyRow, S>(&mut self.conn, (), copy)
     }
 
@@ -123,7 +123,7 @@ impl<S: Alter> Store<S> {
         ensures { Looked InLimits (λ P calendar. IsCalendarOf P branch calendar) IsReadable
             S.Store self.old self.new result }
     {
-        holds_committed(&self.conn);
+        committed_is_held(&self.conn);
         calendar_of(&mut self.conn, alloc, branch)
     }
 }

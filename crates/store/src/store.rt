@@ -14,7 +14,7 @@ ghost use Rattle.circ_tables.specs.Patrons.{patrons};
 ghost use Rattle.circ_tables.specs.Loans.{loans};
 ghost use Rattle.circ_tables.specs.Holds.{holds};
 
-use crate::idle::holds_committed;
+use crate::idle::committed_is_held;
 use crate::{changing, migrating, viewing};
 use circ_core::{Changes, View};
 use circ_tables::{KeptReply, get_kept, get_row, schema_of, second_begin};
@@ -98,7 +98,7 @@ impl<S: Alter> Store<S> {
             S.Store self.old self.new result }
         ensures only { IfOk result (HasOnly command.now) }
     {
-        holds_committed(&self.conn);
+        committed_is_held(&self.conn);
         viewing::view_for(&mut self.conn, alloc, command)
     }
 
@@ -118,7 +118,7 @@ impl<S: Alter> Store<S> {
         migrating::schema(&mut self.conn)
     }
 
-    /// Leads a library of an older schema to the newest one, in one transaction for each schema
+    /// Migrates a library of an older schema to the newest one, in one transaction for each schema
     /// between; one of the newest stays as it is. 90, 91; 93 where the schema is not known, or a
     /// stored row lies out of its limits. After a fault the steps that were made stand, and the one
     /// that met it changed nothing. Memory doesn't grow with the library, beyond what the database
@@ -126,7 +126,7 @@ impl<S: Alter> Store<S> {
     pub fn migrate(&mut self, alloc: Global) -> Result<(), Fault>
         ensures { Migrates S.Store self.old self.new result }
     {
-        holds_committed(&self.conn);
+        committed_is_held(&self.conn);
         if migrating::step(&mut self.conn, alloc)? < SCHEMA {
             migrating::step(&mut self.conn, alloc)?;
         }
@@ -139,7 +139,7 @@ impl<S: Alter> Store<S> {
             (λ P kept. kept ≡ option_map reply_of (P.kept owner key.now))
             (λ P. InLimits P × IsOwner owner) S.Store self.old self.new result }
     {
-        holds_committed(&self.conn);
+        committed_is_held(&self.conn);
         get_kept(&mut self.conn, owner, key)
     }
 
@@ -147,7 +147,7 @@ impl<S: Alter> Store<S> {
     pub fn patron(&mut self, alloc: Global, patron: PatronId) -> Result<Option<PatronRow>, Fault>
         ensures { Finds patrons patron S.Store self.old self.new result }
     {
-        holds_committed(&self.conn);
+        committed_is_held(&self.conn);
         get_row::<PatronRow, S>(&mut self.conn, alloc, patron)
     }
 
@@ -155,7 +155,7 @@ impl<S: Alter> Store<S> {
     pub fn loan(&mut self, loan: LoanId) -> Result<Option<LoanRow>, Fault>
         ensures { Finds loans loan S.Store self.old self.new result }
     {
-        holds_committed(&self.conn);
+        committed_is_held(&self.conn);
         get_row::<LoanRow, S>(&mut self.conn, (), loan)
     }
 
@@ -163,7 +163,7 @@ impl<S: Alter> Store<S> {
     pub fn hold(&mut self, hold: HoldId) -> Result<Option<HoldRow>, Fault>
         ensures { Finds holds hold S.Store self.old self.new result }
     {
-        holds_committed(&self.conn);
+        committed_is_held(&self.conn);
         get_row::<HoldRow, S>(&mut self.conn, (), hold)
     }
 

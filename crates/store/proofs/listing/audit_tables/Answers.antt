@@ -1,4 +1,4 @@
-use Rattle.store.proofs.PagedRows.{open_pass}
+use Rattle.store.proofs.BatchedRows.{open_pass}
 use Rattle.store.proofs.ReviewLemmas.{◌⨟◌, faults, tells}
 use Rattle.store.proofs.listing.audit_tables.Goals as goal
 

@@ -1,4 +1,4 @@
-use Rattle.store.proofs.LeadLemmas.{names_unread, names_put, names_not_put}
+use Rattle.store.proofs.PartsOfSteps.{names_unread, names_put, names_not_put}
 use Rattle.store.proofs.migrating.name_schema.Goals as goal
 
 pub returns-in_err-meta-clause-named : goal.returns-in_err-meta-clause-named

@@ -3,7 +3,7 @@ use Rattle.sqlite.specs.Held.{state}
 use Rattle.circ_tables.specs.SchemaNumber.{NamesSchema}
 use Rattle.circ_tables.proofs.InverseLemmas.{schema_told}
 use Rattle.store.proofs.OpenLemmas.{of_known}
-use Rattle.store.proofs.StepLemmas.{can_be_told}
+use Rattle.store.proofs.SchemaSteps.{can_be_told}
 use Rattle.store.proofs.StopLemmas.{if_ok}
 use Rattle.store.proofs.migrating.schema.Goals as goal
 
@@ -11,7 +11,7 @@ pub returns : goal.returns
 returns g c =
     let old = state g.S.Store c.args.conn.now in
     let undone = c.schema_of.ensures.undone (search rules) in
-    let settled : IsTrue old.is_open → old.now ≡ old.committed = c.holds_committed.ensures in
+    let settled : IsTrue old.is_open → old.now ≡ old.committed = c.committed_is_held.ensures in
     record {
       clean = λ clean. omega (arith, undone.survives.clean);
       idle = undone.idle;

@@ -10,7 +10,7 @@ returns-in-Ok g c = record {
   copied = λ honest P keeps image may.
       let it = rw c.into_connection.ensures.same at (c.in-Ok.ensures.copied honest) in
       let was = file_state c.args.self in
-      let settled : IsTrue was.is_open → was.now ≡ was.committed = rw c.self.view_is at (c.holds_committed.ensures) in
+      let settled : IsTrue was.is_open → was.now ≡ was.committed = rw c.self.view_is at (c.committed_is_held.ensures) in
       let shown : HasPicture was.committed P = subst (λ d. HasPicture d P) (settled it.was_open) keeps.now in
       let held = it.left image may in
       (∥∥₁_map held.both (λ one. (was.committed, shown, one)), ∥∥₁_map held.alone (λ one. (was.committed, shown, one)));

@@ -1,6 +1,6 @@
 use Rattle.std.proofs.Common.{arith}
 use Rattle.circ_tables.specs.Shape.{has_second}
-use Rattle.store.proofs.Steps.{changes_then, changes_failed}
+use Rattle.store.proofs.ChangeSteps.{changes_then, changes_failed}
 use Rattle.store.proofs.migrating.HoldRow1Carried.carry.Goals as goal
 
 pub returns-in_err-put_row : goal.returns-in_err-put_row

@@ -1,6 +1,6 @@
 use Rattle.std.proofs.Common.{arith}
 use Rattle.circ_tables.specs.Shape.{has_third}
-use Rattle.store.proofs.Steps.{changes_then, changes_failed}
+use Rattle.store.proofs.ChangeSteps.{changes_then, changes_failed}
 use Rattle.store.proofs.migrating.RuleRow1Carried.carry.Goals as goal
 
 pub returns-in_err-put_rule : goal.returns-in_err-put_rule

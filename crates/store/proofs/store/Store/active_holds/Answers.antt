@@ -10,4 +10,4 @@ pub returns : goal.returns
 returns g c =
     looked_list holds (λ l. l.items) (λ m. Listed m (is_active_by c.args.patron)) (λ P rows. AreHoldsBy P c.args.patron rows)
     (λ maps P is legal. holds_by_are maps P is legal c.args.patron) g.S.Store _ _ _
-    (rw c.self.view_is at (c.holds_committed.ensures)) (rw c.self.view_is at c.active_holds_by.ensures)
+    (rw c.self.view_is at (c.committed_is_held.ensures)) (rw c.self.view_is at c.active_holds_by.ensures)

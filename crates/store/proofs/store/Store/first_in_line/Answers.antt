@@ -10,4 +10,4 @@ pub returns : goal.returns
 returns g c =
     let found = rw c.self.view_is at c.first_in_line.ensures in
     looked_sound (λ P first. c.args.today ≡ P.meta.today → IsFirstOf P c.args.title first) g.S.Store _ _ _
-    (rw c.self.view_is at (c.holds_committed.ensures)) (first_seen found) (selects_sound (are_encoded holds_are) found)
+    (rw c.self.view_is at (c.committed_is_held.ensures)) (first_seen found) (selects_sound (are_encoded holds_are) found)

@@ -1,4 +1,4 @@
-use Rattle.store.proofs.StepLemmas.{one_step, two_steps, first_failed, second_failed}
+use Rattle.store.proofs.SchemaSteps.{one_step, two_steps, first_failed, second_failed}
 use Rattle.store.proofs.store.Store.migrate.Goals as goal
 
 pub returns-in_err-step : goal.returns-in_err-step

@@ -8,5 +8,5 @@ use Rattle.store.proofs.store.Store.transit_for.Goals as goal
 pub returns : goal.returns
 returns g c =
     let found = rw c.self.view_is at c.transit_for.ensures in
-    looked_sound (λ P row. IsTravelFor P c.args.hold row) g.S.Store _ _ _ (rw c.self.view_is at (c.holds_committed.ensures))
+    looked_sound (λ P row. IsTravelFor P c.args.hold row) g.S.Store _ _ _ (rw c.self.view_is at (c.committed_is_held.ensures))
     (travel_seen found) (selects_sound (are_encoded transits_are) found)

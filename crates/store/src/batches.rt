@@ -1,0 +1,146 @@
+//! Tables that grow with the library, which are read batch by batch.
+
+ghost use Rattle.std.specs.Prelude.{◌≡◌, ◌++◌, true, filter, option_map, slice_get, length};
+ghost use Rattle.std.specs.Prelude.{◌-◌, OnOk, IfErr};
+ghost use Rattle.sql_maps.specs.Maps.{PairBelow};
+ghost use Rattle.circ_tables.specs.Cells.{kept_cells};
+ghost use Rattle.circ_tables.specs.Kept.{kept};
+ghost use Rattle.circ_tables.specs.Reading.{Views};
+ghost use Rattle.store.specs.Lists.{AreRows};
+ghost use Rattle.store.specs.Legal.{HasLegal, Reviews, OverMaps, IsKeptBatch};
+ghost use Rattle.store.specs.Batches.{IsPassedOver};
+
+use circ_tables::{Numbered, first_kept, kept_after, kept_past, next_rows};
+use sqlite::{Alter, Connection};
+use std::alloc::Global;
+use terms::{Fault, KeptRow, LoanRow, Rows};
+
+/// Which of the rows that are read are kept.
+pub(crate) trait Sift<R> {
+    ghost use Rattle.std.specs.Prelude.{◌≡◌, Bool};
+
+    ghost test: { R → Bool };
+
+    /// Whether a row is kept.
+    fn keeps(row: &R) -> bool
+        ensures { result ≡ test row.now };
+}
+
+/// Each row is kept.
+pub(crate) struct EachRow;
+
+impl<R> Sift<R> for EachRow {
+    ghost use Rattle.std.specs.Prelude.{true};
+
+    ghost test = { λ _. true };
+
+    fn keeps(_row: &R) -> bool {
+        true
+    }
+}
+
+/// None is: the rows are only read.
+pub(crate) struct NoRow;
+
+impl<R> Sift<R> for NoRow {
+    ghost use Rattle.std.specs.Prelude.{false};
+
+    ghost test = { λ _. false };
+
+    fn keeps(_row: &R) -> bool {
+        false
+    }
+}
+
+/// The open loans are kept.
+pub(crate) struct OpenLoans;
+
+impl Sift<LoanRow> for OpenLoans {
+    ghost use Rattle.std.specs.Prelude.{is_none};
+
+    ghost test = { λ r. is_none r.ended };
+
+    fn keeps(row: &LoanRow) -> bool {
+        row.ended.is_none()
+    }
+}
+
+/// The number of the last row of a batch, if it has any.
+pub(crate) fn last_of<R: Numbered>(batch: &[R]) -> Option<u32>
+    ensures { result ≡ option_map R.number_of (slice_get batch.now (length batch.now - 1)) }
+{
+    match batch.last() {
+        Some(row) => Some(row.number()),
+        None => None,
+    }
+}
+
+/// Keeps the rows of a batch that are to be kept, after those before them. 90.
+fn keep_batch<R: Numbered, F: Sift<R>>(kept: &mut Vec<R>, batch: Vec<R>) -> Result<(), Fault>
+    ensures kept { OnOk result (kept.new.items ≡ kept.old.items ++ filter F.test batch.items) }
+    ensures fault { IfErr result (λ fault. fault ≡ Fault.Memory) }
+{
+    for row in batch {
+        if F::keeps(&row) {
+            kept.push(row)?;
+        }
+    }
+    Ok(())
+}
+
+/// The rows of a table that are to be kept, the least number first. All rows are read, batch by
+/// batch. 90, 91, 93.
+pub(crate) fn read_batches<R: Numbered, F: Sift<R>, S: Alter>(
+    conn: &mut Connection<S>,
+    alloc: Global,
+    memory: R::Memory,
+) -> Result<Rows<R>, Fault>
+    ensures { Reviews
+        (λ P rows. AreRows (R.table.rows P) R.number_of (λ r. F.test r ≡ true) rows)
+        (HasLegal R.table) S.Store conn.old conn.new result }
+{
+    let mut kept = Vec::new(alloc);
+    let mut after = None;
+    'batches: for _batch in 0..u64::MAX {
+        let batch = next_rows::<R, S>(conn, alloc, memory, after)?;
+        match last_of(batch.as_slice()) {
+            Some(last) => after = Some(last),
+            None => return Rows::new(kept),
+        }
+        keep_batch::<R, F>(&mut kept, batch)?;
+    }
+    Rows::new(kept)
+}
+
+/// The batch of what is kept after this row. 90, 91, 93.
+fn next_kept<S: Alter>(
+    conn: &mut Connection<S>,
+    alloc: Global,
+    last: &KeptRow,
+) -> Result<Vec<KeptRow>, Fault>
+    ensures view { Views IsPassedOver S.Store conn.old conn.new result }
+    ensures batch { OverMaps (λ batch. IsKeptBatch (PairBelow (kept_cells last.now)) batch.items)
+        S.Store conn.old conn.new result }
+{
+    let more = kept_after(conn, alloc, last.caller, &last.key)?;
+    if more.is_empty() {
+        kept_past(conn, alloc, last.caller)
+    } else {
+        Ok(more)
+    }
+}
+
+/// Reads all that is kept, batch by batch, and keeps none of it. 90, 91, 93. After 2^64 - 1 batches it
+/// gives up with 91: nothing says that no table has as many.
+pub(crate) fn pass_over_kept<S: Alter>(conn: &mut Connection<S>, alloc: Global) -> Result<(), Fault>
+    ensures { Reviews IsPassedOver (HasLegal kept) S.Store conn.old conn.new result }
+{
+    let mut batch = first_kept(conn, alloc)?;
+    'kept: for _batch in 0..u64::MAX {
+        let Some(last) = batch.last() else {
+            return Ok(());
+        };
+        batch = next_kept(conn, alloc, last)?;
+    }
+    Err(Fault::Database)
+}
