@@ -17,7 +17,7 @@ use Rattle.terms.specs.declared.row.HoldState.TheVariants.{Waiting}
 use Rattle.circ_core.specs.Views.{InLine}
 use Rattle.circ_core.proofs.Claims.{hold_row-is}
 use Rattle.circ_core.proofs.FirstInLine.{stands, stands-row, row-stands}
-use Rattle.store.specs.Pages.{AreFirstRows}
+use Rattle.store.specs.Batches.{AreFirstRows}
 use Rattle.model.specs.History.{History, CopyFacts, copy_of, copy_after, copies, copies_after, PatronFacts, patron_of, patron_after, patrons}
 use Rattle.model.specs.History.{patrons_after, HoldFacts, hold_of, holds, numbers_to}
 use Rattle.model.specs.Places.{Place, Nowhere, Shelf, HoldShelf, Transit, Loan, MissingCopy, WithdrawnCopy, place, state, line, title_of_copy, title_of_hold}
@@ -29,29 +29,29 @@ use Rattle.model.specs.Asking.{pulls_list, pulled_for, is_first, first_of, is_sh
 use Rattle.model.specs.AskingLaws.{AreRising, has_number}
 use Rattle.model.proofs.Debts.{rising-has, enrolled-has}
 use Rattle.model.proofs.Members.{has, filter-has, filter-passes, numbers-has, or-right}
-use Rattle.desk.specs.Listing.{HasPage}
+use Rattle.desk.specs.Listing.{HasBatch}
 use Rattle.desk.proofs.Listings.{row-has}
 
--- ---- a page of a table
+-- ---- a batch of a table
 
 module _ {R : Type 0} (t : ℕ → Option R) (number_of : R → ℕ) (Passes : R → Type 0) (x : Listing)
     (numbered : (k : ℕ) (r : R) → t k ≡ Some r → number_of r ≡ k)
     (from : (k : ℕ) → has_number x.numbers k → (r : R) × (t k ≡ Some r) × Passes r) (rising_numbers : AreRising x.numbers) where
-  -- The first rows that pass, from above a number on, are a page of a list whose numbers are all those of rows that pass.
-  pub page-of : (PassesAfter : R → Type 0) (at : ℕ) (rows : List R) → ((r : R) → PassesAfter r → Passes r × (at < number_of r))
+  -- The first rows that pass, from above a number on, are a batch of a list whose numbers are all those of rows that pass.
+  pub batch-of : (PassesAfter : R → Type 0) (at : ℕ) (rows : List R) → ((r : R) → PassesAfter r → Passes r × (at < number_of r))
       → ((r : R) → Passes r → at < number_of r → PassesAfter r) → AreFirstRows t number_of PassesAfter rows
-      → HasPage number_of (λ r. (t (number_of r) ≡ Some r) × Passes r) x at rows
-  page-of PassesAfter at rows fine back page = record {
-    sound = λ r there. let is = page.sound r there in let passes = fine r is.1 in ((is.0, passes.0), passes.1);
+      → HasBatch number_of (λ r. (t (number_of r) ≡ Some r) × Passes r) x at rows
+  batch-of PassesAfter at rows fine back batch = record {
+    sound = λ r there. let is = batch.sound r there in let passes = fine r is.1 in ((is.0, passes.0), passes.1);
     whole = λ k is less.
         let w : (r : R) × (t k ≡ Some r) × Passes r = from k is in
         let same : number_of w.0 ≡ k = numbered k w.0 w.1 in
-        elim (page.whole k w.0 w.1 (back w.0 w.2 (subst (λ (m : ℕ). at < m) (sym same) less))) [
+        elim (batch.whole k w.0 w.1 (back w.0 w.2 (subst (λ (m : ℕ). at < m) (sym same) less))) [
           | inl there ↦ inl (subst (λ (m : ℕ). has (map number_of rows) m ≡ true) same (row-has number_of rows w.0 there))
           | inr rest ↦ inr rest
         ];
-    rise = page.rise;
-    few = page.few;
+    rise = batch.rise;
+    few = batch.few;
     rising = rising_numbers;
   }
 

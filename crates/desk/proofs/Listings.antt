@@ -6,7 +6,7 @@ use Rattle.std.specs.Prelude.{Some, option_map, codes, decimal}
 use Rattle.std.specs.List.{Contains, join_with_byte}
 use Rattle.std.proofs.lemmas.Bool.{eqb-true, eq-eqb, ne_eqb, ltb-true, lt-ltb, le-ltb, or_cases, cases_lt, cases_eq}
 use Rattle.std.proofs.lemmas.List.{map-append, length-append, length-take-le, take_all, take-append-le}
-use Rattle.circ_tables.specs.declared.by_number.TheConstants.{PAGE_ROWS}
+use Rattle.circ_tables.specs.declared.by_number.TheConstants.{BATCH_ROWS}
 use Rattle.terms.specs.Orders.{Rise}
 use Rattle.terms.specs.declared.limits.TheConstants.{MOST_ROWS}
 use Rattle.model.specs.Asking.{Listing, above, last_of, listed, end_line}
@@ -14,7 +14,7 @@ use Rattle.model.specs.AskingLaws.{Rises, AreRising, has_number}
 use Rattle.model.specs.Pages.{spaced}
 use Rattle.model.specs.Reports.{report_lines}
 use Rattle.model.proofs.Members.{has}
-use Rattle.desk.specs.Listing.{HasPage, IsAdded, IsTold, HasTold, IsSoFar, end_words}
+use Rattle.desk.specs.Listing.{HasBatch, IsAdded, IsTold, HasTold, IsSoFar, end_words}
 use Rattle.desk.specs.declared.listing.Part.{Part}
 use Rattle.desk.proofs.Contained.{in-head, in-tail, in-cases, in-none, above-first}
 use Rattle.desk.proofs.ReportLines.{report-more, report-last}
@@ -182,7 +182,7 @@ row-so-far x after at n start old new rising less between (inr none) so_far = re
   told = subst (HasTold x start so_far.front) (sym none.1) so_far.told;
 }
 
--- ---- the rows of a page
+-- ---- the rows of a batch
 
 -- Rising numbers among which all of the others are that are above a number, or the others come after them.
 record Covers (xs : List ℕ) (at : ℕ) (ns : List ℕ) : Type 0 where
@@ -234,10 +234,10 @@ module _ {R : Type 0} (number_of : R → ℕ) where
   ]
 
   module _ (Is : R → Type 0) (x : Listing) where
-    covers : (at : ℕ) (rows : List R) → HasPage number_of Is x at rows → Covers x.numbers at (map number_of rows)
-    covers at rows page = record {
-      rises = rises-rows at rows (λ r there. (page.sound r there).1) page.rise;
-      whole = λ k there more. elim (page.whole k there more) [
+    covers : (at : ℕ) (rows : List R) → HasBatch number_of Is x at rows → Covers x.numbers at (map number_of rows)
+    covers at rows batch = record {
+      rises = rises-rows at rows (λ r there. (batch.sound r there).1) batch.rise;
+      whole = λ k there more. elim (batch.whole k there more) [
         | inl is ↦ inl is
         | inr rest ↦ inr (λ m is. let it = has-row rows m is in subst (λ (j : ℕ). j < k) it.2 (rest.1 it.0 it.1))
       ];
@@ -259,28 +259,28 @@ module _ {R : Type 0} (number_of : R → ℕ) where
         let next : suc i + 1 ≡ suc (i + 1) = omega arith in
         (it.0, it.1, subst (λ (n : ℕ). reached at (take n (y ∷ rows)) ≡ number_of r) (sym next) it.2)
 
-    pub turn-of : (i : ℕ) (at : ℕ) (rows : List R) (r : R) → i < length rows → r ≡ slice_index_or rows i r → HasPage number_of Is x at rows
+    pub turn-of : (i : ℕ) (at : ℕ) (rows : List R) (r : R) → i < length rows → r ≡ slice_index_or rows i r → HasBatch number_of Is x at rows
         → (reached at (take i rows) < number_of r) × ((k : ℕ) → has_number x.numbers k → reached at (take i rows) < k → number_of r ≤ k)
         × (number_of r ≡ reached at (take (i + 1) rows))
-    turn-of i at rows r lt e page = let it = turn i at rows r lt e (covers at rows page) in (it.0, it.1, sym it.2)
+    turn-of i at rows r lt e batch = let it = turn i at rows r lt e (covers at rows batch) in (it.0, it.1, sym it.2)
 
-    -- Nothing of the list is left after a page that isn't full.
-    pub page-ends : (at : ℕ) (rows : List R) → HasPage number_of Is x at rows → length rows < PAGE_ROWS → above (reached at rows) x.numbers ≡ []
-    page-ends at rows page short = above-none (reached at rows) x.numbers (λ k there. elim (cases_lt at k) [
-      | inl more ↦ elim (page.whole k there more) [
-        | inl is ↦ rises-last at k (map number_of rows) (covers at rows page).rises (inr is)
-        | inr rest ↦ (let all : length rows ≡ PAGE_ROWS = rest.0 in absurd (omega (arith, all, short)))
+    -- Nothing of the list is left after a batch that isn't full.
+    pub batch-ends : (at : ℕ) (rows : List R) → HasBatch number_of Is x at rows → length rows < BATCH_ROWS → above (reached at rows) x.numbers ≡ []
+    batch-ends at rows batch short = above-none (reached at rows) x.numbers (λ k there. elim (cases_lt at k) [
+      | inl more ↦ elim (batch.whole k there more) [
+        | inl is ↦ rises-last at k (map number_of rows) (covers at rows batch).rises (inr is)
+        | inr rest ↦ (let all : length rows ≡ BATCH_ROWS = rest.0 in absurd (omega (arith, all, short)))
       ]
-      | inr low ↦ (let le : at ≤ reached at rows = rises-last at at (map number_of rows) (covers at rows page).rises (inl refl) in omega (arith, low, le))
+      | inr low ↦ (let le : at ≤ reached at rows = rises-last at at (map number_of rows) (covers at rows batch).rises (inl refl) in omega (arith, low, le))
     ])
 
-    -- The last row of a page has the greatest number.
-    pub page-last : (at last : ℕ) (rows : List R) → option_map number_of (slice_get rows (length rows - 1)) ≡ Some last → reached at rows ≡ last
-    page-last at last [] e = let never : ⊥ = cc in absurd never
-    page-last at last (r ∷ []) e = cc
-    page-last at last (r ∷ s ∷ rows) e =
+    -- The last row of a batch has the greatest number.
+    pub batch-last : (at last : ℕ) (rows : List R) → option_map number_of (slice_get rows (length rows - 1)) ≡ Some last → reached at rows ≡ last
+    batch-last at last [] e = let never : ⊥ = cc in absurd never
+    batch-last at last (r ∷ []) e = cc
+    batch-last at last (r ∷ s ∷ rows) e =
         let same : length (r ∷ s ∷ rows) - 1 ≡ suc (length (s ∷ rows) - 1) = omega arith in
-        page-last (number_of r) last (s ∷ rows) (subst (λ (i : ℕ). option_map number_of (slice_get (r ∷ s ∷ rows) i) ≡ Some last) same e)
+        batch-last (number_of r) last (s ∷ rows) (subst (λ (i : ℕ). option_map number_of (slice_get (r ∷ s ∷ rows) i) ≡ Some last) same e)
 
 -- ---- the answer
 
@@ -315,26 +315,26 @@ told-all x after at start part (inl none) so_far =
 told-all x after at start part (inr more) so_far =
     subst (λ (ns : List ℕ). HasTold x start ns part) (sym so_far.split) (told-enough x start so_far.front (above at x.numbers) part more so_far.told)
 
--- After a page that isn't full, or once there are more than an answer shows, all was told.
+-- After a batch that isn't full, or once there are more than an answer shows, all was told.
 pub told-end : {R : Type 0} (number_of : R → ℕ) (Is : R → Type 0) (x : Listing) (after at : ℕ) (start : List ℕ) (part : Part) (rows : List R)
-    → HasPage number_of Is x at rows → (length rows < PAGE_ROWS) ⊎ (part.more ≡ true) → IsSoFar x after (last_of at (map number_of rows)) start part
+    → HasBatch number_of Is x at rows → (length rows < BATCH_ROWS) ⊎ (part.more ≡ true) → IsSoFar x after (last_of at (map number_of rows)) start part
     → HasTold x start (above after x.numbers) part
-told-end number_of Is x after at start part rows page (inl short) so_far =
-    told-all x after (last_of at (map number_of rows)) start part (inl (page-ends number_of Is x at rows page short)) so_far
-told-end number_of Is x after at start part rows page (inr more) so_far =
+told-end number_of Is x after at start part rows batch (inl short) so_far =
+    told-all x after (last_of at (map number_of rows)) start part (inl (batch-ends number_of Is x at rows batch short)) so_far
+told-end number_of Is x after at start part rows batch (inr more) so_far =
     told-all x after (last_of at (map number_of rows)) start part (inr more) so_far
 
 -- After one that is, the next begins at its last number, which is above the one before it.
 pub told-next : {R : Type 0} (number_of : R → ℕ) (Is : R → Type 0) (x : Listing) (after at last : ℕ) (start : List ℕ) (part : Part) (rows : List R)
-    → HasPage number_of Is x at rows → option_map number_of (slice_get rows (length rows - 1)) ≡ Some last
+    → HasBatch number_of Is x at rows → option_map number_of (slice_get rows (length rows - 1)) ≡ Some last
     → IsSoFar x after (last_of at (map number_of rows)) start part → IsSoFar x after last start part × (at < last)
-told-next number_of Is x after at last start part [] page end so_far = let never : ⊥ = cc in absurd never
-told-next number_of Is x after at last start part (r ∷ rows) page end so_far =
-    let same : last_of at (map number_of (r ∷ rows)) ≡ last = page-last number_of Is x at last (r ∷ rows) end in
-    let more : at < number_of r = (page.sound r (in-head r rows)).1 in
+told-next number_of Is x after at last start part [] batch end so_far = let never : ⊥ = cc in absurd never
+told-next number_of Is x after at last start part (r ∷ rows) batch end so_far =
+    let same : last_of at (map number_of (r ∷ rows)) ≡ last = batch-last number_of Is x at last (r ∷ rows) end in
+    let more : at < number_of r = (batch.sound r (in-head r rows)).1 in
     let le : number_of r ≤ last_of at (map number_of (r ∷ rows)) =
     rises-last at (number_of r) (map number_of (r ∷ rows)) (covers number_of Is x at (r
-    ∷ rows) page).rises (inr (has-first (number_of r) (map number_of rows))) in
+    ∷ rows) batch).rises (inr (has-first (number_of r) (map number_of rows))) in
     (subst (λ (n : ℕ). IsSoFar x after n start part) same so_far, omega (arith, same, more, le))
 
 join-last : (ls : List (List ℕ)) (e : List ℕ) → join_with_byte 10 (ls ++ e ∷ []) ≡ report_lines ls ++ e

@@ -11,8 +11,8 @@ use Rattle.terms.specs.declared.fault.Fault.TheVariants.{Memory, Stored}
 use Rattle.model.specs.History.{History}
 use Rattle.desk.specs.Answering.{Shows, DeskLooks, LearnsIf}
 use Rattle.desk.specs.Parts.{IsFront, WritesPart, WritesText}
-use Rattle.desk.specs.declared.reporting.ReportFault.{ReportFault}
-use Rattle.desk.specs.declared.reporting.ReportFault.TheVariants.{Refused, Faulted, NotWritten}
+use Rattle.desk.specs.declared.report_fault.ReportFault.{ReportFault}
+use Rattle.desk.specs.declared.report_fault.ReportFault.TheVariants.{Refused, Faulted, NotWritten}
 use Rattle.desk.proofs.Unchanged.{nothing-then, nothing-as, nothing-failed, nothing-asked}
 use Rattle.desk.proofs.Looking.{IsAnyList, if-ok, on-ok, on-err, on-ok-any, on-err-any, err-is}
 

@@ -5,7 +5,7 @@ use Rattle.std.proofs.lemmas.Bool.{eqb-true, eq-eqb, ne_eqb, and_parts, and_from
 use Rattle.circ_core.specs.Views.{IsFirstOf}
 use Rattle.circ_core.proofs.Claims.{loan_row-is, hold_row-is, named-is}
 use Rattle.circ_core.proofs.FirstInLine.{line_none, line_some}
-use Rattle.store.specs.Pages.{IsShelved, IsLeastShelved}
+use Rattle.store.specs.Batches.{IsShelved, IsLeastShelved}
 use Rattle.terms.specs.declared.row.Condition.TheVariants.{Present}
 use Rattle.terms.specs.declared.row.CopyRow.{CopyRow}
 use Rattle.terms.specs.declared.row.HoldRow.{HoldRow}

@@ -10,7 +10,7 @@ use Rattle.desk.specs.Answering.{Shows}
 use Rattle.desk.specs.Parts.{IsFront}
 use Rattle.desk.specs.Written.{HasBranch, SendsFront, WritesReport, WritesTill}
 use Rattle.desk.specs.Reports.{report_text, IsThere, IsUnknown, WritesAnyReport}
-use Rattle.desk.specs.declared.reporting.ReportFault.{ReportFault}
+use Rattle.desk.specs.declared.report_fault.ReportFault.{ReportFault}
 use Rattle.desk.specs.declared.reports.Report.{Report}
 use Rattle.desk.specs.declared.reports.Report.TheVariants.{Till}
 

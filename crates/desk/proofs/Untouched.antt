@@ -25,7 +25,7 @@ use Rattle.model.specs.Pages.{page}
 use Rattle.model.specs.Picture.{picture}
 use Rattle.model.specs.Refusals.{refusal}
 use Rattle.model.specs.Requests.{IsLegal, adds, event_of, after_one}
-use Rattle.model.proofs.KeptRows.{kept-agree}
+use Rattle.model.proofs.UntouchedPatrons.{kept-agree}
 use Rattle.model.proofs.Moves.{false-ne}
 use Rattle.model.proofs.OwnRows.{page-same}
 use Rattle.model.proofs.Runs.{after_one-legal}

@@ -10,8 +10,8 @@ use Rattle.terms.specs.declared.fault.Fault.TheVariants.{Memory}
 use Rattle.model.specs.History.{History}
 use Rattle.model.specs.Reports.{report_lines}
 use Rattle.desk.specs.Parts.{WritesPart, WritesText, AreAllRows}
-use Rattle.desk.specs.declared.reporting.ReportFault.{ReportFault}
-use Rattle.desk.specs.declared.reporting.ReportFault.TheVariants.{Faulted, NotWritten}
+use Rattle.desk.specs.declared.report_fault.ReportFault.{ReportFault}
+use Rattle.desk.specs.declared.report_fault.ReportFault.TheVariants.{Faulted, NotWritten}
 use Rattle.desk.proofs.Parts.{then-part, answered-part, handed-part, wrote-part, cut-part, memory-part}
 
 -- The rows, and the line that tells how many there are.

@@ -17,8 +17,8 @@ use Rattle.model.specs.Reports.{till}
 use Rattle.desk.specs.Answering.{Shows, Learns}
 use Rattle.desk.specs.Parts.{IsAny, IsFront, WritesText}
 use Rattle.desk.specs.Written.{HasBranch, SendsFront, WritesReport, WritesTill}
-use Rattle.desk.specs.declared.reporting.ReportFault.{ReportFault}
-use Rattle.desk.specs.declared.reporting.ReportFault.TheVariants.{Refused, Faulted, NotWritten}
+use Rattle.desk.specs.declared.report_fault.ReportFault.{ReportFault}
+use Rattle.desk.specs.declared.report_fault.ReportFault.TheVariants.{Refused, Faulted, NotWritten}
 use Rattle.desk.proofs.Founds.{Found}
 use Rattle.desk.proofs.Looking.{IsAnyList}
 use Rattle.desk.proofs.Parts.{nothing-front, fault-part, learnt-part, then-part, looks-so}

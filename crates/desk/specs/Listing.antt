@@ -4,7 +4,7 @@ use Rattle.std.specs.Prelude.{slice_get, ◌-◌, Option, Some, None, option_map
 use Rattle.std.specs.List.{list_any, Contains}
 use Rattle.terms.specs.declared.limits.TheConstants.{MOST_ROWS}
 use Rattle.terms.specs.Orders.{Rise}
-use Rattle.circ_tables.specs.declared.by_number.TheConstants.{PAGE_ROWS}
+use Rattle.circ_tables.specs.declared.by_number.TheConstants.{BATCH_ROWS}
 use Rattle.model.specs.Asking.{Listing, above, last_of}
 use Rattle.model.specs.AskingLaws.{AreRising, has_number}
 use Rattle.model.specs.Pages.{spaced}
@@ -13,13 +13,13 @@ use Rattle.desk.specs.declared.listing.Part.{Part}
 
 -- ---- what is read of a list
 
--- A page of rows above a number, among which all of the list are: all of them, or the first, as many as a page has. Others may be among them.
-pub record HasPage {R : Type 0} (number_of : R → ℕ) (Is : R → Type 0) (x : Listing) (at : ℕ) (rows : List R) : Type 0 where
+-- A batch of rows above a number, among which all of the list are: all of them, or the first, as many as a batch has. Others may be among them.
+pub record HasBatch {R : Type 0} (number_of : R → ℕ) (Is : R → Type 0) (x : Listing) (at : ℕ) (rows : List R) : Type 0 where
   pub sound : (r : R) → Contains rows r → Is r × (at < number_of r)
   pub whole : (n : ℕ) → has_number x.numbers n → at < n
-      → has_number (map number_of rows) n ⊎ ((length rows ≡ PAGE_ROWS) × ((r : R) → Contains rows r → number_of r < n))
+      → has_number (map number_of rows) n ⊎ ((length rows ≡ BATCH_ROWS) × ((r : R) → Contains rows r → number_of r < n))
   pub rise : Rise number_of rows
-  pub few : length rows ≤ PAGE_ROWS
+  pub few : length rows ≤ BATCH_ROWS
   -- the numbers of the list rise
   pub rising : AreRising x.numbers
 
@@ -62,7 +62,7 @@ GoesOn x at to old new = (start : List ℕ) (after : ℕ) → IsSoFar x after at
 abbrev pub end_words : Part → List ℕ
 end_words part = elim part.more [ true ↦ spaced (codes "after" ∷ decimal part.last ∷ []) | false ↦ codes "end" ]
 
--- The number after which more is to be read; none once a page is not full, or there are more than are told.
+-- The number after which more is to be read; none once a batch is not full, or there are more than are told.
 abbrev pub IsNext : {R : Type 0} → (R → ℕ) → List R → Part → Option ℕ → Type 0
-IsNext number_of rows part None = (length rows < PAGE_ROWS) ⊎ (part.more ≡ true)
+IsNext number_of rows part None = (length rows < BATCH_ROWS) ⊎ (part.more ≡ true)
 IsNext number_of rows part (Some last) = option_map number_of (slice_get rows (length rows - 1)) ≡ Some last

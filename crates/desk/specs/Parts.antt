@@ -3,15 +3,15 @@ use Rattle.std.specs.Prelude.{◌≡◌, ◌<◌, ◌-◌, ℕ, nat_lt, List, []
 use Rattle.std.specs.Prelude.{Result, Err, IfOk, OnErr}
 use Rattle.std.specs.Io.KnownBytes.{Appends}
 use Rattle.store.specs.Library.{Ghosts, Held, state, IsClean}
-use Rattle.circ_tables.specs.declared.by_number.TheConstants.{PAGE_ROWS}
+use Rattle.circ_tables.specs.declared.by_number.TheConstants.{BATCH_ROWS}
 use Rattle.terms.specs.declared.fault.Fault.TheVariants.{Stored}
 use Rattle.terms.specs.declared.refusal.Refusal.{Refusal}
 use Rattle.model.specs.History.{History}
 use Rattle.model.specs.Reports.{report_lines}
 use Rattle.desk.specs.Answering.{Shows, Stays, DeskLooks}
-use Rattle.desk.specs.declared.reporting.ReportFault.{ReportFault}
-use Rattle.desk.specs.declared.reporting.ReportFault.TheVariants.{Refused, Faulted, NotWritten}
-use Rattle.desk.specs.declared.reporting.Told.{Told}
+use Rattle.desk.specs.declared.report_fault.ReportFault.{ReportFault}
+use Rattle.desk.specs.declared.report_fault.ReportFault.TheVariants.{Refused, Faulted, NotWritten}
+use Rattle.desk.specs.declared.reports.Told.{Told}
 
 -- Any list of accepted requests.
 abbrev pub IsAny : History → Type 0
@@ -51,25 +51,25 @@ abbrev pub WritesText : {S T : Type 0} → (History → Type 0) → (History →
     → Ghosts S → Held S → Held S → Option (List ℕ) → Option (List ℕ) → Result T ReportFault → Type 0
 WritesText If text = WritesPart If (λ H _ sent. sent ≡ text H) text
 
--- ---- rows by pages
+-- ---- rows by batches
 
 -- The numbers of the list that are above this one.
 abbrev pub above : ℕ → List ℕ → List ℕ
 above k numbers = filter (λ n. nat_lt k n) numbers
 
--- Those that are left once all up to the last one of a page went out. After the last page none are.
+-- Those that are left once all up to the last one of a batch went out. After the last batch none are.
 abbrev pub left_after : Option ℕ → List ℕ → List ℕ
 left_after None numbers = []
 left_after (Some last) numbers = above last numbers
 
--- The number of the last row of a page where more may follow; none where fewer rows came than a page
+-- The number of the last row of a batch where more may follow; none where fewer rows came than a batch
 -- has.
 abbrev pub IsLast : {R : Type 0} → (R → ℕ) → List R → Option ℕ → Type 0
-IsLast number_of rows None = length rows < PAGE_ROWS
+IsLast number_of rows None = length rows < BATCH_ROWS
 IsLast number_of rows (Some last) = option_map number_of (slice_get rows (length rows - 1)) ≡ Some last
 
--- A page of rows went out, a line for each.
-pub record IsPage (line : ℕ → List ℕ) (numbers : List ℕ) (after : ℕ) (told : Told)
+-- A batch of rows went out, a line for each.
+pub record IsBatch (line : ℕ → List ℕ) (numbers : List ℕ) (after : ℕ) (told : Told)
     (sent : List ℕ) : Type 0 where
   -- the numbers of its rows
   pub some : List ℕ

@@ -13,8 +13,8 @@ use Rattle.model.specs.Picture.{picture}
 use Rattle.model.specs.Reports.{overdue, till, shelf}
 use Rattle.desk.specs.Answering.{Shows, DeskLooks}
 use Rattle.desk.specs.Written.{HasBranch, SendsFront}
-use Rattle.desk.specs.declared.reporting.ReportFault.{ReportFault}
-use Rattle.desk.specs.declared.reporting.ReportFault.TheVariants.{Refused, Faulted, NotWritten}
+use Rattle.desk.specs.declared.report_fault.ReportFault.{ReportFault}
+use Rattle.desk.specs.declared.report_fault.ReportFault.TheVariants.{Refused, Faulted, NotWritten}
 use Rattle.desk.specs.declared.reports.Report.{Report}
 use Rattle.desk.specs.declared.reports.Report.TheVariants.{Overdue, Till, Shelf}
 

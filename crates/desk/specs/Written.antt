@@ -14,8 +14,8 @@ use Rattle.model.specs.Picture.{picture}
 use Rattle.model.specs.Reports.{till}
 use Rattle.desk.specs.Answering.{Shows, DeskLooks}
 use Rattle.desk.specs.Parts.{IsFront}
-use Rattle.desk.specs.declared.reporting.ReportFault.{ReportFault}
-use Rattle.desk.specs.declared.reporting.ReportFault.TheVariants.{Refused, Faulted, NotWritten}
+use Rattle.desk.specs.declared.report_fault.ReportFault.{ReportFault}
+use Rattle.desk.specs.declared.report_fault.ReportFault.TheVariants.{Refused, Faulted, NotWritten}
 
 -- There is the branch.
 abbrev pub HasBranch : History → ℕ → Type 0

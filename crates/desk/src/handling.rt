@@ -13,7 +13,7 @@ ghost use Rattle.desk.specs.Answering.{HandlesAny, IsViewFor, TouchesOnly};
 
 use crate::asking::reply_to_question;
 use crate::callers::{is_known, may_send, refusal_for_another};
-use crate::paging::show;
+use crate::patron_page::show;
 use crate::touching::{Touched, touched_by};
 use circ_core::{Changes, View, decide};
 use sqlite::Alter;

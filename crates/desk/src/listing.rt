@@ -6,12 +6,12 @@ ghost use Rattle.std.specs.List.{Contains};
 ghost use Rattle.model.specs.Asking.{listed, last_of, above};
 ghost use Rattle.model.specs.Reports.{report_lines};
 ghost use Rattle.desk.specs.Answering.{LearnsIf};
-ghost use Rattle.desk.specs.Listing.{HasPage, IsAdded, IsTold, HasTold, GoesOn, IsNext};
+ghost use Rattle.desk.specs.Listing.{HasBatch, IsAdded, IsTold, HasTold, GoesOn, IsNext};
 ghost use Rattle.desk.specs.Listing.{end_words};
 
 use sqlite::Alter;
 use std::alloc::Global;
-use store::{PAGE_ROWS, Store};
+use store::{BATCH_ROWS, Store};
 use terms::{Fault, MOST_ROWS, Memory};
 
 /// A list that can be asked for.
@@ -20,7 +20,7 @@ pub(crate) trait Listed {
     ghost use Rattle.model.specs.History.{History};
     ghost use Rattle.model.specs.Asking.{Listing};
     ghost use Rattle.desk.specs.Answering.{LearnsIf};
-    ghost use Rattle.desk.specs.Listing.{HasPage, IsRowText};
+    ghost use Rattle.desk.specs.Listing.{HasBatch, IsRowText};
 
     /// A row that is read, which may be one of the list.
     type Row: Drop;
@@ -38,15 +38,15 @@ pub(crate) trait Listed {
     fn number(row: &Self::Row) -> u32
         ensures { result ≡ number_of row.now };
 
-    /// A page of rows above a number, the least first. 90, 91, 93.
-    fn page<S: Alter>(
+    /// A batch of rows above a number, the least first. 90, 91, 93.
+    fn batch<S: Alter>(
         &self,
         store: &mut Store<S>,
         alloc: Global,
         after: u32,
     ) -> Result<Vec<Self::Row>, Fault>
         ensures { LearnsIf (Needs self.now)
-            (λ H rows. HasPage number_of (λ r. IsRow self.now r H) (list self.now H) after
+            (λ H rows. HasBatch number_of (λ r. IsRow self.now r H) (list self.now H) after
             rows.items) S.Store store.old store.new result };
 
     /// What is told of a row, if it is one of the list. 90, 91, 93.
@@ -128,7 +128,7 @@ fn tell_row<L: Listed, S: Alter>(
     Ok(())
 }
 
-/// Tells the rows of a page, one after another. 90, 91, 93.
+/// Tells the rows of a batch, one after another. 90, 91, 93.
 fn tell_rows<L: Listed, S: Alter>(
     store: &mut Store<S>,
     alloc: Global,
@@ -139,7 +139,7 @@ fn tell_rows<L: Listed, S: Alter>(
     ensures { LearnsIf
         (λ H. L.Needs list.now H × ((r : L.Row) → Contains rows.now r → L.IsRow list.now r H))
         (λ H _. (at : ℕ)
-        → HasPage L.number_of (λ r. L.IsRow list.now r H) (L.list list.now H) at rows.now
+        → HasBatch L.number_of (λ r. L.IsRow list.now r H) (L.list list.now H) at rows.now
         → GoesOn (L.list list.now H) at (last_of at (map L.number_of rows.now)) part.old part.new)
         S.Store store.old store.new result }
 {
@@ -149,20 +149,20 @@ fn tell_rows<L: Listed, S: Alter>(
     Ok(())
 }
 
-/// The number of the last row of a page after which more is to be read.
-fn next_from<L: Listed>(page: &[L::Row], part: &Part) -> Option<u32>
-    ensures { IsNext L.number_of page.now part.now result }
+/// The number of the last row of a batch after which more is to be read.
+fn next_from<L: Listed>(batch: &[L::Row], part: &Part) -> Option<u32>
+    ensures { IsNext L.number_of batch.now part.now result }
 {
-    if part.more || page.len() < PAGE_ROWS {
+    if part.more || batch.len() < BATCH_ROWS {
         return None;
     }
-    match page.last() {
+    match batch.last() {
         Some(row) => Some(L::number(row)),
         None => None,
     }
 }
 
-/// Tells the rows of a list whose numbers are above this one, page by page, until there are more
+/// Tells the rows of a list whose numbers are above this one, batch by batch, until there are more
 /// than an answer shows. 90, 91, 93.
 fn tell_list<L: Listed, S: Alter>(
     store: &mut Store<S>,
@@ -183,10 +183,10 @@ fn tell_list<L: Listed, S: Alter>(
         more: false,
     };
     let mut at = after;
-    'pages: for _page in 0..u64::MAX {
-        let page = list.page(store, alloc, at)?;
-        tell_rows(store, alloc, list, page.as_slice(), &mut part)?;
-        match next_from::<L>(page.as_slice(), &part) {
+    'batches: for _batch in 0..u64::MAX {
+        let batch = list.batch(store, alloc, at)?;
+        tell_rows(store, alloc, list, batch.as_slice(), &mut part)?;
+        match next_from::<L>(batch.as_slice(), &part) {
             Some(last) => at = last,
             None => return Ok(part),
         }

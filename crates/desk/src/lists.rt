@@ -10,7 +10,7 @@ ghost use Rattle.desk.specs.Asking.{words_of_loan, IsTitleOfLoan};
 ghost use Rattle.desk.specs.Placing.{after_space};
 
 use crate::listing::Listed;
-use crate::paging::{patron_line, title_of_copy, title_row};
+use crate::patron_page::{patron_line, title_of_copy, title_row};
 use crate::placing::{copy_row, place_of, travel_row};
 use sqlite::Alter;
 use std::alloc::Global;
@@ -45,7 +45,7 @@ impl Listed for CopiesOf {
         row.copy.number()
     }
 
-    fn page<S: Alter>(
+    fn batch<S: Alter>(
         &self,
         store: &mut Store<S>,
         alloc: Global,
@@ -93,7 +93,7 @@ impl Listed for TransitsTo {
         row.copy.number()
     }
 
-    fn page<S: Alter>(
+    fn batch<S: Alter>(
         &self,
         store: &mut Store<S>,
         alloc: Global,
@@ -169,7 +169,7 @@ impl Listed for QueueFor {
         row.hold.number()
     }
 
-    fn page<S: Alter>(
+    fn batch<S: Alter>(
         &self,
         store: &mut Store<S>,
         alloc: Global,
@@ -285,7 +285,7 @@ impl Listed for AccountOf {
         row.line.number()
     }
 
-    fn page<S: Alter>(
+    fn batch<S: Alter>(
         &self,
         store: &mut Store<S>,
         alloc: Global,
@@ -333,7 +333,7 @@ impl Listed for Debtors {
         row.patron.number()
     }
 
-    fn page<S: Alter>(
+    fn batch<S: Alter>(
         &self,
         store: &mut Store<S>,
         alloc: Global,
@@ -420,7 +420,7 @@ impl Listed for PullsAt {
         row.hold.number()
     }
 
-    fn page<S: Alter>(
+    fn batch<S: Alter>(
         &self,
         store: &mut Store<S>,
         alloc: Global,

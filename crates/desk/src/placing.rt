@@ -14,7 +14,7 @@ ghost use Rattle.desk.specs.Answering.{LearnsIf};
 ghost use Rattle.desk.specs.Placing.{unclaimed, place_in, words_of, copy_words, travel_words};
 ghost use Rattle.desk.specs.Placing.{IsAt, after_space};
 
-use crate::paging::{add_line, title_row};
+use crate::patron_page::{add_line, title_row};
 use circ_core::View;
 use sqlite::Alter;
 use std::alloc::Global;

@@ -1,13 +1,14 @@
 //! The reports of the desk, by one call.
 
+ghost use Rattle.std.specs.Prelude.{◌≡◌, ◌++◌, ◌∷◌, [], IfOk, string_bytes};
 ghost use Rattle.desk.specs.Reports.{WritesAnyReport};
 
-use crate::reporting::ReportFault;
-use crate::running::Desk;
+use crate::desk::Desk;
+use crate::report_fault::ReportFault;
 use sqlite::Alter;
 use std::alloc::Global;
 use std::io::Write;
-use terms::{BranchId, Day};
+use terms::{BranchId, Day, Memory};
 
 /// A report that the desk writes.
 #[derive(Clone, Copy, Debug, PartialEq, Eq)]
@@ -18,6 +19,22 @@ pub enum Report {
     Till(Day),
     /// The ready holds of a branch.
     Shelf(BranchId),
+}
+
+/// What a batch of a report's rows told: how many rows, and the number of the last one where more
+/// may follow.
+#[derive(Clone, Copy)]
+pub(crate) struct Told {
+    pub(crate) rows: usize,
+    pub(crate) last: Option<u32>,
+}
+
+/// A line with its newline.
+pub(crate) fn with_newline(mut text: String) -> Result<String, Memory>
+    ensures { IfOk result (λ line. string_bytes line ≡ string_bytes text ++ (10 ∷ [])) }
+{
+    text.push('\n')?;
+    Ok(text)
 }
 
 impl<S: Alter> Desk<S> {

@@ -4,7 +4,7 @@ ghost use Rattle.std.specs.Prelude.{◌≡◌, map, IfOk};
 ghost use Rattle.desk.specs.Answering.{Learns};
 ghost use Rattle.desk.specs.Showing.{own_page as own_page_of, AreEnrolled};
 
-use crate::paging::show;
+use crate::patron_page::show;
 use sqlite::Alter;
 use std::alloc::Global;
 use store::Store;

@@ -11,11 +11,12 @@ ghost use Rattle.desk.specs.Written.{WritesTill};
 ghost use Rattle.desk.specs.Reporting.{rows_sum, capped_sums, AreSumsOf, till_words, IsTillText};
 ghost use Rattle.desk.specs.Reporting.{IsTillReport};
 
-use crate::reporting::{ReportFault, with_newline};
+use crate::report_fault::ReportFault;
+use crate::reports::with_newline;
 use sqlite::Alter;
 use std::alloc::Global;
 use std::io::Write;
-use store::{PAGE_ROWS, Store};
+use store::{BATCH_ROWS, Store};
 use terms::{Day, Fault, LineId, LineRow, Memory, Sort, write_bytes};
 
 /// The sums of a day's lines, by their sorts, in cents. There are fewer than 2^32 lines, of less
@@ -50,7 +51,7 @@ fn added(sum: u128, rows: &[LineRow], sort: Sort) -> u128
     total
 }
 
-/// The sums, with a page of lines added to them.
+/// The sums, with a batch of lines added to them.
 fn add_lines(sums: Sums, rows: &[LineRow]) -> Sums
     ensures { (before : List AnyLine) → sums ≡ capped_sums before
         → result ≡ capped_sums (before ++ rows.now) }
@@ -63,11 +64,11 @@ fn add_lines(sums: Sums, rows: &[LineRow]) -> Sums
     }
 }
 
-/// The number of the last line of a full page, after which more may follow.
+/// The number of the last line of a full batch, after which more may follow.
 fn last_line(rows: &[LineRow]) -> Option<u32>
     ensures { IsLast (λ r. r.line) rows.now result }
 {
-    if rows.len() < PAGE_ROWS {
+    if rows.len() < BATCH_ROWS {
         return None;
     }
     match rows.last() {
@@ -76,7 +77,7 @@ fn last_line(rows: &[LineRow]) -> Option<u32>
     }
 }
 
-/// The sums of a day's lines, which are read page by page. 90, 91; 93, which never comes where all
+/// The sums of a day's lines, which are read batch by batch. 90, 91; 93, which never comes where all
 /// rows lie in their limits.
 fn sum_day<S: Alter>(store: &mut Store<S>, alloc: Global, day: Day) -> Result<Sums, Fault>
     ensures { Looked InLimits (λ P sums. AreSumsOf P day sums) InLimits
@@ -89,11 +90,11 @@ fn sum_day<S: Alter>(store: &mut Store<S>, alloc: Global, day: Day) -> Result<Su
         waivers: 0,
     };
     let mut after = LineId::new(0);
-    'pages: for _page in 0..u64::MAX {
+    'batches: for _batch in 0..u64::MAX {
         let rows = store.lines(alloc, day, after)?;
-        let page = rows.as_slice();
-        sums = add_lines(sums, page);
-        match last_line(page) {
+        let batch = rows.as_slice();
+        sums = add_lines(sums, batch);
+        match last_line(batch) {
             Some(last) => after = LineId::new(last),
             None => return Ok(sums),
         }

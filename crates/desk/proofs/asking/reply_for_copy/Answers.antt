@@ -5,7 +5,7 @@ use Rattle.terms.specs.declared.question.Question.TheVariants as question
 use Rattle.terms.specs.declared.reply.Reply.TheVariants.{Shown}
 use Rattle.model.specs.Asking.{asked}
 use Rattle.model.specs.Picture.{picture}
-use Rattle.desk.proofs.ListPages.{copy-number}
+use Rattle.desk.proofs.ListBatches.{copy-number}
 use Rattle.desk.proofs.Looking.{idle, gives, fails}
 use Rattle.desk.proofs.Replies.{copy-there, shown-if, refused-if}
 use Rattle.desk.proofs.asking.reply_for_copy.Goals as goal

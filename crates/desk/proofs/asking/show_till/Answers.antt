@@ -1,7 +1,7 @@
 use Rattle.std.proofs.Common.{string_bytes, ◌∙◌, ap}
 use Rattle.terms.specs.declared.reply.Reply.TheVariants.{Shown}
 use Rattle.desk.proofs.Looking.{gives, fails}
-use Rattle.desk.proofs.TillPages.{till-rows-learnt}
+use Rattle.desk.proofs.TillBatches.{till-rows-learnt}
 use Rattle.desk.proofs.asking.show_till.Goals as goal
 
 pub returns-in_err-text : goal.returns-in_err-text

@@ -7,7 +7,7 @@ use Rattle.desk.proofs.PageRows.{item-there}
 use Rattle.desk.proofs.listing.tell_rows.Goals as goal
 
 pub rows-init : goal.rows-init
-rows-init g c = gives idle (λ _ _ _. tt) (λ H legal all none at page start after so_far. so_far)
+rows-init g c = gives idle (λ _ _ _. tt) (λ H legal all none at batch start after so_far. so_far)
 
 pub returns-in_err-tell_row : goal.returns-in_err-tell_row
 returns-in_err-tell_row g c =
@@ -22,11 +22,11 @@ rows-preserved g c =
     let r = c.row-item.result in
     let within : i < length xs = omega (arith, c.rows-test.true) in
     gives (c.rows.invariant ⨾ c.in_ok-tell_row.ensures) (λ H list all. (all, λ _. (all.0, all.1 r (item-there xs i r within c.row-item.is))))
-    (λ H legal all is at page start after so_far.
+    (λ H legal all is at batch start after so_far.
     let x = g.L.Listed.list c.args.list.now H in
-    let turn = turn-of g.L.Listed.number_of _ x i at xs r within c.row-item.is page in
+    let turn = turn-of g.L.Listed.number_of _ x i at xs r within c.row-item.is batch in
     subst (λ (to : ℕ). IsSoFar x after to start c.tell_row.new.part) (turn.2)
-    (row-so-far x after _ (g.L.Listed.number_of r) start _ c.tell_row.new.part page.rising turn.0 turn.1 is.1 (is.0 at page start after so_far)))
+    (row-so-far x after _ (g.L.Listed.number_of r) start _ c.tell_row.new.part batch.rising turn.0 turn.1 is.1 (is.0 at batch start after so_far)))
 
 pub returns : goal.returns
 returns g c = gives c.rows.invariant (λ H list all. all) (λ H legal all is.

@@ -1,4 +1,4 @@
-use Rattle.desk.proofs.TillPages.{sums-then}
+use Rattle.desk.proofs.TillBatches.{sums-then}
 use Rattle.desk.proofs.till.add_lines.Goals as goal
 
 pub returns : goal.returns

@@ -1,6 +1,6 @@
 use Rattle.std.proofs.Common.{refl, string_bytes}
 use Rattle.desk.proofs.Parts.{fault-part, text-told, text-cut}
-use Rattle.desk.proofs.TillPages.{till-learnt}
+use Rattle.desk.proofs.TillBatches.{till-learnt}
 use Rattle.desk.proofs.WrittenReports.{till-of, stored-read, stored-unwritten}
 use Rattle.desk.proofs.till.till.Goals as goal
 

@@ -1,4 +1,0 @@
-use Rattle.desk.proofs.paging.hold_line.Goals as goal
-
-pub returns-in-Ready : goal.returns-in-Ready
-returns-in-Ready c = rw c.in-Ready.is c.format.ensures.ok

@@ -1,0 +1,48 @@
+//! Why a report was not written.
+
+use terms::{Fault, Memory, Refusal, WriteFault};
+
+/// Why a report was not written.
+#[derive(Clone, Copy, Debug, PartialEq, Eq)]
+pub enum ReportFault {
+    /// It was refused, and nothing was written.
+    Refused(Refusal),
+    /// A fault came; a beginning of the report may have gone out.
+    Faulted(Fault),
+    /// A write failed; a beginning of the report may have gone out.
+    NotWritten,
+}
+
+impl From<Fault> for ReportFault {
+    ghost use Rattle.std.specs.Prelude.{◌≡◌};
+    ghost use Rattle.desk.specs.declared.report_fault.ReportFault.TheVariants.{Faulted};
+
+    ghost from_gives = { λ fault why. why ≡ Faulted fault };
+
+    fn from(fault: Fault) -> ReportFault {
+        ReportFault::Faulted(fault)
+    }
+}
+
+impl From<Memory> for ReportFault {
+    ghost use Rattle.std.specs.Prelude.{◌≡◌};
+    ghost use Rattle.terms.specs.declared.fault.Fault.TheVariants.{Memory as NoMemory};
+    ghost use Rattle.desk.specs.declared.report_fault.ReportFault.TheVariants.{Faulted};
+
+    ghost from_gives = { λ _ why. why ≡ Faulted NoMemory };
+
+    fn from(_memory: Memory) -> ReportFault {
+        ReportFault::Faulted(Fault::Memory)
+    }
+}
+
+impl From<WriteFault> for ReportFault {
+    ghost use Rattle.std.specs.Prelude.{◌≡◌};
+    ghost use Rattle.desk.specs.declared.report_fault.ReportFault.TheVariants.{NotWritten};
+
+    ghost from_gives = { λ _ why. why ≡ NotWritten };
+
+    fn from(_fault: WriteFault) -> ReportFault {
+        ReportFault::NotWritten
+    }
+}
