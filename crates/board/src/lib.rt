@@ -20,5 +20,5 @@ pub use publisher::{Blank, Publisher};
 pub use request::SharedRequest;
 pub use rule::Naming;
 pub use stopped::StoppedBoard;
-pub use window::{LastSeen, Unseen, Window};
+pub use window::{LastSeen, ReadError, Window};
 pub use worker_id::WorkerId;

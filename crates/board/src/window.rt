@@ -23,7 +23,7 @@ type BoardReader<J> = Reader<Board, Seen, OneList<J>>;
 
 /// Why the board can't be read.
 #[derive(Clone, Copy, Debug, PartialEq, Eq)]
-pub enum Unseen {
+pub enum ReadError {
     /// What is there has as many holders as can be counted.
     Memory,
     /// The desk is gone.
@@ -96,36 +96,36 @@ impl<J: Naming> Window<J> {
     }
 
     /// The page of a patron, as the board shows it now, if there is such a patron.
-    pub fn page(&mut self, patron: PatronId) -> Result<Option<Arc<OwnPage, Global>>, Unseen>
+    pub fn page(&mut self, patron: PatronId) -> Result<Option<Arc<OwnPage, Global>>, ReadError>
         ensures on { GoesOn self.new self.old }
         ensures looked { OnOk result (HasLooked self.new) }
         ensures page { IfOk result (λ page. option_map arc_value page ≡ page_of self.new patron) }
     {
         let Some(reader) = self.reader.take() else {
-            return Err(Unseen::Gone);
+            return Err(ReadError::Gone);
         };
         match reader.enter_as::<Look<J>>() {
             Ok(reading) => {
                 let page = reading.get().page(patron);
                 self.frames = reading.get().frames();
                 self.reader = Some(reading.leave());
-                page.map_err(|_| Unseen::Memory)
+                page.map_err(|_| ReadError::Memory)
             }
             Err(reader) => {
                 self.reader = Some(reader);
-                Err(Unseen::Gone)
+                Err(ReadError::Gone)
             }
         }
     }
 
     /// Whether the board shows no entry of the worker.
-    pub fn shows_none_of(&mut self, worker: WorkerId) -> Result<bool, Unseen>
+    pub fn shows_none_of(&mut self, worker: WorkerId) -> Result<bool, ReadError>
         ensures on { GoesOn self.new self.old }
         ensures none { IfOk result (λ none. IsTrue none → count_own worker self.new.entries ≡ 0) }
     {
         let _in_limits = worker.number();
         let Some(reader) = self.reader.take() else {
-            return Err(Unseen::Gone);
+            return Err(ReadError::Gone);
         };
         match reader.enter_as::<Look<J>>() {
             Ok(reading) => {
@@ -136,7 +136,7 @@ impl<J: Naming> Window<J> {
             }
             Err(reader) => {
                 self.reader = Some(reader);
-                Err(Unseen::Gone)
+                Err(ReadError::Gone)
             }
         }
     }
@@ -147,13 +147,13 @@ impl<J: Naming> Window<J> {
         worker: WorkerId,
         number: u64,
         request: &SharedRequest,
-    ) -> Result<Option<Arc<Entry, Global>>, Unseen>
+    ) -> Result<Option<Arc<Entry, Global>>, ReadError>
         ensures on { GoesOn self.new self.old }
         ensures found { IfOk result (λ found. IfSome found (λ entry. IsReply self.new.entries
             worker number request.now (arc_value entry).reply)) }
     {
         let Some(reader) = self.reader.take() else {
-            return Err(Unseen::Gone);
+            return Err(ReadError::Gone);
         };
         match reader.enter_as::<Look<J>>() {
             Ok(reading) => {
@@ -162,12 +162,12 @@ impl<J: Naming> Window<J> {
                 self.reader = Some(reading.leave());
                 match entry {
                     Ok(found) => Ok(found),
-                    Err(_) => Err(Unseen::Memory),
+                    Err(_) => Err(ReadError::Memory),
                 }
             }
             Err(reader) => {
                 self.reader = Some(reader);
-                Err(Unseen::Gone)
+                Err(ReadError::Gone)
             }
         }
     }

@@ -3,7 +3,7 @@
 ghost use Rattle.std.specs.Prelude.{◌≡◌, ◌+◌, ◌++◌, [], ◌∷◌, IfOk, IfSome};
 ghost use Rattle.board.specs.Showing.{count_own};
 
-use board::{Blank, Entry, First, Naming, Publisher, SharedRequest, Unseen, Window, WorkerId};
+use board::{Blank, Entry, First, Naming, Publisher, ReadError, SharedRequest, Window, WorkerId};
 use desk::OwnPage;
 use std::alloc::Global;
 use std::marker::Brand;
@@ -335,11 +335,11 @@ fn tells_none<J: Naming>(window: &mut Window<J>, asked: &Asked) -> bool {
 /// Whether a window tells that the desk is gone, whatever is asked.
 fn is_gone<J: Naming>(window: &mut Window<J>, asked: &Asked) -> bool {
     let is_page_gone = match window.page(PatronId::new(1)) {
-        Err(unseen) => unseen == Unseen::Gone,
+        Err(unseen) => unseen == ReadError::Gone,
         Ok(_) => false,
     };
     let is_entry_gone = match window.entry(asked.worker, asked.number, &asked.request) {
-        Err(unseen) => unseen == Unseen::Gone,
+        Err(unseen) => unseen == ReadError::Gone,
         Ok(_) => false,
     };
     is_page_gone && is_entry_gone

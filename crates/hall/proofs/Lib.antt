@@ -10,4 +10,4 @@ pub mod Replies
 pub mod Reasons
 pub mod NewLibrary
 pub mod Served
-pub mod Steps
+pub mod NoStepBack

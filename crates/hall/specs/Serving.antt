@@ -35,8 +35,8 @@ use Rattle.hall.specs.declared.messages.TheConstants.{LAST_SUBMISSION}
 use Rattle.hall.specs.declared.messages.Message.{Message}
 use Rattle.hall.specs.declared.messages.Message.TheVariants.{Submit}
 use Rattle.hall.specs.declared.messages.View.{View}
-use Rattle.hall.specs.declared.worker.Lost.{Lost}
-use Rattle.hall.specs.declared.worker.Lost.TheVariants.{Told, Gone, Untold}
+use Rattle.hall.specs.declared.worker.NoReply.{NoReply}
+use Rattle.hall.specs.declared.worker.NoReply.TheVariants.{Told, Gone, Untold}
 use Rattle.hall.specs.declared.closing.Closing.{Closing}
 use Rattle.hall.specs.Closings.{told_of}
 use Rattle.hall.specs.Queue.{AreFirst, sent_more, worker_views}
@@ -160,7 +160,7 @@ IsFaultTo (Page patron card_key) old new fault = IsUnsubmitted old new fault
 IsFaultTo (Request request) old new fault = IsFaultFor (page_asked request) request old new fault
 
 -- Where a fault came instead, this is said of it.
-abbrev pub IfTold : (ServiceFault → Type 0) → Lost → Type 0
+abbrev pub IfTold : (ServiceFault → Type 0) → NoReply → Type 0
 IfTold Is (Told fault) = Is fault
 IfTold Is Gone = Unit {0}
 IfTold Is Untold = Unit {0}

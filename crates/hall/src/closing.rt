@@ -20,6 +20,12 @@ pub struct Closing {
     pub fault: ServiceFault,
 }
 
+/// Whoever is to know that a hall was closed, beside those who submit.
+pub trait Watch {
+    /// The hall was closed by this fault.
+    fn closed(&mut self, fault: ServiceFault);
+}
+
 impl Closing {
     /// What is told of a submission once the hall has closed: this fault, where it is this one, and
     /// else 92.

@@ -16,12 +16,12 @@ ghost use Rattle.hall.specs.Closings.{TellsClosing, TellsNext, TellsMessage, Has
 ghost use Rattle.hall.specs.Serving.{GivesReplies};
 ghost use Rattle.hall.specs.declared.messages.Message.TheVariants.{Leave};
 
-use crate::closing::Closing;
+use crate::closing::Watch;
 use crate::ended::Ended;
-use crate::ends::Inbox;
 use crate::messages::{Message, Submission};
 use crate::notices::Teller;
 use crate::opening::Opening;
+use crate::queue_ends::Inbox;
 use board::{Entry, Publisher, StoppedBoard, WorkerId};
 use desk::{Desk, Touched};
 use hall_schedule::WORKERS;
@@ -49,9 +49,10 @@ pub struct DeskSide<J: Opening, S: Alter> {
 /// The board; once the hall is closed it shows nothing more.
 type BoardSide<J> = Result<Publisher<J>, StoppedBoard<J>>;
 
-/// How far the desk has come.
-#[derive(Clone, Copy)]
-struct Progress {
+/// What the desk's thread works with, and how far it has come.
+struct Handling<J: Opening, S: Alter> {
+    desk: Desk<S>,
+    teller: Teller<J>,
     /// How many submissions were handled.
     handled: u64,
     /// What closed the hall.
@@ -144,139 +145,120 @@ fn show<J: Opening, S: Alter, R: Wait>(
     }
 }
 
-/// Has a submission handled and shown. A fault closes the hall; the worker is told why a submission
-/// has no reply.
-fn handle_next<J: Opening, S: Alter, R: Wait>(
-    rt: &R,
-    alloc: Global,
-    desk: &mut Desk<S>,
-    progress: &mut Progress,
-    teller: &mut Teller<J>,
-    publisher: Publisher<J>,
-    submission: Submission,
-) -> BoardSide<J>
-    requires open { progress.old.fault ≡ None }
-    requires untold { teller.old ≡ [] }
-    requires next { MayBeNext J.shows S.Store desk.old publisher submission }
-    ensures next { TakesNext submission.request S.Store desk.old desk.new
-        progress.old.handled progress.new.handled progress.old.fault progress.new.fault }
-    ensures shown { MatchResult result
-        (λ p. (progress.new.fault ≡ None) × (p.pages ≡ [])
-        × AreShown p.shown.entries (map submission_of publisher.shown.entries ++ submission ∷ [])
-        × ToldBy J.shows S.Store desk.new p.shown)
-        (λ b. IsSome progress.new.fault × (b.shown ≡ publisher.shown)) }
-    ensures told { MatchOption progress.new.fault (teller.new ≡ []) (λ fault. TellsClosing
-        submission progress.old.handled progress.new.handled fault teller.new) }
-{
-    let worker = submission.worker;
-    let number = submission.number;
-    if progress.handled == u64::MAX {
-        let fault = ServiceFault::Closed;
-        teller.close(
-            rt,
-            Closing {
-                worker,
-                number,
-                fault,
-            },
-        );
-        progress.fault = Some(fault);
-        return Err(publisher.stop());
-    }
-    match desk.handle_touching(alloc, submission.request.get()) {
-        Ok((reply, touched)) => {
-            progress.handled += 1;
-            match show(rt, alloc, desk, publisher, submission, reply, &touched) {
-                Ok(publisher) => {
-                    teller.wake(worker);
-                    Ok(publisher)
-                }
-                Err((stopped, met)) => {
-                    let fault = ServiceFault::Closed;
-                    teller.close(
-                        rt,
-                        Closing {
-                            worker,
-                            number,
-                            fault,
-                        },
-                    );
-                    progress.fault = Some(ServiceFault::Met(met));
-                    Err(stopped)
+impl<J: Opening, S: Alter> Handling<J, S> {
+    /// Has a submission handled and shown. A fault closes the hall: the worker is told why a
+    /// submission has no reply, and the watch that it is closed.
+    fn handle_next<R: Wait, N: Watch>(
+        &mut self,
+        rt: &R,
+        alloc: Global,
+        watch: &mut N,
+        publisher: Publisher<J>,
+        submission: Submission,
+    ) -> BoardSide<J>
+        requires open { self.old.fault ≡ None }
+        requires untold { self.old.teller ≡ [] }
+        requires next { MayBeNext J.shows S.Store self.old.desk publisher submission }
+        ensures next { TakesNext submission.request S.Store self.old.desk self.new.desk
+            self.old.handled self.new.handled self.old.fault self.new.fault }
+        ensures shown { MatchResult result
+            (λ p. (self.new.fault ≡ None) × (p.pages ≡ [])
+            × AreShown p.shown.entries
+            (map submission_of publisher.shown.entries ++ submission ∷ [])
+            × ToldBy J.shows S.Store self.new.desk p.shown)
+            (λ b. IsSome self.new.fault × (b.shown ≡ publisher.shown)) }
+        ensures told { MatchOption self.new.fault (self.new.teller ≡ []) (λ fault. TellsClosing
+            submission self.old.handled self.new.handled fault self.new.teller) }
+    {
+        let worker = submission.worker;
+        let number = submission.number;
+        if self.handled == u64::MAX {
+            self.teller.close(rt, worker, number, ServiceFault::Closed);
+            watch.closed(ServiceFault::Closed);
+            self.fault = Some(ServiceFault::Closed);
+            return Err(publisher.stop());
+        }
+        match self.desk.handle_touching(alloc, submission.request.get()) {
+            Ok((reply, touched)) => {
+                self.handled += 1;
+                let desk = &mut self.desk;
+                match show(rt, alloc, desk, publisher, submission, reply, &touched) {
+                    Ok(publisher) => {
+                        self.teller.wake(worker);
+                        Ok(publisher)
+                    }
+                    Err((stopped, met)) => {
+                        self.teller.close(rt, worker, number, ServiceFault::Closed);
+                        watch.closed(ServiceFault::Met(met));
+                        self.fault = Some(ServiceFault::Met(met));
+                        Err(stopped)
+                    }
                 }
             }
-        }
-        Err(met) => {
-            let fault = ServiceFault::Met(met);
-            teller.close(
-                rt,
-                Closing {
-                    worker,
-                    number,
-                    fault,
-                },
-            );
-            progress.fault = Some(fault);
-            Err(publisher.stop())
+            Err(met) => {
+                self.teller
+                    .close(rt, worker, number, ServiceFault::Met(met));
+                watch.closed(ServiceFault::Met(met));
+                self.fault = Some(ServiceFault::Met(met));
+                Err(publisher.stop())
+            }
         }
     }
-}
 
-/// Has a submission handled and shown, unless the hall is closed.
-fn take_next<J: Opening, S: Alter, R: Wait>(
-    rt: &R,
-    alloc: Global,
-    desk: &mut Desk<S>,
-    progress: &mut Progress,
-    teller: &mut Teller<J>,
-    board: BoardSide<J>,
-    submission: Submission,
-) -> BoardSide<J>
-    requires next { MayHandle J.shows S.Store desk.old progress.old.fault board submission }
-    requires untold { progress.old.fault ≡ None → teller.old ≡ [] }
-    ensures next { TakesNext submission.request S.Store desk.old desk.new
-        progress.old.handled progress.new.handled progress.old.fault progress.new.fault }
-    ensures shown { ShowsNext J.shows S.Store desk.new board result submission progress.new.fault }
-    ensures told { TellsNext submission progress.old.handled progress.new.handled
-        progress.old.fault progress.new.fault teller.old teller.new }
-{
-    match board {
-        Ok(publisher) => handle_next(rt, alloc, desk, progress, teller, publisher, submission),
-        Err(stopped) => {
-            teller.tell(rt, submission.worker, submission.number);
-            Err(stopped)
+    /// Has a submission handled and shown, unless the hall is closed.
+    fn take_next<R: Wait, N: Watch>(
+        &mut self,
+        rt: &R,
+        alloc: Global,
+        watch: &mut N,
+        board: BoardSide<J>,
+        submission: Submission,
+    ) -> BoardSide<J>
+        requires next { MayHandle J.shows S.Store self.old.desk self.old.fault board submission }
+        requires untold { self.old.fault ≡ None → self.old.teller ≡ [] }
+        ensures next { TakesNext submission.request S.Store self.old.desk self.new.desk
+            self.old.handled self.new.handled self.old.fault self.new.fault }
+        ensures shown { ShowsNext J.shows S.Store self.new.desk board result submission
+            self.new.fault }
+        ensures told { TellsNext submission self.old.handled self.new.handled
+            self.old.fault self.new.fault self.old.teller self.new.teller }
+    {
+        match board {
+            Ok(publisher) => self.handle_next(rt, alloc, watch, publisher, submission),
+            Err(stopped) => {
+                self.teller.tell(rt, submission.worker, submission.number);
+                Err(stopped)
+            }
         }
     }
-}
 
-/// Takes what a worker sent: has a submission handled and shown, or notes that the worker has left.
-fn take_message<J: Opening, S: Alter, R: Wait>(
-    rt: &R,
-    alloc: Global,
-    desk: &mut Desk<S>,
-    progress: &mut Progress,
-    teller: &mut Teller<J>,
-    gone: &mut [bool; 8],
-    board: BoardSide<J>,
-    message: Message,
-) -> BoardSide<J>
-    requires next { MayTake J.shows S.Store desk.old progress.old.fault board message }
-    requires untold { progress.old.fault ≡ None → teller.old ≡ [] }
-    ensures next { TakesMessage J.shows message S.Store desk.old desk.new
-        progress.old.handled progress.new.handled progress.old.fault progress.new.fault
-        board result }
-    ensures told { TellsMessage message progress.old.handled progress.new.handled
-        progress.old.fault progress.new.fault teller.old teller.new }
-    ensures gone { (k : ℕ) → slice_index_or gone.new k false ≡ true
-        → (slice_index_or gone.old k false ≡ true) ⊎ (message ≡ Leave (k + 1)) }
-{
-    match message {
-        Message::Leave(worker) => {
-            note(gone, worker);
-            board
-        }
-        Message::Submit(submission) => {
-            take_next(rt, alloc, desk, progress, teller, board, submission)
+    /// Takes what a worker sent: has a submission handled and shown, or notes that the worker has
+    /// left.
+    fn take_message<R: Wait, N: Watch>(
+        &mut self,
+        rt: &R,
+        alloc: Global,
+        watch: &mut N,
+        gone: &mut [bool; 8],
+        board: BoardSide<J>,
+        message: Message,
+    ) -> BoardSide<J>
+        requires next { MayTake J.shows S.Store self.old.desk self.old.fault board message }
+        requires untold { self.old.fault ≡ None → self.old.teller ≡ [] }
+        ensures next { TakesMessage J.shows message S.Store self.old.desk self.new.desk
+            self.old.handled self.new.handled self.old.fault self.new.fault
+            board result }
+        ensures told { TellsMessage message self.old.handled self.new.handled
+            self.old.fault self.new.fault self.old.teller self.new.teller }
+        ensures gone { (k : ℕ) → slice_index_or gone.new k false ≡ true
+            → (slice_index_or gone.old k false ≡ true) ⊎ (message ≡ Leave (k + 1)) }
+    {
+        match message {
+            Message::Leave(worker) => {
+                note(gone, worker);
+                board
+            }
+            Message::Submit(submission) => self.take_next(rt, alloc, watch, board, submission),
         }
     }
 }
@@ -319,10 +301,12 @@ impl<J: Opening, S: Alter> DeskSide<J, S> {
     /// is left. Where the disk gave back what was written to it, all that was shown is what each
     /// list of accepted requests makes it that the opening names: each reply at its place, and the
     /// pages with each beginning. So is what a worker answers that has seen a beginning of it.
-    pub fn desk_loop<R: Wait>(
+    /// The watch is told when the hall closes, once.
+    pub fn desk_loop<R: Wait, N: Watch>(
         self,
         rt: &R,
         alloc: Global,
+        watch: &mut N,
     ) -> (Desk<S>, Ended<J>, Option<ServiceFault>)
         requires { OpensWith J.shows S.Store self.desk self.publisher.shown }
         ensures finishes { Finishes self.workers result.1.handled result.1.heard.got
@@ -335,14 +319,16 @@ impl<J: Opening, S: Alter> DeskSide<J, S> {
     {
         let DeskSide {
             mut inbox,
-            mut desk,
+            desk,
             publisher,
-            mut teller,
+            teller,
             workers,
         } = self;
         let mut board: BoardSide<J> = Ok(publisher);
         let mut gone = [false; 8];
-        let mut progress = Progress {
+        let mut handling = Handling {
+            desk,
+            teller,
             handled: 0,
             fault: None,
         };
@@ -352,27 +338,24 @@ impl<J: Opening, S: Alter> DeskSide<J, S> {
             }
             match inbox.receive(rt) {
                 Ok(message) => {
-                    board = take_message(
-                        rt,
-                        alloc,
-                        &mut desk,
-                        &mut progress,
-                        &mut teller,
-                        &mut gone,
-                        board,
-                        message,
-                    );
+                    board = handling.take_message(rt, alloc, watch, &mut gone, board, message);
                 }
                 Err(_) => thread::yield_now(),
             }
         }
+        let Handling {
+            desk,
+            teller,
+            handled,
+            fault,
+        } = handling;
         let ended = Ended {
             heard: inbox.end(),
             board: stop(board),
             closing: teller.known(),
-            handled: progress.handled,
+            handled,
             workers,
         };
-        (desk, ended, progress.fault)
+        (desk, ended, fault)
     }
 }

@@ -6,8 +6,8 @@ ghost use Rattle.hall.specs.Serving.{TookPart};
 ghost use Rattle.hall.specs.Queue.{AreFirst, IsHearing, of, is_open, submissions};
 
 use crate::closing::KnownClosing;
-use crate::ends::Heard;
 use crate::opening::Opening;
+use crate::queue_ends::Heard;
 use crate::worker::Left;
 use board::StoppedBoard;
 use std::sync::Wait;

@@ -17,9 +17,9 @@ ghost use Rattle.hall.specs.Serving.{AreWorkers};
 
 use crate::closing::KnownClosing;
 use crate::desk_side::DeskSide;
-use crate::ends::{Hiring, Inbox, Opened, Post, Queue};
 use crate::notices::{Notices, Teller};
 use crate::opening::Opening;
+use crate::queue_ends::{Hiring, Inbox, Opened, Post, Queue};
 use crate::worker::Worker;
 use board::{Blank, First, Publisher, Window, WorkerId};
 use crossbeam_utils::sync::Parker;

@@ -148,13 +148,24 @@ impl<J: Opening> Teller<J> {
     }
 
     /// The hall closes at this submission: its worker is told so, and woken.
-    pub(crate) fn close<R: Wait>(&mut self, rt: &R, closing: Closing)
+    pub(crate) fn close<R: Wait>(
+        &mut self,
+        rt: &R,
+        worker: WorkerId,
+        number: u64,
+        fault: ServiceFault,
+    )
         requires { self.old ≡ [] }
-        ensures { self.new ≡ closing ∷ [] }
+        ensures { self.new ≡ (record { worker = worker; number = number; fault = fault }) ∷ [] }
     {
+        let closing = Closing {
+            worker,
+            number,
+            fault,
+        };
         self.closings.close(rt, &closing);
         self.closing = Some(closing);
-        self.tell(rt, closing.worker, closing.number);
+        self.tell(rt, worker, number);
     }
 
     /// Tells a worker that its submissions have no reply from this one on, since the hall is closed,

@@ -16,11 +16,11 @@ ghost use Rattle.hall.specs.Serving.{IsReplied, TellsSubmitted, TellsPage, shown
 ghost use Rattle.hall.specs.Serving.{IfTold, IsFaultOf};
 
 use crate::closing::KnownClosing;
-use crate::ends::Post;
 use crate::messages::{LAST_SUBMISSION, Message, Submission};
 use crate::notices::Notices;
 use crate::opening::Opening;
-use board::{Entry, LastSeen, SharedRequest, Unseen, Window, WorkerId};
+use crate::queue_ends::Post;
+use board::{Entry, LastSeen, ReadError, SharedRequest, Window, WorkerId};
 use crossbeam_utils::sync::Parker;
 use desk::OwnPage;
 use std::alloc::Global;
@@ -82,7 +82,7 @@ pub struct ServeFault;
 
 /// Why a worker has no reply to what it asked.
 #[derive(Clone, Copy)]
-enum Lost {
+enum NoReply {
     /// This fault came instead.
     Told(ServiceFault),
     /// The board is gone, or shows other than the worker submitted.
@@ -101,7 +101,7 @@ fn await_entry<J: Opening, R: Wait>(
     worker: WorkerId,
     number: u64,
     request: &SharedRequest,
-) -> Result<Arc<Entry, Global>, Lost>
+) -> Result<Arc<Entry, Global>, NoReply>
     ensures on { GoesOn window.new window.old }
     ensures closing { StartsWith closing.new closing.old }
     ensures told { IfErr result (IfTold
@@ -113,15 +113,15 @@ fn await_entry<J: Opening, R: Wait>(
         match window.entry(worker, number, request) {
             Ok(Some(entry)) => return Ok(entry),
             Ok(None) => {}
-            Err(Unseen::Memory) => return Err(Lost::Untold),
-            Err(Unseen::Gone) => return Err(Lost::Gone),
+            Err(ReadError::Memory) => return Err(NoReply::Untold),
+            Err(ReadError::Gone) => return Err(NoReply::Gone),
         }
         if let Some((fault, told)) = notices.fault_of(worker, number) {
             if !closing.begins(&told) {
-                return Err(Lost::Gone);
+                return Err(NoReply::Gone);
             }
             *closing = told;
-            return Err(Lost::Told(fault));
+            return Err(NoReply::Told(fault));
         }
         parker.park(rt);
     }
@@ -201,7 +201,7 @@ impl<J: Opening> Worker<J> {
 
     /// Before its first submission: looks that the board shows nothing of the worker. 92 where it
     /// does.
-    fn begin(&mut self) -> Result<(), Lost>
+    fn begin(&mut self) -> Result<(), NoReply>
         ensures same { self.new.post ≡ self.old.post }
         ensures on { GoesOn self.new.seen self.old.seen }
         ensures closing { self.new.closing ≡ self.old.closing }
@@ -209,15 +209,15 @@ impl<J: Opening> Worker<J> {
     {
         match self.window.shows_none_of(self.worker) {
             Ok(true) => Ok(()),
-            Ok(false) => Err(Lost::Gone),
-            Err(Unseen::Memory) => Err(Lost::Untold),
-            Err(Unseen::Gone) => Err(Lost::Gone),
+            Ok(false) => Err(NoReply::Gone),
+            Err(ReadError::Memory) => Err(NoReply::Untold),
+            Err(ReadError::Gone) => Err(NoReply::Gone),
         }
     }
 
     /// Waits until its last submission is on the board: then the worker has seen all that it
     /// submitted. A fault says that it never will be.
-    fn catch_up<R: Wait>(&mut self, rt: &R) -> Result<(), Lost>
+    fn catch_up<R: Wait>(&mut self, rt: &R) -> Result<(), NoReply>
         ensures same { self.new.post ≡ self.old.post }
         ensures on { GoesOn self.new.seen self.old.seen }
         ensures closing { StartsWith self.new.closing self.old.closing }
@@ -228,7 +228,7 @@ impl<J: Opening> Worker<J> {
             return self.begin();
         }
         let Some(last) = &self.last else {
-            return Err(Lost::Gone);
+            return Err(NoReply::Gone);
         };
         match await_entry(
             rt,
@@ -277,7 +277,7 @@ impl<J: Opening> Worker<J> {
         &mut self,
         rt: &R,
         request: SharedRequest,
-    ) -> Result<Arc<Entry, Global>, Lost>
+    ) -> Result<Arc<Entry, Global>, NoReply>
         ensures same { self.new.post ≡ self.old.post }
         ensures on { GoesOn self.new.seen self.old.seen }
         ensures closing { StartsWith self.new.closing self.old.closing }
@@ -306,7 +306,7 @@ impl<J: Opening> Worker<J> {
         rt: &R,
         alloc: Global,
         request: Request,
-    ) -> Result<Arc<Entry, Global>, Lost>
+    ) -> Result<Arc<Entry, Global>, NoReply>
         ensures on { GoesOn self.new.seen self.old.seen }
         ensures closing { StartsWith self.new.closing self.old.closing }
         ensures once { SubmitsOnce self.old.post self.new.post request }
@@ -316,18 +316,20 @@ impl<J: Opening> Worker<J> {
     {
         match self.catch_up(rt) {
             Ok(()) => {}
-            Err(Lost::Told(_)) | Err(Lost::Gone) => return Err(Lost::Told(ServiceFault::Closed)),
-            Err(Lost::Untold) => return Err(Lost::Told(ServiceFault::Met(Fault::Memory))),
+            Err(NoReply::Told(_)) | Err(NoReply::Gone) => return Err(NoReply::Told(
+                ServiceFault::Closed,
+            )),
+            Err(NoReply::Untold) => return Err(NoReply::Told(ServiceFault::Met(Fault::Memory))),
         }
         let Ok(own) = SharedRequest::new(alloc, request) else {
-            return Err(Lost::Told(ServiceFault::Met(Fault::Memory)));
+            return Err(NoReply::Told(ServiceFault::Met(Fault::Memory)));
         };
         let Ok(other) = own.try_clone() else {
-            return Err(Lost::Told(ServiceFault::Met(Fault::Memory)));
+            return Err(NoReply::Told(ServiceFault::Met(Fault::Memory)));
         };
         match self.submit(rt, other) {
             Ok(()) => self.await_reply(rt, own),
-            Err(fault) => Err(Lost::Told(fault)),
+            Err(fault) => Err(NoReply::Told(fault)),
         }
     }
 
@@ -349,8 +351,8 @@ impl<J: Opening> Worker<J> {
                 Ok(answer) => Some(answer),
                 Err(_) => None,
             },
-            Err(Lost::Told(fault)) => Some(Answer::Faulted(fault)),
-            Err(Lost::Gone) | Err(Lost::Untold) => None,
+            Err(NoReply::Told(fault)) => Some(Answer::Faulted(fault)),
+            Err(NoReply::Gone) | Err(NoReply::Untold) => None,
         }
     }
 
@@ -372,8 +374,8 @@ impl<J: Opening> Worker<J> {
                 Ok(answer) => answer,
                 Err(_) => Answer::Faulted(ServiceFault::Met(Fault::Memory)),
             },
-            Err(Unseen::Memory) => Answer::Faulted(ServiceFault::Met(Fault::Memory)),
-            Err(Unseen::Gone) => Answer::Faulted(ServiceFault::Closed),
+            Err(ReadError::Memory) => Answer::Faulted(ServiceFault::Met(Fault::Memory)),
+            Err(ReadError::Gone) => Answer::Faulted(ServiceFault::Closed),
         }
     }
 

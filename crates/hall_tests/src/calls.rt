@@ -6,7 +6,7 @@ ghost use Rattle.model.specs.History.{History};
 ghost use Rattle.hall.specs.Openings.{OpensWith};
 
 use desk::Desk;
-use hall::{DeskSide, Ended, Hall, HallFault, Left, Opened, Opening, Routes, Worker};
+use hall::{DeskSide, Ended, Hall, HallFault, Left, Opened, Opening, Routes, Watch, Worker};
 use sqlite::{Alter, Connection, MemStore};
 use std::alloc::Global;
 use std::io::{Read, Write};
@@ -62,6 +62,40 @@ pub fn limit_side<J: Opening, S: Alter>(side: &mut DeskSide<J, S>, limit: u64) {
     side.limit_steps(Some(limit));
 }
 
+/// What was told of the closing of a hall.
+#[derive(Drop)]
+struct Heard {
+    fault: Option<ServiceFault>,
+    times: u32,
+}
+
+impl Heard {
+    /// Nothing yet.
+    fn nothing() -> Heard {
+        Heard {
+            fault: None,
+            times: 0,
+        }
+    }
+
+    /// The fault that closed the hall, if it was told once, and none where there was none and
+    /// nothing was told; else 92, by which no hall here is closed.
+    fn agreed(&self, fault: Option<ServiceFault>) -> Option<ServiceFault> {
+        if self.fault == fault && self.times == u32::from(fault.is_some()) {
+            fault
+        } else {
+            Some(ServiceFault::Closed)
+        }
+    }
+}
+
+impl Watch for Heard {
+    fn closed(&mut self, fault: ServiceFault) {
+        self.fault = Some(fault);
+        self.times = self.times.wrapping_add(1);
+    }
+}
+
 /// Handles what comes, in a hall whose opening names no list of accepted requests.
 pub fn handle_all<J: Opening, S: Alter, R: Wait>(
     rt: &R,
@@ -70,7 +104,9 @@ pub fn handle_all<J: Opening, S: Alter, R: Wait>(
 ) -> (Desk<S>, Ended<J>, Option<ServiceFault>)
     requires { (H : History) → J.shows H → ⊥ }
 {
-    side.desk_loop(rt, alloc)
+    let mut heard = Heard::nothing();
+    let (desk, ended, fault) = side.desk_loop(rt, alloc, &mut heard);
+    (desk, ended, heard.agreed(fault))
 }
 
 /// The same in a hall over a new library in memory.
@@ -81,7 +117,9 @@ pub fn handle_in_memory<J: Opening, R: Wait>(
 ) -> (Desk<MemStore>, Ended<J>, Option<ServiceFault>)
     requires { OpensWith J.shows over_memory side.desk side.publisher.shown }
 {
-    side.desk_loop(rt, alloc)
+    let mut heard = Heard::nothing();
+    let (desk, ended, fault) = side.desk_loop(rt, alloc, &mut heard);
+    (desk, ended, heard.agreed(fault))
 }
 
 /// Serves a connection; whether an answer went out whole.

@@ -34,12 +34,12 @@ work-init g c = record {
 
 pub take_message-board-requires-clause-next : goal.take_message-board-requires-clause-next
 take_message-board-requires-clause-next g c =
-    may-take g.S.Store g.J.Opening.shows c.args.self.desk c.work.desk c.work.progress.handled c.work.progress.fault c.work.inbox.got
+    may-take g.S.Store g.J.Opening.shows c.args.self.desk c.work.handling.desk c.work.handling.handled c.work.handling.fault c.work.inbox.got
     c.work.board c.in-Ok.message c.requires.tables c.in-Ok.ensures.1 c.work.invariant.stands
 
 pub take_message-board-requires-clause-untold : goal.take_message-board-requires-clause-untold
 take_message-board-requires-clause-untold g c = λ none. subst
-    (λ (o : Option ServiceFault). HasTold c.work.progress.handled c.work.inbox.got (shown_by c.work.board).entries o c.work.teller)
+    (λ (o : Option ServiceFault). HasTold c.work.handling.handled c.work.inbox.got (shown_by c.work.board).entries o c.work.handling.teller)
     none c.work.invariant.told
 
 pub work-preserved-in-Ok : goal.work-preserved-in-Ok
@@ -54,33 +54,33 @@ work-preserved-in-Ok g c =
         | inl old ↦ stays_gone c.work.inbox.got c.receive.new.self.got c.in-Ok.message got (j + 1) (i.gone j old)
         | inr now ↦ goes_now c.work.inbox.got c.receive.new.self.got (j + 1) (j + 1) (got ∙ ap (λ (m : Message). c.work.inbox.got ++ m ∷ []) now) refl
       ];
-      stands = message-kept g.S.Store g.J.Opening.shows c.args.self.desk c.work.desk t.new.desk c.work.progress.handled
-          t.new.progress.handled c.work.progress.fault t.new.progress.fault c.work.inbox.got c.receive.new.self.got c.work.board t.result
+      stands = message-kept g.S.Store g.J.Opening.shows c.args.self.desk c.work.handling.desk t.new.self.desk c.work.handling.handled
+          t.new.self.handled c.work.handling.fault t.new.self.fault c.work.inbox.got c.receive.new.self.got c.work.board t.result
           c.in-Ok.message got t.ensures.next i.stands;
-      told = message-told g.S.Store g.J.Opening.shows c.args.self.desk c.work.desk t.new.desk c.work.progress.handled
-          t.new.progress.handled c.work.progress.fault t.new.progress.fault c.work.inbox.got c.receive.new.self.got c.work.board t.result
-          c.work.teller t.new.teller c.in-Ok.message got t.ensures.next t.ensures.told i.stands i.told;
+      told = message-told g.S.Store g.J.Opening.shows c.args.self.desk c.work.handling.desk t.new.self.desk c.work.handling.handled
+          t.new.self.handled c.work.handling.fault t.new.self.fault c.work.inbox.got c.receive.new.self.got c.work.board t.result
+          c.work.handling.teller t.new.self.teller c.in-Ok.message got t.ensures.next t.ensures.told i.stands i.told;
     }
 
 pub returns-clause-finishes : goal.returns-clause-finishes
 returns-clause-finishes g c =
     let got : c.end.result.got ≡ c.work.inbox.got = ap (λ (v : View). v.got) c.end.ensures in
     let gone : (k : ℕ) → k < c.args.self.workers → is_open (of (k + 1) c.work.inbox.got) ≡ false = search rules in
-    subst (λ (l : List Message). Finishes c.args.self.workers c.work.progress.handled l c.stop.result.shown.entries g.S.Store
-    c.args.self.desk c.work.desk c.work.progress.fault) (sym got)
-    (finishes g.S.Store g.J.Opening.shows c.args.self.workers c.work.progress.handled c.work.inbox.got c.stop.result.shown.entries
-    c.args.self.desk c.work.desk c.work.progress.fault c.work.board gone
+    subst (λ (l : List Message). Finishes c.args.self.workers c.work.handling.handled l c.stop.result.shown.entries g.S.Store
+    c.args.self.desk c.work.handling.desk c.work.handling.fault) (sym got)
+    (finishes g.S.Store g.J.Opening.shows c.args.self.workers c.work.handling.handled c.work.inbox.got c.stop.result.shown.entries
+    c.args.self.desk c.work.handling.desk c.work.handling.fault c.work.board gone
     (ap (λ (v : Seen). v.entries) c.stop.ensures.same) c.work.invariant.stands)
 
 pub returns-clause-closing : goal.returns-clause-closing
 returns-clause-closing g c =
-    let n = c.work.progress.handled in
-    let fault = c.work.progress.fault in
+    let n = c.work.handling.handled in
+    let fault = c.work.handling.fault in
     let shown : c.stop.result.shown.entries ≡ (shown_by c.work.board).entries = ap (λ (v : Seen). v.entries) c.stop.ensures.same in
     let got : c.end.result.got ≡ c.work.inbox.got = ap (λ (v : View). v.got) c.end.ensures in
     subst (λ (l : List Closing). HasTold n c.end.result.got c.stop.result.shown.entries fault l) (sym c.known.ensures)
-    (subst (λ (l : List Message). HasTold n l c.stop.result.shown.entries fault c.work.teller) (sym got)
-    (subst (λ (l : List Entry). HasTold n c.work.inbox.got l fault c.work.teller) (sym shown) c.work.invariant.told))
+    (subst (λ (l : List Message). HasTold n l c.stop.result.shown.entries fault c.work.handling.teller) (sym got)
+    (subst (λ (l : List Entry). HasTold n c.work.inbox.got l fault c.work.handling.teller) (sym shown) c.work.invariant.told))
 
 pub returns-clause-told : goal.returns-clause-told
 returns-clause-told g c = λ disk H first. subst (IsTold H) (sym c.stop.ensures.same) (c.work.invariant.stands.told disk H first)

@@ -8,6 +8,6 @@ abbrev pub invariant-work : goal.invariant-work
 invariant-work g l = record {
   hearing : IsHearing l.inbox;
   gone : (k : ℕ) → slice_index_or l.gone k false ≡ true → is_open (of (k + 1) l.inbox.got) ≡ false;
-  stands : StandsOpen g.J.Opening.shows g.S.Store l.initial.desk l.desk l.progress.handled l.progress.fault l.inbox.got l.board;
-  told : HasTold l.progress.handled l.inbox.got (shown_by l.board).entries l.progress.fault l.teller;
+  stands : StandsOpen g.J.Opening.shows g.S.Store l.initial.handling.desk l.handling.desk l.handling.handled l.handling.fault l.inbox.got l.board;
+  told : HasTold l.handling.handled l.inbox.got (shown_by l.board).entries l.handling.fault l.handling.teller;
 }

@@ -1,6 +1,6 @@
 use Rattle.std.specs.Arc.{arc_value}
 use Rattle.desk.proofs.Looking.{if-ok}
-use Rattle.hall.proofs.Steps.{replied}
+use Rattle.hall.proofs.NoStepBack.{replied}
 use Rattle.hall.proofs.worker.Worker.ask.Goals as goal
 
 pub returns-in-Ok-submit-clause-found : goal.returns-in-Ok-submit-clause-found

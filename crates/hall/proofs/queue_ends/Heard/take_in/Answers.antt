@@ -3,7 +3,7 @@ use Rattle.crossbeam_channel.specs.Claims.{view}
 use Rattle.hall.specs.Queue.{taken_in}
 use Rattle.hall.specs.declared.messages.View.{View}
 use Rattle.hall.proofs.Turns.{merges, learns, taken_whole}
-use Rattle.hall.proofs.ends.Heard.take_in.Goals as goal
+use Rattle.hall.proofs.queue_ends.Heard.take_in.Goals as goal
 
 pub absorb-requires-clause-rule : goal.absorb-requires-clause-rule
 absorb-requires-clause-rule g c =

@@ -1,5 +1,5 @@
 use Rattle.std.proofs.Common.{refl, inl, inr}
-use Rattle.hall.proofs.desk_side.handle_next.Goals as goal
+use Rattle.hall.proofs.desk_side.Handling.handle_next.Goals as goal
 
 pub returns-in-Ok-show-clause-next : goal.returns-in-Ok-show-clause-next
 returns-in-Ok-show-clause-next g c = inl (record {

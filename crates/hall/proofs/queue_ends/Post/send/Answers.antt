@@ -3,7 +3,7 @@ use Rattle.crossbeam_channel.specs.Claims.{view}
 use Rattle.crossbeam_channel.specs.Ends.{sends_on, ruled_capacity}
 use Rattle.hall.specs.Queue.{from, is_open, HasNumber}
 use Rattle.hall.proofs.Turns.{sends}
-use Rattle.hall.proofs.ends.Post.send.Goals as goal
+use Rattle.hall.proofs.queue_ends.Post.send.Goals as goal
 
 pub send_as-requires-clause-rule : goal.send_as-requires-clause-rule
 send_as-requires-clause-rule g c =
