@@ -1,6 +1,6 @@
 -- What serving the web comes to, from what its parts came to.
-use Rattle.std.proofs.Common.{◌≡◌, inl, inr, ℕ, Bool, true, false, List, ◌++◌, refl, sym, subst}
-use Rattle.std.specs.Prelude.{Option, Some, Result, Ok, Err}
+use Rattle.std.proofs.Common.{◌≡◌, ◌⊎◌, inl, inr, ℕ, Bool, true, false, List, [], ◌++◌, refl, sym, subst}
+use Rattle.std.specs.Prelude.{Option, Some, None, IfSome, Result, Ok, Err}
 use Rattle.std.specs.Io.KnownBytes.{Appends}
 use Rattle.store.specs.Library.{Ghosts, Held, state}
 use Rattle.model.specs.History.{History}
@@ -10,7 +10,10 @@ use Rattle.terms.specs.Texts.{service_fault_number}
 use Rattle.terms.specs.declared.fault.ServiceFault.{ServiceFault}
 use Rattle.terms.specs.declared.fault.Fault.TheVariants.{Memory}
 use Rattle.terms.specs.declared.fault.ServiceFault.TheVariants.{Met}
+use Rattle.board.specs.declared.entry.Entry.{Entry}
+use Rattle.hall.specs.Handling.{ClosedBy}
 use Rattle.hall.specs.Queue.{handled, unhandled, requests}
+use Rattle.hall.specs.declared.messages.Message.{Message}
 use Rattle.hall.specs.Openings.{LooksOnly, IsUnopened, KeepsClosed, can_be_workers}
 use Rattle.hall.specs.declared.hall.Why.{Why}
 use Rattle.hall.specs.declared.hall.Why.TheVariants as why
@@ -33,6 +36,14 @@ module _ {S : Type 0} (g : Ghosts S) where
     where
       by : (b : Bool) → can_be_workers workers ≡ b → KeepsClosed g old new fault
       by true e = let met = is.faulted e in subst (λ (f : ServiceFault). KeepsClosed g old new f) (sym (why-faulted fault met.0 met.1)) met.2
+      by false e = let never : ⊥ = cc ((is.refused e).0) in absurd never
+
+  -- there can be so many
+  can-be : (workers : ℕ) (old new : Held S) (fault : ServiceFault) → IsUnopened workers g old new (why.Faulted fault) → can_be_workers workers ≡ true
+  can-be workers old new fault is = by (can_be_workers workers) refl
+    where
+      by : (b : Bool) → can_be_workers workers ≡ b → can_be_workers workers ≡ true
+      by true e = e
       by false e = let never : ⊥ = cc ((is.refused e).0) in absurd never
 
   -- there can't be so many workers
@@ -79,26 +90,60 @@ module _ {S : Type 0} (g : Ghosts S) where
       };
     }
 
+  -- what closed the hall, also from before the tables were looked at
+  closed-after-look : (n : ℕ) (got : List Message) (old side new : Held S) (entries : List Entry) (fault : Option ServiceFault)
+      → LooksOnly g old side (Ok tt) → IfSome fault (ClosedBy n got g side new entries) → IfSome fault (ClosedBy n got g old new entries)
+  closed-after-look n got old side new entries None look closed = tt
+  closed-after-look n got old side new entries (Some fault) look (inl desk) = inl (record {
+    before = desk.before;
+    reached = handled-after-look g (requests (handled n got)) [] old side desk.before None look desk.reached;
+    next = desk.next;
+    later = desk.later;
+    rest_is = desk.rest_is;
+    met = desk.met;
+    is = desk.is;
+    handles = desk.handles;
+    shown = desk.shown;
+  })
+  closed-after-look n got old side new entries (Some fault) look (inr (inl board)) = inr (inl (record {
+    made = board.made;
+    reached = handled-after-look g (requests (handled n got)) [] old side board.made None look board.reached;
+    met = board.met;
+    is = board.is;
+    looks = board.looks;
+    last = board.last;
+    shown = board.shown;
+  }))
+  closed-after-look n got old side new entries (Some fault) look (inr (inr full)) = inr (inr (record {
+    is = full.is;
+    full = full.full;
+    shown = full.shown;
+  }))
+
   -- the hall was opened, which only looks at the tables, and for each list that they show
   pub opened-served : {E : Type 0} (lists : History → Type 0) (port workers : ℕ) (old side new : Held S)
       (a b : Option (List ℕ)) (r : Result Exit E) → ((H : History) → Shows (state g old) H → lists H)
-      → LooksOnly g old side (Ok tt) → ServesHall lists port g side new a b r → ServesPort port workers g old new a b r
-  opened-served lists port workers old side new a b r every look served =
+      → can_be_workers workers ≡ true → LooksOnly g old side (Ok tt) → ServesHall lists port g side new a b r → ServesPort port workers g old new a b r
+  opened-served lists port workers old side new a b r every can look served =
       let s = served.serves in
-      inl (record {
-        fault = served.fault;
-        are_whole = served.are_whole;
-        serves = record {
-          got = s.got;
-          n = s.n;
-          shown = s.shown;
-          desk = handled-after-look g (requests (handled s.n s.got)) (requests (unhandled s.n s.got)) old side new served.fault look s.desk;
-          all = s.all;
-          told = λ disk H shows. s.told disk H (every H shows);
-          replies = λ disk H shows. s.replies disk H (every H shows);
-        };
-        told = served.told;
-      })
+      inl (
+        can,
+        record {
+          fault = served.fault;
+          are_whole = served.are_whole;
+          serves = record {
+            got = s.got;
+            n = s.n;
+            shown = s.shown;
+            desk = handled-after-look g (requests (handled s.n s.got)) (requests (unhandled s.n s.got)) old side new served.fault look s.desk;
+            all = s.all;
+            cause = closed-after-look s.n s.got old side new s.shown.entries served.fault look s.cause;
+            told = λ disk H shows. s.told disk H (every H shows);
+            replies = λ disk H shows. s.replies disk H (every H shows);
+          };
+          told = served.told;
+        },
+      )
 
   -- no memory was left before anything was asked
   pub no-memory : (held : Held S) → KeepsClosed g held held (Met Memory)
@@ -106,16 +151,17 @@ module _ {S : Type 0} (g : Ghosts S) where
 
   -- the fault of a hall that isn't opened was told
   pub fault-told : {E : Type 0} (port workers : ℕ) (old new : Held S) (a b : Option (List ℕ)) (r : Result Exit E) (fault : ServiceFault)
-      → KeepsClosed g old new fault → EndsWith Faulted (fault_line (service_fault_number fault)) a b r
-      → ServesPort port workers g old new a b r
-  fault-told port workers old new a b r fault cause ends =
-      inr (inl (record { fault = fault; cause = cause; desk = unopened g old new fault cause; told = ends }))
+      → (can_be_workers workers ≡ true) ⊎ (fault ≡ Met Memory) → KeepsClosed g old new fault
+      → EndsWith Faulted (fault_line (service_fault_number fault)) a b r → ServesPort port workers g old new a b r
+  fault-told port workers old new a b r fault asked cause ends =
+      inr (inl (record { fault = fault; asked = asked; cause = cause; desk = unopened g old new fault cause; told = ends }))
 
 -- why the hall isn't opened was told
 pub why-told : {S E : Type 0} (g : Ghosts S) (port workers : ℕ) (old new : Held S) (w : Why) (a b : Option (List ℕ)) (r : Result Exit E)
     → IsUnopened workers g old new w → EndsWith (exit_of_why w) (why_line w) a b r
     → ServesPort port workers g old new a b r
-why-told g port workers old new (why.Faulted fault) a b r is ends = fault-told g port workers old new a b r fault (not-opened g workers old new fault is) ends
+why-told g port workers old new (why.Faulted fault) a b r is ends = fault-told g port workers old new a b r fault (inl (can-be g workers old new fault is))
+    (not-opened g workers old new fault is) ends
 why-told g port workers old new (why.Refused refusal) a b r is ends = let none = not-asked g workers old new refusal is in inr (inr (none.0, none.1, ends))
 
 -- that a thread could not be made was told, and then the fault

@@ -72,6 +72,7 @@ module _ {S : Type 0} (g : Ghosts S) (old new : Held S) (key : List ℕ) (words 
         nothing = nothing;
         left = λ disk H shows. inr
             (command, understood, left disk H shows);
+        asked = inr (command, understood);
       }))
 
 -- nothing was touched
@@ -85,6 +86,7 @@ module _ {S : Type 0} (g : Ghosts S) (held : Held S) (key : List ℕ) (words : L
     undone = λ disk is_open H shows. shows;
     nothing = λ disk is_open there. record { now = refl; left = λ trees may. inl may };
     left = λ disk H shows. inl (still-left (state g held) H H shows);
+    asked = inl refl;
   }))
 
   pub says-not-understood : ((command : Command) → IsUnderstoodAs words command → ⊥) → Says key words g held held not_understood_line NotUnderstood

@@ -3,7 +3,7 @@ use Rattle.std.proofs.Common.{◌≡◌, ℕ, ◌+◌, ◌≤◌, Bool, true, fa
 use Rattle.std.specs.Prelude.{Some, None, is_none, count_by, sum_by, filter, All}
 use Rattle.store.specs.Lists.{AllPass, AreTables, AreAuditTables}
 use Rattle.store.proofs.OneList.{one_rows, tested_rows}
-use Rattle.store.proofs.PagedRows.{open_pass}
+use Rattle.store.proofs.BatchedRows.{open_pass}
 use Rattle.terms.specs.Pictures.{Picture}
 use Rattle.terms.specs.declared.row.CopyRow.{CopyRow}
 use Rattle.terms.specs.declared.row.HoldRow.{HoldRow}

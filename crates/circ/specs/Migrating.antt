@@ -2,7 +2,7 @@
 use Rattle.std.specs.Prelude.{◌≡◌, ◌≤◌, ◌<◌, ◌⊎◌, ℕ, List, Option, Result, IfOk, OnErr}
 use Rattle.std.specs.Io.KnownBytes.{Appends}
 use Rattle.store.specs.Library.{Ghosts, Held, State, state, IsClean, IsOpen, IsAsItWas}
-use Rattle.store.specs.Migrating.{AreThere, LeadsUp, IsLedInPart, CannotBeLed}
+use Rattle.store.specs.Migrating.{AreThere, MigratesUp, IsLedInPart, CannotBeLed}
 use Rattle.store.specs.Schemas.{IsKnown, IsOlder}
 use Rattle.store.specs.Stops.{Leaves, KeepsPictureAt, LeavesPicture}
 use Rattle.circ_tables.specs.Encoding.{HasPictureAt}
@@ -46,7 +46,7 @@ pub record SaysLed {S : Type 0} (g : Ghosts S) (old new : Held S) (line : List �
       → Shows (state g new) H
   pub same : IsClean g new → Stays (state g old) (state g new)
   pub legal : IsClean g new → (n : ℕ) → AreThere n (state g old).now
-      → LeadsUp (state g old).now (state g new).now
+      → MigratesUp (state g old).now (state g new).now
 
 -- The line is a fault, which is not 93 where the tables showed a list of accepted requests. They
 -- show the same list, as long as the database is open, in their schema or in that of the last whole

@@ -9,7 +9,7 @@ use Rattle.terms.specs.declared.command.Command.{Command}
 use Rattle.terms.specs.declared.command.Request.{Request}
 use Rattle.terms.specs.Texts.{fault_number}
 use Rattle.terms.specs.declared.fault.Fault.{Fault}
-use Rattle.terms.specs.declared.fault.Fault.TheVariants.{Stored}
+use Rattle.terms.specs.declared.fault.Fault.TheVariants.{Memory, Stored}
 use Rattle.terms.specs.declared.refusal.Refusal.{Refusal}
 use Rattle.terms.specs.declared.reply.Reply.{Reply}
 use Rattle.terms.specs.declared.reply.Reply.TheVariants.{Refused as Denied}
@@ -56,8 +56,9 @@ LeavesRequest key words s H =
     ⊎ ((command : Command) × IsUnderstoodAs words command
     × LeavesOneOf s H (after_one H (desk_request key command)))
 
--- The line is a fault, which is not 93 where the tables showed a list of accepted requests. They show what
--- they showed, and nothing is changed, whatever rows they have, as long as the database is open; whatever
+-- The line is a fault: 90, or one that a command met, which is not 93 where the tables showed a list of
+-- accepted requests. They show what they showed, and nothing is changed, whatever rows they have, as long as
+-- the database is open; whatever
 -- may leave of them when the program is stopped is that, or what they would show after the request of the
 -- words.
 pub record SaysFault {S : Type 0} (key : List ℕ) (words : List (List ℕ))
@@ -71,6 +72,8 @@ pub record SaysFault {S : Type 0} (key : List ℕ) (words : List (List ℕ))
       → IsAsItWas (state g old) (state g new)
   pub left : IsClean g new → (H : History) → Shows (state g old) H
       → LeavesRequest key words (state g new) H
+  -- but for want of memory, the words are a command
+  pub asked : (fault ≡ Memory) ⊎ ((command : Command) × IsUnderstoodAs words command)
 
 -- The words are no command, and nothing is touched.
 pub record SaysNotUnderstood {S : Type 0} (words : List (List ℕ)) (old new : Held S) (line : List ℕ)

@@ -1,15 +1,17 @@
 -- What serving the web comes to: what the tables show after it, and the lines that tell it.
-use Rattle.std.specs.Prelude.{◌≡◌, ◌⊎◌, ℕ, Bool, true, false, if◌then◌else◌, List, [], ◌++◌, length, Option, Some, None, Result}
+use Rattle.std.specs.Prelude.{◌≡◌, ◌⊎◌, ℕ, Bool, true, false, if◌then◌else◌, List, [], ◌++◌, length, Option, Some, None, IfSome, Result}
 use Rattle.store.specs.Library.{Ghosts, Held, state}
 use Rattle.model.specs.History.{History}
 use Rattle.desk.specs.Answering.{Shows}
 use Rattle.board.specs.declared.entry.Seen.{Seen}
 use Rattle.terms.specs.Texts.{service_fault_number}
+use Rattle.terms.specs.declared.fault.Fault.TheVariants.{Memory}
 use Rattle.terms.specs.declared.fault.ServiceFault.{ServiceFault}
+use Rattle.terms.specs.declared.fault.ServiceFault.TheVariants.{Met}
 use Rattle.hall.specs.declared.messages.Message.{Message}
 use Rattle.hall.specs.Queue.{handled, unhandled, submissions, requests}
 use Rattle.hall.specs.Openings.{ToldBy, KeepsClosed, can_be_workers}
-use Rattle.hall.specs.Handling.{HandledFirst, AreShown}
+use Rattle.hall.specs.Handling.{HandledFirst, AreShown, ClosedBy}
 use Rattle.hall.specs.Serving.{GivesReplies}
 use Rattle.hall.specs.declared.hall.Why.{Why}
 use Rattle.hall.specs.declared.hall.Why.TheVariants.{Refused, Faulted}
@@ -33,6 +35,8 @@ pub record ServesWorkers {S : Type 0} (lists : History → Type 0) (g : Ghosts S
   pub desk : HandledFirst (requests (handled n got)) (requests (unhandled n got)) g old new fault
   -- without a fault that is all that was received, and what was shown are just these, in order
   pub all : fault ≡ None → (n ≡ length (submissions got)) × AreShown shown.entries (handled n got)
+  -- a fault is the one that closed the hall
+  pub cause : IfSome fault (ClosedBy n got g old new shown.entries)
   -- what was shown is what these lists of accepted requests make it, and so is what a worker answers that
   -- has seen a beginning of it
   pub told : ToldBy lists g new shown
@@ -81,9 +85,11 @@ pub record ServesHall {S E : Type 0} (lists : History → Type 0) (port : ℕ) (
   pub told : TellsPort port are_whole fault before after result
 
 -- The hall could not be opened: nothing was handled, and the fault that came is told alone.
-pub record IsNotServed {S E : Type 0} (g : Ghosts S) (old new : Held S) (before after : Option (List ℕ))
-    (result : Result Exit E) : Type 0 where
+pub record IsNotServed {S E : Type 0} (workers : ℕ) (g : Ghosts S) (old new : Held S)
+    (before after : Option (List ℕ)) (result : Result Exit E) : Type 0 where
   pub fault : ServiceFault
+  -- there can be so many workers, or no memory was left to see that
+  pub asked : (can_be_workers workers ≡ true) ⊎ (fault ≡ Met Memory)
   pub cause : KeepsClosed g old new fault
   pub desk : HandledFirst [] [] g old new (Some fault)
   pub told : EndsWith exit.Faulted (fault_line (service_fault_number fault)) before after result
@@ -92,6 +98,6 @@ pub record IsNotServed {S E : Type 0} (g : Ghosts S) (old new : Held S) (before 
 -- showed; or the hall could not be opened; or there can't be so many workers, and nothing was touched.
 abbrev pub ServesPort : {S E : Type 0} → ℕ → ℕ → Ghosts S → Held S → Held S → Option (List ℕ) → Option (List ℕ) → Result Exit E → Type 0
 ServesPort port workers g old new before after result =
-    ServesHall (Shows (state g old)) port g old new before after result
-    ⊎ (IsNotServed g old new before after result
+    ((can_be_workers workers ≡ true) × ServesHall (Shows (state g old)) port g old new before after result)
+    ⊎ (IsNotServed workers g old new before after result
     ⊎ ((can_be_workers workers ≡ false) × (new ≡ old) × EndsWith NotUnderstood not_understood_line before after result))

@@ -4,7 +4,7 @@ use crate::serving::Web;
 use desk::Report;
 use hall_schedule::WORKERS;
 use std::alloc::Global;
-use terms::{BranchId, CardKey, Day, Key, Memory, read_number};
+use terms::{BranchId, CardKey, Day, Key, Memory, PartKind, read_number};
 
 /// What a program is asked to do.
 #[derive(Drop)]
@@ -47,6 +47,68 @@ pub enum Run<'a> {
         key: Key,
         words: &'a [String],
     },
+}
+
+impl<'a> Run<'a> {
+    /// The path of the library, where the run has one.
+    pub fn library(&self) -> Option<&'a str> {
+        match self {
+            Run::File { path, .. }
+            | Run::Import { path, .. }
+            | Run::Report { path, .. }
+            | Run::Audit { path }
+            | Run::Migrate { path }
+            | Run::Serve { path, .. } => Some(*path),
+            Run::Send { .. } => None,
+        }
+    }
+
+    /// Whether its lines go out at once, so that what was told was done: those of a copies file and
+    /// of the web.
+    pub fn tells_at_once(&self) -> bool {
+        match self {
+            Run::Import { .. } | Run::Serve { .. } => true,
+            _ => false,
+        }
+    }
+}
+
+/// What a word of a run has to be.
+#[derive(Clone, Copy)]
+pub enum ArgumentForm {
+    /// A word as commands have them.
+    Part(PartKind),
+    /// What the text says.
+    Other(&'static str),
+}
+
+/// A word of a run that isn't what it has to be.
+#[derive(Clone, Copy)]
+pub struct WrongArgument {
+    /// Its name, as the usage has it.
+    pub name: &'static str,
+    pub form: ArgumentForm,
+}
+
+/// A word with this name has to be what the text says.
+fn other(name: &'static str, text: &'static str) -> WrongArgument {
+    WrongArgument {
+        name,
+        form: ArgumentForm::Other(text),
+    }
+}
+
+/// A word with this name has to be of this kind.
+fn part(name: &'static str, kind: PartKind) -> WrongArgument {
+    WrongArgument {
+        name,
+        form: ArgumentForm::Part(kind),
+    }
+}
+
+/// A port that is none.
+fn wrong_port() -> WrongArgument {
+    other("PORT", "a number from 1 to 65535, without a leading zero")
 }
 
 /// A request on a file: there has to be a word at least, and a key in its form.
@@ -197,6 +259,83 @@ fn read_send<'a>(alloc: Global, words: &'a [String]) -> Result<Option<Run<'a>>, 
             words,
         })),
         None => Ok(None),
+    }
+}
+
+/// The key of a request, if it isn't in its form.
+fn wrong_key(alloc: Global, key: &str) -> Result<Option<WrongArgument>, Memory> {
+    match Key::new(alloc, key)? {
+        Some(_) => Ok(None),
+        None => Ok(Some(other("KEY", "1 to 40 letters, digits and hyphens of ASCII"))),
+    }
+}
+
+/// The desk's key, if it isn't in its form.
+fn wrong_desk_key(alloc: Global, desk_key: &str) -> Result<Option<WrongArgument>, Memory> {
+    match CardKey::new(alloc, desk_key)? {
+        Some(_) => Ok(None),
+        None => Ok(Some(part("DESKKEY", PartKind::CardKey))),
+    }
+}
+
+/// The first wrong word of a report.
+fn wrong_report(name: &str, argument: &str) -> Option<WrongArgument> {
+    match name {
+        "overdue" | "shelf" if read_number(argument).is_none() => {
+            Some(part("BRANCH", PartKind::Number))
+        }
+        "till" if Day::read(argument).is_none() => Some(part("DAY", PartKind::Day)),
+        "overdue" | "shelf" | "till" => None,
+        _ => Some(other("the report", "overdue, till or shelf")),
+    }
+}
+
+/// The first wrong word of a program that serves.
+fn wrong_serve(
+    alloc: Global,
+    port: &str,
+    workers: &str,
+    each: &str,
+    desk_key: &str,
+) -> Result<Option<WrongArgument>, Memory> {
+    if read_port(port).is_none() {
+        return Ok(Some(wrong_port()));
+    }
+    if read_workers(workers).is_none() {
+        return Ok(Some(other("WORKERS", "a number from 1 to 8")));
+    }
+    if read_each(each).is_none() {
+        return Ok(Some(other("EACH", "a number from 1 to 1000000, without a leading zero")));
+    }
+    wrong_desk_key(alloc, desk_key)
+}
+
+/// The first word of a run that isn't what it has to be, where `read_run` doesn't understand the
+/// words. None where their number is wrong, or the first word is no run.
+pub fn wrong_argument(alloc: Global, words: &[String]) -> Result<Option<WrongArgument>, Memory> {
+    let [run, words @ ..] = words else {
+        return Ok(None);
+    };
+    match (run.as_str(), words) {
+        ("file", [_, key, _, ..]) => wrong_key(alloc, key.as_str()),
+        ("report", [_, name, argument]) => Ok(wrong_report(name.as_str(), argument.as_str())),
+        ("serve", [_, port, workers, each, desk_key]) => wrong_serve(
+            alloc,
+            port.as_str(),
+            workers.as_str(),
+            each.as_str(),
+            desk_key.as_str(),
+        ),
+        ("send", [port, _, _, _, ..]) if read_port(port.as_str()).is_none() => Ok(Some(
+            wrong_port(),
+        )),
+        ("send", [_, desk_key, key, _, ..]) => {
+            match wrong_desk_key(alloc, desk_key.as_str())? {
+                Some(wrong) => Ok(Some(wrong)),
+                None => wrong_key(alloc, key.as_str()),
+            }
+        }
+        _ => Ok(None),
     }
 }
 

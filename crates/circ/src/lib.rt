@@ -14,10 +14,11 @@ mod sending;
 mod serving;
 mod writing;
 
-pub use arguments::{Run, read_run};
+pub use arguments::{ArgumentForm, Run, WrongArgument, read_run, wrong_argument};
 pub use auditing::audit;
 pub use connections::{Connections, work};
 pub use desk::Report;
+pub use hall::Watch;
 pub use importing::{import, unreadable};
 pub use lines::{Exit, WriteFault, no_network, not_understood, out_of_memory, tell_fault};
 pub use migrating::migrate;

@@ -15,7 +15,7 @@ use crate::lines::{
 };
 use crate::listening::Port;
 use desk::Desk;
-use hall::{DeskSide, Ended, Hall, HallFault, Left, Opened, Opening, Why, Worker};
+use hall::{DeskSide, Ended, Hall, HallFault, Left, Opened, Opening, Watch, Why, Worker};
 use hall_schedule::WORKERS;
 use sqlite::Alter;
 use std::alloc::Global;
@@ -192,9 +192,15 @@ struct Met<S: Alter> {
 }
 
 /// Runs a hall: each worker has a thread of the crew, and this thread is the desk's.
-fn run<J: Opening + Send + Sync + 'static, S: Alter, R: Threads + Wait + Copy + Send + 'static>(
+fn run<
+    J: Opening + Send + Sync + 'static,
+    S: Alter,
+    R: Threads + Wait + Copy + Send + 'static,
+    N: Watch,
+>(
     rt: R,
     alloc: Global,
+    watch: &mut N,
     side: DeskSide<J, S>,
     workers: Vec<Worker<J>>,
     crew: Crew<J>,
@@ -206,7 +212,7 @@ fn run<J: Opening + Send + Sync + 'static, S: Alter, R: Threads + Wait + Copy + 
     let count = workers.len();
     crew.shared.put(&rt, workers);
     let have_threads = start_all(rt, alloc, &mut crew, count);
-    let (desk, mut ended, fault) = side.desk_loop(&rt, alloc);
+    let (desk, mut ended, fault) = side.desk_loop(&rt, alloc, watch);
     let parts = take_in_all(&rt, &mut ended, crew);
     ended.close(&rt);
     let are_whole = have_threads && parts >= count as u64;
@@ -244,9 +250,11 @@ fn serve_hall<
     S: Alter,
     W: Write,
     R: Threads + Wait + Copy + Send + 'static,
+    N: Watch,
 >(
     rt: R,
     alloc: Global,
+    watch: &mut N,
     side: DeskSide<J, S>,
     workers: Vec<Worker<J>>,
     crew: Crew<J>,
@@ -263,7 +271,7 @@ fn serve_hall<
                 desk,
                 fault,
                 are_whole,
-            } = run(rt, alloc, side, workers, crew);
+            } = run(rt, alloc, watch, side, workers, crew);
             (desk, tell_end(writer, are_whole, fault))
         }
         Err(fault) => {
@@ -273,7 +281,7 @@ fn serve_hall<
                 desk,
                 fault: _,
                 are_whole: _,
-            } = run(rt, alloc, side, workers, crew);
+            } = run(rt, alloc, watch, side, workers, crew);
             (desk, Err(fault))
         }
     }
@@ -296,9 +304,11 @@ fn open_and_serve<
     S: Alter,
     W: Write,
     R: Threads + Wait + Copy + Send + 'static,
+    N: Watch,
 >(
     rt: R,
     alloc: Global,
+    watch: &mut N,
     opened: Opened,
     desk: Desk<S>,
     listener: TcpListener,
@@ -322,7 +332,7 @@ fn open_and_serve<
         Err(_) => return (desk, out_of_memory(writer)),
     };
     match Hall::new::<J, S, R>(&rt, alloc, opened, desk, workers) {
-        Ok((side, workers)) => serve_hall(rt, alloc, side, workers, crew, port, writer),
+        Ok((side, workers)) => serve_hall(rt, alloc, watch, side, workers, crew, port, writer),
         Err(HallFault { why, desk }) => (desk, tell_why(writer, why)),
     }
 }
@@ -335,10 +345,12 @@ fn open_and_serve<
 /// end of a worker could not be taken in, and the last one the fault that closed the hall. What was
 /// handled is what the workers submitted, and what they answered is what each list of accepted
 /// requests gives that the tables showed. Where the hall can't be opened that fault stands alone;
-/// for another number of workers the line is that of words that aren't understood.
-pub fn serve<S: Alter, W: Write, R: Threads + Wait + Copy + Send + 'static>(
+/// for another number of workers the line is that of words that aren't understood. The watch is told
+/// when the hall closes, while its workers still answer.
+pub fn serve<S: Alter, W: Write, R: Threads + Wait + Copy + Send + 'static, N: Watch>(
     rt: R,
     alloc: Global,
+    watch: &mut N,
     desk: Desk<S>,
     listener: TcpListener,
     web: Web,
@@ -349,7 +361,9 @@ pub fn serve<S: Alter, W: Write, R: Threads + Wait + Copy + Send + 'static>(
 {
     match Opened::new(alloc) {
         Ok(opened) => {
-            open_and_serve::<Brand, S, W, R>(rt, alloc, opened, desk, listener, web, writer)
+            open_and_serve::<Brand, S, W, R, N>(
+                rt, alloc, watch, opened, desk, listener, web, writer,
+            )
         }
         Err(_) => (desk, out_of_memory(writer)),
     }

@@ -6,7 +6,7 @@ ghost use Rattle.model.specs.History.{History};
 ghost use Rattle.hall.specs.Openings.{OpensWith};
 
 use crate::calls::serve_many;
-use circ::Connections;
+use circ::{Connections, Watch};
 use hall::{DeskSide, Hall, Left, Opened, Opening};
 use sqlite::MemStore;
 use std::alloc::Global;
@@ -14,7 +14,7 @@ use std::marker::Brand;
 use std::process::Abort;
 use std::sync::Wait;
 use std::test::Fail;
-use terms::CardKey;
+use terms::{CardKey, ServiceFault};
 use test_bytes::{Drip, Narrow};
 
 /// What each connection sends, and how its answer begins. Nothing of it is submitted, since nobody
@@ -84,6 +84,18 @@ fn count_right(list: &List) -> usize {
     count
 }
 
+/// Whether a hall was closed.
+#[derive(Drop)]
+struct Heard {
+    is_closed: bool,
+}
+
+impl Watch for Heard {
+    fn closed(&mut self, _fault: ServiceFault) {
+        self.is_closed = true;
+    }
+}
+
 /// Ends a hall of one worker, which has left: whether the desk was told so, and how many
 /// submissions were handled.
 fn end_hall<J: Opening, R: Wait>(
@@ -94,7 +106,8 @@ fn end_hall<J: Opening, R: Wait>(
 ) -> (bool, u64)
     requires { OpensWith J.shows over_memory side.desk side.publisher.shown }
 {
-    let (_, mut ended, _) = side.desk_loop(rt, alloc);
+    let mut heard = Heard { is_closed: false };
+    let (_, mut ended, _) = side.desk_loop(rt, alloc, &mut heard);
     let is_told = match left {
         Some(left) => {
             let is_told = left.is_told;
@@ -104,7 +117,7 @@ fn end_hall<J: Opening, R: Wait>(
     };
     let handled = ended.handled();
     ended.close(rt);
-    (is_told, handled)
+    (is_told && !heard.is_closed, handled)
 }
 
 /// One worker serves the connections of the list, of which so many are had and so many bytes of

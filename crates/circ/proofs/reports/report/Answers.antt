@@ -1,6 +1,6 @@
 use Rattle.std.proofs.Common.{rules, ap, Err, [], ◌∙◌}
 use Rattle.std.proofs.KnownBytes.{Appends-kept, Appends-nil}
-use Rattle.desk.specs.declared.reporting.ReportFault.TheVariants.{Faulted as Met}
+use Rattle.desk.specs.declared.report_fault.ReportFault.TheVariants.{Faulted as Met}
 use Rattle.desk.proofs.Shown.{shows-headline}
 use Rattle.circ.specs.Reporting.{TellsOf}
 use Rattle.circ.specs.declared.lines.Exit.TheVariants.{Done, Refused, Faulted}

@@ -1,3 +1,4 @@
+use Rattle.std.proofs.Common.{inr, refl}
 use Rattle.terms.specs.declared.fault.Fault.TheVariants.{Memory}
 use Rattle.terms.specs.declared.fault.ServiceFault.TheVariants.{Met}
 use Rattle.circ.proofs.Halls.{no-memory, fault-told}
@@ -5,4 +6,4 @@ use Rattle.circ.proofs.serving.serve.Goals as goal
 
 pub returns-in-Err : goal.returns-in-Err
 returns-in-Err g c = fault-told g.S.Store c.args.web.port c.args.web.workers c.args.desk c.args.desk _ _ c.out_of_memory.result (Met Memory)
-    (no-memory g.S.Store c.args.desk) c.out_of_memory.ensures
+    (inr refl) (no-memory g.S.Store c.args.desk) c.out_of_memory.ensures

@@ -1,9 +1,9 @@
 //! The calls of the layers below, with no clauses, and generic over the store: the program promises
 //! nothing more than they do, so its proof carries nothing of theirs.
 
-use circ::{Exit, Report, Web, WriteFault};
+use circ::{Exit, Report, Watch, Web, WriteFault};
 use desk::Desk;
-use sqlite::{Alter, FileFrom, FileStore, Start};
+use sqlite::{Alter, Connection, FileFrom, FileStore, Start};
 use sqlite_disk::Disk;
 use std::alloc::Global;
 use std::fs::File;
@@ -53,6 +53,11 @@ pub fn close<D: Disk + Drop>(desk: Desk<FileStore<D>>) {
 /// The same of the tables alone.
 pub fn close_tables<D: Disk + Drop>(store: Store<FileStore<D>>) {
     let _ = store.close();
+}
+
+/// The number of the schema that the tables name; none where they name none.
+pub fn schema_of<S: Alter>(conn: &mut Connection<S>) -> Option<u32> {
+    circ_tables::schema_of(conn).ok()
 }
 
 /// Handles one request, and writes its line.
@@ -105,15 +110,16 @@ pub fn migrate<S: Alter, W: Write>(
 }
 
 /// Serves the web, and gives the desk back.
-pub fn serve<S: Alter, W: Write, R: Threads + Wait + Copy + Send + 'static>(
+pub fn serve<S: Alter, W: Write, R: Threads + Wait + Copy + Send + 'static, N: Watch>(
     rt: R,
     alloc: Global,
+    watch: &mut N,
     desk: Desk<S>,
     listener: TcpListener,
     web: Web,
     writer: &mut W,
 ) -> (Desk<S>, Result<Exit, WriteFault>) {
-    circ::serve(rt, alloc, desk, listener, web, writer)
+    circ::serve(rt, alloc, watch, desk, listener, web, writer)
 }
 
 /// Sends one request over the connection, and writes its line.
@@ -154,9 +160,4 @@ pub fn unreadable<W: Write>(writer: &mut W) -> Result<Exit, WriteFault> {
 /// Writes that the words are not understood.
 pub fn not_understood<W: Write>(writer: &mut W) -> Result<Exit, WriteFault> {
     circ::not_understood(writer)
-}
-
-/// Writes that no memory is left.
-pub fn out_of_memory<W: Write>(writer: &mut W) -> Result<Exit, WriteFault> {
-    circ::out_of_memory(writer)
 }

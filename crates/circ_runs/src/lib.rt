@@ -1,0 +1,10 @@
+//! The runs of the program `circ`: each opens its library, does what is asked for and writes the lines for
+//! scripts. What a person should know goes to standard error.
+#![tactic(auto)]
+
+mod calls;
+mod files;
+mod notes;
+mod running;
+
+pub use running::run;
