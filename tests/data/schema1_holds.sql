@@ -1,4 +1,4 @@
--- A library of schema 1 after the first 642 requests of tests/month.txt and those of patrons in tests/migrate.py.
+-- A library of schema 1 after the first 642 requests of tests/data/month.txt and those of patrons in tests/gate/migrate.py.
 -- `circ` 0.9.0 of schema 1 made it, and stock SQLite 3.40.1 wrote it down (`sqlite3 FILE .dump`).
 PRAGMA foreign_keys=OFF;
 BEGIN TRANSACTION;

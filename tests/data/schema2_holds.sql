@@ -1,4 +1,4 @@
--- A library of schema 2 after the first 642 requests of tests/month.txt, those of patrons in tests/migrate.py (`BY_PATRONS`), and those of holds from a day on (`FIRST_DAYS`).
+-- A library of schema 2 after the first 642 requests of tests/data/month.txt, those of patrons in tests/gate/migrate.py (`BY_PATRONS`), and those of holds from a day on (`FIRST_DAYS`).
 -- `circ` 0.10.0 of schema 2 made it, and stock SQLite 3.40.1 wrote it down (`sqlite3 FILE .dump`).
 PRAGMA foreign_keys=OFF;
 BEGIN TRANSACTION;

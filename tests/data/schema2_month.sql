@@ -1,4 +1,4 @@
--- A library of schema 2 after the first 771 requests of tests/month.txt.
+-- A library of schema 2 after the first 771 requests of tests/data/month.txt.
 -- `circ` 0.10.0 of schema 2 made it, and stock SQLite 3.40.1 wrote it down (`sqlite3 FILE .dump`).
 PRAGMA foreign_keys=OFF;
 BEGIN TRANSACTION;

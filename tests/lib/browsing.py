@@ -1,4 +1,4 @@
-"""Chromium before the pages: what the tests in a browser have in common. It needs selenium and a driver, which tests/outside installs."""
+"""Chromium before the pages: what the tests in a browser have in common. It needs selenium and a driver, which tests/tools/outside installs."""
 
 import time
 

@@ -7,15 +7,16 @@ import shlex
 import signal
 import sqlite3
 import subprocess
-import sys
 import time
 from contextlib import closing
 
-from messages import as_it_is, message
+from lib.checking import check
+from lib.messages import as_it_is, makes_library, message
+from lib.program import program
+from room import TOP
 
-TOP = os.path.dirname(os.path.dirname(os.path.dirname(os.path.abspath(__file__))))
 CIRC = os.path.join(TOP, "circ")
-PROGRAM = os.path.join(TOP, "crates", "circ_cli", "out", "circ_cli")
+PROGRAM = program()
 
 # A key, the words, and the line that answers them.
 GROUND = [
@@ -36,23 +37,13 @@ GROUND = [
     ("g15", ["acquire", "30", "300", "2", "1", "800", "Night Ferries"], "ok"),
 ]
 
-passed = 0
-
-
-def check(what, found, wanted):
-    """Counts a passed test, or ends the script."""
-    global passed
-    if found != wanted:
-        print(f"{os.path.basename(sys.argv[0])}: {what}\n  found  {found!r}\n  wanted {wanted!r}", file=sys.stderr)
-        sys.exit(1)
-    passed += 1
-
 
 def circ(words, **how):
     """The line and the status of one run, which says on standard error what the line means."""
+    made = makes_library(words)
     run = subprocess.run([CIRC, *words], capture_output=True, timeout=120, **how)
     line = run.stdout.decode()
-    check(f"standard error of {words}", run.stderr, message(words, line))
+    check(f"standard error of {words}", run.stderr, message(words, line, made=made))
     check(f"one line of {words}", (line.count("\n"), line.endswith("\n")), (1, True))
     return line[:-1], run.returncode
 
@@ -102,8 +93,10 @@ def whole(path):
 
 def answers(path, key, words):
     """What one run prints, of any number of lines, and its status."""
-    run = subprocess.run([CIRC, "file", path, key, *words], capture_output=True, timeout=120)
-    check(f"standard error of {key} {words}", run.stderr, message(["file", path, key, *words], run.stdout.decode()))
+    run_words = ["file", path, key, *words]
+    made = makes_library(run_words)
+    run = subprocess.run([CIRC, *run_words], capture_output=True, timeout=120)
+    check(f"standard error of {key} {words}", run.stderr, message(run_words, run.stdout.decode(), made=made))
     return run.stdout.decode(), run.returncode
 
 
@@ -116,9 +109,11 @@ def report(path, *words):
 
 def memory_of(words, out):
     """The most memory that a run of the program takes, in KiB, and its status; what it prints goes into a file."""
-    run = subprocess.run([os.path.join(TOP, "tests", "measured"), out, PROGRAM, *words], stdout=subprocess.PIPE, check=True)
+    run = subprocess.run([os.path.join(TOP, "tests", "tools", "measured"), out, PROGRAM, *words], stdout=subprocess.PIPE, check=True)
     _, most, status = run.stdout.split()
     return int(most), int(status)
+
+
 ROOM = 8 * 1024  # KiB; the rows of a whole report of so many loans would take several times as much
 
 
@@ -155,7 +150,7 @@ def the_rows_are(path, library):
 
 def month():
     """The requests of a month: the key of each and its words."""
-    with open(os.path.join(TOP, "tests", "month.txt"), encoding="utf-8") as file:
+    with open(os.path.join(TOP, "tests", "data", "month.txt"), encoding="utf-8") as file:
         return [shlex.split(line) for line in file]
 
 
@@ -164,8 +159,10 @@ HEADER = "copy,title,text,kind,home,price,end\n"
 
 def take_in(path, copies):
     """What taking in a copies file prints, and its status."""
-    run = subprocess.run([CIRC, "import", path, copies], capture_output=True, timeout=120)
-    check("standard error of a copies file", run.stderr, message(["import", path, copies], run.stdout.decode()))
+    words = ["import", path, copies]
+    made = makes_library(words)
+    run = subprocess.run([CIRC, *words], capture_output=True, timeout=120)
+    check("standard error of a copies file", run.stderr, message(words, run.stdout.decode(), made=made))
     return run.stdout.decode(), run.returncode
 
 
@@ -191,3 +188,9 @@ def type_page(room, page, least):
         check(f"the command of {words}", command, "./circ")
         run = subprocess.run([CIRC, *words], capture_output=True, timeout=120, cwd=room)
         check(f"{words}", (run.stdout.decode(), run.returncode), (answer, status_of(answer.partition("\n")[0])))
+
+
+def indexes_by_hand():
+    """The three statements that docs/OPERATIONS.md gives for a library that was made before there were these indexes."""
+    with open(os.path.join(TOP, "docs", "OPERATIONS.md"), encoding="utf-8") as file:
+        return re.findall(r"^    (CREATE INDEX .*);$", file.read(), re.MULTILINE)

@@ -5,12 +5,14 @@ import http.client
 import json
 import os
 import random
+import re
 import socket
 import subprocess
 import time
 
-from lib.runs import GROUND, PROGRAM, check, say
-from messages import message
+from lib.checking import check, need
+from lib.messages import makes_library, message
+from lib.runs import GROUND, PROGRAM, say
 
 DESK_KEY = "deskkey00001"
 ANN, BO = {"Card-Key": "cardkey00001"}, {"Card-Key": "cardkey00002"}
@@ -60,10 +62,11 @@ class Serving:
         self.words_for = lambda port: ["serve", path, str(port), str(workers), str(each), DESK_KEY]
 
     def __enter__(self):
+        self.made = makes_library(self.words_for(1))
         self.run, self.port, first = started(self.words_for, **self.how)
         self.words = self.words_for(self.port)
         try:
-            check("the first line", first, f"listening on {self.port}\n")
+            need("the first line", first, f"listening on {self.port}\n")
         except BaseException:
             self.end()
             raise
@@ -75,7 +78,9 @@ class Serving:
                 for _ in range(self.spare):
                     self.answers("GET", "/nowhere", {}, None, 404, b'{"status":404}')
                 out, err = self.run.communicate(timeout=120)
-                check("what it printed", (out.decode(), err, self.run.returncode), (self.after, message(self.words, self.after), self.status))
+                fault = re.search(r"^fault (\d+)$", self.after, re.M)
+                said = message(self.words, self.after, made=self.made, closed=int(fault[1]) if fault else None)
+                check("what it printed", (out.decode(), err, self.run.returncode), (self.after, said, self.status))
                 check("keys in answers", [key for key in (DESK_KEY, "cardkey") if key.encode() in b"\n".join(self.heard)], [])
         finally:
             self.end()

@@ -1,0 +1,400 @@
+#!/usr/bin/env python3
+"""`circ audit` on libraries that the program made, and on the same with rows that stock SQLite wrote past the desk.
+
+    tests/gate/audit.py            all of it
+    tests/gate/audit.py SEED       the random damage by that seed
+
+The three laws stand below once more in plain Python, written from docs/RULES.md (`laws_of`). The damage of `DAMAGE` has answers that were
+worked out by hand, and one damage at least for each case of each law; the random damage is compared with `laws_of` alone.
+"""
+
+import os
+import random
+import shutil
+import sqlite3
+import subprocess
+import sys
+import tempfile
+from concurrent.futures import ThreadPoolExecutor
+from contextlib import closing
+
+import room  # finds lib and reference
+from lib.checking import check, part, run_script
+from lib.runs import CIRC, GROUND, ROOM, circ, digest, memory_of, rows, say, whole, write
+
+# After the small library: a loan that ended with a fine, which was paid and waived in part, a copy on loan, one that is lost, one that
+# travels for a hold, one that stands ready for another, a hold that waits, and one from a day on. Days: 2026-03-17 is 20529, 2026-03-23 is 20535,
+# 2026-04-01 is 20544.
+BUSY = [
+    ("a1", ["check-out", "1", "11", "1"], "loan 1 due 2026-03-09"),
+    ("a2", ["begin-day", "2026-03-17"], "ok"),
+    ("a3", ["check-in", "11", "1"], "fine 100 shelf 1"),
+    ("a4", ["pay", "1", "30"], "owed 70"),
+    ("a5", ["waive", "1", "20"], "owed 50"),
+    ("a6", ["check-out", "1", "10", "1"], "loan 2 due 2026-03-23"),
+    ("a7", ["missing", "11"], "ok"),
+    ("a8", ["place-hold", "2", "200", "1"], "hold 1"),
+    ("a9", ["check-in", "20", "2"], "fine 0 transit 1 for 1"),
+    ("b1", ["place-hold", "3", "300", "1"], "hold 2"),
+    ("b2", ["check-in", "30", "1"], "fine 0 ready 2 at 1 until 2026-03-23"),
+    ("b3", ["place-hold", "2", "300", "2"], "hold 3"),
+    ("b4", ["acquire", "40", "400", "1", "1", "900", "High Pastures"], "ok"),
+    ("b5", ["place-hold-from", "1", "400", "1", "2026-04-01"], "hold 4"),
+]
+
+# What is written into the small library, and the line of its audit.
+ON_THE_GROUND = [
+    ([], "sound"),
+    (["UPDATE copies SET condition = 1 WHERE copy = 20", "INSERT INTO transits VALUES (20, 1, NULL)"], "unsound claims 20"),
+    (["INSERT INTO holds2 VALUES (1, 2, 100, 1, 1, 10, NULL, NULL)", "UPDATE meta SET next_hold = 2"], "unsound binding 1"),
+    (["UPDATE patrons SET owed = 1 WHERE patron = 2"], "unsound balance 2"),
+]
+
+LOAN = "INSERT INTO loans3 VALUES ({}, {}, 1, 1, 20529, 20535, 6, 1, 20, 100, NULL, 0)"
+
+# What is written into the busy library, and the line of its audit.
+DAMAGE = [
+    ([], "sound"),
+    # two claims on a copy: of two kinds, each two of them, and of one kind
+    (["UPDATE copies SET condition = 1 WHERE copy = 10"], "unsound claims 10"),
+    (["UPDATE copies SET condition = 2 WHERE copy = 10"], "unsound claims 10"),
+    (["INSERT INTO transits VALUES (10, 1, NULL)"], "unsound claims 10"),
+    (["UPDATE holds2 SET copy = 10 WHERE hold = 2"], "unsound claims 10"),
+    (["UPDATE copies SET condition = 2 WHERE copy = 20"], "unsound claims 20"),
+    (["INSERT INTO transits VALUES (30, 2, NULL)"], "unsound claims 30"),
+    (["UPDATE copies SET condition = 1 WHERE copy = 30"], "unsound claims 30"),
+    ([LOAN.format(3, 10)], "unsound claims 10"),
+    (["UPDATE holds2 SET state = 1, copy = 30, limit_day = 20535 WHERE hold = 3"], "unsound claims 30"),
+    # an ended loan claims nothing until it is open again
+    (["UPDATE loans3 SET ended = NULL WHERE loan = 1"], "unsound claims 11"),
+    (["UPDATE loans3 SET copy = 10 WHERE loan = 1"], "sound"),
+    (["UPDATE copies SET condition = 0 WHERE copy = 11"], "sound"),
+    # the least number is told, on whatever page of numbers it stands, and a copy needs no row for it
+    (["UPDATE copies SET condition = 1 WHERE copy IN (10, 20, 30)"], "unsound claims 10"),
+    ([LOAN.format(3, 9999999), LOAN.format(4, 9999999)], "unsound claims 9999999"),
+    ([LOAN.format(3, 65536), LOAN.format(4, 131071), LOAN.format(5, 131071)], "unsound claims 131071"),
+    ([LOAN.format(3, 65536), LOAN.format(4, 65536), LOAN.format(5, 65535), LOAN.format(6, 65535)], "unsound claims 65535"),
+    ([LOAN.format(3, 65535), LOAN.format(4, 65536), LOAN.format(5, 131072)], "sound"),
+    # a ready hold lacks its copy or its limit
+    (["UPDATE holds2 SET limit_day = NULL WHERE hold = 2"], "unsound binding 2"),
+    (["UPDATE holds2 SET copy = NULL WHERE hold = 2"], "unsound binding 2"),
+    # one that isn't ready has either
+    (["UPDATE holds2 SET copy = 40 WHERE hold = 3"], "unsound binding 3"),
+    (["UPDATE holds2 SET limit_day = 20535 WHERE hold = 3"], "unsound binding 3"),
+    (["UPDATE holds2 SET state = 2 WHERE hold = 2"], "unsound binding 2"),
+    (["UPDATE holds2 SET state = 4, copy = NULL WHERE hold = 2"], "unsound binding 2"),
+    # a transit names a hold that has no row, that isn't waiting, or that is picked up elsewhere
+    (["UPDATE transits SET hold = 9 WHERE copy = 20"], "unsound binding 9"),
+    (["UPDATE holds2 SET state = 3 WHERE hold = 1"], "unsound binding 1"),
+    (["UPDATE transits SET goal = 2 WHERE copy = 20"], "unsound binding 1"),
+    (["UPDATE holds2 SET branch = 2 WHERE hold = 1"], "unsound binding 1"),
+    # the copy of a hold has no row, or is of another title
+    (["UPDATE holds2 SET copy = 99 WHERE hold = 2"], "unsound binding 2"),
+    (["UPDATE holds2 SET copy = 40 WHERE hold = 2"], "unsound binding 2"),
+    (["UPDATE holds2 SET title = 400 WHERE hold = 2"], "unsound binding 2"),
+    (["UPDATE transits SET copy = 99 WHERE copy = 20"], "unsound binding 1"),
+    (["UPDATE transits SET copy = 40 WHERE copy = 20"], "unsound binding 1"),
+    (["UPDATE copies SET title = 400 WHERE copy = 20"], "unsound binding 1"),
+    # a transit for no hold is none of its, and a hold that is cancelled may be without any
+    (["UPDATE transits SET hold = NULL WHERE copy = 20"], "sound"),
+    (["UPDATE holds2 SET state = 3 WHERE hold = 3"], "sound"),
+    # no law looks at grace days, nor at what a fine was
+    (["UPDATE rules3 SET grace = 365", "UPDATE loans3 SET grace = 365"], "sound"),
+    # a first day binds nothing: any hold may have one, or none
+    (["UPDATE holds2 SET first_day = NULL WHERE hold = 4"], "sound"),
+    (["UPDATE holds2 SET first_day = 20544"], "sound"),
+    (["UPDATE holds2 SET state = 1, copy = 40, limit_day = 20549 WHERE hold = 4"], "sound"),
+    (["INSERT INTO transits VALUES (40, 1, 4)"], "sound"),
+    (["INSERT INTO transits VALUES (40, 2, 4)"], "unsound binding 4"),
+    (["UPDATE holds2 SET state = 1 WHERE hold = 4"], "unsound binding 4"),
+    (["UPDATE holds2 SET copy = 40 WHERE hold = 4"], "unsound binding 4"),
+    # the least hold is told
+    (["UPDATE holds2 SET limit_day = NULL WHERE hold = 2", "UPDATE transits SET goal = 2 WHERE copy = 20"], "unsound binding 1"),
+    (["UPDATE holds2 SET limit_day = NULL WHERE hold = 2", "UPDATE holds2 SET copy = 40 WHERE hold = 3"], "unsound binding 2"),
+    (["INSERT INTO transits VALUES (40, 1, 2147483647)"], "unsound binding 2147483647"),
+    # what is owed isn't the fines and prices less the payments and waivers
+    (["UPDATE patrons SET owed = 51 WHERE patron = 1"], "unsound balance 1"),
+    (["UPDATE patrons SET owed = 70 WHERE patron = 1"], "unsound balance 1"),
+    (["UPDATE patrons SET owed = 1 WHERE patron = 3"], "unsound balance 3"),
+    (["UPDATE lines SET amount = 101 WHERE sort = 0"], "unsound balance 1"),
+    (["UPDATE lines SET amount = 31 WHERE sort = 2"], "unsound balance 1"),
+    (["UPDATE lines SET amount = 19 WHERE sort = 3"], "unsound balance 1"),
+    (["UPDATE lines SET sort = 1 WHERE sort = 0"], "sound"),
+    (["UPDATE lines SET sort = 3 WHERE sort = 2"], "sound"),
+    (["INSERT INTO lines VALUES (4, 3, 20529, 1, 2500, 1)"], "unsound balance 3"),
+    (["INSERT INTO lines VALUES (4, 3, 20529, 2, 5, NULL)"], "unsound balance 3"),
+    (["DELETE FROM lines WHERE sort = 3"], "unsound balance 1"),
+    (["UPDATE lines SET patron = 3 WHERE sort = 2", "UPDATE patrons SET owed = 80 WHERE patron = 1"], "unsound balance 3"),
+    (["UPDATE lines SET patron = 2", "UPDATE patrons SET owed = 0 WHERE patron = 1", "UPDATE patrons SET owed = 50 WHERE patron = 2"], "sound"),
+    (["INSERT INTO lines VALUES (4, 9, 20529, 0, 5, 1)"], "sound"),
+    (["INSERT INTO patrons VALUES (9999999, 1, 'cardkey09999', 'Zed', 7)"], "unsound balance 9999999"),
+    (["INSERT INTO patrons VALUES (65536, 1, 'cardkey65536', 'Yan', 5)", "INSERT INTO lines VALUES (4, 65536, 20529, 0, 5, 1)",
+      "INSERT INTO patrons VALUES (131072, 1, 'cardkey13107', 'Wim', 1)"], "unsound balance 131072"),
+    # claims come before bindings, and these before balances
+    (["UPDATE copies SET condition = 1 WHERE copy = 30", "UPDATE holds2 SET limit_day = NULL WHERE hold = 2", "UPDATE patrons SET owed = 0"], "unsound claims 30"),
+    (["UPDATE holds2 SET copy = 40 WHERE hold = 3", "UPDATE patrons SET owed = 0"], "unsound binding 3"),
+]
+
+# A row past its limits, or tables that no library has, are faults and no findings.
+FAULTS = [
+    (["UPDATE copies SET condition = 3 WHERE copy = 10"], "fault 93"),
+    (["UPDATE patrons SET owed = -1 WHERE patron = 1"], "fault 93"),
+    (["UPDATE holds2 SET state = 5 WHERE hold = 1"], "fault 93"),
+    (["UPDATE holds2 SET first_day = 10956 WHERE hold = 4"], "fault 93"),
+    (["UPDATE holds2 SET first_day = 84006 WHERE hold = 1"], "fault 93"),
+    (["UPDATE loans3 SET due = 84006 WHERE loan = 1"], "fault 93"),
+    (["UPDATE loans3 SET grace = 366 WHERE loan = 1"], "fault 93"),
+    (["UPDATE loans3 SET grace = -1 WHERE loan = 2"], "fault 93"),
+    (["UPDATE branches SET name = CAST(x'ff' AS TEXT) WHERE branch = 1"], "fault 93"),
+    (["INSERT INTO closed_days VALUES (1, 84006)"], "fault 93"),
+    (["UPDATE kinds SET loans = -1"], "fault 93"),
+    (["UPDATE rules3 SET period = 0"], "fault 93"),
+    (["UPDATE rules3 SET grace = 366 WHERE copy_kind = 2"], "fault 93"),
+    (["UPDATE titles SET text = CAST(x'ff' AS TEXT) WHERE title = 100"], "fault 93"),
+    (["UPDATE kept SET reply = CAST(x'ff' AS TEXT) WHERE key = 'a1'"], "fault 93"),
+    # numbers below those that there are
+    (["INSERT INTO patrons VALUES (0, 1, 'cardkey00000', 'Nil', 0)"], "fault 93"),
+    (["INSERT INTO titles VALUES (-1, 'A title')"], "fault 93"),
+    (["INSERT INTO copies VALUES (-9223372036854775808, 100, 1, 1, 900, 0)"], "fault 93"),
+    ([LOAN.format(0, 99)], "fault 93"),
+    (["INSERT INTO holds2 VALUES (-1, 1, 100, 1, 3, NULL, NULL, NULL)"], "fault 93"),
+    (["INSERT INTO transits VALUES (0, 1, NULL)"], "fault 93"),
+    (["INSERT INTO lines VALUES (-2, 1, 20529, 0, 5, 1)"], "fault 93"),
+    (["INSERT INTO kept VALUES (-1, 'k1', 'page 1', 'ok')"], "fault 93"),
+    (["UPDATE meta SET schema = 9"], "fault 93"),
+    (["DROP TABLE transits"], "fault 91"),
+]
+
+# A library with more rows of each table that grows than are read at once, which the texts of `FAR` damage past the first of them.
+MANY, FIRST = 2_345, 10_000
+LAST = FIRST + MANY - 1
+FAR = [
+    ([], "sound"),
+    ([f"UPDATE copies SET condition = 2 WHERE copy = {LAST}"], f"unsound claims {LAST}"),
+    ([LOAN.format(LAST + 1, LAST)], f"unsound claims {LAST}"),
+    ([f"UPDATE loans3 SET ended = NULL WHERE loan = {LAST}"], f"unsound claims {LAST}"),
+    ([f"UPDATE holds2 SET copy = {LAST} WHERE hold = {LAST}"], f"unsound binding {LAST}"),
+    ([f"UPDATE transits SET hold = {LAST} WHERE copy = {LAST}"], f"unsound binding {LAST}"),
+    ([f"UPDATE patrons SET owed = 1 WHERE patron = {LAST}"], f"unsound balance {LAST}"),
+    (["DELETE FROM lines WHERE line = (SELECT max(line) FROM lines)"], f"unsound balance {LAST}"),
+    ([f"UPDATE patrons SET owed = -1 WHERE patron = {LAST}"], "fault 93"),
+    ([f"UPDATE titles SET text = CAST(x'ff' AS TEXT) WHERE title = {LAST}"], "fault 93"),
+    ([f"UPDATE copies SET condition = 3 WHERE copy = {LAST}"], "fault 93"),
+    ([f"UPDATE loans3 SET due = 84006 WHERE loan = {LAST}"], "fault 93"),
+    ([f"UPDATE loans3 SET grace = 366 WHERE loan = {LAST}"], "fault 93"),
+    ([f"UPDATE holds2 SET state = 5 WHERE hold = {LAST}"], "fault 93"),
+    ([f"UPDATE transits SET goal = 0 WHERE copy = {LAST}"], "fault 93"),
+    (["UPDATE lines SET sort = 4 WHERE line = (SELECT max(line) FROM lines)"], "fault 93"),
+    ([f"UPDATE kept SET reply = CAST(x'ff' AS TEXT) WHERE caller = 0 AND key = 'k{LAST}'"], "fault 93"),
+    ([f"UPDATE kept SET text = CAST(x'ff' AS TEXT) WHERE caller = 1 AND key = 'p{LAST}'"], "fault 93"),
+    ([f"UPDATE kept SET text = CAST(x'ff' AS TEXT) WHERE caller = {LAST}"], "fault 93"),
+]
+
+WAITING, READY = 0, 1
+FINE, PRICE = 0, 1
+
+
+def laws_of(path):
+    """The line of an audit, by the laws in plain Python."""
+    with closing(sqlite3.connect(path)) as conn:
+        def read(text):
+            return conn.execute(text).fetchall()
+
+        loans, transits = read("SELECT copy, ended FROM loans3"), read("SELECT copy, goal, hold FROM transits")
+        copies = {copy: (title, condition) for copy, title, condition in read("SELECT copy, title, condition FROM copies")}
+        holds = {hold: row for hold, *row in read("SELECT hold, title, branch, state, copy, limit_day FROM holds2")}
+        owed, lines = dict(read("SELECT patron, owed FROM patrons")), read("SELECT patron, sort, amount FROM lines")
+
+    claims = [copy for copy, ended in loans if ended is None] + [copy for copy, *_ in transits]
+    claims += [copy for _, _, state, copy, _ in holds.values() if state == READY and copy is not None]
+    claims += [copy for copy, (_, condition) in copies.items() if condition != 0]
+    twice = [copy for copy in set(claims) if claims.count(copy) > 1]
+    if twice:
+        return f"unsound claims {min(twice)}"
+
+    def is_of(copy, title):
+        return copy in copies and copies[copy][0] == title
+
+    unbound = set()
+    for hold, (title, _, state, copy, limit) in holds.items():
+        named = copy is not None and limit is not None and is_of(copy, title) if state == READY else copy is None and limit is None
+        if not named:
+            unbound.add(hold)
+    for copy, goal, hold in transits:
+        if hold is not None:
+            title, branch, state, _, _ = holds.get(hold, (None,) * 5)
+            if state != WAITING or branch != goal or not is_of(copy, title) or [it for _, _, it in transits].count(hold) > 1:
+                unbound.add(hold)
+    if unbound:
+        return f"unsound binding {min(unbound)}"
+
+    def due(patron):
+        return sum(amount if sort in (FINE, PRICE) else -amount for who, sort, amount in lines if who == patron)
+
+    unbalanced = [patron for patron, amount in owed.items() if amount != due(patron)]
+    return f"unsound balance {min(unbalanced)}" if unbalanced else "sound"
+
+
+def status_of(line):
+    return 0 if line == "sound" else 3 if line.startswith("fault") else 2
+
+
+def audit(path, line, what):
+    """The audit of the file is this line, with its status, and changes no byte of it."""
+    before = digest(path)
+    check(f"the audit after {what}", circ(["audit", path]), (line, status_of(line)))
+    check(f"the file after {what}", digest(path), before)
+
+
+def damaged(library, folder, at, texts, line):
+    """A copy of the library with these texts run on it: the audit's line."""
+    path = os.path.join(folder, f"damage{at}.db")
+    shutil.copy(library, path)
+    write(path, *texts)
+    audit(path, line, texts)
+    os.remove(path)
+
+
+def found(library, folder, at, texts, line):
+    """The same, where the line is one of the laws: they give it in plain Python too."""
+    path = os.path.join(folder, f"found{at}.db")
+    shutil.copy(library, path)
+    write(path, *texts)
+    check(f"the laws in plain Python after {texts}", laws_of(path), line)
+    os.remove(path)
+
+
+def fill(path):
+    """More rows of each table that grows than are read at once, with which the library is sound: each loan ended with a fine that was paid,
+    each hold is cancelled, each copy travels, and much is kept for the desk, for one patron, and for each patron."""
+    numbers = range(FIRST, LAST + 1)
+    lines = [(FIRST + 2 * at + more, n, 20529, sort, 240, n if sort == FINE else None) for at, n in enumerate(numbers) for more, sort in ((0, FINE), (1, 2))]
+    kept = [(owner, f"{letter}{n}", "page 1", "ok") for owner, letter in ((0, "k"), (1, "p")) for n in numbers] + [(n, "own", "page 1", "ok") for n in numbers]
+    tables = {
+        "patrons": [(n, 1, f"cardkey{n}", "Reader", 0) for n in numbers],
+        "titles": [(n, "A title") for n in numbers],
+        "copies": [(n, n, 1, 1, 900, 0) for n in numbers],
+        "loans3": [(n, n, n, 1, 20500, 20520, 20, 1, 20, 1000, 20529, 2) for n in numbers],
+        "holds2": [(n, n, n, 1, 3, None, None, None) for n in numbers],
+        "transits": [(n, 1, None) for n in numbers],
+        "lines": lines,
+        "kept": kept,
+    }
+    with closing(sqlite3.connect(path)) as conn, conn:
+        for table, many in tables.items():
+            conn.executemany(f"INSERT INTO {table} VALUES ({', '.join('?' * len(many[0]))})", many)
+
+
+PAST = 100_000
+
+
+def the_past(ground, folder):
+    """An audit takes about the memory of opening the file, however many loans have ended and however much is kept of requests."""
+    path, out = os.path.join(folder, "past.db"), os.path.join(folder, "past.txt")
+    shutil.copy(ground, path)
+    with closing(sqlite3.connect(path)) as conn, conn:
+        each = range(1, PAST + 1)
+        conn.executemany("INSERT INTO loans3 VALUES (?, 10, 1, 1, 20514, 20521, 6, 1, 20, 100, 20520, 0)", ((n,) for n in each))
+        conn.executemany("INSERT INTO titles VALUES (?, ?)", ((1_000 + n, f"A title of number {n}") for n in each))
+        conn.executemany("INSERT INTO kept VALUES (0, ?, 'check-out 1 10 1', ?)", ((f"k{n}", f"loan {n} due 2026-03-09") for n in each))
+        conn.execute("UPDATE meta SET next_loan = ?", (PAST + 1,))
+    least, status = memory_of(["report", path, "shelf", "2"], out)
+    check("a report of no row", status, 0)
+    most, status = memory_of(["audit", path], out)
+    with open(out, encoding="utf-8") as file:
+        check("an audit of what is past", (file.read(), status), ("sound\n", 0))
+    check(f"{most - least} KiB for the rows, of {ROOM}", most - least < ROOM, True)
+
+
+def no_library(folder):
+    """Where there is no file, or one of no bytes, the answer is a fault, and no file is made."""
+    absent, empty = os.path.join(folder, "absent.db"), os.path.join(folder, "empty.db")
+    open(empty, "w").close()
+    check("no file", circ(["audit", absent]), ("fault 93", 3))
+    check("none is made", os.path.exists(absent), False)
+    check("a file of no bytes", circ(["audit", empty]), ("fault 93", 3))
+    check("it stays", os.path.getsize(empty), 0)
+    garbage = os.path.join(folder, "garbage.db")
+    with open(garbage, "wb") as file:
+        file.write(b"this is no database " * 500)
+    audit(garbage, "fault 91", "garbage")
+    for words in (["audit"], ["audit", absent, "again"], ["audits", absent]):
+        check(f"{words[0]} with {len(words) - 1} words", circ(words), ("words not understood", 4))
+
+
+def lost_output(library):
+    """Where the line can't be written the status is 3."""
+    with open("/dev/full", "wb") as full:
+        check("a full disk", subprocess.run([CIRC, "audit", library], stdout=full, timeout=120).returncode, 3)
+
+
+# Columns with the values that the random damage gives them, most of them within the limits.
+COLUMNS = {
+    "loans3": {"copy": (10, 11, 20, 30, 40, 99), "ended": (None, None, 20529), "patron": (1, 2, 3), "grace": (0, 2, 365)},
+    "holds2": {"state": (0, 1, 2, 3, 4), "copy": (None, 10, 20, 30, 40, 99), "limit_day": (None, 20535), "title": (100, 200, 300, 400), "branch": (1, 2),
+               "first_day": (None, 20544)},
+    "transits": {"goal": (1, 2), "hold": (None, 1, 2, 3, 4, 9), "copy": (10, 11, 20, 30, 40, 99)},
+    "copies": {"condition": (0, 0, 1, 2), "title": (100, 200, 300, 400)},
+    "lines": {"patron": (1, 2, 3, 9), "sort": (0, 1, 2, 3), "amount": (1, 20, 30, 50, 100)},
+    "patrons": {"owed": (0, 20, 50, 70, 100)},
+}
+
+
+def random_damage(library, folder, seed, many):
+    """Rows that are changed at random, one to three at a time: the audit is that of the laws in plain Python."""
+    draw, met = random.Random(seed), {}
+    keys = {name: [key for (key,) in rows(library, f"SELECT rowid FROM {name} ORDER BY rowid")] for name in COLUMNS}
+    jobs = []
+    for at in range(many):
+        texts = []
+        for _ in range(draw.choice((1, 1, 2, 3))):
+            table = draw.choice(sorted(COLUMNS))
+            column = draw.choice(sorted(COLUMNS[table]))
+            value = draw.choice(COLUMNS[table][column])
+            texts.append(f"UPDATE OR IGNORE {table} SET {column} = {'NULL' if value is None else value} WHERE rowid = {draw.choice(keys[table])}")
+        jobs.append((at, texts))
+
+    def one(job):
+        at, texts = job
+        path = os.path.join(folder, f"random{at}.db")
+        shutil.copy(library, path)
+        write(path, *texts)
+        line = laws_of(path)
+        audit(path, line, f"{texts}, seed {seed}")
+        os.remove(path)
+        return " ".join(line.split()[:2])
+
+    with ThreadPoolExecutor(os.cpu_count()) as pool:
+        for line in pool.map(one, jobs):
+            met[line] = met.get(line, 0) + 1
+    print("audit: random damage: " + ", ".join(f"{count} {line}" for line, count in sorted(met.items())) + f", by the seed {seed}")
+    check("each law is broken, and none", sorted(met), ["sound", "unsound balance", "unsound binding", "unsound claims"])
+
+
+def main(arguments):
+    seed = int(arguments[0]) if arguments else 2826
+    with tempfile.TemporaryDirectory() as folder:
+        ground, busy, large = (os.path.join(folder, name) for name in ("ground.db", "busy.db", "large.db"))
+        say(ground, GROUND)
+        shutil.copy(ground, busy)
+        say(busy, BUSY)
+        shutil.copy(busy, large)
+        fill(large)
+        kept = whole(busy)
+        jobs = [(ground, at, *it) for at, it in enumerate(ON_THE_GROUND)]
+        jobs += [(busy, len(jobs) + at, *it) for at, it in enumerate(DAMAGE + FAULTS)]
+        jobs += [(large, len(jobs) + at, *it) for at, it in enumerate(FAR)]
+        by_laws = [job for job in jobs if not job[-1].startswith("fault")]
+        check("findings and faults are tried", (len(by_laws) > 30, len(jobs) - len(by_laws) > 30), (True, True))
+        with ThreadPoolExecutor(os.cpu_count()) as pool:
+            list(pool.map(lambda job: part(damaged, job[0], folder, *job[1:]), jobs))
+            list(pool.map(lambda job: part(found, job[0], folder, *job[1:]), by_laws))
+        part(the_past, ground, folder)
+        part(no_library, folder)
+        part(lost_output, busy)
+        part(random_damage, busy, folder, seed, 400)
+        check("the library is as it was", whole(busy), kept)
+
+
+if __name__ == "__main__":
+    run_script(main, sys.argv[1:])

@@ -1,0 +1,365 @@
+#!/usr/bin/env python3
+"""Runs `tools/backup` on libraries, sound, damaged and absent ones, with a `systemctl` of the test's own on the path, and restores what it made.
+
+    tests/gate/backup_script.py
+
+What a backup has to hold is read from the library before it, by stock SQLite in a copy of both files.
+"""
+
+import fcntl
+import os
+import re
+import shutil
+import signal
+import sqlite3
+import subprocess
+import sys
+import tempfile
+import time
+from contextlib import closing
+
+from room import TOP
+from lib.checking import check, part, run_script
+from lib.messages import message
+from lib.runs import PROGRAM, answers, digest, month, say, the_rows_are, whole
+from lib.serving import Serving, a_library
+from reference.desk_rules import Library
+
+BACKUP = os.path.join(TOP, "tools", "backup")
+USAGE = "usage: backup [--service NAME | --no-service] [--no-audit] LIBRARY FOLDER KEEP\n"
+STAMP = r"\d{4}-\d\d-\d\dT\d\d-\d\d-\d\dZ"
+NOBODY = 65534
+AS_NOBODY = {"user": NOBODY, "group": NOBODY, "extra_groups": []}
+
+# Notes what it is told, and ends with the status that a file of the verb's name has.
+SYSTEMCTL = """\
+#!/bin/sh
+echo "$*" >>"{folder}/calls"
+[ "$1" != is-active ] || cat "{folder}/state"
+[ ! -f "{folder}/$1" ] || exit "$(cat "{folder}/$1")"
+"""
+
+
+class Machine:
+    """A folder of its own with a library, a place for backups, and the programs on the path: `circ`, and a `systemctl` that notes what it is told."""
+
+    def __init__(self, folder, name):
+        self.folder = os.path.join(folder, name)
+        self.bin, self.backups = os.path.join(self.folder, "bin"), os.path.join(self.folder, "backups")
+        os.makedirs(self.bin)
+        os.symlink(PROGRAM, os.path.join(self.bin, "circ"))
+        with open(os.path.join(self.bin, "systemctl"), "w", encoding="utf-8") as file:
+            file.write(SYSTEMCTL.format(folder=self.folder))
+        os.chmod(file.name, 0o755)
+        self.is_now("active")
+        self.path = os.path.join(self.folder, "town.db")
+        shutil.copy(os.path.join(folder, "small.db"), self.path)
+
+    def is_now(self, state):
+        with open(os.path.join(self.folder, "state"), "w", encoding="utf-8") as file:
+            file.write(f"{state}\n")
+
+    def env(self):
+        return {**os.environ, "PATH": f"{self.bin}:{os.environ['PATH']}"}
+
+    def runs(self, *words):
+        return subprocess.run(words, capture_output=True, text=True, timeout=60, env=self.env(), check=False)
+
+    def begun(self, *words, by=(), **how):
+        how = {"env": self.env(), **how}
+        return subprocess.Popen([*by, BACKUP, *words], stdout=subprocess.PIPE, stderr=subprocess.PIPE, text=True, **how)
+
+    def backed_up(self, *words, **how):
+        """What a run prints, what it says on standard error, and its status."""
+        with self.begun(*words, **how) as run:
+            out, err = run.communicate(timeout=60)
+        return out, err, run.returncode
+
+    def fails(self, verb, status):
+        with open(os.path.join(self.folder, verb), "w", encoding="utf-8") as file:
+            file.write(f"{status}\n")
+
+    def told(self):
+        """What `systemctl` was told since the calls were asked last."""
+        path = os.path.join(self.folder, "calls")
+        if not os.path.exists(path):
+            return ""
+        with open(path, encoding="utf-8") as file:
+            return file.read()
+
+    def calls(self):
+        """The same, line by line, and forgotten then."""
+        told = self.told().splitlines()
+        if told:
+            os.remove(os.path.join(self.folder, "calls"))
+        return told
+
+    def good(self, what, keep="9", *options):
+        """Makes a backup, which has to be good; its folder."""
+        out, err, status = self.backed_up(*(options or ("--no-service",)), self.path, self.backups, keep)
+        check(f"{what} is good", (err, status), ("", 0))
+        check(f"its folder, {what}", bool(re.fullmatch(re.escape(f"{self.backups}/town.db-") + STAMP + r"(-\d+)?\n", out)), True)
+        return out[:-1]
+
+    def there(self):
+        """All that stands in the place for backups."""
+        return sorted(os.listdir(self.backups)) if os.path.isdir(self.backups) else None
+
+    def bad(self, what, wanted, *words, status=3, **how):
+        """A backup that has to fail: what it says, and the older backups stay as they were, with nothing beside them."""
+        before = [(it, digest(f"{self.backups}/{it}/town.db")) for it in self.there() or []]
+        check(what, self.backed_up(*words, **how), ("", said(*wanted), status))
+        check(f"the older backups after {what}", [(it, digest(f"{self.backups}/{it}/town.db")) for it in self.there() or []], before)
+
+
+def said(*lines):
+    return "".join(f"backup: {line}\n" for line in lines)
+
+
+ORDER = ["is-active circ.service", "stop circ.service", "start circ.service", "is-active circ.service"]
+
+
+def restored(machine, place, library):
+    """Restores a backup by the lines of docs/OPERATIONS.md, with the machine's own places, and looks at its rows."""
+    with open(os.path.join(TOP, "docs", "OPERATIONS.md"), encoding="utf-8") as file:
+        block = re.search(r"^To restore.*\n\n((?:    .*\n)+)", file.read(), re.M)[1]
+    lines = re.sub(r"/var/backups/circ/town\.db-[^/]*", place, block).replace("/var/lib/circ", machine.folder)
+    check("the places of the lines", (lines.count(machine.folder), "/var/" in lines), (5, False))
+    done = machine.runs("sh", "-c", lines)
+    check("it is restored", (done.stdout, done.stderr, done.returncode), ("", "", 0))
+    check("with the service stopped", machine.calls(), ["stop circ", "start circ"])
+    the_rows_are(machine.path, library)
+
+
+def of_a_desk(folder):
+    """A library that is killed while it serves is in its two files: the backup is the library of what was answered, and it goes on from there. While the program has it open no
+    backup is made."""
+    machine, library, requests = Machine(folder, "desk"), Library(), month()
+    os.remove(machine.path)
+    half = 40
+    serving = Serving(machine.path, half + 1)
+    serving.__enter__()
+    try:
+        for key, *words in requests[:half]:
+            check(f"{key} {words}", serving.desk(key, words)[0], 409 if library.handle(key, words).startswith("refused") else 200)
+        machine.bad("while it serves", [f"{machine.path} is open in another process"], "--no-service", machine.path, machine.backups, "9")
+    finally:
+        serving.end()
+    check("there is a log", os.path.getsize(machine.path + "-wal") > 1000, True)
+    log = digest(machine.path + "-wal")
+    place = machine.good("a killed one")
+    check("the library's own log stays", digest(machine.path + "-wal"), log)
+    check("who may look into the backup", os.stat(place).st_mode & 0o777, 0o700)
+    for key, *words in requests[half:half + 10]:
+        answers(machine.path, key, words)
+    # a wrong day, that can't be taken back but by the backup
+    check("a wrong day", answers(machine.path, "wrong", ["begin-day", "2190-12-31"]), ("ok\n", 0))
+    check("the right one is refused", answers(machine.path, "right", ["begin-day", "2031-01-01"]), ("refused 23\n", 2))
+    restored(machine, place, library)
+    for key, *words in requests[half:half + 10]:
+        check(f"{key} {words} after it", answers(machine.path, key, words)[0], library.handle(key, words) + "\n")
+    the_rows_are(machine.path, library)
+    check("the right day", answers(machine.path, "right", ["begin-day", "2031-01-01"]), ("ok\n", 0))
+
+
+def kept(folder):
+    """Backups of one day, of which the newest stay; what else stands beside them stays too."""
+    machine = Machine(folder, "kept")
+    others = ["town.db-of-before-the-move", "harbour.db-2026-03-02T05-00-00Z", "town.db-2026-03-02T05-00-00Z.txt"]
+    old = ["town.db-2026-03-01T05-00-00Z", "town.db-2026-03-02T05-00-00Z", "town.db-2026-03-02T05-00-00Z-2", "town.db-2026-03-02T05-00-00Z-10"]
+    for name in [*others, *old, ".town.db-unfinished-by-a-kill"]:
+        os.makedirs(os.path.join(machine.backups, name))
+    first = os.path.basename(machine.good("the first", "4"))
+    check("the oldest is removed", machine.there(), sorted([*others, *old[1:], first]))
+    say(machine.path, [("k1", ["check-out", "1", "10", "1"], "loan 1 due 2026-03-09")])
+    second = os.path.basename(machine.good("the second", "3"))
+    check("two of one day", machine.there(), sorted([*others, old[3], first, second]))
+    check("the first is as it was", len(whole(f"{machine.backups}/{first}/town.db")["loans3"]), 0)
+    check("the second has what came after it", len(whole(f"{machine.backups}/{second}/town.db")["loans3"]), 1)
+    third = os.path.basename(machine.good("the third", "1"))
+    check("the newest alone", machine.there(), sorted([*others, third]))
+    # one that can't be removed is told, and the new one is there
+    file = os.path.join(machine.backups, old[0])
+    open(file, "w", encoding="utf-8").close()
+    out, err, status = machine.backed_up("--no-service", machine.path, machine.backups, "2")
+    check("an old one that can't be removed", (err, status), (said(f"{old[0]} can't be removed from {machine.backups}: Not a directory"), 3))
+    check("the new one is there", whole(os.path.join(out[:-1], "town.db")), whole(machine.path))
+    os.remove(file)
+    # those of the seconds to come are there already
+    taken = [time.strftime("town.db-%Y-%m-%dT%H-%M-%SZ", time.gmtime(time.time() + at)) for at in range(20)]
+    taken = [name for name in taken if name not in machine.there()]
+    for name in taken:
+        os.mkdir(os.path.join(machine.backups, name))
+    time.sleep(1)
+    again = os.path.basename(machine.good("one of a second that is taken", "99"))
+    check("another name", (again[:-2] in taken, again[-2:]), (True, "-2"))
+    check("nothing is written over", [it for it in taken if os.listdir(os.path.join(machine.backups, it))], [])
+    for name in taken:
+        os.rmdir(os.path.join(machine.backups, name))
+    if os.geteuid() == 0:
+        os.chown(machine.path, NOBODY, NOBODY)
+        os.chmod(machine.path, 0o640)
+        place = machine.good("one of another owner", "99")
+        check("its owner and rights", {(it.stat().st_uid, it.stat().st_gid, it.stat().st_mode & 0o777) for it in os.scandir(place)}, {(NOBODY, NOBODY, 0o640)})
+    check("the libraries are those", whole(f"{machine.backups}/{third}/town.db"), whole(machine.path))
+
+
+def runs_as_nobody():
+    """Whether a user without rights can run the program from here."""
+    try:
+        return subprocess.run([BACKUP], capture_output=True, check=False, **AS_NOBODY).returncode == 4
+    except PermissionError:
+        print("backup_script: a place that can't be written was not tried, since nobody else can be here")
+        return False
+
+
+def failing(folder):
+    """What is missing, damaged or can't be written is told, the status isn't 0, the older backups stay, and the service is started again where it was stopped."""
+    machine = Machine(folder, "failing")
+    machine.good("one before")
+    words = (machine.path, machine.backups, "1")
+    for what in (f"{machine.folder}/absent.db", machine.folder):
+        machine.bad(f"no library {what}", [f"{what} is no file"], what, machine.backups, "1")
+    empty = os.path.join(machine.folder, "empty.db")
+    open(empty, "w", encoding="utf-8").close()
+    machine.bad("an empty library", [f"{empty} has no bytes"], empty, machine.backups, "1")
+    below = f"{machine.path}/below"
+    machine.bad("a place below a file", [f"{below} can't be made or opened: Not a directory"], machine.path, below, "1")
+    check("the service wasn't stopped", machine.calls(), [])
+    if runs_as_nobody():
+        closed = os.path.join(machine.folder, "closed")
+        os.mkdir(closed, 0o755)
+        for at in (folder, machine.folder):
+            os.chmod(at, 0o755)
+        os.chmod(machine.path, 0o644)
+        machine.bad("a place that can't be written", [f"{closed} can't be written: Permission denied"], machine.path, closed, "1", **AS_NOBODY)
+    # an account that owes what no line says is the one fault of the library
+    with closing(sqlite3.connect(machine.path)) as conn:
+        conn.execute("UPDATE patrons SET owed = 7 WHERE patron = 2")
+        conn.commit()
+    gone = "the copy was removed, and the older backups stay"
+    meant = message(["audit", machine.path], "unsound balance 2\n").decode().splitlines()
+    machine.bad("an unsound library", ["the audit of the copy tells: unsound balance 2", *meant, gone], *words)
+    check("the service runs again", machine.calls(), ORDER[:3])
+    with open(machine.path, "r+b") as file:
+        file.truncate(5000)
+    out, err, status = machine.backed_up(*words)
+    check("a damaged library", (out, status, bool(re.match(r"backup: the audit of the copy tells: fault 9[13]\n", err)), err.endswith(said(gone))), ("", 3, True, True))
+    check("the service runs again", machine.calls(), ORDER[:3])
+    check("one backup is there", len(machine.there()), 1)
+    # it is copied, all the same, by who wants it so
+    machine.good("with no audit", "9", "--no-service", "--no-audit")
+
+
+def services(folder):
+    """The service is stopped before the files are copied and started after it, whatever comes."""
+    machine = Machine(folder, "services")
+    machine.good("with the service", "9", "--service", "circ.service")
+    check("in this order", machine.calls(), ORDER)
+    machine.good("with another service", "9", "--service", "harbour")
+    check("by its name", machine.calls(), [it.replace("circ.service", "harbour") for it in ORDER])
+    check("with none", (machine.good("without one"), machine.calls())[1], [])
+    for state in ("activating", "failed"):
+        machine.is_now(state)
+        machine.good(f"a service that is {state}", "9", "--service", "circ.service")
+        check(f"one that is {state} is started", machine.calls(), ORDER)
+    machine.is_now("inactive")
+    machine.good("a service that somebody stopped", "9", "--service", "circ.service")
+    check("it stays stopped", machine.calls(), ORDER[:1])
+    machine.is_now("active")
+    words = (machine.path, machine.backups, "1")
+    machine.fails("stop", 1)
+    machine.bad("a service that isn't stopped", ["circ.service can't be stopped"], *words)
+    check("it is started all the same", machine.calls(), ORDER[:3])
+    machine.fails("start", 1)
+    machine.bad("nor started", ["circ.service can't be started again", "circ.service can't be stopped"], *words)
+    machine.fails("stop", 0)
+    machine.calls()
+    for verb, told, calls in (("start", "circ.service can't be started again", ORDER[:3]), ("is-active", "circ.service was started again, and has ended since", ORDER)):
+        machine.fails("start", 0)
+        machine.fails(verb, 3)
+        out, err, status = machine.backed_up(machine.path, machine.backups, "9")
+        check(f"what is told where {verb} fails", (err, status, machine.calls()), (said(told), 3, calls))
+        check("the backup is good", whole(os.path.join(out[:-1], "town.db")), whole(machine.path))
+    # ended by a signal while the service is being stopped
+    os.remove(os.path.join(machine.bin, "systemctl"))
+    with open(os.path.join(machine.bin, "systemctl"), "w", encoding="utf-8") as file:
+        file.write(SYSTEMCTL.format(folder=machine.folder).replace("[ ! -f", '[ "$1" != stop ] || exec sleep 30\n[ ! -f'))
+    os.chmod(file.name, 0o755)
+    before = machine.there()
+    with machine.begun(*words) as run:
+        while "stop" not in machine.told() and run.poll() is None:
+            time.sleep(0.02)
+        run.send_signal(signal.SIGTERM)
+        out, err = run.communicate(timeout=60)
+    check("a run that is ended", (out, err, run.returncode), ("", said("stopped before its end"), 130))
+    check("the service runs again", machine.calls(), ORDER[:3])
+    check("no backup came of it", machine.there(), before)
+
+
+def others(folder):
+    """Another run in the same place, and a machine without the programs."""
+    machine = Machine(folder, "others")
+    words = (machine.path, machine.backups, "1")
+    machine.good("one before")
+    held = os.open(machine.backups, os.O_RDONLY)
+    fcntl.flock(held, fcntl.LOCK_EX)
+    machine.bad("another run at work", [f"another backup is being made in {machine.backups}"], *words)
+    os.close(held)
+    check("it stops nothing", machine.calls(), [])
+    empty = os.path.join(machine.folder, "empty")
+    os.mkdir(empty)
+    machine.bad("no circ", ["there is no circ to audit by, neither beside this program nor on the path"], *words, by=[sys.executable], env={"PATH": empty})
+    os.symlink(PROGRAM, os.path.join(empty, "circ"))
+    none = "systemctl can't be run: No such file or directory"
+    machine.bad("no systemctl", [none, none, none, "circ.service can't be started again", "circ.service can't be stopped"], *words, by=[sys.executable], env={"PATH": empty})
+
+
+def a_full_disk(folder):
+    """Where there is no room for both files it is told, and the older backup stays. Whether it could be tried."""
+    machine = Machine(folder, "full")
+    os.mkdir(machine.backups)
+    if shutil.which("mount") is None:
+        return False
+    mounted = subprocess.run(["mount", "-t", "tmpfs", "-o", "size=300k", "tmpfs", machine.backups], capture_output=True, check=False)
+    if mounted.returncode:
+        return False
+    try:
+        size = os.path.getsize(machine.path)
+        check("one has room and two have not", size < 300 * 1024 < 2 * size, True)
+        machine.good("one that has room")
+        out, err, status = machine.backed_up(machine.path, machine.backups, "1")
+        check("one that has none", (out, status, err.startswith(f"backup: {machine.path} can't be copied to "), err.endswith(": No space left on device\n")), ("", 3, True, True))
+        check("the service runs again", machine.calls(), ORDER[:3])
+        check("the older one stays", [whole(f"{machine.backups}/{it}/town.db") for it in machine.there()], [whole(machine.path)])
+    finally:
+        subprocess.run(["umount", machine.backups], check=True)
+    return True
+
+
+def wrong_words(folder):
+    machine = Machine(folder, "words")
+    for words in ((), (machine.path, machine.backups), (machine.path, machine.backups, ""), ("--service", machine.path, machine.backups, "1"), ("--other", machine.path, machine.backups, "1"),
+                  (machine.path, machine.backups, "1", "2"), ("--service", "", machine.path, machine.backups, "1")):
+        check(f"the words {words}", machine.backed_up(*words), ("", USAGE, 4))
+    for keep in ("0", "-1", "x", "01", "1000000"):
+        machine.bad(f"KEEP {keep}", ["KEEP is no number from 1 to 999999"], machine.path, machine.backups, keep, status=4)
+    check("nothing was stopped or made", (machine.calls(), machine.there()), ([], None))
+
+
+def main():
+    with tempfile.TemporaryDirectory() as folder:
+        a_library(folder, "small.db")
+        part(of_a_desk, folder)
+        part(kept, folder)
+        part(failing, folder)
+        part(services, folder)
+        part(others, folder)
+        tried = part(a_full_disk, folder)
+        part(wrong_words, folder)
+    if tried is False:
+        print("backup_script: a full disk was not tried, since nothing may be mounted here")
+
+
+if __name__ == "__main__":
+    run_script(main)

@@ -1,0 +1,540 @@
+#!/usr/bin/env python3
+"""Each check of each command as the first that fails, and each form of a reply: by words, by the bytes of POST /desk, and a
+patron's by the patrons' routes.
+
+Each list of requests has a new library: a copy of the small one that the fifteen requests of `GROUND` make. Its answers are those
+of docs/RULES.md, worked out by hand; the rules in plain Python (`desk_rules`) say them once more, as far as they reach. The
+desk's lists are run by words on one library and by POST /desk on another, and end in the same rows. In the patrons' lists a line
+that begins with a number and a card key is what that patron asks by the routes. Which checks there are, and which forms, is read
+from the table of commands in docs/RULES.md, and from what it says of the desk's questions, so that none is left out. So a program that tells a fault to each renewal, or to any
+other kind of request, fails here: no clause can say that there is memory.
+"""
+
+import copy
+import datetime
+import json
+import os
+import re
+import shlex
+import shutil
+import tempfile
+
+from room import TOP
+from lib.checking import check, part, run_script
+from lib.runs import GROUND, answers, circ, say, status_of, whole
+from lib.serving import DESK_KEY, Serving, body_of_hold, told
+from reference.desk_rules import OVERDUE_HEAD, QUESTIONS, SHELF_HEAD, Library
+from reference.outer_forms import WORDS
+
+# A line: the words and the answer, whose lines are parted by strokes; `weekly N` before it asks N times, each with a last word that is a week later, `counted N` with a second word that is one more.
+DESK = """
+begin-day 2026-03-02 -> refused 23
+begin-day 2191-01-01 -> refused 23
+begin-day 2026-03-03 -> ok
+branch 100 5 Hill -> refused 21
+branch 1 6 Main -> refused 20
+branch 1 5 Harbour -> refused 20
+branch 3 5 Hill -> ok
+week 9 ooooooo -> refused 10
+week 1 ccccccc -> refused 22
+week 3 oooooco -> ok
+close-day 9 2026-03-09 -> refused 10
+close-day 1 2026-03-03 -> refused 23
+close-day 1 2026-03-09 -> ok
+close-day 1 2026-03-09 -> refused 24
+open-day 9 2026-03-09 -> refused 10
+open-day 1 2026-03-03 -> refused 23
+open-day 1 2026-03-10 -> refused 25
+open-day 1 2026-03-09 -> ok
+kind 1 201 5 500 -> refused 21
+kind 2 5 5 500 -> ok
+rule 1 1 366 1 20 100 -> refused 21
+rule 3 1 6 1 20 100 -> refused 17
+rule 2 1 6 1 20 100 -> ok
+grace 1 3 366 -> refused 21
+grace 1 100 2 -> refused 21
+grace 1 3 2 -> refused 16
+grace 2 1 2 -> ok
+patron 10000000 1 cardkey00004 'Di East' -> refused 21
+patron 4 3 cardkey00004 'Di East' -> refused 17
+patron 1 1 cardkey00004 'Ann Bell' -> refused 20
+patron 4 2 cardkey00004 'Di East' -> ok
+acquire 12 100 1 1 1000001 'Rivers of the North' -> refused 21
+acquire 12 100 1 9 2500 'Rivers of the North' -> refused 10
+acquire 12 100 1 1 2500 'Salt Roads' -> refused 20
+acquire 10 100 1 2 2500 'Rivers of the North' -> refused 20
+acquire 12 100 1 1 2500 'Rivers of the North' -> ok
+
+# four hundred days are closed singly
+weekly 400 close-day 1 2026-03-09 -> ok
+close-day 1 2026-03-10 -> refused 21
+
+# check-out
+check-out 1 10 9 -> refused 10
+check-out 9 10 1 -> refused 11
+check-out 1 99 1 -> refused 13
+withdraw 11 -> ok
+check-out 1 11 1 -> refused 35
+missing 30 -> ok
+check-out 1 30 1 -> refused 34
+check-out 1 10 1 -> loan 1 due 2026-03-09
+check-out 2 10 1 -> refused 31
+check-in 20 1 -> fine 0 transit 2
+check-out 1 20 1 -> refused 32
+acquire 21 200 1 2 1200 'Salt Roads' -> ok
+check-out 1 21 1 -> refused 30
+acquire 50 500 1 1 900 'Old Maps' -> ok
+place-hold 3 500 1 -> hold 1
+check-in 50 1 -> fine 0 ready 1 at 1 until 2026-03-07
+check-out 1 50 1 -> refused 33
+acquire 51 510 1 1 900 'New Maps' -> ok
+place-hold 3 510 1 -> hold 2
+check-out 1 51 1 -> refused 36
+acquire 52 500 1 1 900 'Old Maps' -> ok
+check-out 3 52 1 -> refused 50
+acquire 60 600 3 1 100 Charts -> ok
+check-out 1 60 1 -> refused 16
+kind 1 1 5 500 -> ok
+check-out 1 52 1 -> refused 37
+
+# what is owed
+check-out 2 10 1 -> loan 1 due 2026-03-09
+begin-day 2026-03-17 -> ok
+check-in 10 1 -> fine 100 shelf 1
+kind 1 5 5 99 -> ok
+check-out 2 10 1 -> refused 38
+pay 9 1 -> refused 11
+pay 2 101 -> refused 60
+pay 2 30 -> owed 70
+waive 9 1 -> refused 11
+waive 2 71 -> refused 60
+waive 2 20 -> owed 50
+page 9 -> refused 11
+page 2 -> patron 2 owed 50 name Bo Carr
+
+# check-in and its ways
+check-in 10 9 -> refused 10
+check-in 99 1 -> refused 13
+withdraw 11 -> ok
+check-in 11 1 -> refused 35
+place-hold 2 300 1 -> hold 1
+check-in 30 2 -> fine 0 transit 1 for 1
+check-in 30 1 -> fine 0 ready 1 at 1 until 2026-03-07
+check-in 30 1 -> refused 33
+check-in 10 2 -> fine 0 transit 1
+check-in 10 1 -> fine 0 shelf 1
+
+# grace days: those of the rule when the loan was made
+grace 1 1 2 -> ok
+check-out 1 10 1 -> loan 1 due 2026-03-09
+check-out 2 11 1 -> loan 2 due 2026-03-09
+rule 1 1 6 1 20 100 -> ok
+check-out 3 20 2 -> loan 3 due 2026-03-10
+begin-day 2026-03-11 -> ok
+check-in 10 1 -> fine 0 shelf 1
+renew 2 -> refused 41
+begin-day 2026-03-12 -> ok
+check-in 11 1 -> fine 60 shelf 1
+missing 20 -> fine 40 price 1200
+page 1 -> patron 1 owed 0 name Ann Bell
+
+# renew
+renew 1 -> refused 14
+check-out 1 10 1 -> loan 1 due 2026-03-09
+check-in 10 1 -> fine 0 shelf 1
+renew 1 -> refused 40
+check-out 1 10 1 -> loan 2 due 2026-03-09
+place-hold 2 100 1 -> hold 1
+renew 2 -> refused 36
+cancel-hold 1 -> ok
+renew 2 -> loan 2 due 2026-03-16
+renew 2 -> refused 42
+check-out 1 11 1 -> loan 3 due 2026-03-09
+begin-day 2026-03-10 -> ok
+renew 3 -> refused 41
+check-in 11 1 -> fine 20 shelf 1
+check-out 1 11 1 -> loan 4 due 2026-03-16
+kind 1 5 5 19 -> ok
+renew 4 -> refused 38
+
+# renew at the end of the calendar
+rule 1 2 365 99 20 100 -> ok
+begin-day 2190-12-31 -> ok
+check-out 1 30 1 -> loan 1 due 2191-12-31
+renew 1 -> loan 1 due 2192-12-31
+renew 1 -> loan 1 due 2193-12-31
+renew 1 -> loan 1 due 2194-12-31
+renew 1 -> loan 1 due 2195-12-31
+renew 1 -> loan 1 due 2196-12-30
+renew 1 -> loan 1 due 2197-12-30
+renew 1 -> loan 1 due 2198-12-31
+renew 1 -> loan 1 due 2199-12-31
+renew 1 -> refused 39
+
+# place-hold and cancel-hold
+place-hold 9 100 1 -> refused 11
+place-hold 1 999 1 -> refused 12
+place-hold 1 100 9 -> refused 10
+place-hold 1 100 1 -> hold 1
+place-hold 1 100 1 -> refused 50
+check-out 1 30 1 -> loan 1 due 2026-03-14
+place-hold 1 300 1 -> refused 52
+kind 1 5 1 500 -> ok
+place-hold 1 200 2 -> refused 51
+cancel-hold 9 -> refused 15
+cancel-hold 1 -> ok
+cancel-hold 1 -> refused 53
+
+# place-hold-from
+place-hold-from 9 100 1 2026-03-03 -> refused 11
+place-hold-from 1 999 1 2026-03-03 -> refused 12
+place-hold-from 1 100 9 2026-03-03 -> refused 10
+place-hold-from 1 100 1 2026-03-02 -> refused 23
+place-hold-from 1 100 1 2191-01-01 -> refused 23
+place-hold-from 1 100 1 2190-12-31 -> hold 1
+place-hold-from 1 100 1 2026-03-03 -> refused 50
+check-out 1 30 1 -> loan 1 due 2026-03-14
+place-hold-from 1 300 1 2026-03-03 -> refused 52
+kind 1 5 1 500 -> ok
+place-hold-from 1 200 2 2026-03-03 -> refused 51
+
+# unshelve
+unshelve 1 -> refused 15
+place-hold 1 300 2 -> hold 1
+unshelve 1 -> refused 53
+check-in 30 2 -> fine 0 ready 1 at 2 until 2026-03-05
+unshelve 1 -> refused 54
+place-hold 2 300 2 -> hold 2
+place-hold 3 300 1 -> hold 3
+begin-day 2026-03-06 -> ok
+unshelve 1 -> ready 2 at 2 until 2026-03-10
+begin-day 2026-03-11 -> ok
+unshelve 2 -> transit 1 for 3
+check-in 30 1 -> fine 0 ready 3 at 1 until 2026-03-16
+begin-day 2026-03-17 -> ok
+unshelve 3 -> shelf 1
+place-hold 1 300 2 -> hold 4
+check-in 30 2 -> fine 0 ready 4 at 2 until 2026-03-20
+begin-day 2026-03-21 -> ok
+unshelve 4 -> transit 1
+
+# unshelve-cancelled
+unshelve-cancelled 1 -> refused 15
+place-hold 1 300 2 -> hold 1
+unshelve-cancelled 1 -> refused 53
+check-in 30 2 -> fine 0 ready 1 at 2 until 2026-03-05
+place-hold 2 300 2 -> hold 2
+place-hold 3 300 1 -> hold 3
+unshelve-cancelled 1 -> ready 2 at 2 until 2026-03-05
+unshelve-cancelled 2 -> transit 1 for 3
+check-in 30 1 -> fine 0 ready 3 at 1 until 2026-03-07
+unshelve-cancelled 3 -> shelf 1
+place-hold 1 300 2 -> hold 4
+check-in 30 2 -> fine 0 ready 4 at 2 until 2026-03-05
+unshelve-cancelled 4 -> transit 1
+
+# missing and withdraw
+missing 99 -> refused 13
+withdraw 99 -> refused 13
+withdraw 11 -> ok
+missing 11 -> refused 35
+withdraw 11 -> refused 35
+missing 30 -> ok
+missing 30 -> refused 34
+check-out 1 10 1 -> loan 1 due 2026-03-09
+withdraw 10 -> refused 31
+check-in 20 1 -> fine 0 transit 2
+withdraw 20 -> refused 32
+acquire 50 500 1 1 900 'Old Maps' -> ok
+place-hold 2 500 1 -> hold 1
+check-in 50 1 -> fine 0 ready 1 at 1 until 2026-03-07
+withdraw 50 -> refused 33
+begin-day 2026-03-10 -> ok
+missing 10 -> fine 20 price 2500
+
+# what the desk can be asked
+copy 99 -> refused 13
+copies 999 0 -> refused 12
+queue 999 0 -> refused 12
+account 9 0 -> refused 11
+overdue 9 0 -> refused 10
+shelf 9 0 -> refused 10
+pulls 9 0 -> refused 10
+transits 9 0 -> refused 10
+copy 10 -> copy 10 home 1 kind 1 price 2500 title 100 Rivers of the North / shelf 1
+check-out 1 10 1 -> loan 1 due 2026-03-09
+copy 10 -> copy 10 home 1 kind 1 price 2500 title 100 Rivers of the North / loan 1 due 2026-03-09 patron 1 Ann Bell
+place-hold 2 100 1 -> hold 1
+place-hold-from 3 100 2 2026-03-04 -> hold 2
+queue 100 0 -> title 100 Rivers of the North / hold 1 patron 2 at 1 / end
+pulls 1 0 -> hold 1 copy 11 title 100 Rivers of the North / end
+pulls 2 0 -> end
+check-in 11 2 -> fine 0 transit 1 for 1
+copy 11 -> copy 11 home 1 kind 1 price 2500 title 100 Rivers of the North / transit 1 for 1 patron 2 Bo Carr
+transits 1 0 -> copy 11 for 1 title 100 Rivers of the North / end
+begin-day 2026-03-04 -> ok
+queue 100 0 -> title 100 Rivers of the North / hold 2 patron 3 at 2 from 2026-03-04 / end
+queue 100 2 -> title 100 Rivers of the North / end
+check-in 11 1 -> fine 0 ready 1 at 1 until 2026-03-09
+copy 11 -> copy 11 home 1 kind 1 price 2500 title 100 Rivers of the North / ready 1 at 1 until 2026-03-09 patron 2 Bo Carr
+shelf 1 0 ->       hold    copy  patron until      title /          1      11       2 2026-03-09 Rivers of the North / end
+check-in 20 1 -> fine 0 transit 2
+copy 20 -> copy 20 home 2 kind 1 price 1200 title 200 Salt Roads / transit 2
+copies 200 0 -> title 200 Salt Roads / copy 20 transit 2 / end
+transits 2 0 -> copy 20 title 200 Salt Roads / end
+missing 30 -> ok
+copy 30 -> copy 30 home 1 kind 2 price 800 title 300 Night Ferries / missing
+copies 300 0 -> title 300 Night Ferries / copy 30 missing / end
+withdraw 30 -> ok
+copy 30 -> copy 30 home 1 kind 2 price 800 title 300 Night Ferries / withdrawn
+copies 300 0 -> title 300 Night Ferries / copy 30 withdrawn / end
+acquire 12 100 1 1 2500 'Rivers of the North' -> ok
+copies 100 0 -> title 100 Rivers of the North / copy 10 loan 1 due 2026-03-09 / copy 11 ready 1 at 1 until 2026-03-09 / copy 12 shelf 1 / end
+check-in 12 1 -> fine 0 transit 2 for 2
+copies 100 11 -> title 100 Rivers of the North / copy 12 transit 2 for 2 / end
+debts 0 -> end
+begin-day 2026-03-17 -> ok
+overdue 1 0 ->       loan  patron    copy due         late title /          1       1      10 2026-03-09     7 Rivers of the North / end
+missing 10 -> fine 100 price 2500
+pay 1 30 -> owed 2570
+waive 1 20 -> owed 2550
+account 1 0 -> patron 1 owed 2550 name Ann Bell / line 1 2026-03-17 fine 100 loan 1 title 100 Rivers of the North / line 2 2026-03-17 price 2500 loan 1 title 100 Rivers of the North / line 3 2026-03-17 payment 30 / line 4 2026-03-17 waiver 20 / end
+debts 0 -> patron 1 owed 2550 name Ann Bell / end
+till 2026-03-17 -> till 2026-03-17 / fines                100 / prices              2500 / payments              30 / waivers               20
+
+# more than a hundred rows
+counted 101 acquire 1001 500 1 1 900 Charts -> ok
+copies 500 0 -> title 500 Charts / ROWS / after 1100
+copies 500 1100 -> title 500 Charts / copy 1101 shelf 1 / end
+""".replace("ROWS", " / ".join(f"copy {number} shelf 1" for number in range(1001, 1101)))
+
+# Before each patron's command comes 81, and 14 and 15 are told of another's loan and hold too.
+PATRONS = """
+1/cardkey00002 page 1 -> refused 81
+9/cardkey00001 page 9 -> refused 81
+1/cardkey00001 page 1 -> patron 1 owed 0 name Ann Bell
+1/cardkey00002 place-hold 1 100 1 -> refused 81
+9/cardkey00001 place-hold 9 100 1 -> refused 81
+1/cardkey00001 place-hold 1 999 1 -> refused 12
+1/cardkey00001 place-hold 1 100 9 -> refused 10
+1/cardkey00001 place-hold 1 100 1 -> hold 1
+1/cardkey00001 place-hold 1 100 1 -> refused 50
+check-out 1 30 1 -> loan 1 due 2026-03-14
+1/cardkey00001 place-hold 1 300 1 -> refused 52
+kind 1 5 1 500 -> ok
+1/cardkey00001 place-hold 1 200 2 -> refused 51
+1/cardkey00002 cancel-hold 1 -> refused 81
+1/cardkey00001 cancel-hold 9 -> refused 15
+2/cardkey00002 cancel-hold 1 -> refused 15
+1/cardkey00001 cancel-hold 1 -> ok
+1/cardkey00001 cancel-hold 1 -> refused 53
+
+1/cardkey00002 place-hold-from 1 100 1 2026-03-03 -> refused 81
+9/cardkey00001 place-hold-from 9 100 1 2026-03-03 -> refused 81
+1/cardkey00001 place-hold-from 1 999 1 2026-03-03 -> refused 12
+1/cardkey00001 place-hold-from 1 100 9 2026-03-03 -> refused 10
+1/cardkey00001 place-hold-from 1 100 1 2026-03-02 -> refused 23
+1/cardkey00001 place-hold-from 1 100 1 2191-01-01 -> refused 23
+1/cardkey00001 place-hold-from 1 100 1 2190-12-31 -> hold 1
+1/cardkey00001 place-hold-from 1 100 1 2026-03-03 -> refused 50
+check-out 1 30 1 -> loan 1 due 2026-03-14
+1/cardkey00001 place-hold-from 1 300 1 2026-03-03 -> refused 52
+kind 1 5 1 500 -> ok
+1/cardkey00001 place-hold-from 1 200 2 2026-03-03 -> refused 51
+
+1/cardkey00001 renew 1 -> refused 14
+check-out 1 10 1 -> loan 1 due 2026-03-09
+1/cardkey00002 renew 1 -> refused 81
+2/cardkey00002 renew 1 -> refused 14
+check-in 10 1 -> fine 0 shelf 1
+1/cardkey00001 renew 1 -> refused 40
+check-out 1 10 1 -> loan 2 due 2026-03-09
+place-hold 2 100 1 -> hold 1
+1/cardkey00001 renew 2 -> refused 36
+cancel-hold 1 -> ok
+1/cardkey00001 renew 2 -> loan 2 due 2026-03-16
+1/cardkey00001 renew 2 -> refused 42
+check-out 1 11 1 -> loan 3 due 2026-03-09
+begin-day 2026-03-10 -> ok
+1/cardkey00001 renew 3 -> refused 41
+check-in 11 1 -> fine 20 shelf 1
+check-out 1 11 1 -> loan 4 due 2026-03-16
+kind 1 5 5 19 -> ok
+1/cardkey00001 renew 4 -> refused 38
+
+rule 1 2 365 99 20 100 -> ok
+begin-day 2190-12-31 -> ok
+check-out 1 30 1 -> loan 1 due 2191-12-31
+1/cardkey00001 renew 1 -> loan 1 due 2192-12-31
+1/cardkey00001 renew 1 -> loan 1 due 2193-12-31
+1/cardkey00001 renew 1 -> loan 1 due 2194-12-31
+1/cardkey00001 renew 1 -> loan 1 due 2195-12-31
+1/cardkey00001 renew 1 -> loan 1 due 2196-12-30
+1/cardkey00001 renew 1 -> loan 1 due 2197-12-30
+1/cardkey00001 renew 1 -> loan 1 due 2198-12-31
+1/cardkey00001 renew 1 -> loan 1 due 2199-12-31
+1/cardkey00001 renew 1 -> refused 39
+"""
+
+# What a patron may send, and the form of the page of a patron with no loan and no hold.
+PATRONS_COMMANDS = ("page", "place-hold", "place-hold-from", "cancel-hold", "renew")
+PAGE = "patron P owed N name NAME"
+# The lines of the reports, of which docs/RULES.md tells the columns. The forms are patterns, in which capitals stand as in those that it has.
+OF_REPORTS = {
+    "overdue": [OVERDUE_HEAD, " +LOAN +PATRON +COPY DAY +LATE TEXT"],
+    "shelf": [SHELF_HEAD, " +HOLD +COPY +PATRON DAY TEXT"],
+    "till": ["till DAY", *(f"{name} +CENTS" for name in ("fines", "prices", "payments", "waivers"))],
+}
+
+
+class Line:
+    """A request of a list: who asks, how often, what, and the answer."""
+
+    def __init__(self, text):
+        said, _, answer = text.partition(" -> ")
+        self.answer = answer.replace(" / ", "\n")
+        words = shlex.split(said)
+        self.patron = self.card_key = None
+        if "/" in words[0]:
+            self.patron, _, self.card_key = words.pop(0).partition("/")
+        self.often = words[0] if words[0] in ("weekly", "counted") else None
+        self.count = int(words[1]) if self.often else 1
+        self.words = words[2:] if self.often else words
+
+    def asked(self, number):
+        """Each of its requests: a key, and the words."""
+        for at in range(self.count):
+            words = [*self.words]
+            if self.often == "weekly":
+                words[-1] = str(datetime.date.fromisoformat(words[-1]) + datetime.timedelta(7 * at))
+            elif self.often:
+                words[1] = str(int(words[1]) + at)
+            yield f"k{number}-{at}", words
+
+    def by_route(self, key):
+        """The method, the target, the fields and the body by which the patron asks."""
+        name, fields = self.words[0], {"Card-Key": self.card_key, "Request-Key": key}
+        if name == "page":
+            return "GET", f"/patrons/{self.words[1]}", {"Card-Key": self.card_key}, None
+        if name in ("place-hold", "place-hold-from"):
+            return "POST", f"/patrons/{self.words[1]}/holds", fields, body_of_hold(self.words)
+        last = f"holds/{self.words[1]}/cancel" if name == "cancel-hold" else f"loans/{self.words[1]}/renew"
+        return "POST", f"/patrons/{self.patron}/{last}", fields, None
+
+
+def lists_of(text):
+    """The lists of a text, which empty lines part, each of numbered lines; a line that begins with # is a remark."""
+    return [list(enumerate(Line(line) for line in part.split("\n") if not line.startswith("#")))
+            for part in text.strip().split("\n\n")]
+
+
+def are_the_rules(rules, lists):
+    """The answers are those of the rules in plain Python, which say nothing of who may ask. How many these were."""
+    told = [it for it in lists if it[2].answer not in ("refused 81", "refused 14", "refused 15") or not it[2].patron]
+    for key, words, line in told:
+        check(f"the rules at {key} {words}", rules.handle(key, words, int(line.patron or 0)), line.answer)
+    return len(told)
+
+
+def all_asked(lines):
+    """Each request of a list, with its line."""
+    return [(key, words, line) for number, line in lines for key, words in line.asked(number)]
+
+
+def by_words(path, asked):
+    """The list by words."""
+    for key, words, line in asked:
+        check(f"{key} {words}", answers(path, key, words), (line.answer + "\n", status_of(line.answer)))
+
+
+def over_the_web(path, asked):
+    """The list over the web: the desk's requests by their bytes, a patron's by the routes."""
+    with Serving(path, len(asked)) as serving:
+        for key, words, line in asked:
+            how = ("POST", "/desk", {"Desk-Key": DESK_KEY, "Request-Key": key}, json.dumps(words).encode())
+            serving.answers(*(line.by_route(key) if line.patron else how), *told(line.answer))
+
+
+def compared(folder, small, rules, lists):
+    """Runs lists, each on new libraries, and compares the rows that they end in."""
+    by_rules, every = 0, 0
+    for at, lines in enumerate(lists):
+        asked, known = all_asked(lines), copy.deepcopy(rules)
+        by_rules, every = by_rules + are_the_rules(known, asked), every + len(asked)
+        for way in (over_the_web,) if any(line.patron for _, line in lines) else (by_words, over_the_web):
+            path = os.path.join(folder, f"{at}.db")
+            shutil.copy(small, path)
+            way(path, asked)
+            found = whole(path)
+            for name, wanted in known.tables().items():
+                check(f"list {at}, {way.__name__}: rows of {name}", sorted(found[name], key=repr), sorted(wanted, key=repr))
+            check(f"list {at}, {way.__name__}: its audit", circ(["audit", path]), ("sound", 0))
+    check(f"{by_rules} of {every} answers are those of the rules", by_rules > every // 2, True)
+
+
+def commands():
+    """Of each command its checks but 70, and the forms of its replies, as docs/RULES.md has them."""
+    with open(os.path.join(TOP, "docs", "RULES.md"), encoding="utf-8") as file:
+        text = file.read()
+    places = re.findall("`(.*?)`", re.search(r"^PLACE is ([^.(]*)", text, re.MULTILINE)[1])
+    check("how many forms a place has", len(places), 4)
+    table, shown = {}, forms_of_questions(text)
+    for name, checks, replies in re.findall(r"^\| `([a-z-]+)(?: [A-Z ]+)?` \| .* \| `.*` \| (.*) \| (.*) \|$", text, re.MULTILINE):
+        numbers = [int(re.match(r"[0-9]{2}\b", part)[0]) for part in checks.split("; ") if checks != "none"]
+        forms = shown.pop(name) if name in shown else [PAGE] if replies == "the page" else re.findall("`(.*?)`", replies)
+        each = [form.replace("PLACE", place) for form in forms for place in (places if "PLACE" in form else [""])]
+        table[name] = [number for number in numbers if number != 70], each
+    check("the forms of what is no command", shown, {})
+    return table
+
+
+def forms_of_questions(text):
+    """The forms of the lines that each question is answered by, as docs/RULES.md has them: of a copy, of the lists, and of the till report. PLACE is left as it is where nobody is told with it."""
+    told = re.search(r"^A copy is shown in two lines, ([^(]*)", text, re.MULTILINE)[1]
+    forms = {"copy": re.findall("`(.*?)`", told), "till": OF_REPORTS["till"]}
+    check("a copy, and how many forms its place has", len(forms["copy"]), 8)
+    places = [re.sub(" patron P NAME$", "", form) for form in forms["copy"][1:]]
+    table = re.search(r"^\| list \| head \| row \|\n\|-.*\n((?:\|.*\n)+)", text, re.MULTILINE)[1]
+    for name, head, rows_ in re.findall(r"^\| ([a-z]+) \| (.*) \| (.*) \|$", table, re.MULTILINE):
+        each = [form.replace("PLACE", place) for form in re.findall("`(.*?)`", f"{head} {rows_}") for place in (places if "PLACE" in form else [""])]
+        forms[name] = [*(each or OF_REPORTS[name]), "end"]
+    check("the questions that are told of", sorted(forms), sorted(QUESTIONS))
+    return forms
+
+
+def has_form(answer, form):
+    """Whether a line has a form, in which capitals stand for what differs."""
+    return re.fullmatch(re.sub("NAME|TEXT", ".*", re.sub(r"\b(?!NAME|TEXT)[A-Z]+\b", "[0-9-]+", form)), answer)
+
+
+def none_is_left_out(lines, wanted):
+    """Each check comes as the first that fails, and each form of a line of a reply; a question is answered by no others, but that a list goes on."""
+    answers = {name: [line.answer for line in lines if line.words[0] == name] for name in wanted}
+    for name, (numbers, forms) in wanted.items():
+        check(f"checks of {name}", [it for it in numbers if f"refused {it}" not in answers[name]], [])
+        told = [it for answer in answers[name] for it in answer.split("\n")]
+        lacking = [form for form in forms if not any(has_form(it, form) for it in told)]
+        check(f"replies of {name}", lacking, [])
+        if name in QUESTIONS:
+            check(f"other replies of {name}", [it for it in told if not any(has_form(it, form) for form in [*forms, "after N", "refused N"])], [])
+
+
+def main():
+    table, desks, patrons = commands(), lists_of(DESK), lists_of(PATRONS)
+    check("the commands of the table", list(table), list(WORDS))
+    none_is_left_out([line for lines in desks for _, line in lines], table)
+    check("a list that goes on", sum(line.answer.endswith("\nafter 1100") for lines in desks for _, line in lines), 1)
+    own = {name: ([81] + [it for it in table[name][0] if it != 11], table[name][1]) for name in PATRONS_COMMANDS}
+    none_is_left_out([line for lines in patrons for _, line in lines if line.patron], own)
+    rules = Library()
+    for key, words, line in GROUND:
+        check(f"the rules at {key}", rules.handle(key, words), line)
+    with tempfile.TemporaryDirectory() as folder:
+        small = os.path.join(folder, "small.db")
+        say(small, GROUND)
+        part(compared, folder, small, rules, desks)
+        part(compared, folder, small, rules, patrons)
+
+
+if __name__ == "__main__":
+    run_script(main)

@@ -1,0 +1,233 @@
+#!/usr/bin/env python3
+"""The definitions of the desk's words, computed on random histories, beside the rules in plain Python.
+
+    tests/gate/definitions.py GATE [--seed N] [HISTORIES]      over the libraries that `rt ci` left in GATE/crates/*/out, a copy of the repository
+
+A history is 25 requests of the desk, of all commands but `page`, after those that make a small library; in eight of the histories a question comes after each second one. Loans end late in
+them, within their grace days and past these. What each is answered is worked out by `tests/reference/desk_rules.py`, which shares nothing with the definitions; that the definitions give the same answers is a lemma, which the prover
+computes in a copy of the crate `model`. One lemma more has a wrong answer, and has to be rejected.
+"""
+
+import datetime
+import json
+import os
+import random
+import re
+import shutil
+import subprocess
+import sys
+import tempfile
+from collections import Counter
+
+from room import TOP
+from lib.checking import check, run_script
+from lib.gate_libraries import PARTS, check_of, kit, libraries
+from reference.desk_rules import EPOCH, QUESTIONS, Library
+
+HISTORIES, REQUESTS = 40, 25
+ASKED, QUESTIONED = 8, 2  # in so many of them a question comes after each second request: what it is answered takes the prover a second
+DRAWN = 10  # so many histories with questions are drawn for one that is computed
+# The small library of the definitions' worked examples.
+FOUNDING = [
+    ["begin-day", "2026-03-02"], ["branch", "1", "5", "Main"], ["branch", "2", "3", "Harbour"], ["week", "1", "ooooooc"], ["week", "2", "coooooc"],
+    ["kind", "1", "5", "5", "500"], ["rule", "1", "1", "6", "1", "20", "100"], ["rule", "1", "2", "12", "1", "20", "100"],
+    ["patron", "1", "1", "cardkey00001", "Ann Bell"], ["patron", "2", "1", "cardkey00002", "Bo Carr"], ["patron", "3", "1", "cardkey00003", "Cy Dunn"],
+    ["acquire", "10", "100", "1", "1", "2500", "Rivers of the North"], ["acquire", "11", "100", "1", "1", "2500", "Rivers of the North"],
+    ["acquire", "20", "200", "1", "2", "1200", "Salt Roads"], ["acquire", "30", "300", "2", "1", "800", "Night Ferries"],
+]
+IMPORTS = """-- Random histories, and what the rules in plain Python answer.
+use Rattle.std.specs.Prelude.{◌≡◌, [], ◌∷◌, true, false, refl, Some, None}
+use Rattle.std.specs.Fmt.{digits}
+use Rattle.calendar.specs.Days.{day_text, civil_of}
+use Rattle.terms.specs.declared.command.Command.TheVariants.{BeginDay, Branch, Week, CloseDay, OpenDay, Kind, Rule, Grace, Patron, Acquire, CheckOut, CheckIn, Renew, PlaceHold, CancelHold, Unshelve, UnshelveCancelled, Missing, Withdraw, Pay, Waive, Ask}
+use Rattle.terms.specs.declared.question.Question.TheVariants as question
+use Rattle.terms.specs.Texts.{reply_text, reply_words, routed_words}
+use Rattle.model.proofs.Rows.{closed_in, desk, Gives, gives, ground}
+use Rattle.std.specs.Prelude.{codes}
+"""
+
+
+def as_term(words):
+    """A command as the definitions write it: a variant, and its parts. A question is one of the command `Ask`."""
+    if words[0] in QUESTIONS:
+        parts = [str((datetime.date.fromisoformat(words[1]) - EPOCH).days)] if words[0] == "till" else words[1:]
+        return f"Ask (question.{' '.join([words[0].capitalize(), *parts])})"
+    name, parts = words[0], [f'(codes "{word}")' if not word.isdecimal() else word for word in words[1:]]
+    for at, word in enumerate(words[1:]):
+        if re.fullmatch(r"\d{4}-\d{2}-\d{2}", word):
+            parts[at] = str((datetime.date.fromisoformat(word) - EPOCH).days)
+    if name == "week":
+        parts[1] = f'(closed_in "{words[2]}")'
+    if name == "place-hold":
+        parts.append("None")
+    if name == "place-hold-from":
+        name, parts[3] = "place-hold", f"(Some {parts[3]})"
+    return " ".join(["".join(part.capitalize() for part in name.split("-")), *parts])
+
+
+class Clerk:
+    """Who makes up what is asked, with numbers that mostly mean something."""
+
+    def __init__(self, rng, library):
+        self.rng, self.library = rng, library
+
+    def one(self, *numbers):
+        return str(self.rng.choice(numbers))
+
+    def among(self, rows):
+        return str(self.rng.randint(1, max(1, len(rows))))
+
+    def day(self, *later):
+        return str(self.library.today + datetime.timedelta(self.rng.choice(later)))
+
+    def end_of_a_loan(self):
+        """What ends an open loan late: a day soon after the one on which it is due and, from then on, its copy; None where there is none."""
+        lent = [loan for loan in self.library.loans.values() if loan["ended"] is None]
+        if not lent:
+            return None
+        loan = self.rng.choice(lent)
+        if self.library.today <= loan["due"]:
+            return ["begin-day", str(loan["due"] + datetime.timedelta(self.rng.choice((1, 2, 3, 4, 6))))]
+        return ["missing", str(loan["copy"])] if self.rng.random() < 0.2 else ["check-in", str(loan["copy"]), self.one(1, 2)]
+
+    def question(self):
+        """A question, which mostly is shown rows."""
+        late = [branch for branch in (1, 2) if self.library.overdue_rows(branch)]
+        if late and self.rng.random() < 0.4:
+            return ["overdue", self.one(*late), "0"]
+        for _ in range(4):
+            words = self.any_question()
+            if has_rows(words, self.library.handle("", words)):
+                break
+        return words
+
+    def any_question(self):
+        one, patron, branch, after = self.one, self.one(1, 2, 3), self.one(1, 1, 2, 2, 9), self.one(0, 0, 0, 1, 2, 10)
+        title = one(100, 100, 100, 200, 300)
+        return self.rng.choice([
+            ["copy", one(10, 11, 12, 20, 30)], ["copies", title, after], ["queue", title, after], ["account", patron, after], ["debts", after], ["overdue", branch, after],
+            ["shelf", branch, after], ["shelf", branch, "0"], ["account", patron, "0"], ["pulls", branch, after], ["pulls", branch, "0"], ["transits", branch, after], ["till", self.day(0, 0, -1, -2)],
+        ])
+
+    def request(self):
+        one, day = self.one, self.day
+        ends = self.end_of_a_loan() if self.rng.random() < 0.3 else None
+        if ends:
+            return ends
+        patron, title, branch, copy = one(1, 2, 3), one(100, 100, 100, 200, 300), one(1, 1, 2), one(10, 11, 10, 11, 20, 30)
+        hold, loan, amount = self.among(self.library.holds), self.among(self.library.loans), one(10, 30, 2500)
+        often = [
+            ["check-in", copy, branch], ["check-out", patron, copy, branch], ["place-hold-from", patron, title, branch, day(0, 1, 1, 2, 3, 5)],
+            ["begin-day", day(0, 1, 1, 2, 4)], ["place-hold", patron, title, branch],
+        ]
+        seldom = [
+            ["renew", loan], ["cancel-hold", hold], ["unshelve", hold], ["unshelve-cancelled", hold], ["missing", copy], ["withdraw", copy], ["pay", patron, amount],
+            ["waive", patron, amount], ["close-day", branch, day(1, 5, 6, 7)], ["open-day", branch, day(1, 5, 6, 7)], ["kind", "1", one(2, 5), one(1, 3, 5), "500"],
+            ["rule", "1", one(1, 2), one(3, 6), one(0, 2), "20", "100"], ["grace", "1", one(1, 1, 2, 3), one(1, 2, 3, 366)], ["grace", "1", "1", one(0, 1, 2)], ["week", branch, self.rng.choice(["ooooooc", "coooooc", "ooooooo", "ccccccc"])],
+            ["branch", branch, one(3, 5), "Main"], ["patron", patron, "1", "cardkey00001", "Ann Bell"], ["acquire", one(10, 12), "100", "1", "1", "2500", "Rivers of the North"],
+        ]
+        return self.rng.choice(often if self.rng.random() < 0.6 else seldom)
+
+
+def history(rng, has_questions):
+    """Requests, and what they are answered."""
+    library = Library()
+    for at, words in enumerate(FOUNDING):
+        if library.handle(f"f{at}", words) != "ok":
+            sys.exit(f"{words} of the small library is refused")
+    clerk, asked = Clerk(rng, library), []
+    for at in range(REQUESTS):
+        # few loans are made in one history, so half of them have grace days from the beginning
+        words = ["grace", "1", "1", clerk.one(1, 2, 3)] if at == 0 and rng.random() < 0.5 else clerk.request()
+        asked.append((words, library.handle(f"r{at}", words)))
+        if has_questions and at % QUESTIONED == 0:
+            words = clerk.question()
+            asked.append((words, library.handle(f"r{at}", words)))
+    return asked
+
+
+def has_rows(words, answer):
+    """Whether a question is shown a row: a copy or sums, or a list with more than its head and its end."""
+    heads = {"copies": 1, "queue": 1, "account": 1, "overdue": 1, "shelf": 1}.get(words[0], 0)
+    return not answer.startswith("refused") and (words[0] in ("copy", "till") or answer.count("\n") > heads)
+
+
+def shown_in(asked):
+    """The questions that are shown rows in a history."""
+    return {words[0] for words, answer in asked if words[0] in QUESTIONS and has_rows(words, answer)}
+
+
+def asked_histories(rng):
+    """Histories with questions, of more that are drawn: first those in which the most questions are shown rows that were shown none before."""
+    drawn, taken, left = [history(rng, True) for _ in range(DRAWN * ASKED)], [], set(QUESTIONS)
+    for _ in range(ASKED):
+        best = max(drawn, key=lambda asked: len(left & shown_in(asked)))
+        drawn.remove(best)
+        taken.append(best)
+        left -= shown_in(best)
+    return taken
+
+
+def lemma(name, asked):
+    commands = " ∷ ".join(as_term(words) for words, _ in asked)
+    answers = " ∷ ".join(json.dumps(answer, ensure_ascii=False) for _, answer in asked)
+    return f"""
+{name} : Gives ground
+    (desk ({commands} ∷ []))
+    ({answers} ∷ [])
+unfolding digits reply_text reply_words routed_words day_text civil_of
+{name} = gives refl
+"""
+
+
+def errors_of(words, lemmas):
+    """The lemmas that a check of a copy of the crate with them rejects, and whether it came to an end."""
+    with tempfile.TemporaryDirectory(prefix="definitions-") as room:
+        for part in PARTS:
+            shutil.copytree(f"{TOP}/crates/model/{part}", f"{room}/{part}")
+        with open(f"{room}/proofs/Lib.antt", "a", encoding="utf-8") as it:
+            it.write("mod RandomHistories\n")
+        with open(f"{room}/proofs/RandomHistories.antt", "w", encoding="utf-8") as it:
+            it.write(IMPORTS + "".join(lemmas))
+        ran = subprocess.run(words, cwd=room, stdin=subprocess.DEVNULL, stdout=subprocess.PIPE, stderr=subprocess.STDOUT, encoding="utf-8", errors="replace", check=False)
+    ended = re.search(r"^logic=(?:proved|not-proved)", ran.stdout, re.M)
+    return re.findall(r"RandomHistories\.antt:\d+:\d+: error: `?(\w*)", ran.stdout), bool(ended), ran.stdout
+
+
+def main(words):
+    seed = random.randrange(1_000_000)
+    if "--seed" in words:
+        at = words.index("--seed")
+        seed = int(words[at + 1])
+        del words[at : at + 2]
+    if not words or words[0].startswith("-"):
+        sys.exit(__doc__)
+    many = int(words[1]) if len(words) > 1 else HISTORIES
+    command, missing = check_of("model", libraries(), os.path.abspath(words[0]), kit())
+    if missing:
+        sys.exit(f"the libraries {' '.join(missing)} are not there")
+    rng = random.Random(seed)
+    histories = (asked_histories(rng) + [history(rng, False) for _ in range(many - ASKED)])[:many]
+    *before, (words, answer) = histories[-1]
+    wrong = [*before, (words, f"{answer}0")]
+    lemmas = [lemma(f"history_{at}", asked) for at, asked in enumerate(histories)]
+    rejected, ended, told = errors_of(command, [*lemmas, lemma("wrong_answer", wrong)])
+    differ = [name for name in rejected if name != "wrong_answer"]
+    asked = {words[0] for its in histories for words, _ in its}
+    refused = {answer for its in histories for _, answer in its if answer.startswith("refused")}
+    shown = Counter(words[0] for its in histories for words, answer in its if words[0] in QUESTIONS and has_rows(words, answer))
+    fines = sum(answer.startswith("fine ") and not answer.startswith("fine 0 ") for its in histories for _, answer in its)
+    if not ended or "wrong_answer" not in rejected or differ:
+        print(told[-6000:])
+    seldom = [name for name in QUESTIONS if not shown[name]] if many >= ASKED else []
+    print(f"definitions: {many} histories of {REQUESTS} requests by the seed {seed}, with questions in {min(many, ASKED)}, {len(asked)} commands, {len(refused)} refusals and {fines} fines among them, "
+          f"{shown.total()} questions that were shown rows: {len(differ)} differ{', no rows for ' * bool(seldom)}{', '.join(seldom)}")
+    check("the check came to its end", bool(ended), True)
+    check("the wrong answer is rejected", "wrong_answer" in rejected, True)
+    check("each question was shown rows", seldom, [])
+    for at in range(many):
+        check(f"history {at} is answered so by the definitions", f"history_{at}" in differ, False)
+
+
+if __name__ == "__main__":
+    run_script(main, sys.argv[1:])

@@ -1,0 +1,503 @@
+// The work of a desk as fast as the fastest hand, over the slowest network: run by tests/gate/pages.py.
+import { deepStrictEqual as same } from "node:assert";
+import { askUntilAnswered } from "../../pages/asking.js";
+import { once } from "../../pages/clicks.js";
+import { today } from "../../pages/days.js";
+import { receiptHead, receiptRow } from "../../pages/receipt.js";
+import { labelOf } from "../../pages/saying.js";
+import { beginsScan, cut, endsScan, itemOf, needsConfirming, scansIn } from "../../pages/scans.js";
+import { slipLines } from "../../pages/slips.js";
+import { SignedIn } from "../../pages/signed_in.js";
+import { TEXTS } from "../../pages/texts.js";
+import { Work } from "../../pages/work.js";
+import { Kept, network } from "../lib/network.mjs";
+
+let tried = 0;
+function is(one, other) {
+  same(one, other);
+  tried += 1;
+}
+
+const reply = (text, milliseconds = 5) => [milliseconds, 200, JSON.stringify({ reply: text })];
+const refusal = (number, milliseconds = 5) => [milliseconds, number === 81 ? 403 : 409, JSON.stringify({ refusal: number })];
+const fault = (number) => [5, 503, JSON.stringify({ fault: number })];
+const page = (patron, name, ...lines) => [`patron ${patron} owed 0 name ${name}`, ...lines].join("\n");
+
+// The answers to acts in turn, of which the last one stays; a question is answered by the words that it begins with.
+function turns(acts, asked = {}) {
+  const left = [...acts];
+  const questions = { ...asked, ...(asked["copy 20"] ? {} : { "copy": "copy 1 home 1 kind 1 price 100 title 1 Any\nshelf 1" }) };
+  return (body) => {
+    const words = JSON.parse(body).join(" ");
+    const question = Object.keys(questions).find((it) => words === it || words.startsWith(`${it} `));
+    if (question) return typeof questions[question] === "string" ? reply(questions[question]) : questions[question];
+    return left.length > 1 ? left.shift() : left[0];
+  };
+}
+
+// A desk of branch 1 in a tab, and what its screen was told.
+function desk(storage = new Kept()) {
+  const leaving = new AbortController();
+  const told = [], noted = [], receipts = [], slips = [];
+  let unknown = 0, waiting = [], wanted = null;
+  const ask = (words, requestKey, text) => askUntilAnswered(
+    { method: "POST", path: "/desk", keyField: "Desk-Key", keyValue: "deskkey00001", requestKey, body: JSON.stringify(words) },
+    () => { unknown += 1; told.push([text, true]); }, { signal: leaving.signal, pauses: [1] });
+  const screen = {
+    told: (text, isWrong = false) => told.push([text, isWrong]),
+    toldMore: (text) => told.push([text, true]),
+    noted: (what, text) => noted.push(`${what}: ${text}`),
+    waiting: (queue) => { waiting = queue.waiting.map(labelOf); },
+    wanted: (patron) => { wanted = patron; },
+    slip: (slip) => slips.push(slipLines(slip)),
+    visit: (visit) => receipts.push([receiptHead(visit.receipt), ...visit.receipt.rows]),
+  };
+  const work = new Work({ branch: "1", ask, screen, storage });
+  return { work, told, noted, receipts, slips, storage, leaving, unknown: () => unknown, waiting: () => waiting, wanted: () => wanted };
+}
+
+async function until(holds) {
+  for (let at = 0; at < 2000; at += 1) {
+    if (holds()) return;
+    await new Promise((done) => setTimeout(done, 1));
+  }
+  throw new Error(`never: ${holds}`);
+}
+
+const isQuiet = ({ work: { queue } }) => queue.current === null && (queue.isStopped || queue.waiting.length === 0);
+const bodies = (sent) => sent.map(([, , , body]) => JSON.parse(body).join(" "));
+const acts = (sent) => bodies(sent).filter((words) => !/^(page|copy|shelf) /.test(words));
+const keysOf = (sent) => sent.filter(([, , , body]) => !/^\["(page|copy|shelf)"/.test(body)).map(([, key]) => key);
+const dayOf = today();
+
+// ---- a card and two copies, before the first answer comes: three requests, in order, none glued to another
+const lent = page(4, "Di Eck", "loan 1 due 2026-03-09 renewals 1 title 300 Maps, Old and New", "loan 2 due 2026-03-16 renewals 1 title 400 Winter Bees");
+let sent = network(turns([reply("loan 1 due 2026-03-09", 40), reply("loan 2 due 2026-03-16", 40)], { "page 4": reply(lent, 40) }));
+let it = desk();
+for (const scan of ["4", "31", "32"]) it.work.scan("check-out", scan);
+is(it.waiting(), ["copy 31, patron 4", "copy 32, patron 4"]);
+is(it.wanted(), 4);
+await until(() => isQuiet(it));
+is(bodies(sent), ["page 4", "check-out 4 31 1", "page 4", "check-out 4 32 1", "page 4"]);
+is(new Set(sent.map(([, key]) => key)).size, 5);
+is([it.unknown(), it.waiting(), it.work.queue.isStopped], [0, [], false]);
+is(it.receipts.at(-1), [`Di Eck, ${dayOf}, branch 1`, "Maps, Old and New, due on 2026-03-09", "Winter Bees, due on 2026-03-16"]);
+
+// ---- fifty scans at once, over a network that loses answers, cuts them off and tells 502: each is done once, in its order
+let lost = 0;
+const answered = turns([reply("fine 0 shelf 1", 0)]);
+sent = network((body, at) => {
+  if (at % 3 !== 2) { lost += 1; return [[0, null], [0, 502, "<html>"], [0, 200, null]][at % 2 + (at % 5 === 0 ? 1 : 0)]; }
+  return answered(body);
+});
+it = desk();
+for (let copy = 1; copy <= 50; copy += 1) it.work.scan("check-in", String(copy));
+is(it.waiting().length, 49);
+await until(() => isQuiet(it));
+const keys = [...new Map(sent.map(([, key, , body]) => [key, body])).values()].filter((body) => body.includes("check-in"));
+is(keys.map((body) => JSON.parse(body)[1]), Array.from({ length: 50 }, (_, at) => String(at + 1)));
+is([lost, it.unknown(), sent.length], [200, 200, 300]);
+is(it.noted.length, 50);
+
+// ---- 10, 1, 1 scanned in are three copies, and never an eleventh
+sent = network(turns([reply("fine 0 shelf 1", 10)]));
+it = desk();
+for (const scan of ["10", "1", "1"]) it.work.scan("check-in", scan);
+await until(() => isQuiet(it));
+is(acts(sent), ["check-in 10 1", "check-in 1 1", "check-in 1 1"]);
+is(new Set(keysOf(sent)).size, 3);
+
+// ---- a refusal stops the queue, and says so; what waits is sent on, or thrown away
+for (const [answer, text] of [[refusal(36), "Refused (36): another patron stands in line. Any: On the shelf, branch 1."], [[5, 400, '{"status":400}'], "The desk did not take this (status 400)."]]) {
+  sent = network(turns([answer, ...[1, 2, 3].map((loan) => reply(`loan ${loan} due 2026-03-09`))], { "page 4": page(4, "Di Eck") }));
+  it = desk();
+  for (const scan of ["4", "31", "32", "33"]) it.work.scan("check-out", scan);
+  await until(() => isQuiet(it));
+  is([it.work.queue.isStopped, it.work.queue.held, it.waiting()], [true, null, ["copy 32, patron 4", "copy 33, patron 4"]]);
+  is(it.told.at(-1), [`copy 31, patron 4: ${text}`, true]);
+  it.work.scan("check-out", "34");
+  is([it.waiting(), acts(sent).length], [["copy 32, patron 4", "copy 33, patron 4", "copy 34, patron 4"], 1]);
+  it.work.queue.sendOn();
+  await until(() => isQuiet(it));
+  is(acts(sent).slice(1), ["check-out 4 32 1", "check-out 4 33 1", "check-out 4 34 1"]);
+}
+sent = network(turns([refusal(13), reply("fine 0 shelf 1")]));
+it = desk();
+for (const scan of ["1", "2", "3"]) it.work.scan("check-in", scan);
+await until(() => isQuiet(it));
+it.work.queue.throwAway();
+is([it.waiting(), it.work.queue.isStopped], [[], false]);
+it.work.scan("check-in", "4");
+await until(() => isQuiet(it));
+is(acts(sent), ["check-in 1 1", "check-in 4 1"]);
+
+// ---- a fault, or an answer that isn't understood, stops it likewise: the same is sent again under its key, before what waits
+for (const [answer, text] of [[fault(91), /^copy 1: The desk met a fault \(91\): /], [[5, 403, "<html>"], /status 403/], [[5, 200, '{"reply":"what"}'], /status 200/]]) {
+  sent = network(turns([answer, reply("fine 0 shelf 1")]));
+  it = desk();
+  for (const scan of ["1", "2"]) it.work.scan("check-in", scan);
+  await until(() => isQuiet(it));
+  is([it.work.queue.isStopped, sent.length, it.unknown(), text.test(it.told.at(-1)[0]), it.told.at(-1)[1]], [true, 1, 0, true, true]);
+  it.work.queue.sendAgain();
+  await until(() => isQuiet(it));
+  is(acts(sent), ["check-in 1 1", "check-in 1 1", "check-in 2 1"]);
+  const [first, second, third] = keysOf(sent);
+  is([first === second, second === third], [true, false]);
+}
+
+// what is passed over is neither sent again later nor unknown
+sent = network(turns([fault(91), reply("fine 0 shelf 1")]));
+it = desk();
+it.work.scan("check-in", "1");
+await until(() => isQuiet(it));
+it.work.queue.sendOn();
+is([it.work.queue.isStopped, it.work.queue.held, it.work.end()], [false, null, { unknown: [], unsent: [] }]);
+
+// ---- a refused patron doesn't become the current one, nor does what was scanned for that card go to anybody else
+sent = network(() => refusal(11));
+it = desk();
+for (const scan of ["44", "31"]) it.work.scan("check-out", scan);
+await until(() => isQuiet(it));
+is([it.work.service.visit, it.work.expected, it.wanted()], [null, null, null]);
+is(it.waiting(), ["copy 31, patron 44"]);
+it.work.queue.sendOn();
+await until(() => isQuiet(it));
+is(bodies(sent), ["page 44", "page 44"]);
+it.work.queue.throwAway();
+sent = network(() => reply(page(4, "Di Eck")));
+it.work.scan("check-out", "4");
+await until(() => isQuiet(it));
+is([it.work.service.visit.page.name, it.work.expected], ["Di Eck", 4]);
+
+// ---- what isn't a number is told in its turn, and stops what follows it
+sent = network(turns([reply("fine 0 shelf 1")]));
+it = desk();
+for (const scan of ["1", "3x2", "3"]) it.work.scan("check-in", scan);
+await until(() => isQuiet(it));
+is([acts(sent), it.waiting(), it.told.at(-1)[1]], [["check-in 1 1"], ["copy 3"], true]);
+it.work.queue.sendOn();
+await until(() => isQuiet(it));
+is(acts(sent), ["check-in 1 1", "check-in 3 1"]);
+
+// ---- the next patron begins where the clerk says so, also while the one before is still being served
+sent = network(turns([reply("loan 1 due 2026-03-09", 10)], { "page 4": page(4, "Di Eck"), "page 5": page(5, "Ed Fox") }));
+it = desk();
+for (const scan of ["4", "31"]) it.work.scan("check-out", scan);
+it.work.nextPatron();
+for (const scan of ["5", "32"]) it.work.scan("check-out", scan);
+await until(() => isQuiet(it));
+is(bodies(sent), ["page 4", "check-out 4 31 1", "page 4", "page 5", "check-out 5 32 1", "page 5"]);
+
+// ---- a tab that is loaded anew goes on: what was on its way first, under its key, and then what waits
+sent = network([[0, null], [60_000]]);
+it = desk();
+for (const scan of ["1", "2", "3"]) it.work.scan("check-in", scan);
+await until(() => sent.length === 2);
+const [, keyBefore] = sent[0];
+const anew = desk(it.storage);
+sent = network(turns([reply("fine 0 shelf 1")]));
+anew.work.queue.run();
+await until(() => isQuiet(anew));
+is(acts(sent), ["check-in 1 1", "check-in 2 1", "check-in 3 1"]);
+is(sent[0][1], keyBefore);
+// and where it stood still it stands still, and shows what waits
+sent = network(() => refusal(13));
+it = desk();
+for (const scan of ["1", "2"]) it.work.scan("check-in", scan);
+await until(() => isQuiet(it));
+const still = desk(it.storage);
+still.work.queue.run();
+is([still.work.queue.isStopped, still.waiting(), acts(sent)], [true, ["copy 2"], ["check-in 1 1"]]);
+
+// ---- a refusal of typed words stops what waits, and nothing else; a card key is shown and kept in no list
+sent = network([refusal(17), reply("ok")]);
+it = desk();
+it.work.words(["patron", "7", "1", "cardkey00007", "Gil Hay"]);
+await until(() => isQuiet(it));
+is([it.work.queue.isStopped, it.noted], [false, ["patron 7 1 … Gil Hay: Refused (17): unknown kind of patron."]]);
+sent = network(turns([refusal(14), reply("fine 0 shelf 1")]));
+it.work.words(["renew", "9"]);
+it.work.scan("check-in", "1");
+await until(() => isQuiet(it));
+is([acts(sent), it.work.queue.isStopped, it.waiting()], [["renew 9"], true, ["copy 1"]]);
+it.work.queue.throwAway();
+sent = network([[60_000]]);
+it.work.scan("check-in", "1");
+it.work.words(["patron", "7", "1", "cardkey00007", "Gil Hay"]);
+is([it.waiting(), JSON.stringify([...it.storage.all]).includes("cardkey00007")], [["patron 7 1 … Gil Hay"], false]);
+const later = desk(it.storage);
+sent = network(turns([reply("fine 0 shelf 1")]));
+later.work.queue.run();
+await until(() => isQuiet(later));
+is([acts(sent), later.told.at(-1)], [["check-in 1 1"], [TEXTS.cardKeyNotKept, true]]);
+
+// ---- scanners: ends of lines and tabs part scans, and prefixes are cut off
+is(["10", "10\r\n", "10\r\n20\t30\n", "\r\n", " 10 "].map(scansIn), [["10"], ["10"], ["10", "20", "30"], [], ["10"]]);
+is([[{ key: "Tab" }, "10"], [{ key: "Tab" }, ""], [{ key: "Tab", shiftKey: true }, "10"], [{ key: "j", ctrlKey: true }, ""], [{ key: "J", ctrlKey: true }, "1"], [{ key: "m", ctrlKey: true }, "1"],
+  [{ key: "j" }, "1"], [{ key: "1" }, "1"]].map(([key, text]) => Boolean(endsScan(key, text))), [true, false, false, true, true, true, false, false]);
+is([{ key: "1" }, { key: "P" }, { key: " " }, { key: "Enter" }, { key: "2", altKey: true }, { key: "c", ctrlKey: true }].map(beginsScan), [true, true, false, false, false, false]);
+is(["P4", "p4", "C31", "31", "X31"].map((text) => cut(text)), [{ of: "patron", number: "4" }, { of: "patron", number: "4" }, { of: "copy", number: "31" }, { of: null, number: "31" }, { of: null, number: "X31" }]);
+is(["LIB4", "L31", "P4"].map((text) => cut(text, { patron: "LIB", copy: "L" }).of), ["patron", "copy", null]);
+is(cut("P4", { patron: "", copy: "" }), { of: null, number: "P4" });
+is([itemOf("check-out", null, "P4"), itemOf("check-out", 4, "C31"), itemOf("check-in", null, "31")].map(({ kind, number, patron }) => [kind, number, patron]),
+  [["patron", 4, null], ["copy", 31, 4], ["copy", 31, null]]);
+is([["check-out", 4, "P5"], ["check-in", null, "P5"], ["check-out", null, "C31"], ["pay", 4, "P5"], ["place-hold", 4, "C31"]].map((asked) => itemOf(...asked).problem), [
+  "This is a patron's card, but a copy is wanted.", "This is a patron's card, but a copy is wanted.", "This is a copy, but a patron's card is wanted.",
+  "This is a patron's card, but an amount is wanted.", "This is a copy, but the number of a title is wanted."]);
+is([["check-out", 4, "C"], ["check-out", 4, "C031"], ["pay", 4, "31"]].map((asked) => itemOf(...asked).kind), ["wrong", "wrong", "wrong"]);
+// a book that is scanned first opens no patron, and a card that is scanned as a copy lends nothing
+sent = network(turns([reply("loan 1 due 2026-03-09")], { "page 4": page(4, "Di Eck") }));
+it = desk();
+for (const scan of ["C20", "P4", "P20", "C31"]) it.work.scan("check-out", scan);
+for (const [words, waits] of [[[], 3], [["page 4"], 1], [["page 4", "check-out 4 31 1", "page 4"], 0]]) {
+  await until(() => isQuiet(it));
+  is([bodies(sent), it.waiting().length], [words, waits]);
+  it.work.queue.sendOn();
+}
+
+// ---- an amount above 50.00 is taken once the clerk says so
+sent = network(turns([reply("owed 0")], { "page 4": page(4, "Di Eck") }));
+it = desk();
+for (const scan of ["4", "50.00", "50.01", "0.20"]) it.work.scan("pay", scan);
+await until(() => isQuiet(it));
+is([acts(sent), it.told.at(-1), it.waiting()], [["pay 4 5000"], ["Does patron 4 pay 50.01? If not, go on without it.", true], ["0.20 paid, patron 4"]]);
+it.work.queue.sendAgain();
+await until(() => isQuiet(it));
+is(acts(sent), ["pay 4 5000", "pay 4 5001", "pay 4 20"]);
+it.work.scan("pay", "1234.00");
+await until(() => isQuiet(it));
+is([it.work.queue.isStopped, needsConfirming(it.work.queue.held)], [true, true]);
+is(desk(it.storage).work.end(), { unknown: [], unsent: ["1234.00 paid, patron 4"] });
+it.work.queue.sendOn();
+it.work.scan("pay", "1234");
+await until(() => isQuiet(it));
+is([acts(sent).length, it.told.at(-1)], [3, ["1234: This is not as it has to be: an amount such as 2.50.", true]]);
+
+// ---- another day than that of this machine is begun by a typed yes alone, and that of this machine by its words
+const otherDay = "2190-12-31";
+const askedOfDay = `Today is ${dayOf} on this machine, and a day that was begun can't be taken back. To begin ${otherDay}, type yes. If not, go on without it.`;
+sent = network(turns([fault(91), reply("ok"), reply("fine 0 shelf 1")]));
+it = desk();
+it.work.words(["begin-day", otherDay]);
+it.work.scan("check-in", "1");
+await until(() => isQuiet(it));
+is([sent.length, it.work.queue.isStopped, it.waiting(), it.told.at(-1)], [0, true, ["copy 1"], [askedOfDay, true]]);
+for (const typed of ["", " ", "y", "no", "yes please", otherDay]) {
+  it.told.length = 0;
+  it.work.sendAgain(typed);
+  await until(() => isQuiet(it));
+  is([sent.length, it.work.queue.isStopped, it.told], [0, true, [[askedOfDay, true]]]);
+}
+is(desk(it.storage).work.end(), { unknown: [], unsent: [`begin-day ${otherDay}`, "copy 1"] });
+it.work.sendAgain(" Yes ");
+await until(() => isQuiet(it));
+is([acts(sent), it.work.queue.isStopped], [[`begin-day ${otherDay}`], true]);
+// what met a fault then was confirmed, and is sent again under its key
+it.work.sendAgain("");
+await until(() => isQuiet(it));
+is([acts(sent), keysOf(sent)[0] === keysOf(sent)[1]], [[`begin-day ${otherDay}`, `begin-day ${otherDay}`, "check-in 1 1"], true]);
+sent = network(turns([reply("ok")]));
+it = desk();
+it.work.words(["begin-day", dayOf]);
+await until(() => isQuiet(it));
+is([acts(sent), it.work.queue.isStopped], [[`begin-day ${dayOf}`], false]);
+// and without a yes it is passed over, also in a tab that is loaded anew
+it.work.words(["begin-day", otherDay]);
+await until(() => isQuiet(it));
+const asked = desk(it.storage);
+asked.work.queue.run();
+asked.work.sendAgain("");
+is([asked.work.queue.isStopped, asked.told], [true, [[askedOfDay, true]]]);
+asked.work.queue.sendOn();
+asked.work.scan("check-in", "1");
+await until(() => isQuiet(asked));
+is(acts(sent), [`begin-day ${dayOf}`, "check-in 1 1"]);
+
+// ---- each scan tells the title and for whom; a copy that goes to a hold or a branch has a slip
+const roads = (place) => `copy 20 home 2 kind 1 price 1200 title 200 Salt Roads\n${place}`;
+const comesIn = [
+  ["fine 0 ready 1 at 1 until 2026-03-07", "ready 1 at 1 until 2026-03-07 patron 2 Bo Carr", "Salt Roads: Ready for Bo Carr, hold 1, at branch 1 until 2026-03-07. No fine.",
+    ["Ready at branch 1 until 2026-03-07", "Hold 1, Bo Carr", "Salt Roads", "Copy 20"]],
+  ["fine 100 transit 2 for 3", "transit 2 for 3 patron 3 Cy Dunn", "Salt Roads: In transit to branch 2, for Cy Dunn, hold 3. Fine: 1.00.", ["To branch 2", "Hold 3, Cy Dunn", "Salt Roads", "Copy 20"]],
+  ["fine 0 transit 2", "transit 2", "Salt Roads: In transit to branch 2. No fine.", ["To branch 2", "Salt Roads", "Copy 20"]],
+  ["fine 0 shelf 1", "shelf 1", "Salt Roads: To the shelf, branch 1. No fine.", null],
+  // moved meanwhile by another desk: nobody is named
+  ["fine 0 ready 1 at 1 until 2026-03-07", "loan 4 due 2026-03-16 patron 2 Bo Carr", "Salt Roads: Ready for hold 1 at branch 1 until 2026-03-07. No fine.",
+    ["Ready at branch 1 until 2026-03-07", "Hold 1", "Salt Roads", "Copy 20"]],
+];
+for (const [answer, place, text, slip] of comesIn) {
+  sent = network(turns([reply(answer)], { "copy 20": roads(place) }));
+  it = desk();
+  it.work.scan("check-in", "20");
+  await until(() => isQuiet(it));
+  is([bodies(sent), it.told.at(-1), it.slips], [["check-in 20 1", "copy 20"], [text, false], slip ? [slip] : []]);
+}
+const bo = page(2, "Bo Carr", "loan 2 due 2026-03-09 renewals 0 title 200 Salt Roads", "hold 5 at 2 waiting title 300 Maps, Old and New");
+sent = network(turns([reply("loan 2 due 2026-03-09"), reply("hold 5"), reply("owed 40"), reply("fine 0 price 1200")], { "page 2": bo, "copy 20": roads("missing") }));
+it = desk();
+it.work.scan("check-out", "2");
+it.work.scan("check-out", "20");
+it.work.scan("place-hold", "300");
+it.work.scan("pay", "0.60");
+it.work.words(["missing", "20"]);
+await until(() => isQuiet(it));
+is(it.noted, ["page 2: Patron 2, Bo Carr: 1 on loan, 1 on hold, owes 0.00.", "check-out 2 20 1: Salt Roads: Loan 2, due on 2026-03-09. For Bo Carr.",
+  "place-hold 2 300 1: Maps, Old and New: Hold 5 is placed. For Bo Carr.", "pay 2 60: Still owed: 0.40. For Bo Carr.", "missing 20: Salt Roads: Fine 0.00, price 12.00."]);
+
+// ---- of a refused copy it is told where it is, and for whom; where that can't be had the refusal stands alone
+for (const [scan, number, asked, text] of [
+  [["check-out", "20"], 33, roads("ready 1 at 1 until 2026-03-07 patron 3 Cy Dunn"), "copy 20, patron 2: Refused (33): the copy is on the hold shelf. Salt Roads: Ready for Cy Dunn, hold 1, at branch 1 until 2026-03-07."],
+  [["check-in", "20"], 33, roads("ready 1 at 1 until 2026-03-07 patron 3 Cy Dunn"), "copy 20: Refused (33): the copy is on the hold shelf. Salt Roads: Ready for Cy Dunn, hold 1, at branch 1 until 2026-03-07."],
+  [["check-out", "20"], 31, roads("loan 4 due 2026-03-16 patron 1 Ann Bell"), "copy 20, patron 2: Refused (31): the copy is on loan. Salt Roads: Loan 4 of Ann Bell, due on 2026-03-16."],
+  [["check-in", "20"], 13, refusal(13), "copy 20: Refused (13): unknown copy."],
+]) {
+  sent = network(turns([refusal(number)], { "page 2": bo, "copy 20": asked }));
+  it = desk();
+  if (scan[0] === "check-out") it.work.scan("check-out", "2");
+  it.work.scan(...scan);
+  await until(() => isQuiet(it));
+  is([it.told.at(-1), it.work.queue.isStopped, it.slips], [[text, true], true, []]);
+}
+
+// ---- a copy that is scanned to be renewed renews the loan that it is on, under the key of its scan
+sent = network(turns([reply("loan 2 due 2026-03-16")], { "copy 20": roads("loan 2 due 2026-03-09 patron 2 Bo Carr"), "page 2": bo }));
+it = desk();
+it.work.scan("check-out", "2");
+it.work.scan("renew", "C20");
+await until(() => isQuiet(it));
+is([bodies(sent), it.told.at(-1)], [["page 2", "copy 20", "renew 2", "page 2"], ["Salt Roads: Loan 2, due on 2026-03-16. For Bo Carr.", false]]);
+is(it.receipts.at(-1).slice(1), ["Salt Roads, renewed, due on 2026-03-16"]);
+sent = network(turns([fault(90), reply("loan 2 due 2026-03-16")], { "copy 20": roads("loan 2 due 2026-03-09 patron 2 Bo Carr") }));
+it = desk();
+it.work.scan("renew", "20");
+await until(() => isQuiet(it));
+it.work.queue.sendAgain();
+await until(() => isQuiet(it));
+is([acts(sent), new Set(keysOf(sent)).size, it.told.at(-1)], [["renew 2", "renew 2"], 1, ["Salt Roads: Loan 2, due on 2026-03-16. For Bo Carr.", false]]);
+sent = network(turns([], { "copy 20": roads("shelf 2") }));
+it = desk();
+it.work.scan("renew", "20");
+await until(() => isQuiet(it));
+is([bodies(sent), it.told.at(-1), it.work.queue.isStopped], [["copy 20"], ["copy 20: Salt Roads is not on loan.", true], true]);
+
+// ---- until when a copy stands ready is asked of the hold shelf of its branch
+const ready = page(2, "Bo Carr", "hold 7 at 2 ready title 200 Salt Roads", "hold 9 at 1 waiting title 300 Maps, Old and New", "hold 12 at 1 ready title 400 Winter Bees");
+const header = "      hold    copy  patron until      title";
+sent = network(turns([], { "page 2": ready, "shelf 2 6": `${header}\n         7      20       2 2026-03-07 Salt Roads\nend`, "shelf 1 11": `${header}\n        13      21       3 2026-03-09 Winter Bees\nend` }));
+it = desk();
+it.work.scan("check-out", "2");
+await until(() => isQuiet(it));
+is([bodies(sent), it.work.service.visit.untils], [["page 2", "shelf 2 6", "shelf 1 11"], { 7: "2026-03-07" }]);
+
+// ---- a tab that is loaded anew knows the patron at the desk and the receipt; a closed desk shows nothing that comes later
+sent = network(turns([reply("loan 2 due 2026-03-09")], { "page 2": bo }));
+it = desk();
+it.work.scan("check-out", "2");
+it.work.scan("check-out", "20");
+await until(() => isQuiet(it));
+const back = desk(it.storage);
+is([back.work.expected, back.work.service.visit.receipt.rows], [2, ["Salt Roads, due on 2026-03-09"]]);
+sent = network(turns([reply("fine 0 shelf 1")], { "copy 20": [60_000] }));
+back.work.scan("check-in", "20");
+await until(() => sent.length === 2);
+const toldBefore = back.told.length;
+back.leaving.abort();
+back.work.end();
+await new Promise((done) => setTimeout(done, 5));
+is([back.told.length, back.storage.all.size], [toldBefore, 0]);
+
+// ---- a receipt is its patron's alone: what is done for others, or asked, isn't on it, nor a card key
+const ann = page(1, "Ann Bell", "loan 1 due 2026-03-09 renewals 0 title 100 Rivers of the North", "hold 7 at 2 waiting title 200 Salt Roads", "hold 8 at 1 waiting from 2026-04-01 title 400 Winter Bees");
+sent = network(turns([reply("loan 1 due 2026-03-09"), reply("loan 9 due 2026-03-10"), reply("owed 40"), reply("owed 0"), reply("hold 7"), reply("hold 8"), reply("hold 9"),
+  reply("owed 5"), reply("owed 0"), reply("ok")], { "page 1": ann, "page 2": page(2, "Bo Carr") }));
+it = desk();
+it.work.scan("check-out", "1");
+for (const words of ["renew 1", "renew 9", "pay 1 250", "waive 1 40", "place-hold 1 200 2", "place-hold-from 1 400 1 2026-04-01", "place-hold 2 100 1", "pay 2 30", "waive 2 5", "missing 20"]) {
+  it.work.words(words.split(" "));
+}
+it.work.words(["page", "2"]);
+it.work.words(["patron", "2", "1", "cardkey00002", "Bo Carr"]);
+await until(() => isQuiet(it));
+is(it.receipts.at(-1), [`Ann Bell, ${dayOf}, branch 1`, "Rivers of the North, renewed, due on 2026-03-09", "Paid 2.50, still owed 0.40",
+  "Salt Roads, hold 7, to be picked up at branch 2", "Winter Bees, hold 8 from 2026-04-01, to be picked up at branch 1"]);
+is(JSON.stringify([it.receipts, it.noted, it.told]).includes("cardkey"), false);
+// a card that is scanned again begins another receipt
+it.work.nextPatron();
+it.work.scan("check-out", "2");
+await until(() => isQuiet(it));
+is(it.receipts.at(-1), [`Bo Carr, ${dayOf}, branch 1`]);
+// where the page doesn't come, what was lent stands on it all the same, and it is told
+sent = network(turns([reply("loan 1 due 2026-03-09")], { "page 1": page(1, "Ann Bell") }));
+it = desk();
+it.work.scan("check-out", "1");
+await until(() => isQuiet(it));
+sent = network(turns([reply("loan 1 due 2026-03-09")], { "page 1": fault(92) }));
+it.work.scan("check-out", "10");
+await until(() => isQuiet(it));
+is(it.receipts.at(-1), [`Ann Bell, ${dayOf}, branch 1`, "Loan 1, due on 2026-03-09."]);
+is(it.told.at(-1), ["copy 10, patron 1: Loan 1, due on 2026-03-09. What else was asked of the desk did not come.", true]);
+is(receiptRow(1, ["check-out", "2", "10", "1"], { kind: "lent", loan: 1, due: "2026-03-09" }, null), null);
+
+// ---- once the desk is closed nothing more is sent, shown or kept
+sent = network([[60_000]]);
+it = desk();
+for (const scan of ["1", "2"]) it.work.scan("check-in", scan);
+it.leaving.abort();
+is(it.work.end(), { unknown: ["copy 1"], unsent: ["copy 2"] });
+const before = it.noted.length;
+await new Promise((done) => setTimeout(done, 5));
+is([sent.length, it.noted.length - before, it.storage.all.size], [1, 0, 0]);
+// what only asks has nothing that is unknown, and what met a fault may have been done
+sent = network([[60_000]]);
+it = desk();
+it.work.scan("check-out", "4");
+is(it.work.end(), { unknown: [], unsent: [] });
+sent = network([fault(91)]);
+it = desk();
+it.work.scan("check-in", "1");
+await until(() => isQuiet(it));
+is(it.work.end(), { unknown: ["copy 1"], unsent: [] });
+
+// ---- a patron's request goes on under its key only while that patron is signed in
+function signIn(number, storage) {
+  let unknown = 0;
+  const patron = new SignedIn({ number, key: `cardkey0000${number}` }, () => { unknown += 1; }, storage);
+  return { patron, unknown: () => unknown };
+}
+const tab = new Kept();
+sent = network((_, at) => (at < 2 ? [[0, null], [60_000]][at] : refusal(42, 0)));
+const cy = signIn("3", tab);
+const renewing = cy.patron.act("/loans/1/renew");
+is(await cy.patron.act("/loans/1/renew"), null);
+await until(() => sent.length === 1 && cy.unknown() === 1);
+is([cy.patron.signOut(), tab.all.size], [true, 0]);
+is([SignedIn.before(() => {}, tab), await renewing], [null, null]);
+sent = network(() => reply("patron 2 owed 0 name Bo Carr"));
+const bob = signIn("2", tab);
+is([bob.patron.actBefore(), (await bob.patron.look()).reply.name], [null, "Bo Carr"]);
+is(sent.map(([path]) => path), ["/patrons/2"]);
+is([bob.patron.signOut(), tab.all.size], [false, 0]);
+// a page that comes after its patron has left is shown to nobody
+sent = network([reply("patron 2 owed 0 name Bo Carr", 20)]);
+const late = signIn("2", tab);
+const looking = late.patron.look();
+late.patron.signOut();
+is(await looking, null);
+// loaded anew while signed in, it goes on under its key
+sent = network([[60_000]]);
+const ed = signIn("5", tab);
+ed.patron.act("/loans/1/renew");
+const [[, edsKey]] = sent;
+sent = network(() => reply("loan 1 due 2026-03-09"));
+is((await SignedIn.before(() => {}, tab).actBefore()).reply, { kind: "lent", loan: 1, due: "2026-03-09" });
+is(sent, [["/patrons/5/loans/1/renew", edsKey, undefined, undefined]]);
+
+// ---- of a double click the first alone counts
+let clicked = 0, now = 0;
+const click = once(() => { clicked += 1; }, () => now);
+for (const [at, detail] of [[0, 1], [120, 2], [300, 1], [590, 0], [700, 1], [1250, 0], [1310, 2], [2000, 0]]) {
+  now = at;
+  click({ detail });
+}
+is(clicked, 3);
+console.log(`hands: ${tried} tried`);

@@ -1,0 +1,260 @@
+// The modules of the pages that read replies and words, on every form: run by tests/gate/pages.py.
+import { deepStrictEqual as same } from "node:assert";
+import { readCopy, readList } from "../../pages/questions.js";
+import { readAnswer, readReply, readPage } from "../../pages/replies.js";
+import { daysBetween, today } from "../../pages/days.js";
+import { centsOf, commandBegun, holdBody, isCommand, isKey, isNumber, wordsOf } from "../../pages/commands.js";
+import { Door, newKey } from "../../pages/asking.js";
+import { pageLines, whereIs } from "../../pages/saying.js";
+import { tableOf, wordsOfQuestion } from "../../pages/tables.js";
+import { TEXTS, amount, branchName, say } from "../../pages/texts.js";
+import { Kept, network } from "../lib/network.mjs";
+
+let tried = 0;
+function is(one, other) {
+  same(one, other);
+  tried += 1;
+}
+
+// ---- each form of a reply
+is(readReply("ok"), { kind: "done" });
+is(readReply("loan 1 due 2026-03-09"), { kind: "lent", loan: 1, due: "2026-03-09" });
+is(readReply("hold 7"), { kind: "held", hold: 7 });
+is(readReply("owed 0"), { kind: "owed", owed: 0 });
+is(readReply("owed 4503599627370495"), { kind: "owed", owed: 4503599627370495 });
+is(readReply("fine 100 price 1200"), { kind: "lost", fine: 100, price: 1200 });
+const places = [
+  ["shelf 2", { to: "shelf", branch: 2 }],
+  ["ready 1 at 2 until 2026-03-05", { to: "hold shelf", hold: 1, branch: 2, until: "2026-03-05" }],
+  ["transit 2 for 9", { to: "branch", branch: 2, hold: 9 }],
+  ["transit 2", { to: "branch", branch: 2, hold: null }],
+];
+for (const [text, place] of places) {
+  is(readReply(text), { kind: "moved", place });
+  is(readReply(`fine 0 ${text}`), { kind: "checked in", fine: 0, place });
+}
+
+// ---- pages, of which each line is one of five
+const page = [
+  "patron 2 owed 40 name Bo Carr",
+  "loan 1 due 2026-03-09 renewals 0 title 100 Rivers of the North",
+  "hold 1 at 1 waiting title 200 Salt Roads",
+  "hold 2 at 2 waiting from 2026-04-01 title 300 due 2026-03-09 renewals 1 title 5",
+  "hold 3 at 2 ready title 400 Winter Bees",
+];
+is(readReply(page.join("\n")), {
+  kind: "page",
+  patron: 2,
+  owed: 40,
+  name: "Bo Carr",
+  loans: [{ line: "loan", loan: 1, due: "2026-03-09", renewals: 0, title: 100, text: "Rivers of the North" }],
+  holds: [
+    { line: "hold", hold: 1, branch: 1, state: "waiting", from: null, title: 200, text: "Salt Roads" },
+    { line: "hold", hold: 2, branch: 2, state: "waiting", from: "2026-04-01", title: 300, text: "due 2026-03-09 renewals 1 title 5" },
+    { line: "hold", hold: 3, branch: 2, state: "ready", from: null, title: 400, text: "Winter Bees" },
+  ],
+});
+is(readPage("patron 1 owed 0 name Ann Bell").loans, []);
+// a title may have a form of a line in it
+is(readPage("patron 1 owed 0 name X\nhold 1 at 1 waiting title 2 from 2026-01-01 title 3 Y").holds[0].text, "from 2026-01-01 title 3 Y");
+
+// lines are cut at a newline alone: a name or title may have any other character
+for (const odd of ["A\u2028B", "A\u2029B", "A\u0085B", "\u{1f41d} Bees"]) {
+  is(readReply(`patron 1 owed 0 name ${odd}\nloan 1 due 2026-03-09 renewals 0 title 2 ${odd}\nhold 1 at 1 ready title 3 ${odd}`).name, odd);
+  is(readPage(`patron 1 owed 0 name X\nloan 1 due 2026-03-09 renewals 0 title 2 ${odd}`).loans[0].text, odd);
+  is(readReply(`copy 10 home 1 kind 1 price 2500 title 100 ${odd}\nloan 1 due 2026-03-09 patron 1 ${odd}`).lines.length, 2);
+}
+
+// ---- what a question is shown
+const asked = [
+  "copy 10 home 1 kind 1 price 2500 title 100 Rivers of the North\nshelf 1",
+  "copy 10 home 1 kind 1 price 2500 title 100 Rivers of the North\nloan 1 due 2026-03-09 patron 1 Ann Bell",
+  "title 100 Rivers of the North\ncopy 10 loan 1 due 2026-03-09\ncopy 11 transit 1 for 1\nend",
+  "title 100 Rivers of the North\nhold 1 patron 2 at 1\nhold 3 patron 1 at 1 from 2026-04-01\nafter 3",
+  "patron 1 owed 100 name Ann Bell\nline 1 2026-03-17 fine 100 loan 1 title 100 Rivers of the North\nend",
+  "patron 1 owed 70 name Ann Bell\nend",
+  "      hold    copy  patron until      title\n         1      11       2 2026-03-07 Rivers of the North\nend",
+  "hold 1 copy 11 title 100 Rivers of the North\nend",
+  "copy 11 for 1 title 100 Rivers of the North\nend",
+  "till 2026-03-17\nfines                100\nprices                 0\npayments              30\nwaivers                0",
+  "end",
+];
+for (const text of asked) is(readReply(text), { kind: "shown", lines: text.split("\n") });
+is(readReply("patron 1 owed 0 name Ann Bell").kind, "page");
+is(isCommand(wordsOf("pulls 1 0")), true);
+is(isCommand(wordsOf("pulls 1")), false);
+is(["copy 1", "copies 1", "cop"].map(commandBegun), ["copy", "copies", null]);
+
+// ---- a copy, and each place that it may have
+const places7 = [
+  ["shelf 1", { to: "shelf", branch: 1 }],
+  ["ready 1 at 2 until 2026-03-07 patron 2 Bo Carr", { to: "hold shelf", hold: 1, branch: 2, until: "2026-03-07", patron: 2, name: "Bo Carr" }],
+  ["transit 1 for 3 patron 2 Bo Carr", { to: "branch", branch: 1, hold: 3, patron: 2, name: "Bo Carr" }],
+  ["transit 1", { to: "branch", branch: 1, hold: null }],
+  ["loan 1 due 2026-03-09 patron 1 Ann Bell", { to: "loan", loan: 1, due: "2026-03-09", patron: 1, name: "Ann Bell" }],
+  ["missing", { to: "missing" }],
+  ["withdrawn", { to: "withdrawn" }],
+];
+const rivers = { copy: 10, home: 1, kind: 2, price: 2500, title: 100, text: "Rivers of the North" };
+for (const [text, place] of places7) is(readCopy(`copy 10 home 1 kind 2 price 2500 title 100 Rivers of the North\n${text}`), { ...rivers, place });
+for (const text of ["copy 10 home 1 kind 2 price 2500 title 100 Rivers", "copy 10 home 1 kind 2 price 2500 title 100 Rivers\nnowhere", "copy 10\nshelf 1", "copy 10 home 1 kind 2 price 2500 title 100 R\nshelf 1\nend",
+  "copy 10 home 1 kind 2 price 2500 title 100 R\nready 1 at 2 until 2026-03-07", "loan 1 due 2026-03-09"]) {
+  is(readCopy(text), null);
+}
+
+// ---- each list: its head, its rows, and from where it goes on
+const rows = (question, text) => readList(question, text)?.rows;
+is(readList("pulls", "end"), { head: null, rows: [], after: null });
+is(readList("pulls", "hold 2 copy 11 title 100 Rivers of the North\nafter 2"), { head: null, rows: [{ hold: 2, copy: 11, title: 100, text: "Rivers of the North" }], after: 2 });
+is(rows("transits", "copy 20 for 1 title 200 Salt Roads\ncopy 21 title 300 for 5 title 6\nend"),
+  [{ copy: 20, hold: 1, title: 200, text: "Salt Roads" }, { copy: 21, hold: null, title: 300, text: "for 5 title 6" }]);
+is(readList("shelf", "      hold    copy  patron until      title\n         1      20       2 2026-03-07 Salt Roads\nend"),
+  { head: null, rows: [{ hold: 1, copy: 20, patron: 2, until: "2026-03-07", text: "Salt Roads" }], after: null });
+is(rows("shelf", "      hold    copy  patron until      title\n2147483647 9999999 9999999 2026-03-07 1 2\nafter 2147483647"), [{ hold: 2147483647, copy: 9999999, patron: 9999999, until: "2026-03-07", text: "1 2" }]);
+is(rows("overdue", "      loan  patron    copy due         late title\n         1       1      10 2026-03-09     7 Rivers of the North\n         2       2      20 2026-03-09     0 Salt Roads\nend"), [
+  { loan: 1, patron: 1, copy: 10, due: "2026-03-09", late: 7, text: "Rivers of the North" }, { loan: 2, patron: 2, copy: 20, due: "2026-03-09", late: 0, text: "Salt Roads" }]);
+is(rows("debts", "patron 2 owed 1300 name Bo Carr\nend"), [{ patron: 2, owed: 1300, name: "Bo Carr" }]);
+is(readList("account", "patron 1 owed 40 name Ann Bell\nline 1 2026-03-17 fine 100 loan 1 title 100 Rivers of the North\nline 2 2026-03-17 payment 60\nline 3 2026-03-17 waiver 5\nline 4 2026-03-18 price 5 loan 2 title 200 A\nend"), {
+  head: { patron: 1, owed: 40, name: "Ann Bell" },
+  rows: [
+    { line: 1, day: "2026-03-17", sort: "fine", amount: 100, loan: 1, title: 100, text: "Rivers of the North" },
+    { line: 2, day: "2026-03-17", sort: "payment", amount: 60, text: null },
+    { line: 3, day: "2026-03-17", sort: "waiver", amount: 5, text: null },
+    { line: 4, day: "2026-03-18", sort: "price", amount: 5, loan: 2, title: 200, text: "A" },
+  ],
+  after: null,
+});
+is(readList("queue", "title 100 Rivers of the North\nhold 2 patron 3 at 2\nhold 3 patron 1 at 1 from 2026-04-01\nend"), {
+  head: { title: 100, text: "Rivers of the North" },
+  rows: [{ hold: 2, patron: 3, branch: 2, from: null }, { hold: 3, patron: 1, branch: 1, from: "2026-04-01" }],
+  after: null,
+});
+is(rows("copies", "title 100 Rivers of the North\ncopy 10 loan 1 due 2026-03-09\ncopy 11 transit 1 for 1\ncopy 12 ready 1 at 2 until 2026-03-07\ncopy 13 shelf 1\ncopy 14 transit 2\ncopy 15 missing\ncopy 16 withdrawn\nend").map(({ place }) => place), [
+  { to: "loan", loan: 1, due: "2026-03-09" }, { to: "branch", branch: 1, hold: 1 }, { to: "hold shelf", hold: 1, branch: 2, until: "2026-03-07" }, { to: "shelf", branch: 1 },
+  { to: "branch", branch: 2, hold: null }, { to: "missing" }, { to: "withdrawn" }]);
+is(readList("till", "till 2026-03-17\nfines                200\nprices              1200\npayments            1360\nwaivers               40"), {
+  head: { day: "2026-03-17" }, rows: [{ sort: "fines", amount: 200 }, { sort: "prices", amount: 1200 }, { sort: "payments", amount: 1360 }, { sort: "waivers", amount: 40 }], after: null });
+for (const [question, text] of [["pulls", ""], ["pulls", "hold 2 copy 11 title 100 Rivers"], ["pulls", "copy 11 title 100 R\nend"], ["shelf", "end"], ["shelf", "      loan  patron    copy due         late title\nend"],
+  ["queue", "end"], ["copies", "title 1 A\ncopy 10 nowhere\nend"], ["account", "end"], ["till", "till 2026-03-17\nfines 1"], ["debts", "after"], ["transits", "title 1 A\nend"]]) {
+  is(readList(question, text), null);
+}
+
+// ---- each list as a table
+const table = (question, text) => tableOf(question, readList(question, text));
+is(table("pulls", "hold 2 copy 11 title 100 Rivers of the North\nend"), { head: "To be taken from the shelves", columns: ["Copy", "Title", "Hold"], rows: [["11", "Rivers of the North", "2"]] });
+is(table("shelf", "      hold    copy  patron until      title\n         1      20       2 2026-03-07 Salt Roads\nend"),
+  { head: "On the hold shelf", columns: ["Hold", "Copy", "Patron", "Until", "Title"], rows: [["1", "20", "2", "2026-03-07", "Salt Roads"]] });
+is(table("overdue", "      loan  patron    copy due         late title\n         1       3      10 2026-03-09     7 Rivers of the North\nend"),
+  { head: "Overdue", columns: ["Loan", "Patron", "Copy", "Due", "Days late", "Title"], rows: [["1", "3", "10", "2026-03-09", "7", "Rivers of the North"]] });
+is(table("transits", "copy 20 for 1 title 200 Salt Roads\ncopy 21 title 300 Maps\nend").rows, [["20", "Salt Roads", "1"], ["21", "Maps", ""]]);
+is(table("debts", "patron 2 owed 1300 name Bo Carr\nend"), { head: "Who owes", columns: ["Patron", "Name", "Owes"], rows: [["2", "Bo Carr", "13.00"]] });
+is(table("account", "patron 1 owed 40 name Ann Bell\nline 1 2026-03-17 fine 100 loan 1 title 100 Rivers of the North\nline 2 2026-03-17 payment 60\nend"), {
+  head: "Account of Ann Bell, patron 1: owes 0.40", columns: ["Line", "Day", "What", "Amount", "Title"],
+  rows: [["1", "2026-03-17", "fine", "1.00", "Rivers of the North"], ["2", "2026-03-17", "payment", "0.60", ""]],
+});
+is(table("till", "till 2026-03-17\nfines                200\nprices              1200\npayments            1360\nwaivers               40"), {
+  head: "Till of 2026-03-17", columns: ["Sum of", "Amount"], rows: [["fines", "2.00"], ["prices", "12.00"], ["payments", "13.60"], ["waivers", "0.40"]] });
+is(table("queue", "title 100 Rivers of the North\nhold 2 patron 3 at 2\nhold 3 patron 1 at 1 from 2026-04-01\nend"), {
+  head: "Who waits for Rivers of the North, title 100", columns: ["Hold", "Patron", "Picked up at", "From"], rows: [["2", "3", "branch 2", ""], ["3", "1", "branch 1", "2026-04-01"]] });
+is(table("copies", "title 100 Rivers of the North\ncopy 10 loan 1 due 2026-03-09\ncopy 11 transit 1 for 1\ncopy 15 missing\nend"), {
+  head: "Copies of Rivers of the North, title 100", columns: ["Copy", "Where"],
+  rows: [["10", "Loan 1, due on 2026-03-09."], ["11", "In transit to branch 1, for hold 1."], ["15", "Missing."]],
+});
+is(places7.map(([text]) => whereIs(readCopy(`copy 10 home 1 kind 2 price 2500 title 100 R\n${text}`).place)), ["On the shelf, branch 1.", "Ready for Bo Carr, hold 1, at branch 2 until 2026-03-07.",
+  "In transit to branch 1, for Bo Carr, hold 3.", "In transit to branch 1.", "Loan 1 of Ann Bell, due on 2026-03-09.", "Missing.", "Withdrawn."]);
+is(["pulls", "overdue"].map((question) => wordsOfQuestion(question, 1, 100)), [["pulls", 1, 100], ["overdue", 1, 100]]);
+is([wordsOfQuestion("copy", 10, 0), wordsOfQuestion("till", "2026-03-17", 0), wordsOfQuestion("debts", 1, 7), wordsOfQuestion("account", 3, 5)], [["copy", 10], ["till", "2026-03-17"], ["debts", 7], ["account", 3, 5]]);
+
+// ---- a patron's page as the desk shows it
+is(pageLines(readPage(page.join("\n")), { 3: "2026-03-07" }), [
+  "Rivers of the North, loan 1, due on 2026-03-09, no renewal left",
+  "Salt Roads, hold 1, waiting, to be picked up at branch 1",
+  "due 2026-03-09 renewals 1 title 5, hold 2, waiting from 2026-04-01, to be picked up at branch 2",
+  "Winter Bees, hold 3, ready at branch 2 until 2026-03-07",
+]);
+is(pageLines(readPage(page.join("\n")), {}).at(-1), "Winter Bees, hold 3, ready at branch 2");
+
+// ---- what is none
+for (const text of ["", "ended", "an end", "after 3", "title 100 A\nafter", "copy 10 home 1", "till 2026-03-17", "okay", "ok\n", "loan 01 due 2026-03-09", "loan 1 due 2026-3-9", "hold", "fine 0 nowhere 1", "fine 0", "transit 1 for", "page",
+  "patron 1 owed 0 name", "patron 1 owed 0 name A\nloan 1", "patron 1 owed 0 name A\n", "refused 10"]) {
+  is(readReply(text), null);
+}
+
+// ---- whole answers
+is(readAnswer(200, '{"reply":"hold 7"}'), { reply: { kind: "held", hold: 7 }, text: "hold 7" });
+is(readAnswer(403, '{"refusal":81}'), { refusal: 81 });
+is(readAnswer(409, '{"refusal":36}'), { refusal: 36 });
+is(readAnswer(503, '{"fault":92}'), { fault: 92 });
+for (const status of [400, 404, 405, 413]) is(readAnswer(status, `{"status":${status}}`), { status });
+for (const [status, body] of [[200, "ok"], [200, '{"reply":"what"}'], [403, "<html>"], [502, "<html>"], [503, "<html>"], [503, '{"reply":"ok"}'], [200, "null"], [400, '{"status":404}'], [500, '{"fault":91}']]) {
+  is(readAnswer(status, body), { strange: status });
+}
+
+// ---- words and amounts
+is(wordsOf("acquire 10 100 1 1 2500 'Rivers of the North'"), ["acquire", "10", "100", "1", "1", "2500", "Rivers of the North"]);
+is(wordsOf('patron 1 1 cardkey00001 "Ann O\'Hara" '), ["patron", "1", "1", "cardkey00001", "Ann O'Hara"]);
+is(wordsOf("patron 1 'Ann"), null);
+is(wordsOf("  "), []);
+is(isCommand(wordsOf("renew 1")), true);
+is(isCommand(wordsOf("renew")), false);
+is(isCommand(wordsOf("renew 1 2")), false);
+is(isCommand(wordsOf("toString 1")), false);
+is(isCommand(wordsOf("place-hold 2 100 1")), true);
+is(isCommand(wordsOf("place-hold 2 100 1 2026-03-05")), false);
+is(isCommand(wordsOf("place-hold-from 2 100 1 2026-03-05")), true);
+is(isCommand(wordsOf("place-hold-from 2 100 1")), false);
+is(["place-hold 2", "place-hold-from 2", " place-hold-from", "place-hold-fro 2"].map(commandBegun), ["place-hold", "place-hold-from", "place-hold-from", null]);
+is(isCommand(wordsOf("grace 1 1 2")), true);
+is(isCommand(wordsOf("grace 1 1")), false);
+is(isCommand(null), false);
+is(["0", "1", "4294967295", "4294967296", "01", "-1", "1.0", ""].map(isNumber), [true, true, true, false, false, false, false, false]);
+is(["2.50", "0,05", "2", "250", "12.5", "1.005", ".5", "-1", "1.2.50"].map(centsOf), [250, 5, null, null, null, null, null, null, null]);
+is(["deskkey00001", "A2345678", "short", "a".repeat(33), "key with blank", "clé234567"].map(isKey), [true, true, false, false, false, false]);
+is([0, 5, 250, 100000].map(amount), ["0.00", "0.05", "2.50", "1000.00"]);
+is(daysBetween("2026-03-28", "2026-03-30"), 2);
+is(daysBetween("2026-03-09", "2026-03-02"), -7);
+is([today(new Date(2026, 2, 9)), today(new Date(2026, 11, 31, 23, 59))], ["2026-03-09", "2026-12-31"]);
+is([branchName(1), branchName(2, { 2: "Harbour" }), branchName(3, { 2: "Harbour" })], ["branch 1", "Harbour", "branch 3"]);
+is(say(TEXTS.lent, { loan: 3, due: "2026-03-09" }), "Loan 3, due on 2026-03-09.");
+
+// ---- what a patron asks for
+is(holdBody("100", "1", ""), '{"branch":1,"title":100}');
+is(holdBody("100", "1", "2026-03-05"), '{"branch":1,"from":"2026-03-05","title":100}');
+
+// ---- a request goes out under one key until an answer comes, and a second one waits
+const kept = new Kept();
+const door = new Door("desk", kept);
+const request = { method: "POST", path: "/desk", keyField: "Desk-Key", keyValue: "deskkey00001", requestKey: newKey(), body: '["renew","1"]' };
+let unknown = 0;
+const notKnown = () => { unknown += 1; };
+let sent = network([[0, null], [0, 502, "<html>"], [0, 200, null], [5, 200, '{"reply":"loan 1 due 2026-03-09"}']]);
+const first = door.ask(request, notKnown, [1]);
+is(await door.ask({ ...request, requestKey: newKey() }, () => {}, [1]), null);
+is(door.left(), request);
+is((await first).reply, { kind: "lent", loan: 1, due: "2026-03-09" });
+is(unknown, 3);
+is(sent, Array(4).fill(["/desk", request.requestKey, "deskkey00001", '["renew","1"]']));
+is([door.left(), door.isBusy], [null, false]);
+
+// ---- an answer that came and isn't understood ends the request, with its status
+for (const [status, body] of [[403, "<html>403 Forbidden</html>"], [200, '{"reply":"what"}'], [429, ""], [500, "<html>"]]) {
+  sent = network([[0, status, body]]);
+  unknown = 0;
+  is(await door.ask(request, notKnown, [1]), { strange: status });
+  is([unknown, sent.length, door.left()], [0, 1, null]);
+}
+
+// ---- who leaves takes along what is on its way, whose answer nobody is shown
+for (const answers of [[[60_000, 200, "{}"]], [[0, null]]]) {
+  network(answers);
+  const going = door.ask(request, notKnown, [60_000]);
+  await new Promise((done) => setTimeout(done, 5));
+  is([door.leave(), door.isBusy, kept.all.size], [true, false, 0]);
+  network([[0, 200, '{"reply":"ok"}']]);
+  const next = door.ask({ ...request, requestKey: newKey() }, notKnown, [1]);
+  is(await going, null);
+  is((await next).reply, { kind: "done" });
+}
+is(door.leave(), false);
+is(/^[a-z0-9]{24}$/.test(newKey()) && newKey() !== newKey(), true);
+console.log(`pages: ${tried} tried`);

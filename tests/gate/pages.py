@@ -1,0 +1,89 @@
+#!/usr/bin/env python3
+"""Compares the pages for browsers with the program: the meanings of numbers and the table of commands stand in both, the pages name nothing that
+isn't theirs, the modules that read replies are run on every form, and the work of a desk is done as fast as the fastest hand, over the slowest network.
+
+    tests/gate/pages.py
+"""
+
+import os
+import re
+import subprocess
+
+from room import TOP
+from lib.checking import check, run_script
+from reference.outer_forms import WORDS
+
+MODULES = {"pages": 179, "hands": 113}  # how many comparisons the modules of these names make
+
+
+def read(path):
+    with open(os.path.join(TOP, path), encoding="utf-8") as file:
+        return file.read()
+
+
+def meanings():
+    """The numbers with their meanings, of the program and of the pages."""
+    program = re.findall(r'number: (\d+),\s*text:\s*"([^"]*)"', re.sub(r"\\\n\s*", "", read("crates/messages/src/meanings.rt")))
+    page = re.findall(r'^  (\d+): "([^"]*)",$', read("pages/texts.js"), re.MULTILINE)
+    return program, page
+
+
+def commands():
+    """The commands with the names of their parts, of the program and of the pages."""
+    form = read("crates/terms/src/form.rt")
+    parts = dict(re.findall(r'const (\w+): PartForm = PartForm \{\s*name: "([^"]*)"', form))
+    program = [(name, [parts[it] for it in re.findall(r"\w+", inside)]) for name, inside in re.findall(r'name: "([^"]*)",\s*parts: &\[([^]]*)\]', form)]
+    page = [(name, re.findall(r'"([^"]*)"', inside)) for name, inside in re.findall(r'^  "([^"]*)": \[([^]]*)\],$', read("pages/commands.js"), re.MULTILINE)]
+    return program, page
+
+
+def loaded(script):
+    """A script of a page, and those that it loads."""
+    found, left = [], [script]
+    while left:
+        name = left.pop()
+        if name not in found:
+            found.append(name)
+            left += re.findall(r'from "\./([^"]*)"', read(f"pages/{name}"))
+    return found
+
+
+def main():
+    program, page = meanings()
+    check("how many meanings there are", len(program) >= 40, True)
+    check("the meanings", page, program)
+    program, page = commands()
+    check("the commands of the program", [name for name, _ in program], list(WORDS))
+    check("the commands", page, program)
+
+    names = sorted(os.listdir(os.path.join(TOP, "pages")))
+    pages, scripts = ([name for name in names if name.endswith(end)] for end in (".html", ".js"))
+    check("there are pages and scripts", (len(pages) > 1, len(scripts) > 3), (True, True))
+    for name in names:
+        # with the header that the servers before it send, a browser runs and loads nothing else
+        check(f"{name} names another origin", re.findall(r"(?:https?:)?//[a-z][^\s]*\.[a-z]+", read(f"pages/{name}")), [])
+    for name in pages:
+        text = read(f"pages/{name}")
+        check(f"{name} has a script or a style of its own within", re.findall(r"<style|<script(?! type=\"module\" src=)|\son\w+=|\sstyle=", text), [])
+        for file in re.findall(r'(?:src|href)="([^"]*)"', text):
+            check(f"{name} names {file}", os.path.exists(os.path.join(TOP, "pages", file)), True)
+        ids = re.findall(r'\sid="([^"]*)"', text)
+        check(f"{name} has an id twice", len(ids), len(set(ids)))
+        for script in loaded(f"{name[:-5]}.js"):
+            check(f"the ids of {name} that {script} names", sorted(set(re.findall(r'\bit\("([^"]*)"\)', read(f"pages/{script}"))) - set(ids)), [])
+    known = set(re.findall(r"^  (\w+):", read("pages/texts.js"), re.MULTILINE))
+    for name in scripts:
+        check(f"the texts that {name} names", sorted(set(re.findall(r"TEXTS\.(\w+)", read(f"pages/{name}"))) - known), [])
+    used = set(re.findall(r'TEXTS\.(\w+)|data-text="(\w+)"', "".join(read(f"pages/{name}") for name in names if not name.endswith(".css"))))
+    used = {name for names in used for name in names if name}
+    texts = set(re.findall(r'^  ([a-zA-Z]\w*): "', read("pages/texts.js"), re.MULTILINE))
+    check("the texts that pages show", sorted(used), sorted(texts))
+
+    for name, tried in MODULES.items():
+        done = subprocess.run(["node", os.path.join(TOP, "tests", "gate", f"{name}.mjs")], capture_output=True, text=True, timeout=60, check=False)
+        check(f"the modules by tests/gate/{name}.mjs", (done.returncode, done.stdout, done.stderr[-2000:]), (0, f"{name}: {tried} tried\n", ""))
+    print(f"pages: {sum(MODULES.values())} tried by the modules")
+
+
+if __name__ == "__main__":
+    run_script(main)

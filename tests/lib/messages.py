@@ -1,0 +1,251 @@
+"""What the program says for a person on standard error beside the lines of a run, as the manual page has it: `message` is asked of every run."""
+
+import fcntl
+import os
+import re
+import shutil
+import sqlite3
+import tempfile
+from contextlib import closing, contextmanager
+
+from reference.outer_forms import WORDS, is_card_key, is_day, is_key, is_mask, is_name, is_number
+from room import TOP
+
+SAYINGS = {
+    "fault reading": "the copies file is absent or can't be read",
+    "fault network": "nobody listens on the port, no answer came, or the port is taken",
+    "fault threads": "a thread could not be made, so that fewer connections were answered",
+    "unsound claims ": "two claims or more are made on the copy of this number, which can be in one place alone",
+    "unsound binding ": "the hold of this number is not bound to its copy as its state wants",
+    "unsound balance ": "the patron of this number doesn't owe the charges less payments and waivers",
+}
+BAD = "the row is not copy,title,text,kind,home,price,end, or no row may follow"
+OLDER = "the library is of an older schema: make a backup of it, and then bring it forward by circ migrate FILE"
+LATER = "the library is of a later schema, for a later version of this program"
+FOREIGN = "this is no library: no table meta of one row names its schema"
+NO_DATABASE = "this is no library: the file is not a database"
+DAMAGED_ROW = "a row of the library is damaged: restore a backup"
+CUT = "the file is damaged or cut off: restore a backup"
+CUT_OR_LOG = "the file is damaged or cut off, or the log beside it belongs to another file: restore a backup of both"
+HELD = "another process has the file"
+FREE = "it opens now: another process had the file, or the disk was full or failed"
+DISK = "the disk is full or failed"
+MADE = "there was no library; a new one was made"
+CLOSED = "circ: pages are answered, and every other request by fault 92; mend the cause and start the program again\n"
+SWAPPED = "this is a database and no copies file: circ import LIBRARY COPIES"
+JOURNAL = "another program left a rollback journal beside the file: open it with sqlite3 first"
+UNWRITABLE = "this user may not write the file, the log beside it, or the folder: circ opens a library for writing, also to read it, and a copy will do for that"
+READ_ONLY = "the file system can't be written: circ opens a library for writing, also to read it, and a copy elsewhere will do for that"
+NOT_UNDERSTOOD = "words not understood\n"
+UNWRITTEN = b"circ: standard output takes no more\n"
+RUNS = ["file", "import", "report", "report", "report", "audit", "migrate", "serve", "send"]
+
+
+def read(path):
+    with open(os.path.join(TOP, path), encoding="utf-8") as file:
+        return file.read()
+
+
+def of_manual(manual):
+    """The runs, the commands with their parts, and the meanings of numbers, as the manual page has them."""
+    synopsis = manual[manual.index(".Sh SYNOPSIS") : manual.index(".Sh DESCRIPTION")]
+    runs = []
+    for lines in synopsis.split(".Nm\n")[1:]:
+        words = ["circ"]
+        for macro, rest in re.findall(r"^\.(Cm|Ar) (.+)$", lines, re.M):
+            words += rest.split() if macro == "Cm" else ["..." if it == "..." else it.upper() for it in rest.split()]
+        runs.append(" ".join(words))
+    listed = manual[manual.index(".Sh COMMANDS") : manual.index(".Sh FILES")]
+    commands = {line.split()[0]: line.split()[2:] for line in re.findall(r"^\.It Cm (.+)$", listed, re.M)}
+    meanings = re.findall(r"^\.It (\d+)\n((?:[^.].*\n)+)", manual[manual.index(".Sh DIAGNOSTICS") :], re.M)
+    return runs, commands, {int(number): " ".join(text.split()) for number, text in meanings}
+
+
+USAGES, COMMANDS, MEANINGS = of_manual(read("docs/circ.1"))
+VERSION, SCHEMA = re.search(r"^## (\S+), schema (\d+)$", read("CHANGES.md"), re.M).groups()
+
+
+def form(name):
+    return " ".join([name, *(f"<{part}>" for part in COMMANDS[name])])
+
+
+# What a word of a command has to be, by its form; the parts that are amounts are told apart by their names.
+WANTED = {
+    is_number: "a number up to 4294967295, without a leading zero",
+    is_day: "a day from 2000-01-01 to 2199-12-31, as 2026-03-02",
+    is_mask: "seven letters, Monday to Sunday, o for open and c for closed",
+    is_card_key: "8 to 32 letters and digits of ASCII",
+    is_name: "1 to 120 bytes, with no control character and no space at either end",
+}
+AMOUNTS = ["debt", "rate", "cap", "price", "amount"]
+AMOUNT = "an amount in cents up to 4294967295, without a leading zero"
+
+
+def is_within(most):
+    return lambda word: is_number(word) and 1 <= int(word) <= most
+
+
+# The words of a run that have a form, by their places after the run's name: what each is called, its form, and what it has to be.
+KEY = ("KEY", is_key, "1 to 40 letters, digits and hyphens of ASCII")
+DESKKEY = ("DESKKEY", is_card_key, WANTED[is_card_key])
+PORT = ("PORT", is_within(65_535), "a number from 1 to 65535, without a leading zero")
+ARGUMENTS = {
+    "file": {1: KEY},
+    "serve": {1: PORT, 2: ("WORKERS", is_within(8), "a number from 1 to 8"), 3: ("EACH", is_within(1_000_000), "a number from 1 to 1000000, without a leading zero"), 4: DESKKEY},
+    "send": {0: PORT, 1: DESKKEY, 2: KEY},
+    "overdue": {2: ("BRANCH", is_number, WANTED[is_number])},
+    "shelf": {2: ("BRANCH", is_number, WANTED[is_number])},
+    "till": {2: ("DAY", is_day, WANTED[is_day])},
+}
+# How many words follow the name of a run; one more at least for those of a command.
+COUNTS = {"file": 2, "import": 2, "report": 3, "audit": 1, "migrate": 1, "serve": 5, "send": 3}
+
+
+def wrong_argument(words):
+    """The first word of a run that isn't in its form: its name and what it has to be. None where all are, or their number is wrong."""
+    run, given = words[0], words[1:]
+    if run not in COUNTS or (len(given) <= COUNTS[run] if run in ("file", "send") else len(given) != COUNTS[run]):
+        return None
+    if run == "report" and given[1] not in ARGUMENTS:
+        return "the report", "overdue, till or shelf"
+    for place, (name, has_form, wanted) in ARGUMENTS.get(given[1] if run == "report" else run, {}).items():
+        if not has_form(given[place]):
+            return name, wanted
+    return None
+
+
+def is_run(words):
+    """Whether the first words are those of a run."""
+    if not words or words[0] not in COUNTS:
+        return False
+    many = len(words) - 1
+    return (many > COUNTS[words[0]] if words[0] in ("file", "send") else many == COUNTS[words[0]]) and wrong_argument(words) is None
+
+
+def of_run(words):
+    """What is said of words that are no run."""
+    wrong = wrong_argument(words) if words else None
+    said = f"circ: {wrong[0]} has to be {wrong[1]}\n" if wrong else ""
+    of_name = [it for it in USAGES if it.split()[1] == words[0]] if words else []
+    if of_name:
+        return said + "".join(f"usage: {it}\n" for it in of_name)
+    lines = [f"usage: {it}" for it in USAGES] + ["WORD ... is one of"] + [f"  {form(name)}" for name in COMMANDS]
+    return said + "".join(f"{line}\n" for line in [*lines, f"circ {VERSION}, schema {SCHEMA}"])
+
+
+def of_command(run, words):
+    """What is said of words that are no command."""
+    name, given = words[0], words[1:]
+    if name not in COMMANDS:
+        return f"circ: there is no command {name}; circ without words lists them\n"
+    forms, said = WORDS[name], ""
+    if any(it.startswith("-") for it in given):
+        said = "circ: no word may begin with a hyphen\n"
+    elif len(given) != len(forms):
+        said = f"circ: words after {name}: {len(given)}, and there have to be {len(forms)}\n"
+    else:
+        wrong = [(part, AMOUNT if part in AMOUNTS else WANTED[has_form]) for part, has_form, it in zip(COMMANDS[name], forms, given) if not has_form(it)]
+        said = f"circ: {wrong[0][0]} has to be {wrong[0][1]}\n" if wrong else ""
+    return said + f"usage: {run} {form(name)}\n"
+
+
+def usage(words):
+    """What is said of words that aren't understood."""
+    if not is_run(words):
+        return of_run(words)
+    return of_command("circ send PORT DESKKEY KEY", words[4:]) if words[0] == "send" else of_command("circ file LIBRARY KEY", words[3:])
+
+
+def makes_library(words):
+    """Whether a run that begins now makes a new library in its file."""
+    if not is_run(words) or words[0] not in ("file", "import", "serve"):
+        return False
+    try:
+        return os.path.getsize(words[1]) == 0
+    except FileNotFoundError:
+        return os.path.isdir(os.path.dirname(os.path.abspath(words[1])))
+
+
+def is_held(path):
+    """Whether another process has the locks of a database."""
+    with open(path, "rb+") as file:
+        try:
+            fcntl.lockf(file, fcntl.LOCK_EX | fcntl.LOCK_NB, 512, 1 << 30)
+            return False
+        except BlockingIOError:
+            return True
+
+
+@contextmanager
+def as_it_is(path):
+    """A copy of the files for stock SQLite, so that what a kill left stays as it is."""
+    with tempfile.TemporaryDirectory() as folder:
+        copied = os.path.join(folder, "copy.db")
+        for tail in ("", "-wal"):
+            if os.path.exists(path + tail):
+                shutil.copy(path + tail, copied + tail)
+        yield copied
+
+
+def schema_of(path):
+    """The schema of a library, as stock SQLite reads it: the one number of 32 bits that the one row of `meta` has; none where there is no such."""
+    try:
+        with as_it_is(path) as copied, closing(sqlite3.connect(copied)) as conn:
+            found = conn.execute("SELECT schema FROM meta").fetchall()
+    except sqlite3.Error:
+        return None
+    return found[0][0] if len(found) == 1 and isinstance(found[0][0], int) and 0 <= found[0][0] < 2**32 else None
+
+
+def is_database(path):
+    with open(path, "rb") as file:
+        return file.read(16) == b"SQLite format 3\0"
+
+
+def cause(run, path, line, held=None):
+    """What is known of a library's file after a fault of a run; whether another process has it is looked up where it isn't given."""
+    try:
+        if os.path.isdir(path):
+            return "this is a directory"
+        if not os.path.getsize(path):
+            return "the file has no bytes"
+        if not is_database(path):
+            return NO_DATABASE
+        if line == "fault 91" and (is_held(path) if held is None else held):
+            return HELD
+        schema = schema_of(path)
+        if not schema:
+            return FOREIGN
+        if schema > int(SCHEMA):
+            return LATER
+        if schema < int(SCHEMA) and run != "migrate":
+            return OLDER
+        return FREE if line == "fault 91" else DAMAGED_ROW
+    except (FileNotFoundError, NotADirectoryError):
+        return "no such file or directory"
+
+
+def is_telling(line):
+    return bool(re.match(r'(row \d+ (refused|bad)|refused |fault |words |unsound |\{"(refusal|fault)":)', line))
+
+
+def message(words, out, held=None, made=False, closed=None):
+    """What is said beside the lines of a run of these words; `held` is whether another process had the library's file, `made` whether it makes a new one, and `closed`
+    the number of the fault that closed the desk while it served."""
+    said = f"circ: {words[1]}: {MADE}\n" if made else ""
+    if closed:
+        said += f"circ: the desk is closed: {MEANINGS[closed]}\n{CLOSED}"
+    line = ([it for it in out.split("\n")[:-1] if is_telling(it)] or [""])[-1]
+    if line == "words not understood" or out == '{"status":400}\n':
+        return (said + usage(words)).encode()
+    sayings = [BAD] if line.endswith(" bad") else [it for begin, it in SAYINGS.items() if line.startswith(begin)]
+    numbers = re.findall(r"\d+", line)
+    if sayings:
+        said += f"circ: {sayings[0]}\n"
+    elif numbers:
+        said += f"circ: {MEANINGS[int(numbers[-1])]}\n"
+    if line in ("fault 91", "fault 93") and words[0] != "send":
+        said += f"circ: {words[1]}: {cause(words[0], words[1], line, held)}\n"
+    if words[0] == "import" and line and os.path.isfile(words[2]) and is_database(words[2]):
+        said += f"circ: {words[2]}: {SWAPPED}\n"
+    return said.encode()

@@ -1,0 +1,507 @@
+#!/usr/bin/python3
+"""A clerk's day and a patron's in a real browser: Chromium, over nginx and over Caddy with the configurations of docs/operations, before a `circ serve` of
+four workers. It is no part of the gate: `tests/tools/outside` runs it, with what it needs from the system's packages.
+
+    tests/tools/browser.py             both servers
+    tests/tools/browser.py --pictures  writes docs/patron-page.png and docs/desk-page.png too
+"""
+
+import contextlib
+import importlib.util
+import json
+import os
+import re
+import sqlite3
+import subprocess
+import sys
+import tempfile
+from importlib.machinery import SourceFileLoader
+
+from selenium.webdriver.common.action_chains import ActionChains
+from selenium.webdriver.common.by import By
+from selenium.webdriver.common.keys import Keys
+
+from room import TOP
+from lib.browsing import DESK_KEY, Desk, Failed, Page, browser, complaints, counts, need, until
+
+LOADED = importlib.util.spec_from_loader("outside", SourceFileLoader("outside", f"{TOP}/tests/tools/outside"))
+outside = importlib.util.module_from_spec(LOADED)
+LOADED.loader.exec_module(outside)
+BRANCHES = {"1": "Main", "2": "Harbour"}
+# what is done before a desk opens, since it opens for a branch that is there
+SET_UP = ("begin-day 2026-03-02", "branch ")
+
+
+class Serving:
+    """`circ serve` with four workers on a port of its own, which can be killed and started again."""
+
+    def __init__(self, place):
+        self.path, self.port = os.path.join(place, "town.db"), outside.free_port()
+
+    def start(self):
+        self.run = subprocess.Popen([outside.PROGRAM, "serve", self.path, str(self.port), "4", "1000000", DESK_KEY], stdout=subprocess.PIPE)
+        need("listening", self.run.stdout.readline(), f"listening on {self.port}\n".encode())
+
+    def kill(self):
+        self.run.kill()
+        self.run.wait()
+
+    def rows(self, text):
+        """What stock SQLite reads, once nothing serves."""
+        with contextlib.closing(sqlite3.connect(self.path)) as found:
+            return found.execute(text).fetchall()
+
+
+@contextlib.contextmanager
+def behind_nginx(place, port, allowed="allow 127.0.0.1;"):
+    key, cert, at = f"{place}/key.pem", f"{place}/cert.pem", outside.free_port()
+    made = outside.run("openssl", "req", "-x509", "-newkey", "rsa:2048", "-nodes", "-keyout", key, "-out", cert, "-days", "2", "-subj", "/CN=library.example")
+    outside.need("a certificate", made.returncode == 0, made.stderr)
+    site = outside.document("operations/nginx.conf").replace("/etc/ssl/circ/cert.pem", cert).replace("/etc/ssl/circ/key.pem", key).replace("allow 127.0.0.1;", allowed)
+    site = site.replace("listen 443", f"listen {at}").replace("127.0.0.1:8080", f"127.0.0.1:{port}").replace("root /usr/local/share/circ", f"root {place}/share/circ")
+    temporary = "".join(f"{it}_temp_path {place}/{it};\n" for it in ("client_body", "proxy", "fastcgi", "uwsgi", "scgi"))
+    outside.write(f"{place}/nginx.conf", f"user root;\npid {place}/pid;\nerror_log {place}/error.log;\nevents {{}}\nhttp {{\ninclude /etc/nginx/mime.types;\naccess_log off;\n{temporary}{site}\n}}\n")
+    server = subprocess.Popen(["nginx", "-c", f"{place}/nginx.conf", "-g", "daemon off;"])
+    try:
+        outside.await_port(at)
+        yield f"https://127.0.0.1:{at}"
+    finally:
+        server.terminate()
+        server.wait()
+
+
+@contextlib.contextmanager
+def behind_caddy(place, port):
+    at = outside.free_port()
+    site = outside.document("operations/Caddyfile").replace("library.example {", f"http://127.0.0.1:{at} {{").replace("127.0.0.1:8080", f"127.0.0.1:{port}")
+    outside.write(f"{place}/Caddyfile", f"{{\n\tadmin off\n}}\n{site}".replace("root * /usr/local/share/circ", f"root * {place}/share/circ"))
+    how = {"env": {**os.environ, "HOME": place}, "stdout": subprocess.DEVNULL, "stderr": subprocess.DEVNULL}
+    server = subprocess.Popen(["caddy", "run", "--adapter", "caddyfile", "--config", f"{place}/Caddyfile"], **how)
+    try:
+        outside.await_port(at)
+        yield f"http://127.0.0.1:{at}"
+    finally:
+        server.terminate()
+        server.wait()
+
+
+def dollars(cents):
+    return f"{int(cents) // 100}.{int(cents) % 100:02}"
+
+
+def meaning(number):
+    return dict(re.findall(r"^\| (\d+) \| ([^|]*?) \|", outside.document("RULES.md"), re.M))[number]
+
+
+def day():
+    """What is typed on the day at the desk, with the answers: lines under a key that was typed before, files and lists of copies aside. Questions, which pass over their key, and reports are
+    all there; a report is a question whose last line tells how many rows there are."""
+    text, keys = outside.document("DAY-AT-THE-DESK.md"), set()
+    for run, words, answer in re.findall(r"^\$ \./circ (file|report) day\.db (\S+ .+)\n((?:(?!\$|```).*\n)+)", text, re.M):
+        if run == "report":
+            yield (words if words.startswith("till") else f"{words} 0"), re.sub(r"\n(ready|overdue) \d+$", "\nend", answer.rstrip("\n"))
+            continue
+        key, _, line = words.partition(" ")
+        if (key == "q" or key not in keys) and answer.strip() != "words not understood":
+            yield line, answer.rstrip("\n")
+        keys.add(key)
+
+
+class Known:
+    """Of the lines of the day so far: the titles of copies, names of patrons, whose the holds are and until when they are ready, and which copies are on loan."""
+
+    def __init__(self):
+        self.of_copy, self.of_title, self.names, self.holders, self.loans, self.untils = {}, {}, {}, {}, {}, {}
+
+    def learn(self, line, answer):
+        name, *parts = re.findall(r"'[^']*'|\S+", line)
+        if name == "acquire":
+            self.of_copy[parts[0]] = self.of_title[parts[1]] = parts[5].strip("'")
+        elif name == "patron":
+            self.names[parts[0]] = parts[3].strip("'")
+        elif name.startswith("place-hold") and answer.startswith("hold "):
+            self.holders[answer.split()[1]] = self.names[parts[0]]
+        elif name == "check-out" and answer.startswith("loan "):
+            self.loans[answer.split()[1]] = parts[1]
+        ready = re.search(r"ready (\d+) at \d+ until (\S+)", answer)
+        if ready:
+            self.untils[ready[1]] = ready[2]
+
+    def placed(self, place):
+        """What the clerk is told of a place to which a copy goes."""
+        words = place.split()
+        if words[0] == "shelf":
+            return f"To the shelf, {BRANCHES[words[1]]}."
+        if words[0] == "ready":
+            return f"Ready for {self.holders[words[1]]}, hold {words[1]}, at {BRANCHES[words[3]]} until {words[5]}."
+        return f"In transit to {BRANCHES[words[1]]}, for {self.holders[words[3]]}, hold {words[3]}." if len(words) > 2 else f"In transit to {BRANCHES[words[1]]}."
+
+
+def refused(answer):
+    number = re.fullmatch(r"refused (\d+)", answer)
+    return number and f"Refused ({number[1]}): {meaning(number[1])}."
+
+
+FORMS = [
+    (r"ok", lambda: "Done."),
+    (r"loan (\d+) due (\S+)", lambda loan, due: f"Loan {loan}, due on {due}."),
+    (r"hold (\d+)", lambda hold: f"Hold {hold} is placed."),
+    (r"owed (\d+)", lambda owed: f"Still owed: {dollars(owed)}."),
+    (r"fine (\d+) price (\d+)", lambda fine, price: f"Fine {dollars(fine)}, price {dollars(price)}."),
+    (r"transit (\d+)", lambda branch: f"In transit to {BRANCHES[branch]}."),
+]
+
+
+def shown(line):
+    """What the desk's page shows for a line of the program, titles and names aside."""
+    for form, made in FORMS:
+        found = re.fullmatch(form, line)
+        if found:
+            return made(*found.groups())
+    return refused(line)
+
+
+def page_shown(answer):
+    first, *rest = answer.split("\n")
+    patron, owed, name = re.fullmatch(r"patron (\d+) owed (\d+) name (.*)", first).groups()
+    loans, holds = (sum(it.startswith(kind) for it in rest) for kind in ("loan ", "hold "))
+    return f"Patron {patron}, {name}: {loans} on loan, {holds} on hold, owes {dollars(owed)}."
+
+
+def cells(question, answer):
+    """The rows that a list shows for an answer."""
+    forms = {
+        "pulls": (r"hold (\d+) copy (\d+) title \d+ (.*)", lambda hold, copy, text: f"{copy} {text} {hold}"),
+        "transits": (r"copy (\d+) for (\d+) title \d+ (.*)", lambda copy, hold, text: f"{copy} {text} {hold}"),
+        "shelf": (r" *(\d+) +(\d+) +(\d+) (\S+) (.*)", lambda *them: " ".join(them)),
+        "overdue": (r" *(\d+) +(\d+) +(\d+) (\S+) +(\d+) (.*)", lambda *them: " ".join(them)),
+        "debts": (r"patron (\d+) owed (\d+) name (.*)", lambda patron, owed, name: f"{patron} {name} {dollars(owed)}"),
+        "account": (r"line (\d+) (\S+) (\w+) (\d+)(?: loan \d+ title \d+ (.*))?", lambda line, on, sort, cents, text: f"{line} {on} {sort} {dollars(cents)} {text or ''}".strip()),
+        "till": (r"(\w+) +(\d+)", lambda sort, cents: f"{sort} {dollars(cents)}"),
+    }
+    form, made = forms[question]
+    lines = answer.split("\n")
+    headless = lines[1:] if question in ("shelf", "overdue", "account", "till") else lines
+    return [made(*re.fullmatch(form, line).groups()) for line in headless if line != "end"]
+
+
+class Clerk:
+    """Does the lines of the day as a clerk does: by scans where there is a mode for them, by the lists where they are asked, and else by words."""
+
+    def __init__(self, driver, base):
+        self.driver, self.base, self.known, self.desk = driver, base, Known(), None
+
+    def at(self, branch):
+        """The desk of a branch."""
+        if self.desk is None or self.branch != branch:
+            self.desk, self.branch = Desk(self.driver, self.base, branch), branch
+            need("the head", self.desk.it("place").text.split(", ")[:2], ["Town library", BRANCHES[branch]])
+        return self.desk
+
+    def told(self, what, one):
+        need(what, one, self.desk.told())
+        self.desk.go_on()
+        need("the next scan goes to its line", self.desk.focus(), "scan")
+
+    def visit(self, mode, patron, branch):
+        desk = self.at(branch)
+        desk.mode(mode)
+        if desk.it("next").is_displayed():
+            desk.it("next").click()
+        return desk.scan(patron)
+
+    def scanned(self, line, label, title, name, answer):
+        """What is told of a scan that was sent."""
+        if refused(answer) and line.startswith("check-out"):
+            until(f"where the copy of {line} is", lambda: self.desk.told().startswith(f"{label}: {refused(answer)} {title}: "))
+            return self.desk.go_on()
+        done = f"{title}: {shown(answer)} For {name}." if title else f"{shown(answer)} For {name}."
+        return self.told(f"scanned {line}", f"{label}: {refused(answer)}" if refused(answer) else done)
+
+    def check_out(self, line, answer, patron, copy, branch):
+        if patron not in self.known.names:
+            self.visit("check-out", patron, branch)
+            return self.told(line, f"patron {patron}: {refused(answer)}")
+        self.visit("check-out", patron, branch)
+        self.desk.scan(f"C{copy}")
+        return self.scanned(line, f"copy {copy}, patron {patron}", self.known.of_copy[copy], self.known.names[patron], answer)
+
+    def check_in(self, line, answer, copy, branch):
+        desk = self.at(branch)
+        desk.mode("check-in")
+        desk.scan(copy)
+        fine, place = re.fullmatch(r"fine (\d+) (.*)", answer).groups()
+        self.told(line, f"{self.known.of_copy[copy]}: {self.known.placed(place)} " + ("No fine." if fine == "0" else f"Fine: {dollars(fine)}."))
+        need("a slip where the copy goes to a hold or a branch", desk.it("slips").is_displayed(), not place.startswith("shelf"))
+        if not place.startswith("shelf"):
+            held = re.search(r"(?:ready|for) (\d+)", place)
+            need("who is on the slip", self.known.holders[held[1]] in desk.it("slip-list").text, True)
+            desk.it("put-away").click()
+
+    def place_hold(self, line, answer, patron, title, branch):
+        self.visit("place-hold", patron, branch)
+        self.desk.scan(title)
+        self.scanned(line, f"title {title}, patron {patron}", self.known.of_title[title], self.known.names[patron], answer)
+
+    def pay(self, line, answer, patron, cents):
+        self.visit("pay", patron, self.branch)
+        self.desk.scan(dollars(cents))
+        self.scanned(line, f"{dollars(cents)} paid, patron {patron}", None, self.known.names[patron], answer)
+
+    def renew(self, line, answer, loan):
+        copy = self.known.loans[loan]
+        self.desk.mode("renew")
+        self.desk.scan(f"C{copy}")
+        self.scanned(line, f"copy {copy}", self.known.of_copy[copy], None, answer)
+
+    def page(self, line, answer, patron):
+        self.visit("check-out", patron, self.branch)
+        self.told(line, page_shown(answer))
+        holds = re.findall(r"^hold (\d+) at (\d+) ready title \d+ (.*)$", answer, re.M)
+        lines = [f"{text}, hold {hold}, ready at {BRANCHES[branch]} until {self.known.untils[hold]}" for hold, branch, text in holds]
+        until("until when holds are ready", lambda: [it for it in self.desk.items("patron-lines") if ", ready at " in it] == lines)
+
+    def listed(self, line, answer, question, *parts):
+        """A question that has a list: by its button, at the desk of its branch."""
+        desk = self.at(parts[0]) if question in ("pulls", "shelf", "overdue", "transits") else self.desk
+        if question == "till":
+            self.driver.execute_script("arguments[0].value = arguments[1]", desk.it("till-day"), parts[0])
+            self.driver.find_element(By.CSS_SELECTOR, "#counting button").click()
+        elif question == "account":
+            desk.type("looked", f"P{parts[0]}")
+            self.driver.find_element(By.CSS_SELECTOR, "#looking button[value=account]").click()
+        else:
+            self.driver.find_element(By.CSS_SELECTOR, f"#list-buttons button[value={question}]").click()
+        found = cells(question, answer)
+        until("the list is answered", lambda: desk.it("list-told").text != "Sending …")
+        rows = desk.items("list-rows")
+        # a list on the page begins at its beginning, so of an account that is asked for from a line on it shows the lines before too
+        need(line, rows[-len(found):] if parts[-1:] == ("1",) and question == "account" else rows, found)
+
+    def copy(self, line, answer, copy):
+        self.desk.type("looked", copy)
+        self.desk.it("looked").send_keys(Keys.ENTER)
+        until("a copy", lambda: len(self.desk.items("list-rows")) == 1)
+        home, price, title, text, place = re.fullmatch(r"copy \d+ home (\d+) kind \d+ price (\d+) title (\d+) (.*)\n(.*)", answer).groups()
+        need(line, self.desk.items("list-rows"), [f"{copy} {text} {title} {BRANCHES[home]} {dollars(price)} {place.capitalize()}."])
+
+    def words(self, line, answer):
+        desk = self.at(self.desk and self.branch or "1")
+        told = desk.words(line)
+        need(line, shown(answer) in told, True)
+        desk.go_on()
+
+    def does(self, line, answer):
+        name, *parts = line.split()
+        if name in ("pulls", "shelf", "overdue", "transits", "debts", "account", "till"):
+            self.listed(line, answer, name, *parts)
+        elif name in ("check-out", "check-in", "place-hold", "pay", "renew", "page", "copy"):
+            getattr(self, name.replace("-", "_"))(line, answer, *parts)
+        else:
+            self.words(line, answer)
+        self.known.learn(line, answer)
+
+
+def clerk(driver, base):
+    """The day, whole: setting up, the counter, the lists of the morning, money, and the till."""
+    lines = [(line, answer) for line, answer in day() if not line.startswith(SET_UP)]
+    need("lines of the day", len(lines) > 45, True)
+    hands = Clerk(driver, base)
+    for line, answer in lines:
+        if line.startswith("check-out 3 40") and "40" not in hands.known.of_copy:
+            for row in ("acquire 30 300 1 1 1500 'Maps, Old and New'", "acquire 31 300 1 2 1500 'Maps, Old and New'", "acquire 40 400 1 1 700 'Winter Bees'"):
+                hands.does(row, "ok")
+        hands.does(line, answer)
+    desk = hands.desk
+    need("words that are none", desk.words("check-out 1"), "These are not the words of a command.")
+    need("no name is empty", [it for it in desk.names() if not it[1]], [])
+    need("320 pixels", desk.fits(320), True)
+    every_number(driver, desk)
+
+
+def every_number(driver, desk):
+    """Each refusal and each fault is shown in the words of the rules; here the answers are made in the browser."""
+    numbers = re.findall(r"^\| (\d+) \| ([^|]*?) \|", outside.document("RULES.md"), re.M)
+    need("how many numbers", len(numbers), 40)
+    for number, meant in numbers:
+        name, status = ("fault", 503) if int(number) >= 90 else ("refusal", 403 if number == "81" else 409)
+        driver.execute_script(f"window.fetch = async () => new Response(JSON.stringify({{{name}: {number}}}), {{status: {status}}})")
+        text = f"The desk met a fault ({number}): {meant}. Send it again later: it acts once." if name == "fault" else f"Refused ({number}): {meant}."
+        need(f"number {number}", desk.words("renew 1"), text)
+        need(f"whether {number} can be sent again", desk.it("again").is_displayed(), name == "fault")
+        desk.go_on()
+    driver.refresh()
+
+
+def killed(driver, base, serving):
+    """The program is killed before a check-out reaches it, and started again: there is one loan."""
+    desk = Desk(driver, base, 2)
+    desk.scan("3")
+    serving.kill()
+    desk.mark()
+    desk.keys("20", Keys.ENTER)
+    until("not known", lambda: desk.told().startswith("Not known yet"))
+    driver.refresh()
+    until("not known after it was loaded anew", lambda: desk.told().startswith("Not known yet"))
+    desk.mark()
+    serving.start()
+    until("an answer", desk.is_noted, 60)
+    need("the loan", desk.told()[:20], "Salt Roads: Loan 6, ")
+
+
+def strangers(driver, base):
+    """From an address that may not ask a desk nginx answers by itself, in its own words."""
+    page = Desk(driver, base, None)
+    page.sign_in(1, DESK_KEY)
+    until("its status is told", lambda: "(status 403)" in page.told() and page.is_wrong())
+    need("it stays closed", page.it("desk").is_displayed(), False)
+
+
+def patron(driver, base, serving):
+    """Ann renews, places a hold and cancels it, by the keyboard alone; then the program is killed while a renewal is on its way."""
+    page = Page(driver, f"{base}/pages/patron.html", "My library card")
+    keyboard = ActionChains(driver)
+    keyboard.send_keys(Keys.TAB, "1", Keys.TAB, "cardkey99999", Keys.ENTER).perform()
+    until("a wrong key is told", lambda: page.told() == f"Refused (81): {meaning('81')}.")
+    need("no page for a wrong key", page.it("page").is_displayed(), False)
+    page.type("number", "1")
+    page.type("card-key", "cardkey00001")
+    page.keys(Keys.ENTER)
+    until("the page", lambda: page.it("page").is_displayed())
+    need("the name", (page.it("name").text, page.it("owed").text), ("Ann Bell", "Nothing is owed."))
+    need("where the key stands", (DESK_KEY in driver.current_url, "cardkey" in driver.current_url), (False, False))
+    # from the name on by tab to the button of the loan
+    page.keys(Keys.TAB)
+    need("the first button", driver.switch_to.active_element.get_attribute("aria-label"), "Renew Rivers of the North")
+    page.keys(Keys.ENTER)
+    until("renewed", lambda: page.told().startswith("Loan 5, due on"))
+    until("no renewal is left", lambda: "no renewal left" in page.it("loans").text)
+    need("no button where none is left", driver.find_elements(By.CSS_SELECTOR, "#loans button"), [])
+    page.type("title", "999")
+    page.type("branch", "1")
+    page.keys(Keys.ENTER)
+    until("refused", lambda: page.told() == f"Refused (12): {meaning('12')}." and page.is_wrong())
+    need("the title stays", page.it("title").get_attribute("value"), "999")
+    page.type("title", "400")
+    page.keys(Keys.ENTER)
+    until("a hold", lambda: page.told() == "Hold 4 is placed." and not page.is_wrong())
+    until("the hold", lambda: page.it("holds").text.replace("\n", " ") == "Winter Bees waiting, to be picked up at Main Cancel")
+    need("no name is empty", [it for it in page.names() if not it[1]], [])
+    need("320 pixels", page.fits(320), True)
+    # the program is killed, and what is asked for meanwhile is sent again under its key
+    serving.kill()
+    button = driver.find_element(By.CSS_SELECTOR, "#holds button")
+    button.click()
+    button.click()
+    until("not known", lambda: page.told().startswith("Not known yet"))
+    driver.refresh()
+    until("not known after it was loaded anew", lambda: page.told().startswith("Not known yet"))
+    serving.start()
+    until("cancelled", lambda: page.told() == "Done.", 60)
+    until("no hold", lambda: page.it("holds").text == "No holds.")
+    # a hold from today on, and one from a day to come
+    place_from(page, "300", "2", "03252026")
+    until("no day to come", lambda: page.told() == f"Refused (23): {meaning('23')}.")
+    place_from(page, "300", "2", "04012026")
+    until("a hold from a day on", lambda: page.told() == "Hold 5 is placed.")
+    until("its day", lambda: page.it("holds").text.replace("\n", " ") == "Maps, Old and New waiting from 2026-04-01, to be picked up at Harbour Cancel")
+    until("the fields are empty again", lambda: (page.it("title").get_attribute("value"), page.it("from").get_attribute("value")) == ("", ""))
+    return page
+
+
+def place_from(page, title, branch, on):
+    """Asks for a hold from a day on, which is typed as the month, the day and the year."""
+    page.type("title", title)
+    page.type("branch", branch)
+    page.it("from").send_keys(on)
+    page.it("from").send_keys(Keys.ENTER)
+
+
+def look(driver, name, size):
+    driver.set_window_size(*size)
+    driver.execute_script("window.scrollTo(0, 0)")
+    with open(f"{TOP}/docs/{name}", "wb") as file:
+        file.write(driver.get_screenshot_as_png())
+    driver.set_window_size(900, 1000)
+
+
+def header(base):
+    told = outside.run("curl", "-s", "-k", "-D", "-", "-o", os.devnull, f"{base}/pages/desk.js").stdout.lower()
+    need("what a page may load", "content-security-policy: default-src 'self'\n" in told, True)
+    need("a module's type", "javascript" in told, True)
+    begin = outside.run("curl", "-s", "-k", "-o", os.devnull, "-w", "%{http_code} %{redirect_url}", f"{base}/").stdout
+    need("the first page", begin.startswith("302 ") and begin.endswith("/pages/patron.html"), True)
+
+
+def town(place):
+    """The pages are installed, and the town gives its branches their names; its library has its first day and its branches."""
+    outside.need("install", outside.run(f"{TOP}/install", place).returncode == 0)
+    path = f"{place}/share/circ/pages/texts.js"
+    with open(path, encoding="utf-8") as file:
+        text = file.read()
+    outside.need("a table of branches", "BRANCHES = {}" in text)
+    outside.write(path, text.replace("BRANCHES = {}", "BRANCHES = " + json.dumps(BRANCHES)))
+    for at, (line, answer) in enumerate(found for found in day() if found[0].startswith(SET_UP)):
+        told = outside.run(outside.PROGRAM, "file", f"{place}/town.db", f"first-{at}", *line.split())
+        outside.need(line, told.stdout == f"{answer}\n", told.stdout)
+
+
+def borrowed(driver, base, pictures):
+    """Ann borrows again, and has a receipt."""
+    desk = Desk(driver, base, 1)
+    desk.scan("P1")
+    need("Ann borrows again", desk.scan("C11")[:27], "Rivers of the North: Loan 5")
+    until("her receipt", lambda: len(desk.items("receipt")) == 1)
+    need("what is on it", re.fullmatch(r"Rivers of the North, due on \d{4}-\d\d-\d\d", desk.items("receipt")[0]) is not None, True)
+    driver.find_element(By.CSS_SELECTOR, "#list-buttons button[value=debts]").click()
+    until("who owes for the days after the till", lambda: desk.items("list-rows") == ["3 Cy Dunn 0.40"])
+    if pictures:
+        look(driver, "desk-page.png", (900, 1150))
+
+
+def tried(behind, pictures):
+    with tempfile.TemporaryDirectory() as place:
+        os.chmod(place, 0o755)
+        town(place)
+        serving = Serving(place)
+        serving.start()
+        driver = browser()
+        try:
+            with behind(place, serving.port) as base:
+                header(base)
+                clerk(driver, base)
+                borrowed(driver, base, pictures)
+                page = patron(driver, base, serving)
+                need("a look at the page", page.it("page").is_displayed(), True)
+                if pictures:
+                    driver.execute_script("document.activeElement.blur()")
+                    look(driver, "patron-page.png", (900, 1120))
+                killed(driver, base, serving)
+                need("what the browser complains of", complaints(driver), [])
+            if behind is behind_nginx:
+                with behind_nginx(place, serving.port, allowed="") as base:
+                    strangers(driver, base)
+        finally:
+            driver.quit()
+            serving.kill()
+        need("the hold was cancelled once", serving.rows("SELECT count(*) FROM kept WHERE text = 'cancel-hold 4'"), [(1,)])
+        need("the hold from a day on", serving.rows("SELECT text, reply FROM kept WHERE caller = 1 AND text LIKE 'place-hold-from%'"), [("place-hold-from 1 300 2 2026-04-01", "hold 5")])
+        need("there is one loan of the copy", serving.rows("SELECT count(*) FROM loans3 WHERE copy = 20 AND ended IS NULL"), [(1,)])
+        need("an audit", outside.run(outside.PROGRAM, "audit", serving.path).stdout, "sound\n")
+
+
+def main():
+    for behind in (behind_nginx, behind_caddy):
+        tried(behind, "--pictures" in sys.argv and behind is behind_nginx)
+    print(f"a clerk's day and a patron's in {json.dumps(version())}, behind nginx and behind Caddy: {counts['compared']} compared, none differs")
+
+
+def version():
+    return outside.run("chromium", "--version").stdout.strip()
+
+
+if __name__ == "__main__":
+    try:
+        main()
+    except (Failed, outside.Failed) as failed:
+        sys.exit(f"browser: {failed}")
