@@ -12,18 +12,11 @@ import sys
 import tempfile
 
 TOP = os.path.dirname(os.path.dirname(os.path.abspath(__file__)))
-PROGRAM = f"{TOP}/crates/circ_cli/out/circ_cli"
+# the one built in this checkout, or else the one in bin
+PROGRAM = subprocess.run([f"{TOP}/tools/program"], stdout=subprocess.PIPE, text=True, check=True).stdout.strip()
 KEY = "deskkey00001"
 # of one that asks for nothing that there is
 NOWHERE = b"GET /nowhere HTTP/1.1\r\n\r\n"
-
-
-def build():
-    """Has the program built, where it isn't there."""
-    if not os.path.isfile(PROGRAM):
-        subprocess.run([f"{TOP}/circ"], stdout=subprocess.DEVNULL, check=False)
-    if not os.path.isfile(PROGRAM):
-        sys.exit("bench: the program did not build")
 
 
 def need_disk(folder):
@@ -56,7 +49,7 @@ def free_port():
 
 def one_run(*words):
     """How long one run takes, in seconds, and the most memory that it holds, in MB."""
-    run = subprocess.run([f"{TOP}/tests/measured", os.devnull, PROGRAM, *words], stdout=subprocess.PIPE, check=True)
+    run = subprocess.run([f"{TOP}/tests/tools/measured", os.devnull, PROGRAM, *words], stdout=subprocess.PIPE, check=True)
     took, most, status = run.stdout.split()
     if int(status):
         sys.exit(f"bench: {words} ended with {status}")
