@@ -1,4 +1,4 @@
-// The commands of the desk with the names of their parts, as the program has them: tests/pages.py compares them.
+// The commands of the desk with the names of their parts, as the program has them: tests/gate/pages.py compares them.
 
 export const COMMANDS = {
   "begin-day": ["day"],

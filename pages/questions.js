@@ -1,4 +1,4 @@
-// What the desk answers to questions: a copy, and lists of rows. tests/pages.mjs tries every form.
+// What the desk answers to questions: a copy, and lists of rows. tests/gate/pages.mjs tries every form.
 
 import { DAY, NUMBER, TEXT, firstOf } from "./forms.js";
 

@@ -1,4 +1,4 @@
-// What the desk answers, read from its lines. tests/pages.mjs tries every form.
+// What the desk answers, read from its lines. tests/gate/pages.mjs tries every form.
 
 import { DAY, NUMBER, TEXT, firstOf } from "./forms.js";
 

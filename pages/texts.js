@@ -1,5 +1,5 @@
 // Every text that the pages show, so that a town can have them in its own language. {braces} are filled in.
-// The meanings of the numbers are those that the program says: tests/pages.py compares them.
+// The meanings of the numbers are those that the program says: tests/gate/pages.py compares them.
 
 export const MEANINGS = {
   10: "unknown branch",
