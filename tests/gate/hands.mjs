@@ -132,7 +132,7 @@ await until(() => isQuiet(it));
 is(acts(sent), ["check-in 1 1", "check-in 4 1"]);
 
 // ---- a fault, or an answer that isn't understood, stops it likewise: the same is sent again under its key, before what waits
-for (const [answer, text] of [[fault(91), /^copy 1: The desk met a fault \(91\): /], [[5, 403, "<html>"], /status 403/], [[5, 200, '{"reply":"what"}'], /status 200/]]) {
+for (const [answer, text] of [[fault(91), /^copy 1: Fault 91: /], [[5, 403, "<html>"], /status 403/], [[5, 200, '{"reply":"what"}'], /status 200/]]) {
   sent = network(turns([answer, reply("fine 0 shelf 1")]));
   it = desk();
   for (const scan of ["1", "2"]) it.work.scan("check-in", scan);
@@ -242,8 +242,8 @@ is(cut("P4", { patron: "", copy: "" }), { of: null, number: "P4" });
 is([itemOf("check-out", null, "P4"), itemOf("check-out", 4, "C31"), itemOf("check-in", null, "31")].map(({ kind, number, patron }) => [kind, number, patron]),
   [["patron", 4, null], ["copy", 31, 4], ["copy", 31, null]]);
 is([["check-out", 4, "P5"], ["check-in", null, "P5"], ["check-out", null, "C31"], ["pay", 4, "P5"], ["place-hold", 4, "C31"]].map((asked) => itemOf(...asked).problem), [
-  "This is a patron's card, but a copy is wanted.", "This is a patron's card, but a copy is wanted.", "This is a copy, but a patron's card is wanted.",
-  "This is a patron's card, but an amount is wanted.", "This is a copy, but the number of a title is wanted."]);
+  "This is a patron's card, but a copy is expected.", "This is a patron's card, but a copy is expected.", "This is a copy, but a patron's card is expected.",
+  "This is a patron's card, but an amount is expected.", "This is a copy, but a title number is expected."]);
 is([["check-out", 4, "C"], ["check-out", 4, "C031"], ["pay", 4, "31"]].map((asked) => itemOf(...asked).kind), ["wrong", "wrong", "wrong"]);
 // a book that is scanned first opens no patron, and a card that is scanned as a copy lends nothing
 sent = network(turns([reply("loan 1 due 2026-03-09")], { "page 4": page(4, "Di Eck") }));
@@ -271,11 +271,11 @@ is(desk(it.storage).work.end(), { unknown: [], unsent: ["1234.00 paid, patron 4"
 it.work.queue.sendOn();
 it.work.scan("pay", "1234");
 await until(() => isQuiet(it));
-is([acts(sent).length, it.told.at(-1)], [3, ["1234: This is not as it has to be: an amount such as 2.50.", true]]);
+is([acts(sent).length, it.told.at(-1)], [3, ["1234: This should be an amount such as 2.50.", true]]);
 
 // ---- another day than that of this machine is begun by a typed yes alone, and that of this machine by its words
 const otherDay = "2190-12-31";
-const askedOfDay = `Today is ${dayOf} on this machine, and a day that was begun can't be taken back. To begin ${otherDay}, type yes. If not, go on without it.`;
+const askedOfDay = `This machine's date is ${dayOf}, and a day can't be undone once begun. To begin ${otherDay}, type yes. If not, go on without it.`;
 sent = network(turns([fault(91), reply("ok"), reply("fine 0 shelf 1")]));
 it = desk();
 it.work.words(["begin-day", otherDay]);
@@ -435,7 +435,7 @@ sent = network(turns([reply("loan 1 due 2026-03-09")], { "page 1": fault(92) }))
 it.work.scan("check-out", "10");
 await until(() => isQuiet(it));
 is(it.receipts.at(-1), [`Ann Bell, ${dayOf}, branch 1`, "Loan 1, due on 2026-03-09."]);
-is(it.told.at(-1), ["copy 10, patron 1: Loan 1, due on 2026-03-09. What else was asked of the desk did not come.", true]);
+is(it.told.at(-1), ["copy 10, patron 1: Loan 1, due on 2026-03-09. The desk's other answers did not come.", true]);
 is(receiptRow(1, ["check-out", "2", "10", "1"], { kind: "lent", loan: 1, due: "2026-03-09" }, null), null);
 
 // ---- once the desk is closed nothing more is sent, shown or kept

@@ -155,7 +155,7 @@ is(table("account", "patron 1 owed 40 name Ann Bell\nline 1 2026-03-17 fine 100 
 is(table("till", "till 2026-03-17\nfines                200\nprices              1200\npayments            1360\nwaivers               40"), {
   head: "Till of 2026-03-17", columns: ["Sum of", "Amount"], rows: [["fines", "2.00"], ["prices", "12.00"], ["payments", "13.60"], ["waivers", "0.40"]] });
 is(table("queue", "title 100 Rivers of the North\nhold 2 patron 3 at 2\nhold 3 patron 1 at 1 from 2026-04-01\nend"), {
-  head: "Who waits for Rivers of the North, title 100", columns: ["Hold", "Patron", "Picked up at", "From"], rows: [["2", "3", "branch 2", ""], ["3", "1", "branch 1", "2026-04-01"]] });
+  head: "Who waits for Rivers of the North, title 100", columns: ["Hold", "Patron", "Pick-up at", "From"], rows: [["2", "3", "branch 2", ""], ["3", "1", "branch 1", "2026-04-01"]] });
 is(table("copies", "title 100 Rivers of the North\ncopy 10 loan 1 due 2026-03-09\ncopy 11 transit 1 for 1\ncopy 15 missing\nend"), {
   head: "Copies of Rivers of the North, title 100", columns: ["Copy", "Where"],
   rows: [["10", "Loan 1, due on 2026-03-09."], ["11", "In transit to branch 1, for hold 1."], ["15", "Missing."]],

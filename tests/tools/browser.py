@@ -313,7 +313,7 @@ def clerk(driver, base):
                 hands.does(row, "ok")
         hands.does(line, answer)
     desk = hands.desk
-    need("words that are none", desk.words("check-out 1"), "These are not the words of a command.")
+    need("words that are none", desk.words("check-out 1"), "This is not a command.")
     need("no name is empty", [it for it in desk.names() if not it[1]], [])
     need("320 pixels", desk.fits(320), True)
     every_number(driver, desk)
@@ -326,7 +326,7 @@ def every_number(driver, desk):
     for number, meant in numbers:
         name, status = ("fault", 503) if int(number) >= 90 else ("refusal", 403 if number == "81" else 409)
         driver.execute_script(f"window.fetch = async () => new Response(JSON.stringify({{{name}: {number}}}), {{status: {status}}})")
-        text = f"The desk met a fault ({number}): {meant}. Send it again later: it acts once." if name == "fault" else f"Refused ({number}): {meant}."
+        text = f"Fault {number}: {meant}. Send it again later; it takes effect once." if name == "fault" else f"Refused ({number}): {meant}."
         need(f"number {number}", desk.words("renew 1"), text)
         need(f"whether {number} can be sent again", desk.it("again").is_displayed(), name == "fault")
         desk.go_on()

@@ -157,7 +157,7 @@ def signed_out(driver, fake):
     page.keys(Keys.ENTER)
     until("it is sent", lambda: any(it.startswith("POST") for it in fake.words()))
     page.it("sign-out").click()
-    need("it is told that it isn't known", (page.told().startswith("Signed out. What was asked last had no answer yet"), page.is_wrong()), (True, True))
+    need("it is told that it isn't known", (page.told().startswith("Signed out. Your last request had no answer yet"), page.is_wrong()), (True, True))
     need("what is kept, and what stands in the fields", (page.stored(), page.it("title").get_attribute("value")), ({}, ""))
     enter(page, "4")
     until("the next patron", lambda: page.it("name").text == "Di Eck")
@@ -181,7 +181,7 @@ def signed_out(driver, fake):
     desk.mode("check-in")
     desk.keys("1", Keys.ENTER, "2", Keys.ENTER)
     desk.it("sign-out").click()
-    need("what may have been done, and what wasn't", desk.told(), "The desk is closed. It is not known whether this was done: copy 1. This was not sent: copy 2.")
+    need("what may have been done, and what wasn't", desk.told(), "The desk is closed. It is not known whether this was carried out: copy 1. This was not sent: copy 2.")
     late.set()
     time.sleep(0.5)
     need("nothing is kept, sent or shown any more", (desk.stored(), fake.words(), desk.items("last")), ({}, ["check-in 1 1"], []))
@@ -224,7 +224,7 @@ def opening(driver, fake):
     page.it("sign-out").click()
     need("a closed desk is nowhere", page.it("place").text, "")
     for answer, told in ((refusal(81), "Refused (81): wrong key, or not allowed to this caller."), (refusal(10), "Refused (10): unknown branch."),
-                         ((0.0, 403, "<html>"), "An answer came that is not the desk's, or that this page can't read (status 403). Whether it was done is not known.")):
+                         ((0.0, 403, "<html>"), "This page can't read the answer (status 403). It is not known whether the request was carried out.")):
         fake.says(answers({"shelf 7 0": answer}))
         page.sign_in(7, "deskkey00009")
         until(told, lambda: page.told() == told and page.is_wrong())
@@ -232,10 +232,10 @@ def opening(driver, fake):
     fake.says(answers({}))
     for branch, key in ((1, "Schlüssel"), ("x", "deskkey00001")):
         page.sign_in(branch, key)
-        until("what isn't in its form isn't sent", lambda: page.told().startswith("This is not as it has to be") and fake.sent == [])
+        until("what isn't in its form isn't sent", lambda: page.told().startswith("This should be") and fake.sent == [])
     fake.says(answers({"shelf 2 0": [NOTHING, NOTHING, reply("      hold    copy  patron until      title\nend")]}))
     page.sign_in(2, "deskkey00001")
-    until("no answer is told", lambda: page.told() == "No answer came. It is asked again.")
+    until("no answer is told", lambda: page.told() == "No answer. Trying again.")
     until("it opens once there is one", lambda: page.it("desk").is_displayed())
     need("the branch", page.it("place").text.split(", ")[1], "branch 2")
 
@@ -313,7 +313,7 @@ def hands_at_the_desk(driver, fake):
     desk.it("again").click()
     until("both are paid", lambda: [it for it in fake.words() if it.startswith("pay")] == ["pay 4 6000", "pay 4 50"])
     desk.keys("12345", Keys.ENTER)
-    until("a number is no amount", lambda: desk.told() == "12345: This is not as it has to be: an amount such as 2.50.")
+    until("a number is no amount", lambda: desk.told() == "12345: This should be an amount such as 2.50.")
     need("it isn't sent", len([it for it in fake.words() if it.startswith("pay")]), 2)
 
 
@@ -354,7 +354,7 @@ def lists(driver, fake):
     late.set()
     time.sleep(0.5)
     need("the list that was asked for last", (desk.it("list-head").text, rows(desk)), ("Who owes", []))
-    for value, told in (("transits", "Refused (10): unknown branch."), ("overdue", "An answer came that is not the desk's, or that this page can't read (status 200). Whether it was done is not known.")):
+    for value, told in (("transits", "Refused (10): unknown branch."), ("overdue", "This page can't read the answer (status 200). It is not known whether the request was carried out.")):
         driver.find_element("css selector", f"#list-buttons button[value={value}]").click()
         until(told, lambda: desk.it("list-told").text == told)
     desk.type("looked", "C20")
