@@ -1,4 +1,4 @@
-//! Answers, and the bytes that tell them.
+//! Answers and their bytes.
 
 ghost use Rattle.std.specs.Prelude.{◌≡◌, ◌++◌, ◌∷◌, ◌≤◌, [], IfOk, decimal, unwrap_or, length};
 ghost use Rattle.http.specs.StatusCode.{reason_phrase};
@@ -15,21 +15,21 @@ use std::alloc::Global;
 use std::io::Write;
 use terms::{Memory, Refusal, Reply, ServiceFault, WriteFault, reply_text, write_pieces};
 
-/// What a request is answered.
+/// The answer to a request.
 #[derive(Drop)]
 pub enum Answer {
-    /// 200: it is accepted, and this tells the reply.
+    /// 200: accepted, with the reply.
     Accepted(Json),
-    /// 403 for a wrong key or a request that is not allowed, else 409: it is refused.
+    /// 403 for a wrong key or a request that is not allowed, otherwise 409: refused.
     Refused(Refusal),
-    /// 503: it could not be answered.
+    /// 503: the service failed.
     Faulted(ServiceFault),
-    /// 400, 404, 405 or 413: it fails a check.
+    /// 400, 404, 405 or 413: a check failed.
     Failed(WebStatus),
 }
 
 impl Answer {
-    /// The answer that tells a reply.
+    /// Makes the answer that carries a reply.
     pub fn reply(alloc: Global, reply: &Reply) -> Result<Answer, Memory>
         ensures { IfOk result (λ answer. answer ≡ answer_for reply.now) }
     {
@@ -43,7 +43,7 @@ impl Answer {
     }
 }
 
-/// The phrase that goes with a status.
+/// Returns the reason phrase of a status.
 fn phrase_of(status: StatusCode) -> &'static str
     ensures { result.now ≡ unwrap_or (reason_phrase status) [] }
 {
@@ -53,7 +53,7 @@ fn phrase_of(status: StatusCode) -> &'static str
     }
 }
 
-/// Writes the first line: the status and its phrase.
+/// Writes the status line.
 #[tactic(auto, unfolding(crate::specs::Answers::start_text))]
 fn write_start<W: Write>(writer: &mut W, status: StatusCode) -> Result<(), WriteFault>
     ensures { Writes (start_text status)
@@ -71,7 +71,7 @@ fn write_start<W: Write>(writer: &mut W, status: StatusCode) -> Result<(), Write
     )
 }
 
-/// Writes the fields that every message with a body of this size has, and the empty line.
+/// Writes the header fields common to all messages with a body of this size, and the empty line.
 #[tactic(auto, unfolding(crate::specs::Answers::fields_text))]
 pub(crate) fn write_fields<W: Write>(writer: &mut W, size: usize) -> Result<(), WriteFault>
     ensures { Writes (fields_text size)
@@ -87,8 +87,7 @@ pub(crate) fn write_fields<W: Write>(writer: &mut W, size: usize) -> Result<(), 
     )
 }
 
-/// Writes an answer, with a line of its own where there is one. The pieces of the body are to have
-/// this size.
+/// Writes an answer, with `line` after the status line. `size` is the total length of `body`.
 fn write_parts<W: Write>(
     writer: &mut W,
     status: StatusCode,
@@ -105,7 +104,7 @@ fn write_parts<W: Write>(
     write_pieces(writer, body)
 }
 
-/// Writes an answer whose body has one member, a number. The text before the number is short.
+/// Writes an answer whose body has one member, a number. `before` is short.
 fn write_number<W: Write>(
     writer: &mut W,
     status: StatusCode,
@@ -130,7 +129,7 @@ fn write_number<W: Write>(
     )
 }
 
-/// The status of a refusal of the desk: 403 or 409.
+/// Returns the status for a refusal of the desk: 403 or 409.
 fn status_of_refusal(refusal: Refusal) -> StatusCode
     ensures { result ≡ refusal_status refusal }
 {
@@ -140,7 +139,7 @@ fn status_of_refusal(refusal: Refusal) -> StatusCode
     }
 }
 
-/// Writes the answer to a request that fails a check: with 405 goes a line that tells the method.
+/// Writes the answer to a request that fails a check. 405 adds a line with the allowed method.
 fn write_failed<W: Write>(writer: &mut W, status: &WebStatus) -> Result<(), WriteFault>
     ensures { Writes (answer_bytes (answer.Failed status.now))
         (W.contents writer.old) (W.contents writer.new) result }
@@ -159,8 +158,7 @@ fn write_failed<W: Write>(writer: &mut W, status: &WebStatus) -> Result<(), Writ
     }
 }
 
-/// Writes the bytes of an answer. Where a write fails, a beginning of them went out. It takes no
-/// memory.
+/// Writes the bytes of an answer. If a write fails, a prefix of them went out. Takes no memory.
 pub fn write_answer<W: Write>(writer: &mut W, answer: &Answer) -> Result<(), WriteFault>
     ensures { Writes (answer_bytes answer.now)
         (W.contents writer.old) (W.contents writer.new) result }

@@ -6,20 +6,20 @@ ghost use Rattle.web.specs.Asked.{asked_of};
 use crate::request::WebRequest;
 use terms::{Caller, CardKey, PatronId, Request};
 
-/// What a web request asks for, by the key that its caller shows.
+/// What a web request asks for, given the key the caller shows.
 #[derive(Drop)]
 pub enum Asked {
-    /// Nothing: the caller shows no key in its form, or another key than the desk's on the desk's
-    /// route. It is refused as not allowed.
+    /// Nothing: the caller shows no well-formed key, or on the desk's route a key other than the
+    /// desk's. It is refused as not allowed.
     Nothing,
-    /// The page of a patron, by a card key.
+    /// A patron's page, by card key.
     Page(PatronId, CardKey),
-    /// What a request of the desk or of a patron asks for.
+    /// A request of the desk or of a patron.
     Request(Request),
 }
 
 impl WebRequest {
-    /// What the request asks for, where this is the desk's key.
+    /// Returns what the request asks for, if this is the desk's key.
     pub fn asked(self, desk_key: &CardKey) -> Asked
         ensures { result ≡ asked_of desk_key.now self }
     {

@@ -9,8 +9,8 @@ use crate::head::fill;
 use std::alloc::Global;
 use std::io::Read;
 
-/// Reads until the buffer is full, of which so many bytes are filled already. It tells whether the
-/// buffer is full, or the bytes ended before.
+/// Reads until the buffer is full; its first `start` bytes already are. Returns false if the input
+/// ends first.
 fn fill_all<R: Read>(reader: &mut R, buf: &mut [u8], start: usize) -> Result<bool, WebFault>
     requires { start ≤ length buf.old }
     ensures own { IfErr result IsOwnFault }
@@ -28,8 +28,8 @@ fn fill_all<R: Read>(reader: &mut R, buf: &mut [u8], start: usize) -> Result<boo
     Ok(true)
 }
 
-/// Reads a body of this size, whose front came with the head. It gives `None` where the bytes end
-/// before the body is whole, and it reads nothing once the body is whole.
+/// Reads a body of this size, whose beginning came with the head. Returns `None` if the input ends
+/// early, and reads nothing past the body.
 pub(crate) fn read_body<R: Read>(
     alloc: Global,
     reader: &mut R,

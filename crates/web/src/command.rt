@@ -1,4 +1,4 @@
-//! What the body of a request asks for.
+//! From the body of a request to a command.
 
 ghost use Rattle.std.specs.Prelude.{◌≡◌, [], IfOk, IfSome, IfNone};
 ghost use Rattle.terms.specs.declared.command.Command.{Command as Said};
@@ -10,7 +10,7 @@ use front::{WordFault, read_words};
 use std::alloc::{AllocError, Global};
 use terms::{Command, Memory, PatronId};
 
-/// The hold that a body asks for.
+/// Reads the hold that a body asks for.
 fn hold_command(alloc: Global, patron: PatronId, body: &[u8]) -> Result<Option<Command>, Memory>
     ensures asked { IfOk result (λ o. IfSome o (AsksHold patron body.now)) }
     ensures none { IfOk result (λ o. IfNone o
@@ -27,7 +27,7 @@ fn hold_command(alloc: Global, patron: PatronId, body: &[u8]) -> Result<Option<C
     }
 }
 
-/// The command of the desk that a body asks for.
+/// Reads the desk's command from a body.
 fn desk_command(alloc: Global, body: &[u8]) -> Result<Option<Command>, Memory>
     ensures asked { IfOk result (λ o. IfSome o (AsksDesk body.now)) }
     ensures none { IfOk result (λ o. IfNone o ((said : Said) → AsksDesk body.now said → ⊥)) }
@@ -42,7 +42,7 @@ fn desk_command(alloc: Global, body: &[u8]) -> Result<Option<Command>, Memory>
     }
 }
 
-/// The command, where the body is empty.
+/// Returns the command if the body is empty.
 fn bare_command(command: Command, body: &[u8]) -> Option<Command>
     ensures some { IfSome result (λ said. (body.now ≡ []) × (said ≡ command)) }
     ensures none { IfNone result (body.now ≡ [] → ⊥) }
@@ -50,7 +50,7 @@ fn bare_command(command: Command, body: &[u8]) -> Option<Command>
     if body.is_empty() { Some(command) } else { None }
 }
 
-/// The command that a body asks for at a route.
+/// Reads the command that a body asks for on a route.
 pub(crate) fn read_command(
     alloc: Global,
     route: &Route,

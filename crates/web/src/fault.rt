@@ -1,4 +1,4 @@
-//! Why a web request is not read.
+//! Why a web request can't be read.
 
 ghost use Rattle.std.specs.Prelude.{◌≡◌};
 ghost use Rattle.web.specs.Answers.{status_number};
@@ -10,21 +10,21 @@ use http::{Method, StatusCode};
 use std::alloc::AllocError;
 use std::io;
 
-/// The status with which a request is refused before the desk sees it.
+/// The status of a request refused before the desk sees it.
 #[derive(Debug, Drop, PartialEq, Eq)]
 pub enum WebStatus {
-    /// 400: the head, the fields, a key or the body has not its form, or the bytes ended too soon.
+    /// 400: the head, the fields, a key or the body is malformed, or the input ended too soon.
     BadRequest,
-    /// 404: the target is none of the routes.
+    /// 404: no route has this target.
     NotFound,
-    /// 405: the route has this method, and the request another.
+    /// 405: the route has this method, the request another.
     MethodNotAllowed(Method),
-    /// 413: the body would be longer than bodies may be.
+    /// 413: the body would exceed the limit.
     PayloadTooLarge,
 }
 
 impl WebStatus {
-    /// The number of the status.
+    /// Returns the status number.
     pub fn code(&self) -> StatusCode
         ensures { result ≡ status_number self.now }
     {
@@ -37,10 +37,10 @@ impl WebStatus {
     }
 }
 
-/// Why a web request is not read.
+/// Why a web request can't be read.
 #[derive(Debug, Drop, PartialEq, Eq)]
 pub enum WebFault {
-    /// It fails a check: the status of the first that it fails.
+    /// A check failed: the status of the first that did.
     Status(WebStatus),
     /// A read failed.
     Read,

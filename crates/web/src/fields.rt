@@ -1,4 +1,4 @@
-//! The fields of a head.
+//! The header fields.
 
 ghost use Rattle.std.specs.Prelude.{◌≡◌, ◌++◌, ◌∷◌, [], ℕ, List, All, length, map};
 ghost use Rattle.std.specs.Prelude.{IfSome, IfNone, true, false};
@@ -15,7 +15,7 @@ use httparse::spans::HeaderSpan;
 use std::marker::Model;
 use std::str;
 
-/// The fields of a head: where they stand in its bytes.
+/// The header fields, as spans of the head's bytes.
 #[derive(Drop)]
 pub(crate) struct Fields<'a> {
     bytes: &'a [u8],
@@ -34,18 +34,18 @@ impl<'a> Model for Fields<'a> {
     ghost invariant = { λ a. All (IsHeaderWithin (length a.bytes.now)) a.headers.now };
 }
 
-/// The values of the fields of one name.
+/// The values of the fields with one name.
 #[derive(Clone, Copy)]
 pub(crate) enum Found<'a> {
-    /// No field has the name.
+    /// No field has this name.
     Nothing,
     /// One field has it, with this value.
     One(&'a [u8]),
-    /// Two fields have it, or more.
+    /// Two or more fields have it.
     Several,
 }
 
-/// Whether two names of fields are the same, without case.
+/// Compares two field names, ignoring case.
 fn is_same_name(a: &[u8], b: &[u8]) -> bool
     ensures { result ≡ same_name a.now b.now }
 {
@@ -53,7 +53,7 @@ fn is_same_name(a: &[u8], b: &[u8]) -> bool
 }
 
 impl<'a> Found<'a> {
-    /// With one value more.
+    /// Adds a value.
     fn and(self, value: &'a [u8]) -> Found<'a>
         ensures { (values : List (List ℕ)) → Tells self.entry values
             → Tells result (values ++ (value.entry.now ∷ [])) }
@@ -66,7 +66,7 @@ impl<'a> Found<'a> {
     }
 }
 
-/// The values of the fields of this name.
+/// Finds the values of the fields with this name.
 fn values_in<'a>(bytes: &'a [u8], headers: &[HeaderSpan], name: &[u8]) -> Found<'a>
     requires { All (IsHeaderWithin (length bytes.now)) headers.now }
     ensures { Tells result (values_of name.now (map (header_bytes bytes.entry.now) headers.now)) }
@@ -81,7 +81,7 @@ fn values_in<'a>(bytes: &'a [u8], headers: &[HeaderSpan], name: &[u8]) -> Found<
 }
 
 impl<'a> Fields<'a> {
-    /// The fields that the spans cover in these bytes.
+    /// Makes the fields that the spans cover in these bytes.
     pub fn new(bytes: &'a [u8], headers: &'a [HeaderSpan]) -> Fields<'a>
         requires { All (IsHeaderWithin (length bytes.now)) headers.now }
         ensures { result ≡ map (header_bytes bytes.entry.now) headers.entry.now }
@@ -89,7 +89,7 @@ impl<'a> Fields<'a> {
         Fields { bytes, headers }
     }
 
-    /// The values of the fields of this name.
+    /// Finds the values of the fields with this name.
     pub fn values(&self, name: &[u8]) -> Found<'a>
         ensures { Tells result (values_of name.now self.now) }
     {
@@ -104,7 +104,7 @@ fn all_digits(bytes: &[u8]) -> bool
     bytes.iter().all(|b| b.is_ascii_digit())
 }
 
-/// Whether a value is 1 to 10 plain digits.
+/// Returns whether a value is 1 to 10 plain digits.
 #[tactic(auto, unfolding(crate::specs::Fields::is_length))]
 fn has_length_form(value: &[u8]) -> bool
     ensures { result ≡ is_length value.now }
@@ -119,7 +119,7 @@ fn has_length_form(value: &[u8]) -> bool
     all_digits(value)
 }
 
-/// The number that 1 to 10 plain digits write.
+/// Reads a number of 1 to 10 plain digits.
 pub(crate) fn read_length(value: &[u8]) -> Option<u64>
     ensures some { IfSome result
         (λ n. (is_length value.now ≡ true) × (n ≡ digits_value 10 value.now)) }
@@ -137,7 +137,7 @@ pub(crate) fn read_length(value: &[u8]) -> Option<u64>
     }
 }
 
-/// The length that a value of Content-Length gives.
+/// Reads a Content-Length value.
 pub(crate) fn length_of(value: &[u8]) -> Result<usize, WebStatus>
     ensures { result ≡ length_in (value.now ∷ []) }
 {
@@ -151,7 +151,7 @@ pub(crate) fn length_of(value: &[u8]) -> Result<usize, WebStatus>
     }
 }
 
-/// How long the body is, or the status that refuses the fields.
+/// Returns the length of the body, or the status that refuses the fields.
 pub(crate) fn body_length(fields: &Fields<'_>) -> Result<usize, WebStatus>
     ensures { result ≡ body_length fields.now }
 {

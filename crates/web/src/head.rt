@@ -13,8 +13,8 @@ use httparse::spans::{HeaderSpan, RequestSpans, parse_request};
 use std::io;
 use std::io::Read;
 
-/// Reads until the head of a request is whole. It gives the head's parts and how many bytes of the
-/// buffer were filled, or `None` where what the reader gives begins with no head.
+/// Reads until the head of a request is complete. Returns its parts and the number of bytes read
+/// into the buffer, or `None` if the input doesn't begin with a head.
 pub(crate) fn read_head<R: Read>(
     reader: &mut R,
     buf: &mut [u8],
@@ -47,7 +47,7 @@ pub(crate) fn read_head<R: Read>(
     Ok(None)
 }
 
-/// One read into the part of the buffer that isn't filled yet.
+/// Reads once into the unfilled part of the buffer.
 pub(crate) fn fill<R: Read>(reader: &mut R, buf: &mut [u8], filled: usize) -> io::Result<usize>
     requires { filled ≤ length buf.old }
     ensures { IfOk result

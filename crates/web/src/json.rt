@@ -1,4 +1,4 @@
-//! The JSON bodies of requests.
+//! JSON bodies of requests.
 
 ghost use Rattle.std.specs.Prelude.{◌≡◌, ◌<◌, ◌^◌, ℕ, List, Option, string_bytes};
 ghost use Rattle.std.specs.Prelude.{IfOk, IfSome, IfNone, Some};
@@ -17,7 +17,7 @@ use std::alloc::{AllocError, Global};
 use std::str;
 use terms::{BranchId, Day, Memory, TitleId};
 
-/// The value of a body that is JSON.
+/// Parses a JSON body.
 fn read_value(alloc: Global, body: &[u8]) -> Result<Option<Value>, Memory>
     ensures some { IfOk result (λ o. IfSome o (λ v. IsJson body.now (view v))) }
     ensures none { IfOk result (λ o. IfNone o ((d : Data) → IsJson body.now d → ⊥)) }
@@ -36,7 +36,7 @@ fn read_value(alloc: Global, body: &[u8]) -> Result<Option<Value>, Memory>
     }
 }
 
-/// The number below 2^32 that a member of an object is.
+/// Returns a member that is a number below 2^32.
 fn number_at(object: &Value, name: &str) -> Option<u32>
     ensures some { IfSome result
         (λ n. (get name.now (view object.now) ≡ Some (number (unsigned n))) × (n < 2 ^ 32)) }
@@ -47,7 +47,7 @@ fn number_at(object: &Value, name: &str) -> Option<u32>
     u32::try_from(number).ok()
 }
 
-/// The day whose text a member of an object is.
+/// Returns a member that is the text of a day.
 fn day_at(object: &Value, name: &str) -> Option<Day>
     ensures some { IfSome result (λ d. IsDayNumber d
         × (get name.now (view object.now) ≡ Some (string (day_text d)))) }
@@ -58,8 +58,8 @@ fn day_at(object: &Value, name: &str) -> Option<Day>
     Day::read(text)
 }
 
-/// The first day that an object of so many members tells, if it can be that of a hold: with two
-/// members none, and with a third that of the member `from`.
+/// Returns the first day of a hold from an object with this many members: with two none, with three
+/// the member `from`.
 fn first_day_of(object: &Value, members: usize) -> Option<Option<Day>>
     ensures some { IfSome result
         (λ d. TellsFirstDay (view object.now) members d × IfSome d IsDayNumber) }
@@ -76,16 +76,16 @@ fn first_day_of(object: &Value, members: usize) -> Option<Option<Day>>
     }
 }
 
-/// What a body asks of a hold.
+/// The hold that a body asks for.
 #[derive(Clone, Copy, Debug, PartialEq, Eq)]
 pub(crate) struct AskedHold {
     pub(crate) branch: BranchId,
     pub(crate) title: TitleId,
-    /// From which day on the hold is wanted, if it isn't wanted at once.
+    /// The first day it is wanted, if not at once.
     pub(crate) first_day: Option<Day>,
 }
 
-/// The hold that a value asks for.
+/// Reads the hold that a value asks for.
 fn hold_of(value: &Value) -> Option<AskedHold>
     ensures some { IfSome result (λ asked.
         IsHold (view value.now) asked.branch asked.title asked.first_day
@@ -104,7 +104,7 @@ fn hold_of(value: &Value) -> Option<AskedHold>
     })
 }
 
-/// The hold that a body asks for.
+/// Reads the hold that a body asks for.
 pub(crate) fn read_hold(alloc: Global, body: &[u8]) -> Result<Option<AskedHold>, Memory>
     ensures some { IfOk result (λ o. IfSome o (λ asked. ((value : Data) × IsJson body.now value
         × IsHold value asked.branch asked.title asked.first_day) × IsNumber asked.branch
@@ -119,7 +119,7 @@ pub(crate) fn read_hold(alloc: Global, body: &[u8]) -> Result<Option<AskedHold>,
     }
 }
 
-/// The text that a value is.
+/// Returns the text of a value.
 fn text_of(alloc: Global, value: &Value) -> Result<Option<String>, Memory>
     ensures { IfOk result (λ o. data_text (view value.now) ≡ option_map string_bytes o) }
 {
@@ -129,7 +129,7 @@ fn text_of(alloc: Global, value: &Value) -> Result<Option<String>, Memory>
     }
 }
 
-/// The texts that a list of values is.
+/// Returns the texts in a list of values.
 fn texts_in(alloc: Global, values: &[Value]) -> Result<Option<Vec<String>>, Memory>
     ensures some { IfOk result (λ o. IfSome o
         (λ texts. items_view values.now ≡ texts_data (texts_of texts.items))) }
@@ -146,7 +146,7 @@ fn texts_in(alloc: Global, values: &[Value]) -> Result<Option<Vec<String>>, Memo
     Ok(Some(texts))
 }
 
-/// The texts that a body is a list of: 1 to 12.
+/// Reads a body that is a list of 1 to 12 texts.
 pub(crate) fn read_texts(alloc: Global, body: &[u8]) -> Result<Option<Vec<String>>, Memory>
     ensures some { IfOk result (λ o. IfSome o
         (λ texts. IsTextList body.now (texts_of texts.items))) }

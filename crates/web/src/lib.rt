@@ -1,5 +1,5 @@
-//! Requests that come over the web, and their answers: from bytes to a request, and from an answer
-//! to bytes, with the client's side of both.
+//! Web requests and their answers: from bytes to a request, from an answer to bytes, and the
+//! client's side of both.
 #![tactic(auto)]
 
 mod answer;

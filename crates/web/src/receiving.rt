@@ -1,4 +1,4 @@
-//! Answers as the client reads them.
+//! Answers, as the client reads them.
 
 ghost use Rattle.std.specs.Prelude.{◌≡◌, ◌≤◌, ◌++◌, IfOk, IfErr, IfSome};
 ghost use Rattle.std.specs.Prelude.{length, take, drop, map, string_bytes};
@@ -19,20 +19,20 @@ use httparse::spans::{HeaderSpan, ResponseSpans, parse_response};
 use std::alloc::{AllocError, Global};
 use std::io::Read;
 
-/// An answer as it comes to the client.
+/// An answer that the client received.
 #[derive(Drop)]
 pub struct ReceivedAnswer {
-    /// The number of its status.
+    /// The status number.
     pub status: u16,
-    /// Its body.
+    /// The body.
     pub body: String,
 }
 
-/// Why no answer is read.
+/// Why an answer can't be read.
 #[derive(Clone, Copy, Debug, PartialEq, Eq)]
 pub enum AnswerFault {
-    /// What came is not the head of an answer that tells the length of its body, and a body of that
-    /// length in UTF-8; or it ended too soon.
+    /// The input is not a head that gives the body's length, followed by a UTF-8 body of that
+    /// length; or it ended too soon.
     Malformed,
     /// A read failed.
     Read,
@@ -60,8 +60,8 @@ impl From<WebFault> for AnswerFault {
     }
 }
 
-/// Reads until the head of an answer is whole. It gives the head's parts and how many bytes of the
-/// buffer were filled, or `None` where there is no such head.
+/// Reads until the head of an answer is complete. Returns its parts and the number of bytes read
+/// into the buffer, or `None` if there is no such head.
 fn read_answer_head<R: Read>(
     reader: &mut R,
     buf: &mut [u8],
@@ -91,8 +91,8 @@ fn read_answer_head<R: Read>(
     Ok(None)
 }
 
-/// How long the body of an answer is, if its fields tell it, it comes as it is, and it isn't too
-/// long.
+/// Returns the length of an answer's body, if the fields give one within the limit and no transfer
+/// coding.
 fn told_length(fields: &Fields<'_>) -> Option<usize>
     ensures { IfSome result (TellsLength fields.now) }
 {
@@ -109,8 +109,8 @@ fn told_length(fields: &Fields<'_>) -> Option<usize>
     Some(length as usize)
 }
 
-/// Reads the body whose length the fields tell, and whose front came with the head. It gives `None`
-/// where they tell none, or the bytes end before the body is whole.
+/// Reads the body, whose beginning came with the head. Returns `None` if the fields give no length
+/// or the input ends early.
 fn read_told_body<R: Read>(
     alloc: Global,
     reader: &mut R,
@@ -126,7 +126,7 @@ fn read_told_body<R: Read>(
     read_body(alloc, reader, front, size)
 }
 
-/// Reads the rest of an answer after its head, whose parts the spans name.
+/// Reads the rest of an answer, after the head described by the spans.
 fn read_rest<R: Read>(
     alloc: Global,
     reader: &mut R,
@@ -153,7 +153,7 @@ fn read_rest<R: Read>(
     }
 }
 
-/// Reads an answer with room for its head.
+/// Reads an answer, with buffers for its head.
 fn read_answer_with<R: Read>(
     alloc: Global,
     reader: &mut R,
@@ -169,8 +169,8 @@ fn read_answer_with<R: Read>(
     read_rest(alloc, reader, &buf[..filled], headers, spans)
 }
 
-/// Reads one answer: its head, within the limits of the head of a request, and the body whose
-/// length it tells. Nothing is read once the body is whole.
+/// Reads one answer: its head, within the limits of a request's head, and a body of the stated
+/// length. Reads nothing past the body.
 pub fn read_answer<R: Read>(alloc: Global, reader: &mut R) -> Result<ReceivedAnswer, AnswerFault>
     ensures { IfOk result (λ answer. IfSome (R.remaining reader.old)
         (λ bytes. IsAnswer bytes answer.status (string_bytes answer.body))) }

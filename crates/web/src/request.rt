@@ -1,4 +1,4 @@
-//! Web requests: the checks that a request passes, in their order.
+//! Web requests, and the checks they pass, in order.
 
 ghost use Rattle.std.specs.Prelude.{◌≡◌, ◌++◌, IsUtf8, IfOk, IfSome, IfNone, MatchBool, length, take, drop, map};
 ghost use Rattle.std.specs.Prelude.{Ok, Err, Some, None, MatchOption, bytes_eq};
@@ -26,21 +26,21 @@ use std::io::Read;
 use std::str;
 use terms::{CardKey, Command, Key, Memory, PatronId};
 
-/// A request from the web. Whether the key that it shows is the right one is not looked at here.
+/// A web request. Whether its key is the right one is checked elsewhere.
 #[derive(Drop)]
 pub struct WebRequest {
-    /// The patron of the route: none on the desk's.
+    /// The route's patron; none on the desk's route.
     pub patron: Option<PatronId>,
-    /// The card key that the caller shows, or the desk's key on the desk's route: none where the
-    /// field is absent or its value has not the form.
+    /// The card key shown, or on the desk's route the desk's key; none if the field is absent or
+    /// malformed.
     pub shown: Option<CardKey>,
-    /// The key of the request: none for a patron's page, whatever key it shows.
+    /// The request key; none for a patron's page, whatever key it shows.
     pub key: Option<Key>,
-    /// What is asked for.
+    /// The command.
     pub command: Command,
 }
 
-/// The key that the caller shows, if it has its form.
+/// Returns the key that the caller shows, if well-formed.
 fn shown_of(alloc: Global, route: &Route, fields: &Fields<'_>) -> Result<Option<CardKey>, Memory>
     ensures { IfOk result (λ shown. shown ≡ shown_key route.now fields.now) }
 {
@@ -50,7 +50,7 @@ fn shown_of(alloc: Global, route: &Route, fields: &Fields<'_>) -> Result<Option<
     }
 }
 
-/// The key of the request, if it has its form.
+/// Returns the request key, if well-formed.
 fn key_of(alloc: Global, fields: &Fields<'_>) -> Result<Option<Key>, Memory>
     ensures { IfOk result (λ key. key ≡ request_key fields.now) }
 {
@@ -60,7 +60,7 @@ fn key_of(alloc: Global, fields: &Fields<'_>) -> Result<Option<Key>, Memory>
     }
 }
 
-/// Whether a field of this name stands more than once.
+/// Returns whether a field with this name occurs more than once.
 fn is_twice(fields: &Fields<'_>, name: &[u8]) -> bool
     ensures { result ≡ stands_twice name.now fields.now }
 {
@@ -70,7 +70,7 @@ fn is_twice(fields: &Fields<'_>, name: &[u8]) -> bool
     }
 }
 
-/// Whether one of the three keys stands more than once.
+/// Returns whether one of the three keys occurs more than once.
 fn is_key_repeated(fields: &Fields<'_>) -> bool
     ensures { result ≡ repeats_key fields.now }
 {
@@ -91,7 +91,7 @@ fn check_method(route: &Route, method: &[u8]) -> Result<(), WebFault>
     }
 }
 
-/// Checks that no key stands twice.
+/// Checks that no key occurs twice.
 fn check_repeats(fields: &Fields<'_>) -> Result<(), WebFault>
     ensures { MatchBool (repeats_key fields.now) (result ≡ Err (Status BadRequest))
         (result ≡ Ok tt) }
@@ -103,7 +103,7 @@ fn check_repeats(fields: &Fields<'_>) -> Result<(), WebFault>
     }
 }
 
-/// The request's key: what is posted has one, in its form.
+/// Returns the request key, which every POST needs.
 fn key_for(alloc: Global, route: &Route, fields: &Fields<'_>) -> Result<Option<Key>, WebFault>
     ensures { UnlessFaulted result (MatchBool (is_post route.now)
         (MatchOption (request_key fields.now) (result ≡ Err (Status BadRequest))
@@ -119,7 +119,7 @@ fn key_for(alloc: Global, route: &Route, fields: &Fields<'_>) -> Result<Option<K
     }
 }
 
-/// The route whose target this is, if there is one.
+/// Finds the route with this target.
 fn find_route(routes: &Routes, target: &[u8]) -> Option<Route>
     requires { IsUtf8 target.now }
     ensures some { IfSome result (λ r. IsRoute r × (target.now ≡ target_of r)) }
@@ -131,7 +131,7 @@ fn find_route(routes: &Routes, target: &[u8]) -> Option<Route>
     }
 }
 
-/// The checks of a request whose parts were read, in their order.
+/// Runs the checks of a parsed request, in order.
 fn check_parts(
     alloc: Global,
     routes: &Routes,
@@ -162,7 +162,7 @@ fn check_parts(
     }
 }
 
-/// The checks after that of the head, whose parts the spans name.
+/// Runs the checks after the head's, given its spans.
 fn check_head<R: Read>(
     alloc: Global,
     routes: &Routes,
@@ -193,21 +193,22 @@ fn check_head<R: Read>(
     )
 }
 
-/// Room for so many bytes. The size is an argument, so that no proof writes out a list of as many.
+/// Makes room for `size` bytes. The size is an argument, so that no proof writes out so long a
+/// list.
 pub(crate) fn room_for_bytes(alloc: Global, size: usize) -> Result<Vec<u8>, Memory>
     ensures { IfOk result (λ room. length room.items ≡ size) }
 {
     vec![in alloc; 0; size]
 }
 
-/// Room for so many fields.
+/// Makes room for `size` fields.
 pub(crate) fn room_for_fields(alloc: Global, size: usize) -> Result<Vec<HeaderSpan>, Memory>
     ensures { IfOk result (λ room. length room.items ≡ size) }
 {
     vec![in alloc; EMPTY_HEADER_SPAN; size]
 }
 
-/// Reads a request with room for its head.
+/// Reads a request, with buffers for its head.
 fn read_with<R: Read>(
     alloc: Global,
     routes: &Routes,
@@ -226,10 +227,9 @@ fn read_with<R: Read>(
     check_head(alloc, routes, reader, &buf[..filled], headers, spans)
 }
 
-/// Reads one request: its head, within 8,192 bytes and 32 fields, and its body. A request that
-/// fails a check is refused with the status of the first that it fails, however the reader cuts the
-/// bytes. Nothing is read once the body is whole. 90 where no memory is left, also for the routes,
-/// of which there are none then.
+/// Reads one request: its head, within 8,192 bytes and 32 fields, and its body. A failed check
+/// refuses it with the status of the first that fails, however the reader splits the bytes. Reads
+/// nothing past the body. Fault 90 if no memory is left, or none was left for the routes.
 pub fn read_request<R: Read>(
     alloc: Global,
     routes: Option<&Routes>,

@@ -1,4 +1,4 @@
-//! The routes: which targets they have, and what is sent to them.
+//! The routes: their targets and methods.
 
 ghost use Rattle.std.specs.Prelude.{◌≡◌, ◌++◌, ◌∷◌, ℕ, List, Some, bytes_eq};
 ghost use Rattle.std.specs.Prelude.{IfOk, IfSome, IfNone, IsSomeAnd};
@@ -15,38 +15,38 @@ use std::alloc::{AllocError, Global};
 use std::marker::Model;
 use terms::{HoldId, LoanId, Memory, PatronId, read_number};
 
-/// What a target names, with the numbers in it.
+/// A target, with its numbers.
 #[derive(Clone, Copy, Debug, PartialEq, Eq)]
 pub(crate) enum Route {
-    /// `/patrons/{id}`: a patron's page.
+    /// `/patrons/{id}`: shows a patron's page.
     Page { patron: PatronId },
-    /// `/patrons/{id}/holds`: a hold is placed.
+    /// `/patrons/{id}/holds`: places a hold.
     PlaceHold { patron: PatronId },
-    /// `/patrons/{id}/holds/{hold}/cancel`: a hold is cancelled.
+    /// `/patrons/{id}/holds/{hold}/cancel`: cancels a hold.
     CancelHold { patron: PatronId, hold: HoldId },
-    /// `/patrons/{id}/loans/{loan}/renew`: a loan is renewed.
+    /// `/patrons/{id}/loans/{loan}/renew`: renews a loan.
     Renew { patron: PatronId, loan: LoanId },
     /// `/desk`: any command of the desk.
     Desk,
 }
 
-/// The pattern of a route, its numbers left open.
+/// A route's pattern, without its numbers.
 #[derive(Clone, Copy, Debug, PartialEq, Eq)]
 pub(crate) enum Pattern {
-    /// That of a patron's page.
+    /// A patron's page.
     Page,
-    /// That of placing a hold.
+    /// Placing a hold.
     PlaceHold,
-    /// That of cancelling a hold.
+    /// Cancelling a hold.
     CancelHold,
-    /// That of renewing a loan.
+    /// Renewing a loan.
     Renew,
-    /// That of the desk.
+    /// The desk.
     Desk,
 }
 
 impl Route {
-    /// Whether what the route asks for changes something, and so is posted.
+    /// Returns whether the route changes something and so takes POST.
     pub(crate) fn is_post(&self) -> bool
         ensures { result ≡ is_post self.now }
     {
@@ -56,7 +56,7 @@ impl Route {
         }
     }
 
-    /// The method of the route.
+    /// Returns the route's method.
     pub(crate) fn method(&self) -> Method
         ensures { result ≡ method_of self.now }
     {
@@ -67,14 +67,14 @@ impl Route {
         }
     }
 
-    /// Whether this is the route's method.
+    /// Returns whether this is the route's method.
     pub(crate) fn has_method(&self, method: &[u8]) -> bool
         ensures { result ≡ bytes_eq method.now (method_of self.now) }
     {
         method == self.method().as_str().as_bytes()
     }
 
-    /// The patron of the route: none on the desk's.
+    /// Returns the route's patron; none for the desk.
     pub(crate) fn patron(&self) -> Option<PatronId>
         ensures { result ≡ patron_of self.now }
     {
@@ -87,7 +87,7 @@ impl Route {
         }
     }
 
-    /// The name of the field that shows the caller's key.
+    /// Returns the name of the field with the caller's key.
     pub(crate) fn key_field(&self) -> &'static str
         ensures { result.now ≡ key_field self.now }
     {
@@ -98,7 +98,7 @@ impl Route {
     }
 }
 
-/// The number after a word, where it ends the text.
+/// Reads the number after a prefix, up to the end.
 fn last_number(text: &str, word: &str) -> Option<u32>
     ensures sound { IfSome result (λ n. IsNumber n × (text.now ≡ word.now ++ decimal n)) }
     ensures whole { (n : ℕ) → IsNumber n → text.now ≡ word.now ++ decimal n → result ≡ Some n }
@@ -107,7 +107,7 @@ fn last_number(text: &str, word: &str) -> Option<u32>
     read_number(rest)
 }
 
-/// The number between a word and a slash, and what follows the slash.
+/// Reads the number between a prefix and a slash; returns it and what follows the slash.
 fn number_and_rest<'a>(text: &'a str, word: &str) -> Option<(u32, &'a str)>
     ensures sound { IfSome result
         (λ p. IsNumber p.0 × (text.now ≡ word.now ++ (decimal p.0 ++ (47 ∷ p.1.now)))) }
@@ -121,7 +121,7 @@ fn number_and_rest<'a>(text: &'a str, word: &str) -> Option<(u32, &'a str)>
     Some((number, rest))
 }
 
-/// The route of a target `/patrons/{id}`.
+/// Reads a target `/patrons/{id}`.
 fn read_page(target: &str) -> Option<Route>
     ensures sound { IfSome result (λ r. IsRoute r × (target.now ≡ target_of r)) }
     ensures whole { (patron : ℕ) → IsNumber patron → target.now ≡ target_of (route.Page patron)
@@ -133,7 +133,7 @@ fn read_page(target: &str) -> Option<Route>
     })
 }
 
-/// The route of a target `/patrons/{id}/holds`.
+/// Reads a target `/patrons/{id}/holds`.
 fn read_place_hold(target: &str) -> Option<Route>
     ensures sound { IfSome result (λ r. IsRoute r × (target.now ≡ target_of r)) }
     ensures whole { (patron : ℕ) → IsNumber patron
@@ -149,7 +149,7 @@ fn read_place_hold(target: &str) -> Option<Route>
     })
 }
 
-/// The route of a target `/patrons/{id}/holds/{hold}/cancel`.
+/// Reads a target `/patrons/{id}/holds/{hold}/cancel`.
 fn read_cancel_hold(target: &str) -> Option<Route>
     ensures sound { IfSome result (λ r. IsRoute r × (target.now ≡ target_of r)) }
     ensures whole { (patron hold : ℕ) → IsNumber patron → IsNumber hold
@@ -167,7 +167,7 @@ fn read_cancel_hold(target: &str) -> Option<Route>
     })
 }
 
-/// The route of a target `/patrons/{id}/loans/{loan}/renew`.
+/// Reads a target `/patrons/{id}/loans/{loan}/renew`.
 fn read_renew(target: &str) -> Option<Route>
     ensures sound { IfSome result (λ r. IsRoute r × (target.now ≡ target_of r)) }
     ensures whole { (patron loan : ℕ) → IsNumber patron → IsNumber loan
@@ -185,7 +185,7 @@ fn read_renew(target: &str) -> Option<Route>
     })
 }
 
-/// The route of a target `/desk`.
+/// Reads a target `/desk`.
 fn read_desk(target: &str) -> Option<Route>
     ensures sound { IfSome result (λ r. IsRoute r × (target.now ≡ target_of r)) }
     ensures whole { target.now ≡ target_of route.Desk → result ≡ Some route.Desk }
@@ -197,7 +197,7 @@ fn read_desk(target: &str) -> Option<Route>
     }
 }
 
-/// The router of the five patterns.
+/// Makes the router of the five patterns.
 fn route_table(alloc: Global) -> Result<Router<Pattern>, InsertError>
     ensures { IfOk result ChoosesRoutes }
 {
@@ -210,7 +210,7 @@ fn route_table(alloc: Global) -> Result<Router<Pattern>, InsertError>
     Ok(router)
 }
 
-/// The pattern that a target fits.
+/// Finds the pattern that a target fits.
 fn pattern_of(router: &Router<Pattern>, target: &str) -> Option<Pattern>
     ensures { result ≡ chosen router.now target.now }
 {
@@ -220,7 +220,7 @@ fn pattern_of(router: &Router<Pattern>, target: &str) -> Option<Pattern>
     }
 }
 
-/// The route whose target this is, by the pattern that the router chose.
+/// Reads a target by the pattern that the router chose.
 fn read_target(pattern: Pattern, target: &str) -> Option<Route>
     ensures sound { IfSome result (λ r. IsRoute r × (target.now ≡ target_of r)) }
     ensures whole { (r : Said) → IsRoute r → pattern ≡ pattern_for r → target.now ≡ target_of r
@@ -235,7 +235,7 @@ fn read_target(pattern: Pattern, target: &str) -> Option<Route>
     }
 }
 
-/// The routes, by their patterns. Whoever reads many requests makes them once.
+/// The routes, by pattern. Make them once for many requests.
 #[derive(Drop)]
 pub struct Routes {
     router: Router<Pattern>,
@@ -255,7 +255,7 @@ impl Model for Routes {
 }
 
 impl Routes {
-    /// The routes of the desk and of patrons' pages, holds and loans. 90.
+    /// Makes the routes of the desk and of patrons' pages, holds and loans. Fault 90.
     pub fn new(alloc: Global) -> Result<Routes, Memory> {
         match route_table(alloc) {
             Ok(router) => Ok(Routes { router }),
@@ -263,7 +263,7 @@ impl Routes {
         }
     }
 
-    /// The route whose target this is, if there is one: a route has one target.
+    /// Finds the route with this target. A route has one target.
     pub(crate) fn route_of(&self, target: &str) -> Option<Route>
         ensures some { IfSome result (λ r. IsRoute r × (target.now ≡ target_of r)) }
         ensures none { IfNone result ((r : Said) → IsRoute r → target.now ≡ target_of r → ⊥) }

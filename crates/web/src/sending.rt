@@ -1,4 +1,4 @@
-//! Requests as the client sends them.
+//! Requests, as the client sends them.
 
 ghost use Rattle.std.specs.Prelude.{◌≡◌, ◌++◌, length, Err};
 ghost use Rattle.front.specs.Understood.{texts_of};
@@ -14,7 +14,7 @@ use std::alloc::{AllocError, Global};
 use std::io::Write;
 use terms::{CardKey, Key, WriteFault, write_bytes, write_pieces};
 
-/// Why a request is not sent.
+/// Why a request can't be sent.
 #[derive(Clone, Copy, Debug, PartialEq, Eq)]
 pub enum SendFault {
     /// A write failed.
@@ -39,7 +39,7 @@ impl From<WriteFault> for SendFault {
     }
 }
 
-/// Writes the first line, the machine and the two keys.
+/// Writes the request line, the host and the two keys.
 #[tactic(auto, unfolding(crate::specs::Sending::send_start))]
 fn write_start<W: Write>(writer: &mut W, desk_key: &CardKey, key: &Key) -> Result<(), WriteFault>
     ensures { Writes (send_start desk_key.now key.now)
@@ -73,9 +73,9 @@ fn write_request<W: Write>(
     write_bytes(writer, body.as_bytes())
 }
 
-/// Writes the request that asks the desk for what the words say: POST `/desk` with the two keys,
-/// and the words as a JSON list. The words are sent as they stand, a command or not. Where a write
-/// fails, a beginning of the bytes went out.
+/// Writes the request that gives the desk the words: POST `/desk` with the two keys and a JSON list
+/// of the words. The words are sent as they are, a command or not. If a write fails, a prefix of
+/// the bytes went out.
 pub fn write_send<W: Write>(
     alloc: Global,
     writer: &mut W,

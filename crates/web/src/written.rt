@@ -1,4 +1,4 @@
-//! JSON that stands ready to be written.
+//! JSON ready to be written.
 
 ghost use Rattle.std.specs.Prelude.{◌≡◌, codes, IfOk, string_bytes};
 ghost use Rattle.serde_json.specs.Data.{string};
@@ -13,7 +13,7 @@ use std::alloc::Global;
 use std::marker::Model;
 use terms::Memory;
 
-/// JSON text that stands ready to be written, so that the writing itself takes no memory.
+/// JSON text ready to be written; writing it takes no memory.
 #[derive(Drop)]
 pub struct Json {
     text: String,
@@ -27,7 +27,7 @@ impl Model for Json {
     ghost view = { λ a. string_bytes a.text };
 }
 
-/// Each word as a value.
+/// Makes a value of each word.
 fn word_values(alloc: Global, words: &[String]) -> Result<Vec<Value>, Memory>
     ensures { IfOk result (λ values. items_view values.items ≡ texts_data (texts_of words.now)) }
 {
@@ -39,7 +39,7 @@ fn word_values(alloc: Global, words: &[String]) -> Result<Vec<Value>, Memory>
 }
 
 impl Json {
-    /// The object whose one member tells a reply text.
+    /// Makes an object whose one member `reply` is the text.
     pub(crate) fn reply(alloc: Global, text: &str) -> Result<Json, Memory>
         ensures { IfOk result (λ json. json ≡ one_member (codes "reply") (string text.now)) }
     {
@@ -47,7 +47,7 @@ impl Json {
         Ok(Json { text })
     }
 
-    /// The list of the words.
+    /// Makes a list of the words.
     pub(crate) fn words(alloc: Global, words: &[String]) -> Result<Json, Memory>
         ensures { IfOk result (λ json. json ≡ words_text (texts_of words.now)) }
     {
@@ -56,7 +56,7 @@ impl Json {
         Ok(Json { text })
     }
 
-    /// The text.
+    /// Returns the text.
     pub(crate) fn as_str(&self) -> &str
         ensures { result.now ≡ self.now }
     {
