@@ -1,4 +1,4 @@
-//! What a program is asked to do, by its first words.
+//! Command-line arguments: what the program is asked to do.
 
 use crate::serving::Web;
 use desk::Report;
@@ -6,41 +6,41 @@ use hall_schedule::WORKERS;
 use std::alloc::Global;
 use terms::{BranchId, CardKey, Day, Key, Memory, PartKind, read_number};
 
-/// What a program is asked to do.
+/// What the program is asked to do.
 #[derive(Drop)]
 pub enum Run<'a> {
-    /// `file FILE KEY WORDS..`: one request of the desk on the library in a file.
+    /// `file FILE KEY WORDS..`: handle one request of the desk on a library.
     File {
         path: &'a str,
         key: Key,
         words: &'a [String],
     },
-    /// `import FILE COPIES`: a copies file that is taken into the library in a file.
+    /// `import FILE COPIES`: import a copies file into a library.
     Import {
         path: &'a str,
         copies: &'a str,
     },
-    /// `report FILE overdue B`, `report FILE till DAY`, `report FILE shelf B`: a report on the
-    /// library in a file.
+    /// `report FILE overdue B`, `report FILE till DAY`, `report FILE shelf B`: write a report on a
+    /// library.
     Report {
         path: &'a str,
         report: Report,
     },
-    /// `audit FILE`: whether the tables of the library in a file keep the laws of sound tables.
+    /// `audit FILE`: check the laws of sound tables on a library.
     Audit {
         path: &'a str,
     },
-    /// `migrate FILE`: the library in a file, which is brought to the newest schema.
+    /// `migrate FILE`: bring a library to the newest schema.
     Migrate {
         path: &'a str,
     },
-    /// `serve FILE PORT WORKERS EACH DESKKEY`: the web, over the library in a file, with so many
-    /// workers, each of which serves so many connections.
+    /// `serve FILE PORT WORKERS EACH DESKKEY`: serve the web from a library with this many workers,
+    /// each serving this many connections.
     Serve {
         path: &'a str,
         web: Web,
     },
-    /// `send PORT DESKKEY KEY WORDS..`: one request of the desk, to a program that serves the web.
+    /// `send PORT DESKKEY KEY WORDS..`: send one request of the desk to a serving program.
     Send {
         port: u16,
         desk_key: CardKey,
@@ -50,7 +50,7 @@ pub enum Run<'a> {
 }
 
 impl<'a> Run<'a> {
-    /// The path of the library, where the run has one.
+    /// Returns the library's path, if the run has one.
     pub fn library(&self) -> Option<&'a str> {
         match self {
             Run::File { path, .. }
@@ -63,8 +63,8 @@ impl<'a> Run<'a> {
         }
     }
 
-    /// Whether its lines go out at once, so that what was told was done: those of a copies file and
-    /// of the web.
+    /// Returns whether lines go out at once, so that what was reported was done: true for import
+    /// and serve.
     pub fn tells_at_once(&self) -> bool {
         match self {
             Run::Import { .. } | Run::Serve { .. } => true,
@@ -73,24 +73,24 @@ impl<'a> Run<'a> {
     }
 }
 
-/// What a word of a run has to be.
+/// What an argument has to be.
 #[derive(Clone, Copy)]
 pub enum ArgumentForm {
-    /// A word as commands have them.
+    /// A word as in commands.
     Part(PartKind),
-    /// What the text says.
+    /// As the text says.
     Other(&'static str),
 }
 
-/// A word of a run that isn't what it has to be.
+/// An argument that isn't what it has to be.
 #[derive(Clone, Copy)]
 pub struct WrongArgument {
-    /// Its name, as the usage has it.
+    /// Its name in the usage.
     pub name: &'static str,
     pub form: ArgumentForm,
 }
 
-/// A word with this name has to be what the text says.
+/// Makes an error: the argument has to be what the text says.
 fn other(name: &'static str, text: &'static str) -> WrongArgument {
     WrongArgument {
         name,
@@ -98,7 +98,7 @@ fn other(name: &'static str, text: &'static str) -> WrongArgument {
     }
 }
 
-/// A word with this name has to be of this kind.
+/// Makes an error: the argument has to be of this kind.
 fn part(name: &'static str, kind: PartKind) -> WrongArgument {
     WrongArgument {
         name,
@@ -106,12 +106,12 @@ fn part(name: &'static str, kind: PartKind) -> WrongArgument {
     }
 }
 
-/// A port that is none.
+/// Makes the error for a bad port.
 fn wrong_port() -> WrongArgument {
     other("PORT", "a number from 1 to 65535, without a leading zero")
 }
 
-/// A request on a file: there has to be a word at least, and a key in its form.
+/// Reads a request on a file: a well-formed key and at least one word.
 fn read_file<'a>(alloc: Global, words: &'a [String]) -> Result<Option<Run<'a>>, Memory> {
     let [path, key, words @ ..] = words else {
         return Ok(None);
@@ -129,7 +129,7 @@ fn read_file<'a>(alloc: Global, words: &'a [String]) -> Result<Option<Run<'a>>, 
     }
 }
 
-/// A copies file and the library that takes it in: exactly two paths follow.
+/// Reads an import: exactly two paths, library and copies file.
 fn read_import_run<'a>(words: &'a [String]) -> Option<Run<'a>> {
     let [path, copies] = words else {
         return None;
@@ -140,7 +140,7 @@ fn read_import_run<'a>(words: &'a [String]) -> Option<Run<'a>> {
     })
 }
 
-/// A report by its name, with its day or its branch in their forms.
+/// Reads a report by name, with its day or branch.
 fn read_report(name: &str, argument: &str) -> Option<Report> {
     match name {
         "overdue" => Some(Report::Overdue(BranchId::new(read_number(argument)?))),
@@ -150,7 +150,7 @@ fn read_report(name: &str, argument: &str) -> Option<Report> {
     }
 }
 
-/// A report on a file: exactly its name and one argument follow.
+/// Reads a report on a file: exactly its path, its name and one argument.
 fn read_report_run<'a>(words: &'a [String]) -> Option<Run<'a>> {
     let [path, name, argument] = words else {
         return None;
@@ -162,7 +162,7 @@ fn read_report_run<'a>(words: &'a [String]) -> Option<Run<'a>> {
     })
 }
 
-/// An audit of a file: exactly its path follows.
+/// Reads an audit: exactly one path.
 fn read_audit_run<'a>(words: &'a [String]) -> Option<Run<'a>> {
     let [path] = words else {
         return None;
@@ -172,7 +172,7 @@ fn read_audit_run<'a>(words: &'a [String]) -> Option<Run<'a>> {
     })
 }
 
-/// The migration of a file: exactly its path follows.
+/// Reads a migration: exactly one path.
 fn read_migrate_run<'a>(words: &'a [String]) -> Option<Run<'a>> {
     let [path] = words else {
         return None;
@@ -182,7 +182,7 @@ fn read_migrate_run<'a>(words: &'a [String]) -> Option<Run<'a>> {
     })
 }
 
-/// A port: a number from 1 on.
+/// Reads a port: a number from 1 on.
 fn read_port(text: &str) -> Option<u16> {
     match u16::try_from(read_number(text)?) {
         Ok(0) | Err(_) => None,
@@ -190,7 +190,7 @@ fn read_port(text: &str) -> Option<u16> {
     }
 }
 
-/// The number of the workers: from 1 to 8.
+/// Reads the number of workers: 1 to 8.
 fn read_workers(text: &str) -> Option<usize> {
     let workers = read_number(text)?;
     if workers == 0 || u64::from(workers) > WORKERS {
@@ -202,7 +202,7 @@ fn read_workers(text: &str) -> Option<usize> {
 /// The most connections that a worker serves.
 const MOST_CONNECTIONS: u32 = 1_000_000;
 
-/// How many connections a worker serves: at least one.
+/// Reads how many connections a worker serves: at least one.
 fn read_each(text: &str) -> Option<u32> {
     let each = read_number(text)?;
     if each == 0 || each > MOST_CONNECTIONS {
@@ -211,7 +211,7 @@ fn read_each(text: &str) -> Option<u32> {
     Some(each)
 }
 
-/// The web over a file: exactly a path and four more words follow.
+/// Reads a serve run: exactly a path and four more words.
 fn read_serve<'a>(alloc: Global, words: &'a [String]) -> Result<Option<Run<'a>>, Memory> {
     let [path, port, workers, each, desk_key] = words else {
         return Ok(None);
@@ -237,7 +237,7 @@ fn read_serve<'a>(alloc: Global, words: &'a [String]) -> Result<Option<Run<'a>>,
     }
 }
 
-/// A request to a program that serves: there has to be a word at least, and each key in its form.
+/// Reads a send run: well-formed keys and at least one word.
 fn read_send<'a>(alloc: Global, words: &'a [String]) -> Result<Option<Run<'a>>, Memory> {
     let [port, desk_key, key, words @ ..] = words else {
         return Ok(None);
@@ -262,7 +262,7 @@ fn read_send<'a>(alloc: Global, words: &'a [String]) -> Result<Option<Run<'a>>, 
     }
 }
 
-/// The key of a request, if it isn't in its form.
+/// Returns the error if the request key is malformed.
 fn wrong_key(alloc: Global, key: &str) -> Result<Option<WrongArgument>, Memory> {
     match Key::new(alloc, key)? {
         Some(_) => Ok(None),
@@ -270,7 +270,7 @@ fn wrong_key(alloc: Global, key: &str) -> Result<Option<WrongArgument>, Memory> 
     }
 }
 
-/// The desk's key, if it isn't in its form.
+/// Returns the error if the desk key is malformed.
 fn wrong_desk_key(alloc: Global, desk_key: &str) -> Result<Option<WrongArgument>, Memory> {
     match CardKey::new(alloc, desk_key)? {
         Some(_) => Ok(None),
@@ -278,7 +278,7 @@ fn wrong_desk_key(alloc: Global, desk_key: &str) -> Result<Option<WrongArgument>
     }
 }
 
-/// The first wrong word of a report.
+/// Finds the first wrong argument of a report.
 fn wrong_report(name: &str, argument: &str) -> Option<WrongArgument> {
     match name {
         "overdue" | "shelf" if read_number(argument).is_none() => {
@@ -290,7 +290,7 @@ fn wrong_report(name: &str, argument: &str) -> Option<WrongArgument> {
     }
 }
 
-/// The first wrong word of a program that serves.
+/// Finds the first wrong argument of a serve run.
 fn wrong_serve(
     alloc: Global,
     port: &str,
@@ -310,8 +310,8 @@ fn wrong_serve(
     wrong_desk_key(alloc, desk_key)
 }
 
-/// The first word of a run that isn't what it has to be, where `read_run` doesn't understand the
-/// words. None where their number is wrong, or the first word is no run.
+/// Finds the first wrong argument when `read_run` doesn't understand the words. None if their
+/// number is wrong or the first word is no run.
 pub fn wrong_argument(alloc: Global, words: &[String]) -> Result<Option<WrongArgument>, Memory> {
     let [run, words @ ..] = words else {
         return Ok(None);
@@ -339,8 +339,8 @@ pub fn wrong_argument(alloc: Global, words: &[String]) -> Result<Option<WrongArg
     }
 }
 
-/// What the words ask for; None where they are not understood. The words of a request themselves
-/// are read later.
+/// Reads the run that the words ask for; None if not understood. A request's own words are read
+/// later.
 pub fn read_run<'a>(alloc: Global, words: &'a [String]) -> Result<Option<Run<'a>>, Memory> {
     let [first, words @ ..] = words else {
         return Ok(None);

@@ -1,4 +1,4 @@
-//! The audit of a library.
+//! Auditing a library.
 
 ghost use Rattle.circ.specs.Auditing.{LegalTablesAreSound, SaysAudit};
 
@@ -8,22 +8,21 @@ use std::alloc::Global;
 use std::io::Write;
 use store::Store;
 
-/// The rows of which the laws of sound tables speak, of tables that a list of accepted requests
-/// leaves, keep these laws.
+/// The audited rows of tables left by a list of accepted requests keep the laws of sound tables.
 fn legal_tables_are_sound()
     ensures { LegalTablesAreSound }
 {}
 
-/// Audits a library and writes one line: `sound`, `unsound claims N`, `unsound binding N` or
-/// `unsound balance N` for the first law that is broken and its least number, or `fault N`. It
-/// changes nothing.
+/// Audits a library and writes one line: `sound`; `unsound claims N`, `unsound binding N` or
+/// `unsound balance N` for the first broken law and its least number; or `fault N`. Changes
+/// nothing.
 ///
-/// All rows are read, page by page, and those of which the laws speak are kept: all patrons,
-/// copies, holds, transits and lines, and the open loans. After that it takes no memory.
+/// Reads all rows in batches and keeps those the laws speak of: all patrons, copies, holds,
+/// transits and lines, and the open loans. Takes no memory after that.
 ///
-/// The line, the end and what the tables show are said in `specs/Auditing`. Of tables that show a
-/// list of accepted requests the line is `sound`, or a fault that isn't 93. Where a write fails,
-/// a beginning of the line went out.
+/// `specs/Auditing` states the line, the exit and what the tables show. If they show a list of
+/// accepted requests, the line is `sound` or a fault other than 93. If a write fails, a prefix of
+/// the line went out.
 pub fn audit<S: Alter, W: Write>(
     store: &mut Store<S>,
     alloc: Global,

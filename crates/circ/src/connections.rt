@@ -9,33 +9,31 @@ use std::io::{Read, Write};
 use std::sync::Wait;
 use terms::CardKey;
 
-/// Connections that come one after another, as a listener has them, or a list.
+/// A sequence of connections, from a listener or a list.
 pub trait Connections {
-    /// What a connection sends.
+    /// The bytes from the client.
     type Reader: Read;
-    /// What goes out to it.
+    /// The bytes to the client.
     type Writer: Write;
 
-    /// Before the first of these a connection came, with this reader and this writer; after it the
-    /// last is left.
+    /// A connection came with this reader and writer, taking the first value to the last.
     ghost comes: { Self → Self.Reader → Self.Writer → Self → Type 0 };
 
-    /// Before the first of these a connection was ended, with what its writer held by then; after
-    /// it the last is left.
+    /// A connection ended, with this content of its writer, taking the first value to the last.
     ghost goes: { Self → Self.Writer → Self → Type 0 };
 
-    /// Waits for a connection. None where it can't be had.
+    /// Waits for a connection. None if there is an error.
     fn accept(&mut self, alloc: Global) -> Option<(Self::Reader, Self::Writer)>
         ensures came { IfSome result (λ c. comes self.old c.0 c.1 self.new) }
         ensures none { result ≡ None → self.new ≡ self.old };
 
-    /// Ends a connection, which was answered or not.
+    /// Ends a connection, answered or not.
     fn end(&mut self, reader: Self::Reader, writer: Self::Writer, is_answered: bool)
         ensures { goes self.old writer self.new };
 }
 
-/// A worker waits for a connection, and serves it. One that can't be had is passed over. The routes
-/// are made for the first one, and again for the next where there was no memory for them.
+/// Waits for a connection and serves it; skips one that fails. Makes the routes for the first one,
+/// and tries again for the next if memory ran out.
 fn serve_next<J: Opening, C: Connections, R: Wait>(
     rt: &R,
     alloc: Global,
@@ -64,11 +62,11 @@ fn serve_next<J: Opening, C: Connections, R: Wait>(
     connections.end(reader, writer, told.is_ok());
 }
 
-/// A worker serves so many connections, and leaves. One that can't be had counts.
+/// Serves `each` connections, then leaves. A failed one counts.
 ///
-/// What becomes of each connection and of what the worker had submitted is said in
-/// `specs/Connections`: nothing goes out to a connection but what `Worker::serve` writes, and
-/// nothing is submitted for it but what it asks for.
+/// `specs/Connections` states what becomes of each connection and of the worker's submissions: a
+/// connection receives only what `Worker::serve` writes, and only what it asks for is submitted for
+/// it.
 pub fn work<J: Opening, C: Connections, R: Wait>(
     rt: &R,
     alloc: Global,

@@ -1,4 +1,4 @@
-//! Copies files: many copies that are acquired, a row each.
+//! Copies files: acquiring many copies, one per row.
 
 ghost use Rattle.front.specs.declared.copies.TheConstants.{MOST_ROWS};
 ghost use Rattle.std.specs.Prelude.{◌≡◌, ◌+◌, ◌<◌, ◌≤◌, ◌++◌, [], length};
@@ -19,7 +19,7 @@ use std::alloc::Global;
 use std::io::{Read, Write};
 use terms::{Caller, Command, Fault, Key, Reply, Request, write_bytes, write_pieces};
 
-/// How many rows were accepted, and how many refused.
+/// The numbers of rows accepted and refused.
 #[derive(Clone, Copy, Debug, PartialEq, Eq)]
 struct Tally {
     accepted: u32,
@@ -32,7 +32,7 @@ const NO_ROWS: Tally = Tally {
     refused: 0,
 };
 
-/// The counts with one row more.
+/// Counts one more row.
 fn counted(counts: Tally, reply: &Reply) -> Tally
     requires room { counts.accepted + counts.refused < MOST_ROWS }
     ensures { result ≡ with_row counts reply.now }
@@ -49,7 +49,7 @@ fn counted(counts: Tally, reply: &Reply) -> Tally
     }
 }
 
-/// Writes the line of a row. It takes no memory.
+/// Writes the line of a row. Takes no memory.
 fn write_row<W: Write>(writer: &mut W, number: u32, reply: &Reply) -> Result<(), WriteFault>
     ensures { Writes (row_line number reply.now)
         (W.contents writer.old) (W.contents writer.new) result }
@@ -72,7 +72,7 @@ fn write_row<W: Write>(writer: &mut W, number: u32, reply: &Reply) -> Result<(),
     }
 }
 
-/// Writes the line of an end that isn't that of the last row. It takes no memory.
+/// Writes the line for how the reading ended, if it wasn't the end of the file. Takes no memory.
 fn write_end<W: Write>(writer: &mut W, end: CopyEnd) -> Result<(), WriteFault>
     ensures { Writes (end_line end) (W.contents writer.old) (W.contents writer.new) result }
 {
@@ -90,7 +90,7 @@ fn write_end<W: Write>(writer: &mut W, end: CopyEnd) -> Result<(), WriteFault>
     }
 }
 
-/// Writes the last line: how many rows were accepted, and how many refused. It takes no memory.
+/// Writes the last line: the numbers of rows accepted and refused. Takes no memory.
 fn write_counts<W: Write>(writer: &mut W, counts: Tally) -> Result<(), WriteFault>
     ensures { Writes (counts_line counts.accepted counts.refused)
         (W.contents writer.old) (W.contents writer.new) result }
@@ -107,7 +107,7 @@ fn write_counts<W: Write>(writer: &mut W, counts: Tally) -> Result<(), WriteFaul
     )
 }
 
-/// How the program ends after all rows.
+/// Returns the exit after all rows.
 fn exit_at(end: CopyEnd, refused: u32) -> Exit
     ensures { result ≡ end_exit end refused }
 {
@@ -125,7 +125,7 @@ fn exit_at(end: CopyEnd, refused: u32) -> Exit
     }
 }
 
-/// Tells how the reading ended, and how many rows were accepted and refused. It takes no memory.
+/// Writes how the reading ended and the numbers of rows. Takes no memory.
 fn tell_end<W: Write>(writer: &mut W, end: CopyEnd, counts: Tally) -> Result<Exit, WriteFault>
     ensures { EndsWith (end_exit end counts.refused)
         (end_line end ++ counts_line counts.accepted counts.refused)
@@ -136,7 +136,7 @@ fn tell_end<W: Write>(writer: &mut W, end: CopyEnd, counts: Tally) -> Result<Exi
     Ok(exit_at(end, counts.refused))
 }
 
-/// Tells a fault, and how many rows were accepted and refused before it. It takes no memory.
+/// Writes a fault and the numbers of rows before it. Takes no memory.
 fn tell_stop<W: Write>(writer: &mut W, fault: Fault, counts: Tally) -> Result<Exit, WriteFault>
     ensures { EndsWith Exit.Faulted
         (fault_line (fault_number fault) ++ counts_line counts.accepted counts.refused)
@@ -147,7 +147,7 @@ fn tell_stop<W: Write>(writer: &mut W, fault: Fault, counts: Tally) -> Result<Ex
     Ok(Exit::Faulted)
 }
 
-/// The reply to the request of a row. 90, 91 or 93 in its place.
+/// Handles the request of a row. Faults 90, 91, 93.
 fn handle_row<S: Alter>(desk: &mut Desk<S>, alloc: Global, row: FileRow) -> Result<Reply, Fault>
     ensures { Handled (request_of row) S.Store desk.old desk.new result }
 {
@@ -161,8 +161,8 @@ fn handle_row<S: Alter>(desk: &mut Desk<S>, alloc: Global, row: FileRow) -> Resu
     desk.handle(alloc, &request)
 }
 
-/// Handles a row, counts it and writes its line. It takes no memory between the two. Where the desk
-/// met a fault, the fault is given back, and nothing is written or counted.
+/// Handles a row, counts it and writes its line, taking no memory between the two. If the desk
+/// faults, returns the fault and counts and writes nothing.
 fn import_row<S: Alter, W: Write>(
     desk: &mut Desk<S>,
     alloc: Global,
@@ -185,7 +185,7 @@ fn import_row<S: Alter, W: Write>(
     }
 }
 
-/// Handles the rows one after another, and tells each, the end and the counts.
+/// Handles the rows in order and writes their lines, the end and the counts.
 fn import_rows<S: Alter, W: Write>(
     desk: &mut Desk<S>,
     alloc: Global,
@@ -206,14 +206,14 @@ fn import_rows<S: Alter, W: Write>(
     tell_end(writer, end, counts)
 }
 
-/// Takes in a copies file: reads it, and then handles the rows before its end, whatever that is,
-/// one after another. Each row is a request of the desk with its own text as key, so that a file
-/// that is taken in again acts once. Its line goes out once it is handled: `row N ok` or
-/// `row N refused M`; then `row N bad`, `fault reading` or `fault N` where the reading ended so, or
-/// `fault N` at once where the desk met one; last how many rows were accepted and refused.
+/// Imports a copies file: reads it, then handles the rows before its end, whatever the end, in
+/// order. Each row is a request of the desk keyed by its own text, so importing a file again
+/// changes nothing. Writes a line after each row: `row N ok` or `row N refused M`; then `row N
+/// bad`, `fault reading` or `fault N` if the reading ended so, or `fault N` at once if the desk
+/// faults; last the numbers of rows accepted and refused.
 ///
-/// What goes out, the end and what the tables show are said in `specs/Importing`. Where a write
-/// fails, a beginning of that went out, and no later row was handled.
+/// `specs/Importing` states the output, the exit and what the tables show. If a write fails, a
+/// prefix of the output went out and no later row was handled.
 pub fn import<S: Alter, R: Read + Drop, W: Write>(
     desk: &mut Desk<S>,
     alloc: Global,
@@ -227,7 +227,7 @@ pub fn import<S: Alter, R: Read + Drop, W: Write>(
     import_rows(desk, alloc, rows, end, writer)
 }
 
-/// Tells of a copies file that can't be opened: it is one whose reading fails at once. It takes no
+/// Writes the lines for a copies file that can't be opened, as if reading failed at once. Takes no
 /// memory.
 pub fn unreadable<W: Write>(writer: &mut W) -> Result<Exit, WriteFault>
     ensures { EndsWith Exit.Faulted (import_lines [] (end_line NotRead))

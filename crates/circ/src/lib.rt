@@ -1,4 +1,4 @@
-//! What the programs run: words or copies files in, lines out.
+//! The work of each run: words or copies files in, lines out.
 #![tactic(auto)]
 
 mod arguments;

@@ -1,4 +1,4 @@
-//! The lines that the programs write, and the statuses that they end with.
+//! Output lines and exit statuses.
 
 ghost use Rattle.std.specs.Prelude.{◌≡◌};
 ghost use Rattle.terms.specs.Texts.{fault_number, service_fault_number};
@@ -19,18 +19,18 @@ use terms::{Fault, Reply, SCHEMA, ServiceFault, write_bytes, write_pieces};
 /// How a program ends.
 #[derive(Clone, Copy, Debug, PartialEq, Eq)]
 pub enum Exit {
-    /// 0: it is done.
+    /// 0: done.
     Done,
-    /// 2: it is refused, or an audit found a law that is broken.
+    /// 2: refused, or an audit found a broken law.
     Refused,
-    /// 3: there was a fault, or a line could not be written.
+    /// 3: a fault, or a failed write.
     Faulted,
-    /// 4: the words were not understood.
+    /// 4: words not understood.
     NotUnderstood,
 }
 
 impl Exit {
-    /// The status that the process ends with.
+    /// Returns the exit status of the process.
     pub fn status(self) -> u8
         ensures { result ≡ status_of self }
     {
@@ -43,7 +43,7 @@ impl Exit {
     }
 }
 
-/// Says that the words were not understood. It takes no memory.
+/// Writes that the words were not understood. Takes no memory.
 pub fn not_understood<W: Write>(writer: &mut W) -> Result<Exit, WriteFault>
     ensures { EndsWith Exit.NotUnderstood not_understood_line
         (W.contents writer.old) (W.contents writer.new) result }
@@ -52,7 +52,7 @@ pub fn not_understood<W: Write>(writer: &mut W) -> Result<Exit, WriteFault>
     Ok(Exit::NotUnderstood)
 }
 
-/// Tells the fault of this number. It takes no memory.
+/// Writes the line of this fault number. Takes no memory.
 fn tell_number<W: Write>(writer: &mut W, fault: u32) -> Result<Exit, WriteFault>
     ensures { EndsWith Exit.Faulted (fault_line fault)
         (W.contents writer.old) (W.contents writer.new) result }
@@ -64,7 +64,7 @@ fn tell_number<W: Write>(writer: &mut W, fault: u32) -> Result<Exit, WriteFault>
     Ok(Exit::Faulted)
 }
 
-/// Tells a fault by its number. It takes no memory.
+/// Writes the line of a fault. Takes no memory.
 pub fn tell_fault<W: Write>(writer: &mut W, fault: Fault) -> Result<Exit, WriteFault>
     ensures { EndsWith Exit.Faulted (fault_line (fault_number fault))
         (W.contents writer.old) (W.contents writer.new) result }
@@ -72,7 +72,7 @@ pub fn tell_fault<W: Write>(writer: &mut W, fault: Fault) -> Result<Exit, WriteF
     tell_number(writer, fault.number())
 }
 
-/// Tells a fault of a hall by its number. It takes no memory.
+/// Writes the line of a hall's fault. Takes no memory.
 pub(crate) fn tell_service_fault<W: Write>(
     writer: &mut W,
     fault: ServiceFault,
@@ -83,7 +83,7 @@ pub(crate) fn tell_service_fault<W: Write>(
     tell_number(writer, fault.number())
 }
 
-/// Says that no memory was left: fault 90. It takes none.
+/// Writes fault 90: out of memory. Takes none.
 pub fn out_of_memory<W: Write>(writer: &mut W) -> Result<Exit, WriteFault>
     ensures { EndsWith Exit.Faulted (fault_line (fault_number Memory))
         (W.contents writer.old) (W.contents writer.new) result }
@@ -91,7 +91,7 @@ pub fn out_of_memory<W: Write>(writer: &mut W) -> Result<Exit, WriteFault>
     tell_fault(writer, Fault::Memory)
 }
 
-/// Says that a port can't be had, or that no answer came. It takes no memory.
+/// Writes that a port can't be had or no answer came. Takes no memory.
 pub fn no_network<W: Write>(writer: &mut W) -> Result<Exit, WriteFault>
     ensures { EndsWith Exit.Faulted no_network_line
         (W.contents writer.old) (W.contents writer.new) result }
@@ -100,7 +100,7 @@ pub fn no_network<W: Write>(writer: &mut W) -> Result<Exit, WriteFault>
     Ok(Exit::Faulted)
 }
 
-/// Says that a thread could not be made. It takes no memory.
+/// Writes that a thread could not be made. Takes no memory.
 pub(crate) fn tell_threads<W: Write>(writer: &mut W) -> Result<Exit, WriteFault>
     ensures { EndsWith Exit.Faulted threads_line
         (W.contents writer.old) (W.contents writer.new) result }
@@ -109,7 +109,7 @@ pub(crate) fn tell_threads<W: Write>(writer: &mut W) -> Result<Exit, WriteFault>
     Ok(Exit::Faulted)
 }
 
-/// Tells the port. It takes no memory.
+/// Writes the port. Takes no memory.
 pub(crate) fn tell_port<W: Write>(writer: &mut W, port: u16) -> Result<(), WriteFault>
     ensures { Writes (port_line port) (W.contents writer.old) (W.contents writer.new) result }
 {
@@ -123,7 +123,7 @@ pub(crate) fn tell_port<W: Write>(writer: &mut W, port: u16) -> Result<(), Write
     )
 }
 
-/// Tells a reply by its text. It takes no memory.
+/// Writes the text of a reply. Takes no memory.
 pub(crate) fn tell_reply<W: Write>(writer: &mut W, reply: &Reply) -> Result<Exit, WriteFault>
     ensures { EndsWith (exit_of reply.now) (reply_line reply.now)
         (W.contents writer.old) (W.contents writer.new) result }
@@ -136,7 +136,7 @@ pub(crate) fn tell_reply<W: Write>(writer: &mut W, reply: &Reply) -> Result<Exit
     }
 }
 
-/// Tells that the tables are sound. It takes no memory.
+/// Writes that the tables are sound. Takes no memory.
 pub(crate) fn tell_sound<W: Write>(writer: &mut W) -> Result<Exit, WriteFault>
     ensures { EndsWith Exit.Done sound_line
         (W.contents writer.old) (W.contents writer.new) result }
@@ -145,7 +145,7 @@ pub(crate) fn tell_sound<W: Write>(writer: &mut W) -> Result<Exit, WriteFault>
     Ok(Exit::Done)
 }
 
-/// Tells the newest schema, which the library has. It takes no memory.
+/// Writes the newest schema, which the library has. Takes no memory.
 pub(crate) fn tell_schema<W: Write>(writer: &mut W) -> Result<Exit, WriteFault>
     ensures { EndsWith Exit.Done schema_line
         (W.contents writer.old) (W.contents writer.new) result }
@@ -157,7 +157,7 @@ pub(crate) fn tell_schema<W: Write>(writer: &mut W) -> Result<Exit, WriteFault>
     Ok(Exit::Done)
 }
 
-/// Tells which law is broken, and of which number. It takes no memory.
+/// Writes which law is broken, and the number. Takes no memory.
 fn tell_unsound<W: Write>(writer: &mut W, law: &[u8], number: u32) -> Result<Exit, WriteFault>
     ensures { EndsWith Exit.Refused (unsound_line law.now number)
         (W.contents writer.old) (W.contents writer.new) result }
@@ -174,7 +174,7 @@ fn tell_unsound<W: Write>(writer: &mut W, law: &[u8], number: u32) -> Result<Exi
     Ok(Exit::Refused)
 }
 
-/// Tells what an audit found. It takes no memory.
+/// Writes the finding of an audit. Takes no memory.
 pub(crate) fn tell_finding<W: Write>(writer: &mut W, finding: Finding) -> Result<Exit, WriteFault>
     ensures { EndsWith Exit.Refused (finding_line finding)
         (W.contents writer.old) (W.contents writer.new) result }

@@ -1,4 +1,4 @@
-//! The connections of a port.
+//! Connections to a port.
 
 use crate::connections::Connections;
 use std::alloc::Global;
@@ -7,24 +7,24 @@ use std::io::{BufWriter, Read, Write};
 use std::net::{Shutdown, TcpListener, TcpStream};
 use std::time::Duration;
 
-/// How long a connection may keep a read or a write waiting, in seconds; then it is broken.
+/// How long a read or a write may block, in seconds, before the connection fails.
 const LONGEST_WAIT: u64 = 30;
 
-/// How long a client that was answered may take to close its end, in seconds.
+/// How long an answered client may take to close its end, in seconds.
 const LONGEST_CLOSE: u64 = 1;
 
-/// How often what it still sends then is read and left alone.
+/// How often its remaining input is read and discarded.
 const MOST_DROPPED: u32 = 32;
 
-/// Where an answer goes out: in one write where it fits into 8 KiB, and in pieces where no memory
-/// is left to hold it together.
+/// The writer of an answer: one write if it fits into 8 KiB, or in pieces if there is no memory for
+/// a buffer.
 pub enum Outgoing {
     Buffered(BufWriter<TcpStream>),
     InPieces(TcpStream),
 }
 
 impl Outgoing {
-    /// Of a connection. None where it can't be written beside being read.
+    /// Makes the writer of a connection. None if the stream can't be cloned.
     fn of(alloc: Global, stream: &TcpStream) -> Option<Outgoing> {
         match BufWriter::new(alloc, stream.try_clone().ok()?) {
             Ok(writer) => Some(Outgoing::Buffered(writer)),
@@ -32,7 +32,7 @@ impl Outgoing {
         }
     }
 
-    /// Lets it go. What couldn't go out is not tried again.
+    /// Drops it without writing what is still buffered.
     fn let_go(self) {
         match self {
             Outgoing::Buffered(writer) => {
@@ -59,8 +59,8 @@ impl Write for Outgoing {
     }
 }
 
-/// Ends a connection that was answered: a client that is still sending would lose the answer if the
-/// connection were cut, so what it sends is read and left alone for a while.
+/// Ends an answered connection. Cutting it would lose the answer for a client still sending, so its
+/// input is read and discarded for a while.
 fn drain(stream: &mut TcpStream) {
     let wait = Some(Duration::from_secs(LONGEST_CLOSE));
     if stream.shutdown(Shutdown::Write).is_err() || stream.set_read_timeout(wait).is_err() {
@@ -75,7 +75,7 @@ fn drain(stream: &mut TcpStream) {
     }
 }
 
-/// The connections that come to a listener. A socket tells no bytes.
+/// The connections to a listener. Nothing is proved of a socket's bytes.
 #[derive(Drop)]
 pub struct Port<'a> {
     pub listener: &'a TcpListener,

@@ -1,4 +1,4 @@
-//! A library of an older schema, which is brought to the newest.
+//! Migrating a library of an older schema.
 
 ghost use Rattle.circ.specs.Migrating.{SaysMigration};
 
@@ -8,13 +8,13 @@ use std::alloc::Global;
 use std::io::Write;
 use store::Store;
 
-/// Brings a library to the newest schema and writes one line: `schema N`, also where it was of that
-/// already, or `fault N`.
+/// Brings a library to the newest schema and writes one line: `schema N`, even if it already had
+/// that schema, or `fault N`.
 ///
-/// The line, the end and what the tables show are said in `specs/Migrating`: after a fault they
-/// show what they showed, as long as the database is open; and whatever may leave of them when the
-/// program is stopped is that, or the same list of accepted requests in the newest schema. Where a
-/// write fails, a beginning of the line went out.
+/// `specs/Migrating` states the line, the exit and what the tables show. After a fault they show
+/// what they did before, as long as the database is open. If the program is stopped, they show that
+/// or the same list of accepted requests in the newest schema. If a write fails, a prefix of the
+/// line went out.
 pub fn migrate<S: Alter, W: Write>(
     store: &mut Store<S>,
     alloc: Global,

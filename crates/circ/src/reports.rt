@@ -9,13 +9,11 @@ use std::alloc::Global;
 use std::io::Write;
 use terms::Reply;
 
-/// Writes a report, or `refused 10` in its place for a branch that is unknown. Where a fault comes,
-/// the line `fault N` follows what went out of the report by then, which may be nothing. A branch's
-/// number may be any.
+/// Writes a report, or `refused 10` for an unknown branch. A fault adds the line `fault N` after
+/// whatever went out of the report, possibly nothing. The branch number is arbitrary.
 ///
-/// What goes out, the end and what the tables show are said in `specs/Reporting`. Where a write
-/// fails, a beginning of that went out. Whatever may leave of the tables when the program is
-/// stopped is what they showed.
+/// `specs/Reporting` states the output, the exit and what the tables show. If a write fails, a
+/// prefix of the output went out. If the program is stopped, the tables show what they did before.
 pub fn report<S: Alter, W: Write>(
     desk: &mut Desk<S>,
     alloc: Global,

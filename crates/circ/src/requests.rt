@@ -1,4 +1,4 @@
-//! One request of the desk, by its words.
+//! One request of the desk, given as words.
 
 ghost use Rattle.front.specs.Understood.{texts_of};
 ghost use Rattle.circ.specs.Saying.{Understands, SaysLine};
@@ -11,7 +11,7 @@ use std::alloc::Global;
 use std::io::Write;
 use terms::{Caller, Command, Key, Request, request_texts_differ};
 
-/// The command that the words are, and no other one: no two commands have the same words.
+/// Reads the command that the words spell. No two commands have the same words.
 fn read_command(alloc: Global, words: &[String]) -> Result<Command, WordFault>
     ensures { Understands (texts_of words.now) result }
 {
@@ -19,13 +19,11 @@ fn read_command(alloc: Global, words: &[String]) -> Result<Command, WordFault>
     read_words(alloc, words)
 }
 
-/// Handles the request that the words are, under the key, and writes one line: the reply's text,
-/// `refused N`, `fault N` or `words not understood`. Between the handling and the line it takes no
-/// memory.
+/// Handles the request in the words under this key, and writes one line: the reply's text, `refused
+/// N`, `fault N` or `words not understood`. Takes no memory between handling and line.
 ///
-/// The line, the end and what the tables show are said in `specs/Saying`. Where a write fails, a
-/// beginning of the line went out, and the tables are those of the whole line: under the same key
-/// the line can be had again.
+/// `specs/Saying` states the line, the exit and what the tables show. If a write fails, a prefix of
+/// the line went out and the tables are those of the whole line; the same key gets the line again.
 pub fn one<S: Alter, W: Write>(
     desk: &mut Desk<S>,
     alloc: Global,

@@ -1,4 +1,4 @@
-//! One request of the desk, sent to a program that serves the web.
+//! One request of the desk, sent to a serving program.
 
 ghost use Rattle.std.specs.Prelude.{◌≡◌, ◌++◌, ◌∷◌, []};
 ghost use Rattle.circ.specs.Exits.{exit_for};
@@ -10,7 +10,7 @@ use std::io::{Read, Write};
 use terms::{CardKey, Key, write_pieces};
 use web::{AnswerFault, SendFault, read_answer, write_send};
 
-/// How an answer of this status ends the program.
+/// Returns the exit for an answer's status.
 fn exit_of_status(status: u16) -> Exit
     ensures { result ≡ exit_for status }
 {
@@ -22,7 +22,7 @@ fn exit_of_status(status: u16) -> Exit
     }
 }
 
-/// Tells an answer by its body. It takes no memory.
+/// Writes the body of an answer. Takes no memory.
 fn tell_answer<W: Write>(writer: &mut W, status: u16, body: &str) -> Result<Exit, WriteFault>
     ensures { EndsWith (exit_for status) (body.now ++ 10 ∷ [])
         (W.contents writer.old) (W.contents writer.new) result }
@@ -31,9 +31,8 @@ fn tell_answer<W: Write>(writer: &mut W, status: u16, body: &str) -> Result<Exit
     Ok(exit_of_status(status))
 }
 
-/// Sends the words as a request of the desk, and writes one line: the body of its answer, or that
-/// there was no network or no memory for it. The request goes out by `output`, and its answer comes
-/// by `input`.
+/// Sends the words as a request of the desk and writes one line: the body of the answer, or that
+/// there was no network or no memory. Sends through `output` and reads the answer from `input`.
 pub fn send<I: Read, O: Write, W: Write>(
     alloc: Global,
     input: &mut I,

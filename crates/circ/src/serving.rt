@@ -1,4 +1,4 @@
-//! The web: the workers of a hall, each in a thread of its own.
+//! Serving the web: the workers of a hall, one thread each.
 
 ghost use Rattle.std.specs.Prelude.{◌≡◌};
 ghost use Rattle.store.specs.Library.{state};
@@ -27,40 +27,40 @@ use std::thread;
 use std::thread::{JoinHandle, Threads};
 use terms::{CardKey, Memory, ServiceFault};
 
-/// How the web is to be served.
+/// The settings for serving.
 #[derive(Drop)]
 pub struct Web {
-    /// The port, which is told once the hall is open.
+    /// The port, printed once the hall is open.
     pub port: u16,
-    /// How many workers there are to be: 1 to 8.
+    /// The number of workers: 1 to 8.
     pub workers: usize,
-    /// How many connections each of them serves.
+    /// The number of connections each of them serves.
     pub each: u32,
-    /// The key by which a request is known as the desk's.
+    /// The key that marks a request as the desk's.
     pub desk_key: CardKey,
 }
 
-/// What the threads of the workers share.
+/// What the workers' threads share.
 #[derive(Drop)]
 struct Shared<J: Opening> {
-    /// The workers that have not begun.
+    /// Workers that have not started.
     waiting: Mutex<Vec<Worker<J>>>,
     listener: TcpListener,
     desk_key: CardKey,
 }
 
 impl<J: Opening> Shared<J> {
-    /// These workers are to begin.
+    /// Sets the workers to start.
     fn put<R: Wait>(&self, rt: &R, workers: Vec<Worker<J>>) {
         *self.waiting.lock(rt) = workers;
     }
 
-    /// A worker that has not begun, if there is one.
+    /// Takes a worker that has not started, if any.
     fn next<R: Wait>(&self, rt: &R) -> Option<Worker<J>> {
         self.waiting.lock(rt).pop()
     }
 
-    /// A worker that has not begun serves so many connections of the listener, and leaves.
+    /// Lets a waiting worker serve `each` connections of the listener and leave.
     fn work<R: Wait>(&self, rt: &R, alloc: Global, each: u32) -> Option<Left<J>> {
         let worker = self.next(rt)?;
         let mut port = Port {
@@ -70,21 +70,21 @@ impl<J: Opening> Shared<J> {
     }
 }
 
-/// The thread of a worker, which gives its end.
+/// The thread of a worker; joining it gives the worker's end.
 type WorkerThread<J> = JoinHandle<Option<Left<J>>>;
 
-/// The workers of a hall: what their threads share, the threads, and the ends of those that have
-/// none.
+/// The workers of a hall: their shared state, their threads, and the ends of workers without a
+/// thread.
 #[derive(Drop)]
 struct Crew<J: Opening> {
     shared: Arc<Shared<J>, Global>,
     threads: Vec<WorkerThread<J>>,
     left: Vec<Left<J>>,
-    /// How many connections each of them serves.
+    /// The number of connections each worker serves.
     each: u32,
 }
 
-/// A crew before there are workers, with room for these.
+/// Makes a crew without workers, with room for them.
 fn crew_for<J: Opening>(
     alloc: Global,
     listener: TcpListener,
@@ -110,7 +110,7 @@ fn crew_for<J: Opening>(
     })
 }
 
-/// A thread for a worker that has not begun, if it can be made.
+/// Spawns a thread for a waiting worker, if possible.
 fn start<J: Opening + Send + Sync + 'static, R: Threads + Wait + Copy + Send + 'static>(
     rt: R,
     alloc: Global,
@@ -121,7 +121,7 @@ fn start<J: Opening + Send + Sync + 'static, R: Threads + Wait + Copy + Send + '
     thread::spawn(&rt, move || theirs.work(&rt, alloc, each)).ok()
 }
 
-/// Starts a thread for each worker, and tells whether all could be made. Where one can't, a worker
+/// Starts a thread per worker and returns whether all could be made. A worker without a thread
 /// leaves at once.
 fn start_all<J: Opening + Send + Sync + 'static, R: Threads + Wait + Copy + Send + 'static>(
     rt: R,
@@ -146,7 +146,7 @@ fn start_all<J: Opening + Send + Sync + 'static, R: Threads + Wait + Copy + Send
     are_whole
 }
 
-/// Takes in the end of a worker, and counts it where it took part in the hall.
+/// Takes in a worker's end, and counts it if it took part in the hall.
 fn take_in<J: Opening>(ended: &mut Ended<J>, left: Left<J>, parts: u64) -> u64
     ensures { (ended.new.handled ≡ ended.old.handled)
         × (ended.new.heard.got ≡ ended.old.heard.got) × (ended.new.board ≡ ended.old.board) }
@@ -158,8 +158,7 @@ fn take_in<J: Opening>(ended: &mut Ended<J>, left: Left<J>, parts: u64) -> u64
     }
 }
 
-/// Waits until the threads have ended, and takes in the ends of all workers. Tells how many took
-/// part in the hall.
+/// Joins the threads and takes in the ends of all workers. Returns how many took part in the hall.
 fn take_in_all<J: Opening, R: Threads>(rt: &R, ended: &mut Ended<J>, crew: Crew<J>) -> u64
     ensures { (ended.new.handled ≡ ended.old.handled)
         × (ended.new.heard.got ≡ ended.old.heard.got) × (ended.new.board ≡ ended.old.board) }
@@ -182,16 +181,16 @@ fn take_in_all<J: Opening, R: Threads>(rt: &R, ended: &mut Ended<J>, crew: Crew<
     parts
 }
 
-/// What came of a hall.
+/// The outcome of a hall.
 struct Met<S: Alter> {
     desk: Desk<S>,
     /// The fault that closed it.
     fault: Option<ServiceFault>,
-    /// Whether each worker had a thread, and took part to the end.
+    /// Whether each worker had a thread and took part to the end.
     are_whole: bool,
 }
 
-/// Runs a hall: each worker has a thread of the crew, and this thread is the desk's.
+/// Runs a hall: a crew's thread per worker, and this thread for the desk.
 fn run<
     J: Opening + Send + Sync + 'static,
     S: Alter,
@@ -223,7 +222,7 @@ fn run<
     }
 }
 
-/// Tells how it ended: that a thread could not be made, and the fault that closed the hall.
+/// Writes how it ended: a missing thread, and the fault that closed the hall.
 fn tell_end<W: Write>(
     writer: &mut W,
     are_whole: bool,
@@ -243,8 +242,8 @@ fn tell_end<W: Write>(
     }
 }
 
-/// Tells the port, runs the hall, and tells how it ended. Where the port can't be told, nobody is
-/// served, and nothing more is written.
+/// Writes the port, runs the hall and writes how it ended. If the port can't be written, nobody is
+/// served and nothing more is written.
 fn serve_hall<
     J: Opening + Send + Sync + 'static,
     S: Alter,
@@ -287,7 +286,7 @@ fn serve_hall<
     }
 }
 
-/// Tells why a hall isn't opened.
+/// Writes why a hall can't be opened.
 fn tell_why<W: Write>(writer: &mut W, why: Why) -> Result<Exit, WriteFault>
     ensures { EndsWith (exit_of_why why) (why_line why)
         (W.contents writer.old) (W.contents writer.new) result }
@@ -298,7 +297,7 @@ fn tell_why<W: Write>(writer: &mut W, why: Why) -> Result<Exit, WriteFault>
     }
 }
 
-/// The same of a desk whose hall is opened first, on a queue that was just opened.
+/// The same, but opens the hall first, on a newly opened queue.
 fn open_and_serve<
     J: Opening + Send + Sync + 'static,
     S: Alter,
@@ -337,16 +336,15 @@ fn open_and_serve<
     }
 }
 
-/// Serves the web, each worker in a thread of its own: tells the port once the hall is open, has
-/// each worker serve its connections, and hands the desk back. A connection that can't be had
-/// counts as one.
+/// Serves the web with one thread per worker: writes the port once the hall is open, has each
+/// worker serve its connections, and returns the desk. A failed connection counts as one.
 ///
-/// At the end a line tells that a thread could not be made, whose worker left at once, or that the
-/// end of a worker could not be taken in, and the last one the fault that closed the hall. What was
-/// handled is what the workers submitted, and what they answered is what each list of accepted
-/// requests gives that the tables showed. Where the hall can't be opened that fault stands alone;
-/// for another number of workers the line is that of words that aren't understood. The watch is told
-/// when the hall closes, while its workers still answer.
+/// At the end one line reports a thread that could not be made, whose worker left at once, or a
+/// worker's end that could not be taken in; the last reports the fault that closed the hall. What
+/// was handled is what the workers submitted, and they answered what every list of accepted
+/// requests that the tables showed gives. If the hall can't be opened, that fault is the only line;
+/// for another number of workers the line is that of words not understood. The watch is told when
+/// the hall closes, while the workers still answer.
 pub fn serve<S: Alter, W: Write, R: Threads + Wait + Copy + Send + 'static, N: Watch>(
     rt: R,
     alloc: Global,

@@ -1,4 +1,4 @@
-//! Lines on their way out, piece by piece. Nothing here takes memory.
+//! Writing lines piece by piece, without taking memory.
 
 ghost use Rattle.std.specs.Prelude.{◌++◌, decimal};
 ghost use Rattle.std.specs.List.{join_with_byte};
@@ -59,7 +59,7 @@ fn write_routed<W: Write>(writer: &mut W, routed: &Routed) -> Result<(), WriteFa
     }
 }
 
-/// Writes the fine of a copy that came in, and where it goes.
+/// Writes the fine for a copy that came in, and where it goes.
 fn write_checked_in<W: Write>(
     writer: &mut W,
     fine: Cents,

@@ -1,4 +1,5 @@
-//! The program `circ`: the circulation desk of a town library, by words and over the web.
+//! The program `circ`: the circulation desk of a town library, on the command line and over the
+//! web.
 #![tactic(auto)]
 
 use circ_runs::run;

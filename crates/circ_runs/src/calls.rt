@@ -1,5 +1,5 @@
-//! The calls of the layers below, with no clauses, and generic over the store: the program promises
-//! nothing more than they do, so its proof carries nothing of theirs.
+//! The calls into the layers below, without clauses and generic over the store. The program
+//! promises nothing beyond theirs, so its proof carries none of them.
 
 use circ::{Exit, Report, Watch, Web, WriteFault};
 use desk::Desk;
@@ -14,28 +14,28 @@ use std::thread::Threads;
 use store::Store;
 use terms::{CardKey, Fault, Key};
 
-/// The desk over a library in a file.
+/// A desk on a library file.
 pub type FileDesk<S> = Desk<FileStore<FileFrom<S>>>;
 
-/// The tables of a library in a file.
+/// The tables of a library file.
 pub type FileTables<S> = Store<FileStore<FileFrom<S>>>;
 
-/// The desk over a new library in the file.
+/// Creates a library in the file and opens the desk on it.
 pub fn create<S: Start>(rt: &HostRuntime, path: &str, start: S) -> Result<FileDesk<S>, Fault> {
     Desk::new(Store::create_from(rt, path, start)?)
 }
 
-/// The tables of the library in the file, of whichever schema they are.
+/// Opens the tables of the library, whatever their schema.
 pub fn open_any<S: Start>(rt: &HostRuntime, path: &str, start: S) -> Result<FileTables<S>, Fault> {
     Store::open_from(rt, path, start)
 }
 
-/// The desk over the library in the file.
+/// Opens the desk on the library.
 pub fn open<S: Start>(rt: &HostRuntime, path: &str, start: S) -> Result<FileDesk<S>, Fault> {
     Desk::new(open_any(rt, path, start)?)
 }
 
-/// The tables of the library in the file, where they are of the newest schema.
+/// Opens the tables of the library, if they have the newest schema.
 pub fn open_tables<S: Start>(
     rt: &HostRuntime,
     path: &str,
@@ -44,23 +44,23 @@ pub fn open_tables<S: Start>(
     Ok(open(rt, path, start)?.into_store())
 }
 
-/// Copies the database's log into the file, so that the file alone is the library; where that
-/// fails, the log stays beside it and nothing is lost.
+/// Copies the database's log into the file, so that the file alone is the library. If that fails,
+/// the log stays beside it and nothing is lost.
 pub fn close<D: Disk + Drop>(desk: Desk<FileStore<D>>) {
     close_tables(desk.into_store());
 }
 
-/// The same of the tables alone.
+/// The same for the tables alone.
 pub fn close_tables<D: Disk + Drop>(store: Store<FileStore<D>>) {
     let _ = store.close();
 }
 
-/// The number of the schema that the tables name; none where they name none.
+/// Reads the schema number, if the tables have one.
 pub fn schema_of<S: Alter>(conn: &mut Connection<S>) -> Option<u32> {
     circ_tables::schema_of(conn).ok()
 }
 
-/// Handles one request, and writes its line.
+/// Handles one request and writes its line.
 pub fn one<S: Alter, W: Write>(
     desk: &mut Desk<S>,
     alloc: Global,
@@ -71,7 +71,7 @@ pub fn one<S: Alter, W: Write>(
     circ::one(desk, alloc, key, words, writer)
 }
 
-/// Takes in a copies file, and writes its lines.
+/// Imports a copies file and writes its lines.
 pub fn import<S: Alter, W: Write>(
     desk: &mut Desk<S>,
     alloc: Global,
@@ -91,7 +91,7 @@ pub fn report<S: Alter, W: Write>(
     circ::report(desk, alloc, wanted, writer)
 }
 
-/// Audits a library, and writes one line.
+/// Audits a library and writes one line.
 pub fn audit<S: Alter, W: Write>(
     store: &mut Store<S>,
     alloc: Global,
@@ -100,7 +100,7 @@ pub fn audit<S: Alter, W: Write>(
     circ::audit(store, alloc, writer)
 }
 
-/// Brings a library to the newest schema, and writes one line.
+/// Migrates a library to the newest schema and writes one line.
 pub fn migrate<S: Alter, W: Write>(
     store: &mut Store<S>,
     alloc: Global,
@@ -109,7 +109,7 @@ pub fn migrate<S: Alter, W: Write>(
     circ::migrate(store, alloc, writer)
 }
 
-/// Serves the web, and gives the desk back.
+/// Serves the web and returns the desk.
 pub fn serve<S: Alter, W: Write, R: Threads + Wait + Copy + Send + 'static, N: Watch>(
     rt: R,
     alloc: Global,
@@ -122,7 +122,7 @@ pub fn serve<S: Alter, W: Write, R: Threads + Wait + Copy + Send + 'static, N: W
     circ::serve(rt, alloc, watch, desk, listener, web, writer)
 }
 
-/// Sends one request over the connection, and writes its line.
+/// Sends one request over the connection and writes its line.
 pub fn send<W: Write>(
     alloc: Global,
     stream: &TcpStream,
@@ -142,7 +142,7 @@ pub fn send<W: Write>(
     )
 }
 
-/// Writes that there is no network.
+/// Writes that the network failed.
 pub fn no_network<W: Write>(writer: &mut W) -> Result<Exit, WriteFault> {
     circ::no_network(writer)
 }
@@ -152,12 +152,12 @@ pub fn tell_fault<W: Write>(writer: &mut W, fault: Fault) -> Result<Exit, WriteF
     circ::tell_fault(writer, fault)
 }
 
-/// Writes the lines of a copies file that can't be read.
+/// Writes the lines for an unreadable copies file.
 pub fn unreadable<W: Write>(writer: &mut W) -> Result<Exit, WriteFault> {
     circ::unreadable(writer)
 }
 
-/// Writes that the words are not understood.
+/// Writes that the words were not understood.
 pub fn not_understood<W: Write>(writer: &mut W) -> Result<Exit, WriteFault> {
     circ::not_understood(writer)
 }

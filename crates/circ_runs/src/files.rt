@@ -1,4 +1,4 @@
-//! The file of a library: what can be seen of it before it is opened, and why it wasn't opened.
+//! The library file: what it looks like before opening, and why opening failed.
 
 use crate::calls::schema_of;
 use sqlite::{Connection, Error, ErrorCode, Wary};
@@ -7,16 +7,16 @@ use std::fs::{self, File};
 use std::io::{ErrorKind, Read};
 use terms::SCHEMA;
 
-/// How the file of a database begins.
+/// The first bytes of a database file.
 const HEADER: [u8; 16] = *b"SQLite format 3\0";
 
-/// How one begins that a stop left before its first page was written.
+/// The first bytes if the process stopped before writing the first page.
 const BLANK: [u8; 16] = [0; 16];
 
-/// How one begins that a stop left while its first page was written: the first byte comes last.
+/// The first bytes if the process stopped during the first page's write: the first byte comes last.
 const BEGUN: [u8; 16] = *b"\0QLite format 3\0";
 
-/// The first bytes of a file, with zeros behind a shorter one; none where it can't be read.
+/// Reads the first 16 bytes, zero-padded; none if the file can't be read.
 fn header_of(rt: &HostRuntime, path: &str) -> Option<[u8; 16]> {
     let mut header = BLANK;
     let mut file = File::open(rt, path).ok()?;
@@ -24,7 +24,7 @@ fn header_of(rt: &HostRuntime, path: &str) -> Option<[u8; 16]> {
     Some(header)
 }
 
-/// Whether there is no file yet, or one with no bytes.
+/// Returns whether the file is missing or empty.
 pub fn is_new(rt: &HostRuntime, path: &str) -> bool {
     match fs::metadata(rt, path) {
         Ok(file) => file.len() == 0,
@@ -32,12 +32,12 @@ pub fn is_new(rt: &HostRuntime, path: &str) -> bool {
     }
 }
 
-/// Whether the file begins as that of a database.
+/// Returns whether the file starts like a database.
 pub fn is_database(rt: &HostRuntime, path: &str) -> bool {
     header_of(rt, path) == Some(HEADER)
 }
 
-/// Whether the file may be that of a library: any other is left alone.
+/// Returns whether this may be a library file. Others are left alone.
 pub fn may_be_library(rt: &HostRuntime, path: &str) -> bool {
     match header_of(rt, path) {
         Some(header) => header == HEADER || header == BLANK || header == BEGUN,
@@ -45,7 +45,7 @@ pub fn may_be_library(rt: &HostRuntime, path: &str) -> bool {
     }
 }
 
-/// Whether another process has the file.
+/// Returns whether another process holds the file.
 pub fn is_held(rt: &HostRuntime, path: &str) -> bool {
     match sqlite_std_file::open(rt, path, Wary) {
         Err(OpenError::Busy) => true,
@@ -53,10 +53,11 @@ pub fn is_held(rt: &HostRuntime, path: &str) -> bool {
     }
 }
 
-/// The least bytes of a log in which there is a page.
+/// The smallest log that holds a page, in bytes.
 const LEAST_LOG: u64 = 512;
 
-/// How many bytes the log beside the file has; none where there is no log, or it can't be looked at.
+/// Returns the length of the log beside the file, in bytes; none if there is no log or it is
+/// inaccessible.
 fn length_of_log(rt: &HostRuntime, path: &str) -> Option<u64> {
     let log = format!(in rt.alloc(); "{}-wal", path).ok()?;
     match fs::metadata(rt, log.as_str()) {
@@ -65,12 +66,12 @@ fn length_of_log(rt: &HostRuntime, path: &str) -> Option<u64> {
     }
 }
 
-/// Whether there is a log beside the file.
+/// Returns whether there is a log beside the file.
 pub fn has_log(rt: &HostRuntime, path: &str) -> bool {
     length_of_log(rt, path).is_some()
 }
 
-/// Whether there is a page in the log beside the file.
+/// Returns whether the log beside the file has a page.
 fn has_page_in_log(rt: &HostRuntime, path: &str) -> bool {
     match length_of_log(rt, path) {
         Some(length) => length >= LEAST_LOG,
@@ -78,8 +79,8 @@ fn has_page_in_log(rt: &HostRuntime, path: &str) -> bool {
     }
 }
 
-/// Takes away a log without a page beside a file: where none was there before, an opening that failed
-/// has made it. No other process has the file meanwhile.
+/// Removes a log without a page, which a failed opening left if none was there before. Holds the
+/// file meanwhile, so no other process has it.
 pub fn drop_log(rt: &HostRuntime, path: &str) {
     let (Ok(files), Ok(log)) = (
         sqlite_std_file::open(rt, path, Wary),
@@ -93,7 +94,7 @@ pub fn drop_log(rt: &HostRuntime, path: &str) {
     drop(files);
 }
 
-/// Why the system doesn't open the file of a database.
+/// Explains why the system can't open a database file.
 fn cause_of_kind(kind: ErrorKind) -> &'static str {
     match kind {
         ErrorKind::PermissionDenied => {
@@ -109,7 +110,7 @@ fn cause_of_kind(kind: ErrorKind) -> &'static str {
     }
 }
 
-/// Why the database in the file isn't opened.
+/// Explains why the database can't be opened.
 fn cause_of_code(code: ErrorCode, has_log: bool) -> &'static str {
     match code {
         ErrorCode::DatabaseBusy => "another process has the file",
@@ -126,7 +127,7 @@ fn cause_of_code(code: ErrorCode, has_log: bool) -> &'static str {
     }
 }
 
-/// What is known of a library that opens.
+/// Explains what is wrong with a library that opens.
 fn cause_of_schema(schema: Option<u32>, is_damaged: bool, migrates: bool) -> &'static str {
     match schema {
         None | Some(0) => "this is no library: no table meta of one row names its schema",
@@ -142,8 +143,7 @@ fn cause_of_schema(schema: Option<u32>, is_damaged: bool, migrates: bool) -> &'s
     }
 }
 
-/// Why there was a fault with the database in the file: it is opened once more, since the run has
-/// let go of it.
+/// Explains a fault of the database by opening the file once more, since the run has released it.
 fn cause_inside(rt: &HostRuntime, path: &str, is_damaged: bool, migrates: bool) -> &'static str {
     match sqlite_std_file::open(rt, path, Wary) {
         Ok(files) => drop(files),
@@ -162,7 +162,7 @@ fn cause_inside(rt: &HostRuntime, path: &str, is_damaged: bool, migrates: bool) 
     }
 }
 
-/// Why a run met fault 91 or 93 with the file of a library; `is_damaged` where it was 93.
+/// Explains fault 91 or 93 of a run on a library file; `is_damaged` means 93.
 pub fn cause(rt: &HostRuntime, path: &str, is_damaged: bool, migrates: bool) -> &'static str {
     match fs::metadata(rt, path) {
         Err(error) if error.kind() == ErrorKind::NotFound => "no such file or directory",

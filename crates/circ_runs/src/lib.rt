@@ -1,4 +1,4 @@
-//! The runs of the program `circ`: each opens its library, does what is asked for and writes the lines for
+//! The runs of the program `circ`: each opens its library, does its work and writes lines for
 //! scripts. What a person should know goes to standard error.
 #![tactic(auto)]
 

@@ -1,4 +1,4 @@
-//! What the program says for a person on standard error.
+//! Messages to people on standard error.
 
 use crate::files::{cause, is_database};
 use circ::{ArgumentForm, Exit, Run, Watch, wrong_argument};
@@ -9,23 +9,23 @@ use messages::{
 use std::io::{IsTerminal, Write};
 use terms::{SCHEMA, ServiceFault, WriteFault, write_bytes, write_pieces};
 
-/// What a run is about, as far as something is to be said of it at its end.
+/// What the messages at the end of a run need to know of it.
 #[derive(Clone, Copy)]
 pub enum Topic<'a> {
     /// A command on the library in a file.
     Command { path: &'a str, words: &'a [String] },
-    /// A command that is sent.
+    /// A command sent over the web.
     Sent { words: &'a [String] },
-    /// A copies file for the library in a file.
+    /// A copies file for a library.
     Copies { path: &'a str, copies: &'a str },
-    /// The library in a file, which is brought to the newest schema.
+    /// A library that is migrated to the newest schema.
     Migration { path: &'a str },
-    /// The library in a file.
+    /// Any other run on a library.
     Library { path: &'a str },
 }
 
 impl<'a> Topic<'a> {
-    /// That of a run.
+    /// Returns the topic of a run.
     pub fn of(asked: &Run<'a>) -> Topic<'a> {
         match asked {
             Run::File { path, words, .. } => Topic::Command {
@@ -44,7 +44,7 @@ impl<'a> Topic<'a> {
         }
     }
 
-    /// The file of its library, where it has one.
+    /// Returns the path of its library, if it has one.
     pub fn library(self) -> Option<&'a str> {
         match self {
             Topic::Command { path, .. }
@@ -71,7 +71,7 @@ fn write_note<W: Write>(writer: &mut W, path: &str, note: &str) -> Result<(), Wr
     )
 }
 
-/// Says what is wrong with words that weren't understood.
+/// Explains words that weren't understood.
 fn say_wrong_words(rt: &HostRuntime, topic: Topic<'_>) -> Result<(), WriteFault> {
     match topic {
         Topic::Command { words, .. } => {
@@ -82,7 +82,7 @@ fn say_wrong_words(rt: &HostRuntime, topic: Topic<'_>) -> Result<(), WriteFault>
     }
 }
 
-/// Says what the line means, and of a fault of the database what is known of the library's file.
+/// Explains a line. For a fault of the database, adds what is known of the library file.
 fn say_line(rt: &HostRuntime, told: &ToldLine, topic: Topic<'_>) -> Result<(), WriteFault> {
     let mut writer = rt.stderr();
     explain(&mut writer, told)?;
@@ -98,7 +98,7 @@ fn say_line(rt: &HostRuntime, told: &ToldLine, topic: Topic<'_>) -> Result<(), W
     }
 }
 
-/// Says that a copies file is a library, where it is one: the two may have been swapped.
+/// Says so if a copies file is a library: the two may have been swapped.
 fn say_swapped(rt: &HostRuntime, topic: Topic<'_>) -> Result<(), WriteFault> {
     match topic {
         Topic::Copies { copies, .. } if is_database(rt, copies) => write_note(
@@ -110,7 +110,7 @@ fn say_swapped(rt: &HostRuntime, topic: Topic<'_>) -> Result<(), WriteFault> {
     }
 }
 
-/// Says what is to be said at the end of a run.
+/// Writes the messages at the end of a run.
 pub fn say(
     rt: &HostRuntime,
     told: &ToldLine,
@@ -127,7 +127,7 @@ pub fn say(
     say_swapped(rt, topic)
 }
 
-/// Says why the first words are no run: which of them is wrong, or how a run is written.
+/// Explains why the first words aren't a run: which one is wrong, or the usage.
 pub fn say_misread(rt: &HostRuntime, words: &[String]) -> Result<(), WriteFault> {
     let mut writer = rt.stderr();
     if let Ok(Some(wrong)) = wrong_argument(rt.alloc(), words) {
@@ -143,8 +143,8 @@ pub fn say_misread(rt: &HostRuntime, words: &[String]) -> Result<(), WriteFault>
     }
 }
 
-/// Says on a terminal what has begun with the library's file and may take long, since meanwhile
-/// nothing else is told.
+/// On a terminal, announces work on the library that may take long, since nothing else is printed
+/// meanwhile.
 pub fn say_begun(rt: &HostRuntime, path: &str, begun: &str) -> Result<(), WriteFault> {
     let mut writer = rt.stderr();
     if !writer.is_terminal() {
@@ -153,7 +153,7 @@ pub fn say_begun(rt: &HostRuntime, path: &str, begun: &str) -> Result<(), WriteF
     write_note(&mut writer, path, begun)
 }
 
-/// Says that there was no library in the file, and a new one was made.
+/// Says that a new library was made, as the file had none.
 pub fn say_new(rt: &HostRuntime, path: &str) -> Result<(), WriteFault> {
     write_note(
         &mut rt.stderr(),
@@ -162,12 +162,12 @@ pub fn say_new(rt: &HostRuntime, path: &str) -> Result<(), WriteFault> {
     )
 }
 
-/// Says that a line could not be written.
+/// Says that output failed.
 pub fn say_unwritten(rt: &HostRuntime) -> Result<(), WriteFault> {
     write_bytes(&mut rt.stderr(), b"circ: standard output takes no more\n")
 }
 
-/// Says when the desk of a program that serves is closed.
+/// Announces on standard error that a serving desk has closed.
 #[derive(Drop)]
 pub struct Console<'a> {
     pub rt: &'a HostRuntime,
@@ -190,7 +190,7 @@ impl<'a> Console<'a> {
 
 impl<'a> Watch for Console<'a> {
     fn closed(&mut self, fault: ServiceFault) {
-        // A note that can't be written closes nothing more.
+        // Ignored: a failed note changes nothing.
         let _ = self.say_closed(fault);
     }
 }

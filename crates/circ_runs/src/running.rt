@@ -1,4 +1,4 @@
-//! From the words of a run to its end.
+//! Runs the program from its words to its end.
 
 use crate::calls::{
     FileDesk, audit, close, close_tables, create, import, migrate, no_network, not_understood, one,
@@ -18,13 +18,13 @@ use std::time::Duration;
 use std::{env, io, thread};
 use terms::{CardKey, Fault, Key};
 
-/// What is said where all holds and loans of an older library are written anew.
+/// Printed while all holds and loans of an older library are rewritten.
 const MIGRATES: &str = "the library is being brought to the newest schema";
 
-/// What is said where a library is opened to be served: the line that it listens comes after it.
+/// Printed while a library is opened for serving, before the line with the port.
 const OPENS: &str = "the library is being opened, and the pages of its patrons are made";
 
-/// What stands for the content of a file: made anew for each opening, since an opening uses it up.
+/// A marker for the file's content, made anew for each opening, which consumes it.
 trait Content: Start {
     fn again() -> Self;
 }
@@ -35,14 +35,13 @@ impl Content for Wary {
     }
 }
 
-/// How often a library that another process has is asked for: for two seconds in all.
+/// The most tries to open a library that another process holds: two seconds in all.
 const MOST_TRIES: u32 = 40;
 
-/// How long is waited between two tries, in milliseconds.
+/// The pause between two tries, in milliseconds.
 const PAUSE: u64 = 50;
 
-/// Whether it may be worth another try to open the file: another process has it, or had it just
-/// now.
+/// Returns whether to try again: another process has the file, or may just have had it.
 fn may_be_freed(rt: &HostRuntime, path: &str, is_first: bool) -> bool {
     if !is_new(rt, path) && !may_be_library(rt, path) {
         return false;
@@ -50,7 +49,7 @@ fn may_be_freed(rt: &HostRuntime, path: &str, is_first: bool) -> bool {
     is_held(rt, path) || is_first
 }
 
-/// What an opening gives, which is tried again for two seconds while another process has the file.
+/// Opens a file, retrying for two seconds while another process has it.
 fn tried<T, F: Fn() -> Result<T, Fault>>(
     rt: &HostRuntime,
     path: &str,
@@ -72,12 +71,12 @@ fn tried<T, F: Fn() -> Result<T, Fault>>(
     Err(Fault::Database)
 }
 
-/// The library in the file; a new one where there is no file, or one with no bytes. Another file
-/// than that of a database is left alone: 91.
+/// Opens the library, or creates one if the file is missing or empty. A file that isn't a database
+/// is left alone: 91.
 fn open_or_create<S: Content>(rt: &HostRuntime, path: &str) -> Result<FileDesk<S>, Fault> {
     if is_new(rt, path) {
         let desk = create(rt, path, S::again())?;
-        // A note that can't be written keeps no library back.
+        // Ignored: a failed note doesn't stop the run.
         let _ = say_new(rt, path);
         return Ok(desk);
     }
@@ -87,8 +86,8 @@ fn open_or_create<S: Content>(rt: &HostRuntime, path: &str) -> Result<FileDesk<S
     open(rt, path, S::again())
 }
 
-/// The tables in the file, by an opening. Where there is no file, or one with no bytes, there is no
-/// library: 93, and no file is made. Another file than that of a database is left alone: 91.
+/// Opens existing tables. A missing or empty file is no library: 93, and no file is made. A file
+/// that isn't a database is left alone: 91.
 fn find<T, F: Fn() -> Result<T, Fault>>(
     rt: &HostRuntime,
     path: &str,
@@ -105,7 +104,7 @@ fn find<T, F: Fn() -> Result<T, Fault>>(
     tried(rt, path, opening)
 }
 
-/// One request on the library in the file.
+/// Handles one request on a library.
 fn file<S: Content, W: Write>(
     rt: &HostRuntime,
     path: &str,
@@ -123,7 +122,7 @@ fn file<S: Content, W: Write>(
     }
 }
 
-/// Takes a copies file into the library in the file.
+/// Imports a copies file into a library.
 fn import_into<S: Content, W: Write>(
     rt: &HostRuntime,
     path: &str,
@@ -143,7 +142,7 @@ fn import_into<S: Content, W: Write>(
     }
 }
 
-/// A report on the library in the file.
+/// Writes a report on a library.
 fn report_on<S: Content, W: Write>(
     rt: &HostRuntime,
     path: &str,
@@ -160,7 +159,7 @@ fn report_on<S: Content, W: Write>(
     }
 }
 
-/// The audit of the library in the file.
+/// Audits a library.
 fn audit_on<S: Content, W: Write>(
     rt: &HostRuntime,
     path: &str,
@@ -176,7 +175,7 @@ fn audit_on<S: Content, W: Write>(
     }
 }
 
-/// Brings the library in the file to the newest schema.
+/// Migrates a library to the newest schema.
 fn migrate_in<S: Content, W: Write>(
     rt: &HostRuntime,
     path: &str,
@@ -184,7 +183,7 @@ fn migrate_in<S: Content, W: Write>(
 ) -> Result<Exit, WriteFault> {
     match find(rt, path, || open_any(rt, path, S::again())) {
         Ok(mut store) => {
-            // A note that can't be written keeps no library back.
+            // Ignored: a failed note doesn't stop the run.
             let _ = say_begun(rt, path, MIGRATES);
             let told = migrate(&mut store, rt.alloc(), writer);
             close_tables(store);
@@ -194,7 +193,7 @@ fn migrate_in<S: Content, W: Write>(
     }
 }
 
-/// The web over the library in the file, on the port of this machine alone.
+/// Serves the web from a library, on this machine's port only.
 fn serve_on<S: Content, W: Write, R: Threads + Wait + Copy + Send + 'static>(
     rt: &HostRuntime,
     threads: R,
@@ -202,7 +201,7 @@ fn serve_on<S: Content, W: Write, R: Threads + Wait + Copy + Send + 'static>(
     web: Web,
     writer: &mut W,
 ) -> Result<Exit, WriteFault> {
-    // A note that can't be written keeps nobody from being served.
+    // Ignored: a failed note doesn't stop the serving.
     let _ = say_begun(rt, path, OPENS);
     let desk = match tried(rt, path, || open_or_create::<S>(rt, path)) {
         Ok(desk) => desk,
@@ -225,7 +224,7 @@ fn serve_on<S: Content, W: Write, R: Threads + Wait + Copy + Send + 'static>(
     told
 }
 
-/// One request of the desk, to the program that serves on the port of this machine.
+/// Sends one request of the desk to the program serving this machine's port.
 fn send_to<W: Write>(
     rt: &HostRuntime,
     port: u16,
@@ -240,8 +239,8 @@ fn send_to<W: Write>(
     }
 }
 
-/// The words after the program's name. An argument that is not UTF-8 gives no words, which are not
-/// understood.
+/// Returns the words after the program's name. An argument that isn't UTF-8 gives no words, which
+/// are not understood.
 fn words_of(rt: &HostRuntime) -> Result<Vec<String>, Fault> {
     let mut words = Vec::new(rt.alloc());
     match env::args(rt) {
@@ -256,7 +255,7 @@ fn words_of(rt: &HostRuntime) -> Result<Vec<String>, Fault> {
     }
 }
 
-/// Does what is asked for, and writes its lines.
+/// Runs what was asked for and writes its lines.
 fn do_run<S: Content, W: Write, R: Threads + Wait + Copy + Send + 'static>(
     rt: &HostRuntime,
     threads: R,
@@ -279,7 +278,7 @@ fn do_run<S: Content, W: Write, R: Threads + Wait + Copy + Send + 'static>(
     }
 }
 
-/// The same, and brings out what is written.
+/// The same, and flushes the output.
 fn answer<W: Write, R: Threads + Wait + Copy + Send + 'static>(
     rt: &HostRuntime,
     threads: R,
@@ -293,8 +292,7 @@ fn answer<W: Write, R: Threads + Wait + Copy + Send + 'static>(
     }
 }
 
-/// Whether the library of a run has no log yet, so that one which is there after a fault is of this
-/// run.
+/// Returns whether the library has no log yet, so that one found after a fault is this run's.
 fn is_without_log(rt: &HostRuntime, topic: Topic<'_>) -> bool {
     match topic.library() {
         Some(path) => !has_log(rt, path),
@@ -302,7 +300,7 @@ fn is_without_log(rt: &HostRuntime, topic: Topic<'_>) -> bool {
     }
 }
 
-/// After a fault, takes away the log that the run made beside a file.
+/// After a fault, removes the log that the run made.
 fn leave(rt: &HostRuntime, topic: Topic<'_>) {
     if let Some(path) = topic.library() {
         if !is_new(rt, path) && may_be_library(rt, path) {
@@ -311,8 +309,8 @@ fn leave(rt: &HostRuntime, topic: Topic<'_>) {
     }
 }
 
-/// The end of a run, with what it means said on standard error: where that takes nothing, the lines
-/// and the status tell enough.
+/// Ends a run and explains its result on standard error. If that can't be written, the lines and
+/// the status say enough.
 fn end(
     rt: &HostRuntime,
     told: &ToldLine,
@@ -331,7 +329,7 @@ fn end(
     }
 }
 
-/// A run that writes its lines here, with its end.
+/// Runs with this writer.
 fn run_into<W: Write + Drop, R: Threads + Wait + Copy + Send + 'static>(
     rt: &HostRuntime,
     threads: R,
@@ -349,7 +347,8 @@ fn run_into<W: Write + Drop, R: Threads + Wait + Copy + Send + 'static>(
     exit
 }
 
-/// A run whose lines go out together at its end, and those of a report whenever the buffer is full.
+/// Runs with buffered output: lines go out together at the end, those of a report whenever the
+/// buffer is full.
 fn run_together<R: Threads + Wait + Copy + Send + 'static>(
     rt: &HostRuntime,
     threads: R,
@@ -361,7 +360,7 @@ fn run_together<R: Threads + Wait + Copy + Send + 'static>(
     }
 }
 
-/// Words that are no run.
+/// Answers words that aren't a run.
 fn without_run(rt: &HostRuntime, words: &[String]) -> Exit {
     match not_understood(&mut io::writer(rt)) {
         Ok(exit) => {
@@ -375,12 +374,12 @@ fn without_run(rt: &HostRuntime, words: &[String]) -> Exit {
     }
 }
 
-/// A run for which no memory is left before it begins.
+/// Ends a run that had no memory to begin.
 fn without_memory(rt: &HostRuntime) -> Exit {
     tell_fault(&mut io::writer(rt), Fault::Memory).unwrap_or(Exit::Faulted)
 }
 
-/// The whole run, by the words of the process: does it, and tells how the process ends.
+/// Runs the program with the words of the process, and returns its exit.
 pub fn run<R: Threads + Wait + Copy + Send + 'static>(rt: &HostRuntime, threads: R) -> Exit {
     let Ok(words) = words_of(rt) else {
         return without_memory(rt);

@@ -1,11 +1,11 @@
-//! What a line means.
+//! What an output line means.
 
 use crate::meanings::{meaning, saying};
 use crate::noting::ToldLine;
 use std::io::Write;
 use terms::{WriteFault, write_pieces};
 
-/// The last number in the line; 0 where there is none.
+/// Returns the last number in the line, or 0.
 fn last_number(line: &[u8]) -> u32 {
     let mut number = 0u32;
     let mut inside = false;
@@ -23,7 +23,7 @@ fn last_number(line: &[u8]) -> u32 {
     number
 }
 
-/// What a line means that is no word of the desk's; none where it tells nothing more.
+/// Returns the meaning of a refusal, fault or bad-row line, if there is more to say.
 fn text_of(line: &[u8]) -> Option<&'static str> {
     if line.ends_with(b" bad") {
         return Some("the row is not copy,title,text,kind,home,price,end, or no row may follow");
@@ -34,7 +34,7 @@ fn text_of(line: &[u8]) -> Option<&'static str> {
     }
 }
 
-/// Says what the line means in one line, where it tells of a refusal, a fault or a bad row.
+/// Writes one line that explains a refusal, a fault or a bad row.
 pub fn explain<W: Write>(writer: &mut W, line: &ToldLine) -> Result<(), WriteFault> {
     match text_of(line.as_bytes()) {
         Some(text) => write_pieces(writer, &[b"circ: ", text.as_bytes(), b"\n"]),

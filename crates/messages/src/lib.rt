@@ -1,5 +1,5 @@
-//! What the program says for a person on standard error, beside the lines that scripts read: what a
-//! refusal or a fault means, and how words are written.
+//! Messages for people on standard error, beside the lines that scripts read: the meaning of
+//! refusals and faults, and usage.
 #![tactic(auto)]
 
 mod explaining;

@@ -1,6 +1,6 @@
-//! What the numbers of refusals and faults mean, and the lines that have none.
+//! What refusal and fault numbers mean, and lines without a number.
 
-/// A number and what it means, for a person.
+/// A number and its meaning, for a person.
 #[derive(Clone, Copy)]
 struct Explanation {
     number: u32,
@@ -172,7 +172,7 @@ const MEANINGS: [Explanation; 40] = [
     },
 ];
 
-/// The beginning of a line that has no number of a refusal or a fault, and what it means.
+/// The start of a line without a refusal or fault number, and its meaning.
 #[derive(Clone, Copy)]
 struct Phrase {
     line: &'static str,
@@ -207,7 +207,7 @@ const SAYINGS: [Phrase; 6] = [
     },
 ];
 
-/// What a refusal or a fault of this number means; none for another number.
+/// Explains a refusal or fault number; none for other numbers.
 pub fn meaning(number: u32) -> Option<&'static str> {
     for it in &MEANINGS {
         if it.number == number {
@@ -217,7 +217,7 @@ pub fn meaning(number: u32) -> Option<&'static str> {
     None
 }
 
-/// What a line means that has no number of a refusal or a fault; none for another line.
+/// Explains a line without a refusal or fault number; none for other lines.
 pub(crate) fn saying(line: &[u8]) -> Option<&'static str> {
     for it in &SAYINGS {
         if line.starts_with(it.line.as_bytes()) {

@@ -1,4 +1,4 @@
-//! What is wrong with words that are no command.
+//! What is wrong with words that aren't a command.
 
 use crate::usage::write_form;
 use itoa::Buffer;
@@ -9,7 +9,7 @@ use terms::{
     write_pieces,
 };
 
-/// The run that was to handle the words.
+/// The run that was given the words.
 #[derive(Clone, Copy)]
 pub enum Handler {
     /// `circ file`.
@@ -19,7 +19,7 @@ pub enum Handler {
 }
 
 impl Handler {
-    /// How it is written, up to the words.
+    /// Returns its usage, up to the words.
     fn usage(self) -> &'static str {
         match self {
             Handler::File => "usage: circ file LIBRARY KEY ",
@@ -28,7 +28,7 @@ impl Handler {
     }
 }
 
-/// What a word of this kind has to be.
+/// Describes the words of this kind.
 pub fn wanted(kind: PartKind) -> &'static str {
     match kind {
         PartKind::Number => "a number up to 4294967295, without a leading zero",
@@ -40,7 +40,7 @@ pub fn wanted(kind: PartKind) -> &'static str {
     }
 }
 
-/// Whether the word can be of this kind; where no memory is left to tell, it can.
+/// Returns whether the word can be of this kind; true if memory runs out.
 fn can_be(alloc: Global, kind: PartKind, word: &str) -> bool {
     match kind {
         PartKind::Number | PartKind::Amount => read_number(word).is_some(),
@@ -57,7 +57,7 @@ fn can_be(alloc: Global, kind: PartKind, word: &str) -> bool {
     }
 }
 
-/// The first part whose word can't be of its kind.
+/// Finds the first part whose word can't be of its kind.
 fn wrong_part<'a>(alloc: Global, parts: &'a [PartForm], words: &[String]) -> Option<&'a PartForm> {
     for (part, word) in parts.iter().zip(words) {
         if !can_be(alloc, part.kind, word.as_str()) {
@@ -76,7 +76,7 @@ fn has_hyphen(words: &[String]) -> bool {
     false
 }
 
-/// Says that a word has to be something else.
+/// Writes what a word has to be.
 pub fn write_wanted<W: Write>(writer: &mut W, name: &str, wanted: &str) -> Result<(), WriteFault> {
     write_pieces(
         writer,
@@ -90,7 +90,7 @@ pub fn write_wanted<W: Write>(writer: &mut W, name: &str, wanted: &str) -> Resul
     )
 }
 
-/// Says what is wrong with the words after a command's name, if anything is.
+/// Writes what is wrong with the words after a command's name, if anything.
 fn write_wrong<W: Write>(
     writer: &mut W,
     alloc: Global,
@@ -121,7 +121,7 @@ fn write_wrong<W: Write>(
     }
 }
 
-/// Says what is wrong with words that are no command, and how the command that is meant is written.
+/// Writes what is wrong with words that aren't a command, and the usage of the command meant.
 pub fn explain_words<W: Write>(
     writer: &mut W,
     alloc: Global,

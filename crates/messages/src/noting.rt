@@ -1,11 +1,11 @@
-//! The lines on their way out, of which one is kept.
+//! A writer that remembers one of the lines written.
 
 use std::io::{self, Write};
 
-/// How much of a line is kept.
+/// How many bytes of a line are kept.
 const KEPT: usize = 40;
 
-/// The beginning of a line.
+/// The start of a line.
 #[derive(Clone, Copy)]
 pub struct ToldLine {
     bytes: [u8; KEPT],
@@ -20,7 +20,7 @@ impl ToldLine {
         }
     }
 
-    /// The line, or as much of it as is kept.
+    /// Returns the part of the line that is kept.
     pub fn as_bytes(&self) -> &[u8] {
         self.bytes.get(..self.length).unwrap_or(&[])
     }
@@ -32,7 +32,7 @@ impl ToldLine {
         }
     }
 
-    /// Whether it tells more than that something is done.
+    /// Returns whether the line reports more than success.
     fn tells(&self) -> bool {
         let line = self.as_bytes();
         let is_row = line.starts_with(b"row ") && !line.ends_with(b" ok");
@@ -46,8 +46,7 @@ impl ToldLine {
     }
 }
 
-/// A writer that keeps the last line that tells of a refusal or a fault, or that words were not
-/// understood.
+/// A writer that keeps the last line about a refusal, a fault or words not understood.
 #[derive(Drop)]
 pub struct Noting<W> {
     writer: W,
@@ -56,7 +55,7 @@ pub struct Noting<W> {
 }
 
 impl<W> Noting<W> {
-    /// A writer that has kept nothing.
+    /// Makes a writer that has kept nothing.
     pub fn new(writer: W) -> Noting<W> {
         Noting {
             writer,
@@ -65,7 +64,7 @@ impl<W> Noting<W> {
         }
     }
 
-    /// The line that is kept; an empty one where there is none.
+    /// Returns the kept line, or an empty one.
     pub fn told(&self) -> ToldLine {
         self.told
     }

@@ -1,4 +1,4 @@
-//! How the words of a run are written.
+//! The usage text.
 
 use itoa::Buffer;
 use std::io::Write;
@@ -7,7 +7,7 @@ use terms::{PartForm, WriteFault, command_forms, write_bytes, write_pieces};
 /// The version of the program.
 pub const VERSION: &str = "0.12.0";
 
-/// How a run is written: its first word, and what follows.
+/// The usage of a run: its first word, and the rest.
 struct RunForm {
     name: &'static str,
     rest: &'static str,
@@ -79,7 +79,7 @@ pub(crate) fn write_form<W: Write>(
     write_bytes(writer, b"\n")
 }
 
-/// Writes how the runs with this first word are written, and tells whether there are any.
+/// Writes the usage of the runs with this first word. Returns whether there are any.
 pub fn write_usage_of<W: Write>(writer: &mut W, name: &str) -> Result<bool, WriteFault> {
     let mut is_there = false;
     for run in &RUNS {
@@ -91,7 +91,7 @@ pub fn write_usage_of<W: Write>(writer: &mut W, name: &str) -> Result<bool, Writ
     Ok(is_there)
 }
 
-/// Writes how all runs and commands are written, the version and the schema of its libraries.
+/// Writes the usage of all runs and commands, the version and the library schema.
 pub fn write_usage<W: Write>(writer: &mut W, schema: u32) -> Result<(), WriteFault> {
     for run in &RUNS {
         write_run(writer, run)?;
