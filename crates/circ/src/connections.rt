@@ -16,10 +16,11 @@ pub trait Connections {
     /// The bytes to the client.
     type Writer: Write;
 
-    /// A connection came with this reader and writer, taking the first value to the last.
+    /// Says that a connection with this reader and writer came, between the first state and the
+    /// last.
     ghost comes: { Self → Self.Reader → Self.Writer → Self → Type 0 };
 
-    /// A connection ended, with this content of its writer, taking the first value to the last.
+    /// Says that a connection ended, its writer holding this, between the first state and the last.
     ghost goes: { Self → Self.Writer → Self → Type 0 };
 
     /// Waits for a connection. None if there is an error.

@@ -207,10 +207,10 @@ fn import_rows<S: Alter, W: Write>(
 }
 
 /// Imports a copies file: reads it, then handles the rows before its end, whatever the end, in
-/// order. Each row is a request of the desk keyed by its own text, so importing a file again
-/// changes nothing. Writes a line after each row: `row N ok` or `row N refused M`; then `row N
-/// bad`, `fault reading` or `fault N` if the reading ended so, or `fault N` at once if the desk
-/// faults; last the numbers of rows accepted and refused.
+/// order. Each row is a request of the desk keyed by its own text, so a file imported twice acts
+/// once. Writes a line after each row: `row N ok` or `row N refused M`; then `row N bad`,
+/// `fault reading` or `fault N` if the reading ended so, or `fault N` at once if the desk faults;
+/// last the numbers of rows accepted and refused.
 ///
 /// `specs/Importing` states the output, the exit and what the tables show. If a write fails, a
 /// prefix of the output went out and no later row was handled.

@@ -1,4 +1,4 @@
-//! What is told of the submission at which a hall closes.
+//! What workers are told of the submission at which a hall closes.
 
 ghost use Rattle.std.specs.Prelude.{◌≡◌, ◌∷◌, [], IsTrue, Some};
 ghost use Rattle.board.specs.Showing.{StartsWith};
@@ -12,7 +12,7 @@ use std::marker::{Model, PhantomData};
 use std::sync::Wait;
 use terms::ServiceFault;
 
-/// A hall closes at this submission of a worker: it has no reply, and its worker is told this fault.
+/// The submission at which a hall closes. It has no reply; its worker is told this fault.
 #[derive(Clone, Copy)]
 pub struct Closing {
     pub worker: WorkerId,
@@ -20,15 +20,15 @@ pub struct Closing {
     pub fault: ServiceFault,
 }
 
-/// Whoever is to know that a hall was closed, beside those who submit.
+/// Someone to notify when a hall closes, besides the submitters.
 pub trait Watch {
-    /// The hall was closed by this fault.
+    /// Called when this fault has closed the hall.
     fn closed(&mut self, fault: ServiceFault);
 }
 
 impl Closing {
-    /// What is told of a submission once the hall has closed: this fault, where it is this one, and
-    /// else 92.
+    /// Returns the fault for a submission after the hall has closed: this fault for this
+    /// submission, else 92.
     pub(crate) fn fault_of(&self, worker: WorkerId, number: u64) -> ServiceFault
         ensures { told_of (self.now ∷ []) worker number ≡ Some result }
     {
@@ -40,8 +40,8 @@ impl Closing {
     }
 }
 
-/// What is known of the closing of a hall. Contracts see the submission at which it closed, if that
-/// is known. At run time it is a counter.
+/// What is known of a hall's closing. Contracts see the submission at which it closed, if known; at
+/// run time it is a counter.
 #[derive(Drop)]
 pub struct KnownClosing<J: Opening> {
     list: Beginning<Closing>,
@@ -60,7 +60,7 @@ impl<J: Opening> Model for KnownClosing<J> {
 }
 
 impl<J: Opening> KnownClosing<J> {
-    /// A copy.
+    /// Returns a copy.
     pub(crate) fn again(&self) -> KnownClosing<J>
         ensures { result ≡ self.now }
     {
@@ -70,7 +70,7 @@ impl<J: Opening> KnownClosing<J> {
         }
     }
 
-    /// Whether no more is known here than there: then that goes on from this.
+    /// Returns whether the other knows at least as much: then it extends this.
     pub(crate) fn begins(&self, other: &KnownClosing<J>) -> bool
         ensures { IsTrue result → StartsWith other.now self.now }
     {
@@ -78,14 +78,14 @@ impl<J: Opening> KnownClosing<J> {
     }
 }
 
-/// The closing itself is what is added to the list.
+/// A closing is itself the item added to the list.
 struct Closes;
 
 impl Item<Closing, Closing> for Closes {
     ghost item = { λ c. c };
 }
 
-/// The desk's side of the list of closings, which has one at most. Contracts see the list.
+/// The desk's side of the list of closings, which has at most one. Contracts see the list.
 #[derive(Drop)]
 pub(crate) struct Closings<J: Opening> {
     chronicle: Chronicle<Closing>,
@@ -105,7 +105,7 @@ impl<J: Opening> Model for Closings<J> {
 }
 
 impl<J: Opening> Closings<J> {
-    /// Of a hall that is open.
+    /// Makes the side of an open hall.
     pub(crate) fn over(chronicle: Chronicle<Closing>, list: Beginning<Closing>) -> Closings<J>
         requires name { chronicle ≡ J.name.closings }
         requires none { list ≡ known J.name.closings [] }
@@ -118,7 +118,7 @@ impl<J: Opening> Closings<J> {
         }
     }
 
-    /// What can be known of it.
+    /// Returns what is known of it.
     pub(crate) fn known(&self) -> KnownClosing<J>
         ensures { result ≡ self.now }
     {
@@ -128,7 +128,7 @@ impl<J: Opening> Closings<J> {
         }
     }
 
-    /// The hall closes.
+    /// Closes the hall.
     pub(crate) fn close<R: Wait>(&mut self, rt: &R, closing: &Closing)
         requires { self.old ≡ [] }
         ensures { self.new ≡ closing.now ∷ [] }

@@ -1,4 +1,4 @@
-//! The side of the desk.
+//! The desk's side.
 
 ghost use Rattle.std.specs.Prelude.{◌≡◌, ◌+◌, ◌++◌, ◌∷◌, ◌<◌, ◌≤◌, ◌⊎◌, ℕ, true, false, [], map};
 ghost use Rattle.std.specs.Prelude.{None, Ok, IsSome, IsTrue, slice_index_or, MatchResult};
@@ -31,8 +31,8 @@ use std::sync::Wait;
 use std::thread;
 use terms::{Fault, PatronId, Reply, ServiceFault};
 
-/// The side of the desk in a hall, for the thread that owns the database. It is not `Drop`: end it
-/// by `desk_loop`.
+/// The desk's side of a hall, for the thread that owns the database. It is not `Drop`: end it with
+/// `desk_loop`.
 pub struct DeskSide<J: Opening, S: Alter> {
     pub(crate) inbox: Inbox<J>,
     pub(crate) desk: Desk<S>,
@@ -46,20 +46,20 @@ pub struct DeskSide<J: Opening, S: Alter> {
     pub(crate) ghost blank: { (publisher.shown.entries ≡ []) × (publisher.pages ≡ []) },
 }
 
-/// The board; once the hall is closed it shows nothing more.
+/// The board; once the hall has closed it shows nothing more.
 type BoardSide<J> = Result<Publisher<J>, StoppedBoard<J>>;
 
-/// What the desk's thread works with, and how far it has come.
+/// The state of the desk's thread.
 struct Handling<J: Opening, S: Alter> {
     desk: Desk<S>,
     teller: Teller<J>,
-    /// How many submissions were handled.
+    /// The number of submissions handled.
     handled: u64,
-    /// What closed the hall.
+    /// The fault that closed the hall.
     fault: Option<ServiceFault>,
 }
 
-/// Whether each worker has left.
+/// Returns whether all workers have left.
 fn have_left(gone: &[bool; 8], workers: usize) -> bool
     requires { workers ≤ WORKERS }
     ensures { IsTrue result → (k : ℕ) → k < workers → slice_index_or gone.now k false ≡ true }
@@ -80,7 +80,7 @@ fn note(gone: &mut [bool; 8], worker: WorkerId)
     gone[(worker.number() - 1) as usize] = true;
 }
 
-/// Looks up the pages of these patrons, which are to be shown with the next entry. 90, 91, 93.
+/// Looks up these patrons' pages, to show with the next entry. Faults 90, 91, 93.
 fn put_pages<J: Opening, S: Alter>(
     alloc: Global,
     desk: &mut Desk<S>,
@@ -100,7 +100,7 @@ fn put_pages<J: Opening, S: Alter>(
     Ok(())
 }
 
-/// Shows a submission that was handled, with the pages that it may have changed.
+/// Shows a handled submission, with the pages that it may have changed.
 fn show<J: Opening, S: Alter, R: Wait>(
     rt: &R,
     alloc: Global,
@@ -146,8 +146,8 @@ fn show<J: Opening, S: Alter, R: Wait>(
 }
 
 impl<J: Opening, S: Alter> Handling<J, S> {
-    /// Has a submission handled and shown. A fault closes the hall: the worker is told why a
-    /// submission has no reply, and the watch that it is closed.
+    /// Handles and shows a submission. A fault closes the hall: the worker is told why the
+    /// submission has no reply, and the watch is told of the closing.
     fn handle_next<R: Wait, N: Watch>(
         &mut self,
         rt: &R,
@@ -205,7 +205,7 @@ impl<J: Opening, S: Alter> Handling<J, S> {
         }
     }
 
-    /// Has a submission handled and shown, unless the hall is closed.
+    /// Handles and shows a submission, unless the hall is closed.
     fn take_next<R: Wait, N: Watch>(
         &mut self,
         rt: &R,
@@ -232,8 +232,7 @@ impl<J: Opening, S: Alter> Handling<J, S> {
         }
     }
 
-    /// Takes what a worker sent: has a submission handled and shown, or notes that the worker has
-    /// left.
+    /// Takes a worker's message: handles and shows a submission, or notes that the worker has left.
     fn take_message<R: Wait, N: Watch>(
         &mut self,
         rt: &R,
@@ -263,7 +262,7 @@ impl<J: Opening, S: Alter> Handling<J, S> {
     }
 }
 
-/// The board, which shows nothing more.
+/// Stops the board, which shows nothing more.
 fn stop<J: Opening>(board: BoardSide<J>) -> StoppedBoard<J>
     ensures same { result.shown ≡ shown_by board }
     ensures all { ShowsAll result.shown result.board }
@@ -277,8 +276,7 @@ fn stop<J: Opening>(board: BoardSide<J>) -> StoppedBoard<J>
 }
 
 impl<J: Opening, S: Alter> DeskSide<J, S> {
-    /// Sets how many steps each later call of the database may take; with none there is no limit,
-    /// and 0 stands for 1.
+    /// Limits the steps of each later database call; `None` means no limit, and 0 counts as 1.
     pub fn limit_steps(&mut self, limit: Option<u64>)
         ensures desk { self.new.desk ≡ record self.old.desk { step_limit = limit_of limit } }
         ensures same { (self.new.inbox ≡ self.old.inbox) × (self.new.publisher ≡ self.old.publisher)
@@ -287,21 +285,21 @@ impl<J: Opening, S: Alter> DeskSide<J, S> {
         self.desk.limit_steps(limit);
     }
 
-    /// Handles what the workers submit, in the order in which it comes, until each of them has
-    /// left, and hands the desk back. Each one that was handled is shown on the board, with the
-    /// pages that it may have changed, before the next is handled.
+    /// Handles the workers' submissions in the order they arrive until every worker has left, and
+    /// returns the desk. Each handled submission is shown on the board, with the pages that it may
+    /// have changed, before the next is handled.
     ///
     /// A fault of the desk closes the hall: the worker whose request met it is told that fault, and
-    /// for each other submission waiting or later its worker is told 92. So does a board that can't
-    /// show what was handled, for want of memory or because a page could not be had: then all are
-    /// told 92. The loop goes on until each worker has left, and gives the fault. So the hall was
-    /// closed exactly where there is a fault; where there is none, every submission was handled.
-    /// 90, 91 and 93 as the desk gives them; 92 where 2^64 - 1 submissions were handled and one
-    /// more came. Closing takes no memory, and the board stays as it was shown last; it is in what
-    /// is left. Where the disk gave back what was written to it, all that was shown is what each
-    /// list of accepted requests makes it that the opening names: each reply at its place, and the
-    /// pages with each beginning. So is what a worker answers that has seen a beginning of it.
-    /// The watch is told when the hall closes, once.
+    /// for every other submission, waiting or later, its worker is told 92. So does a board that
+    /// can't show what was handled, because memory ran out or a page could not be had: then all are
+    /// told 92. The loop still runs until every worker has left, and returns the fault. So the hall
+    /// was closed if and only if there is a fault; without one, every submission was handled.
+    /// Faults 90, 91 and 93 come from the desk; 92 if a submission follows 2^64 - 1 handled ones.
+    /// Closing takes no memory, and the board, part of the result, stays as last shown. If the disk
+    /// returned what was written to it, all that was shown follows from each list of accepted
+    /// requests named by the opening: each reply at its place, and the pages with each prefix. So
+    /// does the answer of a worker that has seen a prefix of it. The watch is told once, when the
+    /// hall closes.
     pub fn desk_loop<R: Wait, N: Watch>(
         self,
         rt: &R,

@@ -1,4 +1,4 @@
-//! What is left of a desk's side.
+//! What remains of the desk's side.
 
 ghost use Rattle.std.specs.Prelude.{◌≡◌, ◌+◌, ◌<◌, ◌≤◌, ℕ, false, length, IsTrue};
 ghost use Rattle.board.specs.Showing.{StartsWith};
@@ -12,9 +12,9 @@ use crate::worker::Left;
 use board::StoppedBoard;
 use std::sync::Wait;
 
-/// What is left of a desk's side once each worker has left: all that it received, how many
-/// submissions it handled, the board as it was shown last, and the submission at which the hall closed,
-/// if it did. The handled list is the first ones that it received. It is not `Drop`: end it by `close`.
+/// What remains of the desk's side once all workers have left: everything received, the number of
+/// submissions handled, the board as last shown, and the submission at which the hall closed, if it
+/// did. The handled list is the first of those received. It is not `Drop`: end it with `close`.
 pub struct Ended<J: Opening> {
     pub(crate) heard: Heard<J>,
     pub(crate) board: StoppedBoard<J>,
@@ -27,20 +27,20 @@ pub struct Ended<J: Opening> {
 }
 
 impl<J: Opening> Ended<J> {
-    /// How many submissions were handled: those whose requests were answered, refused ones too.
+    /// Returns the number of submissions handled, refused ones included.
     pub fn handled(&self) -> u64
         ensures { result ≡ self.now.handled }
     {
         self.handled
     }
 
-    /// Takes in the end of a worker that has left. It refuses nothing and waits for nobody. Where
-    /// the desk received the worker's Leave, the handled submissions of the worker are a beginning
-    /// of what it submitted, and all of it where all that came was handled.
+    /// Takes in the end of a worker that has left. Never refuses and never waits. If the desk
+    /// received the worker's Leave, the worker's handled submissions are a prefix of what it
+    /// submitted, and all of it if everything received was handled.
     ///
-    /// It answers whether the worker took part in this hall, as each of its workers did: then the
-    /// desk received its Leave, what it had seen is a beginning of what was shown, and the closing of
-    /// which it was told is the hall's.
+    /// Returns whether the worker took part in this hall, as each of its workers did: then the desk
+    /// received its Leave, what it had seen is a prefix of what was shown, and the closing it was
+    /// told of is the hall's.
     pub fn take_in(&mut self, left: Left<J>) -> bool
         ensures same { (self.new.handled ≡ self.old.handled)
             × (self.new.heard.got ≡ self.old.heard.got) × (self.new.board ≡ self.old.board)

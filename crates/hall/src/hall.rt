@@ -1,4 +1,4 @@
-//! A hall is opened.
+//! Opening a hall.
 
 ghost use Rattle.std.specs.Prelude.{◌≡◌, ◌+◌, ◌≤◌, ◌⊎◌, ℕ, true, [], None, Ok, IfErr, IfOk, OnOk};
 ghost use Rattle.std.specs.Prelude.{MatchResult};
@@ -30,18 +30,18 @@ use std::alloc::Global;
 use std::sync::{Arc, Wait};
 use terms::{Fault, Memory, PatronId, Refusal, ServiceFault};
 
-/// Why a hall could not be opened.
+/// Why a hall can't be opened.
 #[derive(Clone, Copy, Debug, PartialEq, Eq)]
 pub enum Why {
-    /// 21: there are to be no workers, or more than 8.
+    /// 21: the number of workers is zero or above 8.
     Refused(Refusal),
-    /// 90, 91 or 93: a page could not be had, or no memory is left; 92: the board has no place for
-    /// a reader.
+    /// 90, 91 or 93: a page could not be had, or memory ran out; 92: the board has no place for a
+    /// reader.
     Faulted(ServiceFault),
 }
 
 impl Why {
-    /// The number that stands for it.
+    /// Returns its number.
     pub fn number(self) -> u32
         ensures { result ≡ why_number self }
     {
@@ -52,17 +52,16 @@ impl Why {
     }
 }
 
-/// A hall that could not be opened, and the desk that it was to be opened with.
+/// Why a hall can't be opened, with the desk meant for it.
 pub struct HallFault<S: Alter> {
     pub why: Why,
     pub desk: Desk<S>,
 }
 
-/// A hall: a desk, workers that submit requests to it, each in a thread of its own, and the queue
-/// between them.
+/// A hall: a desk, workers that submit requests to it, one thread each, and the queue between them.
 pub struct Hall;
 
-/// The pages of these patrons, as the desk sees them. 90, 91, 93.
+/// Reads these patrons' pages from the desk. Faults 90, 91, 93.
 fn pages_of<S: Alter>(
     alloc: Global,
     desk: &mut Desk<S>,
@@ -79,7 +78,7 @@ fn pages_of<S: Alter>(
     Ok(first)
 }
 
-/// The pages of all patrons, as the desk sees them. 90, 91, 93.
+/// Reads all patrons' pages from the desk. Faults 90, 91, 93.
 fn first_pages<S: Alter>(alloc: Global, desk: &mut Desk<S>) -> Result<First, Fault>
     ensures { Learns (λ H first. (p : ℕ) → page_at first p ≡ own_page H p)
         S.Store desk.old desk.new result }
@@ -88,7 +87,7 @@ fn first_pages<S: Alter>(alloc: Global, desk: &mut Desk<S>) -> Result<First, Fau
     pages_of(alloc, desk, patrons.as_slice())
 }
 
-/// One worker more, of this number.
+/// Hires the worker with this number.
 fn hire_one<J: Opening, R: Wait>(
     rt: &R,
     alloc: Global,
@@ -107,7 +106,7 @@ fn hire_one<J: Opening, R: Wait>(
     Ok(Worker::new(post, window, worker, closing, notices, parker))
 }
 
-/// The workers, numbered from 1 on. 90; 92 where the board has no place for a reader.
+/// Hires the workers, numbered from 1. Fault 90; 92 if the board has no place for a reader.
 fn hire_all<J: Opening, R: Wait>(
     rt: &R,
     alloc: Global,
@@ -137,11 +136,11 @@ fn hire_all<J: Opening, R: Wait>(
     Ok(all)
 }
 
-/// What `Hall::new` gives, but for the desk and the board.
+/// The result of `Hall::new` without the desk and the board.
 type Hired<J> = (Inbox<J>, Teller<J>, Vec<Worker<J>>);
 
-/// The workers of a hall, and what they share with the desk. 90; 92 where the board has no place
-/// for a reader.
+/// Hires the workers and makes what they share with the desk. Fault 90; 92 if the board has no
+/// place for a reader.
 fn hire<J: Opening, R: Wait>(
     rt: &R,
     alloc: Global,
@@ -171,7 +170,7 @@ fn hire<J: Opening, R: Wait>(
     Ok((inbox, Teller::new(notices, closings), all))
 }
 
-/// A board that shows the pages of all patrons. 90, 91, 93.
+/// Makes a board with all patrons' pages. Faults 90, 91, 93.
 fn open_board<J: Opening, S: Alter, R: Wait>(
     rt: &R,
     alloc: Global,
@@ -189,7 +188,7 @@ fn open_board<J: Opening, S: Alter, R: Wait>(
     Ok(Publisher::new(rt, alloc, blank, first, workers)?)
 }
 
-/// Whether there may be so many workers.
+/// Returns whether this number of workers is allowed.
 fn can_be(workers: usize) -> bool
     ensures { result ≡ can_be_workers workers }
 {
@@ -197,14 +196,14 @@ fn can_be(workers: usize) -> bool
 }
 
 impl Hall {
-    /// Opens a hall of 1 to 8 workers on a queue and a board that were just made: the desk's side,
-    /// and the workers, numbered from 1 on. The board shows the pages of all patrons.
+    /// Opens a hall of 1 to 8 workers on a newly made queue and board. Returns the desk's side and
+    /// the workers, numbered from 1. The board shows all patrons' pages.
     ///
-    /// 21 for another number of workers; 90, 91 or 93 where a page can't be had, or no memory is
-    /// left; 92 where the board gives a worker no reader's place. Then the desk is given back, and
-    /// its tables show what they showed. The places where workers are told a fault are made here.
+    /// 21 for another number of workers; 90, 91 or 93 if a page can't be had or memory runs out; 92
+    /// if the board has no reader's place for a worker. Then the desk is returned, with the tables
+    /// it showed. The places where workers are told a fault are made here.
     ///
-    /// The tables are to show each list of accepted requests that the opening names.
+    /// The tables must show each list of accepted requests that the opening names.
     pub fn new<J: Opening, S: Alter, R: Wait>(
         rt: &R,
         alloc: Global,
@@ -254,12 +253,11 @@ impl Hall {
         }
     }
 
-    /// Opens a hall of 1 to 8 workers over the desk of a new library in memory, on a queue and a
-    /// board that were just made. Its tables show the empty list of accepted requests, and nobody
-    /// has a page.
+    /// Opens a hall of 1 to 8 workers on the desk of a new library in memory, with a newly made
+    /// queue and board. Its tables show the empty list of accepted requests, and nobody has a page.
     ///
-    /// 21 for another number of workers; else 90 or 91 where there is no library, and 90 to 92 as
-    /// `new` gives them.
+    /// 21 for another number of workers; else 90 or 91 if the library can't be made, and 90 to 92
+    /// as for `new`.
     pub fn in_memory<J: Opening, R: Wait>(
         rt: &R,
         alloc: Global,

@@ -1,4 +1,4 @@
-//! What goes through the queue, and what each side knows of it.
+//! The messages in the queue, and what each side knows of it.
 
 use board::{SharedRequest, WorkerId};
 use std::collections::LinkedList;
@@ -7,7 +7,7 @@ use std::collections::LinkedList;
 pub const LAST_SUBMISSION: u64 = 1 << 50;
 
 /// A request, with the worker that submits it and its number among that worker's submissions, from
-/// 1 to 2^50 without a gap.
+/// 1 to 2^50 without gaps.
 #[derive(Drop)]
 pub struct Submission {
     pub worker: WorkerId,
@@ -19,11 +19,11 @@ pub struct Submission {
 #[derive(Drop)]
 pub enum Message {
     Submit(Submission),
-    /// This worker has left, and sends nothing more.
+    /// This worker has left and sends nothing more.
     Leave(WorkerId),
 }
 
-/// What a worker that has left had sent. No value of it is made.
+/// What a departed worker had sent. No value of it is made.
 pub struct Sent {
     pub worker: u64,
     pub messages: LinkedList<Message>,
@@ -40,8 +40,8 @@ pub struct View {
     pub sent: LinkedList<Message>,
     /// What it received, in order.
     pub got: LinkedList<Message>,
-    /// How many workers' ends were made.
+    /// The number of workers' ends made.
     pub made: u64,
-    /// What the workers had sent whose ends were taken in, the last one first.
+    /// What the workers whose ends were taken in had sent, the last one first.
     pub heard: LinkedList<Sent>,
 }

@@ -1,5 +1,5 @@
-//! Where workers are told that there is something to see, and why the desk didn't handle what they
-//! submitted.
+//! Where workers are woken to look at the board, and told why the desk didn't handle their
+//! submissions.
 
 ghost use Rattle.std.specs.Prelude.{◌≡◌, ◌∷◌, [], Some, IfSome};
 ghost use Rattle.hall.specs.Closings.{told_of};
@@ -16,7 +16,7 @@ use terms::ServiceFault;
 /// Why a worker's submissions have no reply.
 #[derive(Drop)]
 struct Notice<J: Opening> {
-    /// The first one that has none.
+    /// The first one without a reply.
     number: u64,
     closing: Closing,
     known: KnownClosing<J>,
@@ -39,7 +39,7 @@ impl<J: Opening> WorkerPlace<J> {
     }
 }
 
-/// A place for each worker. They are made with the hall, so that closing it takes no memory.
+/// A place for each worker, made with the hall so that closing it takes no memory.
 #[derive(Drop)]
 pub(crate) struct Notices<J: Opening> {
     places: [WorkerPlace<J>; 8],
@@ -61,12 +61,12 @@ impl<J: Opening> Notices<J> {
         }
     }
 
-    /// The place of a worker.
+    /// Returns a worker's place.
     fn place(&self, worker: WorkerId) -> &WorkerPlace<J> {
         &self.places[(worker.number() - 1) as usize]
     }
 
-    /// Has this wake the worker.
+    /// Registers what wakes the worker.
     pub(crate) fn hang<R: Wait>(&self, rt: &R, worker: WorkerId, bell: Unparker) {
         let _ = self.place(worker).bell.set(rt, bell);
     }
@@ -78,14 +78,14 @@ impl<J: Opening> Notices<J> {
         }
     }
 
-    /// Puts why a worker's submissions have no reply. Only the first is kept, since each later one
-    /// isn't handled because the hall is closed.
+    /// Stores why a worker's submissions have no reply. Keeps only the first, since later ones
+    /// aren't handled because the hall is closed.
     fn put<R: Wait>(&self, rt: &R, worker: WorkerId, notice: Notice<J>) {
         let _ = self.place(worker).notice.set(rt, notice);
     }
 
-    /// Why this submission of the worker has no reply, if the worker was told, and the closing that
-    /// says so: the fault that it met, or 92.
+    /// Returns why this submission has no reply, if the worker was told, with the closing that says
+    /// so: the fault that it met, or 92.
     pub(crate) fn fault_of(
         &self,
         worker: WorkerId,
@@ -102,8 +102,8 @@ impl<J: Opening> Notices<J> {
     }
 }
 
-/// The desk's side: it wakes workers, and tells them that the hall has closed. Contracts see what it
-/// told: the submission at which the hall closed, once it has.
+/// The desk's side: wakes workers and tells them that the hall has closed. Contracts see the
+/// submission at which it closed, once it has.
 #[derive(Drop)]
 pub(crate) struct Teller<J: Opening> {
     notices: Arc<Notices<J>, Global>,
@@ -123,7 +123,7 @@ impl<J: Opening> Model for Teller<J> {
 }
 
 impl<J: Opening> Teller<J> {
-    /// Of a hall that is open.
+    /// Makes the side of an open hall.
     pub(crate) fn new(notices: Arc<Notices<J>, Global>, closings: Closings<J>) -> Teller<J>
         requires { closings ≡ [] }
         ensures { result ≡ [] }
@@ -140,14 +140,14 @@ impl<J: Opening> Teller<J> {
         self.notices.wake(worker);
     }
 
-    /// What it told.
+    /// Returns what it told.
     pub(crate) fn known(&self) -> KnownClosing<J>
         ensures { result ≡ self.now }
     {
         self.closings.known()
     }
 
-    /// The hall closes at this submission: its worker is told so, and woken.
+    /// Closes the hall at this submission, and tells and wakes its worker.
     pub(crate) fn close<R: Wait>(
         &mut self,
         rt: &R,
@@ -168,8 +168,8 @@ impl<J: Opening> Teller<J> {
         self.tell(rt, worker, number);
     }
 
-    /// Tells a worker that its submissions have no reply from this one on, since the hall is closed,
-    /// and wakes it.
+    /// Tells a worker that its submissions from this one on have no reply, since the hall is
+    /// closed, and wakes it.
     pub(crate) fn tell<R: Wait>(&self, rt: &R, worker: WorkerId, number: u64) {
         if let Some(closing) = self.closing {
             let notice = Notice {

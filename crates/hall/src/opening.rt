@@ -1,12 +1,11 @@
-//! Which hall it is.
+//! The identity of a hall.
 
 use board::Naming;
 use std::marker::Brand;
 
-/// Which hall it is: it names the queue and the board of one opening, so that what belongs to two
-/// halls can't be mixed, and the lists of accepted requests that the tables of its desk show at its
-/// opening. Who opens a hall opens and runs it inside one function generic in this, which is called
-/// with `Brand`.
+/// The identity of a hall: it names the queue and the board of one opening, so that parts of two
+/// halls can't be mixed, and the lists of accepted requests that the desk's tables show at the
+/// opening. Open and run a hall inside one function generic in this, and call that with `Brand`.
 pub trait Opening: Naming {
     ghost use Rattle.hall.specs.Names.{QueueName};
     ghost use Rattle.model.specs.History.{History};
@@ -14,7 +13,7 @@ pub trait Opening: Naming {
     /// The name of its queue.
     ghost name: { QueueName };
 
-    /// The tables show this list of accepted requests when the hall is opened.
+    /// Says which lists of accepted requests the tables show when the hall is opened.
     ghost shows: { History → Type 0 };
 }
 

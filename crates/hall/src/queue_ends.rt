@@ -20,8 +20,8 @@ use std::marker::{Model, PhantomData};
 use std::sync::Wait;
 use terms::Memory;
 
-/// What a hall begins with, which belongs to none yet: a queue of 8 places, and a board of which
-/// nothing was shown.
+/// The parts of a hall that isn't open yet: a queue of 8 places, and a board that has shown
+/// nothing.
 #[derive(Drop)]
 pub struct Opened {
     pub(crate) queue: Queue,
@@ -29,7 +29,7 @@ pub struct Opened {
 }
 
 impl Opened {
-    /// The queue and the board of a hall, which is opened with them by `Hall::new`.
+    /// Makes the queue and the board for `Hall::new`.
     pub fn new(alloc: Global) -> Result<Opened, Memory> {
         Ok(Opened {
             queue: Queue::new(alloc)?,
@@ -72,7 +72,7 @@ impl Model for Queue {
 }
 
 impl Queue {
-    /// It has 8 places, and nothing was sent or received.
+    /// Makes a queue of 8 places; nothing was sent or received.
     fn new(alloc: Global) -> Result<Queue, Memory> {
         let (sender, receiver, pass) = bounded_with::<Message, View, InTurn, Global>(
             alloc, PLACES,
@@ -87,7 +87,7 @@ impl Queue {
         })
     }
 
-    /// The desk's end, what makes workers' ends, and the list of closings, which is empty.
+    /// Returns the desk's end, the maker of workers' ends, and the empty list of closings.
     pub(crate) fn ends<J: Opening>(self) -> (Hiring<J>, Inbox<J>, Closings<J>)
         requires { self ≡ J.name }
         ensures desk { result.1 ≡ desk_view }
@@ -139,7 +139,7 @@ impl<J: Opening> Model for Post<J> {
 }
 
 impl<J: Opening> Post<J> {
-    /// Sends a message, and waits for a free place. An error gives it back: the desk is gone.
+    /// Sends a message, waiting for a free place. An error returns it: the desk is gone.
     pub(crate) fn send<R: Wait>(
         &mut self,
         rt: &R,
@@ -180,7 +180,7 @@ impl<J: Opening> Model for Inbox<J> {
 }
 
 impl<J: Opening> Inbox<J> {
-    /// Takes the message at the front. An error isn't the end: the queue was empty at one moment.
+    /// Takes the first message. An error isn't the end: the queue was empty for a moment.
     pub(crate) fn receive<R: Wait>(&mut self, rt: &R) -> Result<Message, RecvError>
         requires { self.old.gets ≡ true }
         ensures { MatchResult result (λ x. (self.new ≡ got_more self.old x) × IsNext self.old.got x)
@@ -189,7 +189,7 @@ impl<J: Opening> Inbox<J> {
         self.receiver.recv_as::<Receives, R>(rt, &mut self.pass)
     }
 
-    /// What it received, once it receives no more.
+    /// Ends receiving and returns what was received.
     pub(crate) fn end(self) -> Heard<J>
         ensures { result ≡ self }
     {
@@ -206,7 +206,7 @@ impl<J: Opening> Inbox<J> {
     }
 }
 
-/// What the desk received, once it receives no more.
+/// What the desk received by the end.
 #[derive(Drop)]
 pub struct Heard<J: Opening> {
     pass: Pass<Message, View>,
@@ -228,7 +228,7 @@ impl<J: Opening> Model for Heard<J> {
 }
 
 impl<J: Opening> Heard<J> {
-    /// Takes in the end of a worker. Where its Leave was received, all that it sent was received.
+    /// Takes in a worker's end. If its Leave was received, so was all that it sent.
     pub(crate) fn take_in(&mut self, post: Post<J>)
         requires desk { IsHearing self.old }
         requires worker { IsSending post }
@@ -246,7 +246,7 @@ impl<J: Opening> Heard<J> {
     }
 }
 
-/// What makes workers' ends.
+/// Makes workers' ends.
 #[derive(Drop)]
 pub(crate) struct Hiring<J: Opening> {
     sender: RuledSender<Message, View, InTurn>,
@@ -257,7 +257,7 @@ pub(crate) struct Hiring<J: Opening> {
 }
 
 impl<J: Opening> Hiring<J> {
-    /// The end of one more worker, which has the next number.
+    /// Makes the end of the next worker, with the next number.
     pub(crate) fn hire(&self, inbox: &mut Inbox<J>) -> Result<Post<J>, Memory>
         requires { IsHearing inbox.old }
         ensures { MatchResult result

@@ -1,5 +1,5 @@
-//! The rule of the queue: what was received of each worker, and then what is queued of it, is what
-//! it sent, in order.
+//! The rule of the queue: what was received from a worker, followed by what is queued, is what it
+//! sent, in order.
 
 ghost use Rattle.std.specs.Prelude.{◌≡◌, ◌+◌, ◌++◌};
 ghost use Rattle.hall.specs.Queue.{Carries, IsNext, AreHeard, desk_view, worker_view, spent};
@@ -8,7 +8,7 @@ ghost use Rattle.hall.specs.Queue.{joined, taken_in, sent_more, got_more};
 use crate::messages::{Message, View};
 use crossbeam_channel::protocol::{Join, Lesson, Outcome, Protocol, Split};
 
-/// The rule.
+/// The rule itself.
 pub struct InTurn;
 
 impl Protocol<Message, View> for InTurn {
@@ -26,7 +26,7 @@ impl Split<View> for Hires {
     ghost right = { λ v. worker_view (v.made + 1) };
 }
 
-/// The end of a worker that has left is taken in.
+/// The end of a departed worker is taken in.
 pub struct TakesIn;
 
 impl Join<View> for TakesIn {
@@ -57,7 +57,7 @@ impl Lesson<Message, View> for Receives {
     ghost fact = { λ v items. Unit {0} };
 }
 
-/// What was sent by the workers whose ends were taken in.
+/// What the workers whose ends were taken in had sent.
 pub struct Total;
 
 impl Lesson<Message, View> for Total {

@@ -1,4 +1,4 @@
-//! The side of a worker.
+//! The worker's side.
 
 ghost use Rattle.std.specs.Prelude.{◌≡◌, ◌<◌, length, MatchResult, MatchBool, IfOk, IfErr, IfSome};
 ghost use Rattle.std.specs.Prelude.{OnOk, Some};
@@ -30,7 +30,7 @@ use std::sync::{Arc, Wait};
 use terms::{Caller, CardKey, Command, Fault, Memory, PatronId, Refusal, Request, ServiceFault};
 use web::{Answer, Asked, Routes, WebFault, read_request, write_answer};
 
-/// A worker of a hall. Contracts see what it sent, and what it has seen of the handled list.
+/// A worker of a hall. Contracts see what it sent and what it has seen of the handled list.
 #[derive(Drop)]
 pub struct Worker<J: Opening> {
     post: Post<J>,
@@ -39,7 +39,7 @@ pub struct Worker<J: Opening> {
     number: u64,
     /// Its last submission.
     last: Option<SharedRequest>,
-    /// What it was told of the closing of the hall.
+    /// What it was told of the hall's closing.
     closing: KnownClosing<J>,
     notices: Arc<Notices<J>, Global>,
     parker: Parker,
@@ -60,38 +60,38 @@ impl<J: Opening> Model for Worker<J> {
         × (length w.post.sent ≡ w.number) };
 }
 
-/// The end of a worker that has left.
+/// The end of a departed worker.
 #[derive(Drop)]
 pub struct Left<J: Opening> {
     pub(crate) post: Post<J>,
     pub(crate) worker: WorkerId,
     /// What it had seen.
     pub(crate) sight: LastSeen<J>,
-    /// What it was told of the closing of the hall.
+    /// What it was told of the hall's closing.
     pub(crate) closing: KnownClosing<J>,
-    /// Whether its Leave is in the queue. It isn't where the desk is gone.
+    /// Whether its Leave is in the queue; false if the desk is gone.
     pub is_told: bool,
     pub(crate) ghost sending: { IsSending post },
     pub(crate) ghost named: { post.worker ≡ worker },
 }
 
-/// No answer went out whole: a read or a write failed, or no memory was left for the answer, or the
+/// No whole answer went out: a read or write failed, no memory was left for the answer, or the
 /// board was gone.
 #[derive(Clone, Copy, Debug, PartialEq, Eq)]
 pub struct ServeFault;
 
-/// Why a worker has no reply to what it asked.
+/// Why a worker has no reply.
 #[derive(Clone, Copy)]
 enum NoReply {
     /// This fault came instead.
     Told(ServiceFault),
-    /// The board is gone, or shows other than the worker submitted.
+    /// The board is gone, or doesn't show what the worker submitted.
     Gone,
-    /// No memory is left to take the reply.
+    /// No memory is left for the reply.
     Untold,
 }
 
-/// Waits until the board shows the entry of a submission, or the worker is told a fault.
+/// Waits until the board shows a submission's entry, or the worker is told a fault.
 fn await_entry<J: Opening, R: Wait>(
     rt: &R,
     window: &mut Window<J>,
@@ -128,7 +128,7 @@ fn await_entry<J: Opening, R: Wait>(
     unreachable!()
 }
 
-/// The patron whose page the desk asks for, if it does.
+/// Returns the patron whose page the desk asks for, if any.
 fn page_by_desk(request: &Request) -> Option<PatronId>
     ensures { result ≡ page_asked request.now }
 {
@@ -162,7 +162,7 @@ fn page_answer(
     }
 }
 
-/// Writes an answer. It takes no memory.
+/// Writes an answer. Takes no memory.
 fn send<W: Write>(writer: &mut W, answer: &Answer) -> Result<(), ServeFault>
     ensures { Writes (answer_bytes answer.now)
         (W.contents writer.old) (W.contents writer.new) result }
@@ -174,7 +174,7 @@ fn send<W: Write>(writer: &mut W, answer: &Answer) -> Result<(), ServeFault>
 }
 
 impl<J: Opening> Worker<J> {
-    /// A worker that has submitted nothing.
+    /// Makes a worker that has submitted nothing.
     pub(crate) fn new(
         post: Post<J>,
         window: Window<J>,
@@ -199,8 +199,7 @@ impl<J: Opening> Worker<J> {
         }
     }
 
-    /// Before its first submission: looks that the board shows nothing of the worker. 92 where it
-    /// does.
+    /// Before the first submission, checks that the board shows none of this worker. 92 if it does.
     fn begin(&mut self) -> Result<(), NoReply>
         ensures same { self.new.post ≡ self.old.post }
         ensures on { GoesOn self.new.seen self.old.seen }
@@ -215,8 +214,8 @@ impl<J: Opening> Worker<J> {
         }
     }
 
-    /// Waits until its last submission is on the board: then the worker has seen all that it
-    /// submitted. A fault says that it never will be.
+    /// Waits until the last submission is on the board: then the worker has seen all it submitted.
+    /// A fault means that it never will be.
     fn catch_up<R: Wait>(&mut self, rt: &R) -> Result<(), NoReply>
         ensures same { self.new.post ≡ self.old.post }
         ensures on { GoesOn self.new.seen self.old.seen }
@@ -245,9 +244,8 @@ impl<J: Opening> Worker<J> {
         }
     }
 
-    /// Submits a request under the worker's next number, from 1 to 2^50, and waits for a free place
-    /// in the queue. 92, and nothing is submitted, where the numbers are used up or the desk is
-    /// gone.
+    /// Submits a request under the worker's next number, from 1 to 2^50, waiting for a free place
+    /// in the queue. 92, with nothing submitted, if the numbers are used up or the desk is gone.
     fn submit<R: Wait>(&mut self, rt: &R, request: SharedRequest) -> Result<(), ServiceFault>
         ensures same { (self.new.seen ≡ self.old.seen) × (self.new.closing ≡ self.old.closing) }
         ensures once { MatchResult result
@@ -272,7 +270,7 @@ impl<J: Opening> Worker<J> {
         }
     }
 
-    /// Waits for the reply to the last submission, which is of this request.
+    /// Waits for the reply to the last submission, of this request.
     fn await_reply<R: Wait>(
         &mut self,
         rt: &R,
@@ -300,7 +298,7 @@ impl<J: Opening> Worker<J> {
         found
     }
 
-    /// Submits a request, and waits for its reply.
+    /// Submits a request and waits for its reply.
     fn ask<R: Wait>(
         &mut self,
         rt: &R,
@@ -333,8 +331,7 @@ impl<J: Opening> Worker<J> {
         }
     }
 
-    /// The answer to a request of the desk or of a patron, from the desk. None where no memory is
-    /// left for it, or the board is gone.
+    /// Gets the desk's answer to a request. None if no memory is left for it or the board is gone.
     fn answer_from_desk<R: Wait>(
         &mut self,
         rt: &R,
@@ -356,8 +353,8 @@ impl<J: Opening> Worker<J> {
         }
     }
 
-    /// The reply to a look at the page of a patron, from the board: by the card key that is shown,
-    /// or by the desk. 90 or 92 in its place.
+    /// Answers a look at a patron's page from the board, by the card key shown or by the desk.
+    /// Faults 90, 92.
     fn answer_from_board(
         &mut self,
         alloc: Global,
@@ -379,7 +376,7 @@ impl<J: Opening> Worker<J> {
         }
     }
 
-    /// The answer to what is asked for. None where no memory is left for it, or the board is gone.
+    /// Answers what is asked for. None if no memory is left for it or the board is gone.
     fn answer<R: Wait>(&mut self, rt: &R, alloc: Global, asked: Asked) -> Option<Answer>
         ensures { MeetsAsked asked self.old self.new result }
     {
@@ -395,18 +392,18 @@ impl<J: Opening> Worker<J> {
         }
     }
 
-    /// Serves one connection: reads its request, and writes its answer.
+    /// Serves one connection: reads its request and writes its answer.
     ///
-    /// The answer is that of the request as the bytes make it, or the status of the first check that
-    /// they fail. A page is shown from the board, without waiting for the desk; 90 in its place
-    /// where no memory is left to look at it, and 92 where the board is gone. Every other request is
-    /// submitted, and its reply comes from the board once the desk has handled it. 90 or 92 in its
-    /// place where it wasn't submitted: no memory was left before, or the hall is closed, or the
-    /// worker's numbers are used up. 90 to 93 once it was: the fault that it met, or 92 where the
-    /// hall closed at another one or can't show it. A connection breaks where a read or a write
-    /// fails, or no memory is left for the answer, or the board is gone once it was submitted: then
-    /// nothing or a beginning of the answer went out. Where no memory is left to read it, or there
-    /// are no routes for want of it, the answer is fault 90.
+    /// The answer is that of the request in the bytes, or the status of the first failed check. A
+    /// page comes from the board, without waiting for the desk; 90 if no memory is left to look at
+    /// it, and 92 if the board is gone. Any other request is submitted, and its reply comes from
+    /// the board once the desk has handled it. If it wasn't submitted, the answer is 90 or 92: no
+    /// memory was left before, or the hall is closed, or the worker's numbers are used up. Once
+    /// submitted, 90 to 93: the fault that it met, or 92 if the hall closed at another one or can't
+    /// show it. The connection breaks if a read or write fails, no memory is left for the answer,
+    /// or the board is gone after submitting: then nothing or a prefix of the answer went out. If
+    /// there is no memory to read the request, or there was none for the routes, the answer is
+    /// fault 90.
     pub fn serve<I: Read, O: Write, R: Wait>(
         &mut self,
         rt: &R,
@@ -431,8 +428,8 @@ impl<J: Opening> Worker<J> {
         }
     }
 
-    /// Leaves the hall: the desk waits for this of each worker. What comes back is its end of the
-    /// queue, which tells what it had submitted, and what it had seen.
+    /// Leaves the hall; the desk waits for every worker to do so. Returns its end of the queue,
+    /// which tells what it submitted, and what it had seen.
     pub fn leave<R: Wait>(self, rt: &R) -> Left<J>
         ensures seen { (result.sight ≡ self.seen) × (result.closing ≡ self.closing) }
         ensures told { MatchBool result.is_told

@@ -1,4 +1,4 @@
-//! What the queue, the handled list and the board of the hall are after any schedule of its steps.
+//! The state of the hall's queue, handled list and board after any schedule of steps.
 #![tactic(auto)]
 
 mod schedule;

@@ -1,4 +1,4 @@
-//! The steps of the hall, one after another, and what they make.
+//! The hall's steps, in sequence, and their result.
 
 ghost use Rattle.std.specs.Prelude.{◌≡◌, ◌++◌, ◌∷◌, ◌<◌, ◌^◌, OnErr, OnOk};
 ghost use Rattle.std.specs.Prelude.{[], count_by, length, set, slice_index_or, take, true};
@@ -9,20 +9,20 @@ ghost use Rattle.hall_schedule.specs.Schedules.{start, step, run, IsLawful};
 use std::alloc::{AllocError, Global};
 use std::collections::VecDeque;
 
-/// How many workers there are at most.
+/// The most workers.
 pub const WORKERS: u64 = 8;
 
-/// How many submissions the queue holds.
+/// The capacity of the queue.
 pub const PLACES: usize = 8;
 
-/// One act of a worker or of the desk.
+/// One step of a worker or the desk.
 #[derive(Clone, Copy, Debug, PartialEq, Eq)]
 pub enum Act {
-    /// This worker, 1 to 8, puts this request at the end of the queue.
+    /// This worker, 1 to 8, appends this request to the queue.
     Submit(u64, u64),
-    /// The desk handles the request at the front of the queue.
+    /// The desk handles the first request in the queue.
     Handle,
-    /// The board shows what was handled so far.
+    /// The board shows what has been handled.
     Publish,
     /// This worker looks at the board.
     Look(u64),
@@ -33,28 +33,28 @@ pub enum Act {
 pub struct Item {
     pub worker: u64,
     pub request: u64,
-    /// How many handled submissions the worker had seen when it submitted this one.
+    /// The number of handled submissions the worker had seen when submitting this one.
     pub seen: usize,
 }
 
-/// What a schedule has made.
+/// The result of a schedule.
 #[derive(Drop)]
 pub struct World {
-    /// How many acts were taken.
+    /// The number of acts taken.
     pub taken: usize,
     /// What each worker submitted, in order; worker 1 first.
     pub submitted: [Vec<u64>; 8],
-    /// What waits for the desk; the next one first.
+    /// What waits for the desk, the next first.
     pub queue: VecDeque<Item>,
     /// What was handled, in order.
     pub handled: Vec<Item>,
-    /// How many handled submissions the board shows.
+    /// The number of handled submissions on the board.
     pub published: usize,
-    /// How many of them each worker has seen; worker 1 first.
+    /// The number of them each worker has seen; worker 1 first.
     pub seen: [usize; 8],
 }
 
-/// Whether there is such a worker.
+/// Returns whether there is such a worker.
 fn has_worker(worker: u64) -> bool
     ensures { result ≡ is_worker worker }
 {
@@ -76,7 +76,7 @@ fn put(lists: &mut [Vec<u64>], place: usize, request: u64) -> Result<(), AllocEr
 }
 
 impl World {
-    /// Before the first act.
+    /// Makes the world before the first act.
     fn new(alloc: Global) -> World
         ensures { state_of result ≡ start }
     {
@@ -99,7 +99,7 @@ impl World {
         }
     }
 
-    /// How many of its own submissions the worker has seen handled.
+    /// Returns how many of its own submissions the worker has seen handled.
     fn seen_handled(&self, worker: u64) -> usize
         requires { is_worker worker ≡ true }
         ensures { result ≡ count_by (is_of worker)
@@ -113,7 +113,7 @@ impl World {
             .count()
     }
 
-    /// How many requests the worker submitted.
+    /// Returns how many requests the worker submitted.
     fn count_submitted(&self, worker: u64) -> usize
         requires { is_worker worker ≡ true }
         ensures { result ≡ length (list_at (state_of self.now) worker) }
@@ -121,8 +121,8 @@ impl World {
         self.submitted[(worker - 1) as usize].len()
     }
 
-    /// Whether there is such a worker and a free place, and the worker has seen handled all that it
-    /// submitted.
+    /// Returns whether there is such a worker and a free place, and the worker has seen all its
+    /// submissions handled.
     fn may_submit(&self, worker: u64) -> bool
         ensures { result ≡ may_submit (state_of self.now) worker }
     {
@@ -131,7 +131,7 @@ impl World {
             && self.seen_handled(worker) == self.count_submitted(worker)
     }
 
-    /// Puts a request of the worker at the end of the queue. At `Err` nothing is changed.
+    /// Appends a worker's request to the queue. Changes nothing on `Err`.
     fn submit(&mut self, worker: u64, request: u64) -> Result<(), AllocError>
         requires worker { is_worker worker ≡ true }
         requires room { self.old.taken < 2 ^ 63 }
@@ -152,7 +152,7 @@ impl World {
         Ok(())
     }
 
-    /// Moves the front of the queue to the end of the handled list. At `Err` nothing is changed.
+    /// Moves the front of the queue to the end of the handled list. Changes nothing on `Err`.
     fn handle(&mut self) -> Result<(), AllocError>
         requires room { self.old.taken < 2 ^ 63 }
         ensures ok { OnOk result (state_of self.new ≡ step (state_of self.old) Act.Handle) }
@@ -166,8 +166,8 @@ impl World {
         Ok(())
     }
 
-    /// Takes one act. One that cannot be changes nothing but how many were taken. At `Err`
-    /// nothing is changed.
+    /// Takes one act. An impossible one changes only the count of acts taken. Changes nothing on
+    /// `Err`.
     fn take(&mut self, act: Act) -> Result<(), AllocError>
         requires room { self.old.taken < 2 ^ 63 }
         ensures ok { OnOk result (state_of self.new ≡ step (state_of self.old) act) }
@@ -192,11 +192,10 @@ impl World {
     }
 }
 
-/// What the schedule makes: of its first `taken` acts, which are all of them as long as memory
-/// lasts.
+/// Replays the first `taken` acts of the schedule: all of them unless memory runs out.
 ///
-/// Whatever the schedule is, what was handled and then what is queued is one list in which each
-/// worker's submissions stand in the order in which it submitted them; see `specs/Schedules`.
+/// For any schedule, the handled and then the queued requests form one list in which each worker's
+/// submissions stand in the order it made them; see `specs/Schedules`.
 pub fn replay(alloc: Global, acts: &[Act]) -> World
     ensures world { state_of result ≡ run (take result.taken acts.now) }
     ensures lawful { IsLawful (state_of result) }

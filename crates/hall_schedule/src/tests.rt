@@ -1,4 +1,4 @@
-//! Schedules with the worlds that they make, worked by hand.
+//! Schedules and the worlds they make, worked by hand.
 
 use crate::Act::{Handle, Look, Publish, Submit};
 use crate::{Act, Item, World, replay};
@@ -7,7 +7,7 @@ use std::test::Fail;
 /// A worker, its request, and how many it had seen.
 type Placed = (u64, u64, usize);
 
-/// A schedule, and what it makes.
+/// A schedule and its result.
 struct Worked {
     acts: &'static [Act],
     submitted: [&'static [u64]; 8],
@@ -35,7 +35,7 @@ const WORKED: [Worked; 8] = [
         published: 1,
         seen: [1, 1, 0, 0, 0, 0, 0, 0],
     },
-    // who has not seen the last one handled can submit nothing
+    // a worker that hasn't seen its last one handled can't submit
     Worked {
         acts: &[
             Submit(1, 7),
@@ -54,7 +54,7 @@ const WORKED: [Worked; 8] = [
         published: 1,
         seen: [1, 1, 0, 0, 0, 0, 0, 0],
     },
-    // what cannot be changes nothing
+    // the impossible changes nothing
     Worked {
         acts: &[Handle, Look(9), Submit(0, 7)],
         submitted: [&[], &[], &[], &[], &[], &[], &[], &[]],
@@ -63,7 +63,7 @@ const WORKED: [Worked; 8] = [
         published: 0,
         seen: [0, 0, 0, 0, 0, 0, 0, 0],
     },
-    // all eight submit, and the queue is full
+    // all eight submit, filling the queue
     Worked {
         acts: &[
             Submit(1, 11),
@@ -102,7 +102,7 @@ const WORKED: [Worked; 8] = [
         published: 8,
         seen: [0, 0, 8, 0, 0, 0, 0, 0],
     },
-    // handled, but not shown yet
+    // handled but not yet shown
     Worked {
         acts: &[
             Submit(4, 7),
@@ -122,7 +122,7 @@ const WORKED: [Worked; 8] = [
         published: 2,
         seen: [0, 0, 0, 2, 0, 0, 0, 0],
     },
-    // handled in the order of the queue, and not of the workers
+    // handled in queue order, not worker order
     Worked {
         acts: &[Submit(2, 8), Submit(1, 7), Submit(3, 9), Handle, Handle],
         submitted: [&[7], &[8], &[9], &[], &[], &[], &[], &[]],
@@ -131,7 +131,7 @@ const WORKED: [Worked; 8] = [
         published: 0,
         seen: [0, 0, 0, 0, 0, 0, 0, 0],
     },
-    // one worker alone
+    // a single worker
     Worked {
         acts: &[
             Submit(8, 7),
@@ -151,7 +151,7 @@ const WORKED: [Worked; 8] = [
         published: 2,
         seen: [0, 0, 0, 0, 0, 0, 0, 2],
     },
-    // nothing to show, and workers that there are not
+    // nothing to show, and nonexistent workers
     Worked {
         acts: &[
             Publish,
