@@ -1,4 +1,4 @@
-//! What the board shows.
+//! The contents of the board.
 
 ghost use Rattle.std.specs.Prelude.{◌≡◌, None, map, IsFalse, MatchResult, IfOk, IfSome, option_map};
 ghost use Rattle.std.specs.Arc.{arc_value};
@@ -17,17 +17,17 @@ use std::marker::Model;
 use std::sync::Arc;
 use terms::PatronId;
 
-/// What changes on the board.
+/// A change on the board.
 #[derive(Drop)]
 pub enum Update {
-    /// The page of the patron of this number.
+    /// The page of the patron with this number.
     Page(u32, Arc<OwnPage, Global>),
-    /// One more submission was handled, and this is then all that was shown.
+    /// One more handled submission, and all that has then been shown.
     Entry(Arc<Entry, Global>, Beginning<Frame>),
 }
 
-/// The page of each patron, and the last entry of each worker; and all that was shown up to them,
-/// which takes no memory.
+/// The page of each patron and the last entry of each worker; and all that was shown so far, which
+/// takes no memory.
 #[derive(Drop)]
 pub struct Board {
     pages: Pages,
@@ -49,7 +49,7 @@ impl Model for Board {
     } };
 }
 
-/// Puts the last entry of its worker.
+/// Sets the last entry of its worker.
 fn set_last(last: &mut [Option<Arc<Entry, Global>>; 8], entry: Arc<Entry, Global>)
     ensures { map (option_map arc_value) last.new
         ≡ with_last (map (option_map arc_value) last.old) (arc_value entry) }
@@ -59,7 +59,7 @@ fn set_last(last: &mut [Option<Arc<Entry, Global>>; 8], entry: Arc<Entry, Global
 }
 
 impl Board {
-    /// A board with pages alone, and what was shown with them.
+    /// Makes a board with pages only, and what was shown with them.
     pub(crate) fn new(pages: Pages, frames: Beginning<Frame>) -> Board
         ensures { result ≡ blank pages frames }
     {
@@ -70,7 +70,7 @@ impl Board {
         }
     }
 
-    /// Puts the page of a patron, for the one that is there.
+    /// Puts a patron's page, replacing the old one.
     fn put(&mut self, patron: u32, page: &Arc<OwnPage, Global>) -> Result<(), AllocError>
         ensures { MatchResult result
             (λ _. self.new ≡ with_page self.old patron (arc_value page.now))
@@ -79,7 +79,7 @@ impl Board {
         self.pages.put(patron, page)
     }
 
-    /// Puts one entry more, with which all this was shown.
+    /// Adds an entry, and all that is shown with it.
     fn add(
         &mut self,
         entry: &Arc<Entry, Global>,
@@ -95,35 +95,35 @@ impl Board {
         Ok(())
     }
 
-    /// All that was shown.
+    /// Returns all that was shown.
     pub(crate) fn frames(&self) -> Beginning<Frame>
         ensures { result ≡ self.now.frames }
     {
         self.frames.again()
     }
 
-    /// The page of a patron, if there is one.
+    /// Returns a patron's page, if there is one.
     pub(crate) fn page(&self, patron: PatronId) -> Result<Option<Arc<OwnPage, Global>>, AllocError>
         ensures { IfOk result (λ page. option_map arc_value page ≡ page_at self.now.pages patron) }
     {
         self.pages.page(patron)
     }
 
-    /// The last entry of a worker, if there is one.
+    /// Returns a worker's last entry, if any.
     fn last(&self, worker: WorkerId) -> Option<&Arc<Entry, Global>>
         ensures { option_map (λ entry. arc_value entry.now) result ≡ last_on worker self.now }
     {
         self.last[(worker.number() - 1) as usize].as_ref()
     }
 
-    /// Whether there is an entry of a worker.
+    /// Returns whether a worker has an entry.
     pub(crate) fn has_entry(&self, worker: WorkerId) -> bool
         ensures { IsFalse result → last_on worker self.now ≡ None }
     {
         self.last(worker).is_some()
     }
 
-    /// The last entry of a worker, where it has this number and is of this request.
+    /// Returns a worker's last entry, if it has this number and request.
     pub(crate) fn entry(
         &self,
         worker: WorkerId,

@@ -1,4 +1,4 @@
-//! What was handled, and what is seen of it.
+//! Handled submissions, and what is seen of them.
 
 use crate::request::SharedRequest;
 use crate::worker_id::WorkerId;
@@ -6,7 +6,7 @@ use desk::OwnPage;
 use std::collections::LinkedList;
 use terms::Reply;
 
-/// An entry of the handled list: a worker's submission of this number, and its reply.
+/// An entry of the handled list: a worker's submission with its number, and its reply.
 #[derive(Drop)]
 pub struct Entry {
     pub worker: WorkerId,
@@ -15,15 +15,15 @@ pub struct Entry {
     pub reply: Reply,
 }
 
-/// What the board shows from one entry to the next: the entry, where it isn't what was shown first,
-/// and all pages. No value of it is made.
+/// What the board shows between two entries: all pages, and the first of the two entries, if any.
+/// No value of it is made.
 pub struct Frame {
     pub entry: Option<Entry>,
     pub pages: LinkedList<(u32, OwnPage)>,
 }
 
-/// What a side of the board knows: a beginning of the handled list, and the pages that were shown
-/// with it, first with none of its entries and then with each. No value of it is made.
+/// What a side of the board knows: a beginning of the handled list, and the pages shown with it,
+/// first without entries and then with each. No value of it is made.
 pub struct Seen {
     pub entries: LinkedList<Entry>,
     pub pages: LinkedList<LinkedList<(u32, OwnPage)>>,

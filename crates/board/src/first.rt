@@ -1,4 +1,4 @@
-//! What the board shows first.
+//! The first contents of the board.
 
 ghost use Rattle.std.specs.Prelude.{◌≡◌, [], IfOk};
 ghost use Rattle.board.specs.Showing.{put_page};
@@ -10,7 +10,7 @@ use std::marker::Model;
 use std::sync::Arc;
 use terms::{Memory, PatronId};
 
-/// What the board shows before anything was handled: pages of patrons.
+/// What the board shows before anything is handled: patrons' pages.
 #[derive(Drop)]
 pub struct First {
     pub(crate) pages: Pages,
@@ -29,7 +29,7 @@ impl Model for First {
 }
 
 impl First {
-    /// No pages.
+    /// Makes an empty set of pages.
     pub fn new(alloc: Global) -> First
         ensures { result ≡ [] }
     {
@@ -39,7 +39,7 @@ impl First {
         }
     }
 
-    /// The same with the page of one patron more.
+    /// Adds a patron's page.
     pub fn with(self, alloc: Global, patron: PatronId, page: OwnPage) -> Result<First, Memory>
         ensures { IfOk result (λ first. first ≡ put_page self patron page) }
     {

@@ -1,5 +1,5 @@
-//! The board of a hall: what was handled last for each worker, and the page of each patron. Workers
-//! read it with no lock, while the desk goes on.
+//! The board of a hall: the last handled submission of each worker, and the page of each patron.
+//! Workers read it without a lock while the desk works.
 #![tactic(auto)]
 
 mod board;

@@ -1,4 +1,4 @@
-//! Pages of patrons.
+//! Patrons' pages.
 
 ghost use Rattle.std.specs.Prelude.{◌≡◌, [], MatchResult, IfOk, option_map};
 ghost use Rattle.std.specs.Arc.{arc_value};
@@ -11,7 +11,7 @@ use std::marker::Model;
 use std::sync::Arc;
 use terms::PatronId;
 
-/// Pages, in the order of their patrons.
+/// Pages, ordered by patron.
 #[derive(Drop)]
 pub(crate) struct Pages {
     pages: BTreeMap<u32, Arc<OwnPage, Global>, Global>,
@@ -28,7 +28,7 @@ impl Model for Pages {
 }
 
 impl Pages {
-    /// No pages.
+    /// Makes an empty set of pages.
     pub(crate) fn new(alloc: Global) -> Pages
         ensures { result ≡ [] }
     {
@@ -37,7 +37,7 @@ impl Pages {
         }
     }
 
-    /// Puts the page of a patron, for the one that is there.
+    /// Puts a patron's page, replacing the old one.
     pub(crate) fn put(&mut self, patron: u32, page: &Arc<OwnPage, Global>) -> Result<(), AllocError>
         ensures { MatchResult result
             (λ _. self.new ≡ put_page self.old patron (arc_value page.now))
@@ -50,7 +50,7 @@ impl Pages {
         }
     }
 
-    /// The page of a patron, if there is one.
+    /// Returns a patron's page, if there is one.
     pub(crate) fn page(&self, patron: PatronId) -> Result<Option<Arc<OwnPage, Global>>, AllocError>
         ensures { IfOk result (λ page. option_map arc_value page ≡ page_at self.now patron) }
     {

@@ -18,14 +18,14 @@ use std::marker::Model;
 use std::sync::{Arc, Wait};
 use terms::{Memory, PatronId};
 
-/// What writes the board.
+/// The writer of the board.
 pub(crate) type BoardWriter<J> = Writer<Board, Update, Seen, OneList<J>>;
 
-/// So many frames are shown at most, so that their count has a place. A hall never comes to as
-/// many: each of its workers submits 2^50 requests at most.
+/// The most frames shown, so that their count fits. A hall never reaches it: each worker submits at
+/// most 2^50 requests.
 const MOST_FRAMES: u64 = u64::MAX - 1;
 
-/// What a board begins with: nothing was shown. Contracts see which board it is to be.
+/// The start of a board: nothing was shown. Contracts see which board it will be.
 #[derive(Drop)]
 pub struct Blank {
     chronicle: Chronicle<Frame>,
@@ -47,14 +47,14 @@ impl Model for Blank {
 }
 
 impl Blank {
-    /// Of a new board.
+    /// Makes the start of a new board.
     pub fn new() -> Blank {
         let (chronicle, none) = Chronicle::new();
         Blank { chronicle, none }
     }
 }
 
-/// What is shown first: pages.
+/// The first frame: pages.
 struct Opens;
 
 impl Item<First, Frame> for Opens {
@@ -63,14 +63,14 @@ impl Item<First, Frame> for Opens {
     ghost item = { first_frame };
 }
 
-/// What is to be shown next: an entry, over what is written.
+/// The next frame: an entry, over what is written.
 #[derive(Clone, Copy)]
 struct Turn<'a, J: Naming> {
     writer: &'a BoardWriter<J>,
     entry: &'a Arc<Entry, Global>,
 }
 
-/// It is shown with the pages that are to be shown with it.
+/// Adds a frame with the pages to be shown with it.
 struct Turns;
 
 impl<'a, J: Naming> Item<Turn<'a, J>, Frame> for Turns {
@@ -82,14 +82,14 @@ impl<'a, J: Naming> Item<Turn<'a, J>, Frame> for Turns {
         (drop t.writer.now.behind t.writer.now.log.items) (arc_value t.entry.now) };
 }
 
-/// The desk's side. Contracts see all that was shown, what workers see of it, and the pages that
-/// are to be shown with the next entry. It is not `Drop`: end it by `close`.
+/// The desk's side. Contracts see all that was shown, what workers see of it, and the pages to show
+/// with the next entry. It is not `Drop`: end it with `close`.
 pub struct Publisher<J: Naming> {
     writer: BoardWriter<J>,
     chronicle: Chronicle<Frame>,
     /// All that was shown.
     frames: Beginning<Frame>,
-    /// Nothing: windows begin with it.
+    /// Nothing: where windows begin.
     none: Beginning<Frame>,
 }
 
@@ -114,7 +114,7 @@ impl<J: Naming> Model for Publisher<J> {
 }
 
 impl<J: Naming> Publisher<J> {
-    /// A board with these pages, for so many readers, of which nothing was shown before.
+    /// Makes a board with these pages, for this many readers. Nothing was shown before.
     pub fn new<R: Wait>(
         rt: &R,
         alloc: Global,
@@ -142,7 +142,7 @@ impl<J: Naming> Publisher<J> {
         })
     }
 
-    /// A window that has seen nothing. An error says that no reader's place is left.
+    /// Makes a window that has seen nothing. An error means no reader's place is left.
     pub fn window(&self) -> Result<Window<J>, Memory>
         ensures { IfOk result (λ w. w ≡ nothing_seen) }
     {
@@ -150,7 +150,7 @@ impl<J: Naming> Publisher<J> {
         Ok(Window::over(reader, self.none.again()))
     }
 
-    /// The page of a patron is to be shown with the next entry.
+    /// Puts a patron's page, to be shown with the next entry.
     pub fn put(&mut self, alloc: Global, patron: PatronId, page: OwnPage) -> Result<(), Memory>
         ensures { MatchResult result
             (λ _. self.new ≡ record self.old { pages = self.old.pages ++ (patron, page) ∷ [] })
@@ -163,8 +163,8 @@ impl<J: Naming> Publisher<J> {
         }
     }
 
-    /// Shows one entry more. An error leaves the readers what they saw, for good: the board shows
-    /// nothing more.
+    /// Shows one more entry. After an error the board shows nothing more: readers keep what they
+    /// saw.
     pub fn publish<R: Wait>(
         self,
         rt: &R,
@@ -215,7 +215,7 @@ impl<J: Naming> Publisher<J> {
         self.stop().close(rt);
     }
 
-    /// Its board, which shows nothing more. The readers keep what they see.
+    /// Stops the board, which shows nothing more. Readers keep what they see.
     pub fn stop(self) -> StoppedBoard<J>
         ensures { result ≡ as_stopped self }
     {

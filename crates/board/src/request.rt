@@ -1,4 +1,4 @@
-//! A request that the desk and a worker hold both.
+//! A request that the desk and a worker share.
 
 ghost use Rattle.std.specs.Prelude.{◌≡◌, IsTrue, IfOk};
 ghost use Rattle.terms.specs.Texts.{request_text as request_text_of};
@@ -16,7 +16,7 @@ struct RequestText {
     ghost told: { text ≡ request_text_of request.command },
 }
 
-/// A request that can be held in several places, and compared with another.
+/// A request that can be shared and compared with another.
 #[derive(Drop)]
 pub struct SharedRequest {
     told: Arc<RequestText, Global>,
@@ -31,7 +31,7 @@ impl Model for SharedRequest {
     ghost view = { λ r. (arc_value r.told).request };
 }
 
-/// Whether the callers are the same, by their numbers and card keys.
+/// Compares two callers by number and card key.
 fn is_same_caller(one: &Caller, other: &Caller) -> bool
     ensures { IsTrue result → one.now ≡ other.now }
 {
@@ -44,7 +44,7 @@ fn is_same_caller(one: &Caller, other: &Caller) -> bool
     }
 }
 
-/// Whether what was asked is the same, by caller, key and text.
+/// Compares two requests by caller, key and text.
 fn is_same_told(one: &RequestText, other: &RequestText) -> bool
     ensures { IsTrue result → one.now.request ≡ other.now.request }
 {
@@ -61,7 +61,7 @@ fn is_same_told(one: &RequestText, other: &RequestText) -> bool
 }
 
 impl SharedRequest {
-    /// A request that can be shared.
+    /// Makes a request that can be shared.
     pub fn new(alloc: Global, request: Request) -> Result<SharedRequest, Memory>
         ensures { IfOk result (λ shared. shared ≡ request) }
     {
@@ -70,7 +70,7 @@ impl SharedRequest {
         Ok(SharedRequest { told })
     }
 
-    /// The same request again. It takes no memory, but the count of its holders can be full.
+    /// Shares the request once more. Takes no memory, but the count of holders can be full.
     pub fn try_clone(&self) -> Result<SharedRequest, Memory>
         ensures { IfOk result (λ shared. shared ≡ self.now) }
     {
@@ -86,7 +86,7 @@ impl SharedRequest {
         &told.request
     }
 
-    /// Whether the other one asks the same, of the same caller and under the same key.
+    /// Returns whether the other is the same request: same caller, key and command.
     pub fn is_same(&self, other: &SharedRequest) -> bool
         ensures { IsTrue result → self.now ≡ other.now }
     {

@@ -1,12 +1,12 @@
-//! The rule of the board: it shows what all that was shown comes to, which only grows.
+//! The rule of the board: it shows the result of all that was shown, which only grows.
 
 use crate::board::Board;
 use crate::entry::Seen;
 use crossbeam_utils::rule::{Outcome, Protocol};
 use std::marker::{Brand, PhantomData};
 
-/// Which board it is: it names what is shown, so that those of two boards can't be mixed. Who opens
-/// a board uses it inside one function generic in this, which is called with `Brand`.
+/// The identity of a board: it names what is shown, so that two boards can't be mixed. Open and use
+/// a board inside one function generic in this, and call that with `Brand`.
 pub trait Naming {
     ghost use Rattle.logbook.specs.Pages.{Book};
 
@@ -19,7 +19,7 @@ impl Naming for Brand {
     ghost book = { no_book };
 }
 
-/// The rule, of the board of this name.
+/// The rule of the board with this name.
 pub struct OneList<J> {
     of: PhantomData<J>,
 }
@@ -43,7 +43,7 @@ impl<J: Naming> Outcome<Board, Seen> for Look<J> {
     ghost then = { LooksAtBoard J.book };
 }
 
-/// One frame more is shown.
+/// One more frame is shown.
 pub struct Publish;
 
 impl Outcome<Board, Seen> for Publish {

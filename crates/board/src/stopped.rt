@@ -1,4 +1,4 @@
-//! A board that shows nothing more.
+//! A stopped board.
 
 ghost use Rattle.std.specs.Prelude.{◌≡◌, IsTrue};
 ghost use Rattle.board.specs.Rule.{ShowsAll};
@@ -12,8 +12,8 @@ use chronicle::Beginning;
 use std::marker::Model;
 use std::sync::Wait;
 
-/// A board that shows nothing more: workers keep what they see. Contracts see all that was shown,
-/// and what workers see of it. It is not `Drop`: end it by `close`.
+/// A board that shows nothing more: workers keep what they see. Contracts see all that was shown
+/// and what workers see of it. It is not `Drop`: end it with `close`.
 pub struct StoppedBoard<J: Naming> {
     writer: BoardWriter<J>,
     frames: Beginning<Frame>,
@@ -36,7 +36,7 @@ impl<J: Naming> Model for StoppedBoard<J> {
 }
 
 impl<J: Naming> StoppedBoard<J> {
-    /// What this writer has shown.
+    /// Makes it from a writer and what that has shown.
     pub(crate) fn over(writer: BoardWriter<J>, frames: Beginning<Frame>) -> StoppedBoard<J>
         requires name { frames.book ≡ J.book }
         requires shows { ShowsAll (seen_of frames.items) writer.desk.shown.value }
@@ -48,16 +48,15 @@ impl<J: Naming> StoppedBoard<J> {
         StoppedBoard { writer, frames }
     }
 
-    /// Workers see what all that was shown comes to: of each worker the last entry, and the pages
-    /// that were shown last.
+    /// Workers see the result of all that was shown: each worker's last entry, and the last pages.
     pub fn shows_its_list(&self)
         ensures { ShowsAll self.now.shown self.now.board }
     {
         let _ = &self.writer;
     }
 
-    /// Whether what a worker had seen is a beginning of what was shown: it is where there is no
-    /// more of it.
+    /// Returns whether what a worker had seen is a beginning of what was shown: it is unless it is
+    /// longer.
     pub fn has_shown(&self, sight: &LastSeen<J>) -> bool
         ensures { IsTrue result → GoesOn self.now.shown sight.now }
     {

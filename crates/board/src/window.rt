@@ -24,7 +24,7 @@ type BoardReader<J> = Reader<Board, Seen, OneList<J>>;
 /// Why the board can't be read.
 #[derive(Clone, Copy, Debug, PartialEq, Eq)]
 pub enum ReadError {
-    /// What is there has as many holders as can be counted.
+    /// The value has as many holders as can be counted.
     Memory,
     /// The desk is gone.
     Gone,
@@ -72,7 +72,7 @@ impl<J: Naming> Model for LastSeen<J> {
 }
 
 impl<J: Naming> Window<J> {
-    /// A side that has seen this.
+    /// Makes a side that has seen this.
     pub(crate) fn over(reader: BoardReader<J>, frames: Beginning<Frame>) -> Window<J>
         requires name { frames.book ≡ J.book }
         requires seen { knows {V = Seen} reader.place ≡ seen_of frames.items }
@@ -84,7 +84,7 @@ impl<J: Naming> Window<J> {
         }
     }
 
-    /// Looks no more.
+    /// Stops looking.
     pub fn leave(self) -> LastSeen<J>
         ensures { result ≡ self }
     {
@@ -95,7 +95,7 @@ impl<J: Naming> Window<J> {
         }
     }
 
-    /// The page of a patron, as the board shows it now, if there is such a patron.
+    /// Returns a patron's page as the board shows it now, if there is such a patron.
     pub fn page(&mut self, patron: PatronId) -> Result<Option<Arc<OwnPage, Global>>, ReadError>
         ensures on { GoesOn self.new self.old }
         ensures looked { OnOk result (HasLooked self.new) }
@@ -118,7 +118,7 @@ impl<J: Naming> Window<J> {
         }
     }
 
-    /// Whether the board shows no entry of the worker.
+    /// Returns whether the board shows no entry of the worker.
     pub fn shows_none_of(&mut self, worker: WorkerId) -> Result<bool, ReadError>
         ensures on { GoesOn self.new self.old }
         ensures none { IfOk result (λ none. IsTrue none → count_own worker self.new.entries ≡ 0) }
@@ -141,7 +141,7 @@ impl<J: Naming> Window<J> {
         }
     }
 
-    /// The entry of this number of the worker, where the board shows it for this request.
+    /// Returns the worker's entry with this number, if the board shows it for this request.
     pub fn entry(
         &mut self,
         worker: WorkerId,

@@ -1,4 +1,4 @@
-//! Numbers of workers.
+//! Worker numbers.
 
 ghost use Rattle.std.specs.Prelude.{◌≡◌, true, false, MatchOption};
 ghost use Rattle.board.specs.Workers.{is_worker};
@@ -6,7 +6,7 @@ ghost use Rattle.board.specs.Workers.{is_worker};
 use hall_schedule::WORKERS;
 use std::marker::Model;
 
-/// The number of a worker of a hall, from 1 to 8.
+/// The number of a worker in a hall, 1 to 8.
 #[derive(Clone, Copy, Debug, PartialEq, Eq)]
 pub struct WorkerId {
     number: u64,
@@ -29,7 +29,7 @@ impl Model for WorkerId {
 }
 
 impl WorkerId {
-    /// The worker of this number; none where it is out of 1 to 8.
+    /// Makes a worker number; none outside 1 to 8.
     pub fn new(number: u64) -> Option<WorkerId>
         ensures { MatchOption result (is_worker number ≡ false)
             (λ worker. (is_worker number ≡ true) × (worker ≡ number)) }
@@ -41,7 +41,7 @@ impl WorkerId {
         }
     }
 
-    /// The number.
+    /// Returns the number.
     pub fn number(self) -> u64
         ensures value { result ≡ self }
         ensures limits { is_worker self ≡ true }

@@ -8,7 +8,7 @@ use crate::law::LengthRule;
 use logbook::Seen;
 use std::marker::Model;
 
-/// A beginning of a list that was seen. Contracts see which list it is, and its items.
+/// A beginning of a list, as seen. Contracts see which list it is, and its items.
 #[derive(Drop)]
 pub struct Beginning<E> {
     count: u64,
@@ -27,7 +27,7 @@ impl<E> Model for Beginning<E> {
 }
 
 impl<E> Beginning<E> {
-    /// What was seen, of so many items.
+    /// Makes it from what was seen, with the number of items.
     pub(crate) fn over(seen: Seen<E, (), LengthRule>, count: u64) -> Beginning<E>
         requires { count ≡ length seen.log }
         ensures { result ≡ known seen.book seen.log }
@@ -35,14 +35,14 @@ impl<E> Beginning<E> {
         Beginning { count, seen }
     }
 
-    /// How many items it has.
+    /// Returns the number of items.
     pub fn len(&self) -> u64
         ensures { result ≡ length self.now.items }
     {
         self.count
     }
 
-    /// A copy.
+    /// Returns a copy.
     pub fn again(&self) -> Beginning<E>
         ensures { result ≡ self.now }
     {
@@ -52,8 +52,8 @@ impl<E> Beginning<E> {
         }
     }
 
-    /// Whether it has no more items than another beginning of the same list: then that begins with
-    /// it.
+    /// Returns whether the other beginning of the same list has at least as many items: then it
+    /// extends this one.
     pub fn begins(&self, other: &Beginning<E>) -> bool
         requires { self.now.book ≡ other.now.book }
         ensures { IsTrue result → IsPrefix self.now.items other.now.items }

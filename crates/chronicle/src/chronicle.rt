@@ -9,12 +9,12 @@ use logbook::{Offer, Plain, Seen, Start, Word};
 use std::marker::{Model, PhantomData};
 use std::sync::Wait;
 
-/// What is added to the list, by what a value is.
+/// The item that a value adds to the list.
 pub trait Item<X, E> {
     ghost item: { X → E };
 }
 
-/// A step asks for this item.
+/// Asks for this item in a step.
 struct Asking<I> {
     of: PhantomData<I>,
 }
@@ -48,7 +48,7 @@ impl<E> Model for Chronicle<E> {
 }
 
 impl<E> Chronicle<E> {
-    /// A new list, and the beginning of it that is empty.
+    /// Makes a new list, with its empty beginning.
     pub fn new() -> (Chronicle<E>, Beginning<E>)
         ensures { result.1 ≡ known result.0 [] }
     {
@@ -57,7 +57,7 @@ impl<E> Chronicle<E> {
         (Chronicle { head }, Beginning::over(seen, 0))
     }
 
-    /// Adds an item to a beginning, where that is the whole list.
+    /// Adds an item to a beginning, if that is the whole list.
     fn try_add<X, I: Item<X, E>>(&self, whole: &mut Beginning<E>, about: &X) -> bool
         requires list { whole.old.book ≡ self.now }
         requires room { length whole.old.items + 1 < 2 ^ 64 }
@@ -81,8 +81,8 @@ impl<E> Chronicle<E> {
         true
     }
 
-    /// Adds an item to a beginning that is the whole list. Who adds to the list knows it whole;
-    /// where it doesn't, this waits for ever.
+    /// Adds an item to a beginning that is the whole list. The adding side knows the whole list; if
+    /// not, this waits forever.
     pub fn add<X, I: Item<X, E>, R: Wait>(&self, rt: &R, whole: &mut Beginning<E>, about: &X)
         requires list { whole.old.book ≡ self.now }
         requires room { length whole.old.items + 1 < 2 ^ 64 }

@@ -2,7 +2,7 @@
 
 use logbook::{Gain, Play, Rule};
 
-/// The rule: the word that is kept is the list's length.
+/// The rule: the stored word is the list's length.
 pub struct LengthRule;
 
 impl<E> Rule<E, ()> for LengthRule {
@@ -32,7 +32,7 @@ impl<E> Gain<E, ()> for Nothing {
     ghost after = { λ names about answer. ftrue };
 }
 
-/// A step that adds an item, where the list was known whole.
+/// A step that adds an item, if the whole list was known.
 pub(crate) struct Add;
 
 impl<E> Play<E, ()> for Add {

@@ -1,5 +1,5 @@
-//! A list that only grows, for proofs: what stands in it is known to them alone, and at run time it
-//! is a counter. One side adds to it, and threads hold beginnings of it.
+//! A list that only grows, for proofs: only they know its items, and at run time it is a counter.
+//! One side adds to it; threads hold beginnings of it.
 #![tactic(auto)]
 
 mod beginning;

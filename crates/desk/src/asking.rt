@@ -1,4 +1,4 @@
-//! Questions of the desk: each is answered by the rows of the tables, and changes nothing.
+//! The desk's questions: each is answered from the tables and changes nothing.
 
 ghost use Rattle.std.specs.Prelude.{◌≡◌, ◌∷◌, [], is_some, IfOk, string_bytes};
 ghost use Rattle.terms.specs.declared.question.Question.TheVariants as question;
@@ -32,7 +32,7 @@ use terms::{
     Reply, Text, TitleId, TitleRow,
 };
 
-/// The reply that shows a text.
+/// Makes the reply that shows a text.
 fn shown(text: String) -> Reply
     ensures { result ≡ Shown (string_bytes text) }
 {
@@ -41,7 +41,7 @@ fn shown(text: String) -> Reply
     }
 }
 
-/// A title, as it stands at the head of a list of it.
+/// Makes a title's line, the head of its lists.
 #[tactic(auto, unfolding(crate::specs::Asking::title_words_of))]
 fn title_line(alloc: Global, row: &TitleRow) -> Result<String, Memory>
     ensures { IfOk result (λ text. string_bytes text ≡ title_words_of row.now) }
@@ -50,7 +50,7 @@ fn title_line(alloc: Global, row: &TitleRow) -> Result<String, Memory>
     format!(in alloc; "title {title} {text}")
 }
 
-/// A list of a title: what is shown from a number on, or 12. 90, 91, 93.
+/// Shows a list of a title from a number on, or 12. Faults 90, 91, 93.
 fn show_of_title<L: Listed, S: Alter>(
     store: &mut Store<S>,
     alloc: Global,
@@ -76,7 +76,7 @@ fn show_of_title<L: Listed, S: Alter>(
     }
 }
 
-/// A list of a branch: what is shown from a number on, or 10. 90, 91, 93.
+/// Shows a list of a branch from a number on, or 10. Faults 90, 91, 93.
 fn show_of_branch<L: Listed, S: Alter>(
     store: &mut Store<S>,
     alloc: Global,
@@ -101,8 +101,8 @@ fn show_of_branch<L: Listed, S: Alter>(
     }
 }
 
-/// The reply to a question for a copy, by its view: 13 where it isn't there. 90, 91; 93, also where
-/// a row that another names isn't there.
+/// Answers a question about a copy from its view; 13 if unknown. Faults 90, 91; 93, also if a row
+/// that another names is missing.
 fn reply_for_copy<S: Alter>(
     store: &mut Store<S>,
     alloc: Global,
@@ -122,7 +122,7 @@ fn reply_for_copy<S: Alter>(
     }
 }
 
-/// A copy and where it is, or 13. 90, 91, 93.
+/// Shows a copy and where it is, or 13. Faults 90, 91, 93.
 fn show_copy<S: Alter>(store: &mut Store<S>, alloc: Global, copy: CopyId) -> Result<Reply, Fault>
     ensures { Learns (IsAnswer (question.Copy copy))
         S.Store store.old store.new result }
@@ -131,7 +131,7 @@ fn show_copy<S: Alter>(store: &mut Store<S>, alloc: Global, copy: CopyId) -> Res
     reply_for_copy(store, alloc, copy, &rows)
 }
 
-/// The line of a title, or 12. 90, 91, 93.
+/// Shows the queue of a title, or 12. Faults 90, 91, 93.
 fn show_queue<S: Alter>(
     store: &mut Store<S>,
     alloc: Global,
@@ -149,7 +149,7 @@ fn show_queue<S: Alter>(
     show_of_title(store, alloc, title, &list, after.number())
 }
 
-/// The account of a patron, or 11. 90, 91, 93.
+/// Shows a patron's account, or 11. Faults 90, 91, 93.
 fn show_account<S: Alter>(
     store: &mut Store<S>,
     alloc: Global,
@@ -170,7 +170,7 @@ fn show_account<S: Alter>(
     }
 }
 
-/// The patrons who owe something. 90, 91, 93.
+/// Shows the patrons who owe something. Faults 90, 91, 93.
 fn show_debts<S: Alter>(
     store: &mut Store<S>,
     alloc: Global,
@@ -183,7 +183,7 @@ fn show_debts<S: Alter>(
     Ok(shown(text))
 }
 
-/// The overdue loans of a branch, or 10. 90, 91, 93.
+/// Shows the overdue loans of a branch, or 10. Faults 90, 91, 93.
 fn show_overdue<S: Alter>(
     store: &mut Store<S>,
     alloc: Global,
@@ -208,7 +208,7 @@ fn show_overdue<S: Alter>(
     }
 }
 
-/// The copies that are to be taken from the shelves of a branch, or 10. 90, 91, 93.
+/// Shows the copies to take from a branch's shelves, or 10. Faults 90, 91, 93.
 fn show_pulls<S: Alter>(
     store: &mut Store<S>,
     alloc: Global,
@@ -226,7 +226,7 @@ fn show_pulls<S: Alter>(
     show_of_branch(store, alloc, branch, &list, "", after.number())
 }
 
-/// The sums of a day. 90, 91, 93.
+/// Shows the sums of a day. Faults 90, 91, 93.
 fn show_till<S: Alter>(store: &mut Store<S>, alloc: Global, day: Day) -> Result<Reply, Fault>
     ensures { Learns (IsAnswer (question.Till day))
         S.Store store.old store.new result }
@@ -235,7 +235,7 @@ fn show_till<S: Alter>(store: &mut Store<S>, alloc: Global, day: Day) -> Result<
     Ok(shown(text))
 }
 
-/// The reply to a question: what is shown, or the refusal. 90, 91, 93.
+/// Answers a question, or refuses it. Faults 90, 91, 93.
 pub(crate) fn reply_to_question<S: Alter>(
     store: &mut Store<S>,
     alloc: Global,

@@ -1,4 +1,4 @@
-//! Many requests, one after another.
+//! The desk: many requests in sequence.
 
 ghost use Rattle.std.specs.Prelude.{◌≡◌, [], IfOk};
 ghost use Rattle.store.specs.Library.{state, over_memory, IsClean, IsOpen};
@@ -24,7 +24,7 @@ use std::marker::Model;
 use store::Store;
 use terms::{BranchId, CardKey, Day, Fault, PatronId, Reply, Request, SCHEMA};
 
-/// The desk over the tables of a store.
+/// The desk, working on the tables of a store.
 pub struct Desk<S: Alter> {
     store: Store<S>,
 }
@@ -46,8 +46,8 @@ impl<S: Alter + Drop> Drop for Desk<S> {
 }
 
 impl<S: Alter + Drop> Desk<S> {
-    /// The desk over these tables. 91; 93 where they are of an older schema, and never where they
-    /// show a list of accepted requests. Tables as `Store::create` makes them show the empty one.
+    /// Opens the desk on these tables. Fault 91; 93 for an older schema, but never if they show a
+    /// list of accepted requests. Tables from `Store::create` show the empty list.
     pub fn new(mut store: Store<S>) -> Result<Desk<S>, Fault>
         ensures { Begins S.Store store result }
     {
@@ -59,23 +59,22 @@ impl<S: Alter + Drop> Desk<S> {
 }
 
 impl<S: Alter> Desk<S> {
-    /// The reply to a request. 90, 91 or 93 in its place; over a file a desk that gave 90 or 91 is
-    /// to be dropped and opened again.
+    /// Handles a request and returns its reply, or fault 90, 91 or 93. On a file, drop and reopen a
+    /// desk that gave 90 or 91.
     ///
-    /// Where the tables show a list of accepted requests, the reply is the one that this list
-    /// gives, and the tables show the list with the request, if it was accepted. After a fault they
-    /// show what they showed, as long as the database is open. Whatever may leave of them when the
-    /// program is stopped is the one or the other. Of the list after it the tables show the
-    /// headline: see `specs/Headline`.
+    /// If the tables show a list of accepted requests, the reply is the one that list gives, and
+    /// they then show the list with the request added, if accepted. After a fault they show what
+    /// they did before, as long as the database is open. If the program is stopped, they show one
+    /// or the other. The headline holds of the resulting list: see `specs/Headline`.
     pub fn handle(&mut self, alloc: Global, request: &Request) -> Result<Reply, Fault>
         ensures { Handles request.now S.Store self.old self.new result }
     {
         handle(&mut self.store, alloc, request)
     }
 
-    /// The reply to a request as `handle` gives it, and the patrons whose pages the request may
-    /// have changed; everybody else's page and card key are what they were. Where the request was
-    /// refused, repeated, a page or a question, nobody is named. 90, 91 or 93 in its place.
+    /// Handles a request like `handle`, and also returns the patrons whose pages it may have
+    /// changed; all other pages and card keys are unchanged. None are named if the request was
+    /// refused or repeated, or was for a page or a question. Faults 90, 91, 93.
     pub fn handle_touching(
         &mut self,
         alloc: Global,
@@ -88,7 +87,7 @@ impl<S: Alter> Desk<S> {
         Ok((reply, touched))
     }
 
-    /// The replies to the requests, handled one after another; at a fault the replies before it,
+    /// Handles the requests in order and returns their replies; on a fault, the replies before it
     /// and the fault.
     ///
     /// After any list of requests by any callers, accepted, refused or repeated, the tables show
@@ -103,8 +102,8 @@ impl<S: Alter> Desk<S> {
         run(&mut self.store, alloc, requests)
     }
 
-    /// The page of a patron who shows the own card key; 81 for a wrong key or an unknown patron.
-    /// 90, 91, 93 in its place.
+    /// Returns the page of a patron who shows their card key; 81 for a wrong key or an unknown
+    /// patron. Faults 90, 91, 93.
     pub fn page(
         &mut self,
         alloc: Global,
@@ -116,8 +115,8 @@ impl<S: Alter> Desk<S> {
         show_own(&mut self.store, alloc, patron, card_key)
     }
 
-    /// The enrolled patrons, the least number first. 90, 91; 93 doesn't come where the tables show
-    /// a list of accepted requests.
+    /// Lists the enrolled patrons by number. Faults 90, 91; never 93 if the tables show a list of
+    /// accepted requests.
     pub fn patrons(&mut self, alloc: Global) -> Result<Vec<PatronId>, Fault>
         ensures { Learns (λ H patrons. AreEnrolled H patrons.items)
             S.Store self.old self.new result }
@@ -125,9 +124,8 @@ impl<S: Alter> Desk<S> {
         patrons(&mut self.store, alloc)
     }
 
-    /// The page of a patron with the card key that opens it, as the desk sees them; none where
-    /// there is no such patron. 90, 91; 93 doesn't come where the tables show a list of accepted
-    /// requests.
+    /// Returns a patron's page with the card key that opens it; none for an unknown patron. Faults
+    /// 90, 91; never 93 if the tables show a list of accepted requests.
     pub fn own_page(&mut self, alloc: Global, patron: PatronId) -> Result<Option<OwnPage>, Fault>
         ensures { Learns (λ H page. page ≡ own_page_of H patron)
             S.Store self.old self.new result }
@@ -136,8 +134,8 @@ impl<S: Alter> Desk<S> {
     }
 
     /// Writes the till report of a day: the sums of its fines, prices, payments and waivers, in
-    /// cents. It is never refused. 90, 91, or a write failed, and then a beginning of it may have
-    /// gone out; 93 comes only where a row lies out of its limits.
+    /// cents. Never refused. Fails with 90, 91 or a failed write, and then a prefix may have gone
+    /// out; 93 only if a row is out of its limits.
     pub fn till<W: Write>(
         &mut self,
         alloc: Global,
@@ -150,9 +148,9 @@ impl<S: Alter> Desk<S> {
         till(&mut self.store, alloc, day, writer)
     }
 
-    /// Writes the shelf report of a branch: its ready holds, by number, page by page; 10 where
-    /// there is no such branch, and then nothing is written. 90, 91, 93, or a write failed: then a
-    /// beginning of it may have gone out.
+    /// Writes the shelf report of a branch: its ready holds by number, in batches; 10, with nothing
+    /// written, for an unknown branch. Fails with 90, 91, 93 or a failed write: then a prefix may
+    /// have gone out.
     pub fn shelf<W: Write>(
         &mut self,
         alloc: Global,
@@ -165,10 +163,9 @@ impl<S: Alter> Desk<S> {
         shelf(&mut self.store, alloc, branch, writer)
     }
 
-    /// Writes the overdue report of a branch: its open loans that are due before today, by number,
-    /// each with the open days that it is late by, page by page; 10 where there is no such branch,
-    /// and then nothing is written. 90, 91, 93, or a write failed: then a beginning of it may have
-    /// gone out.
+    /// Writes the overdue report of a branch: its open loans due before today, by number, each with
+    /// the open days it is late, in batches; 10, with nothing written, for an unknown branch. Fails
+    /// with 90, 91, 93 or a failed write: then a prefix may have gone out.
     pub fn overdue<W: Write>(
         &mut self,
         alloc: Global,
@@ -181,15 +178,14 @@ impl<S: Alter> Desk<S> {
         overdue(&mut self.store, alloc, branch, writer)
     }
 
-    /// Sets how many steps each later call of the database may take; with none there is no limit,
-    /// and 0 stands for 1.
+    /// Limits the steps of each later database call; `None` means no limit, and 0 counts as 1.
     pub fn limit_steps(&mut self, limit: Option<u64>)
         ensures { self.new ≡ record self.old { step_limit = limit_of limit } }
     {
         self.store.limit_steps(limit);
     }
 
-    /// Gives the store back.
+    /// Returns the store.
     pub fn into_store(self) -> Store<S>
         ensures { result ≡ self }
     {
@@ -199,8 +195,8 @@ impl<S: Alter> Desk<S> {
 }
 
 impl Desk<MemStore> {
-    /// The desk of a new library in memory, whose tables show the empty list of accepted requests.
-    /// 90, 91.
+    /// Makes a desk on a new library in memory, whose tables show the empty list of accepted
+    /// requests. Faults 90, 91.
     pub fn in_memory(alloc: Global) -> Result<Desk<MemStore>, Fault>
         ensures shows { IfOk result (λ desk. Shows (state over_memory desk) []) }
         ensures open { IfOk result (λ desk. IsClean over_memory desk × IsOpen over_memory desk) }

@@ -1,4 +1,4 @@
-//! One request: who sends it, whether its key was used, and what becomes of its command.
+//! One request: who sends it, whether its key was used, and the result of its command.
 
 ghost use Rattle.std.specs.Prelude.{◌≡◌, true, false, Ok, bytes_eq};
 ghost use Rattle.terms.specs.Callers.{owner_of};
@@ -24,7 +24,7 @@ use terms::{
     read_reply, reply_text, request_text,
 };
 
-/// Makes the changes, and keeps the request with its reply.
+/// Commits the changes, and keeps the request with its reply.
 fn record<'k, S: Alter>(
     store: &mut Store<S>,
     changes: &Changes<'_>,
@@ -46,8 +46,8 @@ fn record<'k, S: Alter>(
     store.commit(changes, &kept)
 }
 
-/// The reply to a command by the rows that it needs; where it is accepted, the rows are changed.
-/// The reply's text is made before anything is written.
+/// Replies to a command from the rows it needs, and changes the rows if it is accepted. Makes the
+/// reply's text before writing anything.
 fn carry_out<'a, S: Alter>(
     store: &mut Store<S>,
     alloc: Global,
@@ -75,7 +75,7 @@ fn carry_out<'a, S: Alter>(
     }
 }
 
-/// The reply to a changing command whose key is new.
+/// Replies to a changing command with a new key.
 fn answer<S: Alter>(
     store: &mut Store<S>,
     alloc: Global,
@@ -98,7 +98,8 @@ fn answer<S: Alter>(
     carry_out(store, alloc, &view, owner, key, text, command, touched)
 }
 
-/// The kept reply to the same text, refusal 80 to another. 93 where what is kept is no reply.
+/// Returns the kept reply for the same text, refusal 80 for another. 93 if what is kept is no
+/// reply.
 fn repeat(kept: &KeptReply, text: &Text) -> Result<Reply, Fault>
     ensures { (reply : ReplyOf) → IsKept reply → kept.now.reply ≡ reply_text_of reply
         → result ≡ Ok (repeated (bytes_eq kept.now.text text.now) reply) }
@@ -112,8 +113,8 @@ fn repeat(kept: &KeptReply, text: &Text) -> Result<Reply, Fault>
     }
 }
 
-/// The reply to a request whose caller may send it: the kept reply or 80 for a key that was used,
-/// and else what becomes of the command.
+/// Replies to a request whose caller may send it: for a used key the kept reply or 80, else the
+/// result of the command.
 fn respond<S: Alter>(
     store: &mut Store<S>,
     alloc: Global,
@@ -139,7 +140,7 @@ fn respond<S: Alter>(
     }
 }
 
-/// The command and the key of a request have their forms.
+/// The command and key of a request are well-formed.
 fn has_forms(request: &Request)
     ensures { IsCommand request.now.command × IsKey request.now.key }
 {
@@ -147,10 +148,9 @@ fn has_forms(request: &Request)
     let _key = request.key.as_str();
 }
 
-/// The reply to a request: 81 for a caller who may not send it; the page or the answer to a
-/// question, which look at no key; the kept reply or 80 for a key that was used, and else what
-/// becomes of the command. Where that is accepted, `touched` is set to the patrons whose own rows
-/// it changed.
+/// Replies to a request: 81 for a caller who may not send it; the page or the answer to a question,
+/// ignoring the key; for a used key the kept reply or 80; else the result of the command. If that
+/// is accepted, sets `touched` to the patrons whose own rows it changed.
 pub(crate) fn handle_touching<S: Alter>(
     store: &mut Store<S>,
     alloc: Global,
@@ -176,7 +176,7 @@ pub(crate) fn handle_touching<S: Alter>(
     respond(store, alloc, request, touched)
 }
 
-/// The reply to a request, whomever it touched.
+/// Replies to a request, without the patrons it touched.
 pub(crate) fn handle<S: Alter>(
     store: &mut Store<S>,
     alloc: Global,

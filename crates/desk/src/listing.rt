@@ -1,5 +1,5 @@
-//! Lists that the desk is asked for: from a number on their rows, at most a hundred, and an end
-//! that tells whether there are more.
+//! Lists the desk can ask for: rows from a number on, at most a hundred, and an end that says if
+//! there are more.
 
 ghost use Rattle.std.specs.Prelude.{◌≡◌, ◌++◌, ℕ, map, IfOk, string_bytes};
 ghost use Rattle.std.specs.List.{Contains};
@@ -22,10 +22,10 @@ pub(crate) trait Listed {
     ghost use Rattle.desk.specs.Answering.{LearnsIf};
     ghost use Rattle.desk.specs.Listing.{HasBatch, IsRowText};
 
-    /// A row that is read, which may be one of the list.
+    /// A row as read, perhaps one of the list.
     type Row: Drop;
 
-    /// The list, after a list of accepted requests that is as `Needs` says.
+    /// The list after a history that meets `Needs`.
     ghost list: { Self → History → Listing };
 
     ghost Needs: { Self → History → Type 0 };
@@ -34,11 +34,11 @@ pub(crate) trait Listed {
 
     ghost IsRow: { Self → Self.Row → History → Type 0 };
 
-    /// The number of a row.
+    /// Returns a row's number.
     fn number(row: &Self::Row) -> u32
         ensures { result ≡ number_of row.now };
 
-    /// A batch of rows above a number, the least first. 90, 91, 93.
+    /// Reads a batch of rows above a number, in order. Faults 90, 91, 93.
     fn batch<S: Alter>(
         &self,
         store: &mut Store<S>,
@@ -49,7 +49,7 @@ pub(crate) trait Listed {
             (λ H rows. HasBatch number_of (λ r. IsRow self.now r H) (list self.now H) after
             rows.items) S.Store store.old store.new result };
 
-    /// What is told of a row, if it is one of the list. 90, 91, 93.
+    /// Makes the text of a row, if it is one of the list. Faults 90, 91, 93.
     fn row_text<S: Alter>(
         &self,
         store: &mut Store<S>,
@@ -61,11 +61,11 @@ pub(crate) trait Listed {
             S.Store store.old store.new result };
 }
 
-/// The part of a list that is told: its head and rows, a newline after each.
+/// The part of a list shown: head and rows, a newline after each.
 #[derive(Drop)]
 pub(crate) struct Part {
     text: String,
-    /// How many rows.
+    /// The number of rows.
     rows: u32,
     /// The number of the last one.
     last: u32,
@@ -74,7 +74,7 @@ pub(crate) struct Part {
 }
 
 impl Part {
-    /// One row more, or where there are a hundred that there are more.
+    /// Adds a row, or after a hundred notes that there are more.
     fn add(&mut self, number: u32, row: &str) -> Result<(), Memory>
         ensures { IfOk result (λ _. IsAdded number row.now self.old self.new) }
     {
@@ -89,7 +89,7 @@ impl Part {
         Ok(())
     }
 
-    /// The rows with their end.
+    /// Returns the rows with their end.
     fn with_end(self, alloc: Global) -> Result<String, Memory>
         ensures { IfOk result
             (λ text. string_bytes text ≡ string_bytes self.text ++ end_words self) }
@@ -110,7 +110,7 @@ impl Part {
     }
 }
 
-/// Tells a row, if it is one of the list. 90, 91, 93.
+/// Adds a row, if it is one of the list. Faults 90, 91, 93.
 fn tell_row<L: Listed, S: Alter>(
     store: &mut Store<S>,
     alloc: Global,
@@ -128,7 +128,7 @@ fn tell_row<L: Listed, S: Alter>(
     Ok(())
 }
 
-/// Tells the rows of a batch, one after another. 90, 91, 93.
+/// Adds the rows of a batch in order. Faults 90, 91, 93.
 fn tell_rows<L: Listed, S: Alter>(
     store: &mut Store<S>,
     alloc: Global,
@@ -149,7 +149,7 @@ fn tell_rows<L: Listed, S: Alter>(
     Ok(())
 }
 
-/// The number of the last row of a batch after which more is to be read.
+/// Returns the last row's number in a batch, if more is to be read after it.
 fn next_from<L: Listed>(batch: &[L::Row], part: &Part) -> Option<u32>
     ensures { IsNext L.number_of batch.now part.now result }
 {
@@ -162,8 +162,8 @@ fn next_from<L: Listed>(batch: &[L::Row], part: &Part) -> Option<u32>
     }
 }
 
-/// Tells the rows of a list whose numbers are above this one, batch by batch, until there are more
-/// than an answer shows. 90, 91, 93.
+/// Adds a list's rows above this number, batch by batch, until there are more than an answer shows.
+/// Faults 90, 91, 93.
 fn tell_list<L: Listed, S: Alter>(
     store: &mut Store<S>,
     alloc: Global,
@@ -194,7 +194,7 @@ fn tell_list<L: Listed, S: Alter>(
     Ok(part)
 }
 
-/// What is shown of a list that is asked for from a number on, under its head. 90, 91, 93.
+/// Returns the text of a list from a number on, under its head. Faults 90, 91, 93.
 pub(crate) fn list_text<L: Listed, S: Alter>(
     store: &mut Store<S>,
     alloc: Global,

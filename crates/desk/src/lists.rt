@@ -1,4 +1,4 @@
-//! The lists of copies, holds, accounts and debts that the desk can ask for.
+//! The lists of copies, holds, accounts and debts.
 
 ghost use Rattle.std.specs.Prelude.{◌≡◌, ◌==◌, Some, true, is_some, IfOk, string_bytes};
 ghost use Rattle.model.specs.History.{today, has_begun};
@@ -68,7 +68,7 @@ impl Listed for CopiesOf {
     }
 }
 
-/// The copies that are on their way to a branch.
+/// The copies on their way to a branch.
 #[derive(Clone, Copy)]
 pub(crate) struct TransitsTo {
     pub(crate) branch: BranchId,
@@ -113,14 +113,14 @@ impl Listed for TransitsTo {
     }
 }
 
-/// The line of a title, today.
+/// The queue of a title today.
 #[derive(Clone, Copy)]
 pub(crate) struct QueueFor {
     pub(crate) title: TitleId,
     pub(crate) today: Day,
 }
 
-/// Whether a hold has no first day, or one that has come.
+/// Returns whether a hold has no first day, or one that has come.
 fn has_begun(hold: &HoldRow, today: Day) -> bool
     ensures { result ≡ has_begun today hold.now.first_day }
 {
@@ -130,7 +130,7 @@ fn has_begun(hold: &HoldRow, today: Day) -> bool
     }
 }
 
-/// The row of a hold in line.
+/// Makes the row of a queued hold.
 #[tactic(auto, unfolding(crate::specs::Asking::queue_words))]
 fn queue_row(alloc: Global, row: &HoldRow) -> Result<String, Memory>
     ensures { IfOk result (λ text. string_bytes text ≡ queue_words row.now) }
@@ -200,7 +200,7 @@ pub(crate) struct AccountOf {
     pub(crate) patron: PatronId,
 }
 
-/// The word for a sort of lines.
+/// Returns the word for a sort of lines.
 fn sort_word(sort: Sort) -> &'static str
     ensures { result.now ≡ sort_word sort }
 {
@@ -212,7 +212,7 @@ fn sort_word(sort: Sort) -> &'static str
     }
 }
 
-/// The row of a line of an account that is for no loan.
+/// Makes the row of an account line without a loan.
 #[tactic(auto, unfolding(crate::specs::Asking::line_words))]
 fn payment_row(alloc: Global, row: &LineRow) -> Result<String, Memory>
     ensures { IfOk result (λ text. string_bytes text ≡ line_words row.now) }
@@ -227,7 +227,7 @@ fn payment_row(alloc: Global, row: &LineRow) -> Result<String, Memory>
     format!(in alloc; "line {line} {day} {sort} {amount}")
 }
 
-/// The words for a loan and the title of its copy, with a space before them.
+/// Makes the words for a loan and its title, after a space.
 #[tactic(auto, unfolding(crate::specs::Placing::after_space))]
 fn after_line(alloc: Global, loan: LoanId, title: &TitleRow) -> Result<String, Memory>
     ensures { IfOk result (λ text. string_bytes text ≡ after_space (words_of_loan loan title.now)) }
@@ -236,7 +236,7 @@ fn after_line(alloc: Global, loan: LoanId, title: &TitleRow) -> Result<String, M
     format!(in alloc; " loan {loan} title {title} {text}")
 }
 
-/// The row of a line that is for a loan, with the title of its copy.
+/// Makes the row of an account line for a loan, with the title.
 fn charge_row(
     alloc: Global,
     row: &LineRow,
@@ -251,7 +251,7 @@ fn charge_row(
     Ok(text)
 }
 
-/// The title of the copy that a loan lent. 90, 91; 93, also where one of them isn't there.
+/// Returns the title of the copy lent. Faults 90, 91; 93, also if a row is missing.
 fn title_of_loan<S: Alter>(
     store: &mut Store<S>,
     alloc: Global,
@@ -352,14 +352,14 @@ impl Listed for Debtors {
     }
 }
 
-/// The copies that are to be taken from the shelves of a branch, by the holds that they are for.
+/// The copies to take from a branch's shelves, by the holds they are for.
 #[derive(Clone, Copy)]
 pub(crate) struct PullsAt {
     pub(crate) branch: BranchId,
     pub(crate) today: Day,
 }
 
-/// The row of a copy that is to be taken from its shelf for a hold.
+/// Makes the row of a copy to take from its shelf for a hold.
 #[tactic(auto, unfolding(crate::specs::Asking::pull_words))]
 fn pull_row(alloc: Global, hold: HoldId, copy: CopyId, title: &TitleRow) -> Result<String, Memory>
     ensures { IfOk result (λ text. string_bytes text ≡ pull_words hold copy title.now) }
@@ -368,15 +368,15 @@ fn pull_row(alloc: Global, hold: HoldId, copy: CopyId, title: &TitleRow) -> Resu
     format!(in alloc; "hold {hold} copy {copy} title {title} {text}")
 }
 
-/// Whether the row is that of the hold.
+/// Returns whether the row is that of the hold.
 fn is_of(row: &HoldRow, hold: HoldId) -> bool
     ensures { result ≡ (row.now.hold == hold) }
 {
     row.hold.number() == hold.number()
 }
 
-/// The copy that is to be taken from the shelves of the branch for a waiting hold: where this is
-/// the first in line for its title, the least that stands there. 91, 93.
+/// Returns the copy to take from the branch's shelves for a waiting hold: if it is first in line
+/// for its title, the copy with the least number there. Faults 91, 93.
 fn copy_to_pull<S: Alter>(
     store: &mut Store<S>,
     row: &HoldRow,

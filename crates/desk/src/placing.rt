@@ -1,5 +1,5 @@
-//! Where copies are, as the desk is told that asks: one copy, those of a title, and those on their
-//! way to a branch.
+//! Where copies are, for the desk's questions: one copy, those of a title, those on their way to a
+//! branch.
 
 ghost use Rattle.std.specs.Prelude.{◌≡◌, IfOk, string_bytes, codes, decimal, ◌∷◌, []};
 ghost use Rattle.model.specs.Pages.{spaced};
@@ -49,7 +49,7 @@ pub(crate) enum CopyPlace {
     Withdrawn,
 }
 
-/// The place of a copy that nothing claims.
+/// Returns the place of a copy that nothing claims.
 fn unclaimed(copy: &CopyRow) -> CopyPlace
     ensures { result ≡ unclaimed copy.now.condition copy.now.home }
 {
@@ -60,8 +60,8 @@ fn unclaimed(copy: &CopyRow) -> CopyPlace
     }
 }
 
-/// The place of a copy, by the rows that claim it; none where the hold on whose shelf it stands has
-/// no limit.
+/// Returns a copy's place from the rows that claim it; none if the hold on whose shelf it stands
+/// has no limit.
 pub(crate) fn place_of(rows: &View, copy: &CopyRow) -> Option<CopyPlace>
     ensures { result ≡ place_in rows.now copy.now }
 {
@@ -92,7 +92,7 @@ pub(crate) fn place_of(rows: &View, copy: &CopyRow) -> Option<CopyPlace>
     }
 }
 
-/// The words for a place.
+/// Makes the words for a place.
 #[tactic(auto, unfolding(crate::specs::Placing::words_of))]
 pub(crate) fn place_text(alloc: Global, place: &CopyPlace) -> Result<String, Memory>
     ensures { IfOk result (λ text. string_bytes text ≡ spaced (words_of place.now)) }
@@ -116,7 +116,7 @@ pub(crate) fn place_text(alloc: Global, place: &CopyPlace) -> Result<String, Mem
     }
 }
 
-/// The line of a copy.
+/// Makes the line of a copy.
 #[tactic(auto, unfolding(crate::specs::Placing::copy_words))]
 pub(crate) fn copy_line(alloc: Global, row: &CopyRow, title: &TitleRow) -> Result<String, Memory>
     ensures { IfOk result (λ text. string_bytes text ≡ copy_words row.now title.now) }
@@ -132,7 +132,7 @@ pub(crate) fn copy_line(alloc: Global, row: &CopyRow, title: &TitleRow) -> Resul
     format!(in alloc; "copy {copy} home {home} kind {kind} price {price} title {title} {text}")
 }
 
-/// The row of a copy of a title, with the words for its place.
+/// Makes the row of a copy of a title, with its place.
 pub(crate) fn copy_row(alloc: Global, copy: CopyId, place: &CopyPlace) -> Result<String, Memory>
     ensures { IfOk result (λ text. string_bytes text
         ≡ spaced (codes "copy" ∷ decimal copy ∷ words_of place.now)) }
@@ -141,7 +141,7 @@ pub(crate) fn copy_row(alloc: Global, copy: CopyId, place: &CopyPlace) -> Result
     format!(in alloc; "copy {copy} {words}")
 }
 
-/// The row of a copy on its way.
+/// Makes the row of a copy on its way.
 #[tactic(auto, unfolding(crate::specs::Placing::travel_words))]
 pub(crate) fn travel_row(
     alloc: Global,
@@ -158,7 +158,7 @@ pub(crate) fn travel_row(
     }
 }
 
-/// The patron of a hold, where there is a number. 91; 93, also where there is no such hold.
+/// Reads a hold's patron, if there is a number. Fault 91; 93, also if the hold is missing.
 fn patron_of_hold<S: Alter>(
     store: &mut Store<S>,
     hold: Option<HoldId>,
@@ -176,8 +176,8 @@ fn patron_of_hold<S: Alter>(
     }
 }
 
-/// The patron for whom a copy is where it is: that of its loan or its hold. 91; 93, also where the
-/// hold for which it travels isn't there.
+/// Reads the patron that a copy's place is for, by its loan or hold. Fault 91; 93, also if the hold
+/// it travels for is missing.
 fn patron_at<S: Alter>(
     store: &mut Store<S>,
     copy: CopyId,
@@ -195,7 +195,7 @@ fn patron_at<S: Alter>(
     }
 }
 
-/// The number and name of a patron, with a space before them.
+/// Makes the words for a patron's number and name, after a space.
 #[tactic(auto, unfolding(crate::specs::Placing::after_space))]
 fn after_place(alloc: Global, patron: PatronId, row: &PatronRow) -> Result<String, Memory>
     ensures { IfOk result (λ text. string_bytes text
@@ -205,8 +205,8 @@ fn after_place(alloc: Global, patron: PatronId, row: &PatronRow) -> Result<Strin
     format!(in alloc; " patron {patron} {name}")
 }
 
-/// The words for the patron for whom a copy is where it is, with a space before them; nothing
-/// where it is there for nobody. 90, 91; 93, also where the patron isn't there.
+/// Makes the words for the patron that a copy's place is for, after a space; nothing if for nobody.
+/// Faults 90, 91; 93, also if the patron is missing.
 fn patron_text<S: Alter>(
     store: &mut Store<S>,
     alloc: Global,
@@ -227,7 +227,7 @@ fn patron_text<S: Alter>(
     }
 }
 
-/// The words for a place and for whom the copy is there. 90, 91, 93.
+/// Makes the words for a place and its patron. Faults 90, 91, 93.
 fn place_line<S: Alter>(
     store: &mut Store<S>,
     alloc: Global,
@@ -244,8 +244,8 @@ fn place_line<S: Alter>(
     Ok(text)
 }
 
-/// A copy and where it is, in two lines. 90, 91; 93, also where a row that another names isn't
-/// there.
+/// Shows a copy and where it is, in two lines. Faults 90, 91; 93, also if a row that another names
+/// is missing.
 pub(crate) fn copy_text<S: Alter>(
     store: &mut Store<S>,
     alloc: Global,

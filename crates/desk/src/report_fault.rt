@@ -1,15 +1,15 @@
-//! Why a report was not written.
+//! Why a report wasn't written.
 
 use terms::{Fault, Memory, Refusal, WriteFault};
 
-/// Why a report was not written.
+/// Why a report wasn't written.
 #[derive(Clone, Copy, Debug, PartialEq, Eq)]
 pub enum ReportFault {
-    /// It was refused, and nothing was written.
+    /// It was refused, with nothing written.
     Refused(Refusal),
-    /// A fault came; a beginning of the report may have gone out.
+    /// A fault came; a prefix of the report may have gone out.
     Faulted(Fault),
-    /// A write failed; a beginning of the report may have gone out.
+    /// A write failed; a prefix of the report may have gone out.
     NotWritten,
 }
 

@@ -1,4 +1,4 @@
-//! The reports of the desk, by one call.
+//! The desk's reports, through one call.
 
 ghost use Rattle.std.specs.Prelude.{◌≡◌, ◌++◌, ◌∷◌, [], IfOk, string_bytes};
 ghost use Rattle.desk.specs.Reports.{WritesAnyReport};
@@ -10,26 +10,25 @@ use std::alloc::Global;
 use std::io::Write;
 use terms::{BranchId, Day, Memory};
 
-/// A report that the desk writes.
+/// A report of the desk.
 #[derive(Clone, Copy, Debug, PartialEq, Eq)]
 pub enum Report {
-    /// The overdue loans that a branch made.
+    /// The overdue loans of a branch.
     Overdue(BranchId),
-    /// The sums of a day's lines of accounts.
+    /// The sums of a day's account lines.
     Till(Day),
     /// The ready holds of a branch.
     Shelf(BranchId),
 }
 
-/// What a batch of a report's rows told: how many rows, and the number of the last one where more
-/// may follow.
+/// The result of writing a batch: how many rows, and the last one's number if more may follow.
 #[derive(Clone, Copy)]
 pub(crate) struct Told {
     pub(crate) rows: usize,
     pub(crate) last: Option<u32>,
 }
 
-/// A line with its newline.
+/// Adds a newline to a line.
 pub(crate) fn with_newline(mut text: String) -> Result<String, Memory>
     ensures { IfOk result (λ line. string_bytes line ≡ string_bytes text ++ (10 ∷ [])) }
 {
@@ -38,9 +37,8 @@ pub(crate) fn with_newline(mut text: String) -> Result<String, Memory>
 }
 
 impl<S: Alter> Desk<S> {
-    /// Writes the bytes of a report; 10 for a branch that there isn't, and then nothing is written.
-    /// 90, 91, 93, or a write failed: then a beginning of them may have gone out. A branch's number
-    /// may be any.
+    /// Writes a report; 10, with nothing written, for an unknown branch. Fails with 90, 91, 93 or a
+    /// failed write: then a prefix may have gone out. The branch number is arbitrary.
     pub fn report<W: Write>(
         &mut self,
         alloc: Global,

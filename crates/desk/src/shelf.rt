@@ -1,7 +1,6 @@
-//! The report of the ready holds of a branch.
+//! The report of a branch's ready holds.
 //!
-//! The rows of a report are read and written batch by batch, so that what it takes of memory doesn't
-//! grow with it.
+//! Rows are read and written in batches, so that memory doesn't grow with the report.
 
 ghost use Rattle.std.specs.Prelude.{◌≡◌, ◌++◌, ◌∷◌, [], map, IfOk, string_bytes};
 ghost use Rattle.model.specs.Reports.{report_lines, ready_holds, shelf_line};
@@ -27,7 +26,7 @@ use terms::{
 /// The header of the shelf report.
 pub(crate) const SHELF_HEADER: &str = "      hold    copy  patron until      title\n";
 
-/// The row of a ready hold, with the copy that stands there for it, the shelf limit and the title.
+/// Makes the row of a ready hold, with its copy, shelf limit and title.
 fn shelf_row(
     alloc: Global,
     row: &HoldRow,
@@ -45,14 +44,14 @@ fn shelf_row(
     format!(in alloc; "{hold:>10} {copy:>7} {patron:>7} {limit_day} {text}")
 }
 
-/// The last line of the shelf report.
+/// Makes the last line of the report.
 fn shelf_end(alloc: Global, count: usize) -> Result<String, Memory>
     ensures { IfOk result (λ text. string_bytes text ≡ ready_count count ++ (10 ∷ [])) }
 {
     format!(in alloc; "ready {count}\n")
 }
 
-/// The row of a ready hold, with its title. 90, 91; 93, also where the hold names no copy or no
+/// Makes the row of a ready hold, with its title. Faults 90, 91; 93, also if it has no copy or no
 /// limit.
 fn ready_row<S: Alter>(store: &mut Store<S>, alloc: Global, row: &HoldRow) -> Result<String, Fault>
     ensures { LearnsIf (IsReadyRow row.now)
@@ -69,7 +68,7 @@ fn ready_row<S: Alter>(store: &mut Store<S>, alloc: Global, row: &HoldRow) -> Re
     Ok(shelf_row(alloc, row, copy, limit_day, &title)?)
 }
 
-/// The same with a newline. 90, 91, 93.
+/// The same with a newline. Faults 90, 91, 93.
 fn ready_line<S: Alter>(store: &mut Store<S>, alloc: Global, row: &HoldRow) -> Result<String, Fault>
     ensures { LearnsIf (IsReadyRow row.now)
         (λ H text. string_bytes text ≡ shelf_line H row.now.hold ++ (10 ∷ []))
@@ -124,7 +123,7 @@ impl Listed for ShelfAt {
     }
 }
 
-/// Writes the row of a ready hold. 90, 91, 93.
+/// Writes the row of a ready hold. Faults 90, 91, 93.
 fn write_ready<S: Alter, W: Write>(
     store: &mut Store<S>,
     alloc: Global,
@@ -139,7 +138,7 @@ fn write_ready<S: Alter, W: Write>(
     Ok(())
 }
 
-/// Writes the rows of ready holds, one after another. 90, 91, 93.
+/// Writes the rows of ready holds in order. Faults 90, 91, 93.
 fn write_ready_rows<S: Alter, W: Write>(
     store: &mut Store<S>,
     alloc: Global,
@@ -156,7 +155,7 @@ fn write_ready_rows<S: Alter, W: Write>(
     Ok(())
 }
 
-/// The number of the last hold of a full batch, after which more may follow.
+/// Returns the last hold of a full batch, which more may follow.
 fn last_hold(rows: &[HoldRow]) -> Option<u32>
     ensures { IsLast (λ r. r.hold) rows.now result }
 {
@@ -169,7 +168,7 @@ fn last_hold(rows: &[HoldRow]) -> Option<u32>
     }
 }
 
-/// Writes a batch of the rows of a branch's ready holds, from above a number on. 90, 91, 93.
+/// Writes a batch of a branch's ready holds above a number. Faults 90, 91, 93.
 fn write_ready_batch<S: Alter, W: Write>(
     store: &mut Store<S>,
     alloc: Global,
@@ -191,8 +190,7 @@ fn write_ready_batch<S: Alter, W: Write>(
     })
 }
 
-/// Writes the rows of a branch's ready holds, batch by batch, and tells how many they are. 90, 91,
-/// 93.
+/// Writes a branch's ready holds in batches, and returns their number. Faults 90, 91, 93.
 fn write_ready_batches<S: Alter, W: Write>(
     store: &mut Store<S>,
     alloc: Global,
@@ -217,8 +215,8 @@ fn write_ready_batches<S: Alter, W: Write>(
     Ok(count)
 }
 
-/// Writes the shelf report of a branch: the header, a row for each ready hold, and how many there
-/// are. 90, 91, 93.
+/// Writes the report of a branch: the header, a row for each ready hold, and their number. Faults
+/// 90, 91, 93.
 fn write_shelf<S: Alter, W: Write>(
     store: &mut Store<S>,
     alloc: Global,

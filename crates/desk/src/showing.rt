@@ -1,4 +1,4 @@
-//! What the patrons are shown: who is enrolled, and each one's own page.
+//! What patrons are shown: who is enrolled, and each one's page.
 
 ghost use Rattle.std.specs.Prelude.{◌≡◌, map, IfOk};
 ghost use Rattle.desk.specs.Answering.{Learns};
@@ -17,7 +17,7 @@ pub struct OwnPage {
     pub reply: Reply,
 }
 
-/// The numbers of the patrons of these rows.
+/// Returns the patrons' numbers in these rows.
 fn numbers(alloc: Global, rows: &[PatronRow]) -> Result<Vec<PatronId>, Memory>
     ensures { IfOk result (λ numbers. numbers.items ≡ map (λ r. r.patron) rows.now) }
 {
@@ -28,7 +28,7 @@ fn numbers(alloc: Global, rows: &[PatronRow]) -> Result<Vec<PatronId>, Memory>
     Ok(numbers)
 }
 
-/// The enrolled patrons, the least number first. 90, 91, 93.
+/// Lists the enrolled patrons by number. Faults 90, 91, 93.
 pub(crate) fn patrons<S: Alter>(store: &mut Store<S>, alloc: Global) -> Result<Vec<PatronId>, Fault>
     ensures { Learns (λ H patrons. AreEnrolled H patrons.items)
         S.Store store.old store.new result }
@@ -37,7 +37,8 @@ pub(crate) fn patrons<S: Alter>(store: &mut Store<S>, alloc: Global) -> Result<V
     Ok(numbers(alloc, rows.as_slice())?)
 }
 
-/// The page of a patron with the card key that opens it, where there is the patron. 90, 91, 93.
+/// Returns a patron's page with the card key that opens it, if the patron exists. Faults 90, 91,
+/// 93.
 pub(crate) fn own_page<S: Alter>(
     store: &mut Store<S>,
     alloc: Global,

@@ -19,8 +19,8 @@ use std::io::Write;
 use store::{BATCH_ROWS, Store};
 use terms::{Day, Fault, LineId, LineRow, Memory, Sort, write_bytes};
 
-/// The sums of a day's lines, by their sorts, in cents. There are fewer than 2^32 lines, of less
-/// than 2^52 cents each, so no sum comes near 2^128.
+/// The sums of a day's lines by sort, in cents. There are fewer than 2^32 lines, each below 2^52
+/// cents, so no sum comes near 2^128.
 #[derive(Clone, Copy, Debug, PartialEq, Eq)]
 struct Sums {
     fines: u128,
@@ -29,7 +29,7 @@ struct Sums {
     waivers: u128,
 }
 
-/// The amount of a line of the sort; of another's nothing.
+/// Returns the line's amount if it is of this sort, else 0.
 fn amount_of(row: &LineRow, sort: Sort) -> u128
     ensures { result ≡ cond (is_sort row.now.sort sort) row.now.amount 0 }
 {
@@ -40,7 +40,7 @@ fn amount_of(row: &LineRow, sort: Sort) -> u128
     }
 }
 
-/// The sum, with the lines of one sort added to it.
+/// Adds the lines of one sort to the sum.
 fn added(sum: u128, rows: &[LineRow], sort: Sort) -> u128
     ensures { result ≡ min (sum + rows_sum sort rows.now) (2 ^ 128 - 1) }
 {
@@ -51,7 +51,7 @@ fn added(sum: u128, rows: &[LineRow], sort: Sort) -> u128
     total
 }
 
-/// The sums, with a batch of lines added to them.
+/// Adds a batch of lines to the sums.
 fn add_lines(sums: Sums, rows: &[LineRow]) -> Sums
     ensures { (before : List AnyLine) → sums ≡ capped_sums before
         → result ≡ capped_sums (before ++ rows.now) }
@@ -64,7 +64,7 @@ fn add_lines(sums: Sums, rows: &[LineRow]) -> Sums
     }
 }
 
-/// The number of the last line of a full batch, after which more may follow.
+/// Returns the last line of a full batch, which more may follow.
 fn last_line(rows: &[LineRow]) -> Option<u32>
     ensures { IsLast (λ r. r.line) rows.now result }
 {
@@ -77,8 +77,8 @@ fn last_line(rows: &[LineRow]) -> Option<u32>
     }
 }
 
-/// The sums of a day's lines, which are read batch by batch. 90, 91; 93, which never comes where all
-/// rows lie in their limits.
+/// Sums a day's lines, read in batches. Faults 90, 91; 93, but never if all rows are within their
+/// limits.
 fn sum_day<S: Alter>(store: &mut Store<S>, alloc: Global, day: Day) -> Result<Sums, Fault>
     ensures { Looked InLimits (λ P sums. AreSumsOf P day sums) InLimits
         S.Store store.old store.new result }
@@ -102,7 +102,7 @@ fn sum_day<S: Alter>(store: &mut Store<S>, alloc: Global, day: Day) -> Result<Su
     Err(Fault::Stored)
 }
 
-/// The lines of the till report.
+/// Makes the lines of the till report.
 fn till_lines(alloc: Global, day: Day, sums: Sums) -> Result<String, Memory>
     ensures { IfOk result (λ text. string_bytes text ≡ till_words day sums) }
 {
@@ -118,8 +118,8 @@ fn till_lines(alloc: Global, day: Day, sums: Sums) -> Result<String, Memory>
     )
 }
 
-/// The lines of the till report of a day. 90, 91; 93, which never comes where all rows lie in their
-/// limits.
+/// Makes the lines of a day's till report. Faults 90, 91; 93, but never if all rows are within
+/// their limits.
 pub(crate) fn till_text<S: Alter>(
     store: &mut Store<S>,
     alloc: Global,
@@ -132,7 +132,8 @@ pub(crate) fn till_text<S: Alter>(
     Ok(till_lines(alloc, day, sums)?)
 }
 
-/// The till report of a day. 90, 91; 93, which never comes where all rows lie in their limits.
+/// Makes the till report of a day. Faults 90, 91; 93, but never if all rows are within their
+/// limits.
 fn till_report<S: Alter>(store: &mut Store<S>, alloc: Global, day: Day) -> Result<String, Fault>
     ensures { Looked InLimits (λ P text. IsTillReport P day (string_bytes text)) InLimits
         S.Store store.old store.new result }
@@ -140,7 +141,7 @@ fn till_report<S: Alter>(store: &mut Store<S>, alloc: Global, day: Day) -> Resul
     Ok(with_newline(till_text(store, alloc, day)?)?)
 }
 
-/// Writes the till report of a day. 90, 91, 93, or a write failed: then a beginning of it may have
+/// Writes the till report of a day. Fails with 90, 91, 93 or a failed write: then a prefix may have
 /// gone out.
 pub(crate) fn till<S: Alter, W: Write>(
     store: &mut Store<S>,

@@ -7,11 +7,11 @@ use circ_core::{Changes, RowChange};
 use std::marker::Model;
 use terms::PatronId;
 
-/// The most patrons that one command touches: one for each of its changes.
+/// The most patrons one command touches: one per change.
 const MOST: usize = Changes::PLACES;
 
-/// The patrons whose own rows a handled request may have changed: the patron's row, and the rows of
-/// the patron's loans and holds. A patron can stand there more than once.
+/// The patrons whose own rows a handled request may have changed: the patron's row, loans and
+/// holds. A patron can occur more than once.
 #[derive(Drop)]
 pub struct Touched {
     patrons: [PatronId; MOST],
@@ -29,7 +29,7 @@ impl Model for Touched {
 }
 
 impl Touched {
-    /// No patron.
+    /// Makes an empty list.
     pub fn none() -> Touched
         ensures { result ≡ [] }
     {
@@ -39,7 +39,7 @@ impl Touched {
         }
     }
 
-    /// The patrons, at most six.
+    /// Returns the patrons, at most six.
     pub fn as_slice(&self) -> &[PatronId]
         ensures value { result.now ≡ self.now }
         ensures few { length result.now ≤ 6 }
@@ -47,7 +47,7 @@ impl Touched {
         &self.patrons[..self.count]
     }
 
-    /// One patron more, of at most six.
+    /// Adds a patron, up to six.
     fn push(&mut self, patron: PatronId)
         requires { length self.old < 6 }
         ensures { self.new ≡ self.old ++ patron ∷ [] }
@@ -57,7 +57,7 @@ impl Touched {
     }
 }
 
-/// The patron whose own row a change puts.
+/// Returns the patron whose own row a change puts.
 fn patron_put(change: &RowChange<'_>) -> Option<PatronId>
     ensures { result ≡ patron_put_of change.now }
 {
@@ -69,7 +69,7 @@ fn patron_put(change: &RowChange<'_>) -> Option<PatronId>
     }
 }
 
-/// The patrons whose own rows the changes put. It takes no memory.
+/// Returns the patrons whose own rows the changes put. Takes no memory.
 pub(crate) fn touched_by(changes: &Changes<'_>) -> Touched
     ensures { result ≡ patrons_put changes.now }
 {
