@@ -15,8 +15,8 @@ pub struct Entry {
     pub reply: Reply,
 }
 
-/// What the board shows between two entries: all pages, and the first of the two entries, if any.
-/// No value of it is made.
+/// What the board shows between two entries: the first of them (none in the first frame) and all
+/// pages. No value of it is made.
 pub struct Frame {
     pub entry: Option<Entry>,
     pub pages: LinkedList<(u32, OwnPage)>,

@@ -1,4 +1,4 @@
-//! Rows that are to be written, their texts borrowed: a clause sees the row itself.
+//! Rows to write, with borrowed texts: clauses see the row itself.
 
 ghost use Rattle.terms.specs.declared.row.BranchRow.{BranchRow};
 ghost use Rattle.terms.specs.declared.row.PatronRow.{PatronRow};

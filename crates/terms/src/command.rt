@@ -1,4 +1,4 @@
-//! What can be asked of the desk.
+//! Commands of the desk.
 
 ghost use Rattle.std.specs.Prelude.{◌≡◌, IfOk, string_bytes};
 ghost use Rattle.terms.specs.Callers.{owner_of};
@@ -16,39 +16,39 @@ use std::alloc::Global;
 /// A command of the desk. A patron may send `PlaceHold`, `CancelHold`, `Renew` and `Page`.
 #[derive(Drop)]
 pub enum Command {
-    /// Today becomes this day, which is after it.
+    /// Makes this later day today.
     BeginDay {
         day: Day,
     },
-    /// A branch, with the days that a copy waits on its hold shelf.
+    /// Sets up a branch, with the days a copy waits on its hold shelf.
     Branch {
         branch: BranchId,
         pickup: Days,
         name: Name,
     },
-    /// The weekdays on which a branch is closed.
+    /// Sets the weekdays on which a branch is closed.
     Week {
         branch: BranchId,
         week: Mask,
     },
-    /// A later day on which a branch is closed.
+    /// Closes a branch on a later day.
     CloseDay {
         branch: BranchId,
         day: Day,
     },
-    /// A later day that a branch no longer closes singly.
+    /// Reopens a branch on a later day that was closed singly.
     OpenDay {
         branch: BranchId,
         day: Day,
     },
-    /// What a kind of patron may have: open loans, active holds, and debt at check-out.
+    /// Sets what a kind of patron may have: open loans, active holds, and debt at check-out.
     Kind {
         kind: PatronKind,
         loans: Count,
         holds: Count,
         debt: Cents,
     },
-    /// The circulation rule for a kind of patron and a kind of copy.
+    /// Sets the circulation rule for a kind of patron and a kind of copy.
     Rule {
         kind: PatronKind,
         copy_kind: CopyKind,
@@ -57,21 +57,21 @@ pub enum Command {
         rate: Cents,
         cap: Cents,
     },
-    /// The grace days of a circulation rule: a loan that is made under it and ends at most so many
-    /// open days late costs no fine.
+    /// Sets the grace days of a circulation rule: a loan under it that ends at most this many open
+    /// days late costs no fine.
     Grace {
         kind: PatronKind,
         copy_kind: CopyKind,
         days: Days,
     },
-    /// A patron is enrolled.
+    /// Enrols a patron.
     Patron {
         patron: PatronId,
         kind: PatronKind,
         card_key: CardKey,
         name: Name,
     },
-    /// A copy is acquired, and its title with it.
+    /// Acquires a copy, and its title with it.
     Acquire {
         copy: CopyId,
         title: TitleId,
@@ -80,64 +80,64 @@ pub enum Command {
         price: Cents,
         text: Name,
     },
-    /// A patron borrows a copy at a branch.
+    /// Lends a copy to a patron at a branch.
     CheckOut {
         patron: PatronId,
         copy: CopyId,
         branch: BranchId,
     },
-    /// A copy is handed in at a branch.
+    /// Takes back a copy at a branch.
     CheckIn {
         copy: CopyId,
         branch: BranchId,
     },
-    /// A loan is made longer.
+    /// Extends a loan.
     Renew {
         loan: LoanId,
     },
-    /// A patron wants a title, to be picked up at a branch: at once (`place-hold`), or from a later
-    /// day on (`place-hold-from`).
+    /// Places a patron's hold on a title, for pick-up at a branch: at once (`place-hold`), or from
+    /// a later day on (`place-hold-from`).
     PlaceHold {
         patron: PatronId,
         title: TitleId,
         branch: BranchId,
         first_day: Option<Day>,
     },
-    /// A waiting hold is cancelled.
+    /// Cancels a waiting hold.
     CancelHold {
         hold: HoldId,
     },
-    /// A ready hold whose shelf limit has passed expires.
+    /// Expires a ready hold whose shelf limit has passed.
     Unshelve {
         hold: HoldId,
     },
-    /// A ready hold is cancelled.
+    /// Cancels a ready hold.
     UnshelveCancelled {
         hold: HoldId,
     },
-    /// A copy is declared missing.
+    /// Declares a copy missing.
     Missing {
         copy: CopyId,
     },
-    /// A copy leaves the library for good.
+    /// Withdraws a copy for good.
     Withdraw {
         copy: CopyId,
     },
-    /// A patron pays.
+    /// Takes a patron's payment.
     Pay {
         patron: PatronId,
         amount: Cents,
     },
-    /// A patron is let off an amount.
+    /// Waives an amount for a patron.
     Waive {
         patron: PatronId,
         amount: Cents,
     },
-    /// What a patron owes, has on loan and holds. It changes nothing.
+    /// Shows what a patron owes, has on loan and holds. Changes nothing.
     Page {
         patron: PatronId,
     },
-    /// A question of the desk, which changes nothing.
+    /// Asks a question; changes nothing.
     Ask(Question),
 }
 
@@ -148,7 +148,7 @@ pub enum Caller {
     Patron(PatronId, CardKey),
 }
 
-/// Whose key a kept request has: all desks share one set of keys, and each patron has an own one.
+/// Whose key a kept request has: all desks share one set of keys, and each patron has their own.
 #[derive(Clone, Copy, Debug, PartialEq, Eq)]
 pub enum Owner {
     Desk,
@@ -156,7 +156,7 @@ pub enum Owner {
 }
 
 impl Caller {
-    /// Whose keys the caller's requests have.
+    /// Returns whose keys the caller's requests have.
     pub fn owner(&self) -> Owner
         ensures { result ≡ owner_of self.now }
     {
@@ -175,7 +175,7 @@ pub struct Request {
     pub command: Command,
 }
 
-/// The words of a command, joined by single spaces.
+/// Joins the words of a command with single spaces.
 #[tactic(auto, unfolding(crate::specs::Texts::request_text, crate::specs::Texts::command_words))]
 pub(crate) fn joined_words(alloc: Global, command: &Command) -> Result<String, Memory>
     ensures { IfOk result (λ text. string_bytes text ≡ request_text command.now) }
@@ -254,7 +254,7 @@ pub(crate) fn joined_words(alloc: Global, command: &Command) -> Result<String, M
     }
 }
 
-/// The request text of a command: its words, joined by single spaces. Each command has one
+/// Makes the request text of a command: its words, joined by single spaces. Each command has one
 /// spelling.
 pub fn request_text(alloc: Global, command: &Command) -> Result<Text, Memory>
     ensures { IfOk result (λ text. text ≡ request_text command.now) }

@@ -1,4 +1,4 @@
-//! Why a request could not be answered.
+//! Why a request couldn't be answered.
 
 ghost use Rattle.std.specs.Prelude.{◌≡◌};
 ghost use Rattle.terms.specs.Texts.{fault_number, service_fault_number};
@@ -8,19 +8,19 @@ ghost use Rattle.terms.specs.declared.fault.ServiceFault.TheVariants.{Met};
 use std::alloc::{AllocError, AllocFailed};
 use std::fmt;
 
-/// Why a request could not be answered.
+/// Why a request couldn't be answered.
 #[derive(Clone, Copy, Debug, PartialEq, Eq)]
 pub enum Fault {
-    /// 90: memory was wanted outside the database, and there was none.
+    /// 90: out of memory outside the database.
     Memory,
-    /// 91: the database refused a call, for whatever cause.
+    /// 91: the database refused a call, for any reason.
     Database,
     /// 93: the schema is unknown, or a stored row is outside its columns or limits.
     Stored,
 }
 
 impl Fault {
-    /// The number that stands for the fault in replies.
+    /// Returns the fault's number in replies.
     pub fn number(self) -> u32
         ensures { result ≡ fault_number self }
     {
@@ -64,14 +64,14 @@ impl<T: Drop> From<AllocFailed<T>> for Fault {
 /// Why a request to a hall has no reply.
 #[derive(Clone, Copy, Debug, PartialEq, Eq)]
 pub enum ServiceFault {
-    /// 90, 91 or 93: the fault that was met.
+    /// 90, 91 or 93: this fault.
     Met(Fault),
     /// 92: the hall is closed or was not opened, or a worker's numbers are used up.
     Closed,
 }
 
 impl ServiceFault {
-    /// The number that stands for the fault in answers.
+    /// Returns the fault's number in answers.
     pub fn number(self) -> u32
         ensures { result ≡ service_fault_number self }
     {

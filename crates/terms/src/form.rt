@@ -1,14 +1,14 @@
-//! The table of commands: the name of each, and its parts with their kinds.
+//! The table of commands: names, and parts with their kinds.
 
 ghost use Rattle.std.specs.Prelude.{◌≡◌, map, option_map};
 ghost use Rattle.terms.specs.Commands.{commands, column, line, parts_in};
 
-/// What a word of a command writes.
+/// The kind of a command's word.
 #[derive(Clone, Copy, Debug, PartialEq, Eq)]
 pub enum PartKind {
     /// A number below 2^32.
     Number,
-    /// An amount in cents, which a word writes below 2^32.
+    /// An amount in cents, below 2^32.
     Amount,
     /// A day, as `2026-03-02`.
     Day,
@@ -20,14 +20,14 @@ pub enum PartKind {
     Name,
 }
 
-/// A part of a command: its name, and what its word writes.
+/// A part of a command: its name and the kind of its word.
 #[derive(Clone, Copy)]
 pub struct PartForm {
     pub name: &'static str,
     pub kind: PartKind,
 }
 
-/// A command's name, and its parts in their order.
+/// A command's name, and its parts in order.
 #[derive(Clone, Copy)]
 pub struct CommandForm {
     pub name: &'static str,
@@ -300,14 +300,14 @@ const COMMANDS: &[CommandForm] = &[
     },
 ];
 
-/// The commands that are understood, each with its parts.
+/// Returns the commands, each with its parts.
 pub fn command_forms() -> &'static [CommandForm]
     ensures { map line result.now ≡ commands }
 {
     COMMANDS
 }
 
-/// The form of the command with this name among these, if there is one.
+/// Finds the command with this name.
 fn form_named(forms: &[CommandForm], name: &str) -> Option<&'static [PartForm]>
     ensures { option_map (λ parts. map column parts.now) result ≡ parts_in
         (map line forms.now) name.now }
@@ -320,7 +320,7 @@ fn form_named(forms: &[CommandForm], name: &str) -> Option<&'static [PartForm]>
     None
 }
 
-/// The parts of the command with this name, in their order.
+/// Returns the parts of the command with this name, in order.
 pub fn parts_for(name: &str) -> Option<&'static [PartForm]>
     ensures { option_map (λ parts. map column parts.now) result ≡ parts_in commands name.now }
 {

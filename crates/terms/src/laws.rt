@@ -1,4 +1,4 @@
-//! Laws of texts: a law is the contract of a function that does nothing.
+//! Laws of texts. Each law is the contract of a function that does nothing.
 
 ghost use Rattle.std.specs.Prelude.{◌≡◌, true, false};
 ghost use Rattle.terms.specs.Laws.{IsCommand, IsRouted, IsKept, RequestTextsDiffer};
@@ -10,17 +10,17 @@ use crate::command::Command;
 use crate::question::Question;
 use crate::reply::{Reply, Routed};
 
-/// Every command stands in the table of commands, with parts of the kinds that it has.
+/// Every command is in the table of commands, with parts of these kinds.
 pub fn commands_are_listed()
     ensures { CommandsAreListed }
 {}
 
-/// Two commands with one request text are one command.
+/// Commands with the same request text are equal.
 pub fn request_texts_differ()
     ensures { RequestTextsDiffer }
 {}
 
-/// Two kept replies with one reply text are one reply.
+/// Kept replies with the same reply text are equal.
 pub fn reply_texts_differ()
     ensures { ReplyTextsDiffer }
 {}
@@ -35,7 +35,7 @@ pub fn reply_texts_are_utf8()
     ensures { ReplyTextsUtf8 }
 {}
 
-/// Each number and the day of a question has its form.
+/// The numbers and day of a question are well-formed.
 fn question_has_forms(question: &Question)
     ensures { IsCommand (Ask question.now) }
 {
@@ -80,7 +80,7 @@ fn question_has_forms(question: &Question)
     }
 }
 
-/// Each number, day, mask and text of a command has its form.
+/// The numbers, days, masks and texts of a command are well-formed.
 pub fn command_has_forms(command: &Command)
     ensures { IsCommand command.now }
 {
@@ -229,7 +229,7 @@ pub fn command_has_forms(command: &Command)
     }
 }
 
-/// Where a copy goes: its numbers and its day are in their ranges.
+/// The numbers and day of a copy's destination are in their ranges.
 fn routed_has_forms(routed: &Routed)
     ensures { IsRouted routed.now }
 {
@@ -259,8 +259,8 @@ fn routed_has_forms(routed: &Routed)
     }
 }
 
-/// Whether a reply is one that can be kept: neither a page nor a refusal. Its numbers, amounts and
-/// days are in their ranges then, as they are in every reply.
+/// Returns whether a reply can be kept: neither a page nor a refusal. Its numbers, amounts and days
+/// are then in range, as in every reply.
 pub fn can_be_kept(reply: &Reply) -> bool
     ensures kept { result ≡ true → IsKept reply.now }
     ensures other { result ≡ false → IsKept reply.now → ⊥ }

@@ -5,8 +5,8 @@ ghost use Rattle.terms.specs.Money.{fine_for};
 
 use crate::number::{Cents, Days};
 
-/// The fine for so many open days late: none within the grace days; else each day late costs the
-/// rate in cents, and all together no more than the cap.
+/// Returns the fine for this many open days late: none within the grace days; otherwise the rate in
+/// cents for each day late, up to the cap.
 pub fn fine(days: u32, rate: Cents, cap: Cents, grace: Days) -> Cents
     ensures { result ≡ fine_for days rate cap grace }
 {

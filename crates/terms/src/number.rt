@@ -1,4 +1,4 @@
-//! Numbers: whose they are is their type.
+//! Numbers, typed by what they number.
 
 ghost use Rattle.std.specs.Prelude.{◌≡◌, ◌<◌, ◌≤◌, ◌^◌, ℕ};
 ghost use Rattle.terms.specs.declared.limits.TheConstants.{LARGEST_SUM};
@@ -6,7 +6,7 @@ ghost use Rattle.terms.specs.declared.limits.TheConstants.{LARGEST_SUM};
 use std::fmt;
 use std::marker::{Model, PhantomData};
 
-/// A number of something: `T` says of what.
+/// A number of something; `T` says of what.
 #[derive_where(Clone, Copy, Debug, PartialEq, Eq)]
 pub struct Number<T> {
     number: u32,
@@ -22,7 +22,7 @@ impl<T> Model for Number<T> {
 }
 
 impl<T> Number<T> {
-    /// The number as it stands, within its limits or not.
+    /// Makes a number, within its limits or not.
     pub const fn new(number: u32) -> Self
         ensures { result ≡ number }
     {
@@ -32,7 +32,7 @@ impl<T> Number<T> {
         }
     }
 
-    /// The number.
+    /// Returns the number.
     pub const fn number(self) -> u32
         ensures value { result ≡ self }
         ensures fits { self < 2 ^ 32 }
@@ -54,7 +54,7 @@ impl<T> fmt::Display for Number<T> {
     }
 }
 
-// What numbers are of. No value has one of these types: they keep numbers of different things apart.
+// What numbers are of. These types have no values: they keep numbers of different things apart.
 
 /// A branch of the library.
 pub enum OfBranch {}
@@ -86,44 +86,43 @@ pub enum OfCopyKind {}
 /// A day of a period.
 pub enum OfDay {}
 
-/// A loan, a hold or a renewal, where only their count matters.
+/// A loan, a hold or a renewal, when only counted.
 pub enum OfCount {}
 
-/// A branch, by its number.
+/// A branch number.
 pub type BranchId = Number<OfBranch>;
 
-/// A patron, by number.
+/// A patron number.
 pub type PatronId = Number<OfPatron>;
 
-/// A title, by its number.
+/// A title number.
 pub type TitleId = Number<OfTitle>;
 
-/// A copy, by its number.
+/// A copy number.
 pub type CopyId = Number<OfCopy>;
 
-/// A loan, by its number. Loans are numbered from 1, in the order in which they are made.
+/// A loan number. Loans are numbered from 1 in the order they are made.
 pub type LoanId = Number<OfLoan>;
 
-/// A hold, by its number. Holds are numbered from 1, in the order in which they are placed.
+/// A hold number. Holds are numbered from 1 in the order they are placed.
 pub type HoldId = Number<OfHold>;
 
-/// A line of an account, by its number. Lines are numbered from 1 over all patrons.
+/// The number of an account line. Lines are numbered from 1 across all patrons.
 pub type LineId = Number<OfLine>;
 
-/// A kind of patron, by its number.
+/// The number of a kind of patron.
 pub type PatronKind = Number<OfPatronKind>;
 
-/// A kind of copy, by its number.
+/// The number of a kind of copy.
 pub type CopyKind = Number<OfCopyKind>;
 
-/// How many days: a loan period or a pick-up period.
+/// A number of days: a loan period or a pick-up period.
 pub type Days = Number<OfDay>;
 
-/// How many loans, holds or renewals are allowed or left.
+/// The number of loans, holds or renewals allowed or left.
 pub type Count = Number<OfCount>;
 
-/// An amount of money, in whole cents. None is so large that a column of the tables couldn't hold
-/// it.
+/// An amount of money in whole cents, small enough for a column of the tables.
 #[derive(Clone, Copy, Debug, PartialEq, Eq)]
 pub struct Cents(u64);
 
@@ -141,7 +140,7 @@ impl Model for Cents {
 }
 
 impl Cents {
-    /// The amount of so many cents, which is within the limits of its kind or not.
+    /// Makes an amount of cents, within the limits of its kind or not.
     pub const fn new(number: u64) -> Self
         requires { number ≤ LARGEST_SUM }
         ensures { result ≡ number }
@@ -149,7 +148,7 @@ impl Cents {
         Cents(number)
     }
 
-    /// The number.
+    /// Returns the number.
     pub const fn number(self) -> u64
         ensures value { result ≡ self }
         ensures fits { self ≤ LARGEST_SUM }

@@ -1,4 +1,4 @@
-//! The orders in which the rows of tables stand.
+//! The order of the rows in each table.
 
 ghost use Rattle.std.specs.Prelude.{◌≡◌, ◌↔◌, ◌<◌, IsTrue};
 ghost use Rattle.terms.specs.Callers.{owner_number};
@@ -11,20 +11,20 @@ use crate::row::{
     LoanRow1, PatronRow, RuleRow, TitleRow, TransitRow,
 };
 
-/// Rows of a table, which stand in an order of their keys.
+/// Rows of a table, ordered by key.
 pub trait Ordered: Drop {
     ghost use Rattle.std.specs.Prelude.{◌↔◌, IsTrue};
 
     ghost comes_before: { Self → Self → Type 0 };
 
-    /// Whether the row comes before another.
+    /// Returns whether the row comes before another.
     fn comes_before(&self, other: &Self) -> bool
         ensures { IsTrue result ↔ comes_before self.now other.now };
 
     ghost goes_on: { (r s t : Self) → comes_before r s → comes_before s t → comes_before r t };
 }
 
-/// 0 for the desk, else the patron's number.
+/// Returns 0 for the desk, else the patron's number.
 pub fn owner_number(owner: Owner) -> u32
     ensures { result ≡ owner_number owner }
 {
@@ -34,14 +34,14 @@ pub fn owner_number(owner: Owner) -> u32
     }
 }
 
-/// Whether a pair of numbers comes before another.
+/// Returns whether a pair of numbers comes before another.
 fn is_pair_before(a: u32, b: u32, next_a: u32, next_b: u32) -> bool
     ensures { IsTrue result ↔ IsPairBefore (a, b) (next_a, next_b) }
 {
     a < next_a || (a == next_a && b < next_b)
 }
 
-/// Branches stand by number.
+/// Branches are ordered by number.
 impl Ordered for BranchRow {
     ghost comes_before = { λ r s. r.branch < s.branch };
 
@@ -52,7 +52,7 @@ impl Ordered for BranchRow {
     ghost goes_on = { rise-on (λ r. r.branch) };
 }
 
-/// Kinds of patrons stand by number.
+/// Kinds of patrons are ordered by number.
 impl Ordered for KindRow {
     ghost comes_before = { λ r s. r.kind < s.kind };
 
@@ -63,7 +63,7 @@ impl Ordered for KindRow {
     ghost goes_on = { rise-on (λ r. r.kind) };
 }
 
-/// Patrons stand by number.
+/// Patrons are ordered by number.
 impl Ordered for PatronRow {
     ghost comes_before = { λ r s. r.patron < s.patron };
 
@@ -74,7 +74,7 @@ impl Ordered for PatronRow {
     ghost goes_on = { rise-on (λ r. r.patron) };
 }
 
-/// Titles stand by number.
+/// Titles are ordered by number.
 impl Ordered for TitleRow {
     ghost comes_before = { λ r s. r.title < s.title };
 
@@ -85,7 +85,7 @@ impl Ordered for TitleRow {
     ghost goes_on = { rise-on (λ r. r.title) };
 }
 
-/// Copies stand by number.
+/// Copies are ordered by number.
 impl Ordered for CopyRow {
     ghost comes_before = { λ r s. r.copy < s.copy };
 
@@ -96,7 +96,7 @@ impl Ordered for CopyRow {
     ghost goes_on = { rise-on (λ r. r.copy) };
 }
 
-/// Loans stand by number.
+/// Loans are ordered by number.
 impl Ordered for LoanRow {
     ghost comes_before = { λ r s. r.loan < s.loan };
 
@@ -107,7 +107,7 @@ impl Ordered for LoanRow {
     ghost goes_on = { rise-on (λ r. r.loan) };
 }
 
-/// Loans of schemas 1 and 2 stand by number.
+/// Loans of schemas 1 and 2 are ordered by number.
 impl Ordered for LoanRow1 {
     ghost comes_before = { λ r s. r.loan < s.loan };
 
@@ -118,7 +118,7 @@ impl Ordered for LoanRow1 {
     ghost goes_on = { rise-on (λ r. r.loan) };
 }
 
-/// Holds stand by number.
+/// Holds are ordered by number.
 impl Ordered for HoldRow {
     ghost comes_before = { λ r s. r.hold < s.hold };
 
@@ -129,7 +129,7 @@ impl Ordered for HoldRow {
     ghost goes_on = { rise-on (λ r. r.hold) };
 }
 
-/// Holds of schema 1 stand by number.
+/// Holds of schema 1 are ordered by number.
 impl Ordered for HoldRow1 {
     ghost comes_before = { λ r s. r.hold < s.hold };
 
@@ -140,7 +140,7 @@ impl Ordered for HoldRow1 {
     ghost goes_on = { rise-on (λ r. r.hold) };
 }
 
-/// Transits stand by the number of the copy.
+/// Transits are ordered by copy number.
 impl Ordered for TransitRow {
     ghost comes_before = { λ r s. r.copy < s.copy };
 
@@ -151,7 +151,7 @@ impl Ordered for TransitRow {
     ghost goes_on = { rise-on (λ r. r.copy) };
 }
 
-/// Lines stand by number.
+/// Lines are ordered by number.
 impl Ordered for LineRow {
     ghost comes_before = { λ r s. r.line < s.line };
 
@@ -162,7 +162,7 @@ impl Ordered for LineRow {
     ghost goes_on = { rise-on (λ r. r.line) };
 }
 
-/// Circulation rules stand by the kind of patron and then by the kind of copy.
+/// Circulation rules are ordered by kind of patron, then by kind of copy.
 impl Ordered for RuleRow {
     ghost comes_before = { λ r s. IsPairBefore (r.kind, r.copy_kind) (s.kind, s.copy_kind) };
 
@@ -178,7 +178,7 @@ impl Ordered for RuleRow {
     ghost goes_on = { pair-on (λ r. (r.kind, r.copy_kind)) };
 }
 
-/// Closed days stand by branch and then by day.
+/// Closed days are ordered by branch, then by day.
 impl Ordered for ClosedDayRow {
     ghost comes_before = { λ r s. IsPairBefore (r.branch, r.day) (s.branch, s.day) };
 
@@ -194,7 +194,7 @@ impl Ordered for ClosedDayRow {
     ghost goes_on = { pair-on (λ r. (r.branch, r.day)) };
 }
 
-/// What is kept stands by whose it is, the desk's first, and then by key, byte by byte.
+/// Kept requests are ordered by owner, the desk first, then by key, bytewise.
 impl Ordered for KeptRow {
     ghost comes_before = { IsKeptBefore };
 

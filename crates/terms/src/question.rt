@@ -1,4 +1,4 @@
-//! What the desk can be asked about its tables.
+//! Questions the desk can be asked about its tables.
 
 ghost use Rattle.std.specs.Prelude.{◌≡◌, IfOk, string_bytes};
 ghost use Rattle.terms.specs.Texts.{request_text};
@@ -8,34 +8,32 @@ use crate::number::{BranchId, CopyId, HoldId, LineId, LoanId, PatronId, TitleId}
 use calendar::{Day, Memory};
 use std::alloc::Global;
 
-/// A question of the desk, which changes nothing. A list is asked for from a number on: it shows
-/// the rows whose numbers are above `after`.
+/// A question, which changes nothing. A list shows the rows with numbers above `after`.
 #[derive(Drop)]
 pub enum Question {
     /// A copy, and where it is.
     Copy { copy: CopyId },
     /// The copies of a title, and where each is.
     Copies { title: TitleId, after: CopyId },
-    /// The line of a title.
+    /// The queue of a title.
     Queue { title: TitleId, after: HoldId },
     /// The lines of a patron's account.
     Account { patron: PatronId, after: LineId },
     /// The patrons who owe something.
     Debts { after: PatronId },
-    /// The loans of a branch that are overdue.
+    /// The overdue loans of a branch.
     Overdue { branch: BranchId, after: LoanId },
-    /// The holds that are ready at a branch.
+    /// The ready holds of a branch.
     Shelf { branch: BranchId, after: HoldId },
-    /// The copies that are to be taken from the shelves of a branch, each for the hold whose turn
-    /// it is.
+    /// The copies to take from a branch's shelves, each for the hold whose turn it is.
     Pulls { branch: BranchId, after: HoldId },
-    /// The copies that are on their way to a branch.
+    /// The copies on their way to a branch.
     Transits { branch: BranchId, after: CopyId },
     /// The sums of a day.
     Till { day: Day },
 }
 
-/// The words of a question, joined by single spaces.
+/// Joins the words of a question with single spaces.
 #[tactic(auto, unfolding(crate::specs::Texts::request_text, crate::specs::Texts::command_words))]
 pub(crate) fn joined_question(alloc: Global, question: &Question) -> Result<String, Memory>
     ensures { IfOk result (λ text. string_bytes text ≡ request_text (Ask question.now)) }

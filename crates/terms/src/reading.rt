@@ -1,4 +1,4 @@
-//! Numbers and replies, read back from their texts.
+//! Reading numbers and replies back from their texts.
 
 ghost use Rattle.std.specs.Prelude.{◌≡◌, ◌≢◌, ◌<◌, ◌^◌, ◌++◌, ◌∷◌, IfSome, IfNone, IsSome};
 ghost use Rattle.std.specs.Prelude.{IsSomeAnd, Some, None, List, ℕ};
@@ -16,7 +16,7 @@ use crate::number::{BranchId, Cents, HoldId, LoanId};
 use crate::reply::{Reply, Routed};
 use calendar::Day;
 
-/// The whole number below 2^64 that a text writes in decimal, with no sign and no leading zero.
+/// Reads a decimal number below 2^64, with no sign and no leading zero.
 fn read_large(text: &str) -> Option<u64>
     ensures some { IfSome result (λ n. text.now ≡ decimal n) }
     ensures none { IfNone result ((n : ℕ) → n < 2 ^ 64 → text.now ≢ decimal n) }
@@ -38,7 +38,7 @@ fn read_large(text: &str) -> Option<u64>
     }
 }
 
-/// The number that a text writes: decimal digits with no leading zero, at most 4,294,967,295.
+/// Reads a decimal number with no leading zero, at most 4,294,967,295.
 pub fn read_number(text: &str) -> Option<u32>
     ensures some { IfSome result (λ n. text.now ≡ decimal n) }
     ensures none { IfNone result ((n : ℕ) → n < 2 ^ 32 → text.now ≢ decimal n) }
@@ -52,7 +52,7 @@ pub fn read_number(text: &str) -> Option<u32>
     }
 }
 
-/// The amount of cents that a text writes.
+/// Reads an amount in cents.
 fn read_amount(text: &str) -> Option<u64>
     ensures sound { IfSome result (λ n. IsAmount n × (text.now ≡ decimal n)) }
     ensures whole { (n : ℕ) → IsAmount n → text.now ≡ decimal n → result ≡ Some n }
@@ -65,7 +65,7 @@ fn read_amount(text: &str) -> Option<u64>
     }
 }
 
-/// What follows a word and a space.
+/// Returns what follows a word and a space.
 fn after_word<'a>(text: &'a str, word: &str) -> Option<&'a str>
     ensures sound { IfSome result (λ rest. text.now ≡ word.now ++ (32 ∷ rest.now)) }
     ensures whole { (rest : List ℕ) → text.now ≡ word.now ++ (32 ∷ rest)
@@ -75,7 +75,7 @@ fn after_word<'a>(text: &'a str, word: &str) -> Option<&'a str>
     rest.strip_prefix(' ')
 }
 
-/// `N REST`.
+/// Reads `N REST`.
 fn number_and_rest(text: &str) -> Option<(u32, &str)>
     ensures sound { IfSome result (λ p. IsNumber p.0 × (text.now ≡ decimal p.0 ++ (32 ∷ p.1.now))) }
     ensures whole { (n : ℕ) (rest : List ℕ) → IsNumber n → text.now ≡ decimal n ++ (32 ∷ rest)
@@ -86,7 +86,7 @@ fn number_and_rest(text: &str) -> Option<(u32, &str)>
     Some((number, rest))
 }
 
-/// `AMOUNT REST`.
+/// Reads `AMOUNT REST`.
 fn amount_and_rest(text: &str) -> Option<(u64, &str)>
     ensures sound { IfSome result (λ p. IsAmount p.0 × (text.now ≡ decimal p.0 ++ (32 ∷ p.1.now))) }
     ensures whole { (n : ℕ) (rest : List ℕ) → IsAmount n → text.now ≡ decimal n ++ (32 ∷ rest)
@@ -97,7 +97,7 @@ fn amount_and_rest(text: &str) -> Option<(u64, &str)>
     Some((amount, rest))
 }
 
-/// `WORD N`.
+/// Reads `WORD N`.
 fn number_after(text: &str, word: &str) -> Option<u32>
     ensures sound { IfSome result (λ n. IsNumber n × (text.now ≡ word.now ++ (32 ∷ decimal n))) }
     ensures whole { (n : ℕ) → IsNumber n → text.now ≡ word.now ++ (32 ∷ decimal n)
@@ -107,7 +107,7 @@ fn number_after(text: &str, word: &str) -> Option<u32>
     read_number(rest)
 }
 
-/// `WORD AMOUNT`.
+/// Reads `WORD AMOUNT`.
 fn amount_after(text: &str, word: &str) -> Option<u64>
     ensures sound { IfSome result (λ n. IsAmount n × (text.now ≡ word.now ++ (32 ∷ decimal n))) }
     ensures whole { (n : ℕ) → IsAmount n → text.now ≡ word.now ++ (32 ∷ decimal n)
@@ -117,7 +117,7 @@ fn amount_after(text: &str, word: &str) -> Option<u64>
     read_amount(rest)
 }
 
-/// `WORD DAY`.
+/// Reads `WORD DAY`.
 fn day_after(text: &str, word: &str) -> Option<Day>
     ensures sound { IfSome result (λ n. IsDayNumber n
         × (text.now ≡ word.now ++ (32 ∷ day_text n))) }
@@ -128,7 +128,7 @@ fn day_after(text: &str, word: &str) -> Option<Day>
     Day::read(rest)
 }
 
-/// `WORD N REST`.
+/// Reads `WORD N REST`.
 fn number_after_and_rest<'a>(text: &'a str, word: &str) -> Option<(u32, &'a str)>
     ensures sound { IfSome result (λ p. IsNumber p.0
         × (text.now ≡ word.now ++ (32 ∷ (decimal p.0 ++ (32 ∷ p.1.now))))) }
@@ -140,7 +140,7 @@ fn number_after_and_rest<'a>(text: &'a str, word: &str) -> Option<(u32, &'a str)
     number_and_rest(after)
 }
 
-/// `WORD AMOUNT REST`.
+/// Reads `WORD AMOUNT REST`.
 fn amount_after_and_rest<'a>(text: &'a str, word: &str) -> Option<(u64, &'a str)>
     ensures sound { IfSome result (λ p. IsAmount p.0
         × (text.now ≡ word.now ++ (32 ∷ (decimal p.0 ++ (32 ∷ p.1.now))))) }
@@ -152,7 +152,7 @@ fn amount_after_and_rest<'a>(text: &'a str, word: &str) -> Option<(u64, &'a str)
     amount_and_rest(after)
 }
 
-/// `shelf B`.
+/// Reads `shelf B`.
 fn read_shelf(text: &str) -> Option<Routed>
     ensures sound { IfSome result (λ r. IsRouted r × (text.now ≡ reply_text (reply.Moved r))) }
     ensures whole { (branch : ℕ) → IsNumber branch
@@ -164,7 +164,7 @@ fn read_shelf(text: &str) -> Option<Routed>
     })
 }
 
-/// `ready H at B until DAY`.
+/// Reads `ready H at B until DAY`.
 fn read_hold_shelf(text: &str) -> Option<Routed>
     ensures sound { IfSome result (λ r. IsRouted r × (text.now ≡ reply_text (reply.Moved r))) }
     ensures whole { (hold branch until : ℕ) → IsNumber hold → IsNumber branch → IsDayNumber until
@@ -180,7 +180,7 @@ fn read_hold_shelf(text: &str) -> Option<Routed>
     })
 }
 
-/// `transit B for H`.
+/// Reads `transit B for H`.
 fn read_transit_for(text: &str) -> Option<Routed>
     ensures sound { IfSome result (λ r. IsRouted r × (text.now ≡ reply_text (reply.Moved r))) }
     ensures whole { (goal hold : ℕ) → IsNumber goal → IsNumber hold
@@ -194,7 +194,7 @@ fn read_transit_for(text: &str) -> Option<Routed>
     })
 }
 
-/// `transit B`.
+/// Reads `transit B`.
 fn read_transit(text: &str) -> Option<Routed>
     ensures sound { IfSome result (λ r. IsRouted r × (text.now ≡ reply_text (reply.Moved r))) }
     ensures whole { (goal : ℕ) → IsNumber goal
@@ -207,7 +207,7 @@ fn read_transit(text: &str) -> Option<Routed>
     })
 }
 
-/// Where a copy goes.
+/// Reads where a copy goes.
 fn read_routed(text: &str) -> Option<Routed>
     ensures sound { IfSome result (λ r. IsRouted r × (text.now ≡ reply_text (reply.Moved r))) }
     ensures whole { (r : Routed) → IsRouted r → text.now ≡ reply_text (reply.Moved r)
@@ -225,7 +225,7 @@ fn read_routed(text: &str) -> Option<Routed>
     read_transit(text)
 }
 
-/// `loan L due DAY`.
+/// Reads `loan L due DAY`.
 fn read_lent(text: &str) -> Option<Reply>
     ensures sound { IfSome result (λ r. IsKept r × (text.now ≡ reply_text r)) }
     ensures whole { (loan due : ℕ) → IsNumber loan → IsDayNumber due
@@ -239,7 +239,7 @@ fn read_lent(text: &str) -> Option<Reply>
     })
 }
 
-/// `fine F price Q`.
+/// Reads `fine F price Q`.
 fn read_lost(text: &str) -> Option<Reply>
     ensures sound { IfSome result (λ r. IsKept r × (text.now ≡ reply_text r)) }
     ensures whole { (fine price : ℕ) → IsAmount fine → IsAmount price
@@ -253,7 +253,7 @@ fn read_lost(text: &str) -> Option<Reply>
     })
 }
 
-/// `fine F`, and where the copy goes.
+/// Reads `fine F` and where the copy goes.
 fn read_checked_in(text: &str) -> Option<Reply>
     ensures sound { IfSome result (λ r. IsKept r × (text.now ≡ reply_text r)) }
     ensures whole { (fine : ℕ) (r : Routed) → IsAmount fine → IsRouted r
@@ -267,7 +267,7 @@ fn read_checked_in(text: &str) -> Option<Reply>
     })
 }
 
-/// `hold H`.
+/// Reads `hold H`.
 fn read_held(text: &str) -> Option<Reply>
     ensures sound { IfSome result (λ r. IsKept r × (text.now ≡ reply_text r)) }
     ensures whole { (hold : ℕ) → IsNumber hold → text.now ≡ reply_text (reply.Held hold)
@@ -279,7 +279,7 @@ fn read_held(text: &str) -> Option<Reply>
     })
 }
 
-/// `owed AMOUNT`.
+/// Reads `owed AMOUNT`.
 fn read_owed(text: &str) -> Option<Reply>
     ensures sound { IfSome result (λ r. IsKept r × (text.now ≡ reply_text r)) }
     ensures whole { (owed : ℕ) → IsAmount owed → text.now ≡ reply_text (reply.Owed owed)
@@ -291,7 +291,7 @@ fn read_owed(text: &str) -> Option<Reply>
     })
 }
 
-/// Where a copy goes that left the hold shelf.
+/// Reads where a copy from the hold shelf goes.
 fn read_moved(text: &str) -> Option<Reply>
     ensures sound { IfSome result (λ r. IsKept r × (text.now ≡ reply_text r)) }
     ensures whole { (r : Routed) → IsRouted r → text.now ≡ reply_text (reply.Moved r)
@@ -301,7 +301,7 @@ fn read_moved(text: &str) -> Option<Reply>
     Some(Reply::Moved { routed })
 }
 
-/// The reply with this text, in one of its forms.
+/// Reads a reply in one of its forms.
 fn find_reply(text: &str) -> Option<Reply>
     ensures sound { IfSome result (λ r. IsKept r × (text.now ≡ reply_text r)) }
     ensures whole { (r : Reply) → IsKept r → text.now ≡ reply_text r → IsSome result }
@@ -327,7 +327,7 @@ fn find_reply(text: &str) -> Option<Reply>
     read_moved(text)
 }
 
-/// The reply with this text, where it is one that is kept: neither a page nor a refusal.
+/// Reads a reply that is kept: neither a page nor a refusal.
 pub fn read_reply(text: &str) -> Option<Reply>
     ensures sound { IfSome result (λ r. IsKept r × (reply_text r ≡ text.now)) }
     ensures whole { (r : Reply) → IsKept r → text.now ≡ reply_text r → result ≡ Some r }

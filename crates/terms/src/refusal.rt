@@ -36,7 +36,7 @@ pub enum Refusal {
     AlreadyClosed,
     /// 25: the day is not closed singly.
     NotClosed,
-    /// 30: the copy stands at another branch.
+    /// 30: the copy is at another branch.
     Elsewhere,
     /// 31: the copy is on loan.
     OnLoan,
@@ -68,7 +68,7 @@ pub enum Refusal {
     TooManyHolds,
     /// 52: the patron has the title on loan.
     HasOnLoan,
-    /// 53: the hold is not in the state that is needed.
+    /// 53: the hold is in the wrong state.
     WrongHoldState,
     /// 54: the shelf limit has not passed.
     LimitNotPassed,
@@ -78,12 +78,12 @@ pub enum Refusal {
     NumbersUsedUp,
     /// 80: the key was used for another request.
     KeyUsed,
-    /// 81: a wrong card key, or a command that is not allowed to this caller.
+    /// 81: a wrong card key, or a command not allowed to this caller.
     NotAllowed,
 }
 
 impl Refusal {
-    /// The number that stands for the refusal in replies.
+    /// Returns the refusal's number in replies.
     pub fn number(self) -> u32
         ensures value { result ≡ refusal_number self }
         ensures small { result ≤ 81 }

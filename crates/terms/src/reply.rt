@@ -1,4 +1,4 @@
-//! What the desk answers.
+//! The desk's replies.
 
 ghost use Rattle.std.specs.Prelude.{◌≡◌, IfOk};
 ghost use Rattle.terms.specs.Texts.{reply_text};
@@ -10,7 +10,7 @@ use calendar::{Day, Memory};
 use std::alloc::Global;
 use std::fmt;
 
-/// Where a copy goes that is handed in.
+/// Where a returned copy goes.
 #[derive(Clone, Copy, Debug, PartialEq, Eq)]
 pub enum Routed {
     /// To the shelf of its home branch.
@@ -30,12 +30,12 @@ pub enum Routed {
     },
 }
 
-/// The answer to a request.
+/// The reply to a request.
 #[derive(Drop)]
 pub enum Reply {
-    /// It is done, and there is nothing to tell.
+    /// Done; nothing more to tell.
     Done,
-    /// A loan, with the day on which it is due.
+    /// A loan and its due day.
     Lent { loan: LoanId, due: Day },
     /// A copy came in: the fine, and where it goes.
     CheckedIn { fine: Cents, routed: Routed },
@@ -49,7 +49,7 @@ pub enum Reply {
     Owed { owed: Cents },
     /// A patron's page.
     Shown { page: Text },
-    /// The request is refused, and nothing is changed.
+    /// Refused; nothing is changed.
     Refused(Refusal),
 }
 
@@ -100,7 +100,7 @@ impl fmt::Display for Reply {
     }
 }
 
-/// The reply text of a reply. Each reply that is kept has one spelling.
+/// Makes the reply text of a reply. Each kept reply has one spelling.
 pub fn reply_text(alloc: Global, reply: &Reply) -> Result<Text, Memory>
     ensures { IfOk result (λ text. text ≡ reply_text reply.now) }
 {

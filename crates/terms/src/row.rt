@@ -1,4 +1,4 @@
-//! The rows of the tables, as they are read.
+//! The rows of the tables, as read.
 
 use crate::command::Owner;
 use crate::number::{
@@ -8,7 +8,7 @@ use crate::number::{
 use crate::text::{CardKey, Key, Name, Text};
 use calendar::{Day, Weekdays};
 
-/// The one row of `meta`: the schema, today, and the next numbers to be given.
+/// The one row of `meta`: the schema, today, and the next numbers.
 #[derive(Clone, Copy, Debug, PartialEq, Eq)]
 pub struct MetaRow {
     pub schema: u32,
@@ -27,7 +27,7 @@ pub struct BranchRow {
     pub name: Name,
 }
 
-/// A row of `closed_days`: a branch is closed on that single day.
+/// A row of `closed_days`: the branch is closed on that single day.
 #[derive(Clone, Copy, Debug, PartialEq, Eq)]
 pub struct ClosedDayRow {
     pub branch: BranchId,
@@ -55,7 +55,7 @@ pub struct RuleRow {
     pub grace: Days,
 }
 
-/// A row of `rules`: a rule as a library of schema 1 or 2 has it. From schema 3 on there is none.
+/// A row of `rules`: a rule in schema 1 or 2. Schema 3 has none.
 #[derive(Clone, Copy, Debug, PartialEq, Eq)]
 pub struct RuleRow1 {
     pub kind: PatronKind,
@@ -102,7 +102,7 @@ pub struct CopyRow {
     pub condition: Condition,
 }
 
-/// A row of `loans3`. A loan is open while it has no day on which it ended.
+/// A row of `loans3`. A loan is open until it has an end day.
 #[derive(Clone, Copy, Debug, PartialEq, Eq)]
 pub struct LoanRow {
     pub loan: LoanId,
@@ -119,7 +119,7 @@ pub struct LoanRow {
     pub grace: Days,
 }
 
-/// A row of `loans`: a loan as a library of schema 1 or 2 has it. From schema 3 on there is none.
+/// A row of `loans`: a loan in schema 1 or 2. Schema 3 has none.
 #[derive(Clone, Copy, Debug, PartialEq, Eq)]
 pub struct LoanRow1 {
     pub loan: LoanId,
@@ -146,7 +146,7 @@ pub enum HoldState {
     Expired,
 }
 
-/// A row of `holds2`. It names a copy and a shelf limit exactly while the hold is ready.
+/// A row of `holds2`. It has a copy and a shelf limit only while ready, and then both.
 #[derive(Clone, Copy, Debug, PartialEq, Eq)]
 pub struct HoldRow {
     pub hold: HoldId,
@@ -159,7 +159,7 @@ pub struct HoldRow {
     pub first_day: Option<Day>,
 }
 
-/// A row of `holds`: a hold as a library of schema 1 has it. From schema 2 on there is none.
+/// A row of `holds`: a hold in schema 1. Later schemas have none.
 #[derive(Clone, Copy, Debug, PartialEq, Eq)]
 pub struct HoldRow1 {
     pub hold: HoldId,
@@ -188,7 +188,7 @@ pub enum Sort {
     Waiver,
 }
 
-/// A row of `lines`: one line of a patron's account. A fine and a price name their loan.
+/// A row of `lines`: one line of a patron's account. Fines and prices name their loan.
 #[derive(Clone, Copy, Debug, PartialEq, Eq)]
 pub struct LineRow {
     pub line: LineId,

@@ -1,4 +1,4 @@
-//! Rows of each table, as they were read.
+//! The rows of each table, as read.
 
 ghost use Rattle.std.specs.Prelude.{◌≡◌, ◌↔◌, [], IfOk, IfErr, IsTrue};
 ghost use Rattle.terms.specs.Orders.{IsOrdered};
@@ -12,7 +12,7 @@ use crate::row::{
 use std::alloc::Global;
 use std::marker::Model;
 
-/// The rows of one table, in rising order of their keys.
+/// The rows of one table, ordered by key.
 #[derive(Drop)]
 pub struct Rows<T: Ordered> {
     rows: Vec<T>,
@@ -29,7 +29,7 @@ impl<T: Ordered> Model for Rows<T> {
     ghost invariant = { λ a. IsOrdered T.comes_before a.rows.items };
 }
 
-/// Whether each row comes before all that follow it. Only neighbours are compared.
+/// Returns whether each row comes before all later ones. Compares only neighbours.
 fn are_ordered<T: Ordered>(rows: &[T]) -> bool
     ensures { IsTrue result ↔ IsOrdered T.comes_before rows.now }
 {
@@ -42,8 +42,7 @@ fn are_ordered<T: Ordered>(rows: &[T]) -> bool
 }
 
 impl<T: Ordered> Rows<T> {
-    /// The rows of a list. 93 where they aren't in rising order of their keys, as those of a
-    /// damaged table can be.
+    /// Checks the rows of a list. 93 if they aren't in ascending key order, as in a damaged table.
     pub fn new(rows: Vec<T>) -> Result<Rows<T>, Fault>
         ensures ok { IfOk result
             (λ taken. (taken ≡ rows.items) × IsOrdered T.comes_before rows.items) }
@@ -57,7 +56,7 @@ impl<T: Ordered> Rows<T> {
         }
     }
 
-    /// No rows.
+    /// Makes an empty table.
     pub fn empty(alloc: Global) -> Rows<T>
         ensures { result ≡ [] }
     {
@@ -66,7 +65,7 @@ impl<T: Ordered> Rows<T> {
         }
     }
 
-    /// The rows.
+    /// Returns the rows.
     pub fn as_slice(&self) -> &[T]
         ensures rows { result.now ≡ self.now }
         ensures ordered { IsOrdered T.comes_before result.now }
@@ -75,8 +74,7 @@ impl<T: Ordered> Rows<T> {
     }
 }
 
-/// Rows of each of the thirteen tables, as the call that reads them says: all of them, or those of
-/// which something is asked.
+/// Rows of each of the thirteen tables: all of them, or those asked for, as the reading call says.
 #[derive(Drop)]
 pub struct Tables {
     pub meta: MetaRow,

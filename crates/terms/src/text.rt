@@ -1,4 +1,4 @@
-//! Texts with a form of their own.
+//! Texts with their own forms.
 
 ghost use Rattle.std.specs.Prelude.{◌≡◌, IfOk, true, false, string_bytes, Some, MatchOption};
 ghost use Rattle.std.specs.Prelude.{bytes_eq, IsUtf8};
@@ -14,7 +14,7 @@ use std::alloc::Global;
 use std::fmt;
 use std::marker::Model;
 
-/// A name, or the text of a title: 1 to 120 bytes of UTF-8 with no control character and no space
+/// A name, or the text of a title: 1 to 120 bytes of UTF-8, with no control character and no space
 /// at either end.
 #[derive(Drop)]
 pub struct Name {
@@ -60,7 +60,7 @@ fn has_name_form(text: &str) -> bool
 }
 
 impl Name {
-    /// The text as a name, if it has the form of one.
+    /// Reads a name, if the text is well-formed.
     pub fn new(alloc: Global, text: &str) -> Result<Option<Name>, Memory>
         ensures { IfOk result (λ o. MatchOption o (is_name text.now ≡ false)
             (λ n. (is_name text.now ≡ true) × (n ≡ text.now))) }
@@ -73,7 +73,7 @@ impl Name {
         }
     }
 
-    /// The text.
+    /// Returns the text.
     pub fn as_str(&self) -> &str
         ensures value { result.now ≡ self.now }
         ensures form { IsName result.now }
@@ -82,7 +82,7 @@ impl Name {
         text.as_str()
     }
 
-    /// Whether the other name is the same.
+    /// Compares two names.
     pub fn is_same(&self, other: &Name) -> bool
         ensures { result ≡ bytes_eq self.now other.now }
     {
@@ -146,7 +146,7 @@ fn has_card_key_form(text: &str) -> bool
 }
 
 impl CardKey {
-    /// The text as a card key, if it has the form of one.
+    /// Reads a card key, if the text is well-formed.
     pub fn new(alloc: Global, text: &str) -> Result<Option<CardKey>, Memory>
         ensures { IfOk result (λ o. MatchOption o (is_card_key text.now ≡ false)
             (λ k. (is_card_key text.now ≡ true) × (k ≡ text.now))) }
@@ -159,7 +159,7 @@ impl CardKey {
         }
     }
 
-    /// The text.
+    /// Returns the text.
     pub fn as_str(&self) -> &str
         ensures value { result.now ≡ self.now }
         ensures form { is_card_key result.now ≡ true }
@@ -168,7 +168,7 @@ impl CardKey {
         text.as_str()
     }
 
-    /// Whether the other key is the same.
+    /// Compares two keys.
     pub fn is_same(&self, other: &CardKey) -> bool
         ensures { result ≡ bytes_eq self.now other.now }
     {
@@ -187,9 +187,9 @@ impl fmt::Display for CardKey {
     }
 }
 
-/// The key of a request. One that is given from outside has 1 to 40 ASCII letters, digits and
-/// hyphens; a row of a copies file has its own request text as key, which has spaces and so is
-/// never one from outside.
+/// The key of a request. A key from outside has 1 to 40 ASCII letters, digits and hyphens. A row of
+/// a copies file has its own request text as key, which has spaces and so is never a key from
+/// outside.
 #[derive(Drop)]
 pub struct Key {
     text: String,
@@ -240,7 +240,7 @@ fn all_without_space(bytes: &[u8]) -> bool
 }
 
 impl Key {
-    /// The text as a key from outside, if it has the form of one.
+    /// Reads a key from outside, if the text is well-formed.
     pub fn new(alloc: Global, text: &str) -> Result<Option<Key>, Memory>
         ensures { IfOk result (λ o. MatchOption o (is_outside_key text.now ≡ false)
             (λ k. (is_outside_key text.now ≡ true) × (k ≡ text.now))) }
@@ -253,7 +253,7 @@ impl Key {
         }
     }
 
-    /// The key of a row of a copies file: the request text of its command.
+    /// Makes the key of a copies file's row: the request text of its command.
     pub fn of_row(alloc: Global, command: &Command) -> Result<Key, Memory>
         ensures { IfOk result (λ key. key ≡ request_text command.now) }
     {
@@ -261,8 +261,8 @@ impl Key {
         Ok(Key { text })
     }
 
-    /// The key that was written as this text, if any can be: one from outside, or a text with a
-    /// space, as the key of a row of a copies file is.
+    /// Reads a stored key, if the text can be one: a key from outside, or a text with a space, like
+    /// the key of a copies file's row.
     pub fn read(alloc: Global, text: &str) -> Result<Option<Key>, Memory>
         ensures { IfOk result (λ o. MatchOption o (is_key text.now ≡ false)
             (λ k. (is_key text.now ≡ true) × (k ≡ text.now))) }
@@ -275,7 +275,7 @@ impl Key {
         }
     }
 
-    /// The text.
+    /// Returns the text.
     pub fn as_str(&self) -> &str
         ensures value { result.now ≡ self.now }
         ensures form { IsKey result.now }
@@ -285,7 +285,7 @@ impl Key {
     }
 }
 
-/// A request text, a reply text or a page, as it is kept or shown.
+/// A request text, a reply text or a page, as kept or shown.
 #[derive(Drop)]
 pub struct Text {
     text: String,
@@ -300,14 +300,14 @@ impl Model for Text {
 }
 
 impl Text {
-    /// The text that a string holds.
+    /// Makes a text from a string.
     pub fn new(text: String) -> Text
         ensures { result ≡ string_bytes text }
     {
         Text { text }
     }
 
-    /// The text.
+    /// Returns the text.
     pub fn as_str(&self) -> &str
         ensures value { result.now ≡ self.now }
         ensures form { IsUtf8 result.now }
@@ -316,7 +316,7 @@ impl Text {
         text.as_str()
     }
 
-    /// Whether the other text is the same.
+    /// Compares two texts.
     pub fn is_same(&self, other: &Text) -> bool
         ensures { result ≡ bytes_eq self.now other.now }
     {

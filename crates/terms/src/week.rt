@@ -1,4 +1,4 @@
-//! Which weekdays a branch is closed on, as the desk writes it.
+//! Closed weekdays, as the desk writes them.
 
 ghost use Rattle.std.specs.Prelude.{◌≡◌, ◌≢◌, Bool, List, length, not, true, Some, IfSome, IfNone};
 ghost use Rattle.std.specs.Prelude.{if◌then◌else◌, ◌∷◌, []};
@@ -10,7 +10,7 @@ use calendar::Weekdays;
 use std::fmt;
 use std::marker::Model;
 
-/// A mask of closed weekdays, Monday first, all seven included: what the word `week` may ask for.
+/// A mask of closed weekdays, Monday first, possibly all seven: the argument of the `week` command.
 #[derive(Clone, Copy, PartialEq, Eq)]
 pub struct Mask {
     closed: [bool; 7],
@@ -27,14 +27,14 @@ impl Model for Mask {
 }
 
 impl Mask {
-    /// The mask with these weekdays closed, Monday first.
+    /// Makes the mask with these weekdays closed, Monday first.
     pub fn new(closed: [bool; 7]) -> Mask
         ensures { result ≡ closed }
     {
         Mask { closed }
     }
 
-    /// The mask that seven letters write, `o` for open and `c` for closed.
+    /// Reads a mask of seven letters, `o` for open and `c` for closed.
     pub fn read(text: &str) -> Option<Mask>
         ensures some { IfSome result (λ m. text.now ≡ mask_text m) }
         ensures none { IfNone result ((closed : List Bool) → length closed ≡ 7
@@ -55,7 +55,7 @@ impl Mask {
         Some(Mask { closed })
     }
 
-    /// Whether each weekday is closed, Monday first.
+    /// Returns whether each weekday is closed, Monday first.
     pub fn closed(self) -> [bool; 7]
         ensures value { result ≡ self }
         ensures seven { length self ≡ 7 }
@@ -63,7 +63,7 @@ impl Mask {
         self.closed
     }
 
-    /// The closed weekdays, unless they are all seven.
+    /// Returns the closed weekdays, unless all seven are closed.
     pub fn weekdays(self) -> Option<Weekdays>
         ensures { SomeIff result (list_any (λ b. not b) self ≡ true) self }
     {
@@ -72,7 +72,7 @@ impl Mask {
     }
 }
 
-/// Whether a letter stands for a closed weekday.
+/// Reads a weekday's letter: closed or not.
 fn is_closed(letter: u8) -> Option<bool>
     ensures some { IfSome result (λ closed. letter ≡ (if closed then 99 else 111)) }
     ensures none { IfNone result ((closed : Bool) → letter ≢ (if closed then 99 else 111)) }
@@ -84,7 +84,7 @@ fn is_closed(letter: u8) -> Option<bool>
     }
 }
 
-/// The letter of a weekday.
+/// Returns the letter of a weekday.
 fn letter(closed: bool) -> &'static str
     ensures { result.now ≡ (if closed then 99 else 111) ∷ [] }
 {

@@ -1,4 +1,4 @@
-//! Commands, each read from its name and the words of its parts.
+//! Reading commands from their name and words.
 
 ghost use Rattle.std.specs.Prelude.{◌≡◌, ◌<◌, ◌^◌, codes, length, true, IfOk};
 ghost use Rattle.std.specs.Fmt.{decimal};
@@ -22,10 +22,10 @@ use crate::week::Mask;
 use calendar::Day;
 use std::alloc::{AllocError, Global};
 
-/// Why words were not read.
+/// Why words can't be read.
 #[derive(Clone, Copy, Debug, PartialEq, Eq)]
 pub enum WordFault {
-    /// They are not the words of a command.
+    /// They aren't a command.
     NotUnderstood,
     /// No memory was left.
     Memory,
@@ -39,7 +39,7 @@ impl From<AllocError> for WordFault {
     }
 }
 
-/// The number that a word writes.
+/// Reads a number.
 fn number(word: &str) -> Result<u32, WordFault>
     ensures read { IfOk result (λ n. (n < 2 ^ 32) × (word.now ≡ decimal n)) }
     ensures refused { result ≡ Err Refused → IsNoNumber word.now }
@@ -47,7 +47,7 @@ fn number(word: &str) -> Result<u32, WordFault>
     read_number(word).ok_or(WordFault::NotUnderstood)
 }
 
-/// The day that a word writes.
+/// Reads a day.
 fn read_day(word: &str) -> Result<Day, WordFault>
     ensures read { IfOk result (λ n. IsDayNumber n × (word.now ≡ day_text n)) }
     ensures refused { result ≡ Err Refused → IsNoDay word.now }
@@ -55,18 +55,18 @@ fn read_day(word: &str) -> Result<Day, WordFault>
     Day::read(word).ok_or(WordFault::NotUnderstood)
 }
 
-/// The closed weekdays that a word writes.
+/// Reads a mask of closed weekdays.
 fn read_mask(word: &str) -> Result<Mask, WordFault>
     ensures read { IfOk result (λ closed. (length closed ≡ 7) × (word.now ≡ mask_text closed)) }
     ensures refused { result ≡ Err Refused → IsNoMask word.now }
 {
     let mask = Mask::read(word).ok_or(WordFault::NotUnderstood)?;
-    // The look at the weekdays shows the proof that they are seven.
+    // Calling `closed` gives the proof that there are seven weekdays.
     let _ = mask.closed();
     Ok(mask)
 }
 
-/// The name that a word is.
+/// Reads a name.
 fn read_name(alloc: Global, word: &str) -> Result<Name, WordFault>
     ensures read { IfOk result (λ name. IsName name × (word.now ≡ name)) }
     ensures refused { result ≡ Err Refused → IsNoName word.now }
@@ -75,7 +75,7 @@ fn read_name(alloc: Global, word: &str) -> Result<Name, WordFault>
     name.ok_or(WordFault::NotUnderstood)
 }
 
-/// The card key that a word is.
+/// Reads a card key.
 fn read_card_key(alloc: Global, word: &str) -> Result<CardKey, WordFault>
     ensures read { IfOk result (λ key. (is_card_key key ≡ true) × (word.now ≡ key)) }
     ensures refused { result ≡ Err Refused → IsNoCardKey word.now }
@@ -84,7 +84,7 @@ fn read_card_key(alloc: Global, word: &str) -> Result<CardKey, WordFault>
     key.ok_or(WordFault::NotUnderstood)
 }
 
-/// The amount that a word writes, which is below 2^32 cents as every number is.
+/// Reads an amount, below 2^32 cents like every number.
 fn read_amount(word: &str) -> Result<Cents, WordFault>
     ensures read { IfOk result (λ n. (n < 2 ^ 32) × (word.now ≡ decimal n)) }
     ensures refused { result ≡ Err Refused → IsNoNumber word.now }
@@ -576,8 +576,8 @@ fn till(values: &[&str]) -> Result<Command, WordFault>
     Ok(Command::Ask(Question::Till { day }))
 }
 
-/// The command with this name whose parts these words write, each in its form. Other words are told
-/// as `NotUnderstood`.
+/// Reads the command with this name from its words, each in its form. Anything else is
+/// `NotUnderstood`.
 #[tactic(auto, unfolding(crate::specs::Texts::command_words))]
 pub fn read_command(alloc: Global, name: &str, values: &[&str]) -> Result<Command, WordFault>
     ensures read { IfOk result (IsReadAs name.now (texts values.now)) }

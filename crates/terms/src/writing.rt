@@ -1,15 +1,15 @@
-//! Bytes on their way out.
+//! Writing bytes.
 
 ghost use Rattle.terms.specs.Writing.{Writes, joined};
 
 use std::io::Write;
 
-/// A write failed; a beginning of what was to be written may have gone out.
+/// A write failed; a prefix of the bytes may have gone out.
 #[derive(Clone, Copy, Debug, PartialEq, Eq)]
 pub struct WriteFault;
 
-/// Writes the bytes. Where a write fails, or takes nothing, a beginning of them went out. It takes
-/// no memory.
+/// Writes the bytes. If a write fails or accepts nothing, a prefix of them went out. Takes no
+/// memory.
 pub fn write_bytes<W: Write>(writer: &mut W, bytes: &[u8]) -> Result<(), WriteFault>
     ensures { Writes bytes.now (W.contents writer.old) (W.contents writer.new) result }
 {
@@ -24,8 +24,7 @@ pub fn write_bytes<W: Write>(writer: &mut W, bytes: &[u8]) -> Result<(), WriteFa
     Ok(())
 }
 
-/// Writes the pieces one after another. Where a write fails, a beginning of them went out. It takes
-/// no memory.
+/// Writes the pieces in order. If a write fails, a prefix of them went out. Takes no memory.
 pub fn write_pieces<W: Write>(writer: &mut W, pieces: &[&[u8]]) -> Result<(), WriteFault>
     ensures { Writes (joined pieces.now) (W.contents writer.old) (W.contents writer.new) result }
 {
