@@ -42,7 +42,7 @@ impl Day {
     /// 2199-12-31.
     pub const LAST: Day = Day { number: LAST_DAY };
 
-    /// The day with that number, if the calendar has it.
+    /// Makes the day with this number, if the calendar has it.
     pub fn new(number: u32) -> Option<Day>
         ensures { SomeIff result (IsDayNumber number) number }
     {
@@ -53,7 +53,7 @@ impl Day {
         }
     }
 
-    /// The number of days since 1970-01-01.
+    /// Returns the number of days since 1970-01-01.
     pub fn number(self) -> u32
         ensures value { result ≡ self }
         ensures bound { IsDayNumber result }
@@ -61,14 +61,14 @@ impl Day {
         self.number
     }
 
-    /// The day of a date `YYYY-MM-DD`, in exactly ten characters. What `text` writes is read back.
+    /// Reads a date `YYYY-MM-DD`, in exactly ten characters. Reads back what `text` writes.
     pub fn read(text: &str) -> Option<Day>
         ensures some { IfSome result (λ d. text.now ≡ day_text d) }
         ensures none { IfNone result ((n : ℕ) → IsDayNumber n → text.now ≢ day_text n) }
         ensures text_of_a_day { (n : ℕ) → IsDayNumber n → text.now ≡ day_text n → result ≡ Some n }
         ensures in_range { IfSome result IsDayNumber }
 
-        // The same in the words of `jiff`'s calendar.
+        // The same in terms of `jiff`'s calendar.
         ensures date { IfSome result (IsDateOf text.now) }
         ensures date_of_a_day { (n : ℕ) → IsDayNumber n → IsDateOf text.now n → result ≡ Some n }
     {
@@ -78,17 +78,17 @@ impl Day {
         Day::new(number)
     }
 
-    /// The date `YYYY-MM-DD` of a day.
+    /// Writes a day as `YYYY-MM-DD`.
     pub fn text(self, alloc: Global) -> Result<String, Memory>
         ensures text { IfOk result (λ s. string_bytes s ≡ day_text self) }
         ensures date { IsDateOf (day_text self) self }
     {
-        // The look at the field shows the proof that the day lies in the calendar.
+        // Reading the field gives the proof that the day is in the calendar.
         let _ = &self.number;
         format!(in alloc; "{self}")
     }
 
-    /// The date `YYYY-MM-DD` of a day, in ASCII. It takes no memory.
+    /// Writes a day as `YYYY-MM-DD` in ASCII. Takes no memory.
     pub fn ascii(self) -> [u8; 10]
         ensures { result ≡ day_text self }
     {
@@ -135,7 +135,7 @@ impl fmt::Display for Day {
     }
 }
 
-/// The day number of a date from 1970 on.
+/// Returns the day number of a date from 1970 on.
 fn number_of(text: &str) -> Option<u32>
     ensures some { IfSome result (λ n. IsDateOf text.now n) }
     ensures none { IfNone result ((n : ℕ) → IsDateOf text.now n → ⊥) }
@@ -144,7 +144,7 @@ fn number_of(text: &str) -> Option<u32>
     civil_day(year, month, day)
 }
 
-/// Year, month and day of a day number.
+/// Returns the year, month and day of a day number.
 fn parts(number: u32) -> (u16, u8, u8)
     requires { number ≤ 2_932_896 }
     ensures year { (result.0 ≡ (civil_of number).year) × (result.0 ≤ 9999) }
@@ -155,7 +155,7 @@ fn parts(number: u32) -> (u16, u8, u8)
     (date.year as u16, date.month, date.day)
 }
 
-/// The day number of a date from 1970 on, if the calendar has the date.
+/// Returns the day number of a date from 1970 on, if the date exists.
 fn civil_day(year: u16, month: u8, day: u8) -> Option<u32>
     requires four { year ≤ 9999 }
     requires two { (month < 100) × (day < 100) }
@@ -175,7 +175,7 @@ fn civil_day(year: u16, month: u8, day: u8) -> Option<u32>
     }
 }
 
-/// A digit's value.
+/// Returns a digit's value.
 fn digit(byte: u8) -> Option<u8>
     ensures { SomeIff result ((48 ≤ byte) × (byte ≤ 57)) (byte - 48) }
 {
@@ -186,7 +186,7 @@ fn digit(byte: u8) -> Option<u8>
     }
 }
 
-/// The number that two digits write.
+/// Reads a number of two digits.
 fn pair(high: u8, low: u8) -> Option<u8>
     ensures some { IfSome result (λ n. (n < 100) × (two_digits n ≡ high ∷ low ∷ [])) }
     ensures none { IfNone result ((n : ℕ) → n < 100 → two_digits n ≡ high ∷ low ∷ [] → ⊥) }
@@ -194,7 +194,7 @@ fn pair(high: u8, low: u8) -> Option<u8>
     Some(digit(high)? * 10 + digit(low)?)
 }
 
-/// Year, month and day of a text in the form of a date.
+/// Splits a date text into year, month and day.
 fn cut(text: &str) -> Option<(u16, u8, u8)>
     ensures some { IfSome result (λ p. (p.0 ≤ 9999) × (p.1 < 100) × (p.2 < 100)
         × (text.now ≡ date_text p.0 p.1 p.2)) }

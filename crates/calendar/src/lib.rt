@@ -1,4 +1,4 @@
-//! Days, and the days on which a branch is open.
+//! Days, and the days a branch is open.
 #![tactic(auto)]
 
 mod day;
@@ -16,5 +16,5 @@ pub use opening::{Calendar, CloseError, ReopenError};
 pub use steps::Steps;
 pub use weekdays::Weekdays;
 
-/// Why a call stopped that found no memory.
+/// The error when memory runs out.
 pub type Memory = std::alloc::AllocError;

@@ -1,4 +1,4 @@
-//! The days on which a branch is open.
+//! The days a branch is open.
 ghost use Rattle.std.specs.Prelude.{◌≡◌, ◌+◌, ◌<◌, ◌≤◌, ◌↔◌, [], ◌∷◌, ℕ, true, false, IsTrue, IfOk};
 ghost use Rattle.std.specs.Prelude.{IfSome, IfNone, IsSome, OnOk, OnErr, length, slice_index_or};
 ghost use Rattle.std.specs.Option.{SomeIff};
@@ -20,18 +20,18 @@ use std::alloc::Global;
 use std::marker::{Brand, Model};
 use std::sync::ledger::{Blank, Ledger};
 
-/// Why a day was not closed, in the order of the tests.
+/// Why a day can't be closed, in the order of the checks.
 #[derive(Clone, Copy, Debug, PartialEq, Eq)]
 pub enum CloseError {
-    /// Refusal 24: the day is closed singly already.
+    /// Refusal 24: the day is already closed singly.
     AlreadyClosed,
-    /// Refusal 21: 400 single days are closed.
+    /// Refusal 21: 400 single days are already closed.
     Full,
     /// No memory was left.
     Memory,
 }
 
-/// Why a day was not opened again.
+/// Why a day can't be reopened.
 #[derive(Clone, Copy, Debug, PartialEq, Eq)]
 pub enum ReopenError {
     /// Refusal 25: the day is not closed singly.
@@ -58,12 +58,12 @@ impl Model for Calendar {
 }
 
 impl Calendar {
-    /// A calendar with no single closed days.
+    /// Makes a calendar without single closed days.
     pub fn new(alloc: Global, weekly: Weekdays) -> Calendar
         ensures value { result ≡ record { weekly = weekly; single = [] } }
         ensures closings { AreClosings result }
     {
-        // The mask shows the proof that some weekday is open.
+        // Reading the mask gives the proof that some weekday is open.
         let _closed = weekly.closed();
         Calendar {
             weekly,
@@ -71,8 +71,8 @@ impl Calendar {
         }
     }
 
-    /// A calendar with these single closed days, in any order: refusal 24 if one stands twice, and
-    /// else 21 if they are more than 400.
+    /// Makes a calendar with these single closed days, in any order: refusal 24 if one occurs
+    /// twice, otherwise 21 if there are more than 400.
     pub fn with_closed_days(
         alloc: Global,
         weekly: Weekdays,
@@ -97,21 +97,21 @@ impl Calendar {
         Ok(calendar)
     }
 
-    /// Whether a day is open.
+    /// Returns whether a day is open.
     pub fn is_open(&self, day: Day) -> bool
         ensures { result ≡ is_open self.now day }
     {
         !self.weekly.is_closed_on(day.number()) && !self.is_closed_singly(day)
     }
 
-    /// Whether a day is one of the single closed days.
+    /// Returns whether a day is closed singly.
     pub fn is_closed_singly(&self, day: Day) -> bool
         ensures { result ≡ is_single self.now day }
     {
         uncounted_place::<Brand>(&self.single, day, Blank::new(1)).is_ok()
     }
 
-    /// Whether 400 single days are closed, so that no more can be.
+    /// Returns whether 400 single days are closed, the most allowed.
     pub fn is_full(&self) -> bool
         ensures full { IsTrue result ↔ (length self.now.single ≡ MOST_CLOSED_DAYS) }
         ensures closings { AreClosings self.now }
@@ -119,8 +119,8 @@ impl Calendar {
         self.single.len() == MOST_CLOSED_DAYS
     }
 
-    /// The least open day from `day` on, where there is one in the calendar. It is at most 2806
-    /// days later: 400 single days cannot close an open weekday for 401 weeks.
+    /// Returns the least open day from `day` on, if the calendar has one. It is at most 2806 days
+    /// later: 400 single days cannot close an open weekday for 401 weeks.
     pub fn least_open(&self, day: Day) -> Option<Day>
         ensures some { IfSome result (IsLeastOpen self.now day) }
         ensures none { IfNone result ((k : ℕ) → day ≤ k → is_open self.now k ≡ false) }
@@ -130,8 +130,8 @@ impl Calendar {
         uncounted_least_open::<Brand>(self, day, Blank::new(1))
     }
 
-    /// The same as `least_open`, and `steps` tells how many single closed days were looked at: at
-    /// most 409, 9 in a search and 400 one after another.
+    /// Like `least_open`; `steps` counts the single closed days looked at: at most 409, 9 in a
+    /// search and 400 in sequence.
     pub fn counted_least_open<L: Ledger>(&self, day: Day, steps: &mut Steps<L>) -> Option<Day>
         ensures some { IfSome result (IsLeastOpen self.now day) }
         ensures none { IfNone result ((k : ℕ) → day ≤ k → is_open self.now k ≡ false) }
@@ -139,21 +139,21 @@ impl Calendar {
         ensures found { day + 2806 ≤ LAST_DAY → IsSome result }
         ensures cost { steps.new ≤ steps.old + 409 }
     {
-        // The number shows the proof that the day lies in the calendar.
+        // Reading the number gives the proof that the day is in the calendar.
         let _number = day.number();
         let open = first_open(self.weekly, &self.single.counted(), day, steps);
         Day::new(open)
     }
 
-    /// How many days after `due`, up to `today`, are open.
+    /// Counts the open days after `due`, up to `today`.
     pub fn open_days_after(&self, due: Day, today: Day) -> u32
         ensures { result ≡ open_days_after self.now due today }
     {
         uncounted_open_days::<Brand>(self, due, today, Blank::new(1))
     }
 
-    /// The same as `open_days_after`, and `steps` tells how many single closed days were looked at:
-    /// at most 418, 9 in each of two searches and 400 one after another.
+    /// Like `open_days_after`; `steps` counts the single closed days looked at: at most 418, 9 in
+    /// each of two searches and 400 in sequence.
     pub fn counted_open_days_after<L: Ledger>(
         &self,
         due: Day,
@@ -171,7 +171,7 @@ impl Calendar {
         days / 7 * week + rest - closed
     }
 
-    /// Closes a single day. Nothing changes where it is refused or memory runs out.
+    /// Closes a single day. Changes nothing if refused or out of memory.
     pub fn close(&mut self, day: Day) -> Result<(), CloseError>
         ensures already { (result ≡ Err CloseError.AlreadyClosed)
             ↔ (is_single self.old day ≡ true) }
@@ -181,7 +181,7 @@ impl Calendar {
         ensures err { OnErr result (self.new ≡ self.old) }
         ensures closings { AreClosings self.new }
     {
-        // The number shows the proof that the day lies in the calendar.
+        // Reading the number gives the proof that the day is in the calendar.
         let _number = day.number();
         let Err(place) = uncounted_place::<Brand>(&self.single, day, Blank::new(1)) else {
             return Err(CloseError::AlreadyClosed);
@@ -195,7 +195,7 @@ impl Calendar {
         Ok(())
     }
 
-    /// Takes a day out of the single closed days. Nothing changes where it is refused.
+    /// Reopens a single closed day. Changes nothing if refused.
     pub fn reopen(&mut self, day: Day) -> Result<(), ReopenError>
         ensures refused { (result ≡ Err ReopenError.NotClosed) ↔ (is_single self.old day ≡ false) }
         ensures ok { OnOk result (ReopensOnly self.old self.new day) }
@@ -210,7 +210,7 @@ impl Calendar {
     }
 }
 
-/// Whether a day stands twice among these.
+/// Returns whether a day occurs twice.
 fn has_repeat(days: &[Day]) -> bool
     ensures { result ≡ has_repeat days.now }
 {

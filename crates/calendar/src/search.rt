@@ -1,4 +1,4 @@
-//! Single closed days looked up, each look a step of the counter that is passed.
+//! Searches of the single closed days, each look one step of the counter passed in.
 ghost use Rattle.std.specs.Prelude.{◌≡◌, ◌+◌, ◌-◌, ◌<◌, ◌≤◌, true, false, length, IfOk, IfErr};
 ghost use Rattle.calendar.specs.Openings.{has_day};
 ghost use Rattle.calendar.specs.declared.limits.TheConstants.{MOST_CLOSED_DAYS};
@@ -11,7 +11,7 @@ use crate::steps::Steps;
 use crate::weekdays::Weekdays;
 use std::sync::ledger::Ledger;
 
-/// How many of the single closed days lie before a day number.
+/// Counts the single closed days before a day number.
 pub fn count_below<L: Ledger>(
     singles: &CountedSingles<'_, L>,
     number: u32,
@@ -35,7 +35,7 @@ pub fn count_below<L: Ledger>(
     low
 }
 
-/// Where a day stands among the single closed days, or else the place where it would stand.
+/// Finds a day among the single closed days, or where it would be inserted.
 pub fn place_of<L: Ledger>(
     singles: &CountedSingles<'_, L>,
     day: Day,
@@ -57,7 +57,7 @@ pub fn place_of<L: Ledger>(
     }
 }
 
-/// How many single closed days after `due`, up to `today`, fall on open weekdays.
+/// Counts the single closed days after `due`, up to `today`, that fall on open weekdays.
 pub fn count_between<L: Ledger>(
     weekly: Weekdays,
     singles: &CountedSingles<'_, L>,
@@ -81,7 +81,7 @@ pub fn count_between<L: Ledger>(
     count
 }
 
-/// The first day number from `day` on that no weekday and no single day closes.
+/// Returns the first day number from `day` on not closed by weekday or singly.
 pub fn first_open<L: Ledger>(
     weekly: Weekdays,
     singles: &CountedSingles<'_, L>,

@@ -9,7 +9,7 @@ use std::alloc::Global;
 use std::marker::{Model, PhantomData};
 use std::sync::ledger::Ledger;
 
-/// The single closed days, the earliest first. They are looked at by way of `counted` alone.
+/// The single closed days, earliest first. They are read only through `counted`.
 #[derive(Drop)]
 pub struct Singles {
     days: Vec<Day>,
@@ -24,7 +24,7 @@ impl Model for Singles {
 }
 
 impl Singles {
-    /// No single closed day.
+    /// Makes an empty list.
     pub fn new(alloc: Global) -> Singles
         ensures { result ≡ [] }
     {
@@ -33,14 +33,14 @@ impl Singles {
         }
     }
 
-    /// How many there are.
+    /// Returns the number of days.
     pub fn len(&self) -> usize
         ensures { result ≡ length self.now }
     {
         self.days.len()
     }
 
-    /// The same days for a call that is counted.
+    /// Returns the same days for a counted call.
     pub fn counted<L: Ledger>(&self) -> CountedSingles<'_, L>
         ensures { result ≡ self.now }
     {
@@ -50,7 +50,7 @@ impl Singles {
         }
     }
 
-    /// Puts a day to a place, before the days from there on. Nothing changes where memory runs out.
+    /// Inserts a day at an index. Changes nothing if memory runs out.
     pub fn insert(&mut self, index: usize, day: Day) -> Result<(), Memory>
         requires { index ≤ length self.old }
         ensures ok { OnOk result (self.new ≡ insert self.old index day) }
@@ -60,7 +60,7 @@ impl Singles {
         Ok(())
     }
 
-    /// Takes the day at a place out.
+    /// Removes the day at an index.
     pub fn remove(&mut self, index: usize)
         requires { index < length self.old }
         ensures { self.new ≡ remove self.old index }
@@ -69,9 +69,8 @@ impl Singles {
     }
 }
 
-/// The single closed days as a call sees them that is counted by the ledger `L`. A look at one of
-/// them is a step of that ledger, and a call that is generic in the ledger can make no counter of
-/// it.
+/// The single closed days in a call counted by the ledger `L`. Looking at one of them is a step of
+/// that ledger, and a call generic in the ledger can't make a counter for it.
 #[derive(Drop)]
 pub struct CountedSingles<'a, L: Ledger> {
     singles: &'a Singles,
@@ -87,14 +86,14 @@ impl<'a, L: Ledger> Model for CountedSingles<'a, L> {
 }
 
 impl<L: Ledger> CountedSingles<'_, L> {
-    /// How many there are.
+    /// Returns the number of days.
     pub fn len(&self) -> usize
         ensures { result ≡ length self.now }
     {
         self.singles.len()
     }
 
-    /// The day at a place, in one step.
+    /// Returns the day at an index, in one step.
     pub fn at(&self, index: usize, steps: &mut Steps<L>) -> Day
         requires { index < length self.now }
         ensures day { result ≡ slice_index self.now index }

@@ -1,10 +1,10 @@
-//! A count of steps.
+//! Counting steps.
 ghost use Rattle.std.specs.Prelude.{◌≡◌, ◌+◌, ◌-◌, ◌<◌, ◌^◌, min};
 
 use std::marker::Model;
 use std::sync::ledger::{Blank, Book, Ledger, Share};
 
-/// How many steps were taken. Only `tick` changes it.
+/// The number of steps taken. Only `tick` changes it.
 #[derive(Drop)]
 pub struct Steps<L: Ledger> {
     book: Book<L>,
@@ -23,7 +23,7 @@ impl<L: Ledger> Model for Steps<L> {
 }
 
 impl<L: Ledger> Steps<L> {
-    /// No step so far, counted in a ledger of its own.
+    /// Starts at zero, with its own ledger.
     pub fn new(blank: Blank) -> Steps<L>
         requires name { blank.name ≡ L.name }
         requires parts { blank.parts ≡ L.parts }
@@ -38,7 +38,7 @@ impl<L: Ledger> Steps<L> {
         }
     }
 
-    /// One step more.
+    /// Counts one step.
     pub fn tick(&mut self)
         ensures { self.new ≡ self.old + 1 }
     {
@@ -46,7 +46,7 @@ impl<L: Ledger> Steps<L> {
         self.count = self.count.saturating_add(1);
     }
 
-    /// How many steps were taken, where they are less than 2^64.
+    /// Returns the number of steps taken, capped at 2^64 - 1.
     pub fn taken(&self) -> u64
         ensures { result ≡ min self.now (2 ^ 64 - 1) }
     {

@@ -1,5 +1,5 @@
-//! Looks that nobody counts: each has a counter of its own, which is let go with the answer. No
-//! other file of the crate makes a counter.
+//! Uncounted looks: each has its own counter, dropped with the answer. No other file of the crate
+//! makes a counter.
 ghost use Rattle.std.specs.Prelude.{◌≡◌, ◌+◌, ◌<◌, ◌≤◌, ℕ, true, false, length, IfOk, IfErr};
 ghost use Rattle.std.specs.Prelude.{IfSome, IfNone, IsSome};
 ghost use Rattle.calendar.specs.Openings.{IsLeastOpen, has_day, is_open, open_days_after};
@@ -13,7 +13,7 @@ use crate::singles::Singles;
 use crate::steps::Steps;
 use std::sync::ledger::{Blank, Ledger};
 
-/// Where a day stands among the single closed days, or else the place where it would stand.
+/// Finds a day among the single closed days, or where it would be inserted.
 pub fn uncounted_place<L: Ledger>(singles: &Singles, day: Day, blank: Blank) -> Result<usize, usize>
     requires rising { IsRising singles.now }
     requires few { length singles.now ≤ MOST_CLOSED_DAYS }
@@ -28,7 +28,7 @@ pub fn uncounted_place<L: Ledger>(singles: &Singles, day: Day, blank: Blank) -> 
     place_of(&singles.counted(), day, &mut Steps::<L>::new(blank))
 }
 
-/// The least open day from `day` on, where there is one in the calendar.
+/// Returns the least open day from `day` on, if the calendar has one.
 pub fn uncounted_least_open<L: Ledger>(calendar: &Calendar, day: Day, blank: Blank) -> Option<Day>
     requires name { blank.name ≡ L.name }
     requires parts { blank.parts ≡ L.parts }
@@ -41,7 +41,7 @@ pub fn uncounted_least_open<L: Ledger>(calendar: &Calendar, day: Day, blank: Bla
     calendar.counted_least_open(day, &mut Steps::<L>::new(blank))
 }
 
-/// How many days after `due`, up to `today`, are open.
+/// Counts the open days after `due`, up to `today`.
 pub fn uncounted_open_days<L: Ledger>(
     calendar: &Calendar,
     due: Day,

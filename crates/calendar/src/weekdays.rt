@@ -1,4 +1,4 @@
-//! The weekdays on which a branch is open.
+//! The weekdays a branch is open.
 ghost use Rattle.std.specs.Prelude.{◌≡◌, ◌+◌, ◌^◌, ◌<◌, ◌≤◌, [], ◌∷◌, ℕ, true, false};
 ghost use Rattle.std.specs.Option.{SomeIff};
 ghost use Rattle.calendar.specs.Openings.{AreWeekdays, has_open_weekday};
@@ -6,7 +6,7 @@ ghost use Rattle.calendar.specs.Weeks.{is_closed_weekday, open_weekdays_among};
 
 use std::marker::Model;
 
-/// The weekdays that are closed, Monday first, which are never all seven.
+/// The closed weekdays, Monday first, never all seven.
 #[derive(Clone, Copy, Debug, PartialEq, Eq)]
 pub struct Weekdays {
     closed: [bool; 7],
@@ -26,7 +26,7 @@ impl Model for Weekdays {
 }
 
 impl Weekdays {
-    /// These closed weekdays, Monday first, unless they are all seven.
+    /// Makes a set of closed weekdays, Monday first, unless it is all seven.
     pub fn new(closed: [bool; 7]) -> Option<Weekdays>
         ensures { SomeIff result (has_open_weekday closed ≡ true) closed }
     {
@@ -37,14 +37,14 @@ impl Weekdays {
         }
     }
 
-    /// No closed weekday.
+    /// Makes a week without closed days.
     pub fn all_open() -> Weekdays
         ensures { result ≡ false ∷ false ∷ false ∷ false ∷ false ∷ false ∷ false ∷ [] }
     {
         Weekdays { closed: [false; 7] }
     }
 
-    /// Whether each weekday is closed, Monday first.
+    /// Returns whether each weekday is closed, Monday first.
     pub fn closed(self) -> [bool; 7]
         ensures value { result ≡ self }
         ensures weekdays { AreWeekdays result }
@@ -52,7 +52,7 @@ impl Weekdays {
         self.closed
     }
 
-    /// Whether the weekday of a day number is closed.
+    /// Returns whether the weekday of a day number is closed.
     pub(crate) fn is_closed_on(self, number: u32) -> bool
         requires { number + 3 < 2 ^ 32 }
         ensures { result ≡ is_closed_weekday self number }
@@ -61,7 +61,7 @@ impl Weekdays {
         self.closed[weekday as usize]
     }
 
-    /// How many of that many days after a day number fall on open weekdays.
+    /// Counts the days on open weekdays among that many after a day number.
     pub(crate) fn open_among(self, number: u32, days: u32) -> u32
         requires { number + days + 3 < 2 ^ 32 }
         ensures { result ≡ open_weekdays_among self number days }
@@ -75,7 +75,7 @@ impl Weekdays {
         count
     }
 
-    /// The first day number from that one on whose weekday is open.
+    /// Returns the first day number from that one on whose weekday is open.
     pub(crate) fn open_from(self, number: u32) -> u32
         requires { number + 9 < 2 ^ 32 }
         ensures from { number ≤ result }
@@ -83,7 +83,7 @@ impl Weekdays {
         ensures open { is_closed_weekday self result ≡ false }
         ensures closed { (k : ℕ) → number ≤ k → k < result → is_closed_weekday self k ≡ true }
     {
-        // The mask shows the proof that some weekday is open.
+        // Reading the mask gives the proof that some weekday is open.
         let _closed = self.closed();
         let mut next = number;
         while self.is_closed_on(next) {

@@ -1,4 +1,4 @@
-//! The audit.
+//! Auditing tables.
 
 ghost use Rattle.circ_audit.specs.Sound.{Audits};
 
@@ -8,21 +8,21 @@ use crate::claims::ClaimedOnce;
 use crate::spans::first_broken;
 use terms::{CopyId, HoldId, PatronId, Tables};
 
-/// The first law that is broken, with the least number of which it is.
+/// The first broken law, with the least number that breaks it.
 #[derive(Clone, Copy, Debug, PartialEq, Eq)]
 pub enum Finding {
-    /// More than one claim is made on the copy.
+    /// The copy has more than one claim.
     Claims(CopyId),
-    /// The hold isn't rightly bound to a copy.
+    /// The hold isn't correctly bound to a copy.
     Binding(HoldId),
-    /// What the patron owes isn't the charges less payments and waivers.
+    /// The patron's debt isn't the charges less payments and waivers.
     Balance(PatronId),
 }
 
-/// Whether the rows of the tables keep the three laws of sound tables (`specs/Sound.antt`): at most
-/// one claim on each copy, ready and coming holds bound to copies one to one, and the balance of
-/// each patron. Else the first law that is broken, with its least number. It takes no memory; its
-/// time is linear in the rows, for every 65,536 numbers of copies, holds and patrons once.
+/// Checks the three laws of sound tables (`specs/Sound.antt`): at most one claim on each copy,
+/// ready and coming holds bound to copies one to one, and the balance of each patron. Returns the
+/// first broken law with its least number. Takes no memory; time is linear in the rows, once per
+/// 65,536 numbers of copies, holds and patrons.
 pub fn audit(tables: &Tables) -> Result<(), Finding>
     ensures { Audits tables.now result }
 {

@@ -1,4 +1,4 @@
-//! The balances of patrons.
+//! Patrons' balances.
 
 ghost use Rattle.std.specs.Prelude.{◌≡◌, ◌-◌, ◌^◌, ◌==◌, slice_index};
 ghost use Rattle.std.specs.Prelude.{if◌then◌else◌};
@@ -11,7 +11,7 @@ use crate::rows::is_charge;
 use crate::spans::{Law, SPAN, SpanLook, lesser, span_of};
 use terms::{LineRow, PatronRow, Tables};
 
-/// Totals of the numbers of a span, in cents.
+/// The totals of a span's numbers, in cents.
 #[derive(Drop)]
 pub struct Totals {
     span: u16,
@@ -19,7 +19,7 @@ pub struct Totals {
 }
 
 impl Totals {
-    /// The span with nothing added.
+    /// Makes a span with nothing added.
     fn new(span: u16) -> Totals
         ensures span { result.span ≡ span }
         ensures sums { Sums result (λ n. 0) }
@@ -29,7 +29,7 @@ impl Totals {
         Totals { span, sums }
     }
 
-    /// Adds an amount to the total of a number, if it is of the span.
+    /// Adds an amount to a number's total, if it is in the span.
     fn add(&mut self, number: u32, amount: u64)
         requires { AreWithin (2 ^ 128 - 2 ^ 64) self.old }
         ensures { Adds (λ n. if number == n then amount else 0) self.old self.new }
@@ -39,7 +39,7 @@ impl Totals {
         }
     }
 
-    /// The total at the place of a number.
+    /// Returns the total of a number.
     fn of(&self, number: u32) -> u128
         ensures { result ≡ slice_index self.now.sums (place_of number) }
     {
@@ -47,7 +47,7 @@ impl Totals {
     }
 }
 
-/// Adds a line to the charges or to the credits of its patron.
+/// Adds a line to its patron's charges or credits.
 fn add_line(line: &LineRow, charges: &mut Totals, credits: &mut Totals)
     requires charges { AreWithin (2 ^ 128 - 2 ^ 64) charges.old }
     requires credits { AreWithin (2 ^ 128 - 2 ^ 64) credits.old }
@@ -63,7 +63,7 @@ fn add_line(line: &LineRow, charges: &mut Totals, credits: &mut Totals)
     }
 }
 
-/// Adds the lines to totals to which nothing was added.
+/// Adds the lines to empty totals.
 fn add_lines(lines: &[LineRow], charges: &mut Totals, credits: &mut Totals)
     requires charges { AreWithin 0 charges.old }
     requires credits { AreWithin 0 credits.old }
@@ -75,7 +75,7 @@ fn add_lines(lines: &[LineRow], charges: &mut Totals, credits: &mut Totals)
     }
 }
 
-/// Whether a patron of the span owes the charges less the credits.
+/// Returns whether a patron of the span owes the charges less the credits.
 fn is_right(row: &PatronRow, charges: &Totals, credits: &Totals) -> bool
     ensures { result ≡ is_right row.now charges.now credits.now }
 {
@@ -85,7 +85,7 @@ fn is_right(row: &PatronRow, charges: &Totals, credits: &Totals) -> bool
     credited <= charged && charged - credited == u128::from(row.owed.number())
 }
 
-/// Looks at the row of a patron: is it of the span, and right, or of a later span?
+/// Checks a patron's row: is it in the span, and right, or in a later span?
 fn look_at(row: &PatronRow, charges: &Totals, credits: &Totals, look: &mut SpanLook)
     ensures broken { look.new.broken ≡ broken_after charges.now.span
         (is_right row.now charges.now credits.now) row.now.patron look.old.broken }
@@ -102,7 +102,7 @@ fn look_at(row: &PatronRow, charges: &Totals, credits: &Totals, look: &mut SpanL
     }
 }
 
-/// Looks at the patrons of the span, by their charges and credits.
+/// Checks the patrons of the span against their charges and credits.
 fn look_at_patrons(rows: &[PatronRow], charges: &Totals, credits: &Totals) -> SpanLook
     ensures { LooksAtRows rows.now charges.now credits.now result }
 {

@@ -1,4 +1,4 @@
-//! The bindings of holds and copies.
+//! Bindings between holds and copies.
 
 ghost use Rattle.std.specs.Prelude.{◌≡◌};
 ghost use Rattle.circ_audit.specs.Rows.{copy_row, hold_row, is_titled, is_copy_of, is_fit, serves};
@@ -10,7 +10,7 @@ use crate::rows::{is_ready, is_waiting};
 use crate::spans::{Law, SpanLook, first_broken, lesser};
 use terms::{CopyId, CopyRow, HoldId, HoldRow, Rows, Tables, TitleId, TransitRow};
 
-/// The row of a copy.
+/// Finds the row of a copy.
 fn copy_row(copies: &Rows<CopyRow>, copy: CopyId) -> Option<CopyRow>
     ensures { result ≡ copy_row copies.now copy }
 {
@@ -21,7 +21,7 @@ fn copy_row(copies: &Rows<CopyRow>, copy: CopyId) -> Option<CopyRow>
     }
 }
 
-/// The row of a hold.
+/// Finds the row of a hold.
 fn hold_row(holds: &Rows<HoldRow>, hold: HoldId) -> Option<HoldRow>
     ensures { result ≡ hold_row holds.now hold }
 {
@@ -32,7 +32,7 @@ fn hold_row(holds: &Rows<HoldRow>, hold: HoldId) -> Option<HoldRow>
     }
 }
 
-/// Whether a copy is named whose row is of the title.
+/// Returns whether a copy is named and its row has the title.
 fn is_copy_of(copies: &Rows<CopyRow>, copy: Option<CopyId>, title: TitleId) -> bool
     ensures { result ≡ is_copy_of copies.now copy title }
 {
@@ -45,8 +45,8 @@ fn is_copy_of(copies: &Rows<CopyRow>, copy: Option<CopyId>, title: TitleId) -> b
     }
 }
 
-/// Whether the row names a shelf limit and a copy of its title, if the hold is ready, and neither
-/// if it isn't.
+/// Returns whether the row names a shelf limit and a copy of its title if the hold is ready, and
+/// neither otherwise.
 fn is_fit(copies: &Rows<CopyRow>, row: &HoldRow) -> bool
     ensures { result ≡ is_fit copies.now row.now }
 {
@@ -57,8 +57,8 @@ fn is_fit(copies: &Rows<CopyRow>, row: &HoldRow) -> bool
     }
 }
 
-/// Whether the transit serves the hold: it waits, the goal is its pick-up branch, and the copy is
-/// of its title.
+/// Returns whether the transit serves the hold: it waits, the destination is its pick-up branch,
+/// and the copy has its title.
 fn serves(copies: &Rows<CopyRow>, row: &TransitRow, hold: Option<HoldRow>) -> bool
     ensures { result ≡ serves copies.now row.now hold }
 {
@@ -70,7 +70,7 @@ fn serves(copies: &Rows<CopyRow>, row: &TransitRow, hold: Option<HoldRow>) -> bo
         && is_copy_of(copies, Some(row.copy), hold.title)
 }
 
-/// The least number of a hold whose row doesn't fit its state, after one row more.
+/// Returns the least hold whose row doesn't fit its state, after one more row.
 fn unfit_after(tables: &Tables, row: &HoldRow, first: Option<u32>) -> Option<u32>
     ensures { result ≡ first_after (is_fit tables.now.copies row.now) row.now.hold first }
 {
@@ -81,7 +81,7 @@ fn unfit_after(tables: &Tables, row: &HoldRow, first: Option<u32>) -> Option<u32
     }
 }
 
-/// The least number of a hold whose row doesn't fit its state.
+/// Returns the least hold whose row doesn't fit its state.
 fn first_unfit(tables: &Tables) -> Option<u32>
     ensures { FailsFirst (IsFit tables.now) result }
 {
@@ -92,7 +92,7 @@ fn first_unfit(tables: &Tables) -> Option<u32>
     first
 }
 
-/// The least number of a hold that a transit names without serving it, after one row more.
+/// Returns the least hold that a transit names without serving it, after one more row.
 fn unserved_after(tables: &Tables, row: &TransitRow, first: Option<u32>) -> Option<u32>
     ensures { result ≡ first_named
         (λ h. serves tables.now.copies row.now (hold_row tables.now.holds h))
@@ -109,7 +109,7 @@ fn unserved_after(tables: &Tables, row: &TransitRow, first: Option<u32>) -> Opti
     }
 }
 
-/// The least number of a hold that a transit names without serving it.
+/// Returns the least hold that a transit names without serving it.
 fn first_unserved(tables: &Tables) -> Option<u32>
     ensures { FailsFirst (IsServed tables.now) result }
 {
@@ -120,7 +120,7 @@ fn first_unserved(tables: &Tables) -> Option<u32>
     first
 }
 
-/// A transit names the hold that it is for.
+/// A transit names its hold.
 impl Names<HoldId> for TransitRow {
     ghost named = { λ r. r.hold };
 
@@ -142,7 +142,7 @@ impl Law for ServedOnce {
     }
 }
 
-/// The lesser of two numbers, of which each may be none.
+/// Returns the lesser of two optional numbers.
 fn earlier(first: Option<u32>, other: Option<u32>) -> Option<u32>
     ensures { result ≡ earlier_of first other }
 {
@@ -152,7 +152,7 @@ fn earlier(first: Option<u32>, other: Option<u32>) -> Option<u32>
     }
 }
 
-/// The least number of a hold that isn't rightly bound.
+/// Returns the least hold that isn't correctly bound.
 pub fn first_unbound(tables: &Tables) -> Option<u32>
     ensures { FailsFirst (IsRightlyBound tables.now) result }
 {

@@ -1,4 +1,4 @@
-//! The claims on copies.
+//! Claims on copies.
 
 ghost use Rattle.std.specs.Prelude.{Some};
 ghost use Rattle.circ_audit.specs.Rows.{lent_copy, shelved_copy, travelling_copy, absent_copy};
@@ -44,7 +44,7 @@ impl Names<CopyId> for TransitRow {
     }
 }
 
-/// A condition other than present claims the copy whose it is.
+/// A condition other than present claims its copy.
 impl Names<CopyId> for CopyRow {
     ghost named = { absent_copy };
 
@@ -57,7 +57,7 @@ impl Names<CopyId> for CopyRow {
     }
 }
 
-/// At most one claim is made on each copy.
+/// Each copy has at most one claim.
 pub struct ClaimedOnce;
 
 impl Law for ClaimedOnce {

@@ -1,4 +1,4 @@
-//! Counters of the numbers of a span.
+//! Counters for a span's numbers.
 
 ghost use Rattle.std.specs.Prelude.{◌≡◌, ◌≤◌, ℕ, count_by, if◌then◌else◌};
 ghost use Rattle.circ_audit.specs.Rows.{names};
@@ -6,19 +6,18 @@ ghost use Rattle.circ_audit.specs.Spans.{ShowsCounts, CountsMore, LooksAt, Fails
 
 use crate::spans::{SPAN, SpanLook, lesser, span_of};
 
-/// Rows that may name the number of something.
+/// Rows that may name a number.
 pub trait Names<N> {
     ghost use Rattle.std.specs.Prelude.{ℕ, Option};
 
     ghost named: { Self → Option ℕ };
 
-    /// The number that the row names.
+    /// Returns the number that the row names.
     fn named(&self) -> Option<u32>
         ensures { result ≡ named self.now };
 }
 
-/// Counters of the numbers of a span, which stop at two, and the least number of later spans that
-/// was counted.
+/// Counters for a span's numbers, which stop at two, and the least number counted in later spans.
 #[derive(Drop)]
 pub struct SpanCounters {
     span: u16,
@@ -27,7 +26,7 @@ pub struct SpanCounters {
 }
 
 impl SpanCounters {
-    /// The span with nothing counted.
+    /// Makes a span with nothing counted.
     pub fn new(span: u16) -> SpanCounters
         ensures span { result.span ≡ span }
         ensures shows { ShowsCounts result (λ n. 0) }
@@ -40,7 +39,7 @@ impl SpanCounters {
         }
     }
 
-    /// Counts the number that is named, if one is.
+    /// Counts the named number, if any.
     fn count(&mut self, named: Option<u32>)
         ensures { CountsMore (λ n. if names named n then 1 else 0) self.old self.new }
     {
@@ -67,7 +66,7 @@ impl SpanCounters {
         }
     }
 
-    /// The least number of the span that was counted twice.
+    /// Returns the span's least number counted twice.
     fn twice(&self) -> Option<u32>
         ensures { (times : ℕ → ℕ) → ShowsCounts self.now times
             → FailsOn (λ n. times n ≤ 1) self.now.span result }
@@ -80,7 +79,7 @@ impl SpanCounters {
         None
     }
 
-    /// Looks whether a number of the span was counted twice.
+    /// Checks whether a number of the span was counted twice.
     pub fn look(&self) -> SpanLook
         ensures { (times : ℕ → ℕ) → ShowsCounts self.now times
             → LooksAt (λ n. times n ≤ 1) self.now.span result }

@@ -1,5 +1,5 @@
-//! The audit of a library's tables: three laws of all rows that were read, and the first of them
-//! that is broken.
+//! The audit of a library's tables: three laws of all rows read, and the first of them that is
+//! broken.
 #![tactic(auto)]
 
 mod auditing;

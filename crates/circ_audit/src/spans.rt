@@ -1,4 +1,4 @@
-//! Numbers that are looked at span by span, so that no memory is taken.
+//! Checking numbers span by span, so that no memory is taken.
 
 ghost use Rattle.std.specs.Prelude.{◌≡◌, Some};
 ghost use Rattle.circ_audit.specs.Spans.{span_of, lesser_of, LooksAt};
@@ -6,11 +6,11 @@ ghost use Rattle.circ_audit.specs.Sound.{FailsFirst};
 
 use terms::Tables;
 
-/// How many numbers lie in a span.
+/// The number of numbers in a span.
 pub const SPAN: u32 = 65_536;
 
-/// What was found in a span: its least number that breaks the law, and the least number of later
-/// spans of which there is anything to look at.
+/// The finding in a span: its least number that breaks the law, and the least number to check in
+/// later spans.
 #[derive(Clone, Copy)]
 pub struct SpanLook {
     pub broken: Option<u32>,
@@ -24,19 +24,19 @@ pub trait Law {
 
     ghost keeps: { Tables → ℕ → Type 0 };
 
-    /// Looks at the numbers of a span.
+    /// Checks the numbers of a span.
     fn look(tables: &Tables, span: u16) -> SpanLook
         ensures { LooksAt (keeps tables.now) span result };
 }
 
-/// The span of a number.
+/// Returns the span of a number.
 pub fn span_of(number: u32) -> u16
     ensures { result ≡ span_of number }
 {
     (number / SPAN) as u16
 }
 
-/// The lesser of two numbers, of which the first may be none.
+/// Returns the lesser of an optional number and a number.
 pub fn lesser(first: Option<u32>, number: u32) -> Option<u32>
     ensures { result ≡ Some (lesser_of first number) }
 {
@@ -46,8 +46,8 @@ pub fn lesser(first: Option<u32>, number: u32) -> Option<u32>
     }
 }
 
-/// The least number of which the law doesn't hold. It takes one look at each span in which there is
-/// anything to look at.
+/// Returns the least number that breaks the law. Takes one look per span that has anything to
+/// check.
 pub fn first_broken<L: Law>(tables: &Tables) -> Option<u32>
     ensures { FailsFirst (L.keeps tables.now) result }
 {

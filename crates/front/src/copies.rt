@@ -1,4 +1,4 @@
-//! Copies files: many copies to be acquired, a row each.
+//! Copies files: acquiring many copies, one per row.
 
 ghost use Rattle.front.specs.declared.copies.TheConstants.{MOST_ROWS};
 ghost use Rattle.std.specs.Prelude.{◌≡◌, ◌≢◌, ◌≤◌, ◌↔◌, Some, List, ℕ, true, false, length, IfOk};
@@ -21,14 +21,13 @@ use terms::{BranchId, Cents, Command, CopyId, CopyKind, Name, TitleId, read_numb
 /// The fields of the first record.
 const HEADER: [&str; 7] = ["copy", "title", "text", "kind", "home", "price", "end"];
 
-/// The word that closes each row, so that a row that was cut is seen.
+/// The last word of each row, so that a truncated row is noticed.
 const CLOSING: &str = "end";
 
-/// The most rows that a file may have.
+/// The most rows in a file.
 pub const MOST_ROWS: u32 = 100_000;
 
-/// A good row of a copies file: a copy as it is to be acquired. Its numbers may be out of their
-/// limits, which the desk looks at.
+/// A good row of a copies file: a copy to acquire. The desk checks its numbers' limits.
 #[derive(Drop)]
 pub struct FileRow {
     pub copy: CopyId,
@@ -59,18 +58,18 @@ impl From<FileRow> for Command {
 /// How the reading of a copies file ended.
 #[derive(Clone, Copy, Debug, PartialEq, Eq)]
 pub enum CopyEnd {
-    /// With the last row of the file.
+    /// After the last row of the file.
     Whole,
-    /// With the row of this number, from 1, which isn't good or is one too many, or with the
-    /// header, which has number 0.
+    /// At the row with this number, from 1, which is malformed or one too many, or at the header,
+    /// number 0.
     Bad(u32),
-    /// With a read that failed.
+    /// At a failed read.
     Read,
-    /// With want of memory.
+    /// Out of memory.
     Memory,
 }
 
-/// The text of the field at this place, if there is one and it is UTF-8.
+/// Returns a field's text, if it exists and is UTF-8.
 fn text_at(fields: &ByteRecord, place: usize) -> Option<&str>
     ensures some { IfSome result (λ text. field_at (fields_of fields.now) place ≡ Some text.now) }
     ensures none { IfNone result ((text : List ℕ) → IsUtf8 text
@@ -82,7 +81,7 @@ fn text_at(fields: &ByteRecord, place: usize) -> Option<&str>
     }
 }
 
-/// The number that the field at this place writes.
+/// Reads the number in a field.
 fn number_at(fields: &ByteRecord, place: usize) -> Option<u32>
     ensures some { IfSome result (λ n. HasNumber (fields_of fields.now) place n) }
     ensures none { IfNone result ((n : ℕ) → HasNumber (fields_of fields.now) place n → ⊥) }
@@ -90,7 +89,7 @@ fn number_at(fields: &ByteRecord, place: usize) -> Option<u32>
     read_number(text_at(fields, place)?)
 }
 
-/// Whether the field at this place is this word.
+/// Returns whether a field is this word.
 fn is_word_at(fields: &ByteRecord, place: usize, word: &str) -> bool
     ensures { ((result ≡ true) ↔ (field_at (fields_of fields.now) place ≡ Some word.now)) }
 {
@@ -100,7 +99,7 @@ fn is_word_at(fields: &ByteRecord, place: usize, word: &str) -> bool
     }
 }
 
-/// Whether the fields are these words.
+/// Returns whether the fields are these words.
 fn are_words(fields: &ByteRecord, words: &[&str]) -> bool
     ensures { ((result ≡ true) ↔ (fields_of fields.now ≡ texts words.now)) }
 {
@@ -115,7 +114,7 @@ fn are_words(fields: &ByteRecord, words: &[&str]) -> bool
     true
 }
 
-/// The row with this text whose numbers the record has.
+/// Makes a row with this text from the record's numbers.
 fn row_with(fields: &ByteRecord, text: Name) -> Option<FileRow>
     ensures text { IfSome result (λ row. row.text ≡ text) }
     ensures numbers { IfSome result (λ row. HasNumbers (fields_of fields.now) row) }
@@ -136,7 +135,7 @@ fn row_with(fields: &ByteRecord, text: Name) -> Option<FileRow>
     })
 }
 
-/// The row that the record is.
+/// Reads a row from a record.
 fn read_row(alloc: Global, fields: &ByteRecord) -> Result<Option<FileRow>, AllocError>
     ensures good { IfOk result (λ found. IfSome found (λ row. IsRow (fields_of fields.now) row)) }
     ensures bad { IfOk result (λ found. IfNone found (IsNoRow (fields_of fields.now))) }
@@ -156,7 +155,7 @@ fn read_row(alloc: Global, fields: &ByteRecord) -> Result<Option<FileRow>, Alloc
     }
 }
 
-/// Reads one record after the header: its row joins the rows, unless the reading ends there.
+/// Reads one record after the header: adds its row, unless the reading ends there.
 fn take_row(alloc: Global, rows: &mut Vec<FileRow>, fields: &ByteRecord) -> Option<CopyEnd>
     requires few { length rows.old.items ≤ MOST_ROWS }
     ensures { Takes (fields_of fields.now) rows.old.items rows.new.items result }
@@ -175,8 +174,8 @@ fn take_row(alloc: Global, rows: &mut Vec<FileRow>, fields: &ByteRecord) -> Opti
     }
 }
 
-/// How a reading ends at an error: a record of any length and of any bytes is read, so only the
-/// reader and memory fail.
+/// Returns how an error ends the reading. Records of any length and bytes are readable, so only the
+/// reader and memory can fail.
 fn end_at(error: &Error) -> CopyEnd
     ensures failed { is_io (error_kind error.now) ≡ true → result ≡ NotRead }
     ensures memory { is_io (error_kind error.now) ≡ false → result ≡ NoMemory }
@@ -188,7 +187,7 @@ fn end_at(error: &Error) -> CopyEnd
     }
 }
 
-/// The rows after the header.
+/// Reads the rows after the header.
 fn read_rows<R: Read + Drop>(alloc: Global, file: Reader<R>) -> (Vec<FileRow>, CopyEnd)
     requires plain { IsPlain file }
     ensures told { IsRestReading file.state (source_of R.remaining file) result.0.items result.1 }
@@ -207,7 +206,7 @@ fn read_rows<R: Read + Drop>(alloc: Global, file: Reader<R>) -> (Vec<FileRow>, C
     (rows, CopyEnd::Whole)
 }
 
-/// A reader of records of any length, to which the first is no different.
+/// Makes a reader of records of any length that treats the first like any other.
 fn record_reader<R: Read>(alloc: Global, reader: R) -> Reader<R>
     ensures plain { IsPlain result }
     ensures start { reader_state result ≡ StartRecord }
@@ -219,12 +218,12 @@ fn record_reader<R: Read>(alloc: Global, reader: R) -> Reader<R>
         .from_reader(alloc, reader)
 }
 
-/// Reads a copies file: the rows before the first that isn't good, and how the reading ended.
+/// Reads a copies file: returns the rows before the first bad one, and how the reading ended.
 ///
-/// A file is comma-separated, with double quotes and no trimming. Its first record is the header,
+/// A file is comma-separated, with double quotes and no trimming. Its first record is the header:
 /// the fields `copy`, `title`, `text`, `kind`, `home`, `price` and `end`. A row has a field for
 /// each: the third is the text of a title, the last is the word `end`, and the others are numbers.
-/// After 100,000 rows the next record ends the reading.
+/// A record after 100,000 rows ends the reading.
 pub fn read_copies<R: Read + Drop>(alloc: Global, reader: R) -> (Vec<FileRow>, CopyEnd)
     ensures told { IsReading (R.remaining reader) result.0.items result.1 }
     ensures few { length result.0.items ≤ MOST_ROWS }
@@ -244,7 +243,7 @@ pub fn read_copies<R: Read + Drop>(alloc: Global, reader: R) -> (Vec<FileRow>, C
     }
 }
 
-/// A file has one list of rows and one end.
+/// A file has only one list of rows and one end.
 pub fn files_read_once()
     ensures { FilesReadOnce }
 {}

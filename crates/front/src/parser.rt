@@ -1,4 +1,4 @@
-//! The command line of the desk, for `clap`.
+//! The desk's command line, for `clap`.
 
 ghost use Rattle.std.specs.Prelude.{IfOk, map};
 ghost use Rattle.clap.specs.Words.{App};
@@ -10,7 +10,7 @@ use clap::{Arg, Command as CommandLine};
 use std::alloc::Global;
 use terms::{CommandForm, Memory};
 
-/// The line with one more argument, which is positional and required.
+/// Adds a required positional argument.
 fn with_argument<'a>(
     alloc: Global,
     line: CommandLine<'a>,
@@ -22,7 +22,7 @@ fn with_argument<'a>(
     line.arg(Arg::new(alloc, id).required(true))
 }
 
-/// A command of the line, with an argument for each of its parts.
+/// Makes a subcommand with an argument for each part.
 fn subcommand<'a>(alloc: Global, form: CommandForm) -> Result<CommandLine<'a>, Memory>
     ensures { IfOk result (λ line. IsApp line
         (command_app form.name.now (names_in (map column form.parts.now)))) }
@@ -34,14 +34,14 @@ fn subcommand<'a>(alloc: Global, form: CommandForm) -> Result<CommandLine<'a>, M
     Ok(line)
 }
 
-/// A line with no command yet, whose first word is the name of a command.
+/// Makes a command line without commands, whose first word names one.
 fn empty_line<'a>(alloc: Global) -> CommandLine<'a>
     ensures { IsApp result empty_app }
 {
     CommandLine::new(alloc, "desk").no_binary_name(true)
 }
 
-/// The line with one more command.
+/// Adds a command.
 fn with_form<'a>(
     alloc: Global,
     line: CommandLine<'a>,
@@ -53,7 +53,7 @@ fn with_form<'a>(
     line.subcommand(subcommand(alloc, form)?)
 }
 
-/// The command line of the desk: one level of subcommands.
+/// Makes the desk's command line: one level of subcommands.
 pub fn desk_line<'a>(alloc: Global, forms: &[CommandForm]) -> Result<CommandLine<'a>, Memory>
     ensures { IfOk result (λ line. IsApp line (line_app (map form_line forms.now))) }
 {

@@ -1,4 +1,4 @@
-//! The desk's words.
+//! Reading the desk's words.
 
 ghost use Rattle.std.specs.Prelude.{◌≡◌, ◌≢◌, List, map, Some, true, IfOk, IfSome, IfNone};
 ghost use Rattle.std.specs.List.{list_any};
@@ -39,8 +39,8 @@ fn any_has_hyphen(words: &[String]) -> bool
     false
 }
 
-/// The parts of the command that the words have the shape of: a name, a word for each of its parts,
-/// and no hyphen before any.
+/// Returns the command's parts, if the words have its shape: a name, one word per part, and no
+/// leading hyphens.
 fn parts_of_words(words: &[String]) -> Option<&'static [PartForm]>
     ensures some { IfSome result (λ parts. HasShape (texts_of words.now) (map column parts.now)) }
     ensures none { IfNone result ((said : Said) → IsUnderstoodAs (texts_of words.now) said → ⊥) }
@@ -68,7 +68,7 @@ fn fault_of(error: &Error) -> WordFault
     }
 }
 
-/// What `clap` makes of the words.
+/// Parses the words with `clap`.
 fn matches_of<'a>(alloc: Global, words: &'a [String]) -> Result<ArgMatches<'a>, WordFault>
     ensures read { IfOk result (λ matches. subcommand_rows_of matches ≡ subcommand_of desk_app
         (texts_of words.entry.now)) }
@@ -81,7 +81,7 @@ fn matches_of<'a>(alloc: Global, words: &'a [String]) -> Result<ArgMatches<'a>, 
     }
 }
 
-/// The words that a command's parts were given, unless one was given none.
+/// Returns the words given for a command's parts, unless one is missing.
 fn words_given<'a>(
     alloc: Global,
     given: &ArgMatches<'a>,
@@ -104,7 +104,7 @@ fn words_given<'a>(
     Ok(Some(words))
 }
 
-/// The words after the command's name, as `clap` gives them to its arguments.
+/// Returns the words after the command's name, as `clap` assigns them.
 fn words_after_name<'a>(
     alloc: Global,
     words: &'a [String],
@@ -125,8 +125,8 @@ fn words_after_name<'a>(
     }
 }
 
-/// The command that the words are: its name, and then its arguments, each in its form and none of
-/// them beginning with a hyphen. Any other words are not understood.
+/// Reads the words as a command: its name and arguments, each in its form and without a leading
+/// hyphen. Anything else is not understood.
 pub fn read_words(alloc: Global, words: &[String]) -> Result<Command, WordFault>
     ensures understood { IfOk result (λ command. IsUnderstoodAs (texts_of words.now) command) }
     ensures refused { result ≡ Err Refused → (said : Said)

@@ -1,7 +1,7 @@
-//! What each word of the desk means: definitions over lists of accepted events, and laws of all
+//! What each command of the desk means: definitions over lists of accepted events, and laws of all
 //! legal lists.
 //!
-//! A law is the contract of a function that does nothing: to call it is to have the law at hand.
+//! A law is the contract of a function that does nothing: call it to use the law.
 #![tactic(auto)]
 
 ghost use Rattle.model.specs.Laws.{StaysLegal, Places, Bindings, Balance, HoldRows, FinalStates};
@@ -25,76 +25,75 @@ pub fn legal_law()
     ensures { StaysLegal }
 {}
 
-/// The tables make at most one claim on a copy, and it is that of the place where the last movement
-/// left it.
+/// The tables make at most one claim on a copy, matching the place where its last movement left it.
 pub fn places_law()
     ensures { Places }
 {}
 
-/// A hold is ready exactly if one copy stands on its hold shelf. A copy that travels for a hold
+/// A hold is ready if and only if one copy stands on its hold shelf. A copy travelling for a hold
 /// goes to its pick-up branch, the hold waits, and no other copy travels for it.
 pub fn bindings_law()
     ensures { Bindings }
 {}
 
-/// Fines and prices are payments and waivers plus what is owed, for every patron.
+/// For every patron, fines and prices equal payments and waivers plus the debt.
 pub fn balance_law()
     ensures { Balance }
 {}
 
-/// The holds that have a row, and with it one state, are those of the numbers given: 1 up to how
-/// many were placed.
+/// The holds with a row, and so with one state, are exactly those numbered 1 up to the count
+/// placed.
 pub fn hold_rows_law()
     ensures { HoldRows }
 {}
 
-/// A hold that is filled, cancelled or expired stays so, whatever is asked of the desk.
+/// A filled, cancelled or expired hold stays so, whatever follows.
 pub fn final_states_law()
     ensures { FinalStates }
 {}
 
-/// A hold that an accepted command takes out of its line, otherwise than by cancelling it, was the
-/// first of that line.
+/// A hold that an accepted command takes out of its queue, other than by cancelling it, was first
+/// in that queue.
 pub fn line_law()
     ensures { FirstInLineIsServed }
 {}
 
-/// A request that repeats an accepted one, with the same key of the same owner and the same text,
-/// adds nothing and gets the first one's reply, whatever came between.
+/// A request that repeats an accepted one, with the same owner, key and text, adds nothing and gets
+/// the first reply, whatever came between.
 pub fn repeats_law()
     ensures { RepeatsActOnce }
 {}
 
-/// Leaving out of a list the requests that repeat one accepted before them leaves the same history.
+/// Removing the repeats of accepted requests from a list leaves the same history.
 pub fn repeats_leave_nothing_law()
     ensures { RepeatsLeaveNothing }
 {}
 
-/// A request that repeats an accepted one, and whose caller is allowed it, gets the kept reply and
+/// A request that repeats an accepted one, and that its caller may send, gets the kept reply and
 /// changes nothing.
 pub fn kept_reply_law()
     ensures { RepeatsGetTheKeptReply }
 {}
 
-/// The beginning of a copies file, followed by all of its rows, leaves the same history as all of
-/// its rows once.
+/// Importing the beginning of a copies file and then all of it leaves the same history as importing
+/// it once.
 pub fn copies_file_law()
     ensures { RowsActOnce }
 {}
 
-/// Requests whose week commands tell of seven weekdays leave a history whose week commands do.
+/// Requests whose week commands have seven weekdays leave a history whose week commands do.
 pub fn whole_weeks_law()
     ensures { WholeWeeksStay }
 {}
 
-/// The due day of every loan was the least open day of the lending branch from the end of the
-/// loan's period when it was last set. Each week command of the history is to tell of seven
-/// weekdays, as those that can be sent do.
+/// Every loan's due day was the least open day of the lending branch from the end of its period,
+/// when last set. This requires that each week command of the history has seven weekdays, as all
+/// that can be sent do.
 pub fn due_days_law()
     ensures { DueDays }
 {}
 
-/// A check-out that isn't refused has a due day within the calendar, on the same condition.
+/// An accepted check-out has a due day within the calendar, on the same condition.
 pub fn due_days_exist_law()
     ensures { DueDaysExist }
 {}
@@ -110,107 +109,102 @@ pub fn shelf_limits_exist_law()
     ensures { LimitsExist }
 {}
 
-/// A patron's page is the same after any two histories that agree on the patron's own row, open
-/// loans and active holds, and on the copies and titles of these.
+/// A patron's page is the same after two histories that agree on the patron's own row, open loans
+/// and active holds, and on the copies and titles of these.
 pub fn own_rows_law()
     ensures { OwnRows }
 {}
 
-/// After one more accepted command a patron has the same own row, open loans and active holds, and
-/// these the same copies and titles, unless a row of the patron, of one of the patron's loans or of
-/// one of the patron's holds was put.
+/// An accepted command leaves a patron's own row, open loans, active holds, and their copies and
+/// titles unchanged, unless it puts the patron's row or that of one of the patron's loans or holds.
 pub fn kept_rows_law()
     ensures { KeptRowsAgree }
 {}
 
-/// The open days, the least open day and the days late of these definitions are those of the crate
-/// of calendars.
+/// The open days, the least open day and the days late defined here are those of the crate
+/// `calendar`.
 pub fn calendars_law()
     ensures { CalendarsAgree }
 {}
 
-/// What holds of every legal history, in one record.
+/// All invariants of legal histories, in one record.
 pub fn invariant_law()
     ensures { Invariants }
 {}
 
-/// Requests whose commands and keys have their forms leave a history whose commands and keys do.
-/// Every command and every key that the program makes has its form.
+/// Requests with well-formed commands and keys leave a history whose commands and keys are
+/// well-formed. All commands and keys that the program makes are.
 pub fn forms_law()
     ensures { FormsStay }
 {}
 
-/// Where commands have their forms, each week command tells of seven weekdays.
+/// Every well-formed week command has seven weekdays.
 pub fn forms_are_whole_law()
     ensures { FormsAreWhole }
 {}
 
-/// Every column of every row that a legal history leaves lies in its limits, days and texts and
-/// sums too, and what is kept of a request can be read back: where commands and keys have their
-/// forms.
+/// Every column of every row left by a legal history is within its limits, including days, texts
+/// and sums, and kept requests can be read back, if commands and keys are well-formed.
 pub fn rows_in_limits_law()
     ensures { RowsInLimits }
 {}
 
-/// Every row that a legal history leaves names rows that are there: the branch, the kind, the
-/// title, the copy, the patron, the loan or the hold of each column that names one.
+/// Every row left by a legal history names only existing rows: the branch, kind, title, copy,
+/// patron, loan or hold of each such column.
 pub fn references_law()
     ensures { References }
 {}
 
-/// After a legal history no branch is closed singly on more days than it can be.
+/// After a legal history no branch has more single closed days than allowed.
 pub fn few_closed_days_law()
     ensures { FewClosedDays }
 {}
 
-/// A list of requests that was legal by the definitions of schema 1, whose commands had no first
-/// days and whose line looked at none, or by those of schema 2, whose rules had no grace days and
-/// whose fines looked at none, is legal by those of today: every copy is in the same place, every
-/// hold in the same state, the accounts have the same lines, and every command gets the same
-/// answer. The fine without grace days is that of both.
+/// A list of requests that was legal under schema 1, whose commands had no first days and whose
+/// queue ignored them, or under schema 2, whose rules had no grace days and whose fines ignored
+/// them, is legal today: every copy is in the same place, every hold in the same state, the
+/// accounts have the same lines, and every command gets the same answer. The fine without grace
+/// days is that of both.
 pub fn old_lists_law()
     ensures schema_1 { OldListsStand is_of_schema_1 sight1 }
     ensures schema_2 { OldListsStand is_of_schema_2 sight2 }
     ensures fines { FinesWithoutGrace }
 {}
 
-/// The tables that a library of schema 1 holds after a history are led to those that one of schema
-/// 2 holds after the same history, every hold with the state, the copy and the limit that it had;
-/// and those of schema 2 to those of the newest schema, every rule and every loan with the terms
-/// that it had. They keep to the same limits. Each list of schema 1 is one of schema 2.
+/// Migration leads the tables of a schema 1 library after a history to those of schema 2 after the
+/// same history, every hold keeping its state, copy and limit; and those of schema 2 to those of
+/// the newest schema, every rule and loan keeping its terms. They keep to the same limits. Each
+/// list of schema 1 is one of schema 2.
 pub fn old_tables_law()
     ensures led { OldTablesAreLed }
     ensures within { Schema1IsWithinSchema2 }
 {}
 
-/// A list that is asked for again and again, each time from the last number that was shown, shows
-/// every number that it had all the time exactly once. The numbers of each list rise.
+/// A list asked for repeatedly, each time from the last number shown, shows every number that it
+/// had throughout exactly once. The numbers of each list rise.
 pub fn lists_show_once_law()
     ensures once { ListsShowOnce }
     ensures rise { ListsRise }
 {}
 
-/// The first hold in line for a title gets the next copy of it that routing has to give, and a copy
-/// that is to be taken from the shelves of a branch for a hold goes to that hold when it is handed
-/// in there.
+/// The first hold in a title's queue gets the next copy that routing has to give, and a copy to
+/// take from a branch's shelves for a hold goes to that hold when checked in there.
 pub fn turns_law()
     ensures first { FirstIsServed }
     ensures pulled { PulledCopiesServe }
 {}
 
-/// A patron is among those who owe something exactly if fines and prices are above payments and
-/// waivers.
+/// A patron is listed as owing if and only if fines and prices exceed payments and waivers.
 pub fn debts_law()
     ensures { DebtsAreShown }
 {}
 
-/// The lines that are shown of a patron's account are the lines of the account, in order.
+/// The account lines shown for a patron are those of the account, in order.
 pub fn accounts_law()
     ensures { AccountsAreShown }
 {}
 
-/// A copy that was acquired is told to stand on the shelf of its home exactly where the tables make
-/// no claim on it.
+/// An acquired copy is reported on its home shelf if and only if the tables make no claim on it.
 pub fn shelves_law()
     ensures { ShelvesAreUnclaimed }
 {}

@@ -1,3 +1,2 @@
-//! Tables of an SQL database as maps from keys to rows: definitions and lemmas, for the crates
-//! whose contracts speak of such maps.
+//! SQL tables as maps from keys to rows: definitions and lemmas for contracts that use such maps.
 #![tactic(auto)]

@@ -42,7 +42,7 @@ fn are_ordered<T: Ordered>(rows: &[T]) -> bool
 }
 
 impl<T: Ordered> Rows<T> {
-    /// Checks the rows of a list. 93 if they aren't in ascending key order, as in a damaged table.
+    /// Makes the rows of a table. 93 if they aren't in ascending key order, as in a damaged table.
     pub fn new(rows: Vec<T>) -> Result<Rows<T>, Fault>
         ensures ok { IfOk result
             (λ taken. (taken ≡ rows.items) × IsOrdered T.comes_before rows.items) }
