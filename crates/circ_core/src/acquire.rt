@@ -40,7 +40,7 @@ fn differs_copy(row: &Option<CopyRow>, new: &CopyRow) -> bool
     }
 }
 
-/// The rows of a new title and a new copy, each unless it is there.
+/// Puts a new title and a new copy, each unless it exists.
 fn acquired<'a>(view: &View, copy: CopyRow, text: &'a Name) -> Changes<'a>
     ensures { result ≡
         rows_unless view.now.title (PutTitle (record { title = copy.title; text = text.now }) ∷ [])

@@ -9,7 +9,7 @@ use crate::changes::{Changes, Decision, RowChange, done};
 use crate::checks::first_refusal;
 use terms::{Day, LAST_TODAY, MetaRow, Refusal};
 
-/// Whether the day isn't after today, or is one that can never be today.
+/// Returns whether the day isn't after today, or can never be today.
 pub(crate) fn is_bad_day(meta: &MetaRow, day: Day) -> bool
     ensures { result ≡ is_bad_day meta.now day }
 {

@@ -1,4 +1,4 @@
-//! `branch`: a branch is made.
+//! `branch`: makes a branch.
 
 ghost use Rattle.std.specs.Prelude.{◌≡◌};
 ghost use Rattle.terms.specs.declared.reply.Reply.TheVariants.{Done};

@@ -1,4 +1,4 @@
-//! `cancel-hold`: a waiting hold is cancelled.
+//! `cancel-hold`: cancels a waiting hold.
 
 ghost use Rattle.std.specs.Prelude.{◌≡◌, ◌++◌, ◌+◌, ◌≤◌, length};
 ghost use Rattle.terms.specs.declared.reply.Reply.TheVariants.{Done};
@@ -12,7 +12,7 @@ use crate::holds::finish;
 use crate::views::View;
 use terms::{HoldRow, HoldState, Refusal, TransitRow};
 
-/// Whether the hold waits.
+/// Returns whether the hold waits.
 fn is_waiting(hold: &Option<HoldRow>) -> bool
     ensures { result ≡ waits hold.now }
 {
@@ -22,7 +22,7 @@ fn is_waiting(hold: &Option<HoldRow>) -> bool
     }
 }
 
-/// The hold is cancelled.
+/// Cancels the hold.
 fn cancelled_changes<'a>(hold: &Option<HoldRow>) -> Changes<'a>
     ensures rows { result ≡ cancelled_rows hold.now }
     ensures few { length result ≤ 1 }
@@ -33,7 +33,7 @@ fn cancelled_changes<'a>(hold: &Option<HoldRow>) -> Changes<'a>
     }
 }
 
-/// The changes, and the travel of the copy for no hold.
+/// Adds the change that makes a copy's transit serve no hold.
 fn with_let_go<'a>(changes: Changes<'a>, transit: &Option<TransitRow>) -> Changes<'a>
     requires { length changes ≤ 5 }
     ensures { result ≡ changes.entry ++ let_go_rows transit.now }

@@ -1,4 +1,4 @@
-//! What a decision changes: a few rows.
+//! The changes of a decision: a few rows.
 
 ghost use Rattle.std.specs.Prelude.{◌≡◌, List, [], ◌∷◌, ◌++◌, ◌≤◌, length, slice_get};
 ghost use Rattle.std.specs.Option.{option_copied};
@@ -12,7 +12,7 @@ use terms::{
     PatronPut, Reply, RuleRow, TitlePut, TransitRow,
 };
 
-/// One changed row: put whole by its key, or taken away by its key.
+/// A row change: put or removed by its key.
 #[derive(Drop)]
 pub enum RowChange<'a> {
     PutMeta(MetaRow),
@@ -31,14 +31,14 @@ pub enum RowChange<'a> {
     PutLine(LineRow),
 }
 
-/// What a place holds that no change fills.
+/// The content of an unused place.
 impl<'a> Default for RowChange<'a> {
     fn default() -> Self {
         RowChange::TakeTransit(CopyId::new(0))
     }
 }
 
-/// The changes of one command, in order: at most six.
+/// The changes of one command, in order; at most six.
 #[derive(Drop)]
 pub struct Changes<'a> {
     rows: ArrayVec<RowChange<'a>, 6>,
@@ -51,10 +51,10 @@ impl<'a> Model for Changes<'a> {
 }
 
 impl<'a> Changes<'a> {
-    /// How many places there are.
+    /// The number of places.
     pub const PLACES: usize = 6;
 
-    /// No change.
+    /// Makes an empty list.
     pub fn none() -> Self
         ensures { result ≡ [] }
     {
@@ -63,28 +63,28 @@ impl<'a> Changes<'a> {
         }
     }
 
-    /// One change.
+    /// Makes a list of one change.
     pub fn one(first: RowChange<'a>) -> Self
         ensures { result ≡ first.entry ∷ [] }
     {
         Changes::none().with(first)
     }
 
-    /// Two changes.
+    /// Makes a list of two changes.
     pub fn two(first: RowChange<'a>, second: RowChange<'a>) -> Self
         ensures { result ≡ first.entry ∷ second.entry ∷ [] }
     {
         Changes::one(first).with(second)
     }
 
-    /// Three changes.
+    /// Makes a list of three changes.
     pub fn three(first: RowChange<'a>, second: RowChange<'a>, third: RowChange<'a>) -> Self
         ensures { result ≡ first.entry ∷ second.entry ∷ third.entry ∷ [] }
     {
         Changes::two(first, second).with(third)
     }
 
-    /// The changes with one more at the end, of at most six.
+    /// Adds a change at the end, up to six.
     pub(crate) fn with(self, change: RowChange<'a>) -> Self
         requires { length self ≤ 5 }
         ensures { result ≡ self.entry ++ change.entry ∷ [] }
@@ -94,7 +94,7 @@ impl<'a> Changes<'a> {
         Changes { rows }
     }
 
-    /// The change at a place below `PLACES`, if that place is filled.
+    /// Returns the change at a place below `PLACES`, if there is one.
     pub fn get(&self, place: usize) -> Option<&RowChange<'a>>
         ensures value { option_copied result ≡ slice_get self.now place }
         ensures few { length self.now ≤ 6 }
@@ -104,14 +104,14 @@ impl<'a> Changes<'a> {
     }
 }
 
-/// What becomes of a command that is not refused.
+/// The outcome of an accepted command.
 #[derive(Drop)]
 pub struct Decision<'a> {
     pub reply: Reply,
     pub changes: Changes<'a>,
 }
 
-/// The changes go with the reply that it is done.
+/// Makes the decision with these changes and the reply that it is done.
 pub(crate) fn done<'a>(changes: Changes<'a>) -> Decision<'a>
     ensures reply { result.reply ≡ Done }
     ensures changes { result.changes ≡ changes.entry }

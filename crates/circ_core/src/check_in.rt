@@ -1,4 +1,4 @@
-//! `check-in`: a copy is handed in.
+//! `check-in`: takes a copy back.
 
 ghost use Rattle.std.specs.Prelude.{◌≡◌, ◌≤◌, length};
 ghost use Rattle.circ_core.specs.Decided.{Decided};
@@ -14,7 +14,7 @@ use crate::routing::{Course, home_branch, limit_day, route, told, with_arrival};
 use crate::views::View;
 use terms::{BranchId, Cents, Condition, CopyId, CopyRow, Day, Refusal, Reply};
 
-/// A travel that is over leaves the table; one that goes on is put there anew.
+/// Removes a finished transit; a continuing one is put anew by the arrival.
 fn end_travel<'a>(course: &Course, copy: CopyId) -> Changes<'a>
     ensures rows { result ≡ over_rows course.now copy }
     ensures few { length result ≤ 1 }
@@ -26,7 +26,7 @@ fn end_travel<'a>(course: &Course, copy: CopyId) -> Changes<'a>
     }
 }
 
-/// A copy that was missing is present again.
+/// Makes a missing copy present again.
 fn find_again<'a>(copy: &Option<CopyRow>) -> Changes<'a>
     ensures rows { result ≡ found_rows copy.now }
     ensures few { length result ≤ 1 }
@@ -45,7 +45,7 @@ fn find_again<'a>(copy: &Option<CopyRow>) -> Changes<'a>
     }
 }
 
-/// The row that changes where the copy was: a loan, a travel, or among the missing.
+/// Changes the row for where the copy was: a loan, a transit, or among the missing.
 fn leave<'a>(view: &View, course: &Course, copy: CopyId, today: Day) -> Changes<'a>
     ensures rows { result
         ≡ left_rows view.now.loan view.now.transit view.now.copy course.now copy today }
@@ -60,16 +60,15 @@ fn leave<'a>(view: &View, course: &Course, copy: CopyId, today: Day) -> Changes<
     }
 }
 
-/// Where the copy goes.
+/// Returns where the copy goes.
 fn next_place(view: &View, branch: BranchId) -> Course
     ensures { result ≡ check_in_course view.now branch }
 {
     route(home_branch(&view.copy), &view.coming, &view.first, branch)
 }
 
-/// `check-in`: refusals 10, 13, 35, 33, 70, in this order; 39 where the calendar has no open day
-/// left for the limit of the hold that becomes ready, which rows that the desk made itself never
-/// bring about.
+/// `check-in`: refusals 10, 13, 35, 33, 70, in this order; 39 if the calendar has no open day left
+/// for the limit of the hold that becomes ready, which never happens with rows the desk made.
 pub(crate) fn check_in<'a>(
     view: &'a View,
     copy: CopyId,

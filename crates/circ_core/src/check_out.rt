@@ -1,4 +1,4 @@
-//! `check-out`: a copy is lent.
+//! `check-out`: lends a copy.
 
 ghost use Rattle.std.specs.Prelude.{◌≡◌, ◌≤◌, ◌==◌, nat_le, nat_lt, is_none};
 ghost use Rattle.circ_core.specs.Decided.{Decided};
@@ -24,7 +24,7 @@ use terms::{
     LAST_NUMBER, LoanId, LoanRow, PatronId, PatronKind, Refusal, Reply, RuleRow,
 };
 
-/// Whether a copy that is neither lent nor in transit stands at the branch.
+/// Returns whether a copy that is neither lent nor in transit is at the branch.
 fn is_at(hold: &Option<HoldRow>, copy: &Option<CopyRow>, branch: BranchId) -> bool
     ensures { result ≡ (stands_at hold.now copy.now == branch) }
 {
@@ -46,7 +46,7 @@ fn is_anothers(hold: &Option<HoldRow>, patron: PatronId) -> bool
     }
 }
 
-/// The hold that the check-out fills, if it fills one.
+/// Returns the hold that the check-out fills, if any.
 fn hold_to_fill(hold: &Option<HoldRow>, first: &Option<HoldRow>) -> Option<HoldRow>
     ensures { result ≡ filled_hold hold.now first.now }
 {
@@ -56,7 +56,7 @@ fn hold_to_fill(hold: &Option<HoldRow>, first: &Option<HoldRow>) -> Option<HoldR
     }
 }
 
-/// Whether the shelved copy is for the first in line, who is another.
+/// Returns whether the shelved copy is for another patron, first in the queue.
 fn is_for_another(hold: &Option<HoldRow>, first: &Option<HoldRow>, patron: PatronId) -> bool
     ensures { result ≡ is_wanted hold.now first.now patron }
 {
@@ -75,7 +75,7 @@ fn holds_more(filled: &Option<HoldRow>, own_holds: Count) -> bool
     }
 }
 
-/// Whether the patron has as many open loans as the kind is allowed.
+/// Returns whether the patron has all the open loans the kind allows.
 fn has_all_loans(kind: &Option<KindRow>, open_loans: Count) -> bool
     ensures { result ≡ nat_le (loans_allowed kind.now) open_loans }
 {
@@ -85,14 +85,14 @@ fn has_all_loans(kind: &Option<KindRow>, open_loans: Count) -> bool
     }
 }
 
-/// Whether no loan number is left.
+/// Returns whether no loan number is left.
 fn is_used_up(next_loan: LoanId) -> bool
     ensures { result ≡ nat_lt LAST_NUMBER next_loan }
 {
     LAST_NUMBER < next_loan.number()
 }
 
-/// The refusal of a check-out, by its table of checks.
+/// Returns the refusal of a check-out, from its table of checks.
 fn check_out_refusal(
     view: &View,
     patron: PatronId,
@@ -132,7 +132,7 @@ fn check_out_refusal(
     ])
 }
 
-/// The terms of the rule; without one, which a check refuses, none at all.
+/// Returns the rule's terms; all 0 without a rule, which a check refuses.
 fn terms_of(rule: &Option<RuleRow>) -> RuleRow
     ensures period { result.period ≡ period_of rule.now }
     ensures renewals { result.renewals ≡ renewals_of rule.now }
@@ -154,7 +154,7 @@ fn terms_of(rule: &Option<RuleRow>) -> RuleRow
     }
 }
 
-/// The loan that is made.
+/// Makes the new loan.
 fn loan_for(view: &View, patron: PatronId, copy: CopyId, branch: BranchId, due: Day) -> LoanRow
     ensures { result ≡ new_loan view.now patron copy branch due }
 {
@@ -175,7 +175,7 @@ fn loan_for(view: &View, patron: PatronId, copy: CopyId, branch: BranchId, due: 
     }
 }
 
-/// The rows that a check-out changes: the next number, the loan, and the hold that it fills.
+/// Changes the next number, the loan, and the hold it fills.
 fn check_out_changes<'a>(
     view: &View,
     patron: PatronId,
@@ -200,8 +200,7 @@ fn check_out_changes<'a>(
 }
 
 /// `check-out`: refusals 10, 11, 13, 35, 34, 31, 32, 30, 33, 36, 50, 16, 37, 38, 70, in this order;
-/// 39 where the calendar has no open day left, which rows that the desk made itself never bring
-/// about.
+/// 39 if the calendar has no open day left, which never happens with rows the desk made.
 pub(crate) fn check_out<'a>(
     view: &View,
     patron: PatronId,

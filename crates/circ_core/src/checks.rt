@@ -5,7 +5,7 @@ ghost use Rattle.model.specs.Checks.{first_failing};
 
 use terms::Refusal;
 
-/// The refusal of the first check that fails.
+/// Returns the refusal of the first failed check.
 pub fn first_refusal(checks: &[(Refusal, bool)]) -> Option<Refusal>
     ensures { result ≡ first_failing checks.now }
 {

@@ -12,7 +12,7 @@ use crate::views::View;
 use calendar::Calendar;
 use terms::{BranchId, Day, Refusal};
 
-/// Whether the day is closed singly.
+/// Returns whether the day is closed singly.
 fn is_closed(calendar: &Option<Calendar>, day: Day) -> bool
     ensures { result ≡ is_closed_day calendar.now day }
 {
@@ -22,7 +22,7 @@ fn is_closed(calendar: &Option<Calendar>, day: Day) -> bool
     }
 }
 
-/// Whether 400 days are closed singly.
+/// Returns whether 400 days are closed singly.
 fn is_full(calendar: &Option<Calendar>) -> bool
     ensures { result ≡ has_all_days calendar.now }
 {

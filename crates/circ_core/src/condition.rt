@@ -24,7 +24,7 @@ pub(crate) fn is_missing(copy: &Option<CopyRow>) -> bool
     }
 }
 
-/// The copy in its new condition.
+/// Puts the copy in its new condition.
 pub(crate) fn copy_changes<'a>(copy: &Option<CopyRow>, condition: Condition) -> Changes<'a>
     ensures rows { result ≡ condition_rows copy.now condition }
     ensures few { length result ≤ 1 }

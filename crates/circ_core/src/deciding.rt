@@ -1,4 +1,4 @@
-//! The decision on a command.
+//! Deciding commands.
 
 ghost use Rattle.model.specs.History.{History};
 ghost use Rattle.std.specs.Prelude.{◌≡◌, false};
@@ -31,13 +31,12 @@ use crate::week::set_week;
 use crate::withdraw::withdraw;
 use terms::{Command, Days, Refusal, RuleRow, Sort};
 
-/// The refusal of the desk's command, or its reply with the rows that change. The view has the rows
-/// that the command needs. It takes no memory.
+/// Decides a command of the desk: its refusal, or its reply with the changed rows. The view has the
+/// rows that the command needs. Takes no memory.
 ///
-/// On the view of the tables that a legal list of accepted events leaves, it is the refusal or the
-/// reply which that list gives the command, and the rows change so that the tables are those of the
-/// list with the command added. A question isn't decided: it changes nothing, and is answered from
-/// the tables.
+/// On the view of tables left by a legal list of accepted events, it gives the refusal or the reply
+/// that the list gives the command, and the changed rows make the tables those of the list with the
+/// command added. Questions aren't decided: they change nothing, and are answered from the tables.
 #[tactic(auto, using(crate::proofs::Decisions::decides))]
 pub fn decide<'a>(view: &'a View, command: &'a Command) -> Result<Decision<'a>, Refusal>
     ensures on_rows { DecidesOn view.now command.now result }
@@ -47,7 +46,7 @@ pub fn decide<'a>(view: &'a View, command: &'a Command) -> Result<Decision<'a>, 
     decide_on_rows(view, command)
 }
 
-/// The decision of the command's own function, on the rows of the view.
+/// Calls the command's own function on the rows of the view.
 fn decide_on_rows<'a>(view: &'a View, command: &'a Command) -> Result<Decision<'a>, Refusal>
     ensures { DecidesOn view.now command.now result }
 {

@@ -1,4 +1,4 @@
-//! The day on which a loan or the limit of a hold shelf falls.
+//! The due day of a loan, and the limit day of a hold shelf.
 
 ghost use Rattle.std.specs.Prelude.{◌≡◌, ◌+◌, IfSome, IfNone};
 ghost use Rattle.circ_core.specs.DueDay.{due_from, IsDueFrom, IsShutFrom};
@@ -6,7 +6,7 @@ ghost use Rattle.circ_core.specs.DueDay.{due_from, IsDueFrom, IsShutFrom};
 use calendar::{Calendar, Day};
 use terms::Days;
 
-/// The least open day from so many days after a day, if the calendar has one.
+/// Finds the least open day from `period` days after a day, if the calendar has one.
 fn search(calendar: &Option<Calendar>, today: Day, period: Days) -> Option<Day>
     ensures some { IfSome result (IsDueFrom calendar.now (today + period)) }
     ensures none { IfNone result (IsShutFrom calendar.now (today + period)) }
@@ -23,7 +23,7 @@ fn search(calendar: &Option<Calendar>, today: Day, period: Days) -> Option<Day>
     days.least_open(from)
 }
 
-/// The least open day from so many days after a day, if the calendar has one.
+/// Returns the least open day from `period` days after a day, if the calendar has one.
 #[tactic(auto, using(crate::proofs::DueDays::found_by))]
 pub(crate) fn due_day(calendar: &Option<Calendar>, today: Day, period: Days) -> Option<Day>
     ensures { result ≡ due_from calendar.now (today + period) }

@@ -1,4 +1,4 @@
-//! The end of a copy's loan, with its fine.
+//! Ending a copy's loan, with its fine.
 
 ghost use Rattle.std.specs.Prelude.{◌≡◌, ◌≤◌, ◌+◌, ◌++◌, false, length};
 ghost use Rattle.circ_core.specs.Ending.{fine_due, lines_for, lacks_numbers, end_rows, charged};
@@ -10,7 +10,7 @@ use terms::{
     Cents, LARGEST_SUM, LAST_NUMBER, LineId, LineRow, LoanRow, MetaRow, PatronPut, PatronRow, Sort,
 };
 
-/// The fine of the loan if it ends today, in cents; nothing where the copy is not on loan.
+/// Returns the fine if the loan ends today, in cents; 0 if the copy isn't on loan.
 pub(crate) fn fine_of(loan: &Option<LoanRow>, calendar: &Option<Calendar>, today: Day) -> Cents
     ensures { result ≡ fine_due loan.now calendar.now today }
 {
@@ -26,14 +26,14 @@ pub(crate) fn fine_of(loan: &Option<LoanRow>, calendar: &Option<Calendar>, today
     }
 }
 
-/// How many lines the charge makes.
+/// Returns how many lines the charge needs.
 fn line_count(amount: Cents) -> u32
     ensures { result ≡ lines_for amount }
 {
     if amount.number() == 0 { 0 } else { 1 }
 }
 
-/// Whether fewer line numbers are left than the fine and the price need.
+/// Returns whether too few line numbers are left for the fine and the price.
 pub(crate) fn needs_more_numbers(meta: &MetaRow, fine: Cents, price: Cents) -> bool
     ensures { result ≡ lacks_numbers meta.now fine price }
 {
@@ -43,7 +43,7 @@ pub(crate) fn needs_more_numbers(meta: &MetaRow, fine: Cents, price: Cents) -> b
     u64::from(LAST_NUMBER) + 1 < after
 }
 
-/// The changes, and the loan's end.
+/// Adds the loan's end.
 pub(crate) fn with_end<'a>(changes: Changes<'a>, loan: &Option<LoanRow>, today: Day) -> Changes<'a>
     requires { length changes ≤ 5 }
     ensures { result ≡ changes.entry ++ end_rows loan.now today }
@@ -58,7 +58,7 @@ pub(crate) fn with_end<'a>(changes: Changes<'a>, loan: &Option<LoanRow>, today: 
     }
 }
 
-/// The changes, and the line of a charge for the loan.
+/// Adds the line of a charge for the loan.
 fn with_line<'a>(
     changes: Changes<'a>,
     meta: &MetaRow,
@@ -83,7 +83,7 @@ fn with_line<'a>(
     }))
 }
 
-/// The patron's row with the fine and the price on the account.
+/// Charges the fine and the price to the patron's row.
 fn charge<'a>(patron: &'a PatronRow, fine: Cents, price: Cents) -> PatronPut<'a>
     ensures { result ≡ charged patron.now fine price }
 {
@@ -97,7 +97,7 @@ fn charge<'a>(patron: &'a PatronRow, fine: Cents, price: Cents) -> PatronPut<'a>
     }
 }
 
-/// The changes, and those of the account of a borrower.
+/// Adds the changes of a borrower's account.
 fn with_account<'a>(
     changes: Changes<'a>,
     meta: &MetaRow,
@@ -124,7 +124,7 @@ fn with_account<'a>(
     with_line(fined, meta, second, loan, Sort::Price, price)
 }
 
-/// The changes, and those of the fine and the price that the borrower of the loan is charged.
+/// Adds the changes that charge the loan's borrower the fine and the price.
 pub(crate) fn with_charges<'a>(
     changes: Changes<'a>,
     meta: &MetaRow,

@@ -10,7 +10,7 @@ use crate::checks::first_refusal;
 use crate::limits::is_small;
 use terms::{CopyKind, Days, MOST_GRACE, PatronKind, Refusal, RuleRow};
 
-/// The change that gives the rule its grace days; none where there is no rule.
+/// Gives the rule its grace days; no change without a rule.
 fn grace_changes<'a>(rule: &Option<RuleRow>, days: Days) -> Changes<'a>
     ensures { result ≡ grace_rows rule.now days }
 {

@@ -1,4 +1,4 @@
-//! The rows of holds that end.
+//! Ending holds.
 
 ghost use Rattle.std.specs.Prelude.{◌≡◌};
 ghost use Rattle.circ_core.specs.Holds.{finished};
@@ -6,7 +6,7 @@ ghost use Rattle.circ_core.specs.Holds.{finished};
 use crate::routing::limit_day;
 use terms::{HoldRow, HoldState};
 
-/// The row of a hold in a final state.
+/// Puts a hold in a final state.
 pub(crate) fn finish(hold: HoldRow, state: HoldState) -> HoldRow
     ensures { result ≡ finished hold state }
 {

@@ -1,5 +1,5 @@
-//! Decisions: from the rows that a command needs to its refusal, or its reply and the rows that
-//! change. Each command has a module of its name, here and among the definitions and the proofs.
+//! Decisions: from the rows that a command needs to its refusal, or its reply and the changed rows.
+//! Each command has a module of its name, here, in the definitions and in the proofs.
 #![tactic(auto)]
 
 mod acquire;

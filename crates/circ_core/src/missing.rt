@@ -1,4 +1,4 @@
-//! `missing`: a copy is lost.
+//! `missing`: declares a copy missing.
 
 ghost use Rattle.std.specs.Prelude.{◌≡◌, ◌++◌, ◌+◌, ◌≤◌, length};
 ghost use Rattle.circ_core.specs.Decided.{Decided};
@@ -13,7 +13,7 @@ use crate::routing::limit_day;
 use crate::views::View;
 use terms::{Cents, Condition, CopyRow, Day, HoldRow, HoldState, LoanRow, Refusal, Reply};
 
-/// The price that is charged for a copy, in cents: nothing where it is not on loan.
+/// Returns the price to charge for a copy, in cents; 0 if it isn't on loan.
 fn price_of(loan: &Option<LoanRow>, copy: &Option<CopyRow>) -> Cents
     ensures { result ≡ price_due loan.now copy.now }
 {
@@ -26,7 +26,7 @@ fn price_of(loan: &Option<LoanRow>, copy: &Option<CopyRow>) -> Cents
     }
 }
 
-/// The hold, waiting again.
+/// Makes a hold wait again.
 fn wait_again(hold: &HoldRow) -> HoldRow
     ensures { result ≡ waiting_again hold.now }
 {
@@ -37,7 +37,7 @@ fn wait_again(hold: &HoldRow) -> HoldRow
     row
 }
 
-/// The changes, and what becomes of that to which the copy was bound.
+/// Adds the release of what the copy was bound to.
 fn with_release<'a>(changes: Changes<'a>, view: &View, today: Day) -> Changes<'a>
     requires { length changes ≤ 1 }
     ensures rows { result ≡ changes.entry

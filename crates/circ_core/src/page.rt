@@ -8,7 +8,7 @@ ghost use Rattle.circ_core.specs.Page.{page_checks};
 use crate::changes::{Changes, Decision, done};
 use terms::{PatronRow, Refusal};
 
-/// `page`: refusal 11. Nothing is changed; the page itself is made elsewhere.
+/// `page`: refusal 11. Changes nothing; the page itself is made elsewhere.
 pub(crate) fn page<'a>(patron: &Option<PatronRow>) -> Result<Decision<'a>, Refusal>
     ensures { Decided (page_checks patron.now) Done [] result }
 {

@@ -1,4 +1,4 @@
-//! `patron`: a patron is enrolled.
+//! `patron`: enrols a patron.
 
 ghost use Rattle.std.specs.Prelude.{◌≡◌};
 ghost use Rattle.terms.specs.declared.reply.Reply.TheVariants.{Done};

@@ -1,4 +1,4 @@
-//! `pay` and `waive`: a part of what a patron owes is settled.
+//! `pay` and `waive`: settle part of a patron's debt.
 
 ghost use Rattle.circ_core.specs.Decided.{Decided};
 ghost use Rattle.circ_core.specs.Debt.{owed_by};
@@ -10,7 +10,7 @@ use crate::changes::{Changes, Decision, RowChange};
 use crate::views::View;
 use terms::{Cents, LAST_NUMBER, LineId, LineRow, PatronId, PatronPut, Refusal, Reply, Sort};
 
-/// `pay` and `waive`, by the sort of the line that is made: refusals 11, 60, 70.
+/// `pay` and `waive`, by the sort of the new line: refusals 11, 60, 70.
 pub(crate) fn settle<'a>(
     view: &'a View,
     patron: PatronId,

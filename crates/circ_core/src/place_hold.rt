@@ -1,5 +1,5 @@
-//! `place-hold` and `place-hold-from`: a patron stands in line for a title, at once or from a later
-//! day on.
+//! `place-hold` and `place-hold-from`: put a patron in a title's queue, at once or from a later day
+//! on.
 
 ghost use Rattle.std.specs.Prelude.{◌≡◌, nat_le};
 ghost use Rattle.circ_core.specs.Decided.{Decided};
@@ -18,7 +18,7 @@ use terms::{
     Refusal, Reply, TitleId,
 };
 
-/// Whether the patron has as many active holds as the kind is allowed.
+/// Returns whether the patron has all the active holds the kind allows.
 fn has_all_holds(kind: &Option<KindRow>, active_holds: Count) -> bool
     ensures { result ≡ nat_le (holds_allowed kind.now) active_holds }
 {
@@ -28,7 +28,7 @@ fn has_all_holds(kind: &Option<KindRow>, active_holds: Count) -> bool
     }
 }
 
-/// Whether the hold is to have a first day, and that is no later day.
+/// Returns whether there is a first day and it isn't a later day.
 fn is_bad_first_day(meta: &MetaRow, first_day: &Option<Day>) -> bool
     ensures { result ≡ is_bad_first_day meta.now first_day.now }
 {
@@ -38,7 +38,7 @@ fn is_bad_first_day(meta: &MetaRow, first_day: &Option<Day>) -> bool
     }
 }
 
-/// The refusal of a hold that is to be placed, by its table of checks.
+/// Returns the refusal of a new hold, from its table of checks.
 fn place_hold_refusal(view: &View, first_day: &Option<Day>) -> Option<Refusal>
     ensures { result ≡ first_failing (place_hold_checks view.now first_day.now) }
 {
@@ -60,8 +60,8 @@ fn place_hold_refusal(view: &View, first_day: &Option<Day>) -> Option<Refusal>
     ])
 }
 
-/// `place-hold`, and `place-hold-from` with a first day: refusals 11, 12, 10, 23 (of a first day
-/// alone), 50, 52, 51, 70, in this order.
+/// `place-hold`, and `place-hold-from` with a first day: refusals 11, 12, 10, 23 (only with a first
+/// day), 50, 52, 51, 70, in this order.
 pub(crate) fn place_hold<'a>(
     view: &View,
     patron: PatronId,

@@ -1,4 +1,4 @@
-//! `renew`: the next due day of a loan.
+//! `renew`: gives a loan its next due day.
 
 ghost use Rattle.std.specs.Prelude.{◌≡◌, is_none};
 ghost use Rattle.circ_core.specs.Decided.{Decided};
@@ -41,7 +41,7 @@ fn has_no_renewals(loan: &Option<LoanRow>) -> bool
     }
 }
 
-/// The refusal of a renewal, by its table of checks.
+/// Returns the refusal of a renewal, from its table of checks.
 fn renew_refusal(view: &View, is_late: bool) -> Option<Refusal>
     requires { is_late ≡ is_none (renewed_due_day view.now) }
     ensures { result ≡ first_failing (renew_checks view.now) }
@@ -60,7 +60,7 @@ fn renew_refusal(view: &View, is_late: bool) -> Option<Refusal>
     ])
 }
 
-/// The day on which the loan is due after a renewal, if the calendar has one.
+/// Returns the loan's due day after a renewal, if the calendar has one.
 fn next_due_day(view: &View) -> Option<Day>
     ensures { result ≡ renewed_due_day view.now }
 {
@@ -70,7 +70,7 @@ fn next_due_day(view: &View) -> Option<Day>
     }
 }
 
-/// The loan with its new due day, and a renewal fewer.
+/// Gives the loan its new due day and one renewal fewer.
 fn renewed<'a>(loan: &Option<LoanRow>, due: Day) -> Changes<'a>
     ensures { result ≡ renewed_rows loan.now due }
 {
@@ -85,7 +85,7 @@ fn renewed<'a>(loan: &Option<LoanRow>, due: Day) -> Changes<'a>
     }
 }
 
-/// `renew`: refusals 14, 40, 41, 36, 42, 38, 39, in this order. The new period begins at the old
+/// `renew`: refusals 14, 40, 41, 36, 42, 38, 39, in this order. The new period begins on the old
 /// due day.
 pub(crate) fn renew<'a>(view: &View, loan: LoanId) -> Result<Decision<'a>, Refusal>
     ensures { Decided (renew_checks view.now) (Lent loan (renewed_due_in view.now))

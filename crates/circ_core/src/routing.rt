@@ -1,4 +1,4 @@
-//! Where a copy goes that is handed in.
+//! Routing a returned copy.
 
 ghost use Rattle.std.specs.Prelude.{◌≡◌, ◌≤◌, ◌++◌, length};
 ghost use Rattle.circ_core.specs.Routing.{served, course_of, pickup_of, home_in, number_in};
@@ -11,18 +11,18 @@ use terms::{
     BranchId, BranchRow, CopyId, CopyRow, Day, Days, HoldId, HoldRow, HoldState, Routed, TransitRow,
 };
 
-/// Where a copy goes from the branch where it is handed in.
+/// Where a copy goes from the branch that took it back.
 #[derive(Clone, Copy)]
 pub enum Course {
     /// To the hold shelf for a hold, which becomes ready.
     HoldShelf(HoldRow),
-    /// To the shelf of the branch, its home.
+    /// To the shelf of this branch, its home.
     Shelf,
     /// On its way to a branch, for a hold or for none.
     Transit(BranchId, Option<HoldId>),
 }
 
-/// The hold that the copy serves, if there is one.
+/// Returns the hold that the copy serves, if any.
 fn hold_to_serve(coming: &Option<HoldRow>, first: &Option<HoldRow>) -> Option<HoldRow>
     ensures { result ≡ served coming.now first.now }
 {
@@ -32,7 +32,7 @@ fn hold_to_serve(coming: &Option<HoldRow>, first: &Option<HoldRow>) -> Option<Ho
     }
 }
 
-/// The copy goes to the hold that it travels for, else to the first in line, and without both home.
+/// Routes the copy: to the hold it travels for, else to the first in the queue, else home.
 pub(crate) fn route(
     home: BranchId,
     coming: &Option<HoldRow>,
@@ -59,7 +59,7 @@ pub(crate) fn route(
     }
 }
 
-/// The pick-up period of the branch.
+/// Returns the pick-up period of the branch.
 fn pickup_days(branch: &Option<BranchRow>) -> Days
     ensures { result ≡ pickup_of branch.now }
 {
@@ -69,7 +69,7 @@ fn pickup_days(branch: &Option<BranchRow>) -> Days
     }
 }
 
-/// The home branch of a copy, 0 where there is no copy.
+/// Returns the home branch of a copy, or 0 without a copy.
 pub(crate) fn home_branch(copy: &Option<CopyRow>) -> BranchId
     ensures { result ≡ home_in copy.now }
 {
@@ -79,7 +79,7 @@ pub(crate) fn home_branch(copy: &Option<CopyRow>) -> BranchId
     }
 }
 
-/// The number of a copy, 0 where there is no copy.
+/// Returns the number of a copy, or 0 without a copy.
 pub(crate) fn copy_number(copy: &Option<CopyRow>) -> CopyId
     ensures { result ≡ number_in copy.now }
 {
@@ -89,8 +89,8 @@ pub(crate) fn copy_number(copy: &Option<CopyRow>) -> CopyId
     }
 }
 
-/// The shelf limit of a hold that becomes ready: the least open day from the end of the pick-up
-/// period, if the calendar has one. A copy that goes elsewhere needs none, and today stands for it.
+/// Returns the shelf limit of a hold that becomes ready: the least open day from the end of the
+/// pick-up period, if the calendar has one. Other courses need none; today stands in for it.
 #[tactic(auto, unfolding(crate::specs::Routing::shelf_limit))]
 pub(crate) fn limit_day(course: &Course, view: &View) -> Option<Day>
     ensures { result ≡ shelf_limit course.now view.now }
@@ -103,7 +103,7 @@ pub(crate) fn limit_day(course: &Course, view: &View) -> Option<Day>
     }
 }
 
-/// The place that the reply tells.
+/// Returns the place given in the reply.
 pub(crate) fn told(course: &Course, branch: BranchId, until: Day) -> Routed
     ensures { result ≡ routed_by course.now branch until }
 {
@@ -121,7 +121,7 @@ pub(crate) fn told(course: &Course, branch: BranchId, until: Day) -> Routed
     }
 }
 
-/// The row of a hold that becomes ready.
+/// Makes a hold ready.
 fn make_ready(hold: &HoldRow, copy: CopyId, until: Day) -> HoldRow
     ensures { result ≡ readied hold.now copy until }
 {
@@ -132,7 +132,7 @@ fn make_ready(hold: &HoldRow, copy: CopyId, until: Day) -> HoldRow
     row
 }
 
-/// The changes, and the row that changes where the copy arrives.
+/// Adds the row for where the copy arrives.
 pub(crate) fn with_arrival<'a>(
     changes: Changes<'a>,
     course: &Course,

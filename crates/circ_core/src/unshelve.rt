@@ -1,4 +1,4 @@
-//! `unshelve` and `unshelve-cancelled`: a ready hold ends, and its copy is routed.
+//! `unshelve` and `unshelve-cancelled`: end a ready hold and route its copy.
 
 ghost use Rattle.std.specs.Prelude.{◌≡◌, ◌≤◌, length};
 ghost use Rattle.circ_core.specs.Decided.{Decided};
@@ -23,7 +23,7 @@ fn is_on_shelf(hold: &Option<HoldRow>) -> bool
     }
 }
 
-/// The shelf limit of the hold, as a day number, 0 where it has none.
+/// Returns the hold's shelf limit as a day number, or 0.
 fn shelf_limit_of(hold: &Option<HoldRow>) -> u32
     ensures { result ≡ limit_in hold.now }
 {
@@ -36,7 +36,7 @@ fn shelf_limit_of(hold: &Option<HoldRow>) -> u32
     }
 }
 
-/// The branch where the hold was to be picked up.
+/// Returns the hold's pick-up branch.
 fn picked_up_at(hold: &Option<HoldRow>) -> BranchId
     ensures { result ≡ pickup_branch hold.now }
 {
@@ -46,7 +46,7 @@ fn picked_up_at(hold: &Option<HoldRow>) -> BranchId
     }
 }
 
-/// Where the copy goes that leaves the hold shelf.
+/// Returns where the copy goes from the hold shelf.
 fn next_course(view: &View) -> Course
     ensures { result ≡ course_unshelved view.now }
 {
@@ -58,7 +58,7 @@ fn next_course(view: &View) -> Course
     )
 }
 
-/// The row of the hold that ends.
+/// Ends the hold.
 fn end_hold<'a>(hold: &Option<HoldRow>, ends: HoldState) -> Changes<'a>
     ensures rows { result ≡ ended_hold hold.now ends }
     ensures few { length result ≤ 1 }
@@ -69,7 +69,7 @@ fn end_hold<'a>(hold: &Option<HoldRow>, ends: HoldState) -> Changes<'a>
     }
 }
 
-/// A ready hold ends in the given state, and its copy is routed at the pick-up branch.
+/// Ends a ready hold in this state and routes its copy from the pick-up branch.
 fn take_off<'a>(view: &View, ends: HoldState, course: &Course, until: Day) -> Decision<'a>
     requires { course.now ≡ course_unshelved view.now }
     ensures reply { result.reply ≡ unshelve_reply view.now until }
@@ -88,8 +88,8 @@ fn take_off<'a>(view: &View, ends: HoldState, course: &Course, until: Day) -> De
     }
 }
 
-/// `unshelve`: refusals 15, 53, 54, in this order; 39 where the calendar has no open day left for
-/// the limit of the next hold, which rows that the desk made itself never bring about.
+/// `unshelve`: refusals 15, 53, 54, in this order; 39 if the calendar has no open day left for the
+/// limit of the next hold, which never happens with rows the desk made.
 pub(crate) fn unshelve<'a>(view: &View) -> Result<Decision<'a>, Refusal>
     ensures { Decided (unshelve_checks view.now) (unshelve_reply view.now (next_limit view.now))
         (unshelve_rows view.now Expired (next_limit view.now)) result }

@@ -9,20 +9,20 @@ use terms::{
     PatronRow, RuleRow, TitleRow, TransitRow,
 };
 
-/// The rows that a command needs: two calendars, twelve rows and three counts at most, and never a
-/// whole line of holds. A place that the command does not need is as in `View::empty`.
+/// The rows that a command needs: at most two calendars, twelve rows and three counts, and never a
+/// whole queue of holds. Places not needed are as in `View::empty`.
 #[derive(Drop)]
 pub struct View {
     /// Today and the next numbers.
     pub meta: MetaRow,
-    /// The branch that is named: where a copy is lent, handed in or acquired, or a hold is picked
+    /// The branch that is named: where a copy is lent, returned or acquired, or a hold is picked
     /// up.
     pub branch: Option<BranchRow>,
     /// The calendar of that branch.
     pub calendar: Option<Calendar>,
-    /// The kind of patron that is named, or the patron's kind as it is now.
+    /// The kind of patron that is named, or the patron's present kind.
     pub kind: Option<KindRow>,
-    /// The rule that is named by its two kinds, or the one for the patron's kind and the copy's.
+    /// The rule named by its two kinds, or the one for the patron's kind and the copy's.
     pub rule: Option<RuleRow>,
     /// The patron who is named, or the borrower of the loan.
     pub patron: Option<PatronRow>,
@@ -33,24 +33,24 @@ pub struct View {
     pub loan: Option<LoanRow>,
     /// The calendar of the branch that made the loan.
     pub lender: Option<Calendar>,
-    /// The travel of the copy, or the one for the hold.
+    /// The transit of the copy, or the one for the hold.
     pub transit: Option<TransitRow>,
     /// The hold that is named, or the one on whose shelf the copy stands.
     pub hold: Option<HoldRow>,
     /// The hold that the copy travels for.
     pub coming: Option<HoldRow>,
-    /// The first hold in line for the copy's title.
+    /// The first hold in the queue for the copy's title.
     pub first: Option<HoldRow>,
-    /// How many loans of the patron are open.
+    /// The number of the patron's open loans.
     pub open_loans: Count,
-    /// How many active holds the patron has on the title.
+    /// The number of the patron's active holds on the title.
     pub own_holds: Count,
-    /// How many active holds the patron has.
+    /// The number of the patron's active holds.
     pub active_holds: Count,
 }
 
 impl View {
-    /// A view of no row, whose numbers are 0 and whose day is the calendar's first.
+    /// Makes a view without rows, whose numbers are 0 and whose day is the calendar's first.
     pub fn empty() -> View
         ensures { result ≡ empty_view }
     {

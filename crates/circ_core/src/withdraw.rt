@@ -1,4 +1,4 @@
-//! `withdraw`: a copy leaves the library.
+//! `withdraw`: removes a copy from the library.
 
 ghost use Rattle.terms.specs.declared.reply.Reply.TheVariants.{Done};
 ghost use Rattle.circ_core.specs.Decided.{Decided};
