@@ -17,7 +17,7 @@ impl Table for BranchRow {
 
     ghost table = { branches };
 
-    /// A row of `branches`: a pick-up period of 0 to 60 days. 90, 91, 93.
+    /// Reads a row of `branches`: a pick-up period of 0 to 60 days. Faults 90, 91, 93.
     fn read(row: &Row, alloc: Global) -> Result<BranchRow, Fault> {
         has_width(row, 4)?;
         Ok(BranchRow {

@@ -1,5 +1,4 @@
-//! A table that is keyed by one number: what it has to say of itself, and the calls that follow
-//! from that.
+//! Tables keyed by one number: what each must provide, and the calls built on that.
 
 ghost use Rattle.std.specs.Option.{option_to_list};
 ghost use Rattle.std.specs.Prelude.{◌≡◌, ◌<◌, ◌^◌, ℕ};
@@ -20,11 +19,11 @@ use sqlite_value::value::ValueRef;
 use std::alloc::Global;
 use terms::{Fault, Number, Ordered};
 
-/// What names a row of such a table: a number, whose type says whose it is.
+/// The key of a row: a number, typed by what it numbers.
 pub trait RowNumber: Copy {
     ghost value: { Self → ℕ };
 
-    /// The number as it stands.
+    /// Returns the plain number.
     fn row_number(self) -> u32
         ensures { result ≡ value self };
 }
@@ -37,7 +36,7 @@ impl<T> RowNumber for Number<T> {
     }
 }
 
-/// The texts of a table by its key: one row put, taken and got; all rows; the first rows, and those
+/// The SQL of a table by its key: put, take or get one row; all rows; the first rows, and those
 /// from a key on.
 #[derive(Clone, Copy, Debug)]
 pub struct Texts {
@@ -49,18 +48,18 @@ pub struct Texts {
     pub batch: &'static str,
 }
 
-/// A table that is keyed by one number, which is its first column.
+/// A table keyed by one number, its first column.
 pub trait Numbered: Table<Key = u32> + Ordered {
-    /// What names a row.
+    /// The key of a row.
     type Id: RowNumber;
 
     ghost number_of: { Self → ℕ };
 
-    /// The number of the row.
+    /// Returns the row's number.
     fn number(&self) -> u32
         ensures { result ≡ number_of self.now };
 
-    /// The texts of the table.
+    /// Returns the table's SQL.
     fn texts() -> Texts
         ensures { AreTexts Self.table.shape result };
 
@@ -69,19 +68,19 @@ pub trait Numbered: Table<Key = u32> + Ordered {
     ghost by_number: { (r s : Self) → number_of r < number_of s → Self.comes_before r s };
 }
 
-/// A row of such a table, as it is put.
+/// A row of such a table, as written.
 pub trait Put {
     type Row: Numbered;
 
     ghost entry: { Self → Self.Row };
 
-    /// Runs a text on the columns of the row. 91.
+    /// Runs a text with the row's columns as parameters. Fault 91.
     fn run_with<S: Alter>(&self, tx: &mut Transaction<'_, S>, sql: &str) -> Result<(), Fault>
         ensures { Runs sql.now (Self.Row.table.cells (entry self.now))
             S.Store tx.old tx.new result };
 }
 
-/// Puts a row. 91, also where it breaks what the table has to keep.
+/// Puts a row. Fault 91, also if it violates a constraint of the table.
 pub fn put_row<P: Put, S: Alter>(tx: &mut Transaction<'_, S>, row: &P) -> Result<(), Fault>
     ensures { PutsRow P.Row.table (P.Row.number_of (P.entry row.now)) (P.entry row.now)
         S.Store tx.old tx.new result }
@@ -89,7 +88,7 @@ pub fn put_row<P: Put, S: Alter>(tx: &mut Transaction<'_, S>, row: &P) -> Result
     row.run_with(tx, P::Row::texts().put)
 }
 
-/// Takes out a row; where there is none, nothing changes. 91.
+/// Removes a row, if there is one. Fault 91.
 pub fn take_row<T: Numbered, S: Alter>(
     tx: &mut Transaction<'_, S>,
     number: T::Id,
@@ -99,7 +98,7 @@ pub fn take_row<T: Numbered, S: Alter>(
     run(tx, T::texts().take, params![number.row_number()])
 }
 
-/// A row, if there is one of the number. 90 for one with texts, 91, 93.
+/// Reads the row with this number, if there is one. Faults 90 (with texts), 91, 93.
 pub fn get_row<T: Numbered, S: Alter>(
     conn: &mut Connection<S>,
     memory: T::Memory,
@@ -110,7 +109,7 @@ pub fn get_row<T: Numbered, S: Alter>(
     row_of(conn, memory, T::texts().get, params![number.row_number()])
 }
 
-/// All rows, the least number first. 90, 91, 93.
+/// Reads all rows, by number. Faults 90, 91, 93.
 pub fn every_row<T: Numbered, S: Alter>(
     conn: &mut Connection<S>,
     alloc: Global,
@@ -121,13 +120,13 @@ pub fn every_row<T: Numbered, S: Alter>(
     rows_of(conn, alloc, memory, T::texts().all, &[])
 }
 
-/// How many rows a batch of a list has, but for its last one: the hundred that one answer to a
-/// question shows, `terms::MOST_ROWS`, and one more, which tells whether there are more. The texts
-/// of batches name it too.
+/// The number of rows in every batch of a list but the last: the hundred that one answer to a
+/// question shows, `terms::MOST_ROWS`, and one more, which tells whether there are more. The SQL of
+/// batches names it too.
 pub const BATCH_ROWS: usize = 101;
 
-/// The least number of a row that comes after this one. That this one has 32 bits is said too,
-/// since what is answered fits 64 for it.
+/// Returns the least number after this one. The clause also says that this one has 32 bits, since
+/// the result then fits 64.
 fn least_after(after: u32) -> i64
     ensures least { result ≡ least_after after }
     ensures range { after < 2 ^ 32 }
@@ -135,15 +134,15 @@ fn least_after(after: u32) -> i64
     i64::from(after) + 1
 }
 
-/// What a batch is asked by: its text, and the least number that its rows may have, if it takes one.
+/// The query of a batch: its SQL, and the least number of its rows, if it takes one.
 #[derive(Clone, Copy)]
 struct Asked {
     text: &'static str,
     least: Option<ValueRef<'static>>,
 }
 
-/// What the first batch is asked by, or the one after a number. The first is asked for without a
-/// number, so that no row is passed over whatever its number is.
+/// Returns the query of the first batch, or of the one after a number. The first takes no number,
+/// so that no row is skipped whatever its number.
 fn next_batch<T: Numbered>(after: Option<u32>) -> Asked
     ensures text { result.text.now ≡ next_text T.table.shape after }
     ensures given { bound (option_to_list result.least) ≡ next_given after }
@@ -160,8 +159,7 @@ fn next_batch<T: Numbered>(after: Option<u32>) -> Asked
     }
 }
 
-/// The first rows, or the first whose numbers are above this one, the least number first: all of
-/// them, or as many as a batch has. 90, 91, 93.
+/// Reads a batch of rows by number, the first or from above this number. Faults 90, 91, 93.
 pub fn next_rows<T: Numbered, S: Alter>(
     conn: &mut Connection<S>,
     alloc: Global,
@@ -175,7 +173,7 @@ pub fn next_rows<T: Numbered, S: Alter>(
     rows_of(conn, alloc, memory, asked.text, asked.least.as_slice())
 }
 
-/// The same rows, asked inside a transaction, which goes on. 90, 91, 93.
+/// The same inside a transaction, which goes on. Faults 90, 91, 93.
 pub fn next_rows_inside<T: Numbered, S: Alter>(
     tx: &mut Transaction<'_, S>,
     alloc: Global,

@@ -1,4 +1,4 @@
-//! The table of days on which a branch is closed singly.
+//! The table of single closed days.
 
 ghost use Rattle.std.specs.Prelude.{◌≡◌, ◌≢◌, Err, IfOk, [], map};
 ghost use Rattle.sql_maps.specs.Maps.{ListedBy, PairBelow};
@@ -22,7 +22,7 @@ impl Table for ClosedDayRow {
 
     ghost table = { closed_days };
 
-    /// A row of `closed_days`. 91, 93.
+    /// Reads a row of `closed_days`. Faults 91, 93.
     fn read(row: &Row, _memory: ()) -> Result<ClosedDayRow, Fault> {
         has_width(row, 2)?;
         Ok(ClosedDayRow {
@@ -32,7 +32,7 @@ impl Table for ClosedDayRow {
     }
 }
 
-/// Puts a row of `closed_days`. 91.
+/// Puts a row of `closed_days`. Fault 91.
 pub fn put_closed_day<S: Alter>(
     tx: &mut Transaction<'_, S>,
     branch: BranchId,
@@ -48,7 +48,7 @@ pub fn put_closed_day<S: Alter>(
     )
 }
 
-/// Takes out the row of a branch's closed day; where there is none, nothing changes. 91.
+/// Removes the row of a branch's closed day, if there is one. Fault 91.
 pub fn take_closed_day<S: Alter>(
     tx: &mut Transaction<'_, S>,
     branch: BranchId,
@@ -63,7 +63,7 @@ pub fn take_closed_day<S: Alter>(
     )
 }
 
-/// All rows of `closed_days`, by branch and then by day. 90, 91, 93.
+/// Reads all rows of `closed_days`, by branch, then by day. Faults 90, 91, 93.
 pub fn all_closed_days<S: Alter>(
     conn: &mut Connection<S>,
     alloc: Global,
@@ -80,7 +80,7 @@ pub fn all_closed_days<S: Alter>(
     )
 }
 
-/// The days of the rows. 90.
+/// Returns the days of the rows. Fault 90.
 fn days_of(alloc: Global, rows: &[ClosedDayRow]) -> Result<Vec<Day>, Fault>
     ensures days { IfOk result (λ days. days.items ≡ map (λ c. c.day) rows.now) }
     ensures fault { result ≢ Err Fault.Stored }
@@ -88,10 +88,10 @@ fn days_of(alloc: Global, rows: &[ClosedDayRow]) -> Result<Vec<Day>, Fault>
     Ok(rows.iter().map(|row| row.day).collect(alloc)?)
 }
 
-/// The text of `closed_days_of`.
+/// The SQL of `closed_days_of`.
 pub const CLOSED_DAYS_OF_TEXT: &str = "SELECT * FROM closed_days WHERE branch = ?1 ORDER BY day";
 
-/// The days on which a branch is closed singly, the first one first. 90, 91, 93.
+/// Reads the single closed days of a branch, earliest first. Faults 90, 91, 93.
 pub fn closed_days_of<S: Alter>(
     conn: &mut Connection<S>,
     alloc: Global,

@@ -26,7 +26,7 @@ impl Table for CopyRow {
 
     ghost table = { copies };
 
-    /// A row of `copies`: a price up to 1,000,000 cents. 91, 93.
+    /// Reads a row of `copies`: a price up to 1,000,000 cents. Faults 91, 93.
     fn read(row: &Row, _memory: ()) -> Result<CopyRow, Fault> {
         has_width(row, 6)?;
         Ok(CopyRow {
@@ -89,12 +89,11 @@ impl Put for CopyRow {
     }
 }
 
-/// The text of `copies_of_title_after`.
+/// The SQL of `copies_of_title_after`.
 pub const COPIES_OF_TITLE_AFTER_TEXT: &str =
     "SELECT * FROM copies WHERE title = ?1 AND copy > ?2 ORDER BY copy LIMIT 101";
 
-/// The first copies of a title whose numbers are above this one, the least number first: all of
-/// them, or as many as a batch has. 90, 91, 93.
+/// Reads a batch of a title's copies above this number, by number. Faults 90, 91, 93.
 pub fn copies_of_title_after<S: Alter>(
     conn: &mut Connection<S>,
     alloc: Global,
@@ -114,7 +113,7 @@ pub fn copies_of_title_after<S: Alter>(
     )
 }
 
-/// The text of `least_shelved`.
+/// The SQL of `least_shelved`.
 pub const LEAST_SHELVED_TEXT: &str =
     "SELECT * FROM copies WHERE title = ?1 AND home = ?2 AND condition = 0 \
      AND NOT EXISTS (SELECT * FROM transits WHERE transits.copy = copies.copy) \
@@ -122,8 +121,8 @@ pub const LEAST_SHELVED_TEXT: &str =
      AND NOT EXISTS (SELECT * FROM loans3 WHERE loans3.copy = copies.copy \
      AND loans3.ended IS NULL) ORDER BY copy LIMIT 1";
 
-/// The copy of the least number among those of a title that stand on the shelf of a branch, their
-/// home: those that are present, and that no transit, no hold and no open loan claims. 91, 93.
+/// Reads the least copy of a title on the shelf of a branch, its home: those present and not
+/// claimed by a transit, a hold or an open loan. Faults 91, 93.
 pub fn least_shelved<S: Alter>(
     conn: &mut Connection<S>,
     title: TitleId,

@@ -1,4 +1,4 @@
-//! The table of holds, as a library has it from schema 2 on.
+//! The table of holds, from schema 2 on.
 
 ghost use Rattle.std.specs.Prelude.{◌≡◌, ◌⊎◌, ◌<◌, ◌≤◌, true, MatchBool, MatchOption};
 ghost use Rattle.sql_maps.specs.Maps.{First, FirstOf, FirstOfBy, Listed};
@@ -31,7 +31,7 @@ impl Table for HoldRow {
 
     ghost table = { holds };
 
-    /// A row of `holds2`. 91, 93.
+    /// Reads a row of `holds2`. Faults 91, 93.
     fn read(row: &Row, _memory: ()) -> Result<HoldRow, Fault> {
         has_width(row, 8)?;
         Ok(HoldRow {
@@ -97,10 +97,10 @@ impl Put for HoldRow {
     }
 }
 
-/// The text of `ready_hold_of`.
+/// The SQL of `ready_hold_of`.
 pub const READY_HOLD_OF_TEXT: &str = "SELECT * FROM holds2 WHERE copy = ?1 ORDER BY hold LIMIT 1";
 
-/// The hold that names the copy, if one does. 91, 93.
+/// Reads the hold that names the copy, if any. Faults 91, 93.
 pub fn ready_hold_of<S: Alter>(
     conn: &mut Connection<S>,
     copy: CopyId,
@@ -111,15 +111,15 @@ pub fn ready_hold_of<S: Alter>(
     row_of(conn, (), READY_HOLD_OF_TEXT, params![copy.number()])
 }
 
-/// The text of `first_waiting`.
+/// The SQL of `first_waiting`.
 pub const FIRST_WAITING_TEXT: &str =
     "SELECT * FROM holds2 WHERE title = ?1 AND state = 0 AND NOT EXISTS (SELECT * FROM transits \
      WHERE transits.hold = holds2.hold) ORDER BY first_day, hold LIMIT 1";
 
-/// The waiting hold for a title that no copy travels for and that begins first: one without a first
-/// day before all others, then one of the earliest first day; of these the least number. 91, 93.
+/// Reads the waiting hold for a title, without a travelling copy, that begins first: those without
+/// a first day, then by earliest first day; among equals the least number. Faults 91, 93.
 ///
-/// The order is that of the index, in which NULL comes first, so that no row is read after it.
+/// This is the order of the index, where NULL comes first, so no row is read after it.
 fn first_waiting<S: Alter>(
     conn: &mut Connection<S>,
     title: TitleId,
@@ -131,17 +131,17 @@ fn first_waiting<S: Alter>(
     row_of(conn, (), FIRST_WAITING_TEXT, params![title.number()])
 }
 
-/// The text of `first_begun`.
+/// The SQL of `first_begun`.
 pub const FIRST_BEGUN_TEXT: &str =
     "SELECT * FROM holds2 WHERE title = ?1 AND state = 0 AND first_day >= 0 AND first_day <= ?2 \
      AND NOT EXISTS (SELECT * FROM transits WHERE transits.hold = holds2.hold) \
      ORDER BY hold LIMIT 1";
 
-/// The waiting hold of the least number for a title that no copy travels for and whose first day
-/// has come. 91, 93.
+/// Reads the least waiting hold for a title, without a travelling copy, whose first day has come.
+/// Faults 91, 93.
 ///
-/// The days are a range of the index. Its lower end is named too, since a plan without one begins
-/// at the holds that have no first day, and there may be many.
+/// The days are a range of the index. It names the lower end too, since a plan without one starts
+/// at the holds without a first day, and there may be many.
 fn first_begun<S: Alter>(
     conn: &mut Connection<S>,
     title: TitleId,
@@ -159,7 +159,7 @@ fn first_begun<S: Alter>(
     )
 }
 
-/// Whether the hold has no first day, or one that isn't after this day.
+/// Returns whether the hold has no first day, or one not after this day.
 fn has_begun(hold: &HoldRow, today: Day) -> bool
     ensures { MatchOption hold.now.first_day (result ≡ true)
         (λ day. MatchBool result (day ≤ today) (today < day)) }
@@ -170,7 +170,7 @@ fn has_begun(hold: &HoldRow, today: Day) -> bool
     }
 }
 
-/// The hold of the lesser number.
+/// Returns the hold with the lesser number.
 fn lesser(hold: HoldRow, other: Option<HoldRow>) -> HoldRow
     ensures { MatchOption other (result ≡ hold)
         (λ row. ((result ≡ hold) × (hold.hold < row.hold))
@@ -188,12 +188,12 @@ fn lesser(hold: HoldRow, other: Option<HoldRow>) -> HoldRow
     }
 }
 
-/// The first in line for a title: the waiting hold of the least number that no copy travels for and
-/// that has no first day after today. 91, 93.
+/// Reads the first in a title's queue: the least waiting hold without a travelling copy and without
+/// a first day after today. Faults 91, 93.
 ///
-/// Two rows are looked at. Where even the hold that begins first hasn't begun, none has. Else the
-/// first in line is that hold or the least of those whose first day has come: where the former has
-/// a first day of its own, it is among these.
+/// Looks at two rows. If even the hold that begins first hasn't begun, none has. Otherwise the
+/// first in the queue is that hold or the least of those whose first day has come; these include
+/// the former if it has a first day.
 pub fn first_in_line<S: Alter>(
     conn: &mut Connection<S>,
     title: TitleId,
@@ -213,11 +213,11 @@ pub fn first_in_line<S: Alter>(
     Ok(Some(lesser(waiting, begun)))
 }
 
-/// The text of `count_active_holds`.
+/// The SQL of `count_active_holds`.
 pub const COUNT_ACTIVE_HOLDS_TEXT: &str =
     "SELECT COUNT(*) FROM holds2 WHERE patron = ?1 AND state <= 1";
 
-/// How many waiting and ready holds the patron has. 91; 93 from 2^32 on.
+/// Counts the patron's waiting and ready holds. Fault 91; 93 from 2^32 on.
 pub fn count_active_holds<S: Alter>(
     conn: &mut Connection<S>,
     patron: PatronId,
@@ -227,11 +227,11 @@ pub fn count_active_holds<S: Alter>(
     counted(conn, COUNT_ACTIVE_HOLDS_TEXT, params![patron.number()])
 }
 
-/// The text of `count_active_holds_on`.
+/// The SQL of `count_active_holds_on`.
 pub const COUNT_ACTIVE_HOLDS_ON_TEXT: &str =
     "SELECT COUNT(*) FROM holds2 WHERE patron = ?1 AND title = ?2 AND state <= 1";
 
-/// How many waiting and ready holds the patron has on the title. 91; 93 from 2^32 on.
+/// Counts the patron's waiting and ready holds on the title. Fault 91; 93 from 2^32 on.
 pub fn count_active_holds_on<S: Alter>(
     conn: &mut Connection<S>,
     patron: PatronId,
@@ -246,11 +246,11 @@ pub fn count_active_holds_on<S: Alter>(
     )
 }
 
-/// The text of `active_holds_by`.
+/// The SQL of `active_holds_by`.
 pub const ACTIVE_HOLDS_BY_TEXT: &str =
     "SELECT * FROM holds2 WHERE patron = ?1 AND state <= 1 ORDER BY hold";
 
-/// The waiting and the ready holds of a patron, the least number first. 90, 91, 93.
+/// Reads a patron's waiting and ready holds, by number. Faults 90, 91, 93.
 pub fn active_holds_by<S: Alter>(
     conn: &mut Connection<S>,
     alloc: Global,
@@ -268,12 +268,12 @@ pub fn active_holds_by<S: Alter>(
     )
 }
 
-/// The text of `ready_holds_after`.
+/// The SQL of `ready_holds_after`.
 pub const READY_HOLDS_AFTER_TEXT: &str =
     "SELECT * FROM holds2 WHERE branch = ?1 AND state = 1 AND hold > ?2 ORDER BY hold LIMIT 101";
 
-/// The first ready holds with this pick-up branch whose numbers are above this one, the least
-/// number first: all of them, or as many as a batch has. 90, 91, 93.
+/// Reads a batch of ready holds with this pick-up branch above this number, by number. Faults 90,
+/// 91, 93.
 pub fn ready_holds_after<S: Alter>(
     conn: &mut Connection<S>,
     alloc: Global,
@@ -293,12 +293,11 @@ pub fn ready_holds_after<S: Alter>(
     )
 }
 
-/// The text of `waiting_holds_for_after`.
+/// The SQL of `waiting_holds_for_after`.
 pub const WAITING_HOLDS_FOR_AFTER_TEXT: &str =
     "SELECT * FROM holds2 WHERE title = ?1 AND state = 0 AND hold > ?2 ORDER BY hold LIMIT 101";
 
-/// The first waiting holds for a title whose numbers are above this one, the least number first:
-/// all of them, or as many as a batch has. 90, 91, 93.
+/// Reads a batch of waiting holds for a title above this number, by number. Faults 90, 91, 93.
 pub fn waiting_holds_for_after<S: Alter>(
     conn: &mut Connection<S>,
     alloc: Global,
@@ -318,12 +317,11 @@ pub fn waiting_holds_for_after<S: Alter>(
     )
 }
 
-/// The text of `waiting_holds_after`.
+/// The SQL of `waiting_holds_after`.
 pub const WAITING_HOLDS_AFTER_TEXT: &str =
     "SELECT * FROM holds2 WHERE state = 0 AND hold > ?1 ORDER BY hold LIMIT 101";
 
-/// The first waiting holds whose numbers are above this one, the least number first: all of them,
-/// or as many as a batch has. 90, 91, 93.
+/// Reads a batch of waiting holds above this number, by number. Faults 90, 91, 93.
 pub fn waiting_holds_after<S: Alter>(
     conn: &mut Connection<S>,
     alloc: Global,

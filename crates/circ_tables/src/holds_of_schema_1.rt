@@ -1,4 +1,4 @@
-//! The table of the holds of a library of schema 1. From schema 2 on it is empty.
+//! The table of holds in schema 1; empty from schema 2 on.
 
 ghost use Rattle.circ_tables.specs.HoldsOfSchema1.{holds1, holds1_are};
 
@@ -17,7 +17,7 @@ impl Table for HoldRow1 {
 
     ghost table = { holds1 };
 
-    /// A row of `holds`. 91, 93.
+    /// Reads a row of `holds`. Faults 91, 93.
     fn read(row: &Row, _memory: ()) -> Result<HoldRow1, Fault> {
         has_width(row, 7)?;
         Ok(HoldRow1 {

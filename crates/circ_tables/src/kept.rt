@@ -1,4 +1,4 @@
-//! The table of what is kept under callers' keys.
+//! The table of requests kept under callers' keys.
 
 ghost use Rattle.std.specs.Prelude.{◌≡◌, ◌≢◌, Err, IfOk, IsUtf8, [], length};
 ghost use Rattle.sqlite.specs.Order.{column};
@@ -34,7 +34,7 @@ impl Table for KeptRow {
 
     ghost table = { kept };
 
-    /// A row of `kept`, whatever its key was made from. 90, 91, 93.
+    /// Reads a row of `kept`, whatever its key's origin. Faults 90, 91, 93.
     fn read(row: &Row, alloc: Global) -> Result<KeptRow, Fault> {
         has_width(row, 4)?;
         Ok(KeptRow {
@@ -46,7 +46,7 @@ impl Table for KeptRow {
     }
 }
 
-/// Puts a row of `kept`. 91.
+/// Puts a row of `kept`. Fault 91.
 pub fn put_kept<S: Alter>(tx: &mut Transaction<'_, S>, row: &KeptPut<'_>) -> Result<(), Fault>
     ensures { PutsKept row.now S.Store tx.old tx.new result }
 {
@@ -76,7 +76,7 @@ fn kept_reply(row: &Row) -> Result<KeptReply, Fault>
     })
 }
 
-/// What is kept under a caller's key, if anything is. 91, 93.
+/// Reads what is kept under a caller's key, if anything. Faults 91, 93.
 pub fn get_kept<S: Alter>(
     conn: &mut Connection<S>,
     owner: Owner,
@@ -95,7 +95,7 @@ pub fn get_kept<S: Alter>(
     }
 }
 
-/// All rows of `kept`, by whose they are and then by key. 90, 91, 93.
+/// Reads all rows of `kept`, by owner, then by key. Faults 90, 91, 93.
 pub fn all_kept<S: Alter>(conn: &mut Connection<S>, alloc: Global) -> Result<Vec<KeptRow>, Fault>
     ensures { Lists kept (λ l. l.items) (λ m. ListedBy PairBelow m is_any)
         S.Store conn.old conn.new result }
@@ -109,11 +109,10 @@ pub fn all_kept<S: Alter>(conn: &mut Connection<S>, alloc: Global) -> Result<Vec
     )
 }
 
-/// The text of `first_kept`.
+/// The SQL of `first_kept`.
 pub const FIRST_KEPT_TEXT: &str = "SELECT * FROM kept ORDER BY caller, key LIMIT 101";
 
-/// The first rows of `kept`, by whose they are and then by key: all of them, or as many as a batch
-/// has. 90, 91, 93.
+/// Reads the first batch of `kept`, by owner, then by key. Faults 90, 91, 93.
 pub fn first_kept<S: Alter>(conn: &mut Connection<S>, alloc: Global) -> Result<Vec<KeptRow>, Fault>
     ensures { Lists kept (λ l. l.items) (λ m. FirstRowsBy PairBelow BATCH_ROWS m is_any)
         S.Store conn.old conn.new result }
@@ -121,12 +120,11 @@ pub fn first_kept<S: Alter>(conn: &mut Connection<S>, alloc: Global) -> Result<V
     rows_of(conn, alloc, alloc, FIRST_KEPT_TEXT, &[])
 }
 
-/// The text of `kept_after`.
+/// The SQL of `kept_after`.
 pub const KEPT_AFTER_TEXT: &str =
     "SELECT * FROM kept WHERE caller = ?1 AND key > ?2 ORDER BY caller, key LIMIT 101";
 
-/// The first rows that are kept for a caller by keys after this one, by key: all of them, or as
-/// many as a batch has. 90, 91, 93.
+/// Reads a batch of a caller's rows with keys after this one, by key. Faults 90, 91, 93.
 pub fn kept_after<S: Alter>(
     conn: &mut Connection<S>,
     alloc: Global,
@@ -146,12 +144,11 @@ pub fn kept_after<S: Alter>(
     )
 }
 
-/// The text of `kept_past`.
+/// The SQL of `kept_past`.
 pub const KEPT_PAST_TEXT: &str =
     "SELECT * FROM kept WHERE caller > ?1 ORDER BY caller, key LIMIT 101";
 
-/// The first rows that are kept for the callers after this one, by whose they are and then by key:
-/// all of them, or as many as a batch has. 90, 91, 93.
+/// Reads a batch of the rows of later callers, by owner, then by key. Faults 90, 91, 93.
 pub fn kept_past<S: Alter>(
     conn: &mut Connection<S>,
     alloc: Global,

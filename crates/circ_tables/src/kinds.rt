@@ -19,8 +19,8 @@ impl Table for KindRow {
 
     ghost table = { kinds };
 
-    /// A row of `kinds`: up to 200 loans and 200 holds, and a debt limit up to 1,000,000 cents. 91,
-    /// 93.
+    /// Reads a row of `kinds`: up to 200 loans and 200 holds, and a debt limit up to 1,000,000
+    /// cents. Faults 91, 93.
     fn read(row: &Row, _memory: ()) -> Result<KindRow, Fault> {
         has_width(row, 4)?;
         Ok(KindRow {

@@ -1,4 +1,4 @@
-//! The table of lines of accounts.
+//! The table of account lines.
 
 ghost use Rattle.std.specs.Prelude.{◌^◌};
 ghost use Rattle.sql_maps.specs.Batches.{FirstRows};
@@ -26,7 +26,7 @@ impl Table for LineRow {
 
     ghost table = { lines };
 
-    /// A row of `lines`: an amount below 2^52 cents. 91, 93.
+    /// Reads a row of `lines`: an amount below 2^52 cents. Faults 91, 93.
     fn read(row: &Row, _memory: ()) -> Result<LineRow, Fault> {
         has_width(row, 6)?;
         Ok(LineRow {
@@ -89,12 +89,11 @@ impl Put for LineRow {
     }
 }
 
-/// The text of `lines_after`.
+/// The SQL of `lines_after`.
 pub const LINES_AFTER_TEXT: &str =
     "SELECT * FROM lines WHERE day = ?1 AND line > ?2 ORDER BY line LIMIT 101";
 
-/// The first lines of a day, of all sorts, whose numbers are above this one, the least number
-/// first: all of them, or as many as a batch has. 90, 91, 93.
+/// Reads a batch of a day's lines, of all sorts, above this number, by number. Faults 90, 91, 93.
 pub fn lines_after<S: Alter>(
     conn: &mut Connection<S>,
     alloc: Global,
@@ -113,12 +112,11 @@ pub fn lines_after<S: Alter>(
     )
 }
 
-/// The text of `account_lines_after`.
+/// The SQL of `account_lines_after`.
 pub const ACCOUNT_LINES_AFTER_TEXT: &str =
     "SELECT * FROM lines WHERE patron = ?1 AND line > ?2 ORDER BY line LIMIT 101";
 
-/// The first lines of a patron's account whose numbers are above this one, the least number first:
-/// all of them, or as many as a batch has. 90, 91, 93.
+/// Reads a batch of a patron's account lines above this number, by number. Faults 90, 91, 93.
 pub fn account_lines_after<S: Alter>(
     conn: &mut Connection<S>,
     alloc: Global,

@@ -32,7 +32,7 @@ impl Table for LoanRow {
 
     ghost table = { loans };
 
-    /// A row of `loans3`, with the limits of the rule that it was made by. 91, 93.
+    /// Reads a row of `loans3`, within the limits of its rule. Faults 91, 93.
     fn read(row: &Row, _memory: ()) -> Result<LoanRow, Fault> {
         has_width(row, 12)?;
         Ok(LoanRow {
@@ -109,11 +109,11 @@ impl Put for LoanRow {
     }
 }
 
-/// The text of `open_loan_of`.
+/// The SQL of `open_loan_of`.
 pub const OPEN_LOAN_OF_TEXT: &str =
     "SELECT * FROM loans3 WHERE copy = ?1 AND ended IS NULL ORDER BY loan LIMIT 1";
 
-/// The open loan of a copy, if it is on loan. 91, 93.
+/// Reads the open loan of a copy, if it is on loan. Faults 91, 93.
 pub fn open_loan_of<S: Alter>(
     conn: &mut Connection<S>,
     copy: CopyId,
@@ -124,13 +124,12 @@ pub fn open_loan_of<S: Alter>(
     row_of(conn, (), OPEN_LOAN_OF_TEXT, params![copy.number()])
 }
 
-/// The text of `open_loan_of_title`.
+/// The SQL of `open_loan_of_title`.
 pub const OPEN_LOAN_OF_TITLE_TEXT: &str =
     "SELECT * FROM loans3 WHERE patron = ?1 AND ended IS NULL AND EXISTS (SELECT * FROM copies \
      WHERE copies.copy = loans3.copy AND copies.title = ?2) ORDER BY loan LIMIT 1";
 
-/// The open loan of a patron of some copy of the title, the least number first, if there is one.
-/// 91, 93.
+/// Reads a patron's least open loan of a copy of the title, if any. Faults 91, 93.
 pub fn open_loan_of_title<S: Alter>(
     conn: &mut Connection<S>,
     patron: PatronId,
@@ -148,11 +147,11 @@ pub fn open_loan_of_title<S: Alter>(
     )
 }
 
-/// The text of `count_open_loans`.
+/// The SQL of `count_open_loans`.
 pub const COUNT_OPEN_LOANS_TEXT: &str =
     "SELECT COUNT(*) FROM loans3 WHERE patron = ?1 AND ended IS NULL";
 
-/// How many open loans the patron has. 91; 93 from 2^32 on.
+/// Counts the patron's open loans. Fault 91; 93 from 2^32 on.
 pub fn count_open_loans<S: Alter>(
     conn: &mut Connection<S>,
     patron: PatronId,
@@ -162,11 +161,11 @@ pub fn count_open_loans<S: Alter>(
     counted(conn, COUNT_OPEN_LOANS_TEXT, params![patron.number()])
 }
 
-/// The text of `open_loans_by`.
+/// The SQL of `open_loans_by`.
 pub const OPEN_LOANS_BY_TEXT: &str =
     "SELECT * FROM loans3 WHERE patron = ?1 AND ended IS NULL ORDER BY loan";
 
-/// The open loans of a patron, the least number first. 90, 91, 93.
+/// Reads a patron's open loans, by number. Faults 90, 91, 93.
 pub fn open_loans_by<S: Alter>(
     conn: &mut Connection<S>,
     alloc: Global,
@@ -184,13 +183,13 @@ pub fn open_loans_by<S: Alter>(
     )
 }
 
-/// The text of `overdue_loans_after`.
+/// The SQL of `overdue_loans_after`.
 pub const OVERDUE_LOANS_AFTER_TEXT: &str =
     "SELECT * FROM loans3 WHERE branch = ?1 AND ended IS NULL AND due < ?2 AND loan > ?3 \
      ORDER BY loan LIMIT 101";
 
-/// The first open loans that the branch made, that were due before the day and whose numbers are
-/// above this one, the least number first: all of them, or as many as a batch has. 90, 91, 93.
+/// Reads a batch of open loans that the branch made, due before the day, above this number, by
+/// number. Faults 90, 91, 93.
 pub fn overdue_loans_after<S: Alter>(
     conn: &mut Connection<S>,
     alloc: Global,

@@ -1,4 +1,4 @@
-//! The table of the loans of a library of schema 1 or 2. From schema 3 on it is empty.
+//! The table of loans in schemas 1 and 2; empty from schema 3 on.
 
 ghost use Rattle.circ_tables.specs.LoansOfSchema1.{loans1, loans1_are};
 
@@ -20,7 +20,7 @@ impl Table for LoanRow1 {
 
     ghost table = { loans1 };
 
-    /// A row of `loans`. 91, 93.
+    /// Reads a row of `loans`. Faults 91, 93.
     fn read(row: &Row, _memory: ()) -> Result<LoanRow1, Fault> {
         has_width(row, 11)?;
         Ok(LoanRow1 {

@@ -1,5 +1,4 @@
-//! The table of one row, which says what schema the tables have, what day it is, and the next
-//! numbers.
+//! The table of one row: the schema, today, and the next numbers.
 
 ghost use Rattle.std.specs.Prelude.{◌∷◌, ◌≡◌, ◌≢◌, Err, IfOk, OnErr, [], length};
 ghost use Rattle.terms.specs.Limits.{IsMeta};
@@ -13,10 +12,10 @@ use crate::sql_calls::{all_rows, all_rows_inside, run};
 use sqlite::{Alter, Connection, Row, Transaction, params};
 use terms::{Fault, LAST_NEXT_NUMBER, MetaRow};
 
-/// All rows of `meta`.
+/// Selects all rows of `meta`.
 pub const ALL_META: &str = "SELECT * FROM meta ORDER BY id";
 
-/// The one row of these. 93 where they are none, or more than one.
+/// Returns the only row. 93 if there are none, or several.
 pub fn one_of(rows: &[Row]) -> Result<&Row, Fault>
     ensures ok { IfOk result (λ row. rows.now ≡ row.now ∷ []) }
     ensures err { OnErr result (length rows.now ≢ 1) }
@@ -28,7 +27,8 @@ pub fn one_of(rows: &[Row]) -> Result<&Row, Fault>
     }
 }
 
-/// The row of `meta`: id 1, the schema from 1, and the next numbers up to 2,147,483,648. 91, 93.
+/// Reads the row of `meta`: id 1, any 32-bit schema, and next numbers up to 2,147,483,648. Faults
+/// 91, 93.
 pub fn meta_row(row: &Row) -> Result<MetaRow, Fault>
     ensures cells { IfOk result (λ r. row.now ≡ meta_cells r) }
     ensures limits { IfOk result IsMeta }
@@ -46,8 +46,8 @@ pub fn meta_row(row: &Row) -> Result<MetaRow, Fault>
     })
 }
 
-/// The row of `meta` where these are its rows. 91; 93 where they are not one row of id 1, or it is
-/// outside its limits.
+/// Reads the row of `meta` from its rows. Fault 91; 93 unless it is one row of id 1, within its
+/// limits.
 fn lone_row(rows: &[Row]) -> Result<MetaRow, Fault>
     ensures cells { IfOk result (λ r. rows.now ≡ meta_cells r ∷ []) }
     ensures limits { IfOk result IsMeta }
@@ -57,7 +57,7 @@ fn lone_row(rows: &[Row]) -> Result<MetaRow, Fault>
     meta_row(one_of(rows)?)
 }
 
-/// The one row of `meta`. 91; 93 where it is not one row of id 1, or is outside its limits.
+/// Reads the one row of `meta`. Fault 91; 93 unless it is one row of id 1, within its limits.
 pub fn get_meta<S: Alter>(conn: &mut Connection<S>) -> Result<MetaRow, Fault>
     ensures { GetsMeta S.Store conn.old conn.new result }
 {
@@ -65,8 +65,8 @@ pub fn get_meta<S: Alter>(conn: &mut Connection<S>) -> Result<MetaRow, Fault>
     lone_row(rows.as_slice())
 }
 
-/// The one row of `meta`, asked inside a transaction, which goes on. 91; 93 where it is not one row
-/// of id 1, or is outside its limits.
+/// Reads the one row of `meta` inside a transaction, which goes on. Fault 91; 93 unless it is one
+/// row of id 1, within its limits.
 pub fn get_meta_inside<S: Alter>(tx: &mut Transaction<'_, S>) -> Result<MetaRow, Fault>
     ensures { GetsMetaInside S.Store tx.old tx.new result }
 {
@@ -74,7 +74,7 @@ pub fn get_meta_inside<S: Alter>(tx: &mut Transaction<'_, S>) -> Result<MetaRow,
     lone_row(rows.as_slice())
 }
 
-/// Puts the row of `meta`. 91.
+/// Puts the row of `meta`. Fault 91.
 pub fn put_meta<S: Alter>(tx: &mut Transaction<'_, S>, row: &MetaRow) -> Result<(), Fault>
     ensures { PutsMeta row.now S.Store tx.old tx.new result }
 {

@@ -22,7 +22,7 @@ impl Table for PatronRow {
 
     ghost table = { patrons };
 
-    /// A row of `patrons`: less than 2^52 cents are owed. 90, 91, 93.
+    /// Reads a row of `patrons`: a debt below 2^52 cents. Faults 90, 91, 93.
     fn read(row: &Row, alloc: Global) -> Result<PatronRow, Fault> {
         has_width(row, 5)?;
         Ok(PatronRow {
@@ -83,12 +83,11 @@ impl<'a> Put for PatronPut<'a> {
     }
 }
 
-/// The text of `debtors_after`.
+/// The SQL of `debtors_after`.
 pub const DEBTORS_AFTER_TEXT: &str =
     "SELECT * FROM patrons WHERE owed > 0 AND patron > ?1 ORDER BY patron LIMIT 101";
 
-/// The first patrons who owe something and whose numbers are above this one, the least number
-/// first: all of them, or as many as a batch has. 90, 91, 93.
+/// Reads a batch of patrons who owe something, above this number, by number. Faults 90, 91, 93.
 pub fn debtors_after<S: Alter>(
     conn: &mut Connection<S>,
     alloc: Global,

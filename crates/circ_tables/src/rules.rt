@@ -24,8 +24,8 @@ impl Table for RuleRow {
 
     ghost table = { rules };
 
-    /// A row of `rules3`: a period of 1 to 365 days, up to 99 renewals, a rate up to 10,000 and a
-    /// cap up to 100,000 cents, and up to 365 grace days. 91, 93.
+    /// Reads a row of `rules3`: a period of 1 to 365 days, up to 99 renewals, a rate up to 10,000
+    /// and a cap up to 100,000 cents, and up to 365 grace days. Faults 91, 93.
     fn read(row: &Row, _memory: ()) -> Result<RuleRow, Fault> {
         has_width(row, 7)?;
         Ok(RuleRow {
@@ -40,7 +40,7 @@ impl Table for RuleRow {
     }
 }
 
-/// Puts a row of `rules3`. 91.
+/// Puts a row of `rules3`. Fault 91.
 pub fn put_rule<S: Alter>(tx: &mut Transaction<'_, S>, row: &RuleRow) -> Result<(), Fault>
     ensures { PutsRow rules (row.now.kind, row.now.copy_kind) row.now S.Store tx.old tx.new result }
 {
@@ -62,7 +62,7 @@ pub fn put_rule<S: Alter>(tx: &mut Transaction<'_, S>, row: &RuleRow) -> Result<
     )
 }
 
-/// The circulation rule of a kind of patron and a kind of copy, if there is one. 91, 93.
+/// Reads the circulation rule of a kind of patron and a kind of copy, if any. Faults 91, 93.
 pub fn get_rule<S: Alter>(
     conn: &mut Connection<S>,
     kind: PatronKind,
@@ -78,7 +78,7 @@ pub fn get_rule<S: Alter>(
     )
 }
 
-/// All rows of `rules3`, by the kind of patron and then by the kind of copy. 90, 91, 93.
+/// Reads all rows of `rules3`, by kind of patron, then by kind of copy. Faults 90, 91, 93.
 pub fn all_rules<S: Alter>(conn: &mut Connection<S>, alloc: Global) -> Result<Vec<RuleRow>, Fault>
     ensures { Lists rules (λ l. l.items) (λ m. ListedBy PairBelow m is_any)
         S.Store conn.old conn.new result }

@@ -1,4 +1,4 @@
-//! The table of the circulation rules of a library of schema 1 or 2. From schema 3 on it is empty.
+//! The table of circulation rules in schemas 1 and 2; empty from schema 3 on.
 
 ghost use Rattle.std.specs.Prelude.{[]};
 ghost use Rattle.sql_maps.specs.Maps.{ListedBy, PairBelow};
@@ -23,7 +23,7 @@ impl Table for RuleRow1 {
 
     ghost table = { rules1 };
 
-    /// A row of `rules`. 91, 93.
+    /// Reads a row of `rules`. Faults 91, 93.
     fn read(row: &Row, _memory: ()) -> Result<RuleRow1, Fault> {
         has_width(row, 6)?;
         Ok(RuleRow1 {
@@ -37,8 +37,8 @@ impl Table for RuleRow1 {
     }
 }
 
-/// All rows of `rules`, asked inside a transaction, which goes on: by the kind of patron and then
-/// by the kind of copy. 90, 91, 93.
+/// Reads all rows of `rules` inside a transaction, which goes on: by kind of patron, then by kind
+/// of copy. Faults 90, 91, 93.
 pub fn rules_inside<S: Alter>(
     tx: &mut Transaction<'_, S>,
     alloc: Global,
@@ -55,8 +55,7 @@ pub fn rules_inside<S: Alter>(
     )
 }
 
-/// Takes out the row of `rules` for a kind of patron and a kind of copy; where there is none,
-/// nothing changes. 91.
+/// Removes the row of `rules` for a kind of patron and a kind of copy, if there is one. Fault 91.
 pub fn take_old_rule<S: Alter>(
     tx: &mut Transaction<'_, S>,
     kind: PatronKind,

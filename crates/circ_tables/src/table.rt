@@ -1,4 +1,4 @@
-//! Lists of rows, as they are read.
+//! Reading lists of rows.
 
 ghost use Rattle.std.specs.Prelude.{◌≡◌, ◌≢◌, map, Err, IfOk};
 ghost use Rattle.sqlite.specs.Values.{bound};
@@ -20,12 +20,12 @@ pub trait Table: Drop {
     /// The key of a row.
     type Key: Drop;
 
-    /// What reading a row takes: the allocator for one with texts, else nothing.
+    /// What reading a row needs: the allocator if it has texts, else nothing.
     type Memory: Copy;
 
     ghost table: { Typed Self.Key Self };
 
-    /// The row, within its limits. 90, 91, 93.
+    /// Reads a row, within its limits. Faults 90, 91, 93.
     fn read(row: &Row, memory: Self::Memory) -> Result<Self, Fault>
         ensures cells { IfOk result (λ r. row.now ≡ table.cells r) }
         ensures limits { IfOk result (λ r. table.IsLegal r) }
@@ -33,7 +33,7 @@ pub trait Table: Drop {
             → row.now ≢ table.cells r };
 }
 
-/// The rows, each within its limits. 90, 91, 93.
+/// Reads the rows, each within its limits. Faults 90, 91, 93.
 pub fn entries<T: Table>(alloc: Global, memory: T::Memory, rows: &[Row]) -> Result<Vec<T>, Fault>
     ensures cells { IfOk result (λ list. map T.table.cells list.items ≡ rows.now) }
     ensures limits { IfOk result (λ list. All T.table.IsLegal list.items) }
@@ -48,7 +48,7 @@ pub fn entries<T: Table>(alloc: Global, memory: T::Memory, rows: &[Row]) -> Resu
     Ok(list)
 }
 
-/// The first row that a text shows, within its limits, if it shows any. 90, 91, 93.
+/// Reads the first row of a query, within its limits, if any. Faults 90, 91, 93.
 pub fn row_of<T: Table, S: Alter>(
     conn: &mut Connection<S>,
     memory: T::Memory,
@@ -64,7 +64,7 @@ pub fn row_of<T: Table, S: Alter>(
     }
 }
 
-/// All rows that a text shows, each within its limits. 90, 91, 93.
+/// Reads all rows of a query, each within its limits. Faults 90, 91, 93.
 pub fn rows_of<T: Table, S: Alter>(
     conn: &mut Connection<S>,
     alloc: Global,
@@ -79,7 +79,7 @@ pub fn rows_of<T: Table, S: Alter>(
     entries(alloc, memory, rows.as_slice())
 }
 
-/// All rows that a text shows inside a transaction, each within its limits. 90, 91, 93.
+/// Reads all rows of a query inside a transaction, each within its limits. Faults 90, 91, 93.
 pub fn rows_inside<T: Table, S: Alter>(
     tx: &mut Transaction<'_, S>,
     alloc: Global,
@@ -94,7 +94,7 @@ pub fn rows_inside<T: Table, S: Alter>(
     entries(alloc, memory, rows.as_slice())
 }
 
-/// The number that a text counts. 91; 93 from 2^32 on.
+/// Returns the count from a query. Fault 91; 93 from 2^32 on.
 pub fn counted<S: Alter>(
     conn: &mut Connection<S>,
     sql: &str,

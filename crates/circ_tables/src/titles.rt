@@ -17,7 +17,7 @@ impl Table for TitleRow {
 
     ghost table = { titles };
 
-    /// A row of `titles`. 90, 91, 93.
+    /// Reads a row of `titles`. Faults 90, 91, 93.
     fn read(row: &Row, alloc: Global) -> Result<TitleRow, Fault> {
         has_width(row, 2)?;
         Ok(TitleRow {

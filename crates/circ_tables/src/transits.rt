@@ -1,4 +1,4 @@
-//! The table of copies that travel.
+//! The table of copies in transit.
 
 ghost use Rattle.sql_maps.specs.Maps.{First};
 ghost use Rattle.sql_maps.specs.Batches.{FirstRows};
@@ -24,7 +24,7 @@ impl Table for TransitRow {
 
     ghost table = { transits };
 
-    /// A row of `transits`. 91, 93.
+    /// Reads a row of `transits`. Faults 91, 93.
     fn read(row: &Row, _memory: ()) -> Result<TransitRow, Fault> {
         has_width(row, 3)?;
         Ok(TransitRow {
@@ -79,10 +79,10 @@ impl Put for TransitRow {
     }
 }
 
-/// The text of `transit_for`.
+/// The SQL of `transit_for`.
 pub const TRANSIT_FOR_TEXT: &str = "SELECT * FROM transits WHERE hold = ?1 ORDER BY copy LIMIT 1";
 
-/// The travel of a copy for the hold, if one travels for it. 91, 93.
+/// Reads the transit for a hold, if any. Faults 91, 93.
 pub fn transit_for<S: Alter>(
     conn: &mut Connection<S>,
     hold: HoldId,
@@ -93,12 +93,12 @@ pub fn transit_for<S: Alter>(
     row_of(conn, (), TRANSIT_FOR_TEXT, params![hold.number()])
 }
 
-/// The text of `transits_to_after`.
+/// The SQL of `transits_to_after`.
 pub const TRANSITS_TO_AFTER_TEXT: &str =
     "SELECT * FROM transits WHERE goal = ?1 AND copy > ?2 ORDER BY copy LIMIT 101";
 
-/// The first transits to a branch of copies whose numbers are above this one, the least number
-/// first: all of them, or as many as a batch has. 90, 91, 93.
+/// Reads a batch of transits to a branch with copies above this number, by number. Faults 90, 91,
+/// 93.
 pub fn transits_to_after<S: Alter>(
     conn: &mut Connection<S>,
     alloc: Global,
