@@ -1,5 +1,4 @@
-//! The rows that answer the desk's questions: batches of lists, and single rows that are found by
-//! another's number.
+//! Rows for the desk's questions: batches of lists, and single rows found by another's number.
 
 ghost use Rattle.std.specs.Prelude.{◌≡◌};
 ghost use Rattle.terms.specs.Limits.{InLimits};
@@ -26,8 +25,7 @@ use terms::{
 };
 
 impl<S: Alter> Store<S> {
-    /// A batch of the copies of a title whose numbers are above this one, the least number first.
-    /// 90, 91, 93.
+    /// Reads a batch of a title's copies above this number, by number. Faults 90, 91, 93.
     pub fn copies_of_title(
         &mut self,
         alloc: Global,
@@ -41,8 +39,7 @@ impl<S: Alter> Store<S> {
         copies_of_title_after(&mut self.conn, alloc, title, after)
     }
 
-    /// A batch of the waiting holds for a title whose numbers are above this one, the least number
-    /// first. 90, 91, 93.
+    /// Reads a batch of waiting holds for a title above this number, by number. Faults 90, 91, 93.
     pub fn waiting_holds_for(
         &mut self,
         alloc: Global,
@@ -56,8 +53,7 @@ impl<S: Alter> Store<S> {
         waiting_holds_for_after(&mut self.conn, alloc, title, after)
     }
 
-    /// A batch of the waiting holds whose numbers are above this one, the least number first. 90,
-    /// 91, 93.
+    /// Reads a batch of waiting holds above this number, by number. Faults 90, 91, 93.
     pub fn waiting_holds(&mut self, alloc: Global, after: HoldId) -> Result<Vec<HoldRow>, Fault>
         ensures { Looked InLimits (λ P rows. AreWaitingAfter P after rows.items) InLimits
             S.Store self.old self.new result }
@@ -66,8 +62,7 @@ impl<S: Alter> Store<S> {
         waiting_holds_after(&mut self.conn, alloc, after)
     }
 
-    /// A batch of the lines of a patron's account whose numbers are above this one, the least number
-    /// first. 90, 91, 93.
+    /// Reads a batch of a patron's account lines above this number, by number. Faults 90, 91, 93.
     pub fn account_lines(
         &mut self,
         alloc: Global,
@@ -81,8 +76,7 @@ impl<S: Alter> Store<S> {
         account_lines_after(&mut self.conn, alloc, patron, after)
     }
 
-    /// A batch of the patrons who owe something and whose numbers are above this one, the least
-    /// number first. 90, 91, 93.
+    /// Reads a batch of patrons who owe something, above this number, by number. Faults 90, 91, 93.
     pub fn debtors(&mut self, alloc: Global, after: PatronId) -> Result<Vec<PatronRow>, Fault>
         ensures { Looked InLimits (λ P rows. AreDebtorsAfter P after rows.items) InLimits
             S.Store self.old self.new result }
@@ -91,8 +85,8 @@ impl<S: Alter> Store<S> {
         debtors_after(&mut self.conn, alloc, after)
     }
 
-    /// A batch of the transits to a branch of copies whose numbers are above this one, the least
-    /// number first. 90, 91, 93.
+    /// Reads a batch of transits to a branch with copies above this number, by number. Faults 90,
+    /// 91, 93.
     pub fn transits_to(
         &mut self,
         alloc: Global,
@@ -106,7 +100,7 @@ impl<S: Alter> Store<S> {
         transits_to_after(&mut self.conn, alloc, branch, after)
     }
 
-    /// A copy, and the rows that claim it. 91, 93.
+    /// Reads a copy and the rows that claim it. Faults 91, 93.
     pub fn copy_and_claims(&mut self, copy: CopyId) -> Result<View, Fault>
         ensures { Looked InLimits (λ P rows. IsCopyView P copy rows) InLimits
             S.Store self.old self.new result }
@@ -115,7 +109,7 @@ impl<S: Alter> Store<S> {
         copy_view(&mut self.conn, copy)
     }
 
-    /// The first hold in line for a title, where today is this day. 91, 93.
+    /// Reads the first hold in a title's queue, if today is this day. Faults 91, 93.
     pub fn first_in_line(&mut self, title: TitleId, today: Day) -> Result<Option<HoldRow>, Fault>
         ensures { Looked InLimits (λ P first. today ≡ P.meta.today → IsFirstOf P title first)
             InLimits S.Store self.old self.new result }
@@ -124,7 +118,7 @@ impl<S: Alter> Store<S> {
         first_in_line(&mut self.conn, title, today)
     }
 
-    /// The travel of a copy for a hold, if one travels for it. 91, 93.
+    /// Reads the transit for a hold, if any. Faults 91, 93.
     pub fn transit_for(&mut self, hold: HoldId) -> Result<Option<TransitRow>, Fault>
         ensures { Looked InLimits (λ P row. IsTravelFor P hold row) InLimits
             S.Store self.old self.new result }
@@ -133,8 +127,7 @@ impl<S: Alter> Store<S> {
         transit_for(&mut self.conn, hold)
     }
 
-    /// The copy of the least number among those of a title that stand on the shelf of a branch.
-    /// 91, 93.
+    /// Reads the least copy of a title on the shelf of a branch. Faults 91, 93.
     pub fn least_shelved(
         &mut self,
         title: TitleId,

@@ -1,4 +1,4 @@
-//! Tables that grow with the library, which are read batch by batch.
+//! Reading tables that grow with the library, in batches.
 
 ghost use Rattle.std.specs.Prelude.{◌≡◌, ◌++◌, true, filter, option_map, slice_get, length};
 ghost use Rattle.std.specs.Prelude.{◌-◌, OnOk, IfErr};
@@ -15,18 +15,18 @@ use sqlite::{Alter, Connection};
 use std::alloc::Global;
 use terms::{Fault, KeptRow, LoanRow, Rows};
 
-/// Which of the rows that are read are kept.
+/// A filter of the rows read.
 pub(crate) trait Sift<R> {
     ghost use Rattle.std.specs.Prelude.{◌≡◌, Bool};
 
     ghost test: { R → Bool };
 
-    /// Whether a row is kept.
+    /// Returns whether a row is kept.
     fn keeps(row: &R) -> bool
         ensures { result ≡ test row.now };
 }
 
-/// Each row is kept.
+/// Keeps every row.
 pub(crate) struct EachRow;
 
 impl<R> Sift<R> for EachRow {
@@ -39,7 +39,7 @@ impl<R> Sift<R> for EachRow {
     }
 }
 
-/// None is: the rows are only read.
+/// Keeps none: the rows are only read.
 pub(crate) struct NoRow;
 
 impl<R> Sift<R> for NoRow {
@@ -52,7 +52,7 @@ impl<R> Sift<R> for NoRow {
     }
 }
 
-/// The open loans are kept.
+/// Keeps the open loans.
 pub(crate) struct OpenLoans;
 
 impl Sift<LoanRow> for OpenLoans {
@@ -65,7 +65,7 @@ impl Sift<LoanRow> for OpenLoans {
     }
 }
 
-/// The number of the last row of a batch, if it has any.
+/// Returns the number of the last row of a batch, if any.
 pub(crate) fn last_of<R: Numbered>(batch: &[R]) -> Option<u32>
     ensures { result ≡ option_map R.number_of (slice_get batch.now (length batch.now - 1)) }
 {
@@ -75,7 +75,7 @@ pub(crate) fn last_of<R: Numbered>(batch: &[R]) -> Option<u32>
     }
 }
 
-/// Keeps the rows of a batch that are to be kept, after those before them. 90.
+/// Appends the rows of a batch that pass the filter. Fault 90.
 fn keep_batch<R: Numbered, F: Sift<R>>(kept: &mut Vec<R>, batch: Vec<R>) -> Result<(), Fault>
     ensures kept { OnOk result (kept.new.items ≡ kept.old.items ++ filter F.test batch.items) }
     ensures fault { IfErr result (λ fault. fault ≡ Fault.Memory) }
@@ -88,8 +88,8 @@ fn keep_batch<R: Numbered, F: Sift<R>>(kept: &mut Vec<R>, batch: Vec<R>) -> Resu
     Ok(())
 }
 
-/// The rows of a table that are to be kept, the least number first. All rows are read, batch by
-/// batch. 90, 91, 93.
+/// Reads all rows of a table in batches and keeps those that pass the filter, by number. Faults 90,
+/// 91, 93.
 pub(crate) fn read_batches<R: Numbered, F: Sift<R>, S: Alter>(
     conn: &mut Connection<S>,
     alloc: Global,
@@ -112,7 +112,7 @@ pub(crate) fn read_batches<R: Numbered, F: Sift<R>, S: Alter>(
     Rows::new(kept)
 }
 
-/// The batch of what is kept after this row. 90, 91, 93.
+/// Reads the batch of kept requests after this row. Faults 90, 91, 93.
 fn next_kept<S: Alter>(
     conn: &mut Connection<S>,
     alloc: Global,
@@ -130,8 +130,8 @@ fn next_kept<S: Alter>(
     }
 }
 
-/// Reads all that is kept, batch by batch, and keeps none of it. 90, 91, 93. After 2^64 - 1 batches it
-/// gives up with 91: nothing says that no table has as many.
+/// Reads all kept requests in batches, keeping none in memory. Faults 90, 91, 93. Gives up with 91
+/// after 2^64 - 1 batches: nothing says that no table has as many.
 pub(crate) fn pass_over_kept<S: Alter>(conn: &mut Connection<S>, alloc: Global) -> Result<(), Fault>
     ensures { Reviews IsPassedOver (HasLegal kept) S.Store conn.old conn.new result }
 {

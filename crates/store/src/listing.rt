@@ -51,7 +51,7 @@ struct Dealings {
     lines: Rows<LineRow>,
 }
 
-/// All rows of `branches`. 90, 91, 93.
+/// Reads all rows of `branches`. Faults 90, 91, 93.
 fn branches<S: Alter>(conn: &mut Connection<S>, alloc: Global) -> Result<Rows<BranchRow>, Fault>
     ensures { Reviews (λ P rows. AreRows P.branches (λ r. r.branch) AllPass rows)
         (HasLegal branches) S.Store conn.old conn.new result }
@@ -60,7 +60,7 @@ fn branches<S: Alter>(conn: &mut Connection<S>, alloc: Global) -> Result<Rows<Br
     Rows::new(found)
 }
 
-/// All rows of `kinds`. 90, 91, 93.
+/// Reads all rows of `kinds`. Faults 90, 91, 93.
 fn kinds<S: Alter>(conn: &mut Connection<S>, alloc: Global) -> Result<Rows<KindRow>, Fault>
     ensures { Reviews (λ P rows. AreRows P.kinds (λ r. r.kind) AllPass rows) (HasLegal kinds)
         S.Store conn.old conn.new result }
@@ -69,7 +69,7 @@ fn kinds<S: Alter>(conn: &mut Connection<S>, alloc: Global) -> Result<Rows<KindR
     Rows::new(found)
 }
 
-/// All rows of `rules`. 90, 91, 93.
+/// Reads all rows of `rules`. Faults 90, 91, 93.
 fn rules<S: Alter>(conn: &mut Connection<S>, alloc: Global) -> Result<Rows<RuleRow>, Fault>
     ensures { Reviews (λ P rows. AreRuleRows P rows) (HasLegal rules)
         S.Store conn.old conn.new result }
@@ -78,7 +78,7 @@ fn rules<S: Alter>(conn: &mut Connection<S>, alloc: Global) -> Result<Rows<RuleR
     Rows::new(found)
 }
 
-/// All rows of `closed_days`. 90, 91, 93.
+/// Reads all rows of `closed_days`. Faults 90, 91, 93.
 fn closed_days<S: Alter>(
     conn: &mut Connection<S>,
     alloc: Global,
@@ -90,7 +90,7 @@ fn closed_days<S: Alter>(
     Rows::new(found)
 }
 
-/// All rows of `kept`. 90, 91, 93.
+/// Reads all rows of `kept`. Faults 90, 91, 93.
 fn kept<S: Alter>(conn: &mut Connection<S>, alloc: Global) -> Result<Rows<KeptRow>, Fault>
     ensures { Reviews (λ P rows. AreKeptRows P rows) (HasLegal kept)
         S.Store conn.old conn.new result }
@@ -99,7 +99,7 @@ fn kept<S: Alter>(conn: &mut Connection<S>, alloc: Global) -> Result<Rows<KeptRo
     Rows::new(found)
 }
 
-/// The tables that the desk sets. 90, 91, 93.
+/// Reads the tables that the desk sets. Faults 90, 91, 93.
 fn read_registers<S: Alter>(conn: &mut Connection<S>, alloc: Global) -> Result<Registers, Fault>
     ensures { Reviews AreRegisters HasLegalRegisters S.Store conn.old conn.new result }
 {
@@ -117,7 +117,7 @@ fn read_registers<S: Alter>(conn: &mut Connection<S>, alloc: Global) -> Result<R
     })
 }
 
-/// Patrons and copies, and of titles those that are to be kept. 90, 91, 93.
+/// Reads patrons and copies, and the titles that pass the filter. Faults 90, 91, 93.
 fn read_holdings<T: Sift<TitleRow>, S: Alter>(
     conn: &mut Connection<S>,
     alloc: Global,
@@ -134,7 +134,7 @@ fn read_holdings<T: Sift<TitleRow>, S: Alter>(
     })
 }
 
-/// Holds, transits and lines, and of loans those that are to be kept. 90, 91, 93.
+/// Reads holds, transits and lines, and the loans that pass the filter. Faults 90, 91, 93.
 fn read_dealings<L: Sift<LoanRow>, S: Alter>(
     conn: &mut Connection<S>,
     alloc: Global,
@@ -153,7 +153,7 @@ fn read_dealings<L: Sift<LoanRow>, S: Alter>(
     })
 }
 
-/// All rows of each table. 90, 91, 93.
+/// Reads all rows of each table. Faults 90, 91, 93.
 fn all_tables<S: Alter>(conn: &mut Connection<S>, alloc: Global) -> Result<Tables, Fault>
     ensures { Reviews AreTables HasLegalTables S.Store conn.old conn.new result }
 {
@@ -178,7 +178,7 @@ fn all_tables<S: Alter>(conn: &mut Connection<S>, alloc: Global) -> Result<Table
     })
 }
 
-/// The rows of which an audit speaks. 90, 91, 93.
+/// Reads the rows that an audit checks. Faults 90, 91, 93.
 fn audit_tables<S: Alter>(conn: &mut Connection<S>, alloc: Global) -> Result<Tables, Fault>
     ensures { Reviews AreAuditTables HasLegalTables S.Store conn.old conn.new result }
 {
@@ -204,7 +204,7 @@ fn audit_tables<S: Alter>(conn: &mut Connection<S>, alloc: Global) -> Result<Tab
 }
 
 impl<S: Alter> Store<S> {
-    /// All rows of each table, in rising order of their keys. 90, 91, 93.
+    /// Reads all rows of each table, in ascending key order. Faults 90, 91, 93.
     pub fn tables(&mut self, alloc: Global) -> Result<Tables, Fault>
         ensures looked { Looked InLimits AreTables IsReadable S.Store self.old self.new result }
         ensures legal { AnswersLegal S.Store self.old self.new result }
@@ -213,11 +213,11 @@ impl<S: Alter> Store<S> {
         all_tables(&mut self.conn, alloc)
     }
 
-    /// The rows of which the laws of sound tables speak: all patrons, copies, holds, transits and
-    /// lines, and the open loans. 90, 91, 93.
+    /// Reads the rows that the laws of sound tables speak of: all patrons, copies, holds, transits
+    /// and lines, and the open loans. Faults 90, 91, 93.
     ///
-    /// The rows of all other tables, and the loans that ended, are read too, but not kept: what
-    /// this takes of memory doesn't grow with them.
+    /// Also reads the rows of all other tables and ended loans, but doesn't keep them: memory
+    /// doesn't grow with them.
     pub fn audit_tables(&mut self, alloc: Global) -> Result<Tables, Fault>
         ensures looked { Looked InLimits AreAuditTables IsReadable
             S.Store self.old self.new result }
@@ -227,7 +227,7 @@ impl<S: Alter> Store<S> {
         audit_tables(&mut self.conn, alloc)
     }
 
-    /// All rows of `patrons`, the least number first. 90, 91, 93.
+    /// Reads all rows of `patrons`, by number. Faults 90, 91, 93.
     pub fn patrons(&mut self, alloc: Global) -> Result<Rows<PatronRow>, Fault>
         ensures { Looked InLimits (λ P rows. AreRows P.patrons (λ r. r.patron) AllPass rows)
             IsReadable S.Store self.old self.new result }

@@ -11,7 +11,8 @@ use std::alloc::Global;
 use terms::Fault;
 
 impl Store<MemStore> {
-    /// A new library in memory: all tables empty, but for the first row of `meta`. 90, 91.
+    /// Makes a new library in memory: all tables empty, except the first row of `meta`. Faults 90,
+    /// 91.
     pub fn in_memory(alloc: Global) -> Result<Store<MemStore>, Fault>
         ensures made { IfOk result (λ it. KeepsPicture (state over_memory it) empty_library) }
         ensures open { IfOk result (λ it. IsClean over_memory it × IsOpen over_memory it) }

@@ -1,4 +1,4 @@
-//! A library of an older schema, which is led to the newest one.
+//! Migrating a library of an older schema to the newest.
 
 ghost use Rattle.std.specs.Prelude.{◌≡◌, false, refl, IfOk};
 ghost use Rattle.circ_tables.specs.RulesOfSchema1.{rules1};
@@ -22,14 +22,14 @@ use terms::{
     Days, Fault, HoldRow, HoldRow1, LoanRow, LoanRow1, MetaRow, RuleRow, RuleRow1, SCHEMA,
 };
 
-/// A row of a table that the next schema has in another form.
+/// A row of a table whose form changes in the next schema.
 pub(crate) trait Carried: Table {
-    /// The row as the next schema has it.
+    /// The row in the next schema.
     type Next: Table<Key = Self::Key>;
 
     ghost transfer: { Transfer Self.Key Self Self.Next };
 
-    /// Puts the row into the table of the next schema, and takes it out of its own. 91.
+    /// Moves the row into the table of the next schema. Fault 91.
     fn carry<S: Alter>(&self, tx: &mut Transaction<'_, S>) -> Result<(), Fault>
         ensures { MovesRow Self.table Self.Next.table transfer self.now
             S.Store tx.old tx.new result };
@@ -37,12 +37,12 @@ pub(crate) trait Carried: Table {
     ghost over: { IsTransfer Self.table Self.Next.table transfer };
 }
 
-/// Such a row under a number, by which the rows can be read batch by batch.
+/// Such a row with a number, so that the rows can be read in batches.
 pub(crate) trait CarriedByNumber: Carried + Numbered {
     ghost by_key: { (r : Self) → Self.Numbered.number_of r ≡ Self.Carried.transfer.key_of r };
 }
 
-/// Schema 2 has holds with a first day, and those of schema 1 have none.
+/// Schema 2 has holds with a first day; those of schema 1 have none.
 impl Carried for HoldRow1 {
     type Next = HoldRow;
 
@@ -70,7 +70,7 @@ impl CarriedByNumber for HoldRow1 {
     ghost by_key = { λ r. refl };
 }
 
-/// Schema 3 has loans with grace days, and those of the schemas before it have none.
+/// Schema 3 has loans with grace days; those of earlier schemas have none.
 impl Carried for LoanRow1 {
     type Next = LoanRow;
 
@@ -102,7 +102,7 @@ impl CarriedByNumber for LoanRow1 {
     ghost by_key = { λ r. refl };
 }
 
-/// Schema 3 has rules with grace days, and those of the schemas before it have none.
+/// Schema 3 has rules with grace days; those of earlier schemas have none.
 impl Carried for RuleRow1 {
     type Next = RuleRow;
 
@@ -125,7 +125,7 @@ impl Carried for RuleRow1 {
     ghost over = { rules_carried };
 }
 
-/// Carries over the rows of a batch. 91.
+/// Moves the rows of a batch. Fault 91.
 fn carry_batch<R: Carried, S: Alter>(tx: &mut Transaction<'_, S>, batch: &[R]) -> Result<(), Fault>
     ensures { MovesBatch R.table R.Next.table R.transfer batch.now S.Store tx.old tx.new result }
 {
@@ -135,7 +135,7 @@ fn carry_batch<R: Carried, S: Alter>(tx: &mut Transaction<'_, S>, batch: &[R]) -
     Ok(())
 }
 
-/// Carries over all rows of a table, batch by batch. 90, 91, 93.
+/// Moves all rows of a table, in batches. Faults 90, 91, 93.
 fn carry_all<R: CarriedByNumber, S: Alter>(
     tx: &mut Transaction<'_, S>,
     alloc: Global,
@@ -155,8 +155,7 @@ fn carry_all<R: CarriedByNumber, S: Alter>(
     Ok(())
 }
 
-/// Carries over all rules, of which there are no more than kinds of patrons times kinds of copies.
-/// 90, 91, 93.
+/// Moves all rules, at most the kinds of patrons times the kinds of copies. Faults 90, 91, 93.
 fn carry_rules<S: Alter>(tx: &mut Transaction<'_, S>, alloc: Global) -> Result<(), Fault>
     ensures { CarriesAll rules1 rules rules_transfer S.Store tx.old tx.new result }
 {
@@ -164,7 +163,7 @@ fn carry_rules<S: Alter>(tx: &mut Transaction<'_, S>, alloc: Global) -> Result<(
     carry_batch(tx, old.as_slice())
 }
 
-/// Names the schema in the row of `meta`. 91, 93.
+/// Writes the schema into the row of `meta`. Faults 91, 93.
 fn name_schema<S: Alter>(tx: &mut Transaction<'_, S>, schema: u32) -> Result<u32, Fault>
     requires { IsKnown schema }
     ensures named { NamesInside schema S.Store tx.old tx.new result }
@@ -175,7 +174,7 @@ fn name_schema<S: Alter>(tx: &mut Transaction<'_, S>, schema: u32) -> Result<u32
     Ok(schema)
 }
 
-/// Migrates the tables of schema 1 to those of schema 2, which has holds with a first day. 90, 91, 93.
+/// Migrates tables from schema 1 to 2, which has holds with a first day. Faults 90, 91, 93.
 fn migrate_to_2<S: Alter>(tx: &mut Transaction<'_, S>, alloc: Global) -> Result<u32, Fault>
     ensures migrates { MigratesFrom 1 S.Store tx.old tx.new result }
     ensures told { IfOk result (λ told. told ≡ 2) }
@@ -185,8 +184,8 @@ fn migrate_to_2<S: Alter>(tx: &mut Transaction<'_, S>, alloc: Global) -> Result<
     name_schema(tx, 2)
 }
 
-/// Migrates the tables of schema 2 to those of schema 3, which has rules and loans with grace days.
-/// 90, 91, 93.
+/// Migrates tables from schema 2 to 3, which has rules and loans with grace days. Faults 90, 91,
+/// 93.
 fn migrate_to_3<S: Alter>(tx: &mut Transaction<'_, S>, alloc: Global) -> Result<u32, Fault>
     ensures migrates { MigratesFrom 2 S.Store tx.old tx.new result }
     ensures told { IfOk result (λ told. told ≡ 3) }
@@ -197,9 +196,8 @@ fn migrate_to_3<S: Alter>(tx: &mut Transaction<'_, S>, alloc: Global) -> Result<
     name_schema(tx, 3)
 }
 
-/// Makes the step that leads on from the schema that the tables have, and answers which they have
-/// then; those of the newest schema are left as they are. 90, 91; 93 also where the schema is not
-/// known.
+/// Makes the next step from the tables' schema and returns the resulting one; leaves the newest as
+/// it is. Faults 90, 91; 93 also for an unknown schema.
 fn migrate_on<S: Alter>(tx: &mut Transaction<'_, S>, alloc: Global) -> Result<u32, Fault>
     ensures { MigratesOnInside S.Store tx.old tx.new result }
 {
@@ -211,8 +209,8 @@ fn migrate_on<S: Alter>(tx: &mut Transaction<'_, S>, alloc: Global) -> Result<u3
     }
 }
 
-/// Makes one step in one transaction, all of it or nothing, and answers the schema that the tables
-/// have then. 90, 91, 93.
+/// Makes one step in one transaction, all or nothing, and returns the resulting schema. Faults 90,
+/// 91, 93.
 pub(crate) fn step<S: Alter>(conn: &mut Connection<S>, alloc: Global) -> Result<u32, Fault>
     requires { conn.old.in_transaction ≡ false }
     ensures { StepsOn S.Store conn.old conn.new result }
@@ -226,8 +224,8 @@ pub(crate) fn step<S: Alter>(conn: &mut Connection<S>, alloc: Global) -> Result<
     }
 }
 
-/// The number of the schema that the tables have. 91; 93 where there is no table `meta` of one row,
-/// or its number is none of 32 bits.
+/// Reads the schema number. Fault 91; 93 if there is no table `meta` of one row, or its number
+/// isn't of 32 bits.
 pub(crate) fn schema<S: Alter>(conn: &mut Connection<S>) -> Result<u32, Fault>
     requires { conn.old.in_transaction ≡ false }
     ensures { TellsSchema S.Store conn.old conn.new result }

@@ -1,4 +1,4 @@
-//! The rows that patrons' pages and reports show.
+//! Rows for patrons' pages and reports.
 
 ghost use Rattle.std.specs.Prelude.{◌≡◌};
 ghost use Rattle.terms.specs.Limits.{InLimits};
@@ -23,7 +23,7 @@ use terms::{
 };
 
 impl<S: Alter> Store<S> {
-    /// The open loans of a patron, the least number first. 90, 91, 93.
+    /// Reads a patron's open loans, by number. Faults 90, 91, 93.
     pub fn open_loans(&mut self, alloc: Global, patron: PatronId) -> Result<Vec<LoanRow>, Fault>
         ensures { Looked InLimits (λ P rows. AreLoansBy P patron rows.items) InLimits
             S.Store self.old self.new result }
@@ -32,7 +32,7 @@ impl<S: Alter> Store<S> {
         open_loans_by(&mut self.conn, alloc, patron)
     }
 
-    /// The waiting and the ready holds of a patron, the least number first. 90, 91, 93.
+    /// Reads a patron's waiting and ready holds, by number. Faults 90, 91, 93.
     pub fn active_holds(&mut self, alloc: Global, patron: PatronId) -> Result<Vec<HoldRow>, Fault>
         ensures { Looked InLimits (λ P rows. AreHoldsBy P patron rows.items) InLimits
             S.Store self.old self.new result }
@@ -41,8 +41,8 @@ impl<S: Alter> Store<S> {
         active_holds_by(&mut self.conn, alloc, patron)
     }
 
-    /// A batch of the ready holds with this pick-up branch whose numbers are above this one, the
-    /// least number first. Holds are numbered from 1. 90, 91, 93.
+    /// Reads a batch of ready holds with this pick-up branch above this number, by number. Holds
+    /// are numbered from 1. Faults 90, 91, 93.
     pub fn ready_holds(
         &mut self,
         alloc: Global,
@@ -56,8 +56,8 @@ impl<S: Alter> Store<S> {
         ready_holds_after(&mut self.conn, alloc, branch, after)
     }
 
-    /// A batch of the open loans that the branch made, that were due before the day and whose
-    /// numbers are above this one, the least number first. Loans are numbered from 1. 90, 91, 93.
+    /// Reads a batch of open loans that the branch made, due before the day, above this number, by
+    /// number. Loans are numbered from 1. Faults 90, 91, 93.
     pub fn overdue_loans(
         &mut self,
         alloc: Global,
@@ -72,8 +72,8 @@ impl<S: Alter> Store<S> {
         overdue_loans_after(&mut self.conn, alloc, branch, day, after)
     }
 
-    /// A batch of the lines of a day, of all sorts, whose numbers are above this one, the least
-    /// number first. Lines are numbered from 1. 90, 91, 93.
+    /// Reads a batch of a day's lines, of all sorts, above this number, by number. Lines are
+    /// numbered from 1. Faults 90, 91, 93.
     pub fn lines(&mut self, alloc: Global, day: Day, after: LineId) -> Result<Vec<LineRow>, Fault>
         ensures { Looked InLimits (λ P rows. AreLinesAfter P day after rows.items) InLimits
             S.Store self.old self.new result }
@@ -82,7 +82,7 @@ impl<S: Alter> Store<S> {
         lines_after(&mut self.conn, alloc, day, after)
     }
 
-    /// The one row of `meta`: today, and the next numbers. 91, 93.
+    /// Reads the one row of `meta`: today, and the next numbers. Faults 91, 93.
     pub fn meta(&mut self) -> Result<MetaRow, Fault>
         ensures { Looked InLimits (λ P row. row ≡ P.meta) InLimits
             S.Store self.old self.new result }
@@ -91,7 +91,7 @@ impl<S: Alter> Store<S> {
         get_meta(&mut self.conn)
     }
 
-    /// The row of a branch. 90, 91, 93.
+    /// Reads the row of a branch. Faults 90, 91, 93.
     pub fn branch(&mut self, alloc: Global, branch: BranchId) -> Result<Option<BranchRow>, Fault>
         ensures { Looked InLimits (λ P row. row ≡ P.branches branch) InLimits
             S.Store self.old self.new result }
@@ -100,7 +100,7 @@ impl<S: Alter> Store<S> {
         get_row::<BranchRow, S>(&mut self.conn, alloc, branch)
     }
 
-    /// The row of a title. 90, 91, 93.
+    /// Reads the row of a title. Faults 90, 91, 93.
     pub fn title(&mut self, alloc: Global, title: TitleId) -> Result<Option<TitleRow>, Fault>
         ensures { Looked InLimits (λ P row. row ≡ P.titles title) InLimits
             S.Store self.old self.new result }
@@ -109,7 +109,7 @@ impl<S: Alter> Store<S> {
         get_row::<TitleRow, S>(&mut self.conn, alloc, title)
     }
 
-    /// The row of a copy. 91, 93.
+    /// Reads the row of a copy. Faults 91, 93.
     pub fn copy(&mut self, copy: CopyId) -> Result<Option<CopyRow>, Fault>
         ensures { Looked InLimits (λ P row. row ≡ P.copies copy) InLimits
             S.Store self.old self.new result }
@@ -118,7 +118,7 @@ impl<S: Alter> Store<S> {
         get_row::<CopyRow, S>(&mut self.conn, (), copy)
     }
 
-    /// The calendar of a branch, if there is the branch. 90, 91, 93.
+    /// Reads the calendar of a branch, if it exists. Faults 90, 91, 93.
     pub fn calendar(&mut self, alloc: Global, branch: BranchId) -> Result<Option<Calendar>, Fault>
         ensures { Looked InLimits (λ P calendar. IsCalendarOf P branch calendar) IsReadable
             S.Store self.old self.new result }

@@ -1,4 +1,4 @@
-//! The tables, with no transaction under way between two calls.
+//! The store: tables without a transaction between calls.
 
 ghost use Rattle.std.specs.Prelude.{◌≡◌, ◌↔◌, Err, IsTrue, false, IfOk, IfErr};
 ghost use Rattle.std.specs.Prelude.{option_map};
@@ -26,7 +26,7 @@ use terms::{
     SCHEMA,
 };
 
-/// The tables of the desk, with no transaction under way between two calls.
+/// The tables of the desk, without a transaction between calls.
 pub struct Store<S: Alter> {
     pub(crate) conn: Connection<S>,
 }
@@ -50,8 +50,8 @@ impl<S: Alter + Drop> Drop for Store<S> {
     }
 }
 
-/// Whether a library of this schema can be opened: one of the newest, or of those before it, which
-/// can be led on.
+/// Returns whether a library of this schema can be opened: the newest, or an earlier one that can
+/// be migrated.
 fn is_known(schema: u32) -> bool
     ensures { IsTrue result ↔ IsKnown schema }
 {
@@ -59,8 +59,8 @@ fn is_known(schema: u32) -> bool
 }
 
 impl<S: Alter + Drop> Store<S> {
-    /// Makes the sixteen tables of a new library in one transaction: all of them empty, but for
-    /// the first row of `meta`. 91, also where a name is taken or a transaction is under way.
+    /// Creates the sixteen tables of a new library in one transaction: all empty, except the first
+    /// row of `meta`. Fault 91, also if a name is taken or a transaction is under way.
     pub fn create(mut conn: Connection<S>) -> Result<Store<S>, Fault>
         ensures created { IfOk result (CreatesLibrary S.Store conn) }
         ensures fault { IfErr result (λ fault. fault ≡ Fault.Database) }
@@ -73,9 +73,9 @@ impl<S: Alter + Drop> Store<S> {
         Ok(Store { conn })
     }
 
-    /// Takes tables that were made, of the newest schema or of an older one. 91, also where a
-    /// transaction is under way; 93 where there is no table `meta` of one row, or its schema is not
-    /// known, and never on tables of one that is.
+    /// Opens existing tables, of the newest or an older schema. Fault 91, also if a transaction is
+    /// under way; 93 if there is no table `meta` of one row or its schema is unknown, never for
+    /// tables of a known one.
     pub fn open(mut conn: Connection<S>) -> Result<Store<S>, Fault>
         ensures opened { IfOk result (OpensLibrary S.Store conn) }
         ensures stored { result ≡ Err Fault.Stored → RefusesLibrary S.Store conn }
@@ -92,7 +92,7 @@ impl<S: Alter + Drop> Store<S> {
 }
 
 impl<S: Alter> Store<S> {
-    /// The rows that the command needs, and no others. 90, 91, 93.
+    /// Reads exactly the rows that the command needs. Faults 90, 91, 93.
     pub fn view_for(&mut self, alloc: Global, command: &Command) -> Result<View, Fault>
         ensures view { Looked InLimits (λ P view. IsViewOf P command.now view) IsReadable
             S.Store self.old self.new result }
@@ -102,27 +102,27 @@ impl<S: Alter> Store<S> {
         viewing::view_for(&mut self.conn, alloc, command)
     }
 
-    /// Makes the changes of a decision and keeps the row of its request, in one transaction: all of
-    /// it or nothing. 91, and no other fault.
+    /// Makes a decision's changes and keeps its request's row in one transaction: all or nothing.
+    /// Fault 91 only.
     pub fn commit(&mut self, changes: &Changes<'_>, kept: &KeptPut<'_>) -> Result<(), Fault>
         ensures { Commits changes.now kept.now S.Store self.old self.new result }
     {
         changing::commit(&mut self.conn, changes, kept)
     }
 
-    /// The number of the schema that the tables have. 91; 93 where there is no table `meta` of one
-    /// row, or its number is none of 32 bits.
+    /// Reads the schema number. Fault 91; 93 if there is no table `meta` of one row, or its number
+    /// isn't of 32 bits.
     pub fn schema(&mut self) -> Result<u32, Fault>
         ensures { TellsSchema S.Store self.old self.new result }
     {
         migrating::schema(&mut self.conn)
     }
 
-    /// Migrates a library of an older schema to the newest one, in one transaction for each schema
-    /// between; one of the newest stays as it is. 90, 91; 93 where the schema is not known, or a
-    /// stored row lies out of its limits. After a fault the steps that were made stand, and the one
-    /// that met it changed nothing. Memory doesn't grow with the library, beyond what the database
-    /// takes for the changes of a transaction.
+    /// Migrates a library to the newest schema, in one transaction per schema step; the newest
+    /// stays as it is. Faults 90, 91; 93 if the schema is unknown, or a stored row is out of its
+    /// limits. After a fault the completed steps remain, and the one that met it changed nothing.
+    /// Memory doesn't grow with the library, beyond what the database needs for a transaction's
+    /// changes.
     pub fn migrate(&mut self, alloc: Global) -> Result<(), Fault>
         ensures { Migrates S.Store self.old self.new result }
     {
@@ -133,7 +133,7 @@ impl<S: Alter> Store<S> {
         Ok(())
     }
 
-    /// What is kept under a caller's key. 91, 93.
+    /// Reads what is kept under a caller's key. Faults 91, 93.
     pub fn kept(&mut self, owner: Owner, key: &Key) -> Result<Option<KeptReply>, Fault>
         ensures { Looked (λ _. IsOwner owner)
             (λ P kept. kept ≡ option_map reply_of (P.kept owner key.now))
@@ -143,7 +143,7 @@ impl<S: Alter> Store<S> {
         get_kept(&mut self.conn, owner, key)
     }
 
-    /// The row of a patron. 90, 91, 93.
+    /// Reads the row of a patron. Faults 90, 91, 93.
     pub fn patron(&mut self, alloc: Global, patron: PatronId) -> Result<Option<PatronRow>, Fault>
         ensures { Finds patrons patron S.Store self.old self.new result }
     {
@@ -151,7 +151,7 @@ impl<S: Alter> Store<S> {
         get_row::<PatronRow, S>(&mut self.conn, alloc, patron)
     }
 
-    /// The row of a loan. 91, 93.
+    /// Reads the row of a loan. Faults 91, 93.
     pub fn loan(&mut self, loan: LoanId) -> Result<Option<LoanRow>, Fault>
         ensures { Finds loans loan S.Store self.old self.new result }
     {
@@ -159,7 +159,7 @@ impl<S: Alter> Store<S> {
         get_row::<LoanRow, S>(&mut self.conn, (), loan)
     }
 
-    /// The row of a hold. 91, 93.
+    /// Reads the row of a hold. Faults 91, 93.
     pub fn hold(&mut self, hold: HoldId) -> Result<Option<HoldRow>, Fault>
         ensures { Finds holds hold S.Store self.old self.new result }
     {
@@ -167,8 +167,7 @@ impl<S: Alter> Store<S> {
         get_row::<HoldRow, S>(&mut self.conn, (), hold)
     }
 
-    /// Sets how many steps each later call of the database may take; with none there is no limit,
-    /// and 0 stands for 1.
+    /// Limits the steps of each later database call; `None` means no limit, and 0 counts as 1.
     pub fn limit_steps(&mut self, limit: Option<u64>)
         ensures { self.new ≡ record self.old { step_limit = limit_of limit } }
     {
@@ -179,7 +178,7 @@ impl<S: Alter> Store<S> {
         self.conn.set_step_limit(steps);
     }
 
-    /// Gives the connection back.
+    /// Returns the connection.
     pub fn into_connection(self) -> Connection<S>
         ensures same { result ≡ self }
         ensures idle { result.in_transaction ≡ false }

@@ -35,8 +35,8 @@ use terms::{
     TransitRow,
 };
 
-/// The calendar with these closed weekdays and these single closed days. 90; 93 where a day stands
-/// twice, or they are more than 400.
+/// Makes a calendar with these closed weekdays and single closed days. Fault 90; 93 if a day occurs
+/// twice or there are more than 400.
 fn calendar_with(alloc: Global, week: Weekdays, days: &[Day]) -> Result<Calendar, Fault>
     ensures made { IfOk result (λ c. (c.weekly ≡ week) × AreWeekdays c.weekly
         × ((d : ℕ) → has_day c.single d ≡ has_day days.now d) × (has_repeat c.single ≡ false)) }
@@ -50,7 +50,7 @@ fn calendar_with(alloc: Global, week: Weekdays, days: &[Day]) -> Result<Calendar
     }
 }
 
-/// The calendar of a branch with this row, if there is one.
+/// Reads the calendar of the branch with this row, if there is one.
 fn calendar_from<S: Alter>(
     conn: &mut Connection<S>,
     alloc: Global,
@@ -70,7 +70,7 @@ fn calendar_from<S: Alter>(
     }
 }
 
-/// The calendar of a branch, if there is the branch.
+/// Reads the calendar of a branch, if it exists.
 pub(crate) fn calendar_of<S: Alter>(
     conn: &mut Connection<S>,
     alloc: Global,
@@ -90,7 +90,7 @@ struct Shelf {
     calendar: Option<Calendar>,
 }
 
-/// A branch, and its calendar.
+/// Reads a branch and its calendar.
 fn shelf_at<S: Alter>(
     conn: &mut Connection<S>,
     alloc: Global,
@@ -104,7 +104,7 @@ fn shelf_at<S: Alter>(
     Ok(Shelf { branch, calendar })
 }
 
-/// The calendar of the branch that made the loan.
+/// Reads the calendar of the loan's branch.
 fn lender_calendar<S: Alter>(
     conn: &mut Connection<S>,
     alloc: Global,
@@ -119,7 +119,7 @@ fn lender_calendar<S: Alter>(
     }
 }
 
-/// The pick-up branch of a hold, and its calendar.
+/// Reads a hold's pick-up branch and its calendar.
 fn shelf_of<S: Alter>(
     conn: &mut Connection<S>,
     alloc: Global,
@@ -137,7 +137,7 @@ fn shelf_of<S: Alter>(
     }
 }
 
-/// The kind of a patron as it is now.
+/// Reads a patron's present kind.
 fn kind_of<S: Alter>(
     conn: &mut Connection<S>,
     patron: &Option<PatronRow>,
@@ -150,7 +150,7 @@ fn kind_of<S: Alter>(
     }
 }
 
-/// The rule for a patron and a copy.
+/// Reads the rule for a patron and a copy.
 fn rule_for<S: Alter>(
     conn: &mut Connection<S>,
     patron: &Option<PatronRow>,
@@ -168,7 +168,7 @@ fn rule_for<S: Alter>(
     }
 }
 
-/// The first hold in line for the title of a copy, where today is this day.
+/// Reads the first hold in the queue for a copy's title, if today is this day.
 fn first_for<S: Alter>(
     conn: &mut Connection<S>,
     copy: &Option<CopyRow>,
@@ -183,7 +183,7 @@ fn first_for<S: Alter>(
     }
 }
 
-/// How many active holds a patron has on the title of a copy.
+/// Counts a patron's active holds on a copy's title.
 fn holds_for<S: Alter>(
     conn: &mut Connection<S>,
     patron: PatronId,
@@ -197,7 +197,7 @@ fn holds_for<S: Alter>(
     }
 }
 
-/// The copy that is lent.
+/// Reads the lent copy.
 fn lent_copy<S: Alter>(
     conn: &mut Connection<S>,
     loan: &Option<LoanRow>,
@@ -210,7 +210,7 @@ fn lent_copy<S: Alter>(
     }
 }
 
-/// The borrower.
+/// Reads the borrower.
 fn borrower_of<S: Alter>(
     conn: &mut Connection<S>,
     alloc: Global,
@@ -224,7 +224,7 @@ fn borrower_of<S: Alter>(
     }
 }
 
-/// The row of the copy, where there is a number.
+/// Reads the copy, given a number.
 fn copy_if<S: Alter>(
     conn: &mut Connection<S>,
     copy: Option<CopyId>,
@@ -238,7 +238,7 @@ fn copy_if<S: Alter>(
     }
 }
 
-/// The row of the hold, where there is a number.
+/// Reads the hold, given a number.
 fn hold_if<S: Alter>(
     conn: &mut Connection<S>,
     hold: Option<HoldId>,
@@ -251,7 +251,7 @@ fn hold_if<S: Alter>(
     }
 }
 
-/// The copy that the hold names.
+/// Reads the copy that the hold names.
 fn named_copy<S: Alter>(
     conn: &mut Connection<S>,
     hold: &Option<HoldRow>,
@@ -264,7 +264,7 @@ fn named_copy<S: Alter>(
     }
 }
 
-/// The hold that the copy travels for.
+/// Reads the hold that the copy travels for.
 fn coming_hold<S: Alter>(
     conn: &mut Connection<S>,
     transit: &Option<TransitRow>,
@@ -277,7 +277,7 @@ fn coming_hold<S: Alter>(
     }
 }
 
-/// A copy, and the rows that claim it.
+/// Reads a copy and the rows that claim it.
 pub(crate) fn copy_view<S: Alter>(conn: &mut Connection<S>, number: CopyId) -> Result<View, Fault>
     ensures view { Views (λ P rows. IsCopyView P number rows) S.Store conn.old conn.new result }
     ensures only { IfOk result (HasOnly (Withdraw number)) }
@@ -296,13 +296,13 @@ pub(crate) fn copy_view<S: Alter>(conn: &mut Connection<S>, number: CopyId) -> R
     })
 }
 
-/// What the end of a loan asks of it.
+/// What the end of a loan needs.
 struct LoanEnd {
     lender: Option<Calendar>,
     patron: Option<PatronRow>,
 }
 
-/// The calendar of the branch that made the loan, and the borrower.
+/// Reads the calendar of the branch that made the loan, and the borrower.
 fn lender_of<S: Alter>(
     conn: &mut Connection<S>,
     alloc: Global,
@@ -408,7 +408,7 @@ fn cancel_hold_view<S: Alter>(conn: &mut Connection<S>, number: HoldId) -> Resul
     })
 }
 
-/// What lending a copy asks beside the rows of the patron and of the copy.
+/// What lending needs beside the patron's and the copy's rows.
 struct Lending {
     rule: Option<RuleRow>,
     first: Option<HoldRow>,
@@ -416,7 +416,7 @@ struct Lending {
     own_holds: Count,
 }
 
-/// The rule for a patron and a copy, the first in line for it, and how much the patron has.
+/// Reads the rule for a patron and a copy, the first in the queue, and how much the patron has.
 fn lending_of<S: Alter>(
     conn: &mut Connection<S>,
     number: PatronId,
@@ -504,14 +504,14 @@ fn renew_view<S: Alter>(
     })
 }
 
-/// What a patron has that stands against one more hold on a title.
+/// What may stand against a patron's new hold on a title.
 struct Obstacles {
     own_holds: Count,
     loan: Option<LoanRow>,
     active_holds: Count,
 }
 
-/// How many holds a patron has on the title and in all, and the loan of it.
+/// Counts a patron's holds on the title and in all, and reads the loan of it.
 fn obstacles_of<S: Alter>(
     conn: &mut Connection<S>,
     number: PatronId,
@@ -641,7 +641,7 @@ fn missing_view<S: Alter>(
     })
 }
 
-/// Today and the next numbers.
+/// Reads today and the next numbers.
 fn meta_view<S: Alter>(conn: &mut Connection<S>) -> Result<View, Fault>
     ensures view { Views (λ P rows. rows.meta ≡ P.meta) S.Store conn.old conn.new result }
     ensures only { (day : ℕ) → IfOk result (HasOnly (BeginDay day)) }
@@ -653,7 +653,7 @@ fn meta_view<S: Alter>(conn: &mut Connection<S>) -> Result<View, Fault>
     })
 }
 
-/// The row of a branch alone.
+/// Reads only a branch.
 fn branch_row_view<S: Alter>(
     conn: &mut Connection<S>,
     alloc: Global,
@@ -670,7 +670,7 @@ fn branch_row_view<S: Alter>(
     })
 }
 
-/// The row of a kind of patron alone.
+/// Reads only a kind of patron.
 fn kind_view<S: Alter>(conn: &mut Connection<S>, number: PatronKind) -> Result<View, Fault>
     ensures view { Views (λ P rows. rows.kind ≡ P.kinds number) S.Store conn.old conn.new result }
     ensures only { (copy_kind period renewals rate cap : ℕ)
@@ -683,7 +683,7 @@ fn kind_view<S: Alter>(conn: &mut Connection<S>, number: PatronKind) -> Result<V
     })
 }
 
-/// The circulation rule of a kind of patron and a kind of copy alone.
+/// Reads only the circulation rule of a kind of patron and a kind of copy.
 fn rule_view<S: Alter>(
     conn: &mut Connection<S>,
     kind: PatronKind,
@@ -700,7 +700,7 @@ fn rule_view<S: Alter>(
     })
 }
 
-/// The row of a patron alone.
+/// Reads only a patron.
 fn page_view<S: Alter>(
     conn: &mut Connection<S>,
     alloc: Global,
@@ -717,7 +717,7 @@ fn page_view<S: Alter>(
     })
 }
 
-/// The rows that the command needs, and no others.
+/// Reads exactly the rows that the command needs.
 pub(crate) fn view_for<S: Alter>(
     conn: &mut Connection<S>,
     alloc: Global,
