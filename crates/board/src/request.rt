@@ -78,7 +78,7 @@ impl SharedRequest {
         Ok(SharedRequest { told })
     }
 
-    /// The request.
+    /// Returns the request.
     pub fn get(&self) -> &Request
         ensures { result.now ≡ self.now }
     {

@@ -83,7 +83,7 @@ impl Day {
         ensures text { IfOk result (λ s. string_bytes s ≡ day_text self) }
         ensures date { IsDateOf (day_text self) self }
     {
-        // Reading the field gives the proof that the day is in the calendar.
+        // Reading the field shows the prover that the day is in the calendar.
         let _ = &self.number;
         format!(in alloc; "{self}")
     }

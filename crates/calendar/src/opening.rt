@@ -63,7 +63,7 @@ impl Calendar {
         ensures value { result ≡ record { weekly = weekly; single = [] } }
         ensures closings { AreClosings result }
     {
-        // Reading the mask gives the proof that some weekday is open.
+        // Reading the mask shows the prover that some weekday is open.
         let _closed = weekly.closed();
         Calendar {
             weekly,
@@ -139,7 +139,7 @@ impl Calendar {
         ensures found { day + 2806 ≤ LAST_DAY → IsSome result }
         ensures cost { steps.new ≤ steps.old + 409 }
     {
-        // Reading the number gives the proof that the day is in the calendar.
+        // Reading the number shows the prover that the day is in the calendar.
         let _number = day.number();
         let open = first_open(self.weekly, &self.single.counted(), day, steps);
         Day::new(open)
@@ -181,7 +181,7 @@ impl Calendar {
         ensures err { OnErr result (self.new ≡ self.old) }
         ensures closings { AreClosings self.new }
     {
-        // Reading the number gives the proof that the day is in the calendar.
+        // Reading the number shows the prover that the day is in the calendar.
         let _number = day.number();
         let Err(place) = uncounted_place::<Brand>(&self.single, day, Blank::new(1)) else {
             return Err(CloseError::AlreadyClosed);

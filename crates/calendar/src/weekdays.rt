@@ -83,7 +83,7 @@ impl Weekdays {
         ensures open { is_closed_weekday self result ≡ false }
         ensures closed { (k : ℕ) → number ≤ k → k < result → is_closed_weekday self k ≡ true }
     {
-        // Reading the mask gives the proof that some weekday is open.
+        // Reading the mask shows the prover that some weekday is open.
         let _closed = self.closed();
         let mut next = number;
         while self.is_closed_on(next) {

@@ -1,4 +1,4 @@
-//! `acquire`: a copy, and its title.
+//! `acquire`: adds a copy and its title.
 
 ghost use Rattle.std.specs.Prelude.{◌≡◌, [], ◌∷◌, ◌++◌, ◌+◌};
 ghost use Rattle.terms.specs.declared.reply.Reply.TheVariants.{Done};

@@ -1,4 +1,4 @@
-//! `close-day` and `open-day`: single closed days.
+//! `close-day` and `open-day`: set and clear single closed days.
 
 ghost use Rattle.std.specs.Prelude.{◌≡◌};
 ghost use Rattle.terms.specs.declared.reply.Reply.TheVariants.{Done};

@@ -1,4 +1,4 @@
-//! `grace`: the grace days of a circulation rule.
+//! `grace`: sets a circulation rule's grace days.
 
 ghost use Rattle.std.specs.Prelude.{◌≡◌};
 ghost use Rattle.terms.specs.declared.reply.Reply.TheVariants.{Done};

@@ -1,4 +1,4 @@
-//! `kind`: a kind of patron.
+//! `kind`: sets a kind of patron.
 
 ghost use Rattle.terms.specs.declared.reply.Reply.TheVariants.{Done};
 ghost use Rattle.circ_core.specs.Decided.{Decided};

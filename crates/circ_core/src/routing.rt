@@ -18,7 +18,7 @@ pub enum Course {
     HoldShelf(HoldRow),
     /// To the shelf of this branch, its home.
     Shelf,
-    /// On its way to a branch, for a hold or for none.
+    /// In transit to a branch, for a hold or for none.
     Transit(BranchId, Option<HoldId>),
 }
 

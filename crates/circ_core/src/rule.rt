@@ -1,4 +1,4 @@
-//! `rule`: a circulation rule.
+//! `rule`: sets a circulation rule.
 
 ghost use Rattle.std.specs.Prelude.{[], ◌∷◌};
 ghost use Rattle.terms.specs.declared.reply.Reply.TheVariants.{Done};

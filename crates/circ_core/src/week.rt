@@ -1,4 +1,4 @@
-//! `week`: the weekdays on which a branch is closed.
+//! `week`: sets a branch's closed weekdays.
 
 ghost use Rattle.terms.specs.declared.reply.Reply.TheVariants.{Done};
 ghost use Rattle.circ_core.specs.Decided.{Decided};

@@ -13,7 +13,7 @@ const HEADER: [u8; 16] = *b"SQLite format 3\0";
 /// The first bytes if the process stopped before writing the first page.
 const BLANK: [u8; 16] = [0; 16];
 
-/// The first bytes if the process stopped during the first page's write: the first byte comes last.
+/// The first bytes if the process stopped during the first page's write, as byte 0 is written last.
 const BEGUN: [u8; 16] = *b"\0QLite format 3\0";
 
 /// Reads the first 16 bytes, zero-padded; none if the file can't be read.

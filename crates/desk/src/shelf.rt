@@ -234,7 +234,7 @@ fn write_shelf<S: Alter, W: Write>(
 }
 
 /// Writes the shelf report of a branch; 10 where there is no such branch. 90, 91, 93, or a write
-/// failed: then a beginning of it may have gone out.
+/// failed: then a prefix of it may have gone out.
 pub(crate) fn shelf<S: Alter, W: Write>(
     store: &mut Store<S>,
     alloc: Global,

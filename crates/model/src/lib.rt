@@ -171,9 +171,9 @@ pub fn old_lists_law()
     ensures fines { FinesWithoutGrace }
 {}
 
-/// Migration leads the tables of a schema 1 library after a history to those of schema 2 after the
-/// same history, every hold keeping its state, copy and limit; and those of schema 2 to those of
-/// the newest schema, every rule and loan keeping its terms. They keep to the same limits. Each
+/// Migration turns the tables of a schema 1 library after a history into those of schema 2 after
+/// the same history, every hold keeping its state, copy and limit; and those of schema 2 into those
+/// of the newest schema, every rule and loan keeping its terms. They keep to the same limits. Each
 /// list of schema 1 is one of schema 2.
 pub fn old_tables_law()
     ensures led { OldTablesAreLed }

@@ -1,4 +1,4 @@
-//! The words of the desk: numbers, texts, rows, commands and replies, each with its form.
+//! The vocabulary of the desk: numbers, texts, rows, commands and replies, each with its form.
 #![tactic(auto)]
 
 mod borrowed_rows;

@@ -23,7 +23,7 @@ pub enum Routed {
         branch: BranchId,
         until: Day,
     },
-    /// On its way to a branch, for a hold or for none.
+    /// In transit to a branch, for a hold or for none.
     Transit {
         goal: BranchId,
         hold: Option<HoldId>,

@@ -171,7 +171,7 @@ pub struct HoldRow1 {
     pub limit_day: Option<Day>,
 }
 
-/// A row of `transits`: a copy on its way to a branch, for a hold or for none.
+/// A row of `transits`: a copy in transit to a branch, for a hold or for none.
 #[derive(Clone, Copy, Debug, PartialEq, Eq)]
 pub struct TransitRow {
     pub copy: CopyId,

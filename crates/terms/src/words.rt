@@ -61,7 +61,7 @@ fn read_mask(word: &str) -> Result<Mask, WordFault>
     ensures refused { result ≡ Err Refused → IsNoMask word.now }
 {
     let mask = Mask::read(word).ok_or(WordFault::NotUnderstood)?;
-    // Calling `closed` gives the proof that there are seven weekdays.
+    // Calling `closed` shows the prover that there are seven weekdays.
     let _ = mask.closed();
     Ok(mask)
 }

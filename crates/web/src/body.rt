@@ -1,4 +1,4 @@
-//! The body of a message.
+//! Reading message bodies.
 
 ghost use Rattle.std.specs.Prelude.{◌≤◌, ◌++◌, length, IfOk, IfErr, IfSome};
 ghost use Rattle.web.specs.Faults.{IsOwnFault};
