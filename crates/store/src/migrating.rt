@@ -225,7 +225,7 @@ pub(crate) fn step<S: Alter>(conn: &mut Connection<S>, alloc: Global) -> Result<
 }
 
 /// Reads the schema number. Fault 91; 93 if there is no table `meta` of one row, or its number
-/// isn't of 32 bits.
+/// doesn't fit 32 bits.
 pub(crate) fn schema<S: Alter>(conn: &mut Connection<S>) -> Result<u32, Fault>
     requires { conn.old.in_transaction ≡ false }
     ensures { TellsSchema S.Store conn.old conn.new result }

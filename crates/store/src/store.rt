@@ -111,7 +111,7 @@ impl<S: Alter> Store<S> {
     }
 
     /// Reads the schema number. Fault 91; 93 if there is no table `meta` of one row, or its number
-    /// isn't of 32 bits.
+    /// doesn't fit 32 bits.
     pub fn schema(&mut self) -> Result<u32, Fault>
         ensures { TellsSchema S.Store self.old self.new result }
     {
