@@ -1,5 +1,4 @@
-//! The program `circ`: the circulation desk of a town library, on the command line and over the
-//! web.
+//! The program `circ`: a town library's circulation desk, on the command line and over the web.
 #![tactic(auto)]
 
 use circ_runs::run;
