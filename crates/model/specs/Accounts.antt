@@ -1,4 +1,4 @@
--- Accounts: fines, prices, payments and waivers, and what is owed. Money is in cents.
+-- Accounts: fines, prices, payments, waivers and debts. Money is in cents.
 use Rattle.std.specs.Prelude.{ℕ, zero, suc, ◌+◌, ◌-◌, ◌==◌, List, [], ◌∷◌, ◌++◌, filter, sum_by, length, Option, Some, None, option_map, unwrap_or}
 use Rattle.terms.specs.declared.command.Command.{Command}
 use Rattle.terms.specs.declared.command.Command.TheVariants.{CheckIn, Missing, Pay, Waive}
@@ -11,7 +11,7 @@ use Rattle.model.specs.Places.{Place, place}
 use Rattle.model.specs.Places.Place.{Loan}
 use Rattle.model.specs.Loans.{loan_of, due, grace_of}
 
--- One line of an account. Its number is its place among the lines of all patrons.
+-- One line of an account. Its number is its position among all patrons' lines.
 pub record Line : Type 0 where
   pub patron : ℕ
   pub day : ℕ
@@ -19,12 +19,13 @@ pub record Line : Type 0 where
   pub amount : ℕ
   pub loan : Option ℕ
 
--- The fine of a loan that ends now: for the open days of the lending branch after the due day, by the loan's own terms and these grace days.
+-- The fine of a loan that ends now: for the lending branch's open days after the due day, by the loan's own
+-- terms and these grace days.
 abbrev pub fine_now : History → (ℕ → ℕ) → ℕ → ℕ
 fine_now H graces l =
     unwrap_or (option_map (λ r. fine_for (late (is_open H r.branch) (due H l) (today H)) r.terms.rate r.terms.cap (graces l)) (loan_of H l)) 0
 
--- The fine of a copy that leaves this place: that of its loan, if it was on one.
+-- The fine of a copy that leaves this place: its loan's, if it was on loan.
 abbrev pub fine_at : History → (ℕ → ℕ) → Place → ℕ
 fine_at H graces (Loan l) = fine_now H graces l
 fine_at H graces _ = 0
@@ -33,7 +34,7 @@ fine_at H graces _ = 0
 abbrev pub price_of : History → ℕ → ℕ
 price_of H c = unwrap_or (option_map (λ r. r.price) (copy_of H c)) 0
 
--- One line of today, or none for an amount of zero.
+-- One line dated today, or none if the amount is zero.
 abbrev pub line_of : History → ℕ → Sort → Option ℕ → ℕ → List Line
 line_of H p sort loan zero = []
 line_of H p sort loan (suc n) = record { patron = p; day = today H; sort = sort; amount = suc n; loan = loan } ∷ []
@@ -47,12 +48,12 @@ abbrev pub fine_line : History → (ℕ → ℕ) → Place → List Line
 fine_line H graces (Loan l) = line_of H (borrower H l) Fine (Some l) (fine_now H graces l)
 fine_line H graces _ = []
 
--- The price line of a copy that is lost from this place.
+-- The price line of a copy lost from this place.
 abbrev pub price_line : History → ℕ → Place → List Line
 price_line H c (Loan l) = line_of H (borrower H l) Price (Some l) (price_of H c)
 price_line H c _ = []
 
--- What a command posts to accounts: what a copy that comes back costs, or one that is lost, or what settles a part of what a patron owes.
+-- What a command posts to accounts: the cost of a returned or lost copy, or a settled part of a debt.
 pub data Posting : Type 0 where
   Returned : ℕ → Posting
   Lost : ℕ → Posting
@@ -66,14 +67,14 @@ posting (Pay p n) = Settled p Payment n
 posting (Waive p n) = Settled p Waiver n
 posting _ = NoPosting
 
--- The lines of a posting, by where copies are and the grace days of loans.
+-- The lines of a posting, given the places of copies and the grace days of loans.
 abbrev pub lines_posted : History → (ℕ → Place) → (ℕ → ℕ) → Posting → List Line
 lines_posted H places graces (Returned c) = fine_line H graces (places c)
 lines_posted H places graces (Lost c) = fine_line H graces (places c) ++ price_line H c (places c)
 lines_posted H places graces (Settled p sort n) = line_of H p sort None n
 lines_posted H places graces NoPosting = []
 
--- The lines that a command makes.
+-- The lines that a command adds.
 abbrev pub lines_by : History → Command → List Line
 lines_by H c = lines_posted H (place H) (grace_of H) (posting c)
 
@@ -85,7 +86,7 @@ lines_then H places graces made before = before ++ lines_posted H places graces 
 abbrev pub lines_after : History → Posting → List Line → List Line
 lines_after H made before = lines_then H (place H) (grace_of H) made before
 
--- All lines of all patrons, the oldest first.
+-- All lines of all patrons, oldest first.
 abbrev pub lines : History → List Line
 lines [] = []
 lines (e ∷ H) = lines_after H (posting e.command) (lines H)
@@ -101,7 +102,7 @@ nth_line (x ∷ xs) zero = None
 nth_line (x ∷ xs) (suc zero) = Some x
 nth_line (x ∷ xs) (suc (suc n)) = nth_line xs (suc n)
 
--- Of all lines those of a patron, in order.
+-- A patron's lines among all lines, in order.
 abbrev pub account_in : List Line → ℕ → List Line
 account_in all p = filter (λ x. x.patron == p) all
 

@@ -17,23 +17,23 @@ use Rattle.model.specs.Refusals.{checks_by}
 use Rattle.model.specs.Pages.{page_by}
 use Rattle.model.specs.Asking.{asked}
 
--- The place that routing gave, with the limit of a hold that becomes ready.
+-- The place that routing gave, with the shelf limit if a hold becomes ready.
 abbrev pub routed : History → Place → Routed
 routed H (Shelf b) = ToShelf b
 routed H (HoldShelf h) = ToHoldShelf h (goal_of H h) (unwrap_or (limit_now H h) 0)
 routed H (Transit g h) = ToTransit g h
 routed H _ = ToShelf 0
 
--- Where the copy goes that stands on the hold shelf for h.
+-- Where the copy on the hold shelf for h goes.
 abbrev pub unshelved : History → Sight → ℕ → Routed
 unshelved H s h = routed H (route_seen H s (unwrap_or (kept_for_seen H s h) 0) (goal_of H h))
 
--- What is charged for a missing copy: the fine and the price if it was on loan, and else nothing.
+-- The charges for a missing copy: fine and price if it was on loan, otherwise none.
 abbrev pub missed : History → (ℕ → ℕ) → ℕ → Place → Reply
 missed H graces c (Loan l) = Lost (fine_at H graces (Loan l)) (price_of H c)
 missed H graces c _ = Done
 
--- The reply to a command that isn't refused, by what the list shows.
+-- The reply to a command that isn't refused, given the sight.
 abbrev pub accepted_by : History → Sight → Command → Reply
 accepted_by H s (CheckOut p c b) = Lent (next_loan H) (unwrap_or (first_due H p c b) 0)
 accepted_by H s (CheckIn c b) = CheckedIn (fine_at H s.grace (s.place c)) (routed H (route_seen H s c b))
@@ -48,14 +48,14 @@ accepted_by H s (Page p) = Shown (page_by H s p)
 accepted_by H s (Ask question) = Shown (asked H question)
 accepted_by H s _ = Done
 
--- The reply to a command that isn't refused after a list.
+-- The reply to a command that isn't refused after a history.
 abbrev pub accepted : History → Command → Reply
 accepted H c = accepted_by H (sight H) c
 
--- The answer, by what the list shows: the refusal, or else the reply.
+-- The answer, given the sight: the refusal, or else the reply.
 abbrev pub answer_by : History → Sight → Owner → Command → Reply
 answer_by H s o c = elim (first_failing (checks_by H s o c)) [ Some refused ↦ Refused refused | None ↦ accepted_by H s c ]
 
--- The answer after a list.
+-- The answer after a history.
 abbrev pub answer : History → Owner → Command → Reply
 answer H o c = answer_by H (sight H) o c

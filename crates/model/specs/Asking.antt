@@ -1,4 +1,4 @@
--- What the desk is shown that asks: where copies are, whose turn it is, and who owes what.
+-- What the desk's questions show: where copies are, who is next, and who owes what.
 use Rattle.std.specs.Prelude.{ℕ, ◌==◌, nat_lt, Bool, true, false, ◌&&◌, if◌then◌else◌, List, [], ◌∷◌, ◌++◌, map, filter, take, drop, length}
 use Rattle.std.specs.Prelude.{slice_get, codes, decimal, Option, Some, None, is_some, option_map, unwrap_or}
 use Rattle.std.specs.List.{join_with_byte}
@@ -18,23 +18,23 @@ use Rattle.model.specs.Reports.{overdue_head, overdue_loans, overdue_line, shelf
 
 -- ---- lists
 
--- A list that can be asked for: its head, the numbers of its rows, rising, and the row of each number.
+-- A list that can be asked for: its head, its row numbers, ascending, and the row of each number.
 pub record Listing : Type 0 where
   pub head : List (List ℕ)
   pub numbers : List ℕ
   pub row : ℕ → List ℕ
 
--- The last of the numbers, or the one before them where there are none.
+-- The last of the numbers, or `before` if there are none.
 abbrev pub last_of : ℕ → List ℕ → ℕ
 last_of before [] = before
 last_of before (n ∷ ns) = last_of n ns
 
--- How a part of a list ends: with `end`, or with the last number that is shown where there are others to come.
+-- The last line of a part of a list: `end`, or the last number shown if more follow.
 abbrev pub end_line : List ℕ → List ℕ → List ℕ
 end_line shown [] = codes "end"
 end_line shown (next ∷ others) = spaced (codes "after" ∷ decimal (last_of 0 shown) ∷ [])
 
--- A part of a list, parted by newlines: its head, the rows that are shown, and its end.
+-- A part of a list, its lines separated by newlines: head, rows shown, last line.
 abbrev pub part_of_list : Listing → List ℕ → List ℕ → List ℕ
 part_of_list x shown others = join_with_byte 10 (x.head ++ map x.row shown ++ end_line shown others ∷ [])
 
@@ -42,28 +42,28 @@ part_of_list x shown others = join_with_byte 10 (x.head ++ map x.row shown ++ en
 abbrev pub above : ℕ → List ℕ → List ℕ
 above after numbers = filter (λ n. nat_lt after n) numbers
 
--- Of the numbers above this one the first hundred, which are shown, and the others, which are left.
+-- The first hundred of the numbers above this one, which are shown, and the rest, which are left.
 abbrev pub shown_from : List ℕ → ℕ → List ℕ
 shown_from numbers after = take MOST_ROWS (above after numbers)
 
 abbrev pub left_from : List ℕ → ℕ → List ℕ
 left_from numbers after = drop MOST_ROWS (above after numbers)
 
--- What is shown of a list that is asked for from a number on.
+-- What a list shows when asked for after a number.
 abbrev pub listed : Listing → ℕ → List ℕ
 listed x after = part_of_list x (shown_from x.numbers after) (left_from x.numbers after)
 
--- A number, put in its place among rising numbers, once.
+-- Inserts a number into ascending numbers, unless it is there.
 abbrev pub put_in : ℕ → List ℕ → List ℕ
 put_in n [] = n ∷ []
 put_in n (m ∷ ms) = if nat_lt n m then n ∷ m ∷ ms else (if n == m then m ∷ ms else m ∷ put_in n ms)
 
--- The numbers, rising, each once.
+-- The numbers, ascending, without duplicates.
 abbrev pub rising : List ℕ → List ℕ
 rising [] = []
 rising (n ∷ ns) = put_in n (rising ns)
 
--- The first of the numbers, if there is one.
+-- The first of the numbers, if any.
 abbrev pub first_of : List ℕ → Option ℕ
 first_of numbers = slice_get numbers 0
 
@@ -79,12 +79,12 @@ abbrev pub is_shelf_of : ℕ → Place → Bool
 is_shelf_of b (Shelf n) = n == b
 is_shelf_of b _ = false
 
--- The place is in transit to this branch.
+-- The place is transit to this branch.
 abbrev pub is_bound_to : ℕ → Place → Bool
 is_bound_to b (Transit n h) = n == b
 is_bound_to b _ = false
 
--- The hold for which a copy is in this place on its way.
+-- The hold that a copy in this place travels for.
 abbrev pub travels_for : Place → Option ℕ
 travels_for (Transit n h) = h
 travels_for _ = None
@@ -98,12 +98,12 @@ sort_word Price = codes "price"
 sort_word Payment = codes "payment"
 sort_word Waiver = codes "waiver"
 
--- The first day of a hold that has one.
+-- The first day of a hold, if it has one.
 abbrev pub from_words : Option ℕ → List (List ℕ)
 from_words None = []
 from_words (Some day) = codes "from" ∷ day_text day ∷ []
 
--- The hold that a copy travels for, if it travels for one.
+-- The hold that a copy travels for, if any.
 abbrev pub for_words : Option ℕ → List (List ℕ)
 for_words None = []
 for_words (Some h) = codes "for" ∷ decimal h ∷ []
@@ -120,19 +120,19 @@ module _ (H : History) where
   place_words WithdrawnCopy = codes "withdrawn" ∷ []
   place_words Nowhere = []
 
-  -- The patron for whom a copy is where it is: that of its hold or its loan.
+  -- The patron of a copy in this place: its hold's or its loan's.
   abbrev pub patron_at : Place → Option ℕ
   patron_at (HoldShelf h) = Some (patron_of_hold H h)
   patron_at (Transit b h) = option_map (patron_of_hold H) h
   patron_at (Loan l) = Some (borrower H l)
   patron_at _ = None
 
-  -- The number and name of a patron, if there is one.
+  -- The number and name of a patron, if any.
   abbrev pub patron_words : Option ℕ → List (List ℕ)
   patron_words None = []
   patron_words (Some p) = codes "patron" ∷ decimal p ∷ name_of H p ∷ []
 
-  -- The loan and the title that a line of an account is for, if it is for one.
+  -- The loan and title of an account line, if it is for a loan.
   abbrev pub loan_words : Option ℕ → List (List ℕ)
   loan_words None = []
   loan_words (Some l) = codes "loan" ∷ decimal l ∷ title_words H (title_of_loan H l)
@@ -164,7 +164,7 @@ module _ (H : History) where
     row = λ c. spaced (codes "copy" ∷ decimal c ∷ place_words H (place H c));
   }
 
-  -- The line of a title, with where each hold is to be picked up.
+  -- The line of a title, with the pick-up branch of each hold.
   abbrev pub queue_list : ℕ → Listing
   queue_list t = record {
     head = spaced (title_words H t) ∷ [];
@@ -178,11 +178,11 @@ module _ (H : History) where
   account_line n = unwrap_or (option_map (λ x. spaced (codes "line" ∷ decimal n ∷ day_text x.day ∷ sort_word x.sort ∷ decimal x.amount ∷ loan_words H x.loan))
       (nth_line (lines H) n)) []
 
-  -- It is the patron's.
+  -- The line is this patron's.
   abbrev pub is_line_of : ℕ → ℕ → Bool
   is_line_of p n = unwrap_or (option_map (λ x. x.patron == p) (nth_line (lines H) n)) false
 
-  -- The account of a patron, under what the patron owes.
+  -- A patron's account, headed by what the patron owes.
   abbrev pub account_list : ℕ → Listing
   account_list p = record {
     head = patron_line H p ∷ [];
@@ -205,7 +205,8 @@ module _ (H : History) where
   abbrev pub shelf_list : ℕ → Listing
   shelf_list b = record { head = shelf_head ∷ []; numbers = ready_holds H b; row = shelf_line H }
 
-  -- The copy that is to be taken from the shelves of the branch for a hold which is first in line: the least that stands there of the title.
+  -- The copy to pull from the branch's shelves for a hold that is first in line: the lowest number of its
+  -- title there.
   abbrev pub pulled_for : ℕ → ℕ → Option ℕ
   pulled_for b h = elim (is_first (line H (title_of_hold H h)) h)
       [ true ↦ first_of (filter (λ c. (title_of_copy H c == title_of_hold H h) && is_shelf_of b (place H c)) (rising (copies H))) | false ↦ None ]
@@ -225,7 +226,7 @@ module _ (H : History) where
     row = λ c. spaced (codes "copy" ∷ decimal c ∷ for_words (travels_for (place H c)) ++ title_words H (title_of_copy H c));
   }
 
--- What is shown to the desk that asks, after a list.
+-- What a question shows after a history.
 abbrev pub asked : History → Question → List ℕ
 asked H (question.Copy c) = join_with_byte 10 (copy_line H c ∷ place_line H (place H c) ∷ [])
 asked H (question.Copies t after) = listed (copies_list H t) after

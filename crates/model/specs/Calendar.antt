@@ -9,7 +9,7 @@ use Rattle.calendar.specs.Openings.{weekday}
 abbrev pub is_single : List ℕ → ℕ → Bool
 is_single singles d = list_any (λ e. e == d) singles
 
--- A day of the calendar is open unless its weekday is closed or it is closed singly.
+-- A day of the calendar is open unless its weekday is closed or the day itself is.
 abbrev pub opens : List Bool → List ℕ → ℕ → Bool
 opens week singles d =
     elim (nat_le FIRST_DAY d && (nat_le d LAST_DAY && not (slice_index_or week (weekday d) false))) [ true ↦ not (is_single singles d) | false ↦ false ]
@@ -19,7 +19,7 @@ abbrev pub least_within : (ℕ → Bool) → ℕ → ℕ → Option ℕ
 least_within test zero d = None
 least_within test (suc n) d = elim (test d) [ true ↦ Some d | false ↦ least_within test n (suc d) ]
 
--- The least day from d on that passes the test, if the calendar has one.
+-- The first day from d on that passes the test, if the calendar has one.
 abbrev pub least : (ℕ → Bool) → ℕ → Option ℕ
 least test d = least_within test (suc LAST_DAY - d) d
 
@@ -35,6 +35,6 @@ abbrev pub open_days : (ℕ → Bool) → ℕ → ℕ → ℕ
 open_days test d zero = 0
 open_days test d (suc n) = open_days test d n + (if test (d + suc n) then 1 else 0)
 
--- How many open days lie after the due day, up to the day t.
+-- The number of open days after the due day, up to and including the day t.
 abbrev pub late : (ℕ → Bool) → ℕ → ℕ → ℕ
 late test due t = open_days test due (t - due)

@@ -1,4 +1,4 @@
--- That the words of the crate of days and calendars mean what they mean here.
+-- The definitions of the crate `calendar` agree with those here.
 use Rattle.std.specs.Prelude.{◌≡◌, ℕ, ◌↔◌, Some}
 use Rattle.calendar.specs.Openings.{Closings, is_open, IsLeastOpen, open_days_after}
 use Rattle.model.specs.Calendar.{opens, least, late}
@@ -15,7 +15,7 @@ SameLeastDay = (c : Closings) (d e : ℕ) → (least (opens c.weekly c.single) d
 abbrev pub SameLateDays : Type 0
 SameLateDays = (c : Closings) (due today : ℕ) → late (opens c.weekly c.single) due today ≡ open_days_after c due today
 
--- Open days, the least one and the late ones are the same.
+-- Open days, the least open day and the late days are the same.
 pub record CalendarsAgree : Type 0 where
   pub open_days : SameOpenDays
   pub least_day : SameLeastDay

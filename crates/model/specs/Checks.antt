@@ -15,7 +15,7 @@ abbrev pub first_failing : List Check → Option Refusal
 first_failing [] = None
 first_failing (k ∷ ks) = elim k.1 [ true ↦ Some k.0 | false ↦ first_failing ks ]
 
--- The number is at least the one and at most the other.
+-- The number is from low to high, both included.
 abbrev pub is_within : ℕ → ℕ → ℕ → Bool
 is_within low high n = nat_le low n && nat_le n high
 
@@ -27,7 +27,7 @@ is_small_number n = is_within 1 LAST_SMALL_NUMBER n
 abbrev pub is_large_number : ℕ → Bool
 is_large_number n = is_within 1 LAST_LARGE_NUMBER n
 
--- The numbers of the command that have limits are within them.
+-- Each limited number of the command is within its limits.
 abbrev pub is_within_limits : Command → Bool
 is_within_limits (Branch branch pickup name) = is_small_number branch && is_within 0 LONGEST_PICKUP pickup
 is_within_limits (Kind kind loans holds debt) =

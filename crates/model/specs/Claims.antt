@@ -1,4 +1,4 @@
--- The claims that tables make on a copy. On the shelf there is none.
+-- The claims that tables make on a copy. They make none on a copy on the shelf.
 use Rattle.std.specs.Prelude.{◌≡◌, ℕ, Some, None}
 use Rattle.terms.specs.declared.row.LoanRow.{LoanRow}
 use Rattle.terms.specs.declared.row.HoldRow.{HoldRow}
@@ -22,13 +22,13 @@ Claims t c (Shelf b) = ⊥
 abbrev pub AtMostOne : Picture → ℕ → Type 0
 AtMostOne t c = (p q : Place) → Claims t c p → Claims t c q → p ≡ q
 
--- The copy is somewhere else than on a shelf.
+-- The copy is somewhere other than on a shelf.
 abbrev pub IsAway : Place → Type 0
 IsAway Nowhere = ⊥
 IsAway (Shelf b) = ⊥
 IsAway _ = Unit {0}
 
--- The tables make at most one claim on the copy, that of this place; on the shelf none.
+-- The tables make at most one claim on the copy, that of this place; none if it is on the shelf.
 pub record IsInOnePlace (t : Picture) (c : ℕ) (at : Place) : Type 0 where
   pub one : AtMostOne t c
   pub named : (other : Place) → Claims t c other → other ≡ at

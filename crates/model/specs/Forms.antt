@@ -1,4 +1,4 @@
--- What every command that can be sent keeps to, and what the rows of a legal history keep to then.
+-- The form of every command that can be sent, and the limits that this gives the rows of a legal history.
 use Rattle.std.specs.Prelude.{List, [], ◌∷◌}
 use Rattle.terms.specs.declared.command.Request.{Request}
 use Rattle.terms.specs.Forms.{IsKey}
@@ -9,28 +9,28 @@ use Rattle.model.specs.DueDays.{HasWholeWeeks}
 use Rattle.model.specs.Picture.{picture}
 use Rattle.model.specs.Requests.{IsLegal, after}
 
--- Each command of the history, and each key, has the form that every one that can be sent has.
+-- Each command and key of the history has the form of those that can be sent.
 abbrev pub HasForms : History → Type 0
 HasForms [] = Unit {0}
 HasForms (e ∷ H) = IsCommand e.command × IsKey e.key × HasForms H
 
--- Each command of the requests, and each key, has its form.
+-- Each command and key of the requests has its form.
 abbrev pub AskForms : List Request → Type 0
 AskForms [] = Unit {0}
 AskForms (r ∷ rs) = IsCommand r.command × IsKey r.key × AskForms rs
 
--- Requests that have their forms keep those of the history.
+-- Requests in form keep the history in form.
 abbrev pub FormsStay : Type 0
 FormsStay = (H : History) (rs : List Request) → HasForms H → AskForms rs → HasForms (after H rs)
 
--- Where commands have their forms, each week command tells of each of the seven weekdays.
+-- If the commands have their forms, each week command covers all seven weekdays.
 abbrev pub FormsAreWhole : Type 0
 FormsAreWhole = (H : History) → HasForms H → HasWholeWeeks H
 
--- After a legal history no branch is closed singly on more days than it can be.
+-- After a legal history no branch has more single closed days than allowed.
 abbrev pub FewClosedDays : Type 0
 FewClosedDays = (H : History) → IsLegal H → ClosesFewDays (picture H)
 
--- Every column of every row of a legal history lies in its limits.
+-- In every row of a legal history, each column is within its limits.
 abbrev pub RowsInLimits : Type 0
 RowsInLimits = (H : History) → IsLegal H → HasForms H → InLimits (picture H)

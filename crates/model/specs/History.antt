@@ -1,4 +1,4 @@
--- The list of accepted events, the newest first, and what its commands have set.
+-- The list of accepted events, newest first, and what its commands set.
 use Rattle.calendar.specs.declared.limits.TheConstants.{FIRST_DAY}
 use Rattle.std.specs.Prelude.{ℕ, zero, suc, ◌+◌, ◌==◌, nat_le, Bool, true, false, ◌&&◌, not, if◌then◌else◌, List, [], ◌∷◌, ◌++◌, filter}
 use Rattle.std.specs.Prelude.{Option, Some, None, is_none, option_map, replicate}
@@ -8,17 +8,17 @@ use Rattle.terms.specs.declared.command.Command.{Command}
 use Rattle.terms.specs.declared.command.Command.TheVariants.{BeginDay, Branch, Week, CloseDay, OpenDay, Kind, Rule, Grace, Patron, Acquire, CheckOut, PlaceHold}
 use Rattle.model.specs.Calendar.{opens}
 
--- An accepted changing command, with its key and whose key it is.
+-- An accepted command that changes something, with its key and the key's owner.
 pub record Event : Type 0 where
   pub owner : Owner
   pub key : List ℕ
   pub command : Command
 
--- Events, the newest first.
+-- Events, newest first.
 abbrev pub History : Type 0
 History = List Event
 
--- The numbers from 1 to n, rising.
+-- The numbers from 1 to n, ascending.
 abbrev pub numbers_to : ℕ → List ℕ
 numbers_to zero = []
 numbers_to (suc n) = numbers_to n ++ (suc n) ∷ []
@@ -30,7 +30,7 @@ abbrev pub today_after : Command → ℕ → ℕ
 today_after (BeginDay d) before = d
 today_after _ before = before
 
--- Today is the day of the last begin-day, and the calendar's first day in a new library.
+-- Today is the day of the last begin-day; in a new library, the calendar's first day.
 abbrev pub today : History → ℕ
 today [] = FIRST_DAY
 today (e ∷ H) = today_after e.command (today H)
@@ -40,18 +40,18 @@ abbrev pub week_after : Command → ℕ → List Bool → List Bool
 week_after (Week n closed) b before = if n == b then closed else before
 week_after _ b before = before
 
--- The closed weekdays of a branch, Monday first, are those of its last week, and none in a new branch.
+-- The closed weekdays of a branch, Monday first: those of its last week command, none in a new branch.
 abbrev pub week_of : History → ℕ → List Bool
 week_of [] b = replicate 7 false
 week_of (e ∷ H) b = week_after e.command b (week_of H b)
 
--- A close-day adds a single day to those of its branch, and an open-day takes it away.
+-- A close-day adds a single day to its branch's; an open-day removes it.
 abbrev pub singles_after : Command → ℕ → List ℕ → List ℕ
 singles_after (CloseDay n d) b before = if n == b then d ∷ before else before
 singles_after (OpenDay n d) b before = if n == b then filter (λ e. not (d == e)) before else before
 singles_after _ b before = before
 
--- The days that the branch has closed singly and not opened again.
+-- The days that were closed singly at the branch and not reopened.
 abbrev pub singles_of : History → ℕ → List ℕ
 singles_of [] b = []
 singles_of (e ∷ H) b = singles_after e.command b (singles_of H b)
@@ -73,7 +73,8 @@ pub record KindFacts : Type 0 where
   pub holds : ℕ
   pub debt : ℕ
 
--- A rule's terms: the loan period in days, the renewals, the cents for each day late, up to a cap, and the grace days, within which being late costs nothing.
+-- A rule's terms: the loan period in days, the renewals, the cents for each day late, the cap, and the grace
+-- days, for which lateness costs nothing.
 pub record Terms : Type 0 where
   pub period : ℕ
   pub renewals : ℕ
@@ -94,7 +95,7 @@ pub record CopyFacts : Type 0 where
   pub home : ℕ
   pub price : ℕ
 
--- A branch command makes its branch if there is none yet.
+-- A branch command makes its branch unless it exists.
 abbrev pub branch_after : Command → ℕ → Option BranchFacts → Option BranchFacts
 branch_after (Branch n pickup name) b before = option_or before (if n == b then Some (record { pickup = pickup; name = name }) else None)
 branch_after _ b before = before
@@ -118,30 +119,32 @@ kind_of (e ∷ H) k = kind_after e.command k (kind_of H k)
 abbrev pub with_grace : ℕ → Terms → Terms
 with_grace days r = record r { grace = days }
 
--- A rule command sets the terms of its two kinds, with no grace days, and a grace command sets the grace days of the rule that is there.
+-- A rule command sets the terms of its two kinds, with no grace days; a grace command sets the grace days of
+-- an existing rule.
 abbrev pub rule_after : Command → ℕ → ℕ → Option Terms → Option Terms
 rule_after (Rule n m period renewals rate cap) k c before =
     if (n == k) && (m == c) then Some (record { period = period; renewals = renewals; rate = rate; cap = cap; grace = 0 }) else before
 rule_after (Grace n m days) k c before = if (n == k) && (m == c) then option_map (with_grace days) before else before
 rule_after _ k c before = before
 
--- The rule of a patron kind and a copy kind is what its last rule command set, with the grace days of its last grace command since then.
+-- The rule of a patron kind and a copy kind: set by its last rule command, with the grace days of the last
+-- grace command since.
 abbrev pub rule_of : History → ℕ → ℕ → Option Terms
 rule_of [] k c = None
 rule_of (e ∷ H) k c = rule_after e.command k c (rule_of H k c)
 
--- A patron command enrols its patron if that isn't done yet.
+-- A patron command enrols its patron unless enrolled.
 abbrev pub patron_after : Command → ℕ → Option PatronFacts → Option PatronFacts
 patron_after (Patron n kind card_key name) p before =
     option_or before (if n == p then Some (record { kind = kind; card_key = card_key; name = name }) else None)
 patron_after _ p before = before
 
--- A patron is what the first command made.
+-- A patron is what the first patron command made.
 abbrev pub patron_of : History → ℕ → Option PatronFacts
 patron_of [] p = None
 patron_of (e ∷ H) p = patron_after e.command p (patron_of H p)
 
--- An acquire makes its title if there is none yet.
+-- An acquire makes its title unless it exists.
 abbrev pub title_after : Command → ℕ → Option (List ℕ) → Option (List ℕ)
 title_after (Acquire copy n kind home price text) t before = option_or before (if n == t then Some text else None)
 title_after _ t before = before
@@ -151,7 +154,7 @@ abbrev pub title_of : History → ℕ → Option (List ℕ)
 title_of [] t = None
 title_of (e ∷ H) t = title_after e.command t (title_of H t)
 
--- An acquire makes its copy if there is none yet.
+-- An acquire makes its copy unless it exists.
 abbrev pub copy_after : Command → ℕ → Option CopyFacts → Option CopyFacts
 copy_after (Acquire n title kind home price text) c before =
     option_or before (if n == c then Some (record { title = title; kind = kind; home = home; price = price }) else None)
@@ -184,12 +187,12 @@ patrons (e ∷ H) = patrons_after H e.command (patrons H)
 
 -- ---- numbers given in order
 
--- A check-out makes one loan more.
+-- A check-out makes one more loan.
 abbrev pub loans_after : Command → ℕ → ℕ
 loans_after (CheckOut patron copy branch) before = before + 1
 loans_after _ before = before
 
--- How many loans were made.
+-- The number of loans made.
 abbrev pub loans : History → ℕ
 loans [] = 0
 loans (e ∷ H) = loans_after e.command (loans H)
@@ -198,14 +201,14 @@ loans (e ∷ H) = loans_after e.command (loans H)
 abbrev pub next_loan : History → ℕ
 next_loan H = loans H + 1
 
--- A hold: who placed it, on which title, where it is to be picked up, and from which day on, if it isn't wanted at once.
+-- A hold: who placed it, on which title, where to pick it up, and from which day, if not at once.
 pub record HoldFacts : Type 0 where
   pub patron : ℕ
   pub title : ℕ
   pub branch : ℕ
   pub first_day : Option ℕ
 
--- A hold without a first day has begun at once, and any other on its first day.
+-- A hold has begun at once if it has no first day, otherwise on that day.
 abbrev pub has_begun : ℕ → Option ℕ → Bool
 has_begun today None = true
 has_begun today (Some day) = nat_le day today
@@ -215,12 +218,12 @@ abbrev pub hold_made : Command → Option HoldFacts
 hold_made (PlaceHold p t b d) = Some (record { patron = p; title = t; branch = b; first_day = d })
 hold_made _ = None
 
--- One hold more, where one is made.
+-- One more hold, if one is made.
 abbrev pub holds_after : Option HoldFacts → ℕ → ℕ
 holds_after (Some made) before = before + 1
 holds_after None before = before
 
--- How many holds were placed.
+-- The number of holds placed.
 abbrev pub holds : History → ℕ
 holds [] = 0
 holds (e ∷ H) = holds_after (hold_made e.command) (holds H)
@@ -229,12 +232,12 @@ holds (e ∷ H) = holds_after (hold_made e.command) (holds H)
 abbrev pub next_hold : History → ℕ
 next_hold H = holds H + 1
 
--- A hold that is made has the next number.
+-- A new hold gets the next number.
 abbrev pub hold_after : History → Option HoldFacts → ℕ → Option HoldFacts → Option HoldFacts
 hold_after H (Some made) h before = if next_hold H == h then Some made else before
 hold_after H None h before = before
 
--- Hold n is the n-th that was made.
+-- Hold n is the n-th made.
 abbrev pub hold_of : History → ℕ → Option HoldFacts
 hold_of [] h = None
 hold_of (e ∷ H) h = hold_after H (hold_made e.command) h (hold_of H h)

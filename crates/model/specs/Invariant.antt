@@ -18,24 +18,25 @@ Serves (HoldShelf g) h = g ≡ h
 Serves (Transit b (Some g)) h = g ≡ h
 Serves _ h = ⊥
 
--- A hold that a copy in this place serves is ready, or it waits and the copy goes to its branch.
+-- A hold served by a copy in this place is ready, or it waits and the copy goes to its branch.
 abbrev pub Fits : (ℕ → ℕ) → Place → ℕ → Option HoldState → Type 0
 Fits goal (HoldShelf g) h s = s ≡ Some Ready
 Fits goal (Transit b (Some g)) h s = (s ≡ Some Waiting) × (goal h ≡ b)
 Fits goal _ h s = Unit {0}
 
--- The bindings of copies and holds: one copy at most serves a hold, the hold is as that needs, and each ready hold has its copy.
+-- The bindings of copies and holds: at most one copy serves a hold, in a state that fits; each ready hold has
+-- its copy.
 pub record Bound (goal : ℕ → ℕ) (places : ℕ → Place) (states : ℕ → Option HoldState) : Type 0 where
   pub once : (c d h : ℕ) → Serves (places c) h → Serves (places d) h → c ≡ d
   pub fits : (c h : ℕ) → Serves (places c) h → Fits goal (places c) h (states h)
   pub kept : (h : ℕ) → states h ≡ Some Ready → (c : ℕ) × (places c ≡ HoldShelf h)
 
--- What every legal history keeps.
+-- The invariant of every legal history.
 pub record Invariant (H : History) : Type 0 where
   -- Today lies in the calendar, and not at its very end.
   pub today_from : FIRST_DAY ≤ today H
   pub today_to : today H ≤ LAST_TODAY
-  -- A branch that isn't there has no closed days; no branch has a single day twice, or too many.
+  -- A branch that doesn't exist has no closed days; no branch has a single day twice, or too many.
   pub unset : (b : ℕ) → branch_of H b ≡ None → (week_of H b ≡ replicate 7 false) × (singles_of H b ≡ [])
   pub singles_once : (b : ℕ) → IsDistinct ◌==◌ (singles_of H b)
   pub few_singles : (b : ℕ) → length (singles_of H b) ≤ MOST_CLOSED_DAYS
@@ -44,16 +45,16 @@ pub record Invariant (H : History) : Type 0 where
   pub terms : (k c : ℕ) (t : Terms) → rule_of H k c ≡ Some t → (t.period ≤ LONGEST_PERIOD) × (t.cap ≤ HIGHEST_CAP)
   pub loan_caps : (l : ℕ) (r : LoanFacts) → loan_of H l ≡ Some r → r.terms.cap ≤ HIGHEST_CAP
   pub prices : (c : ℕ) (r : CopyFacts) → copy_of H c ≡ Some r → r.price ≤ HIGHEST_PRICE
-  -- Borrowers are enrolled, and nobody has lines who isn't.
+  -- Borrowers are enrolled; a patron who isn't has no lines.
   pub borrowers : (l : ℕ) (r : LoanFacts) → loan_of H l ≡ Some r → patron_of H r.patron ≡ None → ⊥
   pub strangers : (p : ℕ) → patron_of H p ≡ None → account H p ≡ []
-  -- A debt is what the charges leave, and no more than the highest price for each line.
+  -- Credits never exceed charges, and a debt is at most the highest price for each line.
   pub covered : (p : ℕ) → credits (account H p) ≤ charges (account H p)
   pub debts : (p : ℕ) → owed H p ≤ HIGHEST_PRICE * length (lines H)
-  -- A copy on loan is that of an open loan, and the copy of an open loan is on it.
+  -- A copy on loan belongs to an open loan, and an open loan's copy is on that loan.
   pub on_loan : (c l : ℕ) → place H c ≡ Loan l → (r : LoanFacts) × (loan_of H l ≡ Some r) × (r.copy ≡ c) × (ended H l ≡ None)
   pub open_loan : (l : ℕ) (r : LoanFacts) → loan_of H l ≡ Some r → ended H l ≡ None → place H r.copy ≡ Loan l
-  -- Numbers are given in order, and not past their end.
+  -- Numbers are given in order, up to the last number.
   pub made_loan : (l : ℕ) (r : LoanFacts) → loan_of H l ≡ Some r → (1 ≤ l) × (l ≤ loans H)
   pub loan_numbered : (l : ℕ) → 1 ≤ l → l ≤ loans H → (r : LoanFacts) × (loan_of H l ≡ Some r)
   pub fresh_loan : (l : ℕ) → loans H < l → (renewals H l ≡ 0) × (ended H l ≡ None)
@@ -70,10 +71,10 @@ pub record Invariant (H : History) : Type 0 where
   pub unknown : (c : ℕ) → copy_of H c ≡ None → place H c ≡ Nowhere
   -- A copy on the shelf is at home.
   pub at_home : (c b : ℕ) → place H c ≡ Shelf b → home_of H c ≡ b
-  -- The bindings of copies and holds, and that they are of one title.
+  -- The bindings of copies and holds; a hold and the copy that serves it have the same title.
   pub bound : Bound (goal_of H) (place H) (state H)
   pub of_title : (c h : ℕ) → Serves (place H c) h → title_of_hold H h ≡ title_of_copy H c
 
--- Every legal history has it.
+-- Every legal history keeps the invariant.
 abbrev pub Invariants : Type 0
 Invariants = (H : History) → IsLegal H → Invariant H

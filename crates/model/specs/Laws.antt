@@ -20,7 +20,7 @@ use Rattle.terms.specs.Texts.{request_text}
 use Rattle.terms.specs.Callers.{owner_of}
 use Rattle.model.specs.Requests.{IsLegal, is_allowed, only_asks, adds, after_one, reply_to, after}
 
--- The history after any requests is legal.
+-- Handling any requests keeps a history legal.
 abbrev pub StaysLegal : Type 0
 StaysLegal = (H : History) (rs : List Request) → IsLegal H → IsLegal (after H rs)
 
@@ -28,7 +28,8 @@ StaysLegal = (H : History) (rs : List Request) → IsLegal H → IsLegal (after 
 abbrev pub Balance : Type 0
 Balance = (H : History) (p : ℕ) → IsLegal H → charges (account H p) ≡ credits (account H p) + owed H p
 
--- A hold is ready exactly if a copy stands on its hold shelf, and then only one does; one copy at most travels for it, to its branch.
+-- A hold is ready exactly if a copy stands on its hold shelf, and then only one does; at most one copy
+-- travels for it, to its branch.
 pub record IsBinding (H : History) (h : ℕ) : Type 0 where
   pub ready : (state H h ≡ Some Ready) ↔ ((c : ℕ) × (place H c ≡ HoldShelf h))
   pub one_copy : (c d : ℕ) → place H c ≡ HoldShelf h → place H d ≡ HoldShelf h → c ≡ d
@@ -39,11 +40,11 @@ pub record IsBinding (H : History) (h : ℕ) : Type 0 where
 abbrev pub Bindings : Type 0
 Bindings = (H : History) (h : ℕ) → IsLegal H → IsBinding H h
 
--- The tables show every copy in one place, that of its last accepted movement.
+-- The tables show every copy in one place: where its last accepted movement left it.
 abbrev pub Places : Type 0
 Places = (H : History) (c : ℕ) → IsLegal H → IsInOnePlace (picture H) c (place H c)
 
--- The holds that have a row, and so one state, are those of the numbers given.
+-- The holds with a row, and so with one state, are those whose numbers were given.
 abbrev pub HoldRows : Type 0
 HoldRows = (H : History) (h : ℕ) → IsLegal H → is_some ((picture H).holds h) ≡ is_within 1 (holds H) h
 
@@ -54,7 +55,7 @@ is_final Cancelled = true
 is_final Expired = true
 is_final _ = false
 
--- A hold in a final state stays in it, whatever is asked of the desk.
+-- A hold in a final state stays in it, whatever is requested.
 abbrev pub FinalStates : Type 0
 FinalStates = (H : History) (rs : List Request) (h : ℕ) (s : HoldState) → IsLegal H → is_final s ≡ true → state H h ≡ Some s → state (after H rs) h ≡ Some s
 
@@ -62,19 +63,21 @@ FinalStates = (H : History) (rs : List Request) (h : ℕ) (s : HoldState) → Is
 abbrev pub stands_in_line : History → ℕ → ℕ → Bool
 stands_in_line H t h = list_any (λ g. g == h) (line H t)
 
--- A hold that an accepted command takes out of a line, otherwise than by cancelling it, was the first of that line before.
+-- A hold that leaves a line by an accepted command, other than its cancellation, was the first of that line.
 abbrev pub FirstInLineIsServed : Type 0
 FirstInLineIsServed = (e : Event) (H : History) (t h : ℕ) → IsLegal (e ∷ H) → e.command ≢ CancelHold h
     → stands_in_line H t h ≡ true → stands_in_line (e ∷ H) t h ≡ false → (hs : List ℕ) × (line H t ≡ h ∷ hs)
 
--- A request that repeats an accepted one, with the same key of the same owner and the same text, adds nothing and gets the first one's reply.
+-- A request that repeats an accepted one (same owner, key and text) adds nothing and gets the first one's
+-- reply.
 abbrev pub RepeatsActOnce : Type 0
 RepeatsActOnce = (H : History) (first again : Request) (between : List Request) → adds H first ≡ true
     → owner_of again.caller ≡ owner_of first.caller → again.key ≡ first.key → request_text again.command ≡ request_text first.command
     → only_asks again.command ≡ false → is_allowed (after H (first ∷ between)) again.caller again.command ≡ true
     → (after_one (after H (first ∷ between)) again ≡ after H (first ∷ between)) × (reply_to (after H (first ∷ between)) again ≡ reply_to H first)
 
--- Two histories agree on a patron: on the patron's own row, the open loans, the active holds, and the copies and titles of these.
+-- Two histories agree on a patron: on the patron's own row, debt, open loans and active holds, with their
+-- copies and titles.
 pub record AgreesOn (H K : History) (p : ℕ) : Type 0 where
   pub patron : patron_of H p ≡ patron_of K p
   pub debt : owed H p ≡ owed K p
@@ -88,17 +91,17 @@ pub record AgreesOn (H K : History) (p : ℕ) : Type 0 where
   pub states : (h : ℕ) → list_any (λ k. k == h) (active_holds H p) ≡ true → state H h ≡ state K h
   pub held_texts : (h : ℕ) → list_any (λ k. k == h) (active_holds H p) ≡ true → title_of H (title_of_hold H h) ≡ title_of K (title_of_hold K h)
 
--- Two histories that agree on a patron give the patron the same page.
+-- Histories that agree on a patron give the patron the same page.
 abbrev pub OwnRows : Type 0
 OwnRows = (H K : History) (p : ℕ) → AgreesOn H K p → page H p ≡ page K p
 
--- A picture keeps a patron's own rows of the one before it: the patron's row is the same, and each loan and each hold that
--- it shows of the patron stood so before.
+-- A picture keeps a patron's own rows from the one before: the patron's row is the same, and each loan and
+-- hold that it shows of the patron was there before, unchanged.
 pub record KeepsOwnRows (P Q : Picture) (p : ℕ) : Type 0 where
   pub patron : P.patrons p ≡ Q.patrons p
   pub loans : (l : ℕ) (r : LoanRow) → Q.loans l ≡ Some r → r.patron ≡ p → P.loans l ≡ Some r
   pub holds : (h : ℕ) (r : HoldRow) → Q.holds h ≡ Some r → r.patron ≡ p → P.holds h ≡ Some r
 
--- A legal history agrees with the one before its last event on each patron whose own rows its picture keeps.
+-- A legal history agrees with the one before its last event on each patron whose own rows it keeps.
 abbrev pub KeptRowsAgree : Type 0
 KeptRowsAgree = (e : Event) (H : History) (p : ℕ) → IsLegal (e ∷ H) → KeepsOwnRows (picture H) (picture (e ∷ H)) p → AgreesOn H (e ∷ H) p

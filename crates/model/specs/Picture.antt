@@ -1,4 +1,4 @@
--- The rows that the tables of the newest schema hold after a history.
+-- The rows in the tables of the newest schema after a history.
 use Rattle.std.specs.Prelude.{ℕ, Bool, true, false, List, Option, Some, None, option_map, option_and_then}
 use Rattle.terms.specs.declared.limits.TheConstants.{SCHEMA}
 use Rattle.terms.specs.declared.command.Owner.{Owner}
@@ -39,11 +39,11 @@ abbrev pub transit_at : ℕ → Place → Option TransitRow
 transit_at c (Transit g h) = Some (record { copy = c; goal = g; hold = h })
 transit_at c _ = None
 
--- A copy and a limit day stand in a ready hold's row alone.
+-- Only a ready hold's row has a copy and a limit day.
 abbrev pub if_ready : {A : Type 0} → Option HoldState → Option A → Option A
 if_ready s x = elim (is_ready s) [ true ↦ x | false ↦ None ]
 
--- The columns of a loan, by what it was made with, its due day, the renewals that are left, and its end.
+-- The columns of a loan, from its facts, its due day, the renewals left, and its end.
 abbrev pub loan_with : ℕ → ℕ → ℕ → Option ℕ → LoanFacts → LoanRow
 loan_with l until left end r =
     record {
@@ -61,7 +61,7 @@ loan_with l until left end r =
       grace = r.terms.grace;
     }
 
--- The columns of a hold, by its state, the copy and the limit that it has while it is ready, and what was asked for.
+-- The columns of a hold, from its facts and state, and its copy and limit while it is ready.
 abbrev pub hold_with : ℕ → HoldState → Option ℕ → Option ℕ → HoldFacts → HoldRow
 hold_with h s kept until r =
     record {
@@ -75,7 +75,7 @@ hold_with h s kept until r =
       first_day = r.first_day;
     }
 
--- The row of a hold, which there is where the hold has a state.
+-- The row of a hold, which exists if the hold has a state.
 abbrev pub hold_by : ℕ → Option HoldFacts → Option HoldState → Option ℕ → Option ℕ → Option HoldRow
 hold_by h facts state kept until = option_and_then (λ s. option_map (hold_with h s kept until) facts) state
 
@@ -168,7 +168,8 @@ module _ (H : History) where
   abbrev pub kept_row : Owner → List ℕ → Option KeptRow
   kept_row o k = option_map (kept_columns o k) (kept_of H o k)
 
-  -- What the tables hold. The rules, the loans and the holds are in their newest tables, and those of older schemas are empty.
+  -- The contents of the tables. Rules, loans and holds are in their newest tables; those of older schemas are
+  -- empty.
   abbrev pub picture : Picture
   picture = record {
     meta = meta_row;

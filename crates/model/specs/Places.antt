@@ -1,4 +1,4 @@
--- Where each copy is, how each hold stands, and the lines of the titles.
+-- Where each copy is, the state of each hold, and the lines of titles.
 use Rattle.std.specs.Prelude.{ℕ, ◌+◌, ◌==◌, Bool, true, false, ◌&&◌, not, List, [], ◌∷◌, filter, find, Option, Some, None, is_none}
 use Rattle.std.specs.Prelude.{option_map, option_and_then, unwrap_or}
 use Rattle.std.specs.List.{list_any}
@@ -10,8 +10,8 @@ use Rattle.model.specs.Calendar.{least}
 use Rattle.model.specs.History.{History, numbers_to, today, is_open, branch_of, copy_of, copies, next_loan, HoldFacts, has_begun, hold_made}
 use Rattle.model.specs.History.{holds, next_hold, hold_of}
 
--- The one place that a copy is in: on the shelf of a branch, on the hold shelf for a hold, in transit to a branch
--- for a hold or for none, on a loan, missing or withdrawn. A copy never acquired is nowhere.
+-- The one place of a copy: on a branch's shelf, on the hold shelf for a hold, in transit to a branch (for a
+-- hold or none), on a loan, missing or withdrawn. A copy never acquired is nowhere.
 pub data Place : Type 0 where
   Nowhere : Place
   Shelf : ℕ → Place
@@ -28,22 +28,22 @@ abbrev pub is_kept_for : Place → ℕ → Bool
 is_kept_for (HoldShelf g) h = g == h
 is_kept_for _ h = false
 
--- The place is in transit for h.
+-- The place is transit for h.
 abbrev pub is_bound_for : Place → ℕ → Bool
 is_bound_for (Transit b (Some g)) h = g == h
 is_bound_for _ h = false
 
--- The state is that of a waiting hold.
+-- The hold waits.
 abbrev pub is_waiting : Option HoldState → Bool
 is_waiting (Some Waiting) = true
 is_waiting _ = false
 
--- The state is that of a ready hold.
+-- The hold is ready.
 abbrev pub is_ready : Option HoldState → Bool
 is_ready (Some Ready) = true
 is_ready _ = false
 
--- ---- facts of a number, with 0 where there is none
+-- ---- facts by number, 0 if there are none
 
 -- The title of a copy.
 abbrev pub title_of_copy : History → ℕ → ℕ
@@ -61,7 +61,7 @@ title_of_hold H h = unwrap_or (option_map (λ r. r.title) (hold_of H h)) 0
 abbrev pub patron_of_hold : History → ℕ → ℕ
 patron_of_hold H h = unwrap_or (option_map (λ r. r.patron) (hold_of H h)) 0
 
--- The branch where a hold is to be picked up.
+-- The pick-up branch of a hold.
 abbrev pub goal_of : History → ℕ → ℕ
 goal_of H h = unwrap_or (option_map (λ r. r.branch) (hold_of H h)) 0
 
@@ -69,11 +69,12 @@ goal_of H h = unwrap_or (option_map (λ r. r.branch) (hold_of H h)) 0
 abbrev pub first_day_of : History → ℕ → Option ℕ
 first_day_of H h = option_and_then (λ r. r.first_day) (hold_of H h)
 
--- Whether the first day of a hold has come, or it has none.
+-- Whether a hold's first day has come, or it has none.
 abbrev pub is_begun : History → ℕ → Bool
 is_begun H h = has_begun (today H) (first_day_of H h)
 
--- The shelf limit of a hold that becomes ready now: the least open day of its pick-up branch from the end of the pick-up period.
+-- The shelf limit of a hold that becomes ready now: its pick-up branch's least open day from the end of the
+-- pick-up period.
 abbrev pub limit_now : History → ℕ → Option ℕ
 limit_now H h = least (is_open H (goal_of H h)) (today H + unwrap_or (option_map (λ r. r.pickup) (branch_of H (goal_of H h))) 0)
 
@@ -81,42 +82,43 @@ limit_now H h = least (is_open H (goal_of H h)) (today H + unwrap_or (option_map
 abbrev pub limit_at : History → Place → ℕ → Option ℕ → Option ℕ
 limit_at H p h before = elim (is_kept_for p h) [ true ↦ limit_now H h | false ↦ before ]
 
--- ---- lines and routing, by the places and states before, and by which holds have begun
+-- ---- lines and routing, given the places and states before, and which holds have begun
 
 module _ (H : History) (places : ℕ → Place) (states : ℕ → Option HoldState) (begun : ℕ → Bool) where
   -- A hold is coming while a copy is in transit for it.
   abbrev pub is_coming_by : ℕ → Bool
   is_coming_by h = list_any (λ c. is_bound_for (places c) h) (copies H)
 
-  -- The waiting holds of the title that aren't coming and have begun, least number first.
+  -- The title's waiting holds that have begun and aren't coming, lowest number first.
   abbrev pub line_by : ℕ → List ℕ
   line_by t = filter (λ h. elim (title_of_hold H h == t)
       [ true ↦ is_waiting (states h) && (not (is_coming_by h) && begun h) | false ↦ false ]) (numbers_to (holds H))
 
-  -- The first in line gets the copy, at once or by transit; with no line it goes home.
+  -- The first in line gets the copy, at once or by transit; if nobody is in line it goes home.
   abbrev pub route_to : ℕ → ℕ → List ℕ → Place
   route_to c b (h ∷ hs) = elim (goal_of H h == b) [ true ↦ HoldShelf h | false ↦ Transit (goal_of H h) (Some h) ]
   route_to c b [] = elim (home_of H c == b) [ true ↦ Shelf b | false ↦ Transit (home_of H c) None ]
 
-  -- A copy in transit for a hold comes to its hold shelf at the goal and stays as it is elsewhere; any other copy goes to the line of its title.
+  -- A copy in transit for a hold goes on its hold shelf at the goal, and stays in transit elsewhere; any
+  -- other copy goes to the line of its title.
   abbrev pub route_from : ℕ → ℕ → Place → Place
   route_from c b (Transit g (Some h)) = elim (g == b) [ true ↦ HoldShelf h | false ↦ Transit g (Some h) ]
   route_from c b _ = route_to c b (line_by (title_of_copy H c))
 
-  -- The place of a copy that is handed in at the branch.
+  -- The place of a copy handed in at the branch.
   abbrev pub route_by : ℕ → ℕ → Place
   route_by c b = route_from c b (places c)
 
-  -- The copy that stands on the hold shelf for h.
+  -- The copy on the hold shelf for h.
   abbrev pub kept_for_by : ℕ → Option ℕ
   kept_for_by h = find (λ c. is_kept_for (places c) h) (copies H)
 
-  -- A check-out from the shelf fills the first hold in line if it is the patron's.
+  -- A check-out from the shelf fills the first hold in line if it is this patron's.
   abbrev pub fills_first : ℕ → List ℕ → ℕ → Bool
   fills_first p [] h = false
   fills_first p (g ∷ gs) h = (g == h) && (patron_of_hold H g == p)
 
-  -- A check-out from a hold shelf fills the hold of that shelf.
+  -- A check-out from a hold shelf fills that shelf's hold; one from the shelf may fill the first in line.
   abbrev pub fills_from : ℕ → ℕ → Place → ℕ → Bool
   fills_from p c (HoldShelf g) h = g == h
   fills_from p c (Shelf b) h = fills_first p (line_by (title_of_copy H c)) h
@@ -126,11 +128,11 @@ module _ (H : History) (places : ℕ → Place) (states : ℕ → Option HoldSta
   abbrev pub fills_by : ℕ → ℕ → ℕ → Bool
   fills_by p c h = fills_from p c (places c) h
 
-  -- A copy that stood on the hold shelf for g is routed at the pick-up branch of g.
+  -- A copy on the hold shelf for g is routed at the pick-up branch of g.
   abbrev pub place_unshelved : ℕ → ℕ → Place
   place_unshelved g c = elim (is_kept_for (places c) g) [ true ↦ route_by c (goal_of H g) | false ↦ places c ]
 
-  -- A copy that travelled for g goes on for no hold.
+  -- A copy that travelled for g travels on for no hold.
   abbrev pub place_let_go : ℕ → Place → Place
   place_let_go g (Transit b (Some h)) = elim (g == h) [ true ↦ Transit b None | false ↦ Transit b (Some h) ]
   place_let_go g p = p
@@ -157,7 +159,7 @@ module _ (H : History) (places : ℕ → Place) (states : ℕ → Option HoldSta
   state_unshelved g ends None h = elim (g == h) [ true ↦ Some ends | false ↦ states h ]
   state_unshelved g ends (Some c) h = elim (g == h) [ true ↦ Some ends | false ↦ state_at (route_by c (goal_of H g)) h ]
 
-  -- How a command that makes no hold leaves one.
+  -- The state of a hold after a command that makes none.
   abbrev pub state_moved : Command → ℕ → Option HoldState
   state_moved (CheckOut p c b) h = elim (fills_by p c h) [ true ↦ Some Filled | false ↦ states h ]
   state_moved (CheckIn c b) h = state_at (route_by c b) h
@@ -167,12 +169,12 @@ module _ (H : History) (places : ℕ → Place) (states : ℕ → Option HoldSta
   state_moved (Missing c) h = elim (is_kept_for (places c) h) [ true ↦ Some Waiting | false ↦ states h ]
   state_moved _ h = states h
 
-  -- A hold that is made waits.
+  -- A new hold waits.
   abbrev pub state_made : Option HoldFacts → Command → ℕ → Option HoldState
   state_made (Some made) c h = elim (next_hold H == h) [ true ↦ Some Waiting | false ↦ states h ]
   state_made None c h = state_moved c h
 
-  -- How a command leaves a hold.
+  -- The state of a hold after a command.
   abbrev pub state_after : Command → ℕ → Option HoldState
   state_after c h = state_made (hold_made c) c h
 
@@ -181,7 +183,7 @@ module _ (H : History) (places : ℕ → Place) (states : ℕ → Option HoldSta
   unshelved_to_by g (Some c) = route_by c (goal_of H g)
   unshelved_to_by g None = Nowhere
 
-  -- The commands that may bring a copy to a hold shelf may set a limit.
+  -- Commands that may bring a copy to a hold shelf may set a limit.
   abbrev pub limit_after_by : Command → ℕ → Option ℕ → Option ℕ
   limit_after_by (CheckIn c b) h before = limit_at H (route_by c b) h before
   limit_after_by (Unshelve g) h before = limit_at H (unshelved_to_by g (kept_for_by g)) h before
@@ -205,7 +207,8 @@ abbrev mutual
 abbrev pub is_coming : History → ℕ → Bool
 is_coming H h = is_coming_by H (place H) (state H) (is_begun H) h
 
--- The line of a title: its waiting holds that aren't coming and have no first day after today, least number first.
+-- The line of a title: its waiting holds that aren't coming and have no first day after today, lowest number
+-- first.
 abbrev pub line : History → ℕ → List ℕ
 line H t = line_by H (place H) (state H) (is_begun H) t
 
@@ -225,11 +228,11 @@ fills H p c h = fills_by H (place H) (state H) (is_begun H) p c h
 abbrev pub unshelved_to : History → ℕ → Option ℕ → Place
 unshelved_to H g c = unshelved_to_by H (place H) (state H) (is_begun H) g c
 
--- The shelf limit that a command leaves a hold.
+-- The shelf limit of a hold after a command.
 abbrev pub limit_after : History → Command → ℕ → Option ℕ → Option ℕ
 limit_after H c h before = limit_after_by H (place H) (state H) (is_begun H) c h before
 
--- The shelf limit of a hold, as it was set when the hold last became ready.
+-- The shelf limit of a hold, as set when the hold last became ready.
 abbrev pub limit : History → ℕ → Option ℕ
 limit [] h = None
 limit (e ∷ H) h = limit_after H e.command h (limit H h)

@@ -1,4 +1,4 @@
--- That the rows which a row names are there.
+-- Every row that another row names exists.
 use Rattle.std.specs.Prelude.{◌≡◌, ℕ, true, List, Some, is_some}
 use Rattle.terms.specs.declared.command.Owner.{Owner}
 use Rattle.terms.specs.declared.command.Owner.TheVariants.{Patron as Reader}
@@ -14,53 +14,53 @@ use Rattle.model.specs.History.{History}
 use Rattle.model.specs.Picture.{Picture, picture}
 use Rattle.model.specs.Requests.{IsLegal}
 
--- Each column that names a row of another table names one that is there.
+-- Each column that names a row of another table names an existing one.
 pub record HasReferences (T : Picture) : Type 0 where
-  -- The branch of a day closed singly is there.
+  -- The branch of a single closed day exists.
   pub closed_day_branch : (b d : ℕ) → T.closed_days b d ≡ true → is_some (T.branches b) ≡ true
-  -- The patron kind of a rule is there.
+  -- The patron kind of a rule exists.
   pub rule_kind : (k c : ℕ) (r : RuleRow) → T.rules k c ≡ Some r → is_some (T.kinds r.kind) ≡ true
-  -- The kind of a patron is there.
+  -- The kind of a patron exists.
   pub patron_kind : (p : ℕ) (r : PatronRow) → T.patrons p ≡ Some r → is_some (T.kinds r.kind) ≡ true
-  -- The title of a copy is there.
+  -- The title of a copy exists.
   pub copy_title : (c : ℕ) (r : CopyRow) → T.copies c ≡ Some r → is_some (T.titles r.title) ≡ true
-  -- The home branch of a copy is there.
+  -- The home branch of a copy exists.
   pub copy_home : (c : ℕ) (r : CopyRow) → T.copies c ≡ Some r → is_some (T.branches r.home) ≡ true
-  -- The copy of a loan is there.
+  -- The copy of a loan exists.
   pub loan_copy : (l : ℕ) (r : LoanRow) → T.loans l ≡ Some r → is_some (T.copies r.copy) ≡ true
-  -- The patron of a loan is there.
+  -- The patron of a loan exists.
   pub loan_patron : (l : ℕ) (r : LoanRow) → T.loans l ≡ Some r → is_some (T.patrons r.patron) ≡ true
-  -- The lending branch of a loan is there.
+  -- The lending branch of a loan exists.
   pub loan_branch : (l : ℕ) (r : LoanRow) → T.loans l ≡ Some r
       → is_some (T.branches r.branch) ≡ true
-  -- The patron of a hold is there.
+  -- The patron of a hold exists.
   pub hold_patron : (h : ℕ) (r : HoldRow) → T.holds h ≡ Some r → is_some (T.patrons r.patron) ≡ true
-  -- The title of a hold is there.
+  -- The title of a hold exists.
   pub hold_title : (h : ℕ) (r : HoldRow) → T.holds h ≡ Some r → is_some (T.titles r.title) ≡ true
-  -- The pick-up branch of a hold is there.
+  -- The pick-up branch of a hold exists.
   pub hold_branch : (h : ℕ) (r : HoldRow) → T.holds h ≡ Some r
       → is_some (T.branches r.branch) ≡ true
-  -- The copy that a hold's row names, if it names one, is there.
+  -- The copy that a hold's row names, if any, exists.
   pub hold_copy : (h c : ℕ) (r : HoldRow) → T.holds h ≡ Some r → r.copy ≡ Some c
       → is_some (T.copies c) ≡ true
-  -- The copy of a transit is there.
+  -- The copy of a transit exists.
   pub transit_copy : (c : ℕ) (r : TransitRow) → T.transits c ≡ Some r
       → is_some (T.copies r.copy) ≡ true
-  -- The branch to which a transit goes is there.
+  -- The goal branch of a transit exists.
   pub transit_goal : (c : ℕ) (r : TransitRow) → T.transits c ≡ Some r
       → is_some (T.branches r.goal) ≡ true
-  -- The hold of a transit, if it is for one, is there.
+  -- The hold of a transit, if it is for one, exists.
   pub transit_hold : (c h : ℕ) (r : TransitRow) → T.transits c ≡ Some r → r.hold ≡ Some h
       → is_some (T.holds h) ≡ true
-  -- The patron of a line is there.
+  -- The patron of a line exists.
   pub line_patron : (n : ℕ) (r : LineRow) → T.lines n ≡ Some r → is_some (T.patrons r.patron) ≡ true
-  -- The loan of a line, if it is for one, is there.
+  -- The loan of a line, if it is for one, exists.
   pub line_loan : (n l : ℕ) (r : LineRow) → T.lines n ≡ Some r → r.loan ≡ Some l
       → is_some (T.loans l) ≡ true
-  -- The patron who sent a kept request, if it wasn't the desk, is there.
+  -- The patron who sent a kept request, unless the desk did, exists.
   pub kept_caller : (o : Owner) (key : List ℕ) (p : ℕ) (r : KeptRow) → T.kept o key ≡ Some r
       → r.caller ≡ Reader p → is_some (T.patrons p) ≡ true
 
--- Every row that a legal history leaves names rows that are there.
+-- Every row that a legal history leaves names existing rows.
 abbrev pub References : Type 0
 References = (H : History) → IsLegal H → HasReferences (picture H)

@@ -41,61 +41,61 @@ module _ (H : History) where
   is_bad_first_day None = false
   is_bad_first_day (Some d) = is_bad_day d
 
-  -- There is such a branch.
+  -- The branch exists.
   abbrev pub has_branch : ℕ → Bool
   has_branch b = is_some (branch_of H b)
 
-  -- There is such a patron.
+  -- The patron exists.
   abbrev pub has_patron : ℕ → Bool
   has_patron p = is_some (patron_of H p)
 
-  -- There is such a copy.
+  -- The copy exists.
   abbrev pub has_copy : ℕ → Bool
   has_copy c = is_some (copy_of H c)
 
-  -- The kind of a patron as it is now.
+  -- The current kind of a patron.
   abbrev pub kind_now : ℕ → KindFacts
   kind_now p = unwrap_or (kind_of H (unwrap_or (option_map (λ r. r.kind) (patron_of H p)) 0)) (record { loans = 0; holds = 0; debt = 0 })
 
-  -- The patron has as many open loans as the kind may.
+  -- The patron has as many open loans as the kind allows.
   abbrev pub has_all_loans : ℕ → Bool
   has_all_loans p = nat_le (kind_now p).loans (length (open_loans H p))
 
-  -- The branch is there with another pick-up period or name.
+  -- The branch exists with another pick-up period or name.
   abbrev pub differs_branch : ℕ → ℕ → List ℕ → Bool
   differs_branch b pickup name = unwrap_or (option_map (λ r. not ((r.pickup == pickup) && bytes_eq r.name name)) (branch_of H b)) false
 
-  -- The patron is there with another kind, card key or name.
+  -- The patron exists with another kind, card key or name.
   abbrev pub differs_patron : ℕ → ℕ → List ℕ → List ℕ → Bool
   differs_patron p k card_key name =
       unwrap_or (option_map (λ r. not ((r.kind == k) && (bytes_eq r.card_key card_key && bytes_eq r.name name))) (patron_of H p)) false
 
-  -- The title is there with another text.
+  -- The title exists with another text.
   abbrev pub differs_title : ℕ → List ℕ → Bool
   differs_title t text = unwrap_or (option_map (λ x. not (bytes_eq x text)) (title_of H t)) false
 
-  -- The copy is there with another title, kind, home or price.
+  -- The copy exists with another title, kind, home or price.
   abbrev pub differs_copy : ℕ → ℕ → ℕ → ℕ → ℕ → Bool
   differs_copy c t k home price =
       unwrap_or (option_map (λ r. not ((r.title == t) && ((r.kind == k) && ((r.home == home) && (r.price == price))))) (copy_of H c)) false
 
-  -- To a patron another's loan or hold is as if it didn't exist.
+  -- For a patron, only the patron's own loans and holds exist.
   abbrev pub is_own : Owner → ℕ → Bool
   is_own Desk p = true
   is_own (Reader q) p = q == p
 
-  -- There is such a loan, and the owner may know of it.
+  -- The loan exists, and the owner may know of it.
   abbrev pub has_loan : Owner → ℕ → Bool
   has_loan o l = is_some (loan_of H l) && is_own o (borrower H l)
 
-  -- There is such a hold, and the owner may know of it.
+  -- The hold exists, and the owner may know of it.
   abbrev pub has_hold : Owner → ℕ → Bool
   has_hold o h = is_some (hold_of H h) && is_own o (patron_of_hold H h)
 
 -- ---- tests on what a list shows
 
 module _ (H : History) (s : Sight) where
-  -- The patron owes more than the kind may at check-out.
+  -- The patron owes more than the kind allows at check-out.
   abbrev pub owes_too_much : ℕ → Bool
   owes_too_much p = nat_lt (kind_now H p).debt (owed_seen H s p)
 
@@ -107,7 +107,7 @@ module _ (H : History) (s : Sight) where
   abbrev pub active_holds_by : ℕ → List ℕ
   active_holds_by p = filter (λ h. (patron_of_hold H h == p) && is_active_by h) (numbers_to (holds H))
 
-  -- The patron has as many active holds as the kind may.
+  -- The patron has as many active holds as the kind allows.
   abbrev pub has_all_holds : ℕ → Bool
   has_all_holds p = nat_le (kind_now H p).holds (length (active_holds_by p))
 
@@ -123,7 +123,7 @@ module _ (H : History) (s : Sight) where
   abbrev pub lacks_lines : ℕ → Bool
   lacks_lines n = nat_lt LAST_NUMBER (length s.lines + n)
 
-  -- The amount is zero, or above what the patron owes.
+  -- The amount is zero or above the patron's debt.
   abbrev pub is_bad_amount : ℕ → ℕ → Bool
   is_bad_amount p n = (n == 0) || nat_lt (owed_seen H s p) n
 
@@ -178,7 +178,7 @@ abbrev pub is_first_other : History → ℕ → List ℕ → Bool
 is_first_other H p [] = false
 is_first_other H p (h ∷ hs) = not (patron_of_hold H h == p)
 
--- The copy is on the shelf while the first hold in this line is another patron's.
+-- The copy is on the shelf, and the first hold in this line is another patron's.
 abbrev pub is_wanted_by_other : History → ℕ → List ℕ → Place → Bool
 is_wanted_by_other H p hs (Shelf b) = is_first_other H p hs
 is_wanted_by_other H p hs _ = false
@@ -190,7 +190,7 @@ is_empty (h ∷ hs) = false
 
 -- ---- the table of checks
 
--- The check of a question: what it names is there.
+-- The check of a question: what it names exists.
 abbrev pub checks_asked : History → Question → List Check
 checks_asked H (question.Copy c) = (UnknownCopy, not (has_copy H c)) ∷ []
 checks_asked H (question.Copies t after) = (UnknownTitle, is_none (title_of H t)) ∷ []
@@ -203,7 +203,7 @@ checks_asked H (question.Pulls b after) = (UnknownBranch, not (has_branch H b)) 
 checks_asked H (question.Transits b after) = (UnknownBranch, not (has_branch H b)) ∷ []
 checks_asked H (question.Till d) = []
 
--- The checks of a command, in order, by what the list shows: each with its refusal, and whether it fails.
+-- The checks of a command, in order, given the sight: each with its refusal, and whether it fails.
 abbrev pub checks_by : History → Sight → Owner → Command → List Check
 checks_by H s o (BeginDay d) = (BadDay, is_bad_day H d) ∷ []
 checks_by H s o (Branch b pickup name) = (OutOfLimits, not (is_within_limits (Branch b pickup name))) ∷ (OtherContent, differs_branch H b pickup name) ∷ []
@@ -258,10 +258,10 @@ checks_by H s o (Waive p n) = (UnknownPatron, not (has_patron H p)) ∷ (BadAmou
 checks_by H s o (Page p) = (UnknownPatron, not (has_patron H p)) ∷ []
 checks_by H s o (Ask question) = checks_asked H question
 
--- The checks of a command after a list.
+-- The checks of a command after a history.
 abbrev pub checks : History → Owner → Command → List Check
 checks H o c = checks_by H (sight H) o c
 
--- The refusal of a command, if there is one: that of the first check that fails.
+-- The refusal of a command, if any: that of the first failing check.
 abbrev pub refusal : History → Owner → Command → Option Refusal
 refusal H o c = first_failing (checks H o c)

@@ -1,4 +1,4 @@
--- Repeated requests, one by one and in lists, and copies files that are read again.
+-- Repeated requests, singly and in lists, and copies files read again.
 use Rattle.std.specs.Prelude.{◌≡◌, ℕ, Bool, true, false, ◌&&◌, not, List, [], ◌∷◌, ◌++◌, map, Option, Some, None, bytes_eq}
 use Rattle.terms.specs.declared.command.Caller.TheVariants.{Desk as FromDesk}
 use Rattle.terms.specs.declared.command.Command.{Command}
@@ -11,32 +11,33 @@ use Rattle.model.specs.Requests.{is_allowed, only_asks, Kept, kept_of, reply_to,
 
 -- ---- lists
 
--- The text is the one that is kept.
+-- The text is the kept one.
 abbrev pub is_kept_text : Option Kept → List ℕ → Bool
 is_kept_text (Some kept) text = bytes_eq kept.text text
 is_kept_text None text = false
 
--- The request repeats an accepted one: it changes something, and its owner's key is kept with its text.
+-- The request repeats an accepted one: it changes something, and its text is kept under its owner's key.
 abbrev pub repeats : History → Request → Bool
 repeats H r = not (only_asks r.command) && is_kept_text (kept_of H (owner_of r.caller) r.key) (request_text r.command)
 
--- The requests without those that repeat one accepted before them, in the history or in the list.
+-- The requests without those that repeat one accepted earlier, in the history or in the list.
 abbrev pub first_ones : History → List Request → List Request
 first_ones H [] = []
 first_ones H (r ∷ rs) = elim (repeats H r) [ true ↦ first_ones (after_one H r) rs | false ↦ r ∷ first_ones (after_one H r) rs ]
 
--- Leaving out the repeats leaves the same history.
+-- Leaving out the repeats gives the same history.
 abbrev pub RepeatsLeaveNothing : Type 0
 RepeatsLeaveNothing = (H : History) (rs : List Request) → after H (first_ones H rs) ≡ after H rs
 
--- A request that repeats an accepted one, and whose caller is allowed it, gets the kept reply and changes nothing.
+-- A request that repeats an accepted one, and that its caller may send, gets the kept reply and changes
+-- nothing.
 abbrev pub RepeatsGetTheKeptReply : Type 0
 RepeatsGetTheKeptReply = (H : History) (r : Request) → repeats H r ≡ true → is_allowed H r.caller r.command ≡ true
     → (x : Kept) × (kept_of H (owner_of r.caller) r.key ≡ Some x) × (reply_to H r ≡ x.reply) × (after_one H r ≡ H)
 
 -- ---- copies files
 
--- A row of a copies file: a copy, its title with its text, its kind, its home branch and its price in cents.
+-- A row of a copies file: a copy, its title and text, its kind, its home branch and its price in cents.
 pub record CopiesRow : Type 0 where
   pub copy : ℕ
   pub title : ℕ
@@ -57,6 +58,6 @@ row_request r = record { caller = FromDesk; key = request_text (row_command r); 
 abbrev pub after_rows : History → List CopiesRow → History
 after_rows H rows = after H (map row_request rows)
 
--- The beginning of a copies file, followed by all of its rows, leaves the same history as all of its rows once.
+-- The beginning of a copies file followed by the whole file leaves the same history as the whole file once.
 abbrev pub RowsActOnce : Type 0
 RowsActOnce = (H : History) (beginning rest : List CopiesRow) → after_rows H (beginning ++ (beginning ++ rest)) ≡ after_rows H (beginning ++ rest)

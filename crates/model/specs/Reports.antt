@@ -11,11 +11,11 @@ use Rattle.model.specs.Loans.{loan_of, due, is_open_loan, title_of_loan}
 use Rattle.model.specs.Accounts.{lines, borrower}
 use Rattle.model.specs.Pages.{spaced, title_text}
 
--- The text at the right end of n places.
+-- The text, right-aligned in n columns.
 abbrev pub right_in : ℕ → List ℕ → List ℕ
 right_in n text = replicate (n - length text) 32 ++ text
 
--- The text at the left end of n places.
+-- The text, left-aligned in n columns.
 abbrev pub left_in : ℕ → List ℕ → List ℕ
 left_in n text = text ++ replicate (n - length text) 32
 
@@ -25,7 +25,7 @@ report_lines rows = flat_map (λ row. row ++ 10 ∷ []) rows
 
 -- ---- overdue
 
--- The branch that lent.
+-- The lending branch.
 abbrev pub lending_branch : History → ℕ → ℕ
 lending_branch H l = unwrap_or (option_map (λ r. r.branch) (loan_of H l)) 0
 
@@ -33,7 +33,7 @@ lending_branch H l = unwrap_or (option_map (λ r. r.branch) (loan_of H l)) 0
 abbrev pub lent_copy : History → ℕ → ℕ
 lent_copy H l = unwrap_or (option_map (λ r. r.copy) (loan_of H l)) 0
 
--- The open loans lent at the branch that are due before today, by number.
+-- The branch's open loans that are due before today, by number.
 abbrev pub overdue_loans : History → ℕ → List ℕ
 overdue_loans H b = filter (λ l. is_open_loan H l && ((lending_branch H l == b) && nat_lt (due H l) (today H))) (numbers_to (loans H))
 
@@ -41,7 +41,7 @@ overdue_loans H b = filter (λ l. is_open_loan H l && ((lending_branch H l == b)
 abbrev pub overdue_row : List ℕ → List ℕ → List ℕ → List ℕ → List ℕ → List ℕ → List ℕ
 overdue_row loan patron copy due late title = spaced (right_in 10 loan ∷ right_in 7 patron ∷ right_in 7 copy ∷ left_in 10 due ∷ right_in 5 late ∷ title ∷ [])
 
--- The row of a loan, with the open days that it is late by now.
+-- The row of a loan, with the open days that it is late so far.
 abbrev pub overdue_line : History → ℕ → ℕ → List ℕ
 overdue_line H b l = overdue_row (decimal l) (decimal (borrower H l)) (decimal (lent_copy H l)) (day_text (due H l))
     (decimal (late (is_open H b) (due H l) (today H))) (title_text H (title_of_loan H l))
@@ -50,14 +50,14 @@ overdue_line H b l = overdue_row (decimal l) (decimal (borrower H l)) (decimal (
 abbrev pub overdue_head : List ℕ
 overdue_head = overdue_row (codes "loan") (codes "patron") (codes "copy") (codes "due") (codes "late") (codes "title")
 
--- The overdue report of a branch: its header, a row for each overdue loan, and how many there are.
+-- The overdue report of a branch: its header, a row for each overdue loan, and their number.
 abbrev pub overdue : History → ℕ → List ℕ
 overdue H b = report_lines
     (overdue_head ∷ map (overdue_line H b) (overdue_loans H b) ++ spaced (codes "overdue" ∷ decimal (length (overdue_loans H b)) ∷ []) ∷ [])
 
 -- ---- till
 
--- The two sorts are one.
+-- The two sorts are equal.
 abbrev pub is_sort : Sort → Sort → Bool
 is_sort Fine Fine = true
 is_sort Price Price = true
@@ -73,7 +73,7 @@ till_sum H d s = sum_by (λ x. x.amount) (filter (λ x. (x.day == d) && is_sort 
 abbrev pub till_line : List ℕ → ℕ → List ℕ
 till_line name n = left_in 9 name ++ right_in 15 (decimal n)
 
--- The till report of a day: the day, and the sums of its fines, prices, payments and waivers.
+-- The till report of a day: the day, and its sums of fines, prices, payments and waivers.
 abbrev pub till_rows : History → ℕ → List (List ℕ)
 till_rows H d =
     spaced (codes "till" ∷ day_text d ∷ []) ∷ till_line (codes "fines") (till_sum H d Fine) ∷ till_line (codes "prices") (till_sum H d Price)
@@ -84,7 +84,7 @@ till H d = report_lines (till_rows H d)
 
 -- ---- shelf
 
--- The ready holds that are to be picked up at the branch, by number.
+-- The ready holds to be picked up at the branch, by number.
 abbrev pub ready_holds : History → ℕ → List ℕ
 ready_holds H b = filter (λ h. is_ready (state H h) && (goal_of H h == b)) (numbers_to (holds H))
 
@@ -92,7 +92,7 @@ ready_holds H b = filter (λ h. is_ready (state H h) && (goal_of H h == b)) (num
 abbrev pub shelf_row : List ℕ → List ℕ → List ℕ → List ℕ → List ℕ → List ℕ
 shelf_row hold copy patron until title = spaced (right_in 10 hold ∷ right_in 7 copy ∷ right_in 7 patron ∷ left_in 10 until ∷ title ∷ [])
 
--- The row of a hold, with the copy that stands there for it and the shelf limit.
+-- The row of a hold, with its copy on the shelf and the shelf limit.
 abbrev pub shelf_line : History → ℕ → List ℕ
 shelf_line H h = shelf_row (decimal h) (decimal (unwrap_or (kept_for H h) 0)) (decimal (patron_of_hold H h))
     (day_text (unwrap_or (limit H h) 0)) (title_text H (title_of_hold H h))
@@ -101,7 +101,7 @@ shelf_line H h = shelf_row (decimal h) (decimal (unwrap_or (kept_for H h) 0)) (d
 abbrev pub shelf_head : List ℕ
 shelf_head = shelf_row (codes "hold") (codes "copy") (codes "patron") (codes "until") (codes "title")
 
--- The shelf report of a branch: its header, a row for each ready hold, and how many there are.
+-- The shelf report of a branch: its header, a row for each ready hold, and their number.
 abbrev pub shelf : History → ℕ → List ℕ
 shelf H b = report_lines
     (shelf_head ∷ map (shelf_line H) (ready_holds H b) ++ spaced (codes "ready" ∷ decimal (length (ready_holds H b)) ∷ []) ∷ [])

@@ -1,4 +1,4 @@
--- What a library of an older schema was: its commands, its line, its fines, which lists it accepted, and the rows that its tables held.
+-- Libraries of older schemas: their commands, lines, fines, legal histories, and table rows.
 use Rattle.std.specs.Prelude.{◌≡◌, ℕ, suc, zero, ◌*◌, min, Bool, true, false, IsTrue, List, [], ◌∷◌, Option, Some, None, option_map}
 use Rattle.terms.specs.declared.command.Command.{Command}
 use Rattle.terms.specs.declared.command.Command.TheVariants.{PlaceHold, Grace}
@@ -23,19 +23,20 @@ use Rattle.model.specs.Answers.{accepted_by, answer_by, answer}
 use Rattle.model.specs.Requests.{Kept, kept_after, kept_of, IsAcceptedBy, IsLegal}
 use Rattle.model.specs.Picture.{Picture, picture, meta_row, rule_row, loan_row, hold_row}
 
--- ---- lists of an older schema
+-- ---- histories of an older schema
 
--- Each command of the list is one of these.
+-- Each command of the history is one of these.
 abbrev pub AreOf : (Command → Bool) → History → Type 0
 AreOf is_of [] = Unit {0}
 AreOf is_of (e ∷ H) = IsTrue (is_of e.command) × AreOf is_of H
 
--- What was kept for an owner's key, by what lists showed.
+-- What was kept for an owner's key, by the sights of that schema.
 abbrev pub kept_of_by : (History → Sight) → History → Owner → List ℕ → Option Kept
 kept_of_by sight_of [] o k = None
 kept_of_by sight_of (e ∷ H) o k = kept_after e (accepted_by H (sight_of H) e.command) o k (kept_of_by sight_of H o k)
 
--- Each event of a legal list was a command that there was, accepted after the list before it by what that showed.
+-- Each event of a legal history was a command of that schema, accepted after the history before it by its
+-- sight.
 abbrev pub IsLegalBy : (Command → Bool) → (History → Sight) → History → Type 0
 IsLegalBy is_of sight_of [] = Unit {0}
 IsLegalBy is_of sight_of (e ∷ H) =
@@ -43,7 +44,7 @@ IsLegalBy is_of sight_of (e ∷ H) =
     × IsAcceptedBy e H (first_failing (checks_by H (sight_of H) e.owner e.command)) (kept_of_by sight_of H e.owner e.key)
     × IsLegalBy is_of sight_of H
 
--- A list that was legal is legal, shows what it showed, and every command gets the answer that it got.
+-- A history that was legal is legal, shows what it showed, and every command gets the same answer.
 pub record StandsStill (is_of : Command → Bool) (sight_of : History → Sight) (H : History) : Type 0 where
   pub legal : IsLegal H
   pub of_schema : AreOf is_of H
@@ -56,7 +57,7 @@ OldListsStand is_of sight_of = (H : History) → IsLegalBy is_of sight_of H → 
 
 -- ---- schema 2
 
--- A command that there was with schema 2: no rule had grace days.
+-- A command of schema 2: no rule had grace days.
 abbrev pub is_of_schema_2 : Command → Bool
 is_of_schema_2 (Grace k c days) = false
 is_of_schema_2 _ = true
@@ -64,11 +65,11 @@ is_of_schema_2 _ = true
 abbrev pub AreOfSchema2 : History → Type 0
 AreOfSchema2 = AreOf is_of_schema_2
 
--- The fines of schemas 1 and 2 looked at no grace days: each open day late cost the rate.
+-- The fines of schemas 1 and 2 had no grace days: each open day late cost the rate.
 abbrev pub no_grace : ℕ → ℕ
 no_grace l = 0
 
--- The fine without grace days is theirs.
+-- Without grace days the fine is theirs.
 abbrev pub FinesWithoutGrace : Type 0
 FinesWithoutGrace = (days rate cap : ℕ) → fine_for days rate cap 0 ≡ min (days * rate) cap
 
@@ -77,7 +78,7 @@ abbrev pub lines2 : History → List Line
 lines2 [] = []
 lines2 (e ∷ H) = lines_then H (place H) no_grace (posting e.command) (lines2 H)
 
--- What a list showed.
+-- What a history showed.
 abbrev pub sight2 : History → Sight
 sight2 H = record (sight H) { grace = no_grace; lines = lines2 H }
 
@@ -86,7 +87,7 @@ IsLegal2 = IsLegalBy is_of_schema_2 sight2
 
 -- ---- schema 1
 
--- A command that there was with schema 1: no hold began on a later day either.
+-- A command of schema 1: no hold had a first day either.
 abbrev pub is_of_schema_1 : Command → Bool
 is_of_schema_1 (PlaceHold p t b (Some d)) = false
 is_of_schema_1 (Grace k c days) = false
@@ -95,7 +96,7 @@ is_of_schema_1 _ = true
 abbrev pub AreOfSchema1 : History → Type 0
 AreOfSchema1 = AreOf is_of_schema_1
 
--- The line of schema 1 looked at no first day: a hold stood in it as soon as it was placed.
+-- The line of schema 1 ignored first days: a hold stood in it as soon as it was placed.
 abbrev pub begun_at_once : ℕ → Bool
 begun_at_once h = true
 
@@ -105,7 +106,7 @@ abbrev mutual
   place1 [] c = Nowhere
   place1 (e ∷ H) c = place_after H (place1 H) (state1 H) begun_at_once e.command c
 
-  -- How a hold stood.
+  -- The state of a hold.
   pub state1 : History → ℕ → Option HoldState
   state1 [] h = None
   state1 (e ∷ H) h = state_after H (place1 H) (state1 H) begun_at_once e.command h
@@ -120,20 +121,20 @@ abbrev pub lines1 : History → List Line
 lines1 [] = []
 lines1 (e ∷ H) = lines_then H (place1 H) no_grace (posting e.command) (lines1 H)
 
--- What a list showed.
+-- What a history showed.
 abbrev pub sight1 : History → Sight
 sight1 H = record { place = place1 H; state = state1 H; begun = begun_at_once; limit = limit1 H; grace = no_grace; lines = lines1 H }
 
 abbrev pub IsLegal1 : History → Type 0
 IsLegal1 = IsLegalBy is_of_schema_1 sight1
 
--- Each list of schema 1 is one of schema 2.
+-- Each history of schema 1 is one of schema 2.
 abbrev pub Schema1IsWithinSchema2 : Type 0
 Schema1IsWithinSchema2 = (H : History) → AreOfSchema1 H → AreOfSchema2 H
 
 -- ---- tables
 
--- The columns that schemas 1 and 2 have of a rule, and of a loan: each but the grace days.
+-- The columns of a rule and of a loan in schemas 1 and 2: all but the grace days.
 abbrev pub rule1_columns : RuleRow → RuleRow1
 rule1_columns r = record { kind = r.kind; copy_kind = r.copy_kind; period = r.period; renewals = r.renewals; rate = r.rate; cap = r.cap }
 
@@ -153,7 +154,7 @@ loan1_columns r =
       ended = r.ended;
     }
 
--- The columns that schema 1 has of a hold: each but the first day.
+-- The columns of a hold in schema 1: all but the first day.
 abbrev pub hold1_columns : HoldRow → HoldRow1
 hold1_columns r = record { hold = r.hold; patron = r.patron; title = r.title; branch = r.branch; state = r.state; copy = r.copy; limit_day = r.limit_day }
 
@@ -169,7 +170,8 @@ loan_row1 H l = option_map loan1_columns (loan_row H l)
 abbrev pub hold_row1 : History → ℕ → Option HoldRow1
 hold_row1 H h = option_map hold1_columns (hold_row H h)
 
--- What the tables of schema 2 hold: the rules and the loans stand in its own tables, and every other row is that of the newest schema.
+-- The tables of schema 2: rules and loans stand in its own tables, every other row is as in the newest
+-- schema.
 abbrev pub picture2 : History → Picture
 picture2 H = record (picture H) {
   meta = record (meta_row H) { schema = 2 };
@@ -179,11 +181,11 @@ picture2 H = record (picture H) {
   loans1 = loan_row1 H;
 }
 
--- What those of schema 1 hold: the holds stand in its own table, and every other row is that of schema 2.
+-- The tables of schema 1: holds stand in its own table, every other row is as in schema 2.
 abbrev pub picture1 : History → Picture
 picture1 H = record (picture2 H) { meta = record (meta_row H) { schema = 1 }; holds = λ _. None; holds1 = hold_row1 H }
 
--- A list that was legal with schema n, and what its tables hold.
+-- A history that was legal with schema n, and its tables.
 abbrev pub IsLegalAt : ℕ → History → Type 0
 IsLegalAt (suc zero) H = IsLegal1 H
 IsLegalAt (suc (suc zero)) H = IsLegal2 H
@@ -194,13 +196,14 @@ picture_at (suc zero) H = picture1 H
 picture_at (suc (suc zero)) H = picture2 H
 picture_at _ H = picture H
 
--- The tables of an older schema are led to those of the next, and keep to the same limits.
+-- The tables of an older schema become those of the next, and keep the same limits.
 pub record IsLed (old : Picture) (led_to : Picture → Picture) (new : Picture) : Type 0 where
   pub led : led_to old ≡ new
   pub limits : InLimits new → InLimits old
   pub closed_days : ClosesFewDays new → ClosesFewDays old
 
--- It is so after every history of commands that there were with the older schema, with the tables of both after that same history.
+-- This holds after every history of the older schema's commands, with both schemas' tables after that same
+-- history.
 abbrev pub OldTablesAreLed : Type 0
 OldTablesAreLed = (H : History)
     → (AreOfSchema1 H → IsOfSchema1 (picture1 H) × IsLed (picture1 H) led_to_2 (picture2 H))

@@ -1,4 +1,4 @@
--- What a list shows at its end of all that depends on whose turn it is.
+-- What a history shows at its end of everything that depends on whose turn it is.
 use Rattle.std.specs.Prelude.{ℕ, Bool, List, Option}
 use Rattle.terms.specs.declared.row.HoldState.{HoldState}
 use Rattle.model.specs.History.{History}
@@ -6,7 +6,8 @@ use Rattle.model.specs.Places.{Place, place, state, is_begun, limit, line_by, ro
 use Rattle.model.specs.Loans.{grace_of}
 use Rattle.model.specs.Accounts.{Line, lines, owed_in}
 
--- Where each copy is, how each hold stands, whether its first day has come, its shelf limit, the grace days of each loan, and the lines of all accounts.
+-- The place of each copy; the state, begun first day and shelf limit of each hold; the grace days of each
+-- loan; and the lines of all accounts.
 pub record Sight : Type 0 where
   pub place : ℕ → Place
   pub state : ℕ → Option HoldState
@@ -15,7 +16,7 @@ pub record Sight : Type 0 where
   pub grace : ℕ → ℕ
   pub lines : List Line
 
--- What the list shows.
+-- What the history shows.
 abbrev pub sight : History → Sight
 sight H = record { place = place H; state = state H; begun = is_begun H; limit = limit H; grace = grace_of H; lines = lines H }
 
