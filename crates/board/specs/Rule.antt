@@ -15,7 +15,7 @@ use Rattle.board.specs.Showing.{Showing, GoesOn, IsBoardOf, AreEntries, blank, f
 abbrev pub nothing_seen : Seen
 nothing_seen = seen_of []
 
--- The board of this name that shows these pages first.
+-- The board with this name that shows these pages first.
 abbrev pub opening : Book → List (ℕ × OwnPage) → Showing
 opening book pages = blank pages (known book (first_frame pages ∷ []))
 
@@ -25,13 +25,13 @@ no_book = record { number = 0; log_name = 0; cells_name = 0 }
 
 -- ---- what the desk's side knows
 
--- What was shown, what workers see of it, and the pages that are to be shown with the next entry.
+-- What was shown, what workers see of it, and the pages to be shown with the next entry.
 pub record Publishing : Type 0 where
   pub shown : Seen
   pub board : Showing
   pub pages : List (ℕ × OwnPage)
 
--- What was shown, for good, and what workers see of it.
+-- What was shown, permanently, and what workers see of it.
 pub record Stopped : Type 0 where
   pub shown : Seen
   pub board : Showing
@@ -54,21 +54,21 @@ are_pages (update.Entry entry frames ∷ us) = false
 
 -- ---- the rule
 
--- The board shows what all that was shown comes to.
+-- The board shows the result of all that was shown.
 pub record ShowsAll (all : Seen) (x : Showing) : Type 0 where
   pub board : IsBoardOf all x
   pub places : length x.last ≡ 8
 
--- The board shows what all that was shown comes to, which it holds; what each side has seen is a
--- beginning of it.
+-- The board shows the result of all that was shown, which it holds; what each side has seen is a beginning of
+-- it.
 pub record KeepsBoard (book : Book) (x : Showing) (views : List Seen) : Type 0 where
   pub name : x.frames.book ≡ book
   pub shows : ShowsAll (seen_of x.frames.items) x
   pub sound : AreEntries [] (seen_of x.frames.items).entries
   pub each : (side : ℕ) (v : Seen) → get_elem? views side ≡ some v → GoesOn (seen_of x.frames.items) v
 
--- A look: what is seen is all that was shown, which goes on from what was seen, and the board shows what
--- it comes to.
+-- A look: what is seen is all that was shown, which extends what was seen before, and the board shows its
+-- result.
 pub record LooksAtBoard (book : Book) (v : Seen) (x y : Showing) (w : Seen) : Type 0 where
   pub name : y.frames.book ≡ book
   pub is : w ≡ seen_of y.frames.items
@@ -76,6 +76,6 @@ pub record LooksAtBoard (book : Book) (v : Seen) (x y : Showing) (w : Seen) : Ty
   pub board : IsBoardOf w y
   pub sound : AreEntries [] w.entries
 
--- One frame more is shown: whoever shows it sees nothing by that.
+-- One more frame is shown; its publisher sees nothing by that.
 abbrev pub Publishes : Seen → Showing → Showing → Seen → Type 0
 Publishes v x y w = w ≡ v

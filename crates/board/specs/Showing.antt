@@ -22,15 +22,15 @@ use Rattle.board.specs.Workers.{is_worker}
 
 -- ---- pages
 
--- The page of a patron among pages, which stand in the order of their patrons.
+-- The page of a patron among pages ordered by patron.
 abbrev pub page_at : List (ℕ × OwnPage) → ℕ → Option OwnPage
 page_at pages patron = lookup (is_at (nat_cmp patron)) pages
 
--- The page of one patron is put, for the one that is there.
+-- One patron's page is put, replacing any there.
 abbrev pub put_page : List (ℕ × OwnPage) → ℕ → OwnPage → List (ℕ × OwnPage)
 put_page pages patron page = insert_entry nat_cmp pages patron page
 
--- What this patron is shown once these pages are put, one after another.
+-- What this patron is shown after these pages are put, in order.
 abbrev pub overlaid : List (ℕ × OwnPage) → ℕ → Option OwnPage → Option OwnPage
 overlaid [] patron before = before
 overlaid (p ∷ ps) patron before = overlaid ps patron (if p.0 == patron then Some p.1 else before)
@@ -41,11 +41,11 @@ overlaid (p ∷ ps) patron before = overlaid ps patron (if p.0 == patron then So
 abbrev pub requests : List Entry → List Request
 requests = map (λ (e : Entry). e.request)
 
--- How many entries are this worker's.
+-- The number of this worker's entries.
 abbrev pub count_own : ℕ → List Entry → ℕ
 count_own w entries = count_by (λ (e : Entry). e.worker == w) entries
 
--- The last entry of this worker, if there is one.
+-- The worker's last entry, if any.
 abbrev pub last_of : ℕ → List Entry → Option Entry
 last_of w [] = None
 last_of w (e ∷ es) = option_or (last_of w es) (if e.worker == w then Some e else None)
@@ -54,7 +54,7 @@ last_of w (e ∷ es) = option_or (last_of w es) (if e.worker == w then Some e el
 abbrev pub StartsWith : {A : Type 0} → List A → List A → Type 0
 StartsWith {A} all seen = (rest : List A) × (all ≡ seen ++ rest)
 
--- Each of these entries may come after those before it: it is as `Is` says.
+-- Each of these entries may follow those before it: `Is` holds of it.
 abbrev pub EachIs : (List Entry → Entry → Type 0) → List Entry → List Entry → Type 0
 EachIs Is before [] = Unit {0}
 EachIs Is before (e ∷ es) = Is before e × EachIs Is (before ++ e ∷ []) es
@@ -65,11 +65,11 @@ EachIs Is before (e ∷ es) = Is before e × EachIs Is (before ++ e ∷ []) es
 abbrev pub first_seen : List (ℕ × OwnPage) → Seen
 first_seen pages = record { entries = []; pages = pages ∷ [] }
 
--- What is seen begins with what was.
+-- What is seen begins with what was seen.
 abbrev pub GoesOn : Seen → Seen → Type 0
 GoesOn new old = StartsWith new.entries old.entries × StartsWith new.pages old.pages
 
--- The pages that were seen are those with none of the entries and with each of them.
+-- The pages that were seen are those before any of the entries and with each of them.
 abbrev pub HasLooked : Seen → Type 0
 HasLooked seen = length seen.pages ≡ length seen.entries + 1
 
@@ -77,11 +77,11 @@ HasLooked seen = length seen.pages ≡ length seen.entries + 1
 abbrev pub last_pages : List (List (ℕ × OwnPage)) → List (ℕ × OwnPage)
 last_pages all = fold (λ _ pages. pages) [] all
 
--- The page of a patron as it was seen last.
+-- The patron's page as last seen.
 abbrev pub page_of : Seen → ℕ → Option OwnPage
 page_of seen patron = page_at (last_pages seen.pages) patron
 
--- One entry more is shown, and with it these pages over those that were there.
+-- One more entry is shown, and with it these pages over the earlier ones.
 pub record ShowsMore (old : Seen) (put : List (ℕ × OwnPage)) (e : Entry) (new : Seen) : Type 0 where
   pub looked : HasLooked old
   pub entries : new.entries ≡ old.entries ++ e ∷ []
@@ -91,11 +91,11 @@ pub record ShowsMore (old : Seen) (put : List (ℕ × OwnPage)) (e : Entry) (new
 
 -- ---- what was shown, frame by frame
 
--- Pages alone.
+-- Just pages.
 abbrev pub first_frame : List (ℕ × OwnPage) → Frame
 first_frame pages = record { entry = None; pages = pages }
 
--- An entry before others, where there is one.
+-- An entry, if any, before others.
 abbrev pub entry_before : Option Entry → List Entry → List Entry
 entry_before None es = es
 entry_before (Some e) es = e ∷ es
@@ -105,24 +105,23 @@ abbrev pub entries_of : List Frame → List Entry
 entries_of [] = []
 entries_of (f ∷ fs) = entry_before f.entry (entries_of fs)
 
--- What these frames have shown.
+-- What these frames showed.
 abbrev pub seen_of : List Frame → Seen
 seen_of frames = record { entries = entries_of frames; pages = map (λ (f : Frame). f.pages) frames }
 
 -- ---- the board
 
--- What the board shows: the page of each patron, and the last entry of each worker; and all that was
--- shown up to them.
+-- What the board shows: each patron's page and each worker's last entry; and all that was shown up to them.
 pub record Showing : Type 0 where
   pub pages : List (ℕ × OwnPage)
   pub last : List (Option Entry)
   pub frames : Known Frame
 
--- Pages alone.
+-- Just pages.
 abbrev pub blank : List (ℕ × OwnPage) → Known Frame → Showing
 blank pages frames = record { pages = pages; last = None ∷ None ∷ None ∷ None ∷ None ∷ None ∷ None ∷ None ∷ []; frames = frames }
 
--- The page of a patron was put.
+-- A patron's page was put.
 abbrev pub with_page : Showing → ℕ → OwnPage → Showing
 with_page x patron page = record x { pages = put_page x.pages patron page }
 
@@ -130,15 +129,15 @@ with_page x patron page = record x { pages = put_page x.pages patron page }
 abbrev pub with_last : List (Option Entry) → Entry → List (Option Entry)
 with_last last e = if is_worker e.worker then set last (e.worker - 1) (Some e) else last
 
--- An entry was put, with which all this was shown.
+-- An entry was put; all this was shown with it.
 abbrev pub with_entry : Showing → Entry → Known Frame → Showing
 with_entry x e frames = record x { last = with_last x.last e; frames = frames }
 
--- What shows the entry of this worker.
+-- The worker's entry on the board.
 abbrev pub last_on : ℕ → Showing → Option Entry
 last_on w x = if is_worker w then slice_index_or x.last (w - 1) None else None
 
--- This is the last entry of the worker, and it has this number and is of this request.
+-- This is the worker's last entry; it has this number and request.
 pub record ShowsEntry (x : Showing) (w n : ℕ) (request : Request) (e : Entry) : Type 0 where
   pub last : last_on w x ≡ Some e
   pub number : e.number ≡ n
@@ -149,13 +148,13 @@ abbrev pub updated : Showing → Update → Showing
 updated x (update.Page patron page) = with_page x patron (arc_value page)
 updated x (update.Entry entry frames) = with_entry x (arc_value entry) frames
 
--- The frame that is shown next: this entry, with the pages that are there after these updates.
+-- The next frame: this entry, with the pages after these updates.
 abbrev pub next_frame : Showing → List Update → Entry → Frame
 next_frame x us e = record { entry = Some e; pages = (fold updated x us).pages }
 
--- ---- what is said of it
+-- ---- what holds of it
 
--- The entry may follow these: it is of a worker, and has the next number of that worker.
+-- The entry may follow these: it is a worker's, and has that worker's next number.
 pub record IsNextEntry (before : List Entry) (e : Entry) : Type 0 where
   pub worker : is_worker e.worker ≡ true
   pub number : e.number ≡ count_own e.worker before + 1
@@ -164,14 +163,14 @@ pub record IsNextEntry (before : List Entry) (e : Entry) : Type 0 where
 abbrev pub AreEntries : List Entry → List Entry → Type 0
 AreEntries = EachIs IsNextEntry
 
--- The board shows what these entries come to, and the last of the pages.
+-- The board shows the result of these entries, and the last of the pages.
 pub record IsBoardOf (all : Seen) (x : Showing) : Type 0 where
   pub last : (w : ℕ) → last_on w x ≡ (if is_worker w then last_of w all.entries else None)
   pub pages : x.pages ≡ last_pages all.pages
   pub looked : HasLooked all
 
--- The worker's submission of this number has this reply: what was seen shows it at its place in the
--- list, for this request, and every other one of the worker's own stands before it there.
+-- The worker's submission with this number has this reply: what was seen shows it in its place in the list,
+-- for this request, after all others of the worker's own.
 pub record IsReply (seen : List Entry) (w n : ℕ) (request : Request) (reply : Reply) : Type 0 where
   pub front : List Entry
   pub entry : Entry
@@ -184,14 +183,14 @@ pub record IsReply (seen : List Entry) (w n : ℕ) (request : Request) (reply : 
   pub next : n ≡ count_own w front + 1
   pub all : count_own w seen ≡ n
 
--- ---- what a list of accepted requests makes of it
+-- ---- what a list of accepted requests gives
 
--- The reply is the one that the list gives after these entries.
+-- The reply is the list's after these entries.
 abbrev pub IsGivenAfter : History → List Entry → Entry → Type 0
 IsGivenAfter H before e = e.reply ≡ reply_to (after H (requests before)) e.request
 
--- Each reply that was shown is the one that this list of accepted requests gives at its place, and
--- each page is the one after this list and the beginning with which it was shown.
+-- Each reply shown is the one that this list of accepted requests gives in its place, and each page is the
+-- one after this list and the beginning with which it was shown.
 pub record IsTold (H : History) (all : Seen) : Type 0 where
   pub replies : EachIs (IsGivenAfter H) [] all.entries
   pub pages : (seen : Seen) → GoesOn all seen → HasLooked seen → (patron : ℕ)

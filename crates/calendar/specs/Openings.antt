@@ -22,7 +22,7 @@ is_weekly c d = slice_index_or c.weekly (weekday d) false
 abbrev pub has_day : List ℕ → ℕ → Bool
 has_day days d = list_any (λ e. e == d) days
 
--- whether a day stands twice among these days
+-- whether a day occurs twice among these days
 abbrev pub has_repeat : List ℕ → Bool
 has_repeat [] = false
 has_repeat (d ∷ days) = has_day days d || has_repeat days
@@ -31,7 +31,7 @@ has_repeat (d ∷ days) = has_day days d || has_repeat days
 abbrev pub is_single : Closings → ℕ → Bool
 is_single c d = has_day c.single d
 
--- whether a day is open: it is a day of the calendar, and neither its weekday nor the day itself is closed
+-- whether a day is open: it is in the calendar, and neither its weekday nor the day itself is closed
 unfoldable pub is_open : Closings → ℕ → Bool
 is_open c d = is_day d && (not (is_weekly c d) && not (is_single c d))
 
@@ -57,32 +57,32 @@ pub record AreWeekdays (weekly : List Bool) : Type 0 where
   pub seven : length weekly ≡ 7
   pub some_open : has_open_weekday weekly ≡ true
 
--- what holds of the closed days of every branch: at most 400 single days of the calendar, none of them twice
+-- what holds of every branch's closed days: at most 400 single days of the calendar, each once
 pub record AreClosings (c : Closings) : Type 0 where
   pub weekdays : AreWeekdays c.weekly
   pub in_range : (d : ℕ) → is_single c d ≡ true → IsDayNumber d
   pub once : has_repeat c.single ≡ false
   pub few : length c.single ≤ MOST_CLOSED_DAYS
 
--- the day is closed now, and every other day is as it was
+-- the day is now closed, every other day unchanged
 pub record ClosesOnly (old new : Closings) (day : ℕ) : Type 0 where
   pub weekly : new.weekly ≡ old.weekly
   pub single : (d : ℕ) → is_single new d ≡ ((d == day) || is_single old d)
   pub one_more : length new.single ≡ length old.single + 1
 
--- the day is no single closed day any more, and every other day is as it was
+-- the day is no longer a single closed day, every other day unchanged
 pub record ReopensOnly (old new : Closings) (day : ℕ) : Type 0 where
   pub weekly : new.weekly ≡ old.weekly
   pub single : (d : ℕ) → is_single new d ≡ (not (d == day) && is_single old d)
   pub one_less : length new.single + 1 ≡ length old.single
 
--- these weekdays and these single days are closed, and no others
+-- exactly these weekdays and single days are closed
 pub record ClosesExactly (c : Closings) (mask : List Bool) (days : List ℕ) : Type 0 where
   pub weekly : c.weekly ≡ mask
   pub single : (d : ℕ) → is_single c d ≡ has_day days d
   pub as_many : length c.single ≡ length days
 
--- the two close the same days, in whatever order they keep them
+-- the two close the same days, in any order
 pub record ClosesSame (c e : Closings) : Type 0 where
   pub weekly : c.weekly ≡ e.weekly
   pub single : (d : ℕ) → is_single c d ≡ is_single e d

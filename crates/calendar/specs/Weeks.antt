@@ -1,4 +1,4 @@
--- Open weekdays, and single closed days in rising order.
+-- Open weekdays, and single closed days in ascending order.
 use Rattle.std.specs.Prelude.{◌≡◌, ℕ, zero, suc, ◌+◌, ◌<◌, ◌≤◌, Bool, false, not, ◌&&◌, if◌then◌else◌, List, length, slice_index, slice_index_or}
 use Rattle.calendar.specs.Openings.{Closings, has_day, is_open, weekday}
 
@@ -27,18 +27,18 @@ pub record IsCountBelow (days : List ℕ) (d n : ℕ) : Type 0 where
   pub before : (i : ℕ) → i < n → slice_index days i < d
   pub after : (i : ℕ) → n ≤ i → i < length days → d ≤ slice_index days i
 
--- the day stands at that place
+-- the day is at this place
 pub record IsPlaceOf (days : List ℕ) (d i : ℕ) : Type 0 where
   pub within : i < length days
   pub is_there : slice_index days i ≡ d
 
--- the day isn't there: the days before that place are earlier, and those from it on are later
+-- the day is missing: the days before this place are earlier, the others later
 pub record IsPlaceFor (days : List ℕ) (d n : ℕ) : Type 0 where
   pub within : n ≤ length days
   pub before : (i : ℕ) → i < n → slice_index days i < d
   pub after : (i : ℕ) → n ≤ i → i < length days → d < slice_index days i
 
--- the first day from d on that is closed neither by its weekday nor singly, whether the calendar has it or not
+-- the first day from d on closed neither by its weekday nor singly, in the calendar or not
 pub record IsOpenFrom (c : Closings) (d e : ℕ) : Type 0 where
   pub from : d ≤ e
   pub near : e ≤ 84012

@@ -1,4 +1,4 @@
--- What an audit of a library says, and how the program ends.
+-- What an audit of a library writes, and how the program ends.
 use Rattle.std.specs.Prelude.{◌≡◌, ◌⊎◌, ℕ, List, Option, Result, IfOk, OnErr}
 use Rattle.std.specs.Io.KnownBytes.{Appends}
 use Rattle.store.specs.Library.{Ghosts, Held, state, IsClean, IsOpen}
@@ -24,13 +24,13 @@ use Rattle.circ.specs.declared.lines.Exit.{Exit}
 use Rattle.circ.specs.declared.lines.Exit.TheVariants.{Done, Refused, Faulted}
 use Rattle.circ.specs.Lines.{sound_line, finding_line, fault_line}
 
--- The rows of which the laws speak, of tables that a list of accepted requests leaves, keep them.
+-- A legal history leaves tables whose rows satisfy the laws that concern them.
 abbrev pub LegalTablesAreSound : Type 0
 LegalTablesAreSound = (H : History) (tables : Tables) → IsLegal H → HasForms H
     → AreAuditTables (picture H) tables → IsSound tables
 
--- The rows of which the laws speak were read, and they are as `Is` says, and so are all rows: of
--- each picture within the limits that the tables showed, and they show it still.
+-- The rows that the laws concern were read and satisfy `Is`, and so do all rows: of each picture within the
+-- limits that the tables showed, and still show.
 abbrev pub Reads : {S : Type 0} → Ghosts S → Held S → Held S → (Tables → Type 0) → Tables
     → Type 0
 Reads g old new Is tables =
@@ -38,8 +38,8 @@ Reads g old new Is tables =
     → AreAuditTables P tables × Is tables × ((all : Tables) → AreTables P all → Is all)
     × KeepsPicture (state g new) P
 
--- The line is that the tables are sound: their rows keep the three laws. Whatever they show, none
--- of the rows of the thirteen tables is damaged.
+-- The line says that the tables are sound: their rows keep the three laws. Whatever they show, no row of the
+-- thirteen tables is damaged.
 pub record SaysSound {S : Type 0} (g : Ghosts S) (old new : Held S) (line : List ℕ)
     (exit : Exit) : Type 0 where
   pub tables : Tables
@@ -48,8 +48,8 @@ pub record SaysSound {S : Type 0} (g : Ghosts S) (old new : Held S) (line : List
   pub legal : IsClean g new → HasLegalRows (state g old).now
   pub read : Reads g old new IsSound tables
 
--- The line is a finding: it is the first law that their rows break, and none of the rows of the
--- thirteen tables is damaged. That never comes where the tables showed a list of accepted requests.
+-- The line is a finding: the first law that their rows break. No row of the thirteen tables is damaged. This
+-- never happens if the tables showed a list of accepted requests.
 pub record SaysUnsound {S : Type 0} (g : Ghosts S) (old new : Held S) (line : List ℕ)
     (exit : Exit) : Type 0 where
   pub tables : Tables
@@ -60,9 +60,8 @@ pub record SaysUnsound {S : Type 0} (g : Ghosts S) (old new : Held S) (line : Li
   pub read : Reads g old new (λ rows. IsFirstBroken rows finding) tables
   pub never : IsClean g new → (H : History) → Shows (state g old) H → ⊥
 
--- The line is a fault, which is not 93 where the rows of the tables lay within their limits, and so
--- not where the tables showed a list of accepted requests. They show what they showed, as long as
--- the database is open.
+-- The line is a fault. It isn't 93 if the rows of the tables were within their limits, and so not if the
+-- tables showed a list of accepted requests. They show what they showed, while the database is open.
 pub record SaysFaulted {S : Type 0} (g : Ghosts S) (old new : Held S) (line : List ℕ)
     (exit : Exit) : Type 0 where
   pub fault : Fault
@@ -74,7 +73,7 @@ pub record SaysFaulted {S : Type 0} (g : Ghosts S) (old new : Held S) (line : Li
   pub undone : IsClean g new → IsOpen g new → (P : Picture) → KeepsPicture (state g old) P
       → KeepsPicture (state g new) P
 
--- The line is that the tables are sound, a finding, or a fault.
+-- The line says that the tables are sound, or is a finding or fault.
 abbrev pub SaysOf : {S : Type 0} → Ghosts S → Held S → Held S → List ℕ → Exit → Type 0
 SaysOf g old new line exit =
     SaysSound g old new line exit
@@ -90,7 +89,7 @@ pub record SaysAudit {S E : Type 0} (g : Ghosts S) (old new : Held S)
   -- a stop leaves what was there
   pub left : IsClean g new → (P : Picture) → KeepsPicture (state g old) P
       → LeavesPicture (state g new) P
-  -- where a write failed, a beginning of the line went out
+  -- if a write failed, a beginning of the line went out
   pub cut : OnErr result
       ((line : List ℕ) × (exit : Exit) × SaysOf g old new line exit
       × AppendsFront before after line)

@@ -1,39 +1,38 @@
--- What a worker does with the connections that come to it.
+-- What a worker does with its connections.
 use Rattle.std.specs.Prelude.{◌≡◌, ◌⊎◌, ℕ, zero, suc, List, Option, Result}
 use Rattle.hall.specs.declared.messages.Message.TheVariants.{Leave}
 use Rattle.hall.specs.declared.worker.ServeFault.{ServeFault}
 use Rattle.hall.specs.Queue.{sent_more}
 use Rattle.hall.specs.Serving.{Working, Serves}
 
--- `comes` says that a connection came, with its reader and its writer, and `goes` that it was ended: each
--- between the connections as they were and as they are then. `remaining` are the bytes that a reader has,
--- and `contents` those that a writer holds, where they are told.
+-- `comes` says that a connection came, with its reader and writer, and `goes` that it was ended: each relates
+-- the connections before and after. `remaining` are a reader's bytes and `contents` a writer's, if known.
 module _ {C I O : Type 0} (comes : C → I → O → C → Type 0) (goes : C → O → C → Type 0)
     (remaining : I → Option (List ℕ)) (contents : O → Option (List ℕ)) (desk_key : List ℕ) where
-  -- A connection came, was served by the worker, and was ended: nothing else went out to it.
+  -- A connection came, the worker served it, and it was ended: nothing else went out to it.
   pub record ServesOne (old new : C) (before after : Working) : Type 0 where
     pub reader : I
     pub writer : O
     pub at : C
     pub came : comes old reader writer at
-    -- the writer once it was served
+    -- the writer after serving
     pub told : O
     pub result : Result (Unit {0}) ServeFault
     pub served : Serves desk_key (remaining reader) before after (contents writer) (contents told) result
     pub ended : goes at told new
 
-  -- It was served, or none could be had.
+  -- It was served, or none came.
   abbrev pub ServesNext : C → C → Working → Working → Type 0
   ServesNext old new before after = ServesOne old new before after ⊎ ((new ≡ old) × (after ≡ before))
 
-  -- So many came, or couldn't be had, one after another.
+  -- So many came, or failed to come, one after another.
   abbrev pub ServesMany : ℕ → C → C → Working → Working → Type 0
   ServesMany zero old new before after = (new ≡ old) × (after ≡ before)
   ServesMany (suc n) old new before after =
       (mid : C) × (then : Working) × ServesMany n old mid before then × ServesNext mid new then after
 
-  -- A worker served so many, and left: `left` is its end, of which the last message is its Leave, unless
-  -- the desk is gone.
+  -- A worker served so many and left: `left` is its end, whose last message is its Leave, unless the desk is
+  -- gone.
   pub record Works (each : ℕ) (old new : C) (hired left : Working) : Type 0 where
     -- the worker before it left
     pub last : Working

@@ -1,11 +1,11 @@
--- The statuses that programs end with.
+-- The programs' exit statuses.
 use Rattle.std.specs.Prelude.{ℕ, ◌==◌, ◌||◌, if◌then◌else◌}
 use Rattle.terms.specs.declared.reply.Reply.{Reply}
 use Rattle.terms.specs.declared.reply.Reply.TheVariants.{Refused as Denied}
 use Rattle.circ.specs.declared.lines.Exit.{Exit}
 use Rattle.circ.specs.declared.lines.Exit.TheVariants.{Done, Refused, Faulted, NotUnderstood}
 
--- 0 for done, 2 for refused, 3 for a fault, 4 for words that were not understood.
+-- 0 done, 2 refused, 3 a fault, 4 words not understood.
 abbrev pub status_of : Exit → ℕ
 status_of Done = 0
 status_of Refused = 2
@@ -17,7 +17,7 @@ abbrev pub exit_of : Reply → Exit
 exit_of (Denied refusal) = Refused
 exit_of _ = Done
 
--- How a request that was sent ends the program, by the status of its answer.
+-- How a sent request ends the program, by its answer's status.
 abbrev pub exit_for : ℕ → Exit
 exit_for status =
     if status == 200 then Done

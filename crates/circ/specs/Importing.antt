@@ -1,5 +1,5 @@
--- What is said to a copies file that is taken in: a line for each row, how the reading ended, and
--- how many rows were accepted and refused.
+-- What importing a copies file writes: a line for each row, how the reading ended, and how many rows were
+-- accepted and refused.
 use Rattle.std.specs.Prelude.{◌≡◌, ◌⊎◌, ◌<◌, ◌+◌, ◌==◌, ℕ, Bool, true, false, not, if◌then◌else◌, List, [], ◌∷◌, ◌++◌, length, filter}
 use Rattle.std.specs.Prelude.{map, take, Option, Some, None, Result, Ok, IfOk, OnErr, codes, decimal}
 use Rattle.std.specs.Io.KnownBytes.{Appends, Keeps}
@@ -28,17 +28,17 @@ use Rattle.circ.specs.Lines.{fault_line, AppendsBoth, AppendsAndFront}
 
 -- ---- rows and their requests
 
--- The request of a row: the desk acquires its copy, under the request's own text as key.
+-- The request of a row: the desk acquires its copy, with the request's own text as key.
 abbrev pub request_of : FileRow → Request
 request_of row = row_request (record { copy = row.copy; title = row.title; text = row.text; kind = row.kind; home = row.home; price = row.price })
 
--- The requests of rows, in their order.
+-- The requests of rows, in order.
 abbrev pub requests_of : List FileRow → List Request
 requests_of rows = map request_of rows
 
 -- ---- lines
 
--- The words for a reply: that the row is refused, and why, or that it is accepted.
+-- The words for a reply: the row is refused, and why, or accepted.
 abbrev pub row_words : Reply → List ℕ
 row_words (Denied refusal) = codes " refused " ++ decimal (refusal_number refusal)
 row_words _ = codes " ok"
@@ -47,7 +47,7 @@ row_words _ = codes " ok"
 abbrev pub row_line : ℕ → Reply → List ℕ
 row_line n reply = codes "row " ++ decimal n ++ row_words reply ++ 10 ∷ []
 
--- The lines of the rows from this number on.
+-- The lines of the rows, from this number on.
 abbrev pub row_lines : ℕ → List Reply → List ℕ
 row_lines n [] = []
 row_lines n (reply ∷ replies) = row_line n reply ++ row_lines (n + 1) replies
@@ -64,48 +64,47 @@ abbrev pub is_refusal : Reply → Bool
 is_refusal (Denied refusal) = true
 is_refusal _ = false
 
--- How many rows were accepted.
+-- The number of accepted rows.
 abbrev pub accepted_in : List Reply → ℕ
 accepted_in replies = length (filter (λ reply. not (is_refusal reply)) replies)
 
--- How many rows were refused.
+-- The number of refused rows.
 abbrev pub refused_in : List Reply → ℕ
 refused_in replies = length (filter is_refusal replies)
 
--- The counts with the row of this reply.
+-- The counts including the row with this reply.
 abbrev pub with_row : Tally → Reply → Tally
 with_row counts (Denied refusal) = record { accepted = counts.accepted; refused = counts.refused + 1 }
 with_row counts _ = record { accepted = counts.accepted + 1; refused = counts.refused }
 
--- The last line, by how many rows were accepted and refused.
+-- The last line: the numbers of accepted and refused rows.
 abbrev pub counts_line : ℕ → ℕ → List ℕ
 counts_line accepted refused =
     codes "accepted " ++ decimal accepted ++ codes " refused " ++ decimal refused ++ 10 ∷ []
 
--- The lines after those of the rows: the one of the end, if it has one, and the last.
+-- The lines after those of the rows: that of the end, if any, and the last.
 abbrev pub closing_lines : List Reply → List ℕ → List ℕ
 closing_lines replies end = end ++ counts_line (accepted_in replies) (refused_in replies)
 
--- All lines: those of the rows, and the others.
+-- All lines: the rows', and the others.
 abbrev pub import_lines : List Reply → List ℕ → List ℕ
 import_lines replies end = row_lines 1 replies ++ closing_lines replies end
 
--- How the program ends after all rows, of which so many were refused.
+-- How the program ends after all rows, given how many were refused.
 abbrev pub end_exit : CopyEnd → ℕ → Exit
 end_exit Whole refused = if refused == 0 then Done else Refused
 end_exit (Bad n) refused = NotUnderstood
 end_exit Read refused = Faulted
 end_exit Memory refused = Faulted
 
--- ---- what is told
+-- ---- what is written
 
--- A row was handled, and this is its reply: its request was handled by the desk.
+-- The desk handled the request of a row, with this reply.
 abbrev pub HandlesOne : {S : Type 0} → FileRow → Ghosts S → Held S → Held S → Reply → Type 0
 HandlesOne row g old new reply = Handled (request_of row) g old new (Ok reply)
 
--- The rows were handled one after another. Where the tables showed a list of accepted requests, the
--- replies are those that this list gives to the rows' requests, and the tables show the list after
--- these requests, with its headline.
+-- The rows were handled in order. If the tables showed a list of accepted requests, the replies are those of
+-- this list to the rows' requests, and the tables show the list after these requests, with its headline.
 pub record HandlesRows {S : Type 0} (rows : List FileRow)
     (g : Ghosts S) (old new : Held S) (replies : List Reply) : Type 0 where
   pub many : length replies ≡ length rows
@@ -117,7 +116,7 @@ pub record HandlesRows {S : Type 0} (rows : List FileRow)
   pub headline : IsClean g new → (H : History) → Shows (state g old) H
       → ShowsHeadline g new (after H (requests_of rows))
 
--- The lines of all rows went out, and then those of the end and of the counts.
+-- The lines of all rows went out, then those of the end and the counts.
 pub record ImportsAll {S : Type 0} (rows : List FileRow) (end : CopyEnd)
     (g : Ghosts S) (old new : Held S) (WentOut : List ℕ → List ℕ → Type 0) (exit : Exit)
     : Type 0 where
@@ -126,11 +125,10 @@ pub record ImportsAll {S : Type 0} (rows : List FileRow) (end : CopyEnd)
   pub lines : WentOut (row_lines 1 replies) (closing_lines replies (end_line end))
   pub exit_is : exit ≡ end_exit end (refused_in replies)
 
--- A fault came at a row, which is not 93 where the tables showed a list of accepted requests: the
--- lines of the rows before it went out, and then those of the fault and of the counts.
--- The row changed nothing, whatever rows the tables have, and they show what they showed after the
--- rows before it, with its headline, as long as the database is open; whatever may leave of them
--- when the program is stopped is that, or what they would show after that row too.
+-- A fault came at a row, which isn't 93 if the tables showed a list of accepted requests: the lines of the
+-- rows before it went out, then those of the fault and the counts. The row changed nothing, whatever rows the
+-- tables have; they show the list after the rows before it, with its headline, while the database is open; a
+-- stop leaves that, or also what they would show after that row.
 pub record ImportsSome {S : Type 0} (rows : List FileRow)
     (g : Ghosts S) (old new : Held S) (WentOut : List ℕ → List ℕ → Type 0) (exit : Exit)
     : Type 0 where
@@ -154,14 +152,13 @@ pub record ImportsSome {S : Type 0} (rows : List FileRow)
       → LeavesOneOf (state g new) (after H (requests_of (take (length replies) rows)))
       (after H (requests_of (take (length replies + 1) rows)))
 
--- All rows are told, or those before a fault.
+-- All rows are reported, or those before a fault.
 abbrev pub ImportsOf : {S : Type 0} → List FileRow → CopyEnd → Ghosts S → Held S → Held S
     → (List ℕ → List ℕ → Type 0) → Exit → Type 0
 ImportsOf rows end g old new WentOut exit = ImportsAll rows end g old new WentOut exit
     ⊎ ImportsSome rows g old new WentOut exit
 
--- A row's line could not be written. It is the last row that was handled, and the lines of all rows
--- before it went out.
+-- A row's line could not be written. It is the last row handled; the lines of all rows before it went out.
 pub record ImportsCut {S : Type 0} (rows : List FileRow)
     (g : Ghosts S) (old new : Held S) (WentOut : List ℕ → List ℕ → Type 0) : Type 0 where
   -- the replies to the rows before it, and its own
@@ -173,50 +170,49 @@ pub record ImportsCut {S : Type 0} (rows : List FileRow)
 
 -- ---- what is promised
 
--- A row was handled, counted and told: `had` and `has` are the counts before and after. Or the desk
--- met a fault.
+-- A row was handled, counted and reported: `had` and `has` are the counts before and after. Or the desk met a
+-- fault.
 pub record ImportsRow {S E : Type 0} (row : FileRow) (had has : Tally)
     (g : Ghosts S) (old new : Held S) (before after : Option (List ℕ))
     (result : Result (Option Fault) E) : Type 0 where
   pub clean : IsClean g new → IsClean g old
-  -- with no fault the row has a reply, which is counted and whose line went out
+  -- without a fault the row has a reply, which is counted, and its line went out
   pub done : result ≡ Ok None
       → (reply : Reply) × HandlesOne row g old new reply × (has ≡ with_row had reply)
       × Appends before after (row_line (had.accepted + had.refused + 1) reply)
-  -- at a fault of the desk nothing went out, and nothing was counted
+  -- at a fault of the desk nothing went out or was counted
   pub silent : (fault : Fault) → result ≡ Ok (Some fault) → Keeps before after × (has ≡ had)
-  -- it is not 93 where the tables show a list of accepted requests
+  -- it isn't 93 if the tables show a list of accepted requests
   pub sound : (fault : Fault) → result ≡ Ok (Some fault) → IsClean g new → fault ≡ Stored
       → (H : History) → Shows (state g old) H → ⊥
-  -- and the tables show what they showed, as long as the database is open
+  -- and the tables show what they showed, while the database is open
   pub undone : (fault : Fault) → result ≡ Ok (Some fault) → IsClean g new → IsOpen g new
       → Stays (state g old) (state g new)
-  -- nor did the row change any, whatever they are
+  -- nor did the row change any tables, whatever they are
   pub nothing : (fault : Fault) → result ≡ Ok (Some fault) → IsClean g new → IsOpen g new
       → HasTables (state g old).now → IsAsItWas (state g old) (state g new)
-  -- a stop leaves what was there or what is there after the row
+  -- a stop leaves what was there before or what is there after the row
   pub left : IsClean g new → (H : History) → Shows (state g old) H
       → LeavesOneOf (state g new) H (after_one H (request_of row))
-  -- where a write failed, the row has a reply, and a beginning of its line went out
+  -- if a write failed, the row has a reply, and a beginning of its line went out
   pub cut : OnErr result
       ((reply : Reply) × HandlesOne row g old new reply
       × AppendsFront before after (row_line (had.accepted + had.refused + 1) reply))
 
--- The rows were handled one after another, and told, with the end and the counts.
+-- The rows were handled and reported in order, with the end and the counts.
 pub record ImportsRows {S E : Type 0} (rows : List FileRow) (end : CopyEnd)
     (g : Ghosts S) (old new : Held S) (before after : Option (List ℕ))
     (result : Result Exit E) : Type 0 where
   pub clean : IsClean g new → IsClean g old
-  -- what is to be told went out
+  -- everything due went out
   pub written : IfOk result (ImportsOf rows end g old new (AppendsBoth before after))
-  -- where a write failed, the lines before the one that failed went out, and a beginning of that one
-  -- or of the lines after those of the rows; and no later row was handled
+  -- if a write failed, the lines before that one went out, and a beginning of it or of the lines after the
+  -- rows'; no later row was handled
   pub cut : OnErr result
       (((exit : Exit) × ImportsOf rows end g old new (AppendsAndFront before after) exit)
       ⊎ ImportsCut rows g old new (AppendsAndFront before after))
 
--- A copies file was taken in: it was read as these rows, up to this end, and they were handled and
--- told.
+-- A copies file was imported: it was read as these rows, up to this end, and they were handled and reported.
 pub record Imports {S E : Type 0} (bytes : Option (List ℕ))
     (g : Ghosts S) (old new : Held S) (before after : Option (List ℕ))
     (result : Result Exit E) : Type 0 where

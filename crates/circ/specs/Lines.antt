@@ -9,60 +9,60 @@ use Rattle.circ_audit.specs.declared.auditing.Finding.{Finding}
 use Rattle.circ_audit.specs.declared.auditing.Finding.TheVariants.{Claims, Binding, Balance}
 use Rattle.circ.specs.declared.lines.Exit.{Exit}
 
--- A reply is told by its text.
+-- A reply is its text.
 abbrev pub reply_line : Reply → List ℕ
 reply_line reply = reply_text reply ++ 10 ∷ []
 
--- A fault is told by its number.
+-- A fault is its number.
 abbrev pub fault_line : ℕ → List ℕ
 fault_line number = codes "fault " ++ decimal number ++ 10 ∷ []
 
--- That the words are no command.
+-- The words are no command.
 abbrev pub not_understood_line : List ℕ
 not_understood_line = codes "words not understood" ++ 10 ∷ []
 
--- That a port can't be had, or that no answer came.
+-- A port can't be opened, or no answer came.
 abbrev pub no_network_line : List ℕ
 no_network_line = codes "fault network" ++ 10 ∷ []
 
--- On which port the web is served.
+-- The port of the web service.
 abbrev pub port_line : ℕ → List ℕ
 port_line port = codes "listening on " ++ decimal port ++ 10 ∷ []
 
--- That a thread could not be made.
+-- A thread could not be made.
 abbrev pub threads_line : List ℕ
 threads_line = codes "fault threads" ++ 10 ∷ []
 
--- That the tables keep the three laws of sound tables.
+-- The tables keep the three laws of sound tables.
 abbrev pub sound_line : List ℕ
 sound_line = codes "sound" ++ 10 ∷ []
 
--- Which schema a library has once it is led to the newest.
+-- The schema of a library after its migration.
 abbrev pub schema_line : List ℕ
 schema_line = codes "schema " ++ decimal SCHEMA ++ 10 ∷ []
 
--- That a law is broken, and the number of which it is.
+-- A law is broken, for this number.
 abbrev pub unsound_line : List ℕ → ℕ → List ℕ
 unsound_line law number = codes "unsound " ++ (law ++ (decimal number ++ 10 ∷ []))
 
--- A finding of an audit is told by its law and its number.
+-- An audit's finding: the law and the number.
 abbrev pub finding_line : Finding → List ℕ
 finding_line (Claims copy) = unsound_line (codes "claims ") copy
 finding_line (Binding hold) = unsound_line (codes "binding ") hold
 finding_line (Balance patron) = unsound_line (codes "balance ") patron
 
--- The first bytes went out, and then the others.
+-- The first bytes went out, then the others.
 abbrev pub AppendsBoth : Option (List ℕ) → Option (List ℕ) → List ℕ → List ℕ → Type 0
 AppendsBoth before after first others = Appends before after (first ++ others)
 
--- The first bytes went out, and then a beginning of the others, perhaps nothing, perhaps all.
+-- The first bytes went out, then a beginning of the others, possibly empty or whole.
 pub record AppendsAndFront (before after : Option (List ℕ)) (first others : List ℕ) : Type 0 where
   pub sent : List ℕ
   pub rest : List ℕ
   pub whole : others ≡ sent ++ rest
   pub wrote : Appends before after (first ++ sent)
 
--- The line went out, or a beginning of it, and after the line the program ends so.
+-- The line, or a beginning of it, went out; after the whole line the program ends so.
 pub record EndsWith {E : Type 0} (end : Exit) (line : List ℕ) (before after : Option (List ℕ))
     (result : Result Exit E) : Type 0 where
   pub exit_is : IfOk result (λ exit. exit ≡ end)

@@ -1,4 +1,4 @@
--- What is said of a library that is brought to the newest schema, and how the program ends.
+-- What migrating a library to the newest schema writes, and how the program ends.
 use Rattle.std.specs.Prelude.{◌≡◌, ◌≤◌, ◌<◌, ◌⊎◌, ℕ, List, Option, Result, IfOk, OnErr}
 use Rattle.std.specs.Io.KnownBytes.{Appends}
 use Rattle.store.specs.Library.{Ghosts, Held, State, state, IsClean, IsOpen, IsAsItWas}
@@ -21,13 +21,13 @@ use Rattle.circ.specs.declared.lines.Exit.TheVariants.{Done, Faulted}
 use Rattle.circ.specs.Lines.{schema_line, fault_line}
 
 -- The tables of schema n show what a list of requests leaves there that was legal with it, and so does
--- whatever a stop may leave.
+-- anything that a stop may leave.
 pub record ShowsAt (n : ℕ) (s : State) (H : History) : Type 0 where
   pub legal : IsLegalAt n H
   pub forms : HasForms H
   pub tables : KeepsPictureAt n s (picture_at n H)
 
--- A schema from this one on.
+-- A schema from n to the newest.
 abbrev pub IsFrom : ℕ → ℕ → Type 0
 IsFrom n m = (n ≤ m) × (m ≤ SCHEMA)
 
@@ -35,9 +35,9 @@ IsFrom n m = (n ≤ m) × (m ≤ SCHEMA)
 abbrev pub LeavesOneSchema : ℕ → State → History → Type 0
 LeavesOneSchema n s H = Leaves s (λ db. (m : ℕ) × IsFrom n m × HasPictureAt m db (picture_at m H))
 
--- The line is the newest schema. A library of any schema shows the same list of accepted requests in
--- the newest now. Whatever tables of a schema showed that `meta` names, none of their rows that a step
--- carried over or changed was damaged.
+-- The line is the newest schema. A library of any schema now shows the same list of accepted requests in the
+-- newest. Whatever the tables of a schema named by `meta` showed, no row that a step carried over or changed
+-- was damaged.
 pub record SaysLed {S : Type 0} (g : Ghosts S) (old new : Held S) (line : List ℕ)
     (exit : Exit) : Type 0 where
   pub line_is : line ≡ schema_line
@@ -48,9 +48,9 @@ pub record SaysLed {S : Type 0} (g : Ghosts S) (old new : Held S) (line : List �
   pub legal : IsClean g new → (n : ℕ) → AreThere n (state g old).now
       → MigratesUp (state g old).now (state g new).now
 
--- The line is a fault, which is not 93 where the tables showed a list of accepted requests. They
--- show the same list, as long as the database is open, in their schema or in that of the last whole
--- step, which was not the last of all.
+-- The line is a fault, which isn't 93 if the tables showed a list of accepted requests. They show the same
+-- list, while the database is open, in their schema or in that of the last whole step, which wasn't the final
+-- one.
 pub record SaysNotLed {S : Type 0} (g : Ghosts S) (old new : Held S) (line : List ℕ)
     (exit : Exit) : Type 0 where
   pub fault : Fault
@@ -61,7 +61,7 @@ pub record SaysNotLed {S : Type 0} (g : Ghosts S) (old new : Held S) (line : Lis
   pub shown : IsClean g new → IsOpen g new → (n : ℕ) → IsKnown n → (H : History)
       → ShowsAt n (state g old) H → (m : ℕ) × IsFrom n m × (IsOlder n → m < SCHEMA) × ShowsAt m (state g new) H
   pub same : IsClean g new → IsOpen g new → Stays (state g old) (state g new)
-  -- and tables with other rows are as they were, or as the first of two steps left them
+  -- tables with other rows are unchanged, or as the first of two steps left them
   pub nothing : IsClean g new → IsOpen g new → (n : ℕ) → AreThere n (state g old).now
       → IsAsItWas (state g old) (state g new) ⊎ IsLedInPart (state g old) (state g new)
 
@@ -69,24 +69,23 @@ pub record SaysNotLed {S : Type 0} (g : Ghosts S) (old new : Held S) (line : Lis
 abbrev pub SaysOneOf : {S : Type 0} → Ghosts S → Held S → Held S → List ℕ → Exit → Type 0
 SaysOneOf g old new line exit = SaysLed g old new line exit ⊎ SaysNotLed g old new line exit
 
--- A library was brought to the newest schema, or not, and a line was written.
+-- A library was migrated to the newest schema, or not, and a line was written.
 pub record SaysMigration {S E : Type 0} (g : Ghosts S) (old new : Held S)
     (before after : Option (List ℕ)) (result : Result Exit E) : Type 0 where
   pub clean : IsClean g new → IsClean g old
   -- the line went out
   pub written : IfOk result
       (λ exit. (line : List ℕ) × SaysOneOf g old new line exit × Appends before after line)
-  -- whenever the program is stopped, the list is left in the schema that it had or in a later one
+  -- a stop leaves the list in its old schema or in a later one
   pub left : IsClean g new → (n : ℕ) → IsKnown n → (H : History) → ShowsAt n (state g old) H
       → LeavesOneSchema n (state g new) H
   pub left_same : IsClean g new → (H : History) → Shows (state g old) H
       → LeavesPicture (state g new) (picture H)
-  -- and tables of an older schema of which a row is damaged that the next step carries over or
-  -- changes are left as they were
+  -- tables of an older schema stay unchanged if the next step carries over or changes a damaged row of them
   pub left_damaged : IsClean g new → CannotBeLed (state g old).now
       → Leaves (state g old) (λ db. db ≡ (state g old).now)
       → Leaves (state g new) (λ db. db ≡ (state g old).now)
-  -- where a write failed, a beginning of the line went out
+  -- if a write failed, a beginning of the line went out
   pub cut : OnErr result
       ((line : List ℕ) × (exit : Exit) × SaysOneOf g old new line exit
       × AppendsFront before after line)

@@ -1,5 +1,4 @@
--- What is said to a request that comes as words: a line, how the program ends, and what the tables
--- show.
+-- What a request given as words gets: a line, how the program ends, and what the tables show.
 use Rattle.std.specs.Prelude.{◌≡◌, ◌⊎◌, ℕ, List, Option, Result, Err, IfOk, OnErr}
 use Rattle.std.specs.Io.KnownBytes.{Appends}
 use Rattle.store.specs.Library.{Ghosts, Held, State, state, IsClean, IsOpen, HasTables, IsAsItWas}
@@ -25,13 +24,13 @@ use Rattle.circ.specs.declared.lines.Exit.TheVariants.{Faulted, NotUnderstood}
 use Rattle.circ.specs.Exits.{exit_of}
 use Rattle.circ.specs.Lines.{reply_line, fault_line, not_understood_line}
 
--- The request of the desk under a key.
+-- The desk's request with a key.
 abbrev pub desk_request : List ℕ → Command → Request
 desk_request key command = record { caller = Desk; key = key; command = command }
 
--- The line is the text of a reply to the one command that the words are. Where the tables showed a list of
--- accepted requests, it is the reply that this list gives to that command, and the tables show the list
--- after that request, with its headline. A refusal changes nothing, whatever rows the tables have.
+-- The line is the text of a reply to the one command that the words are. If the tables showed a list of
+-- accepted requests, it is this list's reply to that command, and the tables show the list after that
+-- request, with its headline. A refusal changes nothing, whatever rows the tables have.
 pub record SaysReply {S : Type 0} (key : List ℕ) (words : List (List ℕ))
     (g : Ghosts S) (old new : Held S) (line : List ℕ) (exit : Exit) : Type 0 where
   pub command : Command
@@ -48,19 +47,16 @@ pub record SaysReply {S : Type 0} (key : List ℕ) (words : List (List ℕ))
   pub refused : IsClean g new → HasTables (state g old).now → (refusal : Refusal)
       → reply ≡ Denied refusal → IsAsItWas (state g old) (state g new)
 
--- Whatever may be left when the program is stopped shows this list; or that, or the list after the request
--- that the words are, if they are a command.
+-- A stop leaves what shows this list; or that, or the list after the words' request, if they are a command.
 abbrev pub LeavesRequest : List ℕ → List (List ℕ) → State → History → Type 0
 LeavesRequest key words s H =
     LeavesOneOf s H H
     ⊎ ((command : Command) × IsUnderstoodAs words command
     × LeavesOneOf s H (after_one H (desk_request key command)))
 
--- The line is a fault: 90, or one that a command met, which is not 93 where the tables showed a list of
--- accepted requests. They show what they showed, and nothing is changed, whatever rows they have, as long as
--- the database is open; whatever
--- may leave of them when the program is stopped is that, or what they would show after the request of the
--- words.
+-- The line is a fault: 90, or one that the command met, which isn't 93 if the tables showed a list of
+-- accepted requests. They show what they showed, and nothing is changed, whatever rows they have, while the
+-- database is open; a stop leaves that, or what they would show after the words' request.
 pub record SaysFault {S : Type 0} (key : List ℕ) (words : List (List ℕ))
     (g : Ghosts S) (old new : Held S) (line : List ℕ) (exit : Exit) : Type 0 where
   pub fault : Fault
@@ -72,7 +68,7 @@ pub record SaysFault {S : Type 0} (key : List ℕ) (words : List (List ℕ))
       → IsAsItWas (state g old) (state g new)
   pub left : IsClean g new → (H : History) → Shows (state g old) H
       → LeavesRequest key words (state g new) H
-  -- but for want of memory, the words are a command
+  -- unless memory ran out, the words are a command
   pub asked : (fault ≡ Memory) ⊎ ((command : Command) × IsUnderstoodAs words command)
 
 -- The words are no command, and nothing is touched.
@@ -83,7 +79,7 @@ pub record SaysNotUnderstood {S : Type 0} (words : List (List ℕ)) (old new : H
   pub exit_is : exit ≡ NotUnderstood
   pub same : new ≡ old
 
--- The line is a reply, a fault, or that the words were not understood.
+-- The line is a reply or a fault, or says that the words were not understood.
 abbrev pub Says : {S : Type 0} → List ℕ → List (List ℕ) → Ghosts S → Held S → Held S → List ℕ → Exit
     → Type 0
 Says key words g old new line exit =
@@ -94,13 +90,13 @@ Says key words g old new line exit =
 pub record Understands (words : List (List ℕ)) (result : Result Command WordFault) : Type 0 where
   -- as the command that they are
   pub understood : IfOk result (λ command. IsUnderstoodAs words command)
-  -- and they are no other
+  -- and no other
   pub only : IfOk result
       (λ command. (other : Command) → IsUnderstoodAs words other → other ≡ command)
   -- words that are not understood are no command
   pub none : result ≡ Err NoCommand → (command : Command) → IsUnderstoodAs words command → ⊥
 
--- The request of the words was handled under the key, and a line was written.
+-- The words' request was handled with the key, and a line was written.
 pub record SaysLine {S E : Type 0} (key : List ℕ) (words : List (List ℕ))
     (g : Ghosts S) (old new : Held S) (before after : Option (List ℕ))
     (result : Result Exit E) : Type 0 where
@@ -108,7 +104,7 @@ pub record SaysLine {S E : Type 0} (key : List ℕ) (words : List (List ℕ))
   -- the line went out
   pub written : IfOk result
       (λ exit. (line : List ℕ) × Says key words g old new line exit × Appends before after line)
-  -- where a write failed, a beginning of it went out
+  -- if a write failed, a beginning of it went out
   pub cut : OnErr result
       ((line : List ℕ) × (exit : Exit) × Says key words g old new line exit
       × AppendsFront before after line)

@@ -19,22 +19,22 @@ names None n = false
 
 -- ---- tests
 
--- The copy is in the library's keeping.
+-- The library has the copy.
 abbrev pub is_present : Condition → Bool
 is_present Present = true
 is_present _ = false
 
--- The state is that of a ready hold.
+-- The hold is ready.
 abbrev pub is_ready : HoldState → Bool
 is_ready Ready = true
 is_ready _ = false
 
--- The state is that of a waiting hold.
+-- The hold waits.
 abbrev pub is_waiting : HoldState → Bool
 is_waiting Waiting = true
 is_waiting _ = false
 
--- The sort is one of those that charge: a fine or a price.
+-- The sort is a charge: a fine or a price.
 abbrev pub is_charge : Sort → Bool
 is_charge Fine = true
 is_charge Price = true
@@ -54,21 +54,21 @@ shelved_copy r = if is_ready r.state then r.copy else None
 abbrev pub travelling_copy : TransitRow → Option ℕ
 travelling_copy r = Some r.copy
 
--- A condition other than present claims the copy whose it is.
+-- A condition other than present claims its copy.
 abbrev pub absent_copy : CopyRow → Option ℕ
 absent_copy r = if is_present r.condition then None else Some r.copy
 
 -- ---- holds and the copies that serve them
 
--- The row of a copy: the first of its number.
+-- The row of a copy: the first with its number.
 abbrev pub copy_row : List CopyRow → ℕ → Option CopyRow
 copy_row rows copy = find (λ r. r.copy == copy) rows
 
--- The row of a hold: the first of its number.
+-- The row of a hold: the first with its number.
 abbrev pub hold_row : List HoldRow → ℕ → Option HoldRow
 hold_row rows hold = find (λ r. r.hold == hold) rows
 
--- There is a row, and it is of a copy of the title.
+-- The row exists and is of a copy of the title.
 abbrev pub is_titled : Option CopyRow → ℕ → Bool
 is_titled (Some r) title = r.title == title
 is_titled None title = false
@@ -85,8 +85,8 @@ is_fit copies r =
     then is_some r.limit_day && is_copy_of copies r.copy r.title
     else is_none r.copy && is_none r.limit_day
 
--- A transit serves a hold that has a row: the hold waits, the goal is its pick-up branch, and the
--- copy is of its title.
+-- A transit serves a hold with a row: the hold waits, the goal is its pick-up branch, and the copy is of its
+-- title.
 abbrev pub serves : List CopyRow → TransitRow → Option HoldRow → Bool
 serves copies r (Some hold) =
     is_waiting hold.state && ((hold.branch == r.goal) && is_copy_of copies (Some r.copy) hold.title)
@@ -94,7 +94,7 @@ serves copies r None = false
 
 -- ---- lines of accounts
 
--- The amount of a line of the patron.
+-- The amount of a line if it is the patron's.
 abbrev pub amount_of : LineRow → ℕ → ℕ
 amount_of r patron = if r.patron == patron then r.amount else 0
 

@@ -1,11 +1,11 @@
--- The three laws of sound tables, and the first of them that is broken.
+-- The three laws of sound tables, and the first broken one.
 use Rattle.std.specs.Prelude.{◌≡◌, ◌↔◌, ℕ, ◌+◌, ◌<◌, ◌≤◌, true, All, count_by, sum_by, Option, Some, Result, Ok, Err, MatchOption}
 use Rattle.terms.specs.declared.tables.Tables.{Tables}
 use Rattle.circ_audit.specs.declared.auditing.Finding.{Finding}
 use Rattle.circ_audit.specs.declared.auditing.Finding.TheVariants.{Claims, Binding, Balance}
 use Rattle.circ_audit.specs.Rows.{names, lent_copy, shelved_copy, travelling_copy, absent_copy, hold_row, is_fit, serves, charge, credit}
 
--- How many claims the rows make on a copy: by open loans, ready holds, transits, and a condition
+-- The number of claims that the rows make on a copy: by open loans, ready holds, transits, and a condition
 -- other than present.
 abbrev pub claims_on : Tables → ℕ → ℕ
 claims_on t copy =
@@ -31,8 +31,8 @@ abbrev pub IsServed : Tables → ℕ → Type 0
 IsServed t hold =
     All (λ r. r.hold ≡ Some hold → serves t.copies r (hold_row t.holds hold) ≡ true) t.transits
 
--- The hold and at most one copy are bound to each other: its row fits its state, each transit that
--- names it serves it, and no two do.
+-- The hold and at most one copy are bound to each other: its row fits its state, each transit that names it
+-- serves it, and at most one does.
 pub record IsRightlyBound (t : Tables) (hold : ℕ) : Type 0 where
   pub fit : IsFit t hold
   pub served : IsServed t hold
@@ -46,7 +46,7 @@ charges_of t patron = sum_by (λ r. charge r patron) t.lines
 abbrev pub credits_of : Tables → ℕ → ℕ
 credits_of t patron = sum_by (λ r. credit r patron) t.lines
 
--- What the patron owes by the own row is the charges less the payments and waivers.
+-- The debt in the patron's own row is the charges less the payments and waivers.
 abbrev pub IsBalanced : Tables → ℕ → Type 0
 IsBalanced t patron =
     All (λ r. r.patron ≡ patron → r.owed + credits_of t patron ≡ charges_of t patron) t.patrons
@@ -57,13 +57,12 @@ pub record IsSound (t : Tables) : Type 0 where
   pub bindings : (hold : ℕ) → IsRightlyBound t hold
   pub balance : (patron : ℕ) → IsBalanced t patron
 
--- The law doesn't hold of the number, and it holds of every lesser one.
+-- The law fails for the number and holds for every lower one.
 pub record IsLeastBroken (Law : ℕ → Type 0) (n : ℕ) : Type 0 where
   pub broken : Law n → ⊥
   pub below : (m : ℕ) → m < n → Law m
 
--- The finding is the least number of which a law doesn't hold, and the laws before it hold of every
--- number.
+-- The finding is the lowest number for which a law fails, and the earlier laws hold for every number.
 abbrev pub IsFirstBroken : Tables → Finding → Type 0
 IsFirstBroken t (Claims copy) = IsLeastBroken (IsClaimedOnce t) copy
 IsFirstBroken t (Binding hold) =
@@ -72,13 +71,13 @@ IsFirstBroken t (Balance patron) =
     ((copy : ℕ) → IsClaimedOnce t copy) × ((hold : ℕ) → IsRightlyBound t hold)
     × IsLeastBroken (IsBalanced t) patron
 
--- The law holds of every number, or this is the least of which it doesn't.
+-- The law holds for every number, or this is the lowest for which it fails.
 abbrev pub FailsFirst : (ℕ → Type 0) → Option ℕ → Type 0
 FailsFirst Law found = MatchOption found ((n : ℕ) → Law n) (λ n. IsLeastBroken Law n)
 
 -- The tables were audited.
 pub record Audits (t : Tables) (result : Result (Unit {0}) Finding) : Type 0 where
-  -- they are told to be sound exactly if they keep the three laws
+  -- they are found sound exactly if they keep the three laws
   pub sound : (result ≡ Ok tt) ↔ IsSound t
-  -- a finding is told exactly if it is the first law that is broken
+  -- a finding is given exactly if it is the first broken law
   pub found : (finding : Finding) → (result ≡ Err finding) ↔ IsFirstBroken t finding

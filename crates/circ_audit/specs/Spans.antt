@@ -1,4 +1,4 @@
--- Numbers that are looked at span by span.
+-- Numbers, looked at span by span.
 use Rattle.std.specs.Prelude.{◌≡◌, ◌==◌, ℕ, ◌+◌, ◌/◌, ◌%◌, ◌^◌, ◌<◌, ◌≤◌, nat_lt, Bool, List, All, Option, Some, None, IfSome, sum_by}
 use Rattle.std.specs.Prelude.{slice_index, if◌then◌else◌}
 use Rattle.terms.specs.declared.row.PatronRow.{PatronRow}
@@ -12,66 +12,66 @@ use Rattle.circ_audit.specs.Sound.{FailsFirst}
 abbrev pub span_of : ℕ → ℕ
 span_of n = n / 65536
 
--- The place of a number on its span.
+-- The place of a number in its span.
 abbrev pub place_of : ℕ → ℕ
 place_of n = n % 65536
 
--- The lesser of two numbers, of which the first may be none.
+-- The lower of two numbers, the first of which may be missing.
 abbrev pub lesser_of : Option ℕ → ℕ → ℕ
 lesser_of (Some m) n = if nat_lt n m then n else m
 lesser_of None n = n
 
--- The least number that breaks a law, after one more of which the law holds or doesn't.
+-- The lowest number that breaks a law, after one more for which the law holds or fails.
 abbrev pub first_after : Bool → ℕ → Option ℕ → Option ℕ
 first_after right n first = if right then first else Some (lesser_of first n)
 
--- The same after a row that names a number or none.
+-- The same after a row that may name a number.
 abbrev pub first_named : (ℕ → Bool) → Option ℕ → Option ℕ → Option ℕ
 first_named right (Some n) first = first_after (right n) n first
 first_named right None first = first
 
--- The lesser of two numbers, of which each may be none.
+-- The lower of two numbers, each of which may be missing.
 abbrev pub earlier_of : Option ℕ → Option ℕ → Option ℕ
 earlier_of first (Some n) = Some (lesser_of first n)
 earlier_of first None = first
 
--- The number is less than the other, or there is no other.
+-- The number is below the other, or there is no other.
 abbrev pub IsBelow : ℕ → Option ℕ → Type 0
 IsBelow n (Some m) = n < m
 IsBelow n None = Unit {0}
 
--- Of all numbers of the span the law holds, or this is the least of which it doesn't.
+-- The law holds for all numbers of the span, or this is the lowest for which it fails.
 abbrev pub FailsOn : (ℕ → Type 0) → ℕ → Option ℕ → Type 0
 FailsOn Law span found = FailsFirst (λ n. span_of n ≡ span → Law n) found
 
 -- A span was looked at.
 pub record LooksAt (Law : ℕ → Type 0) (span : ℕ) (look : SpanLook) : Type 0 where
-  -- the least number of it that breaks the law was found, or there is none
+  -- the lowest of its numbers that breaks the law was found, or there is none
   pub broken : FailsOn Law span look.broken
-  -- the next number stands on a later span
+  -- the next number is in a later span
   pub ahead : IfSome look.next (λ n. span < span_of n)
-  -- and the law holds of all numbers of later spans before it
+  -- the law holds for all numbers of later spans before it
   pub between : (n : ℕ) → span < span_of n → IsBelow n look.next → Law n
 
 -- A counter stops at two.
 abbrev pub capped : ℕ → ℕ
 capped n = if nat_lt n 2 then n else 2
 
--- The counters of a span show how often each number was counted.
+-- A span's counters show how often each number was counted.
 pub record ShowsCounts (w : SpanCounters) (times : ℕ → ℕ) : Type 0 where
   -- each number of the span by its own counter
   pub here : (n : ℕ) → span_of n ≡ w.span → slice_index w.counters (place_of n) ≡ capped (times n)
-  -- the next number stands on a later span
+  -- the next number is in a later span
   pub ahead : IfSome w.next (λ n. w.span < span_of n)
-  -- and none of later spans before it was counted
+  -- no number of later spans before it was counted
   pub between : (n : ℕ) → w.span < span_of n → IsBelow n w.next → times n ≡ 0
 
--- Each number was counted so many times more.
+-- Each number was counted this many more times.
 pub record CountsMore (more : ℕ → ℕ) (old new : SpanCounters) : Type 0 where
   pub span : new.span ≡ old.span
   pub shows : (times : ℕ → ℕ) → ShowsCounts old times → ShowsCounts new (λ n. times n + more n)
 
--- The totals of a span are those of its numbers.
+-- A span's totals are those of its numbers.
 abbrev pub Sums : Totals → (ℕ → ℕ) → Type 0
 Sums w sum = (n : ℕ) → span_of n ≡ w.span → slice_index w.sums (place_of n) ≡ sum n
 
@@ -79,7 +79,7 @@ Sums w sum = (n : ℕ) → span_of n ≡ w.span → slice_index w.sums (place_of
 abbrev pub AreWithin : ℕ → Totals → Type 0
 AreWithin most w = (k : ℕ) → slice_index w.sums k ≤ most
 
--- So much was added to the total of each number, and no more than an amount can be.
+-- This was added to each number's total, and no more than an amount can be.
 pub record Adds (more : ℕ → ℕ) (old new : Totals) : Type 0 where
   pub span : new.span ≡ old.span
   pub sums : (sum : ℕ → ℕ) → Sums old sum → Sums new (λ n. sum n + more n)
@@ -91,22 +91,22 @@ pub record AddsRows (amount : LineRow → ℕ → ℕ) (rows : List LineRow) (ol
   pub span : new.span ≡ old.span
   pub sums : (sum : ℕ → ℕ) → Sums old sum → Sums new (λ n. sum n + sum_by (λ r. amount r n) rows)
 
--- The least number of the span of which something is wrong, after one more, which is right or wrong.
+-- The lowest wrong number of the span, after one more, which is right or wrong.
 abbrev pub broken_after : ℕ → Bool → ℕ → Option ℕ → Option ℕ
 broken_after span right n first =
     if span_of n == span then first_after right n first else first
 
--- The least number of later spans, after one more.
+-- The lowest number of later spans, after one more.
 abbrev pub next_after : ℕ → ℕ → Option ℕ → Option ℕ
 next_after span n first = if nat_lt span (span_of n) then Some (lesser_of first n) else first
 
--- The account of a patron is right by the totals of the charges and the credits.
+-- The patron's account is right by the totals of charges and credits.
 abbrev pub is_right : PatronRow → Totals → Totals → Bool
 is_right r charges credits =
     r.owed + slice_index credits.sums (place_of r.patron)
     == slice_index charges.sums (place_of r.patron)
 
--- The rows of patrons were looked at, by totals that are these sums.
+-- The rows of patrons were looked at, with totals that are these sums.
 abbrev pub LooksAtRows : List PatronRow → Totals → Totals → SpanLook → Type 0
 LooksAtRows rows charges credits look =
     (charged credited : ℕ → ℕ) → Sums charges charged → Sums credits credited

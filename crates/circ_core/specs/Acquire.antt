@@ -11,12 +11,12 @@ use Rattle.circ_core.specs.declared.views.View.{View}
 use Rattle.model.specs.Checks.{Check, is_within_limits}
 use Rattle.circ_core.specs.Tables.{rows_unless}
 
--- The title is there with another text.
+-- The title exists with another text.
 abbrev pub title_differs : Option TitleRow → List ℕ → Bool
 title_differs (Some row) text = not (bytes_eq row.text text)
 title_differs None text = false
 
--- The copy is there with another title, kind, home or price.
+-- The copy exists with another title, kind, home or price.
 abbrev pub copy_differs : Option CopyRow → ℕ → ℕ → ℕ → ℕ → Bool
 copy_differs (Some row) title kind home price =
     not ((row.title == title) && ((row.kind == kind) && ((row.home == home) && (row.price == price))))

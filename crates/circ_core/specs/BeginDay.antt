@@ -7,7 +7,7 @@ use Rattle.circ_core.specs.declared.changes.RowChange.{RowChange}
 use Rattle.circ_core.specs.declared.changes.RowChange.TheVariants.{PutMeta}
 use Rattle.model.specs.Checks.{Check}
 
--- The day isn't after today, or it is one that can never be today.
+-- The day isn't after today, or can never be today.
 abbrev pub is_bad_day : MetaRow → ℕ → Bool
 is_bad_day meta day = not (nat_lt meta.today day && nat_le day LAST_TODAY)
 

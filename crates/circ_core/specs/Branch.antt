@@ -8,7 +8,7 @@ use Rattle.circ_core.specs.declared.changes.RowChange.TheVariants.{PutBranch}
 use Rattle.model.specs.Checks.{Check, is_within_limits}
 use Rattle.circ_core.specs.Tables.{rows_unless}
 
--- The branch is there with another pick-up period or name.
+-- The branch exists with another pick-up period or name.
 abbrev pub branch_differs : Option BranchRow → ℕ → List ℕ → Bool
 branch_differs (Some row) pickup name = not ((row.pickup == pickup) && bytes_eq row.name name)
 branch_differs None pickup name = false

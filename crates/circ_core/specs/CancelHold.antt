@@ -22,7 +22,7 @@ abbrev pub cancelled_rows : Option HoldRow → List RowChange
 cancelled_rows (Some row) = PutHold (finished row Cancelled) ∷ []
 cancelled_rows None = []
 
--- A copy that travels for the hold goes on to the same branch for no hold.
+-- A copy that travels for the hold travels on to the same branch for no hold.
 abbrev pub let_go_rows : Option TransitRow → List RowChange
 let_go_rows (Some row) = PutTransit (record row { hold = None }) ∷ []
 let_go_rows None = []

@@ -35,23 +35,23 @@ check_in_checks view branch =
     ∷ (OnHoldShelf, is_some view.hold) ∷ (NumbersUsedUp, lacks_numbers view.meta (check_in_fine view) 0)
     ∷ (PastCalendar, is_none (shelf_limit (check_in_course view branch) view)) ∷ []
 
--- A travel is over, unless the copy is sent on.
+-- Its transit ends, unless the copy is sent on.
 abbrev pub over_rows : Course → ℕ → List RowChange
 over_rows (Transit goal hold) copy = []
 over_rows _ copy = TakeTransit copy ∷ []
 
--- A copy that was missing is present again.
+-- A missing copy is present again.
 abbrev pub found_rows : Option CopyRow → List RowChange
 found_rows (Some row) = elim row.condition [ Missing ↦ PutCopy (record row { condition = Present }) ∷ [] | _ ↦ [] ]
 found_rows None = []
 
--- What the copy leaves: its loan ends, or its travel is over, or it is found again.
+-- What the copy leaves: its loan or transit ends, or it is found again.
 abbrev pub left_rows : Option LoanRow → Option TransitRow → Option CopyRow → Course → ℕ → ℕ → List RowChange
 left_rows (Some loan) transit row course copy today = end_rows (Some loan) today
 left_rows None (Some transit) row course copy today = over_rows course copy
 left_rows None None row course copy today = found_rows row
 
--- The copy leaves where it was, arrives where it goes, and the borrower is charged the fine.
+-- The copy leaves its old place and arrives at the new one, and the borrower is charged the fine.
 abbrev pub check_in_rows : View → ℕ → ℕ → ℕ → List RowChange
 check_in_rows view copy branch until =
     (left_rows view.loan view.transit view.copy (check_in_course view branch) copy view.meta.today ++ arrival_rows (check_in_course view branch) copy until)

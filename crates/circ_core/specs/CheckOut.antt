@@ -17,7 +17,8 @@ use Rattle.circ_core.specs.Condition.{is_missing, is_withdrawn}
 use Rattle.circ_core.specs.Debt.{debt_allowed, owed_by}
 use Rattle.circ_core.specs.Holds.{finished}
 
--- The branch at which a copy stands that is neither lent nor in transit: that of the hold which it waits for, else its home.
+-- The branch of a copy that is neither lent nor in transit: that of the hold that it waits for, else its
+-- home.
 abbrev pub stands_at : Option HoldRow → Option CopyRow → ℕ
 stands_at (Some hold) copy = hold.branch
 stands_at None (Some row) = row.home
@@ -33,7 +34,7 @@ abbrev pub filled_hold : Option HoldRow → Option HoldRow → Option HoldRow
 filled_hold (Some hold) first = Some hold
 filled_hold None first = first
 
--- The copy stands on the shelf while the first hold in line is another patron's.
+-- The copy is on the shelf, and the first hold in line is another patron's.
 abbrev pub is_wanted : Option HoldRow → Option HoldRow → ℕ → Bool
 is_wanted (Some hold) first patron = false
 is_wanted None first patron = is_of_other first patron
@@ -43,7 +44,7 @@ abbrev pub has_more : Option HoldRow → ℕ → Bool
 has_more (Some hold) own_holds = nat_lt 1 own_holds
 has_more None own_holds = nat_lt 0 own_holds
 
--- How many open loans the kind may have.
+-- The number of open loans that the kind may have.
 abbrev pub loans_allowed : Option KindRow → ℕ
 loans_allowed (Some kind) = kind.loans
 loans_allowed None = 0
@@ -68,11 +69,11 @@ abbrev pub grace_in : Option RuleRow → ℕ
 grace_in (Some rule) = rule.grace
 grace_in None = 0
 
--- The first day that the loan may be due: the end of its period.
+-- The first possible due day: the end of the loan period.
 abbrev pub period_end : View → ℕ
 period_end view = view.meta.today + period_of view.rule
 
--- The day on which the loan is due, if the calendar has one; today stands for it where it has none.
+-- The due day, if the calendar has one, and otherwise today in its place.
 abbrev pub loan_due : View → Option ℕ
 loan_due view = due_from view.calendar (period_end view)
 
@@ -99,7 +100,7 @@ check_out_checks view patron branch =
     ∷ (refusal.PastCalendar, is_none (loan_due view))
     ∷ []
 
--- The loan that is made, under the rule as it is now.
+-- The new loan, under the current rule.
 abbrev pub new_loan : View → ℕ → ℕ → ℕ → ℕ → LoanRow
 new_loan view patron copy branch due = record {
   loan = view.meta.next_loan;

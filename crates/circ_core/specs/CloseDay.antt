@@ -13,7 +13,7 @@ abbrev pub is_closed_day : Option Closings → ℕ → Bool
 is_closed_day (Some closings) day = has_day closings.single day
 is_closed_day None day = false
 
--- As many days are closed singly as may be.
+-- As many days are closed singly as allowed.
 abbrev pub has_all_days : Option Closings → Bool
 has_all_days (Some closings) = nat_le MOST_CLOSED_DAYS (length closings.single)
 has_all_days None = false

@@ -17,7 +17,7 @@ abbrev pub is_withdrawn : Option CopyRow → Bool
 is_withdrawn (Some row) = elim row.condition [ condition.Withdrawn ↦ true | _ ↦ false ]
 is_withdrawn None = false
 
--- The copy is missing or withdrawn from now on.
+-- The copy is now missing or withdrawn.
 abbrev pub condition_rows : Option CopyRow → Condition → List RowChange
 condition_rows (Some row) condition = PutCopy (record row { condition = condition }) ∷ []
 condition_rows None condition = []

@@ -1,4 +1,4 @@
--- What a decision owes to the history.
+-- What a decision must do, by the history.
 use Rattle.std.specs.Prelude.{◌≡◌, ℕ, List, ◌∷◌, Some, None, Result, Ok, Err}
 use Rattle.terms.specs.declared.command.Owner.{Owner}
 use Rattle.terms.specs.declared.command.Owner.TheVariants.{Desk}
@@ -14,16 +14,17 @@ use Rattle.model.specs.Picture.{picture}
 use Rattle.circ_core.specs.declared.changes.Decision.{Decision}
 use Rattle.circ_core.specs.Tables.{changed, SameRows}
 
--- The event of a command, with its key and whose key it is.
+-- The event of a command, with its key and the key's owner.
 abbrev pub event : Owner → List ℕ → Command → Event
 event owner key command = record { owner = owner; key = key; command = command }
 
--- The reply of a decision: that of the accepted command, and no more than that it is done for a page.
+-- The reply of a decision: the accepted command's, and just that it is done for a page.
 abbrev pub reply_due : History → Command → Reply
 reply_due H (Page patron) = Done
 reply_due H command = accepted H command
 
--- The command isn't refused, the reply is the one that is due, and the changes lead to the tables with the command added.
+-- The command isn't refused, the reply is the due one, and the changes give the tables with the command
+-- added.
 pub record IsDecision (H : History) (command : Command) (decision : Decision) : Type 0 where
   pub unrefused : refusal H Desk command ≡ None
   pub reply : decision.reply ≡ reply_due H command

@@ -1,4 +1,4 @@
--- What is decided on a command, on the rows of its view.
+-- What is decided on a command, from the rows of its view.
 use Rattle.std.specs.Prelude.{◌-◌, [], Result}
 use Rattle.terms.specs.declared.refusal.Refusal.{Refusal}
 use Rattle.terms.specs.declared.reply.Reply.TheVariants.{Done, Held, Lent, Owed}
@@ -32,7 +32,8 @@ use Rattle.circ_core.specs.CancelHold.{cancel_hold_checks, cancel_hold_rows}
 use Rattle.circ_core.specs.PayAndWaive.{settle_checks, settle_rows}
 use Rattle.circ_core.specs.Page.{page_checks}
 
--- The decision is that of the command's checks, reply and row changes. A question has none of them: it is answered elsewhere.
+-- The decision is that of the command's checks, reply and row changes. A question has none: it is answered
+-- elsewhere.
 abbrev pub DecidesOn : View → Command → Result Decision Refusal → Type 0
 DecidesOn v (BeginDay day) decided = Decided (begin_day_checks v.meta day) Done (begin_day_rows v.meta day) decided
 DecidesOn v (Branch branch pickup name) decided = Decided (branch_checks v.branch branch pickup name) Done (branch_rows v.branch branch pickup name) decided

@@ -1,4 +1,4 @@
--- The end of a copy's loan: its fine, and what is charged for it, on the rows of a view.
+-- The end of a copy's loan: its fine and charges, on the rows of a view.
 use Rattle.terms.specs.declared.limits.TheConstants.{LARGEST_SUM, LAST_NUMBER}
 use Rattle.std.specs.Prelude.{ℕ, ◌+◌, ◌==◌, nat_lt, ◌&&◌, min, Bool, true, false, List, [], ◌∷◌, ◌++◌, Option, Some, None}
 use Rattle.calendar.specs.Openings.{Closings, open_days_after}
@@ -13,16 +13,17 @@ use Rattle.circ_core.specs.declared.changes.RowChange.TheVariants.{PutMeta, PutP
 
 -- ---- the amounts
 
--- The fine of a loan that ends today, for the open days of the lending branch after the due day; nothing without a loan.
+-- The fine of a loan that ends today, for the lending branch's open days after the due day; none without a
+-- loan.
 abbrev pub fine_due : Option LoanRow → Option Closings → ℕ → ℕ
 fine_due (Some loan) (Some closings) today = fine_for (open_days_after closings loan.due today) loan.rate loan.cap loan.grace
 fine_due _ _ today = 0
 
--- How many lines a charge makes: one, and none for a charge of zero.
+-- The number of lines of a charge: one, or none for a charge of zero.
 abbrev pub lines_for : ℕ → ℕ
 lines_for amount = elim (amount == 0) [ true ↦ 0 | false ↦ 1 ]
 
--- Fewer line numbers are left than the fine and the price need.
+-- Fewer line numbers are left than the fine and price need.
 abbrev pub lacks_numbers : MetaRow → ℕ → ℕ → Bool
 lacks_numbers meta fine price = nat_lt (LAST_NUMBER + 1) (meta.next_line + lines_for fine + lines_for price)
 
@@ -36,7 +37,7 @@ abbrev pub end_rows : Option LoanRow → ℕ → List RowChange
 end_rows (Some loan) today = PutLoan (ended_loan loan today) ∷ []
 end_rows None today = []
 
--- The patron owes so much more, up to the greatest amount that can be.
+-- The patron owes this much more, up to the largest possible amount.
 abbrev pub charged : PatronRow → ℕ → ℕ → PatronRow
 charged patron fine price = record patron { owed = min (patron.owed + fine + price) LARGEST_SUM }
 
@@ -47,8 +48,8 @@ line_rows meta line loan sort amount = elim (amount == 0) [
   | false ↦ PutLine (record { line = line; patron = loan.patron; day = meta.today; sort = sort; amount = amount; loan = Some loan.loan }) ∷ []
 ]
 
--- The fine and the price go onto the borrower's account: the next number is given, the patron owes so much more,
--- and the lines are made, that of the fine first. Where neither is to be paid, nothing changes.
+-- The fine and price go onto the borrower's account: the next number is given, the patron owes that much
+-- more, and the lines are made, the fine's first. If both are zero, nothing changes.
 abbrev pub account_rows : MetaRow → PatronRow → LoanRow → ℕ → ℕ → List RowChange
 account_rows meta patron loan fine price = elim ((fine == 0) && (price == 0)) [
   | true ↦ []

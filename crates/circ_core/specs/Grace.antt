@@ -11,7 +11,7 @@ abbrev pub grace_checks : Option RuleRow → ℕ → ℕ → ℕ → List Check
 grace_checks row kind copy_kind days =
     (OutOfLimits, not (is_within_limits (Grace kind copy_kind days))) ∷ (NoRule, is_none row) ∷ []
 
--- The rule has these grace days, and else what it had.
+-- The rule has these grace days, and is otherwise unchanged.
 abbrev pub grace_rows : Option RuleRow → ℕ → List RowChange
 grace_rows (Some rule) days = PutRule (record rule { grace = days }) ∷ []
 grace_rows None days = []

@@ -16,7 +16,7 @@ use Rattle.circ_core.specs.declared.views.View.{View}
 use Rattle.circ_core.specs.Condition.{is_missing, is_withdrawn, condition_rows}
 use Rattle.circ_core.specs.Ending.{fine_due, lacks_numbers, ended_loan, charge_rows}
 
--- The price that is charged: that of a copy on loan.
+-- The price charged: that of a copy on loan.
 abbrev pub price_due : Option LoanRow → Option CopyRow → ℕ
 price_due (Some loan) (Some copy) = copy.price
 price_due _ _ = 0
@@ -32,7 +32,7 @@ missing_checks view =
     (refusal.UnknownCopy, is_none view.copy) ∷ (refusal.CopyWithdrawn, is_withdrawn view.copy) ∷ (refusal.CopyMissing, is_missing view.copy)
     ∷ (refusal.NumbersUsedUp, lacks_numbers view.meta (fine_in view) (price_in view)) ∷ []
 
--- What is charged is told where the copy was on loan.
+-- The charges are reported if the copy was on loan.
 abbrev pub lost_reply : Option LoanRow → ℕ → ℕ → Reply
 lost_reply (Some loan) fine price = Lost fine price
 lost_reply None fine price = Done
@@ -44,7 +44,8 @@ missing_reply view = lost_reply view.loan (fine_in view) (price_in view)
 abbrev pub waiting_again : HoldRow → HoldRow
 waiting_again hold = record hold { state = Waiting; copy = None; limit_day = None }
 
--- What the copy was bound to: its loan ends, or the hold on whose shelf it stood waits again, or its transit is over.
+-- What the copy was bound to: its loan ends, the hold on whose shelf it stood waits again, or its transit
+-- ends.
 abbrev pub release_rows : Option LoanRow → Option HoldRow → Option TransitRow → ℕ → List RowChange
 release_rows (Some loan) hold transit today = PutLoan (ended_loan loan today) ∷ []
 release_rows None (Some hold) transit today = PutHold (waiting_again hold) ∷ []

@@ -1,4 +1,4 @@
--- What a patron is answered of loans and holds: another's are as if they didn't exist.
+-- What patrons learn of loans and holds: others' don't exist for them.
 use Rattle.std.specs.Prelude.{◌≡◌, ℕ, ◌==◌, Bool, true, false, Some, None}
 use Rattle.terms.specs.declared.command.Owner.TheVariants.{Desk, Patron as Reader}
 use Rattle.terms.specs.declared.command.Command.{Command}
@@ -19,19 +19,20 @@ names_one (Unshelve hold) = true
 names_one (UnshelveCancelled hold) = true
 names_one _ = false
 
--- Another's loan is refused as unknown; one's own, and one that isn't there, as to the desk.
+-- Another's loan is refused as unknown; one's own, or a nonexistent one, as to the desk.
 pub record LoansApart (H : History) (p l : ℕ) : Type 0 where
   pub others : (r : LoanRow) → (picture H).loans l ≡ Some r → (r.patron == p) ≡ false → refusal H (Reader p) (Renew l) ≡ Some UnknownLoan
   pub own : (r : LoanRow) → (picture H).loans l ≡ Some r → (r.patron == p) ≡ true → refusal H (Reader p) (Renew l) ≡ refusal H Desk (Renew l)
   pub none : (picture H).loans l ≡ None → refusal H (Reader p) (Renew l) ≡ refusal H Desk (Renew l)
 
--- Another's hold is refused as unknown; one's own, and one that isn't there, as to the desk.
+-- Another's hold is refused as unknown; one's own, or a nonexistent one, as to the desk.
 pub record HoldsApart (H : History) (p h : ℕ) : Type 0 where
   pub others : (r : HoldRow) → (picture H).holds h ≡ Some r → (r.patron == p) ≡ false → refusal H (Reader p) (CancelHold h) ≡ Some UnknownHold
   pub own : (r : HoldRow) → (picture H).holds h ≡ Some r → (r.patron == p) ≡ true → refusal H (Reader p) (CancelHold h) ≡ refusal H Desk (CancelHold h)
   pub none : (picture H).holds h ≡ None → refusal H (Reader p) (CancelHold h) ≡ refusal H Desk (CancelHold h)
 
--- To a patron another's loans and holds are unknown, and what names neither is refused as it is to the desk.
+-- To a patron others' loans and holds are unknown; a command that names neither is refused as it is to the
+-- desk.
 pub record OwnersApart (H : History) : Type 0 where
   pub loans : (p l : ℕ) → LoansApart H p l
   pub holds : (p h : ℕ) → HoldsApart H p h

@@ -9,7 +9,7 @@ use Rattle.circ_core.specs.declared.views.View.{View}
 use Rattle.model.specs.Checks.{Check, is_within_limits}
 use Rattle.circ_core.specs.Tables.{rows_unless}
 
--- The patron is there with another kind, card key or name.
+-- The patron exists with another kind, card key or name.
 abbrev pub patron_differs : Option PatronRow → ℕ → List ℕ → List ℕ → Bool
 patron_differs (Some row) kind card_key name = not ((row.kind == kind) && (bytes_eq row.card_key card_key && bytes_eq row.name name))
 patron_differs None kind card_key name = false

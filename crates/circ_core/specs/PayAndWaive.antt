@@ -12,17 +12,17 @@ use Rattle.circ_core.specs.declared.changes.RowChange.TheVariants.{PutMeta, PutP
 use Rattle.circ_core.specs.declared.views.View.{View}
 use Rattle.circ_core.specs.Debt.{owed_by}
 
--- The amount is zero or above what the patron owes; no line number is left.
+-- The amount is zero or above the debt; no line number is left.
 abbrev pub settle_checks : View → ℕ → List Check
 settle_checks view amount =
     (UnknownPatron, is_none view.patron) ∷ (BadAmount, (amount == 0) || nat_lt (owed_by view.patron) amount)
     ∷ (NumbersUsedUp, nat_lt LAST_NUMBER view.meta.next_line) ∷ []
 
--- The line that is made.
+-- The new line.
 abbrev pub new_line : MetaRow → ℕ → Sort → ℕ → LineRow
 new_line meta patron sort amount = record { line = meta.next_line; patron = patron; day = meta.today; sort = sort; amount = amount; loan = None }
 
--- The next number is given, the patron owes so much less, and the line is made.
+-- The next number is given, the patron owes that much less, and the line is made.
 abbrev pub settled : MetaRow → Option PatronRow → ℕ → Sort → ℕ → List RowChange
 settled meta (Some row) patron sort amount =
     PutMeta (record meta { next_line = meta.next_line + 1 }) ∷ PutPatron (record row { owed = row.owed - amount })

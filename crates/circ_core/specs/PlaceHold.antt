@@ -12,12 +12,12 @@ use Rattle.circ_core.specs.declared.changes.RowChange.TheVariants.{PutMeta, PutH
 use Rattle.circ_core.specs.declared.views.View.{View}
 use Rattle.circ_core.specs.BeginDay.{is_bad_day}
 
--- How many active holds the kind may have.
+-- The number of active holds that the kind may have.
 abbrev pub holds_allowed : Option KindRow → ℕ
 holds_allowed (Some kind) = kind.holds
 holds_allowed None = 0
 
--- The hold is to have a first day, and that is no later day.
+-- The hold has a first day that is bad.
 abbrev pub is_bad_first_day : MetaRow → Option ℕ → Bool
 is_bad_first_day meta None = false
 is_bad_first_day meta (Some day) = is_bad_day meta day
@@ -34,7 +34,7 @@ place_hold_checks view first_day =
     ∷ (refusal.NumbersUsedUp, nat_lt LAST_NUMBER view.meta.next_hold)
     ∷ []
 
--- The hold that is made: it waits from now on, and no copy is for it yet.
+-- The new hold: it waits, with no copy yet.
 abbrev pub new_hold : ℕ → ℕ → ℕ → ℕ → Option ℕ → HoldRow
 new_hold number patron title branch first_day = record {
   hold = number;

@@ -20,12 +20,12 @@ abbrev pub is_late : Option LoanRow → ℕ → Bool
 is_late (Some loan) today = nat_lt loan.due today
 is_late None today = false
 
--- The loan can't be renewed any more.
+-- The loan has no renewals left.
 abbrev pub is_renewed_out : Option LoanRow → Bool
 is_renewed_out (Some loan) = loan.renewals_left == 0
 is_renewed_out None = true
 
--- The new due day, if the calendar has one: the least open day from a period after the day on which the loan was due.
+-- The new due day, if the calendar has one: the least open day from one period after the old due day.
 abbrev pub next_due : Option LoanRow → Option Closings → Option ℕ
 next_due (Some loan) lender = due_from lender (loan.due + loan.period)
 next_due None lender = None
@@ -33,7 +33,7 @@ next_due None lender = None
 abbrev pub renewed_due_day : View → Option ℕ
 renewed_due_day view = next_due view.loan view.lender
 
--- Today stands for it where there is none.
+-- Today is used if there is none.
 abbrev pub renewed_due_in : View → ℕ
 renewed_due_in view = unwrap_or (renewed_due_day view) view.meta.today
 
@@ -48,7 +48,7 @@ renew_checks view =
     ∷ (refusal.PastCalendar, is_none (renewed_due_day view))
     ∷ []
 
--- The loan is due anew, and a renewal fewer is left.
+-- The loan gets the new due day and has one renewal less.
 abbrev pub renewed_rows : Option LoanRow → ℕ → List RowChange
 renewed_rows (Some loan) due = PutLoan (record loan { due = due; renewals_left = loan.renewals_left - 1 }) ∷ []
 renewed_rows None due = []

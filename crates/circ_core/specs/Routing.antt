@@ -1,4 +1,4 @@
--- Where a copy goes that is handed in, on the rows of a view.
+-- Where a copy that is handed in goes, on the rows of a view.
 use Rattle.std.specs.Prelude.{ℕ, ◌+◌, ◌==◌, true, false, List, [], ◌∷◌, Option, Some, None, unwrap_or}
 use Rattle.terms.specs.declared.reply.Routed.{Routed}
 use Rattle.terms.specs.declared.reply.Routed.TheVariants as routed
@@ -20,7 +20,7 @@ abbrev pub served : Option HoldRow → Option HoldRow → Option HoldRow
 served (Some hold) first = Some hold
 served None first = first
 
--- To the pick-up branch of the hold that it serves, else home; where it is there already, it stays there.
+-- To the pick-up branch of the hold that it serves, else home; if it is there already, it stays.
 abbrev pub course_for : ℕ → ℕ → Option HoldRow → Course
 course_for home branch (Some hold) = elim (hold.branch == branch) [ true ↦ HoldShelf hold | false ↦ Transit hold.branch (Some hold.hold) ]
 course_for home branch None = elim (home == branch) [ true ↦ Shelf | false ↦ Transit home None ]
@@ -28,7 +28,7 @@ course_for home branch None = elim (home == branch) [ true ↦ Shelf | false ↦
 abbrev pub course_of : ℕ → Option HoldRow → Option HoldRow → ℕ → Course
 course_of home coming first branch = course_for home branch (served coming first)
 
--- The home branch and the number of a copy, 0 where there is none.
+-- The home branch and number of a copy, 0 if there is none.
 abbrev pub home_in : Option CopyRow → ℕ
 home_in (Some copy) = copy.home
 home_in None = 0
@@ -37,7 +37,7 @@ abbrev pub number_in : Option CopyRow → ℕ
 number_in (Some copy) = copy.copy
 number_in None = 0
 
--- The place that the reply tells.
+-- The place in the reply.
 abbrev pub routed_by : Course → ℕ → ℕ → Routed
 routed_by (HoldShelf hold) branch until = routed.HoldShelf hold.hold branch until
 routed_by Shelf branch until = routed.Shelf branch
@@ -49,8 +49,8 @@ abbrev pub pickup_of : Option BranchRow → ℕ
 pickup_of (Some row) = row.pickup
 pickup_of None = 0
 
--- The limit of a hold that becomes ready: the least open day from the end of the pick-up period, if the calendar has one.
--- A copy that goes elsewhere needs none, and today stands for it.
+-- The limit of a hold that becomes ready: the least open day from the end of the pick-up period, if the
+-- calendar has one. A copy that goes elsewhere needs none; today is used.
 unfoldable pub shelf_limit : Course → View → Option ℕ
 shelf_limit (HoldShelf hold) view = due_from view.calendar (view.meta.today + pickup_of view.branch)
 shelf_limit Shelf view = Some view.meta.today
@@ -65,7 +65,7 @@ limit_in_view course view = unwrap_or (shelf_limit course view) view.meta.today
 abbrev pub readied : HoldRow → ℕ → ℕ → HoldRow
 readied hold copy until = record hold { state = Ready; copy = Some copy; limit_day = Some until }
 
--- Where the copy arrives: the hold becomes ready, or the copy travels.
+-- The copy's arrival: the hold becomes ready, or the copy travels.
 abbrev pub arrival_rows : Course → ℕ → ℕ → List RowChange
 arrival_rows (HoldShelf hold) copy until = PutHold (readied hold copy until) ∷ []
 arrival_rows Shelf copy until = []

@@ -1,4 +1,4 @@
--- The tables as row changes leave them.
+-- The tables after row changes.
 use Rattle.std.specs.Prelude.{◌≡◌, true, false, List, [], ◌∷◌, Option, Some, None}
 use Rattle.terms.specs.Pictures.{Picture, put, put_pair}
 use Rattle.circ_core.specs.declared.changes.RowChange.{RowChange}
@@ -6,7 +6,7 @@ use Rattle.circ_core.specs.declared.changes.RowChange.TheVariants.{PutMeta, PutB
 use Rattle.circ_core.specs.declared.changes.RowChange.TheVariants.{PutPatron, PutTitle, PutCopy, PutLoan, PutHold, PutTransit, TakeTransit}
 use Rattle.circ_core.specs.declared.changes.RowChange.TheVariants.{PutLine}
 
--- The tables after one change: one row of one table is put whole, or taken away, by its key.
+-- The tables after one change: one row of one table is put whole, or removed, by its key.
 abbrev pub change : RowChange → Picture → Picture
 change (PutMeta r) P = record P { meta = r }
 change (PutBranch r) P = record P { branches = put P.branches r.branch (Some r) }
@@ -23,16 +23,16 @@ change (PutTransit r) P = record P { transits = put P.transits r.copy (Some r) }
 change (TakeTransit copy) P = record P { transits = put P.transits copy None }
 change (PutLine r) P = record P { lines = put P.lines r.line (Some r) }
 
--- The tables after the changes, one after another.
+-- The tables after the changes, in order.
 abbrev pub changed : List RowChange → Picture → Picture
 changed [] P = P
 changed (x ∷ xs) P = changed xs (change x P)
 
--- The tables hold the same rows, those of the kept requests aside.
+-- The tables hold the same rows, except those of kept requests.
 abbrev pub SameRows : Picture → Picture → Type 0
 SameRows P Q = record P { kept = Q.kept } ≡ Q
 
--- Rows that are put unless there is one already.
+-- Rows that are put unless one exists already.
 abbrev pub rows_unless : {A : Type 0} → Option A → List RowChange → List RowChange
 rows_unless (Some row) rows = []
 rows_unless None rows = rows

@@ -19,7 +19,7 @@ abbrev pub is_ready_row : Option HoldRow → Bool
 is_ready_row (Some row) = elim row.state [ Ready ↦ true | _ ↦ false ]
 is_ready_row None = false
 
--- The shelf limit of the hold, 0 where it has none.
+-- The shelf limit of the hold, 0 if it has none.
 abbrev pub limit_in : Option HoldRow → ℕ
 limit_in (Some row) = unwrap_or row.limit_day 0
 limit_in None = 0
@@ -36,7 +36,7 @@ course_unshelved view = course_of (home_in view.copy) None view.first (pickup_br
 abbrev pub next_limit : View → ℕ
 next_limit view = limit_in_view (course_unshelved view) view
 
--- The patron may take the copy up to the shelf limit; the desk takes it off the shelf after that day.
+-- The patron may take the copy up to the shelf limit; the desk unshelves it after that day.
 abbrev pub unshelve_checks : View → List Check
 unshelve_checks view =
     (UnknownHold, is_none view.hold) ∷ (WrongHoldState, not (is_ready_row view.hold)) ∷ (LimitNotPassed, nat_le view.meta.today (limit_in view.hold))

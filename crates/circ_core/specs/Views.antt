@@ -1,4 +1,4 @@
--- Which rows of the tables a view holds for a command.
+-- The table rows that a view holds for a command.
 use Rattle.std.specs.Prelude.{◌≡◌, ◌⊎◌, ℕ, ◌≤◌, ◌==◌, true, List, length, Option, Some, None, option_and_then, false, IfSome}
 use Rattle.std.specs.List.{list_any, IsDistinct}
 use Rattle.calendar.specs.declared.limits.TheConstants.{FIRST_DAY}
@@ -20,9 +20,9 @@ use Rattle.terms.specs.Pictures.{Picture}
 use Rattle.model.specs.History.{has_begun}
 use Rattle.circ_core.specs.declared.views.View.{View}
 
--- ---- rows that are searched
+-- ---- rows found by search
 
--- These are the closed days of the branch, which is there.
+-- These are the closed days of the branch, which exists.
 pub record AreBranchClosings (P : Picture) (branch : ℕ) (closings : Closings) : Type 0 where
   pub row : BranchRow
   pub there : P.branches branch ≡ Some row
@@ -30,22 +30,22 @@ pub record AreBranchClosings (P : Picture) (branch : ℕ) (closings : Closings) 
   pub weekdays : AreWeekdays closings.weekly
   pub single : (day : ℕ) → has_day closings.single day ≡ P.closed_days branch day
 
--- The calendar of the branch, or none where there is no such branch.
+-- The calendar of the branch, or none if the branch doesn't exist.
 abbrev pub IsCalendarOf : Picture → ℕ → Option Closings → Type 0
 IsCalendarOf P branch (Some closings) = AreBranchClosings P branch closings
 IsCalendarOf P branch None = P.branches branch ≡ None
 
--- An open loan of the copy, or none where it has none.
+-- An open loan of the copy, or none if it has none.
 abbrev pub IsLoanOf : Picture → ℕ → Option LoanRow → Type 0
 IsLoanOf P copy (Some row) = (P.loans row.loan ≡ Some row) × (row.copy ≡ copy) × (row.ended ≡ None)
 IsLoanOf P copy None = (l : ℕ) (r : LoanRow) → P.loans l ≡ Some r → r.copy ≡ copy → r.ended ≡ None → ⊥
 
--- A hold that names the copy, or none where none does.
+-- A hold that names the copy, or none if none does.
 abbrev pub IsHoldOf : Picture → ℕ → Option HoldRow → Type 0
 IsHoldOf P copy (Some row) = (P.holds row.hold ≡ Some row) × (row.copy ≡ Some copy)
 IsHoldOf P copy None = (h : ℕ) (r : HoldRow) → P.holds h ≡ Some r → r.copy ≡ Some copy → ⊥
 
--- A travel of a copy for the hold, or none where no copy travels for it.
+-- A transit for the hold, or none if no copy travels for it.
 abbrev pub IsTravelFor : Picture → ℕ → Option TransitRow → Type 0
 IsTravelFor P hold (Some row) = (P.transits row.copy ≡ Some row) × (row.hold ≡ Some hold)
 IsTravelFor P hold None = (c : ℕ) (x : TransitRow) → P.transits c ≡ Some x → x.hold ≡ Some hold → ⊥
@@ -58,7 +58,7 @@ pub record LendsTitle (P : Picture) (patron title : ℕ) (loan : LoanRow) : Type
   pub lent : P.copies loan.copy ≡ Some copy
   pub of_title : copy.title ≡ title
 
--- An open loan of the patron of a copy of the title, or none where the patron has none.
+-- The patron's open loan of a copy of the title, or none if there is none.
 abbrev pub IsLoanOfTitle : Picture → ℕ → ℕ → Option LoanRow → Type 0
 IsLoanOfTitle P patron title (Some row) = (P.loans row.loan ≡ Some row) × LendsTitle P patron title row
 IsLoanOfTitle P patron title None = (l : ℕ) (r : LoanRow) → P.loans l ≡ Some r → LendsTitle P patron title r → ⊥
@@ -71,14 +71,14 @@ pub record InLine (P : Picture) (title hold : ℕ) (row : HoldRow) : Type 0 wher
   pub begun : has_begun P.meta.today row.first_day ≡ true
   pub alone : (c : ℕ) (x : TransitRow) → P.transits c ≡ Some x → x.hold ≡ Some hold → ⊥
 
--- The hold of the least number among those in line for the title, or none where nobody stands in line.
+-- The lowest-numbered hold in line for the title, or none if nobody is in line.
 abbrev pub IsFirstOf : Picture → ℕ → Option HoldRow → Type 0
 IsFirstOf P title (Some row) = InLine P title row.hold row × ((h : ℕ) (r : HoldRow) → InLine P title h r → row.hold ≤ h)
 IsFirstOf P title None = (h : ℕ) (r : HoldRow) → InLine P title h r → ⊥
 
 -- ---- rows that are counted
 
--- How many keys pass: the length of a list that has each of them once.
+-- The number of keys that pass: the length of a list that has each of them once.
 pub record IsCount (passes : ℕ → Type 0) (n : ℕ) : Type 0 where
   pub keys : List ℕ
   pub once : IsDistinct ◌==◌ keys
@@ -106,21 +106,21 @@ abbrev pub rule_in : Picture → Option PatronRow → Option CopyRow → Option 
 rule_in P (Some patron) (Some copy) = P.rules patron.kind copy.kind
 rule_in P _ _ = None
 
--- The first in line for the title of the copy; without a copy nobody is looked for.
+-- The first in line for the copy's title; without a copy there is none.
 abbrev pub IsFirstFor : Picture → Option CopyRow → Option HoldRow → Type 0
 IsFirstFor P (Some copy) first = IsFirstOf P copy.title first
 IsFirstFor P None first = first ≡ None
 
--- How many active holds the patron has on the title of the copy; without a copy none is looked for.
+-- The number of active holds that the patron has on the copy's title; 0 without a copy.
 abbrev pub AreHoldsFor : Picture → ℕ → Option CopyRow → ℕ → Type 0
 AreHoldsFor P patron (Some copy) n = IsCount (IsActiveOn P patron copy.title) n
 AreHoldsFor P patron None n = n ≡ 0
 
--- The kind of the patron as it is now.
+-- The patron's current kind.
 abbrev pub kind_in : Picture → Option PatronRow → Option KindRow
 kind_in P patron = option_and_then (λ r. P.kinds r.kind) patron
 
--- The copy that is lent.
+-- The lent copy.
 abbrev pub copy_in : Picture → Option LoanRow → Option CopyRow
 copy_in P loan = option_and_then (λ r. P.copies r.copy) loan
 
@@ -136,14 +136,14 @@ named_copy_in P hold = option_and_then (λ r. option_and_then P.copies r.copy) h
 abbrev pub coming_in : Picture → Option TransitRow → Option HoldRow
 coming_in P transit = option_and_then (λ r. option_and_then P.holds r.hold) transit
 
--- The calendar of the branch that made the loan; without a loan none is looked for.
+-- The calendar of the branch that made the loan; none without a loan.
 abbrev pub IsLenderOf : Picture → Option LoanRow → Option Closings → Type 0
 IsLenderOf P (Some loan) calendar = IsCalendarOf P loan.branch calendar
 IsLenderOf P None calendar = calendar ≡ None
 
 -- ---- the views
 
--- The view of no row, in which nothing is counted.
+-- The view with no rows and zero counts.
 unfoldable pub empty_view : View
 empty_view = record {
   meta = record { schema = 0; today = FIRST_DAY; next_loan = 0; next_hold = 0; next_line = 0 };
@@ -195,7 +195,7 @@ pub record IsCheckOutView (P : Picture) (p c b : ℕ) (rows : View) : Type 0 whe
   pub open_loans : IsCount (IsOpenBy P p) rows.open_loans
   pub own_holds : AreHoldsFor P p rows.copy rows.own_holds
 
--- The calendar of the branch, each single day of it once.
+-- The branch's calendar, with each single day once.
 pub record IsClosedDayView (P : Picture) (b : ℕ) (rows : View) : Type 0 where
   pub meta : rows.meta ≡ P.meta
   pub calendar : IsCalendarOf P b rows.calendar
@@ -227,7 +227,7 @@ pub record IsPlaceHoldView (P : Picture) (p t b : ℕ) (rows : View) : Type 0 wh
   pub loan : IsLoanOfTitle P p t rows.loan
   pub active_holds : IsCount (IsActiveBy P p) rows.active_holds
 
--- The hold, and the travel for it.
+-- The hold, and the transit for it.
 pub record IsCancelHoldView (P : Picture) (h : ℕ) (rows : View) : Type 0 where
   pub hold : rows.hold ≡ P.holds h
   pub transit : IsTravelFor P h rows.transit
@@ -237,12 +237,12 @@ pub record IsBranchView (P : Picture) (b : ℕ) (row : Option BranchRow) (closin
   pub branch : row ≡ P.branches b
   pub calendar : IsCalendarOf P b closings
 
--- The pick-up branch of the hold; without a hold none is looked for.
+-- The pick-up branch of the hold; none without a hold.
 abbrev pub IsPickupView : Picture → Option HoldRow → Option BranchRow → Option Closings → Type 0
 IsPickupView P (Some hold) row closings = IsBranchView P hold.branch row closings
 IsPickupView P None row closings = (row ≡ None) × (closings ≡ None)
 
--- The lending branch's calendar and the borrower of the loan, if there is one.
+-- The lending branch's calendar and the borrower of the loan, if any.
 pub record IsLenderView (P : Picture) (loan : Option LoanRow) (rows : View) : Type 0 where
   pub calendar : IsLenderOf P loan rows.lender
   pub patron : rows.patron ≡ borrower_in P loan

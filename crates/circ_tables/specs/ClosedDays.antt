@@ -1,4 +1,4 @@
--- The table of days on which a branch is closed singly.
+-- The table of single closed days of branches.
 use Rattle.std.proofs.Common.{inl, refl}
 use Rattle.std.specs.Prelude.{ℕ, List, Some, None, is_some, if◌then◌else◌}
 use Rattle.sqlite.specs.Listing.{understood}

@@ -1,4 +1,4 @@
--- The table of holds, which is there from schema 2 on.
+-- The table of holds, which exists from schema 2 on.
 use Rattle.std.proofs.Common.{ap, ◌∙◌}
 use Rattle.std.specs.Prelude.{◌≡◌, ℕ, pos, true, List, [], drop, refl, zero, suc, ◌&&◌}
 use Rattle.sqlite.specs.Kind.TheVariants.{Integer}

@@ -1,4 +1,4 @@
--- The table of the holds of a library of schema 1, which is empty from schema 2 on.
+-- The holds table of schema 1, which is empty from schema 2 on.
 use Rattle.std.proofs.Common.{ap, ◌∙◌}
 use Rattle.std.specs.Prelude.{ℕ, pos, true, List, drop, refl, ◌&&◌}
 use Rattle.sqlite.specs.Kind.TheVariants.{Integer}

@@ -1,4 +1,4 @@
--- The table of kinds of patrons.
+-- The table of patron kinds.
 use Rattle.std.specs.Prelude.{ℕ, pos, List, drop, refl}
 use Rattle.sqlite.specs.Listing.{understood}
 use Rattle.sqlite.specs.Order.{column}

@@ -1,4 +1,4 @@
--- The table of lines of accounts.
+-- The table of account lines.
 use Rattle.std.proofs.Common.{ap}
 use Rattle.std.specs.Prelude.{◌≡◌, ℕ, pos, true, List, drop, refl, zero, suc, ◌&&◌}
 use Rattle.sqlite.specs.Listing.{understood}

@@ -1,4 +1,4 @@
--- The table of loans, which is there from schema 3 on.
+-- The table of loans, which exists from schema 3 on.
 use Rattle.std.proofs.Common.{ap}
 use Rattle.std.specs.Prelude.{ℕ, pos, true, drop, refl, ◌&&◌}
 use Rattle.sqlite.specs.Kind.TheVariants.{Integer}

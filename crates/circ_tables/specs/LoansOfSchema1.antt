@@ -1,4 +1,4 @@
--- The table of the loans of a library of schema 1 or 2, which is empty from schema 3 on.
+-- The loans table of schemas 1 and 2, which is empty from schema 3 on.
 use Rattle.std.proofs.Common.{ap}
 use Rattle.std.specs.Prelude.{ℕ, pos, true, List, drop, refl, ◌&&◌}
 use Rattle.sqlite.specs.Listing.{understood}

@@ -1,5 +1,5 @@
--- What has to be computed of the texts of a table that is keyed by one number. It is the same list of `refl` for each table, and holds of
--- each schema that begins with the tables up to its own.
+-- What has to be computed of the texts of a table keyed by one number. It is the same list of `refl` for each
+-- table, and holds of each schema that begins with the tables up to this one.
 use Rattle.std.specs.Prelude.{codes, true, refl, None, ◌≡◌, ◌+◌, ◌-◌, ◌≤◌, ℕ, zero, suc, pos, negsuc, false, List, [], ◌∷◌, ◌++◌, length}
 use Rattle.std.specs.Prelude.{map, slice_get, Option, Some}
 use Rattle.std.proofs.Common.{sym, subst}
@@ -42,7 +42,7 @@ use Rattle.circ_tables.specs.declared.by_number.Texts.{Texts}
 use Rattle.circ_tables.specs.declared.by_number.TheConstants.{BATCH_ROWS}
 use Rattle.circ_tables.specs.Shape.{schema_at, HasTable, first, later_tables, later_indexes}
 
--- The key is the first parameter; or is not below it.
+-- The key equals the first parameter; or is not below it.
 abbrev pub by_key : List Term
 by_key = op2 (Compare Eq Binary) (col 1 0) (col 0 0) ∷ []
 
@@ -52,7 +52,7 @@ from_key = op2 (Compare Ge Binary) (col 1 0) (col 0 0) ∷ []
 abbrev pub by_number : List (Term × Key)
 by_number = (col 1 0, ascending Binary) ∷ []
 
--- The values that a put stores, and those that it shows of a row that is there.
+-- The values that a put stores, and those that it shows of an existing row.
 abbrev pub put_terms : Table → List Term
 put_terms t = col 0 0 ∷ lit Null ∷ map (col 0) (range_with_len 1 (length t.columns - 1))
 
@@ -64,14 +64,14 @@ put_of at t =
     InsertOr at Abort (Values (put_terms t) (length t.columns + 1))
     (record { target = Some t.primary; update = Some (record { lets = []; body = over t.tree (id_test (length t.columns)) (put_shows t) }) } ∷ [])
 
--- A batch of the rows that pass; how many pass.
+-- A batch of the rows that pass; the number that pass.
 abbrev pub batch_of : Table → List Term → Command
 batch_of t tests = Select (record { lets = []; body = in_order_up_to t.tree tests (each_column 1 t) by_number (lit (Int (pos BATCH_ROWS))) }) (names_of t)
 
 abbrev pub count_of : Table → List Term → Command
 count_of t tests = Select (record { lets = []; body = counting t.tree tests }) (codes "COUNT(*)" ∷ [])
 
--- A batch is asked for from the beginning, or after a number.
+-- A batch is asked for from the start, or after a number.
 abbrev pub next_text : Table → Option ℕ → List ℕ
 next_text t None = first_text t
 next_text t (Some n) = batch_text t
@@ -103,7 +103,7 @@ pub record IsNumbered (s : Schema) (at : ℕ) (t : Table) : Type 0 where
   pub first : IsRead s (first_text t) (batch_of t [])
   pub batch : IsRead s (batch_text t) (batch_of t from_key)
 
--- The six texts are those of the table.
+-- The six texts are the table's.
 pub record AreTexts (t : Table) (texts : Texts) : Type 0 where
   pub put : texts.put.now ≡ put_text t
   pub take : texts.take.now ≡ take_text t
@@ -112,8 +112,9 @@ pub record AreTexts (t : Table) (texts : Texts) : Type 0 where
   pub first : texts.first.now ≡ first_text t
   pub batch : texts.batch.now ≡ batch_text t
 
--- A table of typed rows that is keyed by one number, which the newest schema has: its texts in each schema that has it, and what ties the
--- rows to SQL and to the picture. A row can be read back from its columns, and it has a place in the picture.
+-- A table of typed rows keyed by one number, in the newest schema: its texts in each schema that has it, and
+-- the relation of its rows to SQL and the picture. A row can be read back from its columns, and it has a
+-- place in the picture.
 pub record IsNumberTable {R : Type 0} (t : typed.Table ℕ R) (number_of : R → ℕ) : Type 0 where
   pub newest : HasTable t.since SCHEMA
   pub texts : (n : ℕ) → HasTable t.since n → IsNumbered (schema_at n) t.place t.shape
@@ -131,26 +132,26 @@ pub record IsNumberTable {R : Type 0} (t : typed.Table ℕ R) (number_of : R →
   pub framed : (maps : Maps) (P : Picture) (m : Map) (u : ℕ → Option R) → Encodes maps P → IsEncoded Any number_key t.cells m u
       → Encodes (with_map maps t.place m) (with_rows P u)
 
--- A schema that begins with the tables and indexes of another; with those of step 1.
+-- A schema that begins with the tables and indexes of another; or with those of step 1.
 abbrev pub grown_from : Schema → List Table → List Index → Schema
 grown_from s more others = record { tables = s.tables ++ more; indexes = s.indexes ++ others; views = [] }
 
 abbrev pub grown : List Table → List Index → Schema
 grown = grown_from first
 
--- The schema of a number begins with those of step 1.
+-- Every numbered schema begins with those of step 1.
 pub schema_grown : (n : ℕ) → schema_at n ≡ grown (later_tables n) (later_indexes n)
 schema_grown zero = refl
 schema_grown (suc zero) = refl
 schema_grown (suc (suc zero)) = refl
 schema_grown (suc (suc (suc n))) = refl
 
--- So what is so of each schema that does is so of that of a number.
+-- So what holds of each schema that does holds of every numbered one.
 pub in_each : (at : ℕ) (t : Table) → ((more : List Table) (others : List Index) → IsNumbered (grown more others) at t) → (n : ℕ)
     → HasTable 1 n → IsNumbered (schema_at n) at t
 in_each at t is n has = subst (λ s. IsNumbered s at t) (sym (schema_grown n)) (is (later_tables n) (later_indexes n))
 
--- What a column holds, as it is read back.
+-- A column's content, as it is read back.
 abbrev pub nat_of : Value → ℕ
 nat_of (Int (pos n)) = n
 nat_of _ = 0

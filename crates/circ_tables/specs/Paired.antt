@@ -1,4 +1,4 @@
--- What has to be computed of the texts of a table that is keyed by two columns. It is the same list for each table.
+-- What has to be computed of the texts of a table keyed by two columns. It is the same list for each table.
 use Rattle.std.proofs.Common.{sym, subst}
 use Rattle.std.specs.Prelude.{◌≡◌, ◌+◌, ◌-◌, ℕ, refl, List, [], ◌∷◌, ◌++◌, length, map, Some}
 use Rattle.std.specs.List.{range_with_len}
@@ -30,7 +30,7 @@ use Rattle.circ_tables.specs.Numbered.{IsRun, IsRead, grown, schema_grown}
 use Rattle.circ_tables.specs.Shape.{schema_at, HasTable, since_first, later_tables, later_indexes}
 use Rattle.circ_tables.specs.Texts.{kept_columns, names_of, put_text, take_text, get_text, all_text}
 
--- The key is the first parameter and the second.
+-- The key equals the first and second parameters.
 abbrev pub by_key : List Term
 by_key = op2 (Compare Eq Binary) (col 1 1) (col 0 0) ∷ op2 (Compare Eq Binary) (col 1 2) (col 0 1) ∷ []
 
@@ -38,7 +38,7 @@ by_key = op2 (Compare Eq Binary) (col 1 1) (col 0 0) ∷ op2 (Compare Eq Binary)
 abbrev pub by_pair : List (Term × Key)
 by_pair = (col 1 1, ascending Binary) ∷ (col 1 2, ascending Binary) ∷ []
 
--- The values that a put stores, and those that it shows of a row that is there.
+-- The values that a put stores, and those that it shows of an existing row.
 abbrev pub put_terms : Table → List Term
 put_terms t = lit Null ∷ map (col 0) (range_with_len 0 (length t.columns))
 
@@ -67,14 +67,15 @@ pub record IsPaired (s : Schema) (at : ℕ) (t : Table) : Type 0 where
 abbrev pub IsCalm : Schema → Type 0
 IsCalm s = (keys : Keys) (depth tree : ℕ) (olds news : List Row) → works s keys depth tree olds news ≡ []
 
--- A clause on the key of a table meets the rows with the key alone.
+-- A clause on a table's key meets only the rows with the key.
 abbrev pub IsAimed : Schema → Table → Type 0
 IsAimed s t = (r new : Row) → conflicts (Some t.primary) s.indexes t new r ≡ agree plain t.primary r t.primary new
 
 pub are_calm : (n : ℕ) → HasTable 1 n → IsCalm (schema_at n)
 are_calm = since_first (λ n. IsCalm (schema_at n)) (λ keys depth tree olds news. refl) (λ keys depth tree olds news. refl) (λ keys depth tree olds news. refl)
 
--- What the texts are in each schema that begins with the tables of step 1 they are in that of a number.
+-- What holds of the texts in each schema that begins with the tables of step 1 holds in every numbered
+-- schema.
 pub in_each : (at : ℕ) (t : Table)
     → ((more : List Table) (others : List Index) → IsCalm (grown more others) → IsAimed (grown more others) t
     → IsPaired (grown more others) at t)

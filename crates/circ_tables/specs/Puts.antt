@@ -1,4 +1,4 @@
--- What a call that changes one row says, inside a transaction.
+-- What a call that changes one row promises, inside a transaction.
 use Rattle.std.specs.Prelude.{◌≡◌, ℕ, List, Some, None, Ok, Result, IfErr, OnOk, OnErr, IsTrue}
 use Rattle.sqlite.specs.Held.{state}
 use Rattle.sqlite.specs.Order.{Row}
@@ -19,13 +19,14 @@ use Rattle.circ_tables.specs.Encoding.{Draws, HasNoLibrary}
 use Rattle.circ_tables.specs.Reading.{Table}
 use Rattle.circ_tables.specs.Shape.{schema_at, HasTable, meta_place, kept_place}
 
--- The transaction is the same one, and what was committed before it stands, whatever comes of the call and whenever it is stopped.
+-- The transaction is the same, and what was committed before it stands, whatever the call's outcome and
+-- whenever it is stopped.
 pub record Works {S : Type 0} (g : Ghosts S) (old new : Transaction S) : Type 0 where
   pub same_reference : new.conn.ghost_name ≡ old.conn.ghost_name
   pub kept : HasCleanDisk (state g new.conn.now) → KeepsCommit (state g old.conn.now) (state g new.conn.now)
   pub survives : Survives (state g old.conn.now) (state g new.conn.now) (λ _. ⊥)
 
--- A text that writes was run. Only the database refuses it.
+-- A text that writes was run. Only the database can refuse it.
 pub record Runs {S T : Type 0} (text : List ℕ) (given : Row)
     (g : Ghosts S) (old new : Transaction S) (result : Result T Fault) : Type 0 where
   pub works : Works g old new
@@ -35,8 +36,8 @@ pub record Runs {S T : Type 0} (text : List ℕ) (given : Row)
       → OnErr result (IsKeptOrUndone (state g old.conn.now) (state g new.conn.now))
   pub fault : IfErr result (λ fault. fault ≡ Database)
 
--- The maps of the tables are changed so, and the picture that they show, in each schema that has the tables that are there since one. The
--- change of the picture may need something of the row. Its one fault is 91.
+-- The maps of the tables change so, and the picture that they show, in each schema that has the tables that
+-- exist since one. The change of the picture may need something of the row. The only fault is 91.
 pub record ChangesRows {S T : Type 0} (since : ℕ) (change : Maps → Maps) (Needs : Type 0) (draw : Picture → Picture)
     (g : Ghosts S) (old new : Transaction S) (result : Result T Fault) : Type 0 where
   pub works : Works g old new
@@ -53,7 +54,7 @@ pub record Puts {S T : Type 0} (since : ℕ) (change : Maps → Maps) (Needs : T
   pub leaves : HasCleanDisk (state g new.conn.now)
       → OnErr result (IsKeptOrUndone (state g old.conn.now) (state g new.conn.now))
 
--- The row stands under the key, in place of the row that had it.
+-- The row replaces any under the key.
 abbrev pub PutsRow : {S K R T : Type 0} → Table K R → K → R → Ghosts S → Transaction S → Transaction S → Result T Fault → Type 0
 PutsRow t key row = Puts t.since (λ maps. put_at maps t.place (t.key key) (t.cells row)) (Unit {0}) (λ P. t.set P key (Some row))
 
@@ -61,21 +62,21 @@ PutsRow t key row = Puts t.since (λ maps. put_at maps t.place (t.key key) (t.ce
 abbrev pub TakesRow : {S K R T : Type 0} → Table K R → K → Ghosts S → Transaction S → Transaction S → Result T Fault → Type 0
 TakesRow t key = Puts t.since (λ maps. take_at maps t.place (t.key key)) (Unit {0}) (λ P. t.set P key None)
 
--- The row is the one of `meta`.
+-- The row is the only one of `meta`.
 abbrev pub PutsMeta : {S T : Type 0} → MetaRow → Ghosts S → Transaction S → Transaction S → Result T Fault → Type 0
 PutsMeta row = Puts 1 (λ maps. put_at maps meta_place (number_key 1) (meta_cells row)) (Unit {0}) (λ P. record P { meta = row })
 
--- The row is kept under its caller and key. In the picture it stands so for the desk and for each patron that may be.
+-- The row is kept under its caller and key. In the picture this holds for the desk and each possible patron.
 abbrev pub PutsKept : {S T : Type 0} → KeptRow → Ghosts S → Transaction S → Transaction S → Result T Fault → Type 0
 PutsKept row = Puts 1 (λ maps. put_at maps kept_place (kept_key row.caller row.key) (kept_cells row)) (IsOwner row.caller)
     (λ P. record P { kept = put_kept P.kept row.caller row.key (Some row) })
 
--- In the transaction a library was made where none was.
+-- The transaction made a library where there was none.
 abbrev pub FindsNone : {S T : Type 0} → Ghosts S → Transaction S → Transaction S → Result T Fault → Type 0
 FindsNone g old new result = HasCleanDisk (state g new.conn.now) → IsTrue (state g old.conn.now).in_transaction
     → OnOk result (HasNoLibrary (state g old.conn.now).now)
 
--- The schema is led from one stage to another, with the maps of the tables that are there. Its one fault is 91.
+-- The schema goes from one stage to another, with the maps of the tables that exist. The only fault is 91.
 pub record Makes {S T : Type 0} (from to : Schema) (g : Ghosts S) (old new : Transaction S) (result : Result T Fault) : Type 0 where
   pub works : Works g old new
   pub moves : HasCleanDisk (state g new.conn.now) → IsTrue (state g old.conn.now).in_transaction

@@ -1,4 +1,4 @@
--- What a call that reads leaves, and what it says of a row.
+-- What a read leaves, and what it says of a row.
 use Rattle.std.specs.Prelude.{◌≡◌, ◌≢◌, ◌⊎◌, ◌≤◌, ◌<◌, ℕ, Bool, false, List, map, length, Option, Some, None, option_map, Err}
 use Rattle.std.specs.Prelude.{Result, IfOk, IfErr, IfSome, IsTrue, IsUtf8}
 use Rattle.std.specs.List.{All}
@@ -33,8 +33,8 @@ use Rattle.circ_tables.specs.Selections.{AreClosedDays}
 use Rattle.sqlite.specs.Table.{Table as Shape}
 use Rattle.circ_tables.specs.Shape.{schema, schema_at, HasTable, meta_place, closed_days_place, kept_place}
 
--- A table of typed rows: its shape and place, the schema since which it is there, the key of a row, its columns, its limits, its rows in a
--- picture, and the picture with another row, or none, under a key.
+-- A table of typed rows: its shape and place, its first schema, the key of a row, its columns, its limits,
+-- its rows in a picture, and the picture with another row, or none, under a key.
 pub record Table (K R : Type 0) : Type 1 where
   pub shape : Shape
   pub place : ℕ
@@ -53,21 +53,22 @@ IsLone m row = (k v : Row) → m k ≡ Some v → v ≡ meta_cells row
 abbrev pub kept_with : Owner → List ℕ → KeptReply → Row
 kept_with owner key k = kept_cells (record { caller = owner; key = key; text = k.text; reply = k.reply })
 
--- The days are those of which the test is true, each once.
+-- The days are those that pass the test, each once.
 abbrev pub AreSuch : List ℕ → (ℕ → Bool) → Type 0
 AreSuch days test = ((d : ℕ) → has_day days d ≡ test d) × (has_repeat days ≡ false)
 
--- The tables are as they were.
+-- The tables are unchanged.
 pub record IsSame (old new : State) : Type 0 where
   pub now : new.now ≡ old.now
   pub committed : new.committed ≡ old.committed
   pub was_open : IsTrue new.is_open → IsTrue old.is_open
 
--- The tables are as they were, or as the last commit left them.
+-- The tables are unchanged, or as the last commit left them.
 abbrev pub IsSameOrUndone : State → State → Type 0
 IsSameOrUndone old new = (new.now ≡ old.now) ⊎ (IsTrue old.is_open × (new.now ≡ old.committed))
 
--- One read after another: what they leave, whether they ended well or with this fault, which is not that of a stored row where the tables show a picture.
+-- What successive reads leave, whether they succeeded or ended in this fault, which isn't that of a stored
+-- row if the tables show a picture.
 pub record Reading (fault : Option Fault) (old new : State) : Type 0 where
   pub clean : HasCleanDisk new → HasCleanDisk old
   pub mode : old.in_transaction ≡ false → new.in_transaction ≡ false
@@ -76,7 +77,7 @@ pub record Reading (fault : Option Fault) (old new : State) : Type 0 where
   pub same : fault ≡ None → HasCleanDisk new → (maps : Maps) → Holds schema old.now maps → IsSame old new
   pub sound : fault ≡ Some Stored → HasCleanDisk new → (P : Picture) → HasPicture old.now P → InLimits P → ClosesFewDays P → ⊥
 
--- What is read, in words of the picture that the tables show, and what the reads leave.
+-- What is read, in terms of the picture that the tables show, and what the reads leave.
 pub record Views {S A : Type 0} (Is : Picture → A → Type 0)
     (g : Ghosts S) (old new : Held S) (result : Result A Fault) : Type 0 where
   pub read : Reading (result_err result) (state g old) (state g new)
@@ -91,7 +92,7 @@ pub record Asks {S : Type 0} (text : List ℕ) (given : Row) (g : Ghosts S) (old
       → IsKeptOrUndone (state g old) (state g new)
   pub survives : Survives (state g old) (state g new) (CommitsShowing text given (state g old))
 
--- A text was asked for its first row. Only the database refuses it.
+-- A text was asked for its first row. Only the database can refuse it.
 pub record AsksFirst {S : Type 0} (text : List ℕ) (given : Row)
     (g : Ghosts S) (old new : Held S) (result : Result (Option Row) Fault) : Type 0 where
   pub asks : Asks text given g old new
@@ -99,7 +100,7 @@ pub record AsksFirst {S : Type 0} (text : List ℕ) (given : Row)
       → IfOk result (FindsRow text given (state g old) (state g new))
   pub fault : IfErr result (λ fault. fault ≡ Database)
 
--- A text was asked for all its rows, which the list has in their order. Only the database refuses it.
+-- A text was asked for all its rows, which the list has in order. Only the database can refuse it.
 pub record AsksAll {S L : Type 0} (items : L → List Row) (text : List ℕ) (given : Row)
     (g : Ghosts S) (old new : Held S) (result : Result L Fault) : Type 0 where
   pub asks : Asks text given g old new
@@ -107,14 +108,16 @@ pub record AsksAll {S L : Type 0} (items : L → List Row) (text : List ℕ) (gi
       → IfOk result (λ rows. Shown text given (state g old) (state g new) (items rows))
   pub fault : IfErr result (λ fault. fault ≡ Database)
 
--- What a text that is asked inside a transaction leaves of it, and of what was committed before it, whatever comes of the call and whenever it is stopped.
+-- What a text asked inside a transaction leaves of it, and of what was committed before, whatever the call's
+-- outcome and whenever it is stopped.
 pub record WorksInside {S : Type 0} (g : Ghosts S) (old new : Transaction S) : Type 0 where
   pub same_reference : new.conn.ghost_name ≡ old.conn.ghost_name
   pub kept : HasCleanDisk (state g new.conn.now) → IsTrue (state g old.conn.now).in_transaction
       → KeepsCommit (state g old.conn.now) (state g new.conn.now)
   pub survives : Survives (state g old.conn.now) (state g new.conn.now) (λ _. ⊥)
 
--- A text was asked inside a transaction for all its rows, which the list has in their order. Only the database refuses it.
+-- A text was asked inside a transaction for all its rows, which the list has in order. Only the database can
+-- refuse it.
 pub record AsksInside {S L : Type 0} (items : L → List Row) (text : List ℕ) (given : Row)
     (g : Ghosts S) (old new : Transaction S) (result : Result L Fault) : Type 0 where
   pub works : WorksInside g old new
@@ -122,7 +125,7 @@ pub record AsksInside {S L : Type 0} (items : L → List Row) (text : List ℕ) 
       → IfOk result (λ rows. Shown text given (state g old.conn.now) (state g new.conn.now) (items rows))
   pub fault : IfErr result (λ fault. fault ≡ Database)
 
--- What plain texts leave of tables with the schema, where nothing is committed.
+-- What plain texts leave of tables with the schema, if nothing is committed.
 pub record Looks {S : Type 0} (g : Ghosts S) (old new : Held S) : Type 0 where
   pub clean : HasCleanDisk (state g new) → HasCleanDisk (state g old)
   pub mode : old.in_transaction ≡ false → new.in_transaction ≡ false
@@ -130,7 +133,8 @@ pub record Looks {S : Type 0} (g : Ghosts S) (old new : Held S) : Type 0 where
       → IsKeptOrUndone (state g old) (state g new)
   pub survives : Survives (state g old) (state g new) (λ _. (state g old).now.schema ≢ schema)
 
--- The tables were asked in a transaction that was rolled back: as long as the database is open they are what was committed, whatever tables there are.
+-- The tables were asked in a transaction that was rolled back: while the database is open they are what was
+-- committed, whatever tables exist.
 pub record RollsBack {S : Type 0} (g : Ghosts S) (old new : Held S) : Type 0 where
   pub idle : new.in_transaction ≡ false
   pub same : HasCleanDisk (state g new) → IsTrue (state g new).is_open
@@ -138,7 +142,8 @@ pub record RollsBack {S : Type 0} (g : Ghosts S) (old new : Held S) : Type 0 whe
       × ((state g new).committed ≡ (state g old).committed)
   pub survives : Survives (state g old) (state g new) (λ _. ⊥)
 
--- What was found is so in the maps of the tables, and nothing is changed: of tables with a schema, and of those with the newest one.
+-- What was found holds in the tables' maps, and nothing is changed: for tables of a given schema, and of the
+-- newest.
 abbrev pub OfMapsAt : {S A : Type 0} → Schema → (Maps → A → Type 0) → Ghosts S → Held S → Held S → Result A Fault → Type 0
 OfMapsAt s Is g old new result = HasCleanDisk (state g new)
     → IfOk result (λ x. (maps : Maps) → Holds s (state g old).now maps
@@ -147,7 +152,7 @@ OfMapsAt s Is g old new result = HasCleanDisk (state g new)
 abbrev pub OfMaps : {S A : Type 0} → (Maps → A → Type 0) → Ghosts S → Held S → Held S → Result A Fault → Type 0
 OfMaps = OfMapsAt schema
 
--- The same in a picture, which the tables of a schema show.
+-- The same for a picture that the tables of a schema show.
 abbrev pub OfPictureAt : {S A : Type 0} → ℕ → (Picture → A → Type 0) → Ghosts S → Held S → Held S → Result A Fault → Type 0
 OfPictureAt n Is g old new result = HasCleanDisk (state g new)
     → IfOk result (λ x. (P : Picture) → HasPictureAt n (state g old).now P
@@ -156,7 +161,7 @@ OfPictureAt n Is g old new result = HasCleanDisk (state g new)
 abbrev pub OfPicture : {S A : Type 0} → (Picture → A → Type 0) → Ghosts S → Held S → Held S → Result A Fault → Type 0
 OfPicture = OfPictureAt SCHEMA
 
--- The fault of a stored row comes only over maps of which this is so.
+-- The fault of a stored row comes only over maps that satisfy `Bad`.
 abbrev pub IsStoredAt : {S A : Type 0} → Schema → (Maps → Type 0) → Ghosts S → Held S → Held S → Result A Fault → Type 0
 IsStoredAt s Bad g old new result = HasCleanDisk (state g new) → result ≡ Err Stored
     → (maps : Maps) → Holds s (state g old).now maps → Bad maps
@@ -164,7 +169,7 @@ IsStoredAt s Bad g old new result = HasCleanDisk (state g new) → result ≡ Er
 abbrev pub IsStoredIn : {S A : Type 0} → (Maps → Type 0) → Ghosts S → Held S → Held S → Result A Fault → Type 0
 IsStoredIn = IsStoredAt schema
 
--- It never comes over a picture of which this is so.
+-- It never comes over a picture that satisfies `Good`.
 abbrev pub IsSoundAt : {S A : Type 0} → ℕ → (Picture → Type 0) → Ghosts S → Held S → Held S → Result A Fault → Type 0
 IsSoundAt n Good g old new result = HasCleanDisk (state g new)
     → (P : Picture) → HasPictureAt n (state g old).now P → Good P → result ≢ Err Stored
@@ -182,7 +187,8 @@ pub record FirstEntry {S R : Type 0} (cells : R → Row) (IsLegal : R → Type 0
   pub stored : HasCleanDisk (state g new) → result ≡ Err Stored
       → (v : Row) × FindsRow text given (state g old) (state g new) (Some v) × ((r : R) → IsLegal r → v ≢ cells r)
 
--- The row of a key, if there is one: what is read of it, in words of the maps and of a picture, and when it is outside its limits.
+-- The row of a key, if any: what is read of it, in terms of the maps and of a picture, and when it is outside
+-- its limits.
 pub record Gets {S K R : Type 0} (t : Table K R) (key : K)
     (g : Ghosts S) (old new : Held S) (result : Result (Option R) Fault) : Type 0 where
   pub looks : Looks g old new
@@ -194,7 +200,7 @@ pub record Gets {S K R : Type 0} (t : Table K R) (key : K)
   pub sound : IsSoundIn (λ P. IfSome (t.rows P key) t.IsLegal) g old new result
   pub view : Views (λ P row. row ≡ t.rows P key) g old new result
 
--- The one row of `meta`. It is outside its limits, or not the only one, where the fault of a stored row comes.
+-- The only row of `meta`. The fault of a stored row means that it is outside its limits or not the only one.
 pub record GetsMeta {S : Type 0} (g : Ghosts S) (old new : Held S) (result : Result MetaRow Fault) : Type 0 where
   pub looks : Looks g old new
   pub gets : OfMaps (λ maps row. maps meta_place (number_key 1) ≡ Some (meta_cells row)) g old new result
@@ -207,7 +213,8 @@ pub record GetsMeta {S : Type 0} (g : Ghosts S) (old new : Held S) (result : Res
   pub sound : IsSoundIn (λ P. IsMeta P.meta) g old new result
   pub view : Views (λ P row. row ≡ P.meta) g old new result
 
--- The same, asked inside a transaction, over the tables of each schema. Where the row comes, nothing is changed, so that the transaction goes on.
+-- The same inside a transaction, over the tables of each schema. If the row comes, nothing is changed, so the
+-- transaction goes on.
 pub record GetsMetaInside {S : Type 0} (g : Ghosts S) (old new : Transaction S) (result : Result MetaRow Fault) : Type 0 where
   pub works : WorksInside g old new
   pub gets : (n : ℕ) → HasTable 1 n
@@ -218,7 +225,7 @@ pub record GetsMetaInside {S : Type 0} (g : Ghosts S) (old new : Transaction S) 
   pub shows : (n : ℕ) → HasTable 1 n → OfPictureAt n (λ P row. row ≡ P.meta) g old.conn.now new.conn.now result
   pub sound : (n : ℕ) → HasTable 1 n → IsSoundAt n (λ P. IsMeta P.meta) g old.conn.now new.conn.now result
 
--- What is kept under a caller's key, if anything is.
+-- What is kept under a caller's key, if anything.
 pub record GetsKept {S : Type 0} (owner : Owner) (key : List ℕ)
     (g : Ghosts S) (old new : Held S) (result : Result (Option KeptReply) Fault) : Type 0 where
   pub looks : Looks g old new
@@ -231,7 +238,7 @@ pub record GetsKept {S : Type 0} (owner : Owner) (key : List ℕ)
       → IfSome (P.kept owner key) HasTexts → result ≢ Err Stored
   pub view : Views (λ P kept. IsOwner owner → kept ≡ option_map reply_of (P.kept owner key)) g old new result
 
--- The row that a selection finds first, if there is one. Where it answers, tables with the schema are as they were.
+-- The row that a selection finds first, if any. If it answers, tables with the schema are unchanged.
 pub record Selects {S K R : Type 0} (t : Table K R) (Found : Maps → List Row → Type 0)
     (g : Ghosts S) (old new : Held S) (result : Result (Option R) Fault) : Type 0 where
   pub looks : Looks g old new
@@ -242,7 +249,7 @@ pub record Selects {S K R : Type 0} (t : Table K R) (Found : Maps → List Row �
       → IfOk result (λ _. (state g old).now.schema ≡ schema → IsUnchanged (state g old) (state g new))
   pub read : Reading (result_err result) (state g old) (state g new)
 
--- The number that a text counts. The fault of a stored row comes where it counts no number below 2^32.
+-- The number that a text counts. The fault of a stored row comes if that isn't below 2^32.
 pub record CountShown {S : Type 0} (text : List ℕ) (given : Row)
     (g : Ghosts S) (old new : Held S) (result : Result ℕ Fault) : Type 0 where
   pub asks : Asks text given g old new
@@ -252,7 +259,7 @@ pub record CountShown {S : Type 0} (text : List ℕ) (given : Row)
       × FindsRow text given (state g old) (state g new) (Some row)
       × (0 < length row → (n : ℕ) → n ≤ 4294967295 → column row 0 ≢ number n)
 
--- How many rows of a table pass a test. The fault of a stored row stands for 2^32 and more.
+-- How many rows of a table pass a test. The fault of a stored row stands for 2^32 or more.
 pub record Counts {S K R : Type 0} (t : Table K R) (passes : Row → Bool)
     (g : Ghosts S) (old new : Held S) (result : Result ℕ Fault) : Type 0 where
   pub looks : Looks g old new
@@ -269,7 +276,7 @@ pub record Entries {S R L : Type 0} (items : L → List R) (cells : R → Row) (
       → (rows : List Row) × Shown text given (state g old) (state g new) rows
       × ¬ ((v : Row) → Has rows v → (r : R) × IsLegal r × (v ≡ cells r))
 
--- The same with what the text leaves.
+-- The same, with what the text leaves.
 pub record AllEntries {S R L : Type 0} (items : L → List R) (cells : R → Row) (IsLegal : R → Type 0)
     (text : List ℕ) (given : Row) (g : Ghosts S) (old new : Held S) (result : Result L Fault) : Type 0 where
   pub asks : Asks text given g old new
@@ -291,8 +298,8 @@ pub record Lists {S K R L : Type 0} (t : Table K R) (items : L → List R) (Foun
   pub sound : IsSoundIn InLimits g old new result
   pub read : Reading (result_err result) (state g old) (state g new)
 
--- The same, asked inside a transaction, over the tables of each schema that has this one. Where the rows come, nothing is changed, so that
--- the transaction goes on.
+-- The same inside a transaction, over the tables of each schema that has this one. If the rows come, nothing
+-- is changed, so the transaction goes on.
 pub record ListsInside {S K R L : Type 0} (t : Table K R) (items : L → List R) (Found : Map → List Row → Type 0)
     (g : Ghosts S) (old new : Transaction S) (result : Result L Fault) : Type 0 where
   pub works : WorksInside g old new
@@ -301,7 +308,7 @@ pub record ListsInside {S K R L : Type 0} (t : Table K R) (items : L → List R)
   pub stored : (n : ℕ) → HasTable t.since n
       → IsStoredAt (schema_at n) (λ maps. ¬ AreEncoded t.cells t.IsLegal (maps t.place)) g old.conn.now new.conn.now result
 
--- The days on which a branch is closed singly.
+-- The single closed days of a branch.
 pub record ListsDays {S L : Type 0} (items : L → List ℕ) (branch : ℕ)
     (g : Ghosts S) (old new : Held S) (result : Result L Fault) : Type 0 where
   pub looks : Looks g old new

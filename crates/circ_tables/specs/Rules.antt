@@ -1,4 +1,4 @@
--- The table of circulation rules, which is there from schema 3 on.
+-- The table of circulation rules, which exists from schema 3 on.
 use Rattle.std.proofs.Common.{inl, inr, refl}
 use Rattle.std.specs.Prelude.{ℕ}
 use Rattle.sqlite.specs.Listing.{understood}

@@ -1,4 +1,4 @@
--- The table of the circulation rules of a library of schema 1 or 2, which is empty from schema 3 on.
+-- The circulation rules table of schemas 1 and 2, which is empty from schema 3 on.
 use Rattle.std.proofs.Common.{inl, inr, refl}
 use Rattle.std.specs.Prelude.{ℕ, List}
 use Rattle.sqlite.specs.Listing.{understood}

@@ -14,30 +14,29 @@ use Rattle.model.specs.Pages.{spaced}
 use Rattle.model.specs.Picture.{Picture}
 use Rattle.model.specs.Places.{Place, Shelf, place, route, title_of_copy}
 
--- `copy` and `copies` tell the copy in this place.
+-- `copy` and `copies` show the copy in this place.
 pub record IsToldAt (H : History) (copy : ℕ) (at : Place) : Type 0 where
   pub alone : asked H (question.Copy copy) ≡ join_with_byte 10 (copy_line H copy ∷ place_line H at ∷ [])
   pub listed : (title : ℕ)
       → (copies_list H title).row copy ≡ spaced (codes "copy" ∷ decimal copy ∷ place_words H at)
 
 -- What is shown of the tables T after the history H:
--- each copy in the place of the claim that the tables make on it, and on the shelf of its home where they make none;
--- the hold whose turn it is first in its title's queue, and a copy that is to be taken from its shelf with the hold that it goes to;
--- the lines of a patron's account, whose balance is what is owed, and among the debts whoever owes something;
--- and each row of a list that is asked for again and again once.
+-- each copy where the tables' claim puts it, or on the shelf of its home if they make none;
+-- first in a title's queue the hold whose turn it is, and with a copy to pull the hold that it goes to;
+-- the lines of a patron's account, whose balance is the debt, and among the debts whoever owes something;
+-- and each row of a list that is asked for repeatedly exactly once.
 pub record Asked (H : History) (T : Picture) : Type 0 where
-  -- A copy that the tables claim is told in the claim's place.
+  -- A copy that the tables claim is shown where the claim puts it.
   pub claimed : (copy : ℕ) (at : Place) → Claims T copy at → IsToldAt H copy at
-  -- A copy that they don't claim is told on the shelf of its home.
+  -- A copy that they don't claim is shown on the shelf of its home.
   pub unclaimed : (copy : ℕ) (row : CopyRow) → T.copies copy ≡ Some row
       → ((at : Place) → Claims T copy at → ⊥) → IsToldAt H copy (Shelf row.home)
-  -- The first in a title's queue is the hold that the next copy of the title is given that routing
-  -- has to give: one that travels for no hold.
+  -- The first in a title's queue gets the next copy of the title that routing assigns: one that travels for
+  -- no hold.
   pub first : (title hold : ℕ) (others : List ℕ) (copy branch : ℕ)
       → (queue_list H title).numbers ≡ hold ∷ others → title_of_copy H copy ≡ title
       → travels_for (place H copy) ≡ None → Serves (route H copy branch) hold
-  -- A copy that is to be taken from the shelves of a branch goes, handed in there, to the hold that
-  -- it is shown with.
+  -- A copy to pull from a branch's shelves goes, handed in there, to the hold shown with it.
   pub pulled : (branch hold copy : ℕ) → pulled_for H branch hold ≡ Some copy
       → Serves (route H copy branch) hold
   -- The lines shown of a patron's account are all of them, in order.
@@ -46,11 +45,11 @@ pub record Asked (H : History) (T : Picture) : Type 0 where
   -- Their charges are the payments and waivers plus what the head says is owed.
   pub balance : (patron : ℕ)
       → charges (account H patron) ≡ credits (account H patron) + owed H patron
-  -- Who is shown among the debts has charges above payments and waivers, and nobody else has.
+  -- The debts show exactly the patrons whose charges exceed payments and waivers.
   pub debts : (patron : ℕ)
       → has_number (debts_list H).numbers patron
       ↔ (credits (account H patron) < charges (account H patron))
-  -- The numbers of each list rise, and each row that a list has all the time while it is asked for
-  -- from the last number shown on, until its end, is shown exactly once.
+  -- The numbers of each list ascend, and each row that is in a list all the time, while it is asked for after
+  -- the last number shown until its end, is shown exactly once.
   pub rising : HasRisingLists H
   pub once : ListsShowOnce

@@ -1,4 +1,4 @@
--- The rows of the lists that the desk asks for, by the rows of the tables.
+-- The rows of the lists that the desk asks for, from the tables' rows.
 use Rattle.std.specs.Prelude.{◌≡◌, ℕ, Bool, true, false, List, [], ◌∷◌, Some, codes, decimal}
 use Rattle.calendar.specs.Days.{day_text}
 use Rattle.terms.specs.declared.command.Command.TheVariants.{Ask}
@@ -23,7 +23,7 @@ abbrev pub queue_words : HoldRow → List ℕ
 queue_words row = spaced (codes "hold" ∷ decimal row.hold ∷ codes "patron" ∷ decimal row.patron ∷ codes "at" ∷ decimal row.branch
     ∷ from_words row.first_day)
 
--- A line of an account, for no loan or for one.
+-- An account line, for no loan or for one.
 abbrev pub line_words : LineRow → List ℕ
 line_words row = spaced (codes "line" ∷ decimal row.line ∷ day_text row.day ∷ sort_word row.sort ∷ decimal row.amount ∷ [])
 
@@ -34,25 +34,25 @@ abbrev pub charge_words : LineRow → ℕ → TitleRow → List ℕ
 charge_words row loan title = spaced (codes "line" ∷ decimal row.line ∷ day_text row.day ∷ sort_word row.sort ∷ decimal row.amount
     ∷ words_of_loan loan title)
 
--- A copy that is to be taken from its shelf for a hold.
+-- A copy to pull from its shelf for a hold.
 abbrev pub pull_words : ℕ → ℕ → TitleRow → List ℕ
 pull_words hold copy title =
     spaced (codes "hold" ∷ decimal hold ∷ codes "copy" ∷ decimal copy ∷ codes "title" ∷ decimal title.title ∷ title.text ∷ [])
 
--- The loan is there, and this is the title of its copy.
+-- The loan exists, and this is the title of its copy.
 abbrev pub IsTitleOfLoan : ℕ → History → TitleRow → Type 0
 IsTitleOfLoan loan H title = (row : LoanRow) × ((picture H).loans loan ≡ Some row) × IsTitleOf row.copy H title
 
 -- ---- replies
 
--- The reply is the answer to the question, whoever asks it.
+-- The reply is the answer to the question, whoever asks.
 abbrev pub IsAnswer : Question → History → Reply → Type 0
 IsAnswer q H reply = (owner : Owner) → reply ≡ answer H owner (Ask q)
 
--- A text is shown where what it is of is known; else the refusal says that it isn't.
+-- The text is shown if its subject is known; otherwise the refusal says that it isn't.
 abbrev pub reply_if : Bool → Refusal → List ℕ → Reply
 reply_if known refusal text = elim known [ true ↦ Shown text | false ↦ Refused refusal ]
 
--- A title, as it stands at the head of a list of it.
+-- A title, as at the head of its lists.
 abbrev pub title_words_of : TitleRow → List ℕ
 title_words_of row = spaced (codes "title" ∷ decimal row.title ∷ row.text ∷ [])

@@ -1,4 +1,4 @@
--- What the overdue report reads of its branch before its rows.
+-- What the overdue report reads about its branch before its rows.
 use Rattle.std.specs.Prelude.{◌≡◌, ℕ, List, Option, Some, None}
 use Rattle.std.specs.List.{Contains}
 use Rattle.terms.specs.declared.row.LoanRow.{LoanRow}
@@ -8,7 +8,7 @@ use Rattle.desk.specs.Reporting.{CountsFor}
 use Rattle.desk.specs.Written.{HasBranch}
 use Rattle.desk.specs.declared.overdue.Lender.{Lender}
 
--- The calendar is that of the branch, and the day is today.
+-- The calendar is the branch's, and the day is today.
 abbrev pub CountsForLender : Lender → History → Type 0
 CountsForLender lender H = CountsFor H lender.branch lender.calendar lender.today
 
@@ -20,7 +20,7 @@ IsLateRow lender r H = ((picture H).loans r.loan ≡ Some r) × CountsForLender 
 abbrev pub AreLateRows : Lender → List LoanRow → History → Type 0
 AreLateRows lender rows H = (r : LoanRow) → Contains rows r → IsLateRow lender r H
 
--- It was read of the branch, if there is the branch.
+-- It was read from the branch, if that exists.
 abbrev pub IsLender : ℕ → History → Option Lender → Type 0
 IsLender branch H (Some lender) = HasBranch H branch × (lender.branch ≡ branch) × CountsForLender lender H
 IsLender branch H None = (picture H).branches branch ≡ None

@@ -1,4 +1,4 @@
--- Lists that the desk is asked for, as they are told row by row.
+-- Lists that the desk asks for, reported row by row.
 use Rattle.std.specs.Prelude.{◌≡◌, ◌==◌, ◌⊎◌, ◌<◌, ◌≤◌, ◌+◌, ℕ, nat_lt, true, false, List, [], ◌∷◌, ◌++◌, map, take, length, codes, decimal}
 use Rattle.std.specs.Prelude.{slice_get, ◌-◌, Option, Some, None, option_map, String, string_bytes}
 use Rattle.std.specs.List.{list_any, Contains}
@@ -13,7 +13,8 @@ use Rattle.desk.specs.declared.listing.Part.{Part}
 
 -- ---- what is read of a list
 
--- A batch of rows above a number, among which all of the list are: all of them, or the first, as many as a batch has. Others may be among them.
+-- A batch of rows above a number, including all of the list's there, or, if the batch is full, its first
+-- ones. It may include other rows.
 pub record HasBatch {R : Type 0} (number_of : R → ℕ) (Is : R → Type 0) (x : Listing) (at : ℕ) (rows : List R) : Type 0 where
   pub sound : (r : R) → Contains rows r → Is r × (at < number_of r)
   pub whole : (n : ℕ) → has_number x.numbers n → at < n
@@ -23,38 +24,39 @@ pub record HasBatch {R : Type 0} (number_of : R → ℕ) (Is : R → Type 0) (x 
   -- the numbers of the list rise
   pub rising : AreRising x.numbers
 
--- What is told of a row of this number: the list's row, or nothing where the list has none.
+-- The text for a row with this number: the list's row, or none if the list has no such row.
 abbrev pub IsRowText : {Z : Type 0} → Listing → ℕ → Option (String Z) → Type 0
 IsRowText x n (Some text) = has_number x.numbers n × (string_bytes text ≡ x.row n)
 IsRowText x n None = list_any (λ m. m == n) x.numbers ≡ false
 
--- ---- what was told of it
+-- ---- what was reported
 
--- One row more was told; where the answer was full, that there are more.
+-- One more row was reported; if the answer was full, that there are more.
 pub record IsAdded (n : ℕ) (row : List ℕ) (old new : Part) : Type 0 where
   pub text : string_bytes new.text ≡ elim (nat_lt old.rows MOST_ROWS) [ true ↦ string_bytes old.text ++ (row ++ 10 ∷ []) | false ↦ string_bytes old.text ]
   pub rows : new.rows ≡ elim (nat_lt old.rows MOST_ROWS) [ true ↦ old.rows + 1 | false ↦ old.rows ]
   pub last : new.last ≡ elim (nat_lt old.rows MOST_ROWS) [ true ↦ n | false ↦ old.last ]
   pub more : new.more ≡ elim (nat_lt old.rows MOST_ROWS) [ true ↦ old.more | false ↦ true ]
 
--- The row of this number was told, or the list has none.
+-- The row with this number was reported, or the list has none.
 abbrev pub IsTold : Listing → ℕ → Part → Part → Type 0
 IsTold x n old new = (has_number x.numbers n × IsAdded n (x.row n) old new) ⊎ ((list_any (λ m. m == n) x.numbers ≡ false) × (new ≡ old))
 
--- These numbers were told after a beginning: the first hundred by their rows, the others by that there are more.
+-- These numbers were reported after a beginning: the first hundred by their rows, the rest by saying that
+-- there are more.
 pub record HasTold (x : Listing) (start numbers : List ℕ) (part : Part) : Type 0 where
   pub text : string_bytes part.text ≡ start ++ report_lines (map x.row (take MOST_ROWS numbers))
   pub rows : part.rows ≡ length (take MOST_ROWS numbers)
   pub last : part.last ≡ last_of 0 (take MOST_ROWS numbers)
   pub more : part.more ≡ nat_lt MOST_ROWS (length numbers)
 
--- Of the numbers above `after` those up to `at` were told.
+-- Of the numbers above `after`, those up to `at` were reported.
 pub record IsSoFar (x : Listing) (after at : ℕ) (start : List ℕ) (part : Part) : Type 0 where
   pub front : List ℕ
   pub split : above after x.numbers ≡ front ++ above at x.numbers
   pub told : HasTold x start front part
 
--- Whatever was told before, these rows were told after it.
+-- Whatever was reported before, these rows were reported after it.
 abbrev pub GoesOn : Listing → ℕ → ℕ → Part → Part → Type 0
 GoesOn x at to old new = (start : List ℕ) (after : ℕ) → IsSoFar x after at start old → IsSoFar x after to start new
 
@@ -62,7 +64,7 @@ GoesOn x at to old new = (start : List ℕ) (after : ℕ) → IsSoFar x after at
 abbrev pub end_words : Part → List ℕ
 end_words part = elim part.more [ true ↦ spaced (codes "after" ∷ decimal part.last ∷ []) | false ↦ codes "end" ]
 
--- The number after which more is to be read; none once a batch is not full, or there are more than are told.
+-- The number after which to read on; none once a batch isn't full, or there are more rows than are reported.
 abbrev pub IsNext : {R : Type 0} → (R → ℕ) → List R → Part → Option ℕ → Type 0
 IsNext number_of rows part None = (length rows < BATCH_ROWS) ⊎ (part.more ≡ true)
 IsNext number_of rows part (Some last) = option_map number_of (slice_get rows (length rows - 1)) ≡ Some last

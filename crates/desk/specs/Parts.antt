@@ -1,4 +1,4 @@
--- The parts of a report, as they go out one after another.
+-- The parts of a report, in the order they go out.
 use Rattle.std.specs.Prelude.{◌≡◌, ◌<◌, ◌-◌, ℕ, nat_lt, List, [], ◌++◌, map, filter, length, slice_get, Option, Some, None, option_map}
 use Rattle.std.specs.Prelude.{Result, Err, IfOk, OnErr}
 use Rattle.std.specs.Io.KnownBytes.{Appends}
@@ -17,33 +17,33 @@ use Rattle.desk.specs.declared.reports.Told.{Told}
 abbrev pub IsAny : History → Type 0
 IsAny H = Unit {0}
 
--- The one is a beginning of the other, perhaps nothing of it, perhaps all.
+-- `sent` is a beginning of `bytes`, possibly empty or whole.
 abbrev pub IsFront : List ℕ → List ℕ → Type 0
 IsFront sent bytes = (rest : List ℕ) × (bytes ≡ sent ++ rest)
 
--- A part of a report was written, after a list of accepted requests that is as `If` says: `all` is
--- what was to go out, and `Is` says what went out with the answer. `before` and `after` are the bytes
--- that the writer showed and shows.
+-- A part of a report was written, if the list of accepted requests satisfies `If`: `all` is what was to go
+-- out, and `Is` relates the answer to what went out. `before` and `after` are the writer's bytes before and
+-- after.
 pub record WritesPart {S T : Type 0} (If : History → Type 0) (Is : History → T → List ℕ → Type 0)
     (all : History → List ℕ) (g : Ghosts S) (old new : Held S) (before after : Option (List ℕ))
     (result : Result T ReportFault) : Type 0 where
   -- these bytes went out
   pub sent : List ℕ
   pub wrote : Appends before after sent
-  -- where all went well, they are so
+  -- on success they are what `Is` says
   pub told : IsClean g new
       → IfOk result (λ x. (H : History) → Shows (state g old) H → If H → Is H x sent)
-  -- where a write or the database failed, they are a beginning of the part
+  -- if a write or the database failed, they are a beginning of the part
   pub front : IsClean g new
       → OnErr result ((H : History) → Shows (state g old) H → If H → IsFront sent (all H))
   -- it is never refused
   pub refused : (refusal : Refusal) → result ≡ Err (Refused refusal) → ⊥
-  -- fault 93 comes after no such list
+  -- fault 93 never comes after such a list
   pub sound : IsClean g new → result ≡ Err (Faulted Stored) → (H : History) → Shows (state g old) H
       → If H → ⊥
   -- after a failed write the tables show what they showed
   pub stays : IsClean g new → result ≡ Err NotWritten → Stays (state g old) (state g new)
-  -- whatever the outcome, as long as the database is open
+  -- whatever the outcome, the tables are only read
   pub looks : DeskLooks (state g old) (state g new) result
 
 -- A text of the list was written.
@@ -53,34 +53,33 @@ WritesText If text = WritesPart If (λ H _ sent. sent ≡ text H) text
 
 -- ---- rows by batches
 
--- The numbers of the list that are above this one.
+-- The numbers of the list above this one.
 abbrev pub above : ℕ → List ℕ → List ℕ
 above k numbers = filter (λ n. nat_lt k n) numbers
 
--- Those that are left once all up to the last one of a batch went out. After the last batch none are.
+-- The numbers left once all up to the last one of a batch went out; none after the last batch.
 abbrev pub left_after : Option ℕ → List ℕ → List ℕ
 left_after None numbers = []
 left_after (Some last) numbers = above last numbers
 
--- The number of the last row of a batch where more may follow; none where fewer rows came than a batch
--- has.
+-- The number of a batch's last row if more may follow; none if the batch isn't full.
 abbrev pub IsLast : {R : Type 0} → (R → ℕ) → List R → Option ℕ → Type 0
 IsLast number_of rows None = length rows < BATCH_ROWS
 IsLast number_of rows (Some last) = option_map number_of (slice_get rows (length rows - 1)) ≡ Some last
 
--- A batch of rows went out, a line for each.
+-- A batch of rows went out, one line each.
 pub record IsBatch (line : ℕ → List ℕ) (numbers : List ℕ) (after : ℕ) (told : Told)
     (sent : List ℕ) : Type 0 where
   -- the numbers of its rows
   pub some : List ℕ
-  -- they are the first above `after`, and those that are left come after them
+  -- they are the first above `after`, followed by those that are left
   pub split : above after numbers ≡ some ++ left_after told.last numbers
-  -- where more may follow, the last one is above `after`
+  -- if more may follow, the last one is above `after`
   pub goes_on : (last : ℕ) → told.last ≡ Some last → after < last
   pub count : told.rows ≡ length some
   pub lines : sent ≡ report_lines (map line some)
 
--- All rows went out, and there are so many.
+-- All rows went out, and this is their number.
 abbrev pub AreAllRows : (ℕ → List ℕ) → List ℕ → ℕ → List ℕ → Type 0
 AreAllRows line numbers count sent =
     (count ≡ length numbers) × (sent ≡ report_lines (map line numbers))

@@ -18,13 +18,13 @@ use Rattle.model.specs.Asking.{for_words}
 use Rattle.desk.specs.declared.placing.CopyPlace.{CopyPlace}
 use Rattle.desk.specs.declared.placing.CopyPlace.TheVariants as at
 
--- A copy that no row claims: by its condition.
+-- A copy that no row claims is placed by its condition.
 abbrev pub unclaimed : Condition → ℕ → CopyPlace
 unclaimed Present home = at.Shelf home
 unclaimed Missing home = at.Missing
 unclaimed Withdrawn home = at.Withdrawn
 
--- One that is claimed is where its loan, its hold or its travel says; a hold on whose shelf it stands has a shelf limit.
+-- A claimed copy is where its loan, hold or transit says; a hold with a copy on its shelf has a shelf limit.
 abbrev pub by_loan : Option LoanRow → Option CopyPlace → Option CopyPlace
 by_loan (Some loan) else_at = Some (at.Loan loan.loan loan.due loan.patron)
 by_loan None else_at = else_at
@@ -60,7 +60,7 @@ abbrev pub travel_words : TransitRow → TitleRow → List ℕ
 travel_words transit title =
     spaced (codes "copy" ∷ decimal transit.copy ∷ for_words transit.hold ++ codes "title" ∷ decimal title.title ∷ title.text ∷ [])
 
--- The place is the one that the history gives, and so is what is told of it.
+-- The words for a place.
 abbrev pub IsPlace : History → CopyPlace → Place → Type 0
 IsPlace H (at.Shelf branch) p = p ≡ Shelf branch
 IsPlace H (at.HoldShelf hold branch until patron) p =
@@ -70,11 +70,11 @@ IsPlace H (at.Loan loan due_day patron) p = (p ≡ Loan loan) × (due H loan ≡
 IsPlace H at.Missing p = p ≡ MissingCopy
 IsPlace H at.Withdrawn p = p ≡ WithdrawnCopy
 
--- A copy is in such a place.
+-- A copy is in this place.
 abbrev pub IsAt : History → ℕ → CopyPlace → Type 0
 IsAt H copy here = IsPlace H here (place H copy)
 
--- Words after others: a space before each.
+-- Words after others, each preceded by a space.
 abbrev pub after_space : List (List ℕ) → List ℕ
 after_space [] = []
 after_space (word ∷ words) = 32 ∷ word ++ after_space words

@@ -1,4 +1,4 @@
--- The reports of the desk as one: their texts, and what becomes of one that is written.
+-- The desk's reports as one type: their texts, and the outcome of writing one.
 use Rattle.std.specs.Prelude.{◌≡◌, ℕ, List, Option, None, Result, Err, OnOk, OnErr}
 use Rattle.std.specs.Io.KnownBytes.{Appends, Keeps}
 use Rattle.store.specs.Library.{Ghosts, Held, state, IsClean}
@@ -24,42 +24,42 @@ report_text H (Overdue branch) = overdue H branch
 report_text H (Till day) = till H day
 report_text H (Shelf branch) = shelf H branch
 
--- There is such a report: one of any day, and those of each branch that there is.
+-- The report exists: for any day, or for an existing branch.
 abbrev pub IsThere : History → Report → Type 0
 IsThere H (Overdue branch) = HasBranch H branch
 IsThere H (Till day) = Unit {0}
 IsThere H (Shelf branch) = HasBranch H branch
 
--- There is no such report: it is one of an unknown branch.
+-- The report doesn't exist: its branch is unknown.
 abbrev pub IsUnknown : History → Report → Type 0
 IsUnknown H (Overdue branch) = (picture H).branches branch ≡ None
 IsUnknown H (Till day) = ⊥
 IsUnknown H (Shelf branch) = (picture H).branches branch ≡ None
 
--- The bytes of a report were written, or it was refused, or a write or the database failed. `before`
--- and `after` are the bytes that the writer showed and shows.
+-- A report's bytes were written, or it was refused, or a write or the database failed. `before` and `after`
+-- are the writer's bytes before and after.
 pub record WritesAnyReport {S T : Type 0} (report : Report)
     (g : Ghosts S) (old new : Held S) (before after : Option (List ℕ))
     (result : Result T ReportFault) : Type 0 where
-  -- the report is there, and it went out as the tables show it
+  -- the report exists, and it went out as the tables show it
   pub written : IsClean g new
       → OnOk result ((H : History) → Shows (state g old) H
       → IsThere H report × Appends before after (report_text H report))
   -- a refusal is that of an unknown branch, and nothing went out
   pub refused : (refusal : Refusal) → result ≡ Err (Refused refusal)
       → (refusal ≡ UnknownBranch) × Keeps before after
-  -- and the report is one of an unknown branch; the tables show what they showed
+  -- the report's branch is unknown, and the tables show what they showed
   pub unknown : IsClean g new → (refusal : Refusal) → result ≡ Err (Refused refusal)
       → (H : History) → Shows (state g old) H → IsUnknown H report × Shows (state g new) H
-  -- where a write or the database failed, a beginning of the report went out
+  -- if a write or the database failed, a beginning of the report went out
   pub cut : OnErr result (SendsFront (λ H. report_text H report) g old new before after)
-  -- fault 93 doesn't come where the tables show a list of accepted requests
+  -- fault 93 doesn't come if the tables show a list of accepted requests
   pub sound : IsClean g new → result ≡ Err (Faulted Stored) → (H : History) → Shows (state g old) H
       → ⊥
-  -- that of a till report comes only where a row lies out of its limits, whatever rows the tables have
+  -- for a till report it comes only if a row is out of its limits, whatever the rows
   pub stored : (day : ℕ) → report ≡ Till day → IsClean g new → result ≡ Err (Faulted Stored)
       → (P : Picture) → HasPicture (state g old).now P → InLimits P → ⊥
-  -- where a write failed, the report is there, and the tables show what they showed
+  -- if a write failed, the report exists, and the tables show what they showed
   pub stays : IsClean g new → result ≡ Err NotWritten → (H : History) → Shows (state g old) H
       → IsThere H report × Shows (state g new) H
   -- whatever the outcome, the tables show what they showed

@@ -1,4 +1,4 @@
--- What the patrons are shown.
+-- What patrons are shown.
 use Rattle.std.specs.Prelude.{◌≡◌, ◌==◌, ℕ, List, Option, is_some, option_map}
 use Rattle.std.specs.List.{list_any}
 use Rattle.terms.specs.declared.command.Owner.TheVariants.{Desk}
@@ -7,7 +7,7 @@ use Rattle.model.specs.Answers.{answer}
 use Rattle.model.specs.History.{History, patron_of}
 use Rattle.desk.specs.declared.showing.OwnPage.{OwnPage}
 
--- The page of an enrolled patron, as the desk is answered, and the card key that opens it.
+-- An enrolled patron's page, as the desk would get it, and the card key that opens it.
 abbrev pub own_page : History → ℕ → Option OwnPage
 own_page H p = option_map (λ r. record { card_key = r.card_key; reply = answer H Desk (Page p) }) (patron_of H p)
 

@@ -17,7 +17,7 @@ use Rattle.front.specs.declared.copies.CopyEnd.TheVariants.{Whole, Bad, Read, Me
 abbrev pub HasNumber : Fields → ℕ → ℕ → Type 0
 HasNumber fields place n = (n < 2 ^ 32) × (field_at fields place ≡ Some (decimal n))
 
--- The numbers of the row stand at their places.
+-- The numbers of the row are in their places.
 pub record HasNumbers (fields : Fields) (row : FileRow) : Type 0 where
   pub copy : HasNumber fields 0 row.copy
   pub title : HasNumber fields 1 row.title
@@ -25,8 +25,8 @@ pub record HasNumbers (fields : Fields) (row : FileRow) : Type 0 where
   pub home : HasNumber fields 4 row.home
   pub price : HasNumber fields 5 row.price
 
--- What a record makes of the rows before it: one row more, or the same rows and an end, as it is no row or one too many,
--- or as memory is wanting.
+-- What a record makes of the rows before it: one more row, or the same rows and an end, as it is no row or
+-- one too many, or memory ran out.
 abbrev pub Takes : Fields → List FileRow → List FileRow → Option CopyEnd → Type 0
 Takes fields old new None = (row : FileRow) × IsRow fields row × (new ≡ old ++ row ∷ []) × (length old < MOST_ROWS)
 Takes fields old new (Some Whole) = ⊥
@@ -34,27 +34,27 @@ Takes fields old new (Some (Bad number)) = (new ≡ old) × (IsNoRow fields ⊎ 
 Takes fields old new (Some Read) = ⊥
 Takes fields old new (Some Memory) = new ≡ old
 
--- The reader gives the records as they stand, and the next of them next.
+-- The reader gives the records unchanged, and the next one next.
 pub record IsPlain {R : Type 0} (file : Reader R) : Type 0 where
   pub untrimmed : file.trim ≡ trim.None
   pub ready : Ready file
   pub config : file.config ≡ default_config
 
--- The records between two states of a reader, where its bytes are known, are just these rows.
+-- The records between two states of a reader, if its bytes are known, are exactly these rows.
 abbrev pub HasRead : State → Option (List ℕ) → State → Option (List ℕ) → List FileRow → Type 0
 HasRead state None after left rows = Unit {0}
 HasRead state (Some bytes) after left rows =
     (unread : List ℕ) × (left ≡ Some unread) × (others : List Fields) × Reached default_config state bytes others after unread
     × HaveRows 0 others rows Whole
 
--- What a reading tells of the records after the header.
+-- What a reading says of the records after the header.
 abbrev pub TellsRows : List Fields → List FileRow → CopyEnd → Type 0
 TellsRows others rows Whole = HaveRows 0 others rows Whole
 TellsRows others rows (Bad number) = HaveRows 0 others rows (Bad number)
 TellsRows others rows Read = BeginWith others rows
 TellsRows others rows Memory = BeginWith others rows
 
--- The records that were read from a state of the reader and its bytes, all of them at a whole file, tell the rows and
+-- The records read from a state of the reader and its bytes, all of them for a whole file, give the rows and
 -- the end.
 abbrev pub IsRestReading : State → Option (List ℕ) → List FileRow → CopyEnd → Type 0
 IsRestReading state None rows end = Unit {0}

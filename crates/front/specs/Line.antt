@@ -1,4 +1,4 @@
--- The command line of the desk: its commands, each with its arguments, and what `clap` is told of them.
+-- The command line of the desk: its commands, each with its arguments, as given to `clap`.
 use Rattle.std.specs.Prelude.{◌≡◌, List, [], ◌∷◌, codes, true, false, Some, fold, length, drop, map}
 use Rattle.std.specs.List.{list_any}
 use Rattle.front.specs.Understood.{begins_with_hyphen}
@@ -12,7 +12,7 @@ use Rattle.clap.specs.declared.builder.command.Command.TheViews.{out-Command}
 abbrev pub names_in : List Column → List Text
 names_in parts = map (λ part. part.0) parts
 
--- An argument that is positional and required.
+-- A required positional argument.
 abbrev pub required : Text → Rule
 required id = record (new_rule id) { required = true }
 
@@ -28,7 +28,7 @@ command_app name ids = fold with_required (new_app name) ids
 abbrev pub with_form : App → CommandEntry → App
 with_form line form = with_subcommand line (command_app form.0 (names_in form.1)).top
 
--- A line with no command yet, whose first word is the name of a command.
+-- A line without commands, whose first word is a command's name.
 abbrev pub empty_app : App
 empty_app = record { top = record (new_shape (codes "desk")) { no_binary_name = true }; subs = [] }
 
@@ -40,7 +40,7 @@ line_app forms = fold with_form empty_app forms
 abbrev pub desk_app : App
 desk_app = line_app commands
 
--- The words are a command's name and a word for each of its parts, and none begins with a hyphen.
+-- The words are a command's name and a word for each part; none begins with a hyphen.
 pub record HasShape (words : List Text) (parts : List Column) : Type 0 where
   pub name : Text
   pub others : List Text
@@ -49,7 +49,7 @@ pub record HasShape (words : List Text) (parts : List Column) : Type 0 where
   pub count : length others ≡ length parts
   pub plain : list_any begins_with_hyphen words ≡ false
 
--- The words follow the first of all the words.
+-- The words are all but the first.
 abbrev pub IsAfterName : List Text → List Text → Type 0
 IsAfterName words others = others ≡ drop 1 words
 

@@ -14,7 +14,7 @@ abbrev pub begins_with_hyphen : List ℕ → Bool
 begins_with_hyphen [] = false
 begins_with_hyphen (byte ∷ bytes) = byte == 45
 
--- The words are the words of this command, and none begins with a hyphen.
+-- The words are this command's, and none begins with a hyphen.
 pub record IsUnderstoodAs (words : List (List ℕ)) (command : Command) : Type 0 where
   pub formed : IsSayable command
   pub written : words ≡ command_words command

@@ -1,4 +1,4 @@
--- What tells the queue of one hall from another's.
+-- What identifies a hall's queue.
 use Rattle.atomic_table.specs.Seated.{TableId}
 use Rattle.atomic_table.specs.declared.badge.Badge.{Badge}
 use Rattle.crossbeam_channel.specs.Claims.{no_key}
@@ -7,7 +7,7 @@ use Rattle.logbook.specs.Pages.{Book}
 use Rattle.board.specs.Rule.{no_book}
 use Rattle.hall.specs.declared.messages.Message.{Message}
 
--- The name of a queue, with the list of closings of its hall.
+-- The name of a queue, with its hall's list of closings.
 pub record QueueName : Type 0 where
   -- the table of turns
   pub queue : TableId

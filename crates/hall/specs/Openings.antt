@@ -19,31 +19,31 @@ use Rattle.hall_schedule.specs.declared.schedule.TheConstants.{WORKERS}
 use Rattle.hall.specs.declared.hall.Why.{Why}
 use Rattle.hall.specs.declared.hall.Why.TheVariants.{Refused, Faulted}
 
--- ---- a desk that only looks
+-- ---- a desk that only reads
 
--- The desk only looked at its tables.
+-- The desk only read its tables.
 abbrev pub LooksOnly : {S : Type 0} → Ghosts S → Held S → Held S → Result (Unit {0}) Fault → Type 0
 LooksOnly = Learns (λ _ _. Unit {0})
 
--- The desk only looked at its tables, and then came this fault: that of a look, or 90 because no
--- memory was left. None of these is 92.
+-- The desk only read its tables, then this fault came: a read's, or 90 because memory ran out. It is never
+-- 92.
 pub record MeetsFaultOf {S : Type 0} (g : Ghosts S) (old new : Held S) (fault : Fault) : Type 0 where
   pub looked : Result (Unit {0}) Fault
   pub looks : LooksOnly g old new looked
   pub cause : (looked ≡ Err fault) ⊎ (fault ≡ Memory)
 
--- A fault was met, and so is none of the hall's own; this is said of it.
+-- A fault was met, so it isn't one of the hall's own; `Is` holds of it.
 abbrev pub IsMet : (Fault → Type 0) → ServiceFault → Type 0
 IsMet Is fault = (met : Fault) × (fault ≡ Met met) × Is met
 
--- Of these patrons the pages are those that the list of accepted requests makes; there are no others.
+-- The pages of exactly these patrons, as the list of accepted requests gives them.
 abbrev pub AreFirstPages : List ℕ → History → List (ℕ × OwnPage) → Type 0
 AreFirstPages patrons H pages = (p : ℕ) → page_at pages p ≡ (if list_any (λ q. q == p) patrons then own_page H p else None)
 
--- ---- a board that is opened
+-- ---- an opened board
 
--- The board shows pages alone: whatever list of accepted requests the tables show, those that it makes,
--- of its patrons and of nobody else.
+-- The board shows only pages: those that any list of accepted requests shown by the tables gives, of its
+-- patrons and nobody else.
 pub record OpensBoard {S : Type 0} (g : Ghosts S) (old new : Held S) (p : Publishing) : Type 0 where
   -- no entry is shown, and no page waits for one
   pub none : (p.shown ≡ first_seen p.board.pages) × (p.pages ≡ [])
@@ -51,13 +51,13 @@ pub record OpensBoard {S : Type 0} (g : Ghosts S) (old new : Held S) (p : Publis
   pub pages : Learns (λ H first. (patron : ℕ) → page_at first patron ≡ own_page H patron)
       g old new (Ok p.board.pages)
 
--- Where the disk has given back what was written to it so far, what was shown is what each of these
--- lists of accepted requests makes it.
+-- If the disk has returned what was written to it so far, what was shown is what each of these lists of
+-- accepted requests gives.
 abbrev pub ToldBy : {S : Type 0} → (History → Type 0) → Ghosts S → Held S → Seen → Type 0
 ToldBy lists g held shown = IsClean g held → (H : History) → lists H → IsTold H shown
 
--- A hall that is open and has handled nothing: where the disk has given back what was written to it so far,
--- the tables show each of these lists, and the board shows what it makes.
+-- An open hall that has handled nothing: if the disk has returned what was written to it so far, the tables
+-- show each of these lists, and the board shows what it gives.
 pub record OpensWith {S : Type 0} (lists : History → Type 0) (g : Ghosts S) (held : Held S)
     (shown : Seen) : Type 0 where
   pub tables : IsClean g held → (H : History) → lists H → Shows (state g held) H
@@ -65,17 +65,17 @@ pub record OpensWith {S : Type 0} (lists : History → Type 0) (g : Ghosts S) (h
 
 -- ---- a hall that isn't opened
 
--- There may be so many workers.
+-- So many workers are allowed.
 abbrev pub can_be_workers : ℕ → Bool
 can_be_workers workers = nat_le 1 workers && nat_le workers WORKERS
 
--- The fault that keeps a hall from being opened: a page couldn't be looked up, or no memory was left; or
--- the board has no place for a reader.
+-- The fault that keeps a hall from opening: a page couldn't be looked up, memory ran out, or the board has no
+-- place for a reader.
 abbrev pub KeepsClosed : {S : Type 0} → Ghosts S → Held S → Held S → ServiceFault → Type 0
 KeepsClosed g old new fault = IsMet (MeetsFaultOf g old new) fault ⊎ (LooksOnly g old new (Ok tt) × (fault ≡ Closed))
 
--- Why a hall of so many workers isn't opened. Its desk comes back: it wasn't asked for anything, or
--- only looked at its tables.
+-- Why a hall with so many workers isn't opened. Its desk comes back: it wasn't asked for anything, or only
+-- read its tables.
 pub record IsUnopened {S : Type 0} (workers : ℕ) (g : Ghosts S) (old new : Held S) (why : Why)
     : Type 0 where
   -- there are none, or too many
@@ -84,14 +84,14 @@ pub record IsUnopened {S : Type 0} (workers : ℕ) (g : Ghosts S) (old new : Hel
   pub faulted : can_be_workers workers ≡ true → (fault : ServiceFault) × (why ≡ Faulted fault)
       × KeepsClosed g old new fault
 
--- Why a hall of so many workers isn't opened over a new library.
+-- Why a hall with so many workers isn't opened over a new library.
 pub record IsUnmade (workers : ℕ) (why : Why) : Type 0 where
   -- there are none, or too many
   pub refused : can_be_workers workers ≡ false → why ≡ Refused OutOfLimits
-  -- the library couldn't be made, or the hall not be opened
+  -- the library couldn't be made, or the hall not opened
   pub faulted : can_be_workers workers ≡ true → (fault : ServiceFault) × (why ≡ Faulted fault)
 
--- The number that stands for it.
+-- Its number.
 abbrev pub why_number : Why → ℕ
 why_number (Refused refusal) = refusal_number refusal
 why_number (Faulted fault) = service_fault_number fault

@@ -1,4 +1,4 @@
--- What the queue holds, and what each end of it knows.
+-- What the queue holds, and what each end knows of it.
 use Rattle.std.specs.Prelude.{◌≡◌, ℕ, zero, suc, ◌+◌, ◌<◌, ◌≤◌, Bool, true, false, List, [], ◌∷◌, ◌++◌, length, if◌then◌else◌, ◌==◌, map, take, drop}
 use mathlib.Core.Option.{some}
 use lib.ListN.{get_elem?}
@@ -11,17 +11,17 @@ use Rattle.hall.specs.declared.messages.View.{View}
 
 -- ---- messages
 
--- The worker that sends the message.
+-- The worker that sent the message.
 abbrev pub from : Message → ℕ
 from (Submit s) = s.worker
 from (Leave worker) = worker
 
--- What this worker sent of these, in order.
+-- This worker's messages among these, in order.
 abbrev pub of : ℕ → List Message → List Message
 of worker [] = []
 of worker (m ∷ ms) = if from m == worker then m ∷ of worker ms else of worker ms
 
--- No Leave is among them.
+-- There is no Leave among them.
 abbrev pub is_open : List Message → Bool
 is_open [] = true
 is_open (Submit s ∷ ms) = is_open ms
@@ -32,18 +32,17 @@ abbrev pub HasNumber : ℕ → Message → Type 0
 HasNumber n (Submit s) = s.number ≡ n
 HasNumber n (Leave worker) = Unit {0}
 
--- The submissions are numbered, the first by n + 1, and nothing stands after a Leave.
+-- The submissions are numbered from n + 1, and nothing follows a Leave.
 abbrev pub Numbered : ℕ → List Message → Type 0
 Numbered n [] = Unit {0}
 Numbered n (Submit s ∷ ms) = (s.number ≡ n + 1) × Numbered (n + 1) ms
 Numbered n (Leave worker ∷ ms) = ms ≡ []
 
--- The message is the next one of its worker after these: that worker has not left, and a submission
--- has the worker's next number.
+-- The message is its worker's next after these: the worker hasn't left, and a submission has its next number.
 abbrev pub IsNext : List Message → Message → Type 0
 IsNext got x = (is_open (of (from x) got) ≡ true) × HasNumber (length (of (from x) got) + 1) x
 
--- Of each of these workers the list has just what it sent.
+-- For each of these workers the list has exactly what it sent.
 abbrev pub AreHeard : List Message → List Sent → Type 0
 AreHeard all [] = Unit {0}
 AreHeard all (s ∷ ss) = ((of s.worker all ≡ s.messages) × Numbered 0 s.messages) × AreHeard all ss
@@ -56,25 +55,25 @@ submissions [] = []
 submissions (Submit s ∷ ms) = s ∷ submissions ms
 submissions (Leave worker ∷ ms) = submissions ms
 
--- The submissions of this worker.
+-- This worker's submissions.
 abbrev pub own : ℕ → List Submission → List Submission
 own worker [] = []
 own worker (s ∷ ss) = if s.worker == worker then s ∷ own worker ss else own worker ss
 
--- The handled list: the first n submissions that were received.
+-- The handled list: the first n submissions received.
 abbrev pub handled : ℕ → List Message → List Submission
 handled n got = take n (submissions got)
 
--- The other ones, in the order in which they came.
+-- The others, in order of arrival.
 abbrev pub unhandled : ℕ → List Message → List Submission
 unhandled n got = drop n (submissions got)
 
--- What they ask.
+-- Their requests.
 abbrev pub requests : List Submission → List Request
 requests = map (λ (s : Submission). s.request)
 
--- The handled ones of a worker are a beginning of what it submitted, in the order submitted, and all
--- of it where every submission that was received was handled.
+-- A worker's handled submissions are a beginning of what it submitted, in that order, and all of it if every
+-- received submission was handled.
 pub record AreFirst (worker n : ℕ) (got sent : List Message) : Type 0 where
   -- what it submitted that wasn't handled
   pub rest : List Submission
@@ -104,7 +103,7 @@ spent = record { sends = false; gets = false; worker = 0; sent = []; got = []; m
 abbrev pub joined : View → View
 joined v = record v { made = v.made + 1 }
 
--- The end of a worker was taken in.
+-- A worker's end was taken in.
 abbrev pub taken_in : View → View → View
 taken_in v u = record v { heard = record { worker = u.worker; messages = u.sent } ∷ v.heard }
 
@@ -126,24 +125,24 @@ IsSending v = (v.sends ≡ true) × (v.gets ≡ false)
 
 -- ---- the rule
 
--- `seat w` is one more than the number of the end that sends for worker w, or 0. The end knows what
--- the worker sent.
+-- `seat w` is one more than the number of the end that sends for worker w, or 0. That end knows what the
+-- worker sent.
 abbrev pub FitsSender : (ℕ → ℕ) → (ℕ → List Message) → ℕ → View → Type 0
 FitsSender seat sent pass v = v.sends ≡ true → (seat v.worker ≡ suc pass) × (v.sent ≡ sent v.worker)
 
--- These workers have left for good: no end sends for them.
+-- These workers have left permanently: no end sends for them.
 abbrev pub HaveLeft : ℕ → (ℕ → ℕ) → (ℕ → List Message) → List Sent → Type 0
 HaveLeft made seat sent [] = Unit {0}
 HaveLeft made seat sent (s ∷ ss) =
     ((s.worker ≤ made) × (seat s.worker ≡ 0) × (s.messages ≡ sent s.worker)) × HaveLeft made seat sent ss
 
--- One end receives, and knows what was received; workers whose ends were not made sent nothing.
+-- One end receives, and knows what was received; workers without an end sent nothing.
 abbrev pub FitsReceiver : ℕ → (ℕ → ℕ) → (ℕ → List Message) → List Message → ℕ → View → Type 0
 FitsReceiver reader seat sent got pass v =
     v.gets ≡ true
     → (pass ≡ reader) × (v.got ≡ got) × ((w : ℕ) → v.made < w → (seat w ≡ 0) × (sent w ≡ [])) × HaveLeft v.made seat sent v.heard
 
--- What was received of each worker, and then what is queued of it, is what it sent, in order.
+-- What was received from each worker, then what is queued from it, is what it sent, in order.
 pub record Carries (items : List Message) (views : List View) : Type 0 where
   pub reader : ℕ
   pub seat : ℕ → ℕ

@@ -43,8 +43,8 @@ use Rattle.hall.specs.Queue.{AreFirst, sent_more, worker_views}
 
 -- ---- what a worker knows
 
--- What it sent, what it has seen on the board, a beginning of the handled list with its pages, and the submission
--- at which the hall closed, if it was told.
+-- What it sent; what it has seen on the board, a beginning of the handled list with its pages; and the
+-- submission at which the hall closed, if told.
 pub record Working : Type 0 where
   pub post : View
   pub seen : Seen
@@ -56,21 +56,21 @@ AreWorkers n workers = map (λ (w : Working). w.post) workers ≡ worker_views n
 
 -- ---- what is submitted
 
--- What the worker knows of the queue once it has submitted the request, under its next number.
+-- What the worker knows of the queue after submitting the request under its next number.
 abbrev pub submitted : View → Requested → View
 submitted v request = sent_more v (Submit (record { worker = v.worker; number = length v.sent + 1; request = request }))
 
--- The request was submitted, once, and the worker's numbers weren't used up: the last one is 2^50.
+-- The request was submitted once, and the worker had numbers left: the last is 2^50.
 abbrev pub Submits : View → View → Requested → Type 0
 Submits old new request = (length old.sent < LAST_SUBMISSION) × (new ≡ submitted old request)
 
--- Nothing was submitted, or this request was, once.
+-- Nothing was submitted, or this request once.
 abbrev pub SubmitsOnce : View → View → Requested → Type 0
 SubmitsOnce old new request = (new ≡ old) ⊎ Submits old new request
 
 -- ---- what is asked for
 
--- Whose page the desk asks for, where it asks for a page: that is answered from the board.
+-- Whose page the desk asks for, if it asks for one: that is answered from the board.
 abbrev pub page_by_desk : Caller → Command → Option ℕ
 page_by_desk Desk (AsksPage patron) = Some patron
 page_by_desk _ _ = None
@@ -78,7 +78,7 @@ page_by_desk _ _ = None
 abbrev pub page_asked : Requested → Option ℕ
 page_asked request = page_by_desk request.caller request.command
 
--- What is shown of a page: to the desk the page, or that there is no such patron; to who shows a card
+-- What is shown of a page: to the desk the page, or that the patron is unknown; to a caller who shows a card
 -- key the page that it opens, or that this isn't allowed.
 abbrev pub shown_page : Option OwnPage → Option (List ℕ) → Reply
 shown_page (Some page) (Some card_key) = if bytes_eq page.card_key card_key then page.reply else Refused NotAllowed
@@ -86,100 +86,100 @@ shown_page None (Some card_key) = Refused NotAllowed
 shown_page (Some page) None = page.reply
 shown_page None None = Refused UnknownPatron
 
--- The reply is what was seen last of the patron's page: the page that was shown with the beginning of the
--- handled list that was seen.
+-- The reply is the last seen page of the patron: the one shown with the beginning of the handled list that
+-- was seen.
 pub record IsPageSeen (patron : ℕ) (shown : Option (List ℕ)) (seen : Seen) (reply : Reply)
     : Type 0 where
   pub looked : HasLooked seen
   pub reply_is : reply ≡ shown_page (page_of seen patron) shown
 
--- The reply to a request that was not answered from the board: it was submitted, and this is the
--- reply that the board shows for it. The beginning of the handled list that it shows, which ends with
--- the submission, goes on from all that the worker had seen before.
+-- The reply to a request not answered from the board: it was submitted, and the board shows this reply for
+-- it. The beginning of the handled list that the board shows, ending with the submission, extends all that
+-- the worker had seen before.
 pub record IsReplied (request : Requested) (old new : Working) (reply : Reply) : Type 0 where
   pub submits : Submits old.post new.post request
   pub replied : IsReply new.seen.entries old.post.worker (length old.post.sent + 1) request reply
   pub later : StartsWith replied.front old.seen.entries
 
--- The reply to a request of the desk for a page, or of anybody for something else.
+-- The reply to the desk's request for a page, or to anybody's request for something else.
 abbrev pub IsReplyFor : Option ℕ → Requested → Working → Working → Reply → Type 0
 IsReplyFor (Some patron) request old new reply = (new.post ≡ old.post) × IsPageSeen patron None new.seen reply
 IsReplyFor None request old new reply = IsReplied request old new reply
 
--- The reply to what is asked for. A page is the one that the board shows with what the worker has
--- seen, a beginning of the handled list.
+-- The reply to what is asked for. A page is the one that the board shows with what the worker has seen, a
+-- beginning of the handled list.
 abbrev pub IsReplyTo : Asked → Working → Working → Reply → Type 0
 IsReplyTo Nothing old new reply = (new.post ≡ old.post) × (reply ≡ Refused NotAllowed)
 IsReplyTo (Page patron card_key) old new reply =
     (new.post ≡ old.post) × IsPageSeen patron (Some card_key) new.seen reply
 IsReplyTo (Request request) old new reply = IsReplyFor (page_asked request) request old new reply
 
--- Of a request of the desk for a page nothing is submitted; one for something else is, once, or nothing is.
+-- For a desk's page request nothing is submitted; any other request is submitted at most once.
 abbrev pub SubmitsFor : Option ℕ → Requested → View → View → Type 0
 SubmitsFor (Some patron) request old new = new ≡ old
 SubmitsFor None request old new = SubmitsOnce old new request
 
--- The same of what is asked for: a page is never submitted.
+-- The same for what is asked for: a page is never submitted.
 abbrev pub SubmitsAsked : Asked → View → View → Type 0
 SubmitsAsked (Request request) old new = SubmitsFor (page_asked request) request old new
 SubmitsAsked _ old new = new ≡ old
 
 -- ---- what is answered
 
--- The answer that tells what became of a request.
+-- The answer that says what became of a request.
 abbrev pub answer_to : Result Reply ServiceFault → Answer
 answer_to (Ok reply) = answer_for reply
 answer_to (Err fault) = Faulted fault
 
--- The faults that a worker meets itself: no memory is left for its part, or it can't go on, since its
--- numbers are used up, or the desk or the board is gone.
+-- A worker's own faults: its memory ran out, or it can't go on, since its numbers are used up, or the desk or
+-- the board is gone.
 abbrev pub IsOwnFault : ServiceFault → Type 0
 IsOwnFault fault = (fault ≡ Met Memory) ⊎ (fault ≡ Closed)
 
--- The fault in the place of a page, or of a reply: nothing was submitted, and the worker met it itself.
+-- The fault instead of a page or a reply: nothing was submitted, and the fault is the worker's own.
 abbrev pub IsUnsubmitted : Working → Working → ServiceFault → Type 0
 IsUnsubmitted old new fault = (new.post ≡ old.post) × IsOwnFault fault
 
--- The fault in the place of a reply to a request that isn't answered from the board: that of a worker which
--- submitted nothing, or what is told of the submission by the closing of the hall.
+-- The fault instead of a reply to a request not answered from the board: that of a worker that submitted
+-- nothing, or what the closing of the hall tells of the submission.
 abbrev pub IsFaultOf : Requested → Working → Working → ServiceFault → Type 0
 IsFaultOf request old new fault =
     IsUnsubmitted old new fault
     ⊎ (Submits old.post new.post request
     × (told_of new.closing old.post.worker (length old.post.sent + 1) ≡ Some fault))
 
--- The fault in the place of a reply to a request of the desk for a page, or of anybody for something else.
+-- The fault instead of a reply to the desk's request for a page, or to anybody's request for something else.
 abbrev pub IsFaultFor : Option ℕ → Requested → Working → Working → ServiceFault → Type 0
 IsFaultFor (Some patron) request old new fault = IsUnsubmitted old new fault
 IsFaultFor None request old new fault = IsFaultOf request old new fault
 
--- The same by what is asked for; what is not allowed is told so, and no fault comes.
+-- The same for what is asked for; what isn't allowed is answered so, without a fault.
 abbrev pub IsFaultTo : Asked → Working → Working → ServiceFault → Type 0
 IsFaultTo Nothing old new fault = ⊥
 IsFaultTo (Page patron card_key) old new fault = IsUnsubmitted old new fault
 IsFaultTo (Request request) old new fault = IsFaultFor (page_asked request) request old new fault
 
--- Where a fault came instead, this is said of it.
+-- If a fault came instead, `Is` holds of it.
 abbrev pub IfTold : (ServiceFault → Type 0) → NoReply → Type 0
 IfTold Is (Told fault) = Is fault
 IfTold Is Gone = Unit {0}
 IfTold Is Untold = Unit {0}
 
--- The answer tells what became of what is asked for.
+-- The answer says what became of what is asked for.
 pub record TellsReply (asked : Asked) (old new : Working) (answer : Answer) : Type 0 where
   pub outcome : Result Reply ServiceFault
   pub answer_is : answer ≡ answer_to outcome
   pub reply : IfOk outcome (IsReplyTo asked old new)
   pub fault : IfErr outcome (IsFaultTo asked old new)
 
--- The same of a request that is submitted.
+-- The same for a request that is submitted.
 pub record TellsSubmitted (request : Requested) (old new : Working) (answer : Answer) : Type 0 where
   pub outcome : Result Reply ServiceFault
   pub answer_is : answer ≡ answer_to outcome
   pub reply : IfOk outcome (IsReplied request old new)
   pub fault : IfErr outcome (IsFaultOf request old new)
 
--- The same of a page.
+-- The same for a page.
 pub record TellsPage (patron : ℕ) (shown : Option (List ℕ)) (seen : Seen) (answer : Answer)
     : Type 0 where
   pub outcome : Result Reply ServiceFault
@@ -187,46 +187,46 @@ pub record TellsPage (patron : ℕ) (shown : Option (List ℕ)) (seen : Seen) (a
   pub reply : IfOk outcome (IsPageSeen patron shown seen)
   pub fault : IfErr outcome IsOwnFault
 
--- What is asked for was met with an answer; or there is none, since no memory was left for it, or the board is gone.
+-- What is asked for gets an answer; or none, since memory ran out, or the board is gone.
 pub record MeetsAsked (asked : Asked) (old new : Working) (answer : Option Answer) : Type 0 where
   pub on : GoesOn new.seen old.seen
   pub closing : StartsWith new.closing old.closing
   pub once : SubmitsAsked asked old.post new.post
   pub told : IfSome answer (TellsReply asked old new)
 
--- What was read fails a check: the answer is its status.
+-- The bytes read fail a check: the answer is its status.
 pub record TellsStatus (bytes : Option (List ℕ)) (answer : Answer) : Type 0 where
   pub status : WebStatus
   pub read : IfSome bytes (λ all. ChecksHead all (Err (Status status)))
   pub answer_is : answer ≡ Failed status
 
--- A request was read: the answer is what became of what it asks for.
+-- A request was read: the answer says what became of what it asks for.
 pub record TellsOutcome (desk_key : List ℕ) (bytes : Option (List ℕ)) (old new : Working)
     (answer : Answer) : Type 0 where
   pub request : WebRequest
   pub read : IfSome bytes (λ all. ChecksHead all (Ok request))
   pub tells : TellsReply (asked_of desk_key request) old new answer
 
--- The answer to the bytes: nothing was submitted, and it is a status, or fault 90 since there was no
--- memory to read them; or it is what became of what they ask for.
+-- The answer to the bytes: nothing was submitted, and it is a status, or fault 90 for lack of memory to read
+-- them; or it says what became of what they ask for.
 abbrev pub Answers : List ℕ → Option (List ℕ) → Working → Working → Answer → Type 0
 Answers desk_key bytes old new answer =
     ((new.post ≡ old.post) × (TellsStatus bytes answer ⊎ (answer ≡ Faulted (Met Memory))))
     ⊎ TellsOutcome desk_key bytes old new answer
 
--- A connection was served. `bytes` are those that the reader has, where it tells them; `before`
--- and `after` are the bytes that the writer showed and shows.
+-- A connection was served. `bytes` are the reader's, if known; `before` and `after` are the writer's before
+-- and after.
 pub record Serves {E : Type 0} (desk_key : List ℕ) (bytes : Option (List ℕ)) (old new : Working)
     (before after : Option (List ℕ)) (result : Result (Unit {0}) E) : Type 0 where
-  -- what the worker has seen never gets shorter, nor what it was told of the closing of the hall
+  -- what the worker has seen never gets shorter, nor what it was told of the hall's closing
   pub on : GoesOn new.seen old.seen
   pub closing : StartsWith new.closing old.closing
-  -- nothing was submitted, or the one request that the bytes ask for, which is for no page
+  -- nothing was submitted, or the one request that the bytes ask for, which isn't for a page
   pub once : (new.post ≡ old.post)
       ⊎ ((request : Requested) × (web : WebRequest) × IfSome bytes (λ all. ChecksHead all (Ok web))
       × (asked_of desk_key web ≡ Request request) × (page_asked request ≡ None)
       × Submits old.post new.post request)
-  -- one answer went out, whole
+  -- one whole answer went out
   pub told : OnOk result ((answer : Answer) × Answers desk_key bytes old new answer
       × Appends before after (answer_bytes answer))
   -- or nothing, or a beginning of one
@@ -234,24 +234,23 @@ pub record Serves {E : Type 0} (desk_key : List ℕ) (bytes : Option (List ℕ))
       ⊎ ((answer : Answer) × Answers desk_key bytes old new answer
       × AppendsFront before after (answer_bytes answer)))
 
--- ---- what a list of accepted requests makes of it
+-- ---- what a list of accepted requests gives
 
--- The reply is the page that the card key opens after this list of accepted requests, or that this
--- isn't allowed; and the same after every list that agrees with it on the patron's own rows.
+-- The reply is the page that the card key opens after this list of accepted requests, or that this isn't
+-- allowed; it is the same after every list that agrees on the patron's own rows.
 pub record IsOwnPage (patron : ℕ) (card_key : List ℕ) (H : History) (reply : Reply) : Type 0 where
   pub page : IsPageFor patron card_key H reply
   pub own : IsOwnPageFor patron card_key H reply
 
--- A reply by the list H of accepted requests, once the worker has seen a beginning of the handled
--- list: to a submission the reply of the list at its place there, and to a page the page after H and
--- that beginning.
+-- A reply by the list H of accepted requests, once the worker has seen a beginning of the handled list: to a
+-- submission, the list's reply at its place there; to a page, the page after H and that beginning.
 module _ (H : History) (old new : Working) (reply : Reply) where
   -- to a submission: its place comes after all that the worker had seen before it
   pub record IsGivenReply (request : Requested) : Type 0 where
     pub replied : IsReplied request old new reply
     pub given : reply ≡ reply_to (after H (requests replied.replied.front)) request
 
-  -- to a request of the desk for a page, or of anybody for something else
+  -- to the desk's request for a page, or anybody's for something else
   abbrev pub IsGivenFor : Option ℕ → Requested → Type 0
   IsGivenFor (Some patron) request = reply ≡ reply_to (after H (requests new.seen.entries)) request
   IsGivenFor None request = IsGivenReply request
@@ -262,16 +261,16 @@ module _ (H : History) (old new : Working) (reply : Reply) where
   IsGivenTo (Page patron card_key) = IsOwnPage patron card_key (after H (requests new.seen.entries)) reply
   IsGivenTo (Request request) = IsGivenFor (page_asked request) request
 
--- Where the disk has given back what was written to it so far, each of these lists of accepted requests
--- gives what a worker answers that has seen a beginning of all that was shown.
+-- If the disk has returned what was written to it so far, each of these lists of accepted requests gives what
+-- a worker answers that has seen a beginning of all that was shown.
 abbrev pub GivesReplies : {S : Type 0} → (History → Type 0) → Ghosts S → Held S → Seen → Type 0
 GivesReplies lists g held all = IsClean g held → (H : History) → lists H
     → (asked : Asked) (old new : Working) (reply : Reply) → GoesOn all new.seen
     → IsReplyTo asked old new reply → IsGivenTo H old new reply asked
 
--- The worker, which has left, took part in a hall that received `got` and handled the first n submissions
--- of it: those of the worker are a beginning of what it submitted, and what it had seen is a beginning of
--- all that was shown.
+-- The worker, which has left, took part in a hall that received `got` and handled its first n submissions:
+-- the worker's are a beginning of what it submitted, and what it had seen is a beginning of all that was
+-- shown.
 pub record TookPart (n : ℕ) (got : List Message) (shown : Seen) (w : Working) : Type 0 where
   pub first : AreFirst w.post.worker n got w.post.sent
   pub seen : GoesOn shown w.seen

@@ -4,12 +4,12 @@ use Rattle.sqlite.specs.Order.{Row}
 use Rattle.sqlite.specs.State.{State, QueriesRow, IsRolledBack}
 use Rattle.sqlite.specs.declared.error.Error.TheVariants.{QueryReturnedNoRows}
 
--- the text shows this row first, or it shows none
+-- the text shows this row first, or none
 abbrev pub FindsRow : List ℕ → Row → State → State → Option Row → Type 0
 FindsRow text params old new (Some row) = QueriesRow text params old new (Ok row)
 FindsRow text params old new None = QueriesRow text params old new (Err QueryReturnedNoRows)
 
--- what was there is there still
+-- what was there is still there
 pub record Keeps (old new : State) : Type 0 where
   pub now : new.now ≡ old.now
   pub committed : new.committed ≡ old.committed

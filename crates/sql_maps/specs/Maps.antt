@@ -1,4 +1,4 @@
--- A table of a database as a map from its key to its row.
+-- A database table as a map from keys to rows.
 use Rattle.std.specs.Prelude.{◌≡◌, ◌≢◌, ◌⊎◌, ◌≤◌, ℕ, ℤ, List, [], ◌∷◌, length, map, Bool, true, false, None, Some, Option, bytes_eq, ◌&&◌}
 use Rattle.std.specs.Prelude.{◌==◌, if◌then◌else◌, slice_get, IsTrue}
 use Rattle.std.specs.List.{list_all, range_with_len}
@@ -23,7 +23,7 @@ use Rattle.sqlite_sql.specs.Ops.{binary, is_true}
 use Rattle.sqlite_sql.specs.declared.ops.BinaryOp.TheVariants.{Is, Compare}
 use Rattle.sqlite_sql.specs.declared.ops.CompareOp.TheVariants.{Le, Lt}
 
--- the values of the key of a stored row, and of all its columns as they are declared
+-- the key values of a stored row, and its columns as declared
 abbrev pub key_at : Table → Row → Row
 key_at table row = map (column row) table.primary
 
@@ -57,7 +57,7 @@ put m k v j = if same_key j k then Some v else m j
 abbrev pub take_out : Map → Row → Map
 take_out m k j = if same_key j k then None else m j
 
--- the rows of the table are those of the map
+-- the rows of the table are the map's
 pub record IsMap (table : Table) (rows : List Row) (m : Map) : Type 0 where
   pub shaped : IsShaped shape.Table rows
   pub plain : (r : Row) → Has rows r → list_all is_plain (key_at table r) ≡ true
@@ -65,7 +65,7 @@ pub record IsMap (table : Table) (rows : List Row) (m : Map) : Type 0 where
   pub whole : (k v : Row) → m k ≡ Some v → (r : Row) × Has rows r × (key_at table r ≡ k) × (cells table r ≡ v)
   pub alone : (r s : Row) → Has rows r → Has rows s → key_at table r ≡ key_at table s → r ≡ s
 
--- the maps of all tables of a schema, by their places
+-- the maps of all tables of a schema, by place
 abbrev pub Maps : Type 0
 Maps = ℕ → Map
 
@@ -79,7 +79,7 @@ take_at maps at k i j = if i == at then take_out (maps at) k j else maps i j
 abbrev pub no_maps : Maps
 no_maps i j = None
 
--- no table has one from this place on
+-- no table has a row from this place on
 abbrev pub IsFreeFrom : ℕ → Maps → Type 0
 IsFreeFrom place maps = (at : ℕ) → place ≤ at → (k : Row) → maps at k ≡ None
 
@@ -89,52 +89,53 @@ pub record Holds (schema : Schema) (db : Database) (maps : Maps) : Type 0 where
   pub schema_is : db.schema ≡ schema
   pub tables : (at : ℕ) (table : Table) → slice_get schema.tables at ≡ Some table → IsMap table (db.trees table.tree) (maps at)
 
--- what one write inside a transaction does: the maps change, nothing is committed, and the transaction goes on
+-- the effect of one write inside a transaction: the maps change, nothing is committed, and the transaction
+-- goes on
 pub record Steps (schema : Schema) (old new : State) (change : Maps → Maps) : Type 0 where
   pub maps : (maps : Maps) → Holds schema old.now maps → Holds schema new.now (change maps)
   pub is_inside : IsTrue new.in_transaction
   pub committed : new.committed ≡ old.committed
 
--- the same where the schema changes: each table keeps its rows, and those that are made have none
+-- the same if the schema changes: each table keeps its rows, and new ones have none
 pub record Moves (before after : Schema) (old new : State) : Type 0 where
   pub maps : (maps : Maps) → IsFreeFrom (length before.tables) maps → Holds before old.now maps → Holds after new.now maps
   pub is_inside : IsTrue new.in_transaction
   pub committed : new.committed ≡ old.committed
 
--- the row with the least key among those of the map that pass
+-- the row with the lowest key among those of the map that pass
 abbrev pub First : Map → (Row → Bool) → List Row → Type 0
 First m good [] = (k v : Row) → m k ≡ Some v → good v ≡ false
 First m good (v ∷ more) =
     ((k : Row) × (m k ≡ Some v)) × (good v ≡ true)
     × ((k w : Row) → m k ≡ Some w → good w ≡ true → (w ≡ v) ⊎ (value_cmp (column v 0) (column w 0) ≡ Less)) × (more ≡ [])
 
--- the first column of the one is below that of the other
+-- the first column of one is below the other's
 abbrev pub FirstBelow : Row → Row → Type 0
 FirstBelow v w = value_cmp (column v 0) (column w 0) ≡ Less
 
--- the row that comes before all others among those of the map of which a fact holds
+-- the row before all others among those of the map that satisfy a fact
 abbrev pub FirstOfBy : (Row → Row → Type 0) → Map → (Row → Type 0) → List Row → Type 0
 FirstOfBy Before m Good [] = (k v : Row) → m k ≡ Some v → ¬ Good v
 FirstOfBy Before m Good (v ∷ more) = ((k : Row) × (m k ≡ Some v)) × Good v × ((k w : Row) → m k ≡ Some w → Good w → (w ≡ v) ⊎ Before v w) × (more ≡ [])
 
--- by its key, where the key is the first column
+-- by key, if that is the first column
 abbrev pub FirstOf : Map → (Row → Type 0) → List Row → Type 0
 FirstOf = FirstOfBy FirstBelow
 
--- the rows of the map that pass, each once, each before the next
+-- the rows of the map that pass, each once, in order
 pub record ListedBy (Before : Row → Row → Type 0) (m : Map) (good : Row → Bool) (out : List Row) : Type 0 where
   pub sound : (v : Row) → Has out v → (k : Row) × (m k ≡ Some v) × (good v ≡ true)
   pub whole : (k v : Row) → m k ≡ Some v → good v ≡ true → Has out v
   pub rises : IsAscending Before out
 
--- the second column of the one is below that of the other; so the first two together
+-- the second column of one is below the other's; the first two together
 abbrev pub SecondBelow : Row → Row → Type 0
 SecondBelow v w = value_cmp (column v 1) (column w 1) ≡ Less
 
 abbrev pub PairBelow : Row → Row → Type 0
 PairBelow v w = ordering_then (value_cmp (column v 0) (column w 0)) (value_cmp (column v 1) (column w 1)) ≡ Less
 
--- by their keys, where the key is the first column
+-- by key, if that is the first column
 abbrev pub Listed : Map → (Row → Bool) → List Row → Type 0
 Listed = ListedBy FirstBelow
 

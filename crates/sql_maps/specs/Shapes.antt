@@ -1,4 +1,5 @@
--- Tables and indexes of the shapes that the lemmas serve: STRICT, with a key of one whole number or of two columns.
+-- Tables and indexes of the shapes that the lemmas cover: STRICT, with a key of one whole number or of two
+-- columns.
 use Rattle.std.specs.Prelude.{ℕ, List, [], ◌∷◌, Some, None, true, false, map}
 use Rattle.sqlite.specs.Collation.TheVariants.{Binary}
 use Rattle.sqlite.specs.declared.types.Value.TheVariants.{Null}
@@ -9,14 +10,14 @@ use Rattle.sqlite_schema.specs.declared.schema.Index.{Index}
 use Rattle.sqlite_schema.specs.declared.schema.Column.{Column}
 use Rattle.sqlite_value.specs.Keys.{plain}
 
--- a column that is not NULL, and one that may be
+-- a NOT NULL column, and one that may be NULL
 abbrev pub need : Kind → List ℕ → Column
 need kind name = record { name = name; kind = kind; is_strict = true; not_null = true; default = Null; collation = Binary }
 
 abbrev pub may : Kind → List ℕ → Column
 may kind name = record { name = name; kind = kind; is_strict = true; not_null = false; default = Null; collation = Binary }
 
--- a table that is keyed by its first column, which is its rowid
+-- a table keyed by its first column, which is its rowid
 abbrev pub single : List ℕ → ℕ → List Column → List (List ℕ) → Table
 single name tree columns uniques = record {
   name = name;
@@ -33,7 +34,7 @@ single name tree columns uniques = record {
   is_counted = false;
 }
 
--- a table that is keyed by its first two columns
+-- a table keyed by its first two columns
 abbrev pub double : List ℕ → ℕ → List Column → Table
 double name tree columns = record {
   name = name;
@@ -50,10 +51,10 @@ double name tree columns = record {
   is_counted = false;
 }
 
--- an index that is not unique, before it is made
+-- an index that isn't unique, before it is made
 abbrev pub index_on : List ℕ → List ℕ → Index
 index_on name columns = record { name = name; tree = 0; table = 0; columns = columns; order = plain; is_unique = false }
 
--- a database that has no table
+-- a database without tables
 abbrev pub no_schema : Schema
 no_schema = record { tables = []; indexes = []; views = [] }

@@ -1,4 +1,4 @@
--- How the rows of a table are carried over to that of the next schema.
+-- How a table's rows are carried over to the table of the next schema.
 use Rattle.std.specs.Prelude.{◌≡◌, ◌==◌, ℕ, Bool, true, false, List, [], ◌∷◌, Option, Some}
 use Rattle.std.specs.Prelude.{None, option_map, Err, Result, OnOk, IsTrue}
 use Rattle.sqlite.specs.Held.{state}
@@ -17,10 +17,10 @@ use Rattle.circ_tables.specs.Reading.{Table}
 use Rattle.circ_tables.specs.Shape.{HasTable, schema_at}
 use Rattle.store.specs.Library.{HasTablesAt}
 
--- ---- rows that are carried over
+-- ---- rows carried over
 
--- From a table to that of the next schema: the key of a row in each and what tells two keys apart, what a row becomes, and the picture with
--- these rows in the two tables.
+-- From a table to that of the next schema: the key of a row in each, the test for equal keys, what a row
+-- becomes, and the picture with these rows in the two tables.
 pub record Transfer (K R N : Type 0) : Type 0 where
   pub key_of : R → K
   pub new_key : N → K
@@ -32,7 +32,7 @@ pub record Transfer (K R N : Type 0) : Type 0 where
 abbrev pub put_by : {K A : Type 0} → (K → K → Bool) → (K → A) → K → A → K → A
 put_by same t k x j = elim (same k j) [ true ↦ x | false ↦ t j ]
 
--- What ties the two tables to it; they are two, and a library that has the new one has the old one.
+-- What the two tables must satisfy; they are distinct, and a library with the new one has the old one.
 pub record IsTransfer {K R N : Type 0} (old : Table K R) (new : Table K N) (transfer : Transfer K R N) : Type 0 where
   pub there : HasTable new.since new.since
   pub was_there : HasTable old.since new.since
@@ -52,7 +52,7 @@ pub record IsTransfer {K R N : Type 0} (old : Table K R) (new : Table K N) (tran
   pub limits : (P : Picture) (f : K → Option R) (g : K → Option N) → InLimits P → ((k : K) (r : R) → f k ≡ Some r → (transfer.key_of r ≡ k) × old.IsLegal r)
       → ((k : K) (n : N) → g k ≡ Some n → (transfer.new_key n ≡ k) × new.IsLegal n) → InLimits (transfer.with_both P f g)
 
--- One row is put into the new table, and taken out of the old one; so each of a list. The same in the maps.
+-- One row is put into the new table and taken out of the old one; then each of a list. The same in the maps.
 module _ {K R N : Type 0} (old : Table K R) (new : Table K N) (transfer : Transfer K R N) where
   abbrev pub move_one : R → Picture → Picture
   move_one r P = old.set (new.set P (transfer.new_key (transfer.carried r)) (Some (transfer.carried r))) (transfer.key_of r) None
@@ -69,16 +69,17 @@ module _ {K R N : Type 0} (old : Table K R) (new : Table K N) (transfer : Transf
   move_rows [] maps = maps
   move_rows (r ∷ more) maps = move_rows more (move_row r maps)
 
-  -- The row is moved, or the rows of a batch, in the maps and in the picture. The one fault is 91.
+  -- The row, or the rows of a batch, are moved, in the maps and the picture. The only fault is 91.
   abbrev pub MovesRow : {S T : Type 0} → R → Ghosts S → Transaction S → Transaction S → Result T Fault → Type 0
   MovesRow r = ChangesRows new.since (move_row r) (Unit {0}) (move_one r)
 
   abbrev pub MovesBatch : {S T : Type 0} → List R → Ghosts S → Transaction S → Transaction S → Result T Fault → Type 0
   MovesBatch batch = ChangesRows new.since (move_rows batch) (Unit {0}) (move_all batch)
 
--- A library is led in the transaction from the tables of one schema to those of another, or the same. Where the first are there nothing is
--- committed, and after an answer the transaction goes on, over the others; what an answer says of their maps is so whatever they show.
--- Where they show a picture that is ready for it they show the other afterwards, and then no fault of a stored row comes.
+-- A library is migrated in the transaction from the tables of one schema to those of another, or the same. If
+-- the first exist nothing is committed, and after an answer the transaction goes on over the others; what an
+-- answer says of their maps holds whatever they show. If they show a picture that is ready they show the
+-- other afterwards, and no fault of a stored row comes.
 pub record MigratesInside {S T : Type 0} (from to : ℕ) (AreLed : Maps → Maps → Type 0) (IsReady : Picture → Type 0) (change : Picture → Picture)
     (g : Ghosts S) (old new : Transaction S) (result : Result T Fault) : Type 0 where
   pub same_reference : new.conn.ghost_name ≡ old.conn.ghost_name
@@ -96,30 +97,30 @@ pub record MigratesInside {S T : Type 0} (from to : ℕ) (AreLed : Maps → Maps
   pub sound : HasCleanDisk (state g new.conn.now) → IsTrue (state g old.conn.now).in_transaction → result ≡ Err Stored
       → (P : Picture) → HasPictureAt from (state g old.conn.now).now P → IsReady P → ⊥
 
--- The rows of the picture lie within their limits, and the new table has none yet.
+-- The picture's rows are within their limits, and the new table has none yet.
 abbrev pub IsToCarry : {K N : Type 0} → Table K N → Picture → Type 0
 IsToCarry {K} new P = InLimits P × ((k : K) → new.rows P k ≡ None)
 
--- What stood in the old table was a row within its limits, and the new one has what that becomes.
+-- The old table's entry was a row within its limits, and the new table has what it becomes.
 pub record IsCarried {K R N : Type 0} (old : Table K R) (new : Table K N) (transfer : Transfer K R N) (v : Row) (now : Maps) : Type 0 where
   pub row : R
   pub legal : old.IsLegal row
   pub was : v ≡ old.cells row
   pub there : now new.place (new.key (transfer.new_key (transfer.carried row))) ≡ Some (new.cells (transfer.carried row))
 
--- So it is of all that stood there.
+-- This holds of everything that stood there.
 abbrev pub AreCarried : {K R N : Type 0} → Table K R → Table K N → Transfer K R N → Maps → Maps → Type 0
 AreCarried old new transfer maps now = (k v : Row) → maps old.place k ≡ Some v → IsCarried old new transfer v now
 
--- All but the two tables stand as they stood.
+-- All tables but these two are unchanged.
 pub record AreMoved {K R N : Type 0} (old : Table K R) (new : Table K N) (transfer : Transfer K R N) (maps now : Maps) : Type 0 where
   pub carried : AreCarried old new transfer maps now
   pub others : (at : ℕ) → (at == old.place) ≡ false → (at == new.place) ≡ false → now at ≡ maps at
 
--- All rows stand in the new table, and none in the old one.
+-- All rows are in the new table, and none in the old one.
 abbrev pub all_over : {K R N : Type 0} → Table K R → Transfer K R N → Picture → Picture
 all_over old transfer P = transfer.with_both P (λ _. None) (λ k. option_map transfer.carried (old.rows P k))
 
--- The rows of a table are carried over, inside the first schema that has the new one.
+-- A table's rows are carried over, inside the first schema that has the new one.
 abbrev pub CarriesAll : {K R N S T : Type 0} → Table K R → Table K N → Transfer K R N → Ghosts S → Transaction S → Transaction S → Result T Fault → Type 0
 CarriesAll old new transfer = MigratesInside new.since new.since (AreMoved old new transfer) (IsToCarry new) (all_over old transfer)

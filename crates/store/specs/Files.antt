@@ -15,7 +15,7 @@ use Rattle.store.specs.Stops.{KeepsPicture, KeepsPictureAt}
 abbrev pub HoldsPicture : Image → Picture → Type 0
 HoldsPicture image P = ∥ ((db : Database) × HasPicture db P × HoldsDatabase image db.trees) ∥₁
 
--- They hold one that shows the one picture or the other, of these schemas.
+-- They hold one that shows one of the two pictures, in these schemas.
 abbrev pub HoldsEitherAt : ℕ → ℕ → Image → Picture → Picture → Type 0
 HoldsEitherAt n m image P Q = ∥ ((db : Database) × (HasPictureAt n db P ⊎ HasPictureAt m db Q) × HoldsDatabase image db.trees) ∥₁
 
@@ -32,26 +32,27 @@ Connects image conn = HasCleanDisk conn → Connected image conn
 abbrev pub HasFailed : State → Type 0
 HasFailed s = 1 ≤ s.faults
 
--- A store was opened over files with this content: its tables are what was committed there, and nothing is uncommitted.
+-- A store was opened over files with this content: its tables are what was committed there, and nothing is
+-- uncommitted.
 pub record OpensImage (image : Image) (it : State) : Type 0 where
   pub found : FindsIn image it
   pub sound : IsDatabase it.committed
   pub settled : it.now ≡ it.committed
-  -- the schema is known, and what was committed is shown now and after a stop
+  -- the schema is known, and what was committed is shown, now and after a stop
   pub known : (n : ℕ) → IsKnown n → (P : Picture) → HasPictureAt n it.committed P → KeepsPictureAt n it P × IsKnown P.meta.schema
   -- that is the database that the files hold
   pub shown : (n : ℕ) → IsKnown n → (db : Database) (P : Picture) → HoldsDatabase image db.trees → HasPictureAt n db P → KeepsPictureAt n it P
-  -- and where a stop left one of two, of whichever schemas, it is one of them
+  -- if a stop left one of two, of any schemas, it is one of them
   pub either : (n m : ℕ) → IsKnown n → IsKnown m → (P Q : Picture) → HoldsEitherAt n m image P Q
       → ∥ KeepsPictureAt n it P ⊎ KeepsPictureAt m it Q ∥₁
 
--- A store was opened over files with this content, and it is open, unless the disk has failed.
+-- A store was opened over files with this content, and it is open unless the disk has failed.
 pub record OpensOver (image : Image) (it : State) : Type 0 where
   pub found : HasCleanDisk it → IsTrue it.is_open → OpensImage image it
   pub is_open : HasCleanDisk it → IsTrue it.is_open ⊎ HasFailed it
 
--- A store was made over files that held no library: of files of which that of the database had no bytes it is a new one, whatever stop
--- comes.
+-- A store was made over files that held no library: if the database file was empty it is a new one, whatever
+-- stop comes.
 pub record CreatesOver (image : Image) (it : State) : Type 0 where
   pub none : HasCleanDisk it → (db : Database) → HoldsDatabase image db.trees → HasNoLibrary db
   pub made : HasCleanDisk it → image.db ≡ [] → KeepsPicture it empty_library

@@ -1,4 +1,4 @@
--- Rows that lie within their limits, whether the tables show a picture or not.
+-- Rows within their limits, whether the tables show a picture or not.
 use Rattle.std.specs.Prelude.{◌≡◌, ◌⊎◌, ◌<◌, List, length, map, Some, Result, IfOk, OnOk}
 use Rattle.std.specs.List.{All}
 use Rattle.sqlite.specs.Effect.{Database}
@@ -33,7 +33,7 @@ use Rattle.terms.specs.declared.row.KeptRow.{KeptRow}
 abbrev pub HasLegal : {K R : Type 0} → Table K R → Maps → Type 0
 HasLegal t maps = AreEncoded t.cells t.IsLegal (maps t.place)
 
--- The same of the tables that the desk sets.
+-- The same for the tables that the desk sets.
 pub record HasLegalRegisters (maps : Maps) : Type 0 where
   pub meta : AreEncoded meta_cells IsMeta (maps meta_place)
   pub branches : HasLegal branches maps
@@ -41,47 +41,49 @@ pub record HasLegalRegisters (maps : Maps) : Type 0 where
   pub kinds : HasLegal kinds maps
   pub rules : HasLegal rules maps
 
--- Of patrons, titles and copies.
+-- For patrons, titles and copies.
 pub record HasLegalHoldings (maps : Maps) : Type 0 where
   pub patrons : HasLegal patrons maps
   pub titles : HasLegal titles maps
   pub copies : HasLegal copies maps
 
--- Of what was done with them.
+-- For what was done with them.
 pub record HasLegalDealings (maps : Maps) : Type 0 where
   pub loans : HasLegal loans maps
   pub holds : HasLegal holds maps
   pub transits : HasLegal transits maps
   pub lines : HasLegal lines maps
 
--- Of all tables but the one of schema 1, which the newest leaves empty.
+-- For all tables but those of older schemas, which the newest leaves empty.
 pub record HasLegalTables (maps : Maps) : Type 0 where
   pub registers : HasLegalRegisters maps
   pub holdings : HasLegalHoldings maps
   pub dealings : HasLegalDealings maps
   pub kept : HasLegal kept maps
 
--- Every row of these thirteen tables is that of a row within its limits: none is damaged.
+-- Every row of these thirteen tables is within its limits: none is damaged.
 abbrev pub HasLegalRows : Database → Type 0
 HasLegalRows db = (maps : Maps) → Holds schema db maps → HasLegalTables maps
 
--- This is so of what was read and of the maps of the tables, whether these show a picture or not.
+-- This holds of what was read and of the tables' maps, whether these show a picture or not.
 abbrev pub OverMaps : {S A : Type 0} → (A → Maps → Type 0) → Ghosts S → Held S → Held S → Result A Fault → Type 0
 OverMaps Is g old new result = HasCleanDisk (state g new)
     → IfOk result (λ x. (maps : Maps) → Holds schema (state g old).now maps → Is x maps)
 
--- What is read, in words of the picture that the tables show, and what is so of the rows of tables, whether they show one or not.
+-- What is read, in terms of the picture that the tables show, and what holds of the tables' rows, whether
+-- they show one or not.
 pub record Reviews {S A : Type 0} (Is : Picture → A → Type 0) (Met : Maps → Type 0)
     (g : Ghosts S) (old new : Held S) (result : Result A Fault) : Type 0 where
   pub view : Views Is g old new result
   pub met : OverMaps (λ x maps. Met maps) g old new result
 
--- A batch of what is kept: each row that is to come is on it, or comes after each of its rows, of which there is one at least.
+-- A batch of the kept rows: each row to come is in it, or comes after all its rows, of which there is at
+-- least one.
 pub record IsKeptBatch (IsToCome : Row → Type 0) (batch : List KeptRow) (maps : Maps) : Type 0 where
   pub limits : All kept.IsLegal batch
   pub whole : (k v : Row) → maps kept.place k ≡ Some v → IsToCome v
       → Has (map kept_cells batch) v ⊎ ((0 < length batch) × ((w : Row) → Has (map kept_cells batch) w → PairBelow w v))
 
--- An answer comes only where no row is damaged.
+-- An answer comes only if no row is damaged.
 abbrev pub AnswersLegal : {S A : Type 0} → Ghosts S → Held S → Held S → Result A Fault → Type 0
 AnswersLegal g old new result = HasCleanDisk (state g new) → OnOk result (HasLegalRows (state g old).now)

@@ -1,4 +1,4 @@
--- The words for a library that the crates above speak of.
+-- The words for a library that higher crates use.
 use Rattle.std.specs.Prelude.{◌≡◌, ◌⊎◌, ℕ, IsTrue}
 use Rattle.sqlite_disk.specs.Disk.{MoreFaults}
 use Rattle.sqlite.specs.Effect.{Database}
@@ -11,7 +11,7 @@ pub use Rattle.sqlite.specs.State.{State, HasCleanDisk}
 pub use Rattle.sqlite.specs.Store.{Ghosts}
 pub use Rattle.sqlite.specs.Steps.{over_memory}
 
--- The tables of a schema are there, whatever rows they have.
+-- The tables of a schema exist, whatever rows they have.
 abbrev pub HasTablesAt : ℕ → Database → Type 0
 HasTablesAt n db = (maps : Maps) × Holds (schema_at n) db maps
 
@@ -24,11 +24,11 @@ pub record IsAsItWas (old new : State) : Type 0 where
   pub now : new.now ≡ old.now
   pub left : (trees : Trees) → new.may_leave trees → old.may_leave trees ⊎ (trees ≡ old.now.trees)
 
--- Only where the disk failed or refused a call isn't the database open any more.
+-- An open database stays open unless the disk failed or refused a call.
 abbrev pub StaysOpen : State → State → Type 0
 StaysOpen old new = HasCleanDisk new → IsTrue old.is_open → IsTrue new.is_open ⊎ MoreFaults old.faults new.faults
 
--- So far the disk has given back what was written to it.
+-- So far the disk has returned what was written to it.
 abbrev pub IsClean : {S : Type 0} → Ghosts S → Held S → Type 0
 IsClean g held = HasCleanDisk (state g held)
 

@@ -1,4 +1,4 @@
--- How a library of an older schema is led to the newest one.
+-- How a library of an older schema is migrated to the newest.
 use Rattle.std.specs.Prelude.{◌≡◌, ◌⊎◌, ◌<◌, ◌≤◌, ◌+◌, ◌-◌, ◌^◌, ◌==◌, ℕ, zero, suc, false}
 use Rattle.std.specs.Prelude.{Err, Result, IfOk, OnOk, OnErr, IsTrue}
 use Rattle.sqlite.specs.Effect.{Database}
@@ -34,7 +34,7 @@ use Rattle.store.specs.Transfers.{holds_transfer, loans_transfer, rules_transfer
 
 -- ---- the number of the schema
 
--- The one row of `meta` was that of a row within its limits; it names the schema now, and every other table stands as it stood.
+-- The only row of `meta` was within its limits; it now names the schema, and every other table is unchanged.
 pub record AreNamed (n : ℕ) (maps now : Maps) : Type 0 where
   pub meta : ((m : ℕ) → NamesSchema maps m → AreEncoded meta_cells IsMeta (maps meta_place) × NamesSchema now n)
   pub others : (at : ℕ) → (at == meta_place) ≡ false → now at ≡ maps at
@@ -49,51 +49,51 @@ NamesInside n = MigratesInside n n (AreNamed n) (λ P. IsMeta P.meta) (λ P. rec
 abbrev pub IsLibrary : ℕ → Database → Picture → Type 0
 IsLibrary n db P = HasPictureAt n db P × IsOfSchema n P × InLimits P
 
--- Of the rows of tables of an older schema that are carried over or changed by the step that leads it on none is damaged: of schema 1 the
--- holds, of schema 2 the rules and the loans, and that of `meta`.
+-- In tables of an older schema, no row that the next step carries over or changes is damaged: in schema 1 the
+-- holds, in schema 2 the rules and the loans, and that of `meta`.
 abbrev pub CanBeLed : ℕ → Maps → Type 0
 CanBeLed (suc zero) maps = AreEncoded meta_cells IsMeta (maps meta_place) × HasLegal holds1 maps
 CanBeLed (suc (suc zero)) maps = AreEncoded meta_cells IsMeta (maps meta_place) × HasLegal rules1 maps × HasLegal loans1 maps
 CanBeLed _ maps = Unit {0}
 
--- The table at the place is none of those that the step takes rows out of or changes.
+-- The step neither takes rows out of the table at this place nor changes it.
 abbrev pub IsLeft : ℕ → ℕ → Type 0
 IsLeft (suc zero) at = (at < holds_place) × ((at == meta_place) ≡ false) × ((at == holds1_place) ≡ false)
 IsLeft (suc (suc zero)) at = (at < rules_place) × ((at == meta_place) ≡ false) × ((at == rules1_place) ≡ false) × ((at == loans1_place) ≡ false)
 IsLeft _ at = Unit {0}
 
--- Each row of the tables that the step carries over stands in its new table.
+-- Each row of the tables that the step carries over is in its new table.
 abbrev pub HaveArrived : ℕ → Maps → Maps → Type 0
 HaveArrived (suc zero) maps now = AreCarried holds1 holds holds_transfer maps now
 HaveArrived (suc (suc zero)) maps now = AreCarried rules1 rules rules_transfer maps now × AreCarried loans1 loans loans_transfer maps now
 HaveArrived _ maps now = Unit {0}
 
--- The maps of an older schema were led to these: none of the rows that were carried over or changed was damaged, each that was carried over
--- stands in its new table, the next schema is named, and each other table stands as it stood.
+-- The maps of an older schema were migrated to these: no row that was carried over or changed was damaged,
+-- each one carried over is in its new table, the next schema is named, and each other table is unchanged.
 pub record AreLedOn (n : ℕ) (maps now : Maps) : Type 0 where
   pub legal : CanBeLed n maps
   pub arrived : HaveArrived n maps now
   pub named : NamesSchema now (next_schema n)
   pub others : (at : ℕ) → IsLeft n at → now at ≡ maps at
 
--- The same, whatever schema the maps name: they may name none.
+-- The same, if the maps name any schema.
 abbrev pub AreLedIfNamed : ℕ → Maps → Maps → Type 0
 AreLedIfNamed n maps now = (m : ℕ) → NamesSchema maps m → AreLedOn n maps now
 
--- The step leads on from the tables of schema n.
+-- The step migrates from the tables of schema n.
 abbrev pub MigratesFrom : {S T : Type 0} → ℕ → Ghosts S → Transaction S → Transaction S → Result T Fault → Type 0
 MigratesFrom n = MigratesInside n (next_schema n) (AreLedIfNamed n) (λ P. IsOfSchema n P × InLimits P) (led_on n)
 
--- The tables are those of schema n, whatever rows they have, and `meta` names no older schema but that.
+-- The tables are those of schema n, whatever rows they have, and `meta` names no other older schema.
 pub record AreThere (n : ℕ) (db : Database) : Type 0 where
   pub known : IsKnown n
   pub maps : Maps
   pub holds : Holds (schema_at n) db maps
   pub named : (m : ℕ) → NamesSchema maps m → IsOlder m → m ≡ n
 
--- A library was led on by a step, to the schema that it names now: from tables that show one to those of the same in the next schema, and
--- those of the newest stay. Whatever they show, no damaged row is passed over; where the newest is named the database is the same; and
--- where none is named that is known nothing is led on.
+-- A step migrated a library to the schema that it now names: tables that show one to those of the same
+-- library in the next schema; those of the newest stay. Whatever they show, no damaged row is passed over; if
+-- the newest is named the database is the same; if no known one is named nothing is migrated.
 pub record MigratesOn (to : ℕ) (old new : Database) : Type 0 where
   pub migrates : (n : ℕ) → IsKnown n → (P : Picture) → IsLibrary n old P → (to ≡ next_schema n) × HasPictureAt (next_schema n) new (led_on n P)
   pub rows : (n : ℕ) → IsOlder n → (maps : Maps) → Holds (schema_at n) old maps → NamesSchema maps n
@@ -101,7 +101,8 @@ pub record MigratesOn (to : ℕ) (old new : Database) : Type 0 where
   pub same : (n : ℕ) → IsKnown n → (maps : Maps) → Holds (schema_at n) old maps → NamesSchema maps SCHEMA → (to ≡ SCHEMA) × (new ≡ old)
   pub named : (n : ℕ) → IsKnown n → (maps : Maps) → Holds (schema_at n) old maps → (m : ℕ) × NamesSchema maps m × IsKnown m
 
--- A step was made in the transaction. Where its tables are there nothing is committed, and no fault of a stored row comes where they show a library.
+-- A step was made in the transaction. If its tables exist nothing is committed, and no fault of a stored row
+-- comes if they show a library.
 pub record MigratesOnInside {S : Type 0} (g : Ghosts S) (old new : Transaction S) (result : Result ℕ Fault) : Type 0 where
   pub same_reference : new.conn.ghost_name ≡ old.conn.ghost_name
   pub survives : Survives (state g old.conn.now) (state g new.conn.now) (λ _. ⊥)
@@ -114,12 +115,12 @@ pub record MigratesOnInside {S : Type 0} (g : Ghosts S) (old new : Transaction S
   pub sound : HasCleanDisk (state g new.conn.now) → IsTrue (state g old.conn.now).in_transaction → result ≡ Err Stored
       → (n : ℕ) → IsKnown n → (P : Picture) → ¬ IsLibrary n (state g old.conn.now).now P
 
--- A step, to whatever schema.
+-- A step, to any schema.
 abbrev pub MakesOneStep : Database → Database → Type 0
 MakesOneStep old new = (to : ℕ) × MigratesOn to old new
 
--- It was made in one transaction: where the tables are there, it is made and committed, or nothing is; and whatever a stop leaves is what
--- was there or what the step brings.
+-- It was made in one transaction: if the tables exist, it is made and committed, or nothing is; a stop leaves
+-- what was there or what the step brings.
 pub record StepsOn {S : Type 0} (g : Ghosts S) (old new : Held S) (result : Result ℕ Fault) : Type 0 where
   pub idle : new.in_transaction ≡ false
   pub done : HasCleanDisk (state g new) → (n : ℕ) → AreThere n (state g old).now → IfOk result (λ to. HasDone (MigratesOn to) (state g old) (state g new))
@@ -128,8 +129,8 @@ pub record StepsOn {S : Type 0} (g : Ghosts S) (old new : Held S) (result : Resu
   pub survives : Survives (state g old) (state g new) (Brings MakesOneStep (state g old).now)
   pub sound : HasCleanDisk (state g new) → result ≡ Err Stored → (n : ℕ) → IsKnown n → (P : Picture) → ¬ IsLibrary n (state g old).now P
 
--- The number of the schema was asked for, and nothing is changed: it is the one that the picture names. No fault of a stored row comes
--- where it names one of 32 bits.
+-- The schema's number was asked for, and nothing is changed: it is the one that the picture names. No fault
+-- of a stored row comes if that has 32 bits.
 pub record TellsSchema {S : Type 0} (g : Ghosts S) (old new : Held S) (result : Result ℕ Fault) : Type 0 where
   pub clean : HasCleanDisk (state g new) → HasCleanDisk (state g old)
   pub idle : new.in_transaction ≡ false
@@ -142,48 +143,51 @@ pub record TellsSchema {S : Type 0} (g : Ghosts S) (old new : Held S) (result : 
   pub sound : HasCleanDisk (state g new) → result ≡ Err Stored → (n : ℕ) → IsKnown n → (P : Picture)
       → HasPictureAt n (state g old).now P → P.meta.schema < 2 ^ 32 → ⊥
 
--- ---- all steps that are due
+-- ---- all due steps
 
--- A library of schema n that was led on by so many steps.
+-- A library of schema n, migrated by this many steps.
 abbrev pub IsLedBy : ℕ → ℕ → Picture → Database → Type 0
 IsLedBy steps n P db = (n + steps ≤ SCHEMA) × HasPictureAt (n + steps) db (led_by steps n P)
 
--- By some.
+-- By some number of steps.
 abbrev pub IsAtSomeSchema : ℕ → Picture → Database → Type 0
 IsAtSomeSchema n P db = (steps : ℕ) × IsLedBy steps n P db
 
--- The maps of schema n were led to those of the newest schema, one schema after another: at no step was a row damaged that it carries over or changes.
+-- The maps of schema n were migrated to those of the newest, schema by schema: at no step was a row damaged
+-- that it carries over or changes.
 abbrev pub AreLedUp : ℕ → Maps → Maps → Type 0
 AreLedUp (suc zero) maps now = (between : Maps) × AreLedOn 1 maps between × AreLedOn 2 between now
 AreLedUp (suc (suc zero)) maps now = AreLedOn 2 maps now
 AreLedUp _ maps now = Unit {0}
 
--- Tables that name their own schema were led up to the newest, whatever they show; where they name the newest the database is the same.
+-- Tables that name their own schema were migrated to the newest, whatever they show; if they name the newest
+-- the database is the same.
 pub record MigratesUp (old new : Database) : Type 0 where
   pub rows : (n : ℕ) → IsOlder n → (maps : Maps) → Holds (schema_at n) old maps → NamesSchema maps n
       → (now : Maps) × Holds (schema_at SCHEMA) new now × AreLedUp n maps now
   pub same : (n : ℕ) → IsKnown n → (maps : Maps) → Holds (schema_at n) old maps → NamesSchema maps SCHEMA → new ≡ old
   pub named : (n : ℕ) → IsKnown n → (maps : Maps) → Holds (schema_at n) old maps → (m : ℕ) × NamesSchema maps m × IsKnown m
 
--- Of tables of an older schema a row is damaged that the step from it carries over or changes.
+-- In tables of an older schema, a row that the next step carries over or changes is damaged.
 pub record CannotBeLed (db : Database) : Type 0 where
   pub at : ℕ
   pub older : IsOlder at
   pub there : AreThere at db
   pub damaged : ¬ CanBeLed at there.maps
 
--- The tables are as they were, or as the first of two steps left them, which stands.
+-- The tables are as the first of two steps left them, committed.
 pub record IsLedInPart (old new : State) : Type 0 where
   pub led : MakesOneStep old.now new.now
   pub committed : new.committed ≡ new.now
 
--- So many steps lead on from schema n, and from an older one not to the newest.
+-- This many steps lead on from schema n, and from an older one not to the newest.
 abbrev pub IsNotLedUp : ℕ → ℕ → Type 0
 IsNotLedUp n steps = (n + steps ≤ SCHEMA) × (IsOlder n → n + steps < SCHEMA)
 
--- A library was led to the newest schema, step after step, or it was of that already and is as it was. After a fault it is of the schema
--- that the last whole step led to, and the one that met the fault changed nothing, as long as the database is open; and a stop leaves what
--- was there or what some of the steps lead it to. It is led on only where no row that is to be carried over is damaged.
+-- A library was migrated to the newest schema, step by step, or it was of that already and is unchanged.
+-- After a fault it has the schema of the last whole step, and the step that met the fault changed nothing,
+-- while the database is open; a stop leaves what was there or what some of the steps make of it. It is
+-- migrated only if no row to be carried over is damaged.
 pub record Migrates {S T : Type 0} (g : Ghosts S) (old new : Held S) (result : Result T Fault) : Type 0 where
   pub clean : HasCleanDisk (state g new) → HasCleanDisk (state g old)
   pub led : HasCleanDisk (state g new) → OnOk result ((n : ℕ) → IsKnown n → (P : Picture) → IsLibrary n (state g old).now P

@@ -17,17 +17,17 @@ pub record Reads {A : Type 0} (old new : State) (result : Result A Fault) : Type
   pub clean : HasCleanDisk new → HasCleanDisk old
   -- after an answer the database holds what it held
   pub answered : HasCleanDisk new → HasTables old.now → OnOk result (new.now ≡ old.now)
-  -- and after a fault too, as long as it is open
+  -- after a fault too, while it is open
   pub same : HasCleanDisk new → IsTrue new.is_open → HasTables old.now → new.now ≡ old.now
-  -- a stop leaves nothing that it would not have left before
+  -- a stop leaves only what it would have left before
   pub left : HasCleanDisk new → HasTables old.now → (trees : Trees) → new.may_leave trees → old.may_leave trees
 
--- All rows can be read: they lie within their limits, and no branch is closed singly on more days than it can be.
+-- All rows can be read: they are within their limits, and no branch has more single closed days than allowed.
 abbrev pub IsReadable : Picture → Type 0
 IsReadable P = InLimits P × ClosesFewDays P
 
--- What a call of a store that only reads says: where the picture of the tables is as the call needs it, what was found is so in it; no
--- fault of a stored row comes where all rows of the picture can be read.
+-- What a store's read-only call promises: if the tables' picture meets its needs, what was found is true of
+-- it; no fault of a stored row comes if all rows of the picture can be read.
 pub record Looked {S A : Type 0} (Needs : Picture → Type 0) (Is : Picture → A → Type 0) (Readable : Picture → Type 0)
     (g : Ghosts S) (old new : Held S) (result : Result A Fault) : Type 0 where
   pub reads : Reads (state g old) (state g new) result
@@ -36,6 +36,6 @@ pub record Looked {S A : Type 0} (Needs : Picture → Type 0) (Is : Picture → 
   pub sound : HasCleanDisk (state g new) → result ≡ Err Stored
       → (P : Picture) → HasPicture (state g old).now P → Readable P → ⊥
 
--- The row of a key was looked for.
+-- The row of a key was looked up.
 abbrev pub Finds : {K R S : Type 0} → Table K R → K → Ghosts S → Held S → Held S → Result (Option R) Fault → Type 0
 Finds t key = Looked (λ P. IfSome (t.rows P key) t.IsLegal) (λ P row. row ≡ t.rows P key) InLimits

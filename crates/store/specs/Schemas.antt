@@ -1,4 +1,4 @@
--- The schemas that are known.
+-- The known schemas.
 use Rattle.std.specs.Prelude.{◌≤◌, ◌<◌, ℕ, zero, suc}
 use Rattle.terms.specs.declared.limits.TheConstants.{SCHEMA}
 
@@ -6,7 +6,7 @@ use Rattle.terms.specs.declared.limits.TheConstants.{SCHEMA}
 abbrev pub IsKnown : ℕ → Type 0
 IsKnown n = (1 ≤ n) × (n ≤ SCHEMA)
 
--- One of this schema is led on.
+-- One of this schema is migrated.
 abbrev pub IsOlder : ℕ → Type 0
 IsOlder n = (1 ≤ n) × (n < SCHEMA)
 

@@ -1,4 +1,4 @@
--- The tables that a step carries over, each with that of the next schema.
+-- The tables that a step carries over, each with its next one.
 use Rattle.std.proofs.Common.{◌≡◌, ℕ, ◌==◌, ◌&&◌, true, refl, ap, ap₂, arith}
 use Rattle.std.proofs.lemmas.Bool.{eq-eqb, and_parts}
 use Rattle.std.proofs.lemmas.Bool.Decides.{Decides-eqb}

@@ -5,7 +5,7 @@ use Rattle.terms.specs.declared.command.Caller.TheVariants as caller
 use Rattle.terms.specs.declared.command.Owner.{Owner}
 use Rattle.terms.specs.declared.command.Owner.TheVariants as owner
 
--- whose keys the requests of a caller have
+-- whose keys a caller's requests have
 abbrev pub owner_of : Caller → Owner
 owner_of caller.Desk = owner.Desk
 owner_of (caller.Patron patron card_key) = owner.Patron patron

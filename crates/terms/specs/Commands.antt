@@ -30,7 +30,7 @@ kind_of (Mask _) = kind.Mask
 kind_of (CardKey _) = kind.CardKey
 kind_of (Name _) = kind.Name
 
--- The name and the kind of a part in the table, and of a command the name and its parts.
+-- A part's name and kind in the table; a command's name and parts.
 abbrev pub Column : Type 0
 Column = Text × PartKind
 
@@ -94,17 +94,17 @@ unfoldable pub parts_in : List CommandEntry → Text → Option (List Column)
 parts_in [] name = None
 parts_in (first ∷ rest) name = if bytes_eq first.0 name then Some first.1 else parts_in rest name
 
--- The command stands in the table: under its name are parts of the kinds that it has.
+-- The command is in the table: under its name are parts of its kinds.
 pub record IsListed (command : Command) : Type 0 where
   pub parts : List Column
   pub found : parts_in commands (said command).0 ≡ Some parts
   pub kinds : map (λ part. part.1) parts ≡ map kind_of (said command).1
 
--- Every command stands in the table.
+-- Every command is in the table.
 abbrev pub CommandsAreListed : Type 0
 CommandsAreListed = (command : Command) → IsListed command
 
--- A word can write the part: an amount has to be below 2^32 for it, as each number is.
+-- A word can write the part: an amount must be below 2^32 for that, as every number is.
 abbrev pub IsSayablePart : Part → Type 0
 IsSayablePart (Number n) = Unit {0}
 IsSayablePart (Amount n) = n < 2 ^ 32
@@ -121,11 +121,11 @@ AreSayable (part ∷ parts) = IsSayablePart part × AreSayable parts
 abbrev pub IsSayable : Command → Type 0
 IsSayable command = IsCommand command × AreSayable (said command).1
 
--- A name and the words that follow it are the words of this command.
+-- A name and the words after it are the words of this command.
 abbrev pub IsReadAs : Text → List Text → Command → Type 0
 IsReadAs name others command = IsSayable command × (command_words command ≡ name ∷ others)
 
--- A name and the words that follow it are the words of no command.
+-- A name and the words after it are the words of no command.
 pub record IsNoCommand (name : Text) (others : List Text) : Type 0 where
   pub none : (command : Command) → IsReadAs name others command → ⊥
 

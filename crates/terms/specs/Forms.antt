@@ -1,9 +1,9 @@
--- The forms of texts that are given from outside.
+-- The forms of texts given from outside.
 use Rattle.std.specs.Prelude.{◌≡◌, ℕ, ◌-◌, List, length, slice_index, Bool, true, ◌&&◌, ◌||◌, nat_le, not, ◌==◌, IsUtf8}
 use Rattle.std.specs.List.{list_all}
 use Rattle.terms.specs.declared.limits.TheConstants.{LONGEST_NAME, SHORTEST_CARD_KEY, LONGEST_CARD_KEY, LONGEST_KEY}
 
--- a byte that a name may have: none below 32, and not 127
+-- a byte allowed in a name: 32 or above, and not 127
 abbrev pub is_plain_byte : ℕ → Bool
 is_plain_byte b = nat_le 32 b && not (b == 127)
 
@@ -25,11 +25,11 @@ is_alphanumeric b = (nat_le 48 b && nat_le b 57) || ((nat_le 65 b && nat_le b 90
 unfoldable pub is_card_key : List ℕ → Bool
 is_card_key t = nat_le SHORTEST_CARD_KEY (length t) && (nat_le (length t) LONGEST_CARD_KEY && list_all is_alphanumeric t)
 
--- a byte that a request key may have: a letter, a digit or a hyphen
+-- a byte allowed in a request key: a letter, a digit or a hyphen
 abbrev pub is_key_byte : ℕ → Bool
 is_key_byte b = is_alphanumeric b || (b == 45)
 
--- a request key that is given from outside: 1 to 40 letters, digits and hyphens
+-- a request key given from outside: 1 to 40 letters, digits and hyphens
 unfoldable pub is_outside_key : List ℕ → Bool
 is_outside_key t = nat_le 1 (length t) && (nat_le (length t) LONGEST_KEY && list_all is_key_byte t)
 
@@ -37,7 +37,7 @@ is_outside_key t = nat_le 1 (length t) && (nat_le (length t) LONGEST_KEY && list
 abbrev pub has_no_space : List ℕ → Bool
 has_no_space = list_all (λ b. not (b == 32))
 
--- what a key can be: one from outside, or a text with a space, as the key of a row of a copies file is
+-- any key: one from outside, or a text with a space, such as the key of a copies file's row
 abbrev pub is_key : List ℕ → Bool
 is_key t = is_outside_key t || not (has_no_space t)
 

@@ -35,18 +35,19 @@ AreParts (part ∷ parts) = IsPart part × AreParts parts
 abbrev pub IsCommand : Command → Type 0
 IsCommand command = AreParts (said command).1
 
--- Two commands with one request text are one command.
+-- Commands with the same request text are the same.
 abbrev pub RequestTextsDiffer : Type 0
 RequestTextsDiffer = (a b : Command) → IsCommand a → IsCommand b → request_text a ≡ request_text b → a ≡ b
 
--- The numbers and the day of where a copy goes are in their ranges.
+-- The numbers and the day of a routing are in their ranges.
 abbrev pub IsRouted : Routed → Type 0
 IsRouted (Shelf branch) = IsNumber branch
 IsRouted (HoldShelf hold branch until) = IsNumber hold × IsNumber branch × IsDayNumber until
 IsRouted (Transit goal (Some hold)) = IsNumber goal × IsNumber hold
 IsRouted (Transit goal None) = IsNumber goal
 
--- The reply is one that can be kept: neither a page nor a refusal, with its numbers, amounts and days in their ranges.
+-- The reply can be kept: it is neither a page nor a refusal, and its numbers, amounts and days are in their
+-- ranges.
 abbrev pub IsKept : Reply → Type 0
 IsKept Done = Unit {0}
 IsKept (Lent loan due) = IsNumber loan × IsDayNumber due
@@ -58,7 +59,7 @@ IsKept (Owed owed) = IsAmount owed
 IsKept (Shown _) = ⊥
 IsKept (Refused _) = ⊥
 
--- Two kept replies with one reply text are one reply.
+-- Kept replies with the same reply text are the same.
 abbrev pub ReplyTextsDiffer : Type 0
 ReplyTextsDiffer = (a b : Reply) → IsKept a → IsKept b → reply_text a ≡ reply_text b → a ≡ b
 

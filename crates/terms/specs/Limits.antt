@@ -1,4 +1,4 @@
--- What a stored row keeps to, beside its columns.
+-- The limits of a stored row, beside its columns.
 use Rattle.std.specs.Prelude.{◌≡◌, ◌≤◌, ℕ, true, false, List, length, Some, IfSome, IsUtf8}
 use Rattle.calendar.specs.Days.{IsDayNumber}
 use Rattle.calendar.specs.Openings.{AreWeekdays, has_day, has_repeat}
@@ -103,7 +103,7 @@ IsLine r = IsGiven r.line × IsLarge r.patron × IsDayNumber r.day × IsAmount r
 abbrev pub IsKeptRow : KeptRow → Type 0
 IsKeptRow r = IsOwner r.caller × IsKey r.key × IsUtf8 r.text × ((reply : Reply) × IsKept reply × (r.reply ≡ reply_text reply))
 
--- Each row of the tables stands under its own key and lies in its limits.
+-- Each row of the tables stands under its own key and is within its limits.
 pub record InLimits (P : Picture) : Type 0 where
   pub meta : IsMeta P.meta
   pub branches : (b : ℕ) (r : BranchRow) → P.branches b ≡ Some r → (r.branch ≡ b) × IsBranch r
@@ -122,6 +122,6 @@ pub record InLimits (P : Picture) : Type 0 where
   pub lines : (n : ℕ) (r : LineRow) → P.lines n ≡ Some r → (r.line ≡ n) × IsLine r
   pub kept : (o : Owner) (k : List ℕ) (r : KeptRow) → P.kept o k ≡ Some r → (r.caller ≡ o) × (r.key ≡ k) × IsKeptRow r
 
--- No branch is closed singly on more days than it can be.
+-- No branch has more single closed days than allowed.
 abbrev pub ClosesFewDays : Picture → Type 0
 ClosesFewDays P = (branch : ℕ) (days : List ℕ) → has_repeat days ≡ false → ((d : ℕ) → has_day days d ≡ P.closed_days branch d) → length days ≤ MOST_CLOSED_DAYS

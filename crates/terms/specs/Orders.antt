@@ -1,4 +1,4 @@
--- Rows in an order.
+-- Ordered rows.
 use Rattle.std.proofs.Common.{inl, inr, ◌∙◌, ap, arith}
 use Rattle.std.specs.Prelude.{◌≡◌, ◌⊎◌, ◌<◌, ℕ, List, [], ◌∷◌}
 use Rattle.std.proofs.lemmas.Cmp.{nat_list_cmp_total}
@@ -14,7 +14,7 @@ abbrev pub IsOrdered : {R : Type 0} → (R → R → Type 0) → List R → Type
 IsOrdered Before [] = Unit {0}
 IsOrdered Before (r ∷ rows) = AllByRecursion (λ s. Before r s) rows × IsOrdered Before rows
 
--- The numbers of the rows rise.
+-- The rows' numbers ascend.
 abbrev pub Rise : {R : Type 0} → (R → ℕ) → List R → Type 0
 Rise number_of = IsOrdered (λ r s. number_of r < number_of s)
 
@@ -22,11 +22,11 @@ Rise number_of = IsOrdered (λ r s. number_of r < number_of s)
 abbrev pub IsPairBefore : ℕ × ℕ → ℕ × ℕ → Type 0
 IsPairBefore a b = (a.0 < b.0) ⊎ ((a.0 ≡ b.0) × (a.1 < b.1))
 
--- The desk's rows come before those of patrons, these by patron, and those of one caller by key, byte by byte.
+-- The desk's rows come before patrons', these by patron, and one caller's by key, byte by byte.
 abbrev pub IsKeptBefore : KeptRow → KeptRow → Type 0
 IsKeptBefore r s = (owner_number r.caller < owner_number s.caller) ⊎ ((r.caller ≡ s.caller) × (slice_cmp nat_cmp r.key s.key ≡ Less))
 
--- ---- what comes before a row comes before those that follow it
+-- ---- these orders are transitive
 
 pub rise-on : {R : Type 0} (number_of : R → ℕ) (r s t : R) → number_of r < number_of s → number_of s < number_of t → number_of r < number_of t
 rise-on number_of r s t less more = omega (arith, less, more)

@@ -18,9 +18,9 @@ use Rattle.terms.specs.declared.row.TransitRow.{TransitRow}
 use Rattle.terms.specs.declared.row.LineRow.{LineRow}
 use Rattle.terms.specs.declared.row.KeptRow.{KeptRow}
 
--- The tables: for each key, the row or none. A single closed day is there or not. `holds` are those of the table of schema 2, and `holds1`
--- those of the table that schema 1 has and that is empty from then on; `rules` and `loans` those of schema 3, and `rules1` and `loans1`
--- those that schemas 1 and 2 have.
+-- The tables: for each key, the row or none. A single closed day exists or not. `holds` is the table of
+-- schema 2, `holds1` that of schema 1, empty from then on; `rules` and `loans` are the tables of schema 3,
+-- `rules1` and `loans1` those of schemas 1 and 2.
 pub record Picture : Type 0 where
   pub meta : MetaRow
   pub branches : ℕ → Option BranchRow
@@ -41,7 +41,7 @@ pub record Picture : Type 0 where
 
 -- ---- one entry set
 
--- The map with the entry of the key set, or taken away.
+-- The map with the key's entry set or removed.
 abbrev pub put : {A : Type 0} → (ℕ → A) → ℕ → A → ℕ → A
 put t k x n = elim (k == n) [ true ↦ x | false ↦ t n ]
 
@@ -49,12 +49,12 @@ put t k x n = elim (k == n) [ true ↦ x | false ↦ t n ]
 abbrev pub put_pair : {A : Type 0} → (ℕ → ℕ → A) → ℕ → ℕ → A → ℕ → ℕ → A
 put_pair t j k x m n = elim ((j == m) && (k == n)) [ true ↦ x | false ↦ t m n ]
 
--- The two owners are one.
+-- The two owners are the same.
 abbrev pub same_owner : Owner → Owner → Bool
 same_owner Desk Desk = true
 same_owner (Reader p) (Reader q) = p == q
 same_owner _ _ = false
 
--- The same for the key of a kept request: whose it is, and its text.
+-- The same for the key of a kept request: its owner and its text.
 abbrev pub put_kept : {A : Type 0} → (Owner → List ℕ → A) → Owner → List ℕ → A → Owner → List ℕ → A
 put_kept t o k x p l = elim (same_owner o p && bytes_eq k l) [ true ↦ x | false ↦ t p l ]

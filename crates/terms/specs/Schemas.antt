@@ -1,4 +1,4 @@
--- How the tables of one schema are led to those of the next.
+-- How the tables of one schema become those of the next.
 use Rattle.std.specs.Prelude.{◌≡◌, ℕ, zero, suc, None, option_map}
 use Rattle.terms.specs.declared.row.RuleRow.{RuleRow}
 use Rattle.terms.specs.declared.row.RuleRow1.{RuleRow1}
@@ -8,7 +8,7 @@ use Rattle.terms.specs.declared.row.HoldRow.{HoldRow}
 use Rattle.terms.specs.declared.row.HoldRow1.{HoldRow1}
 use Rattle.terms.specs.Pictures.{Picture}
 
--- A hold of schema 1 as schema 2 has it: with no first day.
+-- A hold of schema 1 in schema 2: without a first day.
 abbrev pub carried : HoldRow1 → HoldRow
 carried r = record {
   hold = r.hold;
@@ -22,7 +22,7 @@ carried r = record {
   first_day = None;
 }
 
--- A rule and a loan of schema 2 as schema 3 has them: with no grace days.
+-- A rule and a loan of schema 2 in schema 3: without grace days.
 abbrev pub carried_rule : RuleRow1 → RuleRow
 carried_rule r = record { kind = r.kind; copy_kind = r.copy_kind; period = r.period; renewals = r.renewals; rate = r.rate; cap = r.cap; grace = 0 }
 
@@ -43,7 +43,7 @@ carried_loan r =
       grace = 0;
     }
 
--- The tables are those of a library of schema 2, whose `meta` says so.
+-- The tables are those of a library of schema 2, and `meta` says so.
 pub record IsOfSchema2 (P : Picture) : Type 0 where
   pub names : P.meta.schema ≡ 2
   pub later_rules : (k c : ℕ) → P.rules k c ≡ None
@@ -56,11 +56,12 @@ pub record IsOfSchema1 (P : Picture) : Type 0 where
   pub later_rules : (k c : ℕ) → P.rules k c ≡ None
   pub later_loans : (l : ℕ) → P.loans l ≡ None
 
--- Those of schema 2 that the tables of schema 1 are led to: each hold is carried over, and no other row is changed but that of `meta`, which says the schema.
+-- The tables of schema 1, migrated to schema 2: each hold is carried over, and no other row is changed but
+-- that of `meta`, which names the schema.
 abbrev pub led_to_2 : Picture → Picture
 led_to_2 P = record P { meta = record P.meta { schema = 2 }; holds = λ h. option_map carried (P.holds1 h); holds1 = λ _. None }
 
--- Those of schema 3 that the tables of schema 2 are led to: each rule and each loan is carried over.
+-- The tables of schema 2, migrated to schema 3: each rule and each loan is carried over.
 abbrev pub led_to_3 : Picture → Picture
 led_to_3 P =
     record P {
@@ -77,7 +78,7 @@ IsOfSchema (suc zero) P = IsOfSchema1 P
 IsOfSchema (suc (suc zero)) P = IsOfSchema2 P
 IsOfSchema n P = P.meta.schema ≡ n
 
--- Those of the next schema that the tables of schema n are led to, and by so many steps.
+-- The tables of schema n, migrated by one step, and by this many.
 abbrev pub led_on : ℕ → Picture → Picture
 led_on (suc zero) P = led_to_2 P
 led_on (suc (suc zero)) P = led_to_3 P

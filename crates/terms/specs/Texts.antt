@@ -1,4 +1,4 @@
--- Request texts and reply texts: one spelling each.
+-- Request texts and reply texts: each has one spelling.
 use Rattle.std.specs.Prelude.{ℕ, Bool, false, if◌then◌else◌, List, [], ◌∷◌, slice_index_or, codes, map, Some, None}
 use Rattle.std.specs.Fmt.{decimal}
 use Rattle.std.specs.List.{join_with_byte}
@@ -20,7 +20,7 @@ use Rattle.terms.specs.declared.reply.Routed.TheVariants.{Shelf, HoldShelf, Tran
 use Rattle.terms.specs.declared.reply.Reply.{Reply}
 use Rattle.terms.specs.declared.reply.Reply.TheVariants.{Done, Lent, CheckedIn, Held, Moved, Lost, Owed, Shown, Refused}
 
--- the letter of a weekday: `c` where it is closed and `o` where it is open
+-- a weekday's letter: `c` if closed, `o` if open
 abbrev pub weekday_letter : List Bool → ℕ → ℕ
 weekday_letter closed weekday = if slice_index_or closed weekday false then 99 else 111
 
@@ -48,7 +48,7 @@ word_of (Mask closed) = mask_text closed
 word_of (CardKey t) = t
 word_of (Name t) = t
 
--- what a question says: its name, and its parts in their order
+-- what a question says: its name, and its parts in order
 abbrev pub questioned : Question → List ℕ × List Part
 questioned (question.Copy copy) = (codes "copy", Number copy ∷ [])
 questioned (question.Copies title after) = (codes "copies", Number title ∷ Number after ∷ [])
@@ -61,7 +61,7 @@ questioned (question.Pulls branch after) = (codes "pulls", Number branch ∷ Num
 questioned (question.Transits branch after) = (codes "transits", Number branch ∷ Number after ∷ [])
 questioned (question.Till day) = (codes "till", Day day ∷ [])
 
--- what a command says: its name, and its parts in their order
+-- what a command says: its name, and its parts in order
 abbrev pub said : Command → List ℕ × List Part
 said (BeginDay day) = (codes "begin-day", Day day ∷ [])
 said (Branch branch pickup name) = (codes "branch", Number branch ∷ Number pickup ∷ Name name ∷ [])
@@ -97,7 +97,7 @@ command_words command = (said command).0 ∷ map word_of (said command).1
 unfoldable pub request_text : Command → List ℕ
 request_text command = join_with_byte 32 (command_words command)
 
--- the words that tell where a copy goes
+-- the words for where a copy goes
 unfoldable pub routed_words : Routed → List (List ℕ)
 routed_words (Shelf branch) = codes "shelf" ∷ decimal branch ∷ []
 routed_words (HoldShelf hold branch until) =
@@ -150,7 +150,7 @@ fault_number fault.Memory = 90
 fault_number fault.Database = 91
 fault_number fault.Stored = 93
 
--- the number of a fault of a hall
+-- the number of a hall's fault
 abbrev pub service_fault_number : ServiceFault → ℕ
 service_fault_number (service.Met met) = fault_number met
 service_fault_number service.Closed = 92
@@ -167,6 +167,6 @@ reply_words (Owed owed) = codes "owed" ∷ decimal owed ∷ []
 reply_words (Shown page) = page ∷ []
 reply_words (Refused refused) = codes "refused" ∷ decimal (refusal_number refused) ∷ []
 
--- the reply text of a reply: its words, joined by single spaces
+-- a reply's text: its words, joined by single spaces
 unfoldable pub reply_text : Reply → List ℕ
 reply_text reply = join_with_byte 32 (reply_words reply)

@@ -21,12 +21,12 @@ crlf = 13 ∷ 10 ∷ []
 unfoldable pub start_text : ℕ → List ℕ
 start_text status = codes "HTTP/1.1 " ++ (decimal status ++ (codes " " ++ (unwrap_or (reason_phrase status) [] ++ crlf)))
 
--- The fields that every message with a body of this size has, and the empty line.
+-- The fields of every message with a body of this size, and the empty line.
 unfoldable pub fields_text : ℕ → List ℕ
 fields_text size =
     codes "Content-Type: application/json" ++ (crlf ++ (codes "Content-Length: " ++ (decimal size ++ (crlf ++ (codes "Connection: close" ++ (crlf ++ crlf))))))
 
--- An answer with a status, a line of its own where there is one, the length that it tells, and a body.
+-- An answer with a status, a line of its own if any, the length stated, and a body.
 abbrev pub parts_text : ℕ → List ℕ → ℕ → List ℕ → List ℕ
 parts_text status line size body = start_text status ++ (line ++ (fields_text size ++ body))
 
@@ -38,7 +38,7 @@ answer_text status line body = parts_text status line (length body) body
 unfoldable pub one_member : List ℕ → Data → List ℕ
 one_member name value = compact_text (object (member name value no_members))
 
--- The same of a number.
+-- The same for a number.
 abbrev pub number_member : List ℕ → ℕ → List ℕ
 number_member name n = one_member name (number (unsigned n))
 
@@ -54,7 +54,7 @@ status_number NotFound = 404
 status_number (MethodNotAllowed method) = 405
 status_number PayloadTooLarge = 413
 
--- At 405 a line tells the method that is allowed.
+-- At 405 a line names the allowed method.
 abbrev pub allow_line : WebStatus → List ℕ
 allow_line BadRequest = []
 allow_line NotFound = []
@@ -68,7 +68,7 @@ answer_bytes (Refused refusal) = answer_text (refusal_status refusal) [] (number
 answer_bytes (Faulted fault) = answer_text 503 [] (number_member (codes "fault") (service_fault_number fault))
 answer_bytes (Failed status) = answer_text (status_number status) (allow_line status) (number_member (codes "status") (status_number status))
 
--- The answer that tells a reply.
+-- The answer for a reply.
 abbrev pub answer_for : Reply → Answer
 answer_for (reply.Refused refusal) = Refused refusal
 answer_for r = Accepted (one_member (codes "reply") (string (reply_text r)))

@@ -6,9 +6,8 @@ use Rattle.web.specs.declared.asked.Asked.{Asked}
 use Rattle.web.specs.declared.asked.Asked.TheVariants.{Nothing, Page, Request}
 use Rattle.web.specs.declared.request.WebRequest.{WebRequest}
 
--- By the patron of the route, the key that is shown and the key of the request, where there are
--- such. On a patron's route the patron asks, for a page or with a request. On the desk's route the
--- desk asks, if its key is shown.
+-- By the route's patron, the key shown and the request's key, if any. On a patron's route the patron asks,
+-- for a page or with a request. On the desk's route the desk asks, if its key is shown.
 abbrev pub asked_by : List ℕ → Option ℕ → Option (List ℕ) → Option (List ℕ) → Command → Asked
 asked_by desk_key patron None key command = Nothing
 asked_by desk_key (Some patron) (Some shown) None command = Page patron shown

@@ -1,4 +1,4 @@
--- The fields of a head, as names with their values.
+-- The fields of a head, as names with values.
 use Rattle.std.specs.Prelude.{ℕ, ◌&&◌, Bool, if◌then◌else◌, List, [], ◌∷◌, length, map, codes, bytes_eq, nat_le, Result, Ok, Err}
 use Rattle.std.specs.List.{list_all}
 use Rattle.std.specs.Char.{to_ascii_lowercase, is_ascii_digit}
@@ -11,11 +11,11 @@ use Rattle.web.specs.declared.fault.WebStatus.TheVariants.{BadRequest, PayloadTo
 abbrev pub NamedValue : Type 0
 NamedValue = List ℕ × List ℕ
 
--- Names of fields are the same if they are so without case.
+-- Field names are equal if they are so ignoring case.
 unfoldable pub same_name : List ℕ → List ℕ → Bool
 same_name a b = bytes_eq (map to_ascii_lowercase a) (map to_ascii_lowercase b)
 
--- The values of the fields of this name, in their order.
+-- The values of the fields with this name, in order.
 abbrev pub values_of : List ℕ → List NamedValue → List (List ℕ)
 values_of name [] = []
 values_of name (field ∷ fields) = if same_name field.0 name then field.1 ∷ values_of name fields else values_of name fields

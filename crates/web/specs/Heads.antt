@@ -1,10 +1,10 @@
--- The head of a web request, as it stands at the front of what a connection gives.
+-- The head of a web request, at the start of what a connection gives.
 use Rattle.std.specs.Prelude.{◌≡◌, ℕ, ◌+◌, ◌<◌, ◌≤◌, List, ◌++◌, length, take, Option}
 use Rattle.std.specs.Io.KnownBytes.{Consumes, IsAtEnd}
 use Rattle.httparse.specs.Grammar.{RequestHead, ReadsRequest, print_request}
 use Rattle.web.specs.declared.limits.TheConstants.{HEAD_BYTES, HEAD_FIELDS}
 
--- The bytes begin with that head, which ends within the first 8,192 and has at most 32 fields.
+-- The bytes begin with this head, which ends within the first 8,192 and has at most 32 fields.
 pub record HasHead (bytes : List ℕ) (h : RequestHead) (rest : List ℕ) : Type 0 where
   pub reads : ReadsRequest bytes h rest
   pub short : length (print_request h) ≤ HEAD_BYTES
@@ -14,7 +14,7 @@ pub record HasHead (bytes : List ℕ) (h : RequestHead) (rest : List ℕ) : Type
 abbrev pub HasNoHead : List ℕ → Type 0
 HasNoHead bytes = (h : RequestHead) (rest : List ℕ) → HasHead bytes h rest → ⊥
 
--- So many bytes more were read into a buffer, of which a part was filled.
+-- This many more bytes were read into a partly filled buffer.
 pub record ReadsMore (old new : Option (List ℕ)) (before after : List ℕ) (filled n : ℕ) : Type 0 where
   pub got : List ℕ
   pub taken : Consumes old new got

@@ -9,7 +9,7 @@ use Rattle.web.specs.declared.fault.WebFault.TheVariants as web
 use Rattle.web.specs.declared.receiving.AnswerFault.{AnswerFault}
 use Rattle.web.specs.declared.receiving.AnswerFault.TheVariants.{Malformed, Read, Memory}
 
--- One field tells this length, and none that the body comes in another form.
+-- One field states this length, and none that the body comes in another form.
 pub record TellsLength (fields : List NamedValue) (size : ℕ) : Type 0 where
   pub value : List ℕ
   pub plain : values_of (codes "Transfer-Encoding") fields ≡ []
@@ -17,14 +17,14 @@ pub record TellsLength (fields : List NamedValue) (size : ℕ) : Type 0 where
   pub form : is_length value ≡ true
   pub size_is : size ≡ digits_value 10 value
 
--- The body is the first of what follows the head, as long as the fields tell.
+-- The body is the first bytes after the head, as many as the fields state.
 pub record HasToldBody (fields : List NamedValue) (rest body : List ℕ) : Type 0 where
   pub size : ℕ
   pub told : TellsLength fields size
   pub whole : size ≤ length rest
   pub body_is : body ≡ take size rest
 
--- The bytes begin with an answer of this status and this body.
+-- The bytes begin with an answer with this status and body.
 pub record IsAnswer (bytes : List ℕ) (status : ℕ) (body : List ℕ) : Type 0 where
   pub head : ResponseHead
   pub rest : List ℕ
@@ -32,7 +32,7 @@ pub record IsAnswer (bytes : List ℕ) (status : ℕ) (body : List ℕ) : Type 0
   pub status_is : status ≡ status_code head
   pub has_body : HasToldBody (map name_and_value head.fields) rest body
 
--- Why no answer is read, where a part of it is not.
+-- Why no answer is read, if a part of it isn't.
 abbrev pub fault_for : WebFault → AnswerFault
 fault_for (web.Status status) = Malformed
 fault_for web.Read = Read

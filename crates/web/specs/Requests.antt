@@ -1,11 +1,11 @@
--- What a route and the fields beside it say of a request.
+-- What a route and its fields say of a request.
 use Rattle.std.specs.Prelude.{ℕ, ◌||◌, Bool, true, false, if◌then◌else◌, nat_le, List, [], ◌∷◌, length, codes, Option, Some, None}
 use Rattle.terms.specs.Forms.{is_card_key, is_outside_key}
 use Rattle.web.specs.Fields.{NamedValue, values_of}
 use Rattle.web.specs.declared.routes.Route.{Route}
 use Rattle.web.specs.declared.routes.Route.TheVariants.{Page, PlaceHold, CancelHold, Renew, Desk}
 
--- A page is got; everything else is posted.
+-- A page uses GET; everything else uses POST.
 abbrev pub is_post : Route → Bool
 is_post (Page patron) = false
 is_post (PlaceHold patron) = true
@@ -17,7 +17,7 @@ is_post Desk = true
 abbrev pub method_of : Route → List ℕ
 method_of route = if is_post route then codes "POST" else codes "GET"
 
--- The patron of a route: none on the desk's.
+-- The patron of a route; none for the desk's.
 abbrev pub patron_of : Route → Option ℕ
 patron_of (Page patron) = Some patron
 patron_of (PlaceHold patron) = Some patron
@@ -33,7 +33,7 @@ key_field (CancelHold patron hold) = codes "Card-Key"
 key_field (Renew patron loan) = codes "Card-Key"
 key_field Desk = codes "Desk-Key"
 
--- The one value there is, if it has the form.
+-- The only value, if it has the form.
 abbrev pub shown_in : (List ℕ → Bool) → List (List ℕ) → Option (List ℕ)
 shown_in has_form [] = None
 shown_in has_form (value ∷ []) = if has_form value then Some value else None
@@ -47,10 +47,10 @@ shown_key route fields = shown_in is_card_key (values_of (key_field route) field
 abbrev pub request_key : List NamedValue → Option (List ℕ)
 request_key fields = shown_in is_outside_key (values_of (codes "Request-Key") fields)
 
--- A field of this name stands more than once.
+-- A field with this name occurs more than once.
 abbrev pub stands_twice : List ℕ → List NamedValue → Bool
 stands_twice name fields = nat_le 2 (length (values_of name fields))
 
--- So does one of the three keys.
+-- One of the three keys does.
 abbrev pub repeats_key : List NamedValue → Bool
 repeats_key fields = stands_twice (codes "Card-Key") fields || (stands_twice (codes "Desk-Key") fields || stands_twice (codes "Request-Key") fields)
