@@ -1,4 +1,4 @@
--- What a list of accepted requests makes of what the board shows.
+-- What a list of accepted requests makes of the board's content.
 use Rattle.std.proofs.Common.{◌≡◌, ◌⊎◌, inl, inr, ℕ, ◌+◌, List, [], ◌∷◌, ◌++◌, length, sym, ap, ◌∙◌, subst, arith, length-append}
 use Rattle.model.specs.History.{History}
 use Rattle.model.specs.Requests.{after, reply_to}

@@ -1,4 +1,4 @@
--- One frame more is shown, from what the calls of its showing say.
+-- One more frame is shown, from the promises of its calls.
 use Rattle.std.proofs.Common.{◌≡◌, true, List, [], ◌∷◌, ◌++◌, fold, Global, sym, ap, ◌∙◌, subst}
 use Rattle.std.specs.Arc.{arc_value}
 use Rattle.std.specs.declared.sync.Arc.{Arc}

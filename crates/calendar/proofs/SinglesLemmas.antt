@@ -1,4 +1,4 @@
--- Single closed days in rising order: a search among them, and the days with one more or one less.
+-- Single closed days in ascending order: searching them, and adding or removing a day.
 use Rattle.std.proofs.Common.{◌≡◌, ◌≢◌, ℕ, zero, suc, ◌+◌, ◌-◌, ◌<◌, ◌≤◌, List, [], ◌∷◌, ◌++◌, length, get_or, take, drop, insert, remove}
 use Rattle.std.proofs.Common.{Bool, true, false, not, ◌&&◌, ◌||◌, sym, ◌∙◌, refl, ap, arith, subst, inl, inr}
 use Rattle.std.specs.Prelude.{◌==◌}

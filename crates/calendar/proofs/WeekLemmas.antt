@@ -1,4 +1,4 @@
--- Open weekdays among days, counted week by week, and the single days that fall on them.
+-- Open weekdays counted week by week, and the single days that fall on them.
 use Rattle.std.proofs.Common.{◌≡◌, ◌≢◌, ℕ, zero, suc, ◌+◌, ◌-◌, ◌*◌, ◌/◌, ◌%◌, ◌<◌, ◌≤◌, ◌⊎◌, List, [], ◌∷◌, ◌++◌, length, get_or, Bool}
 use Rattle.std.proofs.Common.{true, false, not, ◌&&◌, ◌||◌, sym, ◌∙◌, refl, ap, arith, inl, inr}
 use Rattle.std.specs.Prelude.{◌==◌, nat_lt, nat_le, if◌then◌else◌, slice_index_or}

@@ -1,4 +1,4 @@
--- What is said of an audit, by what was read and found.
+-- What an audit writes, given what was read and found.
 use Rattle.std.proofs.Common.{◌≡◌, inl, inr, refl, sym, subst}
 use Rattle.std.specs.Prelude.{Result, Ok, Err}
 use Rattle.store.specs.Library.{Ghosts, Held, State, state, HasCleanDisk}

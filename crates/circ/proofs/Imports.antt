@@ -1,4 +1,4 @@
--- Rows of a copies file that are handled and told, one after another.
+-- Rows of a copies file, handled and reported in order.
 use Rattle.front.specs.declared.copies.TheConstants.{MOST_ROWS}
 use Rattle.std.proofs.Common.{◌≡◌, ℕ, suc, ◌+◌, ◌≤◌, ◌<◌, Bool, true, false, not, cond, List, [], ◌∷◌, ◌++◌, length, take, Option}
 use Rattle.std.proofs.Common.{append_assoc, append-nil, refl, sym, ◌∙◌, ap, subst, arith}

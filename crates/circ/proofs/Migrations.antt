@@ -1,4 +1,4 @@
--- What is said of a library that was led to the newest schema, or not.
+-- What migrating a library to the newest schema writes.
 use Rattle.std.proofs.Common.{◌≡◌, ◌≤◌, ◌<◌, ◌+◌, ◌∙◌, ℕ, zero, suc, inl, inr, refl, ap, subst, arith}
 use Rattle.std.specs.Prelude.{Result, Ok, Err, ◌-◌}
 use Rattle.store.specs.Library.{Ghosts, Held, State, state, HasCleanDisk, IsOpen}

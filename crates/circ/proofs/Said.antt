@@ -1,4 +1,4 @@
--- What is said, by what the words were and what the desk answered.
+-- What is written, given the words and the desk's answer.
 use Rattle.std.proofs.Common.{◌≡◌, ℕ, List, Option, inl, inr, refl, sym, ◌∙◌, ap, subst}
 use Rattle.std.specs.Prelude.{Result, Ok, Err, OnOk, OnErr, IfOk, IsTrue}
 use Rattle.std.specs.List.{join_with_byte}

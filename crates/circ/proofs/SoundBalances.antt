@@ -1,4 +1,4 @@
--- By the tables of a legal history each patron owes the charges less payments and waivers.
+-- In a legal history's tables each patron owes the charges less payments and waivers.
 use Rattle.std.proofs.Common.{◌≡◌, ℕ, zero, suc, ◌+◌, ◌<◌, ◌≤◌, ◌==◌, ◌⊎◌, inl, inr, Bool, true, false, cond, List, [], ◌∷◌, map, refl, sym}
 use Rattle.std.proofs.Common.{◌∙◌, ap, subst, arith}
 use Rattle.std.specs.Prelude.{Some, None, option_map, filter, sum_by}

@@ -1,4 +1,4 @@
--- The tables of a legal history bind holds and copies one to one.
+-- A legal history's tables bind holds and copies one to one.
 use Rattle.std.proofs.Common.{◌≡◌, ℕ, ◌==◌, true, refl, sym, ◌∙◌, ap, subst, eq-eqb}
 use Rattle.std.specs.Prelude.{Option, Some, None, is_some, option_map, option_and_then, unwrap_or}
 use Rattle.std.specs.List.{Contains}

@@ -1,4 +1,4 @@
--- The tables of a legal history make at most one claim on a copy.
+-- A legal history's tables make at most one claim on a copy.
 use Rattle.std.proofs.Common.{◌≡◌, ℕ, ◌<◌, ◌≤◌, ◌⊎◌, inl, inr, Bool, true, false, cond, refl, sym, ◌∙◌, ap, subst}
 use Rattle.std.specs.Prelude.{Option, Some, None, is_none, count_by}
 use Rattle.std.specs.List.{Contains}

@@ -1,4 +1,4 @@
--- What is told of a report, by what the desk answered.
+-- What asking for a report writes, given the desk's answer.
 use Rattle.std.proofs.Common.{◌≡◌, ℕ, List, ◌++◌, Option, inl, inr, refl, sym, subst}
 use Rattle.std.specs.Prelude.{Result, Ok, Err, OnOk, OnErr, IfOk, IsTrue}
 use Rattle.std.specs.Io.KnownBytes.{Appends}

@@ -1,4 +1,4 @@
--- All rows of the tables keep or break a law just as those do of which the laws speak.
+-- All rows of the tables keep or break a law just as the rows that it concerns.
 use Rattle.std.proofs.Common.{◌≡◌, ℕ, ◌+◌, ◌≤◌, Bool, true, false, cond, List, [], ◌∷◌, refl, sym, ◌∙◌, ap, subst, arith}
 use Rattle.std.specs.Prelude.{Some, None, is_none, count_by, sum_by, filter, All}
 use Rattle.store.specs.Lists.{AllPass, AreTables, AreAuditTables}

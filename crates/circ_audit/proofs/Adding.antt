@@ -1,4 +1,4 @@
--- Totals of the numbers of a span, and the rows that are looked at by them.
+-- Totals of a span's numbers, and the rows checked against them.
 use Rattle.std.proofs.Common.{◌≡◌, ◌≢◌, ◌⊎◌, ℕ, ◌+◌, ◌*◌, ◌^◌, ◌<◌, ◌≤◌, Bool, true, false, cond, List, length, get_or, take, replicate}
 use Rattle.std.proofs.Common.{Option, Some, None, refl, sym, ◌∙◌, ap, subst, inl, inr, eqb, arith}
 use Rattle.std.specs.Prelude.{nat_lt, All, sum_by, IfSome}

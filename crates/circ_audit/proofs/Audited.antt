@@ -1,4 +1,4 @@
--- What is told of tables, by the first law that is broken.
+-- The result for tables, by the first broken law.
 use Rattle.std.proofs.Common.{◌≡◌, ℕ, Result, Ok, Err, refl, ap, subst}
 use Rattle.terms.specs.declared.tables.Tables.{Tables}
 use Rattle.circ_audit.specs.declared.auditing.Finding.{Finding}

@@ -1,4 +1,4 @@
--- The holds that are bound rightly, row by row.
+-- Rightly bound holds, row by row.
 use Rattle.std.proofs.Common.{◌≡◌, ℕ, ◌+◌, ◌<◌, Bool, true, false, List, length, take, get_or, Option, Some, None, refl, sym, subst}
 use Rattle.std.specs.Prelude.{All}
 use Rattle.terms.specs.declared.row.HoldRow.{HoldRow}

@@ -1,4 +1,4 @@
--- Rows that are looked up by their numbers, where these rise.
+-- Rows looked up by number, in ascending order.
 use Rattle.std.proofs.Common.{◌≡◌, ◌≢◌, ◌⊎◌, ℕ, zero, suc, ◌<◌, ◌≤◌, Bool, true, false, List, [], ◌∷◌, length, get_or, Some, None, Ok, Err}
 use Rattle.std.proofs.Common.{refl, sym, ◌∙◌, ap, subst, inl, inr, eqb, arith}
 use Rattle.std.specs.Prelude.{find}

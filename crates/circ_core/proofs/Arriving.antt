@@ -1,4 +1,4 @@
--- A copy that moves: how the rows of holds, transits and copies stand then.
+-- A copy that moves: the rows of holds, transits and copies afterwards.
 use Rattle.std.proofs.Common.{◌≡◌, ℕ, ◌==◌, Bool, true, false, refl, sym, ◌∙◌, ap, subst}
 use Rattle.std.specs.Prelude.{Option, Some, None, find}
 use Rattle.std.proofs.lemmas.Bool.{eqb-true, eq-eqb}

@@ -1,4 +1,4 @@
--- A decision on the rows of a view is the one that the history has.
+-- A decision on a view's rows is the history's.
 use Rattle.std.specs.Prelude.{◌≡◌, false, Result}
 use Rattle.terms.specs.declared.command.Command.{Command}
 use Rattle.terms.specs.declared.command.Command.TheVariants.{BeginDay, Branch, Week, Kind, Rule, Grace, Patron, Acquire, CheckOut, CheckIn}

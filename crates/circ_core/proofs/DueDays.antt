@@ -1,4 +1,4 @@
--- What the search for a due day finds is the least open day.
+-- The search for a due day finds the least open day.
 use Rattle.std.proofs.Common.{◌≡◌, ℕ, Bool, true, false, refl, sym, subst}
 use Rattle.std.specs.Prelude.{Option, Some, None, IfSome, IfNone}
 use Rattle.calendar.specs.Openings.{Closings, IsLeastOpen, is_open}

@@ -1,4 +1,4 @@
--- The tables after a copy has gone to a place that is neither a hold shelf nor in transit.
+-- The tables after a copy has left for a place that is neither a hold shelf nor transit.
 use Rattle.std.proofs.Common.{◌≡◌, ℕ, ◌==◌, Bool, true, false, refl, sym, ◌∙◌, ap, subst}
 use Rattle.std.specs.Prelude.{Option, Some, None, option_map, is_some, find}
 use Rattle.std.proofs.lemmas.Bool.{eqb-true}

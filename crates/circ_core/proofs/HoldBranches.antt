@@ -1,4 +1,4 @@
--- In a legal history the pick-up branch of each hold is there.
+-- In a legal history each hold's pick-up branch exists.
 use Rattle.std.proofs.Common.{◌≡◌, ℕ, ◌==◌, Bool, true, false, cond, not, [], ◌∷◌, refl, sym, ◌∙◌, ap}
 use Rattle.std.specs.Prelude.{Option, Some, None, is_some}
 use Rattle.std.specs.Option.{option_or}

@@ -1,4 +1,4 @@
--- What the kind of a patron allows, on the rows and in the history.
+-- What a patron's kind allows, in the rows and the history.
 use Rattle.std.proofs.Common.{◌≡◌, ℕ, refl, sym, ◌∙◌, ap}
 use Rattle.std.specs.Prelude.{Option, Some, None, option_map, option_and_then, unwrap_or}
 use Rattle.terms.specs.declared.row.PatronRow.{PatronRow}

@@ -1,4 +1,4 @@
--- In every legal history the branch that made a loan is there, and so are its borrower and, while it is open, its copy.
+-- In every legal history a loan's branch and borrower exist, and so does its copy while it is open.
 use Rattle.std.proofs.Common.{◌≡◌, ℕ, ◌==◌, Bool, true, false, cond, not, ◌∷◌, [], refl, sym, ap, ◌∙◌}
 use Rattle.std.specs.Prelude.{Option, Some, None, is_some, unwrap_or}
 use Rattle.std.specs.Option.{option_or}

@@ -1,4 +1,4 @@
--- From what a command's function answers to what a decision owes to the history.
+-- From a command function's answer to what a decision owes to the history.
 use Rattle.std.proofs.Common.{◌≡◌, ℕ, Bool, true, false, List, [], ◌∷◌, refl, sym, ◌∙◌, ap}
 use Rattle.std.specs.Prelude.{Option, Some, None, Result, Ok, Err}
 use Rattle.terms.specs.declared.command.Owner.{Owner}

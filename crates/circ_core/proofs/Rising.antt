@@ -1,4 +1,4 @@
--- Searches among the numbers from 1 on, and among the copies.
+-- Searches among the numbers from 1, and among the copies.
 use Rattle.std.proofs.Common.{◌≡◌, ℕ, zero, suc, ◌≤◌, ◌<◌, ◌==◌, Bool, true, false, cond, ◌||◌, ◌⊎◌, inl, inr, List, [], ◌∷◌, ◌++◌, refl, sym, ◌∙◌, ap, arith}
 use Rattle.std.specs.Prelude.{Some, filter, find}
 use Rattle.std.specs.List.{list_any}

@@ -1,4 +1,4 @@
--- Routing by the rows is that of the history.
+-- Routing by the rows is the history's.
 use Rattle.std.proofs.Common.{◌≡◌, ℕ, ◌+◌, ◌≤◌, ◌==◌, Bool, true, false, not, List, ◌∷◌, refl, sym, ◌∙◌, ap, subst, arith}
 use Rattle.std.specs.Prelude.{Option, Some, None, option_map, unwrap_or, is_none}
 use Rattle.std.proofs.lemmas.Bool.{eqb-true}

@@ -1,4 +1,4 @@
--- Rows that are put, seen from what the history sets and makes.
+-- Row changes, by what the history sets and makes.
 use Rattle.std.proofs.Common.{◌≡◌, ℕ, suc, ◌==◌, Bool, true, false, cond, ◌&&◌, refl, ap, arith}
 use Rattle.std.specs.Prelude.{Option, Some, None, option_map, not, is_none, is_some}
 use Rattle.std.specs.Option.{option_or}

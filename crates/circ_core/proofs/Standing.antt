@@ -1,4 +1,4 @@
--- A copy that stands on a shelf or hold shelf: what its rows tell of a check-out.
+-- A copy on a shelf or hold shelf: what its rows say of a check-out.
 use Rattle.std.proofs.Common.{◌≡◌, ℕ, ◌==◌, Bool, true, false, not, ◌&&◌, inl, inr, List, ◌∷◌, refl, sym, ◌∙◌, ap, subst}
 use Rattle.std.specs.Prelude.{Option, Some, None, option_map, unwrap_or}
 use Rattle.std.proofs.lemmas.Bool.{eqb-true}

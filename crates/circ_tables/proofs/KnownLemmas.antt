@@ -1,4 +1,4 @@
--- The text that asks for the rows of `meta` is understood where there is that table.
+-- The text that asks for the rows of `meta` is understood if that table exists.
 use Rattle.std.proofs.Common.{◌≡◌, ◌⊎◌, inl, inr, arith, ℕ, List, [], ◌∷◌, length, Option, refl, sym, ap, subst, ◌∙◌, ◌<◌}
 use Rattle.sqlite.specs.Clock.{timed}
 use Rattle.sqlite.specs.Command.TheVariants.{Select}

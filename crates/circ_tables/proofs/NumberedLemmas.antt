@@ -1,4 +1,4 @@
--- What follows of a table that is keyed by one number, whichever it is.
+-- What holds of any table keyed by one number.
 use Rattle.std.proofs.Common.{arith, negsuc, min, Ok, ◌≤◌, ◌<◌, ◌≡◌, inl, inr, ℕ, pos, Bool, true, false, not, ◌==◌, ◌&&◌, ◌||◌, zero, suc}
 use Rattle.std.proofs.Common.{◌≢◌, ◌+◌, length, cond, List, [], ◌∷◌, ◌++◌, map, Option, Some, None, Result, refl, sym, ap, subst, ◌∙◌}
 use Rattle.std.proofs.Common.{true≢false}

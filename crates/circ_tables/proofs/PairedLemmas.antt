@@ -1,4 +1,4 @@
--- What follows of a table that is keyed by two columns, whichever it is.
+-- What holds of any table keyed by two columns.
 use Rattle.std.proofs.Common.{◌≡◌, ◌+◌, ℕ, ℤ, true, length, List, [], ◌∷◌, map, Option, Some, Ok, refl, sym, ap, subst, ◌∙◌}
 use Rattle.std.specs.List.{list_all}
 use Rattle.sqlite.specs.declared.types.Value.TheVariants.{Int, Text}

@@ -1,4 +1,4 @@
--- Rows that are found: by their key, or first among those that a selection takes.
+-- Rows found by key, or first among those that a selection takes.
 use Rattle.std.proofs.Common.{◌≡◌, ◌≢◌, ◌≤◌, ◌<◌, Bool, length, inl, inr, ℕ, List, [], map, Option, None, Some, Ok, Err, Result, IfOk, refl}
 use Rattle.std.proofs.Common.{sym, subst, ap, ◌∙◌}
 use Rattle.std.specs.Prelude.{IfSome, option_map}

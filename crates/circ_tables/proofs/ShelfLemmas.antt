@@ -1,4 +1,5 @@
--- The shelf of a branch: the copies of a title that have it as their home, are present, and are claimed by no transit, no hold and no open loan.
+-- The shelf of a branch: the copies of a title with their home there that are present and claimed by no
+-- transit, hold or open loan.
 use Rattle.std.proofs.Common.{◌≡◌, ◌&&◌, not, ℕ, pos, Bool, true, false, List, [], ◌∷◌, map, take, filter, Option, refl}
 use Rattle.std.proofs.Common.{sym, ap, subst, ◌∙◌, true≢false}
 use Rattle.std.specs.List.{list_all, list_any}

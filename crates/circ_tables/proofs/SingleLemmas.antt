@@ -1,4 +1,4 @@
--- What is read in a form of its own: the row of `meta`, a closed day, what is kept, and the closed days of a branch.
+-- Reads with their own form: the row of `meta`, a closed day, what is kept, and a branch's closed days.
 use Rattle.std.proofs.Common.{◌≡◌, ◌≢◌, ◌∙◌, ℕ, List, [], ◌∷◌, map, Option, Some, Ok, Err, Result, IfOk, refl, sym, subst}
 use Rattle.std.specs.Prelude.{IfSome, IsUtf8, option_map}
 use Rattle.std.specs.List.{All}

@@ -1,4 +1,4 @@
--- The maps of each table hold encodings of rows within their limits, where the rows of the picture are within theirs.
+-- Each table's map holds encodings of rows within their limits if the picture's rows are within theirs.
 use Rattle.std.proofs.Common.{◌≡◌, ◌∙◌, Option, None, Some, refl, sym, ap, subst}
 use Rattle.std.specs.Prelude.{option_map, IfSome, IsUtf8}
 use Rattle.sqlite.specs.Order.{Row}

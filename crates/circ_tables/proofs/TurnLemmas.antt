@@ -1,4 +1,5 @@
--- The first in line is one of two rows: the hold that begins first, and the least of those whose first day has come.
+-- The first in line is one of two rows: the hold that begins first, and the lowest-numbered of those whose
+-- first day has come.
 use Rattle.std.proofs.Common.{arith, ◌≡◌, ◌⊎◌, ◌&&◌, ◌≤◌, ◌<◌, inl, inr, ℕ, pos, Bool, true, false, [], ◌∷◌, map, Option, Some, None, refl}
 use Rattle.std.proofs.Common.{sym, ap, subst, ◌∙◌, true≢false, Ordering, Less, Equal, Greater}
 use Rattle.std.specs.Prelude.{MatchBool, MatchOption, IfSome}

@@ -1,4 +1,4 @@
--- The reply of a decision is no refusal, whatever rows it is made on.
+-- A decision's reply is no refusal, whatever rows it is made on.
 use Rattle.std.proofs.Common.{◌≡◌, ℕ, Bool, true, false, refl, ◌∙◌, ap, Some, None}
 use Rattle.std.specs.Prelude.{Option, Ok}
 use Rattle.terms.specs.declared.refusal.Refusal.{Refusal}

@@ -1,4 +1,4 @@
--- The rows of a batch are the first of the history's numbers above the one that it begins after.
+-- A batch's rows are the first of the history's numbers above its start.
 use Rattle.std.proofs.Common.{◌≡◌, ℕ, suc, ◌≤◌, ◌<◌, ◌+◌, ◌-◌, ◌^◌, min, Bool, true, ◌⊎◌, inl, inr, List, [], ◌∷◌, ◌++◌, length, map}
 use Rattle.std.proofs.Common.{slice_get, append_assoc, append-nil, refl, sym, ◌∙◌, ap, subst, arith}
 use Rattle.std.specs.Prelude.{Option, Some, None, option_map, filter}

@@ -1,4 +1,4 @@
--- Requests that were handled one after another.
+-- Requests handled in order.
 use Rattle.std.proofs.Common.{◌≡◌, List, [], ◌∷◌, ◌++◌, refl, subst}
 use Rattle.std.specs.Prelude.{Ok}
 use Rattle.store.specs.Library.{Ghosts, Held}

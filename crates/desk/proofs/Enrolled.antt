@@ -1,4 +1,4 @@
--- The rows of the patrons are those who are enrolled, and each one's page is the answer to the desk.
+-- The patrons' rows are those of the enrolled patrons, and each one's page is the answer to the desk.
 use Rattle.std.proofs.Common.{◌≡◌, ℕ, ◌==◌, Bool, true, false, List, [], ◌∷◌, ◌||◌, map, refl, sym, ◌∙◌, ap, subst}
 use Rattle.std.specs.Prelude.{Option, Some, None, option_map, is_some}
 use Rattle.std.specs.List.{list_any, Contains}

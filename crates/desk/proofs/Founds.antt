@@ -1,4 +1,4 @@
--- Reads of the store, one after another, in words of the picture whose rows lie in their limits.
+-- Successive reads of the store, in terms of a picture whose rows are within their limits.
 use Rattle.std.proofs.Common.{◌≡◌, ◌∙◌, refl, sym, subst}
 use Rattle.std.specs.Prelude.{Result, Ok, Err, OnOk}
 use Rattle.std.specs.Result.{IsErr, IsErrAnd}

@@ -1,4 +1,4 @@
--- The lines of accounts and their rows.
+-- Account lines and their rows.
 use Rattle.std.proofs.Common.{◌≡◌, ℕ, zero, List, [], ◌∷◌, refl}
 use Rattle.std.specs.Prelude.{None}
 use Rattle.terms.specs.declared.row.LineRow.{LineRow}

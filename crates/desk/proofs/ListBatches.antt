@@ -1,4 +1,4 @@
--- A batch of rows is a batch of the list that is asked for.
+-- A batch of rows is a batch of the requested list.
 use Rattle.std.proofs.Common.{◌≡◌, ℕ, ◌<◌, List, sym, ap}
 use Rattle.std.specs.Prelude.{Option, Some, None, option_map}
 use Rattle.store.specs.Batches.{AreAccountLinesAfter, AreCopiesAfter, AreDebtorsAfter, AreReadyAfter, AreOverdueAfter, AreTransitsAfter}

@@ -1,4 +1,4 @@
--- What is told of the rows of lists, by the rows of the tables, is what the history tells.
+-- List rows reported from the tables' rows are the history's.
 use Rattle.std.proofs.Common.{◌≡◌, ℕ, List, [], ◌∷◌, ◌++◌, refl, sym, ◌∙◌, ap}
 use Rattle.std.specs.Prelude.{Option, Some, None, option_map, option_and_then, unwrap_or, codes, decimal}
 use Rattle.calendar.specs.Days.{day_text}

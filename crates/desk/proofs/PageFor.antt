@@ -1,4 +1,4 @@
--- A patron is shown one page after all lists that agree on the patron's own rows.
+-- A patron is shown the same page after all lists that agree on the patron's own rows.
 use Rattle.std.proofs.Common.{◌≡◌, ℕ, List, [], ◌∷◌, true, false, not, ◌∙◌, ap}
 use Rattle.std.specs.Prelude.{Option, Some, None, option_map, unwrap_or, is_some, bytes_eq, Result}
 use Rattle.store.specs.Library.{Ghosts, Held}

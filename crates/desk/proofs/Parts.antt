@@ -1,4 +1,4 @@
--- Parts of a report, one after another.
+-- Parts of a report, in order.
 use Rattle.std.proofs.Common.{◌≡◌, ℕ, List, [], ◌++◌, append_assoc, append-nil, refl, sym, ◌∙◌, ap}
 use Rattle.std.specs.Prelude.{Option, Result, Ok, Err, String, string_bytes}
 use Rattle.std.specs.Result.{IsErr, IsErrAnd}

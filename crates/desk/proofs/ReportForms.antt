@@ -1,4 +1,4 @@
--- A report of a branch, or of a day, told as the report that was asked for.
+-- A report of a branch or a day, as the requested report.
 use Rattle.std.proofs.Common.{◌≡◌, ℕ, List, Option, None, subst}
 use Rattle.std.specs.Prelude.{Result, Ok, Err, OnOk, OnErr}
 use Rattle.std.specs.Io.KnownBytes.{Appends}

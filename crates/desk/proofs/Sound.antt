@@ -1,4 +1,4 @@
--- Rows that a list of accepted requests leaves: none is damaged, and what they name is there.
+-- Rows left by a list of accepted requests: none is damaged, and what they name exists.
 use Rattle.std.proofs.Common.{◌≡◌, ℕ, true, sym, ◌∙◌, ap}
 use Rattle.std.specs.Prelude.{Some, is_some}
 use Rattle.terms.specs.declared.row.CopyRow.{CopyRow}

@@ -1,4 +1,4 @@
--- What a command leaves of the rows of a patron whom it doesn't touch.
+-- What a command leaves of the rows of a patron it doesn't touch.
 use Rattle.std.proofs.Common.{◌≡◌, ℕ, ◌==◌, Bool, true, false, ◌||◌, not, ◌+◌, List, [], ◌∷◌, ◌++◌, take, refl, sym, ◌∙◌, ap, subst}
 use Rattle.std.specs.Prelude.{Option, Some, None, option_map, is_some}
 use Rattle.std.specs.List.{list_any, cons_option, slice_get}

@@ -1,4 +1,4 @@
--- A report that is written: its header, its rows page by page, and how many there are.
+-- A report that is written: its header, its rows page by page, and their number.
 use Rattle.std.proofs.Common.{◌≡◌, ℕ, List, [], ◌∷◌, ◌++◌, length, map, append_assoc, append-nil, refl, sym, ◌∙◌, ap}
 use Rattle.std.specs.Prelude.{Option, Result, Ok, Err}
 use Rattle.std.specs.Result.{IsErr, IsErrAnd}

@@ -1,4 +1,4 @@
--- Copies files, computed over the definitions: a whole one, one that was cut, and an empty one.
+-- Copies files, computed over the definitions: a whole one, a truncated one, and an empty one.
 use Rattle.std.proofs.Common.{◌≡◌, ℕ, refl, sym, subst, ap, inl, inr, List, [], ◌∷◌, arith, length, true}
 use Rattle.std.specs.Prelude.{codes, nat_lt, IsUtf8}
 use Rattle.std.specs.Fmt.{digits}

@@ -1,4 +1,4 @@
--- The records of a file, and the rows that they are.
+-- The records of a file, and their rows.
 use Rattle.front.specs.declared.copies.TheConstants.{MOST_ROWS}
 use Rattle.std.proofs.Common.{if◌then◌else◌, ◌≡◌, ◌≢◌, ◌⊎◌, inl, inr, ◌∙◌, ◌<◌, ◌≤◌, ◌+◌, ◌++◌, ℕ, Bool, true, false, refl, sym, ap, subst}
 use Rattle.std.proofs.Common.{List, [], ◌∷◌, length, Option, Some, None, arith, zero, suc}

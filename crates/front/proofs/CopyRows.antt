@@ -1,4 +1,4 @@
--- The fields of a row, each at its place.
+-- The fields of a row, each in its place.
 use Rattle.std.proofs.Common.{◌⊎◌, inl, inr, ◌≤◌, ◌≡◌, ◌∙◌, ◌<◌, ◌+◌, ◌^◌, ℕ, true, false, refl, sym, ap, subst, List, [], ◌∷◌, length}
 use Rattle.std.proofs.Common.{Option, Some, None, arith, zero, suc, get_or}
 use Rattle.std.specs.Prelude.{codes, IfSome, IsUtf8}

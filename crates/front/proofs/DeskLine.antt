@@ -1,4 +1,4 @@
--- What the command line of the desk makes of the words of a command.
+-- What the desk's command line makes of a command's words.
 use Rattle.std.proofs.Common.{◌≡◌, ◌∙◌, ◌&&◌, ℕ, Bool, true, false, refl, sym, subst, ap, ap₂, List, [], ◌∷◌, ◌++◌, ◌<◌, map, length, drop}
 use Rattle.std.proofs.Common.{get_or, zero, suc, arith, Option, Some, None}
 use Rattle.std.specs.Prelude.{find, fold, option_map}

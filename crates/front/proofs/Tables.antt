@@ -1,4 +1,4 @@
--- What the loops over the table of commands keep.
+-- The invariants of the loops over the table of commands.
 use Rattle.std.proofs.Common.{◌≡◌, ◌∙◌, ◌<◌, ◌≤◌, ◌+◌, ℕ, true, false, refl, ap, List, [], ◌∷◌, map, length, take, drop, get_or, add-one}
 use Rattle.std.proofs.Common.{drop-cons, drop_of_length-le}
 use Rattle.std.specs.Prelude.{fold, String, string_bytes}

@@ -1,4 +1,4 @@
--- What `clap` makes of the words of a command: it takes them, and each argument has the word at its place.
+-- What `clap` makes of a command's words: it takes them, and each argument has the word in its place.
 use Rattle.std.proofs.Common.{◌≡◌, ◌∙◌, ◌+◌, ◌&&◌, ◌||◌, ℕ, Bool, cond, true, false, refl, sym, ap, ap₂, List, [], ◌∷◌, ◌++◌, map, length}
 use Rattle.std.proofs.Common.{Option, Some, None, append-nil, append_assoc, arith}
 use Rattle.std.specs.Prelude.{not, min, fold}

@@ -1,4 +1,4 @@
--- The ends of workers, one after another.
+-- The ends of workers, in order.
 use Rattle.std.proofs.Common.{◌≡◌, ℕ, suc, ◌+◌, List, [], ◌∷◌, ◌++◌, refl, sym, ap, ◌∙◌, subst, arith}
 use Rattle.hall.specs.declared.messages.View.{View}
 use Rattle.std.proofs.Common.{map}

@@ -1,4 +1,4 @@
--- No step back: a reply goes on from what was seen.
+-- No step back: a reply extends what was seen.
 use Rattle.std.proofs.Common.{◌≡◌, ℕ, ◌+◌, true, cond, eqb, List, [], ◌∷◌, ◌++◌, length, sym, refl, ap, ◌∙◌, subst, arith, length-append}
 use Rattle.board.specs.declared.entry.Entry.{Entry}
 use Rattle.board.specs.declared.entry.Seen.{Seen}

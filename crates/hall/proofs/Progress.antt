@@ -1,4 +1,4 @@
--- What stands after one submission more.
+-- What holds after one more submission.
 use Rattle.std.proofs.Common.{◌≡◌, ℕ, ◌+◌, ◌≤◌, List, [], ◌∷◌, ◌++◌, length, Option, None, Some, ◌⊎◌, inl, inr, refl, sym, ap, ◌∙◌, subst, arith}
 use Rattle.std.proofs.Common.{⊎_elim, take}
 use Rattle.std.proofs.lemmas.List.{append-nil}

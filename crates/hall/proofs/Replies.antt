@@ -1,4 +1,4 @@
--- Pages as the board shows them are the replies of the desk.
+-- Pages shown by the board are the desk's replies.
 use Rattle.std.proofs.Common.{◌≡◌, ℕ, true, false, not, cond, List, [], ◌∷◌, ◌++◌, append_assoc, refl, sym, ◌∙◌, ap, subst}
 use Rattle.std.specs.Prelude.{Option, Some, None, option_map, unwrap_or, is_some, bytes_eq, Result, Ok, Err, IfOk, IfErr}
 use Rattle.terms.specs.declared.command.Caller.{Caller}

@@ -1,4 +1,4 @@
--- In every legal history: borrowers are enrolled, and nobody has lines who isn't.
+-- In every legal history borrowers are enrolled, and only enrolled patrons have lines.
 use Rattle.std.proofs.Common.{◌≡◌, ℕ, zero, suc, ◌==◌, Bool, true, false, cond, not, List, [], ◌∷◌, ◌++◌, refl, sym, ◌∙◌, ap}
 use Rattle.std.specs.Prelude.{Option, Some, None, option_map, unwrap_or, is_some, filter}
 use Rattle.std.specs.Option.{option_or}

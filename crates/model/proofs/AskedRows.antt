@@ -1,4 +1,4 @@
--- The lines of an account are shown as they are, and a copy is on the shelf exactly where the tables make no claim on it.
+-- Account lines are shown as they are, and a copy is on the shelf exactly if the tables make no claim on it.
 use Rattle.std.proofs.Common.{◌≡◌, ℕ, zero, suc, ◌≤◌, ◌<◌, ◌==◌, Bool, true, false, cond, List, [], ◌∷◌, ◌++◌, refl, sym, ◌∙◌, ap, ap₂, subst, arith}
 use Rattle.std.proofs.Common.{map, length, take}
 use Rattle.std.specs.Prelude.{Option, Some, None, filter, is_some, option_map, unwrap_or}

@@ -1,4 +1,4 @@
--- Lists that are asked for one after another show each number once, and the first in line is served.
+-- Lists asked for part by part show each number once, and the first in line is served.
 use Rattle.std.proofs.Common.{◌≡◌, ℕ, zero, suc, ◌+◌, ◌≤◌, ◌<◌, ◌==◌, Bool, true, false, cond, ◌||◌, ◌&&◌, ◌⊎◌, inl, inr, List, [], ◌∷◌, ◌++◌}
 use Rattle.std.proofs.Common.{refl, sym, ◌∙◌, ap, ap₂, subst, arith, length, take, drop, nat_lt}
 use Rattle.std.specs.Prelude.{filter, Option, Some, None}

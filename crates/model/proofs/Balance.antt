@@ -1,4 +1,4 @@
--- For every patron of a legal history charges are payments and waivers and what is owed.
+-- For every patron of a legal history, charges are payments and waivers plus the debt.
 use Rattle.std.proofs.Common.{◌≡◌, ℕ, zero, suc, ◌+◌, ◌≤◌, ◌==◌, Bool, true, false, cond, ◌||◌, List, [], ◌∷◌, refl, arith}
 use Rattle.std.specs.Prelude.{Option, None, filter, nat_lt}
 use Rattle.std.proofs.lemmas.List.Elements.{filter-append}

@@ -1,4 +1,4 @@
--- The calendar of the definitions is that of the crate of days and calendars.
+-- The calendar of the definitions is that of the crate `calendar`.
 use Rattle.calendar.specs.declared.limits.TheConstants.{FIRST_DAY, LAST_DAY}
 use Rattle.std.proofs.Common.{◌≡◌, ℕ, zero, suc, ◌+◌, ◌-◌, ◌≤◌, Bool, true, false, not, ◌&&◌, refl, ap, sym, subst, ◌∙◌, arith}
 use Rattle.std.specs.Prelude.{Some, nat_le, if◌then◌else◌}

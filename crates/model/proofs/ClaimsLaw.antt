@@ -1,4 +1,4 @@
--- The tables of a legal history make at most one claim on a copy, the one of its place.
+-- A legal history's tables make at most one claim on a copy, that of its place.
 use Rattle.std.proofs.Common.{◌≡◌, ℕ, refl, sym, ◌∙◌, ap, subst}
 use Rattle.std.specs.Prelude.{Option, Some, None, option_map, option_and_then}
 use Rattle.terms.specs.declared.row.HoldState.{HoldState}

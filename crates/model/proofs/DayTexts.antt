@@ -1,4 +1,4 @@
--- Texts of days that are quick to compute: counted on from a day near by, and not from 1970.
+-- Day texts that are quick to compute: counted from a nearby day, not from 1970.
 use Rattle.std.proofs.Common.{◌≡◌, ℕ, zero, suc, ◌+◌, ◌-◌, ◌≤◌, Bool, true, false, List, [], ◌∷◌, refl, ap, ◌∙◌, arith}
 use Rattle.std.specs.Prelude.{codes, decimal, map, nat_le}
 use Rattle.std.specs.List.{join_with_byte}

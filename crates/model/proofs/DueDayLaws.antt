@@ -1,4 +1,5 @@
--- In every legal history a due day exists at check-out, a shelf limit for a hold that becomes ready, and each due day is as its period ends.
+-- In every legal history a check-out has a due day, a hold that becomes ready a shelf limit, and each due day
+-- is as its period ends.
 use Rattle.std.proofs.Common.{◌≡◌, ℕ, ◌+◌, ◌≤◌, ◌==◌, Bool, true, false, cond, [], ◌∷◌, refl, sym, ap, ◌∙◌, subst, arith}
 use Rattle.std.specs.Prelude.{Option, Some, None, is_some, is_none, option_map, option_and_then, unwrap_or}
 use Rattle.std.proofs.lemmas.Bool.{eqb-true}

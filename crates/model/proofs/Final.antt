@@ -1,4 +1,4 @@
--- A hold that is filled, cancelled or expired stays so.
+-- A filled, cancelled or expired hold stays so.
 use Rattle.std.proofs.Common.{◌≡◌, ℕ, ◌==◌, Bool, true, false, ◌≢◌, List, [], ◌∷◌, refl, sym, ap, ◌∙◌, arith}
 use Rattle.std.specs.Prelude.{Option, Some, None}
 use Rattle.std.proofs.lemmas.Bool.{eqb-true, and_parts}

@@ -1,4 +1,4 @@
--- Each number that was given has its loan or hold, with a row, and each hold that was placed has one state.
+-- Each given number has its loan or hold, with a row, and each placed hold has one state.
 use Rattle.std.proofs.Common.{◌≡◌, ℕ, ◌≤◌, ◌==◌, Bool, true, false, cond, ◌&&◌, [], ◌∷◌, refl, sym, ap, ◌∙◌, arith, le-leb}
 use Rattle.std.specs.Prelude.{Option, Some, None, option_map, option_and_then, unwrap_or, is_some, nat_le}
 use Rattle.std.proofs.lemmas.Bool.{leb-true, and_parts}

@@ -1,4 +1,4 @@
--- Every legal history has the invariant.
+-- Every legal history keeps the invariant.
 use Rattle.std.proofs.Common.{◌≡◌, ℕ, ◌==◌, true, false, [], ◌∷◌, refl, ap}
 use Rattle.std.specs.Prelude.{Option, Some, None, is_none}
 use Rattle.std.specs.List.{list_any}

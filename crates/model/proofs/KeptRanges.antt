@@ -1,4 +1,5 @@
--- In every legal history whose commands have their forms: lines lie in their limits, and what is kept can be read back.
+-- In every legal history whose commands have their forms: lines are within their limits, and what is kept can
+-- be read back.
 use Rattle.model.specs.Sights.{sight}
 use Rattle.calendar.specs.declared.limits.TheConstants.{FIRST_DAY, LAST_DAY}
 use Rattle.terms.specs.declared.limits.TheConstants.{LAST_NUMBER}

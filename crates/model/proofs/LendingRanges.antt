@@ -1,4 +1,4 @@
--- In every legal history whose commands have their forms: loans, holds and the places lie in their limits.
+-- In every legal history whose commands have their forms: loans, holds and places are within their limits.
 use Rattle.terms.specs.declared.limits.TheConstants.{LAST_TODAY}
 use Rattle.std.proofs.lemmas.Bool.{and_parts, leb-true, ltb-true}
 use Rattle.std.proofs.Common.{◌≡◌, ℕ, ◌==◌, Bool, false, cond, [], ◌∷◌, refl, sym, ap, ◌∙◌, subst, arith, IfSome, nat_lt, nat_le, ◌<◌, ◌≤◌}

@@ -1,4 +1,5 @@
--- A hold that an accepted command takes out of its title's line otherwise than by cancelling was the first of that line.
+-- A hold that leaves its title's line by an accepted command, other than its cancellation, was the first of
+-- that line.
 use Rattle.std.proofs.Common.{◌≡◌, ℕ, ◌==◌, Bool, true, false, ◌||◌, ◌⊎◌, ◌≢◌, inl, inr, List, [], ◌∷◌, refl, sym, ◌∙◌, ap, subst, cond}
 use Rattle.std.proofs.Common.{not, ◌&&◌, ◌≤◌, ◌<◌, nat_lt, nat_le, le-leb, arith}
 use Rattle.std.specs.Prelude.{Option, Some, None, is_none, unwrap_or, option_map, option_and_then}

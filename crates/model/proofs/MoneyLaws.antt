@@ -1,4 +1,4 @@
--- In every legal history: fines, prices and debts are bounded, and numbers aren't past their end.
+-- In every legal history fines, prices and debts are bounded, and numbers aren't past their end.
 use Rattle.terms.specs.declared.limits.TheConstants.{LAST_NUMBER}
 use Rattle.std.proofs.Common.{◌≡◌, ℕ, zero, suc, ◌*◌, ◌≤◌, ◌<◌, ◌==◌, nat_le, Bool, true, false, cond, List, [], ◌∷◌, ◌++◌, length}
 use Rattle.std.proofs.Common.{length-append, refl, ap, subst, arith}

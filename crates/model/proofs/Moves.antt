@@ -1,4 +1,4 @@
--- Which copies serve which holds, and what a move of one copy keeps of it.
+-- Which copies serve which holds, and what moving one copy preserves.
 use Rattle.std.proofs.Common.{◌≡◌, ℕ, ◌==◌, Bool, true, false, ◌⊎◌, ◌≢◌, inl, inr, refl, sym, ◌∙◌}
 use Rattle.std.specs.Prelude.{Option, Some}
 use Rattle.std.proofs.lemmas.Bool.{eqb-true, eq-eqb}

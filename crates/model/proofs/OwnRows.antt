@@ -1,4 +1,4 @@
--- A page tells of nothing but the patron's own rows.
+-- A page depends only on the patron's own rows.
 use Rattle.terms.specs.declared.row.HoldState.{HoldState}
 use Rattle.model.specs.Places.{state, is_ready, title_of_hold}
 use Rattle.std.specs.Prelude.{codes, decimal, Option, unwrap_or, option_map, option_and_then}

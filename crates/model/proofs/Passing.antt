@@ -1,4 +1,4 @@
--- What it tells that no check fails.
+-- What follows if no check fails.
 use Rattle.std.proofs.Common.{◌≡◌, Bool, true, false, List, [], ◌∷◌, refl}
 use Rattle.std.specs.Prelude.{Option, Some, None}
 use Rattle.terms.specs.declared.refusal.Refusal.{Refusal}

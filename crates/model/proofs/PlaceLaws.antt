@@ -1,4 +1,5 @@
--- In every legal history: copies on the shelf are at home, copies and the holds that they serve are of one title.
+-- In every legal history copies on the shelf are at home, and copies and the holds that they serve have the
+-- same title.
 use Rattle.std.proofs.Common.{◌≡◌, ℕ, ◌≤◌, ◌==◌, Bool, true, false, cond, List, [], ◌∷◌, refl, sym, ◌∙◌, ap, subst, arith}
 use Rattle.std.specs.Prelude.{Option, Some, None, option_map, unwrap_or, is_none}
 use Rattle.std.specs.Option.{option_or}

@@ -1,5 +1,4 @@
--- What holds of the place of every copy, command after command, if it holds where routing can send
--- one.
+-- What holds of every copy's place, command after command, if it holds where routing can send one.
 use Rattle.terms.specs.declared.limits.TheConstants.{LAST_NUMBER}
 use Rattle.std.proofs.Common.{◌≡◌, ℕ, ◌<◌, ◌==◌, Bool, true, false, not, List, [], ◌∷◌, refl, subst, ◌&&◌}
 use Rattle.std.specs.Prelude.{Option, Some, None, is_none}

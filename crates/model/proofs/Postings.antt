@@ -1,4 +1,4 @@
--- A command that posts to accounts: what it passed, and that the lines are those before it and its own.
+-- A command that posts to accounts: what it passed, and that it adds just its own lines.
 use Rattle.std.proofs.Common.{◌≡◌, ℕ, zero, suc, ◌+◌, ◌≤◌, false, not, ◌++◌, length, length-append, refl, sym, append-nil, subst, arith}
 use Rattle.std.specs.Prelude.{None}
 use Rattle.std.proofs.lemmas.Bool.{ltb-false}

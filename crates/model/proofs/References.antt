@@ -1,4 +1,4 @@
--- In every legal history: the rows that a row names are there.
+-- In every legal history, the rows that a row names exist.
 use Rattle.std.proofs.Common.{◌≡◌, ℕ, zero, suc, ◌==◌, Bool, true, false, cond, ◌&&◌, List, [], ◌∷◌, ◌++◌, refl, sym, ◌∙◌, ap, subst}
 use Rattle.std.specs.Prelude.{Option, Some, None, is_some, is_none, option_map, option_and_then, unwrap_or, bytes_eq}
 use Rattle.std.specs.Option.{option_or}

@@ -1,4 +1,4 @@
--- Leaving out the repeats of a list leaves the same history, and rows that were read before change nothing.
+-- Leaving out a list's repeats leaves the same history, and rows read before change nothing.
 use Rattle.std.proofs.Common.{◌≡◌, ℕ, ◌==◌, Bool, true, false, not, ◌&&◌, ◌||◌, List, [], ◌∷◌, ◌++◌, refl, sym, ap, ◌∙◌}
 use Rattle.std.specs.Prelude.{Option, Some, None, is_none, option_map, unwrap_or, bytes_eq}
 use Rattle.std.specs.Option.{option_or}

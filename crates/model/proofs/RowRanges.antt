@@ -1,4 +1,4 @@
--- In every legal history whose commands have their forms: every column of every row lies in its limits.
+-- In every legal history whose commands have their forms, every column of every row is within its limits.
 use Rattle.std.proofs.Common.{◌≡◌, ℕ, ◌+◌, ◌-◌, ◌≤◌, Bool, true, false, List, [], ◌∷◌, refl, sym, ◌∙◌, subst, arith}
 use Rattle.std.specs.Prelude.{Option, Some, None, option_map, unwrap_or, IfSome}
 use Rattle.calendar.specs.Days.{IsDayNumber}

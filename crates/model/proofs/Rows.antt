@@ -1,4 +1,4 @@
--- What the worked examples stand on: a small library, runs of requests, and the texts of the replies.
+-- The basis of the worked examples: a small library, runs of requests, and the texts of the replies.
 use Rattle.std.specs.Prelude.{◌≡◌, ℕ, suc, ◌+◌, ◌==◌, Bool, List, [], ◌∷◌, ◌++◌, map, codes, refl}
 use Prim.Native.String.{String}
 use Rattle.std.specs.Fmt.{digits}

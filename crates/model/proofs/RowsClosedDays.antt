@@ -1,4 +1,4 @@
--- A worked example of a branch with as many single closed days as it may have.
+-- A worked example of a branch with as many single closed days as allowed.
 use Rattle.std.specs.Prelude.{ℕ, zero, suc, ◌+◌, List, [], ◌∷◌, codes, refl}
 use Rattle.std.specs.Fmt.{digits}
 use Rattle.terms.specs.declared.command.Command.TheVariants.{Branch, Week, CloseDay, Acquire, CheckOut}

@@ -1,4 +1,4 @@
--- Worked examples of holds: lines, transits, hold shelves and what becomes of their copies.
+-- Worked examples of holds: lines, transits, hold shelves and where their copies go.
 use Rattle.std.specs.Prelude.{◌≡◌, [], ◌∷◌, map, refl, Some, None}
 use Rattle.std.specs.Fmt.{digits}
 use Rattle.terms.specs.declared.command.Command.TheVariants.{BeginDay, CheckOut, CheckIn, Renew, PlaceHold, CancelHold, Unshelve}

@@ -1,4 +1,5 @@
--- Lists that were legal with an older schema are legal still, and its tables are led to those of the next, with every rule, loan and hold as it was.
+-- Lists that were legal with an older schema still are, and its tables are migrated to the next, with every
+-- rule, loan and hold unchanged.
 use Rattle.std.proofs.Common.{◌≡◌, ℕ, ◌*◌, ◌≤◌, ◌==◌, ◌&&◌, nat_le, Bool, true, false, cond, List, [], ◌∷◌, refl, sym, ◌∙◌, ap, arith, subst}
 use Rattle.std.specs.Prelude.{Option, Some, None, option_map, option_and_then, unwrap_or, IsTrue, min}
 use Rattle.std.proofs.lemmas.Bool.{leb-true}

@@ -1,4 +1,5 @@
--- In every legal history: what was set is within its limits, no day is closed twice, and a branch that isn't there has no closed days.
+-- In every legal history what was set is within its limits, no day is closed twice, and a nonexistent branch
+-- has no closed days.
 use Rattle.calendar.specs.declared.limits.TheConstants.{MOST_CLOSED_DAYS, FIRST_DAY}
 use Rattle.terms.specs.declared.limits.TheConstants.{LAST_TODAY}
 use Rattle.std.proofs.Common.{◌≡◌, ℕ, suc, ◌≤◌, ◌<◌, ◌==◌, Bool, true, false, cond, not, ◌&&◌, List, [], ◌∷◌, length, replicate, refl, sym}

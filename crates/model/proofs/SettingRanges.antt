@@ -1,4 +1,4 @@
--- In every legal history whose commands have their forms: what was set and made lies in its limits.
+-- In every legal history whose commands have their forms: what was set and made is within its limits.
 use Rattle.std.proofs.Common.{◌≡◌, ℕ, ◌≤◌, ◌==◌, Bool, true, false, cond, not, ◌&&◌, ◌||◌, List, [], ◌∷◌, refl, subst, arith}
 use Rattle.std.specs.Prelude.{Option, Some, None, is_some, option_map, filter}
 use Rattle.std.specs.Option.{option_or}

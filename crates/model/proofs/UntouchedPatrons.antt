@@ -1,4 +1,4 @@
--- A legal history agrees with the one before its last event on each patron whose own rows its picture keeps.
+-- A legal history agrees with the one before its last event on each patron whose own rows it keeps.
 use Rattle.std.proofs.Common.{◌≡◌, ℕ, suc, ◌+◌, ◌-◌, ◌≤◌, ◌==◌, Bool, true, false, cond, ◌&&◌, ◌||◌, List, [], ◌∷◌, ◌++◌, refl, sym, ◌∙◌, ap, arith}
 use Rattle.std.specs.Prelude.{Option, Some, None, option_map, unwrap_or, is_some, is_none, filter}
 use Rattle.std.specs.Option.{option_or}

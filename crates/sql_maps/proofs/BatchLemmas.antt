@@ -1,4 +1,4 @@
--- A selection of no more rows than it is to have, in an order that is that of the key.
+-- A selection with a row limit, ordered by the key.
 use Rattle.std.proofs.Common.{◌≡◌, ◌⊎◌, ◌≤◌, inl, inr, ℕ, zero, suc, pos, Bool, true, false, cond, List, [], ◌∷◌, map, filter, flat_map}
 use Rattle.std.proofs.Common.{length, take, IsPermutation, Some, slice_get, refl, sym, ap, subst, ◌∙◌, arith, Less}
 use Rattle.std.specs.List.{AllByRecursion}

@@ -1,4 +1,4 @@
--- What a delete by key and a look-up by key do, whichever table it is.
+-- What a delete and a look-up by key do, for any table.
 use Rattle.std.proofs.Common.{◌≡◌, ◌&&◌, ℕ, true, List, [], ◌∷◌, map, None, Ok, refl, sym, ap, subst, ◌∙◌, true≢false}
 use Rattle.std.specs.Prelude.{if◌then◌else◌}
 use Rattle.std.specs.List.{list_all}

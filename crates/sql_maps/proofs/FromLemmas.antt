@@ -1,4 +1,4 @@
--- A query whose FROM has an EXISTS, in the order of its table's rowids.
+-- A query whose FROM has an EXISTS, in order of its table's rowids.
 use Rattle.std.proofs.Common.{◌≡◌, not, ℕ, pos, Bool, true, false, List, [], ◌∷◌, map, filter, min, IsPermutation, None, refl, sym, ap}
 use Rattle.std.proofs.Common.{subst, ◌∙◌, Ordering, Less, is_eq}
 use Rattle.std.specs.List.{list_all}

@@ -1,4 +1,4 @@
--- Look-ups by columns that are no key.
+-- Look-ups by columns that aren't keys.
 use Rattle.std.proofs.Common.{arith, ◌≤◌, None, ◌≡◌, ℕ, pos, negsuc, Bool, false, List, [], ◌∷◌, map, filter, length, min, slice_get}
 use Rattle.std.proofs.Common.{Option, Some, Ok, Err, Result, codes, refl, sym, ap, subst, ◌∙◌}
 use Rattle.std.specs.Prelude.{take, IfOk}

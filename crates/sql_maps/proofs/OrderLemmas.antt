@@ -1,4 +1,4 @@
--- A selection in the order of columns that are no rowid.
+-- A selection ordered by columns that aren't the rowid.
 use Rattle.std.proofs.Common.{inl, inr, ◌≡◌, ℕ, pos, negsuc, take, Bool, true, false, cond, List, [], ◌∷◌, map, filter, flat_map}
 use Rattle.std.proofs.Common.{IsPermutation, Some, slice_get, refl, sym, ap, subst, ◌∙◌, true≢false, Ordering, Less, Equal, Greater, is_eq}
 use Rattle.std.proofs.Common.{is_gt}

@@ -1,4 +1,4 @@
--- A selection in the order of the key, and a count.
+-- A selection ordered by the key, and a count.
 use Rattle.std.proofs.Common.{◌≡◌, inl, inr, ℕ, Bool, true, false, cond, List, [], ◌∷◌, map, filter, flat_map, length, min, IsPermutation}
 use Rattle.std.proofs.Common.{pos, Some, refl, sym, ap, subst, ◌∙◌, Less}
 use Rattle.std.specs.List.{list_all, AllZip}

@@ -1,4 +1,4 @@
--- What the lemmas speak of, and no contract.
+-- Words that only the lemmas use, no contract.
 use Rattle.std.specs.Prelude.{◌≡◌, ◌≢◌, ◌⊎◌, ℕ, List, [], ◌∷◌, Bool, false, None, Some, negsuc, pos, Result, Ok, Err, min, ⊤}
 use Rattle.sqlite.specs.declared.error.Error.{Error}
 use Rattle.sqlite.specs.declared.error.Error.TheVariants.{QueryReturnedNoRows}

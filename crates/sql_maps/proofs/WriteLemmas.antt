@@ -1,4 +1,4 @@
--- What an upsert and a delete by key do to a table, whichever table it is.
+-- What an upsert and a delete by key do, for any table.
 use Rattle.std.proofs.Common.{◌≡◌, ◌≢◌, ◌⊎◌, inl, inr, ℕ, ◌/◌, ℤ, true, false, List, [], ◌∷◌, ◌++◌, map, drop, length, slice_get, Option}
 use Rattle.std.proofs.Common.{Some, None, Ok, Err, Result, refl, sym, ap, subst, ◌∙◌, true≢false}
 use Rattle.std.specs.Prelude.{if◌then◌else◌}

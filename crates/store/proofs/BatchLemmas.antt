@@ -1,4 +1,4 @@
--- What the batches hold, in words of the typed tables.
+-- What the batches hold, in terms of the typed tables.
 use Rattle.std.proofs.Common.{arith, ◌≡◌, ◌<◌, ◌+◌, ℕ, pos, Bool, true, List, map, Option, Some, None, Result, inl, inr, ◌∙◌, ◌≤◌, refl, sym, subst, Less}
 use Rattle.std.specs.Prelude.{unwrap_or}
 use Rattle.std.specs.List.{All, Contains}

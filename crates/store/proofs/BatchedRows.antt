@@ -1,4 +1,4 @@
--- The rows of a table that is read batch by batch.
+-- The rows of a table read batch by batch.
 use Rattle.std.proofs.Common.{◌≡◌, ℕ, suc, ◌+◌, ◌-◌, ◌<◌, ◌≤◌, ◌⊎◌, inl, inr, Bool, true, false, cond, List, [], ◌∷◌, ◌++◌, length, refl, sym, ap, subst, arith}
 use Rattle.std.specs.Prelude.{Option, Some, None, is_none, option_map, filter, slice_get}
 use Rattle.std.specs.List.{Contains, AllByRecursion}

@@ -1,4 +1,4 @@
--- Rows of a table that were met batch by batch, whether the tables show a picture or not.
+-- Rows of a table met batch by batch, whether the tables show a picture or not.
 use Rattle.std.proofs.Common.{◌≡◌, ℕ, zero, suc, ◌+◌, ◌-◌, ◌<◌, ◌≤◌, ◌⊎◌, inl, inr, ℤ, pos, negsuc, true, List, [], ◌∷◌, length, map, Ok}
 use Rattle.std.proofs.Common.{Less, Greater, refl, sym, ◌∙◌, ap, subst, arith}
 use Rattle.std.specs.Prelude.{Option, Some, None, IsTrue, option_map, slice_get, unwrap_or}

@@ -1,4 +1,4 @@
--- Rows that are carried over from one table to another.
+-- Rows carried over from one table to another.
 use Rattle.std.proofs.Common.{◌≡◌, ◌≢◌, ℕ, ◌<◌, ◌≤◌, ◌⊎◌, inl, inr, leb, Bool, true, false, cond, List, [], ◌∷◌, length, refl, sym, ap}
 use Rattle.std.proofs.Common.{subst, ◌∙◌, arith, true≢false}
 use Rattle.std.specs.Prelude.{Option, Some, None, option_map}

@@ -1,4 +1,4 @@
--- What carrying rows over makes of a picture.
+-- The effect of carrying rows over on a picture.
 use Rattle.std.proofs.Common.{◌≡◌, ◌<◌, ℕ, List, [], ◌∷◌, length, map, leb, cond, Option, Some, None, true, false, refl, sym, ap, ap₂, subst, ◌∙◌, IsTrue}
 use Rattle.std.specs.Prelude.{option_map, slice_get, unwrap_or, ◌-◌}
 use Rattle.std.specs.List.{All}

@@ -1,4 +1,4 @@
--- The rows of a table that pass, each once and in the order of their numbers, are one list.
+-- The rows of a table that pass, each once and ordered by number, are one list.
 use Rattle.std.proofs.Common.{◌≡◌, ℕ, ◌<◌, inl, inr, Bool, List, [], ◌∷◌, refl, sym, ◌∙◌, ap, arith}
 use Rattle.std.specs.Prelude.{Option, filter}
 use Rattle.std.specs.List.{AllByRecursion}

@@ -1,4 +1,4 @@
--- One part of a step after another, inside a transaction.
+-- Successive parts of a step, inside a transaction.
 use Rattle.std.proofs.Common.{◌≡◌, ◌==◌, ◌<◌, ◌∙◌, ℕ, zero, suc, List, [], ◌∷◌, length, map, ltb, cond, inl, inr, ◌⊎◌, Option, Some, None}
 use Rattle.std.proofs.Common.{true, false, refl, sym, ap, subst, arith, IsTrue, true≢false}
 use Rattle.std.specs.Prelude.{Result, Ok, Err, IfErr, option_map, slice_get}

@@ -1,4 +1,4 @@
--- One read after another.
+-- Successive reads.
 use Rattle.std.proofs.Common.{◌≡◌, inl, inr, List, map, Option, None, Some, Ok, Err, Result, IfOk, OnOk, IsTrue, refl, sym, subst, ap, ◌∙◌}
 use Rattle.std.specs.Prelude.{IfSome}
 use Rattle.std.specs.List.{All}

@@ -1,4 +1,4 @@
--- One table after another, each gone through to its end.
+-- Successive tables, each read to its end.
 use Rattle.std.proofs.Common.{◌≡◌, ◌<◌, ◌-◌, List, length, Some, Ok, Err, Result, IfOk, IfErr, refl}
 use Rattle.std.specs.Prelude.{slice_get}
 use Rattle.std.specs.Result.{IsErr, IsErrAnd}

@@ -1,4 +1,4 @@
--- The steps from schema to schema, one and all that are due.
+-- The steps from schema to schema, single and all due ones.
 use Rattle.std.proofs.Common.{◌≡◌, ◌<◌, ◌≤◌, ◌+◌, ◌⊎◌, ◌^◌, ◌∙◌, inl, inr, ℕ, zero, suc, List, refl, sym, ap, subst, arith, IsTrue}
 use Rattle.std.specs.Prelude.{Result, Ok, Err, IfOk, ◌-◌}
 use Rattle.std.specs.Result.{IsErr, IsErrAnd}

@@ -1,4 +1,4 @@
--- One read after another, each from where the last one left the tables.
+-- Successive reads, each from where the last left the tables.
 use Rattle.std.proofs.Common.{◌≡◌, ℕ, List, map, Option, Some, Ok, Err, Result, IfOk, IfErr, sym, ap, subst, ◌∙◌}
 use Rattle.std.specs.List.{All}
 use Rattle.std.specs.Result.{IsErr, IsErrAnd}

@@ -1,4 +1,4 @@
--- What the words after a name have to be, by the kinds that the table has under it.
+-- What the words after a name must be, by the kinds in the table.
 use Rattle.std.proofs.Common.{◌≡◌, ◌∙◌, ◌<◌, ◌≤◌, ◌+◌, ◌^◌, ℕ, Bool, true, refl, sym, ap, subst, List, [], ◌∷◌, length, map, get_or, Option}
 use Rattle.std.proofs.Common.{Some, None, zero, suc, drop, drop-cons, drop_of_length-le, arith}
 use Rattle.std.specs.Prelude.{slice_get}

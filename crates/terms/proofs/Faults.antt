@@ -1,4 +1,4 @@
--- The error that a `?` hands on.
+-- The error that a `?` passes on.
 use Rattle.std.proofs.Common.{◌≡◌, Result, Ok, Err}
 use Rattle.std.specs.Result.{IsErrAnd}
 

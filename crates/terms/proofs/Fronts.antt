@@ -1,4 +1,4 @@
--- Bytes that go out one after another.
+-- Bytes that go out in order.
 use Rattle.std.proofs.Common.{◌≡◌, ℕ, suc, ◌<◌, List, [], ◌++◌, Bor, Option, None, Some, append_assoc, append-nil, sym, ◌∙◌, ap, subst}
 use Rattle.std.proofs.Common.{length, take, drop, get_or, take-append-drop}
 use Rattle.std.proofs.Math.Seq.{drop-cons}

@@ -1,4 +1,4 @@
--- Each request text has a space, so it is a key that a row of a copies file can have.
+-- Each request text has a space, so it can be the key of a copies file's row.
 use Rattle.std.proofs.Common.{◌≡◌, ℕ, List, [], ◌∷◌, ◌++◌, Bool, true, false, not, map, ap, refl, ◌∙◌}
 use Rattle.std.specs.Prelude.{◌==◌, ◌&&◌, ◌||◌}
 use Rattle.std.specs.List.{join_with_byte}

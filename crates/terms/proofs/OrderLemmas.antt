@@ -1,4 +1,4 @@
--- Rows that stand in an order, one more at a time.
+-- Ordered rows, one more at a time.
 use Rattle.std.proofs.Common.{◌≡◌, ℕ, zero, suc, ◌+◌, ◌-◌, ◌<◌, ◌≤◌, List, [], ◌∷◌, length, take, get_or, refl, sym, ◌∙◌, subst, arith}
 use Rattle.std.specs.List.{AllByRecursion}
 use Rattle.terms.specs.Orders.{IsOrdered}

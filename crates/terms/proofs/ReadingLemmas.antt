@@ -1,4 +1,4 @@
--- What a reader takes off the front of a text, and the texts of the forms of replies.
+-- What a reader takes off the front of a text, and the texts of reply forms.
 use Rattle.std.proofs.Common.{◌≡◌, ◌≢◌, ℕ, ◌<◌, ◌^◌, List, ◌∷◌, ◌++◌, Option, Some, None, IfSome, IfNone, IsSome, IsSomeAnd, Bor, length}
 use Rattle.std.proofs.Common.{get_or, drop, ap, sym, ◌∙◌, refl, arith}
 use Rattle.std.specs.Prelude.{codes}

@@ -1,4 +1,4 @@
--- A request text has the words of one command alone.
+-- A request text has the words of only one command.
 use Rattle.std.proofs.Common.{◌≡◌, ℕ, suc, List, [], ◌∷◌, true, length, map, ap, ap₂, sym, ◌∙◌, refl, arith, Some}
 use Rattle.std.specs.List.{join_with_byte}
 use Rattle.std.proofs.lemmas.List.{length-map}

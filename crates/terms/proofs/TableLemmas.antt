@@ -1,4 +1,5 @@
--- What is seen of each command in turn: how it stands in the table, that its words can be told apart, and that it is made again from its name and parts.
+-- For each command in turn: it is in the table, its words can be told apart, and its name and parts make it
+-- again.
 use Rattle.std.proofs.Common.{◌≡◌, ◌<◌, ◌≤◌, ◌+◌, ℕ, List, [], ◌∷◌, Bool, true, false, ◌&&◌, map, get_or, length, drop, add-one, drop-cons}
 use Rattle.std.proofs.Common.{drop_of_length-le, refl, Some, None}
 use Rattle.std.specs.Prelude.{if◌then◌else◌, codes, nat_lt}

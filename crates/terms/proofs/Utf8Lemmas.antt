@@ -1,4 +1,4 @@
--- Request texts, and reply texts of replies that can be kept, are UTF-8.
+-- Request texts, and texts of replies that can be kept, are UTF-8.
 use Rattle.std.proofs.Common.{◌≡◌, ℕ, zero, suc, ◌+◌, ◌+◌, ◌<◌, ◌≤◌, ◌/◌, ◌%◌, List, [], ◌∷◌, ◌++◌, Bool, true, false, map, refl, sym, subst, arith}
 use Rattle.std.specs.Prelude.{nat_lt, if◌then◌else◌, codes, IsUtf8, Some, None}
 use Rattle.std.specs.List.{list_all, join_with_byte}

@@ -1,4 +1,4 @@
--- Texts of words, taken apart: the words between spaces, and the number, the day and the mask that a word writes.
+-- Texts of words, taken apart: the words between spaces, and the number, day or mask that a word writes.
 use Rattle.std.proofs.Common.{◌≡◌, ℕ, zero, suc, ◌<◌, ◌≤◌, ◌^◌, List, [], ◌∷◌, ◌++◌, Bool, true, false, not, ◌&&◌, length, ap, refl, arith}
 use Rattle.std.proofs.Common.{map, eqb-true, Decides}
 use Rattle.std.specs.Prelude.{◌==◌, if◌then◌else◌}

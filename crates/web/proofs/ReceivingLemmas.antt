@@ -1,4 +1,4 @@
--- How an answer comes in.
+-- How an answer is read.
 use Rattle.std.proofs.Common.{◌≡◌, ◌≤◌, ℕ, List, ◌++◌, length, take, drop, map, ap, ◌∙◌, subst, append_assoc, Option, Some, None, Result, Ok, Err}
 use Rattle.std.specs.Prelude.{IfOk, IfSome, Vec, string_bytes}
 use Rattle.std.specs.Io.KnownBytes.{Consumes}
