@@ -1,4 +1,4 @@
-//! Requests compared, numbers of workers, and boards from their opening to their end.
+//! Comparing requests, worker numbers, and boards from opening to end.
 
 ghost use Rattle.std.specs.Prelude.{◌≡◌, ◌+◌, ◌++◌, [], ◌∷◌, IfOk, IfSome};
 ghost use Rattle.board.specs.Showing.{count_own};
@@ -16,7 +16,7 @@ use terms::{
 
 // ---- requests
 
-/// A request that can be shared, of a caller under a key.
+/// A shareable request of a caller, with a key.
 fn shared(
     alloc: Global,
     caller: Caller,
@@ -38,25 +38,25 @@ fn patron(alloc: Global, number: u32, card_key: &str) -> Result<Caller, Fail> {
     Ok(Caller::Patron(PatronId::new(number), card_key))
 }
 
-/// To renew a loan.
+/// Renews a loan.
 fn renewal(loan: u32) -> Command {
     Command::Renew {
         loan: LoanId::new(loan),
     }
 }
 
-/// The request with which the others are compared: patron 1 renews loan 5.
+/// The request that the others are compared with: patron 1 renews loan 5.
 fn own(alloc: Global) -> Result<SharedRequest, Fail> {
     let caller = patron(alloc, 1, "cardkey00001")?;
     shared(alloc, caller, "k1", renewal(5))
 }
 
-/// Whether each of two requests is the other.
+/// Whether each of two requests equals the other.
 fn are_same(one: &SharedRequest, other: &SharedRequest) -> bool {
     one.is_same(other) && other.is_same(one)
 }
 
-/// Whether neither of two requests is the other.
+/// Whether neither of two requests equals the other.
 fn are_apart(one: &SharedRequest, other: &SharedRequest) -> bool {
     !one.is_same(other) && !other.is_same(one)
 }
@@ -132,7 +132,7 @@ fn workers_are_numbered_from_1_to_8(rt: HostRuntime) -> Result<(), Fail> {
 
 // ---- a board
 
-/// A page of a patron who has this card key.
+/// A page of a patron with this card key.
 fn page(alloc: Global, card_key: &str, text: &str) -> Result<OwnPage, Fail> {
     let card_key = CardKey::new(alloc, card_key)?.ok_or("a card key")?;
     let page = Text::new(String::from_str(alloc, text)?);
@@ -162,14 +162,14 @@ fn open_board<J: Naming, R: Wait>(rt: &R, alloc: Global, blank: Blank) -> Result
     Ok(publisher)
 }
 
-/// Two windows, where the board has places for them.
+/// Two windows, if the board has places for them.
 fn windows<J: Naming>(publisher: &Publisher<J>) -> Option<(Window<J>, Window<J>)> {
     let one = publisher.window().ok()?;
     let two = publisher.window().ok()?;
     Some((one, two))
 }
 
-/// A page more, for the next entry; where that fails the board is ended.
+/// One more page, for the next entry; on failure the board is ended.
 fn put<J: Naming, R: Wait>(
     rt: &R,
     alloc: Global,
@@ -189,7 +189,7 @@ fn put<J: Naming, R: Wait>(
     }
 }
 
-/// An entry more; where that fails the board is ended.
+/// One more entry; on failure the board is ended.
 fn show<J: Naming, R: Wait>(
     rt: &R,
     alloc: Global,
@@ -209,14 +209,14 @@ fn show<J: Naming, R: Wait>(
     }
 }
 
-/// What a worker asked for, and the patron's page once it was handled.
+/// What a worker asked for, and the patron's page afterwards.
 #[derive(Drop)]
 struct Step {
     request: SharedRequest,
     page: OwnPage,
 }
 
-/// The first entry of all: hold 1, by worker 1 for patron 1.
+/// The very first entry: hold 1, by worker 1 for patron 1.
 fn show_one<J: Naming, R: Wait>(
     rt: &R,
     alloc: Global,
@@ -280,7 +280,7 @@ fn is_page(own: &OwnPage, card_key: &str, text: &str) -> bool {
     own.card_key.as_str() == card_key && shown == text
 }
 
-/// Whether a window shows a patron this text, under this card key.
+/// Whether a window shows a patron this text with this card key.
 fn shows<J: Naming>(window: &mut Window<J>, patron: u32, card_key: &str, text: &str) -> bool {
     match window.page(PatronId::new(patron)) {
         Ok(Some(own)) => is_page(&own, card_key, text),
@@ -296,7 +296,7 @@ fn shows_none<J: Naming>(window: &mut Window<J>, patron: u32) -> bool {
     }
 }
 
-/// A worker's submission: what a window is asked for.
+/// A worker's submission, as a window is asked for it.
 #[derive(Drop)]
 struct Asked {
     worker: WorkerId,
@@ -304,7 +304,7 @@ struct Asked {
     request: SharedRequest,
 }
 
-/// Whether an entry is of this submission, and has this hold as its reply.
+/// Whether an entry is of this submission, with this hold as its reply.
 fn is_entry(entry: &Entry, asked: &Asked, hold: u32) -> bool {
     let told = match &entry.reply {
         Reply::Held { hold: given } => given.number(),
@@ -332,7 +332,7 @@ fn tells_none<J: Naming>(window: &mut Window<J>, asked: &Asked) -> bool {
     }
 }
 
-/// Whether a window tells that the desk is gone, whatever is asked.
+/// Whether a window says that the desk is gone, whatever is asked.
 fn is_gone<J: Naming>(window: &mut Window<J>, asked: &Asked) -> bool {
     let is_page_gone = match window.page(PatronId::new(1)) {
         Err(unseen) => unseen == ReadError::Gone,
@@ -347,7 +347,7 @@ fn is_gone<J: Naming>(window: &mut Window<J>, asked: &Asked) -> bool {
 
 // ---- the walk
 
-/// The submission of a worker's patron, by their number: to have a title held.
+/// The submission of a worker's patron, by their number: to place a hold.
 fn ask(alloc: Global, worker: u64, number: u64, patron_number: u32) -> Result<Asked, Fail> {
     let worker = WorkerId::new(worker).ok_or("a worker")?;
     let request = hold(alloc, patron_number)?;
@@ -358,7 +358,7 @@ fn ask(alloc: Global, worker: u64, number: u64, patron_number: u32) -> Result<As
     })
 }
 
-/// The request of patron 1 or 2 for a hold, each under the key h1.
+/// Patron 1's or 2's request for a hold, each with the key h1.
 fn hold(alloc: Global, patron_number: u32) -> Result<SharedRequest, Fail> {
     let card_key = format!(in alloc; "cardkey0000{patron_number}")?;
     let caller = patron(alloc, patron_number, card_key.as_str())?;
@@ -379,8 +379,7 @@ struct AllAsked {
     others: [Asked; 3],
 }
 
-/// Each other submission differs from one that is handled in one thing: its number, its request or
-/// its worker.
+/// Each other submission differs from a handled one in just its number, its request or its worker.
 fn all_asked(alloc: Global) -> Result<AllAsked, Fail> {
     let one = ask(alloc, 1, 1, 1)?;
     let two = ask(alloc, 2, 1, 2)?;
@@ -404,7 +403,7 @@ fn tells_no_other<J: Naming>(window: &mut Window<J>, all: &AllAsked) -> bool {
     true
 }
 
-/// Whether a window shows the first pages, and nothing as handled.
+/// Whether a window shows the first pages, and nothing handled.
 fn is_as_opened<J: Naming>(window: &mut Window<J>, all: &AllAsked) -> bool {
     shows(window, 1, "cardkey00001", "page 1")
         && shows(window, 2, "cardkey00002", "page 2")
@@ -414,7 +413,7 @@ fn is_as_opened<J: Naming>(window: &mut Window<J>, all: &AllAsked) -> bool {
         && tells_no_other(window, all)
 }
 
-/// Whether a window shows the first entry alone, with its page.
+/// Whether a window shows only the first entry, with its page.
 fn is_after_one<J: Naming>(window: &mut Window<J>, all: &AllAsked) -> bool {
     shows(window, 1, "cardkey00001", "page 1 with hold 1")
         && shows(window, 2, "cardkey00002", "page 2")
@@ -424,7 +423,7 @@ fn is_after_one<J: Naming>(window: &mut Window<J>, all: &AllAsked) -> bool {
         && tells_no_other(window, all)
 }
 
-/// Whether a window shows the entry of the second worker too, and the first one's still.
+/// Whether a window shows the second worker's entry too, and still the first one's.
 fn is_after_two<J: Naming>(window: &mut Window<J>, all: &AllAsked) -> bool {
     shows(window, 1, "cardkey00001", "page 1 with hold 1")
         && shows(window, 2, "cardkey00002", "page 2 with hold 2")
@@ -451,8 +450,8 @@ fn steps(alloc: Global) -> Result<(Step, Step), Fail> {
     Ok((one, two))
 }
 
-/// Whether both windows show what they should: at first, after one entry, after two, and once the
-/// board is closed. None where no memory is left.
+/// Whether both windows show what they should: at first, after one entry, after two, and after the
+/// board is closed. None if memory ran out.
 fn walk<J: Naming, R: Wait>(
     rt: &R,
     alloc: Global,
@@ -475,7 +474,7 @@ fn walk<J: Naming, R: Wait>(
     Some([opened, shown, both, ended])
 }
 
-/// What two windows show of a board on which two entries are shown.
+/// What two windows show of a board with two entries.
 fn look_on<J: Naming, R: Wait>(rt: &R, alloc: Global, blank: Blank) -> Result<[bool; 4], Fail>
     requires { blank ≡ J.book }
 {
@@ -497,9 +496,8 @@ fn each_entry_is_shown_with_its_page(rt: HostRuntime) -> Result<(), Fail> {
     Ok(())
 }
 
-/// Whether a window shows what it should of a board that is stopped with a page to be shown: what
-/// it showed, until it is ended; and whether what two windows saw was shown. None where no memory
-/// is left.
+/// Whether a window shows what it should of a board stopped with a page waiting: what it showed,
+/// until it is ended; and whether what two windows saw was shown. None if memory ran out.
 fn walk_stopped<J: Naming, R: Wait>(
     rt: &R,
     alloc: Global,
@@ -518,7 +516,7 @@ fn walk_stopped<J: Naming, R: Wait>(
     Some([shown, none, is_gone(&mut one, &all.one)])
 }
 
-/// What windows show of a board that is stopped.
+/// What windows show of a stopped board.
 fn look_on_stopped<J: Naming, R: Wait>(
     rt: &R,
     alloc: Global,
@@ -548,7 +546,7 @@ fn a_stopped_board_shows_what_it_showed(rt: HostRuntime) -> Result<(), Fail> {
     Ok(())
 }
 
-/// Whether a board for two windows has a place for one more while there are two.
+/// Whether a board for two windows has a place for a third.
 fn has_third<J: Naming>(publisher: &Publisher<J>) -> bool {
     match windows(publisher) {
         Some((_one, _two)) => publisher.window().is_ok(),
@@ -556,7 +554,7 @@ fn has_third<J: Naming>(publisher: &Publisher<J>) -> bool {
     }
 }
 
-/// Whether a board for two windows has no third place, and has both again once they are left.
+/// Whether a board for two windows has no third place, and has both again after they leave.
 fn count_places<J: Naming, R: Wait>(rt: &R, alloc: Global, blank: Blank) -> Result<[bool; 2], Fail>
     requires { blank ≡ J.book }
 {

@@ -1,5 +1,5 @@
-//! Tests of the board, in a crate of their own, so that `board` is proved once: requests compared,
-//! and boards from their opening to their end.
+//! Tests of the board, in their own crate so that `board` is proved once: comparing requests, and
+//! boards from opening to end.
 #![tactic(auto)]
 
 #[cfg(test)]

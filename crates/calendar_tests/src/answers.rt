@@ -1,4 +1,4 @@
-//! The counted calls of `calendar`, with what they counted.
+//! The counted calls of `calendar`, with their counts.
 ghost use Rattle.std.specs.Prelude.{◌≡◌, ◌<◌};
 
 use calendar::{Calendar, Day, Steps};
@@ -25,13 +25,13 @@ fn find_in<L: Ledger>(calendar: &Calendar, day: Day, blank: Blank) -> (Option<Da
     (least, steps.taken())
 }
 
-/// How many days after `due`, up to `today`, are open, and at how many single closed days the call
-/// looked.
+/// The number of open days after `due`, up to `today`, and of single closed days that the call
+/// looked at.
 pub fn count_open_days(calendar: &Calendar, due: Day, today: Day) -> (u32, u64) {
     count_in::<Brand>(calendar, due, today, Blank::new(1))
 }
 
-/// The least open day from `day` on, and at how many single closed days the call looked.
+/// The least open day from `day` on, and how many single closed days the call looked at.
 pub fn find_open_day(calendar: &Calendar, day: Day) -> (Option<Day>, u64) {
     find_in::<Brand>(calendar, day, Blank::new(1))
 }

@@ -1,7 +1,7 @@
-//! The calls of `calendar` by a look at each day, to compare with.
+//! The calls of `calendar`, day by day, for comparison.
 use calendar::{Calendar, Day};
 
-/// How many days after `due`, up to `today`, are open.
+/// The number of open days after `due`, up to `today`.
 pub fn open_days_after(calendar: &Calendar, due: Day, today: Day) -> u32 {
     let mut count = 0u32;
     for number in due.number() + 1..today.number() + 1 {

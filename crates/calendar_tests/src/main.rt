@@ -1,13 +1,12 @@
-//! The program `calendar_tests`: counts open days, as each line of its input asks. It holds the
-//! tests of `calendar` too.
+//! The program `calendar_tests`: counts open days, as each line of its input asks. It also holds
+//! the tests of `calendar`.
 //!
-//! A line has four words, parted by single blanks: a letter for each weekday, Monday first, `c` for
-//! a closed one; the numbers of the single closed days, parted by commas, or `-` for none; the
-//! number of a due day; the number of a day. Of each line it writes how many days after the due
-//! day, up to the day, are open; the number of the least open day from the day on, or `none`; and
-//! at how many single closed days each of the two calls looked. With the argument `times` it
-//! writes, of the same two calls, the nanoseconds that each took, and that the same took day by
-//! day.
+//! A line has four words, separated by single blanks: a letter for each weekday, Monday first, `c`
+//! if closed; the numbers of the single closed days, separated by commas, or `-` for none; the
+//! number of a due day; the number of a day. For each line it writes the number of open days after
+//! the due day, up to the day; the number of the least open day from the day on, or `none`; and how
+//! many single closed days each of the two calls looked at. With the argument `times` it writes the
+//! nanoseconds that each of these calls took, and that the same took day by day.
 #![tactic(auto)]
 
 mod answers;
@@ -87,7 +86,7 @@ fn answer(rt: &HostRuntime, question: &Question) -> anyhow::Result<()> {
     Ok(())
 }
 
-/// Writes the nanoseconds of both calls and of their forms day by day.
+/// Writes the nanoseconds of both calls and of their day-by-day forms.
 fn measure(rt: &HostRuntime, question: &Question) -> anyhow::Result<()> {
     let Question { calendar, due, day } = question;
     let begin = Instant::now(rt)?;

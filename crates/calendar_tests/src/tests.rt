@@ -37,7 +37,7 @@ fn check_day(rt: &impl Abort, alloc: Global, number: u32, written: &str) -> Resu
     Ok(())
 }
 
-/// Goes through the months of a year, and returns the number that follows its last day.
+/// Walks through the months of a year, and returns the number after its last day.
 fn check_year(
     rt: &impl Abort,
     alloc: Global,
@@ -130,7 +130,7 @@ fn sundays(rt: &impl Abort) -> Weekdays {
     Weekdays::new(SUNDAYS).expect(rt, "open weekdays")
 }
 
-/// Monday is the first of the mask.
+/// Monday is first in the mask.
 #[test]
 fn weekdays_of_days(rt: HostRuntime) {
     let calendar = Calendar::new(rt.alloc(), sundays(&rt));
@@ -235,7 +235,7 @@ fn days_in_any_order(rt: HostRuntime) -> Result<(), Fail> {
     Ok(())
 }
 
-/// 2026-03-09 is a Monday, and of the 9,000 Sundays and more up to the end none is open.
+/// 2026-03-09 is a Monday, and none of the more than 9,000 Sundays to the end is open.
 #[test]
 fn counts_over_a_lifetime(rt: HostRuntime) {
     let calendar = Calendar::new(rt.alloc(), sundays(&rt));
@@ -245,7 +245,7 @@ fn counts_over_a_lifetime(rt: HostRuntime) {
     assert_eq!(rt; count_open_days(&calendar, due, today), (51_598, 0));
 }
 
-/// A branch that opens on Mondays alone is closed on 400 of them.
+/// A branch that opens only on Mondays is closed on 400 of them.
 #[test]
 fn finds_the_day_after_400_closed_ones(rt: HostRuntime) -> Result<(), Fail> {
     let mondays = Weekdays::new([false, true, true, true, true, true, true]).expect(
@@ -268,7 +268,7 @@ fn finds_the_day_after_400_closed_ones(rt: HostRuntime) -> Result<(), Fail> {
     Ok(())
 }
 
-/// From 2026-03-01 on, each pair of 92 days.
+/// Each pair of 92 days from 2026-03-01.
 fn check_pairs(rt: &impl Abort, calendar: &Calendar) {
     for due in 20513..20605 {
         let due = Day::new(due).expect(rt, "a day");
@@ -284,7 +284,7 @@ fn check_pairs(rt: &impl Abort, calendar: &Calendar) {
     }
 }
 
-/// The single days are none, some with the ends and a Sunday among them, and a whole month.
+/// The single days are none, some including the ends and a Sunday, and a whole month.
 #[test]
 fn every_pair_of_days_over_three_months(rt: HostRuntime) -> Result<(), Fail> {
     let mondays = Weekdays::new([false, true, true, true, true, true, true]).expect(

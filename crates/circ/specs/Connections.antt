@@ -21,11 +21,11 @@ module _ {C I O : Type 0} (comes : C → I → O → C → Type 0) (goes : C →
     pub served : Serves desk_key (remaining reader) before after (contents writer) (contents told) result
     pub ended : goes at told new
 
-  -- It was served, or none came.
+  -- It was served, or none could be accepted.
   abbrev pub ServesNext : C → C → Working → Working → Type 0
   ServesNext old new before after = ServesOne old new before after ⊎ ((new ≡ old) × (after ≡ before))
 
-  -- So many came, or failed to come, one after another.
+  -- So many came, or couldn't be accepted, one after another.
   abbrev pub ServesMany : ℕ → C → C → Working → Working → Type 0
   ServesMany zero old new before after = (new ≡ old) × (after ≡ before)
   ServesMany (suc n) old new before after =

@@ -1,6 +1,6 @@
-//! The calls under test, with no clauses, so that a test with many of them is proved fast. Each is
-//! generic over the database's store, and gives numbers in place of rows, so that what it is proved
-//! from stays small.
+//! The calls under test, without clauses, so that a test with many of them is proved fast. Each is
+//! generic over the database's store, and gives numbers instead of rows, so that its premises stay
+//! small.
 
 use calendar::Day;
 use circ_tables as tables;

@@ -1,4 +1,4 @@
-//! Tests of the tables: a crate of their own, so that `circ_tables` is proved once.
+//! Tests of the tables, in their own crate so that `circ_tables` is proved once.
 #![tactic(auto)]
 
 #[cfg(test)]

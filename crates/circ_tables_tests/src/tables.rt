@@ -1,7 +1,6 @@
-//! Selections and lists over a small library, by answers worked out by hand, and rows that were
-//! damaged past the calls. All other calls are those that the program makes, and are tested with
-//! it. What holds the connection has few ends, since each would let it go: the work is done by
-//! functions that borrow it.
+//! Selections and lists over a small library, with answers worked out by hand, and rows damaged
+//! behind the calls' back. All other calls are the program's, and are tested with it. The owner of
+//! the connection has few exits, since each would drop it: functions that borrow it do the work.
 
 use crate::calls::*;
 use calendar::Day;
@@ -14,8 +13,8 @@ use terms::{
     PatronId, PatronRow, TitleRow, TransitRow,
 };
 
-/// Rows of the tables that are asked, the greatest key first. Of the loans of copy 10 one is over,
-/// and two are open; of title 100's line the first hold's copy travels.
+/// Rows of the tables that are asked, highest key first. Of copy 10's loans one is over, and two
+/// are open; in title 100's line the first hold's copy travels.
 const ROWS: &str = "\
 INSERT INTO closed_days VALUES (3, 20795), (2, 20800), (1, 20810), (1, 20801), (1, 20795);\
 INSERT INTO copies VALUES (15, 100, 4, 1, 2500, 0), (14, 101, 4, 1, 2500, 0), (13, 102, 4, 1, 2500, 0), (12, 101, 4, 1, 2500, 0), (11, 100, 4, 1, 2500, 0), (10, 100, 4, 1, 2500, 2);\
@@ -43,7 +42,7 @@ fn begin<S: Alter>(conn: &mut Connection<S>) -> Result<Transaction<'_, S>, Fault
     }
 }
 
-/// Runs the texts that semicolons part.
+/// Runs the texts, which semicolons separate.
 fn write<S: Alter>(conn: &mut Connection<S>, texts: &str) -> Result<(), Fault> {
     for text in texts.split(';') {
         conn.execute(text, &[]).map_err(database)?;
@@ -159,7 +158,7 @@ fn finds_lists<S: Alter>(
     Ok(())
 }
 
-/// The keys of what is kept, by their lengths.
+/// The keys of what is kept, by length.
 fn finds_kept<S: Alter>(
     rt: &impl Abort,
     conn: &mut Connection<S>,
@@ -177,7 +176,7 @@ fn finds_kept<S: Alter>(
     Ok(())
 }
 
-/// A second transit for the hold of another is refused by the database.
+/// The database refuses a second transit for another's hold.
 fn refuses_a_second<S: Alter>(conn: &mut Connection<S>) -> Result<bool, Fault> {
     let second = TransitRow {
         copy: CopyId::new(17),
@@ -190,8 +189,8 @@ fn refuses_a_second<S: Alter>(conn: &mut Connection<S>) -> Result<bool, Fault> {
     Ok(is_refused)
 }
 
-/// The rows of the old tables are read inside a transaction, and one after another taken out; those
-/// of the new ones stay.
+/// The old tables' rows are read inside a transaction and taken out one by one; the new tables'
+/// rows stay.
 fn empties_the_old_tables<S: Alter>(
     rt: &impl Abort,
     conn: &mut Connection<S>,
@@ -275,8 +274,8 @@ fn finds_days<S: Alter>(
     Ok(())
 }
 
-/// Lines of titles. Of 103, hold 23 has no first day, but a copy travels for it, and 24 has none
-/// either; of 104 each hold has one; that of 105 is no longer waiting.
+/// Lines of titles. In 103, hold 23 has no first day, but a copy travels for it; 24 has none
+/// either. In 104 each hold has one; that of 105 no longer waits.
 const LINES: &str = "\
 INSERT INTO holds2 VALUES (25, 4, 103, 1, 0, NULL, NULL, 20790), (24, 4, 103, 1, 0, NULL, NULL, NULL), (23, 4, 103, 1, 0, NULL, NULL, NULL), (22, 4, 103, 1, 0, NULL, NULL, 20795), (21, 4, 103, 1, 0, NULL, NULL, 20800);\
 INSERT INTO holds2 VALUES (34, 4, 104, 1, 0, NULL, NULL, 20796), (33, 4, 104, 1, 0, NULL, NULL, 20795), (32, 4, 104, 1, 0, NULL, NULL, 20795), (31, 4, 104, 1, 0, NULL, NULL, 20800);\
@@ -300,7 +299,7 @@ fn finds_the_first<S: Alter>(rt: &impl Abort, conn: &mut Connection<S>) -> Resul
 }
 
 /// Copies of a title. Of those at home at branch 1, copy 19 travels, a hold names 20, 21 is on loan
-/// and 22 is missing; of 24, which has been lent, and 25 nothing is claimed.
+/// and 22 is missing; nothing claims 24, which has been lent, and 25.
 const SHELF: &str = "\
 INSERT INTO copies VALUES (25, 106, 4, 1, 2500, 0), (24, 106, 4, 1, 2500, 0), (23, 106, 4, 2, 2500, 0), (22, 106, 4, 1, 2500, 1), (21, 106, 4, 1, 2500, 0), (20, 106, 4, 1, 2500, 0), (19, 106, 4, 1, 2500, 0);\
 INSERT INTO loans3 VALUES (12, 24, 4, 1, 20700, 20708, 21, 3, 20, 1000, 20704, 0), (11, 21, 4, 1, 20700, 20708, 21, 3, 20, 1000, NULL, 0);\
@@ -315,7 +314,7 @@ fn finds_the_shelf<S: Alter>(rt: &impl Abort, conn: &mut Connection<S>) -> Resul
     Ok(())
 }
 
-/// Days past their limits: of a loan, of a ready hold, a closed day, and the grace days of a rule.
+/// Days past their limits: of a loan, a ready hold and a closed day; and the grace days of a rule.
 const DAMAGE: &str = "UPDATE loans3 SET due = 84006 WHERE loan = 2;\
 UPDATE holds2 SET limit_day = 84006 WHERE hold = 5;UPDATE closed_days SET day = 10956 WHERE branch = 2;\
 UPDATE rules3 SET grace = 366 WHERE kind = 1";
@@ -335,7 +334,7 @@ fn tells_damage<S: Alter>(
     Ok(())
 }
 
-/// All that is looked at, the damage last.
+/// All looks, the damage last.
 fn looks<S: Alter>(rt: &impl Abort, conn: &mut Connection<S>, alloc: Global) -> Result<(), Fail> {
     finds_loans(rt, conn, alloc)?;
     finds_holds(rt, conn, alloc)?;

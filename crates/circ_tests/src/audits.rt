@@ -1,4 +1,4 @@
-//! Audits of tables in memory: those of a desk, and such as no database would hold.
+//! Audits of tables in memory: a desk's, and some that no database would hold.
 
 use crate::calls::{audit, laws, tables_of};
 use circ::{Exit, WriteFault};
@@ -24,7 +24,7 @@ desk b7 pay 1 500 -> owed 2000
 desk b8 waive 1 1000 -> owed 1000
 desk b9 check-out 2 10 1 -> loan 2 due 2026-03-09";
 
-/// The audit of a store is this line, and the program ends so.
+/// A store's audit is this line, and the program ends so.
 fn tells<S: Alter>(
     rt: &impl Abort,
     alloc: Global,
@@ -37,7 +37,7 @@ fn tells<S: Alter>(
     Ok(())
 }
 
-/// The desk of the small library after more requests.
+/// The small library's desk after more requests.
 fn busy(alloc: Global) -> Result<Desk<MemStore>, Fail> {
     let mut desk = ground(alloc)?;
     check(alloc, &mut desk, BUSY)?;

@@ -1,5 +1,5 @@
-//! The calls under test, with no clauses: so a test with many of them is proved fast. Each is
-//! generic over the database's store, so that what it is proved from stays small.
+//! The calls under test, without clauses, so that a test with many of them is proved fast. Each is
+//! generic over the database's store, so that its premises stay small.
 
 use circ::{Connections, Exit, Report, WriteFault};
 use circ_audit::Finding;
@@ -13,7 +13,7 @@ use std::sync::Wait;
 use store::Store;
 use terms::{CardKey, Fault, Key, Tables};
 
-/// Has one request by words handled, and its line written.
+/// Handles one request given as words, and writes its line.
 pub fn one<S: Alter, W: Write>(
     desk: &mut Desk<S>,
     alloc: Global,
@@ -24,7 +24,7 @@ pub fn one<S: Alter, W: Write>(
     circ::one(desk, alloc, key, words, writer)
 }
 
-/// Has a report written.
+/// Writes a report.
 pub fn report<S: Alter, W: Write>(
     desk: &mut Desk<S>,
     alloc: Global,
@@ -34,7 +34,7 @@ pub fn report<S: Alter, W: Write>(
     circ::report(desk, alloc, wanted, writer)
 }
 
-/// Has a library audited, and the line written.
+/// Audits a library, and writes the line.
 pub fn audit<S: Alter, W: Write>(
     store: &mut Store<S>,
     alloc: Global,
@@ -53,7 +53,7 @@ pub fn laws(tables: &Tables) -> Result<(), Finding> {
     circ_audit::audit(tables)
 }
 
-/// Has a copies file taken in, and its lines written.
+/// Imports a copies file, and writes its lines.
 pub fn import<S: Alter, R: Read + Drop, W: Write>(
     desk: &mut Desk<S>,
     alloc: Global,
@@ -63,13 +63,13 @@ pub fn import<S: Alter, R: Read + Drop, W: Write>(
     circ::import(desk, alloc, reader, writer)
 }
 
-/// Reads a copies file: how many rows it has, and how the reading ended.
+/// Reads a copies file: its number of rows, and how the reading ended.
 pub fn copies<R: Read + Drop>(alloc: Global, reader: R) -> (usize, CopyEnd) {
     let (rows, end) = read_copies(alloc, reader);
     (rows.len(), end)
 }
 
-/// Has a worker serve so many connections, and leave.
+/// A worker serves this many connections, and leaves.
 pub fn serve_many<J: Opening, C: Connections, R: Wait>(
     rt: &R,
     alloc: Global,

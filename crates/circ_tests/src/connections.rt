@@ -1,4 +1,4 @@
-//! The loop of a worker, over connections that stand in a list.
+//! A worker's loop, over connections from a list.
 
 ghost use Rattle.std.specs.Prelude.{◌≡◌, []};
 ghost use Rattle.store.specs.Library.{over_memory};
@@ -17,7 +17,7 @@ use std::test::Fail;
 use terms::{CardKey, ServiceFault};
 use test_bytes::{Drip, Narrow};
 
-/// What each connection sends, and how its answer begins. Nothing of it is submitted, since nobody
+/// What each connection sends, and how its answer begins. None of it is submitted, since nobody
 /// would handle it.
 const SENT: [(&str, &str); 5] = [
     ("GET /patrons/1 HT", "HTTP/1.1 400 "),
@@ -36,11 +36,11 @@ const SENT: [(&str, &str); 5] = [
     ),
 ];
 
-/// Connections of a list, after which none can be had, and what went out to those that were ended.
+/// A list's connections, after which there are none, and what went out to those that ended.
 #[derive(Drop)]
 struct List {
     place: usize,
-    /// How many bytes of an answer go out, before its connection breaks.
+    /// How many bytes of an answer go out before its connection breaks.
     room: usize,
     ended: Vec<(Vec<u8>, bool)>,
 }
@@ -71,7 +71,7 @@ impl Connections for List {
     }
 }
 
-/// How many of the connections that were ended got the answer that is due, whole.
+/// How many ended connections got the right answer, whole.
 fn count_right(list: &List) -> usize {
     let mut count: usize = 0;
     for (place, (answer, is_answered)) in list.ended.iter().enumerate() {
@@ -120,9 +120,9 @@ fn end_hall<J: Opening, R: Wait>(
     (is_told && !heard.is_closed, handled)
 }
 
-/// One worker serves the connections of the list, of which so many are had and so many bytes of
-/// each answer go out: how many were ended, how many were answered whole, and as it is due; the
-/// desk was told that the worker left, and had nothing to handle.
+/// One worker serves this many of the list's connections, and this many bytes of each answer go
+/// out: how many were ended, answered whole, and answered right; the desk was told that the worker
+/// left, and had nothing to handle.
 fn serve_list<J: Opening, R: Wait + Abort>(
     rt: &R,
     alloc: Global,
@@ -151,8 +151,8 @@ fn serve_list<J: Opening, R: Wait + Abort>(
     Ok((list.ended.len(), count_right(&list)))
 }
 
-/// So many connections are served as are asked for, each is answered as it is due, and one that
-/// can't be had counts; where nothing goes out whole nothing is told as answered.
+/// As many connections are served as are asked for; each is answered right, and one that can't be
+/// accepted counts; if nothing goes out whole nothing counts as answered.
 #[test]
 fn a_worker_serves_a_list(rt: HostRuntime) -> Result<(), Fail> {
     let alloc = rt.alloc();

@@ -1,5 +1,4 @@
-//! Copies files as readers bring them: rows that aren't good, a row too many, and reads that fail
-//! at each byte.
+//! Copies files as readers bring them: bad rows, a row too many, and reads that fail at each byte.
 
 use crate::calls::{copies, import};
 use crate::cut_lines::BEES;
@@ -16,8 +15,7 @@ use test_library::{counts, ground, store_of};
 /// A header and a good row.
 const BEGUN: &str = "copy,title,text,kind,home,price,end\n50,500,Maps,1,1,1500,end\n";
 
-/// Rows that aren't good: a field too few, a number with a zero before it, another closing word,
-/// and no title.
+/// Bad rows: a field too few, a number with a leading zero, another closing word, and no title.
 const BAD: [&str; 4] = [
     "51,500,Maps,1,1500,end\n",
     "062,500,Maps,1,1,1500,end\n",
@@ -30,9 +28,9 @@ fn ended_lines(bytes: &[u8]) -> usize {
     bytes.iter().filter(|byte| **byte == b'\n').count()
 }
 
-/// How a file whose second row is bad is read where the reader fails after some of its bytes: its
-/// first row is there once its line has ended, and the end is told once the bad line has ended, if
-/// a line's end ends it at all.
+/// Reads a file whose second row is bad, with a reader that fails after some of its bytes: the
+/// first row is there once its line has ended, and the end is reported once the bad line has ended,
+/// if a line's end ends it at all.
 fn breaks(rt: &impl Abort, alloc: Global, bytes: &[u8], lines: usize) {
     for size in 0..bytes.len() + 1 {
         let front = &bytes[..size];
@@ -48,7 +46,7 @@ fn breaks(rt: &impl Abort, alloc: Global, bytes: &[u8], lines: usize) {
     }
 }
 
-/// A bad row after a good one ends the reading, also where good rows follow it.
+/// A bad row after a good one ends the reading, even if good rows follow.
 fn is_bad(rt: &impl Abort, alloc: Global, row: &[u8], lines: usize) -> Result<(), Fail> {
     let mut bytes: Vec<u8> = Vec::new(alloc);
     bytes.extend_from_slice(BEGUN.as_bytes())?;
@@ -69,14 +67,14 @@ fn bad_rows_end_a_file(rt: HostRuntime) -> Result<(), Fail> {
         is_bad(&rt, alloc, row.as_bytes(), 3)?;
     }
     is_bad(&rt, alloc, b"51,501,M\xe4rz,1,1,1500,end\n", 3)?;
-    // a quote that is never closed goes on over lines, so no line ends that row
+    // an unclosed quote spans lines, so no line ends that row
     is_bad(&rt, alloc, b"51,501,\"Maps,1,1,1500,end\n", 4)
 }
 
 /// A good row.
 const GOOD: &[u8] = b"50,500,Maps,1,1,1500,end\n";
 
-/// A file of so many good rows.
+/// A file of this many good rows.
 fn rows_of(alloc: Global, count: u32) -> Result<Vec<u8>, Fail> {
     let mut bytes: Vec<u8> = Vec::new(alloc);
     bytes.extend_from_slice(b"copy,title,text,kind,home,price,end\n")?;
@@ -98,7 +96,7 @@ fn a_file_has_100_000_rows(rt: HostRuntime) -> Result<(), Fail> {
     Ok(())
 }
 
-/// A reader that fails within row 100,001, or before it, tells that it failed after 100,000 rows;
+/// A reader that fails within row 100,001, or before it, says that it failed after 100,000 rows;
 /// once that row's line has ended, it is a row too many.
 #[test]
 fn a_read_that_fails_in_row_100_001(rt: HostRuntime) -> Result<(), Fail> {
@@ -118,7 +116,7 @@ fn a_read_that_fails_in_row_100_001(rt: HostRuntime) -> Result<(), Fail> {
     Ok(())
 }
 
-/// The rows that a reader gave before it failed are taken in, and told.
+/// The rows that a reader gave before it failed are imported and reported.
 fn tells_rows<S: Alter>(
     rt: &impl Abort,
     alloc: Global,
@@ -149,7 +147,7 @@ fn a_read_that_fails_ends_a_file(rt: HostRuntime) -> Result<(), Fail> {
     Ok(())
 }
 
-/// What the small library has once a copies file was taken in.
+/// The small library's contents after a copies file was imported.
 fn counts_with_rows(alloc: Global, mut desk: Desk<MemStore>) -> Result<[usize; 14], Fail> {
     let mut told: Vec<u8> = Vec::new(alloc);
     import(&mut desk, alloc, BEES.as_bytes(), &mut told)?;

@@ -1,4 +1,4 @@
-//! Writers that take some bytes and then fail, and a reader that fails.
+//! Writers that take some bytes and then fail, and a failing reader.
 
 use crate::calls::{import, one, report};
 use circ::{Exit, Report, WriteFault, out_of_memory, unreadable};
@@ -28,7 +28,7 @@ fn was_cut(
     assert!(rt; is_beginning && writer.taken().len() == room, "at {text}");
 }
 
-/// The line that answers the words is cut after so many bytes.
+/// The line that answers the words is cut after this many bytes.
 fn cut<S: Alter>(
     rt: &impl Abort,
     alloc: Global,
@@ -43,14 +43,14 @@ fn cut<S: Alter>(
     Ok(())
 }
 
-/// The desk opened again, and how many rows a text counts.
+/// The desk opened again, and the number of rows a text counts.
 fn counted(desk: Desk<MemStore>, text: &str) -> Result<(Desk<MemStore>, u32), Fail> {
     let mut conn = connection(desk);
     let count = conn.query_row(text, &[])?.get(0)?;
     Ok((opened(conn)?, count))
 }
 
-/// A check-out whose line is cut is done once, also where it is sent again.
+/// A check-out whose line is cut is done once, even if it is sent again.
 fn lends(rt: &impl Abort, alloc: Global, line: &str, room: usize) -> Result<(), Fail> {
     let mut desk = ground(alloc)?;
     cut(rt, alloc, &mut desk, ("check-out 1 10 1", line), room)?;
@@ -78,7 +78,7 @@ check-out 1 99 -> words not understood
 page 1 -> patron 1 owed 0 name Ann Bell
 begin-day 2026-03-03 -> ok";
 
-/// A line is cut at each of its bytes; the last cut is before its end.
+/// A line is cut at each byte; the last cut is before its end.
 fn cuts_line<S: Alter>(
     rt: &impl Abort,
     alloc: Global,
@@ -92,7 +92,7 @@ fn cuts_line<S: Alter>(
     Ok(())
 }
 
-/// Each line is cut at each of its bytes.
+/// Each line is cut at each byte.
 fn cuts<S: Alter>(rt: &impl Abort, alloc: Global, desk: &mut Desk<S>) -> Result<(), Fail> {
     for row in LINES.split('\n') {
         cuts_line(rt, alloc, desk, row)?;
@@ -106,7 +106,7 @@ fn cuts_each_kind_of_line(rt: HostRuntime) -> Result<(), Fail> {
     cuts(&rt, rt.alloc(), &mut desk)
 }
 
-/// A report is cut at each of its bytes.
+/// A report is cut at each byte.
 fn cuts_report<S: Alter>(
     rt: &impl Abort,
     alloc: Global,
@@ -138,7 +138,7 @@ fn cuts_reports(rt: HostRuntime) -> Result<(), Fail> {
     Ok(())
 }
 
-/// A report after some requests is cut at each of its bytes, and the tables stay as they are.
+/// A report after some requests is cut at each byte, and the tables stay the same.
 fn cuts_report_after(
     rt: &impl Abort,
     alloc: Global,
@@ -159,7 +159,7 @@ fn cuts_report_after(
     Ok(())
 }
 
-/// Of a branch and a day: an overdue loan, a fine, and a ready hold.
+/// For a branch and a day: an overdue loan, a fine, and a ready hold.
 #[test]
 fn cuts_reports_of_rows(rt: HostRuntime) -> Result<(), Fail> {
     let (main, day) = (BranchId::new(1), Day::read("2026-03-17").ok_or("a day")?);
@@ -186,7 +186,7 @@ fn cuts_reports_of_rows(rt: HostRuntime) -> Result<(), Fail> {
     )
 }
 
-/// The lines of a copies file are cut after so many bytes; so many copies are there then.
+/// A copies file's lines are cut after this many bytes; then this many copies are there.
 fn cuts_rows(rt: &impl Abort, alloc: Global, room: usize, copies: u32) -> Result<(), Fail> {
     let lines = "row 1 ok\nrow 2 ok\nrow 3 ok\naccepted 3 refused 0\n";
     let mut desk = ground(alloc)?;
@@ -206,8 +206,7 @@ fn cuts_the_lines_of_rows(rt: HostRuntime) -> Result<(), Fail> {
     Ok(())
 }
 
-/// What is told of a reader that fails, of a file that can't be opened, and where there is no
-/// memory.
+/// What is reported for a reader that fails, a file that can't be opened, and no memory.
 fn tells<S: Alter>(desk: &mut Desk<S>, alloc: Global, bytes: &mut Vec<u8>) -> Result<bool, Fail> {
     let reader = Drip::failing(BEES.as_bytes());
     let ends = (import(desk, alloc, reader, bytes)?, unreadable(bytes)?);

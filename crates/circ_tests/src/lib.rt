@@ -1,7 +1,6 @@
-//! Tests of the lines, reports, audits and copies files of `circ` that the program on files cannot
-//! show, in a crate of their own, so that the crates below are proved once: readers and writers
-//! that fail, rows that aren't good, limits on steps, audits of any rows, and a worker's loop over
-//! connections in memory.
+//! Tests of `circ`'s lines, reports, audits and copies files that the program on files cannot show,
+//! in their own crate so that the crates below are proved once: failing readers and writers, bad
+//! rows, limits on steps, audits of any rows, and a worker's loop over connections in memory.
 #![tactic(auto)]
 
 #[cfg(test)]

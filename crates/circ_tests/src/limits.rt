@@ -1,5 +1,4 @@
-//! Limits on the steps of the database, over memory: what a copies file and a report tell of the
-//! fault.
+//! Limits on the database's steps, in memory: how a copies file and a report tell the fault.
 
 use crate::calls::{import, report};
 use circ::{Exit, Report};
@@ -24,7 +23,7 @@ fn a_fault_ends_a_copies_file(rt: HostRuntime) -> Result<(), Fail> {
     Ok(())
 }
 
-/// The report under a limit on the steps: how it ended, and its bytes.
+/// The report with limited steps: how it ended, and its bytes.
 fn limited_report(
     alloc: Global,
     desk: &mut Desk<MemStore>,
@@ -36,15 +35,14 @@ fn limited_report(
     Ok((ended, bytes))
 }
 
-/// The bytes are a beginning of the report and then the line of the fault. How long the beginning
-/// is.
+/// The bytes are a beginning of the report, then the fault's line. Returns the beginning's length.
 fn is_cut(rt: &impl Abort, bytes: &[u8], limit: u64) -> usize {
     let front = bytes.strip_suffix(b"fault 91\n").unwrap_or(b"?");
     assert!(rt; LATE.as_bytes().starts_with(front), "at {limit}");
     front.len()
 }
 
-/// Two loans that are overdue, and the report of them.
+/// Two overdue loans, and their report.
 const LATE: &str = "      loan  patron    copy due         late title
          1       1      10 2026-03-09     7 Rivers of the North
          2       2      11 2026-03-09     7 Rivers of the North

@@ -1,5 +1,5 @@
-//! The calls under test, with no clauses: so a test with many of them is proved fast. Each is
-//! generic over the database's store, so that what it is proved from stays small.
+//! The calls under test, without clauses, so that a test with many of them is proved fast. Each is
+//! generic over the database's store, so that its premises stay small.
 
 use desk::Desk;
 use sqlite::{Alter, Connection, FileStore, Options};
@@ -8,7 +8,7 @@ use std::alloc::Global;
 use store::Store;
 use terms::{CardKey, Fault, PatronId, Reply};
 
-/// What a patron is shown who shows a card key.
+/// What a patron who shows a card key is shown.
 pub fn page<S: Alter>(
     desk: &mut Desk<S>,
     alloc: Global,
@@ -28,7 +28,7 @@ pub fn connection_of<S: Alter>(store: Store<S>) -> Connection<S> {
     store.into_connection()
 }
 
-/// The store over two files that lost what was not synced.
+/// The store over two files that lost what wasn't synced.
 pub fn restart<D: Crash + Drop>(
     store: Store<FileStore<D>>,
     alloc: Global,
@@ -37,12 +37,12 @@ pub fn restart<D: Crash + Drop>(
     store.restart(alloc, options)
 }
 
-/// Leads a library to the newest schema.
+/// Migrates a library to the newest schema.
 pub fn migrate<S: Alter>(store: &mut Store<S>, alloc: Global) -> Result<(), Fault> {
     store.migrate(alloc)
 }
 
-/// Sets how many steps each later call of the database may take.
+/// Limits the steps of each later database call.
 pub fn limit_steps<S: Alter>(store: &mut Store<S>, limit: Option<u64>) {
     store.limit_steps(limit);
 }

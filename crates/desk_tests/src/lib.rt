@@ -1,6 +1,6 @@
-//! Tests of the desk that the program on files cannot show, in a crate of their own, so that the
-//! crates below are proved once: lists of requests, callers that are patrons, all rows, limits on
-//! steps, stops, and migrations.
+//! Tests of the desk that the program on files cannot show, in their own crate so that the crates
+//! below are proved once: lists of requests, patrons as callers, all rows, limits on steps, stops,
+//! and migrations.
 #![tactic(auto)]
 
 #[cfg(test)]

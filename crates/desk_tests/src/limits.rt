@@ -1,5 +1,5 @@
-//! Limits on the steps of the database, over memory: one request is refused, and what follows is
-//! answered as ever.
+//! Limits on the database's steps, in memory: one request is refused, and the next are answered as
+//! usual.
 
 use desk::Desk;
 use sqlite::MemStore;
@@ -9,7 +9,7 @@ use std::test::Fail;
 use terms::Fault;
 use test_library::{SCRIPTS, asked, check, connection, ground, handle, opened, rows};
 
-/// Loans and holds that a check-out has to count: patron 1 is the first in line for title 100.
+/// Loans and holds that a check-out has to count: patron 1 is first in line for title 100.
 const BUSY: &str = "desk b1 check-out 1 30 1 -> loan 1 due 2026-03-14
 desk b2 check-out 1 20 2 -> loan 2 due 2026-03-10
 desk b3 place-hold 1 100 1 -> hold 1
@@ -18,7 +18,7 @@ desk b4 place-hold 2 100 1 -> hold 2";
 /// The check-out after them.
 const LENDING: &str = "desk k1 check-out 1 10 1 -> loan 3 due 2026-03-09";
 
-/// All rows, with no limit on the steps, and the desk over them.
+/// All rows, without a limit on steps, and the desk over them.
 pub fn shown(alloc: Global, mut desk: Desk<MemStore>) -> Result<(Desk<MemStore>, String), Fail> {
     desk.limit_steps(None);
     let mut conn = connection(desk);
@@ -26,7 +26,7 @@ pub fn shown(alloc: Global, mut desk: Desk<MemStore>) -> Result<(Desk<MemStore>,
     Ok((opened(conn)?, text))
 }
 
-/// The fault of a request under a limit, and the desk and its rows after it.
+/// The fault of a request with limited steps, and the desk and its rows afterwards.
 fn limited(
     alloc: Global,
     mut desk: Desk<MemStore>,
@@ -66,8 +66,8 @@ fn a_limit_on_steps_refuses_and_changes_nothing(rt: HostRuntime) -> Result<(), F
     Ok(())
 }
 
-/// One request under a limit: where it meets a fault, that is the database's, and no row is
-/// changed. The desk with no limit, and whether there was one.
+/// One request under a limit: if it meets a fault, it is the database's, and no row is changed.
+/// Returns the desk without a limit, and whether there was a fault.
 fn is_stopped(
     rt: &impl Abort,
     alloc: Global,
@@ -85,8 +85,8 @@ fn is_stopped(
     Ok((desk, true))
 }
 
-/// A script on a new library, of which one request is asked under a limit first: every answer and
-/// all rows are those without it. Whether that request met a fault.
+/// A script on a new library, one request of which is first asked under a limit: every answer and
+/// all rows are those without it. Returns whether that request met a fault.
 fn is_stopped_once(
     rt: &impl Abort,
     alloc: Global,
@@ -124,7 +124,7 @@ fn stops(
     Err("a limit under which the request is answered".into())
 }
 
-/// Each request of a script: none is answered in one step of the database.
+/// Each request of a script: none is answered in one database step.
 fn withstands_limits(rt: &impl Abort, alloc: Global, script: &str) -> Result<(), Fail> {
     let mut desk = ground(alloc)?;
     check(alloc, &mut desk, script)?;

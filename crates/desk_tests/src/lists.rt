@@ -10,9 +10,8 @@ use std::test::Fail;
 use terms::{CardKey, Fault, PatronId};
 use test_library::{check, connection, counts, ground, open, opened, runs, store_of};
 
-/// What patrons ask for once copy 10 is lent to patron 1, and copies 20 and 30 are on the shelf; and
-/// the questions of the desk, which no patron is answered. They pass over keys that were used, and
-/// keep none.
+/// What patrons ask for once copy 10 is lent to patron 1, and copies 20 and 30 are on the shelf;
+/// and the desk's questions, which no patron is answered. They ignore used keys, and keep none.
 const ASKED: &str = "desk a1 check-out 1 10 1 -> loan 1 due 2026-03-09
 1/cardkey00001 m1 check-out 1 20 2 -> refused 81
 1/cardkey00002 m1 check-out 1 20 2 -> refused 81
@@ -104,7 +103,7 @@ fn serves_patrons_their_own(rt: HostRuntime) -> Result<(), Fail> {
     Ok(())
 }
 
-/// Requests of which the third finds a damaged row.
+/// Requests, the third of which finds a damaged row.
 const ENDED: &str = "desk a1 check-out 1 10 1 -> loan 1 due 2026-03-09
 desk a2 check-out 9 11 1 -> refused 11
 desk a3 check-out 2 11 1 -> none
@@ -125,7 +124,7 @@ fn a_list_ends_at_a_fault_after_the_replies_before_it(rt: HostRuntime) -> Result
     Ok(())
 }
 
-/// An empty database with a transaction under way.
+/// An empty database inside a transaction.
 fn begun(alloc: Global) -> Result<Connection<MemStore>, Fail> {
     let mut conn = Connection::open_in_memory(alloc)?;
     conn.execute("BEGIN", &[])?;

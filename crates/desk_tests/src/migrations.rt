@@ -1,7 +1,7 @@
-//! Migrations of a library of an older schema that are stopped: a fuse in one of its two files
-//! blows at each call in turn, and what was not synced is lost, or not; or the database may take
-//! only so many steps. The tables are then the old ones, or those that a whole step leaves, and the
-//! migration is made afterwards.
+//! Migrations of an older library that are stopped: a fuse in one of its two files blows at each
+//! call in turn, and what wasn't synced is lost, or not; or the database's steps are limited. The
+//! tables are then the old ones, or those that a whole step leaves, and the migration is completed
+//! afterwards.
 
 use crate::calls::{connection_of, limit_steps, migrate};
 use sqlite::{Alter, Connection, Files};
@@ -16,8 +16,8 @@ use test_library::{
     rows_of,
 };
 
-/// An older library: its schema, what makes it of the small one of the newest schema, and the first
-/// day of its first hold.
+/// An older library: its schema, the texts that make it from the small one of the newest schema,
+/// and its first hold's first day.
 #[derive(Clone, Copy)]
 struct Older {
     schema: u32,
@@ -25,8 +25,8 @@ struct Older {
     first_day: &'static str,
 }
 
-/// What a library has before schema 3: three indexes and two tables less, two rules, a loan that is
-/// open and one that ended.
+/// What a library has before schema 3: three indexes and two tables fewer, two rules, an open loan
+/// and an ended one.
 const BEFORE_3: &str = "DROP INDEX copies_title;DROP INDEX lines_patron;DROP INDEX holds2_state;\
 DROP TABLE rules3;DROP TABLE loans3;\
 INSERT INTO rules VALUES (1, 1, 6, 1, 20, 100), (1, 2, 12, 1, 20, 100);\
@@ -40,7 +40,7 @@ INSERT INTO holds VALUES (1, 1, 100, 1, 0, NULL, NULL), (2, 2, 100, 2, 1, 10, 20
     first_day: "none",
 };
 
-/// The same of schema 2, of which the first hold has a first day.
+/// The same in schema 2, with a first day for the first hold.
 const SECOND: Older = Older {
     schema: 2,
     texts: "UPDATE meta SET schema = 2, next_loan = 3, next_hold = 6;\
@@ -88,7 +88,7 @@ fn changed_rows(alloc: Global, schema: u32, first_day: &str) -> Result<String, F
 /// The other tables.
 const OTHERS: &str = "branches closed_days kinds patrons titles copies transits lines kept";
 
-/// The schema of a library, the rows that a migration changes, and all others.
+/// A library's schema, the rows that a migration changes, and all others.
 #[derive(Drop)]
 struct Found {
     schema: u32,
@@ -96,7 +96,7 @@ struct Found {
     others: String,
 }
 
-/// An older library in the place of one of the newest schema.
+/// Makes an older library of one of the newest schema.
 fn made_older<S: Alter>(conn: &mut Connection<S>, library: Older) -> Result<(), Fail> {
     for texts in [BEFORE_3, library.texts] {
         for text in texts.split(';') {
@@ -125,7 +125,7 @@ fn look<S: Alter>(alloc: Global, conn: &mut Connection<S>) -> Result<Found, Fail
     })
 }
 
-/// A migration is told as done, or as refused by the database.
+/// Whether a migration was done, or refused by the database.
 fn told<S: Alter>(rt: &impl Abort, alloc: Global, store: &mut Store<S>) -> bool {
     match migrate(store, alloc) {
         Ok(()) => true,
@@ -136,7 +136,7 @@ fn told<S: Alter>(rt: &impl Abort, alloc: Global, store: &mut Store<S>) -> bool 
     }
 }
 
-/// The rows are those of a schema from the library's own on, and all others are as they were.
+/// The rows are those of the library's schema or a later one, and all others are unchanged.
 fn are_whole(
     rt: &impl Abort,
     alloc: Global,
@@ -155,8 +155,8 @@ fn are_whole(
     Ok(())
 }
 
-/// The rows are whole, and the newest where the migration was told as done; else it is made, and
-/// then they are. The schema that was found.
+/// The rows are whole, and the newest if the migration was reported done; otherwise it is made, and
+/// then they are. Returns the schema found.
 fn judge<S: Alter + Drop>(
     rt: &impl Abort,
     alloc: Global,
@@ -178,7 +178,7 @@ fn judge<S: Alter + Drop>(
     Ok(found.schema)
 }
 
-/// The migration over two files: whether it was told as done, and the files as they were written.
+/// The migration over two files: whether it was reported done, and the files as written.
 fn migrated_in<D: Disk + Drop>(
     rt: &impl Abort,
     alloc: Global,
@@ -198,7 +198,7 @@ struct Hits {
 }
 
 impl Hits {
-    /// One more that left this schema.
+    /// Counts one more that left this schema.
     fn and(self, schema: u32) -> Hits {
         match schema {
             1 => Hits {
@@ -217,8 +217,8 @@ impl Hits {
     }
 }
 
-/// One stop, after which each of the files may lose what was not synced; whether the migration was
-/// told as done.
+/// One stop, after which each file may lose what wasn't synced; returns whether the migration was
+/// reported done.
 fn one_stop(
     rt: &impl Abort,
     alloc: Global,
@@ -233,7 +233,7 @@ fn one_stop(
     Ok(is_done)
 }
 
-/// The fuse blows at each call of the migration in turn, until it is told as done.
+/// The fuse blows at each call of the migration in turn, until it is reported done.
 fn stops(rt: &impl Abort, alloc: Global, library: Older, is_log: bool) -> Result<Hits, Fail> {
     let base = older_files(alloc, library)?;
     let copy = fused(alloc, &base, (is_log, u64::MAX))?;
@@ -299,9 +299,9 @@ fn a_stop_at_each_call_of_the_database_leaves_whole_steps(rt: HostRuntime) -> Re
     Ok(())
 }
 
-/// The migration under each limit on steps, from 1 up to the first under which it is made: until
-/// then the rows are those of a whole step, or the old ones. How often it left the schema that the
-/// library had.
+/// The migration under each limit on steps, from 1 up to the first under which it is done: until
+/// then the rows are the old ones or those of a whole step. Returns how often it left the library's
+/// old schema.
 fn limits(rt: &impl Abort, alloc: Global, library: Older) -> Result<u64, Fail> {
     let mut conn = connection(ground(alloc)?);
     made_older(&mut conn, library)?;

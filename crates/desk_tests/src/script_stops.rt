@@ -1,5 +1,5 @@
-//! Stops of scripts: a fuse in one of the two files of a library blows at each call in turn, and
-//! what was not synced is lost, or not.
+//! Stops of scripts: a fuse in one of a library's two files blows at each call in turn, and what
+//! wasn't synced is lost, or not.
 
 use crate::calls::connection_of;
 use crate::limits::shown;
@@ -15,7 +15,7 @@ use test_library::{
     filled, fused, ground, into_files, left, open_files, opened, options, rows, runs, store_of,
 };
 
-/// The rows of the small library before a script and after each of its requests, over memory.
+/// The rows of the small library before a script and after each request, in memory.
 fn pictures(alloc: Global, script: &str) -> Result<Vec<String>, Fail> {
     let mut all = Vec::new(alloc);
     let (mut desk, first) = shown(alloc, ground(alloc)?)?;
@@ -29,8 +29,8 @@ fn pictures(alloc: Global, script: &str) -> Result<Vec<String>, Fail> {
     Ok(all)
 }
 
-/// A script: how many of its requests were answered before the database told a fault, and the store
-/// as it is left.
+/// A script: how many requests were answered before the database's fault, and the store as it is
+/// left.
 fn stopped<S: Alter + Drop>(
     rt: &impl Abort,
     alloc: Global,
@@ -49,8 +49,7 @@ fn stopped<S: Alter + Drop>(
     Ok((answered, store_of(desk)))
 }
 
-/// A script over two files: how many of its requests were answered, and the files as they were
-/// written.
+/// A script over two files: how many requests were answered, and the files as written.
 fn stopped_in<D: Disk + Drop>(
     rt: &impl Abort,
     alloc: Global,
@@ -61,8 +60,8 @@ fn stopped_in<D: Disk + Drop>(
     Ok((answered, into_files(store)))
 }
 
-/// The requests of a script from the first that had no answer on are asked again, under the same
-/// keys: they are answered as ever, and the rows are then these.
+/// The script's requests from the first unanswered one on are asked again, with the same keys: they
+/// are answered as usual, and the rows are then these.
 fn finished<S: Alter + Drop>(
     rt: &impl Abort,
     alloc: Global,
@@ -81,8 +80,8 @@ fn finished<S: Alter + Drop>(
     Ok(())
 }
 
-/// After a stop the rows are those of what was accepted, or of that and the request in work; the
-/// rest of the script is answered afterwards.
+/// After a stop the rows are those of what was accepted, or of that and the request in progress;
+/// the rest of the script is answered afterwards.
 fn is_finished<S: Alter + Drop>(
     rt: &impl Abort,
     alloc: Global,
@@ -102,16 +101,16 @@ fn is_finished<S: Alter + Drop>(
     finished(rt, alloc, conn, (script, answered), last)
 }
 
-/// How often the script was stopped before it was answered whole, and how often something was lost
-/// then that was not synced.
+/// How often the script was stopped before it was fully answered, and how often something unsynced
+/// was lost then.
 #[derive(Clone, Copy)]
 struct Hits {
     stops: u64,
     losses: u64,
 }
 
-/// One stop, after which each of the files may lose what was not synced; whether the script was
-/// answered whole, and whether something was lost.
+/// One stop, after which each file may lose what wasn't synced; whether the script was fully
+/// answered, and whether something was lost.
 fn is_left_right(
     rt: &impl Abort,
     alloc: Global,
@@ -129,7 +128,7 @@ fn is_left_right(
     Ok((answered.saturating_add(1) == pictures.len(), is_lost))
 }
 
-/// The machine stops, and both files may lose what was not synced.
+/// The machine stops, and both files may lose what wasn't synced.
 fn is_restarted(
     rt: &impl Abort,
     alloc: Global,
@@ -141,7 +140,7 @@ fn is_restarted(
     is_finished(rt, alloc, store, (script, answered), pictures)
 }
 
-/// Every way to leave the files at one stop; whether the script was answered whole, and how often
+/// Every way to leave the files at one stop; whether the script was fully answered, and how often
 /// something was lost.
 fn every_end(
     rt: &impl Abort,
@@ -161,8 +160,8 @@ fn every_end(
     Ok((is_whole, losses))
 }
 
-/// The fuse blows at each call of the script in turn, until it is answered whole; how many stops
-/// were before it.
+/// The fuse blows at each call of the script in turn, until it is fully answered; how many stops
+/// came before.
 fn stops_in(
     rt: &impl Abort,
     alloc: Global,
@@ -183,7 +182,7 @@ fn stops_in(
     Err("the script was never answered".into())
 }
 
-/// A script is stopped at each call of the one file, and then at each of the other.
+/// A script is stopped at each call of one file, then at each of the other.
 fn withstands_stops(rt: &impl Abort, alloc: Global, script: &str) -> Result<(), Fail> {
     let base = filled(alloc)?;
     let pictures = pictures(alloc, script)?;
@@ -233,8 +232,7 @@ fn a_stop_of_loans_with_grace_days_and_without(rt: HostRuntime) -> Result<(), Fa
     withstands_stops(&rt, rt.alloc(), GRACE)
 }
 
-/// The one line, if there is one, and the one loan, as the rows of a picture have them, and what
-/// the patron owes.
+/// The line, if any, and the loan, as rows of a picture, and the patron's debt.
 fn tells(picture: &str, (line, loan, owed): (&str, &str, &str)) -> bool {
     picture.contains(line) && picture.contains(loan) && picture.contains(owed)
 }

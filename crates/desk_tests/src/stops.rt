@@ -1,4 +1,4 @@
-//! Stops: a fuse in one of the two files of a library blows in the midst of a check-out.
+//! Stops: a fuse in one of a library's two files blows during a check-out.
 
 use crate::calls::{connection_of, restart};
 use sqlite::{Alter, Connection, Files};
@@ -13,8 +13,8 @@ use test_library::{
     options, request, rows, store_of,
 };
 
-/// The rows of the small library, table by table, with three that a check-out changes: a part of
-/// `meta`, the last of `kept`, behind which stand no holds, and the loans.
+/// The small library's rows, table by table, with the three that a check-out changes: a part of
+/// `meta`, the last of `kept`, which is followed by no holds, and the loans.
 fn tables(alloc: Global, next: &str, loans: &str, kept: &str) -> Result<String, Fail> {
     Ok(format!(in alloc;
         "\n1|3|20514|{next}|1|1|;\
@@ -78,8 +78,8 @@ fn shown<S: Alter + Drop>(alloc: Global, store: Store<S>) -> Result<String, Fail
     rows(alloc, &mut connection_of(store))
 }
 
-/// What was told is the loan or fault 91, and the rows are those after it, or before it where it
-/// was not told.
+/// The answer was the loan or fault 91, and the rows are those after it, or before if it wasn't
+/// given.
 fn judge(rt: &impl Abort, alloc: Global, told: &str, found: &str) -> Result<bool, Fail> {
     let is_lent = told == "loan 1 due 2026-03-09";
     assert!(rt; is_lent || told == "fault 91", "{told}");
@@ -91,19 +91,18 @@ fn judge(rt: &impl Abort, alloc: Global, told: &str, found: &str) -> Result<bool
     Ok(is_lent)
 }
 
-/// The answer to the check-out, and the files as they were written.
+/// The answer to the check-out, and the files as written.
 fn lent_in<D: Disk + Drop>(alloc: Global, files: Files<D>) -> Result<(String, Files<D>), Fail> {
     let (told, store) = lent(alloc, open_files(alloc, files, options())?)?;
     Ok((told, into_files(store)))
 }
 
-/// All rows that two files have.
+/// All rows in two files.
 fn shown_in<D: Disk + Drop>(alloc: Global, files: Files<D>) -> Result<String, Fail> {
     shown(alloc, open_files(alloc, files, options())?)
 }
 
-/// The desk is dropped with its files as they were written, save that each may lose what was not
-/// synced.
+/// The desk is dropped with its files as written, except that each may lose what wasn't synced.
 fn dropped(
     rt: &impl Abort,
     alloc: Global,
@@ -115,7 +114,7 @@ fn dropped(
     judge(rt, alloc, &told, &found)
 }
 
-/// The same request with the same key is answered with the loan, and is done once.
+/// The same request with the same key gets the loan, and is done once.
 fn repeated<S: Alter + Drop>(
     rt: &impl Abort,
     alloc: Global,
@@ -129,8 +128,8 @@ fn repeated<S: Alter + Drop>(
     Ok(())
 }
 
-/// The rows are those of what was told; then the same request with the same key is answered with
-/// the loan, and is done once.
+/// The rows are those of what was answered; then the same request with the same key gets the loan,
+/// and is done once.
 fn is_repeated<S: Alter + Drop>(
     rt: &impl Abort,
     alloc: Global,
@@ -154,7 +153,7 @@ fn restarted<D: Crash + Drop>(
     is_repeated(rt, alloc, &told, restart(store, alloc, options())?)
 }
 
-/// Every way to leave the files at one stop; whether the check-out was told.
+/// Every way to leave the files at one stop; whether the check-out was answered.
 fn every_end(
     rt: &impl Abort,
     alloc: Global,
@@ -167,8 +166,8 @@ fn every_end(
     restarted(rt, alloc, fused(alloc, base, fuse)?)
 }
 
-/// The fuse blows at each call of the check-out in turn, until the loan is told; how many stops
-/// were before it.
+/// The fuse blows at each call of the check-out in turn, until the loan is answered; how many stops
+/// came before.
 fn stops(rt: &impl Abort, alloc: Global, is_log: bool) -> Result<u64, Fail> {
     let base = filled(alloc)?;
     let open = calls_of_open(alloc, &base, is_log)?;

@@ -8,7 +8,7 @@ use std::sync::Wait;
 use terms::CardKey;
 use test_bytes::Narrow;
 
-/// The bytes of an answer, by its status and its body. None where no memory is left.
+/// The bytes of an answer with this status and body. None if memory ran out.
 pub fn answer(alloc: Global, text: &str) -> Option<String> {
     let at = text.find('{')?;
     let (status, body) = (text[..at].trim_end(), &text[at..]);
@@ -18,8 +18,8 @@ pub fn answer(alloc: Global, text: &str) -> Option<String> {
     ).ok()
 }
 
-/// Serves one connection, with the desk's key; the writer takes so many bytes. What it took, and
-/// whether an answer went out whole.
+/// Serves one connection, with the desk's key; the writer takes this many bytes. What it took, and
+/// whether a whole answer went out.
 pub fn served<J: Opening, R: Wait, I: Read + Drop>(
     rt: &R,
     alloc: Global,
@@ -46,7 +46,7 @@ pub fn gets<J: Opening, R: Wait>(
     Some(is_whole && taken.as_slice() == wanted.as_bytes())
 }
 
-/// The text of what a request gets, where that is whole.
+/// The text that a request gets, if whole.
 pub fn told<J: Opening, R: Wait>(
     rt: &R,
     alloc: Global,

@@ -1,4 +1,4 @@
-//! The calls under test, with no clauses: so a test with many of them is proved fast.
+//! The calls under test, without clauses, so that a test with many of them is proved fast.
 
 ghost use Rattle.std.specs.Prelude.{◌≡◌, [], IfOk};
 ghost use Rattle.store.specs.Library.{over_memory};
@@ -13,7 +13,7 @@ use std::io::{Read, Write};
 use std::sync::Wait;
 use terms::{CardKey, Fault, Memory, PatronId, Request, ServiceFault};
 
-/// What a hall is opened with or given back as.
+/// What a hall is opened or given back as.
 pub type Side<J, S> = (DeskSide<J, S>, Vec<Worker<J>>);
 
 /// A queue.
@@ -21,8 +21,8 @@ pub fn open_queue(alloc: Global) -> Result<Opened, Memory> {
     Opened::new(alloc)
 }
 
-/// The hall of so many workers, whose opening names no list of accepted requests; or the number
-/// that says why there is none, and the desk.
+/// The hall of this many workers, whose opening names no list of accepted requests; or the number
+/// of the reason why there is none, and the desk.
 pub fn open_hall<J: Opening, S: Alter, R: Wait>(
     rt: &R,
     alloc: Global,
@@ -39,8 +39,8 @@ pub fn open_hall<J: Opening, S: Alter, R: Wait>(
     }
 }
 
-/// The hall of so many workers over a new library in memory; or the number that says why there is
-/// none.
+/// The hall of this many workers over a new library in memory; or the number of the reason why
+/// there is none.
 pub fn open_in_memory<J: Opening, R: Wait>(
     rt: &R,
     alloc: Global,
@@ -57,12 +57,12 @@ pub fn open_in_memory<J: Opening, R: Wait>(
     }
 }
 
-/// Limits the steps of each call of the database.
+/// Limits the steps of each database call.
 pub fn limit_side<J: Opening, S: Alter>(side: &mut DeskSide<J, S>, limit: u64) {
     side.limit_steps(Some(limit));
 }
 
-/// What was told of the closing of a hall.
+/// What was told of a hall's closing.
 #[derive(Drop)]
 struct Heard {
     fault: Option<ServiceFault>,
@@ -78,8 +78,8 @@ impl Heard {
         }
     }
 
-    /// The fault that closed the hall, if it was told once, and none where there was none and
-    /// nothing was told; else 92, by which no hall here is closed.
+    /// The fault that closed the hall, if it was told once; none if there was none and nothing was
+    /// told; else 92, which closes no hall here.
     fn agreed(&self, fault: Option<ServiceFault>) -> Option<ServiceFault> {
         if self.fault == fault && self.times == u32::from(fault.is_some()) {
             fault
@@ -143,23 +143,22 @@ pub fn leave<J: Opening, R: Wait>(rt: &R, worker: Worker<J>) -> Left<J> {
     worker.leave(rt)
 }
 
-/// Takes in the end of a worker, and tells whether the desk was told that it left, and it took part
-/// in the hall.
+/// Takes in a worker's end; whether the desk was told that it left, and it took part in the hall.
 pub fn take_in<J: Opening>(ended: &mut Ended<J>, left: Left<J>) -> bool {
     let is_told = left.is_told;
     let took_part = ended.take_in(left);
     is_told && took_part
 }
 
-/// Ends what is left of a desk's side, and tells how many submissions were handled.
+/// Ends what is left of a desk's side, and returns the number of handled submissions.
 pub fn close<J: Opening, R: Wait>(rt: &R, ended: Ended<J>) -> u64 {
     let handled = ended.handled();
     ended.close(rt);
     handled
 }
 
-/// Has a request handled, and then looks up the page of a patron, each under a limit of steps for
-/// each call of the database: whether the request was handled, and the fault that came.
+/// Handles a request, then looks up a patron's page, each with limited steps for each database
+/// call: whether the request was handled, and the fault that came.
 pub fn handle_and_look(
     desk: &mut Desk<MemStore>,
     alloc: Global,
@@ -179,7 +178,7 @@ pub fn handle_and_look(
     met
 }
 
-/// The database under a desk, with no limit.
+/// The database under a desk, without a limit.
 pub fn connection<S: Alter>(mut desk: Desk<S>) -> Connection<S> {
     desk.limit_steps(None);
     desk.into_store().into_connection()

@@ -1,5 +1,5 @@
-//! Connections of two workers, over readers that fail after some bytes and writers that take some
-//! bytes.
+//! Connections of two workers, with readers that fail after some bytes and writers that take only
+//! some.
 
 ghost use Rattle.std.specs.Prelude.{◌≡◌};
 ghost use Rattle.model.specs.History.{History};
@@ -45,7 +45,7 @@ const ANN_LOOKS: Asked = (
 /// A head that is cut in its middle.
 const CUT_HEAD: Asked = ("GET /patrons/1 HT", "400 Bad Request {\"status\":400}");
 
-/// Requests one after another.
+/// Successive requests.
 const ANSWERED: [Asked; 14] = [
     (HOLD, HELD),
     BO_LOOKS,
@@ -96,7 +96,7 @@ const ANSWERED: [Asked; 14] = [
 /// What the first of two workers is asked for: a hold between looks at pages.
 const ASKED_OF_ONE: [Asked; 4] = [ANN_LOOKS, (HOLD, HELD), BO_LOOKS, ANN_LOOKS];
 
-/// What the second one is asked for after that.
+/// What the second is asked for after that.
 const ASKED_OF_TWO: [Asked; 3] = [CUT_HEAD, BO_LOOKS, ANN_LOOKS];
 
 /// What is done with two workers.
@@ -104,15 +104,15 @@ const ASKED_OF_TWO: [Asked; 3] = [CUT_HEAD, BO_LOOKS, ANN_LOOKS];
 enum Deed {
     /// Each kind of request is answered by the first.
     Answers,
-    /// The first answers a hold and shows it; the second is sent a cut head, and shows the hold
+    /// The first answers a hold and shows it; the second gets a truncated head, and shows the hold
     /// too.
     Shares,
-    /// A hold's answer is cut after each of its bytes, and then had whole.
+    /// A hold's answer is cut after each byte, then received whole.
     Cuts,
-    /// Reads fail after each byte of a hold; another hold is the first. A read that would fail
-    /// after the last byte isn't made.
+    /// Reads fail after each byte of a hold; another hold is the first. No read is made after the
+    /// last byte.
     Breaks,
-    /// What hostile clients send is withstood.
+    /// Hostile clients' input is withstood.
     Withstands,
 }
 
@@ -132,7 +132,7 @@ fn answers<J: Opening, R: Wait>(
     Some(count)
 }
 
-/// How many of the requests to the one worker, and then to the other, get their answers.
+/// How many requests to one worker, and then to the other, get their answers.
 fn shares<J: Opening, R: Wait>(
     rt: &R,
     alloc: Global,
@@ -144,8 +144,7 @@ fn shares<J: Opening, R: Wait>(
     Some(first.saturating_add(second))
 }
 
-/// How often a hold's answer is cut after as many bytes as the writer takes; and whether it is had
-/// then.
+/// How often a hold's answer is cut where the writer stops; and whether it is received then.
 fn cuts<J: Opening, R: Wait>(rt: &R, alloc: Global, worker: &mut Worker<J>) -> Option<usize> {
     let text = answer(alloc, HELD)?;
     let mut count = 0usize;
@@ -162,7 +161,7 @@ fn cuts<J: Opening, R: Wait>(rt: &R, alloc: Global, worker: &mut Worker<J>) -> O
     Some(count)
 }
 
-/// How often nothing is answered where a read fails, and then another hold is the first.
+/// How often a failed read gives no answer, and then another hold is the first.
 fn breaks<J: Opening, R: Wait>(rt: &R, alloc: Global, worker: &mut Worker<J>) -> Option<usize> {
     let bytes = HOLD.as_bytes();
     let mut count = 0usize;
@@ -184,7 +183,7 @@ fn breaks<J: Opening, R: Wait>(rt: &R, alloc: Global, worker: &mut Worker<J>) ->
     Some(count)
 }
 
-/// How often it went well.
+/// How often it succeeded.
 fn does<J: Opening, R: Wait>(
     rt: &R,
     alloc: Global,
@@ -214,7 +213,7 @@ fn work<J: Opening, R: Wait>(
     Some((leave(rt, one), leave(rt, two), count?))
 }
 
-/// A hall of two, and a desk beside it: how often it went well, how many submissions were handled,
+/// A hall of two, and a desk beside it: how often it succeeded, how many submissions were handled,
 /// and all rows at the end.
 fn meet<J: Opening + Send + Sync + 'static, R: Threads + Wait + Abort + Copy + Send + 'static>(
     rt: R,
@@ -229,7 +228,7 @@ fn meet<J: Opening + Send + Sync + 'static, R: Threads + Wait + Abort + Copy + S
         return Err("a hall".into());
     };
     let started = thread::spawn(&rt, move || work(&rt, alloc, all, deed)).ok();
-    // the desk would wait for workers that have no thread for ever
+    // the desk would wait forever for workers without threads
     assert!(&rt; started.is_some(), "no thread");
     let (desk, mut ended, fault) = handle_all(&rt, alloc, side);
     let met = match started {
@@ -249,8 +248,8 @@ fn meet<J: Opening + Send + Sync + 'static, R: Threads + Wait + Abort + Copy + S
     Ok((count.ok_or("answers")?, handled, text))
 }
 
-/// A worker that tells a fault to some kind of request, or breaks each connection, fails here: no
-/// clause says when there is no memory.
+/// A worker that answers some kind of request with a fault, or breaks each connection, fails here:
+/// no clause says when memory runs out.
 #[test]
 fn answers_each_kind_of_request(rt: HostRuntime) -> Result<(), Fail> {
     let alloc = rt.alloc();
@@ -262,7 +261,7 @@ fn answers_each_kind_of_request(rt: HostRuntime) -> Result<(), Fail> {
     Ok(())
 }
 
-/// A hold by the one worker is on its patron's page at both, another's page is as before, and a cut
+/// One worker's hold is on its patron's page at both, another's page is unchanged, and a truncated
 /// head at the other worker changes nothing: the rows are those with that hold.
 #[test]
 fn two_workers_show_one_hold(rt: HostRuntime) -> Result<(), Fail> {
@@ -301,7 +300,7 @@ fn a_request_that_is_not_whole_is_none(rt: HostRuntime) -> Result<(), Fail> {
     Ok(())
 }
 
-/// What a hostile client sends never comes to the desk, and the next client is answered as ever.
+/// Hostile input never reaches the desk, and the next client is answered as usual.
 #[test]
 fn hostile_clients_change_nothing(rt: HostRuntime) -> Result<(), Fail> {
     let alloc = rt.alloc();

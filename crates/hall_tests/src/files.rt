@@ -1,5 +1,5 @@
-//! Halls over a library in two files, which are opened again afterwards: nothing stops them, or a
-//! fuse in one of the files blows at each call in turn.
+//! Halls over a library in two files, which are reopened afterwards: nothing stops them, or a fuse
+//! in one file blows at each call in turn.
 
 use crate::calls::connection;
 use crate::reopened::{Faults, Tried, run_over};
@@ -16,14 +16,14 @@ use test_library::{
     options, rows, store_of,
 };
 
-/// What the hall's desk is asked for, one after the other, by lines.
+/// What the hall's desk is asked for, in order, by lines.
 const LINES: [&str; 2] = [
     "desk k1 check-out 1 10 1 -> loan 1 due 2026-03-09",
     "desk k2 renew 1 -> loan 1 due 2026-03-16",
 ];
 
-/// The rows of the small library before the two requests and after each of them, over memory and
-/// with no hall.
+/// The rows of the small library before the two requests and after each, in memory and without a
+/// hall.
 fn pictures(alloc: Global) -> Result<[String; 3], Fail> {
     let mut conn = connection(ground(alloc)?);
     let ground = rows(alloc, &mut conn)?;
@@ -46,8 +46,8 @@ fn run_in<D: Disk + Drop, R: Threads + Wait + Abort + Copy + Send + 'static>(
     run_over(rt, alloc, desk, None)
 }
 
-/// How many of the two requests were answered: once the files have stopped there is a fault for
-/// each, 92 for those after the first, and what the board shows is a page still.
+/// How many of the two requests were answered: once the files have stopped each gets a fault, 92
+/// after the first, and the board still shows its page.
 fn answered(rt: &impl Abort, faults: Option<Faults>) -> Result<usize, Fail> {
     let (lending, renewing, page) = faults.ok_or("an answer")?;
     assert!(rt; page == None, "{page:?}");
@@ -58,8 +58,8 @@ fn answered(rt: &impl Abort, faults: Option<Faults>) -> Result<usize, Fail> {
     Ok(0)
 }
 
-/// The rows in the files are those of what was answered, or of that and the request in work; and a
-/// hall over them that nothing stops answers both requests, each of which is done once.
+/// The rows in the files are those of what was answered, or of that and the request in progress;
+/// and an unstopped hall over them answers both requests, each done once.
 fn goes_on<R: Threads + Wait + Abort + Copy + Send + 'static>(
     rt: R,
     alloc: Global,
@@ -87,7 +87,7 @@ fn goes_on<R: Threads + Wait + Abort + Copy + Send + 'static>(
     Ok(())
 }
 
-/// The fault that closes a hall that answered so many of the two requests.
+/// The fault that closes a hall after it answered this many of the two requests.
 fn fault_after(count: usize) -> Option<ServiceFault> {
     if count == 2 {
         None
@@ -96,7 +96,7 @@ fn fault_after(count: usize) -> Option<ServiceFault> {
     }
 }
 
-/// The files after a stop, and whether something was lost that was not synced.
+/// The files after a stop, and whether something unsynced was lost.
 fn kept(
     alloc: Global,
     files: Files<Fuse<Memory>>,
@@ -109,8 +109,8 @@ fn kept(
     Ok((files, is_lost))
 }
 
-/// One stop, after which the files may have lost what was not synced: how many requests were
-/// answered, and whether something was lost. A hall whose pages can't be read for it isn't opened.
+/// One stop, after which the files may have lost what wasn't synced: how many requests were
+/// answered, and whether something was lost. A hall whose pages can't be read isn't opened.
 fn stopped<R: Threads + Wait + Abort + Copy + Send + 'static>(
     rt: R,
     alloc: Global,
@@ -135,7 +135,7 @@ fn stopped<R: Threads + Wait + Abort + Copy + Send + 'static>(
 }
 
 /// The fuse blows at each call of the hall in turn, until all is answered: how many stops left each
-/// number of requests answered, and after how many something was lost.
+/// number of requests answered, and how many lost something.
 fn stops_in<R: Threads + Wait + Abort + Copy + Send + 'static>(
     rt: R,
     alloc: Global,

@@ -1,4 +1,4 @@
-//! What hostile clients send, over readers and writers that fail at each byte.
+//! What hostile clients send, with readers and writers that fail at each byte.
 
 use crate::bytes::{answer, gets, served};
 use crate::connections::ANNS_PAGE;
@@ -11,8 +11,8 @@ const FAILED: &str = "400 Bad Request {\"status\":400}";
 
 const ANN: &str = "GET /patrons/1 HTTP/1.1\r\nCard-Key: cardkey00001\r\n\r\n";
 
-/// Heads at the limits: how many fields, how many letters the last of them has, and the answer. The
-/// first two have 8,192 bytes and 8,193, the others 32 fields and 33.
+/// Heads at the limits: the number of fields, the letters of the last, and the answer. The first
+/// two have 8,192 and 8,193 bytes, the others 32 and 33 fields.
 const HEADS: [(usize, usize, &str); 4] = [
     (2, 8136, ANNS_PAGE),
     (2, 8137, FAILED),
@@ -20,10 +20,10 @@ const HEADS: [(usize, usize, &str); 4] = [
     (33, 0, FAILED),
 ];
 
-/// How many requests are tried: the malformed ones, one more that is no UTF-8, and the heads.
+/// The number of requests tried: the malformed ones, one that isn't UTF-8, and the heads.
 pub const TRIED: usize = HOSTILE.len() + 1 + HEADS.len();
 
-/// Requests that are answered as malformed.
+/// Requests answered as malformed.
 const HOSTILE: [&str; 15] = [
     "GET /patrons/1 HTTP/1.1\r\nCard-Key: cardkey00001\r\nContent-Length: 0\r\nContent-Length: 0\r\n\r\n",
     "GET /patrons/1 HTTP/1.1\r\nCard-Key: cardkey00001\r\nContent-Length: +5\r\n\r\n12345",
@@ -45,8 +45,8 @@ const HOSTILE: [&str; 15] = [
 /// How many bytes before its end a request with too much in it may be known to be malformed.
 const SOONER: usize = 6;
 
-/// Whether a request gets no answer where the read after some of its bytes fails, or this one where
-/// they are too many already; and this answer where no read fails.
+/// Whether a request gets no answer if the read after some of its bytes fails, or this one if they
+/// are already too many; and this answer if no read fails.
 fn is_broken_anywhere<J: Opening, R: Wait>(
     rt: &R,
     alloc: Global,
@@ -69,7 +69,7 @@ fn is_broken_anywhere<J: Opening, R: Wait>(
     Some(is_answered && unanswered.saturating_add(SOONER) >= bytes.len())
 }
 
-/// Whether its answer is cut after as many bytes as the writer takes.
+/// Whether its answer is cut where the writer stops.
 fn is_cut_anywhere<J: Opening, R: Wait>(
     rt: &R,
     alloc: Global,
@@ -87,8 +87,8 @@ fn is_cut_anywhere<J: Opening, R: Wait>(
     Some(true)
 }
 
-/// Whether a request gets its answer, or none where reads fail, at each byte, and writes; and Ann's
-/// page is shown as ever after it.
+/// Whether a request gets its answer, or none if reads fail, at each byte, or writes; and Ann's
+/// page is shown as usual afterwards.
 fn withstands<J: Opening, R: Wait>(
     rt: &R,
     alloc: Global,
@@ -103,7 +103,7 @@ fn withstands<J: Opening, R: Wait>(
     Some(is_broken && is_cut && is_next)
 }
 
-/// The request for Ann's page with so many fields, the last of which has so many letters.
+/// The request for Ann's page with this many fields, and this many letters in the last.
 fn page_with(alloc: Global, fields: usize, length: usize) -> Option<String> {
     let start = "GET /patrons/1 HTTP/1.1\r\nCard-Key: cardkey00001\r\n";
     let mut text = String::from_str(alloc, start).ok()?;
@@ -118,7 +118,7 @@ fn page_with(alloc: Global, fields: usize, length: usize) -> Option<String> {
     Some(text)
 }
 
-/// How many of the heads at the limits are withstood.
+/// How many heads at the limits are withstood.
 fn withstands_heads<J: Opening, R: Wait>(
     rt: &R,
     alloc: Global,
@@ -134,7 +134,7 @@ fn withstands_heads<J: Opening, R: Wait>(
     Some(count)
 }
 
-/// How many requests are withstood, also one that is no UTF-8.
+/// How many requests are withstood, including one that isn't UTF-8.
 pub fn withstands_all<J: Opening, R: Wait>(
     rt: &R,
     alloc: Global,

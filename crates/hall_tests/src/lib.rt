@@ -1,4 +1,4 @@
-//! Tests of the hall in threads, in a crate of their own, so that the crates below are proved once:
+//! Tests of the hall in threads, in their own crate so that the crates below are proved once:
 //! workers and a desk over the queue, and what the tables show afterwards.
 #![tactic(auto)]
 

@@ -8,8 +8,8 @@ use std::test::Fail;
 use terms::Request;
 use test_library::{in_memory, request, run};
 
-/// The requests that make the library: the desk, a key, words, and with a bar before it a last word
-/// that has blanks. There are eight patrons, who may have fifty holds each, and three titles.
+/// The requests that make the library: the desk, a key, words, and after a bar a last word with
+/// blanks. There are eight patrons, with up to fifty holds each, and three titles.
 const GROUND: &str = "desk g1 begin-day 2026-03-02
 desk g2 branch 1 5|Main
 desk g3 week 1 ooooooc
@@ -27,10 +27,10 @@ desk c1 acquire 10 100 1 1 2500|Rivers of the North
 desk c2 acquire 20 200 1 1 1200|Salt Roads
 desk c3 acquire 30 300 1 1 800|Night Ferries";
 
-/// How many holds each worker's patron places where it isn't said.
+/// How many holds each worker's patron places by default.
 pub const HOLDS: u64 = 3;
 
-/// The title of the hold of this number, and the copy that is acquired for it from the fourth on.
+/// The title of the hold with this number; from the fourth on, also the copy acquired for it.
 fn title(number: u64) -> u64 {
     if number <= HOLDS {
         number.wrapping_mul(100)
@@ -39,7 +39,7 @@ fn title(number: u64) -> u64 {
     }
 }
 
-/// What the desk is asked for each title from the fourth on, up to so many.
+/// What the desk is asked for each title from the fourth up to this one.
 fn add_titles(alloc: Global, list: &mut Vec<Request>, titles: u64) -> Result<(), Fail> {
     for number in HOLDS + 1..titles.saturating_add(1) {
         let title = title(number);
@@ -56,7 +56,7 @@ pub fn library(alloc: Global) -> Result<Desk<MemStore>, Fail> {
     library_of(alloc, HOLDS)
 }
 
-/// The same with so many titles.
+/// The same with this many titles.
 pub fn library_of(alloc: Global, titles: u64) -> Result<Desk<MemStore>, Fail> {
     let mut desk = in_memory(alloc)?;
     let mut list = Vec::new(alloc);
@@ -71,7 +71,7 @@ pub fn library_of(alloc: Global, titles: u64) -> Result<Desk<MemStore>, Fail> {
     Ok(desk)
 }
 
-/// The hold of a worker's patron for the title of this number, as a request.
+/// The hold of a worker's patron on the title with this number, as a request.
 pub fn hold(alloc: Global, worker: u64, number: u64) -> Result<Request, Fail> {
     let title = title(number);
     let text = format!(in alloc;
@@ -89,7 +89,7 @@ pub fn holds(alloc: Global, worker: u64) -> Result<Vec<Request>, Fail> {
     Ok(list)
 }
 
-/// The same hold as the bytes of a connection. None where no memory is left.
+/// The same hold as a connection's bytes. None if memory ran out.
 pub fn hold_bytes(alloc: Global, worker: u64, number: u64) -> Option<String> {
     let title = title(number);
     format!(in alloc;
@@ -97,15 +97,15 @@ pub fn hold_bytes(alloc: Global, worker: u64, number: u64) -> Option<String> {
     ).ok()
 }
 
-/// A look at the page of a worker's patron, as the bytes of a connection.
+/// A look at the page of a worker's patron, as a connection's bytes.
 pub fn page_bytes(alloc: Global, worker: u64) -> Option<String> {
     format!(in alloc;
         "GET /patrons/{worker} HTTP/1.1\r\nCard-Key: cardkey0000{worker}\r\n\r\n"
     ).ok()
 }
 
-/// The patrons of the holds, by number: since each hold gets the next number, the order in which
-/// the requests were handled.
+/// The patrons of the holds, by number: since each hold gets the next number, this is the order in
+/// which the requests were handled.
 pub fn order(alloc: Global, conn: &mut Connection<MemStore>) -> Result<Vec<i64>, Fail> {
     let mut patrons = Vec::new(alloc);
     for row in &conn.query_all("SELECT patron FROM holds2 ORDER BY hold", &[])? {

@@ -1,4 +1,4 @@
-//! A list that only grows, and beginnings of it.
+//! An append-only list, and beginnings of it.
 
 ghost use Rattle.std.specs.Prelude.{◌≡◌};
 

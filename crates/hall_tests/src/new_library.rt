@@ -1,5 +1,5 @@
-//! A hall over a new library in memory, whose tables show the empty list: each reply and each page
-//! is the one of the rules.
+//! A hall over a new library in memory, whose tables show the empty list: each reply and page
+//! follows the rules.
 
 ghost use Rattle.std.specs.Prelude.{◌≡◌, []};
 ghost use Rattle.model.specs.History.{History};
@@ -18,11 +18,11 @@ use std::thread::Threads;
 /// What is asked for.
 #[derive(Clone, Copy)]
 enum Asks {
-    /// The desk, under a key: words that are parted by bars.
+    /// The desk, with a key: words separated by bars.
     Desk(&'static str, &'static str),
-    /// A patron, under a key: a route below the patron's own, with a body.
+    /// A patron, with a key: a route below the patron's own, with a body.
     Patron(u32, &'static str, &'static str, &'static str),
-    /// A patron's page, by the card key of this patron.
+    /// A patron's page, with this patron's card key.
     Page(u32, u32),
 }
 
@@ -33,11 +33,10 @@ const NOT_ALLOWED: &str = "403 Forbidden {\"refusal\":81}";
 const LENT: &str =
     "200 OK {\"reply\":\"patron 1 owed 0 name Ann Bell\\nloan 1 due 2026-03-09 renewals 1 title 100 Rivers of the North\"}";
 
-/// How many are asked.
+/// The number of requests.
 const COUNT: usize = 34;
 
-/// What is asked for, one after another, each with the status and the body of its answer by the
-/// rules.
+/// Successive requests, each with the status and body of its answer by the rules.
 const STORY: [(Asks, &str); COUNT] = [
     // nobody is enrolled
     (Asks::Page(1, 1), NOT_ALLOWED),
@@ -72,7 +71,7 @@ const STORY: [(Asks, &str); COUNT] = [
         Asks::Page(2, 2),
         "200 OK {\"reply\":\"patron 2 owed 0 name Bo Carr\\nhold 1 at 1 waiting title 100 Rivers of the North\"}",
     ),
-    // another's hold stands in line
+    // another's hold is in line
     (
         Asks::Patron(1, "r1", "/loans/1/renew", ""),
         "409 Conflict {\"refusal\":36}",
@@ -107,7 +106,7 @@ const STORY: [(Asks, &str); COUNT] = [
         Asks::Patron(2, "r1", "/loans/2/renew", ""),
         "409 Conflict {\"refusal\":41}",
     ),
-    // seven open days late, of which five reach the cap
+    // seven open days late; five reach the cap
     (
         Asks::Desk("k5", "check-in|10|1"),
         "200 OK {\"reply\":\"fine 100 shelf 1\"}",
@@ -140,7 +139,7 @@ const STORY: [(Asks, &str); COUNT] = [
     (Asks::Page(3, 2), NOT_ALLOWED),
 ];
 
-/// The bytes of what is asked for. None where no memory is left.
+/// The bytes of a request. None if memory ran out.
 fn bytes_of(alloc: Global, asks: Asks) -> Option<String> {
     match asks {
         Asks::Desk(key, words) => {
@@ -165,7 +164,7 @@ fn bytes_of(alloc: Global, asks: Asks) -> Option<String> {
     }
 }
 
-/// How many of the answers are right, where one worker and the other are asked in turn.
+/// How many answers are right, asking the two workers in turn.
 fn right<J: Opening, R: Wait>(
     rt: &R,
     alloc: Global,
@@ -184,7 +183,7 @@ fn right<J: Opening, R: Wait>(
     Some(count)
 }
 
-/// Two workers, which are asked in turn, and leave.
+/// Two workers, asked in turn, then leaving.
 type Answered<J> = (Left<J>, Left<J>, Option<usize>);
 
 fn work<J: Opening, R: Wait>(
@@ -230,7 +229,7 @@ fn meet<J: Opening + Send + Sync + 'static, R: Threads + Wait + Abort + Copy + S
     Ok((count, handled))
 }
 
-/// Each reply and each page is that of the rules, and what was submitted was handled.
+/// Each reply and page follows the rules, and what was submitted was handled.
 #[test]
 fn a_new_library_in_memory(rt: HostRuntime) -> Result<(), Fail> {
     let alloc = rt.alloc();
@@ -239,7 +238,7 @@ fn a_new_library_in_memory(rt: HostRuntime) -> Result<(), Fail> {
     Ok(())
 }
 
-/// There is no hall of so many workers over a new library.
+/// A hall over a new library can't have this many workers.
 fn refuse<J: Opening, R: Wait + Abort>(
     rt: &R,
     alloc: Global,

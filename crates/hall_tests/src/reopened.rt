@@ -1,4 +1,4 @@
-//! A hall that a refused call of the database closed, and another one over its desk.
+//! A hall closed by a refused database call, and another over its desk.
 
 ghost use Rattle.std.specs.Prelude.{◌≡◌};
 ghost use Rattle.model.specs.History.{History};
@@ -21,7 +21,7 @@ use std::thread::Threads;
 use terms::{Fault, ServiceFault};
 use test_library::rows;
 
-/// A request, and its answer where the hall goes on.
+/// A request, and its answer if the hall goes on.
 type Asked = (&'static str, &'static str);
 
 const LENDING: Asked = (
@@ -39,11 +39,10 @@ const BOS_PAGE: Asked = (
     "200 OK {\"reply\":\"patron 2 owed 0 name Bo Carr\"}",
 );
 
-/// The faults that come in the place of the loan, of its renewal, and of another patron's page.
+/// The faults instead of the loan, of its renewal, and of another patron's page.
 pub type Faults = (Option<u32>, Option<u32>, Option<u32>);
 
-/// The fault that comes in the place of the answer, where any does. None where something else
-/// comes.
+/// The fault instead of the answer, if any. None if something else comes.
 fn fault_of<J: Opening, R: Wait>(
     rt: &R,
     alloc: Global,
@@ -63,14 +62,14 @@ fn fault_of<J: Opening, R: Wait>(
     None
 }
 
-/// Two workers who have left, and the faults that they were told.
+/// Two workers who have left, and the faults they were told.
 #[derive(Drop)]
 struct Served<J: Opening> {
     lefts: (Left<J>, Left<J>),
     faults: Option<Faults>,
 }
 
-/// The first worker is asked for the loan, and then the second for the rest.
+/// The first worker is asked for the loan, then the second for the rest.
 fn faults_of<J: Opening, R: Wait>(
     rt: &R,
     alloc: Global,
@@ -91,7 +90,7 @@ fn work<J: Opening, R: Wait>(rt: &R, alloc: Global, mut all: Vec<Worker<J>>) -> 
     Some(Served { lefts, faults })
 }
 
-/// Takes in the ends of both.
+/// Takes in both ends.
 fn take_both<J: Opening>(ended: &mut Ended<J>, served: Served<J>) -> Option<Faults> {
     let Served { lefts, faults } = served;
     let (one, two) = lefts;
@@ -99,11 +98,11 @@ fn take_both<J: Opening>(ended: &mut Ended<J>, served: Served<J>) -> Option<Faul
     faults.filter(|_| took_part)
 }
 
-/// What the workers of a hall were told, its desk, and the fault that closed it; or the number for
-/// which it was not opened, and the desk.
+/// What a hall's workers were told, its desk, and the fault that closed it; or the number of the
+/// reason why it wasn't opened, and the desk.
 pub type Tried<S> = Result<(Option<Faults>, Desk<S>, Option<ServiceFault>), (u32, Desk<S>)>;
 
-/// A hall of two workers over a desk, whose database has a limit on its steps or none.
+/// A hall of two workers over a desk, whose database may have limited steps.
 fn run_hall<
     J: Opening + Send + Sync + 'static,
     S: Alter + Drop,
@@ -120,7 +119,7 @@ fn run_hall<
         limit_side(&mut side, steps);
     }
     let started = thread::spawn(&rt, move || work(&rt, alloc, all)).ok();
-    // the desk would wait for workers that have no thread for ever
+    // the desk would wait forever for workers without threads
     assert!(&rt; started.is_some(), "no thread");
     let (desk, mut ended, fault) = handle_all(&rt, alloc, side);
     let met = match started {
@@ -135,7 +134,7 @@ fn run_hall<
     Ok(Ok((faults, desk, fault)))
 }
 
-/// The same on a queue of its own.
+/// The same with its own queue.
 pub fn run_over<S: Alter + Drop, R: Threads + Wait + Abort + Copy + Send + 'static>(
     rt: R,
     alloc: Global,

@@ -27,7 +27,7 @@ fn held(page: &str) -> usize {
     page.split("\\nhold ").count().saturating_sub(1)
 }
 
-/// Places so many holds of the patron, and looks at the page after each: how many were answered,
+/// Places this many holds of the patron, and looks at the page after each: how many were answered,
 /// and shown at once.
 fn place_all<J: Opening, R: Wait>(
     rt: &R,
@@ -63,7 +63,7 @@ fn work<J: Opening, R: Wait>(
 /// A worker's thread.
 type Working<J> = JoinHandle<(Left<J>, Option<u64>)>;
 
-/// Each worker in a thread of its own, with the patron of its number.
+/// Each worker in its own thread, with the patron of its number.
 fn start_all<J: Opening + Send + Sync + 'static, R: Threads + Wait + Abort + Copy + Send + 'static>(
     rt: R,
     alloc: Global,
@@ -75,18 +75,18 @@ fn start_all<J: Opening + Send + Sync + 'static, R: Threads + Wait + Abort + Cop
     for worker in workers {
         patron = patron.wrapping_add(1);
         let thread = thread::spawn(&rt, move || work(&rt, alloc, worker, patron, each)).ok();
-        // the desk would wait for a worker that has no thread for ever
+        // the desk would wait forever for a worker without a thread
         assert!(&rt; thread.is_some(), "no thread");
         threads.push(thread?).ok()?;
     }
     Some(threads)
 }
 
-/// Of each worker whether the desk was told that it left, and how many of its holds were answered
+/// For each worker, whether the desk was told that it left, and how many of its holds were answered
 /// and shown.
 type Told = Vec<(bool, Option<u64>)>;
 
-/// What a hall has come to.
+/// The outcome of a hall.
 #[derive(Drop)]
 struct Met {
     told: Option<Told>,
@@ -95,7 +95,7 @@ struct Met {
     fault: Option<ServiceFault>,
 }
 
-/// Waits for the threads, and takes in the ends of the workers.
+/// Waits for the threads, and takes in the workers' ends.
 fn join_all<J: Opening, R: Threads>(
     rt: &R,
     alloc: Global,
@@ -135,8 +135,8 @@ fn meet<J: Opening + Send + Sync + 'static, R: Threads + Wait + Abort + Copy + S
     }
 }
 
-/// The rows of a library whose desk handles one list: of each worker its requests in turn, in the
-/// order that these numbers tell.
+/// The rows of a library whose desk handles one list: each worker's requests in turn, in the order
+/// that these numbers give.
 pub fn rows_of_run(
     rt: &impl Abort,
     alloc: Global,
@@ -158,7 +158,7 @@ pub fn rows_of_run(
     rows(alloc, &mut connection(desk))
 }
 
-/// All is handled, each worker's in turn, and the tables are those of one list.
+/// All is handled, each worker's in order, and the tables are those of one list.
 fn check_whole(
     rt: &impl Abort,
     alloc: Global,
@@ -186,7 +186,7 @@ fn check_whole(
     Ok(())
 }
 
-/// A hall of so many workers, each of whose patrons places so many holds.
+/// A hall of this many workers, each of whose patrons places this many holds.
 fn run_hall<J: Opening + Send + Sync + 'static, R: Threads + Wait + Abort + Copy + Send + 'static>(
     rt: R,
     alloc: Global,
@@ -216,9 +216,8 @@ fn eight_workers(rt: HostRuntime) -> Result<(), Fail> {
     run_hall::<Brand, _>(rt, rt.alloc(), open_queue(rt.alloc())?, 8, 50)
 }
 
-/// Where the first worker's list ends under a limit of steps: how many of its requests are shown,
-/// how many are handled, what the worker is told of the next one, and the fault that closes the
-/// hall.
+/// Where the first worker's list ends with limited steps: how many of its requests are shown, how
+/// many are handled, what the worker is told of the next one, and the fault that closes the hall.
 #[derive(Clone, Copy)]
 struct Cut {
     shown: usize,
@@ -234,8 +233,8 @@ struct Wanted {
     text: String,
 }
 
-/// Where the first worker's list ends, be it at a request or at the page after it; none where no
-/// fault comes. Of a page that can't be had the worker is told 92.
+/// Where the first worker's list ends, at a request or at the page after it; none if no fault
+/// comes. For a page that can't be had the worker is told 92.
 fn run_limited(alloc: Global, limit: u64) -> Result<Option<Wanted>, Fail> {
     let mut desk = library(alloc)?;
     let mut shown = 0usize;
@@ -266,8 +265,8 @@ fn run_limited(alloc: Global, limit: u64) -> Result<Option<Wanted>, Fail> {
     Ok(None)
 }
 
-/// What the worker's patron is answered for the hold of this title, from 1 on: the reply of those
-/// that are shown, then what is told of the next, then 92.
+/// The answer to the worker's patron for the hold on this title, from 1 on: the reply for those
+/// shown, then the fault for the next, then 92.
 fn is_answered(alloc: Global, cut: Cut, title: u64, text: &str) -> Option<bool> {
     let shown = cut.shown as u64;
     if title <= shown {
@@ -304,7 +303,7 @@ fn right_of_one<J: Opening, R: Wait>(
 }
 
 /// How many of the second worker's answers are right, once the hall is closed: 92 for its hold, and
-/// the first one's page as it was shown last.
+/// the first one's page as last shown.
 fn right_of_two<J: Opening, R: Wait>(
     rt: &R,
     alloc: Global,
@@ -322,7 +321,7 @@ fn right_of_two<J: Opening, R: Wait>(
     Some(count)
 }
 
-/// What two workers were answered, one after the other.
+/// What two workers were answered, in order.
 #[derive(Drop)]
 struct Answered<J: Opening> {
     lefts: (Left<J>, Left<J>),
@@ -349,7 +348,7 @@ fn work_closed<J: Opening, R: Wait>(
     })
 }
 
-/// Takes in the ends of both, and tells how many of their answers were right.
+/// Takes in both ends, and returns how many of their answers were right.
 fn take_both<J: Opening>(
     ended: &mut Ended<J>,
     answered: Answered<J>,
@@ -418,7 +417,7 @@ fn a_fault_closes_the_hall(rt: HostRuntime) -> Result<(), Fail> {
     Ok(())
 }
 
-/// A hall of so many workers isn't opened, and its desk comes back.
+/// A hall can't have this many workers, and its desk comes back.
 fn refuse<J: Opening, R: Wait + Abort>(
     rt: &R,
     alloc: Global,

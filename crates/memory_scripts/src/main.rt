@@ -1,8 +1,7 @@
-//! Scripts on a small library in memory, for the toolchain's runs in which one request for memory
-//! is refused. A request that met a fault is asked again: so the program prints the same rows in
-//! each such run that it ends well, unless a fault changed something, or was told for another
-//! cause; and on standard error how many requests met a fault. Where it has no memory for its own
-//! work it ends badly.
+//! Scripts on a small library in memory, for the toolchain's runs in which one memory request is
+//! refused. A request that met a fault is asked again: so the program prints the same rows in each
+//! such run that it completes, unless a fault changed something or had another cause; and on
+//! standard error how many requests met a fault. If it has no memory for its own work it fails.
 #![tactic(auto)]
 
 use desk::Desk;
@@ -13,18 +12,18 @@ use std::test::Fail;
 use terms::Fault;
 use test_library::{GROUND, SCRIPTS, connection, handle, in_memory, opened, request, rows};
 
-/// What a line was answered.
+/// How a line was answered.
 #[derive(Clone, Copy, PartialEq, Eq)]
 enum Told {
-    /// What it has behind its arrow.
+    /// With what is after its arrow.
     Right,
-    /// Want of memory, in the database or outside it.
+    /// Out of memory, in the database or outside it.
     Refused,
     /// Anything else.
     Wrong,
 }
 
-/// How a script went on: its rows at the end and how many requests were refused memory, or where
+/// How a script went: its rows at the end and how many requests were refused memory, or that
 /// something was wrong.
 #[derive(Drop)]
 enum Played {
@@ -58,7 +57,7 @@ fn rows_of(alloc: Global, desk: Desk<MemStore>) -> Result<(Desk<MemStore>, Strin
     Ok((opened(conn)?, text))
 }
 
-/// The rows of a library of its own before the line at this place.
+/// The rows of a separate library before the line at this place.
 fn rows_before(alloc: Global, script: &str, at: usize) -> Result<String, Fail> {
     let mut desk = in_memory(alloc)?;
     for line in GROUND.split('\n').chain(script.split('\n')).take(at) {
@@ -70,7 +69,7 @@ fn rows_before(alloc: Global, script: &str, at: usize) -> Result<String, Fail> {
     Ok(text)
 }
 
-/// What follows a refused line: no row is changed, and asked again it is answered.
+/// What follows a refused line: no row has changed, and when asked again it is answered.
 fn ask_again(
     alloc: Global,
     desk: Desk<MemStore>,

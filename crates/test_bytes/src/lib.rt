@@ -1,5 +1,5 @@
-//! A reader and a writer of bytes in memory for tests: they take and give their bytes in pieces,
-//! and fail after them. They tell the proof nothing, as a socket doesn't.
+//! An in-memory reader and writer for tests: they give and take bytes in pieces, and fail after
+//! them. They tell the proof nothing, like a socket.
 #![tactic(auto)]
 
 use std::alloc::Global;
@@ -16,7 +16,7 @@ pub struct Drip<'a> {
 }
 
 impl<'a> Drip<'a> {
-    /// A reader that gives its bytes as they are asked for, and fails after them.
+    /// A reader that gives its bytes on demand, and then fails.
     pub fn failing(bytes: &'a [u8]) -> Drip<'a> {
         Drip {
             bytes,
@@ -39,7 +39,7 @@ impl Read for Drip<'_> {
     }
 }
 
-/// A writer with room for so many bytes, which it keeps. It fails where there is none left.
+/// A writer with room for this many bytes, which it keeps. It fails when full.
 #[derive(Drop)]
 pub struct Narrow {
     taken: Vec<u8>,
@@ -60,7 +60,7 @@ impl Narrow {
         self.taken.as_slice()
     }
 
-    /// What was taken, for who has no more to write.
+    /// What was taken, when there is no more to write.
     pub fn into_taken(self) -> Vec<u8> {
         self.taken
     }

@@ -1,5 +1,5 @@
-//! Calls of the layers below, with no clauses: so a test with many of them is proved fast. Each is
-//! generic over the database's store, so that what it is proved from stays small.
+//! Calls of the layers below, without clauses, so that a test with many of them is proved fast.
+//! Each is generic over the database's store, so that its premises stay small.
 
 use desk::Desk;
 use sqlite::{Alter, Connection, FileStore, Files, MemStore, Options};
@@ -8,7 +8,7 @@ use std::alloc::Global;
 use store::Store;
 use terms::{Fault, Owner, Reply, Request};
 
-/// Has a request handled.
+/// Handles a request.
 pub fn handle<S: Alter>(
     desk: &mut Desk<S>,
     alloc: Global,
@@ -17,7 +17,7 @@ pub fn handle<S: Alter>(
     desk.handle(alloc, request)
 }
 
-/// Has a list of requests handled: the replies, and the fault that ended it.
+/// Handles a list of requests: the replies, and the fault that ended it.
 pub fn run<S: Alter>(
     desk: &mut Desk<S>,
     alloc: Global,
@@ -39,7 +39,7 @@ pub fn connection<S: Alter>(desk: Desk<S>) -> Connection<S> {
     desk.into_store().into_connection()
 }
 
-/// The store over tables that were made.
+/// The store over existing tables.
 pub fn open<S: Alter + Drop>(conn: Connection<S>) -> Result<Store<S>, Fault> {
     Store::open(conn)
 }
@@ -62,13 +62,12 @@ pub fn create_files<D: Disk + Drop>(
     Store::create_files(alloc, files, options)
 }
 
-/// The two files of a store, as they were written.
+/// A store's two files, as written.
 pub fn into_files<D: Disk + Drop>(store: Store<FileStore<D>>) -> Files<D> {
     store.into_files()
 }
 
-/// The two files of a store, with the log of its database copied into the other; none where that
-/// fails.
+/// A store's two files, with the log copied into the database; none if that fails.
 pub fn close<D: Disk + Drop>(store: Store<FileStore<D>>) -> Option<Files<D>> {
     store.close()
 }
@@ -83,8 +82,8 @@ pub fn desk_over<S: Alter + Drop>(store: Store<S>) -> Result<Desk<S>, Fault> {
     Desk::new(store)
 }
 
-/// The next number of a loan, how many rows each other table has, in the order of the schema, and
-/// how many of the kept ones are patrons'.
+/// The next loan number, the number of rows in each other table, in schema order, and how many kept
+/// ones are patrons'.
 pub fn counts<S: Alter>(store: &mut Store<S>, alloc: Global) -> Result<[usize; 14], Fault> {
     let all = store.tables(alloc)?;
     let kept = all.kept.as_slice();

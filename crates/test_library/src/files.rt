@@ -1,4 +1,4 @@
-//! The small library over two files in memory, of which one can stop at a call.
+//! The small library over two files in memory, one of which can stop at a call.
 
 use crate::calls::{close, create_files, desk_over, into_files, open_files, store_of};
 use crate::lines::fill;
@@ -9,8 +9,8 @@ use std::io;
 use std::test::Fail;
 use store::Store;
 
-/// How the files are opened. Little is kept in memory, so that a check-out reads and writes the
-/// files early and copies the log at its end.
+/// How the files are opened. Little is cached, so that a check-out reads and writes the files early
+/// and copies the log at its end.
 pub fn options() -> Options {
     Options {
         cache_pages: 4,
@@ -28,7 +28,7 @@ fn copy(alloc: Global, bytes: &[u8]) -> io::Result<Memory> {
     Ok(made)
 }
 
-/// A new store, once it has the small library.
+/// A new store, with the small library.
 fn with_library<S: Alter + Drop>(alloc: Global, store: Store<S>) -> Result<Store<S>, Fail> {
     let mut desk = desk_over(store)?;
     fill(alloc, &mut desk)?;
@@ -45,7 +45,7 @@ pub fn filled(alloc: Global) -> Result<Files<Memory>, Fail> {
     Ok(close(store).ok_or("a close")?)
 }
 
-/// Copies of the files, of which one has a fuse that blows after so many calls.
+/// Copies of the files, one with a fuse that blows after this many calls.
 pub fn fused(
     alloc: Global,
     base: &Files<Memory>,
@@ -62,7 +62,7 @@ pub fn fused(
     })
 }
 
-/// The files behind the fuses, of which each may have lost what was not synced.
+/// The files behind the fuses, each of which may have lost what wasn't synced.
 pub fn left(
     alloc: Global,
     mut files: Files<Fuse<Memory>>,
@@ -91,7 +91,7 @@ fn opens<D: Disk + Drop>(alloc: Global, files: Files<D>) -> bool {
     }
 }
 
-/// The most calls after which an open of the library is still stopped.
+/// The most calls after which opening the library is still stopped.
 pub fn calls_of_open(alloc: Global, base: &Files<Memory>, is_log: bool) -> Result<u64, Fail> {
     let mut calls = 0u64;
     for bit in [512u64, 256, 128, 64, 32, 16, 8, 4, 2, 1] {

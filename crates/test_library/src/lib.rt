@@ -1,5 +1,5 @@
-//! What tests of the desk and of the hall begin with: a small library, requests by lines, and looks
-//! at all rows.
+//! What tests of the desk and the hall start from: a small library, requests by lines, and looks at
+//! all rows.
 #![tactic(auto)]
 
 mod calls;

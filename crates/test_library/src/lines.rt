@@ -1,5 +1,5 @@
-//! A small library, lists of requests by lines, and looks at rows. Expected answers are those of
-//! the rules, worked out by hand.
+//! A small library, lists of requests by lines, and looks at rows. Expected answers are worked out
+//! by hand from the rules.
 
 use crate::calls::{desk_over, in_memory, open, run};
 use desk::Desk;
@@ -11,8 +11,8 @@ use std::test::Fail;
 use terms::{Caller, CardKey, Fault, Key, PatronId, Reply, Request, read_number};
 
 /// Fifteen requests that make a small library: three patrons, two branches, four copies of three
-/// titles. In each line the caller, the key, the words with a bar before a last word that has
-/// blanks, and behind the arrow the answer.
+/// titles. Each line has the caller, the key, the words, with a bar before a last word with blanks,
+/// and after the arrow the answer.
 pub const GROUND: &str = "desk g1 begin-day 2026-03-02 -> ok
 desk g2 branch 1 5|Main -> ok
 desk g3 branch 2 3|Harbour -> ok
@@ -33,7 +33,7 @@ desk g15 acquire 30 300 2 1 800|Night Ferries -> ok";
 const TABLES: &str =
     "meta branches closed_days kinds rules patrons titles copies loans holds transits lines kept holds2 rules3 loans3";
 
-/// The words of a text, parted by single spaces, and the one after the bar whole.
+/// A text's words, separated by single spaces, and the one after the bar whole.
 pub fn words_of(alloc: Global, text: &str) -> Result<Vec<String>, Fail> {
     let mut words = Vec::new(alloc);
     let (front, last) = match text.split_once('|') {
@@ -54,7 +54,7 @@ pub fn key(alloc: Global, text: &str) -> Result<Key, Fail> {
     Ok(Key::new(alloc, text)?.ok_or("a key")?)
 }
 
-/// The desk, or the patron whose number and card key stand with a stroke between them.
+/// The desk, or the patron whose number and card key are separated by a slash.
 fn caller(alloc: Global, text: &str) -> Result<Caller, Fail> {
     match text.split_once('/') {
         Some((number, card_key)) => {
@@ -66,7 +66,7 @@ fn caller(alloc: Global, text: &str) -> Result<Caller, Fail> {
     }
 }
 
-/// The request of a caller, a key and words.
+/// The request from a caller, a key and words.
 pub fn request(alloc: Global, text: &str) -> Result<Request, Fail> {
     let (who, rest) = text.split_once(' ').ok_or("a caller")?;
     let (name, text) = rest.split_once(' ').ok_or("words")?;
@@ -81,7 +81,7 @@ pub fn request(alloc: Global, text: &str) -> Result<Request, Fail> {
     })
 }
 
-/// The request of a line, which stands before the arrow.
+/// The request of a line, before the arrow.
 pub fn asked(alloc: Global, line: &str) -> Result<Request, Fail> {
     let (said, _) = line.split_once(" -> ").ok_or("an arrow")?;
     request(alloc, said)
@@ -96,7 +96,7 @@ fn requests(alloc: Global, lines: &str) -> Result<Vec<Request>, Fail> {
     Ok(list)
 }
 
-/// The text of a reply is the one behind the arrow, where a semicolon stands for the end of a line.
+/// The reply's text is the one after the arrow, where a semicolon stands for a line end.
 fn tells(alloc: Global, reply: &Reply, line: &str) -> Result<(), Fail> {
     let (_, wanted) = line.split_once(" -> ").ok_or("an arrow")?;
     let told = format!(in alloc; "{reply}")?.replace(alloc, '\n', "; ")?;
@@ -107,8 +107,8 @@ fn tells(alloc: Global, reply: &Reply, line: &str) -> Result<(), Fail> {
     }
 }
 
-/// The lines are run as one list: each answer that came is the expected one. The fault that ended
-/// the list, and how many answers there were before it.
+/// Runs the lines as one list: each answer is the expected one. Returns the fault that ended the
+/// list, and the number of answers before it.
 pub fn runs<S: Alter>(
     alloc: Global,
     desk: &mut Desk<S>,
@@ -121,7 +121,7 @@ pub fn runs<S: Alter>(
     Ok((replies.len(), fault))
 }
 
-/// All lines are answered, each by the expected answer.
+/// All lines get the expected answers.
 pub fn check<S: Alter>(alloc: Global, desk: &mut Desk<S>, lines: &str) -> Result<(), Fail> {
     match runs(alloc, desk, lines)? {
         (answered, None) if answered == lines.split('\n').count() => Ok(()),
@@ -130,7 +130,7 @@ pub fn check<S: Alter>(alloc: Global, desk: &mut Desk<S>, lines: &str) -> Result
     }
 }
 
-/// Has the small library's requests answered.
+/// Handles the small library's requests.
 pub fn fill<S: Alter>(alloc: Global, desk: &mut Desk<S>) -> Result<(), Fail> {
     check(alloc, desk, GROUND)
 }
@@ -142,7 +142,7 @@ pub fn ground(alloc: Global) -> Result<Desk<MemStore>, Fail> {
     Ok(desk)
 }
 
-/// The desk over the same tables, opened again.
+/// The desk over the same tables, reopened.
 pub fn opened<S: Alter + Drop>(conn: Connection<S>) -> Result<Desk<S>, Fail> {
     Ok(desk_over(open(conn)?)?)
 }

@@ -1,6 +1,6 @@
-//! Requests and answers as they stand on a connection, for the tests.
+//! Requests and answers as bytes on a connection, for the tests.
 
-/// The answer to a request that is malformed.
+/// The answer to a malformed request.
 pub const BAD_REQUEST: &str =
     "HTTP/1.1 400 Bad Request\r\nContent-Type: application/json\r\nContent-Length: 14\r\n\
     Connection: close\r\n\r\n{\"status\":400}";
@@ -10,35 +10,35 @@ pub const NOT_FOUND: &str =
     "HTTP/1.1 404 Not Found\r\nContent-Type: application/json\r\nContent-Length: 14\r\n\
     Connection: close\r\n\r\n{\"status\":404}";
 
-/// The answer to another method than GET.
+/// The answer to any method but GET.
 pub const ONLY_GET: &str =
     "HTTP/1.1 405 Method Not Allowed\r\nAllow: GET\r\nContent-Type: application/json\r\n\
     Content-Length: 14\r\nConnection: close\r\n\r\n{\"status\":405}";
 
-/// The answer to another method than POST.
+/// The answer to any method but POST.
 pub const ONLY_POST: &str =
     "HTTP/1.1 405 Method Not Allowed\r\nAllow: POST\r\nContent-Type: application/json\r\n\
     Content-Length: 14\r\nConnection: close\r\n\r\n{\"status\":405}";
 
-/// The answer to a body that would be too long.
+/// The answer to a body that is too long.
 pub const TOO_LARGE: &str =
     "HTTP/1.1 413 Payload Too Large\r\nContent-Type: application/json\r\nContent-Length: 14\r\n\
     Connection: close\r\n\r\n{\"status\":413}";
 
-/// The answer that tells a loan.
+/// The answer for a loan.
 pub const LENT: &str = "HTTP/1.1 200 OK\r\nContent-Type: application/json\r\nContent-Length: 33\r\n\
     Connection: close\r\n\r\n{\"reply\":\"loan 1 due 2026-03-09\"}";
 
-/// The answer that tells a hold.
+/// The answer for a hold.
 pub const HELD: &str = "HTTP/1.1 200 OK\r\nContent-Type: application/json\r\nContent-Length: 18\r\n\
     Connection: close\r\n\r\n{\"reply\":\"hold 1\"}";
 
-/// The answer that shows a page.
+/// The answer with a page.
 pub const SHOWN: &str =
     "HTTP/1.1 200 OK\r\nContent-Type: application/json\r\nContent-Length: 41\r\n\
     Connection: close\r\n\r\n{\"reply\":\"patron 1 owed 0 name Ann Bell\"}";
 
-/// The answer that shows a page with quotation marks and two lines.
+/// The answer with a page of two lines with quotation marks.
 pub const QUOTED: &str =
     "HTTP/1.1 200 OK\r\nContent-Type: application/json\r\nContent-Length: 47\r\n\
     Connection: close\r\n\r\n{\"reply\":\"patron 2 owed 0 name \\\"Bo\\\" Carr\\nx\"}";
@@ -48,7 +48,7 @@ pub const FORBIDDEN: &str =
     "HTTP/1.1 403 Forbidden\r\nContent-Type: application/json\r\nContent-Length: 14\r\n\
     Connection: close\r\n\r\n{\"refusal\":81}";
 
-/// The answer to a request that names an unknown branch.
+/// The answer to a request with an unknown branch.
 pub const CONFLICT: &str =
     "HTTP/1.1 409 Conflict\r\nContent-Type: application/json\r\nContent-Length: 14\r\n\
     Connection: close\r\n\r\n{\"refusal\":10}";
@@ -58,7 +58,7 @@ pub const UNAVAILABLE: &str =
     "HTTP/1.1 503 Service Unavailable\r\nContent-Type: application/json\r\n\
     Content-Length: 12\r\nConnection: close\r\n\r\n{\"fault\":91}";
 
-/// Requests, each with its patron, the key that is shown, its own key, and what it asks for.
+/// Requests, each with its patron, the key shown, its own key, and what it asks for.
 pub const READ: [(&str, &str); 8] = [
     (
         "GET /patrons/1 HTTP/1.1\r\nCard-Key: cardkey00001\r\n\r\n",
@@ -110,7 +110,7 @@ pub const CUT: [&str; 5] = [
     "GET /nowhere HTTP/1.1\r\nContent-Length: 2\r\n\r\n1",
 ];
 
-/// Heads that no more bytes can mend, each with how many bytes have to come before that is known.
+/// Heads that no more bytes can mend, each with the number of bytes until that is known.
 pub const NO_HEAD: [(&str, usize); 2] = [
     ("GET /patrons/1 HTTP/2.0\r\n\r\n", 21),
     (
@@ -119,7 +119,7 @@ pub const NO_HEAD: [(&str, usize); 2] = [
     ),
 ];
 
-/// Heads whose fields are refused before any byte of a body is looked at, each with its answer.
+/// Heads whose fields are refused before any byte of a body is read, each with its answer.
 pub const REFUSED_HEADS: [(&str, &str); 7] = [
     (
         "GET /nowhere HTTP/1.1\r\nTransfer-Encoding: chunked\r\n\r\n",
@@ -319,7 +319,7 @@ pub const ANSWERED: [(&str, &str); 4] = [
     ),
 ];
 
-/// What is no answer.
+/// What isn't an answer.
 pub const UNREAD: [&str; 8] = [
     "",
     "HTTP/1.1 200 OK\r\nContent-Le",

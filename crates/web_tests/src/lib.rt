@@ -1,5 +1,5 @@
-//! Tests of the web: requests as connections bring them, and answers as connections take them, in a
-//! crate of their own, so that `web` is proved once.
+//! Tests of the web, in their own crate so that `web` is proved once: requests as connections bring
+//! them, and answers as connections take them.
 #![tactic(auto)]
 
 #[cfg(test)]

@@ -23,7 +23,7 @@ enum Side {
     Client,
 }
 
-/// A request in words: its patron, the key that is shown, its own key, and what it asks for.
+/// A request in words: its patron, the key shown, its own key, and what it asks for.
 fn said(alloc: Global, request: &WebRequest) -> Result<String, Fail> {
     let command = request_text(alloc, &request.command)?;
     let patron = match &request.patron {
@@ -50,7 +50,7 @@ fn written(alloc: Global, answer: &Answer) -> Result<String, Fail> {
     String::from_utf8(bytes).map_err(|_| "an answer is no text".into())
 }
 
-/// What a request is read as: its words, or the answer to one that fails a check.
+/// How a request is read: its words, or the answer if it fails a check.
 fn request_told(alloc: Global, reader: &mut Drip<'_>) -> Result<String, Fail> {
     let routes = Routes::new(alloc)?;
     match read_request(alloc, Some(&routes), reader) {
@@ -61,7 +61,7 @@ fn request_told(alloc: Global, reader: &mut Drip<'_>) -> Result<String, Fail> {
     }
 }
 
-/// What an answer is read as: its status and its body.
+/// How an answer is read: its status and its body.
 fn answer_told(alloc: Global, reader: &mut Drip<'_>) -> Result<String, Fail> {
     match read_answer(alloc, reader) {
         Ok(answer) => {
@@ -75,7 +75,7 @@ fn answer_told(alloc: Global, reader: &mut Drip<'_>) -> Result<String, Fail> {
     }
 }
 
-/// Whether this is what is read of the bytes, in pieces of these sizes.
+/// Whether the bytes, in pieces of these sizes, are read as this.
 fn is_read(
     alloc: Global,
     side: Side,
@@ -97,7 +97,7 @@ fn is_read(
     Ok(told.as_str() == want)
 }
 
-/// Whether this is what is read of the bytes, whole, in pieces of one size, and in two pieces.
+/// Whether the bytes are read as this: whole, in pieces of one size, and in two pieces.
 fn is_read_anyhow(alloc: Global, side: Side, bytes: &[u8], want: &str) -> Result<bool, Fail> {
     for size in [1, 2, 7, 100_000] {
         if !is_read(alloc, side, bytes, (size, size, false), want)? {
@@ -112,7 +112,7 @@ fn is_read_anyhow(alloc: Global, side: Side, bytes: &[u8], want: &str) -> Result
     Ok(true)
 }
 
-/// Whether a read that fails is told, at each byte, and none is made after the last byte.
+/// Whether a failing read is reported, at each byte, and none is made after the last byte.
 fn is_read_exactly(alloc: Global, side: Side, bytes: &[u8], want: &str) -> Result<bool, Fail> {
     for end in 0..bytes.len() {
         if !is_read(alloc, side, &bytes[..end], (7, 100_000, true), "failed")? {
@@ -142,8 +142,8 @@ fn requests_are_read(rt: HostRuntime) -> Result<(), Fail> {
     Ok(())
 }
 
-/// How many beginnings of the bytes, from the empty one on, are told as a read that failed, where
-/// the reader fails after them. The others get the answer, else there is no such number.
+/// How many beginnings of the bytes, from the empty one on, give a failed read if the reader fails
+/// after them. The others must get the answer, or there is no such number.
 fn failed_reads(alloc: Global, bytes: &[u8], want: &str) -> Result<Option<usize>, Fail> {
     let mut count = 0usize;
     for end in 0..bytes.len() + 1 {
@@ -157,7 +157,7 @@ fn failed_reads(alloc: Global, bytes: &[u8], want: &str) -> Result<Option<usize>
     Ok(Some(count))
 }
 
-/// What ends too soon is refused at its end alone: where a read fails there, that is told.
+/// What ends too soon is refused only at its end: a read that fails there is reported.
 #[test]
 fn what_is_cut_is_refused(rt: HostRuntime) -> Result<(), Fail> {
     let alloc = rt.alloc();
@@ -173,7 +173,7 @@ fn what_is_cut_is_refused(rt: HostRuntime) -> Result<(), Fail> {
     Ok(())
 }
 
-/// A head is refused once it is whole, or once nothing that follows can make it one.
+/// A head is refused once it is whole, or once nothing that follows can complete it.
 #[test]
 fn heads_are_refused(rt: HostRuntime) -> Result<(), Fail> {
     let alloc = rt.alloc();
@@ -219,7 +219,7 @@ fn checks_refuse_in_their_order(rt: HostRuntime) -> Result<(), Fail> {
     Ok(())
 }
 
-/// A page's request with so many fields, the last of which has a value of this length.
+/// A page request with this many fields, the last with a value of this length.
 fn page_with(alloc: Global, fields: usize, length: usize) -> Result<String, Fail> {
     let mut text = String::from_str(
         alloc,
@@ -240,8 +240,8 @@ fn page_with(alloc: Global, fields: usize, length: usize) -> Result<String, Fail
 fn heads_have_limits(rt: HostRuntime) -> Result<(), Fail> {
     let alloc = rt.alloc();
     let page = "1 cardkey00001 -: page 1";
-    // where a read fails, that is told up to the byte at which a head that is too long, or has too
-    // many fields, can't be a good one any more
+    // a failing read is reported up to the byte at which a head that is too long, or has too many
+    // fields, can't become good
     for (fields, length, size, want, least) in [
         (2, 8136, 8192, page, 8192),
         (2, 8137, 8193, BAD_REQUEST, 8192),
@@ -299,7 +299,7 @@ fn answers(alloc: Global) -> Result<[(Answer, &'static str); 11], Fail> {
     ])
 }
 
-/// Whether a writer with too little room for an answer takes the beginning that it has room for.
+/// Whether a writer with too little room for an answer takes what fits.
 fn is_cut(alloc: Global, answer: &Answer, want: &str) -> Result<bool, Fail> {
     let bytes = want.as_bytes();
     for room in 0..bytes.len() {
