@@ -25,14 +25,14 @@ module _ {C I O : Type 0} (comes : C → I → O → C → Type 0) (goes : C →
   abbrev pub ServesNext : C → C → Working → Working → Type 0
   ServesNext old new before after = ServesOne old new before after ⊎ ((new ≡ old) × (after ≡ before))
 
-  -- So many came, or couldn't be accepted, one after another.
+  -- This many came, or couldn't be accepted, one after another.
   abbrev pub ServesMany : ℕ → C → C → Working → Working → Type 0
   ServesMany zero old new before after = (new ≡ old) × (after ≡ before)
   ServesMany (suc n) old new before after =
       (mid : C) × (then : Working) × ServesMany n old mid before then × ServesNext mid new then after
 
-  -- A worker served so many and left: `left` is its end, whose last message is its Leave, unless the desk is
-  -- gone.
+  -- A worker served this many and left: `left` is its end, whose last message is its Leave, unless the desk
+  -- is gone.
   pub record Works (each : ℕ) (old new : C) (hired left : Working) : Type 0 where
     -- the worker before it left
     pub last : Working

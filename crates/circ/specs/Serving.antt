@@ -88,14 +88,14 @@ pub record ServesHall {S E : Type 0} (lists : History → Type 0) (port : ℕ) (
 pub record IsNotServed {S E : Type 0} (workers : ℕ) (g : Ghosts S) (old new : Held S)
     (before after : Option (List ℕ)) (result : Result Exit E) : Type 0 where
   pub fault : ServiceFault
-  -- so many workers are allowed, or no memory was left to check that
+  -- this many workers are allowed, or no memory was left to check that
   pub asked : (can_be_workers workers ≡ true) ⊎ (fault ≡ Met Memory)
   pub cause : KeepsClosed g old new fault
   pub desk : HandledFirst [] [] g old new (Some fault)
   pub told : EndsWith exit.Faulted (fault_line (service_fault_number fault)) before after result
 
 -- The web was served, with the answers that each list of accepted requests shown by the tables gives; or the
--- hall could not be opened; or so many workers aren't allowed, and nothing was touched.
+-- hall could not be opened; or this many workers aren't allowed, and nothing was touched.
 abbrev pub ServesPort : {S E : Type 0} → ℕ → ℕ → Ghosts S → Held S → Held S → Option (List ℕ) → Option (List ℕ) → Result Exit E → Type 0
 ServesPort port workers g old new before after result =
     ((can_be_workers workers ≡ true) × ServesHall (Shows (state g old)) port g old new before after result)

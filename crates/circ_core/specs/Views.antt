@@ -296,7 +296,8 @@ IsViewOf P (Waive patron amount) rows = IsAccountView P patron rows
 IsViewOf P (Page patron) rows = rows.patron ≡ P.patrons patron
 IsViewOf P (Ask question) rows = Unit {0}
 
--- The view holds nothing but what the command needs, whatever the tables are: every place that isn't named here is as in the view of no row.
+-- The view holds only what the command needs, whatever the tables are: every field not named here is as in
+-- the empty view.
 abbrev pub HasOnly : Command → View → Type 0
 HasOnly (BeginDay day) rows = rows ≡ record empty_view { meta = rows.meta }
 HasOnly (Branch branch pickup name) rows = rows ≡ record empty_view { branch = rows.branch }

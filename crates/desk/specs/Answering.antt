@@ -93,7 +93,7 @@ abbrev pub RefusesAnothers : Owner → Command → History → Option Refusal �
 RefusesAnothers o c H (Some refused) = refusal H o c ≡ Some refused
 RefusesAnothers o c H None = refusal H o c ≡ refusal H Desk c
 
--- Whether the caller is the desk, or a patron who shows the own card key.
+-- Whether the caller is the desk, or a patron who shows their own card key.
 abbrev pub Knows : Caller → History → Bool → Type 0
 Knows caller H known = known ≡ is_known H caller
 
@@ -114,7 +114,7 @@ repeated same reply = elim same [ true ↦ reply | false ↦ Refused KeyUsed ]
 abbrev pub after_key : History → Request → History
 after_key H r = elim (is_none (kept_of H (owner_of r.caller) r.key)) [ true ↦ added H (event_of r) | false ↦ H ]
 
--- What a patron who shows a card key gets: the own page, or that this isn't allowed.
+-- What a patron who shows a card key gets: their own page, or that this isn't allowed.
 abbrev pub page_for : History → ℕ → List ℕ → Reply
 page_for H patron card_key = elim (is_known H (FromPatron patron card_key)) [ true ↦ answer H (Patron patron) (Page patron) | false ↦ Refused NotAllowed ]
 

@@ -73,10 +73,10 @@ pub record HandlesTouching {S : Type 0} (request : Request)
   pub kept : IsClean g new → IfOk result (λ told. (H : History) → Shows (state g old) H → (p : ℕ)
       → list_any (λ q. q == p) told.1 ≡ false → own_page (after_one H request) p ≡ own_page H p)
 
--- A patron who shows a card key got the own page or was refused.
+-- A patron who shows a card key got their own page or was refused.
 pub record ShowsPage {S : Type 0} (patron : ℕ) (card_key : List ℕ)
     (g : Ghosts S) (old new : Held S) (result : Result Reply Fault) : Type 0 where
-  -- the reply is the page if the patron shows the own card key, otherwise one refusal for an unknown patron
+  -- the reply is the page if the patron shows their own card key, otherwise one refusal for an unknown patron
   -- and a wrong key alike
   pub page : Learns (IsPageFor patron card_key) g old new result
   -- it is the same after every list that agrees on the patron's own rows

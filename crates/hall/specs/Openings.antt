@@ -65,7 +65,7 @@ pub record OpensWith {S : Type 0} (lists : History → Type 0) (g : Ghosts S) (h
 
 -- ---- a hall that isn't opened
 
--- So many workers are allowed.
+-- This many workers are allowed.
 abbrev pub can_be_workers : ℕ → Bool
 can_be_workers workers = nat_le 1 workers && nat_le workers WORKERS
 
@@ -74,7 +74,7 @@ can_be_workers workers = nat_le 1 workers && nat_le workers WORKERS
 abbrev pub KeepsClosed : {S : Type 0} → Ghosts S → Held S → Held S → ServiceFault → Type 0
 KeepsClosed g old new fault = IsMet (MeetsFaultOf g old new) fault ⊎ (LooksOnly g old new (Ok tt) × (fault ≡ Closed))
 
--- Why a hall with so many workers isn't opened. Its desk comes back: it wasn't asked for anything, or only
+-- Why a hall with this many workers isn't opened. Its desk comes back: it wasn't asked for anything, or only
 -- read its tables.
 pub record IsUnopened {S : Type 0} (workers : ℕ) (g : Ghosts S) (old new : Held S) (why : Why)
     : Type 0 where
@@ -84,7 +84,7 @@ pub record IsUnopened {S : Type 0} (workers : ℕ) (g : Ghosts S) (old new : Hel
   pub faulted : can_be_workers workers ≡ true → (fault : ServiceFault) × (why ≡ Faulted fault)
       × KeepsClosed g old new fault
 
--- Why a hall with so many workers isn't opened over a new library.
+-- Why a hall with this many workers isn't opened over a new library.
 pub record IsUnmade (workers : ℕ) (why : Why) : Type 0 where
   -- there are none, or too many
   pub refused : can_be_workers workers ≡ false → why ≡ Refused OutOfLimits

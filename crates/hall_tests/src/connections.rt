@@ -290,7 +290,7 @@ fn a_cut_answer_can_be_had_again(rt: HostRuntime) -> Result<(), Fail> {
     Ok(())
 }
 
-/// Nothing was asked for where a read failed.
+/// A failed read asks for nothing.
 #[test]
 fn a_request_that_is_not_whole_is_none(rt: HostRuntime) -> Result<(), Fail> {
     let alloc = rt.alloc();

@@ -1,4 +1,5 @@
--- In a legal history a hold is ready exactly if one copy stands on its hold shelf, and a copy that travels for a hold fits it.
+-- In a legal history a hold is ready exactly if one copy stands on its hold shelf, and a copy that travels
+-- for a hold fits it.
 use Rattle.std.proofs.Common.{◌≡◌, ℕ, ◌<◌, ◌==◌, Bool, true, false, cond, ◌&&◌, ◌||◌, not, ◌⊎◌, ◌≢◌, inl, inr, List, [], ◌∷◌, refl, sym, ◌∙◌, ap, subst, arith}
 use Rattle.std.specs.Prelude.{Option, Some, None, is_none, filter, find, unwrap_or, option_map}
 use Rattle.std.specs.List.{list_any}

@@ -1,4 +1,5 @@
--- Every legal history is bound: the places and states fit each other, unknown copies are nowhere and unplaced holds have no state.
+-- Every legal history is bound: places and states fit each other, unknown copies are nowhere, unplaced holds
+-- have no state.
 use Rattle.std.proofs.Common.{◌≡◌, ℕ, ◌==◌, Bool, true, false, cond, List, [], ◌∷◌, refl, sym, ◌∙◌}
 use Rattle.std.specs.Prelude.{Option, Some, None, is_none}
 use Rattle.std.specs.Option.{option_or}

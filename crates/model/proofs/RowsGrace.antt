@@ -1,4 +1,5 @@
--- Worked examples of grace days. The loans are due on 2026-03-09, a Monday: 2026-03-11 is two open days late, and 2026-03-12 three.
+-- Worked examples of grace days. The loans are due on Monday 2026-03-09: 2026-03-11 is two open days late,
+-- 2026-03-12 three.
 use Rattle.std.specs.Prelude.{◌≡◌, [], ◌∷◌, refl}
 use Rattle.std.specs.Fmt.{digits}
 use Rattle.terms.specs.declared.command.Command.TheVariants.{BeginDay, Rule, Grace, CheckOut, CheckIn, Renew}

@@ -8,7 +8,7 @@ use Rattle.terms.specs.declared.row.Condition.TheVariants.{Missing, Withdrawn}
 use Rattle.model.specs.Picture.{Picture}
 use Rattle.model.specs.Places.{Place, Nowhere, Shelf, HoldShelf, Transit, Loan, MissingCopy, WithdrawnCopy}
 
--- A claim is named by the place that it gives the copy: an open loan row, a ready hold row, a transit row, a condition.
+-- A claim is named by the copy's place: an open loan row, a ready hold row, a transit row, a condition.
 abbrev pub Claims : Picture → ℕ → Place → Type 0
 Claims t c (Loan l) = (r : LoanRow) × (t.loans l ≡ Some r) × (r.copy ≡ c) × (r.ended ≡ None)
 Claims t c (HoldShelf h) = (r : HoldRow) × (t.holds h ≡ Some r) × (r.copy ≡ Some c) × (r.state ≡ Ready)

@@ -26,7 +26,7 @@ abbrev pub is_known : History → Caller → Bool
 is_known H FromDesk = true
 is_known H (FromPatron p card_key) = unwrap_or (option_map (λ r. bytes_eq r.card_key card_key) (patron_of H p)) false
 
--- A patron may send place-hold, at once or from a day on, and page for the own number, and renew and
+-- A patron may send place-hold, at once or from a day on, and page for their own number, and renew and
 -- cancel-hold.
 abbrev pub patron_may : ℕ → Command → Bool
 patron_may p (PlaceHold q title branch first_day) = q == p

@@ -30,7 +30,7 @@ mask_text closed =
     weekday_letter closed 0 ∷ weekday_letter closed 1 ∷ weekday_letter closed 2 ∷ weekday_letter closed 3
     ∷ weekday_letter closed 4 ∷ weekday_letter closed 5 ∷ weekday_letter closed 6 ∷ []
 
--- a part of a command, by its kind: a number, an amount in cents, a day, a mask of closed weekdays, a card key, a name
+-- a part of a command: a number, an amount in cents, a day, a mask of closed weekdays, a card key, a name
 pub data Part : Type 0 where
   Number : ℕ → Part
   Amount : ℕ → Part
