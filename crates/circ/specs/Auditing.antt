@@ -61,7 +61,7 @@ pub record SaysUnsound {S : Type 0} (g : Ghosts S) (old new : Held S) (line : Li
   pub never : IsClean g new → (H : History) → Shows (state g old) H → ⊥
 
 -- The line is a fault. It isn't 93 if the rows of the tables were within their limits, and so not if the
--- tables showed a list of accepted requests. They show what they showed, while the database is open.
+-- tables showed a list of accepted requests. They show what they showed, if the database is still open.
 pub record SaysFaulted {S : Type 0} (g : Ghosts S) (old new : Held S) (line : List ℕ)
     (exit : Exit) : Type 0 where
   pub fault : Fault

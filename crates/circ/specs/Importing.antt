@@ -127,8 +127,8 @@ pub record ImportsAll {S : Type 0} (rows : List FileRow) (end : CopyEnd)
 
 -- A fault came at a row, which isn't 93 if the tables showed a list of accepted requests: the lines of the
 -- rows before it went out, then those of the fault and the counts. The row changed nothing, whatever rows the
--- tables have; they show the list after the rows before it, with its headline, while the database is open; a
--- stop leaves that, or also what they would show after that row.
+-- tables have; they show the list after the rows before it, with its headline, if the database is still open;
+-- a stop leaves that, or also what they would show after that row.
 pub record ImportsSome {S : Type 0} (rows : List FileRow)
     (g : Ghosts S) (old new : Held S) (WentOut : List ℕ → List ℕ → Type 0) (exit : Exit)
     : Type 0 where
@@ -185,7 +185,7 @@ pub record ImportsRow {S E : Type 0} (row : FileRow) (had has : Tally)
   -- it isn't 93 if the tables show a list of accepted requests
   pub sound : (fault : Fault) → result ≡ Ok (Some fault) → IsClean g new → fault ≡ Stored
       → (H : History) → Shows (state g old) H → ⊥
-  -- and the tables show what they showed, while the database is open
+  -- and the tables show what they showed, if the database is still open
   pub undone : (fault : Fault) → result ≡ Ok (Some fault) → IsClean g new → IsOpen g new
       → Stays (state g old) (state g new)
   -- nor did the row change any tables, whatever they are

@@ -49,8 +49,8 @@ pub record SaysLed {S : Type 0} (g : Ghosts S) (old new : Held S) (line : List �
       → MigratesUp (state g old).now (state g new).now
 
 -- The line is a fault, which isn't 93 if the tables showed a list of accepted requests. They show the same
--- list, while the database is open, in their schema or in that of the last whole step, which wasn't the final
--- one.
+-- list, if the database is still open, in their schema or in that of the last whole step, which wasn't the
+-- final one.
 pub record SaysNotLed {S : Type 0} (g : Ghosts S) (old new : Held S) (line : List ℕ)
     (exit : Exit) : Type 0 where
   pub fault : Fault

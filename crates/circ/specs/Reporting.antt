@@ -36,7 +36,7 @@ pub record TellsUnknown {S : Type 0} (report : Report)
       → IsUnknown H report × Shows (state g new) H
 
 -- A beginning of the report, possibly empty, went out, then a fault, which isn't 93 if the tables showed a
--- list of accepted requests. They show what they showed, while the database is open.
+-- list of accepted requests. They show what they showed, if the database is still open.
 pub record TellsFault {S : Type 0} (report : Report)
     (g : Ghosts S) (old new : Held S) (WentOut : List ℕ → Type 0) (exit : Exit) : Type 0 where
   -- what went out of the report
@@ -61,7 +61,7 @@ pub record TellsAnyReport {S E : Type 0} (report : Report)
     (g : Ghosts S) (old new : Held S) (before after : Option (List ℕ))
     (result : Result Exit E) : Type 0 where
   pub clean : IsClean g new → IsClean g old
-  -- the tables show what they showed, with its headline, while the database is open
+  -- the tables show what they showed, with its headline, if the database is still open
   pub headline : IsClean g new → IsOpen g new → (H : History) → Shows (state g old) H
       → ShowsHeadline g new H
   -- nothing is changed, whatever rows they have

@@ -55,8 +55,8 @@ LeavesRequest key words s H =
     × LeavesOneOf s H (after_one H (desk_request key command)))
 
 -- The line is a fault: 90, or one that the command met, which isn't 93 if the tables showed a list of
--- accepted requests. They show what they showed, and nothing is changed, whatever rows they have, while the
--- database is open; a stop leaves that, or what they would show after the words' request.
+-- accepted requests. They show what they showed, and nothing is changed, whatever rows they have, if the
+-- database is still open; a stop leaves that, or what they would show after the words' request.
 pub record SaysFault {S : Type 0} (key : List ℕ) (words : List (List ℕ))
     (g : Ghosts S) (old new : Held S) (line : List ℕ) (exit : Exit) : Type 0 where
   pub fault : Fault

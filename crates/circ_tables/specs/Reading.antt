@@ -133,8 +133,8 @@ pub record Looks {S : Type 0} (g : Ghosts S) (old new : Held S) : Type 0 where
       → IsKeptOrUndone (state g old) (state g new)
   pub survives : Survives (state g old) (state g new) (λ _. (state g old).now.schema ≢ schema)
 
--- The tables were asked in a transaction that was rolled back: while the database is open they are what was
--- committed, whatever tables exist.
+-- The tables were asked in a transaction that was rolled back: if the database is still open they are what
+-- was committed, whatever tables exist.
 pub record RollsBack {S : Type 0} (g : Ghosts S) (old new : Held S) : Type 0 where
   pub idle : new.in_transaction ≡ false
   pub same : HasCleanDisk (state g new) → IsTrue (state g new).is_open

@@ -48,7 +48,7 @@ Stays old new = (H : History) → Shows old H → Shows new H
 abbrev pub LeavesOneOf : State → History → History → Type 0
 LeavesOneOf s H K = LeavesEither s (picture H) (picture K)
 
--- Nothing changes, whatever rows the tables have: neither after an answer nor, while the database is open,
+-- Nothing changes, whatever rows the tables have: neither after an answer nor, if the database is still open,
 -- after an error.
 pub record ChangesNothing {T E : Type 0} (old new : State) (result : Result T E) : Type 0 where
   pub answered : HasCleanDisk new → HasTables old.now → OnOk result (IsAsItWas old new)
@@ -62,7 +62,7 @@ pub record DeskLooks {T E : Type 0} (old new : State) (result : Result T E) : Ty
   pub clean : HasCleanDisk new → HasCleanDisk old
   -- the tables show what they showed
   pub stays : HasCleanDisk new → OnOk result (Stays old new)
-  -- after an error too, while the database is open
+  -- after an error too, if the database is still open
   pub undone : HasCleanDisk new → IsTrue new.is_open → OnErr result (Stays old new)
   -- whenever the program is stopped, that is what remains
   pub left : HasCleanDisk new → (H : History) → Shows old H → LeavesPicture new (picture H)
@@ -129,7 +129,7 @@ IsOwnPageFor patron card_key H reply = (K : History) → AgreesOn H K patron →
 
 -- ---- a request that is handled
 
--- After a fault the tables show what they showed, while the database is open.
+-- After a fault the tables show what they showed, if the database is still open.
 abbrev pub Undoes : {S A : Type 0} → Ghosts S → Held S → Held S → Result A Fault → Type 0
 Undoes g old new result = IsClean g new → IsOpen g new
     → OnErr result (Stays (state g old) (state g new))
@@ -142,7 +142,7 @@ pub record HandlesAny {S : Type 0} (g : Ghosts S) (old new : Held S) (result : R
   -- a refused request changes nothing
   pub refused : IsClean g new → HasTables (state g old).now
       → IfOk result (λ reply. (r : Refusal) → reply ≡ Refused r → IsAsItWas (state g old) (state g new))
-  -- nor does one that met a fault, even 93, while the database is open
+  -- nor does one that met a fault, even 93, if the database is still open
   pub failed : IsClean g new → IsOpen g new → HasTables (state g old).now
       → OnErr result (IsAsItWas (state g old) (state g new))
 
@@ -159,7 +159,7 @@ pub record Records {S A : Type 0} (owner : Owner) (made : Picture → Picture)
       → KeepsPicture (state g new) (made P))
   -- the tables still exist, whatever their rows
   pub tables : IsClean g new → HasTables (state g old).now → OnOk result (HasTables (state g new).now)
-  -- after a fault nothing is changed, while the database is open
+  -- after a fault nothing is changed, if the database is still open
   pub failed : IsClean g new → IsOpen g new → OnErr result (IsAsItWas (state g old) (state g new))
   -- a stop leaves the picture before or after it
   pub left : IsClean g new → IsOwner owner → (P : Picture) → KeepsPicture (state g old) P
@@ -211,7 +211,7 @@ pub record Handled {S : Type 0} (request : Request)
       → (reply ≡ reply_to H request) × Shows (state g new) (after_one H request))
   -- fault 93 doesn't come if the tables show a list of accepted requests
   pub sound : IsClean g new → result ≡ Err Stored → (H : History) → Shows (state g old) H → ⊥
-  -- after a fault the tables show what they showed, while the database is open
+  -- after a fault the tables show what they showed, if the database is still open
   pub undone : Undoes g old new result
   -- what is promised for any tables, after a refusal too
   pub any : HandlesAny g old new result

@@ -18,8 +18,8 @@ use Rattle.desk.specs.Answering.{Handled, Shows, LeavesOneOf, Learns, IsPageFor,
 use Rattle.desk.specs.Headline.{Headline}
 use Rattle.desk.specs.Showing.{own_page}
 
--- A store was dropped because its tables show no list of accepted requests. They stayed the same while the
--- database was open.
+-- A store was dropped because its tables show no list of accepted requests. They stayed the same if the
+-- database was still open.
 pub record RefusesTables {S : Type 0} (g : Ghosts S) (store : Held S) : Type 0 where
   -- the store when it was dropped
   pub last : Held S
@@ -92,7 +92,7 @@ HandledAll g [] (a ∷ more) old new = ⊥
 HandledAll g (r ∷ rs) [] old new = ⊥
 
 -- The requests before the one that met a fault stand; that one changed nothing, whatever rows the tables
--- have, while the database is open.
+-- have, if the database is still open.
 pub record Stands {S : Type 0} (requests : List Request) (replies : List Reply)
     (g : Ghosts S) (old new : Held S) : Type 0 where
   pub before : ℕ
@@ -122,7 +122,7 @@ pub record Ran {S Z : Type 0} (requests : List Request)
   pub sound : IsClean g new → IfErr result (λ end. end.1 ≡ Stored
       → (H : History) → Shows (state g old) H → ⊥)
   -- a fault came at the request after the first n: the replies are theirs, the tables show the list after
-  -- them, while the database is open, and a stop leaves that or also what that request leaves
+  -- them, if the database is still open, and a stop leaves that or also what that request leaves
   pub stopped : IsClean g new → IfErr result (λ end. (H : History) → Shows (state g old) H
       → (n : ℕ) × (n ≤ length requests) × (end.0.items ≡ replies_to H (take n requests))
       × (IsOpen g new → Shows (state g new) (after H (take n requests)))

@@ -39,7 +39,7 @@ pub record HandledFirst {S : Type 0} (first rest : List Request)
       → ShowsHeadline g new (after H first)
   -- fault 93 doesn't come if the tables show a list of accepted requests
   pub sound : IsClean g new → fault ≡ Some (Met Stored) → (H : History) → Shows (state g old) H → ⊥
-  -- after a fault the tables show that list too, while the database is open
+  -- after a fault the tables show that list too, if the database is still open
   pub undone : IsClean g new → IsOpen g new → (H : History) → Shows (state g old) H
       → Shows (state g new) (after H first)
   -- and a stop then leaves that, or also what is there after the first of the rest

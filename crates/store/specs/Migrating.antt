@@ -175,7 +175,7 @@ pub record CannotBeLed (db : Database) : Type 0 where
   pub there : AreThere at db
   pub damaged : ¬ CanBeLed at there.maps
 
--- The tables are as the first of two steps left them, committed.
+-- The tables are unchanged, or as the first of two steps left them, committed.
 pub record IsLedInPart (old new : State) : Type 0 where
   pub led : MakesOneStep old.now new.now
   pub committed : new.committed ≡ new.now
@@ -185,8 +185,8 @@ abbrev pub IsNotLedUp : ℕ → ℕ → Type 0
 IsNotLedUp n steps = (n + steps ≤ SCHEMA) × (IsOlder n → n + steps < SCHEMA)
 
 -- A library was migrated to the newest schema, step by step, or it was of that already and is unchanged.
--- After a fault it has the schema of the last whole step, and the step that met the fault changed nothing,
--- while the database is open; a stop leaves what was there or what some of the steps make of it. It is
+-- After a fault it has the schema of the last whole step, and the step that met the fault changed nothing, if
+-- the database is still open; a stop leaves what was there or what some of the steps make of it. It is
 -- migrated only if no row to be carried over is damaged.
 pub record Migrates {S T : Type 0} (g : Ghosts S) (old new : Held S) (result : Result T Fault) : Type 0 where
   pub clean : HasCleanDisk (state g new) → HasCleanDisk (state g old)

@@ -17,7 +17,7 @@ pub record Reads {A : Type 0} (old new : State) (result : Result A Fault) : Type
   pub clean : HasCleanDisk new → HasCleanDisk old
   -- after an answer the database holds what it held
   pub answered : HasCleanDisk new → HasTables old.now → OnOk result (new.now ≡ old.now)
-  -- after a fault too, while it is open
+  -- after a fault too, if it is still open
   pub same : HasCleanDisk new → IsTrue new.is_open → HasTables old.now → new.now ≡ old.now
   -- a stop leaves only what it would have left before
   pub left : HasCleanDisk new → HasTables old.now → (trees : Trees) → new.may_leave trees → old.may_leave trees
