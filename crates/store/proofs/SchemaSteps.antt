@@ -487,7 +487,7 @@ module _ {S : Type 0} (g : Ghosts S) (settled : Settles g) {old mid new : Held S
         let early : HasCleanDisk (state g mid) = omega (arith, second.survives.clean, clean) in
         let made = (first.done early n there).made in
         let same = second.undone clean is_open 2 (between_there to (state g old).now (state g mid).now made less n there).1 in
-        inr (record { led = subst (λ d. MakesOneStep (state g old).now d) (sym same.0) (to, made); committed = same.1 ∙ sym same.0 });
+        inr (record { to = to; older = less; led = subst (λ d. MigratesOn to (state g old).now d) (sym same.0) made; committed = same.1 ∙ sym same.0 });
     stop = both_stopped second;
     stop_damaged = λ clean cannot left.
         let early : HasCleanDisk (state g mid) = omega (arith, second.survives.clean, clean) in

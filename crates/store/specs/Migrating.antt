@@ -175,9 +175,11 @@ pub record CannotBeLed (db : Database) : Type 0 where
   pub there : AreThere at db
   pub damaged : ¬ CanBeLed at there.maps
 
--- The tables are unchanged, or as the first of two steps left them, committed.
+-- The tables are as the first of two steps left them, committed; it didn't lead to the newest schema.
 pub record IsLedInPart (old new : State) : Type 0 where
-  pub led : MakesOneStep old.now new.now
+  pub to : ℕ
+  pub older : to < SCHEMA
+  pub led : MigratesOn to old.now new.now
   pub committed : new.committed ≡ new.now
 
 -- This many steps lead on from schema n, and from an older one not to the newest.
