@@ -1,6 +1,6 @@
 //! The desk: many requests in sequence.
 
-ghost use Rattle.std.specs.Prelude.{◌≡◌, [], IfOk};
+ghost use Rattle.std.specs.Prelude.{◌≡◌, ◌≢◌, [], IfOk, IfErr};
 ghost use Rattle.store.specs.Library.{state, over_memory, IsClean, IsOpen};
 ghost use Rattle.store.specs.Limits.{limit_of};
 ghost use Rattle.model.specs.Reports.{overdue as overdue_of, shelf as shelf_of};
@@ -200,6 +200,7 @@ impl Desk<MemStore> {
     pub fn in_memory(alloc: Global) -> Result<Desk<MemStore>, Fault>
         ensures shows { IfOk result (λ desk. Shows (state over_memory desk) []) }
         ensures open { IfOk result (λ desk. IsClean over_memory desk × IsOpen over_memory desk) }
+        ensures fault { IfErr result (λ fault. fault ≢ Fault.Stored) }
     {
         let store = Store::in_memory(alloc)?;
         let desk = Desk::new(store)?;
