@@ -1,6 +1,6 @@
 //! Beginnings of the list.
 
-ghost use Rattle.std.specs.Prelude.{◌≡◌, IsTrue, length};
+ghost use Rattle.std.specs.Prelude.{◌≡◌, ◌<◌, IsTrue, IsFalse, length};
 ghost use mathlib.Core.List.{IsPrefix};
 ghost use Rattle.chronicle.specs.Growing.{known};
 
@@ -56,7 +56,8 @@ impl<E> Beginning<E> {
     /// extends this one.
     pub fn begins(&self, other: &Beginning<E>) -> bool
         requires { self.now.book ≡ other.now.book }
-        ensures { IsTrue result → IsPrefix self.now.items other.now.items }
+        ensures yes { IsTrue result → IsPrefix self.now.items other.now.items }
+        ensures no { IsFalse result → length other.now.items < length self.now.items }
     {
         let mut both = self.seen.again();
         both.learn(&other.seen);
