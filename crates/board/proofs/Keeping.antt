@@ -1,5 +1,5 @@
 -- Each step keeps the rule of the board.
-use Rattle.std.proofs.Common.{◌≡◌, ◌≢◌, ℕ, ◌+◌, ◌-◌, Bool, true, false, cond, List, [], ◌∷◌, ◌++◌, length, map, set, fold, Option, Some}
+use Rattle.std.proofs.Common.{◌≡◌, ◌≢◌, ℕ, ◌+◌, ◌-◌, Bool, true, false, cond, eqb, arith, List, [], ◌∷◌, ◌++◌, length, map, set, fold, Option, Some}
 use Rattle.std.proofs.Common.{None, get_or, zero, suc, sym, refl, ap, ◌∙◌, subst, ⊎_elim, append_assoc, length-append}
 use mathlib.Core.Option.{some, some-ne-none}
 use lib.ListN.{get_elem?}
@@ -7,7 +7,9 @@ use Rattle.std.proofs.lemmas.List.{append-nil, map-append}
 use Rattle.std.proofs.Math.ListN.{length-set}
 use Rattle.crossbeam_utils.specs.Register.{Admits, Turns, TurnsAt}
 use Rattle.atomic_table.proofs.Lists.{at_set, at_snoc}
+use Rattle.std.specs.Prelude.{IsSome}
 use Rattle.terms.specs.declared.command.Request.{Request}
+use Rattle.terms.specs.declared.reply.Reply.{Reply}
 use Rattle.board.specs.declared.board.Update.{Update}
 use Rattle.logbook.specs.Pages.{Book}
 use Rattle.chronicle.specs.Growing.{Known, known}
@@ -22,7 +24,7 @@ use Rattle.desk.specs.declared.showing.OwnPage.{OwnPage}
 use Rattle.board.specs.Rule.{KeepsBoard, ShowsAll, LooksAtBoard, Publishes, nothing_seen, opening, pages_of, are_pages}
 use Rattle.board.proofs.Beginnings.{starts_more, goes_self, fold-append, entries-append}
 use Rattle.std.proofs.lemmas.Bool.{false≢true}
-use Rattle.board.proofs.Lasts.{last_next, found_in, count_found, none_in, StandsLast}
+use Rattle.board.proofs.Lasts.{last_next, found_in, count_found, none_in, none_counted, last_here, count-append, count-cons, eqb-self, StandsLast}
 use Rattle.board.proofs.PageLists.{put-all}
 
 -- ---- each of a list
@@ -207,6 +209,33 @@ none-seen all x w is b none = none_in w all.entries (by (is_worker w) is (sym (b
     by : (c : Bool) → c ≡ true → cond c (last_of w all.entries) None ≡ None → last_of w all.entries ≡ None
     by true h e = e
     by false h e = absurd (false≢true h)
+
+-- something is seen of a worker of whom the board shows an entry
+pub some-seen : (all : Seen) (x : Showing) (w : ℕ) → IsBoardOf all x → IsSome (last_on w x) → count_own w all.entries ≢ 0
+some-seen all x w b shown none = by (is_worker w) (last_on w x) shown (b.last w ∙ ap (λ o. cond (is_worker w) o None) (none_counted w all.entries none))
+  where
+    by : (c : Bool) (o : Option Entry) → IsSome o → o ≡ cond c None None → ⊥
+    by true (Some e) s h = absurd (cc)
+    by false (Some e) s h = absurd (cc)
+    by true None s h = absurd (cc)
+    by false None s h = absurd (cc)
+
+-- a reply that was seen at its number is on the board
+pub not-found : (all : Seen) (x : Showing) (w n : ℕ) (request : Request) → IsBoardOf all x → AreEntries [] all.entries
+    → ((e : Entry) → ¬ ShowsEntry x w n request e) → (reply : Reply) → ¬ IsReply all.entries w n request reply
+not-found all x w n request b sound none reply is =
+    let may = each_at IsNextEntry [] is.front is.entry is.rest (subst (AreEntries []) is.seen_is sound) in
+    let worker : is_worker w ≡ true = ap is_worker (sym is.worker_is) ∙ may.worker in
+    let one : ◌≡◌ {A = ℕ} (cond (eqb is.entry.worker w) 1 0) 1 = ap (λ c. cond c 1 0) (eqb-self is.entry.worker w is.worker_is) in
+    let counted = ap (count_own w) is.seen_is ∙ (count-append w is.front (is.entry ∷ is.rest)
+    ∙ ap (λ k. count_own w is.front + k) (count-cons w is.entry is.rest)) in
+    let later : count_own w is.rest ≡ 0 = omega (arith, one, counted, is.all, is.next) in
+    none is.entry (record {
+      last = b.last w ∙ (ap (λ c. cond c (last_of w all.entries) None) worker
+          ∙ (ap (last_of w) is.seen_is ∙ last_here w is.front is.entry is.rest is.worker_is later));
+      number = is.number_is;
+      request_is = is.request_is;
+    })
 
 -- what a worker finds under its number is the reply to its submission
 pub found : (all : Seen) (x : Showing) (w n : ℕ) (request : Request) (e : Entry) → IsBoardOf all x → AreEntries [] all.entries

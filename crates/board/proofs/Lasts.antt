@@ -58,7 +58,7 @@ count-cons w e es = sum_by-cons (λ (d : Entry). cond (eqb d.worker w) 1 0) e es
 pub eqb-self : (k w : ℕ) → k ≡ w → eqb k w ≡ true
 eqb-self k w h = grind (arith, nat_tests)
 
-count-append : (w : ℕ) (xs ys : List Entry) → count_own w (xs ++ ys) ≡ count_own w xs + count_own w ys
+pub count-append : (w : ℕ) (xs ys : List Entry) → count_own w (xs ++ ys) ≡ count_own w xs + count_own w ys
 count-append w xs ys = sum_by-append (λ (d : Entry). cond (eqb d.worker w) 1 0) xs ys
 
 pub none_in : (w : ℕ) (es : List Entry) → last_of w es ≡ None → count_own w es ≡ 0
@@ -73,6 +73,27 @@ none_in w (x ∷ es) h = by (none_in w es) (last_of w es) (eqb x.worker w) refl 
         let none = rest p in
         let zero' : ◌≡◌ {A = ℕ} (cond (eqb x.worker w) 1 0) 0 = ap (λ b. cond b 1 0) q in
         count-cons w x es ∙ omega (arith, none, zero')
+
+-- of a worker of whom nothing is counted there is no last entry
+pub none_counted : (w : ℕ) (es : List Entry) → count_own w es ≡ 0 → last_of w es ≡ None
+none_counted w [] h = refl
+none_counted w (x ∷ es) h = by (none_counted w es) (eqb x.worker w) refl
+  where
+    by : (count_own w es ≡ 0 → last_of w es ≡ None) → (b : Bool) → eqb x.worker w ≡ b → last_of w (x ∷ es) ≡ None
+    by rest true q =
+        let one : ◌≡◌ {A = ℕ} (cond (eqb x.worker w) 1 0) 1 = ap (λ b. cond b 1 0) q in
+        absurd (omega (arith, one, h, count-cons w x es))
+    by rest false q =
+        let none : ◌≡◌ {A = ℕ} (cond (eqb x.worker w) 1 0) 0 = ap (λ b. cond b 1 0) q in
+        ap (λ o. option_or o (cond (eqb x.worker w) (Some x) None)) (rest (omega (arith, none, h, count-cons w x es)))
+        ∙ ap (λ b. option_or None (cond b (Some x) None)) q
+
+-- an entry of a worker after which nothing of that worker is counted is the last
+pub last_here : (w : ℕ) (front : List Entry) (e : Entry) (rest : List Entry) → e.worker ≡ w → count_own w rest ≡ 0 → last_of w (front ++ e ∷ rest) ≡ Some e
+last_here w [] e rest mine none =
+    ap (λ o. option_or o (cond (eqb e.worker w) (Some e) None)) (none_counted w rest none)
+    ∙ ap (λ b. option_or None (cond b (Some e) None)) (eqb-self e.worker w mine)
+last_here w (x ∷ front) e rest mine none = ap (λ o. option_or o (cond (eqb x.worker w) (Some x) None)) (last_here w front e rest mine none)
 
 -- Where the last entry of a worker stands: nothing of that worker is after it.
 pub record StandsLast (w : ℕ) (es : List Entry) (e : Entry) : Type 0 where

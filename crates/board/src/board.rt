@@ -1,9 +1,11 @@
 //! The contents of the board.
 
-ghost use Rattle.std.specs.Prelude.{◌≡◌, None, map, IsFalse, MatchResult, IfOk, IfSome, option_map};
+ghost use Rattle.std.specs.Prelude.{◌≡◌, None, map, IsTrue, IsFalse, IsSome, MatchResult};
+ghost use Rattle.std.specs.Prelude.{MatchOption, IfOk, option_map};
 ghost use Rattle.std.specs.Arc.{arc_value};
 ghost use Rattle.board.specs.Showing.{blank, page_at, with_page, with_last, with_entry, last_on};
 ghost use Rattle.board.specs.Showing.{ShowsEntry};
+ghost use Rattle.board.specs.declared.entry.Entry.{Entry};
 
 use crate::entry::{Entry, Frame};
 use crate::pages::Pages;
@@ -118,7 +120,8 @@ impl Board {
 
     /// Returns whether a worker has an entry.
     pub(crate) fn has_entry(&self, worker: WorkerId) -> bool
-        ensures { IsFalse result → last_on worker self.now ≡ None }
+        ensures yes { IsTrue result → IsSome (last_on worker self.now) }
+        ensures no { IsFalse result → last_on worker self.now ≡ None }
     {
         self.last(worker).is_some()
     }
@@ -130,8 +133,9 @@ impl Board {
         number: u64,
         request: &SharedRequest,
     ) -> Result<Option<Arc<Entry, Global>>, AllocError>
-        ensures { IfOk result (λ found. IfSome found (λ entry.
-            ShowsEntry self.now worker number request.now (arc_value entry))) }
+        ensures { IfOk result (λ found. MatchOption found
+            ((e : Entry) → ¬ ShowsEntry self.now worker number request.now e)
+            (λ entry. ShowsEntry self.now worker number request.now (arc_value entry))) }
     {
         let Some(entry) = self.last(worker) else {
             return Ok(None);

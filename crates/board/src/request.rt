@@ -1,6 +1,6 @@
 //! A request that the desk and a worker share.
 
-ghost use Rattle.std.specs.Prelude.{◌≡◌, IsTrue, IfOk};
+ghost use Rattle.std.specs.Prelude.{◌≡◌, ◌≢◌, IsTrue, IsFalse, IfOk};
 ghost use Rattle.terms.specs.Texts.{request_text as request_text_of};
 
 use std::alloc::Global;
@@ -33,7 +33,8 @@ impl Model for SharedRequest {
 
 /// Compares two callers by number and card key.
 fn is_same_caller(one: &Caller, other: &Caller) -> bool
-    ensures { IsTrue result → one.now ≡ other.now }
+    ensures yes { IsTrue result → one.now ≡ other.now }
+    ensures no { IsFalse result → one.now ≢ other.now }
 {
     match (one, other) {
         (Caller::Desk, Caller::Desk) => true,
@@ -46,7 +47,8 @@ fn is_same_caller(one: &Caller, other: &Caller) -> bool
 
 /// Compares two requests by caller, key and text.
 fn is_same_told(one: &RequestText, other: &RequestText) -> bool
-    ensures { IsTrue result → one.now.request ≡ other.now.request }
+    ensures yes { IsTrue result → one.now.request ≡ other.now.request }
+    ensures no { IsFalse result → one.now.request ≢ other.now.request }
 {
     request_texts_differ();
     command_has_forms(&one.request.command);
@@ -88,7 +90,8 @@ impl SharedRequest {
 
     /// Returns whether the other is the same request: same caller, key and command.
     pub fn is_same(&self, other: &SharedRequest) -> bool
-        ensures { IsTrue result → self.now ≡ other.now }
+        ensures yes { IsTrue result → self.now ≡ other.now }
+        ensures no { IsFalse result → self.now ≢ other.now }
     {
         is_same_told(&self.told, &other.told)
     }

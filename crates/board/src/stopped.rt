@@ -1,6 +1,6 @@
 //! A stopped board.
 
-ghost use Rattle.std.specs.Prelude.{◌≡◌, IsTrue};
+ghost use Rattle.std.specs.Prelude.{◌≡◌, ◌<◌, IsTrue, IsFalse, length};
 ghost use Rattle.board.specs.Rule.{ShowsAll};
 ghost use Rattle.board.specs.Showing.{GoesOn, seen_of};
 
@@ -58,7 +58,8 @@ impl<J: Naming> StoppedBoard<J> {
     /// Returns whether what a worker had seen is a beginning of what was shown: it is unless it is
     /// longer.
     pub fn has_shown(&self, sight: &LastSeen<J>) -> bool
-        ensures { IsTrue result → GoesOn self.now.shown sight.now }
+        ensures yes { IsTrue result → GoesOn self.now.shown sight.now }
+        ensures no { IsFalse result → length self.now.shown.pages < length sight.now.pages }
     {
         sight.frames.begins(&self.frames)
     }

@@ -1,9 +1,10 @@
 //! A worker's side of the board.
 
-ghost use Rattle.std.specs.Prelude.{◌≡◌, IfOk, IfSome, IsTrue, OnOk, option_map};
+ghost use Rattle.std.specs.Prelude.{◌≡◌, ◌≢◌, IfOk, IfSome, IsTrue, IsFalse, MatchOption, OnOk, option_map};
 ghost use Rattle.std.specs.Arc.{arc_value};
 ghost use Rattle.left_right.specs.Sides.{view as knows};
 ghost use Rattle.board.specs.declared.entry.Seen.{Seen};
+ghost use Rattle.terms.specs.declared.reply.Reply.{Reply};
 ghost use Rattle.board.specs.Showing.{GoesOn, HasLooked, page_of, seen_of, count_own, IsReply};
 
 use crate::board::Board;
@@ -122,6 +123,7 @@ impl<J: Naming> Window<J> {
     pub fn shows_none_of(&mut self, worker: WorkerId) -> Result<bool, ReadError>
         ensures on { GoesOn self.new self.old }
         ensures none { IfOk result (λ none. IsTrue none → count_own worker self.new.entries ≡ 0) }
+        ensures some { IfOk result (λ none. IsFalse none → count_own worker self.new.entries ≢ 0) }
     {
         let _in_limits = worker.number();
         let Some(reader) = self.reader.take() else {
@@ -149,8 +151,9 @@ impl<J: Naming> Window<J> {
         request: &SharedRequest,
     ) -> Result<Option<Arc<Entry, Global>>, ReadError>
         ensures on { GoesOn self.new self.old }
-        ensures found { IfOk result (λ found. IfSome found (λ entry. IsReply self.new.entries
-            worker number request.now (arc_value entry).reply)) }
+        ensures found { IfOk result (λ found. MatchOption found
+            ((reply : Reply) → ¬ IsReply self.new.entries worker number request.now reply)
+            (λ entry. IsReply self.new.entries worker number request.now (arc_value entry).reply)) }
     {
         let Some(reader) = self.reader.take() else {
             return Err(ReadError::Gone);

@@ -1,21 +1,22 @@
 use Rattle.std.proofs.Common.{◌≡◌, List, Option, None, Some, Global, sym, ap, ◌∙◌, subst}
-use Rattle.std.specs.Prelude.{IfSome}
+use Rattle.std.specs.Prelude.{MatchOption}
+use Rattle.terms.specs.declared.reply.Reply.{Reply}
 use Rattle.left_right.specs.Sides.{view}
 use Rattle.std.specs.Arc.{arc_value}
 use Rattle.std.specs.declared.sync.Arc.{Arc}
 use Rattle.board.specs.declared.entry.Entry.{Entry}
 use Rattle.board.specs.declared.entry.Seen.{Seen}
 use Rattle.board.specs.Showing.{Showing, ShowsEntry, IsReply, entries_of}
-use Rattle.board.proofs.Keeping.{looks, seen-now, found}
+use Rattle.board.proofs.Keeping.{looks, seen-now, found, not-found}
 use Rattle.board.proofs.window.Window.entry.Goals as goal
 use Rattle.board.proofs.window.Window.entry.Goals.{in-Ok-entry, in-Err-entry}
 
 pub enter_as-requires : goal.enter_as-requires
 enter_as-requires g c = looks g.J.Naming.book c.in-Some.reader.place.id (view c.in-Some.reader.place)
 
-if_some : {X : Type 0} (o : Option X) (P Q : X → Type 0) → ((x : X) → P x → Q x) → IfSome o P → IfSome o Q
-if_some (Some x) P Q f h = f x h
-if_some None P Q f h = tt
+match_option : {X : Type 0} (o : Option X) (N M : Type 0) (P Q : X → Type 0) → (N → M) → ((x : X) → P x → Q x) → MatchOption o N P → MatchOption o M Q
+match_option (Some x) N M P Q n f h = f x h
+match_option None N M P Q n f h = n h
 
 pub returns-after-entry-clause-found : goal.returns-after-entry-clause-found
 returns-after-entry-clause-found g c =
@@ -26,9 +27,14 @@ returns-after-entry-clause-found g c =
     ap (λ (s : Seen). s.entries) (seen-now c.in-Ok.reading.part.value c.frames.result seen looked.is
     (c.frames.ensures ∙ ap (λ x. x.frames) c.get-in-Ok.ensures)) in
     elim c.match-entry.branch [
-      | in-Ok-entry w ↦ rw w.result-is (if_some w.in-Ok-entry.found
+      | in-Ok-entry w ↦ rw w.result-is (match_option w.in-Ok-entry.found
+          ((e : Entry) → ¬ ShowsEntry c.get.result.now c.args.worker c.args.number c.args.request.now e)
+          ((reply : Reply) → ¬ IsReply now c.args.worker c.args.number c.args.request.now reply)
           (λ (a : Arc Entry Global). ShowsEntry c.get.result.now c.args.worker c.args.number c.args.request.now (arc_value a))
           (λ (a : Arc Entry Global). IsReply now c.args.worker c.args.number c.args.request.now (arc_value a).reply)
+          (λ none reply is. not-found seen c.in-Ok.reading.part.value c.args.worker c.args.number c.args.request.now looked.board looked.sound
+          (λ e shows. none e (subst (λ (x : Showing). ShowsEntry x c.args.worker c.args.number c.args.request.now e) (sym c.get.ensures) shows))
+          reply (subst (λ (l : List Entry). IsReply l c.args.worker c.args.number c.args.request.now reply) same is))
           (λ a shows. subst (λ (l : List Entry). IsReply l c.args.worker c.args.number c.args.request.now (arc_value a).reply) (sym same)
           (found seen c.in-Ok.reading.part.value c.args.worker c.args.number c.args.request.now (arc_value a) looked.board looked.sound
           (subst (λ (x : Showing). ShowsEntry x c.args.worker c.args.number c.args.request.now (arc_value a)) c.get.ensures shows)))
