@@ -81,6 +81,12 @@ pub record MeetsFault {S : Type 0} (request : Request)
   pub counted : m ≡ n
   pub handles : Handles request g old new (Err met)
 
+-- A request wasn't handled: the desk met a fault, or no more can be counted and the desk wasn't asked.
+abbrev pub IsUnhandled : {S : Type 0} → Request → Ghosts S → Held S → Held S → ℕ → ServiceFault → Type 0
+IsUnhandled request g old new n fault =
+    ((met : Fault) × (fault ≡ Met met) × Handles request g old new (Err met))
+    ⊎ ((fault ≡ Closed) × (2 ^ 64 ≤ n + 1) × (new ≡ old))
+
 -- The hall was already closed, or closes because it can't count further: nothing was asked of the desk.
 pub record IsPassedOver {S : Type 0}
     (old new : Held S) (n m : ℕ) (before after : Option ServiceFault) : Type 0 where

@@ -1,5 +1,5 @@
 -- How a hall is opened, or why it isn't.
-use Rattle.std.specs.Prelude.{◌≡◌, ◌⊎◌, ◌==◌, ℕ, true, false, Bool, ◌&&◌, if◌then◌else◌, nat_le, List, [], None, Result, Ok, Err}
+use Rattle.std.specs.Prelude.{◌≡◌, ◌≢◌, ◌⊎◌, ◌==◌, ℕ, true, false, Bool, ◌&&◌, if◌then◌else◌, nat_le, List, [], None, Result, Ok, Err}
 use Rattle.std.specs.List.{list_any}
 use Rattle.store.specs.Library.{Ghosts, Held, state, IsClean}
 use Rattle.desk.specs.Answering.{Learns, Shows}
@@ -12,7 +12,7 @@ use Rattle.model.specs.History.{History}
 use Rattle.terms.specs.declared.fault.Fault.{Fault}
 use Rattle.terms.specs.declared.fault.ServiceFault.{ServiceFault}
 use Rattle.terms.specs.Texts.{service_fault_number, refusal_number}
-use Rattle.terms.specs.declared.fault.Fault.TheVariants.{Memory}
+use Rattle.terms.specs.declared.fault.Fault.TheVariants.{Memory, Stored}
 use Rattle.terms.specs.declared.fault.ServiceFault.TheVariants.{Met, Closed}
 use Rattle.terms.specs.declared.refusal.Refusal.TheVariants.{OutOfLimits}
 use Rattle.hall_schedule.specs.declared.schedule.TheConstants.{WORKERS}
@@ -88,8 +88,9 @@ pub record IsUnopened {S : Type 0} (workers : ℕ) (g : Ghosts S) (old new : Hel
 pub record IsUnmade (workers : ℕ) (why : Why) : Type 0 where
   -- there are none, or too many
   pub refused : can_be_workers workers ≡ false → why ≡ Refused OutOfLimits
-  -- the library couldn't be made, or the hall not opened
+  -- the library couldn't be made, or the hall not opened; no row is damaged
   pub faulted : can_be_workers workers ≡ true → (fault : ServiceFault) × (why ≡ Faulted fault)
+      × (fault ≢ Met Stored)
 
 -- Its number.
 abbrev pub why_number : Why → ℕ

@@ -1,6 +1,6 @@
 //! What workers are told of the submission at which a hall closes.
 
-ghost use Rattle.std.specs.Prelude.{◌≡◌, ◌∷◌, [], IsTrue, Some};
+ghost use Rattle.std.specs.Prelude.{◌≡◌, ◌<◌, ◌∷◌, [], IsTrue, IsFalse, Some, length};
 ghost use Rattle.board.specs.Showing.{StartsWith};
 ghost use Rattle.chronicle.specs.Growing.{known};
 ghost use Rattle.hall.specs.Closings.{told_of};
@@ -72,7 +72,8 @@ impl<J: Opening> KnownClosing<J> {
 
     /// Returns whether the other knows at least as much: then it extends this.
     pub(crate) fn begins(&self, other: &KnownClosing<J>) -> bool
-        ensures { IsTrue result → StartsWith other.now self.now }
+        ensures yes { IsTrue result → StartsWith other.now self.now }
+        ensures no { IsFalse result → length other.now < length self.now }
     {
         self.list.begins(&other.list)
     }

@@ -1,15 +1,16 @@
 //! The desk's side.
 
 ghost use Rattle.std.specs.Prelude.{◌≡◌, ◌+◌, ◌++◌, ◌∷◌, ◌<◌, ◌≤◌, ◌⊎◌, ℕ, true, false, [], map};
-ghost use Rattle.std.specs.Prelude.{None, Ok, IsSome, IsTrue, slice_index_or, MatchResult};
+ghost use Rattle.std.specs.Prelude.{None, Some, Ok, IsSome, IsTrue, slice_index_or, MatchResult};
 ghost use Rattle.std.specs.Prelude.{MatchOption};
 ghost use Rattle.desk.specs.Answering.{Learns};
+ghost use Rattle.desk.specs.Running.{HandlesTouching};
 ghost use Rattle.hall_schedule.specs.declared.schedule.TheConstants.{WORKERS};
 ghost use Rattle.store.specs.Limits.{limit_of};
 ghost use Rattle.board.specs.Rule.{ShowsAll};
 ghost use Rattle.hall.specs.Queue.{IsHearing};
 ghost use Rattle.hall.specs.Openings.{LooksOnly, MeetsFaultOf, ToldBy, OpensWith};
-ghost use Rattle.hall.specs.Handling.{TakesNext, Finishes, PutsPages, IsDue};
+ghost use Rattle.hall.specs.Handling.{TakesNext, IsUnhandled, Finishes, PutsPages, IsDue};
 ghost use Rattle.hall.specs.Handling.{MayBeNext, ShowsNext, AreShown, submission_of, shown_by};
 ghost use Rattle.hall.specs.Handling.{MayHandle, MayTake, TakesMessage};
 ghost use Rattle.hall.specs.Closings.{TellsClosing, TellsNext, TellsMessage, HasTold};
@@ -29,7 +30,7 @@ use sqlite::Alter;
 use std::alloc::Global;
 use std::sync::Wait;
 use std::thread;
-use terms::{Fault, PatronId, Reply, ServiceFault};
+use terms::{Fault, PatronId, Reply, Request, ServiceFault};
 
 /// The desk's side of a hall, for the thread that owns the database. It is not `Drop`: end it with
 /// `desk_loop`.
@@ -146,6 +147,50 @@ fn show<J: Opening, S: Alter, R: Wait>(
 }
 
 impl<J: Opening, S: Alter> Handling<J, S> {
+    /// Handles a request and counts it. Faults 90, 91 and 93 as the desk gives them; 92 after
+    /// 2^64 - 1 requests, and then the desk is not asked.
+    fn handle(&mut self, alloc: Global, request: &Request) -> Result<(Reply, Touched), ServiceFault>
+        ensures same { (self.new.teller ≡ self.old.teller) × (self.new.fault ≡ self.old.fault) }
+        ensures handles { MatchResult result
+            (λ made. (self.new.handled ≡ self.old.handled + 1) × HandlesTouching request.now
+            S.Store self.old.desk self.new.desk (Ok made))
+            (λ fault. (self.new.handled ≡ self.old.handled) × IsUnhandled request.now
+            S.Store self.old.desk self.new.desk self.old.handled fault) }
+    {
+        if self.handled == u64::MAX {
+            return Err(ServiceFault::Closed);
+        }
+        match self.desk.handle_touching(alloc, request) {
+            Ok(made) => {
+                self.handled += 1;
+                Ok(made)
+            }
+            Err(met) => Err(ServiceFault::Met(met)),
+        }
+    }
+
+    /// Closes the hall at this submission of a worker. Tells the worker one fault, and the watch the
+    /// one that closed the hall.
+    fn close<R: Wait, N: Watch>(
+        &mut self,
+        rt: &R,
+        watch: &mut N,
+        worker: WorkerId,
+        number: u64,
+        told: ServiceFault,
+        fault: ServiceFault,
+    )
+        requires { self.old.teller ≡ [] }
+        ensures { self.new ≡ record self.old {
+          fault = Some fault;
+          teller = (record { worker = worker; number = number; fault = told }) ∷ [];
+        } }
+    {
+        self.teller.close(rt, worker, number, told);
+        watch.closed(fault);
+        self.fault = Some(fault);
+    }
+
     /// Handles and shows a submission. A fault closes the hall: the worker is told why the
     /// submission has no reply, and the watch is told of the closing.
     fn handle_next<R: Wait, N: Watch>(
@@ -172,35 +217,23 @@ impl<J: Opening, S: Alter> Handling<J, S> {
     {
         let worker = submission.worker;
         let number = submission.number;
-        if self.handled == u64::MAX {
-            self.teller.close(rt, worker, number, ServiceFault::Closed);
-            watch.closed(ServiceFault::Closed);
-            self.fault = Some(ServiceFault::Closed);
-            return Err(publisher.stop());
-        }
-        match self.desk.handle_touching(alloc, submission.request.get()) {
-            Ok((reply, touched)) => {
-                self.handled += 1;
-                let desk = &mut self.desk;
-                match show(rt, alloc, desk, publisher, submission, reply, &touched) {
-                    Ok(publisher) => {
-                        self.teller.wake(worker);
-                        Ok(publisher)
-                    }
-                    Err((stopped, met)) => {
-                        self.teller.close(rt, worker, number, ServiceFault::Closed);
-                        watch.closed(ServiceFault::Met(met));
-                        self.fault = Some(ServiceFault::Met(met));
-                        Err(stopped)
-                    }
-                }
+        let (reply, touched) = match self.handle(alloc, submission.request.get()) {
+            Ok(made) => made,
+            Err(fault) => {
+                self.close(rt, watch, worker, number, fault, fault);
+                return Err(publisher.stop());
             }
-            Err(met) => {
-                self.teller
-                    .close(rt, worker, number, ServiceFault::Met(met));
-                watch.closed(ServiceFault::Met(met));
-                self.fault = Some(ServiceFault::Met(met));
-                Err(publisher.stop())
+        };
+        let desk = &mut self.desk;
+        match show(rt, alloc, desk, publisher, submission, reply, &touched) {
+            Ok(publisher) => {
+                self.teller.wake(worker);
+                Ok(publisher)
+            }
+            Err((stopped, met)) => {
+                let fault = ServiceFault::Met(met);
+                self.close(rt, watch, worker, number, ServiceFault::Closed, fault);
+                Err(stopped)
             }
         }
     }

@@ -24,7 +24,7 @@ returns-clause-part g c = λ part.
     subst (λ k. is_open (of k c.args.self.now.heard.got) ≡ false) next (c.args.self.now.gone (n - 1) within) in
     record {
       first = first_of n c.args.self.now.handled c.args.self.now.heard.got c.args.left.post.sent (c.take_in.ensures.whole closed);
-      seen = c.has_shown.ensures part;
+      seen = c.has_shown.ensures.yes part;
     }
 
 pub returns-then-not-begins-clause-first : goal.returns-then-not-begins-clause-first

@@ -12,4 +12,4 @@ pub returns-in-Ok-new-clause-pages : goal.returns-in-Ok-new-clause-pages
 returns-in-Ok-new-clause-pages g c = no-pages c.in-Ok.desk c.in-Ok-new.hall.0.desk c.in-Ok.ensures.shows c.in-Ok-new.hall.0.publisher c.in-Ok-new.ensures.pages
 
 pub returns-in-Err-new-clause-fault : goal.returns-in-Err-new-clause-fault
-returns-in-Err-new-clause-fault g c = unmade c.args.workers c.in-Ok.desk c.in-Err-new.field-0.desk c.in-Err-new.field-0.why c.in-Err-new.ensures.fault
+returns-in-Err-new-clause-fault g c = unmade c.in-Ok.desk c.in-Err-new.field-0.desk c.in-Ok.ensures.shows c.args.workers c.in-Err-new.field-0.why c.in-Err-new.ensures.fault
