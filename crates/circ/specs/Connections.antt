@@ -6,8 +6,9 @@ use Rattle.hall.specs.Queue.{sent_more}
 use Rattle.hall.specs.Serving.{Working, Serves}
 
 -- `comes` says that a connection came, with its reader and writer, and `goes` that it was ended: each relates
--- the connections before and after. `remaining` are a reader's bytes and `contents` a writer's, if known.
-module _ {C I O : Type 0} (comes : C → I → O → C → Type 0) (goes : C → O → C → Type 0)
+-- the connections before and after. `misses` says that none could be had. `remaining` are a reader's bytes and
+-- `contents` a writer's, if known.
+module _ {C I O : Type 0} (comes : C → I → O → C → Type 0) (goes : C → O → C → Type 0) (misses : C → Type 0)
     (remaining : I → Option (List ℕ)) (contents : O → Option (List ℕ)) (desk_key : List ℕ) where
   -- A connection came, the worker served it, and it was ended: nothing else went out to it.
   pub record ServesOne (old new : C) (before after : Working) : Type 0 where
@@ -23,7 +24,7 @@ module _ {C I O : Type 0} (comes : C → I → O → C → Type 0) (goes : C →
 
   -- It was served, or none could be accepted.
   abbrev pub ServesNext : C → C → Working → Working → Type 0
-  ServesNext old new before after = ServesOne old new before after ⊎ ((new ≡ old) × (after ≡ before))
+  ServesNext old new before after = ServesOne old new before after ⊎ (misses old × (new ≡ old) × (after ≡ before))
 
   -- This many came, or couldn't be accepted, one after another.
   abbrev pub ServesMany : ℕ → C → C → Working → Working → Type 0

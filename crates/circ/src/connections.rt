@@ -23,10 +23,13 @@ pub trait Connections {
     /// Says that a connection ended, its writer holding this, between the first state and the last.
     ghost goes: { Self → Self.Writer → Self → Type 0 };
 
-    /// Waits for a connection. None if there is an error.
+    /// No connection could be had of these.
+    ghost misses: { Self → Type 0 };
+
+    /// Waits for a connection. None if none could be had.
     fn accept(&mut self, alloc: Global) -> Option<(Self::Reader, Self::Writer)>
         ensures came { IfSome result (λ c. comes self.old c.0 c.1 self.new) }
-        ensures none { result ≡ None → self.new ≡ self.old };
+        ensures none { result ≡ None → misses self.old × (self.new ≡ self.old) };
 
     /// Ends a connection, answered or not.
     fn end(&mut self, reader: Self::Reader, writer: Self::Writer, is_answered: bool)
@@ -43,8 +46,8 @@ fn serve_next<J: Opening, C: Connections, R: Wait>(
     desk_key: &CardKey,
     worker: &mut Worker<J>,
 )
-    ensures { ServesNext C.comes C.goes C.Reader.Read.remaining C.Writer.Write.contents
-        desk_key.now connections.old connections.new worker.old worker.new }
+    ensures { ServesNext C.comes C.goes C.misses C.Reader.Read.remaining
+        C.Writer.Write.contents desk_key.now connections.old connections.new worker.old worker.new }
 {
     let Some((mut reader, mut writer)) = connections.accept(alloc) else {
         return;
@@ -76,7 +79,7 @@ pub fn work<J: Opening, C: Connections, R: Wait>(
     worker: Worker<J>,
     each: u32,
 ) -> Left<J>
-    ensures { Works C.comes C.goes C.Reader.Read.remaining C.Writer.Write.contents
+    ensures { Works C.comes C.goes C.misses C.Reader.Read.remaining C.Writer.Write.contents
         desk_key.now each connections.old connections.new worker
         (record { post = result.post; seen = result.sight; closing = result.closing }) }
 {

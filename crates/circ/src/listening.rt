@@ -90,6 +90,8 @@ impl<'a> Connections for Port<'a> {
 
     ghost goes = { λ _ _ _. Unit {0} };
 
+    ghost misses = { λ _. Unit {0} };
+
     fn accept(&mut self, alloc: Global) -> Option<(TcpStream, Outgoing)> {
         let (stream, _) = self.listener.accept().ok()?;
         let wait = Some(Duration::from_secs(LONGEST_WAIT));

@@ -54,6 +54,8 @@ impl Connections for List {
 
     ghost goes = { λ _ _ _. Unit {0} };
 
+    ghost misses = { λ _. Unit {0} };
+
     fn accept(&mut self, alloc: Global) -> Option<(Drip<'static>, Narrow)> {
         let (sent, _) = SENT.get(self.place)?;
         self.place = self.place.wrapping_add(1);
