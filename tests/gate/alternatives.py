@@ -23,7 +23,7 @@ OFFERS = r"⊎|\b(?:MatchBool|MatchOption|MatchResult|IfErr)\b|\bOption (?:Fault
 # And in a clause, which may also say what a yes means, or what was found, and nothing of a no and of none; that faults are of one number offers nothing.
 CLAUSE_OFFERS = r"⊎|\b(?:MatchBool|MatchOption|MatchResult)\b|\bIsTrue (?:result|none) →|\bIfSome (?:result|found)\b|\bIfErr result (?!\(λ fault\. fault ≡ [\w.]+\))"
 STARTS = r"^ *(?:abbrev pub|unfoldable pub|pub record|pub data) (\w+)|^(?:  )?pub (?!use |mod |record |data )(\w+) :"
-KINDS = ("tied by ", "given: ", "can't be tied: ", "not tied yet: ")
+KINDS = ("tied by ", "given: ", "can't be tied: ")
 NAME = r"[^\W\d]\w*"
 
 
