@@ -297,7 +297,7 @@ def others_that_answer(folder):
         check("without the manual page", (run.stdout, run.stderr, run.returncode), ("row 1 refused 17 (patron-50)\naccepted 0 refused 1\n", "", 2))
         os.remove(refused)
         with open("/dev/full", "w", encoding="utf-8") as full, begun(port, DESK_KEY, listed, refused, stdout=full) as run:
-            check("a standard output that takes no more", (run.communicate(timeout=60)[1].decode(), run.returncode), (said("standard output takes no more"), 3))
+            check("a standard output that takes no more", (run.communicate(timeout=60)[1].decode(), run.returncode), (said("standard output can't be written"), 3))
         check("the refused row is in its file", open(refused, encoding="utf-8").read(), HEADER + ROW)
 
 

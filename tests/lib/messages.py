@@ -12,32 +12,32 @@ from reference.outer_forms import WORDS, is_card_key, is_day, is_key, is_mask, i
 from room import TOP
 
 SAYINGS = {
-    "fault reading": "the copies file is absent or can't be read",
+    "fault reading": "the copies file is missing or can't be read",
     "fault network": "nobody listens on the port, no answer came, or the port is taken",
-    "fault threads": "a thread could not be made, so that fewer connections were answered",
-    "unsound claims ": "two claims or more are made on the copy of this number, which can be in one place alone",
-    "unsound binding ": "the hold of this number is not bound to its copy as its state wants",
-    "unsound balance ": "the patron of this number doesn't owe the charges less payments and waivers",
+    "fault threads": "a thread could not be created, so fewer connections were answered",
+    "unsound claims ": "two or more claims are made on the copy with this number, which can only be in one place",
+    "unsound binding ": "the hold with this number is not bound to its copy as its state requires",
+    "unsound balance ": "the patron with this number doesn't owe the charges less payments and waivers",
 }
 BAD = "the row is not copy,title,text,kind,home,price,end, or no row may follow"
-OLDER = "the library is of an older schema: make a backup of it, and then bring it forward by circ migrate FILE"
-LATER = "the library is of a later schema, for a later version of this program"
-FOREIGN = "this is no library: no table meta of one row names its schema"
-NO_DATABASE = "this is no library: the file is not a database"
+OLDER = "the library has an older schema: make a backup first, then run circ migrate FILE"
+LATER = "the library has a later schema: it needs a later version of this program"
+FOREIGN = "not a library: it has no table meta with one row that names its schema"
+NO_DATABASE = "not a library: the file is not a database"
 DAMAGED_ROW = "a row of the library is damaged: restore a backup"
-CUT = "the file is damaged or cut off: restore a backup"
-CUT_OR_LOG = "the file is damaged or cut off, or the log beside it belongs to another file: restore a backup of both"
+CUT = "the file is damaged or truncated: restore a backup"
+CUT_OR_LOG = "the file is damaged or truncated, or the log beside it belongs to another file: restore a backup of both"
 HELD = "another process has the file"
 FREE = "it opens now: another process had the file, or the disk was full or failed"
 DISK = "the disk is full or failed"
 MADE = "there was no library; a new one was made"
-CLOSED = "circ: pages are answered, and every other request by fault 92; mend the cause and start the program again\n"
-SWAPPED = "this is a database and no copies file: circ import LIBRARY COPIES"
+CLOSED = "circ: pages are still answered, and every other request gets fault 92; fix the cause and restart the program\n"
+SWAPPED = "this is a database, not a copies file: circ import LIBRARY COPIES"
 JOURNAL = "another program left a rollback journal beside the file: open it with sqlite3 first"
-UNWRITABLE = "this user may not write the file, the log beside it, or the folder: circ opens a library for writing, also to read it, and a copy will do for that"
-READ_ONLY = "the file system can't be written: circ opens a library for writing, also to read it, and a copy elsewhere will do for that"
+UNWRITABLE = "no permission to write the file, its log or the folder: circ opens a library for writing even to read it; use a copy for that"
+READ_ONLY = "the file system is read-only: circ opens a library for writing even to read it; use a copy elsewhere for that"
 NOT_UNDERSTOOD = "words not understood\n"
-UNWRITTEN = b"circ: standard output takes no more\n"
+UNWRITTEN = b"circ: standard output can't be written\n"
 RUNS = ["file", "import", "report", "report", "report", "audit", "migrate", "serve", "send"]
 
 
@@ -72,9 +72,9 @@ def form(name):
 # What a word of a command has to be, by its form; the parts that are amounts are told apart by their names.
 WANTED = {
     is_number: "a number up to 4294967295, without a leading zero",
-    is_day: "a day from 2000-01-01 to 2199-12-31, as 2026-03-02",
-    is_mask: "seven letters, Monday to Sunday, o for open and c for closed",
-    is_card_key: "8 to 32 letters and digits of ASCII",
+    is_day: "a day from 2000-01-01 to 2199-12-31, such as 2026-03-02",
+    is_mask: "seven letters, Monday to Sunday: o for open, c for closed",
+    is_card_key: "8 to 32 ASCII letters and digits",
     is_name: "1 to 120 bytes, with no control character and no space at either end",
 }
 AMOUNTS = ["debt", "rate", "cap", "price", "amount"]
@@ -86,7 +86,7 @@ def is_within(most):
 
 
 # The words of a run that have a form, by their places after the run's name: what each is called, its form, and what it has to be.
-KEY = ("KEY", is_key, "1 to 40 letters, digits and hyphens of ASCII")
+KEY = ("KEY", is_key, "1 to 40 ASCII letters, digits and hyphens")
 DESKKEY = ("DESKKEY", is_card_key, WANTED[is_card_key])
 PORT = ("PORT", is_within(65_535), "a number from 1 to 65535, without a leading zero")
 ARGUMENTS = {
@@ -125,7 +125,7 @@ def is_run(words):
 def of_run(words):
     """What is said of words that are no run."""
     wrong = wrong_argument(words) if words else None
-    said = f"circ: {wrong[0]} has to be {wrong[1]}\n" if wrong else ""
+    said = f"circ: {wrong[0]} must be {wrong[1]}\n" if wrong else ""
     of_name = [it for it in USAGES if it.split()[1] == words[0]] if words else []
     if of_name:
         return said + "".join(f"usage: {it}\n" for it in of_name)
@@ -137,15 +137,15 @@ def of_command(run, words):
     """What is said of words that are no command."""
     name, given = words[0], words[1:]
     if name not in COMMANDS:
-        return f"circ: there is no command {name}; circ without words lists them\n"
+        return f"circ: unknown command {name}; circ without words lists them all\n"
     forms, said = WORDS[name], ""
     if any(it.startswith("-") for it in given):
         said = "circ: no word may begin with a hyphen\n"
     elif len(given) != len(forms):
-        said = f"circ: words after {name}: {len(given)}, and there have to be {len(forms)}\n"
+        said = f"circ: words after {name}: {len(given)} instead of {len(forms)}\n"
     else:
         wrong = [(part, AMOUNT if part in AMOUNTS else WANTED[has_form]) for part, has_form, it in zip(COMMANDS[name], forms, given) if not has_form(it)]
-        said = f"circ: {wrong[0][0]} has to be {wrong[0][1]}\n" if wrong else ""
+        said = f"circ: {wrong[0][0]} must be {wrong[0][1]}\n" if wrong else ""
     return said + f"usage: {run} {form(name)}\n"
 
 

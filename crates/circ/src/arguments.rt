@@ -266,7 +266,7 @@ fn read_send<'a>(alloc: Global, words: &'a [String]) -> Result<Option<Run<'a>>, 
 fn wrong_key(alloc: Global, key: &str) -> Result<Option<WrongArgument>, Memory> {
     match Key::new(alloc, key)? {
         Some(_) => Ok(None),
-        None => Ok(Some(other("KEY", "1 to 40 letters, digits and hyphens of ASCII"))),
+        None => Ok(Some(other("KEY", "1 to 40 ASCII letters, digits and hyphens"))),
     }
 }
 

@@ -98,12 +98,12 @@ pub fn drop_log(rt: &HostRuntime, path: &str) {
 fn cause_of_kind(kind: ErrorKind) -> &'static str {
     match kind {
         ErrorKind::PermissionDenied => {
-            "this user may not write the file, the log beside it, or the folder: circ opens a \
-             library for writing, also to read it, and a copy will do for that"
+            "no permission to write the file, its log or the folder: circ opens a library for \
+             writing even to read it; use a copy for that"
         }
         ErrorKind::ReadOnlyFilesystem => {
-            "the file system can't be written: circ opens a library for writing, also to read it, \
-             and a copy elsewhere will do for that"
+            "the file system is read-only: circ opens a library for writing even to read it; use a \
+             copy elsewhere for that"
         }
         ErrorKind::StorageFull => "the disk is full",
         _ => "the file or the log beside it can't be opened",
@@ -117,11 +117,11 @@ fn cause_of_code(code: ErrorCode, has_log: bool) -> &'static str {
         ErrorCode::DiskFull => "the disk is full",
         ErrorCode::OutOfMemory => "there was no memory to open it",
         ErrorCode::NotADatabase | ErrorCode::DatabaseCorrupt if has_log => {
-            "the file is damaged or cut off, or the log beside it belongs to another file: restore \
+            "the file is damaged or truncated, or the log beside it belongs to another file: restore \
              a backup of both"
         }
         ErrorCode::NotADatabase | ErrorCode::DatabaseCorrupt => {
-            "the file is damaged or cut off: restore a backup"
+            "the file is damaged or truncated: restore a backup"
         }
         _ => "the disk is full or failed",
     }
@@ -130,13 +130,12 @@ fn cause_of_code(code: ErrorCode, has_log: bool) -> &'static str {
 /// Explains what is wrong with a library that opens.
 fn cause_of_schema(schema: Option<u32>, is_damaged: bool, migrates: bool) -> &'static str {
     match schema {
-        None | Some(0) => "this is no library: no table meta of one row names its schema",
+        None | Some(0) => "not a library: it has no table meta with one row that names its schema",
         Some(schema) if schema > SCHEMA => {
-            "the library is of a later schema, for a later version of this program"
+            "the library has a later schema: it needs a later version of this program"
         }
         Some(schema) if schema < SCHEMA && !migrates => {
-            "the library is of an older schema: make a backup of it, and then bring it forward by \
-             circ migrate FILE"
+            "the library has an older schema: make a backup first, then run circ migrate FILE"
         }
         Some(_) if is_damaged => "a row of the library is damaged: restore a backup",
         Some(_) => "it opens now: another process had the file, or the disk was full or failed",
@@ -170,7 +169,7 @@ pub fn cause(rt: &HostRuntime, path: &str, is_damaged: bool, migrates: bool) -> 
         Ok(file) if file.is_dir() => "this is a directory",
         Ok(file) if file.len() == 0 => "the file has no bytes",
         Ok(_) if File::open(rt, path).is_err() => "this user may not read the file",
-        Ok(_) if !may_be_library(rt, path) => "this is no library: the file is not a database",
+        Ok(_) if !may_be_library(rt, path) => "not a library: the file is not a database",
         Ok(_) => cause_inside(rt, path, is_damaged, migrates),
     }
 }

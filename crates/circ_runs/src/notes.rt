@@ -104,7 +104,7 @@ fn say_swapped(rt: &HostRuntime, topic: Topic<'_>) -> Result<(), WriteFault> {
         Topic::Copies { copies, .. } if is_database(rt, copies) => write_note(
             &mut rt.stderr(),
             copies,
-            "this is a database and no copies file: circ import LIBRARY COPIES",
+            "this is a database, not a copies file: circ import LIBRARY COPIES",
         ),
         _ => Ok(()),
     }
@@ -164,7 +164,10 @@ pub fn say_new(rt: &HostRuntime, path: &str) -> Result<(), WriteFault> {
 
 /// Says that output failed.
 pub fn say_unwritten(rt: &HostRuntime) -> Result<(), WriteFault> {
-    write_bytes(&mut rt.stderr(), b"circ: standard output takes no more\n")
+    write_bytes(
+        &mut rt.stderr(),
+        b"circ: standard output can't be written\n",
+    )
 }
 
 /// Announces on standard error that a serving desk has closed.
@@ -181,8 +184,8 @@ impl<'a> Console<'a> {
             &[
                 b"circ: the desk is closed: ",
                 text.as_bytes(),
-                b"\ncirc: pages are answered, and every other request by fault 92; mend the cause and \
-                  start the program again\n",
+                b"\ncirc: pages are still answered, and every other request gets fault 92; fix the \
+                  cause and restart the program\n",
             ],
         )
     }

@@ -182,7 +182,7 @@ struct Phrase {
 const SAYINGS: [Phrase; 6] = [
     Phrase {
         line: "fault reading",
-        text: "the copies file is absent or can't be read",
+        text: "the copies file is missing or can't be read",
     },
     Phrase {
         line: "fault network",
@@ -190,20 +190,20 @@ const SAYINGS: [Phrase; 6] = [
     },
     Phrase {
         line: "fault threads",
-        text: "a thread could not be made, so that fewer connections were answered",
+        text: "a thread could not be created, so fewer connections were answered",
     },
     Phrase {
         line: "unsound claims ",
-        text: "two claims or more are made on the copy of this number, which can be in one place \
-               alone",
+        text: "two or more claims are made on the copy with this number, which can only be in one \
+               place",
     },
     Phrase {
         line: "unsound binding ",
-        text: "the hold of this number is not bound to its copy as its state wants",
+        text: "the hold with this number is not bound to its copy as its state requires",
     },
     Phrase {
         line: "unsound balance ",
-        text: "the patron of this number doesn't owe the charges less payments and waivers",
+        text: "the patron with this number doesn't owe the charges less payments and waivers",
     },
 ];
 

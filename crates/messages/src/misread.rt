@@ -33,9 +33,9 @@ pub fn wanted(kind: PartKind) -> &'static str {
     match kind {
         PartKind::Number => "a number up to 4294967295, without a leading zero",
         PartKind::Amount => "an amount in cents up to 4294967295, without a leading zero",
-        PartKind::Day => "a day from 2000-01-01 to 2199-12-31, as 2026-03-02",
-        PartKind::Mask => "seven letters, Monday to Sunday, o for open and c for closed",
-        PartKind::CardKey => "8 to 32 letters and digits of ASCII",
+        PartKind::Day => "a day from 2000-01-01 to 2199-12-31, such as 2026-03-02",
+        PartKind::Mask => "seven letters, Monday to Sunday: o for open, c for closed",
+        PartKind::CardKey => "8 to 32 ASCII letters and digits",
         PartKind::Name => { "1 to 120 bytes, with no control character and no space at either end" }
     }
 }
@@ -76,14 +76,14 @@ fn has_hyphen(words: &[String]) -> bool {
     false
 }
 
-/// Writes what a word has to be.
+/// Writes what a word must be.
 pub fn write_wanted<W: Write>(writer: &mut W, name: &str, wanted: &str) -> Result<(), WriteFault> {
     write_pieces(
         writer,
         &[
             b"circ: ",
             name.as_bytes(),
-            b" has to be ",
+            b" must be ",
             wanted.as_bytes(),
             b"\n",
         ],
@@ -109,7 +109,7 @@ fn write_wrong<W: Write>(
                 name.as_bytes(),
                 b": ",
                 Buffer::new().format(words.len()).as_bytes(),
-                b", and there have to be ",
+                b" instead of ",
                 Buffer::new().format(parts.len()).as_bytes(),
                 b"\n",
             ],
@@ -135,9 +135,9 @@ pub fn explain_words<W: Write>(
         return write_pieces(
             writer,
             &[
-                b"circ: there is no command ",
+                b"circ: unknown command ",
                 name.as_bytes(),
-                b"; circ without words lists them\n",
+                b"; circ without words lists them all\n",
             ],
         );
     };
