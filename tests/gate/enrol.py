@@ -333,11 +333,11 @@ def killed_in_the_middle(folder):
     path, (listed, people), refused = a_library(folder, "town.db"), town(folder, "town.csv", MANY), os.path.join(folder, "of_town.csv")
     with a_desk(path) as (_, port):
         with begun(port, DESK_KEY, listed, refused) as run:
-            wait_for(port, people[MANY // 2][0], run)
+            wait_for(port, people[MANY // 4][0], run)
             run.kill()
             check("what it told when it was killed", (run.communicate(), run.returncode), ((b"", b""), -signal.SIGKILL))
         found = patrons(path)
-        check("a beginning of the list", (found, MANY // 2 < len(found) < MANY), (people[: len(found)], True))
+        check("a beginning of the list", (found, MANY // 4 < len(found) < MANY), (people[: len(found)], True))
         check("the same run again", enrolled(port, DESK_KEY, listed, refused), (f"accepted {MANY} refused 0\n", "", 0))
         check("the last one, at the desk", circ(["send", port, DESK_KEY, "q", "account", str(people[-1][0]), "0"]),
               (f'{{"reply":"patron {people[-1][0]} owed 0 name {people[-1][3]}\\nend"}}', 0))
@@ -362,7 +362,8 @@ def other_stops(folder):
         shown = bytearray()
         with begun(port, DESK_KEY, listed, refused, stderr=terminal) as run:
             os.close(terminal)
-            wait_for(port, people[SOME // 2][0], run)
+            while shown.count(b"\r") < 6:
+                shown += os.read(seen, 4096)
             run.send_signal(signal.SIGINT)
             out = run.communicate(timeout=60)[0].decode()
         try:

@@ -280,12 +280,12 @@ def routes_without_memory(folder, refusing):
         need(f"the port, request {number} refused", first, f"listening on {port}\n")
         counts, found = [refusing.count()], []
         for _ in range(3):
-            with socket.create_connection(("127.0.0.1", port), timeout=60) as peer:
-                try:
+            try:
+                with socket.create_connection(("127.0.0.1", port), timeout=60) as peer:
                     peer.sendall(PAGE_OF_ANN)
                     found.append(due.get(everything(peer), "another answer, or none"))
-                except ConnectionError:
-                    found.append("reset")
+            except ConnectionError:
+                found.append("refused, or reset")
             counts.append(refusing.count())
         return counts, found, end_of(run, port)
 
