@@ -4,7 +4,7 @@
     tests/gate/tried_mutants.py
 
 Wrong bodies of the function whose contract says all have to be refused, and those of the one that claims little to be told as left and to fail the run, unless they stand in
-the file of known ones. The one that claims nothing is left out.
+the file of known ones. The one that claims nothing is left out. Before that: when a check refuses a body by a clause, and when by a name only.
 """
 
 import os
@@ -15,6 +15,7 @@ import tempfile
 
 from room import TOP
 from lib.checking import check, run_script
+from lib.trying import NAMES, REFUSED, Check
 
 SOURCE = """//! Numbers after a number.
 #![tactic(auto)]
@@ -45,6 +46,14 @@ pub fn any() -> u8 {
 }
 """
 
+# What a check says of a body of which a proof by hand answers the clause `whole`, under a name that it has no more; and the search the clause `sound`.
+SAID = """./proofs/least/Answers.antt:5:55: error: `returns-then-le-clause-whole`: `goal.returns-then-le-clause-whole`: module `Goals` has no `returns-then-le-clause-whole`
+fn numbers::next: proved
+note: src/lib.rt:9:1: it is not proved that what the function ensures holds when it returns (`returns-then-ge-clause-{clause}`)
+fn numbers::least: not proved
+only=2 proved=1
+"""
+
 
 def write(path, text):
     with open(path, "w", encoding="utf-8") as it:
@@ -59,6 +68,8 @@ def told(room):
 
 
 def main():
+    check("a clause that the search doesn't find", Check("numbers", 1, SAID.format(clause="sound")).own("least"), REFUSED)
+    check("a clause whose answer has another name", Check("numbers", 1, SAID.format(clause="whole")).own("least"), NAMES)
     with tempfile.TemporaryDirectory(prefix="tried-mutants-") as room:
         for folder in ("data", "lib", "tools"):
             os.makedirs(f"{room}/tests/{folder}")

@@ -48,6 +48,12 @@ class Check:
         waits = re.findall(r"declarations? that depends? on `([^`]+)`, which was [a-z ]+, (?:was|were) not checked: (.*)$", text, re.M)
         self.waits = {name: first for first, names in waits for name in names.split(", ")}
         self.is_proved = status == 0 and lines[-1].startswith("logic=proved")
+        # of each function the goals that neither a proof by hand answers nor the search
+        self.open, found = {}, []
+        for goal, name in re.findall(rf"^note: \S+: it is not proved that .*? \(`(\S+?)`\)|^fn {crate}::(\S+): ", text, re.M):
+            found.append(goal)
+            if name:
+                self.open[name], found = [it for it in found if it], []
         self.errors, self.places = {}, set()
         for place, line, said in re.findall(r"^(?:\./)?(\S+?):(\d+):\d+: error(.*)$", text, re.M):
             self.errors.setdefault(place, []).append(said)
@@ -63,8 +69,13 @@ class Check:
         if any(not is_of_names(it) or self.is_of_lemma(it) for it in said) or "`search` did not prove" in told:
             return REFUSED
         if said:
-            return NAMES
+            return REFUSED if self.has_open(function, said) else NAMES
         return FOLLOWS if "it calls `" in told else UNSURE
+
+    def has_open(self, function, said):
+        """Whether a goal of the function is open that was never answered by hand: one of a clause of which no answer is missing for its name alone."""
+        missing = {clause_of(name) for it in said for name in re.findall(r"has no `(\S+?)`", it)}
+        return any(clause_of(goal) not in missing for goal in self.open.get(function, []))
 
     def is_of_lemma(self, said):
         """Whether an error says that a proof waits for a lemma that is rejected for what it says, as one of a text that a change is in."""
@@ -94,6 +105,11 @@ class Check:
             kind = self.own(change.function or change.by)
             return FOLLOWS if kind == PROVED else kind
         return self.any()
+
+
+def clause_of(goal):
+    """The clause of a goal, by its name: what is required or given, and the label, if it has one."""
+    return re.search(r"-requires\b", goal) is not None, goal.partition("-clause-")[2]
 
 
 def is_of_names(said):
