@@ -129,7 +129,7 @@ class Desk(Page):
             until(f"a yes to {line}", lambda: self.it("typed").is_displayed())
             self.type("typed", "yes")
             self.it("typed").send_keys(Keys.ENTER)
-        until(line, lambda: self.is_noted() or self.told().startswith("These are not"))
+        until(line, lambda: self.is_noted() or self.told().startswith("This is not a command"))
         return self.told()
 
     def scan(self, text):
