@@ -71,12 +71,10 @@ UNREAD = {
 def told_of(edits):
     """What `tests/tools/edits` says of these edits, by name, with its last line and its status, and whether it left what its checks kept."""
     with tempfile.TemporaryDirectory(prefix="tried-edits-") as room:
-        os.makedirs(f"{room}/tests/lib")
-        os.makedirs(f"{room}/tests/tools")
+        for folder in ("lib", "tools"):
+            shutil.copytree(f"{TOP}/tests/{folder}", f"{room}/tests/{folder}")
         os.makedirs(f"{room}/crates/numbers/src")
         os.makedirs(f"{room}/crates/numbers/must-fail")
-        for script in ("tools/edits", "tools/room.py", "lib/rooms.py", "lib/gate_libraries.py", "lib/trying.py"):
-            shutil.copy(f"{TOP}/tests/{script}", f"{room}/tests/{script}")
         write(f"{room}/crates.txt", "numbers:\n")
         write(f"{room}/crates/numbers/src/lib.rt", SOURCE)
         for name, (function, old, new, _) in edits.items():

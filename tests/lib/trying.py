@@ -9,6 +9,7 @@ import time
 from concurrent.futures import FIRST_COMPLETED, ThreadPoolExecutor, wait
 
 from lib.gate_libraries import PARTS, check_of
+from lib.renaming import clause_of
 from room import TOP
 
 # What a check of a crate may take of the machine's memory, in bytes.
@@ -24,10 +25,10 @@ REFUSED, FOLLOWS, PROVED, BAD, NAMES, UNSURE = "refused", "follows", "proved", "
 
 class Change:
     """A changed body: the lines that it puts in place of a crate's own, by path and number; the function that it changes; the one whose contract refuses it, where
-    it changes what stands in no body; and what a round said of its function."""
+    it changes what stands in no body; what a round said of its function; and whether its proof by hand was given other names (lib/renaming.py)."""
 
     def __init__(self, name):
-        self.name, self.function, self.by, self.lines, self.said = name, None, None, {}, None
+        self.name, self.function, self.by, self.lines, self.said, self.is_renamed = name, None, None, {}, None, False
 
     def put(self, path, was, now):
         """Takes this text in place of that of a file; both have as many lines."""
@@ -59,14 +60,15 @@ class Check:
             self.errors.setdefault(place, []).append(said)
             self.places.add((place, int(line) - 1))
 
-    def own(self, function):
-        """What the check says of a function whose body a change is in."""
+    def own(self, function, is_renamed=False):
+        """What the check says of a function whose body a change is in. Where its proof was given other names, it counts for nothing that a type can't be determined."""
         told = self.told.get(function, "")
         if told == "proved":
             return PROVED
         folder = f"proofs/{function.replace('::', '/')}/"
         said = [it for place, its in self.errors.items() if place.startswith(folder) for it in its]
-        if any(not is_of_names(it) or self.is_of_lemma(it) for it in said) or "`search` did not prove" in told:
+        is_settled = lambda it: not is_of_names(it) and not (is_renamed and re.search("determined|give that argument", it))
+        if any(is_settled(it) or self.is_of_lemma(it) for it in said) or "`search` did not prove" in told:
             return REFUSED
         if said:
             return REFUSED if self.has_open(function, said) else NAMES
@@ -105,11 +107,6 @@ class Check:
             kind = self.own(change.function or change.by)
             return FOLLOWS if kind == PROVED else kind
         return self.any()
-
-
-def clause_of(goal):
-    """The clause of a goal, by its name: what is required or given, and the label, if it has one."""
-    return re.search(r"-requires\b", goal) is not None, goal.partition("-clause-")[2]
 
 
 def is_of_names(said):
@@ -214,14 +211,20 @@ class Trial:
             if check.told[function] != "proved" and check.own(function) != FOLLOWS:
                 self.fail(f"{self.crate.name}: {function} is not proved, and no change is in it: {check.told[function]}")
         for change in taken:
-            kind = change.said = check.own(change.function)
+            kind = change.said = check.own(change.function, change.is_renamed)
             if kind == FOLLOWS:
                 later.append(change)
-            elif kind in (REFUSED, NAMES):
+            elif kind == REFUSED:
                 self.settle(change, kind, f"in its own function, with {len(taken) - 1} others")
+            elif kind == NAMES:
+                self.named(change, check)
             else:
                 alone.append(change)
         return later
+
+    def named(self, change, _check):
+        """Takes a change that a check refuses only because a proof by hand names what it took away."""
+        self.settle(change, NAMES, "in its own function")
 
     def alone(self, change, by):
         """Tries a change alone: what the function `by` says of it, if one is given and it refuses it, and else what the whole crate says; and how that was found."""
