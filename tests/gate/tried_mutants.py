@@ -119,7 +119,7 @@ def named_anew():
     """The proof of `most` under the names that three checks tell, one after the other."""
     texts = {"proofs/most/Answers.antt": ANSWERS}
     for said in LOST:
-        texts = renamed(texts, missing_names(said, "most"))
+        texts = renamed(texts, missing_names(said, "most", "most"))
     return texts["proofs/most/Answers.antt"]
 
 

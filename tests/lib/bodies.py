@@ -7,9 +7,9 @@ from collections import namedtuple
 # A piece of a source: its sort, its text, and where it begins and ends.
 Token = namedtuple("Token", "sort text at end")
 
-# A function with a body: its path below the crate, as a check prints it; its file; where its body begins and ends, with the braces; and whether a contract says what it
-# gives, which is its own or that of a trait.
-Body = namedtuple("Body", "function path at end claims")
+# A function with a body: its path below the crate, as a check prints it; its file; where its body begins and ends, with the braces; whether a contract says what it
+# gives, which is its own or that of a trait; and, of a function that could stand twice under two names, its first and its last line, else nothing.
+Body = namedtuple("Body", "function path at end claims lines", defaults=(None,))
 
 TOKENS = re.compile(
     r"""(?P<comment>//[^\n]*)|(?P<string>b?"(?:\\.|[^"\\])*")|(?P<char>b?'(?:\\[^']+|[^'\\])')|(?P<life>'\w+)"""
@@ -82,8 +82,17 @@ def bodies_of(text, path, kinds):
             begun = starts[first] + len(lines[first]) - 1
             function = "::".join([*(owner if head[1] and owner else module_of(path)), head[2]])
             claims = is_of_trait or any(it.lstrip().startswith("ensures") for it in lines[at:first])
-            found.append(Body(function, path, begun, starts[last] + len(lines[last]), claims))
+            top = first_line(lines, at)
+            is_twice = not is_of_trait and not any("#[cycle" in it for it in lines[top:at]) and not any(re.search(rf"\b{head[2]}\b", it) for it in lines[first : last + 1])
+            found.append(Body(function, path, begun, starts[last] + len(lines[last]), claims, (top, last) if is_twice else None))
     return found
+
+
+def first_line(lines, at):
+    """The first line of the attributes and the comment of a function whose head is a line."""
+    while at and lines[at - 1].strip() and not lines[at - 1].endswith(("{", "}", ";")):
+        at -= 1
+    return at
 
 
 def opens(lines, at, indent):

@@ -24,9 +24,10 @@ class Missing:
         self.path, self.line, self.name, self.is_goal, self.others = path, line, name, is_goal, others
 
 
-def missing_names(text, function):
-    """The names that a check's text misses in a function's proof by hand, each with those that the check tells in its place."""
-    folder = f"proofs/{function.replace('::', '/')}/"
+def missing_names(text, tried, function):
+    """The names that a check's text misses in the proof by hand of the function that it tried, each with those that the check tells in its place, and where they stand in
+    the proof of the function itself."""
+    folder, own = (f"proofs/{it.replace('::', '/')}/" for it in (tried, function))
     asked = goals_asked(text)
     found = []
     for path, line, said in re.findall(r"^(?:\./)?(proofs/\S+?):(\d+):\d+: error: (.*(?:\n  .*)*)", text, re.M):
@@ -35,10 +36,10 @@ def missing_names(text, function):
         goal = re.search(r"`goal\.(\S+?)`: module `\S+` has no `\1`", said)
         field = re.search(r"has no field `(\S+?)`", said)
         if goal:
-            found.append(Missing(path, int(line) - 1, goal[1], True, asked.get(goal[1], ())))
+            found.append(Missing(own + path[len(folder) :], int(line) - 1, goal[1], True, asked.get(goal[1], ())))
         elif field:
             named = re.search(r"the fields that can be named here are (.*)", said)
-            found.append(Missing(path, int(line) - 1, field[1], False, re.findall(r"`(\S+?)`", named[1]) if named else ()))
+            found.append(Missing(own + path[len(folder) :], int(line) - 1, field[1], False, re.findall(r"`(\S+?)`", named[1]) if named else ()))
     return found
 
 
@@ -137,7 +138,14 @@ def without(path, block, are_facts=False):
                 start, end = start - 1, end + more.end()
                 end = end_of(block, end) if is_head(block, start) else end
             end = start + len(block[start:end].rstrip())
-        block = block[:start] + (SEARCH if is_fact else "_") + "\n " * block.count("\n", start, end) + block[end:]
+        before = re.search(r"\s*[∙⨾⨟]\s*\Z", block[:start])
+        after = re.match(r"\s*[∙⨾⨟]\s*", block[end:])
+        if is_fact and (before or after):
+            # in a chain of facts there is one less
+            start, end, other = (before.start(), end, "") if before else (start, end + after.end(), "")
+        else:
+            other = SEARCH if is_fact else "_"
+        block = block[:start] + other + "\n " * block.count("\n", start, end) + block[end:]
         at = path.search(block)
     return block
 

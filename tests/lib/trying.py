@@ -25,15 +25,48 @@ REFUSED, FOLLOWS, PROVED, BAD, NAMES, UNSURE = "refused", "follows", "proved", "
 
 class Change:
     """A changed body: the lines that it puts in place of a crate's own, by path and number; the function that it changes; the one whose contract refuses it, where
-    it changes what stands in no body; what a round said of its function; and whether its proof by hand was given other names (lib/renaming.py)."""
+    it changes what stands in no body; what a round said of its function; and whether its proof by hand was given other names (lib/renaming.py). Where the function
+    can stand twice, and the change is in it alone: its file with its first and its last line, and the number of the second one in a check."""
 
     def __init__(self, name):
         self.name, self.function, self.by, self.lines, self.said, self.is_renamed = name, None, None, {}, None, False
+        self.twice, self.number = None, None
 
     def put(self, path, was, now):
         """Takes this text in place of that of a file; both have as many lines."""
         pairs = zip(was.split("\n"), now.split("\n"))
         self.lines.update({(path, at): new for at, (old, new) in enumerate(pairs) if old != new})
+
+    def let_stand_twice(self, every):
+        """Finds among a crate's bodies the one that the change is in."""
+        for it in every:
+            if it.function == self.function and it.lines and all(path == it.path and it.lines[0] <= at <= it.lines[1] for path, at in self.lines):
+                self.twice = it.path, *it.lines
+
+    def second(self, text):
+        """The lines of the changed function under a second name, with an empty one before them."""
+        path, first, last = self.twice
+        lines = [self.lines.get((path, at), text[at]) for at in range(first, last + 1)]
+        name = self.function.rpartition("::")[2]
+        return ["", *re.sub(rf"\bfn {name}\b", f"fn {name}_twice{self.number}", "\n".join(lines), count=1).split("\n")]
+
+    def copy_proof(self, room):
+        """Gives the second function the proof by hand of the first, in a copy of the crate."""
+        path, second = (f"proofs/{it.replace('::', '/')}" for it in (self.function, self.tried))
+        if not os.path.isdir(f"{room}/{path}"):
+            return
+        os.makedirs(f"{room}/{second}")
+        for name in os.listdir(f"{room}/{path}"):
+            with open(f"{room}/{path}/{name}", encoding="utf-8") as it:
+                text = it.read().split("\n")
+            lines = (self.lines.get((f"{path}/{name}", at), line) for at, line in enumerate(text))
+            with open(f"{room}/{second}/{name}", "w", encoding="utf-8") as it:
+                it.write("\n".join(lines).replace(f".{path.replace('/', '.')}.", f".{second.replace('/', '.')}."))
+
+    @property
+    def tried(self):
+        """The function that a check tries: the changed one, or the second one beside it."""
+        return f"{self.function}_twice{self.number}" if self.number else self.function
 
 
 class Check:
@@ -111,7 +144,7 @@ class Check:
 
 def is_of_names(said):
     """Whether an error says that a proof names what isn't there."""
-    return bool(re.search(r"has no field|is not in scope|has no `|was not admitted", said))
+    return bool(re.search(r"has no field|\(nearest: |is not in scope|has no `|was not admitted", said))
 
 
 class Crate:
@@ -139,12 +172,18 @@ class Crate:
             for part in PARTS:
                 if os.path.isdir(f"{self.folder}/{part}"):
                     shutil.copytree(f"{self.folder}/{part}", f"{room}/{part}")
-            lines = {place: text for change in changes for place, text in change.lines.items()}
-            for path in {path for path, _ in lines}:
+            lines = {place: text for change in changes if not change.number for place, text in change.lines.items()}
+            doubled = [it for it in changes if it.number]
+            for path in {path for path, _ in lines} | {it.twice[0] for it in doubled}:
                 with open(f"{room}/{path}", encoding="utf-8") as it:
                     text = it.read().split("\n")
+                after = {}
+                for change in (it for it in doubled if it.twice[0] == path):
+                    after.setdefault(change.twice[2], []).extend(change.second(text))
                 with open(f"{room}/{path}", "w", encoding="utf-8") as it:
-                    it.write("\n".join(lines.get((path, at), line) for at, line in enumerate(text)))
+                    it.write("\n".join(one for at, line in enumerate(text) for one in (lines.get((path, at), line), *after.get(at, ()))))
+            for change in doubled:
+                change.copy_proof(room)
             words = [*self.words, *(["--incremental", kept] if kept else []), *[it for name in only for it in ("--only", name)]]
             how = {"cwd": room, "stdin": subprocess.DEVNULL, "stdout": subprocess.PIPE, "stderr": subprocess.STDOUT}
             ran = subprocess.run(words, encoding="utf-8", errors="replace", **how)
@@ -192,8 +231,8 @@ class Trial:
 
     def round(self, taken, alone):
         """Tries these changes at once, and returns those that only follow from others."""
-        check = self.check(taken, [it.function for it in taken])
-        unknown = [it for it in taken if it.function in check.unknown]
+        check = self.check(taken, [it.tried for it in taken])
+        unknown = [it for it in taken if it.tried in check.unknown]
         for change in unknown:
             self.not_there(change)
         if unknown:
@@ -204,14 +243,15 @@ class Trial:
             half = len(taken) // 2
             return self.round(taken[:half], alone) + self.round(taken[half:], alone)
         if not check.ended:
+            taken[0].number = None
             alone += taken
             return []
-        changed, later = {it.function for it in taken}, []
+        changed, later = {it.tried for it in taken}, []
         for function in sorted(check.told.keys() - changed):
             if check.told[function] != "proved" and check.own(function) != FOLLOWS:
                 self.fail(f"{self.crate.name}: {function} is not proved, and no change is in it: {check.told[function]}")
         for change in taken:
-            kind = change.said = check.own(change.function, change.is_renamed)
+            kind = change.said = check.own(change.tried, change.is_renamed)
             if kind == FOLLOWS:
                 later.append(change)
             elif kind == REFUSED:
@@ -220,6 +260,7 @@ class Trial:
                 self.named(change, check)
             else:
                 alone.append(change)
+            change.number = None
         return later
 
     def named(self, change, _check):
@@ -234,11 +275,15 @@ class Trial:
         return self.check([change]).whole(change), "alone, on the whole crate"
 
 
-def one_round(changes):
-    """Splits changes into those of one round, at most one a function and none on another's lines, and the rest."""
+def one_round(changes, can_double=True):
+    """Splits changes into those of one round, and the rest. What can stand twice does, if that is wanted. Of the others a round has at most one a function, and none on
+    another's lines."""
     taken, left, functions, lines = [], [], set(), set()
     for change in changes:
-        if change.function in functions or lines & change.lines.keys():
+        change.number = len(taken) + 1 if can_double and change.twice else None
+        if change.number:
+            taken.append(change)
+        elif change.function in functions or lines & change.lines.keys():
             left.append(change)
         else:
             taken.append(change)
