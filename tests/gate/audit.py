@@ -152,6 +152,12 @@ FAULTS = [
     (["UPDATE rules3 SET grace = 366 WHERE copy_kind = 2"], "fault 93"),
     (["UPDATE titles SET text = CAST(x'ff' AS TEXT) WHERE title = 100"], "fault 93"),
     (["UPDATE kept SET reply = CAST(x'ff' AS TEXT) WHERE key = 'a1'"], "fault 93"),
+    # texts that have no such form
+    (["UPDATE branches SET name = '' WHERE branch = 1"], "fault 93"),
+    (["UPDATE branches SET week = 'ooooox' WHERE branch = 1"], "fault 93"),
+    (["UPDATE branches SET week = 'ccccccc' WHERE branch = 1"], "fault 93"),
+    (["UPDATE patrons SET card_key = 'short' WHERE patron = 1"], "fault 93"),
+    (["UPDATE titles SET text = '' WHERE title = 100"], "fault 93"),
     # numbers below those that there are
     (["INSERT INTO patrons VALUES (0, 1, 'cardkey00000', 'Nil', 0)"], "fault 93"),
     (["INSERT INTO titles VALUES (-1, 'A title')"], "fault 93"),

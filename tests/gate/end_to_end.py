@@ -146,6 +146,8 @@ BAD_REQUESTS = [
     ["page", "01"],
     ["pay", "1", "05"],
     ["close-day", "1", "2026-3-9"],
+    ["week", "1", "oooooo"],
+    ["week", "1", "oooooox"],
     ["grace", "1", "1"],
     ["grace", "1", "1", "02"],
     ["grace", "1", "1", "2", "2"],

@@ -100,7 +100,7 @@ class Check:
             return PROVED
         folder = f"proofs/{function.replace('::', '/')}/"
         said = [it for place, its in self.errors.items() if place.startswith(folder) for it in its]
-        is_settled = lambda it: not is_of_names(it) and not (is_renamed and re.search("determined|give that argument", it))
+        is_settled = lambda it: not is_of_names(it) and not (is_renamed and re.search("determined|give that argument|unsolved", it))
         if any(is_settled(it) or self.is_of_lemma(it) for it in said) or "`search` did not prove" in told:
             return REFUSED
         if said:
