@@ -45,7 +45,7 @@ def missing_names(text, tried, function):
 
 def goals_asked(text):
     """The goals that the check asks for, by each name that it doesn't have."""
-    told = re.findall(r"^help: `\w+` has no `(\S+?)`; rattle asks for (.*?)(?:; .*)?$", text, re.M)
+    told = re.findall(r"^help: `\w+` has no `(\S+?)`(?:; rattle asks for|: the names here are) (.*?)(?:; .*)?$", text, re.M)
     return {name: re.findall(r"`(\S+?)`", names) for name, names in told}
 
 
@@ -63,9 +63,9 @@ def nearest(name, others):
 
 
 def is_same(name, other):
-    """Whether two names can be of one thing in two bodies: of what comes by a condition, turned or not, or of the same call or value, at another place among several."""
+    """Whether two names can be of one thing in two bodies: of what comes by a condition, turned or not, of a loop, or of the same call or value, at another place among several."""
     one, two = ([part for part in it.split("-") if part != "not" and not part.isdigit()] for it in (name, other))
-    return one == two or any(word in one and word in two for word in ("then", "else", "if"))
+    return one == two or any(word in one and word in two for word in ("then", "else", "if", "loop"))
 
 
 def answers(text):
