@@ -1,63 +1,68 @@
-//! The calls into the layers below, without clauses and generic over the store. The program
-//! promises nothing beyond theirs, so its proof carries none of them.
+//! The calls into the layers below, without clauses. The program promises nothing beyond theirs, so
+//! its proof carries none of them. They are generic over the store, the reader and the writer: at
+//! the program's own types the clauses are many times as long.
 
 use circ::{Exit, Report, Watch, Web, WriteFault};
 use desk::Desk;
-use sqlite::{Alter, Connection, FileFrom, FileStore, Start};
+use sqlite::{Alter, Connection, Error, FileFrom, FileStore, Start};
 use sqlite_disk::Disk;
 use std::alloc::Global;
-use std::fs::File;
-use std::io::Write;
+use std::io::{Read, Write};
 use std::net::{TcpListener, TcpStream};
 use std::sync::Wait;
 use std::thread::Threads;
 use store::Store;
 use terms::{CardKey, Fault, Key};
 
-/// A desk on a library file.
-pub type FileDesk<S> = Desk<FileStore<FileFrom<S>>>;
-
 /// The tables of a library file.
 pub type FileTables<S> = Store<FileStore<FileFrom<S>>>;
 
-/// Creates a library in the file and opens the desk on it.
-pub fn create<S: Start>(rt: &HostRuntime, path: &str, start: S) -> Result<FileDesk<S>, Fault> {
-    Desk::new(Store::create_from(rt, path, start)?)
+/// Creates the tables of a new library in the file.
+pub fn create<S: Start>(rt: &HostRuntime, path: &str, start: S) -> Result<FileTables<S>, Fault> {
+    Store::create_from(rt, path, start)
 }
 
 /// Opens the tables of the library, whatever their schema.
-pub fn open_any<S: Start>(rt: &HostRuntime, path: &str, start: S) -> Result<FileTables<S>, Fault> {
+pub fn open<S: Start>(rt: &HostRuntime, path: &str, start: S) -> Result<FileTables<S>, Fault> {
     Store::open_from(rt, path, start)
 }
 
-/// Opens the desk on the library.
-pub fn open<S: Start>(rt: &HostRuntime, path: &str, start: S) -> Result<FileDesk<S>, Fault> {
-    Desk::new(open_any(rt, path, start)?)
+/// Opens the desk on tables, if they have the newest schema.
+pub fn desk_on<S: Alter + Drop>(store: Store<S>) -> Result<Desk<S>, Fault> {
+    Desk::new(store)
 }
 
-/// Opens the tables of the library, if they have the newest schema.
-pub fn open_tables<S: Start>(
-    rt: &HostRuntime,
-    path: &str,
-    start: S,
-) -> Result<FileTables<S>, Fault> {
-    Ok(open(rt, path, start)?.into_store())
+/// Returns the tables of a desk.
+pub fn tables_of<S: Alter>(desk: Desk<S>) -> Store<S> {
+    desk.into_store()
 }
 
 /// Copies the database's log into the file, so that the file alone is the library. If that fails,
 /// the log stays beside it and nothing is lost.
-pub fn close<D: Disk + Drop>(desk: Desk<FileStore<D>>) {
-    close_tables(desk.into_store());
-}
-
-/// The same for the tables alone.
 pub fn close_tables<D: Disk + Drop>(store: Store<FileStore<D>>) {
     let _ = store.close();
 }
 
 /// Reads the schema number, if the tables have one.
-pub fn schema_of<S: Alter>(conn: &mut Connection<S>) -> Option<u32> {
-    circ_tables::schema_of(conn).ok()
+fn schema_of<S: Alter + Drop>(mut conn: Connection<S>) -> Option<u32> {
+    circ_tables::schema_of(&mut conn).ok()
+}
+
+/// Opens a database in the file.
+fn connected<S: Start>(
+    rt: &HostRuntime,
+    path: &str,
+    start: S,
+) -> Result<Connection<FileStore<FileFrom<S>>>, Error> {
+    match Connection::open_from(rt, path, false, start) {
+        Ok(conn) => Ok(conn),
+        Err((error, _)) => Err(error),
+    }
+}
+
+/// Reads the schema number of the library in the file, if it has one.
+pub fn schema_in<S: Start>(rt: &HostRuntime, path: &str, start: S) -> Result<Option<u32>, Error> {
+    Ok(schema_of(connected(rt, path, start)?))
 }
 
 /// Handles one request and writes its line.
@@ -72,13 +77,13 @@ pub fn one<S: Alter, W: Write>(
 }
 
 /// Imports a copies file and writes its lines.
-pub fn import<S: Alter, W: Write>(
+pub fn import<S: Alter, R: Read + Drop, W: Write>(
     desk: &mut Desk<S>,
     alloc: Global,
-    file: File,
+    reader: R,
     writer: &mut W,
 ) -> Result<Exit, WriteFault> {
-    circ::import(desk, alloc, file, writer)
+    circ::import(desk, alloc, reader, writer)
 }
 
 /// Writes a report.

@@ -1,7 +1,7 @@
 //! The library file: what it looks like before opening, and why opening failed.
 
-use crate::calls::schema_of;
-use sqlite::{Connection, Error, ErrorCode, Wary};
+use crate::calls::schema_in;
+use sqlite::{Error, ErrorCode, Wary};
 use sqlite_std_file::OpenError;
 use std::fs::{self, File};
 use std::io::{ErrorKind, Read};
@@ -142,20 +142,29 @@ fn cause_of_schema(schema: Option<u32>, is_damaged: bool, migrates: bool) -> &'s
     }
 }
 
+/// Explains why the file and its log can't be held; none if they can.
+fn cause_of_hold(rt: &HostRuntime, path: &str) -> Option<&'static str> {
+    match sqlite_std_file::open(rt, path, Wary) {
+        Ok(files) => {
+            drop(files);
+            None
+        }
+        Err(OpenError::Busy) => Some("another process has the file"),
+        Err(OpenError::HotJournal) => Some(
+            "another program left a rollback journal beside the file: open it with sqlite3 first",
+        ),
+        Err(OpenError::Io(error)) => Some(cause_of_kind(error.kind())),
+        Err(OpenError::OutOfMemory) => Some("there was no memory to open it"),
+    }
+}
+
 /// Explains a fault of the database by opening the file once more, since the run has released it.
 fn cause_inside(rt: &HostRuntime, path: &str, is_damaged: bool, migrates: bool) -> &'static str {
-    match sqlite_std_file::open(rt, path, Wary) {
-        Ok(files) => drop(files),
-        Err(OpenError::Busy) => return "another process has the file",
-        Err(OpenError::HotJournal) => {
-            return "another program left a rollback journal beside the file: open it with sqlite3 \
-                    first";
-        }
-        Err(OpenError::Io(error)) => return cause_of_kind(error.kind()),
-        Err(OpenError::OutOfMemory) => return "there was no memory to open it",
+    if let Some(cause) = cause_of_hold(rt, path) {
+        return cause;
     }
-    match Connection::open(rt, path) {
-        Ok(mut conn) => cause_of_schema(schema_of(&mut conn), is_damaged, migrates),
+    match schema_in(rt, path, Wary) {
+        Ok(schema) => cause_of_schema(schema, is_damaged, migrates),
         Err(Error::SqliteFailure(code)) => cause_of_code(code, has_page_in_log(rt, path)),
         Err(_) => "the file can't be opened",
     }

@@ -1,14 +1,15 @@
 //! Runs the program from its words to its end.
 
 use crate::calls::{
-    FileDesk, audit, close, close_tables, create, import, migrate, no_network, not_understood, one,
-    open, open_any, open_tables, report, send, serve, tell_fault, unreadable,
+    FileTables, audit, close_tables, create, desk_on, import, migrate, no_network, not_understood,
+    one, open, report, send, serve, tables_of, tell_fault, unreadable,
 };
 use crate::files::{drop_log, has_log, is_held, is_new, may_be_library};
 use crate::notes::{Console, Topic, say, say_begun, say_misread, say_new, say_unwritten};
 use circ::{Exit, Report, Run, Web, WriteFault, read_run};
+use desk::Desk;
 use messages::{Noting, ToldLine};
-use sqlite::{Start, Wary};
+use sqlite::{Alter, Start, Wary};
 use std::fs::File;
 use std::io::{BufWriter, ErrorKind, Write};
 use std::net::{Ipv4Addr, TcpListener, TcpStream};
@@ -16,6 +17,7 @@ use std::sync::Wait;
 use std::thread::Threads;
 use std::time::Duration;
 use std::{env, io, thread};
+use store::Store;
 use terms::{CardKey, Fault, Key};
 
 /// Printed while all holds and loans of an older library are rewritten.
@@ -23,6 +25,24 @@ const MIGRATES: &str = "the library is being brought to the newest schema";
 
 /// Printed while a library is opened for serving, before the line with the port.
 const OPENS: &str = "the library is being opened, and the pages of its patrons are made";
+
+/// What a run does at the desk of a library.
+#[derive(Drop)]
+enum DeskWork<'a> {
+    Request { key: Key, words: &'a [String] },
+    Import { copies: &'a str },
+    Report(Report),
+    Audit,
+    Serve { path: &'a str, web: Web },
+}
+
+/// What a run does on a library.
+#[derive(Drop)]
+enum Work<'a> {
+    /// Work that wants the newest schema.
+    Desk(DeskWork<'a>),
+    Migration { path: &'a str },
+}
 
 /// A marker for the file's content, made anew for each opening, which consumes it.
 trait Content: Start {
@@ -49,16 +69,44 @@ fn may_be_freed(rt: &HostRuntime, path: &str, is_first: bool) -> bool {
     is_held(rt, path) || is_first
 }
 
-/// Opens a file, retrying for two seconds while another process has it.
-fn tried<T, F: Fn() -> Result<T, Fault>>(
+/// What is done about a library that isn't there.
+#[derive(Clone, Copy)]
+enum Absent {
+    /// A new one is made.
+    Made,
+    /// 93: a missing or empty file is no library.
+    Refused,
+}
+
+/// Opens the tables of a library once. A file that isn't a database is left alone: 91.
+fn open_once<S: Content>(
     rt: &HostRuntime,
     path: &str,
-    opening: F,
-) -> Result<T, Fault>
-    requires { F.IsAlwaysCallable opening }
-{
+    absent: Absent,
+) -> Result<FileTables<S>, Fault> {
+    if is_new(rt, path) {
+        let Absent::Made = absent else {
+            return Err(Fault::Stored);
+        };
+        let tables = create(rt, path, S::again())?;
+        // Ignored: a failed note doesn't stop the run.
+        let _ = say_new(rt, path);
+        return Ok(tables);
+    }
+    if !may_be_library(rt, path) {
+        return Err(Fault::Database);
+    }
+    open(rt, path, S::again())
+}
+
+/// Opens the tables of a library, retrying for two seconds while another process has the file.
+fn tables_in<S: Content>(
+    rt: &HostRuntime,
+    path: &str,
+    absent: Absent,
+) -> Result<FileTables<S>, Fault> {
     for count in 0..MOST_TRIES {
-        match opening() {
+        match open_once(rt, path, absent) {
             Err(Fault::Database) => {
                 if !may_be_freed(rt, path, count == 0) {
                     return Err(Fault::Database);
@@ -71,144 +119,29 @@ fn tried<T, F: Fn() -> Result<T, Fault>>(
     Err(Fault::Database)
 }
 
-/// Opens the library, or creates one if the file is missing or empty. A file that isn't a database
-/// is left alone: 91.
-fn open_or_create<S: Content>(rt: &HostRuntime, path: &str) -> Result<FileDesk<S>, Fault> {
-    if is_new(rt, path) {
-        let desk = create(rt, path, S::again())?;
-        // Ignored: a failed note doesn't stop the run.
-        let _ = say_new(rt, path);
-        return Ok(desk);
-    }
-    if !may_be_library(rt, path) {
-        return Err(Fault::Database);
-    }
-    open(rt, path, S::again())
-}
-
-/// Opens existing tables. A missing or empty file is no library: 93, and no file is made. A file
-/// that isn't a database is left alone: 91.
-fn find<T, F: Fn() -> Result<T, Fault>>(
+/// Imports a copies file, or writes the lines for one that can't be opened.
+fn import_file<S: Alter, W: Write>(
     rt: &HostRuntime,
-    path: &str,
-    opening: F,
-) -> Result<T, Fault>
-    requires { F.IsAlwaysCallable opening }
-{
-    if is_new(rt, path) {
-        return Err(Fault::Stored);
-    }
-    if !may_be_library(rt, path) {
-        return Err(Fault::Database);
-    }
-    tried(rt, path, opening)
-}
-
-/// Handles one request on a library.
-fn file<S: Content, W: Write>(
-    rt: &HostRuntime,
-    path: &str,
-    key: Key,
-    words: &[String],
-    writer: &mut W,
-) -> Result<Exit, WriteFault> {
-    match tried(rt, path, || open_or_create::<S>(rt, path)) {
-        Ok(mut desk) => {
-            let told = one(&mut desk, rt.alloc(), key, words, writer);
-            close(desk);
-            told
-        }
-        Err(fault) => tell_fault(writer, fault),
-    }
-}
-
-/// Imports a copies file into a library.
-fn import_into<S: Content, W: Write>(
-    rt: &HostRuntime,
-    path: &str,
+    desk: &mut Desk<S>,
     copies: &str,
     writer: &mut W,
 ) -> Result<Exit, WriteFault> {
-    match tried(rt, path, || open_or_create::<S>(rt, path)) {
-        Ok(mut desk) => {
-            let told = match File::open(rt, copies) {
-                Ok(file) => import(&mut desk, rt.alloc(), file, writer),
-                Err(_) => unreadable(writer),
-            };
-            close(desk);
-            told
-        }
-        Err(fault) => tell_fault(writer, fault),
+    match File::open(rt, copies) {
+        Ok(file) => import(desk, rt.alloc(), file, writer),
+        Err(_) => unreadable(writer),
     }
 }
 
-/// Writes a report on a library.
-fn report_on<S: Content, W: Write>(
-    rt: &HostRuntime,
-    path: &str,
-    wanted: &Report,
-    writer: &mut W,
-) -> Result<Exit, WriteFault> {
-    match find(rt, path, || open(rt, path, S::again())) {
-        Ok(mut desk) => {
-            let told = report(&mut desk, rt.alloc(), wanted, writer);
-            close(desk);
-            told
-        }
-        Err(fault) => tell_fault(writer, fault),
-    }
-}
-
-/// Audits a library.
-fn audit_on<S: Content, W: Write>(
-    rt: &HostRuntime,
-    path: &str,
-    writer: &mut W,
-) -> Result<Exit, WriteFault> {
-    match find(rt, path, || open_tables(rt, path, S::again())) {
-        Ok(mut store) => {
-            let told = audit(&mut store, rt.alloc(), writer);
-            close_tables(store);
-            told
-        }
-        Err(fault) => tell_fault(writer, fault),
-    }
-}
-
-/// Migrates a library to the newest schema.
-fn migrate_in<S: Content, W: Write>(
-    rt: &HostRuntime,
-    path: &str,
-    writer: &mut W,
-) -> Result<Exit, WriteFault> {
-    match find(rt, path, || open_any(rt, path, S::again())) {
-        Ok(mut store) => {
-            // Ignored: a failed note doesn't stop the run.
-            let _ = say_begun(rt, path, MIGRATES);
-            let told = migrate(&mut store, rt.alloc(), writer);
-            close_tables(store);
-            told
-        }
-        Err(fault) => tell_fault(writer, fault),
-    }
-}
-
-/// Serves the web from a library, on this machine's port only.
-fn serve_on<S: Content, W: Write, R: Threads + Wait + Copy + Send + 'static>(
+/// Serves the web on this machine's port only, and returns the desk.
+fn serve_port<S: Alter, W: Write, R: Threads + Wait + Copy + Send + 'static>(
     rt: &HostRuntime,
     threads: R,
-    path: &str,
+    desk: Desk<S>,
     web: Web,
     writer: &mut W,
-) -> Result<Exit, WriteFault> {
-    // Ignored: a failed note doesn't stop the serving.
-    let _ = say_begun(rt, path, OPENS);
-    let desk = match tried(rt, path, || open_or_create::<S>(rt, path)) {
-        Ok(desk) => desk,
-        Err(fault) => return tell_fault(writer, fault),
-    };
+) -> (Desk<S>, Result<Exit, WriteFault>) {
     let mut console = Console { rt };
-    let (desk, told) = match TcpListener::bind(rt, (Ipv4Addr::LOCALHOST, web.port)) {
+    match TcpListener::bind(rt, (Ipv4Addr::LOCALHOST, web.port)) {
         Ok(listener) => serve(
             threads,
             rt.alloc(),
@@ -219,8 +152,79 @@ fn serve_on<S: Content, W: Write, R: Threads + Wait + Copy + Send + 'static>(
             writer,
         ),
         Err(_) => (desk, no_network(writer)),
+    }
+}
+
+/// Does work at the desk of a library, and returns the tables.
+fn work_at<S: Alter, W: Write, R: Threads + Wait + Copy + Send + 'static>(
+    rt: &HostRuntime,
+    threads: R,
+    mut desk: Desk<S>,
+    work: DeskWork<'_>,
+    writer: &mut W,
+) -> (Store<S>, Result<Exit, WriteFault>) {
+    let told = match work {
+        DeskWork::Request { key, words } => one(&mut desk, rt.alloc(), key, words, writer),
+        DeskWork::Import { copies } => import_file(rt, &mut desk, copies, writer),
+        DeskWork::Report(wanted) => report(&mut desk, rt.alloc(), &wanted, writer),
+        DeskWork::Serve { path, web } => {
+            // Ignored: a failed note doesn't stop the serving.
+            let _ = say_begun(rt, path, OPENS);
+            let (desk, told) = serve_port(rt, threads, desk, web, writer);
+            return (tables_of(desk), told);
+        }
+        DeskWork::Audit => {
+            let mut tables = tables_of(desk);
+            let told = audit(&mut tables, rt.alloc(), writer);
+            return (tables, told);
+        }
     };
-    close(desk);
+    (tables_of(desk), told)
+}
+
+/// Does work on the tables of a library, and returns them; none if there can be no desk on them.
+fn work_on<S: Alter + Drop, W: Write, R: Threads + Wait + Copy + Send + 'static>(
+    rt: &HostRuntime,
+    threads: R,
+    mut tables: Store<S>,
+    work: Work<'_>,
+    writer: &mut W,
+) -> (Option<Store<S>>, Result<Exit, WriteFault>) {
+    let work = match work {
+        Work::Desk(work) => work,
+        Work::Migration { path } => {
+            // Ignored: a failed note doesn't stop the run.
+            let _ = say_begun(rt, path, MIGRATES);
+            let told = migrate(&mut tables, rt.alloc(), writer);
+            return (Some(tables), told);
+        }
+    };
+    match desk_on(tables) {
+        Ok(desk) => {
+            let (tables, told) = work_at(rt, threads, desk, work, writer);
+            (Some(tables), told)
+        }
+        Err(fault) => (None, tell_fault(writer, fault)),
+    }
+}
+
+/// Opens a library, does the work, and closes it.
+fn work_in<S: Content, W: Write, R: Threads + Wait + Copy + Send + 'static>(
+    rt: &HostRuntime,
+    threads: R,
+    path: &str,
+    absent: Absent,
+    work: Work<'_>,
+    writer: &mut W,
+) -> Result<Exit, WriteFault> {
+    let tables = match tables_in::<S>(rt, path, absent) {
+        Ok(tables) => tables,
+        Err(fault) => return tell_fault(writer, fault),
+    };
+    let (tables, told) = work_on(rt, threads, tables, work, writer);
+    if let Some(tables) = tables {
+        close_tables(tables);
+    }
     told
 }
 
@@ -262,20 +266,37 @@ fn do_run<S: Content, W: Write, R: Threads + Wait + Copy + Send + 'static>(
     asked: Run<'_>,
     writer: &mut W,
 ) -> Result<Exit, WriteFault> {
-    match asked {
-        Run::File { path, key, words } => file::<S, W>(rt, path, key, words, writer),
-        Run::Import { path, copies } => import_into::<S, W>(rt, path, copies, writer),
-        Run::Report { path, report } => report_on::<S, W>(rt, path, &report, writer),
-        Run::Audit { path } => audit_on::<S, W>(rt, path, writer),
-        Run::Migrate { path } => migrate_in::<S, W>(rt, path, writer),
-        Run::Serve { path, web } => serve_on::<S, W, R>(rt, threads, path, web, writer),
+    let (path, absent, work) = match asked {
+        Run::File { path, key, words } => {
+            (
+                path,
+                Absent::Made,
+                Work::Desk(DeskWork::Request { key, words }),
+            )
+        }
+        Run::Import { path, copies } => {
+            (path, Absent::Made, Work::Desk(DeskWork::Import { copies }))
+        }
+        Run::Report { path, report } => {
+            (path, Absent::Refused, Work::Desk(DeskWork::Report(report)))
+        }
+        Run::Audit { path } => (path, Absent::Refused, Work::Desk(DeskWork::Audit)),
+        Run::Migrate { path } => (path, Absent::Refused, Work::Migration { path }),
+        Run::Serve { path, web } => {
+            (
+                path,
+                Absent::Made,
+                Work::Desk(DeskWork::Serve { path, web }),
+            )
+        }
         Run::Send {
             port,
             desk_key,
             key,
             words,
-        } => send_to(rt, port, &desk_key, &key, words, writer),
-    }
+        } => return send_to(rt, port, &desk_key, &key, words, writer),
+    };
+    work_in::<S, W, R>(rt, threads, path, absent, work, writer)
 }
 
 /// The same, and flushes the output.
