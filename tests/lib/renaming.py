@@ -140,14 +140,71 @@ def without(path, block, are_facts=False):
             end = start + len(block[start:end].rstrip())
         before = re.search(r"\s*[∙⨾⨟]\s*\Z", block[:start])
         after = re.match(r"\s*[∙⨾⨟]\s*", block[end:])
-        if is_fact and (before or after):
-            # in a chain of facts there is one less
+        chained = is_fact and (other_of_two(block, start, end) or other_of_two(block, *bracketed(block, start, end)))
+        # in a chain of facts there is one less
+        if chained:
+            start, end, other = chained
+        elif is_fact and (before or after):
             start, end, other = (before.start(), end, "") if before else (start, end + after.end(), "")
         else:
             other = SEARCH if is_fact else "_"
         block = block[:start] + other + "\n " * block.count("\n", start, end) + block[end:]
         at = path.search(block)
     return block
+
+
+def other_of_two(block, start, end):
+    """Where a fact is one of the last two arguments of a lemma that puts two facts together, whose name ends in `then`: where this application begins and ends, and the
+    other fact."""
+    last = end_of(block, end)
+    first, atoms = start_of(block, start), []
+    at = first
+    while at < last:
+        if block[at].isspace():
+            at += 1
+            continue
+        ended = at
+        while ended < last and not block[ended].isspace():
+            ended = closing_of(block, ended) + 1 if block[ended] in BRACKETS else ended + 1
+        atoms.append((at, ended))
+        at = ended
+    texts = [block[slice(*it)] for it in atoms]
+    if len(texts) < 3 or not texts[0].endswith("then") or (start, end) not in atoms[-2:]:
+        return None
+    return first, atoms[-1][1], texts[-1] if atoms[-2] == (start, end) else texts[-2]
+
+
+def bracketed(block, start, end):
+    """Where the brackets begin and end in which a fact is an argument."""
+    first, last = start_of(block, start) - 1, end_of(block, end)
+    return (first, last + 1) if first >= 0 and last < len(block) and block[first] == "(" and block[last] == ")" else (start, end)
+
+
+def closing_of(block, at):
+    """The place of the bracket that closes the one at a place."""
+    depth = 0
+    for here in range(at, len(block)):
+        depth += (block[here] in BRACKETS) - (block[here] in BRACKETS.values())
+        if depth == 0:
+            return here
+    return len(block) - 1
+
+
+def start_of(block, at):
+    """Where the application begins that a place is in."""
+    depth = 0
+    while at > 0:
+        mark = block[at - 1]
+        if mark in BRACKETS.values():
+            depth += 1
+        elif mark in BRACKETS:
+            if depth == 0:
+                break
+            depth -= 1
+        elif depth == 0 and (mark in ",;=∙⨾⨟×" or re.search(r"(?:\bin|\bλ[^.]*\.)\s\Z", block[:at])):
+            break
+        at -= 1
+    return at + len(block[at:]) - len(block[at:].lstrip())
 
 
 def is_head(block, at):
