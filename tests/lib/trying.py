@@ -144,7 +144,7 @@ class Check:
 
 def is_of_names(said):
     """Whether an error says that a proof names what isn't there."""
-    return bool(re.search(r"has no field|\(nearest: |is not in scope|has no `|was not admitted", said))
+    return bool(re.search(r"has no field `(?!\d)|\(nearest: |is not in scope|has no `|was not admitted", said))
 
 
 class Crate:
