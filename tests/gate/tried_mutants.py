@@ -88,6 +88,9 @@ pub returns : goal.returns
 returns c =
     let least = c.in_ok-small.ensures.least in
     at_most c.small.new.self.now (c.in_ok-small.ensures.sound (omega arith)).first (step least.kept c.args.n)
+
+pub returns-clause-kept : goal.returns-clause-kept
+returns-clause-kept c = kept_then c.args.n (λ n. n) (widened c.in_ok-small.ensures.kept) (c.other.ensures ∙ c.in_ok-small.ensures.same)
 """
 NO_GOAL = "./proofs/most/Answers.antt:{line}:20: error: `{name}`: `goal.{name}`: module `Rattle.numbers.proofs.most.Goals` has no `{name}` that can be named from here\n"
 NO_FIELD = """./proofs/most/Answers.antt:{line}:20: error: `returns`: record `Rattle.numbers.proofs.most.Lts.After` has no field `{name}` (nearest: .args)
@@ -97,7 +100,7 @@ ASKED = "help: `Goals` has no `{name}`; rattle asks for `returns-then-not-le`, `
 LOST = (
     NO_GOAL.format(line=4, name="returns-then-le") + NO_FIELD.format(line=12, name="in_ok-small") + ASKED.format(name="returns-then-le"),
     NO_GOAL.format(line=7, name="returns-in_err-small") + NO_FIELD.format(line=13, name="small") + ASKED.format(name="returns-in_err-small"),
-    NO_FIELD.format(line=5, name="if-le"),
+    NO_FIELD.format(line=5, name="if-le") + NO_FIELD.format(line=16, name="in_ok-small"),
 )
 NAMED_ANEW = """use Rattle.std.proofs.Common.{arith}
 use Rattle.numbers.proofs.most.Goals as goal
@@ -112,6 +115,9 @@ pub returns : goal.returns
 returns c =
     
     at_most _ (search Rattle.std.proofs.Common.rules) (step (search Rattle.std.proofs.Common.rules) c.args.n)
+
+pub returns-clause-kept : goal.returns-clause-kept
+returns-clause-kept c = (c.other.ensures)
 """
 
 
