@@ -493,6 +493,7 @@ def hostile_bytes(folder, workers):
     check("all else stays", {**after, "holds2": [], "kept": before["kept"], "meta": before["meta"]}, before)
 
 
+LATE = 30.9  # so many seconds after its last byte a silent client is let go too late
 PAUSES = [n / 4000 for n in range(12)]  # in seconds, until a connection is broken whose answer is on its way
 # Holds whose answers are lost, each with what is kept of it.
 LOST_HOLDS = [("place-hold 2 200 1", "hold 2"), ("place-hold 2 300 2", "hold 3")]
@@ -588,15 +589,19 @@ def one_waits(folder, workers):
 
 
 def a_silent_client(folder, workers):
-    """A client that sends nothing is let go after half a minute; it keeps one worker waiting and no other."""
+    """A client that sends nothing is let go after half a minute; it keeps one worker waiting and no other. A busy machine may be late, and is asked thrice at most."""
     path = a_library(folder, f"silent{workers}.db")
-    with Serving(path, 2, workers=workers) as serving:
-        with socket.create_connection(("127.0.0.1", serving.port), timeout=120) as silent:
-            began = time.monotonic()
-            check("the next one", serving.raw(PAGE_OF_ANN), answer("200 OK", ANNS_PAGE))
-            check("it came once the silent one was let go, if there is one worker", is_let_go(silent), workers == 1)
-            check("the silent one gets nothing", everything(silent), b"")
-            check("it was let go after half a minute", time.monotonic() - began > 29, True)
+    for _ in range(3):
+        with Serving(path, 2, workers=workers) as serving:
+            with socket.create_connection(("127.0.0.1", serving.port), timeout=120) as silent:
+                began = time.monotonic()
+                check("the next one", serving.raw(PAGE_OF_ANN), answer("200 OK", ANNS_PAGE))
+                check("it came once the silent one was let go, if there is one worker", is_let_go(silent), workers == 1)
+                check("the silent one gets nothing", everything(silent), b"")
+                took = time.monotonic() - began
+        if took < LATE:
+            break
+    check("it was let go after half a minute", 29 < took < LATE, True)
 
 
 def a_damaged_patron(folder, workers):

@@ -108,10 +108,10 @@ def fields_of_headline():
 
 
 def by_chance():
-    """The last tables of wrong bodies by chance, as `tests/tools/mutants` printed them: the numbers of each row."""
+    """The table of wrong bodies by chance, of what `tests/tools/mutants` printed: the numbers of each crate, by all seeds together, and of all crates by each seed."""
     made = re.search(r"^<!-- by chance: tests/tools/mutants .*-->\n\n```\n(.*?)```\n\n<!-- by chance: end -->$", read("docs/WRONG-BODIES.md"), re.M | re.S)[1]
-    for text in re.split(r"^seed .*\n", made, flags=re.M)[1:]:
-        yield [[int(it) for it in line.split()[1:]] for line in text.splitlines() if line]
+    rows = [(line.startswith("all,"), [int(it) for it in line.split()[-5:]]) for line in made.splitlines()[1:]]
+    return [it for is_of_all, it in rows if not is_of_all], [it for is_of_all, it in rows if is_of_all]
 
 
 def named():
@@ -178,9 +178,9 @@ def main():
     bodies = list(wrong_bodies())
     check(f"{len(bodies)} edits in docs/WRONG-BODIES.md are enough", len(bodies) >= 150, True)
     check("the edits that docs/WRONG-BODIES.md names, each with its function", [it for it in bodies if not is_refused_in(*it)], [])
-    for *crates, every in by_chance():
-        check("the wrong bodies by chance of all crates", every, [sum(it) for it in zip(*crates)])
-        check("what they came to", [row for row in (*crates, every) if row[0] != sum(row[1:])], [])
+    crates, seeds = by_chance()
+    check("the wrong bodies by chance of all crates", [sum(it) for it in zip(*seeds)], [sum(it) for it in zip(*crates)])
+    check("what they came to", [row for row in (*crates, *seeds) if row[0] != sum(row[1:])], [])
     fields, told_of = fields_of_headline()
     check("the fields of the headline that have an edit", told_of, fields)
     names, words_there = list(named()), sources()
