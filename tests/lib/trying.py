@@ -100,7 +100,7 @@ class Check:
             return PROVED
         folder = f"proofs/{function.replace('::', '/')}/"
         said = [it for place, its in self.errors.items() if place.startswith(folder) for it in its]
-        is_settled = lambda it: not is_of_names(it) and not (is_renamed and re.search("determined|give that argument|unsolved|nearest: ", it))
+        is_settled = lambda it: not is_of_names(it) and not (is_renamed and re.search("determined|give that argument|unsolved", it))
         if any(is_settled(it) or self.is_of_lemma(it) for it in said) or "`search` did not prove" in told:
             return REFUSED
         if said:
@@ -144,7 +144,7 @@ class Check:
 
 def is_of_names(said):
     """Whether an error says that a proof names what isn't there."""
-    return bool(re.search(r"has no field `(?!\d)|is not in scope|has no `|was not admitted", said))
+    return bool(re.search(r"has no field `(?!\d)|\(nearest: |is not in scope|has no `|was not admitted", said))
 
 
 class Crate:
