@@ -5,7 +5,7 @@
     tests/gate/refused.py --all      each of them
 
 One request for memory is refused by a library of C (tests/data/refuse.c) that is loaded into the program first: of scripts on a library in memory (crates/memory_scripts), of runs on
-files, and of a program that serves; and one thread of that. Limits of the system on memory and on the size of files refuse all from some place on.
+files, and of a program that serves; one thread of that; and limits of time on its sockets. Limits of the system on memory and on the size of files refuse all from some place on.
 """
 
 import http.client
@@ -346,6 +346,23 @@ def missing_threads(folder, refusing):
             check(f"the rows, {where}", rows(path, "SELECT COUNT(*) FROM copies WHERE copy >= 800"), [(2 * (workers - 1),)])
 
 
+def sockets_without_a_limit(folder, refusing):
+    """A program that serves, where a socket takes no limit of time for reading, or none for writing: such a client could hold up a worker for ever, so it gets no answer, nothing is
+    done for it, and it counts as one of the connections."""
+    base, path = os.path.join(folder, "ground.db"), os.path.join(folder, "limits.db")
+    for name in ("SO_RCVTIMEO", "SO_SNDTIMEO"):
+        copied(base, path)
+        where, before, how = f"{name} refused", whole(base), {**refusing.how(0), "OPTION": str(getattr(socket, name))}
+        run, port, first = started(lambda port: ["serve", path, str(port), "1", "2", DESK_KEY], env=how)
+        need(f"the port, {where}", first, f"listening on {port}\n")
+        for key in ("l1", "l2"):
+            sent = subprocess.run([PROGRAM, "send", str(port), DESK_KEY, key, "branch", "3", "5", "Hill"], capture_output=True, timeout=60, check=False)
+            check(f"request {key}, {where}", (sent.stdout.decode(), sent.returncode), (NO_ANSWER, 3))
+        out, _ = run.communicate(timeout=60)
+        check(f"the end, {where}", (out.decode(), run.returncode), ("", 0))
+        check(f"the rows, {where}", whole(path), before)
+
+
 def begins(limit):
     """Whether the system can begin a run under this limit of memory at all: one that opens nothing says that its words are not understood."""
     return under(["nothing"], resource.RLIMIT_AS, limit).stdout == b"words not understood\n"
@@ -574,6 +591,7 @@ def main():
         part(routes_without_memory, folder, refusing)
         part(a_board_that_cannot_grow, folder, refusing)
         part(missing_threads, folder, refusing)
+        part(sockets_without_a_limit, folder, refusing)
         part(memory, folder, everything)
         part(serving_memory, folder, everything)
         part(refused_after_listening, folder, refusing)
