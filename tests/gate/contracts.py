@@ -23,7 +23,7 @@ from lib.checking import check, none, run_script
 PAGE, PROOFS, LAYERS, FRONT = "docs/CONTRACTS.md", "docs/PROOFS.md", "docs/ARCHITECTURE.md", "README.md"
 USES = r"^ *(?:ghost |pub )?use Rattle\.(\w+)\.specs\.([\w.]+?)\.\{([^}]*)\}"
 # The crates that are there for tests, beside those whose names end so.
-FOR_TESTS = ("test_bytes", "test_library", "memory_scripts")
+FOR_TESTS = ("test_bytes", "test_library")
 # What a call's clause names only to say of which state or limit it speaks.
 PLAIN = ("state", "limit_of", "over_memory")
 # A clause that has no label and names no definition is told as it stands, up to so many characters.

@@ -4,7 +4,7 @@
     tests/gate/refused.py            a fixed sample of the places where it is refused
     tests/gate/refused.py --all      each of them
 
-One request for memory is refused by a library of C (tests/data/refuse.c) that is loaded into the program first: of scripts on a library in memory (crates/memory_scripts), of runs on
+One request for memory is refused by a library of C (tests/data/refuse.c) that is loaded into the program first: of scripts on a library in memory (a test of crates/desk_tests), of runs on
 files, and of a program that serves; one thread of that; and limits of time on its sockets. Limits of the system on memory and on the size of files refuse all from some place on.
 """
 
@@ -32,7 +32,9 @@ from migrate import DONE, HOLDS, led_up, schema_of, stages, with_many_rows
 
 STEP = 64 * 1024
 SAMPLE = 24  # how many limits of the system are tried where not each is
-SCRIPTS = f"{TOP}/crates/memory_scripts/out/memory_scripts"
+TESTS = f"{TOP}/crates/desk_tests/out/desk_tests_tests"
+SCRIPTS = "refusals::scripts_go_on_after_refused_memory"
+FAILED = 101  # the status of a test that fails
 
 
 def under(words, kind, limit, **how):
@@ -89,20 +91,20 @@ def places(count, many, everything):
 
 def scripts_in_memory(refusing, everything):
     """Scripts on libraries in memory: a request that is refused memory leaves every row as it was, and is answered when it is asked again; at the end the rows are the same.
-    The program compares, and prints them."""
-    if not os.path.isfile(SCRIPTS):
-        subprocess.run(["rt", "run"], cwd=f"{TOP}/crates/memory_scripts", stdin=subprocess.DEVNULL, stdout=subprocess.DEVNULL, stderr=subprocess.DEVNULL, check=False)
-    plain = refusing.run([SCRIPTS, "play"], 0)
+    The test compares, and prints them."""
+    if not os.path.isfile(TESTS):
+        subprocess.run(["rt", "test"], cwd=f"{TOP}/crates/desk_tests", stdin=subprocess.DEVNULL, stdout=subprocess.DEVNULL, stderr=subprocess.DEVNULL, check=False)
+    plain = refusing.run([TESTS, SCRIPTS], 0)
     check("the scripts, with memory", (plain.returncode, plain.stdout.count(b"|ok|") > 80, plain.stderr), (0, True, b"refused: 0\n"))
     count, told = refusing.count(), Counter()
 
     def one(number):
-        return number, subprocess.run([SCRIPTS, "play"], env={**os.environ, "LD_PRELOAD": refusing.library, "REFUSE": str(number)}, capture_output=True, timeout=300, check=False)
+        return number, subprocess.run([TESTS, SCRIPTS], env={**os.environ, "LD_PRELOAD": refusing.library, "REFUSE": str(number)}, capture_output=True, timeout=300, check=False)
 
     with ThreadPoolExecutor(os.cpu_count()) as pool:
         for number, run in pool.map(one, places(count, 300, everything)):
-            # the program's own work had no memory, or the rows are the same, be it a request's of the desk that was refused or nobody's who noticed
-            own = "the scripts' own" if run.returncode == 1 and plain.stdout.startswith(run.stdout) else ""
+            # the test's own work had no memory, or the rows are the same, be it a request's of the desk that was refused or nobody's who noticed
+            own = "the test's own" if run.returncode == FAILED and b"wrong" not in run.stderr and plain.stdout.startswith(run.stdout) else ""
             ends = {(0, plain.stdout, b"refused: 1\n"): "a request's of the desk, asked again", (0, plain.stdout, b"refused: 0\n"): "nobody's"}
             what = own or ends.get((run.returncode, run.stdout, run.stderr), "")
             check(f"the end of the scripts, request {number} refused: {what or run}", what != "", True)

@@ -1,6 +1,6 @@
 //! Tests of the desk that the program on files cannot show, in their own crate so that the crates
-//! below are proved once: lists of requests, patrons as callers, all rows, limits on steps, stops,
-//! and migrations.
+//! below are proved once: lists of requests, patrons as callers, all rows, limits on steps, refused
+//! memory, stops, and migrations.
 #![tactic(auto)]
 
 #[cfg(test)]
@@ -11,6 +11,8 @@ mod limits;
 mod lists;
 #[cfg(test)]
 mod migrations;
+#[cfg(test)]
+mod refusals;
 #[cfg(test)]
 mod script_stops;
 #[cfg(test)]

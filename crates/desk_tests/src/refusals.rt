@@ -1,16 +1,15 @@
-//! Scripts on a small library in memory, for the toolchain's runs in which one memory request is
-//! refused. A request that met a fault is asked again: so the program prints the same rows in each
-//! such run that it completes, unless a fault changed something or had another cause; and on
-//! standard error how many requests met a fault. If it has no memory for its own work it fails.
-#![tactic(auto)]
+//! Scripts in memory, which `tests/gate/refused.py` runs with one memory request refused. A request
+//! that met a fault is asked again: so the same rows are printed in each such run, unless a fault
+//! changed something or had another cause, or the test had no memory for its own work. Standard
+//! error has how many requests met a fault.
 
+use crate::limits::shown;
 use desk::Desk;
 use sqlite::MemStore;
 use std::alloc::Global;
-use std::env;
 use std::test::Fail;
 use terms::Fault;
-use test_library::{GROUND, SCRIPTS, connection, handle, in_memory, opened, request, rows};
+use test_library::{GROUND, SCRIPTS, handle, in_memory, request};
 
 /// How a line was answered.
 #[derive(Clone, Copy, PartialEq, Eq)]
@@ -21,14 +20,6 @@ enum Told {
     Refused,
     /// Anything else.
     Wrong,
-}
-
-/// How a script went: its rows at the end and how many requests were refused memory, or that
-/// something was wrong.
-#[derive(Drop)]
-enum Played {
-    Whole(String, u32),
-    Wrong(&'static str),
 }
 
 /// Asks the request of a line.
@@ -44,17 +35,9 @@ fn ask(alloc: Global, desk: &mut Desk<MemStore>, line: &str) -> Result<Told, Fai
                 Told::Wrong
             })
         }
-        Err(Fault::Memory) => Ok(Told::Refused),
-        Err(Fault::Database) => Ok(Told::Refused),
+        Err(Fault::Memory) | Err(Fault::Database) => Ok(Told::Refused),
         Err(_) => Ok(Told::Wrong),
     }
-}
-
-/// All rows, and the desk over them.
-fn rows_of(alloc: Global, desk: Desk<MemStore>) -> Result<(Desk<MemStore>, String), Fail> {
-    let mut conn = connection(desk);
-    let text = rows(alloc, &mut conn)?;
-    Ok((opened(conn)?, text))
 }
 
 /// The rows of a separate library before the line at this place.
@@ -65,7 +48,7 @@ fn rows_before(alloc: Global, script: &str, at: usize) -> Result<String, Fail> {
             return Err("an answer".into());
         }
     }
-    let (_, text) = rows_of(alloc, desk)?;
+    let (_, text) = shown(alloc, desk)?;
     Ok(text)
 }
 
@@ -76,55 +59,42 @@ fn ask_again(
     script: &str,
     (at, line): (usize, &str),
 ) -> Result<(Desk<MemStore>, bool), Fail> {
-    let (mut desk, text) = rows_of(alloc, desk)?;
+    let (mut desk, text) = shown(alloc, desk)?;
     let stays = text.as_str() == rows_before(alloc, script, at)?.as_str();
     let told = ask(alloc, &mut desk, line)?;
     Ok((desk, stays && told == Told::Right))
 }
 
-/// A script on a new library.
-fn play(alloc: Global, script: &str) -> Result<Played, Fail> {
+/// A script on a new library: its rows at the end, and how many requests were refused memory.
+fn play(alloc: Global, script: &str) -> Result<(String, u32), Fail> {
     let mut desk = in_memory(alloc)?;
     let mut refused = 0u32;
     for (at, line) in GROUND.split('\n').chain(script.split('\n')).enumerate() {
         match ask(alloc, &mut desk, line)? {
             Told::Right => {}
-            Told::Wrong => return Ok(Played::Wrong("an answer")),
+            Told::Wrong => return Err("wrong: an answer".into()),
             Told::Refused => {
                 let (next, is_right) = ask_again(alloc, desk, script, (at, line))?;
                 desk = next;
                 refused = refused.saturating_add(1);
                 if !is_right {
-                    return Ok(Played::Wrong("what follows a fault"));
+                    return Err("wrong: what follows a fault".into());
                 }
             }
         }
     }
-    let (_, text) = rows_of(alloc, desk)?;
-    Ok(Played::Whole(text, refused))
+    let (_, text) = shown(alloc, desk)?;
+    Ok((text, refused))
 }
 
-/// Plays all scripts.
-fn play_all(rt: &HostRuntime) -> Result<(), Fail> {
+#[test]
+fn scripts_go_on_after_refused_memory(rt: HostRuntime) -> Result<(), Fail> {
     let mut all = 0u32;
     for script in &SCRIPTS {
-        match play(rt.alloc(), script)? {
-            Played::Whole(text, refused) => {
-                println!(rt; "{text}")?;
-                all = all.saturating_add(refused);
-            }
-            Played::Wrong(what) => println!(rt; "wrong: {what}")?,
-        }
+        let (text, refused) = play(rt.alloc(), script)?;
+        println!(rt; "{text}")?;
+        all = all.saturating_add(refused);
     }
     eprintln!(rt; "refused: {all}")?;
     Ok(())
-}
-
-fn main(rt: HostRuntime) -> Result<(), Fail> {
-    if env::args(&rt)?.count() > 1 {
-        play_all(&rt)
-    } else {
-        println!(&rt; "usage: memory_scripts play")?;
-        Ok(())
-    }
 }
