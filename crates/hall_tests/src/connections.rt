@@ -6,7 +6,6 @@ ghost use Rattle.model.specs.History.{History};
 
 use crate::bytes::{answer, gets, served};
 use crate::calls::{close, connection, handle_all, leave, open_hall, open_queue, take_in};
-use crate::hostile::{TRIED, withstands_all};
 use crate::library::{HOLDS, library};
 use crate::tests::rows_of_run;
 use hall::{Left, Opened, Opening, Worker};
@@ -25,7 +24,7 @@ const HOLD: &str =
 
 const HELD: &str = "200 OK {\"reply\":\"hold 1\"}";
 
-pub const ANNS_PAGE: &str = "200 OK {\"reply\":\"patron 1 owed 0 name Ann Bell\"}";
+const ANNS_PAGE: &str = "200 OK {\"reply\":\"patron 1 owed 0 name Ann Bell\"}";
 
 /// A request, with the status and the body of its answer.
 type Asked = (&'static str, &'static str);
@@ -112,8 +111,6 @@ enum Deed {
     /// Reads fail after each byte of a hold; another hold is the first. No read is made after the
     /// last byte.
     Breaks,
-    /// Hostile clients' input is withstood.
-    Withstands,
 }
 
 /// How many of these requests get their answers.
@@ -196,7 +193,6 @@ fn does<J: Opening, R: Wait>(
         Deed::Shares => shares(rt, alloc, one, two),
         Deed::Cuts => cuts(rt, alloc, one),
         Deed::Breaks => breaks(rt, alloc, one),
-        Deed::Withstands => withstands_all(rt, alloc, one),
     }
 }
 
@@ -297,17 +293,5 @@ fn a_request_that_is_not_whole_is_none(rt: HostRuntime) -> Result<(), Fail> {
     let size = HOLD.len().wrapping_add(2);
     let (count, handled, _) = meet::<Brand, _>(rt, alloc, open_queue(alloc)?, Deed::Breaks)?;
     assert!(&rt; count == size && handled == 2, "{count} {handled}");
-    Ok(())
-}
-
-/// Hostile input never reaches the desk, and the next client is answered as usual.
-#[test]
-fn hostile_clients_change_nothing(rt: HostRuntime) -> Result<(), Fail> {
-    let alloc = rt.alloc();
-    let met = meet::<Brand, _>(rt, alloc, open_queue(alloc)?, Deed::Withstands)?;
-    let (count, handled, text) = met;
-    assert!(&rt; count == TRIED && handled == 0, "{count} {handled}");
-    let before = rows(alloc, &mut connection(library(alloc)?))?;
-    assert!(&rt; text.as_str() == before.as_str());
     Ok(())
 }

@@ -11,8 +11,6 @@ mod connections;
 #[cfg(test)]
 mod files;
 #[cfg(test)]
-mod hostile;
-#[cfg(test)]
 mod library;
 #[cfg(test)]
 mod lists;
