@@ -1,6 +1,8 @@
-//! Tests of the board, in their own crate so that `board` is proved once: comparing requests, and
-//! boards from opening to end.
+//! Tests of the board and of the lists below it, in their own crate so that these are proved once:
+//! comparing requests, boards from opening to end, and beginnings of a list.
 #![tactic(auto)]
 
 #[cfg(test)]
 mod boards;
+#[cfg(test)]
+mod lists;

@@ -13,8 +13,6 @@ mod files;
 #[cfg(test)]
 mod library;
 #[cfg(test)]
-mod lists;
-#[cfg(test)]
 mod new_library;
 #[cfg(test)]
 mod reopened;
