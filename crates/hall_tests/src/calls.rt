@@ -32,6 +32,7 @@ pub fn open_hall<J: Opening, S: Alter, R: Wait>(
 ) -> Result<Side<J, S>, (u32, Desk<S>)>
     requires name { (opened.queue ≡ J.name) × (opened.blank ≡ J.book) }
     requires none { (H : History) → J.shows H → ⊥ }
+    ensures { IfOk result (λ r. OpensWith J.shows S.Store r.0.desk r.0.publisher.shown) }
 {
     match Hall::new::<J, S, R>(rt, alloc, opened, desk, workers) {
         Ok(side) => Ok(side),
@@ -39,8 +40,7 @@ pub fn open_hall<J: Opening, S: Alter, R: Wait>(
     }
 }
 
-/// The hall of this many workers over a new library in memory; or the number of the reason why
-/// there is none.
+/// The same over a new library in memory.
 pub fn open_in_memory<J: Opening, R: Wait>(
     rt: &R,
     alloc: Global,
@@ -57,9 +57,13 @@ pub fn open_in_memory<J: Opening, R: Wait>(
     }
 }
 
-/// Limits the steps of each database call.
-pub fn limit_side<J: Opening, S: Alter>(side: &mut DeskSide<J, S>, limit: u64) {
-    side.limit_steps(Some(limit));
+/// Limits the steps of each database call, if there is a limit, in a hall whose opening names no
+/// list of accepted requests.
+pub fn limit_side<J: Opening, S: Alter>(side: &mut DeskSide<J, S>, limit: Option<u64>)
+    requires { (H : History) → J.shows H → ⊥ }
+    ensures { OpensWith J.shows S.Store side.new.desk side.new.publisher.shown }
+{
+    side.limit_steps(limit);
 }
 
 /// What was told of a hall's closing.
@@ -96,26 +100,13 @@ impl Watch for Heard {
     }
 }
 
-/// Handles what comes, in a hall whose opening names no list of accepted requests.
+/// Handles what comes.
 pub fn handle_all<J: Opening, S: Alter, R: Wait>(
     rt: &R,
     alloc: Global,
     side: DeskSide<J, S>,
 ) -> (Desk<S>, Ended<J>, Option<ServiceFault>)
-    requires { (H : History) → J.shows H → ⊥ }
-{
-    let mut heard = Heard::nothing();
-    let (desk, ended, fault) = side.desk_loop(rt, alloc, &mut heard);
-    (desk, ended, heard.agreed(fault))
-}
-
-/// The same in a hall over a new library in memory.
-pub fn handle_in_memory<J: Opening, R: Wait>(
-    rt: &R,
-    alloc: Global,
-    side: DeskSide<J, MemStore>,
-) -> (Desk<MemStore>, Ended<J>, Option<ServiceFault>)
-    requires { OpensWith J.shows over_memory side.desk side.publisher.shown }
+    requires { OpensWith J.shows S.Store side.desk side.publisher.shown }
 {
     let mut heard = Heard::nothing();
     let (desk, ended, fault) = side.desk_loop(rt, alloc, &mut heard);

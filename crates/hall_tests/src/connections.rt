@@ -1,20 +1,16 @@
 //! Connections of two workers, with readers that fail after some bytes and writers that take only
 //! some.
 
-ghost use Rattle.std.specs.Prelude.{◌≡◌};
-ghost use Rattle.model.specs.History.{History};
-
 use crate::bytes::{answer, gets, served};
-use crate::calls::{close, connection, handle_all, leave, open_hall, open_queue, take_in};
+use crate::calls::connection;
 use crate::library::{HOLDS, library};
 use crate::tests::rows_of_run;
-use hall::{Left, Opened, Opening, Worker};
+use crate::visits::{Visit, run_over};
+use hall::{Opening, Worker};
 use std::alloc::Global;
-use std::marker::Brand;
 use std::process::Abort;
 use std::sync::Wait;
 use std::test::Fail;
-use std::thread;
 use std::thread::Threads;
 use test_bytes::Drip;
 use test_library::rows;
@@ -180,65 +176,35 @@ fn breaks<J: Opening, R: Wait>(rt: &R, alloc: Global, worker: &mut Worker<J>) ->
     Some(count)
 }
 
-/// How often it succeeded.
-fn does<J: Opening, R: Wait>(
-    rt: &R,
-    alloc: Global,
-    one: &mut Worker<J>,
-    two: &mut Worker<J>,
-    deed: Deed,
-) -> Option<usize> {
-    match deed {
-        Deed::Answers => answers(rt, alloc, one, &ANSWERED),
-        Deed::Shares => shares(rt, alloc, one, two),
-        Deed::Cuts => cuts(rt, alloc, one),
-        Deed::Breaks => breaks(rt, alloc, one),
+impl Visit for Deed {
+    /// How often it succeeded.
+    type Found = usize;
+
+    fn ask<J: Opening, R: Wait>(
+        self,
+        rt: &R,
+        alloc: Global,
+        one: &mut Worker<J>,
+        two: &mut Worker<J>,
+    ) -> Option<usize> {
+        match self {
+            Deed::Answers => answers(rt, alloc, one, &ANSWERED),
+            Deed::Shares => shares(rt, alloc, one, two),
+            Deed::Cuts => cuts(rt, alloc, one),
+            Deed::Breaks => breaks(rt, alloc, one),
+        }
     }
 }
 
-/// Two workers do this, and leave.
-fn work<J: Opening, R: Wait>(
-    rt: &R,
-    alloc: Global,
-    mut all: Vec<Worker<J>>,
-    deed: Deed,
-) -> Option<(Left<J>, Left<J>, usize)> {
-    let mut two = all.pop()?;
-    let mut one = all.pop()?;
-    let count = does(rt, alloc, &mut one, &mut two, deed);
-    Some((leave(rt, one), leave(rt, two), count?))
-}
-
-/// A hall of two, and a desk beside it: how often it succeeded, how many submissions were handled,
-/// and all rows at the end.
-fn meet<J: Opening + Send + Sync + 'static, R: Threads + Wait + Abort + Copy + Send + 'static>(
+/// How often it succeeded, how many submissions were handled, and all rows at the end.
+fn done<R: Threads + Wait + Abort + Copy + Send + 'static>(
     rt: R,
     alloc: Global,
-    opened: Opened,
     deed: Deed,
-) -> Result<(usize, u64, String), Fail>
-    requires name { (opened.queue ≡ J.name) × (opened.blank ≡ J.book) }
-    requires none { (H : History) → J.shows H → ⊥ }
-{
-    let Ok((side, all)) = open_hall::<J, _, R>(&rt, alloc, opened, library(alloc)?, 2) else {
+) -> Result<(usize, u64, String), Fail> {
+    let Ok((count, desk, handled, fault)) = run_over(rt, alloc, library(alloc)?, None, deed)? else {
         return Err("a hall".into());
     };
-    let started = thread::spawn(&rt, move || work(&rt, alloc, all, deed)).ok();
-    // the desk would wait forever for workers without threads
-    assert!(&rt; started.is_some(), "no thread");
-    let (desk, mut ended, fault) = handle_all(&rt, alloc, side);
-    let met = match started {
-        Some(thread) => thread.join(&rt),
-        None => None,
-    };
-    let count = match met {
-        Some((one, two, count)) => {
-            let took_part = take_in(&mut ended, one) && take_in(&mut ended, two);
-            if took_part { Some(count) } else { None }
-        }
-        None => None,
-    };
-    let handled = close(&rt, ended);
     assert!(&rt; fault == None);
     let text = rows(alloc, &mut connection(desk))?;
     Ok((count.ok_or("answers")?, handled, text))
@@ -249,7 +215,7 @@ fn meet<J: Opening + Send + Sync + 'static, R: Threads + Wait + Abort + Copy + S
 #[test]
 fn answers_each_kind_of_request(rt: HostRuntime) -> Result<(), Fail> {
     let alloc = rt.alloc();
-    let (count, handled, _) = meet::<Brand, _>(rt, alloc, open_queue(alloc)?, Deed::Answers)?;
+    let (count, handled, _) = done(rt, alloc, Deed::Answers)?;
     assert!(&rt;
         count == ANSWERED.len() && handled == 5,
         "{count} {handled}"
@@ -262,8 +228,7 @@ fn answers_each_kind_of_request(rt: HostRuntime) -> Result<(), Fail> {
 #[test]
 fn two_workers_show_one_hold(rt: HostRuntime) -> Result<(), Fail> {
     let alloc = rt.alloc();
-    let met = meet::<Brand, _>(rt, alloc, open_queue(alloc)?, Deed::Shares)?;
-    let (count, handled, text) = met;
+    let (count, handled, text) = done(rt, alloc, Deed::Shares)?;
     assert!(&rt; count == 7 && handled == 1, "{count} {handled}");
     let wanted = rows_of_run(&rt, alloc, &[2], HOLDS)?;
     assert!(&rt; text.as_str() == wanted.as_str());
@@ -278,7 +243,7 @@ fn a_cut_answer_can_be_had_again(rt: HostRuntime) -> Result<(), Fail> {
         .ok_or("an answer")?
         .len()
         .wrapping_add(1);
-    let (count, handled, _) = meet::<Brand, _>(rt, alloc, open_queue(alloc)?, Deed::Cuts)?;
+    let (count, handled, _) = done(rt, alloc, Deed::Cuts)?;
     assert!(&rt;
         count == size && handled == size as u64,
         "{count} {handled}"
@@ -291,7 +256,7 @@ fn a_cut_answer_can_be_had_again(rt: HostRuntime) -> Result<(), Fail> {
 fn a_request_that_is_not_whole_is_none(rt: HostRuntime) -> Result<(), Fail> {
     let alloc = rt.alloc();
     let size = HOLD.len().wrapping_add(2);
-    let (count, handled, _) = meet::<Brand, _>(rt, alloc, open_queue(alloc)?, Deed::Breaks)?;
+    let (count, handled, _) = done(rt, alloc, Deed::Breaks)?;
     assert!(&rt; count == size && handled == 2, "{count} {handled}");
     Ok(())
 }

@@ -2,7 +2,8 @@
 //! in one file blows at each call in turn.
 
 use crate::calls::connection;
-use crate::reopened::{Faults, Tried, run_over};
+use crate::reopened::{Faults, Lending};
+use crate::visits::{Tried, run_over};
 use sqlite::{FileStore, Files};
 use sqlite_disk::{Disk, Fuse, Memory};
 use std::alloc::Global;
@@ -41,9 +42,9 @@ fn run_in<D: Disk + Drop, R: Threads + Wait + Abort + Copy + Send + 'static>(
     rt: R,
     alloc: Global,
     files: Files<D>,
-) -> Result<Tried<FileStore<D>>, Fail> {
+) -> Result<Tried<FileStore<D>, Faults>, Fail> {
     let desk = desk_over(open_files(alloc, files, options())?)?;
-    run_over(rt, alloc, desk, None)
+    run_over(rt, alloc, desk, None, Lending)
 }
 
 /// How many of the two requests were answered: once the files have stopped each gets a fault, 92
@@ -75,7 +76,7 @@ fn goes_on<R: Threads + Wait + Abort + Copy + Send + 'static>(
         found.as_str() == before.as_str() || found.as_str() == after.as_str(),
         "after {count}"
     );
-    let Ok((faults, desk, fault)) = run_over(rt, alloc, opened(conn)?, None)? else {
+    let Ok((faults, desk, _, fault)) = run_over(rt, alloc, opened(conn)?, None, Lending)? else {
         return Err("a hall".into());
     };
     assert!(&rt;
@@ -119,7 +120,7 @@ fn stopped<R: Threads + Wait + Abort + Copy + Send + 'static>(
     pictures: &[String; 3],
 ) -> Result<(usize, bool), Fail> {
     let (count, desk) = match run_in(rt, alloc, files)? {
-        Ok((faults, desk, fault)) => {
+        Ok((faults, desk, _, fault)) => {
             let count = answered(&rt, faults)?;
             assert!(&rt; fault == fault_after(count), "{fault:?}");
             (count, desk)
@@ -165,7 +166,7 @@ fn stops_in<R: Threads + Wait + Abort + Copy + Send + 'static>(
 #[test]
 fn a_hall_over_files_leaves_its_rows_there(rt: HostRuntime) -> Result<(), Fail> {
     let alloc = rt.alloc();
-    let Ok((faults, desk, fault)) = run_in(rt, alloc, filled(alloc)?)? else {
+    let Ok((faults, desk, _, fault)) = run_in(rt, alloc, filled(alloc)?)? else {
         return Err("a hall".into());
     };
     assert!(&rt;

@@ -18,3 +18,5 @@ mod new_library;
 mod reopened;
 #[cfg(test)]
 mod tests;
+#[cfg(test)]
+mod visits;

@@ -5,14 +5,14 @@ ghost use Rattle.std.specs.Prelude.{◌≡◌, []};
 ghost use Rattle.model.specs.History.{History};
 
 use crate::bytes::gets;
-use crate::calls::{close, handle_in_memory, leave, open_in_memory, open_queue, take_in};
-use hall::{Left, Opened, Opening, Worker};
+use crate::calls::{close, handle_all, leave, open_in_memory, open_queue};
+use crate::visits::{Visit, meet};
+use hall::{Opened, Opening, Worker};
 use std::alloc::Global;
 use std::marker::Brand;
 use std::process::Abort;
 use std::sync::Wait;
 use std::test::Fail;
-use std::thread;
 use std::thread::Threads;
 
 /// What is asked for.
@@ -164,67 +164,47 @@ fn bytes_of(alloc: Global, asks: Asks) -> Option<String> {
     }
 }
 
-/// How many answers are right, asking the two workers in turn.
-fn right<J: Opening, R: Wait>(
-    rt: &R,
-    alloc: Global,
-    one: &mut Worker<J>,
-    two: &mut Worker<J>,
-) -> Option<usize> {
-    let mut count = 0usize;
-    let mut is_first = true;
-    for (asks, text) in STORY {
-        let worker = if is_first { &mut *one } else { &mut *two };
-        if gets(rt, alloc, worker, &bytes_of(alloc, asks)?, text)? {
-            count = count.wrapping_add(1);
+/// The requests, asked of the two workers in turn.
+#[derive(Clone, Copy)]
+struct InTurn;
+
+impl Visit for InTurn {
+    /// How many answers are right.
+    type Found = usize;
+
+    fn ask<J: Opening, R: Wait>(
+        self,
+        rt: &R,
+        alloc: Global,
+        one: &mut Worker<J>,
+        two: &mut Worker<J>,
+    ) -> Option<usize> {
+        let mut count = 0usize;
+        let mut is_first = true;
+        for (asks, text) in STORY {
+            let worker = if is_first { &mut *one } else { &mut *two };
+            if gets(rt, alloc, worker, &bytes_of(alloc, asks)?, text)? {
+                count = count.wrapping_add(1);
+            }
+            is_first = !is_first;
         }
-        is_first = !is_first;
+        Some(count)
     }
-    Some(count)
 }
 
-/// Two workers, asked in turn, then leaving.
-type Answered<J> = (Left<J>, Left<J>, Option<usize>);
-
-fn work<J: Opening, R: Wait>(
-    rt: &R,
-    alloc: Global,
-    mut all: Vec<Worker<J>>,
-) -> Option<Answered<J>> {
-    let mut two = all.pop()?;
-    let mut one = all.pop()?;
-    let count = right(rt, alloc, &mut one, &mut two);
-    Some((leave(rt, one), leave(rt, two), count))
-}
-
-/// A hall of two over a new library, and a desk beside it: how many answers were right, and how
-/// many submissions were handled.
-fn meet<J: Opening + Send + Sync + 'static, R: Threads + Wait + Abort + Copy + Send + 'static>(
-    rt: R,
-    alloc: Global,
-    opened: Opened,
-) -> Result<(Option<usize>, u64), Fail>
+/// A hall of two over a new library: how many answers were right, and how many submissions were
+/// handled.
+fn run_in_turn<
+    J: Opening + Send + Sync + 'static,
+    R: Threads + Wait + Abort + Copy + Send + 'static,
+>(rt: R, alloc: Global, opened: Opened) -> Result<(Option<usize>, u64), Fail>
     requires name { (opened.queue ≡ J.name) × (opened.blank ≡ J.book) }
     requires shows { (H : History) → J.shows H → H ≡ [] }
 {
     let Ok((side, all)) = open_in_memory::<J, R>(&rt, alloc, opened, 2) else {
         return Err("a hall".into());
     };
-    let started = thread::spawn(&rt, move || work(&rt, alloc, all)).ok();
-    assert!(&rt; started.is_some(), "no thread");
-    let (_desk, mut ended, fault) = handle_in_memory(&rt, alloc, side);
-    let met = match started {
-        Some(thread) => thread.join(&rt),
-        None => None,
-    };
-    let count = match met {
-        Some((one, two, count)) => {
-            let are_told = take_in(&mut ended, one) && take_in(&mut ended, two);
-            if are_told { count } else { None }
-        }
-        None => None,
-    };
-    let handled = close(&rt, ended);
+    let (count, _desk, handled, fault) = meet(rt, alloc, side, all, InTurn);
     assert!(&rt; fault == None);
     Ok((count, handled))
 }
@@ -233,7 +213,7 @@ fn meet<J: Opening + Send + Sync + 'static, R: Threads + Wait + Abort + Copy + S
 #[test]
 fn a_new_library_in_memory(rt: HostRuntime) -> Result<(), Fail> {
     let alloc = rt.alloc();
-    let met = meet::<Brand, _>(rt, alloc, open_queue(alloc)?)?;
+    let met = run_in_turn::<Brand, _>(rt, alloc, open_queue(alloc)?)?;
     assert!(&rt; met == (Some(COUNT), 20), "{met:?}");
     Ok(())
 }
@@ -253,7 +233,7 @@ fn refuse<J: Opening, R: Wait + Abort>(
             for worker in all {
                 let _ = leave(rt, worker);
             }
-            let (_, ended, _) = handle_in_memory(rt, alloc, side);
+            let (_, ended, _) = handle_all(rt, alloc, side);
             close(rt, ended);
             Err("no hall".into())
         }

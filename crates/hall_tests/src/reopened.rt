@@ -1,23 +1,13 @@
 //! A hall closed by a refused database call, and another over its desk.
 
-ghost use Rattle.std.specs.Prelude.{◌≡◌};
-ghost use Rattle.model.specs.History.{History};
-
 use crate::bytes::{answer, told};
-use crate::calls::{
-    close, connection, handle_all, leave, limit_side, open_hall, open_queue, take_in,
-};
+use crate::calls::connection;
 use crate::library::library;
-use desk::Desk;
-use hall::{Ended, Left, Opened, Opening, Worker};
-use sqlite::Alter;
+use crate::visits::{Visit, run_over};
+use hall::{Opening, Worker};
 use std::alloc::Global;
-use std::marker::Brand;
-use std::process::Abort;
 use std::sync::Wait;
 use std::test::Fail;
-use std::thread;
-use std::thread::Threads;
 use terms::{Fault, ServiceFault};
 use test_library::rows;
 
@@ -62,92 +52,31 @@ fn fault_of<J: Opening, R: Wait>(
     None
 }
 
-/// Two workers who have left, and the faults they were told.
-#[derive(Drop)]
-struct Served<J: Opening> {
-    lefts: (Left<J>, Left<J>),
-    faults: Option<Faults>,
-}
-
 /// The first worker is asked for the loan, then the second for the rest.
-fn faults_of<J: Opening, R: Wait>(
-    rt: &R,
-    alloc: Global,
-    one: &mut Worker<J>,
-    two: &mut Worker<J>,
-) -> Option<Faults> {
-    let lending = fault_of(rt, alloc, one, LENDING)?;
-    let renewing = fault_of(rt, alloc, two, RENEWING)?;
-    Some((lending, renewing, fault_of(rt, alloc, two, BOS_PAGE)?))
-}
+#[derive(Clone, Copy)]
+pub struct Lending;
 
-/// Both workers are asked, and leave.
-fn work<J: Opening, R: Wait>(rt: &R, alloc: Global, mut all: Vec<Worker<J>>) -> Option<Served<J>> {
-    let mut two = all.pop()?;
-    let mut one = all.pop()?;
-    let faults = faults_of(rt, alloc, &mut one, &mut two);
-    let lefts = (leave(rt, one), leave(rt, two));
-    Some(Served { lefts, faults })
-}
+impl Visit for Lending {
+    type Found = Faults;
 
-/// Takes in both ends.
-fn take_both<J: Opening>(ended: &mut Ended<J>, served: Served<J>) -> Option<Faults> {
-    let Served { lefts, faults } = served;
-    let (one, two) = lefts;
-    let took_part = take_in(ended, one) && take_in(ended, two);
-    faults.filter(|_| took_part)
-}
-
-/// What a hall's workers were told, its desk, and the fault that closed it; or the number of the
-/// reason why it wasn't opened, and the desk.
-pub type Tried<S> = Result<(Option<Faults>, Desk<S>, Option<ServiceFault>), (u32, Desk<S>)>;
-
-/// A hall of two workers over a desk, whose database may have limited steps.
-fn run_hall<
-    J: Opening + Send + Sync + 'static,
-    S: Alter + Drop,
-    R: Threads + Wait + Abort + Copy + Send + 'static,
->(rt: R, alloc: Global, opened: Opened, desk: Desk<S>, limit: Option<u64>) -> Result<Tried<S>, Fail>
-    requires name { (opened.queue ≡ J.name) × (opened.blank ≡ J.book) }
-    requires none { (H : History) → J.shows H → ⊥ }
-{
-    let (mut side, all) = match open_hall::<J, S, R>(&rt, alloc, opened, desk, 2) {
-        Ok(hall) => hall,
-        Err(unopened) => return Ok(Err(unopened)),
-    };
-    if let Some(steps) = limit {
-        limit_side(&mut side, steps);
+    fn ask<J: Opening, R: Wait>(
+        self,
+        rt: &R,
+        alloc: Global,
+        one: &mut Worker<J>,
+        two: &mut Worker<J>,
+    ) -> Option<Faults> {
+        let lending = fault_of(rt, alloc, one, LENDING)?;
+        let renewing = fault_of(rt, alloc, two, RENEWING)?;
+        Some((lending, renewing, fault_of(rt, alloc, two, BOS_PAGE)?))
     }
-    let started = thread::spawn(&rt, move || work(&rt, alloc, all)).ok();
-    // the desk would wait forever for workers without threads
-    assert!(&rt; started.is_some(), "no thread");
-    let (desk, mut ended, fault) = handle_all(&rt, alloc, side);
-    let met = match started {
-        Some(thread) => thread.join(&rt),
-        None => None,
-    };
-    let faults = match met {
-        Some(served) => take_both(&mut ended, served),
-        None => None,
-    };
-    close(&rt, ended);
-    Ok(Ok((faults, desk, fault)))
-}
-
-/// The same with its own queue.
-pub fn run_over<S: Alter + Drop, R: Threads + Wait + Abort + Copy + Send + 'static>(
-    rt: R,
-    alloc: Global,
-    desk: Desk<S>,
-    limit: Option<u64>,
-) -> Result<Tried<S>, Fail> {
-    run_hall::<Brand, S, R>(rt, alloc, open_queue(alloc)?, desk, limit)
 }
 
 #[test]
 fn a_new_hall_over_the_desk_of_a_closed_one_goes_on(rt: HostRuntime) -> Result<(), Fail> {
     let alloc = rt.alloc();
-    let Ok((faults, mut desk, fault)) = run_over(rt, alloc, library(alloc)?, Some(1))? else {
+    let limited = run_over(rt, alloc, library(alloc)?, Some(1), Lending)?;
+    let Ok((faults, mut desk, _, fault)) = limited else {
         return Err("a hall".into());
     };
     assert!(&rt;
@@ -156,7 +85,7 @@ fn a_new_hall_over_the_desk_of_a_closed_one_goes_on(rt: HostRuntime) -> Result<(
         "{faults:?} {fault:?}"
     );
     desk.limit_steps(None);
-    let Ok((faults, desk, fault)) = run_over(rt, alloc, desk, None)? else {
+    let Ok((faults, desk, _, fault)) = run_over(rt, alloc, desk, None, Lending)? else {
         return Err("a hall".into());
     };
     assert!(&rt;

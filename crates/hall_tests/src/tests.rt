@@ -1,14 +1,16 @@
 //! Workers and a desk, in threads.
 
 ghost use Rattle.std.specs.Prelude.{◌≡◌};
+ghost use Rattle.store.specs.Library.{over_memory};
 ghost use Rattle.model.specs.History.{History};
+ghost use Rattle.hall.specs.Openings.{OpensWith};
 
 use crate::bytes::{answer, gets, told};
 use crate::calls::{
-    close, connection, handle_all, handle_and_look, leave, limit_side, open_hall, open_queue,
-    take_in,
+    close, connection, handle_all, handle_and_look, leave, open_hall, open_queue, take_in,
 };
 use crate::library::{HOLDS, hold, hold_bytes, holds, library, library_of, order, page_bytes};
+use crate::visits::{Visit, run_over};
 use desk::Desk;
 use hall::{DeskSide, Ended, Left, Opened, Opening, Worker};
 use sqlite::MemStore;
@@ -118,7 +120,7 @@ fn meet<J: Opening + Send + Sync + 'static, R: Threads + Wait + Abort + Copy + S
     workers: Vec<Worker<J>>,
     each: u64,
 ) -> Met
-    requires { (H : History) → J.shows H → ⊥ }
+    requires { OpensWith J.shows over_memory side.desk side.publisher.shown }
 {
     let started = start_all(rt, alloc, workers, each);
     let (desk, mut ended, fault) = handle_all(&rt, alloc, side);
@@ -321,76 +323,37 @@ fn right_of_two<J: Opening, R: Wait>(
     Some(count)
 }
 
-/// What two workers were answered, in order.
-#[derive(Drop)]
-struct Answered<J: Opening> {
-    lefts: (Left<J>, Left<J>),
-    first: Option<u64>,
-    second: Option<u64>,
-}
+impl Visit for Cut {
+    /// How many of each one's answers are right.
+    type Found = (u64, u64);
 
-/// The second worker serves once the first has served.
-fn work_closed<J: Opening, R: Wait>(
-    rt: &R,
-    alloc: Global,
-    mut all: Vec<Worker<J>>,
-    cut: Cut,
-) -> Option<Answered<J>> {
-    let mut two = all.pop()?;
-    let mut one = all.pop()?;
-    let first = right_of_one(rt, alloc, &mut one, cut);
-    let second = right_of_two(rt, alloc, &mut two, cut);
-    let lefts = (leave(rt, one), leave(rt, two));
-    Some(Answered {
-        lefts,
-        first,
-        second,
-    })
-}
-
-/// Takes in both ends, and returns how many of their answers were right.
-fn take_both<J: Opening>(
-    ended: &mut Ended<J>,
-    answered: Answered<J>,
-) -> (Option<u64>, Option<u64>) {
-    let Answered {
-        lefts,
-        first,
-        second,
-    } = answered;
-    let (one, two) = lefts;
-    let took_part = take_in(ended, one) && take_in(ended, two);
-    (first.filter(|_| took_part), second.filter(|_| took_part))
+    /// The second worker is asked once the first has been.
+    fn ask<J: Opening, R: Wait>(
+        self,
+        rt: &R,
+        alloc: Global,
+        one: &mut Worker<J>,
+        two: &mut Worker<J>,
+    ) -> Option<(u64, u64)> {
+        let first = right_of_one(rt, alloc, one, self)?;
+        Some((first, right_of_two(rt, alloc, two, self)?))
+    }
 }
 
 /// The hall closes where the list ends, and both workers are told.
-fn check_closed<
-    J: Opening + Send + Sync + 'static,
-    R: Threads + Wait + Abort + Copy + Send + 'static,
->(rt: R, alloc: Global, opened: Opened, limit: u64, wanted: &Wanted) -> Result<(), Fail>
-    requires name { (opened.queue ≡ J.name) × (opened.blank ≡ J.book) }
-    requires none { (H : History) → J.shows H → ⊥ }
-{
-    let desk = library(alloc)?;
-    let Ok((mut side, all)) = open_hall::<J, _, R>(&rt, alloc, opened, desk, 2) else {
+fn check_closed<R: Threads + Wait + Abort + Copy + Send + 'static>(
+    rt: R,
+    alloc: Global,
+    limit: u64,
+    wanted: &Wanted,
+) -> Result<(), Fail> {
+    let cut = wanted.cut;
+    let closed = run_over(rt, alloc, library(alloc)?, Some(limit), cut)?;
+    let Ok((counts, desk, handled, fault)) = closed else {
         return Err("a hall".into());
     };
-    limit_side(&mut side, limit);
-    let cut = wanted.cut;
-    let started = thread::spawn(&rt, move || work_closed(&rt, alloc, all, cut)).ok();
-    assert!(&rt; started.is_some(), "no thread");
-    let (desk, mut ended, fault) = handle_all(&rt, alloc, side);
-    let met = match started {
-        Some(thread) => thread.join(&rt),
-        None => None,
-    };
-    let counts = match met {
-        Some(answered) => take_both(&mut ended, answered),
-        None => (None, None),
-    };
-    let handled = close(&rt, ended);
     assert!(&rt; fault == Some(cut.fault), "{limit}");
-    assert!(&rt; counts == (Some(4), Some(2)), "{limit}");
+    assert!(&rt; counts == Some((4, 2)), "{limit}");
     assert!(&rt; handled == cut.handled, "{limit}");
     let text = rows(alloc, &mut connection(desk))?;
     assert!(&rt; text.as_str() == wanted.text.as_str());
@@ -406,7 +369,7 @@ fn a_fault_closes_the_hall(rt: HostRuntime) -> Result<(), Fail> {
         let Some(wanted) = run_limited(alloc, limit)? else {
             break;
         };
-        check_closed::<Brand, _>(rt, alloc, open_queue(alloc)?, limit, &wanted)?;
+        check_closed(rt, alloc, limit, &wanted)?;
         let place = places.get_mut(wanted.cut.shown).ok_or("a place")?;
         *place = place.wrapping_add(1);
         if wanted.cut.handled > wanted.cut.shown as u64 {

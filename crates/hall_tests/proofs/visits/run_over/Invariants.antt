@@ -1,4 +1,4 @@
-use Rattle.hall_tests.proofs.reopened.run_over.Given as goal
+use Rattle.hall_tests.proofs.visits.run_over.Given as goal
 
 -- the queue that was just opened; nothing is said of what the desk shows
 abbrev pub ghosts-run_hall-J-Opening : goal.ghosts-run_hall-J-Opening
