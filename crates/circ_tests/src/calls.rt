@@ -4,7 +4,6 @@
 use circ::{Connections, Exit, Report, WriteFault};
 use circ_audit::Finding;
 use desk::Desk;
-use front::{CopyEnd, read_copies};
 use hall::{Left, Opening, Worker};
 use sqlite::Alter;
 use std::alloc::Global;
@@ -61,12 +60,6 @@ pub fn import<S: Alter, R: Read + Drop, W: Write>(
     writer: &mut W,
 ) -> Result<Exit, WriteFault> {
     circ::import(desk, alloc, reader, writer)
-}
-
-/// Reads a copies file: its number of rows, and how the reading ended.
-pub fn copies<R: Read + Drop>(alloc: Global, reader: R) -> (usize, CopyEnd) {
-    let (rows, end) = read_copies(alloc, reader);
-    (rows.len(), end)
 }
 
 /// A worker serves this many connections, and leaves.

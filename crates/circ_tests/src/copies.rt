@@ -1,10 +1,9 @@
-//! Copies files as readers bring them: bad rows, a row too many, and reads that fail at each byte.
+//! Copies files as the desk takes them in: whole, and by reads that fail at each byte.
 
-use crate::calls::{copies, import};
+use crate::calls::import;
 use crate::cut_lines::BEES;
 use circ::Exit;
 use desk::Desk;
-use front::CopyEnd;
 use sqlite::{Alter, MemStore};
 use std::alloc::Global;
 use std::process::Abort;
@@ -12,108 +11,9 @@ use std::test::Fail;
 use test_bytes::Drip;
 use test_library::{counts, ground, store_of};
 
-/// A header and a good row.
-const BEGUN: &str = "copy,title,text,kind,home,price,end\n50,500,Maps,1,1,1500,end\n";
-
-/// Bad rows: a field too few, a number with a leading zero, another closing word, and no title.
-const BAD: [&str; 4] = [
-    "51,500,Maps,1,1500,end\n",
-    "062,500,Maps,1,1,1500,end\n",
-    "51,500,Maps,1,1,1500,END\n",
-    "51,501,,1,1,1500,end\n",
-];
-
 /// How many lines have ended.
 fn ended_lines(bytes: &[u8]) -> usize {
     bytes.iter().filter(|byte| **byte == b'\n').count()
-}
-
-/// Reads a file whose second row is bad, with a reader that fails after some of its bytes: the
-/// first row is there once its line has ended, and the end is reported once the bad line has ended,
-/// if a line's end ends it at all.
-fn breaks(rt: &impl Abort, alloc: Global, bytes: &[u8], lines: usize) {
-    for size in 0..bytes.len() + 1 {
-        let front = &bytes[..size];
-        let told = copies(alloc, Drip::failing(front));
-        let ended = ended_lines(front);
-        let end = if ended < lines {
-            CopyEnd::Read
-        } else {
-            CopyEnd::Bad(2)
-        };
-        let rows = if ended < 2 { 0 } else { 1 };
-        assert!(rt; told == (rows, end), "{size} {told:?}");
-    }
-}
-
-/// A bad row after a good one ends the reading, even if good rows follow.
-fn is_bad(rt: &impl Abort, alloc: Global, row: &[u8], lines: usize) -> Result<(), Fail> {
-    let mut bytes: Vec<u8> = Vec::new(alloc);
-    bytes.extend_from_slice(BEGUN.as_bytes())?;
-    bytes.extend_from_slice(row)?;
-    breaks(rt, alloc, &bytes, lines);
-    let told = copies(alloc, bytes.as_slice());
-    assert!(rt; told == (1, CopyEnd::Bad(2)), "{told:?}");
-    bytes.extend_from_slice(b"52,502,Bees,1,1,700,end\n")?;
-    let told = copies(alloc, bytes.as_slice());
-    assert!(rt; told == (1, CopyEnd::Bad(2)), "{told:?}");
-    Ok(())
-}
-
-#[test]
-fn bad_rows_end_a_file(rt: HostRuntime) -> Result<(), Fail> {
-    let alloc = rt.alloc();
-    for row in BAD {
-        is_bad(&rt, alloc, row.as_bytes(), 3)?;
-    }
-    is_bad(&rt, alloc, b"51,501,M\xe4rz,1,1,1500,end\n", 3)?;
-    // an unclosed quote spans lines, so no line ends that row
-    is_bad(&rt, alloc, b"51,501,\"Maps,1,1,1500,end\n", 4)
-}
-
-/// A good row.
-const GOOD: &[u8] = b"50,500,Maps,1,1,1500,end\n";
-
-/// A file of this many good rows.
-fn rows_of(alloc: Global, count: u32) -> Result<Vec<u8>, Fail> {
-    let mut bytes: Vec<u8> = Vec::new(alloc);
-    bytes.extend_from_slice(b"copy,title,text,kind,home,price,end\n")?;
-    for _ in 0..count {
-        bytes.extend_from_slice(GOOD)?;
-    }
-    Ok(bytes)
-}
-
-#[test]
-fn a_file_has_100_000_rows(rt: HostRuntime) -> Result<(), Fail> {
-    let alloc = rt.alloc();
-    let bytes = rows_of(alloc, 100_000)?;
-    let told = copies(alloc, bytes.as_slice());
-    assert!(&rt; told == (100_000, CopyEnd::Whole), "{told:?}");
-    let bytes = rows_of(alloc, 100_001)?;
-    let told = copies(alloc, bytes.as_slice());
-    assert!(&rt; told == (100_000, CopyEnd::Bad(100_001)), "{told:?}");
-    Ok(())
-}
-
-/// A reader that fails within row 100,001, or before it, says that it failed after 100,000 rows;
-/// once that row's line has ended, it is a row too many.
-#[test]
-fn a_read_that_fails_in_row_100_001(rt: HostRuntime) -> Result<(), Fail> {
-    let alloc = rt.alloc();
-    let bytes = rows_of(alloc, 100_001)?;
-    let (mut failed, mut bad) = (0usize, 0usize);
-    for size in bytes.len().saturating_sub(GOOD.len())..bytes.len() + 1 {
-        let told = copies(alloc, Drip::failing(&bytes[..size]));
-        if told == (100_000, CopyEnd::Read) {
-            failed = failed.wrapping_add(1);
-        }
-        if told == (100_000, CopyEnd::Bad(100_001)) && size == bytes.len() {
-            bad = bad.wrapping_add(1);
-        }
-    }
-    assert!(&rt; (failed, bad) == (GOOD.len(), 1), "{failed} {bad}");
-    Ok(())
 }
 
 /// The rows that a reader gave before it failed are imported and reported.

@@ -1,6 +1,6 @@
 //! Tests of `circ`'s lines, reports, audits and copies files that the program on files cannot show,
-//! in their own crate so that the crates below are proved once: failing readers and writers, bad
-//! rows, limits on steps, audits of any rows, and a worker's loop over connections in memory.
+//! in their own crate so that the crates below are proved once: failing readers and writers, limits
+//! on steps, audits of any rows, and a worker's loop over connections in memory.
 #![tactic(auto)]
 
 #[cfg(test)]

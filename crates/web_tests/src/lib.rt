@@ -1,7 +1,10 @@
-//! Tests of the web, in their own crate so that `web` is proved once: requests as connections bring
-//! them, and answers as connections take them.
+//! Tests of the web and of copies files, in their own crate so that `web` and `front` are proved
+//! once: requests as connections bring them, answers as connections take them, and files as readers
+//! bring them.
 #![tactic(auto)]
 
+#[cfg(test)]
+mod copies;
 #[cfg(test)]
 mod examples;
 #[cfg(test)]
