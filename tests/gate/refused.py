@@ -35,6 +35,7 @@ SAMPLE = 24  # how many limits of the system are tried where not each is
 TESTS = f"{TOP}/crates/desk_tests/out/desk_tests_tests"
 SCRIPTS = "refusals::scripts_go_on_after_refused_memory"
 FAILED = 101  # the status of a test that fails
+FOUND_WRONG = (b"wrong", b"an answer")  # what it tells then, but where it had no memory itself
 
 
 def under(words, kind, limit, **how):
@@ -104,7 +105,7 @@ def scripts_in_memory(refusing, everything):
     with ThreadPoolExecutor(os.cpu_count()) as pool:
         for number, run in pool.map(one, places(count, 300, everything)):
             # the test's own work had no memory, or the rows are the same, be it a request's of the desk that was refused or nobody's who noticed
-            own = "the test's own" if run.returncode == FAILED and b"wrong" not in run.stderr and plain.stdout.startswith(run.stdout) else ""
+            own = "the test's own" if run.returncode == FAILED and not any(it in run.stderr for it in FOUND_WRONG) and plain.stdout.startswith(run.stdout) else ""
             ends = {(0, plain.stdout, b"refused: 1\n"): "a request's of the desk, asked again", (0, plain.stdout, b"refused: 0\n"): "nobody's"}
             what = own or ends.get((run.returncode, run.stdout, run.stderr), "")
             check(f"the end of the scripts, request {number} refused: {what or run}", what != "", True)
