@@ -4,7 +4,8 @@
     tests/gate/tried_edits.py
 
 A body that is wrong has to be told as refused, whether or not what it calls is wrong too. One that means the same as before has to be told as not refused, also beside
-one that makes it follow; and so has one that isn't well typed, or whose text isn't there.
+one that makes it follow; and so has one that isn't well typed, or whose text isn't there. Beside a gate that is at work the edits of a crate are tried once it is
+proved, and none is where the gate fails.
 """
 
 import os
@@ -68,8 +69,17 @@ UNREAD = {
 }
 
 
-def told_of(edits):
-    """What `tests/tools/edits` says of these edits, by name, with its last line and its status, and whether it left what its checks kept."""
+# What a gate may have said when edits are tried beside it: what the crate's edits come to.
+BESIDE = {
+    "10:00:00 command: rt ci\n10:01:00 rt: numbers proved\n": ("1 passed, 0 failed", 0),
+    "10:00:00 command: rt ci\n10:01:00 whole: 60.0 s, 60.0 processor s, 4 processors, status 0, begun at 0\n": ("1 passed, 0 failed", 0),
+    "10:00:00 command: rt ci\n10:01:00 rt: numbers proved\n10:02:00 whole: 120.0 s, 60.0 processor s, 4 processors, status 1, begun at 0\n": ("edits: the gate failed", 1),
+}
+
+
+def told_of(edits, beside=None):
+    """What `tests/tools/edits` says of these edits, by name, with its last line and its status, and whether it left what its checks kept; beside a gate that has said
+    this, if it is given."""
     with tempfile.TemporaryDirectory(prefix="tried-edits-") as room:
         for folder in ("lib", "tools"):
             shutil.copytree(f"{TOP}/tests/{folder}", f"{room}/tests/{folder}")
@@ -81,7 +91,10 @@ def told_of(edits):
             named = f"fn: {function}\n" if function else ""
             write(f"{room}/crates/numbers/must-fail/{name}.edit", f"{named}file: src/lib.rt\nold: {old}\nnew: {new}\n")
         how = {"stdout": subprocess.PIPE, "stderr": subprocess.STDOUT, "encoding": "utf-8"}
-        ran = subprocess.run([f"{room}/tests/tools/edits", "--keep", room], check=False, **how)
+        if beside:
+            write(f"{room}/gate.log", beside)
+        options = ["--keep", *(["--beside", f"{room}/gate.log"] if beside else [])]
+        ran = subprocess.run([f"{room}/tests/tools/edits", *options, room], check=False, **how)
         is_kept = os.path.isdir(f"{room}/crates/numbers/out/incremental")
     found = {}
     for name, said in re.findall(r"^edits: must-fail numbers/(\w+): (.*)$", ran.stdout, re.M):
@@ -104,6 +117,9 @@ def main():
         checks["what is kept"] = is_kept
         for name, is_so in checks.items():
             check(f"{name}: {found.get(name, last)}, status {status}", is_so, True)
+    for said, wanted in BESIDE.items():
+        _, last, status, _ = told_of({"third_is_the_second": WRONG["third_is_the_second"]}, said)
+        check(f"beside a gate whose last line is {said.splitlines()[-1]}", (last, status), wanted)
 
 
 if __name__ == "__main__":

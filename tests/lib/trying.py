@@ -311,12 +311,12 @@ def places():
 
 
 def in_turn(trials, places, is_ready, work):
-    """Has each trial worked at once it is ready and memory is free, so many side by side, in their order where several are ready."""
+    """Has each trial worked at once it is ready and memory is free, in their order where several are ready: side by side as many as there are places just then."""
     left, running = list(trials), set()
-    with ThreadPoolExecutor(places) as pool:
+    with ThreadPoolExecutor(len(left) or 1) as pool:
         while left or running:
             for trial in [it for it in left if is_ready(it)]:
-                if len(running) < places and (not running or free() >= MEMORY):
+                if len(running) < places() and (not running or free() >= MEMORY):
                     left.remove(trial)
                     running.add(pool.submit(work, trial))
             done, running = wait(running, timeout=PAUSE, return_when=FIRST_COMPLETED) if running else (time.sleep(PAUSE) or set(), set())
