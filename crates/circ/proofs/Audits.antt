@@ -1,7 +1,7 @@
 -- What an audit writes, given what was read and found.
-use Rattle.std.proofs.Common.{◌≡◌, inl, inr, refl, sym, subst}
+use Rattle.std.proofs.Common.{◌≡◌, inl, inr, refl}
 use Rattle.std.specs.Prelude.{Result, Ok, Err}
-use Rattle.store.specs.Library.{Ghosts, Held, State, state, HasCleanDisk}
+use Rattle.store.specs.Library.{Ghosts, Held, State, state, HasCleanDisk, HasTables, IsAsItWas}
 use Rattle.store.specs.Legal.{AnswersLegal}
 use Rattle.store.specs.Lists.{AreAuditTables}
 use Rattle.store.specs.Stops.{KeepsPicture, LeavesPicture}
@@ -34,13 +34,10 @@ pub read-left : {A : Type 0} {r : Result A Fault} (old new : State) → Reads ol
     → KeepsPicture old P → LeavesPicture new P
 read-left old new reads disk P keeps = λ trees may. keeps.left trees (reads.left disk (keeps.now.maps, keeps.now.holds) trees may)
 
--- The tables show a picture after a read that changed nothing of them.
-keeps-same : {A : Type 0} {r : Result A Fault} (old new : State) (P : Picture) → Reads old new r → HasCleanDisk new → new.now ≡ old.now
-    → KeepsPicture old P → KeepsPicture new P
-keeps-same old new P reads disk same keeps = record {
-  now = (subst (λ db. KeepsPicture (record old { now = db }) P) (sym same) (record { now = keeps.now; left = keeps.left })).now;
-  left = read-left old new reads disk P keeps;
-}
+-- A read after which the database holds what it held leaves it as it was.
+as-read : {A : Type 0} {r : Result A Fault} (old new : State) → Reads old new r → HasCleanDisk new → HasTables old.now → new.now ≡ old.now
+    → IsAsItWas old new
+as-read old new reads disk tables same = record { now = same; left = λ trees may. inl (reads.left disk tables trees may) }
 
 module _ {S : Type 0} (g : Ghosts S) (old new : Held S) where
   pub says-sound : (tables : Tables) → Looked InLimits AreAuditTables IsReadable g old new (Ok tables) → AnswersLegal g old new (Ok tables)
@@ -50,14 +47,14 @@ module _ {S : Type 0} (g : Ghosts S) (old new : Held S) where
     line_is = refl;
     exit_is = refl;
     legal = legal;
-    read = λ disk P limits keeps.
-        let found = looked.shown disk P keeps.now limits in
+    read = λ disk P limits shown.
+        let found = looked.shown disk P shown limits in
         let sound = audits.sound.0 refl in (
           found.0,
           sound,
           λ all whole. sound_as tables all (like_whole P all tables whole found.0) sound,
-          keeps-same (state g old) (state g new) P looked.reads disk found.1 keeps,
         );
+    nothing = λ disk had. as-read (state g old) (state g new) looked.reads disk had (looked.reads.answered disk had);
   })
 
   pub says-unsound : LegalTablesAreSound → (tables : Tables) (finding : Finding)
@@ -69,14 +66,14 @@ module _ {S : Type 0} (g : Ghosts S) (old new : Held S) where
     line_is = refl;
     exit_is = refl;
     legal = legal;
-    read = λ disk P limits keeps.
-        let found = looked.shown disk P keeps.now limits in
+    read = λ disk P limits shown.
+        let found = looked.shown disk P shown limits in
         let first = (audits.found finding).0 refl in (
           found.0,
           first,
           λ all whole. broken_as tables all (like_whole P all tables whole found.0) finding first,
-          keeps-same (state g old) (state g new) P looked.reads disk found.1 keeps,
         );
+    nothing = λ disk had. as-read (state g old) (state g new) looked.reads disk had (looked.reads.answered disk had);
     never = λ disk H shows.
         let found = looked.shown disk (picture H) shows.tables.now (legal-rows H shows.legal shows.forms) in
         not-both tables finding (law H tables shows.legal shows.forms found.0) ((audits.found finding).0 refl);
@@ -88,9 +85,8 @@ module _ {S : Type 0} (g : Ghosts S) (old new : Held S) where
     fault = fault;
     line_is = refl;
     exit_is = refl;
-    limits = λ disk stored P keeps. looked.sound disk (let same : Err fault ≡ Err Stored = cc in same) P keeps.now;
+    limits = λ disk stored P shown. looked.sound disk (let same : Err fault ≡ Err Stored = cc in same) P shown;
     sound = λ disk stored H shows. looked.sound disk (let same : Err fault ≡ Err Stored = cc in same) (picture H) shows.tables.now
         (is-readable H shows.legal shows.forms);
-    undone = λ disk is_open P keeps. keeps-same (state g old) (state g new) P looked.reads disk
-        (looked.reads.same disk is_open (keeps.now.maps, keeps.now.holds)) keeps;
+    nothing = λ disk is_open had. as-read (state g old) (state g new) looked.reads disk had (looked.reads.same disk is_open had);
   }))

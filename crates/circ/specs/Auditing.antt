@@ -1,7 +1,8 @@
 -- What an audit of a library writes, and how the program ends.
 use Rattle.std.specs.Prelude.{◌≡◌, ◌⊎◌, ℕ, List, Option, Result, IfOk, OnErr}
 use Rattle.std.specs.Io.KnownBytes.{Appends}
-use Rattle.store.specs.Library.{Ghosts, Held, state, IsClean, IsOpen}
+use Rattle.store.specs.Library.{Ghosts, Held, state, IsClean, IsOpen, HasTables, IsAsItWas}
+use Rattle.circ_tables.specs.Encoding.{HasPicture}
 use Rattle.store.specs.Lists.{AreTables, AreAuditTables}
 use Rattle.store.specs.Legal.{HasLegalRows}
 use Rattle.store.specs.Reads.{IsReadable}
@@ -29,17 +30,16 @@ abbrev pub LegalTablesAreSound : Type 0
 LegalTablesAreSound = (H : History) (tables : Tables) → IsLegal H → HasForms H
     → AreAuditTables (picture H) tables → IsSound tables
 
--- The rows that the laws concern were read and satisfy `Is`, and so do all rows: of each picture within the
--- limits that the tables showed, and still show.
+-- The rows that the laws concern were read and satisfy `Is`, and so do all rows, of each picture within the
+-- limits that the tables show.
 abbrev pub Reads : {S : Type 0} → Ghosts S → Held S → Held S → (Tables → Type 0) → Tables
     → Type 0
 Reads g old new Is tables =
-    IsClean g new → (P : Picture) → InLimits P → KeepsPicture (state g old) P
+    IsClean g new → (P : Picture) → InLimits P → HasPicture (state g old).now P
     → AreAuditTables P tables × Is tables × ((all : Tables) → AreTables P all → Is all)
-    × KeepsPicture (state g new) P
 
 -- The line says that the tables are sound: their rows keep the three laws. Whatever they show, no row of the
--- thirteen tables is damaged.
+-- thirteen tables is damaged, and nothing is changed.
 pub record SaysSound {S : Type 0} (g : Ghosts S) (old new : Held S) (line : List ℕ)
     (exit : Exit) : Type 0 where
   pub tables : Tables
@@ -47,9 +47,10 @@ pub record SaysSound {S : Type 0} (g : Ghosts S) (old new : Held S) (line : List
   pub exit_is : exit ≡ Done
   pub legal : IsClean g new → HasLegalRows (state g old).now
   pub read : Reads g old new IsSound tables
+  pub nothing : IsClean g new → HasTables (state g old).now → IsAsItWas (state g old) (state g new)
 
--- The line is a finding: the first law that their rows break. No row of the thirteen tables is damaged. This
--- never happens if the tables showed a list of accepted requests.
+-- The line is a finding: the first law that their rows break. No row of the thirteen tables is damaged, and
+-- nothing is changed. This never happens if the tables showed a list of accepted requests.
 pub record SaysUnsound {S : Type 0} (g : Ghosts S) (old new : Held S) (line : List ℕ)
     (exit : Exit) : Type 0 where
   pub tables : Tables
@@ -58,20 +59,22 @@ pub record SaysUnsound {S : Type 0} (g : Ghosts S) (old new : Held S) (line : Li
   pub exit_is : exit ≡ Refused
   pub legal : IsClean g new → HasLegalRows (state g old).now
   pub read : Reads g old new (λ rows. IsFirstBroken rows finding) tables
+  pub nothing : IsClean g new → HasTables (state g old).now → IsAsItWas (state g old) (state g new)
   pub never : IsClean g new → (H : History) → Shows (state g old) H → ⊥
 
 -- The line is a fault. It isn't 93 if the rows of the tables were within their limits, and so not if the
--- tables showed a list of accepted requests. They show what they showed, if the database is still open.
+-- tables showed a list of accepted requests. Nothing is changed, whatever rows they have, if the database is
+-- still open.
 pub record SaysFaulted {S : Type 0} (g : Ghosts S) (old new : Held S) (line : List ℕ)
     (exit : Exit) : Type 0 where
   pub fault : Fault
   pub line_is : line ≡ fault_line (fault_number fault)
   pub exit_is : exit ≡ Faulted
-  pub limits : IsClean g new → fault ≡ Stored → (P : Picture) → KeepsPicture (state g old) P
+  pub limits : IsClean g new → fault ≡ Stored → (P : Picture) → HasPicture (state g old).now P
       → IsReadable P → ⊥
   pub sound : IsClean g new → fault ≡ Stored → (H : History) → Shows (state g old) H → ⊥
-  pub undone : IsClean g new → IsOpen g new → (P : Picture) → KeepsPicture (state g old) P
-      → KeepsPicture (state g new) P
+  pub nothing : IsClean g new → IsOpen g new → HasTables (state g old).now
+      → IsAsItWas (state g old) (state g new)
 
 -- The line says that the tables are sound, or is a finding or fault.
 abbrev pub SaysOf : {S : Type 0} → Ghosts S → Held S → Held S → List ℕ → Exit → Type 0

@@ -38,7 +38,7 @@ tables-as a b same tables = subst HasTables (sym same.now) tables
 pub tables-of : (s : State) (P : Picture) → HasPicture s.now P → HasTables s.now
 tables-of s P shown = (shown.maps, shown.holds)
 
-keeps-as : (a b : State) (P : Picture) → IsAsItWas a b → KeepsPicture a P → KeepsPicture b P
+pub keeps-as : (a b : State) (P : Picture) → IsAsItWas a b → KeepsPicture a P → KeepsPicture b P
 keeps-as a b P same keeps = record {
   now = subst (λ db. HasPicture db P) (sym same.now) keeps.now;
   left = λ trees may. elim (same.left trees may) [ inl was ↦ keeps.left trees was | inr is ↦ (a.now, keeps.now, is) ];

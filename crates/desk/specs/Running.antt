@@ -18,22 +18,22 @@ use Rattle.desk.specs.Answering.{Handled, Shows, LeavesOneOf, Learns, IsPageFor,
 use Rattle.desk.specs.Headline.{Headline}
 use Rattle.desk.specs.Showing.{own_page}
 
--- A store was dropped because its tables show no list of accepted requests. They stayed the same if the
+-- A store was dropped because its tables show no list of accepted requests. Nothing was changed if the
 -- database was still open.
 pub record RefusesTables {S : Type 0} (g : Ghosts S) (store : Held S) : Type 0 where
   -- the store when it was dropped
   pub last : Held S
   pub clean : IsClean g last → IsClean g store
-  pub same : IsClean g last → IsOpen g last → (state g last).now ≡ (state g store).now
+  pub nothing : IsClean g last → IsOpen g last → IsAsItWas (state g store) (state g last)
   pub none : IsClean g last → (H : History) → ¬ Shows (state g store) H
 
 -- A desk was made over a store's tables.
 pub record Begins {S : Type 0}
     (g : Ghosts S) (store : Held S) (result : Result (Held S) Fault) : Type 0 where
   pub clean : IfOk result (λ desk. IsClean g desk → IsClean g store)
-  -- its tables show what they showed
-  pub same : IfOk result (λ desk. IsClean g desk → IsOpen g desk → (P : Picture)
-      → KeepsPicture (state g store) P → KeepsPicture (state g desk) P)
+  -- nothing is changed, whatever tables there are
+  pub nothing : IfOk result (λ desk. IsClean g desk → IsOpen g desk
+      → IsAsItWas (state g store) (state g desk))
   -- a stop leaves what it would have left
   pub left : IfOk result (λ desk. IsClean g desk → (P : Picture)
       → KeepsPicture (state g store) P → LeavesPicture (state g desk) P)
