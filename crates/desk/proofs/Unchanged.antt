@@ -21,7 +21,7 @@ use Rattle.desk.proofs.Results.{on-ok, on-err, on-ok-any, on-err-any, if-ok-any}
 pub as-it-was : (s : State) → IsAsItWas s s
 as-it-was s = record { now = refl; left = λ trees may. inl may }
 
-as-then : (a b c : State) → IsAsItWas a b → IsAsItWas b c → IsAsItWas a c
+pub as-then : (a b c : State) → IsAsItWas a b → IsAsItWas b c → IsAsItWas a c
 as-then a b c one two = record {
   now = two.now ∙ one.now;
   left = λ trees may. elim (two.left trees may) [ inl was ↦ one.left trees was | inr is ↦ inr (is ∙ ap (λ (db : Database). db.trees) one.now) ];
@@ -31,7 +31,7 @@ as-then a b c one two = record {
 pub as-left : (old new : State) → new.now ≡ old.now → Leaves new (λ db. db ≡ old.now) → IsAsItWas old new
 as-left old new now leaves = record { now = now; left = λ trees may. let one = leaves trees may in inr (one.2 ∙ ap (λ (db : Database). db.trees) one.1) }
 
-tables-as : (a b : State) → IsAsItWas a b → HasTables a.now → HasTables b.now
+pub tables-as : (a b : State) → IsAsItWas a b → HasTables a.now → HasTables b.now
 tables-as a b same tables = subst HasTables (sym same.now) tables
 
 -- The tables of a picture are there.

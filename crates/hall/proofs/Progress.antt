@@ -12,17 +12,18 @@ use Rattle.terms.specs.declared.fault.ServiceFault.TheVariants.{Met, Closed}
 use Rattle.terms.specs.declared.reply.Reply.{Reply}
 use Rattle.model.specs.History.{History}
 use Rattle.model.specs.Requests.{after, after_one}
-use Rattle.desk.specs.Answering.{Shows, Stays, DeskLooks, LeavesOneOf}
+use Rattle.desk.specs.Answering.{Shows, Stays, DeskLooks, Handled, LeavesOneOf}
 use Rattle.desk.specs.Running.{Handles}
 use Rattle.desk.proofs.Looking.{leaves-first}
 use Rattle.desk.proofs.Shown.{shows-headline}
+use Rattle.desk.proofs.Unchanged.{as-it-was, as-then, tables-as}
 use Rattle.model.specs.Picture.{picture}
 use Rattle.hall.specs.declared.messages.Submission.{Submission}
 use Rattle.hall.specs.declared.messages.Message.{Message}
 use Rattle.hall.specs.declared.messages.Message.TheVariants.{Submit}
 use Rattle.hall.specs.Queue.{submissions, handled, unhandled, requests}
 use Rattle.hall.specs.Openings.{LooksOnly, MeetsFaultOf, IsMet}
-use Rattle.hall.specs.Handling.{HandledFirst, TakesNext}
+use Rattle.hall.specs.Handling.{HandledFirst, HandledAny, LooksAny, TakesNext}
 use Rattle.hall.proofs.HandledLists.{submit_same, submit_more, rest_more, no_rest}
 
 pub after-last : (xs : List Request) (H : History) (r : Request) → after H (xs ++ r ∷ []) ≡ after_one (after H xs) r
@@ -39,6 +40,47 @@ own-is-none : (f : Fault) → ◌≡◌ {A = Option ServiceFault} (Some Closed) 
 own-is-none f h = cc
 
 module _ {S : Type 0} (g : Ghosts S) where
+  -- ---- tables with any rows
+
+  not-asked : (held : Held S) (fault : Option ServiceFault) → LooksAny g held held fault
+  not-asked held fault = record { clean = λ disk. disk; nothing = λ disk is_open tables. as-it-was (state g held) }
+
+  -- a look that answered, and one that met a fault
+  looked-any : (a b : Held S) (fault : Option ServiceFault) → LooksOnly g a b (Ok tt) → LooksAny g a b fault
+  looked-any a b fault l = record { clean = l.looks.clean; nothing = λ disk is_open tables. l.looks.nothing.answered disk tables }
+
+  met-any : (a b : Held S) (fault : Fault) (looked : Result (Unit {0}) Fault) → LooksOnly g a b looked → LooksAny g a b (Some (Met fault))
+  met-any a b fault (Ok x) l = looked-any a b (Some (Met fault)) l
+  met-any a b fault (Err e) l = record { clean = l.looks.clean; nothing = λ disk is_open tables. l.looks.nothing.failed disk (is_open refl) tables }
+
+  look-then : (a b c : Held S) (fault : Option ServiceFault) → LooksAny g a b None → LooksAny g b c fault → LooksAny g a c fault
+  look-then a b c fault one two = record {
+    clean = λ disk. one.clean (two.clean disk);
+    nothing = λ disk is_open tables.
+        let same = one.nothing (two.clean disk) (λ some. let never : ⊥ = cc in absurd never) tables in
+        as-then (state g a) (state g b) (state g c) same (two.nothing disk is_open (tables-as (state g a) (state g b) same tables));
+  }
+
+  -- a look before the requests, and one after them
+  any-after-look : (first : List Request) (a b c : Held S) (fault : Option ServiceFault) → LooksAny g a b None
+      → HandledAny g first b c fault → HandledAny g first a c fault
+  any-after-look [] a b c fault look h = look-then a b c fault look h
+  any-after-look (r ∷ rs) a b c fault look h = (h.0, h.1, h.2, look-then a b h.0 None look h.3, h.4, h.5)
+
+  any-then-look : (first : List Request) (a b c : Held S) (fault : Option ServiceFault) → HandledAny g first a b None
+      → LooksAny g b c fault → HandledAny g first a c fault
+  any-then-look [] a b c fault h look = look-then a b c fault h look
+  any-then-look (r ∷ rs) a b c fault h look = (h.0, h.1, h.2, h.3, h.4, any-then-look rs h.1 b c fault h.5 look)
+
+  -- one request more
+  any-more : (first : List Request) (request : Request) (a b m c : Held S) (reply : Reply) (fault : Option ServiceFault)
+      → HandledAny g first a b None → Handled request g b m (Ok reply) → LooksAny g m c fault → HandledAny g (first ++ request ∷ []) a c fault
+  any-more [] request a b m c reply fault h d look = (b, m, reply, h, d, look)
+  any-more (r ∷ rs) request a b m c reply fault h d look =
+      (h.0, h.1, h.2, h.3, h.4, any-more rs request h.1 b m c reply fault h.5 d look)
+
+  -- ---- tables that show a list of accepted requests
+
   -- nothing was handled
   pub none-handled : (held : Held S) (rest : List Request) → HandledFirst [] rest g held held None
   none-handled held rest = record {
@@ -48,6 +90,7 @@ module _ {S : Type 0} (g : Ghosts S) where
     sound = λ disk e. let never : ⊥ = cc in absurd never;
     undone = λ disk is_open H shows. shows;
     left = λ disk. tt;
+    any = not-asked held None;
   }
 
   -- whatever came of a look, the tables show what they showed, as long as the database is open
@@ -69,6 +112,7 @@ module _ {S : Type 0} (g : Ghosts S) where
     sound = λ disk e H shows. h.sound disk e H (l.looks.stays (h.clean disk) H shows);
     undone = λ disk is_open H shows. h.undone disk is_open H (l.looks.stays (h.clean disk) H shows);
     left = λ disk. if-some fault _ _ (λ f H shows. f H (l.looks.stays (h.clean disk) H shows)) (h.left disk);
+    any = any-after-look first a b c fault (looked-any a b None l) h.any;
   }
 
   -- a look met a fault, or no memory was left after it
@@ -82,6 +126,7 @@ module _ {S : Type 0} (g : Ghosts S) where
         sound = λ disk e H shows. stored disk (met-is fault Stored e) H shows met.cause;
         undone = λ disk is_open. stays-any a b met.looked looks disk is_open;
         left = λ disk H shows. leaves-first (state g b) (picture H) (picture H) (looks.left disk H shows);
+        any = met-any a b fault met.looked met.looks;
       }
     where
       stored : IsClean g b → fault ≡ Stored → (H : History) → Shows (state g a) H → (met.looked ≡ Err fault) ⊎ (fault ≡ Memory) → ⊥
@@ -101,6 +146,7 @@ module _ {S : Type 0} (g : Ghosts S) where
         sound = λ disk e. absurd (own-is-none Stored (ap Some (sym met.1) ∙ e));
         undone = λ disk is_open. looks.stays disk;
         left = λ disk H shows. leaves-first (state g b) (picture H) (picture H) (looks.left disk H shows);
+        any = looked-any a b (Some fault) met.0;
       }
 
   module _ (first rest : List Request) (request : Request) (a b m : Held S) (reply : Reply) (h : HandledFirst first rest g a b None)
@@ -122,6 +168,7 @@ module _ {S : Type 0} (g : Ghosts S) where
           sound = λ disk e. let never : ⊥ = cc in absurd never;
           undone = λ disk is_open. now disk;
           left = λ disk. tt;
+          any = any-more first request a b m c reply None h.any d.handled (looked-any m c None l);
         }
 
     -- one more was handled, but the board can't show it
@@ -138,6 +185,7 @@ module _ {S : Type 0} (g : Ghosts S) where
           left = λ disk H shows. leaves-first (state g c) (picture (after H (first ++ request ∷ [])))
               (picture (after H ((first ++ request ∷ []) ++ take 1 rest')))
               (looks.left disk (after H (first ++ request ∷ [])) (made-shows (looks.clean disk) H shows));
+          any = any-more first request a b m c reply (Some (Met fault)) h.any d.handled (met-any m c fault l.looked l.looks);
         }
       where
         stored : IsClean g c → fault ≡ Stored → (H : History) → Shows (state g m) (after H (first ++ request ∷ [])) → (l.looked ≡ Err fault)
@@ -160,6 +208,8 @@ module _ {S : Type 0} (g : Ghosts S) where
     left = λ disk H shows. subst (LeavesOneOf (state g c) (after H first))
         (sym (ap (λ (l : List Request). after H (first ++ take 1 (l ++ request ∷ []))) none ∙ after-last first H request))
         (d.handled.left disk (after H first) (h.shown (d.handled.clean disk) refl H shows));
+    any = any-then-look first a b c (Some (Met fault)) h.any
+        (record { clean = d.handled.clean; nothing = λ disk is_open tables. d.handled.any.failed disk (is_open refl) tables });
   }
 
   -- what may be there after one more of the rest
@@ -186,6 +236,7 @@ module _ {S : Type 0} (g : Ghosts S) where
     sound = λ disk e. let never : ⊥ = cc in absurd never;
     undone = h.undone;
     left = λ disk H shows. still-left b (after H first) (after H (first ++ take 1 (rest ++ request ∷ []))) (h.shown disk refl H shows);
+    any = any-then-look first a b b (Some Closed) h.any (not-asked b (Some Closed));
   }
 
   -- it was closed before
@@ -198,6 +249,7 @@ module _ {S : Type 0} (g : Ghosts S) where
     sound = h.sound;
     undone = h.undone;
     left = λ disk H shows. still-leaves (state g b) H first rest request (h.left disk H shows);
+    any = h.any;
   }
 
   passed-over : (n : ℕ) (first rest : List Request) (request : Request) (a b : Held S) (before : Option ServiceFault) (fault : ServiceFault)

@@ -2,7 +2,7 @@
 use Rattle.std.specs.Prelude.{◌≡◌, ◌⊎◌, ℕ, ◌+◌, ◌^◌, ◌<◌, ◌≤◌, ◌==◌, false, List, [], ◌∷◌, ◌++◌, length, map, take, Option, None, Some}
 use Rattle.std.specs.Prelude.{Result, Ok, Err, IfSome, IsSome}
 use Rattle.std.specs.List.{list_any}
-use Rattle.store.specs.Library.{Ghosts, Held, state, IsClean, IsOpen}
+use Rattle.store.specs.Library.{Ghosts, Held, state, IsClean, IsOpen, HasTables, IsAsItWas}
 use Rattle.terms.specs.declared.command.Request.{Request}
 use Rattle.terms.specs.declared.fault.Fault.{Fault}
 use Rattle.terms.specs.declared.fault.ServiceFault.{ServiceFault}
@@ -11,7 +11,7 @@ use Rattle.terms.specs.declared.fault.ServiceFault.TheVariants.{Met, Closed}
 use Rattle.terms.specs.declared.reply.Reply.{Reply}
 use Rattle.model.specs.History.{History}
 use Rattle.model.specs.Requests.{after, after_one, reply_to}
-use Rattle.desk.specs.Answering.{Shows, LeavesOneOf}
+use Rattle.desk.specs.Answering.{Shows, Handled, LeavesOneOf}
 use Rattle.desk.specs.Running.{Handles, ShowsHeadline}
 use Rattle.desk.specs.Showing.{own_page}
 use Rattle.desk.specs.declared.showing.OwnPage.{OwnPage}
@@ -24,6 +24,24 @@ use Rattle.hall.specs.Openings.{LooksOnly, MeetsFaultOf, ToldBy}
 use Rattle.hall.specs.declared.messages.Message.{Message}
 use Rattle.hall.specs.declared.messages.Message.TheVariants.{Submit, Leave}
 use Rattle.hall.specs.Queue.{of, is_open, submissions, handled, unhandled, requests}
+
+-- ---- tables with any rows
+
+-- The tables were only looked at, whatever rows they have: nothing is changed, after a fault if the database
+-- is still open.
+pub record LooksAny {S : Type 0} (g : Ghosts S) (old new : Held S) (fault : Option ServiceFault) : Type 0 where
+  pub clean : IsClean g new → IsClean g old
+  pub nothing : IsClean g new → (IsSome fault → IsOpen g new) → HasTables (state g old).now
+      → IsAsItWas (state g old) (state g new)
+
+-- The requests were handled in order, and nothing else changed the tables, whatever rows they have.
+abbrev pub HandledAny : {S : Type 0} → Ghosts S → List Request → Held S → Held S → Option ServiceFault → Type 0
+HandledAny g [] old new fault = LooksAny g old new fault
+HandledAny {S} g (r ∷ rs) old new fault =
+    (from : Held S) × (made : Held S) × (reply : Reply) × LooksAny g old from None
+    × Handled r g from made (Ok reply) × HandledAny g rs made new fault
+
+-- ---- the requests that were handled
 
 -- The first of these requests were handled in order, and `fault` is what came then, if anything; `rest` are
 -- those that came and weren't handled. As in the desk's records, the promises are for a disk that returns
@@ -45,6 +63,8 @@ pub record HandledFirst {S : Type 0} (first rest : List Request)
   -- and a stop then leaves that, or also what is there after the first of the rest
   pub left : IsClean g new → IfSome fault (λ _. (H : History) → Shows (state g old) H
       → LeavesOneOf (state g new) (after H first) (after H (first ++ take 1 rest)))
+  -- nothing else changed the tables, whatever rows they have
+  pub any : HandledAny g first old new fault
 
 -- ---- one more submission
 
