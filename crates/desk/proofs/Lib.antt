@@ -30,7 +30,6 @@ pub mod OverdueLists
 pub mod OverdueRows
 pub mod Parts
 pub mod NumberLists
-pub mod BatchesListed
 pub mod TillBatches
 pub mod WholeReports
 pub mod WrittenReports
@@ -43,3 +42,4 @@ pub mod Pulls
 pub mod ListRows
 pub mod Replies
 pub mod Queues
+pub mod RowsTold

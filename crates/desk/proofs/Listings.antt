@@ -1,10 +1,11 @@
 -- A list reported row by row is the requested part of it.
 use Rattle.std.proofs.Common.{◌≡◌, ℕ, zero, suc, ◌≤◌, ◌<◌, ◌+◌, ◌-◌, ◌==◌, nat_lt, Bool, true, false, cond, ◌||◌, ◌⊎◌, inl, inr, List, [], ◌∷◌, ◌++◌}
 use Rattle.std.proofs.Common.{length, map, take, drop, slice_get, slice_index_or, append_assoc, append-nil}
-use Rattle.std.proofs.Common.{refl, sym, ◌∙◌, ap, ap₂, subst, arith, string_bytes}
+use Rattle.std.proofs.Common.{refl, sym, ◌∙◌, ap, ap₂, subst, arith}
 use Rattle.std.specs.Prelude.{Some, option_map, codes, decimal}
 use Rattle.std.specs.List.{Contains, join_with_byte}
 use Rattle.std.proofs.lemmas.Bool.{eqb-true, eq-eqb, ne_eqb, ltb-true, lt-ltb, le-ltb, or_cases, cases_lt, cases_eq}
+use Rattle.std.proofs.Math.Seq.{take-append-add}
 use Rattle.std.proofs.lemmas.List.{map-append, length-append, length-take-le, take_all, take-append-le}
 use Rattle.circ_tables.specs.declared.by_number.TheConstants.{BATCH_ROWS}
 use Rattle.terms.specs.Orders.{Rise}
@@ -14,8 +15,10 @@ use Rattle.model.specs.AskingLaws.{Rises, AreRising, has_number}
 use Rattle.model.specs.Pages.{spaced}
 use Rattle.model.specs.Reports.{report_lines}
 use Rattle.model.proofs.Members.{has}
-use Rattle.desk.specs.Listing.{HasBatch, IsAdded, IsTold, HasTold, IsSoFar, end_words}
-use Rattle.desk.specs.declared.listing.Part.{Part}
+use Rattle.desk.specs.Listing.{HasBatch, IsAdded, IsTold, IsRowCut, HasTold, IsSoFar, lines_of, end_words}
+use Rattle.desk.specs.Parts.{IsFront}
+use Rattle.desk.specs.declared.listing.Told.{Told}
+use Rattle.desk.proofs.Parts.{front-then}
 use Rattle.desk.proofs.Contained.{in-head, in-tail, in-cases, in-none, above-first}
 use Rattle.desk.proofs.ReportLines.{report-more, report-last}
 
@@ -123,7 +126,7 @@ module _ (at n : ℕ) (less : at < n) where
 
 -- ---- one row more
 
-module _ (x : Listing) (start front : List ℕ) (n : ℕ) (old new : Part) (so_far : HasTold x start front old) where
+module _ (x : Listing) (most : ℕ) (front : List ℕ) (n : ℕ) (old new : Told) (before sent : List ℕ) (so_far : HasTold x most front old before) where
   more-rows : length (front ++ n ∷ []) ≡ length front + 1
   more-rows = length-append front (n ∷ [])
 
@@ -132,54 +135,106 @@ module _ (x : Listing) (start front : List ℕ) (n : ℕ) (old new : Part) (so_f
   last-more a (y ∷ xs) = last-more y xs
 
   -- there was room
-  room : length front < MOST_ROWS → IsAdded n (x.row n) old new → HasTold x start (front ++ n ∷ []) new
+  room : length front < most → IsAdded most n (x.row n) old new sent → HasTold x most (front ++ n ∷ []) new (before ++ sent)
   room lt add =
-      let whole : take MOST_ROWS front ≡ front = take_all MOST_ROWS front (omega (arith, lt)) in
-      let next : take MOST_ROWS (front ++ n ∷ []) ≡ front ++ n ∷ [] = take_all MOST_ROWS (front ++ n ∷ []) (omega (arith, lt, more-rows)) in
+      let whole : take most front ≡ front = take_all most front (omega (arith, lt)) in
+      let next : take most (front ++ n ∷ []) ≡ front ++ n ∷ [] = take_all most (front ++ n ∷ []) (omega (arith, lt, more-rows)) in
       let had : old.rows ≡ length front = so_far.rows ∙ ap (λ (ys : List ℕ). length ys) whole in
-      let fits : nat_lt old.rows MOST_ROWS ≡ true = lt-ltb old.rows MOST_ROWS (omega (arith, had, lt)) in
+      let fits : nat_lt old.rows most ≡ true = lt-ltb old.rows most (omega (arith, had, lt)) in
       record {
-        text = (rw fits at add.text)
-            ∙ ap (λ (t : List ℕ). t ++ (x.row n ++ 10 ∷ [])) (so_far.text ∙ ap (λ (ys : List ℕ). start ++ report_lines (map x.row ys)) whole)
-            ∙ append_assoc start (report_lines (map x.row front)) (x.row n ++ 10 ∷ [])
-            ∙ ap (λ (t : List ℕ). start ++ t) (sym (report-last (map x.row front) (x.row n)))
-            ∙ ap (λ (ls : List (List ℕ)). start ++ report_lines ls) (sym (map-append x.row front (n ∷ [])))
-            ∙ ap (λ (ys : List ℕ). start ++ report_lines (map x.row ys)) (sym next);
+        lines = ap₂ (λ (t u : List ℕ). t ++ u) (so_far.lines ∙ ap (λ (ys : List ℕ). report_lines (map x.row ys)) whole) (rw fits at add.lines)
+            ∙ sym (report-last (map x.row front) (x.row n))
+            ∙ ap report_lines (sym (map-append x.row front (n ∷ [])))
+            ∙ ap (λ (ys : List ℕ). report_lines (map x.row ys)) (sym next);
         rows = (rw fits at add.rows) ∙ ap (λ (k : ℕ). k + 1) had ∙ sym more-rows ∙ ap (λ (ys : List ℕ). length ys) (sym next);
         last = (rw fits at add.last) ∙ sym (last-more 0 front) ∙ ap (last_of 0) (sym next);
-        more = (rw fits at add.more) ∙ so_far.more ∙ le-ltb MOST_ROWS (length front) (omega (arith, lt))
-            ∙ sym (le-ltb MOST_ROWS (length (front ++ n ∷ [])) (omega (arith, lt, more-rows)));
+        more = (rw fits at add.more) ∙ so_far.more ∙ le-ltb most (length front) (omega (arith, lt))
+            ∙ sym (le-ltb most (length (front ++ n ∷ [])) (omega (arith, lt, more-rows)));
       }
 
-  -- a hundred were told
-  full : MOST_ROWS ≤ length front → IsAdded n (x.row n) old new → HasTold x start (front ++ n ∷ []) new
+  -- as many as wanted were told
+  full : most ≤ length front → IsAdded most n (x.row n) old new sent → HasTold x most (front ++ n ∷ []) new (before ++ sent)
   full ge add =
-      let same : take MOST_ROWS (front ++ n ∷ []) ≡ take MOST_ROWS front = take-append-le MOST_ROWS front (n ∷ []) ge in
-      let had : old.rows ≡ MOST_ROWS = so_far.rows ∙ length-take-le MOST_ROWS front ge in
-      let none : nat_lt old.rows MOST_ROWS ≡ false = le-ltb old.rows MOST_ROWS (omega (arith, had)) in
+      let same : take most (front ++ n ∷ []) ≡ take most front = take-append-le most front (n ∷ []) ge in
+      let had : old.rows ≡ most = so_far.rows ∙ length-take-le most front ge in
+      let none : nat_lt old.rows most ≡ false = le-ltb old.rows most (omega (arith, had)) in
       record {
-        text = (rw none at add.text) ∙ so_far.text ∙ ap (λ (ys : List ℕ). start ++ report_lines (map x.row ys)) (sym same);
+        lines = ap₂ (λ (t u : List ℕ). t ++ u) so_far.lines (rw none at add.lines) ∙ append-nil (report_lines (map x.row (take most front)))
+            ∙ ap (λ (ys : List ℕ). report_lines (map x.row ys)) (sym same);
         rows = (rw none at add.rows) ∙ so_far.rows ∙ ap (λ (ys : List ℕ). length ys) (sym same);
         last = (rw none at add.last) ∙ so_far.last ∙ ap (last_of 0) (sym same);
-        more = (rw none at add.more) ∙ sym (lt-ltb MOST_ROWS (length (front ++ n ∷ [])) (omega (arith, ge, more-rows)));
+        more = (rw none at add.more) ∙ sym (lt-ltb most (length (front ++ n ∷ [])) (omega (arith, ge, more-rows)));
       }
 
-  told-more : IsAdded n (x.row n) old new → HasTold x start (front ++ n ∷ []) new
-  told-more add = elim (cases_lt (length front) MOST_ROWS) [ inl lt ↦ room lt add | inr ge ↦ full ge add ]
+  told-more : IsAdded most n (x.row n) old new sent → HasTold x most (front ++ n ∷ []) new (before ++ sent)
+  told-more add = elim (cases_lt (length front) most) [ inl lt ↦ room lt add | inr ge ↦ full ge add ]
+
+-- ---- what may be left of a list that was cut off
+
+take-parts : (n : ℕ) (xs ys : List ℕ) → take n (xs ++ ys) ≡ take n xs ++ take (n - length xs) ys
+take-parts n xs ys = elim (cases_lt n (length xs)) [
+  | inl lt ↦ (
+      let none : 0 ≡ n - length xs = omega (arith, lt) in
+      take-append-le n xs ys (omega (arith, lt)) ∙ sym (append-nil (take n xs)) ∙ ap (λ (k : ℕ). take n xs ++ take k ys) none
+      )
+  | inr ge ↦ (
+      let all : n ≡ length xs + (n - length xs) = omega (arith, ge) in
+      ap (λ (k : ℕ). take k (xs ++ ys)) all ∙ take-append-add xs ys (n - length xs)
+      ∙ ap (λ (t : List ℕ). t ++ take (n - length xs) ys) (sym (take_all n xs ge))
+      )
+]
+
+lines-parts : (x : Listing) (most : ℕ) (front rest : List ℕ)
+    → report_lines (map x.row (take most (front ++ rest)))
+    ≡ report_lines (map x.row (take most front)) ++ report_lines (map x.row (take (most - length front) rest))
+lines-parts x most front rest =
+    ap (λ (ys : List ℕ). report_lines (map x.row ys)) (take-parts most front rest)
+    ∙ ap report_lines (map-append x.row (take most front) (take (most - length front) rest))
+    ∙ report-more (map x.row (take most front)) (map x.row (take (most - length front) rest))
+
+module _ (x : Listing) (most after at : ℕ) (told : Told) (before : List ℕ) (so_far : IsSoFar x most after at told before) where
+  -- What is wanted begins with what was told.
+  parted : lines_of x most after ≡ before ++ report_lines (map x.row (take (most - length so_far.front) (above at x.numbers)))
+  parted =
+      ap (λ (ys : List ℕ). report_lines (map x.row (take most ys))) so_far.split ∙ lines-parts x most so_far.front (above at x.numbers)
+      ∙ ap (λ (t : List ℕ). t ++ report_lines (map x.row (take (most - length so_far.front) (above at x.numbers)))) (sym so_far.is.lines)
+
+  pub so-far-front : IsFront before (lines_of x most after)
+  so-far-front = (report_lines (map x.row (take (most - length so_far.front) (above at x.numbers))), parted)
+
+  -- The next row goes on with it, or a beginning of that row.
+  pub row-cut : (n : ℕ) (sent : List ℕ) → AreRising x.numbers → at < n → ((k : ℕ) → has_number x.numbers k → at < k → n ≤ k)
+      → IsRowCut x most n told sent → IsFront (before ++ sent) (lines_of x most after)
+  row-cut n sent rising less between (inl none) =
+      subst (λ (t : List ℕ). IsFront t (lines_of x most after)) (sym (append-nil before) ∙ ap (λ (t : List ℕ). before ++ t) (sym none)) so-far-front
+  row-cut n sent rising less between (inr cut) =
+      let room : told.rows < most = cut.1 in
+      let had : told.rows ≡ length (take most so_far.front) = so_far.is.rows in
+      let short : length so_far.front < most = elim (cases_lt (length so_far.front) most) [
+        | inl lt ↦ lt
+        | inr ge ↦ (let full : length (take most so_far.front) ≡ most = length-take-le most so_far.front ge in absurd (omega (arith, room, had, full)))
+      ] in
+      let left : ℕ = most - length so_far.front - 1 in
+      let some : most - length so_far.front ≡ suc left = omega (arith, short) in
+      let next : above at x.numbers ≡ n ∷ above n x.numbers = above-next at n less x.numbers rising between true cut.0 in
+      front-then before sent (x.row n ++ 10 ∷ []) (report_lines (map x.row (take left (above n x.numbers)))) (lines_of x most after)
+      (parted ∙ (λ i. before ++ report_lines (map x.row (take (some i) (next i))))) cut.2
 
 -- The next row was told, or isn't one of the list.
-pub row-so-far : (x : Listing) (after at n : ℕ) (start : List ℕ) (old new : Part) → AreRising x.numbers → at < n
-    → ((k : ℕ) → has_number x.numbers k → at < k → n ≤ k) → IsTold x n old new → IsSoFar x after at start old → IsSoFar x after n start new
-row-so-far x after at n start old new rising less between (inl told) so_far = record {
+pub row-so-far : (x : Listing) (most after at n : ℕ) (old new : Told) (before sent : List ℕ) → AreRising x.numbers → at < n
+    → ((k : ℕ) → has_number x.numbers k → at < k → n ≤ k) → IsTold x most n old new sent → IsSoFar x most after at old before
+    → IsSoFar x most after n new (before ++ sent)
+row-so-far x most after at n old new before sent rising less between (inl told) so_far = record {
   front = so_far.front ++ n ∷ [];
   split = so_far.split ∙ ap (λ (t : List ℕ). so_far.front ++ t) (above-next at n less x.numbers rising between true told.0)
       ∙ sym (append_assoc so_far.front (n ∷ []) (above n x.numbers));
-  told = told-more x start so_far.front n old new so_far.told told.1;
+  is = told-more x most so_far.front n old new before sent so_far.is told.1;
 }
-row-so-far x after at n start old new rising less between (inr none) so_far = record {
+row-so-far x most after at n old new before sent rising less between (inr none) so_far = record {
   front = so_far.front;
   split = so_far.split ∙ ap (λ (t : List ℕ). so_far.front ++ t) (above-next at n less x.numbers rising between false none.0);
-  told = subst (HasTold x start so_far.front) (sym none.1) so_far.told;
+  is = subst (λ (t : Told). HasTold x most so_far.front t (before ++ sent)) (sym none.1)
+      (subst (HasTold x most so_far.front old) (sym (ap (λ (t : List ℕ). before ++ t) none.2 ∙ append-nil before)) so_far.is);
 }
 
 -- ---- the rows of a batch
@@ -285,57 +340,66 @@ module _ {R : Type 0} (number_of : R → ℕ) where
 -- ---- the answer
 
 -- Nothing was told yet.
-pub none-so-far : (x : Listing) (after : ℕ) (start : List ℕ) (part : Part) → string_bytes part.text ≡ start → part.rows ≡ 0 → part.last ≡ 0
-    → part.more ≡ false → IsSoFar x after after start part
-none-so-far x after start part text rows last more = record {
-  front = [];
-  split = refl;
-  told = record { text = text ∙ sym (append-nil start); rows = rows; last = last; more = more };
-}
+pub none-so-far : (x : Listing) (most after : ℕ) (told : Told) (sent : List ℕ) → sent ≡ [] → told.rows ≡ 0 → told.last ≡ 0
+    → told.more ≡ false → IsSoFar x most after after told sent
+none-so-far x most after told sent none rows last more =
+    let empty : [] ≡ take most [] = sym (take_all {A = ℕ} most [] (omega arith)) in
+    record {
+      front = [];
+      split = refl;
+      is = record {
+        lines = none ∙ ap (λ (ys : List ℕ). report_lines (map x.row ys)) empty;
+        rows = rows ∙ ap (λ (ys : List ℕ). length ys) empty;
+        last = last ∙ ap (last_of 0) empty;
+        more = more ∙ sym (le-ltb most 0 (omega arith));
+      };
+    }
 
--- More were told than an answer shows: so the others make no difference.
-told-enough : (x : Listing) (start front rest : List ℕ) (part : Part) → part.more ≡ true → HasTold x start front part → HasTold x start (front ++ rest) part
-told-enough x start front rest part more told =
-    let many : MOST_ROWS < length front = ltb-true MOST_ROWS (length front) (sym told.more ∙ more) in
-    let same : take MOST_ROWS (front ++ rest) ≡ take MOST_ROWS front = take-append-le MOST_ROWS front rest (omega (arith, many)) in
+-- More were told than are wanted: so the others make no difference.
+told-enough : (x : Listing) (most : ℕ) (front rest : List ℕ) (told : Told) (sent : List ℕ) → told.more ≡ true → HasTold x most front told sent
+    → HasTold x most (front ++ rest) told sent
+told-enough x most front rest told sent more is =
+    let many : most < length front = ltb-true most (length front) (sym is.more ∙ more) in
+    let same : take most (front ++ rest) ≡ take most front = take-append-le most front rest (omega (arith, many)) in
     let all : length (front ++ rest) ≡ length front + length rest = length-append front rest in
     record {
-      text = told.text ∙ ap (λ (ys : List ℕ). start ++ report_lines (map x.row ys)) (sym same);
-      rows = told.rows ∙ ap (λ (ys : List ℕ). length ys) (sym same);
-      last = told.last ∙ ap (last_of 0) (sym same);
-      more = more ∙ sym (lt-ltb MOST_ROWS (length (front ++ rest)) (omega (arith, many, all)));
+      lines = is.lines ∙ ap (λ (ys : List ℕ). report_lines (map x.row ys)) (sym same);
+      rows = is.rows ∙ ap (λ (ys : List ℕ). length ys) (sym same);
+      last = is.last ∙ ap (last_of 0) (sym same);
+      more = more ∙ sym (lt-ltb most (length (front ++ rest)) (omega (arith, many, all)));
     }
 
 -- All was told once nothing is left, or once there are more.
-pub told-all : (x : Listing) (after at : ℕ) (start : List ℕ) (part : Part) → (above at x.numbers ≡ []) ⊎ (part.more ≡ true) → IsSoFar x after at start part
-    → HasTold x start (above after x.numbers) part
-told-all x after at start part (inl none) so_far =
+told-all : (x : Listing) (most after at : ℕ) (told : Told) (sent : List ℕ) → (above at x.numbers ≡ []) ⊎ (told.more ≡ true)
+    → IsSoFar x most after at told sent → HasTold x most (above after x.numbers) told sent
+told-all x most after at told sent (inl none) so_far =
     let all : above after x.numbers ≡ so_far.front = so_far.split ∙ ap (λ (t : List ℕ). so_far.front ++ t) none ∙ append-nil so_far.front in
-    subst (λ (ns : List ℕ). HasTold x start ns part) (sym all) so_far.told
-told-all x after at start part (inr more) so_far =
-    subst (λ (ns : List ℕ). HasTold x start ns part) (sym so_far.split) (told-enough x start so_far.front (above at x.numbers) part more so_far.told)
+    subst (λ (ns : List ℕ). HasTold x most ns told sent) (sym all) so_far.is
+told-all x most after at told sent (inr more) so_far =
+    subst (λ (ns : List ℕ). HasTold x most ns told sent) (sym so_far.split)
+    (told-enough x most so_far.front (above at x.numbers) told sent more so_far.is)
 
--- After a batch that isn't full, or once there are more than an answer shows, all was told.
-pub told-end : {R : Type 0} (number_of : R → ℕ) (Is : R → Type 0) (x : Listing) (after at : ℕ) (start : List ℕ) (part : Part) (rows : List R)
-    → HasBatch number_of Is x at rows → (length rows < BATCH_ROWS) ⊎ (part.more ≡ true) → IsSoFar x after (last_of at (map number_of rows)) start part
-    → HasTold x start (above after x.numbers) part
-told-end number_of Is x after at start part rows batch (inl short) so_far =
-    told-all x after (last_of at (map number_of rows)) start part (inl (batch-ends number_of Is x at rows batch short)) so_far
-told-end number_of Is x after at start part rows batch (inr more) so_far =
-    told-all x after (last_of at (map number_of rows)) start part (inr more) so_far
+-- After a batch that isn't full, or once there are more than are wanted, all was told.
+pub told-end : {R : Type 0} (number_of : R → ℕ) (Is : R → Type 0) (x : Listing) (most after at : ℕ) (told : Told) (sent : List ℕ) (rows : List R)
+    → HasBatch number_of Is x at rows → (length rows < BATCH_ROWS) ⊎ (told.more ≡ true)
+    → IsSoFar x most after (last_of at (map number_of rows)) told sent → HasTold x most (above after x.numbers) told sent
+told-end number_of Is x most after at told sent rows batch (inl short) so_far =
+    told-all x most after (last_of at (map number_of rows)) told sent (inl (batch-ends number_of Is x at rows batch short)) so_far
+told-end number_of Is x most after at told sent rows batch (inr more) so_far =
+    told-all x most after (last_of at (map number_of rows)) told sent (inr more) so_far
 
 -- After one that is, the next begins at its last number, which is above the one before it.
-pub told-next : {R : Type 0} (number_of : R → ℕ) (Is : R → Type 0) (x : Listing) (after at last : ℕ) (start : List ℕ) (part : Part) (rows : List R)
-    → HasBatch number_of Is x at rows → option_map number_of (slice_get rows (length rows - 1)) ≡ Some last
-    → IsSoFar x after (last_of at (map number_of rows)) start part → IsSoFar x after last start part × (at < last)
-told-next number_of Is x after at last start part [] batch end so_far = let never : ⊥ = cc in absurd never
-told-next number_of Is x after at last start part (r ∷ rows) batch end so_far =
+pub told-next : {R : Type 0} (number_of : R → ℕ) (Is : R → Type 0) (x : Listing) (most after at last : ℕ) (told : Told) (sent : List ℕ)
+    (rows : List R) → HasBatch number_of Is x at rows → option_map number_of (slice_get rows (length rows - 1)) ≡ Some last
+    → IsSoFar x most after (last_of at (map number_of rows)) told sent → IsSoFar x most after last told sent × (at < last)
+told-next number_of Is x most after at last told sent [] batch end so_far = let never : ⊥ = cc in absurd never
+told-next number_of Is x most after at last told sent (r ∷ rows) batch end so_far =
     let same : last_of at (map number_of (r ∷ rows)) ≡ last = batch-last number_of Is x at last (r ∷ rows) end in
     let more : at < number_of r = (batch.sound r (in-head r rows)).1 in
     let le : number_of r ≤ last_of at (map number_of (r ∷ rows)) =
     rises-last at (number_of r) (map number_of (r ∷ rows)) (covers number_of Is x at (r
     ∷ rows) batch).rises (inr (has-first (number_of r) (map number_of rows))) in
-    (subst (λ (n : ℕ). IsSoFar x after n start part) same so_far, omega (arith, same, more, le))
+    (subst (λ (n : ℕ). IsSoFar x most after n told sent) same so_far, omega (arith, same, more, le))
 
 join-last : (ls : List (List ℕ)) (e : List ℕ) → join_with_byte 10 (ls ++ e ∷ []) ≡ report_lines ls ++ e
 join-last [] e = refl
@@ -355,29 +419,29 @@ drop-none (suc n) [] le = refl
 drop-none zero (x ∷ xs) le = absurd (omega (arith, le))
 drop-none (suc n) (x ∷ xs) le = drop-none n xs (omega (arith, le))
 
-end-is : (x : Listing) (start numbers : List ℕ) (part : Part) → HasTold x start numbers part
-    → end_words part ≡ end_line (take MOST_ROWS numbers) (drop MOST_ROWS numbers)
-end-is x start numbers part told = elim (cases_lt MOST_ROWS (length numbers)) [
+end-is : (x : Listing) (numbers : List ℕ) (told : Told) (sent : List ℕ) → HasTold x MOST_ROWS numbers told sent
+    → end_words told ≡ end_line (take MOST_ROWS numbers) (drop MOST_ROWS numbers)
+end-is x numbers told sent is = elim (cases_lt MOST_ROWS (length numbers)) [
   | inl lt ↦ (
       let some = drop-some MOST_ROWS numbers lt in
-      let more : part.more ≡ true = told.more ∙ lt-ltb MOST_ROWS (length numbers) lt in
-      ap (λ (b : Bool). elim b [ true ↦ spaced (codes "after" ∷ decimal part.last ∷ []) | false ↦ codes "end" ]) more
-      ∙ ap (λ (n : ℕ). spaced (codes "after" ∷ decimal n ∷ [])) told.last
+      let more : told.more ≡ true = is.more ∙ lt-ltb MOST_ROWS (length numbers) lt in
+      ap (λ (b : Bool). elim b [ true ↦ spaced (codes "after" ∷ decimal told.last ∷ []) | false ↦ codes "end" ]) more
+      ∙ ap (λ (n : ℕ). spaced (codes "after" ∷ decimal n ∷ [])) is.last
       ∙ sym (ap (end_line (take MOST_ROWS numbers)) some.2)
       )
   | inr ge ↦ (
-      let more : part.more ≡ false = told.more ∙ le-ltb MOST_ROWS (length numbers) ge in
-      ap (λ (b : Bool). elim b [ true ↦ spaced (codes "after" ∷ decimal part.last ∷ []) | false ↦ codes "end" ]) more
+      let more : told.more ≡ false = is.more ∙ le-ltb MOST_ROWS (length numbers) ge in
+      ap (λ (b : Bool). elim b [ true ↦ spaced (codes "after" ∷ decimal told.last ∷ []) | false ↦ codes "end" ]) more
       ∙ sym (ap (end_line (take MOST_ROWS numbers)) (drop-none MOST_ROWS numbers ge))
       )
 ]
 
 -- The head and the rows, with their end, are what is shown of the list.
-pub listed-is : (x : Listing) (after : ℕ) (part : Part) → HasTold x (report_lines x.head) (above after x.numbers) part
-    → string_bytes part.text ++ end_words part ≡ listed x after
-listed-is x after part told =
+pub listed-is : (x : Listing) (after : ℕ) (told : Told) (sent text : List ℕ) → HasTold x MOST_ROWS (above after x.numbers) told sent
+    → text ≡ report_lines x.head ++ sent → text ++ end_words told ≡ listed x after
+listed-is x after told sent text is grown =
     let numbers = above after x.numbers in
     let shown = map x.row (take MOST_ROWS numbers) in
-    ap (λ (t : List ℕ). t ++ end_words part) (told.text ∙ sym (report-more x.head shown))
-    ∙ ap (λ (t : List ℕ). report_lines (x.head ++ shown) ++ t) (end-is x (report_lines x.head) numbers part told)
+    ap (λ (t : List ℕ). t ++ end_words told) (grown ∙ ap (λ (t : List ℕ). report_lines x.head ++ t) is.lines ∙ sym (report-more x.head shown))
+    ∙ ap (λ (t : List ℕ). report_lines (x.head ++ shown) ++ t) (end-is x numbers told sent is)
     ∙ sym (join-last (x.head ++ shown) (end_line (take MOST_ROWS numbers) (drop MOST_ROWS numbers)))

@@ -1,82 +1,16 @@
--- Ascending lists of numbers, above a number and after a page.
-use Rattle.std.proofs.Common.{◌≡◌, ℕ, zero, suc, ◌≤◌, ◌<◌, ◌+◌, ◌-◌, ◌==◌, nat_lt, Bool, true, false, cond, ◌||◌, ◌⊎◌, inl, inr, List, []}
-use Rattle.std.proofs.Common.{◌∷◌, ◌++◌, length, map, slice_get, refl, sym, ◌∙◌, ap, subst, arith}
+-- Ascending lists of numbers.
+use Rattle.std.proofs.Common.{◌≡◌, ℕ, zero, suc, ◌≤◌, ◌<◌, ◌+◌, ◌-◌, Bool, true, false, cond, ◌⊎◌, inl, inr, List, []}
+use Rattle.std.proofs.Common.{◌∷◌, length, map, slice_get, refl, ◌∙◌, ap, subst, arith}
 use Rattle.std.specs.Prelude.{Some, option_map, filter}
-use Rattle.std.proofs.lemmas.Bool.{eq-eqb, or_cases, ltb-true, lt-ltb}
+use Rattle.std.proofs.lemmas.Bool.{lt-ltb}
 use Rattle.std.proofs.lemmas.List.{length-append}
 use Rattle.std.proofs.lemmas.List.Elements.{filter-append}
-use Rattle.std.proofs.lemmas.List.Folds.{list_any-append}
 use Rattle.terms.specs.Orders.{Rise}
-use Rattle.circ_core.proofs.Counts.{any_filter-from}
+use Rattle.model.specs.Asking.{above}
 use Rattle.model.specs.History.{numbers_to}
-use Rattle.desk.specs.Parts.{above}
-use Rattle.desk.proofs.RowLists.{has, has-first, has-later, has-cases, below-each, each-below, all-above}
-
--- ---- what is in a list
-
-pub has-filter : (f : ℕ → Bool) (xs : List ℕ) (k : ℕ) → has k (filter f xs) ≡ true → (has k xs ≡ true) × (f k ≡ true)
-has-filter f [] k e = let never : ⊥ = cc in absurd never
-has-filter f (x ∷ xs) k e = go (λ q. has-filter f xs k q) (f x) refl e
-  where
-    first : f x ≡ true → (k ≡ x) ⊎ (has k (filter f xs) ≡ true) → (has k (filter f xs) ≡ true → (has k xs ≡ true) × (f k ≡ true))
-        → (has k (x ∷ xs) ≡ true) × (f k ≡ true)
-    first p (inl same) ih = (subst (λ (m : ℕ). has m (x ∷ xs) ≡ true) (sym same) (has-first x xs), ap f same ∙ p)
-    first p (inr more) ih = let it = ih more in (has-later k x xs it.0, it.1)
-
-    go : (has k (filter f xs) ≡ true → (has k xs ≡ true) × (f k ≡ true)) → (b : Bool) → f x ≡ b
-        → has k (cond b (x ∷ filter f xs) (filter f xs)) ≡ true → (has k (x ∷ xs) ≡ true) × (f k ≡ true)
-    go ih true p q = first p (has-cases k x (filter f xs) q) ih
-    go ih false p q = let it = ih q in (has-later k x xs it.0, it.1)
-
-pub filter-has : (f : ℕ → Bool) (xs : List ℕ) (k : ℕ) → has k xs ≡ true → f k ≡ true → has k (filter f xs) ≡ true
-filter-has f xs k there passes = any_filter-from f (λ y. k == y) xs k there passes (eq-eqb k k refl)
-
-pub has-either : (xs ys : List ℕ) (k : ℕ) → has k (xs ++ ys) ≡ true → (has k xs ≡ true) ⊎ (has k ys ≡ true)
-has-either xs ys k e = or_cases (has k xs) (has k ys) (sym (list_any-append (λ y. k == y) xs ys) ∙ e)
-
-or-left : (a b : Bool) → a ≡ true → (a || b) ≡ true
-or-left true b e = refl
-or-left false b e = let never : ⊥ = cc in absurd never
-
-or-right : (a b : Bool) → b ≡ true → (a || b) ≡ true
-or-right true b e = refl
-or-right false b e = e
-
-pub has-left : (xs ys : List ℕ) (k : ℕ) → has k xs ≡ true → has k (xs ++ ys) ≡ true
-has-left xs ys k e = list_any-append (λ y. k == y) xs ys ∙ or-left (has k xs) (has k ys) e
-
-pub has-right : (xs ys : List ℕ) (k : ℕ) → has k ys ≡ true → has k (xs ++ ys) ≡ true
-has-right xs ys k e = list_any-append (λ y. k == y) xs ys ∙ or-right (has k xs) (has k ys) e
-
--- ---- what rises
-
-pub rises-filter : (f : ℕ → Bool) (xs : List ℕ) → Rise (λ (k : ℕ). k) xs → Rise (λ (k : ℕ). k) (filter f xs)
-rises-filter f [] up = tt
-rises-filter f (x ∷ xs) up = go (rises-filter f xs up.1) (f x)
-  where
-    go : Rise (λ (k : ℕ). k) (filter f xs) → (b : Bool) → Rise (λ (k : ℕ). k) (cond b (x ∷ filter f xs) (filter f xs))
-    go ih true = (each-below x (filter f xs) (λ k e. below-each x xs up.0 k (has-filter f xs k e).0), ih)
-    go ih false = ih
-
-pub rises-append : (xs ys : List ℕ) → Rise (λ (k : ℕ). k) xs → Rise (λ (k : ℕ). k) ys
-    → ((j k : ℕ) → has j xs ≡ true → has k ys ≡ true → j < k) → Rise (λ (k : ℕ). k) (xs ++ ys)
-rises-append [] ys up also below = also
-rises-append (x ∷ xs) ys up also below = (
-  each-below x (xs ++ ys) (λ k e. later k (has-either xs ys k e)),
-  rises-append xs ys up.1 also (λ j k in_xs in_ys. below j k (has-later j x xs in_xs) in_ys),
-)
-  where
-    later : (k : ℕ) → (has k xs ≡ true) ⊎ (has k ys ≡ true) → x < k
-    later k (inl e) = below-each x xs up.0 k e
-    later k (inr e) = below x k (has-first x xs) e
+use Rattle.desk.proofs.RowLists.{has, has-first, has-later, has-cases, all-above}
 
 -- ---- what is above a number
-
-pub has-above : (a : ℕ) (xs : List ℕ) (k : ℕ) → has k (above a xs) ≡ true → (has k xs ≡ true) × (a < k)
-has-above a xs k e = let it = has-filter (λ n. nat_lt a n) xs k e in (it.0, ltb-true a k it.1)
-
-pub above-has : (a : ℕ) (xs : List ℕ) (k : ℕ) → has k xs ≡ true → a < k → has k (above a xs) ≡ true
-above-has a xs k there less = filter-has (λ n. nat_lt a n) xs k there (lt-ltb a k less)
 
 -- All is above 0 where no number is 0.
 pub above-zero : (xs : List ℕ) → ((k : ℕ) → has k xs ≡ true → 1 ≤ k) → above 0 xs ≡ xs

@@ -1,6 +1,6 @@
 -- Parts of a report, in order.
 use Rattle.std.proofs.Common.{◌≡◌, ℕ, List, [], ◌++◌, append_assoc, append-nil, refl, sym, ◌∙◌, ap}
-use Rattle.std.specs.Prelude.{Option, Result, Ok, Err, String, string_bytes}
+use Rattle.std.specs.Prelude.{Option, Some, Result, Ok, Err, String, string_bytes}
 use Rattle.std.specs.Result.{IsErr, IsErrAnd}
 use Rattle.std.specs.Io.KnownBytes.{Appends}
 use Rattle.std.proofs.KnownBytes.{Appends-trans, Appends-nil}
@@ -10,7 +10,7 @@ use Rattle.terms.specs.declared.fault.Fault.{Fault}
 use Rattle.terms.specs.declared.fault.Fault.TheVariants.{Memory, Stored}
 use Rattle.model.specs.History.{History}
 use Rattle.desk.specs.Answering.{Shows, DeskLooks, LearnsIf}
-use Rattle.desk.specs.Parts.{IsFront, WritesPart, WritesText}
+use Rattle.desk.specs.Parts.{IsFront, WritesPart, WritesText, fault_of_text}
 use Rattle.desk.specs.declared.report_fault.ReportFault.{ReportFault}
 use Rattle.desk.specs.declared.report_fault.ReportFault.TheVariants.{Refused, Faulted, NotWritten}
 use Rattle.desk.proofs.Unchanged.{nothing-then, nothing-as, nothing-failed, nothing-asked}
@@ -21,7 +21,8 @@ use Rattle.desk.proofs.Looking.{IsAnyList, if-ok, on-ok, on-err, on-ok-any, on-e
 pub nothing-front : (xs : List ℕ) → IsFront [] xs
 nothing-front xs = (xs, refl)
 
-front-then : (xs ys zs rest all : List ℕ) → all ≡ xs ++ (zs ++ rest) → IsFront ys zs → IsFront (xs ++ ys) all
+-- A beginning of what comes next, after what went out before it.
+pub front-then : (xs ys zs rest all : List ℕ) → all ≡ xs ++ (zs ++ rest) → IsFront ys zs → IsFront (xs ++ ys) all
 front-then xs ys zs rest all is front = (
   front.0 ++ rest,
   is ∙ ap (λ (t : List ℕ). xs ++ (t ++ rest)) front.1 ∙ ap (λ (t : List ℕ). xs ++ t) (append_assoc ys front.0 rest)
@@ -73,10 +74,10 @@ looks-still s r = record {
 module _ {S : Type 0} {g : Ghosts S} {o n : Held S} {a b : Option (List ℕ)} where
   -- What is made of an answer.
   pub gives-part : {T U : Type 0} {If Given : History → Type 0} {Is : History → T → List ℕ → Type 0}
-      {Wanted : History → U → List ℕ → Type 0} {all wanted : History → List ℕ} {x : T} {y : U}
-      → WritesPart If Is all g o n a b (Ok x) → ((H : History) → IsAnyList H → Given H → If H)
+      {Wanted : History → U → List ℕ → Type 0} {Cut Given-cut : History → List ℕ → Type 0} {x : T} {y : U}
+      → WritesPart If Is Cut g o n a b (Ok x) → ((H : History) → IsAnyList H → Given H → If H)
       → ((H : History) → IsAnyList H → Given H → (s : List ℕ) → Is H x s → Wanted H y s)
-      → WritesPart Given Wanted wanted g o n a b (Ok y)
+      → WritesPart Given Wanted Given-cut g o n a b (Ok y)
   gives-part {x = x} {y = y} part needs f = record {
     sent = part.sent;
     wrote = part.wrote;
@@ -90,8 +91,8 @@ module _ {S : Type 0} {g : Ghosts S} {o n : Held S} {a b : Option (List ℕ)} wh
 
   -- An error is that of whatever was asked.
   pub handed-part : {T U : Type 0} {If : History → Type 0} {Is : History → T → List ℕ → Type 0} {Wanted : History → U → List ℕ → Type 0}
-      {all : History → List ℕ} {why : ReportFault} (r : Result U ReportFault)
-      → IsErr r × IsErrAnd r (λ e. e ≡ why) → WritesPart If Is all g o n a b (Err why) → WritesPart If Wanted all g o n a b r
+      {Cut : History → List ℕ → Type 0} {why : ReportFault} (r : Result U ReportFault)
+      → IsErr r × IsErrAnd r (λ e. e ≡ why) → WritesPart If Is Cut g o n a b (Err why) → WritesPart If Wanted Cut g o n a b r
   handed-part (Ok y) is part = let never : ⊥ = cc (is.0) in absurd never
   handed-part {T} {U} {why = why} (Err e) is part =
       record {
@@ -105,17 +106,16 @@ module _ {S : Type 0} {g : Ghosts S} {o n : Held S} {a b : Option (List ℕ)} wh
         looks = looks-failed (state g o) (state g n) why e part.looks;
       }
 
--- Of what the first part learnt follows what the second needs; `all` is the first's bytes, what the second was to write, and what may come after it.
+-- Of what the first part learnt follows what the second needs, and what both may leave.
 pub then-part : {S T U : Type 0} {g : Ghosts S} {o m n : Held S} {a b c : Option (List ℕ)} {If Need Given : History → Type 0}
     {Is : History → T → List ℕ → Type 0} {Then Wanted : History → U → List ℕ → Type 0}
-    {first_all rest all : History → List ℕ} {x : T} {r : Result U ReportFault}
-    → (first : WritesPart If Is first_all g o m a b (Ok x)) → WritesPart Need Then rest g m n b c r
+    {First Second Cut : History → List ℕ → Type 0} {x : T} {r : Result U ReportFault}
+    → (first : WritesPart If Is First g o m a b (Ok x)) → WritesPart Need Then Second g m n b c r
     → ((H : History) → IsAnyList H → Given H → If H) → ((H : History) → IsAnyList H → Given H → Is H x first.sent → Need H)
-    → ((H : History) → IsAnyList H → Given H → Is H x first.sent → (tail : List ℕ) × (all H ≡ first.sent ++ (rest H ++ tail)))
+    → ((H : History) → IsAnyList H → Given H → Is H x first.sent → (s : List ℕ) → Second H s → Cut H (first.sent ++ s))
     → ((H : History) → IsAnyList H → Given H → Is H x first.sent → (y : U) (s : List ℕ) → Then H y s → Wanted H y (first.sent ++ s))
-    → WritesPart Given Wanted all g o n a c r
-then-part {g = g} {o = o} {m = m} {n = n} {a = a} {b = b} {c = c} {Given = Given} {Is = Is} {rest = rest} {all = all} {x = x} {r = r} first
-    second needs step whole gives =
+    → WritesPart Given Wanted Cut g o n a c r
+then-part {g = g} {o = o} {m = m} {n = n} {a = a} {b = b} {c = c} {Given = Given} {Is = Is} {x = x} {r = r} first second needs step cut gives =
     let was : HasCleanDisk (state g n) → (H : History) → Shows (state g o) H → Given H → Is H x first.sent = λ disk H shows given.
     first.told (second.looks.clean disk) H shows (needs H (shows.legal, shows.forms) given) in
     let still : HasCleanDisk (state g n) → (H : History) → Shows (state g o) H → Shows (state g m) H = λ disk. first.looks.stays (second.looks.clean disk) in
@@ -129,8 +129,7 @@ then-part {g = g} {o = o} {m = m} {n = n} {a = a} {b = b} {c = c} {Given = Given
       front = λ disk. on-err r (λ front H shows given.
           let list : IsAnyList H = (shows.legal, shows.forms) in
           let learnt = was disk H shows given in
-          let tail = whole H list given learnt in
-          front-then first.sent second.sent (rest H) tail.0 (all H) tail.1 (front H (still disk H shows) (step H list given learnt))) (second.front disk);
+          cut H list given learnt second.sent (front H (still disk H shows) (step H list given learnt))) (second.front disk);
       refused = second.refused;
       sound = λ disk e H shows given. second.sound disk e H (still disk H shows) (step H (shows.legal, shows.forms) given (was disk H shows given));
       stays = λ disk e H shows. second.stays disk e H (still disk H shows);
@@ -140,11 +139,11 @@ then-part {g = g} {o = o} {m = m} {n = n} {a = a} {b = b} {c = c} {Given = Given
 -- The same of whatever is made of an answer: no more than what went out is said of it.
 pub answered-part : {S T U V : Type 0} {g : Ghosts S} {o m n : Held S} {a b c : Option (List ℕ)} {If Need Given : History → Type 0}
     {Is : History → T → List ℕ → Type 0} {Then : History → U → List ℕ → Type 0} {Wanted : History → V → List ℕ → Type 0}
-    {first_all rest all : History → List ℕ} {x : T} {y : U} {z : V}
-    → (first : WritesPart If Is first_all g o m a b (Ok x)) → WritesPart Need Then rest g m n b c (Ok y)
+    {First Second Cut : History → List ℕ → Type 0} {x : T} {y : U} {z : V}
+    → (first : WritesPart If Is First g o m a b (Ok x)) → WritesPart Need Then Second g m n b c (Ok y)
     → ((H : History) → IsAnyList H → Given H → If H) → ((H : History) → IsAnyList H → Given H → Is H x first.sent → Need H)
     → ((H : History) → IsAnyList H → Given H → Is H x first.sent → (s : List ℕ) → Then H y s → Wanted H z (first.sent ++ s))
-    → WritesPart Given Wanted all g o n a c (Ok z)
+    → WritesPart Given Wanted Cut g o n a c (Ok z)
 answered-part {g = g} {o = o} {m = m} {n = n} {a = a} {b = b} {c = c} {x = x} {y = y} {z = z} first second needs step gives = record {
   sent = first.sent ++ second.sent;
   wrote = Appends-trans a b c first.sent second.sent first.wrote second.wrote;
@@ -164,8 +163,8 @@ answered-part {g = g} {o = o} {m = m} {n = n} {a = a} {b = b} {c = c} {x = x} {y
 
 module _ {S : Type 0} {g : Ghosts S} {o n : Held S} where
   -- A look writes nothing.
-  pub learnt-part : {T : Type 0} {If : History → Type 0} {Is : History → T → Type 0} {all : History → List ℕ} {x : T} (a : Option (List ℕ))
-      → LearnsIf If Is g o n (Ok x) → WritesPart If (λ H y sent. Is H y × (sent ≡ [])) all g o n a a (Ok x)
+  pub learnt-part : {T : Type 0} {If : History → Type 0} {Is : History → T → Type 0} {Cut : History → List ℕ → Type 0} {x : T} (a : Option (List ℕ))
+      → LearnsIf If Is g o n (Ok x) → WritesPart If (λ H y sent. Is H y × (sent ≡ [])) Cut g o n a a (Ok x)
   learnt-part {x = x} a learnt = record {
     sent = [];
     wrote = Appends-nil a;
@@ -179,17 +178,17 @@ module _ {S : Type 0} {g : Ghosts S} {o n : Held S} where
 
   -- Nor does one that met a fault.
   pub fault-part : {T U : Type 0} {If Given : History → Type 0} {Is : History → T → Type 0} {Wanted : History → U → List ℕ → Type 0}
-      {all : History → List ℕ} {fault : Fault} (a : Option (List ℕ)) (r : Result U ReportFault)
+      {Cut : History → List ℕ → Type 0} {fault : Fault} (a : Option (List ℕ)) (r : Result U ReportFault)
       → IsErr r × IsErrAnd r (λ e. e ≡ Faulted fault) → LearnsIf If Is g o n (Err fault) → ((H : History) → IsAnyList H → Given H → If H)
-      → WritesPart Given Wanted all g o n a a r
-  fault-part a (Ok y) is learnt needs = let never : ⊥ = cc (is.0) in absurd never
-  fault-part {all = all} {fault = fault} a (Err e) is learnt needs =
+      → ((H : History) → Given H → Cut H []) → WritesPart Given Wanted Cut g o n a a r
+  fault-part a (Ok y) is learnt needs none = let never : ⊥ = cc (is.0) in absurd never
+  fault-part {fault = fault} a (Err e) is learnt needs none =
       let same : e ≡ Faulted fault = is.1 in
       record {
         sent = [];
         wrote = Appends-nil a;
         told = λ disk. tt;
-        front = λ disk H shows given. nothing-front (all H);
+        front = λ disk H shows given. none H given;
         refused = λ refusal q. let never : ⊥ = cc in never;
         sound = λ disk q H shows given.
             let stored : Err fault ≡ Err Stored = (let one : Faulted fault ≡ Faulted Stored = cc in let two : fault ≡ Stored = cc in ap Err two) in
@@ -200,8 +199,8 @@ module _ {S : Type 0} {g : Ghosts S} {o n : Held S} where
 
 module _ {S : Type 0} {g : Ghosts S} {s : Held S} {If : History → Type 0} where
   -- Bytes went out.
-  pub wrote-part : {T : Type 0} {all : History → List ℕ} {x : T} {a b : Option (List ℕ)} (bytes : List ℕ) → Appends a b bytes
-      → WritesPart If (λ H y sent. sent ≡ bytes) all g s s a b (Ok x)
+  pub wrote-part : {T : Type 0} {Cut : History → List ℕ → Type 0} {x : T} {a b : Option (List ℕ)} (bytes : List ℕ) → Appends a b bytes
+      → WritesPart If (λ H y sent. sent ≡ bytes) Cut g s s a b (Ok x)
   wrote-part {x = x} bytes wrote = record {
     sent = bytes;
     wrote = wrote;
@@ -216,7 +215,7 @@ module _ {S : Type 0} {g : Ghosts S} {s : Held S} {If : History → Type 0} wher
   -- A write failed.
   pub cut-part : {T : Type 0} {Is : History → T → List ℕ → Type 0} {a b : Option (List ℕ)} (bytes : List ℕ) (r : Result T ReportFault)
       → IsErr r × IsErrAnd r (λ e. e ≡ NotWritten) → AppendsFront a b bytes
-      → WritesPart If Is (λ H. bytes) g s s a b r
+      → WritesPart If Is (λ H sent. IsFront sent bytes) g s s a b r
   cut-part bytes (Ok x) is front = let never : ⊥ = cc (is.0) in absurd never
   cut-part bytes (Err e) is front =
       let same : e ≡ NotWritten = is.1 in
@@ -232,17 +231,17 @@ module _ {S : Type 0} {g : Ghosts S} {s : Held S} {If : History → Type 0} wher
       }
 
   -- No memory was left.
-  pub memory-part : {T : Type 0} {Is : History → T → List ℕ → Type 0} {all : History → List ℕ} (a : Option (List ℕ))
-      (r : Result T ReportFault) → IsErr r × IsErrAnd r (λ e. e ≡ Faulted Memory)
-      → WritesPart If Is all g s s a a r
-  memory-part a (Ok x) is = let never : ⊥ = cc (is.0) in absurd never
-  memory-part {all = all} a (Err e) is =
+  pub memory-part : {T : Type 0} {Is : History → T → List ℕ → Type 0} {Cut : History → List ℕ → Type 0} (a : Option (List ℕ))
+      (r : Result T ReportFault) → IsErr r × IsErrAnd r (λ e. e ≡ Faulted Memory) → ((H : History) → If H → Cut H [])
+      → WritesPart If Is Cut g s s a a r
+  memory-part a (Ok x) is none = let never : ⊥ = cc (is.0) in absurd never
+  memory-part a (Err e) is none =
       let same : e ≡ Faulted Memory = is.1 in
       record {
         sent = [];
         wrote = Appends-nil a;
         told = λ disk. tt;
-        front = λ disk H shows given. nothing-front (all H);
+        front = λ disk H shows given. none H given;
         refused = λ refusal q. let never : ⊥ = cc in never;
         sound = λ disk q. let never : ⊥ = cc in absurd never;
         stays = λ disk q. let never : ⊥ = cc in absurd never;
@@ -256,15 +255,45 @@ module _ {S Z : Type 0} {g : Ghosts S} {o n : Held S} {If : History → Type 0} 
     (learnt : LearnsIf If (λ H made. string_bytes made ≡ text H) g o n (Ok line)) (same : bytes ≡ string_bytes line) where
   pub text-told : {T : Type 0} (x : T) → Appends a b bytes → WritesText If text g o n a b (Ok x)
   text-told x wrote =
-      then-part (learnt-part {all = text} a learnt) (wrote-part {If = IsAnyList} {all = λ _. bytes} bytes wrote) (λ H list given. given)
-      (λ H list given is. list)
-      (λ H list given is. ([], sym is.0 ∙ sym same ∙ sym (append-nil bytes) ∙ ap (λ (t : List ℕ). t ++ (bytes ++ [])) (sym is.1)))
+      then-part (learnt-part {Cut = λ _ _. ⊥} a learnt) (wrote-part {If = IsAnyList} {Cut = λ _ _. ⊥} bytes wrote) (λ H list given. given)
+      (λ H list given is. list) (λ H list given is s never. absurd never)
       (λ H list given is y s sent. ap (λ (t : List ℕ). t ++ s) is.1 ∙ sent ∙ same ∙ is.0)
 
-  pub text-cut : {T : Type 0} {Is : History → T → List ℕ → Type 0} (r : Result T ReportFault) → IsErr r × IsErrAnd r (λ e. e ≡ NotWritten)
-      → AppendsFront a b bytes → WritesPart If Is text g o n a b r
+  pub text-cut : {T : Type 0} (r : Result T ReportFault) → IsErr r × IsErrAnd r (λ e. e ≡ NotWritten)
+      → AppendsFront a b bytes → WritesText If text g o n a b r
   text-cut r is front =
-      then-part (learnt-part {all = text} a learnt) (cut-part {If = IsAnyList} {Is = λ H y sent. ⊥} bytes r is front)
+      then-part (learnt-part {Cut = λ _ _. ⊥} a learnt) (cut-part {If = IsAnyList} {Is = λ H y sent. ⊥} bytes r is front)
       (λ H list given. given) (λ H list given is. list)
-      (λ H list given is. ([], sym is.0 ∙ sym same ∙ sym (append-nil bytes) ∙ ap (λ (t : List ℕ). t ++ (bytes ++ [])) (sym is.1)))
+      (λ H list given is s out. front-then _ s bytes [] (text H)
+      (sym is.0 ∙ sym same ∙ sym (append-nil bytes) ∙ ap (λ (t : List ℕ). t ++ (bytes ++ [])) (sym is.1)) out)
       (λ H list given is y s never. absurd never)
+
+-- ---- what a text learns of its parts
+
+stored-why : (why : ReportFault) → fault_of_text why ≡ Stored → why ≡ Faulted Stored
+stored-why (Faulted f) e = ap Faulted e
+stored-why (Refused r) e = let never : ⊥ = cc in absurd never
+stored-why NotWritten e = let never : ⊥ = cc in absurd never
+
+module _ {S T : Type 0} {g : Ghosts S} {o n : Held S} {If : History → Type 0} {Is : History → T → List ℕ → Type 0} {Cut : History → List ℕ → Type 0}
+    {before after : List ℕ} where
+  -- The text grew by what was told.
+  pub learnt-of : {x : T} → WritesPart If Is Cut g o n (Some before) (Some after) (Ok x)
+      → LearnsIf If (λ H y. (sent : List ℕ) × (after ≡ before ++ sent) × Is H y sent) g o n (Ok x)
+  learnt-of {x = x} part = record {
+    shown = λ disk H shows given. (part.sent, part.wrote, part.told disk H shows given);
+    sound = λ disk e. let never : ⊥ = cc in absurd never;
+    looks = looks-so (state g o) (state g n) x (Ok x) part.looks;
+  }
+
+  -- An error is told as a fault.
+  pub fault-of : {U : Type 0} {Given : History → Type 0} {Wanted : History → U → Type 0} (why : ReportFault)
+      → WritesPart If Is Cut g o n (Some before) (Some after) (Err why) → ((H : History) → IsAnyList H → Given H → If H)
+      → LearnsIf Given Wanted g o n (Err (fault_of_text why))
+  fault-of why part needs = record {
+    shown = λ disk. tt;
+    sound = λ disk e H shows given.
+        let same : fault_of_text why ≡ Stored = cc in
+        part.sound disk (ap Err (stored-why why same)) H shows (needs H (shows.legal, shows.forms) given);
+    looks = looks-failed (state g o) (state g n) why (fault_of_text why) part.looks;
+  }

@@ -21,7 +21,7 @@ use Rattle.desk.specs.declared.report_fault.ReportFault.{ReportFault}
 use Rattle.desk.specs.declared.report_fault.ReportFault.TheVariants.{Refused, Faulted, NotWritten}
 use Rattle.desk.proofs.Founds.{Found}
 use Rattle.desk.proofs.Looking.{IsAnyList}
-use Rattle.desk.proofs.Parts.{nothing-front, fault-part, learnt-part, then-part, looks-so}
+use Rattle.desk.proofs.Parts.{nothing-front, front-then, fault-part, learnt-part, then-part, looks-so}
 
 module _ {S T : Type 0} {g : Ghosts S} {o n : Held S} {a b : Option (List ℕ)} {text : History → List ℕ} (r : Result T ReportFault)
     (part : WritesText IsAny text g o n a b r) where
@@ -100,8 +100,8 @@ module _ {S A : Type 0} {g : Ghosts S} {o m : Held S} {Is : History → A → Ty
       → ((H : History) → IsAnyList H → Is H x → HasBranch H branch × If H × (named H ≡ text H)) → WritesReport text branch g o n a b r
   report-after {a = a} {r = r} {named = named} first second all =
       report-there r
-      (then-part (learnt-part {all = λ _. []} a first) second (λ _ _ any. any) (λ H list _ is. (all H list is.0).1)
-      (λ H list _ is. ([], sym (all H list is.0).2 ∙ sym (append-nil (named H)) ∙ ap (λ (t : List ℕ). t ++ (named H ++ [])) (sym is.1)))
+      (then-part (learnt-part {Cut = λ _ _. ⊥} a first) second (λ _ _ any. any) (λ H list _ is. (all H list is.0).1)
+      (λ H list _ is s cut. front-then _ s (named H) [] (text H) (sym (all H list is.0).2 ∙ sym (append-nil (named H)) ∙ ap (λ (t : List ℕ). t ++ (named H ++ [])) (sym is.1)) cut)
       (λ H list _ is y s sent. ap (λ (t : List ℕ). t ++ s) is.1 ∙ sent ∙ (all H list is.0).2))
       (λ disk H shows. (all H (shows.legal, shows.forms) (first.shown (second.looks.clean disk) H shows tt)).0)
 
@@ -124,9 +124,9 @@ module _ {S A : Type 0} {g : Ghosts S} {o m : Held S} {Is : History → A → Ty
   pub report-fault : {T : Type 0} {fault : Fault} (a : Option (List ℕ)) (r : Result T ReportFault) → IsErr r
       × IsErrAnd r (λ e. e ≡ Faulted fault) → Learns Is g o m (Err fault) → WritesReport text branch g o m a a r
   report-fault a (Ok x) is first = let never : ⊥ = cc (is.0) in absurd never
-  report-fault {T} {fault} a (Err e) is first =
+  report-fault {T = T} {fault = fault} a (Err e) is first =
       let same : e ≡ Faulted fault = is.1 in
-      let part : WritesText {T = T} IsAny text g o m a a (Err e) = fault-part a (Err e) is first (λ _ _ any. any) in
+      let part : WritesText {T = T} IsAny text g o m a a (Err e) = fault-part a (Err e) is first (λ _ _ any. any) (λ H _. nothing-front (text H)) in
       record {
         written = λ disk. tt;
         known = λ disk. tt;

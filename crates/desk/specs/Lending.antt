@@ -1,7 +1,5 @@
 -- What the overdue report reads about its branch before its rows.
-use Rattle.std.specs.Prelude.{◌≡◌, ℕ, List, Option, Some, None}
-use Rattle.std.specs.List.{Contains}
-use Rattle.terms.specs.declared.row.LoanRow.{LoanRow}
+use Rattle.std.specs.Prelude.{◌≡◌, ℕ, Option, Some, None}
 use Rattle.model.specs.History.{History}
 use Rattle.model.specs.Picture.{picture}
 use Rattle.desk.specs.Reporting.{CountsFor}
@@ -11,14 +9,6 @@ use Rattle.desk.specs.declared.overdue.Lender.{Lender}
 -- The calendar is the branch's, and the day is today.
 abbrev pub CountsForLender : Lender → History → Type 0
 CountsForLender lender H = CountsFor H lender.branch lender.calendar lender.today
-
--- This is the row of a loan.
-abbrev pub IsLateRow : Lender → LoanRow → History → Type 0
-IsLateRow lender r H = ((picture H).loans r.loan ≡ Some r) × CountsForLender lender H
-
--- These are rows of loans.
-abbrev pub AreLateRows : Lender → List LoanRow → History → Type 0
-AreLateRows lender rows H = (r : LoanRow) → Contains rows r → IsLateRow lender r H
 
 -- It was read from the branch, if that exists.
 abbrev pub IsLender : ℕ → History → Option Lender → Type 0

@@ -1,15 +1,19 @@
--- Lists that the desk asks for, reported row by row.
-use Rattle.std.specs.Prelude.{◌≡◌, ◌==◌, ◌⊎◌, ◌<◌, ◌≤◌, ◌+◌, ℕ, nat_lt, true, false, List, [], ◌∷◌, ◌++◌, map, take, length, codes, decimal}
-use Rattle.std.specs.Prelude.{slice_get, ◌-◌, Option, Some, None, option_map, String, string_bytes}
+-- Lists, told row by row.
+use Rattle.std.specs.Prelude.{◌≡◌, ◌==◌, ◌⊎◌, ◌<◌, ◌≤◌, ◌+◌, ◌^◌, ℕ, nat_lt, true, false, List, [], ◌∷◌, ◌++◌, map, take, length, codes, decimal}
+use Rattle.std.specs.Prelude.{slice_get, ◌-◌, Option, Some, None, option_map, String, string_bytes, Result, IfOk, IfErr}
 use Rattle.std.specs.List.{list_any, Contains}
-use Rattle.terms.specs.declared.limits.TheConstants.{MOST_ROWS}
 use Rattle.terms.specs.Orders.{Rise}
 use Rattle.circ_tables.specs.declared.by_number.TheConstants.{BATCH_ROWS}
 use Rattle.model.specs.Asking.{Listing, above, last_of}
 use Rattle.model.specs.AskingLaws.{AreRising, has_number}
 use Rattle.model.specs.Pages.{spaced}
 use Rattle.model.specs.Reports.{report_lines}
-use Rattle.desk.specs.declared.listing.Part.{Part}
+use Rattle.desk.specs.declared.listing.Told.{Told}
+use Rattle.desk.specs.declared.report_fault.ReportFault.{ReportFault}
+use Rattle.desk.specs.Parts.{IsFront}
+use Rattle.desk.specs.declared.report_fault.ReportFault.TheVariants.{NotWritten}
+use Rattle.std.specs.Io.KnownBytes.{Appends}
+use Rattle.terms.specs.Writing.{AppendsFront}
 
 -- ---- what is read of a list
 
@@ -29,42 +33,67 @@ abbrev pub IsRowText : {Z : Type 0} → Listing → ℕ → Option (String Z) �
 IsRowText x n (Some text) = has_number x.numbers n × (string_bytes text ≡ x.row n)
 IsRowText x n None = list_any (λ m. m == n) x.numbers ≡ false
 
--- ---- what was reported
+-- ---- what was told
 
--- One more row was reported; if the answer was full, that there are more.
-pub record IsAdded (n : ℕ) (row : List ℕ) (old new : Part) : Type 0 where
-  pub text : string_bytes new.text ≡ elim (nat_lt old.rows MOST_ROWS) [ true ↦ string_bytes old.text ++ (row ++ 10 ∷ []) | false ↦ string_bytes old.text ]
-  pub rows : new.rows ≡ elim (nat_lt old.rows MOST_ROWS) [ true ↦ old.rows + 1 | false ↦ old.rows ]
-  pub last : new.last ≡ elim (nat_lt old.rows MOST_ROWS) [ true ↦ n | false ↦ old.last ]
-  pub more : new.more ≡ elim (nat_lt old.rows MOST_ROWS) [ true ↦ old.more | false ↦ true ]
+-- One more row was told, or if as many as wanted were, that there are more. `sent` is what was added.
+pub record IsAdded (most n : ℕ) (row : List ℕ) (old new : Told) (sent : List ℕ) : Type 0 where
+  pub lines : sent ≡ elim (nat_lt old.rows most) [ true ↦ row ++ 10 ∷ [] | false ↦ [] ]
+  pub rows : new.rows ≡ elim (nat_lt old.rows most) [ true ↦ old.rows + 1 | false ↦ old.rows ]
+  pub last : new.last ≡ elim (nat_lt old.rows most) [ true ↦ n | false ↦ old.last ]
+  pub more : new.more ≡ elim (nat_lt old.rows most) [ true ↦ old.more | false ↦ true ]
 
--- The row with this number was reported, or the list has none.
-abbrev pub IsTold : Listing → ℕ → Part → Part → Type 0
-IsTold x n old new = (has_number x.numbers n × IsAdded n (x.row n) old new) ⊎ ((list_any (λ m. m == n) x.numbers ≡ false) × (new ≡ old))
+-- A row was told, or a beginning of its line.
+pub record PutsRow (most n : ℕ) (row : List ℕ) (old : Told) (before after : Option (List ℕ)) (result : Result Told ReportFault) : Type 0 where
+  pub added : IfOk result (λ new. (sent : List ℕ) × Appends before after sent × IsAdded most n row old new sent)
+  pub cut : IfErr result (λ why. (old.rows < most) × (why ≡ NotWritten) × AppendsFront before after (row ++ 10 ∷ []))
 
--- These numbers were reported after a beginning: the first hundred by their rows, the rest by saying that
--- there are more.
-pub record HasTold (x : Listing) (start numbers : List ℕ) (part : Part) : Type 0 where
-  pub text : string_bytes part.text ≡ start ++ report_lines (map x.row (take MOST_ROWS numbers))
-  pub rows : part.rows ≡ length (take MOST_ROWS numbers)
-  pub last : part.last ≡ last_of 0 (take MOST_ROWS numbers)
-  pub more : part.more ≡ nat_lt MOST_ROWS (length numbers)
+-- The row with this number was told, or the list has none.
+abbrev pub IsTold : Listing → ℕ → ℕ → Told → Told → List ℕ → Type 0
+IsTold x most n old new sent = (has_number x.numbers n × IsAdded most n (x.row n) old new sent)
+    ⊎ ((list_any (λ m. m == n) x.numbers ≡ false) × (new ≡ old) × (sent ≡ []))
 
--- Of the numbers above `after`, those up to `at` were reported.
-pub record IsSoFar (x : Listing) (after at : ℕ) (start : List ℕ) (part : Part) : Type 0 where
+-- Nothing was told of it, or a beginning of the list's row.
+abbrev pub IsRowCut : Listing → ℕ → ℕ → Told → List ℕ → Type 0
+IsRowCut x most n old sent = (sent ≡ []) ⊎ (has_number x.numbers n × (old.rows < most) × IsFront sent (x.row n ++ 10 ∷ []))
+
+-- These numbers were told: as many as wanted by their rows, the rest by saying that there are more.
+pub record HasTold (x : Listing) (most : ℕ) (numbers : List ℕ) (told : Told) (sent : List ℕ) : Type 0 where
+  pub lines : sent ≡ report_lines (map x.row (take most numbers))
+  pub rows : told.rows ≡ length (take most numbers)
+  pub last : told.last ≡ last_of 0 (take most numbers)
+  pub more : told.more ≡ nat_lt most (length numbers)
+
+-- Of the numbers above `after`, those up to `at` were told.
+pub record IsSoFar (x : Listing) (most after at : ℕ) (told : Told) (sent : List ℕ) : Type 0 where
   pub front : List ℕ
   pub split : above after x.numbers ≡ front ++ above at x.numbers
-  pub told : HasTold x start front part
+  pub is : HasTold x most front told sent
 
--- Whatever was reported before, these rows were reported after it.
-abbrev pub GoesOn : Listing → ℕ → ℕ → Part → Part → Type 0
-GoesOn x at to old new = (start : List ℕ) (after : ℕ) → IsSoFar x after at start old → IsSoFar x after to start new
+-- Whatever was told before, these rows were told after it.
+abbrev pub GoesOn : Listing → ℕ → ℕ → ℕ → Told → Told → List ℕ → Type 0
+GoesOn x most at to old new sent = (before : List ℕ) (after : ℕ) → IsSoFar x most after at old before → IsSoFar x most after to new (before ++ sent)
+
+-- The lines that are wanted of a list above a number.
+abbrev pub lines_of : Listing → ℕ → ℕ → List ℕ
+lines_of x most after = report_lines (map x.row (take most (above after x.numbers)))
+
+-- Whatever was told before, with these bytes it is a beginning of what is wanted.
+abbrev pub IsCut : Listing → ℕ → ℕ → Told → List ℕ → Type 0
+IsCut x most at old sent = (before : List ℕ) (after : ℕ) → IsSoFar x most after at old before → IsFront (before ++ sent) (lines_of x most after)
 
 -- The end of an answer.
-abbrev pub end_words : Part → List ℕ
-end_words part = elim part.more [ true ↦ spaced (codes "after" ∷ decimal part.last ∷ []) | false ↦ codes "end" ]
+abbrev pub end_words : Told → List ℕ
+end_words told = elim told.more [ true ↦ spaced (codes "after" ∷ decimal told.last ∷ []) | false ↦ codes "end" ]
 
--- The number after which to read on; none once a batch isn't full, or there are more rows than are reported.
-abbrev pub IsNext : {R : Type 0} → (R → ℕ) → List R → Part → Option ℕ → Type 0
-IsNext number_of rows part None = (length rows < BATCH_ROWS) ⊎ (part.more ≡ true)
-IsNext number_of rows part (Some last) = option_map number_of (slice_get rows (length rows - 1)) ≡ Some last
+-- The number after which to read on; none once a batch isn't full, or there are more rows than are wanted.
+abbrev pub IsNext : {R : Type 0} → (R → ℕ) → List R → Told → Option ℕ → Type 0
+IsNext number_of rows told None = (length rows < BATCH_ROWS) ⊎ (told.more ≡ true)
+IsNext number_of rows told (Some last) = option_map number_of (slice_get rows (length rows - 1)) ≡ Some last
+
+-- The numbers of the list begin at 1, and a report can count its rows.
+abbrev pub IsCounted : Listing → Type 0
+IsCounted x = (above 0 x.numbers ≡ x.numbers) × (length x.numbers ≤ 2 ^ 32 - 1)
+
+-- The report of a list: its head, all its rows, and their number.
+abbrev pub report_of : Listing → (ℕ → List ℕ) → List ℕ
+report_of x count_words = report_lines (x.head ++ map x.row x.numbers ++ count_words (length x.numbers) ∷ [])

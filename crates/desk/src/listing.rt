@@ -1,18 +1,22 @@
-//! Lists the desk can ask for: rows from a number on, at most a hundred, and an end that says if
-//! there are more.
+//! Lists, read batch by batch and told row by row: a hundred rows from a number on with an end that
+//! says if there are more, or all rows of a report.
 
 ghost use Rattle.std.specs.Prelude.{◌≡◌, ◌++◌, ℕ, map, IfOk, string_bytes};
 ghost use Rattle.std.specs.List.{Contains};
 ghost use Rattle.model.specs.Asking.{listed, last_of, above};
 ghost use Rattle.model.specs.Reports.{report_lines};
 ghost use Rattle.desk.specs.Answering.{LearnsIf};
-ghost use Rattle.desk.specs.Listing.{HasBatch, IsAdded, IsTold, HasTold, GoesOn, IsNext};
-ghost use Rattle.desk.specs.Listing.{end_words};
+ghost use Rattle.desk.specs.Listing.{HasBatch, PutsRow, IsTold, IsRowCut, HasTold, GoesOn, IsCut};
+ghost use Rattle.desk.specs.Listing.{IsNext, end_words, lines_of};
+ghost use Rattle.desk.specs.Parts.{WritesPart, IsFront};
 
+use crate::page::Page;
+use crate::report_fault::ReportFault;
 use sqlite::Alter;
 use std::alloc::Global;
+use std::io::Write;
 use store::{BATCH_ROWS, Store};
-use terms::{Fault, MOST_ROWS, Memory};
+use terms::{Fault, MOST_ROWS, Memory, write_pieces};
 
 /// A list that can be asked for.
 pub(crate) trait Listed {
@@ -61,99 +65,91 @@ pub(crate) trait Listed {
             S.Store store.old store.new result };
 }
 
-/// The part of a list shown: head and rows, a newline after each.
-#[derive(Drop)]
-pub(crate) struct Part {
-    text: String,
+/// How far the rows of a list were told.
+#[derive(Clone, Copy)]
+pub(crate) struct Told {
     /// The number of rows.
-    rows: u32,
+    pub(crate) rows: u32,
     /// The number of the last one.
     last: u32,
     /// Whether there are more.
     more: bool,
 }
 
-impl Part {
-    /// Adds a row, or after a hundred notes that there are more.
-    fn add(&mut self, number: u32, row: &str) -> Result<(), Memory>
-        ensures { IfOk result (λ _. IsAdded number row.now self.old self.new) }
-    {
-        if self.rows >= MOST_ROWS {
-            self.more = true;
-            return Ok(());
-        }
-        self.text.push_str(row)?;
-        self.text.push('\n')?;
-        self.rows += 1;
-        self.last = number;
-        Ok(())
+/// Adds a row, or after as many as wanted notes that there are more.
+fn put_row<W: Write>(
+    told: Told,
+    most: u32,
+    number: u32,
+    row: &str,
+    writer: &mut W,
+) -> Result<Told, ReportFault>
+    ensures { PutsRow most number row.now told (W.contents writer.old) (W.contents writer.new) result }
+{
+    if told.rows >= most {
+        return Ok(Told { more: true, ..told });
     }
-
-    /// Returns the rows with their end.
-    fn with_end(self, alloc: Global) -> Result<String, Memory>
-        ensures { IfOk result
-            (λ text. string_bytes text ≡ string_bytes self.text ++ end_words self) }
-    {
-        let Part {
-            mut text,
-            last,
-            more,
-            ..
-        } = self;
-        if more {
-            let end = format!(in alloc; "after {last}")?;
-            text.push_str(&end)?;
-        } else {
-            text.push_str("end")?;
-        }
-        Ok(text)
-    }
+    write_pieces(writer, &[row.as_bytes(), b"\n"])?;
+    Ok(Told {
+        rows: told.rows + 1,
+        last: number,
+        more: told.more,
+    })
 }
 
 /// Adds a row, if it is one of the list. Faults 90, 91, 93.
-fn tell_row<L: Listed, S: Alter>(
+fn tell_row<L: Listed, S: Alter, W: Write>(
     store: &mut Store<S>,
     alloc: Global,
     list: &L,
     row: &L::Row,
-    part: &mut Part,
-) -> Result<(), Fault>
-    ensures { LearnsIf (λ H. L.Needs list.now H × L.IsRow list.now row.now H)
-        (λ H _. IsTold (L.list list.now H) (L.number_of row.now) part.old part.new)
-        S.Store store.old store.new result }
+    most: u32,
+    told: Told,
+    writer: &mut W,
+) -> Result<Told, ReportFault>
+    ensures { WritesPart (λ H. L.Needs list.now H × L.IsRow list.now row.now H)
+        (λ H next sent. IsTold (L.list list.now H) most (L.number_of row.now) told next sent)
+        (λ H sent. IsRowCut (L.list list.now H) most (L.number_of row.now) told sent)
+        S.Store store.old store.new (W.contents writer.old) (W.contents writer.new) result }
 {
-    if let Some(text) = list.row_text(store, alloc, row)? {
-        part.add(L::number(row), &text)?;
+    match list.row_text(store, alloc, row)? {
+        Some(text) => put_row(told, most, L::number(row), &text, writer),
+        None => Ok(told),
     }
-    Ok(())
 }
 
 /// Adds the rows of a batch in order. Faults 90, 91, 93.
-fn tell_rows<L: Listed, S: Alter>(
+fn tell_rows<L: Listed, S: Alter, W: Write>(
     store: &mut Store<S>,
     alloc: Global,
     list: &L,
     rows: &[L::Row],
-    part: &mut Part,
-) -> Result<(), Fault>
-    ensures { LearnsIf
+    most: u32,
+    told: Told,
+    writer: &mut W,
+) -> Result<Told, ReportFault>
+    ensures { WritesPart
         (λ H. L.Needs list.now H × ((r : L.Row) → Contains rows.now r → L.IsRow list.now r H))
-        (λ H _. (at : ℕ)
+        (λ H next sent. (at : ℕ)
         → HasBatch L.number_of (λ r. L.IsRow list.now r H) (L.list list.now H) at rows.now
-        → GoesOn (L.list list.now H) at (last_of at (map L.number_of rows.now)) part.old part.new)
-        S.Store store.old store.new result }
+        → GoesOn (L.list list.now H) most at (last_of at (map L.number_of rows.now)) told next sent)
+        (λ H sent. (at : ℕ)
+        → HasBatch L.number_of (λ r. L.IsRow list.now r H) (L.list list.now H) at rows.now
+        → IsCut (L.list list.now H) most at told sent)
+        S.Store store.old store.new (W.contents writer.old) (W.contents writer.new) result }
 {
+    let mut next = told;
     'rows: for row in rows {
-        tell_row(store, alloc, list, row, part)?;
+        next = tell_row(store, alloc, list, row, most, next, writer)?;
     }
-    Ok(())
+    Ok(next)
 }
 
 /// Returns the last row's number in a batch, if more is to be read after it.
-fn next_from<L: Listed>(batch: &[L::Row], part: &Part) -> Option<u32>
-    ensures { IsNext L.number_of batch.now part.now result }
+fn next_from<L: Listed>(batch: &[L::Row], told: Told) -> Option<u32>
+    ensures { IsNext L.number_of batch.now told result }
 {
-    if part.more || batch.len() < BATCH_ROWS {
+    if told.more || batch.len() < BATCH_ROWS {
         return None;
     }
     match batch.last() {
@@ -162,22 +158,23 @@ fn next_from<L: Listed>(batch: &[L::Row], part: &Part) -> Option<u32>
     }
 }
 
-/// Adds a list's rows above this number, batch by batch, until there are more than an answer shows.
-/// Faults 90, 91, 93.
-fn tell_list<L: Listed, S: Alter>(
+/// Adds a list's rows above this number, batch by batch, until there are more than are wanted.
+/// Faults 90, 91, 93, or a write failed: then a prefix of the rows may have gone out.
+pub(crate) fn tell<L: Listed, S: Alter, W: Write>(
     store: &mut Store<S>,
     alloc: Global,
     list: &L,
-    head: String,
     after: u32,
-) -> Result<Part, Fault>
-    ensures { LearnsIf (L.Needs list.now)
-        (λ H part. HasTold (L.list list.now H) (string_bytes head)
-        (above after (L.list list.now H).numbers) part)
-        S.Store store.old store.new result }
+    most: u32,
+    writer: &mut W,
+) -> Result<Told, ReportFault>
+    ensures { WritesPart (L.Needs list.now)
+        (λ H told sent. HasTold (L.list list.now H) most (above after (L.list list.now H).numbers)
+        told sent)
+        (λ H sent. IsFront sent (lines_of (L.list list.now H) most after))
+        S.Store store.old store.new (W.contents writer.old) (W.contents writer.new) result }
 {
-    let mut part = Part {
-        text: head,
+    let mut told = Told {
         rows: 0,
         last: 0,
         more: false,
@@ -185,13 +182,29 @@ fn tell_list<L: Listed, S: Alter>(
     let mut at = after;
     'batches: for _batch in 0..u64::MAX {
         let batch = list.batch(store, alloc, at)?;
-        tell_rows(store, alloc, list, batch.as_slice(), &mut part)?;
-        match next_from::<L>(batch.as_slice(), &part) {
+        let rows = batch.as_slice();
+        told = tell_rows(store, alloc, list, rows, most, told, writer)?;
+        match next_from::<L>(rows, told) {
             Some(last) => at = last,
-            None => return Ok(part),
+            None => return Ok(told),
         }
     }
-    Ok(part)
+    Ok(told)
+}
+
+/// Adds the end of an answer.
+fn with_end(mut text: String, alloc: Global, told: Told) -> Result<String, Memory>
+    ensures { IfOk result
+        (λ all. string_bytes all ≡ string_bytes text ++ end_words told) }
+{
+    if told.more {
+        let last = told.last;
+        let end = format!(in alloc; "after {last}")?;
+        text.push_str(&end)?;
+    } else {
+        text.push_str("end")?;
+    }
+    Ok(text)
 }
 
 /// Returns the text of a list from a number on, under its head. Faults 90, 91, 93.
@@ -207,6 +220,9 @@ pub(crate) fn list_text<L: Listed, S: Alter>(
         (λ H text. string_bytes text ≡ listed (L.list list.now H) after)
         S.Store store.old store.new result }
 {
-    let part = tell_list(store, alloc, list, head, after)?;
-    Ok(part.with_end(alloc)?)
+    let mut page = Page { text: head };
+    match tell(store, alloc, list, after, MOST_ROWS, &mut page) {
+        Ok(told) => Ok(with_end(page.text, alloc, told)?),
+        Err(why) => Err(why.of_text()),
+    }
 }

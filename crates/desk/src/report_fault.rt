@@ -1,5 +1,8 @@
 //! Why a report wasn't written.
 
+ghost use Rattle.std.specs.Prelude.{◌≡◌};
+ghost use Rattle.desk.specs.Parts.{fault_of_text};
+
 use terms::{Fault, Memory, Refusal, WriteFault};
 
 /// Why a report wasn't written.
@@ -11,6 +14,18 @@ pub enum ReportFault {
     Faulted(Fault),
     /// A write failed; a prefix of the report may have gone out.
     NotWritten,
+}
+
+impl ReportFault {
+    /// Returns the fault of a text, which only want of memory keeps from growing.
+    pub(crate) fn of_text(self) -> Fault
+        ensures { result ≡ fault_of_text self }
+    {
+        match self {
+            ReportFault::Faulted(fault) => fault,
+            _ => Fault::Memory,
+        }
+    }
 }
 
 impl From<Fault> for ReportFault {

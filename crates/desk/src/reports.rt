@@ -21,13 +21,6 @@ pub enum Report {
     Shelf(BranchId),
 }
 
-/// The result of writing a batch: how many rows, and the last one's number if more may follow.
-#[derive(Clone, Copy)]
-pub(crate) struct Told {
-    pub(crate) rows: usize,
-    pub(crate) last: Option<u32>,
-}
-
 /// Adds a newline to a line.
 pub(crate) fn with_newline(mut text: String) -> Result<String, Memory>
     ensures { IfOk result (λ line. string_bytes line ≡ string_bytes text ++ (10 ∷ [])) }
