@@ -1,5 +1,5 @@
 -- The outcome of serving the web, from that of its parts.
-use Rattle.std.proofs.Common.{◌≡◌, ◌⊎◌, inl, inr, ℕ, Bool, true, false, List, [], ◌++◌, refl, sym, subst}
+use Rattle.std.proofs.Common.{◌≡◌, ◌⊎◌, inl, inr, ℕ, Bool, true, false, List, [], ◌++◌, length, refl, sym, subst}
 use Rattle.std.specs.Prelude.{Option, Some, None, IfSome, Result, Ok, Err}
 use Rattle.std.specs.Io.KnownBytes.{Appends}
 use Rattle.store.specs.Library.{Ghosts, Held, state}
@@ -54,14 +54,19 @@ module _ {S : Type 0} (g : Ghosts S) where
       by true e = let never : ⊥ = cc ((is.faulted e).1) in absurd never
       by false e = (e, (is.refused e).1)
 
-  module _ {E : Type 0} (lists : History → Type 0) (port : ℕ) (old new : Held S) where
+  module _ {C I O : Type 0} (comes : C → I → O → C → Type 0) (goes : C → O → Bool → C → Type 0) (misses : C → Type 0)
+      (remaining : I → Option (List ℕ)) (contents : O → Option (List ℕ)) (desk_key : List ℕ)
+      {E : Type 0} (lists : History → Type 0) (each port : ℕ) (olds news : List C) (old new : Held S) where
     -- the port was told, and then how it ended
     pub port-told : (a b c : Option (List ℕ)) (r : Result Exit E) (are_whole : Bool) (fault : Option ServiceFault)
-        → ServesWorkers lists g old new fault → Appends a b (port_line port)
-        → EndsWith (exit_after are_whole fault) (end_text are_whole fault) b c r → ServesHall lists port g old new a c r
+        → ServesWorkers comes goes misses remaining contents desk_key each olds news are_whole lists g old new fault
+        → Appends a b (port_line port)
+        → EndsWith (exit_after are_whole fault) (end_text are_whole fault) b c r
+        → ServesHall comes goes misses remaining contents desk_key each port olds news lists g old new a c r
     port-told a b c r are_whole fault serves out ends = record {
       fault = fault;
       are_whole = are_whole;
+      most = each;
       serves = serves;
       told = record {
         exit_is = ends.exit_is;
@@ -70,15 +75,18 @@ module _ {S : Type 0} (g : Ghosts S) where
           front = second-failed r a b c (port_line port) (end_text are_whole fault) out ends.writes.front;
         };
       };
+      listens = inl (refl, b, out, ends);
     }
 
     -- the port could not be told
     pub port-untold : (a b : Option (List ℕ)) (error : E) (are_whole : Bool) (fault : Option ServiceFault)
-        → ServesWorkers lists g old new fault → AppendsFront a b (port_line port)
-        → ServesHall lists port g old new a b (Err error)
+        → ServesWorkers comes goes misses remaining contents desk_key 0 olds news are_whole lists g old new fault
+        → AppendsFront a b (port_line port)
+        → ServesHall comes goes misses remaining contents desk_key each port olds news lists g old new a b (Err error)
     port-untold a b error are_whole fault serves front = record {
       fault = fault;
       are_whole = are_whole;
+      most = 0;
       serves = serves;
       told = record {
         exit_is = tt;
@@ -88,6 +96,7 @@ module _ {S : Type 0} (g : Ghosts S) where
               (end_text are_whole fault) front;
         };
       };
+      listens = inr (refl, tt);
     }
 
   -- what closed the hall, also from before the tables were looked at
@@ -120,49 +129,62 @@ module _ {S : Type 0} (g : Ghosts S) where
     shown = full.shown;
   }))
 
-  -- the hall was opened, which only looks at the tables, and for each list that they show
-  pub opened-served : {E : Type 0} (lists : History → Type 0) (port workers : ℕ) (old side new : Held S)
-      (a b : Option (List ℕ)) (r : Result Exit E) → ((H : History) → Shows (state g old) H → lists H)
-      → can_be_workers workers ≡ true → LooksOnly g old side (Ok tt) → ServesHall lists port g side new a b r → ServesPort port workers g old new a b r
-  opened-served lists port workers old side new a b r every can look served =
-      let s = served.serves in
-      inl (
-        can,
-        record {
-          fault = served.fault;
-          are_whole = served.are_whole;
-          serves = record {
-            got = s.got;
-            n = s.n;
-            shown = s.shown;
-            desk = handled-after-look g (requests (handled s.n s.got)) (requests (unhandled s.n s.got)) old side new served.fault look s.desk;
-            all = s.all;
-            cause = closed-after-look s.n s.got old side new s.shown.entries served.fault look s.cause;
-            told = λ disk H shows. s.told disk H (every H shows);
-            replies = λ disk H shows. s.replies disk H (every H shows);
-          };
-          told = served.told;
-        },
-      )
+  module _ {C I O : Type 0} (comes : C → I → O → C → Type 0) (goes : C → O → Bool → C → Type 0) (misses : C → Type 0)
+      (remaining : I → Option (List ℕ)) (contents : O → Option (List ℕ)) (desk_key : List ℕ) where
+    -- the hall was opened, which only looks at the tables, and for each list that they show
+    pub opened-served : {E : Type 0} (lists : History → Type 0) (each port : ℕ) (olds news : List C) (old side new : Held S)
+        (a b : Option (List ℕ)) (r : Result Exit E) → ((H : History) → Shows (state g old) H → lists H)
+        → can_be_workers (length olds) ≡ true → LooksOnly g old side (Ok tt)
+        → ServesHall comes goes misses remaining contents desk_key each port olds news lists g side new a b r
+        → ServesPort comes goes misses remaining contents desk_key each port olds news g old new a b r
+    opened-served lists each port olds news old side new a b r every can look served =
+        let s = served.serves in
+        inl (
+          can,
+          record {
+            fault = served.fault;
+            are_whole = served.are_whole;
+            most = served.most;
+            serves = record {
+              got = s.got;
+              n = s.n;
+              shown = s.shown;
+              parts = s.parts;
+              from = s.from;
+              desk = handled-after-look g (requests (handled s.n s.got)) (requests (unhandled s.n s.got)) old side new served.fault look s.desk;
+              all = s.all;
+              cause = closed-after-look s.n s.got old side new s.shown.entries served.fault look s.cause;
+              told = λ disk H shows. s.told disk H (every H shows);
+              replies = λ disk H shows. s.replies disk H (every H shows);
+            };
+            told = served.told;
+            listens = served.listens;
+          },
+        )
 
   -- no memory was left before anything was asked
   pub no-memory : (held : Held S) → KeepsClosed g held held (Met Memory)
   no-memory held = inl (Memory, refl, record { looked = Ok tt; looks = idle; cause = inr refl })
 
-  -- the fault of a hall that isn't opened was told
-  pub fault-told : {E : Type 0} (port workers : ℕ) (old new : Held S) (a b : Option (List ℕ)) (r : Result Exit E) (fault : ServiceFault)
-      → (can_be_workers workers ≡ true) ⊎ (fault ≡ Met Memory) → KeepsClosed g old new fault
-      → EndsWith Faulted (fault_line (service_fault_number fault)) a b r → ServesPort port workers g old new a b r
-  fault-told port workers old new a b r fault asked cause ends =
-      inr (inl (record { fault = fault; asked = asked; cause = cause; desk = unopened g old new fault cause; told = ends }))
+  module _ {C I O : Type 0} (comes : C → I → O → C → Type 0) (goes : C → O → Bool → C → Type 0) (misses : C → Type 0)
+      (remaining : I → Option (List ℕ)) (contents : O → Option (List ℕ)) (desk_key : List ℕ) where
+    -- the fault of a hall that isn't opened was told
+    pub fault-told : {E : Type 0} (each port : ℕ) (all : List C) (old new : Held S) (a b : Option (List ℕ)) (r : Result Exit E)
+        (fault : ServiceFault) → (can_be_workers (length all) ≡ true) ⊎ (fault ≡ Met Memory) → KeepsClosed g old new fault
+        → EndsWith Faulted (fault_line (service_fault_number fault)) a b r
+        → ServesPort comes goes misses remaining contents desk_key each port all all g old new a b r
+    fault-told each port all old new a b r fault asked cause ends =
+        inr (inl (record { fault = fault; asked = asked; cause = cause; desk = unopened g old new fault cause; same = refl; told = ends }))
 
--- why the hall isn't opened was told
-pub why-told : {S E : Type 0} (g : Ghosts S) (port workers : ℕ) (old new : Held S) (w : Why) (a b : Option (List ℕ)) (r : Result Exit E)
-    → IsUnopened workers g old new w → EndsWith (exit_of_why w) (why_line w) a b r
-    → ServesPort port workers g old new a b r
-why-told g port workers old new (why.Faulted fault) a b r is ends = fault-told g port workers old new a b r fault (inl (can-be g workers old new fault is))
-    (not-opened g workers old new fault is) ends
-why-told g port workers old new (why.Refused refusal) a b r is ends = let none = not-asked g workers old new refusal is in inr (inr (none.0, none.1, ends))
+    -- why the hall isn't opened was told
+    pub why-told : {E : Type 0} (each port : ℕ) (all : List C) (old new : Held S) (w : Why) (a b : Option (List ℕ)) (r : Result Exit E)
+        → IsUnopened (length all) g old new w → EndsWith (exit_of_why w) (why_line w) a b r
+        → ServesPort comes goes misses remaining contents desk_key each port all all g old new a b r
+    why-told each port all old new (why.Faulted fault) a b r is ends =
+        fault-told each port all old new a b r fault (inl (can-be (length all) old new fault is))
+        (not-opened (length all) old new fault is) ends
+    why-told each port all old new (why.Refused refusal) a b r is ends =
+        let none = not-asked (length all) old new refusal is in inr (inr (none.0, none.1, refl, ends))
 
 -- that a thread could not be made was told, and then the fault
 pub both-told : {E : Type 0} (are_whole : Bool) (fault : Option ServiceFault) (met : ServiceFault) (a b : Option (List ℕ))

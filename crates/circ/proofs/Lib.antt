@@ -3,6 +3,7 @@ pub mod Said
 pub mod Told
 pub mod Imports
 pub mod Halls
+mod Parts
 mod CountedRows
 mod SoundClaims
 mod SoundBindings

@@ -1,16 +1,17 @@
 -- What a worker does with its connections.
-use Rattle.std.specs.Prelude.{◌≡◌, ◌⊎◌, ℕ, zero, suc, List, Option, Result}
+use Rattle.std.specs.Prelude.{◌≡◌, ◌⊎◌, ℕ, zero, suc, Bool, List, Option, Result, is_ok}
 use Rattle.hall.specs.declared.messages.Message.TheVariants.{Leave}
 use Rattle.hall.specs.declared.worker.ServeFault.{ServeFault}
 use Rattle.hall.specs.Queue.{sent_more}
 use Rattle.hall.specs.Serving.{Working, Serves}
 
--- `comes` says that a connection came, with its reader and writer, and `goes` that it was ended: each relates
--- the connections before and after. `misses` says that none could be had. `remaining` are a reader's bytes and
+-- `comes` says that a connection came, with its reader and writer, and `goes` that it was ended, answered or
+-- not: each relates the connections before and after. `misses` says that none could be had. `remaining` are a reader's bytes and
 -- `contents` a writer's, if known.
-module _ {C I O : Type 0} (comes : C → I → O → C → Type 0) (goes : C → O → C → Type 0) (misses : C → Type 0)
+module _ {C I O : Type 0} (comes : C → I → O → C → Type 0) (goes : C → O → Bool → C → Type 0) (misses : C → Type 0)
     (remaining : I → Option (List ℕ)) (contents : O → Option (List ℕ)) (desk_key : List ℕ) where
-  -- A connection came, the worker served it, and it was ended: nothing else went out to it.
+  -- A connection came, the worker served it, and it was ended, as answered exactly if one whole answer went
+  -- out: nothing else went out to it.
   pub record ServesOne (old new : C) (before after : Working) : Type 0 where
     pub reader : I
     pub writer : O
@@ -20,7 +21,7 @@ module _ {C I O : Type 0} (comes : C → I → O → C → Type 0) (goes : C →
     pub told : O
     pub result : Result (Unit {0}) ServeFault
     pub served : Serves desk_key (remaining reader) before after (contents writer) (contents told) result
-    pub ended : goes at told new
+    pub ended : goes at told (is_ok result) new
 
   -- It was served, or none could be accepted.
   abbrev pub ServesNext : C → C → Working → Working → Type 0
@@ -41,3 +42,8 @@ module _ {C I O : Type 0} (comes : C → I → O → C → Type 0) (goes : C →
     pub seen : left.seen ≡ last.seen
     pub closing : left.closing ≡ last.closing
     pub post : (left.post ≡ sent_more last.post (Leave last.post.worker)) ⊎ (left.post ≡ last.post)
+
+  -- A worker served `each` connections, or none, and left.
+  pub record WorksOrLeaves (each served : ℕ) (old new : C) (hired left : Working) : Type 0 where
+    pub amount : (served ≡ each) ⊎ (served ≡ 0)
+    pub works : Works served old new hired left

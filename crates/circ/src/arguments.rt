@@ -38,6 +38,7 @@ pub enum Run<'a> {
     /// each serving this many connections.
     Serve {
         path: &'a str,
+        workers: usize,
         web: Web,
     },
     /// `send PORT DESKKEY KEY WORDS..`: send one request of the desk to a serving program.
@@ -226,9 +227,9 @@ fn read_serve<'a>(alloc: Global, words: &'a [String]) -> Result<Option<Run<'a>>,
     match CardKey::new(alloc, desk_key.as_str())? {
         Some(desk_key) => Ok(Some(Run::Serve {
             path: path.as_str(),
+            workers,
             web: Web {
                 port,
-                workers,
                 each,
                 desk_key,
             },

@@ -11,17 +11,20 @@ use terms::CardKey;
 
 /// A sequence of connections, from a listener or a list.
 pub trait Connections {
+    ghost use Rattle.std.specs.Prelude.{Bool};
+
     /// The bytes from the client.
-    type Reader: Read;
+    type Reader: Read + Send;
     /// The bytes to the client.
-    type Writer: Write;
+    type Writer: Write + Send;
 
     /// Says that a connection with this reader and writer came, between the first state and the
     /// last.
     ghost comes: { Self → Self.Reader → Self.Writer → Self → Type 0 };
 
-    /// Says that a connection ended, its writer holding this, between the first state and the last.
-    ghost goes: { Self → Self.Writer → Self → Type 0 };
+    /// Says that a connection ended, its writer holding this, answered or not, between the first
+    /// state and the last.
+    ghost goes: { Self → Self.Writer → Bool → Self → Type 0 };
 
     /// No connection could be had of these.
     ghost misses: { Self → Type 0 };
@@ -33,7 +36,7 @@ pub trait Connections {
 
     /// Ends a connection, answered or not.
     fn end(&mut self, reader: Self::Reader, writer: Self::Writer, is_answered: bool)
-        ensures { goes self.old writer self.new };
+        ensures { goes self.old writer is_answered self.new };
 }
 
 /// Waits for a connection and serves it; skips one that fails. Makes the routes for the first one,

@@ -20,6 +20,7 @@ pub use connections::{Connections, work};
 pub use desk::Report;
 pub use hall::Watch;
 pub use importing::{import, unreadable};
+pub use listening::{Port, ports};
 pub use lines::{Exit, WriteFault, no_network, not_understood, out_of_memory, tell_fault};
 pub use migrating::migrate;
 pub use reports::report;

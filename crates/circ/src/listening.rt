@@ -75,20 +75,30 @@ fn drain(stream: &mut TcpStream) {
     }
 }
 
-/// The connections to a listener. Nothing is proved of a socket's bytes.
+/// The connections to a listener, for one worker. Nothing is proved of a socket's bytes.
 #[derive(Drop)]
-pub struct Port<'a> {
-    pub listener: &'a TcpListener,
+pub struct Port {
+    listener: TcpListener,
 }
 
-impl<'a> Connections for Port<'a> {
+/// Makes so many handles of one listener.
+pub fn ports(alloc: Global, listener: &TcpListener, count: usize) -> Option<Vec<Port>> {
+    let mut all = Vec::new(alloc);
+    for _ in 0..count {
+        let listener = listener.try_clone().ok()?;
+        all.push(Port { listener }).ok()?;
+    }
+    Some(all)
+}
+
+impl Connections for Port {
     type Reader = TcpStream;
 
     type Writer = Outgoing;
 
     ghost comes = { λ _ _ _ _. Unit {0} };
 
-    ghost goes = { λ _ _ _. Unit {0} };
+    ghost goes = { λ _ _ _ _. Unit {0} };
 
     ghost misses = { λ _. Unit {0} };
 

@@ -1,198 +1,272 @@
 //! Serving the web: the workers of a hall, one thread each.
 
-ghost use Rattle.std.specs.Prelude.{◌≡◌};
+ghost use Rattle.std.specs.Prelude.{◌≡◌, ◌≤◌, MatchResult, IfSome, IsTrue, true, length, vec_capacity};
+ghost use Rattle.std.specs.Arc.{arc_value};
 ghost use Rattle.store.specs.Library.{state};
 ghost use Rattle.model.specs.History.{History};
 ghost use Rattle.desk.specs.Answering.{Shows};
-ghost use Rattle.hall.specs.Openings.{OpensWith};
+ghost use Rattle.hall.specs.Openings.{OpensWith, ToldBy};
+ghost use Rattle.hall.specs.Handling.{Finishes};
+ghost use Rattle.hall.specs.Serving.{GivesReplies, AreWorkers};
+ghost use Rattle.circ.specs.Connections.{Works, WorksOrLeaves};
 ghost use Rattle.circ.specs.Lines.{EndsWith};
-ghost use Rattle.circ.specs.Serving.{ServesWorkers, ServesHall, ServesPort};
+ghost use Rattle.circ.specs.Serving.{AllInTurn, TakesPart, ServesWorkers, ServesHall, ServesPort};
 ghost use Rattle.circ.specs.Serving.{end_text, exit_after, why_line, exit_of_why};
 
-use crate::connections::work;
+use crate::connections::{Connections, work};
 use crate::lines::{
     Exit, WriteFault, not_understood, out_of_memory, tell_port, tell_service_fault, tell_threads,
 };
-use crate::listening::Port;
 use desk::Desk;
 use hall::{DeskSide, Ended, Hall, HallFault, Left, Opened, Opening, Watch, Why, Worker};
-use hall_schedule::WORKERS;
 use sqlite::Alter;
 use std::alloc::Global;
 use std::io::Write;
 use std::marker::Brand;
-use std::net::TcpListener;
-use std::sync::{Arc, Mutex, Wait};
+use std::snapshot::Snapshot;
+use std::sync::atomic::{AtomicBool, Ordering};
+use std::sync::{Arc, Wait};
 use std::thread;
-use std::thread::{JoinHandle, Threads};
-use terms::{CardKey, Memory, ServiceFault};
+use std::thread::{Promise, PromisedHandle, Threads};
+use terms::{CardKey, ServiceFault};
 
 /// The settings for serving.
 #[derive(Drop)]
 pub struct Web {
     /// The port, printed once the hall is open.
     pub port: u16,
-    /// The number of workers: 1 to 8.
-    pub workers: usize,
-    /// The number of connections each of them serves.
+    /// The number of connections each worker serves.
     pub each: u32,
     /// The key that marks a request as the desk's.
     pub desk_key: CardKey,
 }
 
-/// What the workers' threads share.
+/// What a worker's thread gives back.
 #[derive(Drop)]
-struct Shared<J: Opening> {
-    /// Workers that have not started.
-    waiting: Mutex<Vec<Worker<J>>>,
-    listener: TcpListener,
-    desk_key: CardKey,
+struct Served<J: Opening, C> {
+    left: Left<J>,
+    /// Its connections, after those that it served.
+    connections: C,
+    /// How many it served.
+    count: u32,
 }
 
-impl<J: Opening> Shared<J> {
-    /// Sets the workers to start.
-    fn put<R: Wait>(&self, rt: &R, workers: Vec<Worker<J>>) {
-        *self.waiting.lock(rt) = workers;
-    }
-
-    /// Takes a worker that has not started, if any.
-    fn next<R: Wait>(&self, rt: &R) -> Option<Worker<J>> {
-        self.waiting.lock(rt).pop()
-    }
-
-    /// Lets a waiting worker serve `each` connections of the listener and leave.
-    fn work<R: Wait>(&self, rt: &R, alloc: Global, each: u32) -> Option<Left<J>> {
-        let worker = self.next(rt)?;
-        let mut port = Port {
-            listener: &self.listener,
-        };
-        Some(work(rt, alloc, &mut port, &self.desk_key, worker, each))
-    }
-}
-
-/// The thread of a worker; joining it gives the worker's end.
-type WorkerThread<J> = JoinHandle<Option<Left<J>>>;
-
-/// The workers of a hall: their shared state, their threads, and the ends of workers without a
-/// thread.
+/// What a worker's thread is to do.
 #[derive(Drop)]
-struct Crew<J: Opening> {
-    shared: Arc<Shared<J>, Global>,
-    threads: Vec<WorkerThread<J>>,
-    left: Vec<Left<J>>,
-    /// The number of connections each worker serves.
+struct Task<J: Opening, C: Connections> {
+    worker: Snapshot<Worker<J>>,
+    connections: Snapshot<C>,
+    desk_key: Snapshot<CardKey>,
     each: u32,
 }
 
-/// Makes a crew without workers, with room for them.
-fn crew_for<J: Opening>(
+impl<J: Opening, C: Connections> Promise<Served<J, C>> for Task<J, C> {
+    ghost use Rattle.circ.specs.Connections.{WorksOrLeaves};
+
+    ghost kept_by = { λ t r. WorksOrLeaves C.comes C.goes C.misses C.Reader.Read.remaining
+        C.Writer.Write.contents t.desk_key.value t.each r.count t.connections.value r.connections
+        t.worker.value (record {
+          post = r.left.post;
+          seen = r.left.sight;
+          closing = r.left.closing;
+        }) };
+}
+
+/// The thread of a worker, or what a worker without a thread gives back.
+type Started<J, C> = Result<PromisedHandle<Served<J, C>, Task<J, C>>, Served<J, C>>;
+
+/// Lets a worker serve so many of its connections and leave.
+fn serve_own<J: Opening, C: Connections, R: Wait>(
+    rt: &R,
     alloc: Global,
-    listener: TcpListener,
-    desk_key: CardKey,
-    each: u32,
-) -> Result<Crew<J>, Memory> {
-    let threads = Vec::with_capacity(alloc, WORKERS as usize)?;
-    let left = Vec::with_capacity(alloc, WORKERS as usize)?;
-    let waiting = Mutex::new(Vec::new(alloc));
-    let shared = Arc::new(
-        alloc,
-        Shared {
-            waiting,
-            listener,
-            desk_key,
-        },
-    )?;
-    Ok(Crew {
-        shared,
-        threads,
+    connections: C,
+    desk_key: &CardKey,
+    worker: Worker<J>,
+    count: u32,
+) -> Served<J, C>
+    ensures count { result.count ≡ count }
+    ensures works { Works C.comes C.goes C.misses C.Reader.Read.remaining
+        C.Writer.Write.contents desk_key.now count connections result.connections worker (record {
+          post = result.left.post;
+          seen = result.left.sight;
+          closing = result.left.closing;
+        }) }
+{
+    let mut connections = connections;
+    let left = work(rt, alloc, &mut connections, desk_key, worker, count);
+    Served {
         left,
-        each,
+        connections,
+        count,
+    }
+}
+
+/// The same for `each` connections, or for none if the worker has no thread.
+fn serve_or_leave<J: Opening, C: Connections, R: Wait>(
+    rt: &R,
+    alloc: Global,
+    connections: C,
+    desk_key: &CardKey,
+    worker: Worker<J>,
+    each: u32,
+    has_thread: &AtomicBool,
+) -> Served<J, C>
+    ensures { WorksOrLeaves C.comes C.goes C.misses C.Reader.Read.remaining
+        C.Writer.Write.contents desk_key.now each result.count connections result.connections
+        worker (record {
+          post = result.left.post;
+          seen = result.left.sight;
+          closing = result.left.closing;
+        }) }
+{
+    let count = if has_thread.load(Ordering::SeqCst) {
+        each
+    } else {
+        0
+    };
+    serve_own(rt, alloc, connections, desk_key, worker, count)
+}
+
+/// What a worker's thread shares with this one: the desk's key, and whether the worker has a thread.
+struct Shared {
+    desk_key: Arc<CardKey, Global>,
+    has_thread: Arc<AtomicBool, Global>,
+    theirs: Arc<AtomicBool, Global>,
+}
+
+/// Makes what a worker's thread shares with this one. None if there is no memory.
+fn share(alloc: Global, desk_key: &Arc<CardKey, Global>) -> Option<Shared>
+    ensures { IfSome result (λ s. arc_value s.desk_key ≡ arc_value desk_key.now) }
+{
+    let desk_key = Arc::try_clone(desk_key).ok()?;
+    let has_thread = Arc::new(alloc, AtomicBool::new(true)).ok()?;
+    let theirs = Arc::try_clone(&has_thread).ok()?;
+    Some(Shared {
+        desk_key,
+        has_thread,
+        theirs,
     })
 }
 
-/// Spawns a thread for a waiting worker, if possible.
-fn start<J: Opening + Send + Sync + 'static, R: Threads + Wait + Copy + Send + 'static>(
+/// Spawns a thread for a worker. If none can be made, the worker leaves at once.
+fn spawn<
+    J: Opening + Send + Sync + 'static,
+    C: Connections + Send + Drop + 'static,
+    R: Threads + Wait + Copy + Send + 'static,
+>(
     rt: R,
     alloc: Global,
-    shared: &Arc<Shared<J>, Global>,
+    connections: C,
+    shared: Shared,
+    worker: Worker<J>,
     each: u32,
-) -> Option<WorkerThread<J>> {
-    let theirs = Arc::try_clone(shared).ok()?;
-    thread::spawn(&rt, move || theirs.work(&rt, alloc, each)).ok()
+) -> Started<J, C>
+    ensures { MatchResult result
+        (λ h. (h.promise.worker.value ≡ worker) × (h.promise.connections.value ≡ connections)
+        × (h.promise.desk_key.value ≡ arc_value shared.desk_key) × (h.promise.each ≡ each))
+        (λ s. WorksOrLeaves C.comes C.goes C.misses C.Reader.Read.remaining
+        C.Writer.Write.contents (arc_value shared.desk_key) each s.count connections s.connections
+        worker (record { post = s.left.post; seen = s.left.sight; closing = s.left.closing })) }
+{
+    let Shared {
+        desk_key,
+        has_thread,
+        theirs,
+    } = shared;
+    let task = Task {
+        worker: Snapshot::of(&worker),
+        connections: Snapshot::of(&connections),
+        desk_key: Snapshot::of(&desk_key),
+        each,
+    };
+    let body = move || -> Served<J, C>
+        ensures { WorksOrLeaves C.comes C.goes C.misses C.Reader.Read.remaining
+            C.Writer.Write.contents (arc_value desk_key) each result.count connections
+            result.connections worker (record {
+              post = result.left.post;
+              seen = result.left.sight;
+              closing = result.left.closing;
+            }) }
+    {
+        let own = connections;
+        let worker = worker;
+        serve_or_leave(&rt, alloc, own, &desk_key, worker, each, &theirs)
+    };
+    match thread::spawn_with(&rt, task, body) {
+        Ok(handle) => Ok(handle),
+        Err(refused) => {
+            has_thread.store(false, Ordering::SeqCst);
+            Err((refused.value)())
+        }
+    }
 }
 
-/// Starts a thread per worker and returns whether all could be made. A worker without a thread
-/// leaves at once.
-fn start_all<J: Opening + Send + Sync + 'static, R: Threads + Wait + Copy + Send + 'static>(
+/// The same, but without memory for what they share the worker leaves at once.
+fn start<
+    J: Opening + Send + Sync + 'static,
+    C: Connections + Send + Drop + 'static,
+    R: Threads + Wait + Copy + Send + 'static,
+>(
     rt: R,
     alloc: Global,
-    crew: &mut Crew<J>,
-    count: usize,
-) -> bool {
-    let mut are_whole = true;
-    for _ in 0..count {
-        match start(rt, alloc, &crew.shared, crew.each) {
-            Some(handle) => {
-                let _ = crew.threads.push(handle);
-            }
-            None => {
-                if let Some(left) = crew.shared.work(&rt, alloc, 0) {
-                    let _ = crew.left.push(left);
-                }
-                are_whole = false;
-            }
-        }
-    }
-    are_whole
-}
-
-/// Takes in a worker's end, and counts it if it took part in the hall.
-fn take_in<J: Opening>(ended: &mut Ended<J>, left: Left<J>, parts: u64) -> u64
-    ensures { (ended.new.handled ≡ ended.old.handled)
-        × (ended.new.heard.got ≡ ended.old.heard.got) × (ended.new.board ≡ ended.old.board) }
+    connections: C,
+    desk_key: &Arc<CardKey, Global>,
+    worker: Worker<J>,
+    each: u32,
+) -> Started<J, C>
+    ensures { MatchResult result
+        (λ h. (h.promise.worker.value ≡ worker) × (h.promise.connections.value ≡ connections)
+        × (h.promise.desk_key.value ≡ arc_value desk_key.now) × (h.promise.each ≡ each))
+        (λ s. WorksOrLeaves C.comes C.goes C.misses C.Reader.Read.remaining
+        C.Writer.Write.contents (arc_value desk_key.now) each s.count connections s.connections
+        worker (record { post = s.left.post; seen = s.left.sight; closing = s.left.closing })) }
 {
-    if ended.take_in(left) {
-        parts.saturating_add(1)
-    } else {
-        parts
+    match share(alloc, desk_key) {
+        Some(shared) => spawn(rt, alloc, connections, shared, worker, each),
+        None => Err(serve_own(&rt, alloc, connections, desk_key, worker, 0)),
     }
 }
 
-/// Joins the threads and takes in the ends of all workers. Returns how many took part in the hall.
-fn take_in_all<J: Opening, R: Threads>(rt: &R, ended: &mut Ended<J>, crew: Crew<J>) -> u64
-    ensures { (ended.new.handled ≡ ended.old.handled)
-        × (ended.new.heard.got ≡ ended.old.heard.got) × (ended.new.board ≡ ended.old.board) }
+/// Waits for a worker's thread.
+fn finish<J: Opening, C: Connections, R: Threads>(rt: &R, started: Started<J, C>) -> Served<J, C>
+    ensures { MatchResult started
+        (λ h. WorksOrLeaves C.comes C.goes C.misses C.Reader.Read.remaining
+        C.Writer.Write.contents h.promise.desk_key.value h.promise.each result.count
+        h.promise.connections.value result.connections h.promise.worker.value (record {
+          post = result.left.post;
+          seen = result.left.sight;
+          closing = result.left.closing;
+        }))
+        (λ s. result ≡ s) }
 {
-    let Crew {
-        shared: _,
-        threads,
-        left,
-        each: _,
-    } = crew;
-    let mut parts = 0;
-    'left: for left in left {
-        parts = take_in(ended, left, parts);
+    match started {
+        Ok(handle) => handle.join(rt),
+        Err(served) => served,
     }
-    'threads: for handle in threads {
-        if let Some(left) = handle.join(rt) {
-            parts = take_in(ended, left, parts);
-        }
-    }
-    parts
 }
 
 /// The outcome of a hall.
-struct Met<S: Alter> {
+struct Met<J: Opening, S: Alter> {
     desk: Desk<S>,
+    ended: Ended<J>,
     /// The fault that closed it.
     fault: Option<ServiceFault>,
     /// Whether each worker had a thread and took part to the end.
     are_whole: bool,
 }
 
-/// Runs a hall: a crew's thread per worker, and this thread for the desk.
+/// Returns whether a worker took part and served all of its connections, and the others did.
+fn is_whole(others: bool, took_part: bool, count: u32, each: u32) -> bool
+    ensures { IsTrue result → (others ≡ true) × (took_part ≡ true) × (count ≡ each) }
+{
+    others && took_part && count == each
+}
+
+/// Runs a hall: a thread per worker, and this thread for the desk. Each worker gets the last of the
+/// connections, and they are put back in the same order.
 fn run<
     J: Opening + Send + Sync + 'static,
+    C: Connections + Send + Drop + 'static,
     S: Alter,
     R: Threads + Wait + Copy + Send + 'static,
     N: Watch,
@@ -202,24 +276,89 @@ fn run<
     watch: &mut N,
     side: DeskSide<J, S>,
     workers: Vec<Worker<J>>,
-    crew: Crew<J>,
-) -> Met<S>
-    requires { OpensWith J.shows S.Store side.desk side.publisher.shown }
-    ensures { ServesWorkers J.shows S.Store side.desk result.desk result.fault }
+    connections: &mut Vec<C>,
+    desk_key: &Arc<CardKey, Global>,
+    each: u32,
+) -> Met<J, S>
+    requires opens { OpensWith J.shows S.Store side.desk side.publisher.shown }
+    requires fellows { length workers.items ≡ length connections.old.items }
+    requires workers { AreWorkers (length workers.items) workers.items }
+    requires within { length workers.items ≤ side.workers }
+    ensures finishes { Finishes side.workers result.ended.handled result.ended.heard.got
+        result.ended.board.shown.entries S.Store side.desk result.desk result.fault }
+    ensures told { ToldBy J.shows S.Store result.desk result.ended.board.shown }
+    ensures replies { GivesReplies J.shows S.Store result.desk result.ended.board.shown }
+    ensures capacity { vec_capacity connections.old ≤ vec_capacity connections.new }
+    ensures parts { AllInTurn (TakesPart C.comes C.goes C.misses C.Reader.Read.remaining
+        C.Writer.Write.contents (arc_value desk_key.now) each result.ended.handled
+        result.ended.heard.got result.ended.board.shown result.are_whole) 0
+        connections.old.items connections.new.items }
 {
-    let mut crew = crew;
-    let count = workers.len();
-    crew.shared.put(&rt, workers);
-    let have_threads = start_all(rt, alloc, &mut crew, count);
-    let (desk, mut ended, fault) = side.desk_loop(&rt, alloc, watch);
-    let parts = take_in_all(&rt, &mut ended, crew);
-    ended.close(&rt);
-    let are_whole = have_threads && parts >= count as u64;
-    Met {
+    let mut workers = workers;
+    let (Some(worker), Some(own)) = (workers.pop(), connections.pop()) else {
+        let (desk, ended, fault) = side.desk_loop(&rt, alloc, watch);
+        return Met {
+            desk,
+            ended,
+            fault,
+            are_whole: true,
+        };
+    };
+    let started = start(rt, alloc, own, desk_key, worker, each);
+    let Met {
         desk,
+        mut ended,
         fault,
         are_whole,
+    } = run(rt, alloc, watch, side, workers, connections, desk_key, each);
+    let Served {
+        left,
+        connections: own,
+        count,
+    } = finish(&rt, started);
+    let _ = connections.push(own);
+    let took_part = ended.take_in(left);
+    Met {
+        desk,
+        ended,
+        fault,
+        are_whole: is_whole(are_whole, took_part, count, each),
     }
+}
+
+/// Runs a hall to its end. Returns the desk, the fault that closed it, and whether each worker had a
+/// thread and took part to the end.
+fn run_all<
+    J: Opening + Send + Sync + 'static,
+    C: Connections + Send + Drop + 'static,
+    S: Alter,
+    R: Threads + Wait + Copy + Send + 'static,
+    N: Watch,
+>(
+    rt: R,
+    alloc: Global,
+    watch: &mut N,
+    side: DeskSide<J, S>,
+    workers: Vec<Worker<J>>,
+    connections: &mut Vec<C>,
+    desk_key: &Arc<CardKey, Global>,
+    each: u32,
+) -> (Desk<S>, Option<ServiceFault>, bool)
+    requires opens { OpensWith J.shows S.Store side.desk side.publisher.shown }
+    requires workers { AreWorkers (length connections.old.items) workers.items }
+    requires within { side.workers ≡ length connections.old.items }
+    ensures { ServesWorkers C.comes C.goes C.misses C.Reader.Read.remaining
+        C.Writer.Write.contents (arc_value desk_key.now) each connections.old.items
+        connections.new.items result.2 J.shows S.Store side.desk result.0 result.1 }
+{
+    let Met {
+        desk,
+        ended,
+        fault,
+        are_whole,
+    } = run(rt, alloc, watch, side, workers, connections, desk_key, each);
+    ended.close(&rt);
+    (desk, fault, are_whole)
 }
 
 /// Writes how it ended: a missing thread, and the fault that closed the hall.
@@ -246,6 +385,7 @@ fn tell_end<W: Write>(
 /// served and nothing more is written.
 fn serve_hall<
     J: Opening + Send + Sync + 'static,
+    C: Connections + Send + Drop + 'static,
     S: Alter,
     W: Write,
     R: Threads + Wait + Copy + Send + 'static,
@@ -256,31 +396,45 @@ fn serve_hall<
     watch: &mut N,
     side: DeskSide<J, S>,
     workers: Vec<Worker<J>>,
-    crew: Crew<J>,
+    connections: &mut Vec<C>,
+    desk_key: &Arc<CardKey, Global>,
+    each: u32,
     port: u16,
     writer: &mut W,
 ) -> (Desk<S>, Result<Exit, WriteFault>)
-    requires { OpensWith J.shows S.Store side.desk side.publisher.shown }
-    ensures { ServesHall J.shows port S.Store side.desk result.0
+    requires opens { OpensWith J.shows S.Store side.desk side.publisher.shown }
+    requires workers { AreWorkers (length connections.old.items) workers.items }
+    requires within { side.workers ≡ length connections.old.items }
+    ensures { ServesHall C.comes C.goes C.misses C.Reader.Read.remaining
+        C.Writer.Write.contents (arc_value desk_key.now) each port connections.old.items
+        connections.new.items J.shows S.Store side.desk result.0
         (W.contents writer.old) (W.contents writer.new) result.1 }
 {
     match tell_port(writer, port) {
         Ok(()) => {
-            let Met {
-                desk,
-                fault,
-                are_whole,
-            } = run(rt, alloc, watch, side, workers, crew);
+            let (desk, fault, are_whole) = run_all(
+                rt,
+                alloc,
+                watch,
+                side,
+                workers,
+                connections,
+                desk_key,
+                each,
+            );
             (desk, tell_end(writer, are_whole, fault))
         }
         Err(fault) => {
-            let mut crew = crew;
-            crew.each = 0;
-            let Met {
-                desk,
-                fault: _,
-                are_whole: _,
-            } = run(rt, alloc, watch, side, workers, crew);
+            let (desk, _, _) = run_all(
+                rt,
+                alloc,
+                watch,
+                side,
+                workers,
+                connections,
+                desk_key,
+                0,
+            );
             (desk, Err(fault))
         }
     }
@@ -300,6 +454,7 @@ fn tell_why<W: Write>(writer: &mut W, why: Why) -> Result<Exit, WriteFault>
 /// The same, but opens the hall first, on a newly opened queue.
 fn open_and_serve<
     J: Opening + Send + Sync + 'static,
+    C: Connections + Send + Drop + 'static,
     S: Alter,
     W: Write,
     R: Threads + Wait + Copy + Send + 'static,
@@ -310,57 +465,85 @@ fn open_and_serve<
     watch: &mut N,
     opened: Opened,
     desk: Desk<S>,
-    listener: TcpListener,
+    connections: &mut Vec<C>,
     web: Web,
     writer: &mut W,
 ) -> (Desk<S>, Result<Exit, WriteFault>)
     requires name { (opened.queue ≡ J.name) × (opened.blank ≡ J.book) }
     requires shows { (H : History) → J.shows H → Shows (state S.Store desk) H }
     requires every { (H : History) → Shows (state S.Store desk) H → J.shows H }
-    ensures { ServesPort web.port web.workers S.Store desk result.0
+    ensures { ServesPort C.comes C.goes C.misses C.Reader.Read.remaining
+        C.Writer.Write.contents web.desk_key web.each web.port connections.old.items
+        connections.new.items S.Store desk result.0
         (W.contents writer.old) (W.contents writer.new) result.1 }
 {
     let Web {
         port,
-        workers,
         each,
         desk_key,
     } = web;
-    let crew = match crew_for::<J>(alloc, listener, desk_key, each) {
-        Ok(crew) => crew,
+    let desk_key = match Arc::new(alloc, desk_key) {
+        Ok(desk_key) => desk_key,
         Err(_) => return (desk, out_of_memory(writer)),
     };
-    match Hall::new::<J, S, R>(&rt, alloc, opened, desk, workers) {
-        Ok((side, workers)) => serve_hall(rt, alloc, watch, side, workers, crew, port, writer),
+    match Hall::new::<J, S, R>(&rt, alloc, opened, desk, connections.len()) {
+        Ok((side, workers)) => serve_hall(
+            rt,
+            alloc,
+            watch,
+            side,
+            workers,
+            connections,
+            &desk_key,
+            each,
+            port,
+            writer,
+        ),
         Err(HallFault { why, desk }) => (desk, tell_why(writer, why)),
     }
 }
 
-/// Serves the web with one thread per worker: writes the port once the hall is open, has each
-/// worker serve its connections, and returns the desk. A failed connection counts as one.
+/// Serves the web with one worker for each of the connections, in a thread of its own: writes the
+/// port once the hall is open, has each worker serve its connections, and returns the desk. A failed
+/// connection counts as one.
 ///
 /// At the end one line reports a thread that could not be made, whose worker left at once, or a
 /// worker's end that could not be taken in; the last reports the fault that closed the hall. What
-/// was handled is what the workers submitted, and they answered what every list of accepted
-/// requests that the tables showed gives. If the hall can't be opened, that fault is the only line;
-/// for another number of workers the line is that of words not understood. The watch is told when
-/// the hall closes, while the workers still answer.
-pub fn serve<S: Alter, W: Write, R: Threads + Wait + Copy + Send + 'static, N: Watch>(
+/// was handled is what the workers submitted, each for its own connections, and they answered what
+/// every list of accepted requests that the tables showed gives. If the hall can't be opened, that
+/// fault is the only line; for another number of workers than 1 to 8 the line is that of words not
+/// understood. The watch is told when the hall closes, while the workers still answer.
+pub fn serve<
+    C: Connections + Send + Drop + 'static,
+    S: Alter,
+    W: Write,
+    R: Threads + Wait + Copy + Send + 'static,
+    N: Watch,
+>(
     rt: R,
     alloc: Global,
     watch: &mut N,
     desk: Desk<S>,
-    listener: TcpListener,
+    connections: &mut Vec<C>,
     web: Web,
     writer: &mut W,
 ) -> (Desk<S>, Result<Exit, WriteFault>)
-    ensures { ServesPort web.port web.workers S.Store desk result.0
+    ensures { ServesPort C.comes C.goes C.misses C.Reader.Read.remaining
+        C.Writer.Write.contents web.desk_key web.each web.port connections.old.items
+        connections.new.items S.Store desk result.0
         (W.contents writer.old) (W.contents writer.new) result.1 }
 {
     match Opened::new(alloc) {
         Ok(opened) => {
-            open_and_serve::<Brand, S, W, R, N>(
-                rt, alloc, watch, opened, desk, listener, web, writer,
+            open_and_serve::<Brand, C, S, W, R, N>(
+                rt,
+                alloc,
+                watch,
+                opened,
+                desk,
+                connections,
+                web,
+                writer,
             )
         }
         Err(_) => (desk, out_of_memory(writer)),

@@ -2,7 +2,7 @@
 
 use crate::calls::{
     FileTables, audit, close_tables, create, desk_on, import, migrate, no_network, not_understood,
-    one, open, report, send, serve, tables_of, tell_fault, unreadable,
+    one, open, ports, report, send, serve, tables_of, tell_fault, unreadable,
 };
 use crate::files::{drop_log, has_log, is_held, is_new, may_be_library};
 use crate::notes::{Console, Topic, say, say_begun, say_misread, say_new, say_unwritten};
@@ -33,7 +33,11 @@ enum DeskWork<'a> {
     Import { copies: &'a str },
     Report(Report),
     Audit,
-    Serve { path: &'a str, web: Web },
+    Serve {
+        path: &'a str,
+        workers: usize,
+        web: Web,
+    },
 }
 
 /// What a run does on a library.
@@ -137,21 +141,25 @@ fn serve_port<S: Alter, W: Write, R: Threads + Wait + Copy + Send + 'static>(
     rt: &HostRuntime,
     threads: R,
     desk: Desk<S>,
+    workers: usize,
     web: Web,
     writer: &mut W,
 ) -> (Desk<S>, Result<Exit, WriteFault>) {
     let mut console = Console { rt };
-    match TcpListener::bind(rt, (Ipv4Addr::LOCALHOST, web.port)) {
-        Ok(listener) => serve(
+    let Ok(listener) = TcpListener::bind(rt, (Ipv4Addr::LOCALHOST, web.port)) else {
+        return (desk, no_network(writer));
+    };
+    match ports(rt.alloc(), &listener, workers) {
+        Some(mut ports) => serve(
             threads,
             rt.alloc(),
             &mut console,
             desk,
-            listener,
+            &mut ports,
             web,
             writer,
         ),
-        Err(_) => (desk, no_network(writer)),
+        None => (desk, no_network(writer)),
     }
 }
 
@@ -167,10 +175,10 @@ fn work_at<S: Alter, W: Write, R: Threads + Wait + Copy + Send + 'static>(
         DeskWork::Request { key, words } => one(&mut desk, rt.alloc(), key, words, writer),
         DeskWork::Import { copies } => import_file(rt, &mut desk, copies, writer),
         DeskWork::Report(wanted) => report(&mut desk, rt.alloc(), &wanted, writer),
-        DeskWork::Serve { path, web } => {
+        DeskWork::Serve { path, workers, web } => {
             // Ignored: a failed note doesn't stop the serving.
             let _ = say_begun(rt, path, OPENS);
-            let (desk, told) = serve_port(rt, threads, desk, web, writer);
+            let (desk, told) = serve_port(rt, threads, desk, workers, web, writer);
             return (tables_of(desk), told);
         }
         DeskWork::Audit => {
@@ -282,11 +290,11 @@ fn do_run<S: Content, W: Write, R: Threads + Wait + Copy + Send + 'static>(
         }
         Run::Audit { path } => (path, Absent::Refused, Work::Desk(DeskWork::Audit)),
         Run::Migrate { path } => (path, Absent::Refused, Work::Migration { path }),
-        Run::Serve { path, web } => {
+        Run::Serve { path, workers, web } => {
             (
                 path,
                 Absent::Made,
-                Work::Desk(DeskWork::Serve { path, web }),
+                Work::Desk(DeskWork::Serve { path, workers, web }),
             )
         }
         Run::Send {

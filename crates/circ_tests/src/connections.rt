@@ -52,7 +52,7 @@ impl Connections for List {
 
     ghost comes = { λ _ _ _ _. Unit {0} };
 
-    ghost goes = { λ _ _ _. Unit {0} };
+    ghost goes = { λ _ _ _ _. Unit {0} };
 
     ghost misses = { λ _. Unit {0} };
 

@@ -8,7 +8,7 @@ use Rattle.hall.specs.declared.messages.Submission.{Submission}
 use Rattle.hall.specs.declared.messages.View.{View}
 use Rattle.hall.specs.declared.messages.Message.{Message}
 use Rattle.hall.specs.declared.messages.Message.TheVariants.{Submit, Leave}
-use Rattle.hall.specs.Queue.{of, is_open, submissions, own, handled, unhandled, requests, sent_more, AreFirst}
+use Rattle.hall.specs.Queue.{from, AreFrom, of, is_open, submissions, own, handled, unhandled, requests, sent_more, AreFirst}
 use Rattle.hall.proofs.Turns.{of-append}
 
 pub submissions-append : (xs ys : List Message) → submissions (xs ++ ys) ≡ submissions xs ++ submissions ys
@@ -146,3 +146,8 @@ pub posted : (v w : View) (s : Submission) (n : ℕ) → w ≡ sent_more v (Subm
 posted v w s n e opened long =
     let is : w.sent ≡ v.sent ++ Submit s ∷ [] = ap (λ (u : View). u.sent) e in
     (ap is_open is ∙ open_more v.sent s opened, ap length is ∙ (length-append v.sent (Submit s ∷ []) ∙ ap (λ k. k + 1) long))
+
+-- one more message of a worker
+pub from-more : (n : ℕ) (xs : List Message) (x : Message) → AreFrom n xs → 1 ≤ from x → from x ≤ n → AreFrom n (xs ++ x ∷ [])
+from-more n [] x h a b = (a, b, tt)
+from-more n (y ∷ ys) x h a b = (h.0, h.1, from-more n ys x h.2 a b)

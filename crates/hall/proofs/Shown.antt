@@ -23,7 +23,7 @@ use Rattle.board.specs.Workers.{is_worker}
 use Rattle.hall.specs.declared.messages.Submission.{Submission}
 use Rattle.hall.specs.declared.messages.Message.{Message}
 use Rattle.hall.specs.declared.messages.Message.TheVariants.{Submit, Leave}
-use Rattle.hall.specs.Queue.{of, is_open, submissions, own, handled, unhandled, requests, IsNext}
+use Rattle.hall.specs.Queue.{AreFrom, of, is_open, submissions, own, handled, unhandled, requests, IsNext}
 use Rattle.hall.specs.Openings.{ToldBy}
 use Rattle.hall.specs.Handling.{submission_of, AreShown, ShowsAfter, PutsPages, IsDue, HandledFirst, TakesNext, ClosedBy, MayHandle}
 use Rattle.hall.specs.Handling.{MayTake, ShowsNext, TakesMessage, BoardShows, StandsOpen, Finishes, shown_by}
@@ -222,9 +222,10 @@ module _ {S : Type 0} (g : Ghosts S) where
   -- what stands once each worker has left
   pub finishes : (lists : History → Type 0) (workers n : ℕ) (got : List Message) (entries : List Entry) (old now : Held S)
       (fault : Option ServiceFault) (board : Result Publishing Stopped) → ((k : ℕ) → k < workers → is_open (of (k + 1) got) ≡ false)
-      → entries ≡ (shown_by board).entries → StandsOpen lists g old now n fault got board → Finishes workers n got entries g old now fault
-  finishes lists workers n got entries old now fault board gone same h = record {
+      → AreFrom workers got → entries ≡ (shown_by board).entries → StandsOpen lists g old now n fault got board → Finishes workers n got entries g old now fault
+  finishes lists workers n got entries old now fault board gone sent same h = record {
     gone = gone;
+    from = sent;
     counted = h.counted;
     all = h.all;
     shown = λ none. ap (map submission_of) same ∙ open-shows board (handled n got) fault none h.shown;

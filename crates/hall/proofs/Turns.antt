@@ -138,7 +138,10 @@ sends n pass v x may mine opened next items views room h at =
       refl,
     )
 
-pub gets : (pass : ℕ) (v : View) → v.gets ≡ true → Pops Carries pass v (λ x w. (w ≡ got_more v x) × IsNext v.got x)
+le_or_gt : (a b : ℕ) → (a ≤ b) ⊎ (b < a)
+le_or_gt a b = elim (leb_tells a b) [ inl x ↦ inl x.1 | inr x ↦ inr x.1 ]
+
+pub gets : (pass : ℕ) (v : View) → v.gets ≡ true → Pops Carries pass v (λ x w. (w ≡ got_more v x) × IsNext v.got x × (from x ≤ v.made))
 gets pass v may x items views h at =
     let me = (h.each pass v at).1 may in
     let got = h.got ++ x ∷ [] in
@@ -147,7 +150,8 @@ gets pass v may x items views h at =
     let here : of p (x ∷ items) ≡ x ∷ of p items = let e : eqb p p ≡ true = grind (arith, nat_tests) in ap (λ b. cond b (x ∷ of p items) (of p items)) e in
     let split : of p h.got ++ x ∷ of p items ≡ h.sent p = ap (λ l. of p h.got ++ l) (sym here) ∙ (sym (of-append p h.got (x ∷ items)) ∙ h.whole p) in
     let next = numbered_next 0 (of p h.got) x (of p items) (subst (Numbered 0) (sym split) (h.numbered p)) in
-    let next' : IsNext h.got x = (next.0, subst (λ k. HasNumber k x) (omega arith) next.1) in (
+    let next' : IsNext h.got x = (next.0, subst (λ k. HasNumber k x) (omega arith) next.1) in
+    let known : p ≤ v.made = elim (le_or_gt p v.made) [ inl le ↦ le | inr gt ↦ absurd (not_nil (of p h.got) x (of p items) (split ∙ (me.2 p gt).1)) ] in (
       got_more v x,
       record {
         reader = h.reader;
@@ -159,7 +163,7 @@ gets pass v may x items views h at =
         each = all_set New views pass (got_more v x) ((h.each pass v at).0, λ _. (me.0, ap (λ l. l ++ x ∷ []) me.1, me.2, me.3))
             (λ j u other e. ((h.each j u e).0, λ g. absurd (other (((h.each j u e).1 g).0 ∙ sym me.0))));
       },
-      (refl, subst (λ l. IsNext l x) (sym me.1) next'),
+      (refl, subst (λ l. IsNext l x) (sym me.1) next', known),
     )
 
 -- one more worker
@@ -231,9 +235,6 @@ forks pass v may idle items views h at =
 zero_or : (seat : ℕ → ℕ) (w p : ℕ) (b : Bool) → seat p ≡ 0 → cond b 0 (seat p) ≡ 0
 zero_or seat w p true h = refl
 zero_or seat w p false h = h
-
-le_or_gt : (a b : ℕ) → (a ≤ b) ⊎ (b < a)
-le_or_gt a b = elim (leb_tells a b) [ inl x ↦ inl x.1 | inr x ↦ inr x.1 ]
 
 gone_shrunk : (made : ℕ) (seat : ℕ → ℕ) (sent : ℕ → List Message) (w : ℕ) (hs : List Sent) → HaveLeft made seat sent hs
     → HaveLeft made (seat_more seat w 0) sent hs

@@ -23,7 +23,7 @@ use Rattle.hall.specs.declared.messages.Submission.{Submission}
 use Rattle.hall.specs.Openings.{LooksOnly, MeetsFaultOf, ToldBy}
 use Rattle.hall.specs.declared.messages.Message.{Message}
 use Rattle.hall.specs.declared.messages.Message.TheVariants.{Submit, Leave}
-use Rattle.hall.specs.Queue.{of, is_open, submissions, handled, unhandled, requests}
+use Rattle.hall.specs.Queue.{AreFrom, of, is_open, submissions, handled, unhandled, requests}
 
 -- ---- tables with any rows
 
@@ -288,6 +288,8 @@ pub record Finishes {S : Type 0} (workers n : ℕ) (got : List Message) (entries
     (g : Ghosts S) (old new : Held S) (fault : Option ServiceFault) : Type 0 where
   -- the Leave of each worker was received
   pub gone : (k : ℕ) → k < workers → is_open (of (k + 1) got) ≡ false
+  -- nobody but the workers sent anything
+  pub from : AreFrom workers got
   -- the handled ones are among those received
   pub counted : n ≤ length (submissions got)
   -- if the hall wasn't closed, every submission was handled

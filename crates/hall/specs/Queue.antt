@@ -21,6 +21,11 @@ abbrev pub of : ℕ → List Message → List Message
 of worker [] = []
 of worker (m ∷ ms) = if from m == worker then m ∷ of worker ms else of worker ms
 
+-- Each was sent by one of the workers 1 to n.
+abbrev pub AreFrom : ℕ → List Message → Type 0
+AreFrom n [] = Unit {0}
+AreFrom n (m ∷ ms) = (1 ≤ from m) × (from m ≤ n) × AreFrom n ms
+
 -- There is no Leave among them.
 abbrev pub is_open : List Message → Bool
 is_open [] = true

@@ -22,7 +22,7 @@ use crate::ended::Ended;
 use crate::messages::{Message, Submission};
 use crate::notices::Teller;
 use crate::opening::Opening;
-use crate::queue_ends::Inbox;
+use crate::queue_ends::{Inbox, sender};
 use board::{Entry, Publisher, StoppedBoard, WorkerId};
 use desk::{Desk, Touched};
 use hall_schedule::WORKERS;
@@ -42,6 +42,7 @@ pub struct DeskSide<J: Opening, S: Alter> {
     pub(crate) workers: usize,
     pub(crate) ghost few: { workers ≤ WORKERS },
     pub(crate) ghost hearing: { IsHearing inbox },
+    pub(crate) ghost staffed: { inbox.made ≡ workers },
     pub(crate) ghost fresh: { inbox.got ≡ [] },
     pub(crate) ghost untold: { teller ≡ [] },
     pub(crate) ghost blank: { (publisher.shown.entries ≡ []) × (publisher.pages ≡ []) },
@@ -369,6 +370,7 @@ impl<J: Opening, S: Alter> DeskSide<J, S> {
             }
             match inbox.receive(rt) {
                 Ok(message) => {
+                    let _in_limits = sender(&message);
                     board = handling.take_message(rt, alloc, watch, &mut gone, board, message);
                 }
                 Err(_) => thread::yield_now(),

@@ -120,6 +120,7 @@ fn hire_all<J: Opening, R: Wait>(
     requires inbox { IsHearing inbox.old × (inbox.old.got ≡ []) × (inbox.old.made ≡ 0) }
     requires limits { workers ≤ most }
     ensures inbox { IsHearing inbox.new × (inbox.new.got ≡ []) }
+    ensures made { OnOk result (inbox.new.made ≡ workers) }
     ensures workers { IfOk result (λ all. AreWorkers workers all.items) }
     ensures fault { IfErr result (λ fault. (fault ≡ Met NoMemory) ⊎ (fault ≡ Closed)) }
 {
@@ -150,7 +151,7 @@ fn hire<J: Opening, R: Wait>(
 ) -> Result<Hired<J>, ServiceFault>
     requires name { queue ≡ J.name }
     requires limits { workers ≤ most }
-    ensures inbox { IfOk result (λ r. IsHearing r.0 × (r.0.got ≡ [])) }
+    ensures inbox { IfOk result (λ r. IsHearing r.0 × (r.0.got ≡ []) × (r.0.made ≡ workers)) }
     ensures untold { IfOk result (λ r. r.1 ≡ []) }
     ensures workers { IfOk result (λ r. AreWorkers workers r.2.items) }
     ensures fault { IfErr result (λ fault. (fault ≡ Met NoMemory) ⊎ (fault ≡ Closed)) }

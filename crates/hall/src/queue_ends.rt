@@ -1,6 +1,6 @@
 //! The ends of the queue.
 
-ghost use Rattle.std.specs.Prelude.{◌≡◌, ◌+◌, [], true, false, length, MatchResult};
+ghost use Rattle.std.specs.Prelude.{◌≡◌, ◌≤◌, ◌+◌, [], true, false, length, MatchResult};
 ghost use Rattle.crossbeam_channel.specs.Claims.{IsKeyed};
 ghost use Rattle.crossbeam_channel.specs.Ends.{sends_on};
 ghost use Rattle.crossbeam_channel.specs.Err.{send_message};
@@ -156,6 +156,18 @@ impl<J: Opening> Post<J> {
     }
 }
 
+/// Returns the worker that sent the message.
+pub(crate) fn sender(message: &Message) -> u64
+    ensures value { result ≡ from message.now }
+    ensures least { 1 ≤ result }
+{
+    let worker = match message {
+        Message::Submit(submission) => submission.worker,
+        Message::Leave(worker) => *worker,
+    };
+    worker.number()
+}
+
 /// The desk's end.
 #[derive(Drop)]
 pub struct Inbox<J: Opening> {
@@ -183,8 +195,8 @@ impl<J: Opening> Inbox<J> {
     /// Takes the first message. An error isn't the end: the queue was empty for a moment.
     pub(crate) fn receive<R: Wait>(&mut self, rt: &R) -> Result<Message, RecvError>
         requires { self.old.gets ≡ true }
-        ensures { MatchResult result (λ x. (self.new ≡ got_more self.old x) × IsNext self.old.got x)
-            (λ _. self.new ≡ self.old) }
+        ensures { MatchResult result (λ x. (self.new ≡ got_more self.old x) × IsNext self.old.got x
+            × (from x ≤ self.old.made)) (λ _. self.new ≡ self.old) }
     {
         self.receiver.recv_as::<Receives, R>(rt, &mut self.pass)
     }

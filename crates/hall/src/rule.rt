@@ -1,8 +1,8 @@
 //! The rule of the queue: what was received from a worker, followed by what is queued, is what it
 //! sent, in order.
 
-ghost use Rattle.std.specs.Prelude.{◌≡◌, ◌+◌, ◌++◌};
-ghost use Rattle.hall.specs.Queue.{Carries, IsNext, AreHeard, desk_view, worker_view, spent};
+ghost use Rattle.std.specs.Prelude.{◌≡◌, ◌≤◌, ◌+◌, ◌++◌};
+ghost use Rattle.hall.specs.Queue.{Carries, from, IsNext, AreHeard, desk_view, worker_view, spent};
 ghost use Rattle.hall.specs.Queue.{joined, taken_in, sent_more, got_more};
 
 use crate::messages::{Message, View};
@@ -50,7 +50,7 @@ impl Lesson<Message, View> for Sends {
 pub struct Receives;
 
 impl Outcome<Message, View> for Receives {
-    ghost then = { λ v x w. (w ≡ got_more v x) × IsNext v.got x };
+    ghost then = { λ v x w. (w ≡ got_more v x) × IsNext v.got x × (from x ≤ v.made) };
 }
 
 impl Lesson<Message, View> for Receives {

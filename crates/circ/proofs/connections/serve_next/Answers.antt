@@ -1,4 +1,4 @@
-use Rattle.std.proofs.Common.{inl}
+use Rattle.std.proofs.Common.{inl, subst, Bool}
 use Rattle.circ.proofs.connections.serve_next.Goals as goal
 
 pub returns : goal.returns
@@ -10,5 +10,5 @@ returns g c = inl (record {
   told = c.serve-told.new.writer;
   result = c.serve-told.result;
   served = c.serve-told.ensures;
-  ended = c.end.ensures;
+  ended = subst (λ (b : Bool). g.C.Connections.goes c.accept.new.self c.serve-told.new.writer b c.end.new.self) c.is_ok.ensures.value c.end.ensures;
 })

@@ -3,10 +3,10 @@ use Rattle.circ.proofs.serving.serve_hall.Goals as goal
 
 pub returns-in-Ok : goal.returns-in-Ok
 returns-in-Ok g c =
-    port-told g.S.Store g.J.Opening.shows c.args.port c.args.side.desk c.run-desk.result.desk _ _ _
-    c.tell_end.result c.run-desk.result.are_whole c.run-desk.result.fault c.run-desk.ensures c.in-Ok.ensures.all c.tell_end.ensures
+    port-told g.S.Store g.C.Connections.comes g.C.Connections.goes g.C.Connections.misses g.C.Reader.Read.remaining g.C.Writer.Write.contents _ g.J.Opening.shows
+    c.args.each c.args.port c.args.connections.now.items _ c.args.side.desk _ _ _ _ _ _ _ c.run_all-desk.ensures c.in-Ok.ensures.all c.tell_end.ensures
 
 pub returns-in-Err : goal.returns-in-Err
 returns-in-Err g c =
-    port-untold g.S.Store g.J.Opening.shows c.args.port c.args.side.desk c.run-desk-in-Err.result.desk _ _
-    c.in-Err.fault c.run-desk-in-Err.result.are_whole c.run-desk-in-Err.result.fault c.run-desk-in-Err.ensures c.in-Err.ensures.front
+    port-untold g.S.Store g.C.Connections.comes g.C.Connections.goes g.C.Connections.misses g.C.Reader.Read.remaining g.C.Writer.Write.contents _ g.J.Opening.shows
+    c.args.each c.args.port c.args.connections.now.items _ c.args.side.desk _ _ _ c.in-Err.fault _ _ c.run_all-desk-in-Err.ensures c.in-Err.ensures.front

@@ -1,4 +1,4 @@
-use Rattle.std.proofs.Common.{◌≡◌, ◌+◌, ◌<◌, ◌++◌, ◌∷◌, ℕ, false, List, [], map, refl, sym, ap, subst, ◌∙◌, inl, inr, rules}
+use Rattle.std.proofs.Common.{◌≡◌, ◌+◌, ◌<◌, ◌++◌, ◌∷◌, ℕ, false, List, [], map, refl, sym, ap, subst, ◌∙◌, inl, inr, rules, arith, ◌≤◌}
 use Rattle.std.proofs.Common.{Option}
 use Rattle.terms.specs.declared.fault.ServiceFault.{ServiceFault}
 use Rattle.board.specs.declared.entry.Entry.{Entry}
@@ -7,10 +7,10 @@ use Rattle.board.specs.Showing.{IsTold}
 use Rattle.hall.specs.declared.closing.Closing.{Closing}
 use Rattle.hall.specs.declared.messages.Message.{Message}
 use Rattle.hall.specs.declared.messages.View.{View}
-use Rattle.hall.specs.Queue.{unhandled, requests, of, is_open}
+use Rattle.hall.specs.Queue.{from, AreFrom, unhandled, requests, of, is_open}
 use Rattle.hall.specs.Handling.{submission_of, shown_by, Finishes}
 use Rattle.hall.specs.Closings.{HasTold}
-use Rattle.hall.proofs.HandledLists.{stays_gone, goes_now}
+use Rattle.hall.proofs.HandledLists.{stays_gone, goes_now, from-more}
 use Rattle.hall.proofs.Progress.{none-handled}
 use Rattle.hall.proofs.Replies.{given-to}
 use Rattle.hall.proofs.Closings.{message-told}
@@ -20,6 +20,8 @@ use Rattle.hall.proofs.desk_side.DeskSide.desk_loop.Goals as goal
 pub work-init : goal.work-init
 work-init g c = record {
   hearing = search rules;
+  made = c.args.self.staffed;
+  from = subst (AreFrom c.args.self.workers) (sym c.args.self.fresh) tt;
   gone = search rules;
   stands = record {
     counted = search rules;
@@ -48,8 +50,12 @@ work-preserved-in-Ok g c =
     let e = c.in-Ok.ensures.0 in
     let t = c.take_message-board in
     let got : c.receive.new.self.got ≡ c.work.inbox.got ++ c.in-Ok.message ∷ [] = ap (λ (v : View). v.got) e in
+    let one : 1 ≤ from c.in-Ok.message = omega (arith, c.sender-in_limits.ensures.value, c.sender-in_limits.ensures.least) in
+    let known : from c.in-Ok.message ≤ c.args.self.workers = omega (arith, c.in-Ok.ensures.2, i.made) in
     record {
       hearing = (ap (λ (v : View). v.gets) e ∙ i.hearing.0, ap (λ (v : View). v.sends) e ∙ i.hearing.1);
+      made = ap (λ (v : View). v.made) e ∙ i.made;
+      from = subst (AreFrom c.args.self.workers) (sym got) (from-more c.args.self.workers c.work.inbox.got c.in-Ok.message i.from one known);
       gone = λ j h. elim (t.ensures.gone j h) [
         | inl old ↦ stays_gone c.work.inbox.got c.receive.new.self.got c.in-Ok.message got (j + 1) (i.gone j old)
         | inr now ↦ goes_now c.work.inbox.got c.receive.new.self.got (j + 1) (j + 1) (got ∙ ap (λ (m : Message). c.work.inbox.got ++ m ∷ []) now) refl
@@ -69,7 +75,7 @@ returns-clause-finishes g c =
     subst (λ (l : List Message). Finishes c.args.self.workers c.work.handling.handled l c.stop.result.shown.entries g.S.Store
     c.args.self.desk c.work.handling.desk c.work.handling.fault) (sym got)
     (finishes g.S.Store g.J.Opening.shows c.args.self.workers c.work.handling.handled c.work.inbox.got c.stop.result.shown.entries
-    c.args.self.desk c.work.handling.desk c.work.handling.fault c.work.board gone
+    c.args.self.desk c.work.handling.desk c.work.handling.fault c.work.board gone c.work.invariant.from
     (ap (λ (v : Seen). v.entries) c.stop.ensures.same) c.work.invariant.stands)
 
 pub returns-clause-closing : goal.returns-clause-closing
