@@ -35,11 +35,13 @@ pub mod WholeReports
 pub mod WrittenReports
 pub mod ReportForms
 pub mod Listings
+pub mod SearchLemmas
 pub mod ListNumbers
 pub mod Placings
 pub mod ListBatches
 pub mod Pulls
 pub mod ListRows
 pub mod Replies
+pub mod FoundRows
 pub mod Queues
 pub mod RowsTold

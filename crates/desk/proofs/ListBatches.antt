@@ -30,7 +30,7 @@ module _ (H : History) where
       go (Some f) e = let same : copy_columns H k f ≡ r = cc in sym (ap (λ (x : CopyRow). x.copy) same)
       go None e = let never : ⊥ = cc in absurd never
 
-  patron-number : (k : ℕ) (r : PatronRow) → (picture H).patrons k ≡ Some r → r.patron ≡ k
+  pub patron-number : (k : ℕ) (r : PatronRow) → (picture H).patrons k ≡ Some r → r.patron ≡ k
   patron-number k r there = go (patron_of H k) there
     where
       go : (o : Option PatronFacts) → option_map (patron_columns H k) o ≡ Some r → r.patron ≡ k

@@ -105,7 +105,7 @@ module _ (at n : ℕ) (less : at < n) where
       let lt : n < x = elim (cases_lt n x) [ inl lt ↦ lt | inr ge ↦ absurd (other (omega (arith, le, ge))) ] in
       sym (ap (λ (d : Bool). cond d (x ∷ above n xs) (above n xs)) (lt-ltb n x lt) ∙ ap (λ (ys : List ℕ). x ∷ ys) (above-all n x xs le r))
 
-  above-next : (xs : List ℕ) → AreRising xs → ((k : ℕ) → has xs k ≡ true → at < k → n ≤ k) → (b : Bool) → has xs n ≡ b
+  pub above-next : (xs : List ℕ) → AreRising xs → ((k : ℕ) → has xs k ≡ true → at < k → n ≤ k) → (b : Bool) → has xs n ≡ b
       → above at xs ≡ next_above n xs b
   above-next [] r between true e = let never : ⊥ = cc in absurd never
   above-next [] r between false e = refl
@@ -329,6 +329,11 @@ module _ {R : Type 0} (number_of : R → ℕ) where
       | inr low ↦ (let le : at ≤ reached at rows = rises-last at at (map number_of rows) (covers at rows batch).rises (inl refl) in omega (arith, low, le))
     ])
 
+    -- The last number of a batch isn't below that of its first row.
+    pub batch-reaches : (at : ℕ) (r : R) (rows : List R) → HasBatch number_of Is x at (r ∷ rows) → number_of r ≤ last_of at (map number_of (r ∷ rows))
+    batch-reaches at r rows batch =
+        rises-last at (number_of r) (map number_of (r ∷ rows)) (covers at (r ∷ rows) batch).rises (inr (has-first (number_of r) (map number_of rows)))
+
     -- The last row of a batch has the greatest number.
     pub batch-last : (at last : ℕ) (rows : List R) → option_map number_of (slice_get rows (length rows - 1)) ≡ Some last → reached at rows ≡ last
     batch-last at last [] e = let never : ⊥ = cc in absurd never
@@ -401,7 +406,7 @@ told-next number_of Is x most after at last told sent (r ∷ rows) batch end so_
     ∷ rows) batch).rises (inr (has-first (number_of r) (map number_of rows))) in
     (subst (λ (n : ℕ). IsSoFar x most after n told sent) same so_far, omega (arith, same, more, le))
 
-join-last : (ls : List (List ℕ)) (e : List ℕ) → join_with_byte 10 (ls ++ e ∷ []) ≡ report_lines ls ++ e
+pub join-last : (ls : List (List ℕ)) (e : List ℕ) → join_with_byte 10 (ls ++ e ∷ []) ≡ report_lines ls ++ e
 join-last [] e = refl
 join-last (l ∷ []) e = sym (ap (λ (t : List ℕ). t ++ e) (append-nil (l ++ 10 ∷ [])) ∙ append_assoc l (10 ∷ []) e)
 join-last (l ∷ m ∷ ms) e =

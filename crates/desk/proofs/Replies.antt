@@ -71,6 +71,10 @@ module _ (H : History) (o : Owner) where
   unfolding answer-of
   account-answer p after = answered (has_patron H p) UnknownPatron (listed (account_list H p) after)
 
+  pub borrower-answer : (p : ℕ) → answer H o (Ask (question.Borrower p)) ≡ reply_if (has_patron H p) UnknownPatron (asked H (question.Borrower p))
+  unfolding answer-of
+  borrower-answer p = answered (has_patron H p) UnknownPatron (asked H (question.Borrower p))
+
   pub copy-answer : (c : ℕ) → answer H o (Ask (question.Copy c)) ≡ reply_if (has_copy H c) UnknownCopy (asked H (question.Copy c))
   unfolding answer-of
   copy-answer c = answered (has_copy H c) UnknownCopy (asked H (question.Copy c))

@@ -1,12 +1,16 @@
 -- What the desk's questions show of the tables.
-use Rattle.std.specs.Prelude.{◌≡◌, ◌↔◌, ◌<◌, ◌+◌, ℕ, List, [], ◌∷◌, map, Some, None, codes, decimal}
+use Rattle.std.specs.Prelude.{◌≡◌, ◌↔◌, ◌<◌, ◌+◌, ℕ, true, List, [], ◌∷◌, map, replicate, Some, None, codes, decimal}
 use Rattle.std.specs.List.{join_with_byte}
 use Rattle.terms.specs.declared.question.Question.TheVariants as question
+use Rattle.finding.specs.Finding.{finds}
 use Rattle.terms.specs.declared.row.CopyRow.{CopyRow}
+use Rattle.terms.specs.declared.row.PatronRow.{PatronRow}
+use Rattle.terms.specs.declared.row.TitleRow.{TitleRow}
 use Rattle.model.specs.Accounts.{lines, nth_line, account, charges, credits, owed}
 use Rattle.model.specs.Asking.{asked, copy_line, place_line, place_words, pulled_for, travels_for}
-use Rattle.model.specs.Asking.{copies_list, queue_list, account_list, debts_list}
+use Rattle.model.specs.Asking.{copies_list, queue_list, account_list, debts_list, patrons_search, titles_search}
 use Rattle.model.specs.AskingLaws.{HasRisingLists, ListsShowOnce, has_number}
+use Rattle.model.specs.AskingLaws.{SearchesShowOnce, IsSearchedToItsEnd, found_in_turn}
 use Rattle.model.specs.Claims.{Claims}
 use Rattle.model.specs.History.{History}
 use Rattle.model.specs.Invariant.{Serves}
@@ -24,7 +28,8 @@ pub record IsToldAt (H : History) (copy : ℕ) (at : Place) : Type 0 where
 -- each copy where the tables' claim puts it, or on the shelf of its home if they make none;
 -- first in a title's queue the hold whose turn it is, and with a copy to pull the hold that it goes to;
 -- the lines of a patron's account, whose balance is the debt, and among the debts whoever owes something;
--- and each row of a list that is asked for repeatedly exactly once.
+-- each row of a list or a search that is asked for repeatedly exactly once;
+-- and by a search the patrons and titles that its text finds.
 pub record Asked (H : History) (T : Picture) : Type 0 where
   -- A copy that the tables claim is shown where the claim puts it.
   pub claimed : (copy : ℕ) (at : Place) → Claims T copy at → IsToldAt H copy at
@@ -53,3 +58,13 @@ pub record Asked (H : History) (T : Picture) : Type 0 where
   -- the last number shown until its end, is shown exactly once.
   pub rising : HasRisingLists H
   pub once : ListsShowOnce
+  -- A row that is there and found all the time, while a search is asked for from where it stopped until its
+  -- end, is shown exactly once.
+  pub found_once : SearchesShowOnce
+  -- Of the rows of patrons and titles, those are shown whose name or text is found.
+  pub found_patrons : (text : List ℕ) (calls patron : ℕ) (row : PatronRow) → 0 < patron → T.patrons patron ≡ Some row
+      → IsSearchedToItsEnd (replicate calls (patrons_search H text)) 0
+      → has_number (found_in_turn (replicate calls (patrons_search H text)) 0) patron ↔ (finds text row.name ≡ true)
+  pub found_titles : (text : List ℕ) (calls title : ℕ) (row : TitleRow) → 0 < title → T.titles title ≡ Some row
+      → IsSearchedToItsEnd (replicate calls (titles_search H text)) 0
+      → has_number (found_in_turn (replicate calls (titles_search H text)) 0) title ↔ (finds text row.text ≡ true)

@@ -43,6 +43,13 @@ pull_words hold copy title =
 abbrev pub IsTitleOfLoan : ℕ → History → TitleRow → Type 0
 IsTitleOfLoan loan H title = (row : LoanRow) × ((picture H).loans loan ≡ Some row) × IsTitleOf row.copy H title
 
+-- Today, and the kind of a patron.
+abbrev pub today_words : ℕ → List ℕ
+today_words day = spaced (codes "today" ∷ day_text day ∷ [])
+
+abbrev pub kind_words : ℕ → List ℕ
+kind_words kind = spaced (codes "kind" ∷ decimal kind ∷ [])
+
 -- ---- replies
 
 -- The reply is the answer to the question, whoever asks.

@@ -12,5 +12,6 @@ pub mod Reports
 pub mod Showing
 pub mod Running
 pub mod Listing
+pub mod Searching
 pub mod Placing
 pub mod Asking

@@ -1,6 +1,6 @@
 //! The desk's questions: each is answered from the tables and changes nothing.
 
-ghost use Rattle.std.specs.Prelude.{◌≡◌, ◌∷◌, [], is_some, IfOk, string_bytes};
+ghost use Rattle.std.specs.Prelude.{◌≡◌, ◌∷◌, ◌++◌, [], is_some, IfOk, string_bytes};
 ghost use Rattle.terms.specs.declared.question.Question.TheVariants as question;
 ghost use Rattle.terms.specs.declared.refusal.Refusal.TheVariants.{UnknownBranch, UnknownCopy};
 ghost use Rattle.terms.specs.declared.refusal.Refusal.TheVariants.{UnknownTitle};
@@ -14,6 +14,8 @@ ghost use Rattle.model.specs.Pages.{spaced, title_words};
 ghost use Rattle.model.specs.Reports.{report_lines};
 ghost use Rattle.desk.specs.Answering.{Learns, LearnsIf};
 ghost use Rattle.desk.specs.Asking.{IsAnswer, reply_if, title_words_of};
+ghost use Rattle.desk.specs.Asking.{today_words, kind_words};
+ghost use Rattle.desk.specs.Paging.{patron_words};
 
 use crate::listing::{Listed, list_text};
 use crate::lists::{AccountOf, CopiesOf, Debtors, PullsAt, QueueFor, TransitsTo};
@@ -21,6 +23,8 @@ use crate::overdue::{OVERDUE_HEADER, lender_of};
 use crate::patron_page::patron_line;
 use crate::placing::copy_text;
 use crate::reports::with_newline;
+use crate::searches::{PatronsByName, TitlesByText};
+use crate::searching::search_text;
 use crate::shelf::{SHELF_HEADER, ShelfAt};
 use crate::till::till_text;
 use circ_core::View;
@@ -28,8 +32,8 @@ use sqlite::Alter;
 use std::alloc::Global;
 use store::Store;
 use terms::{
-    BranchId, CopyId, Day, Fault, HoldId, LineId, LoanId, Memory, PatronId, Question, Refusal,
-    Reply, Text, TitleId, TitleRow,
+    BranchId, CopyId, Day, Fault, HoldId, LineId, LoanId, Memory, Name, PatronId, PatronKind,
+    PatronRow, Question, Refusal, Reply, Text, TitleId, TitleRow,
 };
 
 /// Makes the reply that shows a text.
@@ -43,11 +47,39 @@ fn shown(text: String) -> Reply
 
 /// Makes a title's line, the head of its lists.
 #[tactic(auto, unfolding(crate::specs::Asking::title_words_of))]
-fn title_line(alloc: Global, row: &TitleRow) -> Result<String, Memory>
+pub(crate) fn title_line(alloc: Global, row: &TitleRow) -> Result<String, Memory>
     ensures { IfOk result (λ text. string_bytes text ≡ title_words_of row.now) }
 {
     let TitleRow { title, text } = row;
     format!(in alloc; "title {title} {text}")
+}
+
+/// Makes the line for today.
+#[tactic(auto, unfolding(crate::specs::Asking::today_words))]
+fn today_line(alloc: Global, day: Day) -> Result<String, Memory>
+    ensures { IfOk result (λ text. string_bytes text ≡ today_words day) }
+{
+    format!(in alloc; "today {day}")
+}
+
+/// Makes the line for the kind of a patron.
+#[tactic(auto, unfolding(crate::specs::Asking::kind_words))]
+fn kind_line(alloc: Global, kind: PatronKind) -> Result<String, Memory>
+    ensures { IfOk result (λ text. string_bytes text ≡ kind_words kind) }
+{
+    format!(in alloc; "kind {kind}")
+}
+
+/// Makes the lines for a patron: the debt and the name, and the kind.
+fn borrower_text(alloc: Global, row: &PatronRow) -> Result<String, Memory>
+    ensures { IfOk result (λ text. string_bytes text
+        ≡ patron_words row.now ++ (10 ∷ kind_words row.now.kind)) }
+{
+    let mut text = patron_line(alloc, row)?;
+    let kind = kind_line(alloc, row.kind)?;
+    text.push('\n')?;
+    text.push_str(&kind)?;
+    Ok(text)
 }
 
 /// Shows a list of a title from a number on, or 12. Faults 90, 91, 93.
@@ -183,6 +215,62 @@ fn show_debts<S: Alter>(
     Ok(shown(text))
 }
 
+/// Shows today. Faults 91, 93.
+fn show_today<S: Alter>(store: &mut Store<S>, alloc: Global) -> Result<Reply, Fault>
+    ensures { Learns (IsAnswer question.Today)
+        S.Store store.old store.new result }
+{
+    let meta = store.meta()?;
+    let text = today_line(alloc, meta.today)?;
+    Ok(shown(text))
+}
+
+/// Shows what a patron owes, and the kind, or 11. Faults 90, 91, 93.
+fn show_borrower<S: Alter>(
+    store: &mut Store<S>,
+    alloc: Global,
+    patron: PatronId,
+) -> Result<Reply, Fault>
+    ensures { Learns (IsAnswer (question.Borrower patron))
+        S.Store store.old store.new result }
+{
+    match store.patron(alloc, patron)? {
+        Some(row) => {
+            let text = borrower_text(alloc, &row)?;
+            Ok(shown(text))
+        }
+        None => Ok(Reply::Refused(Refusal::UnknownPatron)),
+    }
+}
+
+/// Shows the patrons whose names a text finds. Faults 90, 91, 93.
+fn show_found_patrons<S: Alter>(
+    store: &mut Store<S>,
+    alloc: Global,
+    after: PatronId,
+    query: &Name,
+) -> Result<Reply, Fault>
+    ensures { Learns (IsAnswer (question.FindPatrons after query.now))
+        S.Store store.old store.new result }
+{
+    let text = search_text::<PatronsByName, S>(store, alloc, query.as_str(), after.number())?;
+    Ok(shown(text))
+}
+
+/// Shows the titles that a text finds. Faults 90, 91, 93.
+fn show_found_titles<S: Alter>(
+    store: &mut Store<S>,
+    alloc: Global,
+    after: TitleId,
+    query: &Name,
+) -> Result<Reply, Fault>
+    ensures { Learns (IsAnswer (question.FindTitles after query.now))
+        S.Store store.old store.new result }
+{
+    let text = search_text::<TitlesByText, S>(store, alloc, query.as_str(), after.number())?;
+    Ok(shown(text))
+}
+
 /// Shows the overdue loans of a branch, or 10. Faults 90, 91, 93.
 fn show_overdue<S: Alter>(
     store: &mut Store<S>,
@@ -264,5 +352,9 @@ pub(crate) fn reply_to_question<S: Alter>(
             show_of_branch(store, alloc, *branch, &list, "", after.number())
         }
         Question::Till { day } => show_till(store, alloc, *day),
+        Question::Today => show_today(store, alloc),
+        Question::Borrower { patron } => show_borrower(store, alloc, *patron),
+        Question::FindPatrons { after, text } => show_found_patrons(store, alloc, *after, text),
+        Question::FindTitles { after, text } => show_found_titles(store, alloc, *after, text),
     }
 }

@@ -4,7 +4,7 @@ use Rattle.std.proofs.Common.{refl, sym, ◌∙◌, ap, ap₂, subst, arith, len
 use Rattle.std.specs.Prelude.{filter, Option, Some, None}
 use Rattle.std.proofs.lemmas.Bool.{eqb-true, and_parts, ltb-true, ltb-false, lt-ltb}
 use Rattle.terms.specs.declared.limits.TheConstants.{MOST_ROWS}
-use Rattle.model.specs.History.{History, numbers_to, copies, patrons, loans, holds}
+use Rattle.model.specs.History.{History, numbers_to, copies, patrons, titles, loans, holds}
 use Rattle.model.specs.Accounts.{lines}
 use Rattle.model.proofs.Moves.{false-ne}
 use Rattle.model.specs.Places.{Place, Shelf, HoldShelf, Transit, place, state, line, is_begun, route}
@@ -21,22 +21,22 @@ false-is : (b : Bool) → b ≡ true → b ≡ false → ⊥
 false-is b e f = let never : true ≡ false = sym e ∙ f in cc
 
 -- Numbers that rise from one number rise from a smaller one.
-rises-from : (a b : ℕ) (xs : List ℕ) → a ≤ b → Rises b xs → Rises a xs
+pub rises-from : (a b : ℕ) (xs : List ℕ) → a ≤ b → Rises b xs → Rises a xs
 rises-from a b [] le r = tt
 rises-from a b (x ∷ xs) le r = (omega (arith, le, r.0), r.1)
 
-rises-take : (k a : ℕ) (xs : List ℕ) → Rises a xs → Rises a (take k xs)
+pub rises-take : (k a : ℕ) (xs : List ℕ) → Rises a xs → Rises a (take k xs)
 rises-take zero a xs r = tt
 rises-take (suc k) a [] r = tt
 rises-take (suc k) a (x ∷ xs) r = (r.0, rises-take k x xs r.1)
 
 -- The last number is not below the one before them.
-last-above : (a : ℕ) (xs : List ℕ) → Rises a xs → a ≤ last_of a xs
+pub last-above : (a : ℕ) (xs : List ℕ) → Rises a xs → a ≤ last_of a xs
 last-above a [] r = omega arith
 last-above a (x ∷ xs) r = let le = last-above x xs r.1 in omega (arith, le, r.0)
 
 -- A number that is not above the one before them isn't among them.
-times-none : (a n : ℕ) (xs : List ℕ) → Rises a xs → n ≤ a → times xs n ≡ 0
+pub times-none : (a n : ℕ) (xs : List ℕ) → Rises a xs → n ≤ a → times xs n ≡ 0
 times-none a n [] r le = refl
 times-none a n (x ∷ xs) r le = go (times-none x n xs r.1) (x == n) refl
   where
@@ -45,7 +45,7 @@ times-none a n (x ∷ xs) r le = go (times-none x n xs r.1) (x == n) refl
     go ih false e = ih (omega (arith, r.0, le))
 
 -- A number that is among them is above the one before them.
-has-above : (a n : ℕ) (xs : List ℕ) → Rises a xs → has_number xs n → a < n
+pub has-above : (a n : ℕ) (xs : List ℕ) → Rises a xs → has_number xs n → a < n
 has-above a n [] r h = let never : ⊥ = cc in absurd never
 has-above a n (x ∷ xs) r h = go (has-above x n xs r.1) (x == n) refl h
   where
@@ -77,7 +77,7 @@ cut (suc k) a n (x ∷ xs) r h = go (cut k x n xs r.1) (x == n) refl h
     go ih false e h = ih h
 
 -- The numbers above one rise from it.
-rises-filter : (test : ℕ → Bool) (a : ℕ) (xs : List ℕ) → Rises a xs → Rises a (filter test xs)
+pub rises-filter : (test : ℕ → Bool) (a : ℕ) (xs : List ℕ) → Rises a xs → Rises a (filter test xs)
 rises-filter test a [] r = tt
 rises-filter test a (x ∷ xs) r = go (rises-filter test x xs r.1) (test x)
   where
@@ -85,7 +85,7 @@ rises-filter test a (x ∷ xs) r = go (rises-filter test x xs r.1) (test x)
     go ih true = (r.0, ih)
     go ih false = rises-from a x (filter test xs) (omega (arith, r.0)) ih
 
-rises-are : (a : ℕ) (xs : List ℕ) → Rises a xs → AreRising xs
+pub rises-are : (a : ℕ) (xs : List ℕ) → Rises a xs → AreRising xs
 rises-are a [] r = tt
 rises-are a (x ∷ xs) r = r.1
 
@@ -97,7 +97,7 @@ rising-filter test (x ∷ xs) r = go (test x)
     go true = rises-filter test x xs r
     go false = rises-are x (filter test xs) (rises-filter test x xs r)
 
-rises-above : (after : ℕ) (xs : List ℕ) → AreRising xs → Rises after (above after xs)
+pub rises-above : (after : ℕ) (xs : List ℕ) → AreRising xs → Rises after (above after xs)
 rises-above after [] r = tt
 rises-above after (x ∷ xs) r = go (rises-above after xs (rises-are x xs r)) (nat_lt after x) refl
   where
@@ -159,6 +159,8 @@ lists-rise H = record {
   shelf = λ b. rising-numbers _ (holds H);
   pulls = λ b. rising-numbers _ (holds H);
   transits = λ b. rising-filter _ (rising (copies H)) (rising-rises (copies H));
+  found_patrons = λ text. rising-rises (patrons H);
+  found_titles = λ text. rising-rises (titles H);
 }
 
 -- ---- asking again and again
@@ -169,7 +171,7 @@ no-more a = omega arith
 one-more : (t a b : ℕ) → t ≡ a + b → suc t ≡ suc a + b
 one-more t a b e = omega (arith, e)
 
-times-append : (n : ℕ) (xs ys : List ℕ) → times (xs ++ ys) n ≡ times xs n + times ys n
+pub times-append : (n : ℕ) (xs ys : List ℕ) → times (xs ++ ys) n ≡ times xs n + times ys n
 times-append n [] ys = no-more (times ys n)
 times-append n (x ∷ xs) ys = go (times-append n xs ys) (x == n)
   where
@@ -188,7 +190,7 @@ all-rise : (n : ℕ) (lists : List (List ℕ)) → AllHave n lists → AllRise l
 all-rise n [] h = tt
 all-rise n (numbers ∷ later) h = (h.0, all-rise n later h.2)
 
-none-left : (rest more : List ℕ) (n : ℕ) → times more n ≡ 0 → times (if_left rest more) n ≡ 0
+pub none-left : (rest more : List ℕ) (n : ℕ) → times more n ≡ 0 → times (if_left rest more) n ≡ 0
 none-left [] more n e = refl
 none-left (next ∷ others) more n e = e
 
@@ -204,7 +206,7 @@ passed-by (numbers ∷ later) after n le rise =
     times-append n shown (if_left (left_from numbers after) more)
     ∙ ap₂ (λ x y. x + y) none (none-left (left_from numbers after) more n (passed-by later (last_of after shown) n (omega (arith, le, last)) rise.1))
 
-to-come : (rest more : List ℕ) (n : ℕ) (End : Type 0) → has_number rest n → IfLeft rest End → (End → times more n ≡ 1) → times (if_left rest more) n ≡ 1
+pub to-come : (rest more : List ℕ) (n : ℕ) (End : Type 0) → has_number rest n → IfLeft rest End → (End → times more n ≡ 1) → times (if_left rest more) n ≡ 1
 to-come [] more n End h ends f = let never : ⊥ = cc in absurd never
 to-come (next ∷ others) more n End h ends f = f ends
 

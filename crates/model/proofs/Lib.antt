@@ -5,6 +5,7 @@ mod RowsGrace
 mod RowsHolds
 mod RowsReports
 mod RowsAsking
+mod RowsSearching
 mod RowsClosedDays
 pub mod Passing
 pub mod MadeHolds
@@ -44,4 +45,6 @@ pub mod UntouchedPatrons
 pub mod Schemas
 pub mod Asking
 pub mod Debts
+pub mod Searching
+pub mod Found
 pub mod AskedRows

@@ -15,7 +15,7 @@ pub or-right : (x y : Bool) → y ≡ true → (x || y) ≡ true
 or-right true y e = refl
 or-right false y e = e
 
-or-left : (x y : Bool) → x ≡ true → (x || y) ≡ true
+pub or-left : (x y : Bool) → x ≡ true → (x || y) ≡ true
 or-left true y e = refl
 or-left false y e = let never : ⊥ = cc in absurd never
 

@@ -3,17 +3,18 @@ use Rattle.std.specs.Prelude.{ℕ, ◌==◌, nat_lt, Bool, true, false, ◌&&◌
 use Rattle.std.specs.Prelude.{slice_get, codes, decimal, Option, Some, None, is_some, option_map, unwrap_or}
 use Rattle.std.specs.List.{join_with_byte}
 use Rattle.calendar.specs.Days.{day_text}
-use Rattle.terms.specs.declared.limits.TheConstants.{MOST_ROWS}
+use Rattle.finding.specs.Finding.{finds}
+use Rattle.terms.specs.declared.limits.TheConstants.{MOST_ROWS, MOST_LOOKED_AT}
 use Rattle.terms.specs.declared.question.Question.{Question}
 use Rattle.terms.specs.declared.question.Question.TheVariants as question
 use Rattle.terms.specs.declared.row.Sort.{Sort}
 use Rattle.terms.specs.declared.row.Sort.TheVariants.{Fine, Price, Payment, Waiver}
-use Rattle.model.specs.History.{History, numbers_to, copy_of, copies, patrons, holds}
+use Rattle.model.specs.History.{History, numbers_to, today, copy_of, patron_of, copies, patrons, titles, holds}
 use Rattle.model.specs.Places.{Place, Nowhere, Shelf, HoldShelf, Transit, Loan, MissingCopy, WithdrawnCopy, place, line, limit}
 use Rattle.model.specs.Places.{title_of_copy, home_of, title_of_hold, patron_of_hold, goal_of, first_day_of}
 use Rattle.model.specs.Loans.{due, title_of_loan}
 use Rattle.model.specs.Accounts.{lines, nth_line, borrower, price_of, owed}
-use Rattle.model.specs.Pages.{spaced, name_of, title_words, patron_line}
+use Rattle.model.specs.Pages.{spaced, name_of, title_text, title_words, patron_line}
 use Rattle.model.specs.Reports.{overdue_head, overdue_loans, overdue_line, shelf_head, ready_holds, shelf_line, till_rows}
 
 -- ---- lists
@@ -52,6 +53,41 @@ left_from numbers after = drop MOST_ROWS (above after numbers)
 -- What a list shows when asked for after a number.
 abbrev pub listed : Listing → ℕ → List ℕ
 listed x after = part_of_list x (shown_from x.numbers after) (left_from x.numbers after)
+
+-- ---- searches
+
+-- A search: all rows that it could show, and which of them it finds.
+pub record Search : Type 0 where
+  pub all : Listing
+  pub finds : ℕ → Bool
+
+-- The rows above a number that it looks at.
+abbrev pub looked_at : Search → ℕ → List ℕ
+looked_at x after = take MOST_LOOKED_AT (above after x.all.numbers)
+
+-- The first hundred that it finds among them, which are shown.
+abbrev pub found_from : Search → ℕ → List ℕ
+found_from x after = take MOST_ROWS (filter x.finds (looked_at x after))
+
+-- Where it stops: at the last row shown if a hundred are shown, otherwise at the last one looked at.
+abbrev pub reached_from : Search → ℕ → ℕ
+reached_from x after = last_of after (if length (found_from x after) == MOST_ROWS then found_from x after else looked_at x after)
+
+-- The rows above that, which are left.
+abbrev pub unseen_from : Search → ℕ → List ℕ
+unseen_from x after = above (reached_from x after) x.all.numbers
+
+-- The last line of an answer: `end`, or where the search stopped if rows are left.
+abbrev pub stop_line : ℕ → List ℕ → List ℕ
+stop_line reached [] = codes "end"
+stop_line reached (next ∷ others) = spaced (codes "after" ∷ decimal reached ∷ [])
+
+-- What a search shows when asked for after a number.
+abbrev pub searched : Search → ℕ → List ℕ
+searched x after =
+    join_with_byte 10 (x.all.head ++ map x.all.row (found_from x after) ++ stop_line (reached_from x after) (unseen_from x after) ∷ [])
+
+-- ---- ascending numbers
 
 -- Inserts a number into ascending numbers, unless it is there.
 abbrev pub put_in : ℕ → List ℕ → List ℕ
@@ -226,6 +262,28 @@ module _ (H : History) where
     row = λ c. spaced (codes "copy" ∷ decimal c ∷ for_words (travels_for (place H c)) ++ title_words H (title_of_copy H c));
   }
 
+  -- The kind of a patron.
+  abbrev pub kind_of_patron : ℕ → ℕ
+  kind_of_patron p = unwrap_or (option_map (λ r. r.kind) (patron_of H p)) 0
+
+  -- A patron, and the kind.
+  abbrev pub borrower_lines : ℕ → List (List ℕ)
+  borrower_lines p = patron_line H p ∷ spaced (codes "kind" ∷ decimal (kind_of_patron p) ∷ []) ∷ []
+
+  -- The patrons whose names the text finds.
+  abbrev pub patrons_search : List ℕ → Search
+  patrons_search text = record {
+    all = record { head = []; numbers = rising (patrons H); row = patron_line H };
+    finds = λ p. finds text (name_of H p);
+  }
+
+  -- The titles whose texts the text finds.
+  abbrev pub titles_search : List ℕ → Search
+  titles_search text = record {
+    all = record { head = []; numbers = rising (titles H); row = λ t. spaced (title_words H t) };
+    finds = λ t. finds text (title_text H t);
+  }
+
 -- What a question shows after a history.
 abbrev pub asked : History → Question → List ℕ
 asked H (question.Copy c) = join_with_byte 10 (copy_line H c ∷ place_line H (place H c) ∷ [])
@@ -238,3 +296,7 @@ asked H (question.Shelf b after) = listed (shelf_list H b) after
 asked H (question.Pulls b after) = listed (pulls_list H b) after
 asked H (question.Transits b after) = listed (transits_list H b) after
 asked H (question.Till d) = join_with_byte 10 (till_rows H d)
+asked H question.Today = spaced (codes "today" ∷ day_text (today H) ∷ [])
+asked H (question.Borrower p) = join_with_byte 10 (borrower_lines H p)
+asked H (question.FindPatrons after text) = searched (patrons_search H text) after
+asked H (question.FindTitles after text) = searched (titles_search H text) after

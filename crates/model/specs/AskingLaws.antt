@@ -1,9 +1,12 @@
 -- Laws of the desk's questions: lists asked for part by part, and whose turn it is.
-use Rattle.std.specs.Prelude.{◌≡◌, ℕ, ◌<◌, ◌==◌, ◌↔◌, true, List, [], ◌∷◌, ◌++◌, filter, map, length, Some, None, is_some}
+use Rattle.std.specs.Prelude.{◌≡◌, ℕ, ◌<◌, ◌==◌, ◌↔◌, true, List, [], ◌∷◌, ◌++◌, filter, map, length, replicate, Some, None, is_some}
 use Rattle.std.specs.List.{list_any}
-use Rattle.model.specs.History.{History, copy_of}
+use Rattle.model.specs.History.{History, copy_of, patron_of, title_of}
 use Rattle.model.specs.Places.{Place, Shelf, place, line, route, title_of_copy, home_of}
-use Rattle.model.specs.Asking.{shown_from, left_from, last_of, pulled_for, travels_for}
+use Rattle.model.specs.Asking.{shown_from, left_from, last_of, above, pulled_for, travels_for}
+use Rattle.finding.specs.Finding.{finds}
+use Rattle.model.specs.Asking.{Search, found_from, reached_from, unseen_from, patrons_search, titles_search}
+use Rattle.model.specs.Pages.{name_of, title_text}
 use Rattle.model.specs.Asking.{copies_list, queue_list, account_list, debts_list, overdue_list, shelf_list, pulls_list, transits_list}
 use Rattle.model.specs.Invariant.{Serves}
 use Rattle.model.specs.Accounts.{lines, nth_line, account, charges, credits}
@@ -60,6 +63,52 @@ times numbers n = length (filter (λ m. m == n) numbers)
 abbrev pub ListsShowOnce : Type 0
 ListsShowOnce = (lists : List (List ℕ)) (after n : ℕ) → after < n → AllHave n lists → IsAskedToItsEnd lists after → times (shown_in_turn lists after) n ≡ 1
 
+-- ---- searches, part by part
+
+-- Each search's rows are ascending, contain the number, and are found there.
+abbrev pub AllFind : ℕ → List Search → Type 0
+AllFind n [] = Unit {0}
+AllFind n (x ∷ later) = AreRising x.all.numbers × has_number x.all.numbers n × (x.finds n ≡ true) × AllFind n later
+
+-- What is shown by a search that is asked for repeatedly, each time from where it stopped, until nothing is left.
+-- The rows and what is found may change: each call sees the next of these searches.
+abbrev pub found_in_turn : List Search → ℕ → List ℕ
+found_in_turn [] after = []
+found_in_turn (x ∷ later) after = found_from x after ++ if_left (unseen_from x after) (found_in_turn later (reached_from x after))
+
+-- It is asked for until nothing is left.
+abbrev pub IsSearchedToItsEnd : List Search → ℕ → Type 0
+IsSearchedToItsEnd [] after = ⊥
+IsSearchedToItsEnd (x ∷ later) after = IfLeft (unseen_from x after) (IsSearchedToItsEnd later (reached_from x after))
+
+-- A row that is there and found all the time is shown exactly once.
+abbrev pub SearchesShowOnce : Type 0
+SearchesShowOnce = (searches : List Search) (after n : ℕ) → after < n → AllFind n searches → IsSearchedToItsEnd searches after
+    → times (found_in_turn searches after) n ≡ 1
+
+-- If nothing changes meanwhile, exactly the rows found are shown, in order.
+abbrev pub SearchesShowFound : Type 0
+SearchesShowFound = (x : Search) (calls after : ℕ) → AreRising x.all.numbers → IsSearchedToItsEnd (replicate calls x) after
+    → found_in_turn (replicate calls x) after ≡ filter x.finds (above after x.all.numbers)
+
+-- A search goes on: if rows are left, it stopped above the number it was asked for.
+abbrev pub SearchesGoOn : Type 0
+SearchesGoOn = (x : Search) (after : ℕ) → AreRising x.all.numbers → IfLeft (unseen_from x after) (after < reached_from x after)
+
+-- A patron is shown exactly if the text finds the name.
+abbrev pub PatronsAreFound : Type 0
+PatronsAreFound = (H : History) (text : List ℕ) (calls p : ℕ) → 0 < p → IsSearchedToItsEnd (replicate calls (patrons_search H text)) 0
+    → has_number (found_in_turn (replicate calls (patrons_search H text)) 0) p
+    ↔ ((is_some (patron_of H p) ≡ true) × (finds text (name_of H p) ≡ true))
+
+-- A title is shown exactly if the text finds its text.
+abbrev pub TitlesAreFound : Type 0
+TitlesAreFound = (H : History) (text : List ℕ) (calls t : ℕ) → 0 < t → IsSearchedToItsEnd (replicate calls (titles_search H text)) 0
+    → has_number (found_in_turn (replicate calls (titles_search H text)) 0) t
+    ↔ ((is_some (title_of H t) ≡ true) × (finds text (title_text H t) ≡ true))
+
+-- ---- the lists of the desk
+
 -- The row numbers of each list are ascending.
 pub record HasRisingLists (H : History) : Type 0 where
   pub copies : (t : ℕ) → AreRising (copies_list H t).numbers
@@ -70,6 +119,8 @@ pub record HasRisingLists (H : History) : Type 0 where
   pub shelf : (b : ℕ) → AreRising (shelf_list H b).numbers
   pub pulls : (b : ℕ) → AreRising (pulls_list H b).numbers
   pub transits : (b : ℕ) → AreRising (transits_list H b).numbers
+  pub found_patrons : (text : List ℕ) → AreRising (patrons_search H text).all.numbers
+  pub found_titles : (text : List ℕ) → AreRising (titles_search H text).all.numbers
 
 abbrev pub ListsRise : Type 0
 ListsRise = (H : History) → HasRisingLists H

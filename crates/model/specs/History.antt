@@ -175,6 +175,16 @@ abbrev pub copies : History → List ℕ
 copies [] = []
 copies (e ∷ H) = copies_after H e.command (copies H)
 
+-- The first acquire of a title adds its number to the list.
+abbrev pub titles_after : History → Command → List ℕ → List ℕ
+titles_after H (Acquire copy n kind home price text) before = if is_none (title_of H n) then n ∷ before else before
+titles_after H _ before = before
+
+-- The numbers of all titles ever acquired.
+abbrev pub titles : History → List ℕ
+titles [] = []
+titles (e ∷ H) = titles_after H e.command (titles H)
+
 -- The first command of a patron adds its number to the list.
 abbrev pub patrons_after : History → Command → List ℕ → List ℕ
 patrons_after H (Patron n kind card_key name) before = if is_none (patron_of H n) then n ∷ before else before

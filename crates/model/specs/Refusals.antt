@@ -202,6 +202,10 @@ checks_asked H (question.Shelf b after) = (UnknownBranch, not (has_branch H b)) 
 checks_asked H (question.Pulls b after) = (UnknownBranch, not (has_branch H b)) ∷ []
 checks_asked H (question.Transits b after) = (UnknownBranch, not (has_branch H b)) ∷ []
 checks_asked H (question.Till d) = []
+checks_asked H question.Today = []
+checks_asked H (question.Borrower p) = (UnknownPatron, not (has_patron H p)) ∷ []
+checks_asked H (question.FindPatrons after text) = []
+checks_asked H (question.FindTitles after text) = []
 
 -- The checks of a command, in order, given the sight: each with its refusal, and whether it fails.
 abbrev pub checks_by : History → Sight → Owner → Command → List Check

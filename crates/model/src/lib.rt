@@ -8,6 +8,8 @@ ghost use Rattle.model.specs.Laws.{StaysLegal, Places, Bindings, Balance, HoldRo
 ghost use Rattle.model.specs.Laws.{FirstInLineIsServed, RepeatsActOnce, OwnRows, KeptRowsAgree};
 ghost use Rattle.model.specs.AskingLaws.{ListsShowOnce, ListsRise, FirstIsServed};
 ghost use Rattle.model.specs.AskingLaws.{PulledCopiesServe, DebtsAreShown};
+ghost use Rattle.model.specs.AskingLaws.{SearchesShowOnce, SearchesShowFound, SearchesGoOn};
+ghost use Rattle.model.specs.AskingLaws.{PatronsAreFound, TitlesAreFound};
 ghost use Rattle.model.specs.AskingLaws.{AccountsAreShown, ShelvesAreUnclaimed};
 ghost use Rattle.model.specs.Calendars.{CalendarsAgree};
 ghost use Rattle.model.specs.Forms.{FormsStay, FormsAreWhole, RowsInLimits, FewClosedDays};
@@ -185,6 +187,22 @@ pub fn old_tables_law()
 pub fn lists_show_once_law()
     ensures once { ListsShowOnce }
     ensures rise { ListsRise }
+{}
+
+/// A search asked repeatedly, each time from where it stopped, shows every row that was there and
+/// found throughout exactly once. If nothing changes meanwhile, it shows exactly the rows found. It
+/// goes on as long as rows are left.
+pub fn searches_show_once_law()
+    ensures once { SearchesShowOnce }
+    ensures found { SearchesShowFound }
+    ensures on { SearchesGoOn }
+{}
+
+/// A patron is shown by the searches for a text exactly if it finds the name, and a title exactly
+/// if it finds its text.
+pub fn found_law()
+    ensures patrons { PatronsAreFound }
+    ensures titles { TitlesAreFound }
 {}
 
 /// The first hold in a title's queue gets the next copy that routing has to give, and a copy to

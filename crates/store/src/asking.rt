@@ -5,7 +5,7 @@ ghost use Rattle.terms.specs.Limits.{InLimits};
 ghost use Rattle.circ_core.specs.Views.{IsCopyView, IsFirstOf, IsTravelFor};
 ghost use Rattle.store.specs.Batches.{AreAccountLinesAfter, AreCopiesAfter, AreDebtorsAfter};
 ghost use Rattle.store.specs.Batches.{AreTransitsAfter, AreWaitingAfter, AreWaitingForAfter};
-ghost use Rattle.store.specs.Batches.{IsLeastShelved};
+ghost use Rattle.store.specs.Batches.{AreRowsAfter, IsLeastShelved};
 ghost use Rattle.store.specs.Reads.{Looked};
 
 use crate::idle::committed_is_held;
@@ -15,13 +15,13 @@ use calendar::Day;
 use circ_core::View;
 use circ_tables::{
     account_lines_after, copies_of_title_after, debtors_after, first_in_line, least_shelved,
-    transit_for, transits_to_after, waiting_holds_after, waiting_holds_for_after,
+    next_rows, transit_for, transits_to_after, waiting_holds_after, waiting_holds_for_after,
 };
 use sqlite::Alter;
 use std::alloc::Global;
 use terms::{
     BranchId, CopyId, CopyRow, Fault, HoldId, HoldRow, LineId, LineRow, PatronId, PatronRow,
-    TitleId, TransitRow,
+    TitleId, TitleRow, TransitRow,
 };
 
 impl<S: Alter> Store<S> {
@@ -83,6 +83,24 @@ impl<S: Alter> Store<S> {
     {
         committed_is_held(&self.conn);
         debtors_after(&mut self.conn, alloc, after)
+    }
+
+    /// Reads a batch of patrons above this number, by number. Faults 90, 91, 93.
+    pub fn patrons_after(&mut self, alloc: Global, after: PatronId) -> Result<Vec<PatronRow>, Fault>
+        ensures { Looked InLimits (λ P rows. AreRowsAfter P.patrons (λ r. r.patron) after
+            rows.items) InLimits S.Store self.old self.new result }
+    {
+        committed_is_held(&self.conn);
+        next_rows(&mut self.conn, alloc, alloc, Some(after.number()))
+    }
+
+    /// Reads a batch of titles above this number, by number. Faults 90, 91, 93.
+    pub fn titles_after(&mut self, alloc: Global, after: TitleId) -> Result<Vec<TitleRow>, Fault>
+        ensures { Looked InLimits (λ P rows. AreRowsAfter P.titles (λ r. r.title) after rows.items)
+            InLimits S.Store self.old self.new result }
+    {
+        committed_is_held(&self.conn);
+        next_rows(&mut self.conn, alloc, alloc, Some(after.number()))
     }
 
     /// Reads a batch of transits to a branch with copies above this number, by number. Faults 90,

@@ -11,7 +11,7 @@ use Rattle.terms.specs.declared.command.Command.{Command}
 use Rattle.terms.specs.declared.form.PartKind.{PartKind}
 use Rattle.terms.specs.declared.form.PartKind.TheVariants as kind
 use Rattle.terms.proofs.TableLemmas.{are_apart, command_from, is_low, is_spaceless, told}
-use Rattle.terms.proofs.WordLemmas.{both_true, closed_by, closed_by-mask_text, day_below, day_below-day_text, first_word, first_word-append}
+use Rattle.terms.proofs.WordLemmas.{both_true, closed_by, closed_by-mask_text, day_below, day_below-day_text, first_word, first_word-alone, first_word-append}
 use Rattle.terms.proofs.WordLemmas.{no_space-card_key, no_space-decimal, number, number-decimal, other_words, other_words-append}
 
 -- no word but the last has a space
@@ -57,7 +57,7 @@ words-apart w (part ∷ other ∷ parts) plain h e =
 -- the name is the first word
 first_word-joined : (w : List ℕ) (parts : List Part) → has_no_space w ≡ true → are_apart parts ≡ true
     → first_word (join_with_byte 32 (w ∷ map word_of parts)) ≡ w
-first_word-joined w [] plain e = absurd (false≢true e)
+first_word-joined w [] plain e = first_word-alone w plain
 first_word-joined w (part ∷ parts) plain e = first_word-append w (join_with_byte 32 (word_of part ∷ map word_of parts)) plain
 
 -- a part is known by its kind and its word

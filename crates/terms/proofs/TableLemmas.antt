@@ -1,11 +1,11 @@
 -- For each command in turn: it is in the table, its words can be told apart, and its name and parts make it
 -- again.
-use Rattle.std.proofs.Common.{◌≡◌, ◌<◌, ◌≤◌, ◌+◌, ℕ, List, [], ◌∷◌, Bool, true, false, ◌&&◌, map, get_or, length, drop, add-one, drop-cons}
+use Rattle.std.proofs.Common.{◌≡◌, ◌<◌, ◌≤◌, ◌+◌, ℕ, List, [], ◌∷◌, Bool, true, false, ◌&&◌, ◌||◌, map, get_or, length, drop, add-one, drop-cons}
 use Rattle.std.proofs.Common.{drop_of_length-le, refl, Some, None}
 use Rattle.std.specs.Prelude.{if◌then◌else◌, codes, nat_lt}
 use Rattle.std.specs.List.{list_all}
 use Rattle.std.specs.Str.{bytes_eq}
-use Rattle.terms.specs.Forms.{has_no_space}
+use Rattle.terms.specs.Forms.{has_no_space, is_outside_key}
 use Rattle.terms.specs.Commands.{Column, IsListed, Text, commands, kind_of, line, parts_in}
 use Rattle.terms.specs.Texts.{Part, Number, Amount, Day, Mask, CardKey, Name, said}
 use Rattle.terms.specs.declared.command.Command.{Command}
@@ -29,11 +29,16 @@ is_spaceless (Day _) = false
 is_spaceless (Mask _) = false
 is_spaceless (Name _) = false
 
--- there are parts, and no part but the last can have a space
+-- no part but the last can have a space
 abbrev pub are_apart : List Part → Bool
-are_apart [] = false
+are_apart [] = true
 are_apart (part ∷ []) = true
 are_apart (part ∷ other ∷ parts) = is_spaceless part && are_apart (other ∷ parts)
+
+-- there are parts
+abbrev pub has_parts : List Part → Bool
+has_parts [] = false
+has_parts (part ∷ parts) = true
 
 -- what a part holds
 abbrev number_in : Part → ℕ
@@ -97,7 +102,11 @@ command_from name parts =
     else (if bytes_eq name (codes "pulls") then Ask (question.Pulls (n 0) (n 1))
     else (if bytes_eq name (codes "transits") then Ask (question.Transits (n 0) (n 1))
     else (if bytes_eq name (codes "till") then Ask (question.Till (n 0))
-    else Page (n 0))))))))))))))))))))))))))))))))
+    else (if bytes_eq name (codes "today") then Ask question.Today
+    else (if bytes_eq name (codes "borrower") then Ask (question.Borrower (n 0))
+    else (if bytes_eq name (codes "find-patrons") then Ask (question.FindPatrons (n 0) (t 1))
+    else (if bytes_eq name (codes "find-titles") then Ask (question.FindTitles (n 0) (t 1))
+    else Page (n 0))))))))))))))))))))))))))))))))))))
 
 pub record IsTold (command : Command) : Type 0 where
   pub parts : List Column
@@ -105,19 +114,20 @@ pub record IsTold (command : Command) : Type 0 where
   pub kinds : map (λ part. part.1) parts ≡ map kind_of (said command).1
   pub named : (has_no_space (said command).0 && is_low (said command).0) ≡ true
   pub apart : are_apart (said command).1 ≡ true
+  pub keyed : (has_parts (said command).1 || is_outside_key (said command).0) ≡ true
   pub back : command_from (said command).0 (said command).1 ≡ command
 
 told_question : (asked : Question) → IsTold (Ask asked)
-unfolding command_from parts_in
-told_question (question.Till day) = record { parts = _; found = refl; kinds = refl; named = refl; apart = refl; back = refl }
-told_question _ = record { parts = _; found = refl; kinds = refl; named = refl; apart = refl; back = refl }
+unfolding command_from parts_in is_outside_key
+told_question (question.Till day) = record { parts = _; found = refl; kinds = refl; named = refl; apart = refl; keyed = refl; back = refl }
+told_question _ = record { parts = _; found = refl; kinds = refl; named = refl; apart = refl; keyed = refl; back = refl }
 
 pub told : (command : Command) → IsTold command
-unfolding command_from parts_in
-told (PlaceHold a b c None) = record { parts = _; found = refl; kinds = refl; named = refl; apart = refl; back = refl }
-told (PlaceHold a b c (Some d)) = record { parts = _; found = refl; kinds = refl; named = refl; apart = refl; back = refl }
+unfolding command_from parts_in is_outside_key
+told (PlaceHold a b c None) = record { parts = _; found = refl; kinds = refl; named = refl; apart = refl; keyed = refl; back = refl }
+told (PlaceHold a b c (Some d)) = record { parts = _; found = refl; kinds = refl; named = refl; apart = refl; keyed = refl; back = refl }
 told (Ask asked) = told_question asked
-told _ = record { parts = _; found = refl; kinds = refl; named = refl; apart = refl; back = refl }
+told _ = record { parts = _; found = refl; kinds = refl; named = refl; apart = refl; keyed = refl; back = refl }
 
 pub listed : (command : Command) → IsListed command
 listed command = let told_is = told command in record { parts = told_is.parts; found = told_is.found; kinds = told_is.kinds }

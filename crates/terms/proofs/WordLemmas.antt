@@ -41,6 +41,14 @@ first_word-append (b ∷ x) y h =
     let q : (b == 32) ≡ false = not_true (b == 32) p.0 in
     rw q (ap (λ (r : List ℕ). b ∷ r) (first_word-append x y p.1))
 
+pub first_word-alone : (x : List ℕ) → has_no_space x ≡ true → first_word x ≡ x
+unfolding first_word
+first_word-alone [] h = refl
+first_word-alone (b ∷ x) h =
+    let p = both_true (not (b == 32)) (has_no_space x) h in
+    let q : (b == 32) ≡ false = not_true (b == 32) p.0 in
+    rw q (ap (λ (r : List ℕ). b ∷ r) (first_word-alone x p.1))
+
 pub other_words-append : (x y : List ℕ) → has_no_space x ≡ true → other_words (x ++ (32 ∷ y)) ≡ y
 unfolding other_words
 other_words-append [] y h = refl

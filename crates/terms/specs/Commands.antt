@@ -87,6 +87,10 @@ commands =
     ∷ (codes "pulls", (codes "branch", kind.Number) ∷ (codes "after", kind.Number) ∷ [])
     ∷ (codes "transits", (codes "branch", kind.Number) ∷ (codes "after", kind.Number) ∷ [])
     ∷ (codes "till", (codes "day", kind.Day) ∷ [])
+    ∷ (codes "today", [])
+    ∷ (codes "borrower", (codes "patron", kind.Number) ∷ [])
+    ∷ (codes "find-patrons", (codes "after", kind.Number) ∷ (codes "text", kind.Name) ∷ [])
+    ∷ (codes "find-titles", (codes "after", kind.Number) ∷ (codes "text", kind.Name) ∷ [])
     ∷ []
 
 -- The parts of the command with this name.

@@ -60,6 +60,10 @@ questioned (question.Shelf branch after) = (codes "shelf", Number branch ∷ Num
 questioned (question.Pulls branch after) = (codes "pulls", Number branch ∷ Number after ∷ [])
 questioned (question.Transits branch after) = (codes "transits", Number branch ∷ Number after ∷ [])
 questioned (question.Till day) = (codes "till", Day day ∷ [])
+questioned question.Today = (codes "today", [])
+questioned (question.Borrower patron) = (codes "borrower", Number patron ∷ [])
+questioned (question.FindPatrons after text) = (codes "find-patrons", Number after ∷ Name text ∷ [])
+questioned (question.FindTitles after text) = (codes "find-titles", Number after ∷ Name text ∷ [])
 
 -- what a command says: its name, and its parts in order
 abbrev pub said : Command → List ℕ × List Part

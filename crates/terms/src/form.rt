@@ -298,6 +298,22 @@ const COMMANDS: &[CommandForm] = &[
         name: "till",
         parts: &[DAY],
     },
+    CommandForm {
+        name: "today",
+        parts: &[],
+    },
+    CommandForm {
+        name: "borrower",
+        parts: &[PATRON],
+    },
+    CommandForm {
+        name: "find-patrons",
+        parts: &[AFTER, TEXT],
+    },
+    CommandForm {
+        name: "find-titles",
+        parts: &[AFTER, TEXT],
+    },
 ];
 
 /// Returns the commands, each with its parts.

@@ -77,6 +77,18 @@ fn question_has_forms(question: &Question)
         Question::Till { day } => {
             let _day = day.number();
         }
+        Question::Today => {}
+        Question::Borrower { patron } => {
+            let _patron = patron.number();
+        }
+        Question::FindPatrons { after, text } => {
+            let _after = after.number();
+            let _text = text.as_str();
+        }
+        Question::FindTitles { after, text } => {
+            let _after = after.number();
+            let _text = text.as_str();
+        }
     }
 }
 

@@ -34,6 +34,9 @@ pub const MOST_RENEWALS: u32 = 99;
 /// The most rows in one answer to a question.
 pub const MOST_ROWS: u32 = 100;
 
+/// The most rows that one answer to a search looks at.
+pub const MOST_LOOKED_AT: u32 = 5_000;
+
 /// The most open loans, and the most active holds, for a kind of patron.
 pub const MOST_ALLOWED: u32 = 200;
 

@@ -5,6 +5,7 @@ ghost use Rattle.terms.specs.Texts.{request_text};
 ghost use Rattle.terms.specs.declared.command.Command.TheVariants.{Ask};
 
 use crate::number::{BranchId, CopyId, HoldId, LineId, LoanId, PatronId, TitleId};
+use crate::text::Name;
 use calendar::{Day, Memory};
 use std::alloc::Global;
 
@@ -31,6 +32,14 @@ pub enum Question {
     Transits { branch: BranchId, after: CopyId },
     /// The sums of a day.
     Till { day: Day },
+    /// Today.
+    Today,
+    /// A patron's kind, and what the patron owes.
+    Borrower { patron: PatronId },
+    /// The patrons whose names a text finds.
+    FindPatrons { after: PatronId, text: Name },
+    /// The titles that a text finds.
+    FindTitles { after: TitleId, text: Name },
 }
 
 /// Joins the words of a question with single spaces.
@@ -49,5 +58,9 @@ pub(crate) fn joined_question(alloc: Global, question: &Question) -> Result<Stri
         Question::Pulls { branch, after } => format!(in alloc; "pulls {branch} {after}"),
         Question::Transits { branch, after } => format!(in alloc; "transits {branch} {after}"),
         Question::Till { day } => format!(in alloc; "till {day}"),
+        Question::Today => format!(in alloc; "today"),
+        Question::Borrower { patron } => format!(in alloc; "borrower {patron}"),
+        Question::FindPatrons { after, text } => format!(in alloc; "find-patrons {after} {text}"),
+        Question::FindTitles { after, text } => format!(in alloc; "find-titles {after} {text}"),
     }
 }

@@ -576,6 +576,55 @@ fn till(values: &[&str]) -> Result<Command, WordFault>
     Ok(Command::Ask(Question::Till { day }))
 }
 
+#[tactic(auto, unfolding(crate::specs::Texts::command_words))]
+fn today(values: &[&str]) -> Result<Command, WordFault>
+    ensures read { IfOk result (IsReadAs (codes "today") (texts values.now)) }
+    ensures refused { result ≡ Err Refused → IsNoCommand (codes "today") (texts values.now) }
+{
+    let [] = values else {
+        return Err(WordFault::NotUnderstood);
+    };
+    Ok(Command::Ask(Question::Today))
+}
+
+#[tactic(auto, unfolding(crate::specs::Texts::command_words))]
+fn borrower(values: &[&str]) -> Result<Command, WordFault>
+    ensures read { IfOk result (IsReadAs (codes "borrower") (texts values.now)) }
+    ensures refused { result ≡ Err Refused → IsNoCommand (codes "borrower") (texts values.now) }
+{
+    let [patron] = values else {
+        return Err(WordFault::NotUnderstood);
+    };
+    let patron = PatronId::new(number(patron)?);
+    Ok(Command::Ask(Question::Borrower { patron }))
+}
+
+#[tactic(auto, unfolding(crate::specs::Texts::command_words))]
+fn find_patrons(alloc: Global, values: &[&str]) -> Result<Command, WordFault>
+    ensures read { IfOk result (IsReadAs (codes "find-patrons") (texts values.now)) }
+    ensures refused { result ≡ Err Refused → IsNoCommand (codes "find-patrons") (texts values.now) }
+{
+    let [after, text] = values else {
+        return Err(WordFault::NotUnderstood);
+    };
+    let after = PatronId::new(number(after)?);
+    let text = read_name(alloc, text)?;
+    Ok(Command::Ask(Question::FindPatrons { after, text }))
+}
+
+#[tactic(auto, unfolding(crate::specs::Texts::command_words))]
+fn find_titles(alloc: Global, values: &[&str]) -> Result<Command, WordFault>
+    ensures read { IfOk result (IsReadAs (codes "find-titles") (texts values.now)) }
+    ensures refused { result ≡ Err Refused → IsNoCommand (codes "find-titles") (texts values.now) }
+{
+    let [after, text] = values else {
+        return Err(WordFault::NotUnderstood);
+    };
+    let after = TitleId::new(number(after)?);
+    let text = read_name(alloc, text)?;
+    Ok(Command::Ask(Question::FindTitles { after, text }))
+}
+
 /// Reads the command with this name from its words, each in its form. Anything else is
 /// `NotUnderstood`.
 #[tactic(auto, unfolding(crate::specs::Texts::command_words))]
@@ -617,6 +666,10 @@ pub fn read_command(alloc: Global, name: &str, values: &[&str]) -> Result<Comman
         "pulls" => pulls(values),
         "transits" => transits(values),
         "till" => till(values),
+        "today" => today(values),
+        "borrower" => borrower(values),
+        "find-patrons" => find_patrons(alloc, values),
+        "find-titles" => find_titles(alloc, values),
         _ => Err(WordFault::NotUnderstood),
     }
 }

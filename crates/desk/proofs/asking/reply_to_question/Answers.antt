@@ -54,3 +54,19 @@ returns-in-Pulls g c = learns-on c.show_pulls.ensures (λ _ _ _. tt) (λ H legal
 pub returns-in-Till : goal.returns-in-Till
 returns-in-Till g c = learns-on c.show_till.ensures (λ _ _ _. tt) (λ H legal given reply is owner. is owner
     ∙ sym (ap (λ q. answer H owner (Ask q)) c.in-Till.is))
+
+pub returns-in-Today : goal.returns-in-Today
+returns-in-Today g c = learns-on c.show_today.ensures (λ _ _ _. tt) (λ H legal given reply is owner. is owner
+    ∙ sym (ap (λ q. answer H owner (Ask q)) c.in-Today.is))
+
+pub returns-in-Borrower : goal.returns-in-Borrower
+returns-in-Borrower g c = learns-on c.show_borrower.ensures (λ _ _ _. tt) (λ H legal given reply is owner. is owner
+    ∙ sym (ap (λ q. answer H owner (Ask q)) c.in-Borrower.is))
+
+pub returns-in-FindPatrons : goal.returns-in-FindPatrons
+returns-in-FindPatrons g c = learns-on c.show_found_patrons.ensures (λ _ _ _. tt) (λ H legal given reply is owner. is owner
+    ∙ sym (ap (λ q. answer H owner (Ask q)) c.in-FindPatrons.is))
+
+pub returns-in-FindTitles : goal.returns-in-FindTitles
+returns-in-FindTitles g c = learns-on c.show_found_titles.ensures (λ _ _ _. tt) (λ H legal given reply is owner. is owner
+    ∙ sym (ap (λ q. answer H owner (Ask q)) c.in-FindTitles.is))
