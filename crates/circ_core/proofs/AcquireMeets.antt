@@ -24,7 +24,7 @@ use Rattle.circ_core.proofs.Meets.{Meets, Leads}
 use Rattle.circ_core.proofs.Rows.{is_none-None, none-map, put_new, keep_old}
 use Rattle.circ_core.proofs.Rising.{find-same}
 
-abbrev title_columns : ℕ → List ℕ → TitleRow
+abbrev pub title_columns : ℕ → List ℕ → TitleRow
 title_columns t text = record { title = t; text = text }
 
 module _ (H : History) (inv : Invariant H) (c t k home price : ℕ) (text : List ℕ) where

@@ -2,6 +2,7 @@
 use Rattle.std.specs.Prelude.{◌≡◌, false, Result}
 use Rattle.terms.specs.declared.command.Command.{Command}
 use Rattle.terms.specs.declared.command.Command.TheVariants.{BeginDay, Branch, Week, Kind, Rule, Grace, Patron, Acquire, CheckOut, CheckIn}
+use Rattle.terms.specs.declared.command.Command.TheVariants.{SetCardKey, AmendPatron, AmendBranch, AmendTitle, AmendCopy, Rehome}
 use Rattle.terms.specs.declared.command.Command.TheVariants.{Renew, PlaceHold, CancelHold, Unshelve, UnshelveCancelled, Missing, Withdraw}
 use Rattle.terms.specs.declared.command.Command.TheVariants.{CloseDay, OpenDay, Pay, Waive, Page, Ask}
 use Rattle.terms.specs.declared.refusal.Refusal.{Refusal}
@@ -23,6 +24,11 @@ use Rattle.circ_core.proofs.RuleMeets.{rule_meets}
 use Rattle.circ_core.proofs.GraceMeets.{grace_meets}
 use Rattle.circ_core.proofs.PatronMeets.{patron_meets}
 use Rattle.circ_core.proofs.AcquireMeets.{acquire_meets}
+use Rattle.circ_core.proofs.AmendPatronMeets.{card_key_meets, amend_patron_meets}
+use Rattle.circ_core.proofs.AmendBranchMeets.{amend_branch_meets}
+use Rattle.circ_core.proofs.AmendTitleMeets.{amend_title_meets}
+use Rattle.circ_core.proofs.AmendCopyMeets.{amend_copy_meets}
+use Rattle.circ_core.proofs.RehomeMeets.{rehome_meets}
 use Rattle.circ_core.proofs.CheckOutMeets.{check_out_meets}
 use Rattle.circ_core.proofs.CheckInMeets.{check_in_meets}
 use Rattle.circ_core.proofs.UnshelveMeets.{unshelve_meets, unshelve_cancelled_meets}
@@ -50,6 +56,12 @@ decides H legal v (Patron patron kind card_key name) result changes w on =
     decided H _ _ _ _ (patron_meets H (legal-Invariant H legal) patron kind card_key name v w) result on
 decides H legal v (Acquire copy title kind home price text) result changes w on =
     decided H _ _ _ _ (acquire_meets H (legal-Invariant H legal) copy title kind home price text v w) result on
+decides H legal v (SetCardKey patron card_key) result changes w on = decided H _ _ _ _ (card_key_meets H patron card_key v.patron w) result on
+decides H legal v (AmendPatron patron kind name) result changes w on = decided H _ _ _ _ (amend_patron_meets H patron kind name v w) result on
+decides H legal v (AmendBranch branch pickup name) result changes w on = decided H _ _ _ _ (amend_branch_meets H branch pickup name v.branch w) result on
+decides H legal v (AmendTitle title text) result changes w on = decided H _ _ _ _ (amend_title_meets H title text v.title w) result on
+decides H legal v (AmendCopy copy kind price) result changes w on = decided H _ _ _ _ (amend_copy_meets H copy kind price v.copy w) result on
+decides H legal v (Rehome copy branch) result changes w on = decided H _ _ _ _ (rehome_meets H (legal-Invariant H legal) copy branch v w) result on
 decides H legal v (CheckOut patron copy branch) result changes w on = decided H _ _ _ _ (check_out_meets H (legal-Invariant H legal) patron copy branch v w) result on
 decides H legal v (CheckIn copy branch) result changes w on = decided H _ _ _ _ (check_in_meets H legal copy branch v w) result on
 decides H legal v (Renew loan) result changes w on = decided H _ _ _ _ (renew_meets H legal (legal-Invariant H legal) loan v w) result on

@@ -3,11 +3,12 @@ use Rattle.std.proofs.Common.{◌≡◌, ℕ, ◌==◌, Bool, true, false, cond,
 use Rattle.std.specs.Prelude.{Option, Some, None, is_some}
 use Rattle.std.specs.Option.{option_or}
 use Rattle.terms.specs.declared.command.Command.{Command}
-use Rattle.terms.specs.declared.command.Command.TheVariants.{Branch}
+use Rattle.terms.specs.declared.command.Command.TheVariants.{Branch, AmendBranch}
 use Rattle.terms.specs.declared.command.Owner.{Owner}
 use Rattle.model.specs.History.{History, BranchFacts, branch_of, branch_after, HoldFacts, hold_made, hold_of, hold_after, next_hold}
 use Rattle.model.specs.Refusals.{refusal, has_branch}
 use Rattle.model.specs.Requests.{IsLegal}
+use Rattle.model.proofs.Amending.{amended-is_some}
 use Rattle.model.proofs.MadeHolds.{placeable}
 
 -- A branch that is there stays.
@@ -17,6 +18,7 @@ branch_stays H (Branch n pickup name) b known = go (branch_of H b) _ known
     go : (o new : Option BranchFacts) → not (is_some o) ≡ false → not (is_some (option_or o new)) ≡ false
     go (Some r) new e = refl
     go None new e = let never : ⊥ = cc in absurd never
+branch_stays H (AmendBranch n pickup name) b known = ap not (amended-is_some (n == b) _ (branch_of H b)) ∙ known
 branch_stays H _ b known = known
 
 hold_step : (H : History) (o : Owner) (x : Command) (made : Option HoldFacts) (h : ℕ) (r : HoldFacts) → hold_made x ≡ made → refusal H o x ≡ None

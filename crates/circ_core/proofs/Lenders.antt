@@ -4,7 +4,7 @@ use Rattle.std.specs.Prelude.{Option, Some, None, is_some, unwrap_or}
 use Rattle.std.specs.Option.{option_or}
 use Rattle.terms.specs.declared.command.Owner.{Owner}
 use Rattle.terms.specs.declared.command.Command.{Command}
-use Rattle.terms.specs.declared.command.Command.TheVariants.{Branch, CheckOut}
+use Rattle.terms.specs.declared.command.Command.TheVariants.{Branch, AmendBranch, CheckOut}
 use Rattle.model.specs.History.{History, today, branch_of, branch_after, PatronFacts, patron_of, CopyFacts, copy_of, next_loan}
 use Rattle.model.specs.Places.{Nowhere, Loan}
 use Rattle.model.specs.Loans.{LoanFacts, loan_of, loan_after, ended, terms_for, no_terms}
@@ -12,6 +12,7 @@ use Rattle.model.specs.Refusals.{checks, refusal, has_branch}
 use Rattle.model.specs.Requests.{IsLegal}
 use Rattle.model.specs.Invariant.{Invariant}
 use Rattle.model.proofs.Passing.{passed}
+use Rattle.model.proofs.Amending.{amended-none}
 
 some-not : {A : Type 0} (o : Option A) → not (is_some o) ≡ false → o ≡ None → ⊥
 some-not (Some x) e f = let never : ⊥ = cc in never
@@ -28,6 +29,7 @@ module _ (H : History) (lenders : HaveLenders H) (o : Owner) where
   -- A branch that is there stays.
   stays : (x : Command) (b : ℕ) → branch_after x b (branch_of H b) ≡ None → branch_of H b ≡ None
   stays (Branch n pickup name) b e = none-or (branch_of H b) _ e
+  stays (AmendBranch n pickup name) b e = amended-none (n == b) _ (branch_of H b) e
   stays _ b e = e
 
   step : (x : Command) → refusal H o x ≡ None → (l : ℕ) (r : LoanFacts) → loan_after H x l (loan_of H l) ≡ Some r
@@ -44,8 +46,7 @@ module _ (H : History) (lenders : HaveLenders H) (o : Owner) where
           let same : ◌≡◌ {A = LoanFacts} (record { copy = n; patron = p; branch = b; made = today H; terms = unwrap_or (terms_for H p n) no_terms }) r = cc in
           some-not (branch_of H b) there (ap (λ m. branch_of H m) (ap (λ y. y.branch) same) ∙ none)
       go false f = lenders l r f none
-  step (Branch n pickup name) ok l r e none = lenders l r e (stays (Branch n pickup name) r.branch none)
-  step _ ok l r e none = lenders l r e none
+  step x ok l r e none = lenders l r e (stays x r.branch none)
 
 pub legal-lenders : (H : History) → IsLegal H → HaveLenders H
 legal-lenders [] legal = λ l r e none. let never : ⊥ = cc in never

@@ -17,6 +17,10 @@ pub mod RuleMeets
 pub mod GraceMeets
 pub mod PatronMeets
 pub mod AcquireMeets
+pub mod AmendPatronMeets
+pub mod AmendBranchMeets
+pub mod AmendTitleMeets
+pub mod AmendCopyMeets
 pub mod KindNow
 pub mod CheckOutMeets
 pub mod Charging
@@ -29,6 +33,7 @@ pub mod UnshelveMeets
 pub mod CheckInMeets
 pub mod Gone
 pub mod WithdrawMeets
+pub mod RehomeMeets
 pub mod MissingMeets
 pub mod CancelHoldMeets
 pub mod PlaceHoldMeets

@@ -50,6 +50,20 @@ put_set {A} {B} row facts k x n = go (k == n) refl
     go true e = ap (λ m. Some (row m x)) (eqb-true k n e)
     go false e = refl
 
+-- A row that is there, some of whose columns are set.
+pub put_amended : {A B : Type 0} (row : ℕ → A → B) (facts : ℕ → Option A) (k : ℕ) (f : A → A) (x : A) (n : ℕ) → facts k ≡ Some x
+    → put (λ m. option_map (row m) (facts m)) k (Some (row k (f x))) n ≡ option_map (row n) (cond (k == n) (option_map f (facts n)) (facts n))
+put_amended {A} {B} row facts k f x n some = go (k == n) refl
+  where
+    go : (b : Bool) → (k == n) ≡ b
+        → ◌≡◌ {A = Option B} (elim b [ true ↦ Some (row k (f x)) | false ↦ option_map (row n) (facts n) ])
+        (option_map (row n) (cond b (option_map f (facts n)) (facts n)))
+    go true e =
+        let same : k ≡ n = eqb-true k n e in
+        let some' : facts n ≡ Some x = rw same at some in
+        rw (same, some') refl
+    go false e = refl
+
 -- The same for a key of two numbers.
 pub put_pair_set : {A B : Type 0} (row : ℕ → ℕ → A → B) (facts : ℕ → ℕ → Option A) (j k : ℕ) (x : A) (m n : ℕ)
     → put_pair (λ a b. option_map (row a b) (facts a b)) j k (Some (row j k x)) m n ≡ option_map (row m n) (cond ((j == m) && (k == n)) (Some x) (facts m n))

@@ -6,6 +6,7 @@ use Rattle.terms.specs.declared.row.Sort.TheVariants.{Payment, Waiver}
 use Rattle.terms.specs.declared.row.HoldState.TheVariants.{Cancelled, Expired}
 use Rattle.terms.specs.declared.command.Command.{Command}
 use Rattle.terms.specs.declared.command.Command.TheVariants.{BeginDay, Branch, Week, Kind, Rule, Grace, Patron, Acquire, CheckOut, CheckIn}
+use Rattle.terms.specs.declared.command.Command.TheVariants.{SetCardKey, AmendPatron, AmendBranch, AmendTitle, AmendCopy, Rehome}
 use Rattle.terms.specs.declared.command.Command.TheVariants.{Renew, PlaceHold, CancelHold, Unshelve, UnshelveCancelled, Missing, Withdraw}
 use Rattle.terms.specs.declared.command.Command.TheVariants.{CloseDay, OpenDay, Pay, Waive, Page, Ask}
 use Rattle.circ_core.specs.declared.changes.Decision.{Decision}
@@ -19,6 +20,11 @@ use Rattle.circ_core.specs.Rule.{rule_checks, rule_rows}
 use Rattle.circ_core.specs.Grace.{grace_checks, grace_rows}
 use Rattle.circ_core.specs.Patron.{patron_checks, patron_rows}
 use Rattle.circ_core.specs.Acquire.{acquire_checks, acquire_rows}
+use Rattle.circ_core.specs.AmendPatron.{card_key_checks, card_key_rows, amend_patron_checks, amend_patron_rows}
+use Rattle.circ_core.specs.AmendBranch.{amend_branch_checks, amend_branch_rows}
+use Rattle.circ_core.specs.AmendTitle.{amend_title_checks, amend_title_rows}
+use Rattle.circ_core.specs.AmendCopy.{amend_copy_checks, amend_copy_rows}
+use Rattle.circ_core.specs.Rehome.{rehome_checks, rehome_rows}
 use Rattle.circ_core.specs.Debt.{owed_by}
 use Rattle.circ_core.specs.CheckOut.{check_out_checks, check_out_rows, due_in}
 use Rattle.circ_core.specs.CheckIn.{check_in_checks, check_in_limit, check_in_reply, check_in_rows}
@@ -48,6 +54,13 @@ DecidesOn v (Patron patron kind card_key name) decided =
     Decided (patron_checks v patron kind card_key name) Done (patron_rows v patron kind card_key name) decided
 DecidesOn v (Acquire copy title kind home price text) decided =
     Decided (acquire_checks v copy title kind home price text) Done (acquire_rows v copy title kind home price text) decided
+DecidesOn v (SetCardKey patron card_key) decided = Decided (card_key_checks v.patron) Done (card_key_rows v.patron card_key) decided
+DecidesOn v (AmendPatron patron kind name) decided = Decided (amend_patron_checks v kind) Done (amend_patron_rows v.patron kind name) decided
+DecidesOn v (AmendBranch branch pickup name) decided =
+    Decided (amend_branch_checks v.branch branch pickup name) Done (amend_branch_rows v.branch pickup name) decided
+DecidesOn v (AmendTitle title text) decided = Decided (amend_title_checks v.title) Done (amend_title_rows v.title text) decided
+DecidesOn v (AmendCopy copy kind price) decided = Decided (amend_copy_checks v.copy kind price) Done (amend_copy_rows v.copy kind price) decided
+DecidesOn v (Rehome copy branch) decided = Decided (rehome_checks v) Done (rehome_rows v branch) decided
 DecidesOn v (CheckOut patron copy branch) decided =
     Decided (check_out_checks v patron branch) (Lent v.meta.next_loan (due_in v)) (check_out_rows v patron copy branch (due_in v)) decided
 DecidesOn v (CheckIn copy branch) decided =

@@ -12,7 +12,12 @@ pub mod Rule
 pub mod Grace
 pub mod Patron
 pub mod Acquire
+pub mod AmendPatron
+pub mod AmendBranch
+pub mod AmendTitle
+pub mod AmendCopy
 pub mod Condition
+pub mod Rehome
 pub mod Debt
 pub mod Holds
 pub mod Ending

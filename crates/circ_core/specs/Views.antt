@@ -14,6 +14,7 @@ use Rattle.terms.specs.declared.row.HoldState.TheVariants.{Waiting, Ready}
 use Rattle.terms.specs.declared.row.TransitRow.{TransitRow}
 use Rattle.terms.specs.declared.command.Command.{Command}
 use Rattle.terms.specs.declared.command.Command.TheVariants.{BeginDay, Branch, Week, Kind, Rule, Grace, Patron, Acquire, CheckOut, CheckIn}
+use Rattle.terms.specs.declared.command.Command.TheVariants.{SetCardKey, AmendPatron, AmendBranch, AmendTitle, AmendCopy, Rehome}
 use Rattle.terms.specs.declared.command.Command.TheVariants.{Renew, PlaceHold, CancelHold, Unshelve, UnshelveCancelled, Missing, Withdraw}
 use Rattle.terms.specs.declared.command.Command.TheVariants.{CloseDay, OpenDay, Pay, Waive, Page, Ask}
 use Rattle.terms.specs.Pictures.{Picture}
@@ -183,6 +184,11 @@ pub record IsCopyView (P : Picture) (c : ℕ) (rows : View) : Type 0 where
   pub transit : rows.transit ≡ P.transits c
   pub hold : IsHoldOf P c rows.hold
 
+-- The new home, the copy, and the rows that claim it.
+pub record IsRehomeView (P : Picture) (c b : ℕ) (rows : View) : Type 0 where
+  pub home : rows.branch ≡ P.branches b
+  pub at : IsCopyView P c rows
+
 -- The rows that a check-out needs.
 pub record IsCheckOutView (P : Picture) (p c b : ℕ) (rows : View) : Type 0 where
   pub meta : rows.meta ≡ P.meta
@@ -282,6 +288,12 @@ IsViewOf P (Rule kind copy_kind period renewals rate cap) rows = rows.kind ≡ P
 IsViewOf P (Grace kind copy_kind days) rows = rows.rule ≡ P.rules kind copy_kind
 IsViewOf P (Patron patron kind card_key name) rows = IsPatronView P patron kind rows
 IsViewOf P (Acquire copy title kind home price text) rows = IsAcquireView P copy title home rows
+IsViewOf P (SetCardKey patron card_key) rows = rows.patron ≡ P.patrons patron
+IsViewOf P (AmendPatron patron kind name) rows = IsPatronView P patron kind rows
+IsViewOf P (AmendBranch branch pickup name) rows = rows.branch ≡ P.branches branch
+IsViewOf P (AmendTitle title text) rows = rows.title ≡ P.titles title
+IsViewOf P (AmendCopy copy kind price) rows = rows.copy ≡ P.copies copy
+IsViewOf P (Rehome copy branch) rows = IsRehomeView P copy branch rows
 IsViewOf P (CheckOut patron copy branch) rows = IsCheckOutView P patron copy branch rows
 IsViewOf P (CheckIn copy branch) rows = IsCheckInView P copy branch rows
 IsViewOf P (Renew loan) rows = IsRenewView P loan rows
@@ -309,6 +321,18 @@ HasOnly (Rule kind copy_kind period renewals rate cap) rows = rows ≡ record em
 HasOnly (Grace kind copy_kind days) rows = rows ≡ record empty_view { rule = rows.rule }
 HasOnly (Patron patron kind card_key name) rows = rows ≡ record empty_view { kind = rows.kind; patron = rows.patron }
 HasOnly (Acquire copy title kind home price text) rows = rows ≡ record empty_view { branch = rows.branch; title = rows.title; copy = rows.copy }
+HasOnly (SetCardKey patron card_key) rows = rows ≡ record empty_view { patron = rows.patron }
+HasOnly (AmendPatron patron kind name) rows = rows ≡ record empty_view { kind = rows.kind; patron = rows.patron }
+HasOnly (AmendBranch branch pickup name) rows = rows ≡ record empty_view { branch = rows.branch }
+HasOnly (AmendTitle title text) rows = rows ≡ record empty_view { title = rows.title }
+HasOnly (AmendCopy copy kind price) rows = rows ≡ record empty_view { copy = rows.copy }
+HasOnly (Rehome copy branch) rows = rows ≡ record empty_view {
+  branch = rows.branch;
+  copy = rows.copy;
+  loan = rows.loan;
+  transit = rows.transit;
+  hold = rows.hold;
+}
 HasOnly (CheckOut patron copy branch) rows = rows ≡ record empty_view {
   meta = rows.meta;
   calendar = rows.calendar;

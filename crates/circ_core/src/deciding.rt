@@ -9,6 +9,10 @@ ghost use Rattle.circ_core.specs.Views.{IsViewOf};
 ghost use Rattle.circ_core.specs.Decides.{Decides};
 
 use crate::acquire::acquire;
+use crate::amend_branch::amend_branch;
+use crate::amend_copy::amend_copy;
+use crate::amend_patron::{amend_patron, set_card_key};
+use crate::amend_title::amend_title;
 use crate::begin_day::begin_day;
 use crate::branch::add_branch;
 use crate::cancel_hold::cancel_hold;
@@ -23,6 +27,7 @@ use crate::page::page;
 use crate::patron::enrol;
 use crate::pay_and_waive::settle;
 use crate::place_hold::place_hold;
+use crate::rehome::rehome;
 use crate::renew::renew;
 use crate::rule::set_rule;
 use crate::unshelve::{unshelve, unshelve_cancelled};
@@ -104,6 +109,16 @@ fn decide_on_rows<'a>(view: &'a View, command: &'a Command) -> Result<Decision<'
             price,
             text,
         } => acquire(view, *copy, *title, *kind, *home, *price, text),
+        Command::SetCardKey { card_key, .. } => set_card_key(&view.patron, card_key),
+        Command::AmendPatron { kind, name, .. } => amend_patron(view, *kind, name),
+        Command::AmendBranch {
+            branch,
+            pickup,
+            name,
+        } => amend_branch(&view.branch, *branch, *pickup, name),
+        Command::AmendTitle { text, .. } => amend_title(&view.title, text),
+        Command::AmendCopy { kind, price, .. } => amend_copy(&view.copy, *kind, *price),
+        Command::Rehome { branch, .. } => rehome(view, *branch),
         Command::CheckOut {
             patron,
             copy,

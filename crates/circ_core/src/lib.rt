@@ -3,6 +3,10 @@
 #![tactic(auto)]
 
 mod acquire;
+mod amend_branch;
+mod amend_copy;
+mod amend_patron;
+mod amend_title;
 mod begin_day;
 mod branch;
 mod cancel_hold;
@@ -26,6 +30,7 @@ mod page;
 mod patron;
 mod pay_and_waive;
 mod place_hold;
+mod rehome;
 mod renew;
 mod routing;
 mod rule;

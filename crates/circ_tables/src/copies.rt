@@ -1,10 +1,10 @@
 //! The table of copies.
 
-ghost use Rattle.sql_maps.specs.Maps.{FirstOf};
+ghost use Rattle.sql_maps.specs.Maps.{FirstOf, Listed};
 ghost use Rattle.sql_maps.specs.Batches.{FirstRows};
 ghost use Rattle.circ_tables.specs.Copies.{copies, copies_are};
 ghost use Rattle.circ_tables.specs.Reading.{Lists, Selects};
-ghost use Rattle.circ_tables.specs.Selections.{StandsFree, is_copy_of_after};
+ghost use Rattle.circ_tables.specs.Selections.{StandsFree, is_copy_of, is_copy_of_after};
 ghost use Rattle.circ_tables.specs.Shape.{copies_place, holds_place, loans_place, transits_place};
 ghost use Rattle.circ_tables.specs.declared.by_number.TheConstants.{BATCH_ROWS};
 
@@ -87,6 +87,27 @@ impl Put for CopyRow {
             ],
         )
     }
+}
+
+/// The SQL of `copies_of_title`.
+pub const COPIES_OF_TITLE_TEXT: &str = "SELECT * FROM copies WHERE title = ?1 ORDER BY copy";
+
+/// Reads a title's copies, by number. Faults 90, 91, 93.
+pub fn copies_of_title<S: Alter>(
+    conn: &mut Connection<S>,
+    alloc: Global,
+    title: TitleId,
+) -> Result<Vec<CopyRow>, Fault>
+    ensures { Lists copies (λ l. l.items) (λ m. Listed m (is_copy_of title))
+        S.Store conn.old conn.new result }
+{
+    rows_of(
+        conn,
+        alloc,
+        (),
+        COPIES_OF_TITLE_TEXT,
+        params![title.number()],
+    )
 }
 
 /// The SQL of `copies_of_title_after`.

@@ -6,7 +6,8 @@ ghost use Rattle.sql_maps.specs.Batches.{FirstRows};
 ghost use Rattle.circ_tables.specs.Holds.{holds, holds_are};
 ghost use Rattle.circ_tables.specs.Reading.{Counts, Lists, Selects};
 ghost use Rattle.circ_tables.specs.Selections.{BeginsBefore, StandsInLine, Waits, WaitsSince};
-ghost use Rattle.circ_tables.specs.Selections.{is_active_by, is_active_on, is_ready_after};
+ghost use Rattle.circ_tables.specs.Selections.{is_active_by, is_active_for, is_active_on};
+ghost use Rattle.circ_tables.specs.Selections.{is_ready_after};
 ghost use Rattle.circ_tables.specs.Selections.{is_waiting_after, is_waiting_for_after, names_copy};
 ghost use Rattle.circ_tables.specs.Shape.{holds_place, transits_place};
 ghost use Rattle.circ_tables.specs.Transits.{transits};
@@ -265,6 +266,28 @@ pub fn active_holds_by<S: Alter>(
         (),
         ACTIVE_HOLDS_BY_TEXT,
         params![patron.number()],
+    )
+}
+
+/// The SQL of `active_holds_for`.
+pub const ACTIVE_HOLDS_FOR_TEXT: &str =
+    "SELECT * FROM holds2 WHERE title = ?1 AND state <= 1 ORDER BY hold";
+
+/// Reads the waiting and ready holds on a title, by number. Faults 90, 91, 93.
+pub fn active_holds_for<S: Alter>(
+    conn: &mut Connection<S>,
+    alloc: Global,
+    title: TitleId,
+) -> Result<Vec<HoldRow>, Fault>
+    ensures { Lists holds (λ l. l.items) (λ m. Listed m (is_active_for title))
+        S.Store conn.old conn.new result }
+{
+    rows_of(
+        conn,
+        alloc,
+        (),
+        ACTIVE_HOLDS_FOR_TEXT,
+        params![title.number()],
     )
 }
 

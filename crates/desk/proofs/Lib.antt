@@ -39,6 +39,7 @@ pub mod SearchLemmas
 pub mod ListNumbers
 pub mod Placings
 pub mod ListBatches
+pub mod TitleReaders
 pub mod Pulls
 pub mod ListRows
 pub mod Replies

@@ -6,7 +6,7 @@ use Rattle.std.specs.Option.{option_or}
 use Rattle.std.specs.List.{list_any}
 use Rattle.std.proofs.lemmas.Bool.{eqb-true, eq-eqb, ltb-true, lt-ltb, false_from_ne_true}
 use Rattle.terms.specs.declared.command.Command.{Command}
-use Rattle.terms.specs.declared.command.Command.TheVariants.{Patron, Acquire}
+use Rattle.terms.specs.declared.command.Command.TheVariants.{Patron, Acquire, SetCardKey, AmendPatron, AmendCopy, Rehome}
 use Rattle.terms.specs.declared.row.CopyRow.{CopyRow}
 use Rattle.terms.specs.declared.row.PatronRow.{PatronRow}
 use Rattle.terms.specs.declared.row.HoldRow.{HoldRow}
@@ -19,7 +19,7 @@ use Rattle.circ_core.proofs.Claims.{hold_row-is}
 use Rattle.circ_core.proofs.FirstInLine.{stands, stands-row, row-stands}
 use Rattle.store.specs.Batches.{AreFirstRows}
 use Rattle.model.specs.History.{History, CopyFacts, copy_of, copy_after, copies, copies_after, PatronFacts, patron_of, patron_after, patrons}
-use Rattle.model.specs.History.{patrons_after, HoldFacts, hold_of, holds, numbers_to}
+use Rattle.model.specs.History.{with_card_key, with_kind, with_price, with_home, patrons_after, HoldFacts, hold_of, holds, numbers_to}
 use Rattle.model.specs.Places.{Place, Nowhere, Shelf, HoldShelf, Transit, Loan, MissingCopy, WithdrawnCopy, place, state, line, title_of_copy, title_of_hold}
 use Rattle.model.specs.Accounts.{Line, lines, nth_line, owed}
 use Rattle.model.specs.Invariant.{Invariant}
@@ -31,6 +31,7 @@ use Rattle.model.proofs.Debts.{rising-has, enrolled-has}
 use Rattle.model.proofs.Members.{has, filter-has, filter-passes, numbers-has, or-right}
 use Rattle.desk.specs.Listing.{HasBatch}
 use Rattle.desk.proofs.Listings.{row-has}
+use Rattle.model.proofs.Amending.{amended-is_some}
 
 -- ---- a batch of a table
 
@@ -75,6 +76,8 @@ copy-step H (Acquire n title kind home price text) c ih e = go (n == c) refl (is
       | inr more ↦ ih more
     ]
     go false f false None ih e = ih e
+copy-step H (AmendCopy n kind price) c ih e = amended-is_some (n == c) (with_price kind price) (copy_of H c) ∙ ih e
+copy-step H (Rehome n home) c ih e = amended-is_some (n == c) (with_home home) (copy_of H c) ∙ ih e
 copy-step H _ c ih e = ih e
 
 pub copy-there : (H : History) (c : ℕ) → has (copies H) c ≡ true → is_some (copy_of H c) ≡ true
@@ -95,6 +98,8 @@ patron-step H (Patron n kind card_key name) p ih e = go (n == p) refl (is_none (
       | inr more ↦ ih more
     ]
     go false f false None ih e = ih e
+patron-step H (SetCardKey n card_key) p ih e = amended-is_some (n == p) (with_card_key card_key) (patron_of H p) ∙ ih e
+patron-step H (AmendPatron n kind name) p ih e = amended-is_some (n == p) (with_kind kind name) (patron_of H p) ∙ ih e
 patron-step H _ p ih e = ih e
 
 pub patron-there : (H : History) (p : ℕ) → has (patrons H) p ≡ true → is_some (patron_of H p) ≡ true

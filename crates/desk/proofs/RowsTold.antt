@@ -24,8 +24,11 @@ module _ {S Z : Type 0} {g : Ghosts S} {o n : Held S} {If : History → Type 0} 
     wrote = put.added.1;
     told = λ disk H shows given.
         let text = subst (IsRowText (list H) number) is (learnt.shown disk H shows given) in
-        inl (text.0, subst (λ (t : List ℕ). IsAdded most number t old new put.added.0) (bytes ∙ text.1)
-        (subst (λ (m : ℕ). IsAdded most m row old new put.added.0) same put.added.2));
+        inl (
+          text.0,
+          subst (λ (t : List ℕ). IsAdded most number t old new put.added.0) (bytes ∙ text.1)
+              (subst (λ (m : ℕ). IsAdded most m row old new put.added.0) same put.added.2),
+        );
     front = λ disk. tt;
     refused = λ refusal e. let never : ⊥ = cc in never;
     sound = λ disk e. let never : ⊥ = cc in absurd never;

@@ -1,5 +1,5 @@
 -- What a command leaves of the rows of a patron it doesn't touch.
-use Rattle.std.proofs.Common.{◌≡◌, ℕ, ◌==◌, Bool, true, false, ◌||◌, not, ◌+◌, List, [], ◌∷◌, ◌++◌, take, refl, sym, ◌∙◌, ap, subst}
+use Rattle.std.proofs.Common.{◌≡◌, ℕ, ◌==◌, Bool, true, false, cond, ◌||◌, not, ◌+◌, List, [], ◌∷◌, ◌++◌, take, refl, sym, ◌∙◌, ap, subst}
 use Rattle.std.specs.Prelude.{Option, Some, None, option_map, is_some}
 use Rattle.std.specs.List.{list_any, cons_option, slice_get}
 use Rattle.std.proofs.lemmas.List.{take_more}
@@ -9,6 +9,11 @@ use Rattle.terms.specs.Pictures.{Picture, put}
 use Rattle.terms.specs.declared.command.Owner.{Owner}
 use Rattle.terms.specs.declared.command.Owner.TheVariants.{Desk}
 use Rattle.terms.specs.declared.command.Command.{Command}
+use Rattle.terms.specs.declared.command.Command.TheVariants.{Acquire, AmendTitle}
+use Rattle.terms.specs.declared.row.TitleRow.{TitleRow}
+use Rattle.std.specs.Option.{option_or}
+use Rattle.std.proofs.lemmas.Bool.{eqb-true}
+use Rattle.std.proofs.lemmas.List.Folds.{list_any-append}
 use Rattle.terms.specs.declared.command.Request.{Request}
 use Rattle.terms.specs.declared.refusal.Refusal.TheVariants.{UnknownPatron}
 use Rattle.terms.specs.declared.reply.Reply.{Reply}
@@ -19,8 +24,8 @@ use Rattle.circ_core.specs.declared.changes.RowChange.TheVariants.{PutPatron, Pu
 use Rattle.circ_core.specs.Tables.{change, changed, SameRows}
 use Rattle.circ_core.specs.Decides.{IsDecision, event}
 use Rattle.model.specs.Checks.{first_failing}
-use Rattle.model.specs.History.{History, PatronFacts, patron_of}
-use Rattle.model.specs.Laws.{AgreesOn, KeepsOwnRows}
+use Rattle.model.specs.History.{History, PatronFacts, patron_of, title_of}
+use Rattle.model.specs.Laws.{AgreesOn, KeepsOwnRows, KeepsOwnTitles}
 use Rattle.model.specs.Pages.{page}
 use Rattle.model.specs.Picture.{picture}
 use Rattle.model.specs.Refusals.{refusal}
@@ -32,7 +37,7 @@ use Rattle.model.proofs.Runs.{after_one-legal}
 use Rattle.model.proofs.SettingRanges.{some-same, none-some}
 use Rattle.desk.specs.Answering.{added}
 use Rattle.desk.specs.Showing.{own_page}
-use Rattle.desk.specs.Touching.{patron_put, patrons_put, KeepsOthers}
+use Rattle.desk.specs.Touching.{patron_put, patrons_put, KeepsOthers, IsAmong, AreReadersFor}
 use Rattle.desk.specs.declared.showing.OwnPage.{OwnPage}
 use Rattle.desk.proofs.Leads.{added-none}
 
@@ -110,21 +115,70 @@ rows-keep P Q R p keeps same = record {
   holds = λ h r at own. keeps.holds h r (ap (λ (T : Picture). T.holds h) same ∙ at) own;
 }
 
+titles-same : (P : Picture) (p : ℕ) → KeepsOwnTitles P P p
+titles-same P p = record { lent = λ l r c x at own unended copy row. row; held = λ h r x at own active row. row }
+
 -- Where nothing was accepted nobody's rows are others.
 pub others-same : (touched : List ℕ) (H K : History) → K ≡ H → KeepsOthers touched H K
-others-same touched H K same = subst (λ (L : History). KeepsOthers touched H L) (sym same) (λ p out. keeps-same (picture H) p)
+others-same touched H K same = subst (λ (L : History). KeepsOthers touched H L) (sym same) (λ p out. (keeps-same (picture H) p, titles-same (picture H) p))
 
 -- The same of one list of accepted requests by two names.
 pub others-as : (touched : List ℕ) (H K L : History) → K ≡ L → KeepsOthers touched H L → KeepsOthers touched H K
 others-as touched H K L same = subst (λ (M : History). KeepsOthers touched H M) (sym same)
 
--- What a decision changes is the rows of the patrons whose rows it puts.
+-- ---- titles
+
+apart : (readers : List ℕ) (p q : ℕ) → list_any (λ x. x == p) readers ≡ false → IsAmong readers q → q ≡ p → ⊥
+apart readers p q out among same =
+    let here : list_any (λ x. x == p) readers ≡ true = subst (IsAmong readers) same among in
+    let never : ⊥ = cc in never
+
+text-of : (t : ℕ) → List ℕ → TitleRow
+text-of t x = record { title = t; text = x }
+
+-- The row of a title that no amend-title names stays.
+title-amended : (t n : ℕ) (text : List ℕ) (o : Option (List ℕ)) (x : TitleRow) → (t ≡ n → ⊥) → option_map (text-of n) o ≡ Some x
+    → option_map (text-of n) (cond (t == n) (option_map (λ old. text) o) o) ≡ Some x
+title-amended t n text o x other row = go (t == n) refl
+  where
+    go : (b : Bool) → (t == n) ≡ b → option_map (text-of n) (cond b (option_map (λ old. text) o) o) ≡ Some x
+    go true e = absurd (other (eqb-true t n e))
+    go false e = row
+
+title-made : (n : ℕ) (o made : Option (List ℕ)) (x : TitleRow) → option_map (text-of n) o ≡ Some x → option_map (text-of n) (option_or o made) ≡ Some x
+title-made n (Some y) made x row = row
+title-made n None made x row = absurd (none-some x row)
+
+titles-keep : (H : History) (o : Owner) (k : List ℕ) (c : Command) (readers : List ℕ) (p : ℕ) → AreReadersFor H c readers
+    → list_any (λ q. q == p) readers ≡ false → KeepsOwnTitles (picture H) (picture (event o k c ∷ H)) p
+unfolding text-of
+titles-keep H o k (AmendTitle t text) readers p are out = record {
+  lent = λ l r c x at own unended copy row.
+      title-amended t c.title text (title_of H c.title) x (λ same. apart readers p r.patron out (are.lent l r c at unended copy (sym same)) own) row;
+  held = λ h r x at own active row.
+      title-amended t r.title text (title_of H r.title) x (λ same. apart readers p r.patron out (are.held h r at active (sym same)) own) row;
+}
+titles-keep H o k (Acquire copy t kind home price text) readers p are out = record {
+  lent = λ l r c x at own unended copy row. title-made c.title (title_of H c.title) _ x row;
+  held = λ h r x at own active row. title-made r.title (title_of H r.title) _ x row;
+}
+titles-keep H o k _ readers p are out = record { lent = λ l r c x at own unended copy row. row; held = λ h r x at own active row. row }
+
+out-of-both : (xs ys : List ℕ) (p : ℕ) → list_any (λ q. q == p) (xs ++ ys) ≡ false
+    → (list_any (λ q. q == p) xs ≡ false) × (list_any (λ q. q == p) ys ≡ false)
+out-of-both xs ys p out = neither (list_any (λ q. q == p) xs) (list_any (λ q. q == p) ys) (sym (list_any-append (λ q. q == p) xs ys) ∙ out)
+
+-- What a decision changes is the rows of the patrons whose rows it puts, and what its readers see.
 pub decided-others : (H : History) (o : Owner) (k : List ℕ) (c : Command) (d : Decision) → IsDecision H c d → refusal H o c ≡ refusal H Desk c
-    → (touched : List ℕ) → touched ≡ patrons_put d.changes → KeepsOthers touched H (added H (event o k c))
-decided-others H o k c d is same touched put_by =
+    → (readers : List ℕ) → AreReadersFor H c readers → (touched : List ℕ) → touched ≡ readers ++ patrons_put d.changes
+    → KeepsOthers touched H (added H (event o k c))
+decided-others H o k c d is same readers are touched put_by =
     subst (λ (qs : List ℕ). KeepsOthers qs H (added H (event o k c))) (sym put_by)
-    (others-as (patrons_put d.changes) H (added H (event o k c)) (event o k c ∷ H) (added-none H o k c (same ∙ is.unrefused))
-    (λ p out. rows-keep (picture H) (changed d.changes (picture H)) (picture (event o k c ∷ H)) p (changes-keep d.changes (picture H) p out) (is.rows o k)))
+    (others-as (readers ++ patrons_put d.changes) H (added H (event o k c)) (event o k c ∷ H) (added-none H o k c (same ∙ is.unrefused))
+    (λ p out. let parts = out-of-both readers (patrons_put d.changes) p out in (
+      rows-keep (picture H) (changed d.changes (picture H)) (picture (event o k c ∷ H)) p (changes-keep d.changes (picture H) p parts.1) (is.rows o k),
+      titles-keep H o k c readers p are parts.0,
+    )))
 
 -- ---- pages
 
@@ -150,6 +204,7 @@ page-kept H r touched legal others p out = go (adds H r) (after_one-legal H r le
   where
     go : (b : Bool) → IsLegal (elim b as (λ _. History) [ true ↦ event_of r ∷ H | false ↦ H ])
         → KeepsOwnRows (picture H) (picture (elim b as (λ _. History) [ true ↦ event_of r ∷ H | false ↦ H ])) p
+        × KeepsOwnTitles (picture H) (picture (elim b as (λ _. History) [ true ↦ event_of r ∷ H | false ↦ H ])) p
         → own_page (elim b as (λ _. History) [ true ↦ event_of r ∷ H | false ↦ H ]) p ≡ own_page H p
-    go true later keeps = sym (own_page-same p H (event_of r ∷ H) (kept-agree (event_of r) H p later keeps))
+    go true later keeps = sym (own_page-same p H (event_of r ∷ H) (kept-agree (event_of r) H p later keeps.0 keeps.1))
     go false later keeps = refl

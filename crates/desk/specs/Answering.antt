@@ -30,7 +30,7 @@ use Rattle.model.specs.Forms.{HasForms}
 use Rattle.model.specs.Laws.{AgreesOn}
 use Rattle.model.specs.Requests.{IsLegal, is_known, may_send, kept_of, event_of, reply_by_key, reply_to, after_one}
 use Rattle.desk.specs.Callers.{RefusesForeign}
-use Rattle.desk.specs.Touching.{KeepsOthers}
+use Rattle.desk.specs.Touching.{KeepsOthers, AreReadersFor}
 
 -- ---- tables that show a history
 
@@ -97,10 +97,11 @@ RefusesAnothers o c H None = refusal H o c ≡ refusal H Desk c
 abbrev pub Knows : Caller → History → Bool → Type 0
 Knows caller H known = known ≡ is_known H caller
 
--- The view holds the rows that the command needs, and the owner has no refusal beyond the desk's.
-abbrev pub IsViewFor : Owner → Command → View → History → Type 0
-IsViewFor owner command view H = IsViewOf (picture H) command view
-    × (refusal H owner command ≡ refusal H Desk command)
+-- The view holds the rows that the command needs, the owner has no refusal beyond the desk's, and the readers
+-- of what it changes are among these.
+abbrev pub IsViewFor : Owner → Command → View → List ℕ → History → Type 0
+IsViewFor owner command view readers H = IsViewOf (picture H) command view
+    × (refusal H owner command ≡ refusal H Desk command) × AreReadersFor H command readers
 
 -- The history with the event, unless the event is refused.
 abbrev pub added : History → Event → History

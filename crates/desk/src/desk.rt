@@ -82,7 +82,7 @@ impl<S: Alter> Desk<S> {
     ) -> Result<(Reply, Touched), Fault>
         ensures { HandlesTouching request.now S.Store self.old self.new result }
     {
-        let mut touched = Touched::none();
+        let mut touched = Touched::none(alloc);
         let reply = handle_touching(&mut self.store, alloc, request, &mut touched)?;
         Ok((reply, touched))
     }

@@ -14,14 +14,15 @@ ghost use Rattle.desk.specs.Answering.{HandlesAny, IsViewFor, TouchesOnly};
 use crate::asking::reply_to_question;
 use crate::callers::{is_known, may_send, refusal_for_another};
 use crate::patron_page::show;
+use crate::readers::readers_of;
 use crate::touching::{Touched, touched_by};
 use circ_core::{Changes, View, decide};
 use sqlite::Alter;
 use std::alloc::Global;
 use store::{KeptReply, Store};
 use terms::{
-    Command, Fault, KeptPut, Key, Owner, Refusal, Reply, Request, Text, command_has_forms,
-    read_reply, reply_text, request_text,
+    Command, Fault, KeptPut, Key, Owner, PatronId, Refusal, Reply, Request, Text,
+    command_has_forms, read_reply, reply_text, request_text,
 };
 
 /// Commits the changes, and keeps the request with its reply.
@@ -47,7 +48,7 @@ fn record<'k, S: Alter>(
 }
 
 /// Replies to a command from the rows it needs, and changes the rows if it is accepted. Makes the
-/// reply's text before writing anything.
+/// reply's text and the list of touched patrons before writing anything.
 fn carry_out<'a, S: Alter>(
     store: &mut Store<S>,
     alloc: Global,
@@ -56,11 +57,12 @@ fn carry_out<'a, S: Alter>(
     key: &Key,
     text: &Text,
     command: &'a Command,
+    readers: Vec<PatronId>,
     touched: &mut Touched,
 ) -> Result<Reply, Fault>
     requires { (only_asks command.now ≡ false) × (text.now ≡ request_text_of command.now) }
     ensures answered { AnswersCommand owner key.now command.now
-        (IsViewFor owner command.now view.now) touched.new
+        (IsViewFor owner command.now view.now readers.items) touched.new
         S.Store store.old store.new result }
     ensures any { HandlesAny S.Store store.old store.new result }
 {
@@ -68,8 +70,9 @@ fn carry_out<'a, S: Alter>(
         Err(refusal) => Ok(Reply::Refused(refusal)),
         Ok(decision) => {
             let reply = reply_text(alloc, &decision.reply)?;
+            let patrons = touched_by(&decision.changes, readers)?;
             record(store, &decision.changes, owner, key, text, &reply)?;
-            *touched = touched_by(&decision.changes);
+            *touched = patrons;
             Ok(decision.reply)
         }
     }
@@ -95,7 +98,10 @@ fn answer<S: Alter>(
         return Ok(Reply::Refused(refusal));
     }
     let view = store.view_for(alloc, command)?;
-    carry_out(store, alloc, &view, owner, key, text, command, touched)
+    let readers = readers_of(store, alloc, command)?;
+    carry_out(
+        store, alloc, &view, owner, key, text, command, readers, touched,
+    )
 }
 
 /// Returns the kept reply for the same text, refusal 80 for another. 93 if what is kept is no
@@ -150,7 +156,7 @@ fn has_forms(request: &Request)
 
 /// Replies to a request: 81 for a caller who may not send it; the page or the answer to a question,
 /// ignoring the key; for a used key the kept reply or 80; else the result of the command. If that
-/// is accepted, sets `touched` to the patrons whose own rows it changed.
+/// is accepted, sets `touched` to the patrons whose pages it may have changed.
 pub(crate) fn handle_touching<S: Alter>(
     store: &mut Store<S>,
     alloc: Global,
@@ -185,6 +191,6 @@ pub(crate) fn handle<S: Alter>(
     ensures formed { IsCommand request.now.command × IsKey request.now.key }
     ensures handled { Handled request.now S.Store store.old store.new result }
 {
-    let mut touched = Touched::none();
+    let mut touched = Touched::none(alloc);
     handle_touching(store, alloc, request, &mut touched)
 }

@@ -1,59 +1,51 @@
-//! The patrons whose own rows a command changes.
+//! The patrons whose pages a command may change.
 
-ghost use Rattle.std.specs.Prelude.{◌≡◌, [], ◌∷◌, ◌++◌, ◌<◌, ◌≤◌, length};
+ghost use Rattle.std.specs.Prelude.{◌≡◌, [], ◌∷◌, ◌++◌, IfOk};
 ghost use Rattle.desk.specs.Touching.{patron_put as patron_put_of, patrons_put};
 
 use circ_core::{Changes, RowChange};
+use std::alloc::Global;
 use std::marker::Model;
-use terms::PatronId;
+use terms::{Memory, PatronId};
 
-/// The most patrons one command touches: one per change.
-const MOST: usize = Changes::PLACES;
-
-/// The patrons whose own rows a handled request may have changed: the patron's row, loans and
-/// holds. A patron can occur more than once.
+/// The patrons whose pages a handled request may have changed: by the patron's row, loans and
+/// holds, or by the title of one of these. A patron can occur more than once.
 #[derive(Drop)]
 pub struct Touched {
-    patrons: [PatronId; MOST],
-    count: usize,
+    patrons: Vec<PatronId>,
 }
 
 impl Model for Touched {
-    ghost use Rattle.std.specs.Prelude.{List, ℕ, take, ◌≤◌};
+    ghost use Rattle.std.specs.Prelude.{List, ℕ};
 
     ghost Value = { List ℕ };
 
-    ghost view = { λ t. take t.count t.patrons };
-
-    ghost invariant = { λ t. t.count ≤ 6 };
+    ghost view = { λ t. t.patrons.items };
 }
 
 impl Touched {
     /// Makes an empty list.
-    pub fn none() -> Touched
+    pub fn none(alloc: Global) -> Touched
         ensures { result ≡ [] }
     {
         Touched {
-            patrons: [PatronId::new(0); MOST],
-            count: 0,
+            patrons: Vec::new(alloc),
         }
     }
 
-    /// Returns the patrons, at most six.
+    /// Returns the patrons.
     pub fn as_slice(&self) -> &[PatronId]
-        ensures value { result.now ≡ self.now }
-        ensures few { length result.now ≤ 6 }
+        ensures { result.now ≡ self.now }
     {
-        &self.patrons[..self.count]
+        self.patrons.as_slice()
     }
 
-    /// Adds a patron, up to six.
-    fn push(&mut self, patron: PatronId)
-        requires { length self.old < 6 }
-        ensures { self.new ≡ self.old ++ patron ∷ [] }
+    /// Adds a patron.
+    fn push(&mut self, patron: PatronId) -> Result<(), Memory>
+        ensures { IfOk result (λ _. self.new ≡ self.old ++ patron ∷ []) }
     {
-        self.patrons[self.count] = patron;
-        self.count += 1;
+        self.patrons.push(patron)?;
+        Ok(())
     }
 }
 
@@ -69,20 +61,20 @@ fn patron_put(change: &RowChange<'_>) -> Option<PatronId>
     }
 }
 
-/// Returns the patrons whose own rows the changes put. Takes no memory.
-pub(crate) fn touched_by(changes: &Changes<'_>) -> Touched
-    ensures { result ≡ patrons_put changes.now }
+/// Returns these readers, and the patrons whose own rows the changes put.
+pub(crate) fn touched_by(changes: &Changes<'_>, readers: Vec<PatronId>) -> Result<Touched, Memory>
+    ensures { IfOk result (λ touched. touched ≡ readers.items ++ patrons_put changes.now) }
 {
-    let mut touched = Touched::none();
+    let mut touched = Touched { patrons: readers };
     'places: for place in 0..Changes::PLACES {
         match changes.get(place) {
             Some(change) => {
                 if let Some(patron) = patron_put(change) {
-                    touched.push(patron);
+                    touched.push(patron)?;
                 }
             }
-            None => return touched,
+            None => return Ok(touched),
         }
     }
-    touched
+    Ok(touched)
 }

@@ -9,12 +9,13 @@ use Rattle.std.proofs.lemmas.Bool.{eqb-true}
 use Rattle.std.proofs.lemmas.List.{take_more, take_all}
 use Rattle.std.proofs.lemmas.List.Folds.{list_any-append}
 use Rattle.terms.specs.declared.command.Command.{Command}
-use Rattle.terms.specs.declared.command.Command.TheVariants.{Patron}
+use Rattle.terms.specs.declared.command.Command.TheVariants.{Patron, SetCardKey, AmendPatron}
 use Rattle.terms.specs.declared.command.Request.{Request}
 use Rattle.terms.specs.declared.fault.Fault.{Fault}
 use Rattle.terms.specs.declared.fault.Fault.TheVariants.{Memory}
 use Rattle.model.specs.History.{History, PatronFacts, patron_of, patron_after}
 use Rattle.model.specs.Requests.{adds, after_one, event_of}
+use Rattle.model.proofs.Amending.{amended-none}
 use Rattle.desk.specs.Answering.{Learns, Shows}
 use Rattle.desk.specs.Showing.{own_page, AreEnrolled}
 use Rattle.desk.specs.declared.showing.OwnPage.{OwnPage}
@@ -119,6 +120,8 @@ none-or None b e = refl
 
 stays-enrolled : (x : Command) (p : ℕ) (o : Option PatronFacts) → patron_after x p o ≡ None → o ≡ None
 stays-enrolled (Patron n k card_key name) p o e = none-or o _ e
+stays-enrolled (SetCardKey n card_key) p o e = amended-none (n == p) _ o e
+stays-enrolled (AmendPatron n k name) p o e = amended-none (n == p) _ o e
 stays-enrolled _ p o e = e
 
 map-none : {A B : Type 0} (f : A → B) (o : Option A) → option_map f o ≡ None → o ≡ None

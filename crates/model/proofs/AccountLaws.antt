@@ -8,6 +8,7 @@ use Rattle.terms.specs.declared.command.Owner.{Owner}
 use Rattle.terms.specs.declared.row.Sort.{Sort}
 use Rattle.terms.specs.declared.row.Sort.TheVariants.{Fine, Price}
 use Rattle.terms.specs.declared.command.Command.{Command}
+use Rattle.terms.specs.declared.command.Command.TheVariants.{SetCardKey, AmendPatron}
 use Rattle.terms.specs.declared.command.Command.TheVariants.{Patron, CheckOut}
 use Rattle.model.specs.History.{History, today, patron_of, patron_after, next_loan}
 use Rattle.model.specs.Places.{Place, Loan, place}
@@ -19,6 +20,7 @@ use Rattle.model.specs.Requests.{IsLegal}
 use Rattle.model.proofs.Passing.{passed}
 use Rattle.model.proofs.Postings.{settling}
 use Rattle.model.proofs.LoanLaws.{LoanLaws, legal-LoanLaws}
+use Rattle.model.proofs.Amending.{amended-none}
 
 pub record AccountLaws (H : History) : Type 0 where
   pub borrowers : (l : ℕ) (r : LoanFacts) → loan_of H l ≡ Some r → patron_of H r.patron ≡ None → ⊥
@@ -36,6 +38,8 @@ module _ (H : History) (inv : AccountLaws H) (loans_ok : LoanLaws H) (o : Owner)
   -- Who is enrolled stays so.
   enrolled : (x : Command) (p : ℕ) → patron_after x p (patron_of H p) ≡ None → patron_of H p ≡ None
   enrolled (Patron n k card_key name) p e = none-or (patron_of H p) _ e
+  enrolled (SetCardKey n card_key) p e = amended-none (n == p) _ (patron_of H p) e
+  enrolled (AmendPatron n kind name) p e = amended-none (n == p) _ (patron_of H p) e
   enrolled _ p e = e
 
   borrowers-step : (x : Command) → refusal H o x ≡ None → (l : ℕ) (r : LoanFacts) → loan_after H x l (loan_of H l) ≡ Some r
@@ -52,8 +56,7 @@ module _ (H : History) (inv : AccountLaws H) (loans_ok : LoanLaws H) (o : Owner)
           let same : ◌≡◌ {A = LoanFacts} (record { copy = n; patron = p; branch = b; made = today H; terms = unwrap_or (terms_for H p n) no_terms }) r = cc in
           some-not (patron_of H p) k (ap (λ m. patron_of H m) (ap (λ y. y.patron) same) ∙ none)
       go false f = inv.borrowers l r f none
-  borrowers-step (Patron n k card_key name) ok l r e none = inv.borrowers l r e (enrolled (Patron n k card_key name) r.patron none)
-  borrowers-step _ ok l r e none = inv.borrowers l r e none
+  borrowers-step x ok l r e none = inv.borrowers l r e (enrolled x r.patron none)
 
   -- Lines of others.
   line-other : (q p : ℕ) (s : Sort) (l : Option ℕ) (n : ℕ) → (q ≡ p → ⊥) → filter (λ x. x.patron == p) (line_of H q s l n) ≡ []

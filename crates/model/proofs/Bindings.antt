@@ -9,9 +9,10 @@ use Rattle.terms.specs.declared.command.Owner.{Owner}
 use Rattle.terms.specs.declared.row.HoldState.{HoldState}
 use Rattle.terms.specs.declared.row.HoldState.TheVariants.{Waiting, Ready, Filled, Cancelled, Expired}
 use Rattle.terms.specs.declared.command.Command.{Command}
+use Rattle.terms.specs.declared.command.Command.TheVariants.{AmendCopy, Rehome}
 use Rattle.terms.specs.declared.command.Command.TheVariants.{Acquire, CheckOut, CheckIn, CancelHold, Unshelve, UnshelveCancelled, Missing, Withdraw}
 use Rattle.model.specs.History.{Event, History, copy_of, CopyFacts, copies, copies_after, copy_after, holds, holds_after, next_hold}
-use Rattle.model.specs.History.{HoldFacts, hold_made, hold_of, hold_after, numbers_to}
+use Rattle.model.specs.History.{HoldFacts, hold_made, hold_of, hold_after, numbers_to, with_price, with_home}
 use Rattle.model.specs.Places.{Place, Nowhere, Shelf, HoldShelf, Transit, Loan, MissingCopy, WithdrawnCopy, place, state, place_after}
 use Rattle.model.specs.Places.{state_made, line, route, route_from, route_to, state_at, is_kept_for, is_bound_for, is_waiting, is_ready}
 use Rattle.model.specs.Places.{is_begun, is_coming_by, title_of_hold, title_of_copy, goal_of, home_of, fills_from, fills_by, fills_first}
@@ -21,6 +22,8 @@ use Rattle.model.proofs.Passing.{passed}
 use Rattle.model.proofs.MadeHolds.{moves-nothing}
 use Rattle.model.specs.Invariant.{Serves, Fits, Bound}
 use Rattle.model.proofs.Moves.{moved, move-bound, ne-eqb, false-ne}
+use Rattle.model.proofs.Amending.{amended-is_none}
+use Rattle.model.proofs.Rehoming.{rehomed, rehomed-keeps}
 
 or_none : (o : Option CopyFacts) → is_none (option_or o None) ≡ false → is_none o ≡ false
 or_none None e = e
@@ -38,6 +41,8 @@ listed_step : (H : History) (test : ℕ → Bool) (c : ℕ) (k : Command) → (l
     → list_any test (copies_after H k (copies H)) ≡ false → is_none (copy_after k c (copy_of H c)) ≡ false → test c ≡ false
 listed_step H test c (Acquire n title kind home price text) rest shut here =
     listed_acquire H test c n _ (is_none (copy_of H n)) (n == c) refl refl rest shut here
+listed_step H test c (AmendCopy n kind price) rest shut here = rest shut (sym (amended-is_none (n == c) (with_price kind price) (copy_of H c)) ∙ here)
+listed_step H test c (Rehome n home) rest shut here = rest shut (sym (amended-is_none (n == c) (with_home home) (copy_of H c)) ∙ here)
 listed_step H test c _ rest shut here = rest shut here
 
 -- The copies that are there are listed.
@@ -312,6 +317,27 @@ acquire-bound H o k n t kind home price text inv = go (is_none (copy_of H n)) re
         (λ h at. let off : Nowhere ≡ HoldShelf h = sym (inv.nowhere n e) ∙ at in let never : ⊥ = cc in absurd never)
     go false e = inv.bound
 
+-- ---- rehome
+
+module _ (H : History) (n b : ℕ) (inv : IsBound H) where
+  rehome-served : (h : ℕ) → Serves (rehomed H b (place H n)) h
+      → Fits (goal_of H) (rehomed H b (place H n)) h (state H h) × ((d : ℕ) → n ≢ d → Serves (place H d) h → ⊥)
+  rehome-served h = rehomed-keeps H (λ q. Serves q h → Fits (goal_of H) q h (state H h) × ((d : ℕ) → n ≢ d → Serves (place H d) h → ⊥)) b (place H n)
+      (λ s. (inv.bound.fits n h s, λ d ne t. ne (inv.bound.once n d h s t))) (λ s. absurd s)
+
+  rehome-ready : (h : ℕ) → state H h ≡ Some Ready → (rehomed H b (place H n) ≡ HoldShelf h) ⊎ ((d : ℕ) × (n ≢ d) × (place H d ≡ HoldShelf h))
+  rehome-ready h ready = go (n == on.0) refl
+    where
+      on : (c : ℕ) × (place H c ≡ HoldShelf h)
+      on = inv.bound.kept h ready
+
+      go : (x : Bool) → (n == on.0) ≡ x → (rehomed H b (place H n) ≡ HoldShelf h) ⊎ ((d : ℕ) × (n ≢ d) × (place H d ≡ HoldShelf h))
+      go true e = inl (ap (rehomed H b) (ap (place H) (eqb-true n on.0 e) ∙ on.1))
+      go false e = inr (on.0, false-ne n on.0 e, on.1)
+
+  rehome-bound : Bound (goal_of H) (moved n (rehomed H b (place H n)) (place H)) (state H)
+  rehome-bound = move-bound (goal_of H) (place H) (state H) (state H) inv.bound n (rehomed H b (place H n)) (λ d h ne s. refl) rehome-served rehome-ready
+
 -- ---- place-hold
 
 -- A hold that a copy serves was placed.
@@ -552,6 +578,7 @@ unshelve_cancelled-bound H o k g inv ok =
 
 moved-bound : (H : History) (o : Owner) (k : List ℕ) (c : Command) → IsBound H → refusal H o c ≡ None → BoundBy H c None
 moved-bound H o k (Acquire n t kind home price text) inv ok = acquire-bound H o k n t kind home price text inv
+moved-bound H o k (Rehome n b) inv ok = rehome-bound H n b inv
 moved-bound H o k (CheckOut p n b) inv ok = check_out-bound H o k p n b inv
 moved-bound H o k (CheckIn n b) inv ok = check_in-bound H o k n b inv ok
 moved-bound H o k (CancelHold g) inv ok = cancel-bound H o k g inv ok

@@ -4,7 +4,9 @@ use Rattle.std.specs.Prelude.{Option, Some, None, is_none}
 use Rattle.std.specs.Option.{option_or}
 use Rattle.std.proofs.lemmas.Bool.{eqb-true, ltb-true, lt-ltb}
 use Rattle.terms.specs.declared.command.Command.{Command}
-use Rattle.terms.specs.declared.command.Command.TheVariants.{Patron}
+use Rattle.terms.specs.declared.command.Command.TheVariants.{Patron, SetCardKey, AmendPatron}
+use Rattle.model.proofs.Amending.{amended-is_none}
+use Rattle.model.specs.History.{with_card_key, with_kind}
 use Rattle.model.specs.History.{History, PatronFacts, patron_of, patron_after, patrons, patrons_after}
 use Rattle.model.specs.Accounts.{account, charges, credits, owed}
 use Rattle.model.specs.Requests.{IsLegal}
@@ -61,6 +63,8 @@ enrolled-step H (Patron n kind card_key name) p ih e = go (n == p) refl (is_none
     go false f true g (Some r) i e = or-right (n == p) (has (patrons H) p) (ih (ap is_none i))
     go false f false g (Some r) i e = ih (ap is_none i)
     go false f y g None i e = let never : ⊥ = cc in absurd never
+enrolled-step H (SetCardKey n card_key) p ih e = ih (sym (amended-is_none (n == p) (with_card_key card_key) (patron_of H p)) ∙ e)
+enrolled-step H (AmendPatron n kind name) p ih e = ih (sym (amended-is_none (n == p) (with_kind kind name) (patron_of H p)) ∙ e)
 enrolled-step H _ p ih e = ih e
 
 pub enrolled-has : (H : History) (p : ℕ) → is_none (patron_of H p) ≡ false → has (patrons H) p ≡ true

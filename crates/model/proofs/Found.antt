@@ -4,12 +4,13 @@ use Rattle.std.specs.Prelude.{◌↔◌, Option, Some, None, is_none, is_some, f
 use Rattle.std.specs.Option.{option_or}
 use Rattle.std.proofs.lemmas.Bool.{eqb-true, lt-ltb}
 use Rattle.terms.specs.declared.command.Command.{Command}
-use Rattle.terms.specs.declared.command.Command.TheVariants.{Patron, Acquire}
+use Rattle.terms.specs.declared.command.Command.TheVariants.{Patron, Acquire, SetCardKey, AmendPatron, AmendTitle}
 use Rattle.finding.specs.Finding.{finds}
-use Rattle.model.specs.History.{History, patron_of, patron_after, patrons, patrons_after, title_of, title_after, titles, titles_after}
+use Rattle.model.specs.History.{History, with_card_key, with_kind, patron_of, patron_after, patrons, patrons_after, title_of, title_after, titles, titles_after}
 use Rattle.model.specs.Asking.{rising, above, patrons_search, titles_search}
 use Rattle.model.specs.AskingLaws.{PatronsAreFound, TitlesAreFound}
 use Rattle.model.specs.Pages.{name_of, title_text}
+use Rattle.model.proofs.Amending.{amended-is_some}
 use Rattle.model.proofs.Members.{has, filter-passes, filter-has, or-right, or-left}
 use Rattle.model.proofs.Debts.{rising-has}
 use Rattle.model.proofs.Asking.{rising-rises}
@@ -78,6 +79,8 @@ patron-known (e ∷ H) p f = go (patron-known H p) e.command f
     go : (has (patrons H) p ≡ true → is_some (patron_of H p) ≡ true) → (x : Command) → has (patrons_after H x (patrons H)) p ≡ true
         → is_some (patron_after x p (patron_of H p)) ≡ true
     go ih (Patron n kind card_key name) h = known-after n p _ (patrons H) (is_none (patron_of H n)) (patron_of H p) ih h
+    go ih (SetCardKey n card_key) h = amended-is_some (n == p) (with_card_key card_key) (patron_of H p) ∙ ih h
+    go ih (AmendPatron n kind name) h = amended-is_some (n == p) (with_kind kind name) (patron_of H p) ∙ ih h
     go ih _ h = ih h
 
 pub patron-there : (H : History) (p : ℕ) → is_some (patron_of H p) ≡ true → has (patrons H) p ≡ true
@@ -87,6 +90,8 @@ patron-there (e ∷ H) p f = go (patron-there H p) e.command f
     go : (is_some (patron_of H p) ≡ true → has (patrons H) p ≡ true) → (x : Command) → is_some (patron_after x p (patron_of H p)) ≡ true
         → has (patrons_after H x (patrons H)) p ≡ true
     go ih (Patron n kind card_key name) h = has-after n p _ (patrons H) (patron_of H n) (patron_of H p) (λ same. ap (patron_of H) same) ih h
+    go ih (SetCardKey n card_key) h = ih (sym (amended-is_some (n == p) (with_card_key card_key) (patron_of H p)) ∙ h)
+    go ih (AmendPatron n kind name) h = ih (sym (amended-is_some (n == p) (with_kind kind name) (patron_of H p)) ∙ h)
     go ih _ h = ih h
 
 pub patrons-are-found : PatronsAreFound
@@ -106,6 +111,7 @@ title-known (e ∷ H) t f = go (title-known H t) e.command f
     go : (has (titles H) t ≡ true → is_some (title_of H t) ≡ true) → (x : Command) → has (titles_after H x (titles H)) t ≡ true
         → is_some (title_after x t (title_of H t)) ≡ true
     go ih (Acquire copy n kind home price text) h = known-after n t text (titles H) (is_none (title_of H n)) (title_of H t) ih h
+    go ih (AmendTitle n text) h = amended-is_some (n == t) (λ old. text) (title_of H t) ∙ ih h
     go ih _ h = ih h
 
 pub title-there : (H : History) (t : ℕ) → is_some (title_of H t) ≡ true → has (titles H) t ≡ true
@@ -115,6 +121,7 @@ title-there (e ∷ H) t f = go (title-there H t) e.command f
     go : (is_some (title_of H t) ≡ true → has (titles H) t ≡ true) → (x : Command) → is_some (title_after x t (title_of H t)) ≡ true
         → has (titles_after H x (titles H)) t ≡ true
     go ih (Acquire copy n kind home price text) h = has-after n t text (titles H) (title_of H n) (title_of H t) (λ same. ap (title_of H) same) ih h
+    go ih (AmendTitle n text) h = ih (sym (amended-is_some (n == t) (λ old. text) (title_of H t)) ∙ h)
     go ih _ h = ih h
 
 pub titles-are-found : TitlesAreFound

@@ -8,6 +8,7 @@ use Rattle.terms.specs.declared.command.Owner.{Owner}
 use Rattle.terms.specs.declared.row.HoldState.{HoldState}
 use Rattle.terms.specs.declared.row.HoldState.TheVariants.{Waiting, Ready, Filled, Cancelled, Expired}
 use Rattle.terms.specs.declared.command.Command.{Command}
+use Rattle.terms.specs.declared.command.Command.TheVariants.{AmendCopy, Rehome}
 use Rattle.terms.specs.declared.command.Command.TheVariants.{Acquire, CheckOut, CheckIn, CancelHold, Unshelve, UnshelveCancelled, Missing, Withdraw}
 use Rattle.model.specs.History.{History, copy_of, CopyFacts, HoldFacts, hold_made, hold_of, hold_after, next_hold}
 use Rattle.model.specs.Places.{Place, Nowhere, Shelf, HoldShelf, Transit, place, state, line, route, is_kept_for, title_of_copy, goal_of}
@@ -20,6 +21,7 @@ use Rattle.model.proofs.Passing.{passed}
 use Rattle.model.specs.Invariant.{Fits}
 use Rattle.model.proofs.Moves.{moved}
 use Rattle.model.proofs.Bindings.{IsBound, event, event-bound, clash, line-head, kept-is, route-goes, arrived, left, waiting-is, ready-is, not-false}
+use Rattle.model.proofs.Amending.{amended-is_none}
 
 -- ---- unknown copies are nowhere
 
@@ -56,6 +58,9 @@ event-nowhere H o k (Unshelve g) inv ok x none = unshelved-nowhere H g x inv non
 event-nowhere H o k (UnshelveCancelled g) inv ok x none = unshelved-nowhere H g x inv none
 event-nowhere H o k (Missing n) inv ok x none = moved-nowhere H n x _ inv (passed (checks H o (Missing n)) ok).0 none
 event-nowhere H o k (Withdraw n) inv ok x none = moved-nowhere H n x _ inv (passed (checks H o (Withdraw n)) ok).0 none
+event-nowhere H o k (AmendCopy n kind price) inv ok x none = inv.nowhere x (sym (amended-is_none (n == x) _ (copy_of H x)) ∙ none)
+event-nowhere H o k (Rehome n b) inv ok x none =
+    moved-nowhere H n x _ inv (passed (checks H o (Rehome n b)) ok).1.0 (sym (amended-is_none (n == x) _ (copy_of H x)) ∙ none)
 event-nowhere H o k _ inv ok x none = inv.nowhere x none
 
 -- ---- holds that aren't placed have no state

@@ -140,6 +140,7 @@ module _ (H : History) (inv : Invariant H) (settings : SettingRanges H) (before 
     arrives = λ g h p. p.1;
     let_go = λ g h p. p.0;
     acquired = λ b r e. (settings.branches b r e).0;
+    rehomed = λ b r e. (settings.branches b r e).0;
     lent = λ room. (omega arith, omega (arith, room));
     missing = tt;
     withdrawn = tt;

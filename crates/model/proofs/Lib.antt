@@ -6,7 +6,10 @@ mod RowsHolds
 mod RowsReports
 mod RowsAsking
 mod RowsSearching
+mod RowsCorrections
 mod RowsClosedDays
+pub mod Amending
+pub mod Rehoming
 pub mod Passing
 pub mod MadeHolds
 pub mod Least
@@ -42,9 +45,22 @@ pub mod References
 pub mod ClosedDays
 pub mod RepeatedLists
 pub mod UntouchedPatrons
+pub mod Corrections
 pub mod Schemas
 pub mod Asking
 pub mod Debts
 pub mod Searching
 pub mod Found
 pub mod AskedRows
+pub mod Turns
+pub mod Limits
+pub mod OneEachLaw
+pub mod ShownRows
+pub mod StandingLimits
+pub mod ChargedLoans
+pub mod ChargedRows
+pub mod KeptPlaces
+pub mod SameFacts
+pub mod SameSteps
+pub mod SameChecks
+pub mod Anonymous

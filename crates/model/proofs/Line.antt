@@ -10,6 +10,7 @@ use Rattle.terms.specs.declared.command.Owner.{Owner}
 use Rattle.terms.specs.declared.row.HoldState.{HoldState}
 use Rattle.terms.specs.declared.row.HoldState.TheVariants.{Waiting, Ready, Filled, Cancelled, Expired}
 use Rattle.terms.specs.declared.command.Command.{Command}
+use Rattle.terms.specs.declared.command.Command.TheVariants.{Rehome}
 use Rattle.terms.specs.declared.command.Command.TheVariants.{Acquire, CheckOut, CheckIn, BeginDay, CancelHold, Unshelve, UnshelveCancelled, Missing, Withdraw}
 use Rattle.model.specs.History.{Event, History, today, today_after, has_begun, copies, copies_after, copy_of, next_hold, HoldFacts}
 use Rattle.model.specs.History.{hold_made, hold_of, hold_after, holds, holds_after, numbers_to}
@@ -29,6 +30,7 @@ use Rattle.model.proofs.Bindings.{not-true, both, filter-head}
 use Rattle.model.proofs.Legal.{legal-bound, some-none}
 use Rattle.model.proofs.LoanLaws.{legal-LoanLaws}
 use Rattle.model.proofs.Members.{filter-passes, filter-has, numbers-has}
+use Rattle.model.proofs.Rehoming.{rehomed, rehomed-keeps}
 
 -- The hold waits, and isn't coming.
 pub record WaitsForCopy (H : History) (h : ℕ) : Type 0 where
@@ -284,6 +286,10 @@ module _ (H : History) (h : ℕ) (inv : IsBound H) (stands : WaitsForCopy H h) w
   moved-line o k (CancelHold g) ok ne = next-after o k (CancelHold g) (inl (cancel-line o k g (ne-eqb g h (λ same. ne (ap CancelHold same)))))
   moved-line o k (Unshelve g) ok ne = next-after o k (Unshelve g) (unshelve-line o k g ok)
   moved-line o k (UnshelveCancelled g) ok ne = next-after o k (UnshelveCancelled g) (unshelve_cancelled-line o k g ok)
+  moved-line o k (Rehome n b) ok ne = inl (stands.waits, quiet (copies H) _ (move-quiet n (rehomed H b (place H n)) rehomed-off))
+    where
+      rehomed-off : Serves (rehomed H b (place H n)) h → ⊥
+      rehomed-off = rehomed-keeps H (λ q. Serves q h → ⊥) b (place H n) (nobody n) (λ s. s)
   moved-line o k _ ok ne = inl (stands.waits, stands.uncoming)
 
   made-line : (o : Owner) (k : List ℕ) (c : Command) (made : Option HoldFacts) → hold_made c ≡ made → refusal H o c ≡ None

@@ -6,6 +6,7 @@ use Rattle.std.proofs.lemmas.Bool.{eqb-true, eq-eqb, and_parts}
 use Rattle.terms.specs.declared.command.Owner.{Owner}
 use Rattle.terms.specs.declared.row.HoldState.{HoldState}
 use Rattle.terms.specs.declared.command.Command.{Command}
+use Rattle.terms.specs.declared.command.Command.TheVariants.{AmendCopy, Rehome}
 use Rattle.terms.specs.declared.command.Command.TheVariants.{BeginDay, Acquire, CheckOut, CheckIn, Renew, CancelHold, Unshelve}
 use Rattle.terms.specs.declared.command.Command.TheVariants.{UnshelveCancelled, Missing, Withdraw}
 use Rattle.model.specs.History.{History, today, CopyFacts, copy_of, copy_after, loans, loans_after, next_loan, HoldFacts, hold_made}
@@ -19,6 +20,8 @@ use Rattle.model.specs.Accounts.{borrower}
 use Rattle.model.specs.Requests.{IsLegal}
 use Rattle.model.proofs.Bindings.{not-false}
 use Rattle.model.proofs.Passing.{passed}
+use Rattle.model.proofs.Amending.{amended-none}
+use Rattle.model.proofs.Rehoming.{rehomed, rehomed-keeps}
 
 pub record LoanLaws (H : History) : Type 0 where
   pub made_loan : (l : ℕ) (r : LoanFacts) → loan_of H l ≡ Some r → (1 ≤ l) × (l ≤ loans H)
@@ -227,6 +230,13 @@ module _ (H : History) (inv : LoanLaws H) (o : Owner) where
   on_loan-step (CancelHold h) ok c l e = inv.on_loan c l (let_go-loan h (place H c) l e)
   on_loan-step (Unshelve g) ok c l e = inv.on_loan c l (unshelved-loan g c l e)
   on_loan-step (UnshelveCancelled g) ok c l e = inv.on_loan c l (unshelved-loan g c l e)
+  on_loan-step (Rehome n b) ok c l e = go (n == c) refl e
+    where
+      go : (x : Bool) → (n == c) ≡ x → (elim x as (λ _. Place) [ true ↦ rehomed H b (place H n) | false ↦ place H c ]) ≡ Loan l → OnLoan (Rehome n b) c l
+      go true d f =
+          let at : place H n ≡ Loan l = rehomed-keeps H (λ q. q ≡ Loan l → place H n ≡ Loan l) b (place H n) (λ g. g) (λ g. let never : ⊥ = cc in absurd never) f in
+          inv.on_loan c l (subst (λ m. place H m ≡ Loan l) (eqb-true n c d) at)
+      go false d f = inv.on_loan c l f
   on_loan-step _ ok c l e = inv.on_loan c l e
 
   -- The copy of an open loan stays where it is, and isn't taken.
@@ -320,6 +330,14 @@ module _ (H : History) (inv : LoanLaws H) (o : Owner) where
   open_loan-step (CancelHold h) ok l r e none = ap (λ p. place_let_go H (place H) (state H) (is_begun H) h p) (inv.open_loan l r e none) ∙ refl
   open_loan-step (Unshelve g) ok l r e none = unshelved-keeps g r.copy l (inv.open_loan l r e none)
   open_loan-step (UnshelveCancelled g) ok l r e none = unshelved-keeps g r.copy l (inv.open_loan l r e none)
+  open_loan-step (Rehome n b) ok l r e none = go (n == r.copy) refl
+    where
+      at : place H r.copy ≡ Loan l
+      at = inv.open_loan l r e none
+
+      go : (x : Bool) → (n == r.copy) ≡ x → (elim x as (λ _. Place) [ true ↦ rehomed H b (place H n) | false ↦ place H r.copy ]) ≡ Loan l
+      go true d = ap (rehomed H b) (ap (place H) (eqb-true n r.copy d) ∙ at)
+      go false d = at
   open_loan-step _ ok l r e none = inv.open_loan l r e none
 
   -- ---- copies not acquired
@@ -341,6 +359,9 @@ module _ (H : History) (inv : LoanLaws H) (o : Owner) where
   unknown-step (CancelHold h) ok c e = ap (λ p. place_let_go H (place H) (state H) (is_begun H) h p) (inv.unknown c e)
   unknown-step (Unshelve g) ok c e = unshelved-nowhere g c (inv.unknown c e)
   unknown-step (UnshelveCancelled g) ok c e = unshelved-nowhere g c (inv.unknown c e)
+  unknown-step (AmendCopy n kind price) ok c e = inv.unknown c (amended-none (n == c) _ (copy_of H c) e)
+  unknown-step (Rehome n b) ok c e = let k = passed (checks H o (Rehome n b)) ok in
+      untouched n c (rehomed H b (place H n)) k.1.0 (amended-none (n == c) _ (copy_of H c) e)
   unknown-step _ ok c e = inv.unknown c e
 
 -- ---- every legal history

@@ -4,6 +4,7 @@ use Rattle.std.specs.Prelude.{Option, Some, None, is_none, nat_le}
 use Rattle.terms.specs.declared.limits.TheConstants.{LAST_NUMBER}
 use Rattle.terms.specs.declared.command.Owner.{Owner}
 use Rattle.terms.specs.declared.command.Command.{Command}
+use Rattle.terms.specs.declared.command.Command.TheVariants.{AmendCopy, Rehome}
 use Rattle.terms.specs.declared.command.Command.TheVariants.{Acquire, CheckOut, CheckIn, PlaceHold, CancelHold, Unshelve, UnshelveCancelled, Missing, Withdraw}
 use Rattle.model.specs.History.{History, title_of, copy_of, copy_after, copies, copies_after, HoldFacts, hold_made, holds}
 use Rattle.model.specs.Places.{place, state, place_after, limit_after, is_begun}
@@ -36,6 +37,8 @@ pub record MovesNothing (H : History) (c : Command) : Type 0 where
 
 pub moves-nothing : (H : History) (c : Command) (made : HoldFacts) → hold_made c ≡ Some made → MovesNothing H c
 moves-nothing H (Acquire n t kind home price text) made e = let never : ⊥ = cc in absurd never
+moves-nothing H (AmendCopy n kind price) made e = let never : ⊥ = cc in absurd never
+moves-nothing H (Rehome n b) made e = let never : ⊥ = cc in absurd never
 moves-nothing H (CheckOut p n b) made e = let never : ⊥ = cc in absurd never
 moves-nothing H (CheckIn n b) made e = let never : ⊥ = cc in absurd never
 moves-nothing H (CancelHold g) made e = let never : ⊥ = cc in absurd never

@@ -7,8 +7,9 @@ use Rattle.std.proofs.lemmas.Bool.{eqb-true}
 use Rattle.terms.specs.declared.command.Owner.{Owner}
 use Rattle.terms.specs.declared.row.HoldState.TheVariants.{Waiting}
 use Rattle.terms.specs.declared.command.Command.{Command}
+use Rattle.terms.specs.declared.command.Command.TheVariants.{AmendCopy, Rehome}
 use Rattle.terms.specs.declared.command.Command.TheVariants.{Acquire, CheckOut, CheckIn, CancelHold, Unshelve, UnshelveCancelled, Missing, Withdraw}
-use Rattle.model.specs.History.{History, numbers_to, CopyFacts, copy_of, copy_after, next_loan, HoldFacts, hold_made, hold_of, hold_after, holds, next_hold}
+use Rattle.model.specs.History.{with_price, with_home, History, numbers_to, CopyFacts, copy_of, copy_after, next_loan, HoldFacts, hold_made, hold_of, hold_after, holds, next_hold}
 use Rattle.model.specs.Places.{Place, Nowhere, Shelf, HoldShelf, Transit, Loan, MissingCopy, WithdrawnCopy, place, state, place_after}
 use Rattle.model.specs.Places.{place_let_go, place_unshelved, is_kept_for, route_by, route_from, route_to, line_by, goal_of, home_of}
 use Rattle.model.specs.Places.{title_of_copy, title_of_hold, is_begun}
@@ -16,6 +17,8 @@ use Rattle.model.specs.Invariant.{Serves, Fits, Bound}
 use Rattle.model.proofs.Bindings.{filter-head, both}
 use Rattle.model.proofs.MadeHolds.{moves-nothing}
 use Rattle.model.proofs.LoanLaws.{LoanLaws}
+use Rattle.model.proofs.Amending.{amended-column}
+use Rattle.model.proofs.Rehoming.{rehomed, rehomed-keeps, rehomed-shelf}
 
 pub record PlaceLaws (H : History) : Type 0 where
   pub somewhere : (c : ℕ) → place H c ≡ Nowhere → copy_of H c ≡ None
@@ -107,20 +110,6 @@ module _ (H : History) (inv : PlaceLaws H) (loans_ok : LoanLaws H) (bound : Boun
   loan_ok : (c : ℕ) → PlaceOk c (Loan (next_loan H))
   loan_ok c = plain_ok c (Loan (next_loan H)) (λ e. let never : ⊥ = cc in never) (λ n e. let never : ⊥ = cc in never) (λ h s. s)
 
-  -- Each command but acquire and place-hold leaves the titles and homes.
-  step_ok : (x : Command) (c : ℕ) → ((n t k home price : ℕ) (text : List ℕ) → x ≡ Acquire n t k home price text → ⊥) → PlaceOk c (after x c)
-  step_ok (Acquire n t k home price text) c ne = absurd (ne n t k home price text refl)
-  step_ok (CheckOut p n b) c ne = moved_ok n c (Loan (next_loan H)) (loan_ok n)
-  step_ok (CheckIn n b) c ne = moved_ok n c (route_by H (place H) (state H) (is_begun H) n b) (routed_ok n b)
-  step_ok (Missing n) c ne = moved_ok n c MissingCopy
-      (plain_ok n MissingCopy (λ e. let never : ⊥ = cc in never) (λ m e. let never : ⊥ = cc in never) (λ h s. s))
-  step_ok (Withdraw n) c ne = moved_ok n c WithdrawnCopy
-      (plain_ok n WithdrawnCopy (λ e. let never : ⊥ = cc in never) (λ m e. let never : ⊥ = cc in never) (λ h s. s))
-  step_ok (CancelHold h) c ne = let_go_ok h c (place H c) (was_ok c)
-  step_ok (Unshelve g) c ne = unshelved_ok g c
-  step_ok (UnshelveCancelled g) c ne = unshelved_ok g c
-  step_ok _ c ne = was_ok c
-
   abbrev home_in : Option CopyFacts → ℕ
   home_in y = unwrap_or (option_map (λ r. r.home) y) 0
 
@@ -165,6 +154,35 @@ module _ (H : History) (inv : PlaceLaws H) (loans_ok : LoanLaws H) (bound : Boun
       go (Some y) true (Some g) e d f =
           stays_ok c (record { title = t; kind = k; home = home; price = price }) true (Some g) f (λ q. let never : ⊥ = cc in absurd never)
 
+  amended_ok : (here : Bool) (k price c : ℕ) → OkAs (cond here (option_map (with_price k price) (copy_of H c)) (copy_of H c)) (hold_of H) (place H c)
+  amended_ok true k price c = (
+    (λ q. ap (option_map (with_price k price)) (inv.somewhere c q)),
+    (λ n q. ap (λ y. unwrap_or y 0) (amended-column (λ r. r.home) true (with_price k price) (copy_of H c) (λ r. refl)) ∙ inv.at_home c n q),
+    (λ h s. inv.of_title c h s ∙ sym (ap (λ y. unwrap_or y 0) (amended-column (λ r. r.title) true (with_price k price) (copy_of H c) (λ r. refl)))),
+  )
+  amended_ok false k price c = was_ok c
+
+  rehomed_ok : (b c : ℕ) → OkAs (option_map (with_home b) (copy_of H c)) (hold_of H) (rehomed H b (place H c))
+  rehomed_ok b c = (
+    (λ q. ap (option_map (with_home b)) (inv.somewhere c (rehomed-keeps H (λ p. p ≡ Nowhere → place H c ≡ Nowhere) b (place H c)
+        (λ e. e) (λ e. let never : ⊥ = cc in absurd never) q))),
+    (λ n q. let at = rehomed-shelf H b (place H c) n q in home (copy_of H c) refl n at.0 at.1),
+    (λ h s. inv.of_title c h (rehomed-keeps H (λ p. Serves p h → Serves (place H c) h) b (place H c) (λ t. t) (λ t. absurd t) s)
+        ∙ sym (ap (λ y. unwrap_or y 0) (amended-column (λ r. r.title) true (with_home b) (copy_of H c) (λ r. refl)))),
+  )
+    where
+      home : (y : Option CopyFacts) → copy_of H c ≡ y → (n : ℕ) → place H c ≡ Shelf n → b ≡ n → home_in (option_map (with_home b) y) ≡ n
+      home (Some r) e n at same = same
+      home None e n at same = let nowhere : place H c ≡ Nowhere = loans_ok.unknown c e in let never : ⊥ = cc in absurd never
+
+  rehome_ok : (n b c : ℕ) → OkAs (copy_after (Rehome n b) c (copy_of H c)) (hold_of H) (after (Rehome n b) c)
+  rehome_ok n b c = go (n == c) refl
+    where
+      go : (x : Bool) → (n == c) ≡ x → OkAs (cond x (option_map (with_home b) (copy_of H c)) (copy_of H c)) (hold_of H)
+          (elim x as (λ _. Place) [ true ↦ rehomed H b (place H n) | false ↦ place H c ])
+      go true d = subst (λ m. OkAs (option_map (with_home b) (copy_of H c)) (hold_of H) (rehomed H b (place H m))) (sym (eqb-true n c d)) (rehomed_ok b c)
+      go false d = was_ok c
+
   -- A hold that a copy serves was placed.
   served_placed : (unplaced : (h : ℕ) → hold_of H h ≡ None → state H h ≡ None) (c h : ℕ) → Serves (place H c) h → h ≤ holds H
   served_placed unplaced c h s = go (hold_of H h) refl
@@ -197,13 +215,17 @@ module _ (H : History) (inv : PlaceLaws H) (loans_ok : LoanLaws H) (bound : Boun
 
   moved-step : (x : Command) (c : ℕ) → OkAs (copy_after x c (copy_of H c)) (hold_of H) (after x c)
   moved-step (Acquire n t k home price text) c = acquire_ok n t k home price c text
-  moved-step (CheckOut p n b) c = step_ok (CheckOut p n b) c (λ m t k home price text e. let never : ⊥ = cc in never)
-  moved-step (CheckIn n b) c = step_ok (CheckIn n b) c (λ m t k home price text e. let never : ⊥ = cc in never)
-  moved-step (Missing n) c = step_ok (Missing n) c (λ m t k home price text e. let never : ⊥ = cc in never)
-  moved-step (Withdraw n) c = step_ok (Withdraw n) c (λ m t k home price text e. let never : ⊥ = cc in never)
-  moved-step (CancelHold h) c = step_ok (CancelHold h) c (λ m t k home price text e. let never : ⊥ = cc in never)
-  moved-step (Unshelve g) c = step_ok (Unshelve g) c (λ m t k home price text e. let never : ⊥ = cc in never)
-  moved-step (UnshelveCancelled g) c = step_ok (UnshelveCancelled g) c (λ m t k home price text e. let never : ⊥ = cc in never)
+  moved-step (CheckOut p n b) c = moved_ok n c (Loan (next_loan H)) (loan_ok n)
+  moved-step (CheckIn n b) c = moved_ok n c (route_by H (place H) (state H) (is_begun H) n b) (routed_ok n b)
+  moved-step (Missing n) c = moved_ok n c MissingCopy
+      (plain_ok n MissingCopy (λ e. let never : ⊥ = cc in never) (λ m e. let never : ⊥ = cc in never) (λ h s. s))
+  moved-step (Withdraw n) c = moved_ok n c WithdrawnCopy
+      (plain_ok n WithdrawnCopy (λ e. let never : ⊥ = cc in never) (λ m e. let never : ⊥ = cc in never) (λ h s. s))
+  moved-step (CancelHold h) c = let_go_ok h c (place H c) (was_ok c)
+  moved-step (Unshelve g) c = unshelved_ok g c
+  moved-step (UnshelveCancelled g) c = unshelved_ok g c
+  moved-step (AmendCopy n k price) c = amended_ok (n == c) k price c
+  moved-step (Rehome n b) c = rehome_ok n b c
   moved-step _ c = was_ok c
 
   pub place-step : ((h : ℕ) → hold_of H h ≡ None → state H h ≡ None) → (x : Command) (made : Option HoldFacts) → hold_made x ≡ made → (c : ℕ)

@@ -5,6 +5,7 @@ use Rattle.std.specs.Prelude.{Option, Some, None, is_none}
 use Rattle.std.proofs.lemmas.Bool.{and_parts, eqb-true, leb-false}
 use Rattle.terms.specs.declared.command.Owner.{Owner}
 use Rattle.terms.specs.declared.command.Command.{Command}
+use Rattle.terms.specs.declared.command.Command.TheVariants.{Rehome}
 use Rattle.terms.specs.declared.command.Command.TheVariants.{Acquire, CheckOut, CheckIn, CancelHold, Unshelve, UnshelveCancelled, Missing, Withdraw}
 use Rattle.terms.specs.declared.row.HoldState.TheVariants.{Waiting}
 use Rattle.model.specs.History.{History, numbers_to, BranchFacts, branch_of, CopyFacts, copy_of, loans, next_loan, HoldFacts, hold_of, holds}
@@ -16,6 +17,7 @@ use Rattle.model.specs.Refusals.{refusal, checks}
 use Rattle.model.proofs.Passing.{passed}
 use Rattle.model.proofs.Bindings.{filter-head, waiting-is, both, not-false}
 use Rattle.model.proofs.SettingRanges.{there}
+use Rattle.model.proofs.Rehoming.{rehomed, rehomed-keeps}
 
 -- A copy that is somewhere was acquired.
 pub copy-known : (H : History) → Invariant H → (c : ℕ) → (place H c ≡ Nowhere → ⊥)
@@ -36,6 +38,7 @@ pub record KeepsPlaces (H : History) (P : Place → Type 0) : Type 0 where
   pub arrives : (g h : ℕ) → P (Transit g (Some h)) → P (HoldShelf h)
   pub let_go : (g h : ℕ) → P (Transit g (Some h)) → P (Transit g None)
   pub acquired : (b : ℕ) (r : BranchFacts) → branch_of H b ≡ Some r → P (Shelf b)
+  pub rehomed : (b : ℕ) (r : BranchFacts) → branch_of H b ≡ Some r → P (Transit b None)
   pub lent : loans H < LAST_NUMBER → P (Loan (next_loan H))
   pub missing : P MissingCopy
   pub withdrawn : P WithdrawnCopy
@@ -143,6 +146,9 @@ module _ (H : History) (inv : Invariant H) (P : Place
           ])
       go true = moved-keeps n c (Shelf home) (keeps.acquired home branch.0 branch.1)
       go false = keeps.now c
+  place_after-keeps (Rehome n b) ok c =
+      let branch = there (branch_of H b) (not-false _ (passed (checks H o (Rehome n b)) ok).0) in
+      moved-keeps n c (rehomed H b (place H n)) (rehomed-keeps H P b (place H n) (keeps.now n) (keeps.rehomed b branch.0 branch.1))
   place_after-keeps (CheckOut p n b) ok c =
       let room : loans H < LAST_NUMBER = leb-false _ _ (passed (checks H o
       (CheckOut p n b)) ok).1.1.1.1.1.1.1.1.1.1.1.1.1.1.0 in

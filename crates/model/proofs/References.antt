@@ -9,6 +9,7 @@ use Rattle.terms.specs.Texts.{request_text}
 use Rattle.terms.specs.declared.command.Owner.{Owner}
 use Rattle.terms.specs.declared.command.Owner.TheVariants.{Patron as Reader}
 use Rattle.terms.specs.declared.command.Command.{Command}
+use Rattle.terms.specs.declared.command.Command.TheVariants.{SetCardKey, AmendPatron, AmendBranch, AmendTitle, AmendCopy, Rehome}
 use Rattle.terms.specs.declared.command.Command.TheVariants.{Branch, Kind, Rule, Grace, Patron, Acquire, CheckOut}
 use Rattle.terms.specs.declared.row.Sort.{Sort}
 use Rattle.terms.specs.declared.row.Sort.TheVariants.{Fine, Price}
@@ -17,7 +18,7 @@ use Rattle.terms.specs.declared.row.HoldState.TheVariants.{Waiting, Ready, Fille
 use Rattle.model.specs.Calendar.{is_single}
 use Rattle.model.specs.History.{History, today, singles_of, BranchFacts, branch_of, branch_after, KindFacts, kind_of, kind_after, Terms}
 use Rattle.model.specs.History.{rule_of, rule_after, PatronFacts, patron_of, patron_after, title_of, title_after, CopyFacts, copy_of}
-use Rattle.model.specs.History.{copy_after, copies, next_loan, HoldFacts, hold_made, hold_of, hold_after, next_hold}
+use Rattle.model.specs.History.{with_grace, with_card_key, with_kind, with_price, with_home, copy_after, copies, next_loan, HoldFacts, hold_made, hold_of, hold_after, next_hold}
 use Rattle.model.specs.Places.{Place, Nowhere, HoldShelf, Transit, Loan, place, state, is_kept_for, kept_for, goal_of, home_of}
 use Rattle.model.specs.Loans.{LoanFacts, loan_of, loan_after, grace_of, terms_for, no_terms}
 use Rattle.model.specs.Accounts.{Line, Posting, Returned, Lost, Settled, NoPosting, posting, line_of, lines, lines_after, fine_line}
@@ -36,7 +37,8 @@ use Rattle.model.proofs.ClaimsLaw.{map-some, hold-facts, transit-place}
 use Rattle.model.proofs.Invariants.{legal-Invariant}
 use Rattle.model.proofs.PlaceSteps.{KeepsPlaces, place_after-keeps, copy-known}
 use Rattle.model.proofs.Repeats.{same_owner-is}
-use Rattle.model.proofs.SettingRanges.{graced, set-if, make-at, none-some}
+use Rattle.model.proofs.SettingRanges.{set-if, make-at, none-some}
+use Rattle.model.proofs.Amending.{amended-is_some, amended-keeps}
 
 -- There is one.
 abbrev IsThere : {A : Type 0} → Option A → Type 0
@@ -71,6 +73,7 @@ cond-there false x o e = e
 branch-stays : (x : Command) (b : ℕ) (o : Option BranchFacts) → IsThere o
     → IsThere (branch_after x b o)
 branch-stays (Branch n pickup name) b o e = or-there o _ e
+branch-stays (AmendBranch n pickup name) b o e = amended-is_some (n == b) _ o ∙ e
 branch-stays _ b o e = e
 
 kind-stays : (x : Command) (k : ℕ) (o : Option KindFacts) → IsThere o → IsThere (kind_after x k o)
@@ -80,14 +83,19 @@ kind-stays _ k o e = e
 patron-stays : (x : Command) (p : ℕ) (o : Option PatronFacts) → IsThere o
     → IsThere (patron_after x p o)
 patron-stays (Patron n k card_key name) p o e = or-there o _ e
+patron-stays (SetCardKey n card_key) p o e = amended-is_some (n == p) _ o ∙ e
+patron-stays (AmendPatron n k name) p o e = amended-is_some (n == p) _ o ∙ e
 patron-stays _ p o e = e
 
 title-stays : (x : Command) (t : ℕ) (o : Option (List ℕ)) → IsThere o → IsThere (title_after x t o)
 title-stays (Acquire n m k home price text) t o e = or-there o _ e
+title-stays (AmendTitle n text) t o e = amended-is_some (n == t) _ o ∙ e
 title-stays _ t o e = e
 
 copy-stays : (x : Command) (c : ℕ) (o : Option CopyFacts) → IsThere o → IsThere (copy_after x c o)
 copy-stays (Acquire n m k home price text) c o e = or-there o _ e
+copy-stays (AmendCopy n k price) c o e = amended-is_some (n == c) _ o ∙ e
+copy-stays (Rehome n home) c o e = amended-is_some (n == c) _ o ∙ e
 copy-stays _ c o e = e
 
 loan-stays : (H : History) (x : Command) (l : ℕ) (o : Option LoanFacts) → IsThere o
@@ -145,7 +153,7 @@ module _ (H : History) (inv : Invariant H) (before : ReferenceLaws H) (o : Owner
       (λ d. subst (λ a. IsThere (kind_of H a)) (eqb-true n k (and_parts (n == k)
       (m == c) d).0) known) (before.rules k c) t e
   rules-step (Grace n m days) ok k c t e =
-      graced (λ _. IsThere (kind_of H k)) ((n == k) && (m == c)) days (rule_of H k c) (before.rules k c) (λ _ there. there) t e
+      amended-keeps (λ _. IsThere (kind_of H k)) ((n == k) && (m == c)) (with_grace days) (rule_of H k c) (before.rules k c) (λ _ there. there) t e
   rules-step x ok k c t e = kind-stays x k (kind_of H k) (before.rules k c t e)
 
   patrons-step : (x : Command) → refusal H o x ≡ None → (p : ℕ) (r : PatronFacts)
@@ -156,6 +164,11 @@ module _ (H : History) (inv : Invariant H) (before : ReferenceLaws H) (o : Owner
       make-at (λ _ q. IsThere (kind_of H q.kind)) n p
       (record { kind = k; card_key = card_key; name = name }) (patron_of H p) known
       (before.patrons p) r e
+  patrons-step (SetCardKey n card_key) ok p r e =
+      amended-keeps (λ q. IsThere (kind_of H q.kind)) (n == p) (with_card_key card_key) (patron_of H p) (before.patrons p) (λ z was. was) r e
+  patrons-step (AmendPatron n k name) ok p r e =
+      let known : IsThere (kind_of H k) = is_none-there (kind_of H k) (passed (checks H o (AmendPatron n k name)) ok).1.1.0 in
+      amended-keeps (λ q. IsThere (kind_of H q.kind)) (n == p) (with_kind k name) (patron_of H p) (before.patrons p) (λ z was. known) r e
   patrons-step x ok p r e = kind-stays x r.kind (kind_of H r.kind) (before.patrons p r e)
 
   -- The title and the home of a copy after a command.
@@ -176,6 +189,11 @@ module _ (H : History) (inv : Invariant H) (before : ReferenceLaws H) (o : Owner
             (Acquire n t k home price text) q.title (title_of H q.title) old.0,
         old.1,
       )) r e
+  copies-step (AmendCopy n k price) ok c r e =
+      amended-keeps (CopyThere (AmendCopy n k price)) (n == c) (with_price k price) (copy_of H c) (before.copies c) (λ z was. was) r e
+  copies-step (Rehome n home) ok c r e =
+      let known : IsThere (branch_of H home) = not-false _ (passed (checks H o (Rehome n home)) ok).0 in
+      amended-keeps (CopyThere (Rehome n home)) (n == c) (with_home home) (copy_of H c) (before.copies c) (λ z was. (was.0, known)) r e
   copies-step x ok c r e =
       let old = before.copies c r e in (
         title-stays x r.title (title_of H r.title) old.0,
@@ -256,6 +274,7 @@ module _ (H : History) (inv : Invariant H) (before : ReferenceLaws H) (o : Owner
     arrives = λ g h p. tt;
     let_go = λ g h p. p;
     acquired = λ b r e. tt;
+    rehomed = λ b r e. some-there (branch_of H b) r e;
     lent = λ room. tt;
     missing = tt;
     withdrawn = tt;

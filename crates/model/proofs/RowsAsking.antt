@@ -14,11 +14,11 @@ use Rattle.model.specs.Requests.{after, replies}
 use Rattle.model.proofs.Rows.{by_desk, by_patron, desk, Gives, gives, ground}
 
 -- Lines, parted by newlines.
-abbrev shown_lines : List String → List ℕ
+abbrev pub shown_lines : List String → List ℕ
 shown_lines texts = join_with_byte 10 (map codes texts)
 
 -- The small library after these commands of the desk.
-abbrev then_after : List Command → History
+abbrev pub then_after : List Command → History
 then_after commands = after ground (desk commands)
 
 -- ---- in a new library

@@ -10,11 +10,12 @@ use Rattle.std.specs.List.{list_all, IsDistinct, AllByRecursion}
 use Rattle.std.proofs.lemmas.Bool.{and_parts, or_parts, eqb-true, eq-eqb, leb-true, leb-false, ltb-true}
 use Rattle.terms.specs.declared.command.Owner.{Owner}
 use Rattle.terms.specs.declared.command.Command.{Command}
+use Rattle.terms.specs.declared.command.Command.TheVariants.{AmendBranch, AmendCopy, Rehome}
 use Rattle.terms.specs.declared.command.Command.TheVariants.{BeginDay, Branch, Week, CloseDay, OpenDay, Rule, Grace, Acquire}
 use Rattle.model.specs.Calendar.{is_single}
 use Rattle.model.specs.Checks.{is_within, is_within_limits, is_small_number, is_large_number}
 use Rattle.model.specs.History.{History, today, today_after, week_of, week_after, singles_of, singles_after, BranchFacts, branch_of}
-use Rattle.model.specs.History.{branch_after, Terms, rule_of, rule_after, CopyFacts, copy_of, copy_after}
+use Rattle.model.specs.History.{branch_after, Terms, rule_of, rule_after, CopyFacts, copy_of, copy_after, with_grace, with_pickup, with_price, with_home}
 use Rattle.model.specs.Refusals.{refusal, checks, has_branch}
 use Rattle.model.specs.Requests.{IsLegal}
 use Rattle.model.specs.DueDays.{IsWholeWeek, HasWholeWeeks}
@@ -23,7 +24,7 @@ use Rattle.model.proofs.Moves.{ne-eqb}
 use Rattle.model.proofs.Bindings.{not-false, clash}
 use Rattle.model.proofs.LoanLaws.{none-or}
 use Rattle.model.proofs.OpenDays.{length-filter-le}
-use Rattle.model.proofs.SettingRanges.{graced}
+use Rattle.model.proofs.Amending.{amended-none, amended-keeps}
 
 pub record SettingLaws (H : History) : Type 0 where
   pub today_from : FIRST_DAY ≤ today H
@@ -160,6 +161,7 @@ module _ (H : History) (inv : SettingLaws H) (o : Owner) where
       go : (x : Bool) → (n == b) ≡ x → cond x (filter (λ e. not (d == e)) (singles_of H b)) (singles_of H b) ≡ []
       go true e = absurd (other-branch n b has none e)
       go false e = (inv.unset b none).1
+  unset-step (AmendBranch n pickup name) ok b none = inv.unset b (amended-none (n == b) _ (branch_of H b) none)
   unset-step _ ok b none = inv.unset b none
 
   terms-step : (x : Command) → refusal H o x ≡ None → (k c : ℕ) (t : Terms) → rule_after x k c (rule_of H k c) ≡ Some t → (t.period ≤ 365) × (t.cap ≤ 100000)
@@ -175,7 +177,7 @@ module _ (H : History) (inv : SettingLaws H) (o : Owner) where
           subst (λ q. (q.period ≤ 365) × (q.cap ≤ 100000)) same (rule-short n m period renewals rate most limits)
       go false f = inv.terms k c t f
   terms-step (Grace n m days) ok k c t e =
-      graced (λ q. (q.period ≤ 365) × (q.cap ≤ 100000)) ((n == k) && (m == c)) days (rule_of H k c) (inv.terms k c) (λ z was. was) t e
+      amended-keeps (λ q. (q.period ≤ 365) × (q.cap ≤ 100000)) ((n == k) && (m == c)) (with_grace days) (rule_of H k c) (inv.terms k c) (λ z was. was) t e
   terms-step _ ok k c t e = inv.terms k c t e
 
   pickups-step : (x : Command) → refusal H o x ≡ None → (b : ℕ) (r : BranchFacts) → branch_after x b (branch_of H b) ≡ Some r → r.pickup ≤ 60
@@ -191,6 +193,9 @@ module _ (H : History) (inv : SettingLaws H) (o : Owner) where
           let same : ◌≡◌ {A = BranchFacts} (record { pickup = pickup; name = name }) r = cc in
           subst (λ q. q ≤ 60) (ap (λ q. q.pickup) same) (branch-short n pickup name limits)
       go None false d f = let never : ⊥ = cc in absurd never
+  pickups-step (AmendBranch n pickup name) ok b r e =
+      let short = within-le 0 60 pickup (and_parts (is_small_number n) _ (not-false _ (passed (checks H o (AmendBranch n pickup name)) ok).0)).1 in
+      amended-keeps (λ q. q.pickup ≤ 60) (n == b) (with_pickup pickup name) (branch_of H b) (inv.pickups b) (λ z was. short) r e
   pickups-step _ ok b r e = inv.pickups b r e
 
   prices-step : (x : Command) → refusal H o x ≡ None → (c : ℕ) (r : CopyFacts) → copy_after x c (copy_of H c) ≡ Some r → r.price ≤ 1000000
@@ -206,6 +211,10 @@ module _ (H : History) (inv : SettingLaws H) (o : Owner) where
           let same : ◌≡◌ {A = CopyFacts} (record { title = t; kind = k; home = home; price = price }) r = cc in
           subst (λ q. q ≤ 1000000) (ap (λ q. q.price) same) (price-small n t k home price text limits)
       go None false d f = let never : ⊥ = cc in absurd never
+  prices-step (AmendCopy n k price) ok c r e =
+      let small = within-le 0 1000000 price (and_parts (is_small_number k) _ (not-false _ (passed (checks H o (AmendCopy n k price)) ok).0)).1 in
+      amended-keeps (λ q. q.price ≤ 1000000) (n == c) (with_price k price) (copy_of H c) (inv.prices c) (λ z was. small) r e
+  prices-step (Rehome n b) ok c r e = amended-keeps (λ q. q.price ≤ 1000000) (n == c) (with_home b) (copy_of H c) (inv.prices c) (λ z was. was) r e
   prices-step _ ok c r e = inv.prices c r e
 
 -- ---- every legal history

@@ -1,6 +1,6 @@
 -- In every legal history whose commands have their forms: what was set and made is within its limits.
 use Rattle.std.proofs.Common.{◌≡◌, ℕ, ◌≤◌, ◌==◌, Bool, true, false, cond, not, ◌&&◌, ◌||◌, List, [], ◌∷◌, refl, subst, arith}
-use Rattle.std.specs.Prelude.{Option, Some, None, is_some, option_map, filter}
+use Rattle.std.specs.Prelude.{Option, Some, None, is_some, filter}
 use Rattle.std.specs.Option.{option_or}
 use Rattle.std.specs.List.{list_all, list_any}
 use Rattle.std.proofs.lemmas.Bool.{and_parts, eqb-true, leb-true}
@@ -11,17 +11,19 @@ use Rattle.terms.specs.Laws.{IsCommand}
 use Rattle.terms.specs.Limits.{IsSmall, IsLarge, IsPeriod}
 use Rattle.terms.specs.declared.command.Owner.{Owner}
 use Rattle.terms.specs.declared.command.Command.{Command}
+use Rattle.terms.specs.declared.command.Command.TheVariants.{SetCardKey, AmendPatron, AmendBranch, AmendTitle, AmendCopy, Rehome}
 use Rattle.terms.specs.declared.command.Command.TheVariants.{Branch, Week, CloseDay, OpenDay, Kind, Rule, Grace, Patron, Acquire}
 use Rattle.model.specs.Calendar.{is_single}
 use Rattle.model.specs.Checks.{is_within, is_within_limits, is_small_number, is_large_number}
 use Rattle.model.specs.History.{History, week_of, week_after, singles_of, singles_after, BranchFacts, branch_of, branch_after, KindFacts}
 use Rattle.model.specs.History.{kind_of, kind_after, Terms, with_grace, rule_of, rule_after, PatronFacts, patron_of, patron_after, title_of}
-use Rattle.model.specs.History.{title_after, CopyFacts, copy_of, copy_after}
+use Rattle.model.specs.History.{title_after, CopyFacts, copy_of, copy_after, with_pickup, with_card_key, with_kind, with_price, with_home}
 use Rattle.model.specs.Refusals.{refusal, checks, has_branch}
 use Rattle.model.specs.Requests.{IsLegal}
 use Rattle.model.specs.Forms.{HasForms}
 use Rattle.model.proofs.Passing.{passed}
 use Rattle.model.proofs.Bindings.{not-false}
+use Rattle.model.proofs.Amending.{amended-keeps}
 
 -- ---- what each row keeps to
 
@@ -81,13 +83,6 @@ pub make-at : {A : Type 0} (P : ℕ → A → Type 0) (n k : ℕ) (f : A) (y : O
     → option_or y (cond (n == k) (Some f) None) ≡ Some r → P k r
 make-at P n k f (Some z) new old r e = old r e
 make-at P n k f None new old r e = set-at P n k f None new (λ z d. absurd (none-some z d)) r e
-
--- The terms of a rule, which a grace command may have given other grace days, keep to what they have to if those do and the terms before did.
-pub graced : (P : Terms → Type 0) (x : Bool) (days : ℕ) (y : Option Terms) → ((z : Terms) → y ≡ Some z → P z) → ((z : Terms) → P z → P (with_grace days z))
-    → (t : Terms) → cond x (option_map (with_grace days) y) y ≡ Some t → P t
-graced P true days (Some z) old new t e = subst P (some-same _ t e) (new z (old z refl))
-graced P true days None old new t e = absurd (none-some t e)
-graced P false days y old new t e = old t e
 
 -- ---- limits
 
@@ -155,6 +150,10 @@ module _ (H : History) (inv : SettingRanges H) (o : Owner) where
       let limits = and_parts (is_small_number n) (is_within 0 60 pickup) (not-false _ (passed (checks H o (Branch n pickup name)) ok).0) in
       make-at BranchIn n b (record { pickup = pickup; name = name }) (branch_of H b)
       (within 1 99 n limits.0, (within 0 60 pickup limits.1).1, form.1.1.0) (inv.branches b) r e
+  branches-step (AmendBranch n pickup name) form ok b r e =
+      let limits = and_parts (is_small_number n) (is_within 0 60 pickup) (not-false _ (passed (checks H o (AmendBranch n pickup name)) ok).0) in
+      amended-keeps (BranchIn b) (n == b) (with_pickup pickup name) (branch_of H b) (inv.branches b)
+      (λ z was. (was.0, (within 0 60 pickup limits.1).1, form.1.1.0)) r e
   branches-step _ form ok b r e = inv.branches b r e
 
   weeks-step : (x : Command) → IsCommand x → refusal H o x ≡ None → (b : ℕ) → AreWeekdays (week_after x b (week_of H b))
@@ -202,7 +201,7 @@ module _ (H : History) (inv : SettingRanges H) (o : Owner) where
       (subst (λ a. RuleIn a m terms) (eqb-true n k q.0) new)) (inv.rules k c) t e
   rules-step (Grace n m days) ok k c t e =
       let most = grace-within n m days (not-false _ (passed (checks H o (Grace n m days)) ok).0) in
-      graced (RuleIn k c) ((n == k) && (m == c)) days (rule_of H k c) (inv.rules k c) (λ z was. (was.0, was.1, (was.2.0, was.2.1, was.2.2, was.2.3, most))) t e
+      amended-keeps (RuleIn k c) ((n == k) && (m == c)) (with_grace days) (rule_of H k c) (inv.rules k c) (λ z was. (was.0, was.1, (was.2.0, was.2.1, was.2.2, was.2.3, most))) t e
   rules-step _ ok k c t e = inv.rules k c t e
 
   patrons-step : (x : Command) → IsCommand x → refusal H o x ≡ None → (p : ℕ) (r : PatronFacts) → patron_after x p (patron_of H p) ≡ Some r → PatronIn p r
@@ -210,12 +209,19 @@ module _ (H : History) (inv : SettingRanges H) (o : Owner) where
       let limits = and_parts (is_large_number n) (is_small_number k) (not-false _ (passed (checks H o (Patron n k card_key name)) ok).0) in
       make-at PatronIn n p (record { kind = k; card_key = card_key; name = name }) (patron_of H p)
       (within 1 9999999 n limits.0, within 1 99 k limits.1, form.1.1.0, form.1.1.1.0) (inv.patrons p) r e
+  patrons-step (SetCardKey n card_key) form ok p r e =
+      amended-keeps (PatronIn p) (n == p) (with_card_key card_key) (patron_of H p) (inv.patrons p) (λ z was. (was.0, was.1, form.1.0, was.3)) r e
+  patrons-step (AmendPatron n k name) form ok p r e =
+      let small = within 1 99 k (not-false _ (passed (checks H o (AmendPatron n k name)) ok).0) in
+      amended-keeps (PatronIn p) (n == p) (with_kind k name) (patron_of H p) (inv.patrons p) (λ z was. (was.0, small, was.2, form.1.1.0)) r e
   patrons-step _ form ok p r e = inv.patrons p r e
 
   titles-step : (x : Command) → IsCommand x → refusal H o x ≡ None → (t : ℕ) (text : List ℕ) → title_after x t (title_of H t) ≡ Some text → TitleIn t text
   titles-step (Acquire c n k home price name) form ok t text e =
       let limits = copy-within c n k home price name (not-false _ (passed (checks H o (Acquire c n k home price name)) ok).0) in
       make-at TitleIn n t name (title_of H t) (limits.1, form.1.1.1.1.1.0) (inv.titles t) text e
+  titles-step (AmendTitle n name) form ok t text e =
+      amended-keeps (TitleIn t) (n == t) (λ old. name) (title_of H t) (inv.titles t) (λ z was. (was.0, form.1.0)) text e
   titles-step _ form ok t text e = inv.titles t text e
 
   copies-step : (x : Command) → refusal H o x ≡ None → (c : ℕ) (r : CopyFacts) → copy_after x c (copy_of H c) ≡ Some r → CopyIn c r
@@ -224,6 +230,13 @@ module _ (H : History) (inv : SettingRanges H) (o : Owner) where
       let limits = copy-within n t k home price text (not-false _ pass.0) in
       make-at CopyIn n c (record { title = t; kind = k; home = home; price = price }) (copy_of H c)
       (limits.0, limits.1, limits.2, small-branch home pass.1.0, limits.3) (inv.copies c) r e
+  copies-step (AmendCopy n k price) ok c r e =
+      let limits = and_parts (is_small_number k) (is_within 0 1000000 price) (not-false _ (passed (checks H o (AmendCopy n k price)) ok).0) in
+      amended-keeps (CopyIn c) (n == c) (with_price k price) (copy_of H c) (inv.copies c)
+      (λ z was. (was.0, was.1, within 1 99 k limits.0, was.3, (within 0 1000000 price limits.1).1)) r e
+  copies-step (Rehome n b) ok c r e =
+      let small = small-branch b (passed (checks H o (Rehome n b)) ok).0 in
+      amended-keeps (CopyIn c) (n == c) (with_home b) (copy_of H c) (inv.copies c) (λ z was. (was.0, was.1, was.2, small, was.4)) r e
   copies-step _ ok c r e = inv.copies c r e
 
 -- ---- every legal history

@@ -1,5 +1,5 @@
 -- A legal history agrees with the one before its last event on each patron whose own rows it keeps.
-use Rattle.std.proofs.Common.{◌≡◌, ℕ, suc, ◌+◌, ◌-◌, ◌≤◌, ◌==◌, Bool, true, false, cond, ◌&&◌, ◌||◌, List, [], ◌∷◌, ◌++◌, refl, sym, ◌∙◌, ap, arith}
+use Rattle.std.proofs.Common.{◌≡◌, ℕ, suc, ◌+◌, ◌-◌, ◌≤◌, ◌==◌, Bool, true, false, cond, ◌&&◌, ◌||◌, [], ◌∷◌, ◌++◌, refl, sym, ◌∙◌, ap, arith}
 use Rattle.std.specs.Prelude.{Option, Some, None, option_map, unwrap_or, is_some, is_none, filter}
 use Rattle.std.specs.Option.{option_or}
 use Rattle.std.specs.List.{list_any}
@@ -7,10 +7,13 @@ use Rattle.std.proofs.lemmas.Bool.{eqb-true, and_parts}
 use Rattle.std.proofs.lemmas.List.{append-nil}
 use Rattle.std.proofs.lemmas.List.Elements.{filter-append, filter_agree}
 use Rattle.terms.specs.declared.command.Command.{Command}
-use Rattle.terms.specs.declared.command.Command.TheVariants.{Patron, Acquire, CheckOut}
+use Rattle.terms.specs.declared.command.Command.TheVariants.{Acquire, AmendCopy, Rehome, CheckOut}
+use Rattle.terms.specs.declared.row.PatronRow.{PatronRow}
+use Rattle.terms.specs.declared.row.TitleRow.{TitleRow}
 use Rattle.terms.specs.declared.row.HoldState.{HoldState}
-use Rattle.model.specs.History.{Event, History, numbers_to, PatronFacts, patron_of, patron_after, title_of, title_after, CopyFacts, copy_of}
-use Rattle.model.specs.History.{copy_after, loans, loans_after, next_loan, HoldFacts, hold_made, hold_of, hold_after, holds, holds_after}
+use Rattle.terms.specs.declared.row.HoldState.TheVariants.{Waiting, Ready, Filled, Cancelled, Expired}
+use Rattle.model.specs.History.{Event, History, numbers_to, PatronFacts, patron_of, title_of, CopyFacts, copy_of}
+use Rattle.model.specs.History.{with_price, with_home, copy_after, loans, loans_after, next_loan, HoldFacts, hold_made, hold_of, hold_after, holds, holds_after}
 use Rattle.model.specs.History.{next_hold, today}
 use Rattle.model.specs.Places.{state, is_waiting, is_ready, title_of_copy, title_of_hold}
 use Rattle.model.specs.Loans.{LoanFacts, loan_of, loan_after, terms_for, no_terms, ended, due, renewals_left, open_loans, title_of_loan}
@@ -20,7 +23,8 @@ use Rattle.model.specs.Picture.{picture, patron_columns, copy_columns, loan_colu
 use Rattle.model.specs.Invariant.{Invariant}
 use Rattle.model.specs.References.{HasReferences}
 use Rattle.model.specs.Requests.{IsLegal}
-use Rattle.model.specs.Laws.{AgreesOn, KeepsOwnRows}
+use Rattle.model.specs.Laws.{AgreesOn, KeepsOwnRows, KeepsOwnTitles, is_active_state}
+use Rattle.model.proofs.Amending.{amended-column}
 use Rattle.model.proofs.Members.{filter-passes}
 use Rattle.model.proofs.ClaimsLaw.{map-some, hold-facts}
 use Rattle.model.proofs.Invariants.{legal-Invariant}
@@ -33,17 +37,20 @@ made-stays : {A : Type 0} (o made : Option A) (x : A) → o ≡ Some x → optio
 made-stays (Some y) made x e = e
 made-stays None made x e = absurd (none-some x e)
 
-patron-stays : (x : Command) (H : History) (p : ℕ) (r : PatronFacts) → patron_of H p ≡ Some r → patron_after x p (patron_of H p) ≡ Some r
-patron-stays (Patron n k card_key name) H p r e = made-stays (patron_of H p) _ r e
-patron-stays _ H p r e = e
+-- A patron's columns say all that is known of the patron.
+columns-tell : (H K : History) (p : ℕ) (f g : PatronFacts) → patron_columns H p f ≡ patron_columns K p g → (f ≡ g) × (owed H p ≡ owed K p)
+columns-tell H K p f g same =
+    (ap {A = PatronRow} {B = PatronFacts} (λ r. record { kind = r.kind; card_key = r.card_key; name = r.name }) same, ap (λ (r : PatronRow). r.owed) same)
 
-title-stays : (x : Command) (H : History) (t : ℕ) (r : List ℕ) → title_of H t ≡ Some r → title_after x t (title_of H t) ≡ Some r
-title-stays (Acquire n m k home price text) H t r e = made-stays (title_of H t) _ r e
-title-stays _ H t r e = e
-
-copy-stays : (x : Command) (H : History) (c : ℕ) (r : CopyFacts) → copy_of H c ≡ Some r → copy_after x c (copy_of H c) ≡ Some r
-copy-stays (Acquire n m k home price text) H c r e = made-stays (copy_of H c) _ r e
-copy-stays _ H c r e = e
+-- The title of a copy stays.
+copy-title-stays : (x : Command) (H : History) (c : ℕ) (r : CopyFacts) → copy_of H c ≡ Some r
+    → option_map (λ q. q.title) (copy_after x c (copy_of H c)) ≡ Some r.title
+copy-title-stays (Acquire n m k home price text) H c r e = ap (option_map (λ q. q.title)) (made-stays (copy_of H c) _ r e)
+copy-title-stays (AmendCopy n kind price) H c r e =
+    amended-column (λ q. q.title) (n == c) (with_price kind price) (copy_of H c) (λ q. refl) ∙ ap (option_map (λ q. q.title)) e
+copy-title-stays (Rehome n home) H c r e =
+    amended-column (λ q. q.title) (n == c) (with_home home) (copy_of H c) (λ q. refl) ∙ ap (option_map (λ q. q.title)) e
+copy-title-stays _ H c r e = ap (option_map (λ q. q.title)) e
 
 -- What is made under a new number leaves what has another.
 set-stays : {A : Type 0} (n k last : ℕ) (made : A) (o : Option A) (x : A) → n ≡ last + 1 → k ≤ last → o ≡ Some x → cond (n == k) (Some made) o ≡ Some x
@@ -85,6 +92,10 @@ holds-more (Some made) n test off = one-more test n off
 holds-more None n test off = refl
 
 -- ---- tests of loans and holds
+
+none-is : {A : Type 0} (o : Option A) → is_none o ≡ true → o ≡ None
+none-is None e = refl
+none-is (Some x) e = let never : ⊥ = cc in absurd never
 
 -- An open loan of the patron.
 abbrev own_open : ℕ → Option LoanFacts → Option ℕ → Bool
@@ -134,7 +145,8 @@ record SameHold (H K : History) (h : ℕ) (f : HoldFacts) : Type 0 where
   later : hold_of K h ≡ Some f
   states : state H h ≡ state K h
 
-module _ (e : Event) (H : History) (p : ℕ) (legal : IsLegal (e ∷ H)) (keeps : KeepsOwnRows (picture H) (picture (e ∷ H)) p) where
+module _ (e : Event) (H : History) (p : ℕ) (legal : IsLegal (e ∷ H)) (keeps : KeepsOwnRows (picture H) (picture (e ∷ H)) p)
+    (titles : KeepsOwnTitles (picture H) (picture (e ∷ H)) p) where
   old : Invariant H
   old = legal-Invariant H legal.1
 
@@ -160,10 +172,10 @@ module _ (e : Event) (H : History) (p : ℕ) (legal : IsLegal (e ∷ H)) (keeps 
 
       go : (o : Option PatronFacts) → patron_of H p ≡ o → SamePatron
       go (Some f) at =
-          let now : patron_of (e ∷ H) p ≡ Some f = patron-stays e.command H p f at in
-          let same : patron_columns H p f ≡ patron_columns (e ∷ H) p f = some-same (patron_columns H p f) (patron_columns (e ∷ H) p f)
-          (sym (ap (option_map (patron_columns H p)) at) ∙ keeps.patron ∙ ap (option_map (patron_columns (e ∷ H) p)) now) in
-          (at ∙ sym now, ap (λ r. r.owed) same)
+          let now = map-some (patron_columns (e ∷ H) p) (patron_of (e ∷ H) p) (patron_columns H p f)
+          (sym keeps.patron ∙ ap (option_map (patron_columns H p)) at) in
+          let same = columns-tell (e ∷ H) H p now.0 f now.2 in
+          (at ∙ sym (now.1 ∙ ap Some same.0), sym same.1)
       go None at =
           let now : patron_of (e ∷ H) p ≡ None = unknown at (patron_of (e ∷ H) p) refl in
           (at ∙ sym now, ap (λ xs. charges xs - credits xs) (old.strangers p at ∙ sym (new.strangers p now)))
@@ -214,38 +226,49 @@ module _ (e : Event) (H : History) (p : ℕ) (legal : IsLegal (e ∷ H)) (keeps 
       (ap (λ o. own_open p o (ended H (loans H + 1))) (no-loan H old (loans H + 1) refl)))
       ∙ filter_agree (λ l. own_open p (loan_of H l) (ended H l)) (λ l. own_open p (loan_of (e ∷ H) l) (ended (e ∷ H) l)) loan-test (numbers_to (loans (e ∷ H)))
 
-  lent : (l : ℕ) → list_any (λ k. k == l) (open_loans H p) ≡ true → (f : LoanFacts) × SameLoan H (e ∷ H) l f
+  lent : (l : ℕ) → list_any (λ k. k == l) (open_loans H p) ≡ true → (f : LoanFacts) × SameLoan H (e ∷ H) l f × (f.patron ≡ p) × (ended (e ∷ H) l ≡ None)
   lent l among = go (loan_of H l) refl
     where
-      own : unwrap_or (option_map (λ r. r.patron == p) (loan_of H l)) false ≡ true
-      own = (and_parts _ _ (filter-passes (λ k. own_open p (loan_of H k) (ended H k)) l (numbers_to (loans H)) among)).0
+      test : (unwrap_or (option_map (λ r. r.patron == p) (loan_of H l)) false ≡ true) × ((is_some (loan_of H l) && is_none (ended H l)) ≡ true)
+      test = and_parts (unwrap_or (option_map (λ r. r.patron == p) (loan_of H l)) false) (is_some (loan_of H l) && is_none (ended H l))
+          (filter-passes (λ k. own_open p (loan_of H k) (ended H k)) l (numbers_to (loans H)) among)
 
-      go : (o : Option LoanFacts) → loan_of H l ≡ o → (f : LoanFacts) × SameLoan H (e ∷ H) l f
+      unended : ended H l ≡ None
+      unended = none-is (ended H l) (and_parts (is_some (loan_of H l)) (is_none (ended H l)) test.1).1
+
+      go : (o : Option LoanFacts) → loan_of H l ≡ o → (f : LoanFacts) × SameLoan H (e ∷ H) l f × (f.patron ≡ p) × (ended (e ∷ H) l ≡ None)
       go (Some f) at =
-          let is : (f.patron == p) ≡ true = sym (ap (λ o. unwrap_or (option_map (λ r. r.patron == p) o) false) at) ∙ own in
-          (f, own-loan l f (loan-stays e.command H old l f at) (eqb-true f.patron p is))
-      go None at = let no : false ≡ true = sym (ap (λ o. unwrap_or (option_map (λ r. r.patron == p) o) false) at) ∙ own in let never : ⊥ = cc in absurd never
+          let is : (f.patron == p) ≡ true = sym (ap (λ o. unwrap_or (option_map (λ r. r.patron == p) o) false) at) ∙ test.0 in
+          let own : f.patron ≡ p = eqb-true f.patron p is in
+          let same = own-loan l f (loan-stays e.command H old l f at) own in
+          (f, same, own, sym same.ends ∙ unended)
+      go None at = let no : false ≡ true = sym (ap (λ o. unwrap_or (option_map (λ r. r.patron == p) o) false) at) ∙ test.0 in let never : ⊥ = cc in absurd never
 
   -- ---- titles
 
-  title-same : (t : ℕ) → is_some ((picture H).titles t) ≡ true → title_of H t ≡ title_of (e ∷ H) t
-  title-same t known =
+  -- A title whose row stays has the text that it had.
+  title-same : (t : ℕ) → is_some ((picture H).titles t) ≡ true → ((x : TitleRow) → (picture H).titles t ≡ Some x → (picture (e ∷ H)).titles t ≡ Some x)
+      → title_of H t ≡ title_of (e ∷ H) t
+  title-same t known stays =
       let row = there ((picture H).titles t) known in
       let text = map-some (λ x. record { title = t; text = x }) (title_of H t) row.0 row.1 in
-      text.1 ∙ sym (title-stays e.command H t text.0 text.1)
+      let now = map-some (λ x. record { title = t; text = x }) (title_of (e ∷ H) t) row.0 (stays row.0 row.1) in
+      text.1 ∙ ap Some (ap (λ (r : TitleRow). r.text) (text.2 ∙ sym now.2)) ∙ sym now.1
 
   abbrev LentTitle : ℕ → Type 0
   LentTitle l = (t : ℕ) × (title_of_loan H l ≡ t) × (title_of_loan (e ∷ H) l ≡ t) × (title_of H t ≡ title_of (e ∷ H) t)
 
-  lent-title : (l : ℕ) (f : LoanFacts) → SameLoan H (e ∷ H) l f → LentTitle l
-  lent-title l f same =
+  lent-title : (l : ℕ) (f : LoanFacts) → SameLoan H (e ∷ H) l f → f.patron ≡ p → ended (e ∷ H) l ≡ None → LentTitle l
+  lent-title l f same own unended =
       let known = there ((picture H).copies f.copy) (refs.loan_copy l (loan_columns H l f) (ap (option_map (loan_columns H l)) same.before)) in
       let copy = map-some (copy_columns H f.copy) (copy_of H f.copy) known.0 known.1 in
-      let now : copy_of (e ∷ H) f.copy ≡ Some copy.0 = copy-stays e.command H f.copy copy.0 copy.1 in (
+      let row : (picture H).copies f.copy ≡ Some (copy_columns H f.copy copy.0) = ap (option_map (copy_columns H f.copy)) copy.1 in
+      let now : option_map (λ r. r.title) (copy_of (e ∷ H) f.copy) ≡ Some copy.0.title = copy-title-stays e.command H f.copy copy.0 copy.1 in (
         copy.0.title,
         ap (λ o. unwrap_or (option_map (λ r. title_of_copy H r.copy) o) 0) same.before ∙ ap (λ o. unwrap_or (option_map (λ r. r.title) o) 0) copy.1,
-        ap (λ o. unwrap_or (option_map (λ r. title_of_copy (e ∷ H) r.copy) o) 0) same.later ∙ ap (λ o. unwrap_or (option_map (λ r. r.title) o) 0) now,
-        title-same copy.0.title (refs.copy_title f.copy (copy_columns H f.copy copy.0) (ap (option_map (copy_columns H f.copy)) copy.1)),
+        ap (λ o. unwrap_or (option_map (λ r. title_of_copy (e ∷ H) r.copy) o) 0) same.later ∙ ap (λ o. unwrap_or o 0) now,
+        title-same copy.0.title (refs.copy_title f.copy (copy_columns H f.copy copy.0) row)
+            (λ x at. titles.lent l (loan_columns (e ∷ H) l f) (copy_columns H f.copy copy.0) x (ap (option_map (loan_columns (e ∷ H) l)) same.later) own unended row at),
       )
 
   -- ---- holds
@@ -298,26 +321,40 @@ module _ (e : Event) (H : History) (p : ℕ) (legal : IsLegal (e ∷ H)) (keeps 
       ∙ filter_agree (λ h. own_active p (hold_of H h) (state H h)) (λ h. own_active p (hold_of (e ∷ H) h) (state (e ∷ H) h)) hold-test
       (numbers_to (holds (e ∷ H)))
 
-  held : (h : ℕ) → list_any (λ k. k == h) (active_holds H p) ≡ true → (f : HoldFacts) × SameHold H (e ∷ H) h f
+  held : (h : ℕ) → list_any (λ k. k == h) (active_holds H p) ≡ true
+      → (f : HoldFacts) × SameHold H (e ∷ H) h f × (f.patron ≡ p) × ((is_waiting (state H h) || is_ready (state H h)) ≡ true)
   held h among = go (hold_of H h) refl
     where
       test : ((unwrap_or (option_map (λ r. r.patron) (hold_of H h)) 0 == p) ≡ true) × ((is_waiting (state H h) || is_ready (state H h)) ≡ true)
       test = and_parts (unwrap_or (option_map (λ r. r.patron) (hold_of H h)) 0 == p) (is_waiting (state H h) || is_ready (state H h))
           (filter-passes (λ k. own_active p (hold_of H k) (state H k)) h (numbers_to (holds H)) among)
 
-      go : (o : Option HoldFacts) → hold_of H h ≡ o → (f : HoldFacts) × SameHold H (e ∷ H) h f
+      go : (o : Option HoldFacts) → hold_of H h ≡ o
+          → (f : HoldFacts) × SameHold H (e ∷ H) h f × (f.patron ≡ p) × ((is_waiting (state H h) || is_ready (state H h)) ≡ true)
       go (Some f) at =
           let is : (f.patron == p) ≡ true = sym (ap (λ o. unwrap_or (option_map (λ r. r.patron) o) 0 == p) at) ∙ test.0 in
-          (f, own-hold h f (hold-stays (hold_made e.command) H old h f at) (eqb-true f.patron p is))
+          let own : f.patron ≡ p = eqb-true f.patron p is in
+          (f, own-hold h f (hold-stays (hold_made e.command) H old h f at) own, own, test.1)
       go None at =
           let no : false ≡ true = sym (ap (λ s. is_waiting s || is_ready s) (no-state H old h at)) ∙ test.1 in let never : ⊥ = cc in absurd never
 
-  held-text : (h : ℕ) (f : HoldFacts) → SameHold H (e ∷ H) h f → title_of H (title_of_hold H h) ≡ title_of (e ∷ H) (title_of_hold (e ∷ H) h)
-  held-text h f same =
+  active-is : (s : HoldState) → (is_waiting (Some s) || is_ready (Some s)) ≡ true → is_active_state s ≡ true
+  active-is Waiting active = refl
+  active-is Ready active = refl
+  active-is Filled active = let never : ⊥ = cc in absurd never
+  active-is Cancelled active = let never : ⊥ = cc in absurd never
+  active-is Expired active = let never : ⊥ = cc in absurd never
+
+  held-text : (h : ℕ) (f : HoldFacts) → SameHold H (e ∷ H) h f → f.patron ≡ p → (is_waiting (state H h) || is_ready (state H h)) ≡ true
+      → title_of H (title_of_hold H h) ≡ title_of (e ∷ H) (title_of_hold (e ∷ H) h)
+  held-text h f same own active =
       let s = old.stated h f same.before in
       let row : hold_row H h ≡ Some (hold_columns H h s.0 f) = rw (s.1, same.before) refl in
+      let now : hold_row (e ∷ H) h ≡ Some (hold_columns (e ∷ H) h s.0 f) = rw (sym same.states ∙ s.1, same.later) refl in
+      let is : is_active_state s.0 ≡ true = active-is s.0 (sym (ap (λ o. is_waiting o || is_ready o) s.1) ∙ active) in
       ap (λ o. title_of H (unwrap_or (option_map (λ r. r.title) o) 0)) same.before
       ∙ title-same f.title (refs.hold_title h (hold_columns H h s.0 f) row)
+      (λ x at. titles.held h (hold_columns (e ∷ H) h s.0 f) x now own is at)
       ∙ sym (ap (λ o. title_of (e ∷ H) (unwrap_or (option_map (λ r. r.title) o) 0)) same.later)
 
   -- ---- all of it
@@ -329,11 +366,11 @@ module _ (e : Event) (H : History) (p : ℕ) (legal : IsLegal (e ∷ H)) (keeps 
     loans = loans-same;
     dues = λ l among. (lent l among).1.dues;
     renewals = λ l among. (lent l among).1.renewals;
-    lent_titles = λ l among. let same = lent l among in let title = lent-title l same.0 same.1 in title.1 ∙ sym title.2;
-    lent_texts = λ l among. let same = lent l among in let title = lent-title l same.0 same.1 in
+    lent_titles = λ l among. let same = lent l among in let title = lent-title l same.0 same.1 same.2 same.3 in title.1 ∙ sym title.2;
+    lent_texts = λ l among. let same = lent l among in let title = lent-title l same.0 same.1 same.2 same.3 in
         ap (title_of H) title.1 ∙ title.3 ∙ sym (ap (title_of (e ∷ H)) title.2);
     holds = holds-same;
     held = λ h among. let same = held h among in same.1.before ∙ sym same.1.later;
     states = λ h among. (held h among).1.states;
-    held_texts = λ h among. let same = held h among in held-text h same.0 same.1;
+    held_texts = λ h among. let same = held h among in held-text h same.0 same.1 same.2 same.3;
   }

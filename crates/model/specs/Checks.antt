@@ -4,7 +4,7 @@ use Rattle.terms.specs.declared.limits.TheConstants.{LAST_SMALL_NUMBER, LAST_LAR
 use Rattle.terms.specs.declared.limits.TheConstants.{MOST_GRACE, MOST_ALLOWED, HIGHEST_RATE, HIGHEST_CAP, HIGHEST_PRICE, HIGHEST_DEBT}
 use Rattle.terms.specs.declared.refusal.Refusal.{Refusal}
 use Rattle.terms.specs.declared.command.Command.{Command}
-use Rattle.terms.specs.declared.command.Command.TheVariants.{Branch, Kind, Rule, Grace, Patron, Acquire}
+use Rattle.terms.specs.declared.command.Command.TheVariants.{Branch, Kind, Rule, Grace, Patron, Acquire, AmendPatron, AmendBranch, AmendCopy}
 
 -- A check: the refusal, and whether the check fails.
 abbrev pub Check : Type 0
@@ -40,4 +40,7 @@ is_within_limits (Grace kind copy_kind days) = is_small_number kind && (is_small
 is_within_limits (Patron patron kind card_key name) = is_large_number patron && is_small_number kind
 is_within_limits (Acquire copy title kind home price text) =
     is_large_number copy && (is_large_number title && (is_small_number kind && is_within 0 HIGHEST_PRICE price))
+is_within_limits (AmendPatron patron kind name) = is_small_number kind
+is_within_limits (AmendBranch branch pickup name) = is_small_number branch && is_within 0 LONGEST_PICKUP pickup
+is_within_limits (AmendCopy copy kind price) = is_small_number kind && is_within 0 HIGHEST_PRICE price
 is_within_limits _ = true

@@ -6,6 +6,7 @@ use Rattle.std.specs.Option.{option_or}
 use Rattle.terms.specs.declared.command.Owner.{Owner}
 use Rattle.terms.specs.declared.command.Command.{Command}
 use Rattle.terms.specs.declared.command.Command.TheVariants.{BeginDay, Branch, Week, CloseDay, OpenDay, Kind, Rule, Grace, Patron, Acquire, CheckOut, PlaceHold}
+use Rattle.terms.specs.declared.command.Command.TheVariants.{SetCardKey, AmendPatron, AmendBranch, AmendTitle, AmendCopy, Rehome}
 use Rattle.model.specs.Calendar.{opens}
 
 -- An accepted command that changes something, with its key and the key's owner.
@@ -95,12 +96,18 @@ pub record CopyFacts : Type 0 where
   pub home : ℕ
   pub price : ℕ
 
--- A branch command makes its branch unless it exists.
+-- The branch with this pick-up period and name.
+abbrev pub with_pickup : ℕ → List ℕ → BranchFacts → BranchFacts
+with_pickup pickup name r = record r { pickup = pickup; name = name }
+
+-- A branch command makes its branch unless it exists; an amend-branch sets the pick-up period and the name of
+-- one that does.
 abbrev pub branch_after : Command → ℕ → Option BranchFacts → Option BranchFacts
 branch_after (Branch n pickup name) b before = option_or before (if n == b then Some (record { pickup = pickup; name = name }) else None)
+branch_after (AmendBranch n pickup name) b before = if n == b then option_map (with_pickup pickup name) before else before
 branch_after _ b before = before
 
--- A branch is what its first command made.
+-- A branch is what its first command made, with what was set since.
 abbrev pub branch_of : History → ℕ → Option BranchFacts
 branch_of [] b = None
 branch_of (e ∷ H) b = branch_after e.command b (branch_of H b)
@@ -133,34 +140,57 @@ abbrev pub rule_of : History → ℕ → ℕ → Option Terms
 rule_of [] k c = None
 rule_of (e ∷ H) k c = rule_after e.command k c (rule_of H k c)
 
--- A patron command enrols its patron unless enrolled.
+-- The patron with this card key.
+abbrev pub with_card_key : List ℕ → PatronFacts → PatronFacts
+with_card_key card_key r = record r { card_key = card_key }
+
+-- The patron with this kind and name.
+abbrev pub with_kind : ℕ → List ℕ → PatronFacts → PatronFacts
+with_kind kind name r = record r { kind = kind; name = name }
+
+-- A patron command enrols its patron unless enrolled; a card-key sets the card key of an enrolled patron, an
+-- amend-patron the kind and the name.
 abbrev pub patron_after : Command → ℕ → Option PatronFacts → Option PatronFacts
 patron_after (Patron n kind card_key name) p before =
     option_or before (if n == p then Some (record { kind = kind; card_key = card_key; name = name }) else None)
+patron_after (SetCardKey n card_key) p before = if n == p then option_map (with_card_key card_key) before else before
+patron_after (AmendPatron n kind name) p before = if n == p then option_map (with_kind kind name) before else before
 patron_after _ p before = before
 
--- A patron is what the first patron command made.
+-- A patron is what the first patron command made, with what was set since.
 abbrev pub patron_of : History → ℕ → Option PatronFacts
 patron_of [] p = None
 patron_of (e ∷ H) p = patron_after e.command p (patron_of H p)
 
--- An acquire makes its title unless it exists.
+-- An acquire makes its title unless it exists; an amend-title sets the text of one that does.
 abbrev pub title_after : Command → ℕ → Option (List ℕ) → Option (List ℕ)
 title_after (Acquire copy n kind home price text) t before = option_or before (if n == t then Some text else None)
+title_after (AmendTitle n text) t before = if n == t then option_map (λ old. text) before else before
 title_after _ t before = before
 
--- A title's text is that of the first acquire that names it.
+-- A title's text is that of the first acquire that names it, or of the last amend-title since.
 abbrev pub title_of : History → ℕ → Option (List ℕ)
 title_of [] t = None
 title_of (e ∷ H) t = title_after e.command t (title_of H t)
 
--- An acquire makes its copy unless it exists.
+-- The copy with this kind and price.
+abbrev pub with_price : ℕ → ℕ → CopyFacts → CopyFacts
+with_price kind price r = record r { kind = kind; price = price }
+
+-- The copy with this home.
+abbrev pub with_home : ℕ → CopyFacts → CopyFacts
+with_home home r = record r { home = home }
+
+-- An acquire makes its copy unless it exists; an amend-copy sets the kind and the price of one that does, a
+-- rehome its home.
 abbrev pub copy_after : Command → ℕ → Option CopyFacts → Option CopyFacts
 copy_after (Acquire n title kind home price text) c before =
     option_or before (if n == c then Some (record { title = title; kind = kind; home = home; price = price }) else None)
+copy_after (AmendCopy n kind price) c before = if n == c then option_map (with_price kind price) before else before
+copy_after (Rehome n home) c before = if n == c then option_map (with_home home) before else before
 copy_after _ c before = before
 
--- A copy is what its first acquire made.
+-- A copy is what its first acquire made, with what was set since.
 abbrev pub copy_of : History → ℕ → Option CopyFacts
 copy_of [] c = None
 copy_of (e ∷ H) c = copy_after e.command c (copy_of H c)

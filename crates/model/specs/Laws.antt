@@ -1,10 +1,12 @@
 -- Laws of all legal histories.
-use Rattle.std.specs.Prelude.{◌≡◌, ◌≢◌, ℕ, ◌+◌, ◌==◌, ◌↔◌, Bool, true, false, List, ◌∷◌, Some, is_some}
+use Rattle.std.specs.Prelude.{◌≡◌, ◌≢◌, ℕ, ◌+◌, ◌==◌, ◌↔◌, Bool, true, false, List, ◌∷◌, Some, None, is_some}
 use Rattle.std.specs.List.{list_any}
 use Rattle.terms.specs.declared.command.Command.TheVariants.{CancelHold}
 use Rattle.terms.specs.declared.command.Request.{Request}
 use Rattle.terms.specs.declared.row.LoanRow.{LoanRow}
 use Rattle.terms.specs.declared.row.HoldRow.{HoldRow}
+use Rattle.terms.specs.declared.row.CopyRow.{CopyRow}
+use Rattle.terms.specs.declared.row.TitleRow.{TitleRow}
 use Rattle.terms.specs.declared.row.HoldState.{HoldState}
 use Rattle.terms.specs.declared.row.HoldState.TheVariants.{Waiting, Ready, Filled, Cancelled, Expired}
 use Rattle.model.specs.Checks.{is_within}
@@ -95,6 +97,12 @@ pub record AgreesOn (H K : History) (p : ℕ) : Type 0 where
 abbrev pub OwnRows : Type 0
 OwnRows = (H K : History) (p : ℕ) → AgreesOn H K p → page H p ≡ page K p
 
+-- A hold in this state is active.
+abbrev pub is_active_state : HoldState → Bool
+is_active_state Waiting = true
+is_active_state Ready = true
+is_active_state _ = false
+
 -- A picture keeps a patron's own rows from the one before: the patron's row is the same, and each loan and
 -- hold that it shows of the patron was there before, unchanged.
 pub record KeepsOwnRows (P Q : Picture) (p : ℕ) : Type 0 where
@@ -102,6 +110,15 @@ pub record KeepsOwnRows (P Q : Picture) (p : ℕ) : Type 0 where
   pub loans : (l : ℕ) (r : LoanRow) → Q.loans l ≡ Some r → r.patron ≡ p → P.loans l ≡ Some r
   pub holds : (h : ℕ) (r : HoldRow) → Q.holds h ≡ Some r → r.patron ≡ p → P.holds h ≡ Some r
 
--- A legal history agrees with the one before its last event on each patron whose own rows it keeps.
+-- A picture keeps a patron's own titles from the one before: the row of each title of which the patron has an
+-- open loan or an active hold.
+pub record KeepsOwnTitles (P Q : Picture) (p : ℕ) : Type 0 where
+  pub lent : (l : ℕ) (r : LoanRow) (c : CopyRow) (x : TitleRow) → Q.loans l ≡ Some r → r.patron ≡ p → r.ended ≡ None
+      → P.copies r.copy ≡ Some c → P.titles c.title ≡ Some x → Q.titles c.title ≡ Some x
+  pub held : (h : ℕ) (r : HoldRow) (x : TitleRow) → Q.holds h ≡ Some r → r.patron ≡ p → is_active_state r.state ≡ true
+      → P.titles r.title ≡ Some x → Q.titles r.title ≡ Some x
+
+-- A legal history agrees with the one before its last event on each patron whose own rows and titles it keeps.
 abbrev pub KeptRowsAgree : Type 0
-KeptRowsAgree = (e : Event) (H : History) (p : ℕ) → IsLegal (e ∷ H) → KeepsOwnRows (picture H) (picture (e ∷ H)) p → AgreesOn H (e ∷ H) p
+KeptRowsAgree = (e : Event) (H : History) (p : ℕ) → IsLegal (e ∷ H) → KeepsOwnRows (picture H) (picture (e ∷ H)) p
+    → KeepsOwnTitles (picture H) (picture (e ∷ H)) p → AgreesOn H (e ∷ H) p

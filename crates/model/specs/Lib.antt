@@ -19,6 +19,7 @@ pub mod DueDays
 pub mod Forms
 pub mod References
 pub mod Laws
+pub mod Corrections
 pub mod AskingLaws
 pub mod Calendars
 pub mod Repeats

@@ -3,7 +3,7 @@ use Rattle.std.specs.Prelude.{ℕ, ◌+◌, ◌==◌, Bool, true, false, ◌&&�
 use Rattle.std.specs.Prelude.{option_map, option_and_then, unwrap_or}
 use Rattle.std.specs.List.{list_any}
 use Rattle.terms.specs.declared.command.Command.{Command}
-use Rattle.terms.specs.declared.command.Command.TheVariants.{Acquire, CheckOut, CheckIn, CancelHold, Unshelve, UnshelveCancelled, Missing, Withdraw}
+use Rattle.terms.specs.declared.command.Command.TheVariants.{Acquire, Rehome, CheckOut, CheckIn, CancelHold, Unshelve, UnshelveCancelled, Missing, Withdraw}
 use Rattle.terms.specs.declared.row.HoldState.{HoldState}
 use Rattle.terms.specs.declared.row.HoldState.TheVariants.{Waiting, Ready, Filled, Cancelled, Expired}
 use Rattle.model.specs.Calendar.{least}
@@ -137,10 +137,17 @@ module _ (H : History) (places : ℕ → Place) (states : ℕ → Option HoldSta
   place_let_go g (Transit b (Some h)) = elim (g == h) [ true ↦ Transit b None | false ↦ Transit b (Some h) ]
   place_let_go g p = p
 
+  -- A copy on the shelf of another branch than its new home is in transit to it, for no hold; every other copy
+  -- stays where it is.
+  abbrev pub place_rehomed : ℕ → Place → Place
+  place_rehomed b (Shelf g) = elim (g == b) [ true ↦ Shelf g | false ↦ Transit b None ]
+  place_rehomed b p = p
+
   -- Where a command leaves a copy.
   abbrev pub place_after : Command → ℕ → Place
   place_after (Acquire n title kind home price text) c =
       elim (is_none (copy_of H n)) [ true ↦ elim (n == c) [ true ↦ Shelf home | false ↦ places c ] | false ↦ places c ]
+  place_after (Rehome n b) c = elim (n == c) [ true ↦ place_rehomed b (places n) | false ↦ places c ]
   place_after (CheckOut p n b) c = elim (n == c) [ true ↦ Loan (next_loan H) | false ↦ places c ]
   place_after (CheckIn n b) c = elim (n == c) [ true ↦ route_by n b | false ↦ places c ]
   place_after (CancelHold g) c = place_let_go g (places c)

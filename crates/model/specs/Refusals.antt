@@ -8,6 +8,7 @@ use Rattle.terms.specs.declared.command.Owner.{Owner}
 use Rattle.terms.specs.declared.command.Owner.TheVariants.{Desk, Patron as Reader}
 use Rattle.terms.specs.declared.command.Command.{Command}
 use Rattle.terms.specs.declared.command.Command.TheVariants.{BeginDay, Branch, Week, CloseDay, OpenDay, Kind, Rule, Grace, Patron, Acquire}
+use Rattle.terms.specs.declared.command.Command.TheVariants.{SetCardKey, AmendPatron, AmendBranch, AmendTitle, AmendCopy, Rehome}
 use Rattle.terms.specs.declared.command.Command.TheVariants.{CheckOut, CheckIn, Renew, PlaceHold, CancelHold, Unshelve, UnshelveCancelled}
 use Rattle.terms.specs.declared.command.Command.TheVariants.{Missing, Withdraw, Pay, Waive, Page, Ask}
 use Rattle.terms.specs.declared.question.Question.{Question}
@@ -227,6 +228,16 @@ checks_by H s o (Patron p k card_key name) =
 checks_by H s o (Acquire c t k home price text) =
     (OutOfLimits, not (is_within_limits (Acquire c t k home price text))) ∷ (UnknownBranch, not (has_branch H home))
     ∷ (OtherContent, differs_title H t text || differs_copy H c t k home price) ∷ []
+checks_by H s o (SetCardKey p card_key) = (UnknownPatron, not (has_patron H p)) ∷ []
+checks_by H s o (AmendPatron p k name) =
+    (OutOfLimits, not (is_within_limits (AmendPatron p k name))) ∷ (UnknownPatron, not (has_patron H p)) ∷ (UnknownKind, is_none (kind_of H k)) ∷ []
+checks_by H s o (AmendBranch b pickup name) =
+    (OutOfLimits, not (is_within_limits (AmendBranch b pickup name))) ∷ (UnknownBranch, not (has_branch H b)) ∷ []
+checks_by H s o (AmendTitle t text) = (UnknownTitle, is_none (title_of H t)) ∷ []
+checks_by H s o (AmendCopy c k price) =
+    (OutOfLimits, not (is_within_limits (AmendCopy c k price))) ∷ (UnknownCopy, not (has_copy H c)) ∷ []
+checks_by H s o (Rehome c b) =
+    (UnknownBranch, not (has_branch H b)) ∷ (UnknownCopy, not (has_copy H c)) ∷ (CopyWithdrawn, is_withdrawn (s.place c)) ∷ []
 checks_by H s o (CheckOut p c b) =
     (UnknownBranch, not (has_branch H b)) ∷ (UnknownPatron, not (has_patron H p)) ∷ (UnknownCopy, not (has_copy H c))
     ∷ (CopyWithdrawn, is_withdrawn (s.place c)) ∷ (CopyMissing, is_missing (s.place c)) ∷ (OnLoan, is_on_loan (s.place c))

@@ -12,6 +12,7 @@ ghost use Rattle.model.specs.AskingLaws.{SearchesShowOnce, SearchesShowFound, Se
 ghost use Rattle.model.specs.AskingLaws.{PatronsAreFound, TitlesAreFound};
 ghost use Rattle.model.specs.AskingLaws.{AccountsAreShown, ShelvesAreUnclaimed};
 ghost use Rattle.model.specs.Calendars.{CalendarsAgree};
+ghost use Rattle.model.specs.Corrections.{Amended, Void};
 ghost use Rattle.model.specs.Forms.{FormsStay, FormsAreWhole, RowsInLimits, FewClosedDays};
 ghost use Rattle.model.specs.Invariant.{Invariants};
 ghost use Rattle.model.specs.References.{References};
@@ -118,9 +119,22 @@ pub fn own_rows_law()
 {}
 
 /// An accepted command leaves a patron's own row, open loans, active holds, and their copies and
-/// titles unchanged, unless it puts the patron's row or that of one of the patron's loans or holds.
+/// titles unchanged, unless it puts the patron's row, that of one of the patron's loans or holds, or
+/// that of the title of an open loan or active hold of the patron.
 pub fn kept_rows_law()
     ensures { KeptRowsAgree }
+{}
+
+/// `card-key` and the commands that amend a row leave every place, hold, line, due day and debt as
+/// it was; `rehome` all of these but the place of its copy.
+pub fn corrections_law()
+    ensures { Amended }
+{}
+
+/// From an accepted `card-key` to the next one of the same patron, every request that shows another
+/// card key of the patron, a page too, is refused as not allowed.
+pub fn void_keys_law()
+    ensures { Void }
 {}
 
 /// The open days, the least open day and the days late defined here are those of the crate

@@ -3,7 +3,7 @@
 ghost use Rattle.std.specs.Prelude.{◌≡◌};
 ghost use Rattle.terms.specs.Limits.{InLimits};
 ghost use Rattle.circ_core.specs.Views.{IsCalendarOf};
-ghost use Rattle.store.specs.Lists.{AreLoansBy, AreHoldsBy};
+ghost use Rattle.store.specs.Lists.{AreLoansBy, AreHoldsBy, AreCopiesOf, AreHoldsOn};
 ghost use Rattle.store.specs.Batches.{AreReadyAfter, AreOverdueAfter, AreLinesAfter};
 ghost use Rattle.store.specs.Reads.{Looked, IsReadable};
 
@@ -12,8 +12,8 @@ use crate::store::Store;
 use crate::viewing::calendar_of;
 use calendar::{Calendar, Day};
 use circ_tables::{
-    active_holds_by, get_meta, get_row, lines_after, open_loans_by, overdue_loans_after,
-    ready_holds_after,
+    active_holds_by, active_holds_for, copies_of_title, get_meta, get_row, lines_after,
+    open_loans_by, overdue_loans_after, ready_holds_after,
 };
 use sqlite::Alter;
 use std::alloc::Global;
@@ -39,6 +39,24 @@ impl<S: Alter> Store<S> {
     {
         committed_is_held(&self.conn);
         active_holds_by(&mut self.conn, alloc, patron)
+    }
+
+    /// Reads the copies of a title, by number. Faults 90, 91, 93.
+    pub fn title_copies(&mut self, alloc: Global, title: TitleId) -> Result<Vec<CopyRow>, Fault>
+        ensures { Looked InLimits (λ P rows. AreCopiesOf P title rows.items) InLimits
+            S.Store self.old self.new result }
+    {
+        committed_is_held(&self.conn);
+        copies_of_title(&mut self.conn, alloc, title)
+    }
+
+    /// Reads the waiting and ready holds on a title, by number. Faults 90, 91, 93.
+    pub fn title_holds(&mut self, alloc: Global, title: TitleId) -> Result<Vec<HoldRow>, Fault>
+        ensures { Looked InLimits (λ P rows. AreHoldsOn P title rows.items) InLimits
+            S.Store self.old self.new result }
+    {
+        committed_is_held(&self.conn);
+        active_holds_for(&mut self.conn, alloc, title)
     }
 
     /// Reads a batch of ready holds with this pick-up branch above this number, by number. Holds

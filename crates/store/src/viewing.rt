@@ -8,7 +8,7 @@ ghost use Rattle.circ_core.specs.Views.{IsCalendarOf, IsLenderOf, IsFirstFor, Ar
 ghost use Rattle.circ_core.specs.Views.{IsPatronView, IsAcquireView, IsCopyView, IsCheckOutView};
 ghost use Rattle.circ_core.specs.Views.{IsClosedDayView, IsAccountView, IsRenewView};
 ghost use Rattle.circ_core.specs.Views.{IsPlaceHoldView, IsCancelHoldView, IsBranchView};
-ghost use Rattle.circ_core.specs.Views.{IsPickupView, IsCheckInView, IsUnshelveView};
+ghost use Rattle.circ_core.specs.Views.{IsPickupView, IsCheckInView, IsUnshelveView, IsRehomeView};
 ghost use Rattle.circ_core.specs.Views.{IsMissingView, IsViewOf, HasOnly, rule_in, kind_in};
 ghost use Rattle.circ_core.specs.Views.{borrower_in, named_copy_in, coming_in, IsCount, IsOpenBy};
 ghost use Rattle.circ_core.specs.Views.{IsActiveOn, IsActiveBy, IsLoanOfTitle, copy_in};
@@ -20,6 +20,7 @@ ghost use Rattle.terms.specs.declared.command.Command.TheVariants.{Patron, Acqui
 ghost use Rattle.terms.specs.declared.command.Command.TheVariants.{CheckIn, Renew, PlaceHold};
 ghost use Rattle.terms.specs.declared.command.Command.TheVariants.{CancelHold, Unshelve, Missing};
 ghost use Rattle.terms.specs.declared.command.Command.TheVariants.{Withdraw, Pay, Page};
+ghost use Rattle.terms.specs.declared.command.Command.TheVariants.{AmendTitle, AmendCopy, Rehome};
 
 use calendar::{Calendar, CloseError, Day, Weekdays};
 use circ_core::View;
@@ -717,6 +718,50 @@ fn page_view<S: Alter>(
     })
 }
 
+/// Reads only a title.
+fn title_view<S: Alter>(
+    conn: &mut Connection<S>,
+    alloc: Global,
+    number: TitleId,
+) -> Result<View, Fault>
+    ensures view { Views (λ P rows. rows.title ≡ P.titles number) S.Store conn.old conn.new result }
+    ensures only { (text : List ℕ) → IfOk result (HasOnly (AmendTitle number text)) }
+{
+    let title = get_row::<TitleRow, S>(conn, alloc, number)?;
+    Ok(View {
+        title,
+        ..View::empty()
+    })
+}
+
+/// Reads only a copy.
+fn copy_row_view<S: Alter>(conn: &mut Connection<S>, number: CopyId) -> Result<View, Fault>
+    ensures view { Views (λ P rows. rows.copy ≡ P.copies number) S.Store conn.old conn.new result }
+    ensures only { (kind price : ℕ) → IfOk result (HasOnly (AmendCopy number kind price)) }
+{
+    let copy = get_row::<CopyRow, S>(conn, (), number)?;
+    Ok(View {
+        copy,
+        ..View::empty()
+    })
+}
+
+/// Reads a branch, a copy, and the rows that claim the copy.
+fn rehome_view<S: Alter>(
+    conn: &mut Connection<S>,
+    alloc: Global,
+    number: CopyId,
+    home: BranchId,
+) -> Result<View, Fault>
+    ensures view { Views (λ P rows. IsRehomeView P number home rows)
+        S.Store conn.old conn.new result }
+    ensures only { IfOk result (HasOnly (Rehome number home)) }
+{
+    let branch = get_row::<BranchRow, S>(conn, alloc, home)?;
+    let at = copy_view(conn, number)?;
+    Ok(View { branch, ..at })
+}
+
 /// Reads exactly the rows that the command needs.
 pub(crate) fn view_for<S: Alter>(
     conn: &mut Connection<S>,
@@ -746,6 +791,12 @@ pub(crate) fn view_for<S: Alter>(
             home,
             ..
         } => acquire_view(conn, alloc, *copy, *title, *home),
+        Command::SetCardKey { patron, .. } => page_view(conn, alloc, *patron),
+        Command::AmendPatron { patron, kind, .. } => patron_view(conn, alloc, *patron, *kind),
+        Command::AmendBranch { branch, .. } => branch_row_view(conn, alloc, *branch),
+        Command::AmendTitle { title, .. } => title_view(conn, alloc, *title),
+        Command::AmendCopy { copy, .. } => copy_row_view(conn, *copy),
+        Command::Rehome { copy, branch } => rehome_view(conn, alloc, *copy, *branch),
         Command::CheckOut {
             patron,
             copy,

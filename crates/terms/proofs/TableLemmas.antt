@@ -11,6 +11,7 @@ use Rattle.terms.specs.Texts.{Part, Number, Amount, Day, Mask, CardKey, Name, sa
 use Rattle.terms.specs.declared.command.Command.{Command}
 use Rattle.terms.specs.declared.form.CommandForm.{CommandForm}
 use Rattle.terms.specs.declared.command.Command.TheVariants.{BeginDay, Branch, Week, CloseDay, OpenDay, Kind, Rule, Grace, Patron, Acquire}
+use Rattle.terms.specs.declared.command.Command.TheVariants.{SetCardKey, AmendPatron, AmendBranch, AmendTitle, AmendCopy, Rehome}
 use Rattle.terms.specs.declared.command.Command.TheVariants.{CheckOut, CheckIn, Renew, PlaceHold, CancelHold, Unshelve, UnshelveCancelled}
 use Rattle.terms.specs.declared.command.Command.TheVariants.{Missing, Withdraw, Pay, Waive, Page, Ask}
 use Rattle.terms.specs.declared.question.Question.{Question}
@@ -80,6 +81,12 @@ command_from name parts =
     else (if bytes_eq name (codes "grace") then Grace (n 0) (n 1) (n 2)
     else (if bytes_eq name (codes "patron") then Patron (n 0) (n 1) (t 2) (t 3)
     else (if bytes_eq name (codes "acquire") then Acquire (n 0) (n 1) (n 2) (n 3) (n 4) (t 5)
+    else (if bytes_eq name (codes "card-key") then SetCardKey (n 0) (t 1)
+    else (if bytes_eq name (codes "amend-patron") then AmendPatron (n 0) (n 1) (t 2)
+    else (if bytes_eq name (codes "amend-branch") then AmendBranch (n 0) (n 1) (t 2)
+    else (if bytes_eq name (codes "amend-title") then AmendTitle (n 0) (t 1)
+    else (if bytes_eq name (codes "amend-copy") then AmendCopy (n 0) (n 1) (n 2)
+    else (if bytes_eq name (codes "rehome") then Rehome (n 0) (n 1)
     else (if bytes_eq name (codes "check-out") then CheckOut (n 0) (n 1) (n 2)
     else (if bytes_eq name (codes "check-in") then CheckIn (n 0) (n 1)
     else (if bytes_eq name (codes "renew") then Renew (n 0)
@@ -106,7 +113,7 @@ command_from name parts =
     else (if bytes_eq name (codes "borrower") then Ask (question.Borrower (n 0))
     else (if bytes_eq name (codes "find-patrons") then Ask (question.FindPatrons (n 0) (t 1))
     else (if bytes_eq name (codes "find-titles") then Ask (question.FindTitles (n 0) (t 1))
-    else Page (n 0))))))))))))))))))))))))))))))))))))
+    else Page (n 0))))))))))))))))))))))))))))))))))))))))))
 
 pub record IsTold (command : Command) : Type 0 where
   pub parts : List Column

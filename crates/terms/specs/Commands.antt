@@ -64,6 +64,12 @@ commands =
       (codes "copy", kind.Number) ∷ (codes "title", kind.Number) ∷ (codes "kind", kind.Number) ∷ (codes "home", kind.Number)
           ∷ (codes "price", kind.Amount) ∷ (codes "text", kind.Name) ∷ [],
     )
+    ∷ (codes "card-key", (codes "patron", kind.Number) ∷ (codes "card-key", kind.CardKey) ∷ [])
+    ∷ (codes "amend-patron", (codes "patron", kind.Number) ∷ (codes "kind", kind.Number) ∷ (codes "name", kind.Name) ∷ [])
+    ∷ (codes "amend-branch", (codes "branch", kind.Number) ∷ (codes "pickup", kind.Number) ∷ (codes "name", kind.Name) ∷ [])
+    ∷ (codes "amend-title", (codes "title", kind.Number) ∷ (codes "text", kind.Name) ∷ [])
+    ∷ (codes "amend-copy", (codes "copy", kind.Number) ∷ (codes "kind", kind.Number) ∷ (codes "price", kind.Amount) ∷ [])
+    ∷ (codes "rehome", (codes "copy", kind.Number) ∷ (codes "branch", kind.Number) ∷ [])
     ∷ (codes "check-out", (codes "patron", kind.Number) ∷ (codes "copy", kind.Number) ∷ (codes "branch", kind.Number) ∷ [])
     ∷ (codes "check-in", (codes "copy", kind.Number) ∷ (codes "branch", kind.Number) ∷ [])
     ∷ (codes "renew", (codes "loan", kind.Number) ∷ [])

@@ -5,6 +5,7 @@ use Rattle.std.specs.List.{join_with_byte}
 use Rattle.calendar.specs.Days.{day_text}
 use Rattle.terms.specs.declared.command.Command.{Command}
 use Rattle.terms.specs.declared.command.Command.TheVariants.{BeginDay, Branch, Week, CloseDay, OpenDay, Kind, Rule, Grace, Patron, Acquire}
+use Rattle.terms.specs.declared.command.Command.TheVariants.{SetCardKey, AmendPatron, AmendBranch, AmendTitle, AmendCopy, Rehome}
 use Rattle.terms.specs.declared.command.Command.TheVariants.{CheckOut, CheckIn, Renew, PlaceHold, CancelHold, Unshelve, UnshelveCancelled}
 use Rattle.terms.specs.declared.command.Command.TheVariants.{Missing, Withdraw, Pay, Waive, Page, Ask}
 use Rattle.terms.specs.declared.question.Question.{Question}
@@ -78,6 +79,12 @@ said (Rule kind copy_kind period renewals rate cap) =
 said (Grace kind copy_kind days) = (codes "grace", Number kind ∷ Number copy_kind ∷ Number days ∷ [])
 said (Patron patron kind card_key name) = (codes "patron", Number patron ∷ Number kind ∷ CardKey card_key ∷ Name name ∷ [])
 said (Acquire copy title kind home price text) = (codes "acquire", Number copy ∷ Number title ∷ Number kind ∷ Number home ∷ Amount price ∷ Name text ∷ [])
+said (SetCardKey patron card_key) = (codes "card-key", Number patron ∷ CardKey card_key ∷ [])
+said (AmendPatron patron kind name) = (codes "amend-patron", Number patron ∷ Number kind ∷ Name name ∷ [])
+said (AmendBranch branch pickup name) = (codes "amend-branch", Number branch ∷ Number pickup ∷ Name name ∷ [])
+said (AmendTitle title text) = (codes "amend-title", Number title ∷ Name text ∷ [])
+said (AmendCopy copy kind price) = (codes "amend-copy", Number copy ∷ Number kind ∷ Amount price ∷ [])
+said (Rehome copy branch) = (codes "rehome", Number copy ∷ Number branch ∷ [])
 said (CheckOut patron copy branch) = (codes "check-out", Number patron ∷ Number copy ∷ Number branch ∷ [])
 said (CheckIn copy branch) = (codes "check-in", Number copy ∷ Number branch ∷ [])
 said (Renew loan) = (codes "renew", Number loan ∷ [])

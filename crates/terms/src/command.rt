@@ -80,6 +80,40 @@ pub enum Command {
         price: Cents,
         text: Name,
     },
+    /// Gives a patron another card key. The old one is void from then on.
+    SetCardKey {
+        patron: PatronId,
+        card_key: CardKey,
+    },
+    /// Changes a patron's kind and name.
+    AmendPatron {
+        patron: PatronId,
+        kind: PatronKind,
+        name: Name,
+    },
+    /// Changes a branch's pick-up period and name.
+    AmendBranch {
+        branch: BranchId,
+        pickup: Days,
+        name: Name,
+    },
+    /// Changes the text of a title.
+    AmendTitle {
+        title: TitleId,
+        text: Name,
+    },
+    /// Changes a copy's kind and price.
+    AmendCopy {
+        copy: CopyId,
+        kind: CopyKind,
+        price: Cents,
+    },
+    /// Gives a copy another home branch. On the shelf of another branch it is then in transit to its
+    /// new home; everywhere else it stays where it is.
+    Rehome {
+        copy: CopyId,
+        branch: BranchId,
+    },
     /// Lends a copy to a patron at a branch.
     CheckOut {
         patron: PatronId,
@@ -223,6 +257,22 @@ pub(crate) fn joined_words(alloc: Global, command: &Command) -> Result<String, M
             price,
             text,
         } => format!(in alloc; "acquire {copy} {title} {kind} {home} {price} {text}"),
+        Command::SetCardKey { patron, card_key } => {
+            format!(in alloc; "card-key {patron} {card_key}")
+        }
+        Command::AmendPatron { patron, kind, name } => {
+            format!(in alloc; "amend-patron {patron} {kind} {name}")
+        }
+        Command::AmendBranch {
+            branch,
+            pickup,
+            name,
+        } => format!(in alloc; "amend-branch {branch} {pickup} {name}"),
+        Command::AmendTitle { title, text } => format!(in alloc; "amend-title {title} {text}"),
+        Command::AmendCopy { copy, kind, price } => {
+            format!(in alloc; "amend-copy {copy} {kind} {price}")
+        }
+        Command::Rehome { copy, branch } => format!(in alloc; "rehome {copy} {branch}"),
         Command::CheckOut {
             patron,
             copy,

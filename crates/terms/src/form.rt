@@ -207,6 +207,30 @@ const COMMANDS: &[CommandForm] = &[
         parts: &[COPY, TITLE, KIND, HOME, PRICE, TEXT],
     },
     CommandForm {
+        name: "card-key",
+        parts: &[PATRON, CARD_KEY],
+    },
+    CommandForm {
+        name: "amend-patron",
+        parts: &[PATRON, KIND, NAME],
+    },
+    CommandForm {
+        name: "amend-branch",
+        parts: &[BRANCH, PICKUP, NAME],
+    },
+    CommandForm {
+        name: "amend-title",
+        parts: &[TITLE, TEXT],
+    },
+    CommandForm {
+        name: "amend-copy",
+        parts: &[COPY, KIND, PRICE],
+    },
+    CommandForm {
+        name: "rehome",
+        parts: &[COPY, BRANCH],
+    },
+    CommandForm {
         name: "check-out",
         parts: &[PATRON, COPY, BRANCH],
     },

@@ -182,6 +182,37 @@ pub fn command_has_forms(command: &Command)
             let _price = price.number();
             let _text = text.as_str();
         }
+        Command::SetCardKey { patron, card_key } => {
+            let _patron = patron.number();
+            let _card_key = card_key.as_str();
+        }
+        Command::AmendPatron { patron, kind, name } => {
+            let _patron = patron.number();
+            let _kind = kind.number();
+            let _name = name.as_str();
+        }
+        Command::AmendBranch {
+            branch,
+            pickup,
+            name,
+        } => {
+            let _branch = branch.number();
+            let _pickup = pickup.number();
+            let _name = name.as_str();
+        }
+        Command::AmendTitle { title, text } => {
+            let _title = title.number();
+            let _text = text.as_str();
+        }
+        Command::AmendCopy { copy, kind, price } => {
+            let _copy = copy.number();
+            let _kind = kind.number();
+            let _price = price.number();
+        }
+        Command::Rehome { copy, branch } => {
+            let _copy = copy.number();
+            let _branch = branch.number();
+        }
         Command::CheckOut {
             patron,
             copy,

@@ -268,6 +268,91 @@ fn acquire(alloc: Global, values: &[&str]) -> Result<Command, WordFault>
 }
 
 #[tactic(auto, unfolding(crate::specs::Texts::command_words))]
+fn card_key(alloc: Global, values: &[&str]) -> Result<Command, WordFault>
+    ensures read { IfOk result (IsReadAs (codes "card-key") (texts values.now)) }
+    ensures refused { result ≡ Err Refused → IsNoCommand (codes "card-key") (texts values.now) }
+{
+    let [patron, card_key] = values else {
+        return Err(WordFault::NotUnderstood);
+    };
+    let patron = PatronId::new(number(patron)?);
+    let card_key = read_card_key(alloc, card_key)?;
+    Ok(Command::SetCardKey { patron, card_key })
+}
+
+#[tactic(auto, unfolding(crate::specs::Texts::command_words))]
+fn amend_patron(alloc: Global, values: &[&str]) -> Result<Command, WordFault>
+    ensures read { IfOk result (IsReadAs (codes "amend-patron") (texts values.now)) }
+    ensures refused { result ≡ Err Refused → IsNoCommand (codes "amend-patron") (texts values.now) }
+{
+    let [patron, kind, name] = values else {
+        return Err(WordFault::NotUnderstood);
+    };
+    let patron = PatronId::new(number(patron)?);
+    let kind = PatronKind::new(number(kind)?);
+    let name = read_name(alloc, name)?;
+    Ok(Command::AmendPatron { patron, kind, name })
+}
+
+#[tactic(auto, unfolding(crate::specs::Texts::command_words))]
+fn amend_branch(alloc: Global, values: &[&str]) -> Result<Command, WordFault>
+    ensures read { IfOk result (IsReadAs (codes "amend-branch") (texts values.now)) }
+    ensures refused { result ≡ Err Refused → IsNoCommand (codes "amend-branch") (texts values.now) }
+{
+    let [branch, pickup, name] = values else {
+        return Err(WordFault::NotUnderstood);
+    };
+    let branch = BranchId::new(number(branch)?);
+    let pickup = Days::new(number(pickup)?);
+    let name = read_name(alloc, name)?;
+    Ok(Command::AmendBranch {
+        branch,
+        pickup,
+        name,
+    })
+}
+
+#[tactic(auto, unfolding(crate::specs::Texts::command_words))]
+fn amend_title(alloc: Global, values: &[&str]) -> Result<Command, WordFault>
+    ensures read { IfOk result (IsReadAs (codes "amend-title") (texts values.now)) }
+    ensures refused { result ≡ Err Refused → IsNoCommand (codes "amend-title") (texts values.now) }
+{
+    let [title, text] = values else {
+        return Err(WordFault::NotUnderstood);
+    };
+    let title = TitleId::new(number(title)?);
+    let text = read_name(alloc, text)?;
+    Ok(Command::AmendTitle { title, text })
+}
+
+#[tactic(auto, unfolding(crate::specs::Texts::command_words))]
+fn amend_copy(values: &[&str]) -> Result<Command, WordFault>
+    ensures read { IfOk result (IsReadAs (codes "amend-copy") (texts values.now)) }
+    ensures refused { result ≡ Err Refused → IsNoCommand (codes "amend-copy") (texts values.now) }
+{
+    let [copy, kind, price] = values else {
+        return Err(WordFault::NotUnderstood);
+    };
+    let copy = CopyId::new(number(copy)?);
+    let kind = CopyKind::new(number(kind)?);
+    let price = read_amount(price)?;
+    Ok(Command::AmendCopy { copy, kind, price })
+}
+
+#[tactic(auto, unfolding(crate::specs::Texts::command_words))]
+fn rehome(values: &[&str]) -> Result<Command, WordFault>
+    ensures read { IfOk result (IsReadAs (codes "rehome") (texts values.now)) }
+    ensures refused { result ≡ Err Refused → IsNoCommand (codes "rehome") (texts values.now) }
+{
+    let [copy, branch] = values else {
+        return Err(WordFault::NotUnderstood);
+    };
+    let copy = CopyId::new(number(copy)?);
+    let branch = BranchId::new(number(branch)?);
+    Ok(Command::Rehome { copy, branch })
+}
+
+#[tactic(auto, unfolding(crate::specs::Texts::command_words))]
 fn check_out(values: &[&str]) -> Result<Command, WordFault>
     ensures read { IfOk result (IsReadAs (codes "check-out") (texts values.now)) }
     ensures refused { result ≡ Err Refused → IsNoCommand (codes "check-out") (texts values.now) }
@@ -643,6 +728,12 @@ pub fn read_command(alloc: Global, name: &str, values: &[&str]) -> Result<Comman
         "grace" => grace(values),
         "patron" => patron(alloc, values),
         "acquire" => acquire(alloc, values),
+        "card-key" => card_key(alloc, values),
+        "amend-patron" => amend_patron(alloc, values),
+        "amend-branch" => amend_branch(alloc, values),
+        "amend-title" => amend_title(alloc, values),
+        "amend-copy" => amend_copy(values),
+        "rehome" => rehome(values),
         "check-out" => check_out(values),
         "check-in" => check_in(values),
         "renew" => renew(values),

@@ -37,6 +37,18 @@ returns-in-Patron-clause-only g c = rw c.in-Patron.is (c.patron_view.ensures.onl
 pub returns-in-Acquire-clause-only : goal.returns-in-Acquire-clause-only
 returns-in-Acquire-clause-only g c = rw c.in-Acquire.is (c.acquire_view.ensures.only 0 0 [])
 
+pub returns-in-AmendPatron-clause-only : goal.returns-in-AmendPatron-clause-only
+returns-in-AmendPatron-clause-only g c = rw c.in-AmendPatron.is (c.patron_view-in-AmendPatron.ensures.only [] [])
+
+pub returns-in-AmendBranch-clause-only : goal.returns-in-AmendBranch-clause-only
+returns-in-AmendBranch-clause-only g c = rw c.in-AmendBranch.is (c.branch_row_view-in-AmendBranch.ensures.only [])
+
+pub returns-in-AmendTitle-clause-only : goal.returns-in-AmendTitle-clause-only
+returns-in-AmendTitle-clause-only g c = rw c.in-AmendTitle.is (c.title_view.ensures.only [])
+
+pub returns-in-AmendCopy-clause-only : goal.returns-in-AmendCopy-clause-only
+returns-in-AmendCopy-clause-only g c = rw c.in-AmendCopy.is (c.copy_row_view.ensures.only 0 0)
+
 pub returns-in-Pay-clause-only : goal.returns-in-Pay-clause-only
 returns-in-Pay-clause-only g c = rw c.in-Pay.is (c.account_view.ensures.only 0)
 

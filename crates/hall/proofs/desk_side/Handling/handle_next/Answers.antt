@@ -18,8 +18,8 @@ returns-in-Ok-show-clause-next g c = inl (record {
   looks = c.in-Ok-show.ensures.2;
 })
 
-pub returns-in-Err-show-clause-next : goal.returns-in-Err-show-clause-next
-returns-in-Err-show-clause-next g c =
+pub returns-clause-next : goal.returns-clause-next
+returns-clause-next g c =
     let closed = c.close-in-Err-show.ensures in inr (inl (record {
       was = c.requires.open;
       met = c.in-Err-show.met;
