@@ -16,6 +16,7 @@ use Rattle.model.specs.History.{History}
 use Rattle.model.specs.Invariant.{Serves}
 use Rattle.model.specs.Pages.{spaced}
 use Rattle.model.specs.Picture.{Picture}
+use Rattle.model.specs.RowLaws.{ShowsRows}
 use Rattle.model.specs.Places.{Place, Shelf, place, route, title_of_copy}
 
 -- `copy` and `copies` show the copy in this place.
@@ -54,6 +55,9 @@ pub record Asked (H : History) (T : Picture) : Type 0 where
   pub debts : (patron : ℕ)
       → has_number (debts_list H).numbers patron
       ↔ (credits (account H patron) < charges (account H patron))
+  -- Each list has exactly the numbers of the rows that pass its test, and the till's sums are those of the day's
+  -- rows.
+  pub rows : ShowsRows H T
   -- The numbers of each list ascend, and each row that is in a list all the time, while it is asked for after
   -- the last number shown until its end, is shown exactly once.
   pub rising : HasRisingLists H

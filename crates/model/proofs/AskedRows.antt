@@ -18,12 +18,12 @@ use Rattle.model.proofs.Invariants.{legal-Invariant}
 -- ---- the lines of an account
 
 -- The line of a number is there, and it is the next of the first ones.
-line-at : (xs : List Line) (k : ℕ) → k < length xs → (x : Line) × (nth_line xs (suc k) ≡ Some x) × (take (suc k) xs ≡ take k xs ++ x ∷ [])
+pub line-at : (xs : List Line) (k : ℕ) → k < length xs → (x : Line) × (nth_line xs (suc k) ≡ Some x) × (take (suc k) xs ≡ take k xs ++ x ∷ [])
 line-at [] k lt = let never : ⊥ = omega (arith, lt) in absurd never
 line-at (x ∷ xs) zero lt = (x, refl, refl)
 line-at (x ∷ xs) (suc k) lt = let y = line-at xs k (omega (arith, lt)) in (y.0, y.1, ap (λ ys. x ∷ ys) y.2)
 
-take-whole : (xs : List Line) → take (length xs) xs ≡ xs
+pub take-whole : (xs : List Line) → take (length xs) xs ≡ xs
 take-whole [] = refl
 take-whole (x ∷ xs) = ap (λ ys. x ∷ ys) (take-whole xs)
 

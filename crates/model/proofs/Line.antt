@@ -304,7 +304,7 @@ module _ (H : History) (h : ℕ) (inv : IsBound H) (stands : WaitsForCopy H h) w
 
 -- ---- the law
 
-hold-kept : (H : History) (made : Option HoldFacts) (h : ℕ) → h ≤ holds H → hold_after H made h (hold_of H h) ≡ hold_of H h
+pub hold-kept : (H : History) (made : Option HoldFacts) (h : ℕ) → h ≤ holds H → hold_after H made h (hold_of H h) ≡ hold_of H h
 hold-kept H (Some made) h old = go (next_hold H == h) refl
   where
     go : (x : Bool) → (next_hold H == h) ≡ x → cond x (Some made) (hold_of H h) ≡ hold_of H h
@@ -312,7 +312,7 @@ hold-kept H (Some made) h old = go (next_hold H == h) refl
     go false e = refl
 hold-kept H None h old = refl
 
-holds-grow : (made : Option HoldFacts) (n : ℕ) → n ≤ holds_after made n
+pub holds-grow : (made : Option HoldFacts) (n : ℕ) → n ≤ holds_after made n
 holds-grow (Some made) n = omega arith
 holds-grow None n = omega arith
 
@@ -332,7 +332,7 @@ stays-begun e H h ok old begun =
     ap (λ o. has_begun (today (e ∷ H)) (option_and_then (λ r. r.first_day) o)) (hold-kept H (hold_made e.command) h old)
     ∙ begun-later (today H) (today (e ∷ H)) (first_day_of H h) (day-goes-on e.owner e.command H ok) begun
 
-in-line : (H : History) (t h : ℕ) → stands_in_line H t h ≡ true → (title_of_hold H h ≡ t) × StandsInLine H h
+pub in-line : (H : History) (t h : ℕ) → stands_in_line H t h ≡ true → (title_of_hold H h ≡ t) × StandsInLine H h
 in-line H t h e =
     let parts : ((title_of_hold H h == t) ≡ true) × ((is_waiting (state H h) && (not (is_coming H h) && is_begun H h)) ≡ true) =
     both _ _ (filter-passes _ h (numbers_to (holds H)) e) in
@@ -340,7 +340,7 @@ in-line H t h e =
     let free : (not (is_coming H h) ≡ true) × (is_begun H h ≡ true) = and_parts _ _ stands.1 in
     (eqb-true _ _ parts.0, record { waits = record { waits = waiting-is _ stands.0; uncoming = not-true _ free.0 }; begun = free.1 })
 
-line-in : (H : History) (t h : ℕ) → 1 ≤ h → h ≤ holds H → title_of_hold H h ≡ t → StandsInLine H h → stands_in_line H t h ≡ true
+pub line-in : (H : History) (t h : ℕ) → 1 ≤ h → h ≤ holds H → title_of_hold H h ≡ t → StandsInLine H h → stands_in_line H t h ≡ true
 line-in H t h low high title stands =
     let test : (elim (title_of_hold H h == t) as (λ _. Bool)
     [ true ↦ is_waiting (state H h) && (not (is_coming H h) && is_begun H h) | false ↦ false ]) ≡ true =

@@ -43,7 +43,7 @@ columns-tell H K p f g same =
     (ap {A = PatronRow} {B = PatronFacts} (λ r. record { kind = r.kind; card_key = r.card_key; name = r.name }) same, ap (λ (r : PatronRow). r.owed) same)
 
 -- The title of a copy stays.
-copy-title-stays : (x : Command) (H : History) (c : ℕ) (r : CopyFacts) → copy_of H c ≡ Some r
+pub copy-title-stays : (x : Command) (H : History) (c : ℕ) (r : CopyFacts) → copy_of H c ≡ Some r
     → option_map (λ q. q.title) (copy_after x c (copy_of H c)) ≡ Some r.title
 copy-title-stays (Acquire n m k home price text) H c r e = ap (option_map (λ q. q.title)) (made-stays (copy_of H c) _ r e)
 copy-title-stays (AmendCopy n kind price) H c r e =
@@ -60,7 +60,7 @@ set-stays n k last made o x next old e = go (n == k) refl
     go true d = let same : n ≡ k = eqb-true n k d in absurd (omega (arith, same, next, old))
     go false d = e
 
-loan-stays : (x : Command) (H : History) → Invariant H → (l : ℕ) (r : LoanFacts) → loan_of H l ≡ Some r → loan_after H x l (loan_of H l) ≡ Some r
+pub loan-stays : (x : Command) (H : History) → Invariant H → (l : ℕ) (r : LoanFacts) → loan_of H l ≡ Some r → loan_after H x l (loan_of H l) ≡ Some r
 loan-stays (CheckOut p c b) H inv l r e =
     set-stays (next_loan H) l (loans H)
     (record { copy = c; patron = p; branch = b; made = today H; terms = unwrap_or (terms_for H p c) no_terms }) (loan_of H l) r refl

@@ -21,5 +21,9 @@ pub mod References
 pub mod Laws
 pub mod Corrections
 pub mod AskingLaws
+pub mod TurnLaws
+pub mod RowLaws
+pub mod ChargeLaws
 pub mod Calendars
 pub mod Repeats
+pub mod Renaming

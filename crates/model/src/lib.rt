@@ -11,6 +11,10 @@ ghost use Rattle.model.specs.AskingLaws.{PulledCopiesServe, DebtsAreShown};
 ghost use Rattle.model.specs.AskingLaws.{SearchesShowOnce, SearchesShowFound, SearchesGoOn};
 ghost use Rattle.model.specs.AskingLaws.{PatronsAreFound, TitlesAreFound};
 ghost use Rattle.model.specs.AskingLaws.{AccountsAreShown, ShelvesAreUnclaimed};
+ghost use Rattle.model.specs.TurnLaws.{Turns, Limits, FewAtAllTimes, OneEach, PlacesKept};
+ghost use Rattle.model.specs.RowLaws.{RowsAreShown};
+ghost use Rattle.model.specs.ChargeLaws.{Charges};
+ghost use Rattle.model.specs.Renaming.{Anonymity, SwapsRename};
 ghost use Rattle.model.specs.Calendars.{CalendarsAgree};
 ghost use Rattle.model.specs.Corrections.{Amended, Void};
 ghost use Rattle.model.specs.Forms.{FormsStay, FormsAreWhole, RowsInLimits, FewClosedDays};
@@ -239,4 +243,53 @@ pub fn accounts_law()
 /// An acquired copy is reported on its home shelf if and only if the tables make no claim on it.
 pub fn shelves_law()
     ensures { ShelvesAreUnclaimed }
+{}
+
+/// A copy is lent off the shelf to the first in the title's queue, or to anyone if nobody waits, and
+/// off a hold shelf for the hold it was kept for. A loan is renewed only if nobody waits. A hold is
+/// filled only by lending its patron a copy of its title.
+pub fn lent_in_turn_law()
+    ensures { Turns }
+{}
+
+/// A check-out is accepted only while the patron has fewer open loans than the kind allows then, and
+/// owes no more than it allows; a renewal only while the borrower owes no more; a hold only while
+/// the patron has fewer active holds than allowed. So nobody has more open loans or active holds than
+/// were allowed when the last of them was made.
+pub fn limits_law()
+    ensures each { Limits }
+    ensures always { FewAtAllTimes }
+{}
+
+/// No patron has two active holds of one title, or an active hold of a title that the patron has on
+/// loan.
+pub fn one_each_law()
+    ensures { OneEach }
+{}
+
+/// Each list that can be asked for has exactly the numbers of those rows of the tables that pass its
+/// test, a page those of the patron's open loans and active holds, and the till's sums are those of
+/// the day's rows.
+pub fn rows_shown_law()
+    ensures { RowsAreShown }
+{}
+
+/// A fine or price is for a loan that has ended, to its borrower and dated its end; a loan has at
+/// most one of each. Its fine is that of its end, and its price that of a copy missing.
+pub fn charges_law()
+    ensures { Charges }
+{}
+
+/// While a hold stands in its title's queue, another comes before it only by coming back: a copy that
+/// was to serve it is missing, or its first day comes.
+pub fn places_kept_law()
+    ensures { PlacesKept }
+{}
+
+/// A patron's replies and page don't tell who other patrons are: with other numbers for them, in the
+/// history and in all requests that follow, they stay the same. So they do if two others have each
+/// other's numbers.
+pub fn anonymity_law()
+    ensures learns_nothing { Anonymity }
+    ensures swaps { SwapsRename }
 {}
