@@ -2,7 +2,7 @@
 
 ghost use Rattle.std.specs.Prelude.{◌≡◌};
 ghost use Rattle.terms.specs.Limits.{InLimits};
-ghost use Rattle.circ_core.specs.Views.{IsCopyView, IsFirstOf, IsTravelFor};
+ghost use Rattle.circ_core.specs.Views.{IsCopyView, IsFirstOf, IsLoanOf, IsTravelFor};
 ghost use Rattle.store.specs.Batches.{AreAccountLinesAfter, AreCopiesAfter, AreDebtorsAfter};
 ghost use Rattle.store.specs.Batches.{AreTransitsAfter, AreWaitingAfter, AreWaitingForAfter};
 ghost use Rattle.store.specs.Batches.{AreRowsAfter, IsLeastShelved};
@@ -15,13 +15,14 @@ use calendar::Day;
 use circ_core::View;
 use circ_tables::{
     account_lines_after, copies_of_title_after, debtors_after, first_in_line, least_shelved,
-    next_rows, transit_for, transits_to_after, waiting_holds_after, waiting_holds_for_after,
+    next_rows, open_loan_of, transit_for, transits_to_after, waiting_holds_after,
+    waiting_holds_for_after,
 };
 use sqlite::Alter;
 use std::alloc::Global;
 use terms::{
-    BranchId, CopyId, CopyRow, Fault, HoldId, HoldRow, LineId, LineRow, PatronId, PatronRow,
-    TitleId, TitleRow, TransitRow,
+    BranchId, CopyId, CopyRow, Fault, HoldId, HoldRow, LineId, LineRow, LoanRow, PatronId,
+    PatronRow, TitleId, TitleRow, TransitRow,
 };
 
 impl<S: Alter> Store<S> {
@@ -125,6 +126,15 @@ impl<S: Alter> Store<S> {
     {
         committed_is_held(&self.conn);
         copy_view(&mut self.conn, copy)
+    }
+
+    /// Reads the open loan of a copy, if it is on loan. Faults 91, 93.
+    pub fn open_loan(&mut self, copy: CopyId) -> Result<Option<LoanRow>, Fault>
+        ensures { Looked InLimits (λ P loan. IsLoanOf P copy loan) InLimits
+            S.Store self.old self.new result }
+    {
+        committed_is_held(&self.conn);
+        open_loan_of(&mut self.conn, copy)
     }
 
     /// Reads the first hold in a title's queue, if today is this day. Faults 91, 93.

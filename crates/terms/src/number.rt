@@ -42,6 +42,13 @@ impl<T> Number<T> {
     }
 }
 
+/// The content of an unused place: 0, which numbers nothing.
+impl<T> Default for Number<T> {
+    fn default() -> Self {
+        Number::new(0)
+    }
+}
+
 impl<T> fmt::Display for Number<T> {
     ghost use Rattle.std.specs.Prelude.{Some};
     ghost use Rattle.std.specs.Fmt.{decimal};
