@@ -22,7 +22,7 @@ use Rattle.hall.proofs.Progress.{handled-after-look, unopened}
 use Rattle.circ.specs.declared.lines.Exit.{Exit}
 use Rattle.circ.specs.declared.lines.Exit.TheVariants.{Faulted}
 use Rattle.circ.specs.Lines.{EndsWith, fault_line, port_line, threads_line}
-use Rattle.circ.specs.Serving.{ServesWorkers, ServesHall, ServesPort, end_text, exit_after, why_line, exit_of_why}
+use Rattle.circ.specs.Serving.{ServesWorkers, ServesHall, ServesPort, IsNotServed, end_text, exit_after, why_line, exit_of_why}
 use Rattle.terms.proofs.Fronts.{failed-first, second-out, second-failed}
 
 module _ {S : Type 0} (g : Ghosts S) where
@@ -166,6 +166,13 @@ module _ {S : Type 0} (g : Ghosts S) where
   pub no-memory : (held : Held S) → KeepsClosed g held held (Met Memory)
   no-memory held = inl (Memory, refl, record { looked = Ok tt; looks = idle; cause = inr refl })
 
+  -- nobody was served, and the fault was told
+  pub nobody-served : {C E : Type 0} (all : List C) (old new : Held S) (a b : Option (List ℕ)) (r : Result Exit E)
+      (fault : ServiceFault) → (can_be_workers (length all) ≡ true) ⊎ (fault ≡ Met Memory) → KeepsClosed g old new fault
+      → EndsWith Faulted (fault_line (service_fault_number fault)) a b r → IsNotServed all all g old new a b r
+  nobody-served all old new a b r fault asked cause ends =
+      record { fault = fault; asked = asked; cause = cause; desk = unopened g old new fault cause; same = refl; told = ends }
+
   module _ {C I O : Type 0} (comes : C → I → O → C → Type 0) (goes : C → O → Bool → C → Type 0) (misses : C → Type 0)
       (remaining : I → Option (List ℕ)) (contents : O → Option (List ℕ)) (desk_key : List ℕ) where
     -- the fault of a hall that isn't opened was told
@@ -173,8 +180,7 @@ module _ {S : Type 0} (g : Ghosts S) where
         (fault : ServiceFault) → (can_be_workers (length all) ≡ true) ⊎ (fault ≡ Met Memory) → KeepsClosed g old new fault
         → EndsWith Faulted (fault_line (service_fault_number fault)) a b r
         → ServesPort comes goes misses remaining contents desk_key each port all all g old new a b r
-    fault-told each port all old new a b r fault asked cause ends =
-        inr (inl (record { fault = fault; asked = asked; cause = cause; desk = unopened g old new fault cause; same = refl; told = ends }))
+    fault-told each port all old new a b r fault asked cause ends = inr (inl (nobody-served all old new a b r fault asked cause ends))
 
     -- why the hall isn't opened was told
     pub why-told : {E : Type 0} (each port : ℕ) (all : List C) (old new : Held S) (w : Why) (a b : Option (List ℕ)) (r : Result Exit E)

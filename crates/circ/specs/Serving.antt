@@ -137,3 +137,11 @@ module _ {C I O : Type 0} (comes : C → I → O → C → Type 0) (goes : C →
       ((can_be_workers (length olds) ≡ true) × ServesHall each port olds news (Shows (state g old)) g old new before after result)
       ⊎ (IsNotServed olds news g old new before after result
       ⊎ ((can_be_workers (length olds) ≡ false) × (new ≡ old) × (news ≡ olds) × EndsWith NotUnderstood not_understood_line before after result))
+
+  -- The web was served by so many workers, each with connections of its own to the listener; or nobody was
+  -- served, for want of memory.
+  abbrev pub ServesListener : {S E : Type 0} → ℕ → ℕ → ℕ → Ghosts S → Held S → Held S → Option (List ℕ) → Option (List ℕ)
+      → Result Exit E → Type 0
+  ServesListener each port workers g old new before after result =
+      ((olds : List C) × (news : List C) × (length olds ≡ workers) × ServesPort each port olds news g old new before after result)
+      ⊎ IsNotServed {C = C} [] [] g old new before after result

@@ -1,11 +1,15 @@
 //! Connections to a port.
 
+ghost use Rattle.std.specs.Prelude.{◌≡◌, IfOk, length};
+
 use crate::connections::Connections;
 use std::alloc::Global;
 use std::io;
 use std::io::{BufWriter, Read, Write};
 use std::net::{Shutdown, TcpListener, TcpStream};
+use std::sync::Arc;
 use std::time::Duration;
+use terms::Memory;
 
 /// How long a read or a write may block, in seconds, before the connection fails.
 const LONGEST_WAIT: u64 = 30;
@@ -75,20 +79,29 @@ fn drain(stream: &mut TcpStream) {
     }
 }
 
-/// The connections to a listener, for one worker. Nothing is proved of a socket's bytes.
+/// The connections to a listener, for one of the workers that share it. Nothing is proved of a
+/// socket's bytes.
 #[derive(Drop)]
 pub struct Port {
-    listener: TcpListener,
+    listener: Arc<TcpListener, Global>,
 }
 
-/// Makes so many handles of one listener.
-pub fn ports(alloc: Global, listener: &TcpListener, count: usize) -> Option<Vec<Port>> {
+/// Shares a listener among so many workers.
+pub(crate) fn ports(
+    alloc: Global,
+    listener: TcpListener,
+    count: usize,
+) -> Result<Vec<Port>, Memory>
+    ensures { IfOk result (λ ports. length ports.items ≡ count) }
+{
+    let listener = Arc::new(alloc, listener)?;
     let mut all = Vec::new(alloc);
-    for _ in 0..count {
-        let listener = listener.try_clone().ok()?;
-        all.push(Port { listener }).ok()?;
+    'ports: for _made in 0..count {
+        all.push(Port {
+            listener: Arc::try_clone(&listener)?,
+        })?;
     }
-    Some(all)
+    Ok(all)
 }
 
 impl Connections for Port {

@@ -11,18 +11,21 @@ ghost use Rattle.hall.specs.Serving.{GivesReplies, AreWorkers};
 ghost use Rattle.circ.specs.Connections.{Works, WorksOrLeaves};
 ghost use Rattle.circ.specs.Lines.{EndsWith};
 ghost use Rattle.circ.specs.Serving.{AllInTurn, TakesPart, ServesWorkers, ServesHall, ServesPort};
+ghost use Rattle.circ.specs.Serving.{ServesListener};
 ghost use Rattle.circ.specs.Serving.{end_text, exit_after, why_line, exit_of_why};
 
 use crate::connections::{Connections, work};
 use crate::lines::{
     Exit, WriteFault, not_understood, out_of_memory, tell_port, tell_service_fault, tell_threads,
 };
+use crate::listening::{Outgoing, Port, ports};
 use desk::Desk;
 use hall::{DeskSide, Ended, Hall, HallFault, Left, Opened, Opening, Watch, Why, Worker};
 use sqlite::Alter;
 use std::alloc::Global;
 use std::io::Write;
 use std::marker::Brand;
+use std::net::{TcpListener, TcpStream};
 use std::snapshot::Snapshot;
 use std::sync::atomic::{AtomicBool, Ordering};
 use std::sync::{Arc, Wait};
@@ -513,7 +516,7 @@ fn open_and_serve<
 /// every list of accepted requests that the tables showed gives. If the hall can't be opened, that
 /// fault is the only line; for another number of workers than 1 to 8 the line is that of words not
 /// understood. The watch is told when the hall closes, while the workers still answer.
-pub fn serve<
+pub fn serve_connections<
     C: Connections + Send + Drop + 'static,
     S: Alter,
     W: Write,
@@ -545,6 +548,32 @@ pub fn serve<
                 web,
                 writer,
             )
+        }
+        Err(_) => (desk, out_of_memory(writer)),
+    }
+}
+
+/// Serves the web on a listener with so many workers, 1 to 8, which take connections from it by
+/// turns, as `serve_connections` does. Without memory for what they share nobody is served, and
+/// fault 90 is the only line.
+pub fn serve<S: Alter, W: Write, R: Threads + Wait + Copy + Send + 'static, N: Watch>(
+    rt: R,
+    alloc: Global,
+    watch: &mut N,
+    desk: Desk<S>,
+    listener: TcpListener,
+    workers: usize,
+    web: Web,
+    writer: &mut W,
+) -> (Desk<S>, Result<Exit, WriteFault>)
+    ensures { ServesListener Port.comes Port.goes Port.misses TcpStream.remaining
+        Outgoing.contents web.desk_key web.each web.port workers S.Store desk result.0
+        (W.contents writer.old) (W.contents writer.new) result.1 }
+{
+    match ports(alloc, listener, workers) {
+        Ok(ports) => {
+            let mut ports = ports;
+            serve_connections(rt, alloc, watch, desk, &mut ports, web, writer)
         }
         Err(_) => (desk, out_of_memory(writer)),
     }

@@ -2,7 +2,7 @@
 //! its proof carries none of them. They are generic over the store, the reader and the writer: at
 //! the program's own types the clauses are many times as long.
 
-use circ::{Exit, Port, Report, Watch, Web, WriteFault};
+use circ::{Exit, Report, Watch, Web, WriteFault};
 use desk::Desk;
 use sqlite::{Alter, Connection, Error, FileFrom, FileStore, Start};
 use sqlite_disk::Disk;
@@ -114,22 +114,18 @@ pub fn migrate<S: Alter, W: Write>(
     circ::migrate(store, alloc, writer)
 }
 
-/// Makes so many handles of a listener, one for each worker.
-pub fn ports(alloc: Global, listener: &TcpListener, workers: usize) -> Option<Vec<Port>> {
-    circ::ports(alloc, listener, workers)
-}
-
-/// Serves the web with a worker for each port, and returns the desk.
+/// Serves the web with so many workers, and returns the desk.
 pub fn serve<S: Alter, W: Write, R: Threads + Wait + Copy + Send + 'static, N: Watch>(
     rt: R,
     alloc: Global,
     watch: &mut N,
     desk: Desk<S>,
-    ports: &mut Vec<Port>,
+    listener: TcpListener,
+    workers: usize,
     web: Web,
     writer: &mut W,
 ) -> (Desk<S>, Result<Exit, WriteFault>) {
-    circ::serve(rt, alloc, watch, desk, ports, web, writer)
+    circ::serve(rt, alloc, watch, desk, listener, workers, web, writer)
 }
 
 /// Sends one request over the connection and writes its line.

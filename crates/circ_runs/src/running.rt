@@ -2,7 +2,7 @@
 
 use crate::calls::{
     FileTables, audit, close_tables, create, desk_on, import, migrate, no_network, not_understood,
-    one, open, ports, report, send, serve, tables_of, tell_fault, unreadable,
+    one, open, report, send, serve, tables_of, tell_fault, unreadable,
 };
 use crate::files::{drop_log, has_log, is_held, is_new, may_be_library};
 use crate::notes::{Console, Topic, say, say_begun, say_misread, say_new, say_unwritten};
@@ -146,20 +146,18 @@ fn serve_port<S: Alter, W: Write, R: Threads + Wait + Copy + Send + 'static>(
     writer: &mut W,
 ) -> (Desk<S>, Result<Exit, WriteFault>) {
     let mut console = Console { rt };
-    let Ok(listener) = TcpListener::bind(rt, (Ipv4Addr::LOCALHOST, web.port)) else {
-        return (desk, no_network(writer));
-    };
-    match ports(rt.alloc(), &listener, workers) {
-        Some(mut ports) => serve(
+    match TcpListener::bind(rt, (Ipv4Addr::LOCALHOST, web.port)) {
+        Ok(listener) => serve(
             threads,
             rt.alloc(),
             &mut console,
             desk,
-            &mut ports,
+            listener,
+            workers,
             web,
             writer,
         ),
-        None => (desk, no_network(writer)),
+        Err(_) => (desk, no_network(writer)),
     }
 }
 

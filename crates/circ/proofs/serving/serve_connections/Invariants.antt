@@ -1,6 +1,6 @@
 use Rattle.store.specs.Library.{state}
 use Rattle.desk.specs.Answering.{Shows}
-use Rattle.circ.proofs.serving.serve.Given as goal
+use Rattle.circ.proofs.serving.serve_connections.Given as goal
 
 -- the queue that was just opened, and every list of accepted requests that the desk's tables show
 abbrev pub ghosts-open_and_serve-J-Opening : goal.ghosts-open_and_serve-J-Opening
